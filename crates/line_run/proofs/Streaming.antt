@@ -108,7 +108,7 @@ lone-front dlci role (suc n) (t ∷ ts) =
 alone-before : (c : Channel) (role : Role) (ts : List Turn) → IsAlone c → signals_before c role ts ≡ signals c role ts
 alone-before c role ts alone = ap (and_then (signals c role ts)) (alone role (length ts))
 
-lone-signals : (c : Channel) (role : Role) (ts : List Turn) → IsAlone c
+pub lone-signals : (c : Channel) (role : Role) (ts : List Turn) → IsAlone c
     → map (carried_signal role) (sent_by c.dlci role ts) ≡ signals_before c role ts
 lone-signals c role [] alone = sym (alone-before c role [] alone)
 lone-signals c role (t ∷ ts) alone =

@@ -32,6 +32,11 @@ sent_by dlci role (t ∷ ts) = sent_by dlci role ts ++ carry dlci (of role t).se
 abbrev pub both_sent_by : ℕ → List Turn → Both (List Carried)
 both_sent_by dlci ts = record { orig = sent_by dlci Originator ts; answ = sent_by dlci Answerer ts }
 
+-- so much more was sent, once a link made this turn
+abbrev pub and_sent : Both (List Carried) → ℕ → Turn → Both (List Carried)
+and_sent streams dlci t =
+    record { orig = streams.orig ++ carry dlci (of Originator t).sent; answ = streams.answ ++ carry dlci (of Answerer t).sent }
+
 -- something was sent in each of these turns
 abbrev pub AreSent : Role → List Turn → Type 0
 AreSent role [] = Unit {0}

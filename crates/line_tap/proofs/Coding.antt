@@ -116,8 +116,7 @@ point-back : NoDistanceIsEqual → (label : ℕ) → label < 32
     → (length (sample_octets (point_of label)) ≡ 4) × (samples_in (sample_octets (point_of label)) ≡ point_of label ∷ [])
 point-back none label low =
     let t = both (nat_eq (length (sample_octets (point_of label))) 4)
-    (is_one (samples_in (sample_octets (point_of label))) (point_of label)) (at_each 32 reads_back reads_back-test label low) in
-    (
+    (is_one (samples_in (sample_octets (point_of label))) (point_of label)) (at_each 32 reads_back reads_back-test label low) in (
       eqb-true (length (sample_octets (point_of label))) 4 t.0,
       the-one none (samples_in (sample_octets (point_of label))) (point_of label) t.1,
     )
@@ -136,7 +135,7 @@ points-back none (label ∷ labels) h =
     record {
       count = length-append {A = ℕ} octets others
           ∙ (let more : length (map point_of (label ∷ labels)) ≡ suc (length (map point_of labels)) = refl in
-              omega (arith, one.0, rest.count, more));
+          omega (arith, one.0, rest.count, more));
       same = samples_in-append octets others (omega (arith, one.0)) ∙ ap (λ xs. xs ++ samples_in others) one.1
           ∙ ap (λ xs. point_of label ∷ xs) rest.same;
     }

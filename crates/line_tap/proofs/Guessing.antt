@@ -49,8 +49,7 @@ pub record GuessLaws : Type 0 where
 pub labels-behind : (tap : ℕ) (bits : List Bool) (samples more : List Sample) → Modulates tap bits (samples ++ more)
     → (labels : List ℕ) × AreLabels labels more
 labels-behind tap bits samples more h =
-    let n : ℕ = length samples in
-    (
+    let n : ℕ = length samples in (
       drop n h.labels,
       (
         All-drop (λ label. label < 32) n h.labels (small tap bits (samples ++ more) h),

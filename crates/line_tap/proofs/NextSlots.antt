@@ -58,6 +58,7 @@ one-slot-more c turns body h =
   where
     mul-one : (a b : ℕ) → a * (b + 1) ≡ a * b + a
     mul-one a b = grind (arith, common_steps)
+
     rest-long : (i j : ℕ) (xs : List ℕ) → i + j ≤ length xs → j ≤ length (drop i xs)
     rest-long i j xs h = grind (arith, common_steps)
 

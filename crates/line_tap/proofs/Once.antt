@@ -192,8 +192,7 @@ refused-once x ts Answerer Originator left others h k = absurd (k.refused h.refu
 same-cause : OnceLaws → (x : Tapping) (ts : List Turn) (k q : Cause) (a b : Left) → EndsWith x ts k a → EndsWith x ts q b
     → (k ≡ q) × (a ≡ b)
 same-cause laws x ts Whole Whole a b h w =
-    let e = last-once laws x ts h.last w.last in
-    (
+    let e = last-once laws x ts h.last w.last in (
       refl,
       leaves-once x (h.last.last ∷ ts) (w.last.last ∷ ts) _ _ a b (ap (λ t. t ∷ ts) e) (ap (λ t. trace_text (t ∷ ts)) e) h.leaves w.leaves,
     )
@@ -204,8 +203,7 @@ same-cause laws x ts (On_line end) Whole a b h w = absurd (line-or-hears laws x 
 same-cause laws x ts (Refused role) (On_line end) a b h w = absurd (line-or-hears laws x ts h.last.last end w.is h.last.hears)
 same-cause laws x ts (On_line end) (Refused role) a b h w = absurd (line-or-hears laws x ts w.last.last end h.is w.last.hears)
 same-cause laws x ts (Refused role) (Refused side) a b h w =
-    let e = last-once laws x ts h.last w.last in
-    (
+    let e = last-once laws x ts h.last w.last in (
       ap Refused (refused-once x ts role side a b h w),
       leaves-once x (h.last.last ∷ ts) (w.last.last ∷ ts) _ _ a b (ap (λ t. t ∷ ts) e) refl h.leaves w.leaves,
     )

@@ -94,8 +94,7 @@ all-fit laws c role (t ∷ ts) alone low s k =
     let octets = laws.octets slot.check role c.dlci slot.sent low
     (laws.sendable slot.check role c.dlci c.symbols (phase_behind c role ts) slot.sent codable) in
     let fits = laws.fits slot.check role c.dlci c.symbols (phase_behind c role ts) slot.sent octets codable in
-    let both : AreFit (4 * c.symbols) 0 (signals c role ts ++ x ∷ []) × (length (signals c role ts ++ x ∷ []) ≡ suc (length ts)) =
-    (
+    let both : AreFit (4 * c.symbols) 0 (signals c role ts ++ x ∷ []) × (length (signals c role ts ++ x ∷ []) ≡ suc (length ts)) = (
       laws.more (4 * c.symbols) (signals c role ts) x rest.0 fits,
       omega (arith, length-append (signals c role ts) (x ∷ []), rest.1),
     ) in
@@ -244,8 +243,7 @@ all-checked : TellingLaws → (script : ScriptValue) (files : Both (List ℕ)) (
     → LineRun (channel_of script) (link_of script files) ts ends → (role : Role) → AllChecked (check_in script files) role ts
 all-checked laws script files [] ends limits r role = tt
 all-checked laws script files (t ∷ ts) ends limits r role =
-    let before : LineRun (channel_of script) (link_of script files) ts r.run.0 = record { run = r.run.1; heard = r.heard.1 } in
-    (
+    let before : LineRun (channel_of script) (link_of script files) ts r.run.0 = record { run = r.run.1; heard = r.heard.1 } in (
       laws.sends (link_of script files) (delay_of script) ts r.run.0 t ends (over laws script files ts r.run.0 limits before)
           (laws.one (channel_of script) ts t r.heard.0) r.run.2 role,
       all-checked laws script files ts r.run.0 limits before role,
@@ -278,8 +276,7 @@ tells-run laws script files bodies (t ∷ ts) ends limits r w =
     let check = check_in script files in
     let before : LineRun c link ts r.run.0 = record { run = r.run.1; heard = r.heard.1 } in
     let g = r.run.2 in
-    let long = (laws.room script limits).0 in
-    (
+    let long = (laws.room script limits).0 in (
       record {
         hears = hears-plain laws script files bodies ts r.run.0 t g.mid limits before r.heard.0 g.hearing;
         sends = λ role.

@@ -11,7 +11,8 @@ ghost use Rattle.link_run.specs.Listened.{HearsByLine, RunsByLine};
 
 use lapm_receiver::laws::keeps_taken;
 use link_account::laws::{
-    acknowledgements, ends_receive_as_agreed, frames_on_the_line, next_numbers, numbers_on_the_line, plays,
+    acknowledgements, ends_receive_as_agreed, frames_on_the_line, next_numbers,
+    numbers_on_the_line, plays,
 };
 use xid_params::laws::{reads_allowed, reads_written};
 

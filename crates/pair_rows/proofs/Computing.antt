@@ -157,8 +157,7 @@ done-run laws script files s m is k turn e = go m.last m.outcome is.last k.1 e.d
     go (Some t) None h d f p q = absurd (false≢true (ap is_some f))
     go (Some t) (Some o) h d f p q =
         let there : TurnIs (link_of script files) m.turns m.ends t m.mid Done =
-        subst (λ z. TurnIs (link_of script files) m.turns m.ends t m.mid z) (ap (outcome-in o) f) h.is in
-        (
+        subst (λ z. TurnIs (link_of script files) m.turns m.ends t m.mid z) (ap (outcome-in o) f) h.is in (
           left_of m.mid (trace_text (t ∷ m.turns)),
           record {
             turns = m.turns;

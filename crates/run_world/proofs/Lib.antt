@@ -5,3 +5,4 @@ pub mod Folders
 pub mod Turning
 pub mod Reached
 pub mod Linking
+pub mod Lending

@@ -22,6 +22,7 @@ use Rattle.line_run.specs.Sampled.{LineRun}
 use Rattle.line_run.specs.Ends.{RunEnd, Left, Leaves, RunsTo, EndsBy}
 use Rattle.line_run.specs.Ends as runs
 use Rattle.line_run.specs.Scripted.{channel_of, link_of}
+use Rattle.line_run.specs.Stream.{both_sent_by}
 use Rattle.run_world.specs.Limits.{file_limit}
 use Rattle.run_world.specs.Names.{Written, outputs_of}
 use Rattle.run_world.specs.Link.{octets_of}
@@ -147,11 +148,11 @@ held-turn delivers link ts ends t mid now next n run hears on h w =
 -- the run goes on
 pub reached-going : HearingsDeliver → SpeakingTakesNothing
     → (w w' : World) (script : ScriptValue) (n : Written) (old now next : FolderState) (r : Reached w script n old now)
-    → script_of w' ≡ script_of w → GoesOnBy w' now next n r.files r.turns r.ends → OnlyPuts now next (outputs_of n) → CountsStand now next
+    → script_of w' ≡ script_of w → GoesOnBy w'.modems w'.lines (channel_of (script_of w')) 1 (both_sent_by 0 r.turns) now next n r.files r.turns r.ends → OnlyPuts now next (outputs_of n) → CountsStand now next
     → Reached w' script n old next
 reached-going delivers speaks w w' script n old now next r same g only stand =
     let mid = g.going.mid in
-    let held = held-turn delivers (link_of (script_of w) r.files) r.turns r.ends g.turn mid now next n r.world.run.run g.going.hearing
+    let held = held-turn delivers (link_of (script_of w) r.files) r.turns r.ends g.turn mid now next n r.world.modems.run.run g.going.hearing
     only.goes_on r.holds g.writes in
     let nothing = speaks (link_of (script_of w') g.others) r.turns r.ends g.turn g.after g.going in
     record {
@@ -160,7 +161,7 @@ reached-going delivers speaks w w' script n old now next r same g only stand =
       knows = g.known.known r.knows;
       turns = g.turn ∷ r.turns;
       ends = g.after;
-      world = g.world;
+      world = record { modems = g.modems; lines = g.lines };
       holds = (
         subst (λ t. Holds next n.got_o (concat t)) (sym (nothing Originator)) held.0,
         (subst (λ t. Holds next n.got_a (concat t)) (sym (nothing Answerer)) held.1.0, held.1.1),
@@ -172,7 +173,7 @@ reached-going delivers speaks w w' script n old now next r same g only stand =
 -- the run ends in a turn that is written
 ended-turn : HearingsDeliver → (w v : World) (n : Written) (old now next : FolderState)
     (r : Reached w (script_of v) n old now) (outcome : Outcome) (number : ℕ) → OnlyPuts now next (outputs_of n)
-    → (e : EndsInTurn v now next n r.files r.turns r.ends outcome number)
+    → (e : EndsInTurn v.modems v.lines (channel_of (script_of v)) 1 (both_sent_by 0 r.turns) now next n r.files r.turns r.ends outcome number)
     → runs.EndsInTurn (channel_of (script_of v)) (link_of (script_of v) e.others) r.turns r.ends outcome number
     (left_of e.mid (trace_text (e.turn ∷ r.turns))) × HoldEach next (outputs_of n) (held_of (left_of e.mid (trace_text (e.turn ∷ r.turns))))
 ended-turn delivers w v n old now next r outcome number only e = (
@@ -184,7 +185,7 @@ ended-turn delivers w v n old now next r outcome number only e = (
     is = e.makes.is;
     leaves = leaves-so e.mid (trace_text (e.turn ∷ r.turns));
   },
-  held-turn delivers (link_of (script_of w) r.files) r.turns r.ends e.turn e.mid now next n r.world.run.run
+  held-turn delivers (link_of (script_of w) r.files) r.turns r.ends e.turn e.mid now next n r.world.modems.run.run
       (hears-of (link_of (script_of v) e.others) r.turns r.ends e.turn e.mid outcome e.makes.is) only.goes_on r.holds e.writes,
 )
 
@@ -197,7 +198,7 @@ run-ends script f n end files left ts ends knows run ended holds =
 -- the run is done
 done-so : HearingsDeliver
     → (w v : World) (n : Written) (old now next : FolderState) (number : ℕ) (r : Reached w (script_of v) n old now)
-    → EndsInTurn v now next n r.files r.turns r.ends Done number → OnlyPuts now next (outputs_of n)
+    → EndsInTurn v.modems v.lines (channel_of (script_of v)) 1 (both_sent_by 0 r.turns) now next n r.files r.turns r.ends Done number → OnlyPuts now next (outputs_of n)
     → RunEnds (script_of v) next n (runs.IsDone number)
 done-so delivers w v n old now next number r e only =
     let k = ended-turn delivers w v n old now next r Done number only e in
@@ -205,7 +206,7 @@ done-so delivers w v n old now next number r e only =
 
 pub reached-done : HearingsDeliver
     → (w v : World) (script : ScriptValue) (n : Written) (old now next : FolderState) (number : ℕ) (r : Reached w script n old now)
-    → script_of v ≡ script_of w → EndsInTurn v now next n r.files r.turns r.ends Done number → OnlyPuts now next (outputs_of n)
+    → script_of v ≡ script_of w → EndsInTurn v.modems v.lines (channel_of (script_of v)) 1 (both_sent_by 0 r.turns) now next n r.files r.turns r.ends Done number → OnlyPuts now next (outputs_of n)
     → RunEnds script next n (runs.IsDone number)
 reached-done delivers w v script n old now next number r same e only =
     subst (λ s. RunEnds s next n (runs.IsDone number)) (same ∙ r.script_is)
@@ -220,7 +221,7 @@ none-again ts ends t mid h = λ k.
 -- with all its turns counted
 pub reached-counts : HearingsDeliver
     → (w v : World) (script : ScriptValue) (n : Written) (old now next : FolderState) (number : ℕ) (r : Reached w script n old now)
-    → script_of v ≡ script_of w → EndsInTurn v now next n r.files r.turns r.ends Done number → OnlyPuts now next (outputs_of n)
+    → script_of v ≡ script_of w → EndsInTurn v.modems v.lines (channel_of (script_of v)) 1 (both_sent_by 0 r.turns) now next n r.files r.turns r.ends Done number → OnlyPuts now next (outputs_of n)
     → RunCounts script next n number (lost_of v) (again_of v)
 unfolding run-ends ended-turn done-so
 reached-counts delivers w v script n old now next number r same e only =
@@ -233,11 +234,11 @@ reached-counts delivers w v script n old now next number r same e only =
 -- the run so far, over the script
 run-so : (w : World) (script : ScriptValue) (n : Written) (old now : FolderState) (r : Reached w script n old now)
     → LineRun (channel_of script) (link_of script r.files) r.turns r.ends
-run-so w script n old now r = subst (λ s. LineRun (channel_of s) (link_of s r.files) r.turns r.ends) r.script_is r.world.run
+run-so w script n old now r = subst (λ s. LineRun (channel_of s) (link_of s r.files) r.turns r.ends) r.script_is r.world.modems.run
 
 reached-line : (w v : World) (n : Written) (old now next : FolderState) (role : Role) (symbol : ℕ)
     (r : Reached w (script_of v) n old now) → IsApart n
-    → LosesLine v now next n r.turns r.ends role symbol → OnlyPuts now next (outputs_of n) → RunEnds (script_of v) next n (runs.LineLost role symbol)
+    → LosesLine v.modems (channel_of (script_of v)) now next n r.turns r.ends role symbol → OnlyPuts now next (outputs_of n) → RunEnds (script_of v) next n (runs.LineLost role symbol)
 reached-line w v n old now next role symbol r apart e only =
     run-ends (script_of v) next n (runs.LineLost role symbol) r.files (left_of r.ends (trace_text r.turns)) r.turns r.ends
     (knows-later now next n r.files apart only r.knows) (run-so w (script_of v) n old now r)
@@ -245,7 +246,7 @@ reached-line w v n old now next role symbol r apart e only =
 
 reached-chance : (w v : World) (n : Written) (old now next : FolderState) (role : Role) (number : ℕ)
     (r : Reached w (script_of v) n old now) → IsApart n
-    → MeetsChance v now next n r.turns r.ends role number → OnlyPuts now next (outputs_of n)
+    → MeetsChance v.modems (channel_of (script_of v)) now next n r.turns r.ends role number → OnlyPuts now next (outputs_of n)
     → RunEnds (script_of v) next n (runs.ChanceMatch role number)
 reached-chance w v n old now next role number r apart e only =
     let text = trace_text r.turns ++ chance_line (length r.turns) role in
@@ -274,7 +275,7 @@ more_of mid text = record { got = record { orig = concat (deliveries mid.orig); 
 
 -- the folder fails in a turn, whatever it comes to,
 adds-turn : (w v : World) (n : Written) (old now next : FolderState) (r : Reached w (script_of v) n old now)
-    → (s : StopsInTurn v now next n r.files r.turns r.ends)
+    → (s : StopsInTurn v.modems v.lines (channel_of (script_of v)) 1 (both_sent_by 0 r.turns) now next n r.files r.turns r.ends)
     → AddsTurn (channel_of (script_of v)) (link_of (script_of v) s.others) r.turns r.ends (more_of s.mid (turn_text (length r.turns) s.turn))
 adds-turn w v n old now next r s = record {
   turn = s.turn;
@@ -292,7 +293,7 @@ adds-turn w v n old now next r s = record {
     got Answerer = refl
 
 stopped-turn : (w v : World) (n : Written) (old now next : FolderState) (r : Reached w (script_of v) n old now)
-    → StopsInTurn v now next n r.files r.turns r.ends → OnlyPuts now next (outputs_of n) → RunStops (script_of v) next n
+    → StopsInTurn v.modems v.lines (channel_of (script_of v)) 1 (both_sent_by 0 r.turns) now next n r.files r.turns r.ends → OnlyPuts now next (outputs_of n) → RunStops (script_of v) next n
 stopped-turn w v n old now next r s only = record {
   files = s.others;
   knows = s.known.known r.knows;
@@ -311,7 +312,7 @@ stopped-turn w v n old now next r s only = record {
 
 -- as a file is read,
 reached-reading : (w v : World) (n : Written) (old now next : FolderState) (r : Reached w (script_of v) n old now)
-    → StopsReading v now next n r.files r.turns r.ends → OnlyPuts now next (outputs_of n) → RunStopsReading (script_of v) next n
+    → StopsReading v.modems v.lines (channel_of (script_of v)) 1 (both_sent_by 0 r.turns) now next n r.files r.turns r.ends → OnlyPuts now next (outputs_of n) → RunStopsReading (script_of v) next n
 unfolding stopped-turn
 reached-reading w v n old now next r (s, delivered) only = (
   stopped-turn w v n old now next r s only,
@@ -323,7 +324,7 @@ reached-reading w v n old now next r (s, delivered) only = (
 
 -- or at any of its steps
 reached-stops : (w v : World) (n : Written) (old now next : FolderState) (r : Reached w (script_of v) n old now) → IsApart n
-    → Stops v now next n r.files r.turns r.ends → OnlyPuts now next (outputs_of n) → RunStops (script_of v) next n
+    → Stops v.modems v.lines (channel_of (script_of v)) 1 (both_sent_by 0 r.turns) now next n r.files r.turns r.ends → OnlyPuts now next (outputs_of n) → RunStops (script_of v) next n
 reached-stops w v n old now next r apart (inl s) only = stopped-turn w v n old now next r s only
 reached-stops w v n old now next r apart (inr s) only = record {
   files = r.files;
@@ -353,7 +354,7 @@ reached-stops w v n old now next r apart (inr s) only = record {
 -- a fault ends the run
 fault-so : HearingsDeliver
     → (w v : World) (n : Written) (old now next : FolderState) (fault : RunFault) (r : Reached w (script_of v) n old now)
-    → IsApart n → TurnEndsBy v now next n r.files r.turns r.ends fault → OnlyPuts now next (outputs_of n)
+    → IsApart n → TurnEndsBy v.modems v.lines (channel_of (script_of v)) 1 (both_sent_by 0 r.turns) now next n r.files r.turns r.ends fault → OnlyPuts now next (outputs_of n)
     → FaultEnds (script_of v) next n fault
 fault-so delivers w v n old now next faults.ReadFault r apart e only = reached-reading w v n old now next r e only
 fault-so delivers w v n old now next faults.WriteFault r apart e only = reached-stops w v n old now next r apart e only
@@ -371,7 +372,7 @@ fault-so delivers w v n old now next (faults.LinkLost role segment turn) r apart
 pub reached-fault : HearingsDeliver
     → (w v : World) (script : ScriptValue) (n : Written) (old now next : FolderState) (fault : RunFault) (r : Reached w script n old now)
     → IsApart n
-    → script_of v ≡ script_of w → TurnEndsBy v now next n r.files r.turns r.ends fault → OnlyPuts now next (outputs_of n)
+    → script_of v ≡ script_of w → TurnEndsBy v.modems v.lines (channel_of (script_of v)) 1 (both_sent_by 0 r.turns) now next n r.files r.turns r.ends fault → OnlyPuts now next (outputs_of n)
     → FaultEnds script next n fault
 reached-fault delivers w v script n old now next fault r apart same e only =
     subst (λ s. FaultEnds s next n fault) (same ∙ r.script_is)
@@ -382,5 +383,5 @@ pub nearer : (turns next : ℕ) → turns < 2 ^ 40 → next ≡ turns + 1 → 2 
 nearer turns next h e = omega (arith, h, e)
 
 pub next-turn : (w w' : World) (script : ScriptValue) (n : Written) (old now next : FolderState) (r : Reached w script n old now)
-    → GoesOnBy w' now next n r.files r.turns r.ends → turn_of w' ≡ turn_of w + 1
-next-turn w w' script n old now next r g = omega (arith, g.world.turn, r.world.turn)
+    → GoesOnBy w'.modems w'.lines (channel_of (script_of w')) 1 (both_sent_by 0 r.turns) now next n r.files r.turns r.ends → turn_of w' ≡ turn_of w + 1
+next-turn w w' script n old now next r g = omega (arith, g.modems.turn, r.world.modems.turn)

@@ -1,5 +1,5 @@
 -- Both ends speak, and a turn is made.
-use Rattle.std.proofs.Common.{◌≡◌, ◌≢◌, if◌then◌else◌, nat_eq, ℕ, ◌+◌, ◌%◌, ◌≤◌, Bool, true, false, is_ok, List, ◌∷◌, ◌++◌, length, arith}
+use Rattle.std.proofs.Common.{◌≡◌, ◌≢◌, ℕ, ◌+◌, true, false, is_ok, List, ◌∷◌, ◌++◌, length, arith}
 use Rattle.std.proofs.Common.{refl, sym, ◌∙◌, ap, subst, Option, Some, None, unwrap_or, Ok, Err}
 use Rattle.std.specs.Option.{option_map}
 use Rattle.outside_calls.specs.Folder.{FolderState, Appended, PartlyAppended, CountsStand}
@@ -7,7 +7,7 @@ use Rattle.frame_check.specs.declared.check.Check.{Check}
 use Rattle.roles.specs.declared.role.Role.{Role}
 use Rattle.roles.specs.declared.role.Role.TheVariants.{Originator, Answerer}
 use Rattle.roles.specs.Both.{Both, of}
-use Rattle.noise_script.specs.Script.{ScriptValue, IsInLimits, delay_of}
+use Rattle.noise_script.specs.Script.{IsInLimits, delay_of}
 use Rattle.lapm_frames.specs.declared.sent.Sent.{Sent}
 use Rattle.lapm_frames.specs.declared.heard.Heard.{Heard}
 use Rattle.lapm_frames.specs.declared.heard.Heard.TheVariants.{Nothing, Passed, Lost, Chance}
@@ -25,16 +25,16 @@ use Rattle.link_run.specs.Laws.{IsNamed}
 use Rattle.link_run.specs.Outcomes.{Outcome, TurnIs}
 use Rattle.link_run.specs.End.{is_closed}
 use Rattle.link_run.specs.Trace.{side_line, turn_text}
-use Rattle.line_run.specs.Sampled.{HeardIn, LineRun}
-use Rattle.line_run.specs.Scripted.{channel_of, link_of, longest_of, slot_symbols, ScriptsMayPlay, ScriptsHaveDelays, SlotsAreCodable}
+use Rattle.line_run.specs.Sampled.{Channel, HeardIn}
+use Rattle.line_run.specs.Scripted.{link_of, longest_of, slot_symbols, ScriptsMayPlay, ScriptsHaveDelays, SlotsAreCodable}
 use Rattle.line_run.specs.LineLaws.{SamplesAreCarried, OneIsCarried}
 use Rattle.run_world.specs.declared.link.Link.{Link}
 use Rattle.shared_line.specs.declared.lines.Lines.{Lines}
 use Rattle.run_world.specs.Names.{Written}
 use Rattle.run_world.specs.Link.{LinkStands, SaysBoth, BreaksSo, both_finished}
-use Rattle.line_run.specs.Stream.{Carried, both_sent_by}
-use Rattle.shared_line.specs.Lines.{LinesWait, HaveArrived, AreCodable, ArePut}
-use Rattle.run_world.specs.declared.world.World.{World}
+use Rattle.line_run.specs.Stream.{Carried}
+use Rattle.shared_line.specs.Lines.{LinesWait, HaveArrived, AreCodable, ArePut, and_more}
+use Rattle.run_world.specs.declared.modems.Modems.{Modems}
 use Rattle.run_world.specs.declared.tally.Tally.{Tally}
 use Rattle.run_world.specs.declared.step.RunFault.{RunFault}
 use Rattle.run_world.specs.declared.step.RunFault.TheVariants as run_faults
@@ -52,84 +52,84 @@ spoken_by orig answ = record { orig = Some (spoken orig); answ = Some (spoken an
 abbrev pub ends_of : Said → Said → Ends
 ends_of orig answ = record { orig = orig.account; answ = answ.account }
 
-pub record SpokenTurn (script : ScriptValue) (files : Both (List ℕ)) (ts : List Turn) (ends : Ends) (heard : Both Heard) (mid : Ends)
+pub record SpokenTurn (c : Channel) (files : Both (List ℕ)) (ts : List Turn) (ends : Ends) (heard : Both Heard) (mid : Ends)
     (from_orig from_answ : Sent) (l : Link) : Type 0 where
   pub orig : Said
   pub answ : Said
   pub orig_sent : from_orig ≡ orig.sent
   pub answ_sent : from_answ ≡ answ.sent
-  pub going : GoingTurn (link_of script files) ts ends (turn_in heard ends mid (spoken_by orig answ)) (ends_of orig answ)
+  pub going : GoingTurn (link_of c.script files) ts ends (turn_in heard ends mid (spoken_by orig answ)) (ends_of orig answ)
   pub mid_is : going.mid ≡ mid
-  pub heard_in : HeardIn (channel_of script) ts (turn_in heard ends mid (spoken_by orig answ))
+  pub heard_in : HeardIn c ts (turn_in heard ends mid (spoken_by orig answ))
   pub stands : LinkStands l files (ends_of orig answ)
 
-pub spoken-turn : (script : ScriptValue) (files : Both (List ℕ)) (ts : List Turn) (ends : Ends) (heard : Both Heard) (mid : Ends)
+pub spoken-turn : (c : Channel) (files : Both (List ℕ)) (ts : List Turn) (ends : Ends) (heard : Both Heard) (mid : Ends)
     (from_orig from_answ : Sent) (l : Link) (turn : ℕ)
-    → turn ≡ length ts → Overhears script files ts ends heard mid → is_closed mid.orig.phase ≡ false
-    → SaysBoth l files (link_of script files) turn (served script files (length ts) mid) from_orig from_answ
-    → SpokenTurn script files ts ends heard mid from_orig from_answ l
-spoken-turn script files ts ends heard mid from_orig from_answ l turn number o open-still s = record {
+    → turn ≡ length ts → Overhears c files ts ends heard mid → is_closed mid.orig.phase ≡ false
+    → SaysBoth l files (link_of c.script files) turn (served c.script files (length ts) mid) from_orig from_answ
+    → SpokenTurn c files ts ends heard mid from_orig from_answ l
+spoken-turn c files ts ends heard mid from_orig from_answ l turn number o open-still s = record {
   orig = s.orig;
   answ = s.answ;
   orig_sent = s.orig_sent;
   answ_sent = s.answ_sent;
   going = record {
     mid = mid;
-    hearing = hears-in script files ts ends mid heard (spoken_by s.orig s.answ) o;
+    hearing = hears-in c files ts ends mid heard (spoken_by s.orig s.answ) o;
     going = open-still;
     speaking = says;
   };
   mid_is = refl;
-  heard_in = heard-in script files ts ends heard mid (spoken_by s.orig s.answ) o;
+  heard_in = heard-in c files ts ends heard mid (spoken_by s.orig s.answ) o;
   stands = s.stands;
 }
   where
-    orig-says : said_at (link_of script files) (length ts) mid Originator ≡ Ok s.orig
-    orig-says = subst (λ (e : Ends). speak (length ts) (both_finished (link_of script files) (length ts) e) e.orig ≡ Ok s.orig)
-        (served-is script files (length ts) mid)
-        (subst (λ t. speak t (both_finished (link_of script files) t (served script files (length ts) mid))
-        (served script files (length ts) mid).orig ≡ Ok s.orig) number s.orig_says)
+    orig-says : said_at (link_of c.script files) (length ts) mid Originator ≡ Ok s.orig
+    orig-says = subst (λ (e : Ends). speak (length ts) (both_finished (link_of c.script files) (length ts) e) e.orig ≡ Ok s.orig)
+        (served-is c.script files (length ts) mid)
+        (subst (λ t. speak t (both_finished (link_of c.script files) t (served c.script files (length ts) mid))
+        (served c.script files (length ts) mid).orig ≡ Ok s.orig) number s.orig_says)
 
-    answ-says : said_at (link_of script files) (length ts) mid Answerer ≡ Ok s.answ
-    answ-says = subst (λ (e : Ends). speak (length ts) false e.answ ≡ Ok s.answ) (served-is script files (length ts) mid)
-        (subst (λ t. speak t false (served script files (length ts) mid).answ ≡ Ok s.answ) number s.answ_says)
+    answ-says : said_at (link_of c.script files) (length ts) mid Answerer ≡ Ok s.answ
+    answ-says = subst (λ (e : Ends). speak (length ts) false e.answ ≡ Ok s.answ) (served-is c.script files (length ts) mid)
+        (subst (λ t. speak t false (served c.script files (length ts) mid).answ ≡ Ok s.answ) number s.answ_says)
 
-    says : (role : Role) → SpeaksAt (said_at (link_of script files) (length ts) mid role)
+    says : (role : Role) → SpeaksAt (said_at (link_of c.script files) (length ts) mid role)
         (of role (turn_in heard ends mid (spoken_by s.orig s.answ))) (of role (ends_of s.orig s.answ))
     says Originator = record { said = s.orig; says = orig-says; sent_is = refl; after_is = refl }
     says Answerer = record { said = s.answ; says = answ-says; sent_is = refl; after_is = refl }
 
 -- an end that breaks does so by a run's definition
-broken-so : (script : ScriptValue) (files : Both (List ℕ)) (number turn : ℕ) (mid : Ends) (role : Role) (fault : LinkFault) → turn ≡ number
-    → BreaksSo (link_of script files) turn (served script files number mid) role fault
-    → IsBroken (link_of script files) number mid role fault
-broken-so script files number turn mid Originator fault e h =
-    subst (λ (x : Ends). speak number (both_finished (link_of script files) number x) x.orig ≡ Err fault)
-    (served-is script files number mid)
-    (subst (λ t. speak t (both_finished (link_of script files) t (served script files number mid))
-    (served script files number mid).orig ≡ Err fault) e h)
-broken-so script files number turn mid Answerer fault e h = (
-  subst (λ (x : Ends). is_ok (speak number (both_finished (link_of script files) number x) x.orig) ≡ true)
-      (served-is script files number mid)
-      (subst (λ t. is_ok (speak t (both_finished (link_of script files) t (served script files number mid))
-      (served script files number mid).orig) ≡ true) e h.0),
-  subst (λ (x : Ends). speak number false x.answ ≡ Err fault) (served-is script files number mid)
-      (subst (λ t. speak t false (served script files number mid).answ ≡ Err fault) e h.1),
+broken-so : (c : Channel) (files : Both (List ℕ)) (number turn : ℕ) (mid : Ends) (role : Role) (fault : LinkFault) → turn ≡ number
+    → BreaksSo (link_of c.script files) turn (served c.script files number mid) role fault
+    → IsBroken (link_of c.script files) number mid role fault
+broken-so c files number turn mid Originator fault e h =
+    subst (λ (x : Ends). speak number (both_finished (link_of c.script files) number x) x.orig ≡ Err fault)
+    (served-is c.script files number mid)
+    (subst (λ t. speak t (both_finished (link_of c.script files) t (served c.script files number mid))
+    (served c.script files number mid).orig ≡ Err fault) e h)
+broken-so c files number turn mid Answerer fault e h = (
+  subst (λ (x : Ends). is_ok (speak number (both_finished (link_of c.script files) number x) x.orig) ≡ true)
+      (served-is c.script files number mid)
+      (subst (λ t. is_ok (speak t (both_finished (link_of c.script files) t (served c.script files number mid))
+      (served c.script files number mid).orig) ≡ true) e h.0),
+  subst (λ (x : Ends). speak number false x.answ ≡ Err fault) (served-is c.script files number mid)
+      (subst (λ t. speak t false (served c.script files number mid).answ ≡ Err fault) e h.1),
 )
 
 silent : (heard : Both Heard) (ends mid : Ends) (role : Role) → (of role (turn_in heard ends mid none-sent)).sent ≡ None
 silent heard ends mid Originator = refl
 silent heard ends mid Answerer = refl
 
-pub broken-turn : (script : ScriptValue) (files : Both (List ℕ)) (ts : List Turn) (ends : Ends) (heard : Both Heard) (mid : Ends) (turn : ℕ)
+pub broken-turn : (c : Channel) (files : Both (List ℕ)) (ts : List Turn) (ends : Ends) (heard : Both Heard) (mid : Ends) (turn : ℕ)
     (role : Role) (fault : LinkFault)
-    → turn ≡ length ts → Overhears script files ts ends heard mid → is_closed mid.orig.phase ≡ false
-    → BreaksSo (link_of script files) turn (served script files (length ts) mid) role fault
-    → BrokenTurn (link_of script files) ts ends (turn_in heard ends mid none-sent) mid role fault
-broken-turn script files ts ends heard mid turn role fault number o open-still b = record {
-  hearing = hears-in script files ts ends mid heard none-sent o;
+    → turn ≡ length ts → Overhears c files ts ends heard mid → is_closed mid.orig.phase ≡ false
+    → BreaksSo (link_of c.script files) turn (served c.script files (length ts) mid) role fault
+    → BrokenTurn (link_of c.script files) ts ends (turn_in heard ends mid none-sent) mid role fault
+broken-turn c files ts ends heard mid turn role fault number o open-still b = record {
+  hearing = hears-in c files ts ends mid heard none-sent o;
   going = open-still;
-  broken = broken-so script files (length ts) turn mid role fault number b;
+  broken = broken-so c files (length ts) turn mid role fault number b;
   silent = silent heard ends mid;
 }
 
@@ -179,35 +179,36 @@ taken-back x y a b e f g = ap (λ o. unwrap_or o x) (sym e ∙ g ∙ f)
 -- ---- what is sent can be coded
 
 pub all-codable : SlotsAreCodable
-    → (script : ScriptValue) (files : Both (List ℕ)) (ts : List Turn) (ends : Ends) (heard : Both Heard) (mid : Ends)
+    → (c : Channel) (files : Both (List ℕ)) (ts : List Turn) (ends : Ends) (heard : Both Heard) (mid : Ends)
     (from_orig from_answ : Sent) (sent : Both Sent)
-    (k : Link) (l : Lines) (checks : Both Check) → IsInLimits script → Overhears script files ts ends heard mid
-    → (t : SpokenTurn script files ts ends heard mid from_orig from_answ k) → HaveArrived l (channel_of script) 1 (both_sent_by 0 ts)
+    (k : Link) (l : Lines) (links : ℕ) (streams : Both (List Carried)) (dlci : ℕ) (checks : Both Check)
+    → c.symbols ≡ slot_symbols (longest_of c.script) → IsInLimits c.script → Overhears c files ts ends heard mid
+    → (t : SpokenTurn c files ts ends heard mid from_orig from_answ k) → HaveArrived l c links streams
     → IsSendable from_orig → IsSendable from_answ → sent.orig ≡ from_orig → sent.answ ≡ from_answ
-    → checks.orig ≡ check_of t.orig.account → checks.answ ≡ check_of t.answ.account → AreCodable l sent checks 0
-all-codable law script files ts ends heard mid from_orig from_answ sent k l checks limits o t h sendo senda eo ea co ca Originator =
+    → checks.orig ≡ check_of t.orig.account → checks.answ ≡ check_of t.answ.account → AreCodable l sent checks dlci
+all-codable law c files ts ends heard mid from_orig from_answ sent k l links streams dlci checks size limits o t h sendo senda eo ea co ca Originator =
     let d = h Originator in
-    let is : IsCodable (check_of t.orig.account) Originator 0 (slot_symbols (longest_of script)) l.from_orig.line.writer.phase t.orig.sent =
-    law (channel_of script) files ts ends (turn_in heard ends mid (spoken_by t.orig t.answ))
-    (ends_of t.orig t.answ) limits o.run t.heard_in t.going Originator (spoken t.orig) 0
+    let is : IsCodable (check_of t.orig.account) Originator dlci (slot_symbols (longest_of c.script)) l.from_orig.line.writer.phase t.orig.sent =
+    law c files ts ends (turn_in heard ends mid (spoken_by t.orig t.answ))
+    (ends_of t.orig t.answ) limits o.run t.heard_in t.going Originator (spoken t.orig) dlci
     l.from_orig.line.writer.phase d.stands.line.writer.low refl (subst IsSendable t.orig_sent sendo) in
-    rw (co, d.symbols, eo, t.orig_sent) is
-all-codable law script files ts ends heard mid from_orig from_answ sent k l checks limits o t h sendo senda eo ea co ca Answerer =
+    rw (co, d.symbols, size, eo, t.orig_sent) is
+all-codable law c files ts ends heard mid from_orig from_answ sent k l links streams dlci checks size limits o t h sendo senda eo ea co ca Answerer =
     let d = h Answerer in
-    let is : IsCodable (check_of t.answ.account) Answerer 0 (slot_symbols (longest_of script)) l.from_answ.line.writer.phase t.answ.sent =
-    law (channel_of script) files ts ends (turn_in heard ends mid (spoken_by t.orig t.answ))
-    (ends_of t.orig t.answ) limits o.run t.heard_in t.going Answerer (spoken t.answ) 0
+    let is : IsCodable (check_of t.answ.account) Answerer dlci (slot_symbols (longest_of c.script)) l.from_answ.line.writer.phase t.answ.sent =
+    law c files ts ends (turn_in heard ends mid (spoken_by t.orig t.answ))
+    (ends_of t.orig t.answ) limits o.run t.heard_in t.going Answerer (spoken t.answ) dlci
     l.from_answ.line.writer.phase d.stands.line.writer.low refl (subst IsSendable t.answ_sent senda) in
-    rw (ca, d.symbols, ea, t.answ_sent) is
+    rw (ca, d.symbols, size, ea, t.answ_sent) is
 
 -- as one slot more behind each
-abbrev pub put_by : Said → Said → Both Carried
-put_by orig answ = record { orig = record { dlci = 0; spoken = spoken orig }; answ = record { dlci = 0; spoken = spoken answ } }
+abbrev pub put_by : ℕ → Said → Said → Both Carried
+put_by dlci orig answ = record { orig = record { dlci = dlci; spoken = spoken orig }; answ = record { dlci = dlci; spoken = spoken answ } }
 
-pub are-put : (orig answ : Said) (sent : Both Sent) (checks : Both Check) → orig.sent ≡ sent.orig → answ.sent ≡ sent.answ
-    → check_of orig.account ≡ checks.orig → check_of answ.account ≡ checks.answ → ArePut (put_by orig answ) sent checks 0
-are-put orig answ sent checks so sa co ca Originator = record { dlci_is = refl; sent_is = so; check_is = co }
-are-put orig answ sent checks so sa co ca Answerer = record { dlci_is = refl; sent_is = sa; check_is = ca }
+pub are-put : (dlci : ℕ) (orig answ : Said) (sent : Both Sent) (checks : Both Check) → orig.sent ≡ sent.orig → answ.sent ≡ sent.answ
+    → check_of orig.account ≡ checks.orig → check_of answ.account ≡ checks.answ → ArePut (put_by dlci orig answ) sent checks dlci
+are-put dlci orig answ sent checks so sa co ca Originator = record { dlci_is = refl; sent_is = so; check_is = co }
+are-put dlci orig answ sent checks so sa co ca Answerer = record { dlci_is = refl; sent_is = sa; check_is = ca }
 
 -- ---- the run goes on
 
@@ -230,17 +231,17 @@ pub counts-what : (old new : Tally) (sent said : Both Sent) → sent.orig ≡ sa
 counts-what old new sent said o a h =
     subst (λ (x : Sent). CountsSent old new x said.answ) o (subst (λ (y : Sent). CountsSent old new sent.orig y) a h)
 
-pub tallies-on : GoingLaws → (script : ScriptValue) (files : Both (List ℕ)) (ts : List Turn) (ends : Ends) (heard : Both Heard) (mid : Ends)
+pub tallies-on : GoingLaws → (c : Channel) (files : Both (List ℕ)) (ts : List Turn) (ends : Ends) (heard : Both Heard) (mid : Ends)
     (from_orig from_answ : Sent) (k : Link)
-    (old new : Tally) → IsInLimits script → Overhears script files ts ends heard mid
-    → (t : SpokenTurn script files ts ends heard mid from_orig from_answ k)
+    (old new : Tally) → IsInLimits c.script → Overhears c files ts ends heard mid
+    → (t : SpokenTurn c files ts ends heard mid from_orig from_answ k)
     → TalliesHeard old ts ends heard → CountsSent old new from_orig from_answ
     → Tallies new (turn_in heard ends mid (spoken_by t.orig t.answ) ∷ ts) (ends_of t.orig t.answ)
-tallies-on laws script files ts ends heard mid from_orig from_answ k old new limits o t h n =
+tallies-on laws c files ts ends heard mid from_orig from_answ k old new limits o t h n =
     let turn : Turn = turn_in heard ends mid (spoken_by t.orig t.answ) in
-    let carries = laws.one (channel_of script) ts turn t.heard_in in
-    let over = runs-over laws.play laws.delays laws.carried script files ts ends limits o.run in
-    let counts = laws.counted (link_of script files) (delay_of script) ts ends turn (ends_of t.orig t.answ) over carries t.going in
+    let carries = laws.one c ts turn t.heard_in in
+    let over = runs-over laws.play laws.delays laws.carried c files ts ends limits o.run in
+    let counts = laws.counted (link_of c.script files) (delay_of c.script) ts ends turn (ends_of t.orig t.answ) over carries t.going in
     let co : CountsOn Originator ts ends turn (ends_of t.orig t.answ) = counts Originator in
     let ca : CountsOn Answerer ts ends turn (ends_of t.orig t.answ) = counts Answerer in
     let ao : again_in (sequence_in from_orig) old.orig ≡ again_in (sequence_in t.orig.sent) ends.orig.outgoing.high =
@@ -254,15 +255,16 @@ tallies-on laws script files ts ends heard mid from_orig from_answ k old new lim
       answ = n.answ ∙ (λ i. next_count (sequence_in (t.answ_sent i)) (h.answ i)) ∙ sym ca.high;
     }
 
-pub goes-on : GoingLaws → (script : ScriptValue) (old : Tally) (w : World) (f new : FolderState) (n : Written) (files : Both (List ℕ))
+pub goes-on : GoingLaws → (c : Channel) (old : Tally) (m : Modems) (l : Lines) (links : ℕ) (streams : Both (List Carried))
+    (f new : FolderState) (n : Written) (files : Both (List ℕ))
     (ts : List Turn) (ends : Ends) (heard : Both Heard) (mid : Ends)
-    (from_orig from_answ : Sent) → IsInLimits script → w.script ≡ script → w.turn ≡ length ts + 1
-    → Overhears script files ts ends heard mid → (t : SpokenTurn script files ts ends heard mid from_orig from_answ w.link)
-    → TalliesHeard old ts ends heard → CountsSent old w.tally from_orig from_answ
-    → LinesWait w.lines (channel_of script) 1 (both_sent_by 0 (turn_in heard ends mid (spoken_by t.orig t.answ) ∷ ts))
+    (from_orig from_answ : Sent) → IsInLimits c.script → m.turn ≡ length ts + 1 → m.spoke ≡ true
+    → Overhears c files ts ends heard mid → (t : SpokenTurn c files ts ends heard mid from_orig from_answ m.link)
+    → TalliesHeard old ts ends heard → CountsSent old m.tally from_orig from_answ
+    → LinesWait l c links (and_more streams (put_by c.dlci t.orig t.answ))
     → Appended f new n.trace (turn_text (length ts) (turn_in heard ends mid (spoken_by t.orig t.answ)))
-    → HasGone w script f new n files ts ends mid
-goes-on laws script old w f new n files ts ends heard mid from_orig from_answ limits is number o t tally counts lines trace =
+    → HasGone m l c links streams f new n files ts ends mid
+goes-on laws c old m l links streams f new n files ts ends heard mid from_orig from_answ limits number spoke o t tally counts lines trace =
     let turn : Turn = turn_in heard ends mid (spoken_by t.orig t.answ) in
     let after : Ends = ends_of t.orig t.answ in
     record {
@@ -271,39 +273,39 @@ goes-on laws script old w f new n files ts ends heard mid from_orig from_answ li
       going = t.going;
       mid_is = t.mid_is;
       heard = t.heard_in;
-      world = record {
-        run = subst (λ s. LineRun (channel_of s) (link_of s files) (turn ∷ ts) after) (sym is)
-            (record { run = (ends, o.run.run, t.going); heard = (t.heard_in, o.run.heard) });
+      modems = record {
+        run = record { run = (ends, o.run.run, t.going); heard = (t.heard_in, o.run.heard) };
         link = t.stands;
-        lines = subst (λ s. LinesWait w.lines (channel_of s) 1 (both_sent_by 0 (turn ∷ ts))) (sym is) lines;
         turn = omega (arith, number);
-        tally = tallies-on laws script files ts ends heard mid from_orig from_answ w.link old w.tally limits o t tally counts;
+        tally = tallies-on laws c files ts ends heard mid from_orig from_answ m.link old m.tally limits o t tally counts;
+        spoke = spoke;
       };
+      lines = lines;
       trace = trace;
     }
 
 -- ---- the run ends as an end breaks
 
-pub ends-so : (script : ScriptValue) (f new : FolderState) (n : Written) (files : Both (List ℕ)) (ts : List Turn) (ends : Ends)
+pub ends-so : (c : Channel) (f new : FolderState) (n : Written) (files : Both (List ℕ)) (ts : List Turn) (ends : Ends)
     (heard : Both Heard) (mid : Ends) (turn : ℕ) (role : Role)
-    (fault : LinkFault) → turn ≡ length ts → IsNamed role fault → Overhears script files ts ends heard mid
-    → BrokenTurn (link_of script files) ts ends (turn_in heard ends mid none-sent) mid role fault
+    (fault : LinkFault) → turn ≡ length ts → IsNamed role fault → Overhears c files ts ends heard mid
+    → BrokenTurn (link_of c.script files) ts ends (turn_in heard ends mid none-sent) mid role fault
     → Appended f new n.trace (turn_text (length ts) (turn_in heard ends mid none-sent))
-    → SpeaksLast script f new n files ts ends heard mid (fault_named turn role fault)
-ends-so script f new n files ts ends heard mid turn role faults.NotDetected number named o b trace = (
+    → SpeaksLast c f new n files ts ends heard mid (fault_named turn role fault)
+ends-so c f new n files ts ends heard mid turn role faults.NotDetected number named o b trace = (
   number,
   record {
     turn = turn_in heard ends mid none-sent;
     hears = hears-these heard ends mid none-sent;
     makes = record {
       run = o.run;
-      heard = heard-in script files ts ends heard mid none-sent o;
-      is = subst (λ r. BrokenTurn (link_of script files) ts ends (turn_in heard ends mid none-sent) mid r faults.NotDetected) named b;
+      heard = heard-in c files ts ends heard mid none-sent o;
+      is = subst (λ r. BrokenTurn (link_of c.script files) ts ends (turn_in heard ends mid none-sent) mid r faults.NotDetected) named b;
     };
     trace = trace;
   },
 )
-ends-so script f new n files ts ends heard mid turn role (faults.Spent segment since) number named o b trace = (
+ends-so c f new n files ts ends heard mid turn role (faults.Spent segment since) number named o b trace = (
   number,
   since,
   record {
@@ -311,15 +313,15 @@ ends-so script f new n files ts ends heard mid turn role (faults.Spent segment s
     hears = hears-these heard ends mid none-sent;
     makes = record {
       run = o.run;
-      heard = heard-in script files ts ends heard mid none-sent o;
+      heard = heard-in c files ts ends heard mid none-sent o;
       is = b;
     };
     trace = trace;
   },
 )
-ends-so script f new n files ts ends heard mid turn role (faults.BadAck nr va high) number named o b trace = absurd named
-ends-so script f new n files ts ends heard mid turn role (faults.PeerReset va vr) number named o b trace = absurd named
-ends-so script f new n files ts ends heard mid turn role faults.PeerRefused number named o b trace = absurd named
+ends-so c f new n files ts ends heard mid turn role (faults.BadAck nr va high) number named o b trace = absurd named
+ends-so c f new n files ts ends heard mid turn role (faults.PeerReset va vr) number named o b trace = absurd named
+ends-so c f new n files ts ends heard mid turn role faults.PeerRefused number named o b trace = absurd named
 
 -- such an end is no fault of the folder
 pub counts-so : (f new : FolderState) (n : Written) (turn : ℕ) (role : Role) (fault : LinkFault) → IsNamed role fault → CountsStand f new
@@ -332,29 +334,29 @@ counts-so f new n turn role faults.PeerRefused named stand = absurd named
 
 -- ---- the folder doesn't take the lines
 
-pub stops-so : (script : ScriptValue) (f new : FolderState) (n : Written) (files : Both (List ℕ)) (ts : List Turn) (ends : Ends)
+pub stops-so : (c : Channel) (f new : FolderState) (n : Written) (files : Both (List ℕ)) (ts : List Turn) (ends : Ends)
     (heard : Both Heard) (mid : Ends) (fault : RunFault) → IsWriting fault
-    → AddsPart script f new n files ts ends heard mid → SpeaksLast script f new n files ts ends heard mid fault
-stops-so script f new n files ts ends heard mid run_faults.WriteFault w h = h
-stops-so script f new n files ts ends heard mid run_faults.NoMemory w h = h
-stops-so script f new n files ts ends heard mid run_faults.ReadFault w h = absurd w
-stops-so script f new n files ts ends heard mid (run_faults.LineLost role symbol) w h = absurd w
-stops-so script f new n files ts ends heard mid (run_faults.ChanceMatch role turn) w h = absurd w
-stops-so script f new n files ts ends heard mid (run_faults.NotDetected turn) w h = absurd w
-stops-so script f new n files ts ends heard mid (run_faults.LinkLost role segment turn) w h = absurd w
+    → AddsPart c f new n files ts ends heard mid → SpeaksLast c f new n files ts ends heard mid fault
+stops-so c f new n files ts ends heard mid run_faults.WriteFault w h = h
+stops-so c f new n files ts ends heard mid run_faults.NoMemory w h = h
+stops-so c f new n files ts ends heard mid run_faults.ReadFault w h = absurd w
+stops-so c f new n files ts ends heard mid (run_faults.LineLost role symbol) w h = absurd w
+stops-so c f new n files ts ends heard mid (run_faults.ChanceMatch role turn) w h = absurd w
+stops-so c f new n files ts ends heard mid (run_faults.NotDetected turn) w h = absurd w
+stops-so c f new n files ts ends heard mid (run_faults.LinkLost role segment turn) w h = absurd w
 
-pub adds-part : (script : ScriptValue) (f new : FolderState) (n : Written) (files : Both (List ℕ)) (ts : List Turn) (ends : Ends)
+pub adds-part : (c : Channel) (f new : FolderState) (n : Written) (files : Both (List ℕ)) (ts : List Turn) (ends : Ends)
     (heard : Both Heard) (mid : Ends) (sents : Both (Option Spoken))
-    (outcome : Outcome) → Overhears script files ts ends heard mid
-    → TurnIs (link_of script files) ts ends (turn_in heard ends mid sents) mid outcome
-    → PartlyAppended f new n.trace (turn_text (length ts) (turn_in heard ends mid sents)) → AddsPart script f new n files ts ends heard mid
-adds-part script f new n files ts ends heard mid sents outcome o is trace = record {
+    (outcome : Outcome) → Overhears c files ts ends heard mid
+    → TurnIs (link_of c.script files) ts ends (turn_in heard ends mid sents) mid outcome
+    → PartlyAppended f new n.trace (turn_text (length ts) (turn_in heard ends mid sents)) → AddsPart c f new n files ts ends heard mid
+adds-part c f new n files ts ends heard mid sents outcome o is trace = record {
   outcome = outcome;
   turn = turn_in heard ends mid sents;
   hears = hears-these heard ends mid sents;
   makes = record {
     run = o.run;
-    heard = heard-in script files ts ends heard mid sents o;
+    heard = heard-in c files ts ends heard mid sents o;
     is = is;
   };
   trace = trace;
@@ -362,11 +364,11 @@ adds-part script f new n files ts ends heard mid sents outcome o is trace = reco
 
 -- ---- the run is done
 
-pub last-turn : (script : ScriptValue) (files : Both (List ℕ)) (ts : List Turn) (ends : Ends) (heard : Both Heard) (mid : Ends)
-    → Overhears script files ts ends heard mid
+pub last-turn : (c : Channel) (files : Both (List ℕ)) (ts : List Turn) (ends : Ends) (heard : Both Heard) (mid : Ends)
+    → Overhears c files ts ends heard mid
     → is_closed mid.orig.phase ≡ true → LastTurn ts ends (turn_in heard ends mid none-sent) mid
-last-turn script files ts ends heard mid o closed = record {
-  hearing = hears-in script files ts ends mid heard none-sent o;
+last-turn c files ts ends heard mid o closed = record {
+  hearing = hears-in c files ts ends mid heard none-sent o;
   done = closed;
   silent = silent heard ends mid;
 }

@@ -1,5 +1,5 @@
 -- A whole turn.
-use Rattle.std.proofs.Common.{◌≡◌, inl, inr, ℕ, ◌+◌, List, [], ◌∷◌, length, refl, sym, ◌∙◌, ap, subst, Result, Ok, Err}
+use Rattle.std.proofs.Common.{◌≡◌, inl, inr, ℕ, ◌+◌, ◌<◌, List, [], ◌∷◌, length, refl, sym, ◌∙◌, ap, subst, Result, Ok, Err}
 use Rattle.outside_calls.specs.Folder.{FolderState, OnlyWrites}
 use Rattle.outside_calls.specs.Outputs.{OnlyPuts, AddEach, AddPart}
 use Rattle.outside_calls.proofs.Putting.{AddEach-next, AddPart-next, AddPart-none, AddPart-longer}
@@ -7,9 +7,9 @@ use Rattle.roles.specs.declared.role.Role.{Role}
 use Rattle.roles.specs.declared.role.Role.TheVariants.{Originator, Answerer}
 use Rattle.roles.specs.Role.{other}
 use Rattle.roles.specs.Both.{Both, of}
-use Rattle.noise_script.specs.Script.{ScriptValue, IsInLimits, delay_of}
+use Rattle.noise_script.specs.Script.{IsInLimits, delay_of}
 use Rattle.lapm_frames.specs.declared.heard.Heard.{Heard}
-use Rattle.link_account.specs.Account.{Account}
+use Rattle.link_account.specs.Account.{Account, check_of}
 use Rattle.causes.specs.declared.fault.LinkFault.{LinkFault}
 use Rattle.causes.specs.declared.fault.LinkFault.TheVariants as faults
 use Rattle.link_account.specs.Hear.{hear}
@@ -17,17 +17,19 @@ use Rattle.link_run.specs.Run.{Ends, Turn, Hears, arrival}
 use Rattle.link_run.specs.Laws.{EachTurnIsMade, MakesTurn as MakesAny}
 use Rattle.link_run.specs.Outcomes.{Outcome, Going, Done, Broken, TurnIs}
 use Rattle.link_run.specs.Trace.{turn_text}
-use Rattle.line_run.specs.Sampled.{HeardIn, IsHeardOf}
-use Rattle.line_run.specs.Scripted.{channel_of, link_of, ScriptsMayPlay, ScriptsHaveDelays}
+use Rattle.line_run.specs.Sampled.{Channel, HeardIn, IsHeardOf}
+use Rattle.line_run.specs.Scripted.{link_of, ScriptsMayPlay, ScriptsHaveDelays}
 use Rattle.line_run.specs.LineLaws.{SamplesAreCarried, OneIsCarried}
 use Rattle.run_world.specs.Names.{Written, outputs_of, received_of}
-use Rattle.line_run.specs.Stream.{both_sent_by}
+use Rattle.line_run.specs.Stream.{Carried}
 use Rattle.shared_line.specs.Lines.{HaveArrived}
+use Rattle.shared_line.specs.declared.lines.Lines.{Lines}
 use Rattle.run_world.specs.Link.{AreCounted, AreIdle, AreWithin, octets_of}
-use Rattle.run_world.specs.declared.world.World.{World}
+use Rattle.run_world.specs.declared.modems.Modems.{Modems}
+use Rattle.run_world.specs.Modems.{AreKept}
 use Rattle.run_world.specs.declared.step.RunFault.{RunFault}
 use Rattle.run_world.specs.declared.step.RunFault.TheVariants as run_faults
-use Rattle.run_world.specs.World.{IsReady, StayKnown}
+use Rattle.run_world.specs.World.{StayKnown}
 use Rattle.run_world.specs.Tally.{IsFew}
 use Rattle.run_world.specs.Turn.{SendsNone, MakesTurn, Stops, StopsReading, EndsBy, EndsInTurn, GoesOnBy, IsWriting, IsReading}
 use Rattle.run_world.specs.Turn.{added}
@@ -48,12 +50,12 @@ pub record MakingLaws : Type 0 where
   pub one : OneIsCarried
   pub made : EachTurnIsMade
 
-hearing-of : (script : ScriptValue) (files : Both (List ℕ)) (ts : List Turn) (ends : Ends) (t : Turn) (mid : Ends) (outcome : Outcome)
-    → TurnIs (link_of script files) ts ends t mid outcome
+hearing-of : (c : Channel) (files : Both (List ℕ)) (ts : List Turn) (ends : Ends) (t : Turn) (mid : Ends) (outcome : Outcome)
+    → TurnIs (link_of c.script files) ts ends t mid outcome
     → Hears (length ts) ends t mid
-hearing-of script files ts ends t mid Going h = subst (Hears (length ts) ends t) h.2 h.1.hearing
-hearing-of script files ts ends t mid Done h = h.hearing
-hearing-of script files ts ends t mid (Broken role fault) h = h.hearing
+hearing-of c files ts ends t mid Going h = subst (Hears (length ts) ends t) h.2 h.1.hearing
+hearing-of c files ts ends t mid Done h = h.hearing
+hearing-of c files ts ends t mid (Broken role fault) h = h.hearing
 
 ok-inj : (r : Result Account LinkFault) (a b : Account) → r ≡ Ok a → r ≡ Ok b → a ≡ b
 ok-inj r a b p q = ap value (sym p ∙ q)
@@ -66,38 +68,38 @@ both-same : (x y : Ends) → x.orig ≡ y.orig → x.answ ≡ y.answ → x ≡ y
 both-same x y o a = λ k. record { orig = o k; answ = a k }
 
 -- The turn that is being made.
-pub record Making (script : ScriptValue) (files : Both (List ℕ)) (ts : List Turn) (ends : Ends) (heard : Both Heard) (mid : Ends) : Type 0 where
+pub record Making (c : Channel) (files : Both (List ℕ)) (ts : List Turn) (ends : Ends) (heard : Both Heard) (mid : Ends) : Type 0 where
   pub turn : Turn
   pub outcome : Outcome
   pub hears : HearsThese heard turn
-  pub makes : MakesTurn script files ts ends turn mid outcome
+  pub makes : MakesTurn c files ts ends turn mid outcome
 
-pub making : MakingLaws → (script : ScriptValue) (files : Both (List ℕ)) (ts : List Turn) (ends : Ends) (heard : Both Heard) (mid : Ends)
-    → IsInLimits script
-    → Overhears script files ts ends heard mid → Making script files ts ends heard mid
-making laws script files ts ends heard mid limits o = record {
+pub making : MakingLaws → (c : Channel) (files : Both (List ℕ)) (ts : List Turn) (ends : Ends) (heard : Both Heard) (mid : Ends)
+    → IsInLimits c.script
+    → Overhears c files ts ends heard mid → Making c files ts ends heard mid
+making laws c files ts ends heard mid limits o = record {
   turn = m.turn;
   outcome = m.outcome;
   hears = λ role. m.heard_is role ∙ hears-these heard ends mid none-sent role;
-  makes = record { run = o.run; heard = well; is = subst (λ x. TurnIs (link_of script files) ts ends m.turn x m.outcome) same m.is };
+  makes = record { run = o.run; heard = well; is = subst (λ x. TurnIs (link_of c.script files) ts ends m.turn x m.outcome) same m.is };
 }
   where
     first : Turn
     first = turn_in heard ends mid none-sent
 
-    heard-first : HeardIn (channel_of script) ts first
-    heard-first = heard-in script files ts ends heard mid none-sent o
+    heard-first : HeardIn c ts first
+    heard-first = heard-in c files ts ends heard mid none-sent o
 
-    m : MakesAny (link_of script files) ts ends (λ role. (of role first).heard)
-    m = laws.made (link_of script files) (delay_of script) ts ends (λ role. (of role first).heard)
-        (runs-over laws.play laws.delays laws.carried script files ts ends limits o.run)
-        (λ role. laws.one (channel_of script) ts first heard-first role)
+    m : MakesAny (link_of c.script files) ts ends (λ role. (of role first).heard)
+    m = laws.made (link_of c.script files) (delay_of c.script) ts ends (λ role. (of role first).heard)
+        (runs-over laws.play laws.delays laws.carried c files ts ends limits o.run)
+        (λ role. laws.one c ts first heard-first role)
 
     hears : Hears (length ts) ends m.turn m.mid
-    hears = hearing-of script files ts ends m.turn m.mid m.outcome m.is
+    hears = hearing-of c files ts ends m.turn m.mid m.outcome m.is
 
     first-hears : Hears (length ts) ends first mid
-    first-hears = hears-in script files ts ends mid heard none-sent o
+    first-hears = hears-in c files ts ends mid heard none-sent o
 
     same-at : (role : Role) → of role m.mid ≡ of role mid
     same-at role = ok-inj (hear (length ts) (arrival (of role m.turn).heard) (of role ends)) (of role m.mid) (of role mid)
@@ -107,107 +109,115 @@ making laws script files ts ends heard mid limits o = record {
     same : m.mid ≡ mid
     same = both-same m.mid mid (same-at Originator) (same-at Answerer)
 
-    well : HeardIn (channel_of script) ts m.turn
+    well : HeardIn c ts m.turn
     well role =
         let h = heard-first role in
         record {
-          heard_of = subst (λ x. IsHeardOf (channel_of script) (other role) ts (of role m.turn).check x) (sym (m.heard_is role))
-              (subst (λ x. IsHeardOf (channel_of script) (other role) ts x (of role first).heard) ((first-hears role).check_is
+          heard_of = subst (λ x. IsHeardOf c (other role) ts (of role m.turn).check x) (sym (m.heard_is role))
+              (subst (λ x. IsHeardOf c (other role) ts x (of role first).heard) ((first-hears role).check_is
               ∙ sym (hears role).check_is) h.heard_of);
           well = λ f. h.well (sym (m.heard_is role) ∙ f);
         }
 
--- ---- the world after a turn in which nothing is sent
+-- ---- the ends after a turn in which nothing is sent
 
-abbrev pub Halts : World → List Turn → Both Heard → Type 0
-Halts w ts heard = (t : Turn) → HearsThese heard t → SendsNone w ts t
+abbrev pub Halts : Modems → Lines → Channel → ℕ → Both (List Carried) → List Turn → Both Heard → Type 0
+Halts m l c links streams ts heard = (t : Turn) → HearsThese heard t → SendsNone m l c links streams ts t
 
-pub same-beside : (w : World) → SameBeside w w
-same-beside w = record { lines = refl; script = refl; turn = refl; tally = refl }
+pub same-beside : (m : Modems) → SameBeside m m
+same-beside m = record { dlci = refl; turn = refl; tally = refl; heard_by = refl; spoke = refl }
 
-pub halts-so : (old w : World) (files : Both (List ℕ)) (ts : List Turn) (ends : Ends) (heard : Both Heard) (mid now : Ends)
-    → InTurn old files ts ends heard mid now → SameBeside old w → Halts w ts heard
-halts-so old w files ts ends heard mid now h same t hears =
+pub halts-so : (old m : Modems) (l : Lines) (c : Channel) (links : ℕ) (streams : Both (List Carried)) (files : Both (List ℕ)) (ts : List Turn)
+    (ends : Ends) (heard : Both Heard) (mid now : Ends)
+    → InTurn old c files ts ends heard mid now → HaveArrived l c links streams → SameBeside old m → Halts m l c links streams ts heard
+halts-so old m l c links streams files ts ends heard mid now h arrived same t hears =
     let orig = sym (hears Originator) in
     let answ = sym (hears Answerer) in
     record {
-      lines = subst (λ s. HaveArrived w.lines (channel_of s) 1 (both_sent_by 0 ts)) (sym same.script)
-          (subst (λ l. HaveArrived l (channel_of old.script) 1 (both_sent_by 0 ts)) (sym same.lines) h.lines);
+      lines = arrived;
       lost = ap (λ (x : Tally). x.lost) same.tally ∙ h.tally.lost ∙ (λ k. lost_slots ts + lost_in (orig k) + lost_in (answ k));
       again = ap (λ (x : Tally). x.again) same.tally ∙ h.tally.again;
     }
 
+-- what both hear with once they have heard
+abbrev pub Checked : Modems → Ends → Type 0
+Checked m mid = (role : Role) → of role m.heard_by ≡ check_of (of role mid)
+
+pub checked-so : (old m : Modems) (c : Channel) (files : Both (List ℕ)) (ts : List Turn) (ends : Ends) (heard : Both Heard) (mid now : Ends)
+    → InTurn old c files ts ends heard mid now → SameBeside old m → Checked m mid
+checked-so old m c files ts ends heard mid now h same role = ap (of role) same.heard_by ∙ h.checks role
+
 -- ---- a fault of the folder
 
-pub writing-ends : (w : World) (a b : FolderState) (n : Written) (files : Both (List ℕ)) (ts : List Turn) (ends : Ends)
+pub writing-ends : (m : Modems) (l : Lines) (c : Channel) (links : ℕ) (streams : Both (List Carried)) (a b : FolderState) (n : Written) (files : Both (List ℕ)) (ts : List Turn) (ends : Ends)
     (fault : RunFault) → IsWriting fault
-    → Stops w a b n files ts ends → EndsBy w a b n files ts ends fault
-writing-ends w a b n files ts ends run_faults.WriteFault is h = h
-writing-ends w a b n files ts ends run_faults.NoMemory is h = h
-writing-ends w a b n files ts ends run_faults.ReadFault is h = absurd is
-writing-ends w a b n files ts ends (run_faults.LineLost role symbol) is h = absurd is
-writing-ends w a b n files ts ends (run_faults.ChanceMatch role turn) is h = absurd is
-writing-ends w a b n files ts ends (run_faults.NotDetected turn) is h = absurd is
-writing-ends w a b n files ts ends (run_faults.LinkLost role segment turn) is h = absurd is
+    → Stops m l c links streams a b n files ts ends → EndsBy m l c links streams a b n files ts ends fault
+writing-ends m l c links streams a b n files ts ends run_faults.WriteFault is h = h
+writing-ends m l c links streams a b n files ts ends run_faults.NoMemory is h = h
+writing-ends m l c links streams a b n files ts ends run_faults.ReadFault is h = absurd is
+writing-ends m l c links streams a b n files ts ends (run_faults.LineLost role symbol) is h = absurd is
+writing-ends m l c links streams a b n files ts ends (run_faults.ChanceMatch role turn) is h = absurd is
+writing-ends m l c links streams a b n files ts ends (run_faults.NotDetected turn) is h = absurd is
+writing-ends m l c links streams a b n files ts ends (run_faults.LinkLost role segment turn) is h = absurd is
 
-pub reading-ends : (w : World) (a b : FolderState) (n : Written) (files : Both (List ℕ)) (ts : List Turn) (ends : Ends)
+pub reading-ends : (m : Modems) (l : Lines) (c : Channel) (links : ℕ) (streams : Both (List Carried)) (a b : FolderState) (n : Written) (files : Both (List ℕ)) (ts : List Turn) (ends : Ends)
     (fault : RunFault) → IsReading fault
-    → StopsReading w a b n files ts ends → EndsBy w a b n files ts ends fault
-reading-ends w a b n files ts ends run_faults.ReadFault is h = h
-reading-ends w a b n files ts ends run_faults.NoMemory is h = inl h.0
-reading-ends w a b n files ts ends run_faults.WriteFault is h = absurd is
-reading-ends w a b n files ts ends (run_faults.LineLost role symbol) is h = absurd is
-reading-ends w a b n files ts ends (run_faults.ChanceMatch role turn) is h = absurd is
-reading-ends w a b n files ts ends (run_faults.NotDetected turn) is h = absurd is
-reading-ends w a b n files ts ends (run_faults.LinkLost role segment turn) is h = absurd is
+    → StopsReading m l c links streams a b n files ts ends → EndsBy m l c links streams a b n files ts ends fault
+reading-ends m l c links streams a b n files ts ends run_faults.ReadFault is h = h
+reading-ends m l c links streams a b n files ts ends run_faults.NoMemory is h = inl h.0
+reading-ends m l c links streams a b n files ts ends run_faults.WriteFault is h = absurd is
+reading-ends m l c links streams a b n files ts ends (run_faults.LineLost role symbol) is h = absurd is
+reading-ends m l c links streams a b n files ts ends (run_faults.ChanceMatch role turn) is h = absurd is
+reading-ends m l c links streams a b n files ts ends (run_faults.NotDetected turn) is h = absurd is
+reading-ends m l c links streams a b n files ts ends (run_faults.LinkLost role segment turn) is h = absurd is
 
 -- as what both took is handed over,
 pub stops-handing : MakingLaws
-    → (w : World) (a b : FolderState) (n : Written) (files : Both (List ℕ)) (ts : List Turn) (ends : Ends) (heard : Both Heard)
+    → (m : Modems) (l : Lines) (c : Channel) (links : ℕ) (streams : Both (List Carried)) (a b : FolderState) (n : Written) (files : Both (List ℕ)) (ts : List Turn) (ends : Ends) (heard : Both Heard)
     (mid : Ends)
-    → IsInLimits w.script → IsApart n → AreWithin files → OnlyPuts a b (outputs_of n) → Overhears w.script files ts ends heard mid
-    → Halts w ts heard → AddPart a b (outputs_of n) (octets_of mid)
-    → Stops w a b n files ts ends
-stops-handing laws w a b n files ts ends heard mid limits apart within only o halts part =
-    let m = making laws w.script files ts ends heard mid limits o in
+    → IsInLimits c.script → IsApart n → AreWithin files → OnlyPuts a b (outputs_of n) → Overhears c files ts ends heard mid
+    → Halts m l c links streams ts heard → AddPart a b (outputs_of n) (octets_of mid)
+    → Stops m l c links streams a b n files ts ends
+stops-handing laws m l c links streams a b n files ts ends heard mid limits apart within only o halts part =
+    let k = making laws c files ts ends heard mid limits o in
     inl (record {
       others = files;
       known = stay-known a b n files apart only within;
-      turn = m.turn;
+      turn = k.turn;
       mid = mid;
-      outcome = m.outcome;
-      makes = m.makes;
-      halts = halts m.turn m.hears;
-      writes = AddPart-longer a b (outputs_of n) (octets_of mid) (turn_text (length ts) m.turn ∷ []) part;
+      outcome = k.outcome;
+      makes = k.makes;
+      halts = halts k.turn k.hears;
+      writes = AddPart-longer a b (outputs_of n) (octets_of mid) (turn_text (length ts) k.turn ∷ []) part;
     })
 
 -- as the files are read,
 pub stops-reading : MakingLaws
-    → (w : World) (a b : FolderState) (n : Written) (files : Both (List ℕ)) (ts : List Turn) (ends : Ends) (heard : Both Heard)
+    → (m : Modems) (l : Lines) (c : Channel) (links : ℕ) (streams : Both (List Carried)) (a b : FolderState) (n : Written) (files : Both (List ℕ)) (ts : List Turn) (ends : Ends) (heard : Both Heard)
     (mid : Ends)
-    → IsInLimits w.script → IsApart n → AreWithin files → OnlyPuts a b (outputs_of n) → Overhears w.script files ts ends heard mid
-    → Halts w ts heard → AddEach a b (outputs_of n) (octets_of mid) → StopsReading w a b n files ts ends
-stops-reading laws w a b n files ts ends heard mid limits apart within only o halts delivered =
-    let m = making laws w.script files ts ends heard mid limits o in (
+    → IsInLimits c.script → IsApart n → AreWithin files → OnlyPuts a b (outputs_of n) → Overhears c files ts ends heard mid
+    → Halts m l c links streams ts heard → AddEach a b (outputs_of n) (octets_of mid) → StopsReading m l c links streams a b n files ts ends
+stops-reading laws m l c links streams a b n files ts ends heard mid limits apart within only o halts delivered =
+    let k = making laws c files ts ends heard mid limits o in (
       record {
         others = files;
         known = stay-known a b n files apart only within;
-        turn = m.turn;
+        turn = k.turn;
         mid = mid;
-        outcome = m.outcome;
-        makes = m.makes;
-        halts = halts m.turn m.hears;
-        writes = AddPart-none a b (received_of n) n.trace [] (octets_of mid) (turn_text (length ts) m.turn) [] tt delivered;
+        outcome = k.outcome;
+        makes = k.makes;
+        halts = halts k.turn k.hears;
+        writes = AddPart-none a b (received_of n) n.trace [] (octets_of mid) (turn_text (length ts) k.turn) [] tt delivered;
       },
       delivered,
     )
 
 -- and as the lines go out.
-pub stops-writing : (w : World) (a b c : FolderState) (n : Written) (files others : Both (List ℕ)) (ts : List Turn)
+pub stops-writing : (m : Modems) (l : Lines) (c : Channel) (links : ℕ) (streams : Both (List Carried)) (a b z : FolderState) (n : Written) (files others : Both (List ℕ)) (ts : List Turn)
     (ends : Ends) (heard : Both Heard) (mid : Ends) → IsApart n
-    → StayKnown a c n files others → OnlyPuts a b (outputs_of n) → AddEach a b (outputs_of n) (octets_of mid) → OnlyWrites b c n.trace
-    → Halts w ts heard → AddsPart w.script b c n others ts ends heard mid → Stops w a c n files ts ends
-stops-writing w a b c n files others ts ends heard mid apart known only delivered lines halts p =
+    → StayKnown a z n files others → OnlyPuts a b (outputs_of n) → AddEach a b (outputs_of n) (octets_of mid) → OnlyWrites b z n.trace
+    → Halts m l c links streams ts heard → AddsPart c b z n others ts ends heard mid → Stops m l c links streams a z n files ts ends
+stops-writing m l c links streams a b z n files others ts ends heard mid apart known only delivered lines halts p =
     inl (record {
       others = others;
       known = known;
@@ -216,17 +226,17 @@ stops-writing w a b c n files others ts ends heard mid apart known only delivere
       outcome = p.outcome;
       makes = p.makes;
       halts = halts p.turn p.hears;
-      writes = AddPart-next a b c (received_of n) n.trace [] (octets_of mid) _ tt apart.0 only.goes_on delivered lines p.trace;
+      writes = AddPart-next a b z (received_of n) n.trace [] (octets_of mid) _ tt apart.0 only.goes_on delivered lines p.trace;
     })
 
 -- ---- the run ends in this turn
 
-pub ends-in : (w : World) (a b c : FolderState) (n : Written) (files others : Both (List ℕ)) (ts : List Turn) (ends : Ends)
+pub ends-in : (m : Modems) (l : Lines) (c : Channel) (links : ℕ) (streams : Both (List Carried)) (a b z : FolderState) (n : Written) (files others : Both (List ℕ)) (ts : List Turn) (ends : Ends)
     (heard : Both Heard) (mid : Ends) (outcome : Outcome) (number : ℕ)
-    → IsApart n → number ≡ length ts → StayKnown a c n files others → OnlyPuts a b (outputs_of n) → AddEach a b (outputs_of n) (octets_of mid)
-    → OnlyWrites b c n.trace → Halts w ts heard
-    → AddsLines w.script b c n others ts ends heard mid outcome → EndsInTurn w a c n files ts ends outcome number
-ends-in w a b c n files others ts ends heard mid outcome number apart e known only delivered lines halts p = record {
+    → IsApart n → number ≡ length ts → StayKnown a z n files others → OnlyPuts a b (outputs_of n) → AddEach a b (outputs_of n) (octets_of mid)
+    → OnlyWrites b z n.trace → Halts m l c links streams ts heard → Checked m mid
+    → AddsLines c b z n others ts ends heard mid outcome → EndsInTurn m l c links streams a z n files ts ends outcome number
+ends-in m l c links streams a b z n files others ts ends heard mid outcome number apart e known only delivered lines halts checked p = record {
   number_is = e;
   others = others;
   known = known;
@@ -234,55 +244,52 @@ ends-in w a b c n files others ts ends heard mid outcome number apart e known on
   mid = mid;
   makes = p.makes;
   halts = halts p.turn p.hears;
-  writes = AddEach-next a b c (received_of n) n.trace [] (octets_of mid) _ tt apart.0 only.goes_on delivered lines (inr p.trace);
+  checks = checked;
+  writes = AddEach-next a b z (received_of n) n.trace [] (octets_of mid) _ tt apart.0 only.goes_on delivered lines (inr p.trace);
 }
 
-pub speaks-last : (w : World) (a b c : FolderState) (n : Written) (files others : Both (List ℕ)) (ts : List Turn)
+pub speaks-last : (m : Modems) (l : Lines) (c : Channel) (links : ℕ) (streams : Both (List Carried)) (a b z : FolderState) (n : Written) (files others : Both (List ℕ)) (ts : List Turn)
     (ends : Ends) (heard : Both Heard) (mid : Ends) (fault : RunFault)
-    → IsApart n → StayKnown a c n files others → OnlyPuts a b (outputs_of n) → AddEach a b (outputs_of n) (octets_of mid)
-    → OnlyWrites b c n.trace → Halts w ts heard
-    → SpeaksLast w.script b c n others ts ends heard mid fault → EndsBy w a c n files ts ends fault
-speaks-last w a b c n files others ts ends heard mid run_faults.WriteFault apart known only d lines halts h =
-    stops-writing w a b c n files others ts ends heard mid apart known only d lines halts h
-speaks-last w a b c n files others ts ends heard mid run_faults.NoMemory apart known only d lines halts h =
-    stops-writing w a b c n files others ts ends heard mid apart known only d lines halts h
-speaks-last w a b c n files others ts ends heard mid (run_faults.LinkLost role segment turn) apart known only d lines halts h =
-    (h.1, ends-in w a b c n files others ts ends heard mid (Broken role (faults.Spent segment h.1)) turn apart h.0 known only d lines halts h.2)
-speaks-last w a b c n files others ts ends heard mid (run_faults.NotDetected turn) apart known only d lines halts h =
-    ends-in w a b c n files others ts ends heard mid (Broken Originator faults.NotDetected) turn apart h.0 known only d lines halts h.1
-speaks-last w a b c n files others ts ends heard mid run_faults.ReadFault apart known only d lines halts h = absurd h
-speaks-last w a b c n files others ts ends heard mid (run_faults.LineLost role symbol) apart known only d lines halts h = absurd h
-speaks-last w a b c n files others ts ends heard mid (run_faults.ChanceMatch role turn) apart known only d lines halts h = absurd h
+    → IsApart n → StayKnown a z n files others → OnlyPuts a b (outputs_of n) → AddEach a b (outputs_of n) (octets_of mid)
+    → OnlyWrites b z n.trace → Halts m l c links streams ts heard → Checked m mid
+    → SpeaksLast c b z n others ts ends heard mid fault → EndsBy m l c links streams a z n files ts ends fault
+speaks-last m l c links streams a b z n files others ts ends heard mid run_faults.WriteFault apart known only d lines halts checked h =
+    stops-writing m l c links streams a b z n files others ts ends heard mid apart known only d lines halts h
+speaks-last m l c links streams a b z n files others ts ends heard mid run_faults.NoMemory apart known only d lines halts checked h =
+    stops-writing m l c links streams a b z n files others ts ends heard mid apart known only d lines halts h
+speaks-last m l c links streams a b z n files others ts ends heard mid (run_faults.LinkLost role segment turn) apart known only d lines halts checked h =
+    (h.1, ends-in m l c links streams a b z n files others ts ends heard mid (Broken role (faults.Spent segment h.1)) turn apart h.0 known only d lines halts checked h.2)
+speaks-last m l c links streams a b z n files others ts ends heard mid (run_faults.NotDetected turn) apart known only d lines halts checked h =
+    ends-in m l c links streams a b z n files others ts ends heard mid (Broken Originator faults.NotDetected) turn apart h.0 known only d lines halts checked h.1
+speaks-last m l c links streams a b z n files others ts ends heard mid run_faults.ReadFault apart known only d lines halts checked h = absurd h
+speaks-last m l c links streams a b z n files others ts ends heard mid (run_faults.LineLost role symbol) apart known only d lines halts checked h = absurd h
+speaks-last m l c links streams a b z n files others ts ends heard mid (run_faults.ChanceMatch role turn) apart known only d lines halts checked h = absurd h
 
 -- ---- the run goes on
 
-pub goes-on-by : (w : World) (a b c : FolderState) (n : Written) (files others : Both (List ℕ)) (ts : List Turn) (ends mid : Ends)
-    → IsApart n → StayKnown a c n files others → OnlyPuts a b (outputs_of n) → AddEach a b (outputs_of n) (octets_of mid) → OnlyWrites b c n.trace
-    → HasGone w w.script b c n others ts ends mid → GoesOnBy w a c n files ts ends
-goes-on-by w a b c n files others ts ends mid apart known only delivered lines h = record {
+pub goes-on-by : (m : Modems) (l : Lines) (c : Channel) (links : ℕ) (streams : Both (List Carried)) (a b z : FolderState) (n : Written)
+    (files others : Both (List ℕ)) (ts : List Turn) (ends mid : Ends)
+    → IsApart n → StayKnown a z n files others → OnlyPuts a b (outputs_of n) → AddEach a b (outputs_of n) (octets_of mid) → OnlyWrites b z n.trace
+    → HasGone m l c links streams b z n others ts ends mid → GoesOnBy m l c links streams a z n files ts ends
+goes-on-by m l c links streams a b z n files others ts ends mid apart known only delivered lines h = record {
   others = others;
   known = known;
   turn = h.turn;
   after = h.after;
   going = h.going;
   heard = h.heard;
-  world = h.world;
-  writes = subst (λ m. AddEach a c (outputs_of n) (added m (turn_text (length ts) h.turn))) (sym h.mid_is)
-      (AddEach-next a b c (received_of n) n.trace [] (octets_of mid) _ tt apart.0 only.goes_on delivered lines (inr h.trace));
+  modems = h.modems;
+  lines = h.lines;
+  writes = subst (λ x. AddEach a z (outputs_of n) (added x (turn_text (length ts) h.turn))) (sym h.mid_is)
+      (AddEach-next a b z (received_of n) n.trace [] (octets_of mid) _ tt apart.0 only.goes_on delivered lines (inr h.trace));
 }
 
--- and is ready for the next turn
-pub ready-on : (w : World) (a b c : FolderState) (n : Written) (files : Both (List ℕ)) (ts : List Turn) (ends : Ends) (number : ℕ)
-    → IsInLimits w.script → GoesOnBy w a c n files ts ends
-    → AreIdle w.link → AreCounted w.link number number → IsFew w.tally number number → w.turn ≡ number → IsReady w
-ready-on w a b c n files ts ends number limits h idle counted few e = record {
-  limits = limits;
-  files = h.others;
-  within = h.known.within;
-  turns = h.turn ∷ ts;
-  ends = h.after;
-  after = h.world;
+-- and another turn may be made
+pub kept-on : (m : Modems) (number : ℕ) → m.dlci < 64 → AreIdle m.link → AreCounted m.link number number → IsFew m.tally number number
+    → m.turn ≡ number → AreKept m
+kept-on m number channel idle counted few e = record {
+  channel = channel;
   idle = idle;
-  counted = subst (λ t. AreCounted w.link t t) (sym e) counted;
-  few = subst (λ t. IsFew w.tally t t) (sym e) few;
+  counted = subst (λ t. AreCounted m.link t t) (sym e) counted;
+  few = subst (λ t. IsFew m.tally t t) (sym e) few;
 }

@@ -1,6 +1,7 @@
 pub use Rattle.stations.specs.Station
 pub use Rattle.turn_bound.specs.Limits
 pub mod Tally
+pub mod Modems
 pub mod World
 pub mod Turn
 pub mod Mid

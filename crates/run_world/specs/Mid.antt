@@ -1,4 +1,4 @@
--- A turn of a world in its middle: both ends have heard, and the rest of the turn is to come.
+-- A turn of a link in its middle: both ends have heard, and the rest of the turn is to come.
 use Rattle.std.specs.Prelude.{◌≡◌, ◌≢◌, ℕ, ◌+◌, false, ◌∷◌, List, length, Option, Result, Ok, Err}
 use Rattle.outside_calls.specs.Folder.{FolderState, Appended, PartlyAppended}
 use Rattle.outside_calls.specs.Outputs.{AddEach}
@@ -15,30 +15,31 @@ use Rattle.link_account.specs.Account.{Account, after_given, given_break, check_
 use Rattle.link_account.specs.Hear.{hear}
 use Rattle.link_run.specs.End.{delivered, offered, is_closed}
 use Rattle.link_run.specs.Run.{Ends, Side, Spoken, Turn, GoingTurn, arrival}
-use Rattle.link_run.specs.Outcomes.{Outcome, Done, Broken}
+use Rattle.link_run.specs.Outcomes.{Outcome, Broken}
 use Rattle.link_run.specs.Trace.{turn_text}
 use Rattle.link_run.specs.Counts.{lost_in, lost_slots, sent_again}
-use Rattle.line_run.specs.Sampled.{IsHeardOf, HeardIn, LineRun, EndsLine}
-use Rattle.line_run.specs.Scripted.{channel_of, link_of}
+use Rattle.line_run.specs.Sampled.{Channel, IsHeardOf, HeardIn, LineRun, EndsLine}
+use Rattle.line_run.specs.Scripted.{link_of}
 use Rattle.shared_line.specs.declared.lines.LineEnd.{LineEnd}
 use Rattle.turn_bound.specs.Limits.{file_limit}
 use Rattle.stations.specs.Station.{ReadsOn}
 use Rattle.run_world.specs.Names.{Written, outputs_of}
 use Rattle.run_world.specs.Link.{LinkStands, both_ends, octets_of, served_on}
-use Rattle.line_run.specs.Stream.{both_sent_by}
-use Rattle.shared_line.specs.Lines.{HaveArrived, end_of}
-use Rattle.run_world.specs.declared.world.World.{World}
+use Rattle.line_run.specs.Stream.{Carried, and_sent}
+use Rattle.shared_line.specs.Lines.{LinesWait, HaveArrived, end_of}
+use Rattle.shared_line.specs.declared.lines.Lines.{Lines}
+use Rattle.run_world.specs.declared.modems.Modems.{Modems}
 use Rattle.run_world.specs.declared.tally.Tally.{Tally}
 use Rattle.run_world.specs.declared.step.RunFault.{RunFault}
 use Rattle.run_world.specs.declared.step.RunFault.TheVariants as run_faults
-use Rattle.run_world.specs.World.{WorldAfter}
+use Rattle.run_world.specs.Modems.{ModemsAfter}
 use Rattle.run_world.specs.Turn.{MakesTurn, HearsNone}
 
 -- What both ends hear in the turn after these, and are once they have heard.
-pub record Overhears (script : ScriptValue) (files : Both (List ℕ)) (ts : List Turn) (ends : Ends) (heard : Both Heard)
+pub record Overhears (c : Channel) (files : Both (List ℕ)) (ts : List Turn) (ends : Ends) (heard : Both Heard)
     (mid : Ends) : Type 0 where
-  pub run : LineRun (channel_of script) (link_of script files) ts ends
-  pub heard_of : (role : Role) → IsHeardOf (channel_of script) (other role) ts (check_of (of role ends)) (of role heard)
+  pub run : LineRun c (link_of c.script files) ts ends
+  pub heard_of : (role : Role) → IsHeardOf c (other role) ts (check_of (of role ends)) (of role heard)
   pub well : (role : Role) → of role heard ≢ Chance
   pub hears : (role : Role) → hear (length ts) (arrival (of role heard)) (of role ends) ≡ Ok (of role mid)
 
@@ -72,36 +73,39 @@ pub record TalliesHeard (t : Tally) (ts : List Turn) (ends : Ends) (heard : Both
   pub orig : t.orig ≡ ends.orig.outgoing.high
   pub answ : t.answ ≡ ends.answ.outgoing.high
 
--- A world in the turn after these, whose ends are by now these.
-pub record InTurn (w : World) (files : Both (List ℕ)) (ts : List Turn) (ends : Ends) (heard : Both Heard) (mid now : Ends) : Type 0 where
-  pub overhears : Overhears w.script files ts ends heard mid
-  pub link : LinkStands w.link files now
-  pub lines : HaveArrived w.lines (channel_of w.script) 1 (both_sent_by 0 ts)
-  pub turn : w.turn ≡ length ts
-  pub tally : TalliesHeard w.tally ts ends heard
+-- Ends in the turn after these, which by now are these.
+pub record InTurn (m : Modems) (c : Channel) (files : Both (List ℕ)) (ts : List Turn) (ends : Ends) (heard : Both Heard) (mid now : Ends) : Type 0 where
+  pub overhears : Overhears c files ts ends heard mid
+  pub link : LinkStands m.link files now
+  pub turn : m.turn ≡ length ts
+  pub tally : TalliesHeard m.tally ts ends heard
+  pub checks : (role : Role) → of role m.heard_by ≡ check_of (of role mid)
 
--- the call left all of a world but its ends as it was
-pub record SameBeside (old new : World) : Type 0 where
-  pub lines : new.lines ≡ old.lines
-  pub script : new.script ≡ old.script
+-- the call left all but the ends as it was
+pub record SameBeside (old new : Modems) : Type 0 where
+  pub dlci : new.dlci ≡ old.dlci
   pub turn : new.turn ≡ old.turn
   pub tally : new.tally ≡ old.tally
+  pub heard_by : new.heard_by ≡ old.heard_by
+  pub spoke : new.spoke ≡ old.spoke
 
 -- both ends have heard
-pub record HasHeard (w : World) (files : Both (List ℕ)) (ts : List Turn) (ends : Ends) (heard : Both Heard) : Type 0 where
+pub record HasHeard (m : Modems) (l : Lines) (c : Channel) (links : ℕ) (streams : Both (List Carried)) (files : Both (List ℕ)) (ts : List Turn)
+    (ends : Ends) (heard : Both Heard) : Type 0 where
   pub mid : Ends
-  pub stands : InTurn w files ts ends heard mid mid
+  pub stands : InTurn m c files ts ends heard mid mid
+  pub lines : HaveArrived l c links streams
 
 -- what hearing answers
-abbrev pub HearsTurn : World → Both (List ℕ) → List Turn → Ends → Result (Both Heard) LineEnd → Type 0
-HearsTurn w files ts ends (Ok heard) = HasHeard w files ts ends heard
-HearsTurn w files ts ends (Err end) = EndsLine (channel_of w.script) ts ends (end_of end) × HearsNone w ts
+abbrev pub HearsTurn : Modems → Lines → Channel → ℕ → Both (List Carried) → Both (List ℕ) → List Turn → Ends → Result (Both Heard) LineEnd → Type 0
+HearsTurn m l c links streams files ts ends (Ok heard) = HasHeard m l c links streams files ts ends heard
+HearsTurn m l c links streams files ts ends (Err end) = EndsLine c ts ends (end_of end) × HearsNone m ts
 
 -- What both ends took is handed over, segments and the lengths of breaks.
-pub record HandsOver (w : World) (old new : FolderState) (n : Written) (files : Both (List ℕ)) (ts : List Turn) (ends : Ends)
+pub record HandsOver (m : Modems) (c : Channel) (old new : FolderState) (n : Written) (files : Both (List ℕ)) (ts : List Turn) (ends : Ends)
     (heard : Both Heard) (mid : Ends)
     (given : Both (Option ℕ)) : Type 0 where
-  pub stands : InTurn w files ts ends heard mid (handed mid)
+  pub stands : InTurn m c files ts ends heard mid (handed mid)
   pub orig_given : given.orig ≡ given_break mid.orig
   pub answ_given : given.answ ≡ given_break mid.answ
   pub delivered : AddEach old new (outputs_of n) (octets_of mid)
@@ -112,65 +116,66 @@ pub record ReadsBoth (f : FolderState) (n : Written) (files : Both (List ℕ)) (
   pub answ : ReadsOn f n.answ file_limit files.answ ends.answ others.answ
 
 -- Both ends are served, and are to speak.
-pub record Serves (w : World) (f : FolderState) (n : Written) (files : Both (List ℕ)) (ts : List Turn) (ends : Ends) (heard : Both Heard)
-    (mid : Ends) : Type 0 where
+pub record Serves (m : Modems) (c : Channel) (f : FolderState) (n : Written) (files : Both (List ℕ)) (ts : List Turn) (ends : Ends)
+    (heard : Both Heard) (mid : Ends) : Type 0 where
   pub others : Both (List ℕ)
   pub reads : ReadsBoth f n files (handed mid) others
-  pub stands : InTurn w others ts ends heard mid (served w.script others (length ts) mid)
+  pub stands : InTurn m c others ts ends heard mid (served c.script others (length ts) mid)
 
 -- In this turn both ends hear these.
 abbrev pub HearsThese : Both Heard → Turn → Type 0
 HearsThese heard t = (role : Role) → (of role t).heard ≡ of role heard
 
 -- The turn after these is made, with that outcome, and its lines stand behind the trace.
-pub record AddsLines (script : ScriptValue) (old new : FolderState) (n : Written) (files : Both (List ℕ)) (ts : List Turn) (ends : Ends)
+pub record AddsLines (c : Channel) (old new : FolderState) (n : Written) (files : Both (List ℕ)) (ts : List Turn) (ends : Ends)
     (heard : Both Heard) (mid : Ends) (outcome : Outcome) : Type 0 where
   pub turn : Turn
   pub hears : HearsThese heard turn
-  pub makes : MakesTurn script files ts ends turn mid outcome
+  pub makes : MakesTurn c files ts ends turn mid outcome
   pub trace : Appended old new n.trace (turn_text (length ts) turn)
 
 -- A part of its lines does, whatever it comes to.
-pub record AddsPart (script : ScriptValue) (old new : FolderState) (n : Written) (files : Both (List ℕ)) (ts : List Turn)
+pub record AddsPart (c : Channel) (old new : FolderState) (n : Written) (files : Both (List ℕ)) (ts : List Turn)
     (ends : Ends) (heard : Both Heard) (mid : Ends) : Type 0 where
   pub outcome : Outcome
   pub turn : Turn
   pub hears : HearsThese heard turn
-  pub makes : MakesTurn script files ts ends turn mid outcome
+  pub makes : MakesTurn c files ts ends turn mid outcome
   pub trace : PartlyAppended old new n.trace (turn_text (length ts) turn)
 
 -- The run goes on.
-pub record HasGone (w : World) (script : ScriptValue) (old new : FolderState) (n : Written) (files : Both (List ℕ)) (ts : List Turn)
+pub record HasGone (m : Modems) (l : Lines) (c : Channel) (links : ℕ) (streams : Both (List Carried)) (old new : FolderState) (n : Written) (files : Both (List ℕ)) (ts : List Turn)
     (ends mid : Ends) : Type 0 where
   pub turn : Turn
   pub after : Ends
-  pub going : GoingTurn (link_of script files) ts ends turn after
+  pub going : GoingTurn (link_of c.script files) ts ends turn after
   pub mid_is : going.mid ≡ mid
-  pub heard : HeardIn (channel_of script) ts turn
-  pub world : WorldAfter w files (turn ∷ ts) after
+  pub heard : HeardIn c ts turn
+  pub modems : ModemsAfter m c files (turn ∷ ts) after
+  pub lines : LinesWait l c links (and_sent streams c.dlci turn)
   pub trace : Appended old new n.trace (turn_text (length ts) turn)
 
 -- why the run ends as the ends speak
-abbrev pub SpeaksLast : ScriptValue → FolderState → FolderState → Written → Both (List ℕ) → List Turn → Ends → Both Heard → Ends → RunFault → Type 0
-SpeaksLast script old new n files ts ends heard mid run_faults.WriteFault = AddsPart script old new n files ts ends heard mid
-SpeaksLast script old new n files ts ends heard mid run_faults.NoMemory = AddsPart script old new n files ts ends heard mid
-SpeaksLast script old new n files ts ends heard mid (run_faults.LinkLost role segment turn) =
-    (turn ≡ length ts) × (since : ℕ) × AddsLines script old new n files ts ends heard mid (Broken role (faults.Spent segment since))
-SpeaksLast script old new n files ts ends heard mid (run_faults.NotDetected turn) =
-    (turn ≡ length ts) × AddsLines script old new n files ts ends heard mid (Broken Originator faults.NotDetected)
-SpeaksLast script old new n files ts ends heard mid run_faults.ReadFault = ⊥
-SpeaksLast script old new n files ts ends heard mid (run_faults.LineLost role symbol) = ⊥
-SpeaksLast script old new n files ts ends heard mid (run_faults.ChanceMatch role turn) = ⊥
+abbrev pub SpeaksLast : Channel → FolderState → FolderState → Written → Both (List ℕ) → List Turn → Ends → Both Heard → Ends → RunFault → Type 0
+SpeaksLast c old new n files ts ends heard mid run_faults.WriteFault = AddsPart c old new n files ts ends heard mid
+SpeaksLast c old new n files ts ends heard mid run_faults.NoMemory = AddsPart c old new n files ts ends heard mid
+SpeaksLast c old new n files ts ends heard mid (run_faults.LinkLost role segment turn) =
+    (turn ≡ length ts) × (since : ℕ) × AddsLines c old new n files ts ends heard mid (Broken role (faults.Spent segment since))
+SpeaksLast c old new n files ts ends heard mid (run_faults.NotDetected turn) =
+    (turn ≡ length ts) × AddsLines c old new n files ts ends heard mid (Broken Originator faults.NotDetected)
+SpeaksLast c old new n files ts ends heard mid run_faults.ReadFault = ⊥
+SpeaksLast c old new n files ts ends heard mid (run_faults.LineLost role symbol) = ⊥
+SpeaksLast c old new n files ts ends heard mid (run_faults.ChanceMatch role turn) = ⊥
 
 -- what speaking answers
-abbrev pub SpeaksTurn : World → FolderState → FolderState → Written → Both (List ℕ) → List Turn → Ends → Both Heard → Ends → Result (Unit {0}) RunFault
+abbrev pub SpeaksTurn : Modems → Lines → Channel → ℕ → Both (List Carried) → FolderState → FolderState → Written → Both (List ℕ) → List Turn → Ends → Both Heard → Ends → Result (Unit {0}) RunFault
     → Type 0
-SpeaksTurn w old new n files ts ends heard mid (Ok done) = HasGone w w.script old new n files ts ends mid
-SpeaksTurn w old new n files ts ends heard mid (Err fault) = SpeaksLast w.script old new n files ts ends heard mid fault
+SpeaksTurn m l c links streams old new n files ts ends heard mid (Ok done) = HasGone m l c links streams old new n files ts ends mid
+SpeaksTurn m l c links streams old new n files ts ends heard mid (Err fault) = SpeaksLast c old new n files ts ends heard mid fault
 
 -- Both ends are to speak, in a turn in which the originator isn't closed.
-pub record IsToSpeak (w : World) (files : Both (List ℕ)) (ts : List Turn) (ends : Ends) (heard : Both Heard) (mid : Ends) : Type 0 where
-  pub stands : InTurn w files ts ends heard mid (served w.script files (length ts) mid)
+pub record IsToSpeak (m : Modems) (c : Channel) (files : Both (List ℕ)) (ts : List Turn) (ends : Ends) (heard : Both Heard) (mid : Ends) : Type 0 where
+  pub stands : InTurn m c files ts ends heard mid (served c.script files (length ts) mid)
   pub going : is_closed mid.orig.phase ≡ false
 
 -- why a run ends in which an end breaks

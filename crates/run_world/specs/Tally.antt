@@ -1,5 +1,5 @@
 -- What a tally counts.
-use Rattle.std.specs.Prelude.{◌≡◌, ℕ, ◌+◌, ◌*◌, ◌≤◌, List}
+use Rattle.std.specs.Prelude.{◌≡◌, ℕ, ◌*◌, ◌≤◌, List}
 use Rattle.link_run.specs.Run.{Ends, Turn}
 use Rattle.link_run.specs.Counts.{lost_slots, sent_again}
 use Rattle.run_world.specs.declared.tally.Tally.{Tally}

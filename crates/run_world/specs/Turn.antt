@@ -1,5 +1,5 @@
 -- What a turn answers, what it adds to each output, and what is left where the folder doesn't take that.
-use Rattle.std.specs.Prelude.{◌≡◌, ◌⊎◌, ℕ, ◌+◌, ◌∷◌, [], ◌++◌, List, length, Result, Ok, Err}
+use Rattle.std.specs.Prelude.{◌≡◌, ◌⊎◌, ℕ, ◌+◌, Bool, true, false, ◌∷◌, [], ◌++◌, List, length, Result, Ok, Err}
 use Rattle.outside_calls.specs.Folder.{FolderState, Appended, PartlyAppended, Rose, FaultsStand, CountsStand}
 use Rattle.outside_calls.specs.declared.folder.FolderFault.{FolderFault}
 use Rattle.outside_calls.specs.declared.folder.FolderFault.TheVariants.{Failed, NoMemory}
@@ -7,142 +7,151 @@ use Rattle.outside_calls.specs.Outputs.{KeepsEach}
 use Rattle.outside_calls.specs.Outputs.{AddEach, AddPart, SomeRose}
 use Rattle.roles.specs.declared.role.Role.{Role}
 use Rattle.roles.specs.declared.role.Role.TheVariants.{Originator}
-use Rattle.roles.specs.Both.{Both}
-use Rattle.noise_script.specs.Script.{ScriptValue}
+use Rattle.roles.specs.Both.{Both, of}
+use Rattle.link_account.specs.Account.{check_of}
 use Rattle.line_texts.specs.LineText.{chance_line}
 use Rattle.causes.specs.declared.fault.LinkFault.TheVariants as faults
 use Rattle.link_run.specs.Run.{Ends, Turn, GoingTurn}
 use Rattle.link_run.specs.Outcomes.{Outcome, Done, Broken, TurnIs}
 use Rattle.link_run.specs.Trace.{turn_text}
 use Rattle.link_run.specs.Counts.{lost_slots, sent_again}
-use Rattle.line_run.specs.Sampled.{HeardIn, LineRun, EndsLine}
+use Rattle.line_run.specs.Sampled.{Channel, HeardIn, LineRun, EndsLine}
 use Rattle.line_run.specs.Sampled as lines
-use Rattle.line_run.specs.Scripted.{channel_of, link_of}
+use Rattle.line_run.specs.Scripted.{link_of}
 use Rattle.run_world.specs.Names.{Written, inputs_of, outputs_of, received_of}
 use Rattle.run_world.specs.Link.{octets_of}
-use Rattle.line_run.specs.Stream.{both_sent_by}
-use Rattle.shared_line.specs.Lines.{HaveArrived}
-use Rattle.run_world.specs.declared.world.World.{World}
+use Rattle.line_run.specs.Stream.{Carried, and_sent}
+use Rattle.shared_line.specs.Lines.{LinesWait, HaveArrived}
+use Rattle.shared_line.specs.declared.lines.Lines.{Lines}
+use Rattle.run_world.specs.declared.modems.Modems.{Modems}
 use Rattle.run_world.specs.declared.step.Step.{Step}
 use Rattle.run_world.specs.declared.step.Step.TheVariants as steps
 use Rattle.run_world.specs.declared.step.RunFault.{RunFault}
 use Rattle.run_world.specs.declared.step.RunFault.TheVariants as run_faults
-use Rattle.run_world.specs.World.{StayKnown, WorldAfter, script_of, lines_of, lost_of, again_of}
+use Rattle.run_world.specs.Modems.{ModemsAfter}
+use Rattle.run_world.specs.World.{StayKnown}
 
 -- what a turn adds to the outputs: to each received file what its end took, and to the trace both lines
 abbrev pub added : Ends → List ℕ → List (List ℕ)
 added mid text = octets_of mid ++ text ∷ []
 
--- The turn after these, over a script and files: what both ends hear in it, are once they have heard, and what it comes to.
-pub record MakesTurn (script : ScriptValue) (files : Both (List ℕ)) (ts : List Turn) (ends : Ends) (turn : Turn) (mid : Ends)
+-- The turn after these, over a channel and files: what both ends hear in it, are once they have heard, and what it comes to.
+pub record MakesTurn (c : Channel) (files : Both (List ℕ)) (ts : List Turn) (ends : Ends) (turn : Turn) (mid : Ends)
     (outcome : Outcome) : Type 0 where
-  pub run : LineRun (channel_of script) (link_of script files) ts ends
-  pub heard : HeardIn (channel_of script) ts turn
-  pub is : TurnIs (link_of script files) ts ends turn mid outcome
+  pub run : LineRun c (link_of c.script files) ts ends
+  pub heard : HeardIn c ts turn
+  pub is : TurnIs (link_of c.script files) ts ends turn mid outcome
 
 -- The run goes on by one turn.
-pub record GoesOnBy (w : World) (old new : FolderState) (n : Written) (files : Both (List ℕ)) (ts : List Turn) (ends : Ends) : Type 0 where
+pub record GoesOnBy (m : Modems) (l : Lines) (c : Channel) (links : ℕ) (streams : Both (List Carried)) (old new : FolderState) (n : Written) (files : Both (List ℕ)) (ts : List Turn) (ends : Ends) : Type 0 where
   pub others : Both (List ℕ)
   pub known : StayKnown old new n files others
   pub turn : Turn
   pub after : Ends
-  pub going : GoingTurn (link_of (script_of w) others) ts ends turn after
-  pub heard : HeardIn (channel_of (script_of w)) ts turn
-  pub world : WorldAfter w others (turn ∷ ts) after
+  pub going : GoingTurn (link_of c.script others) ts ends turn after
+  pub heard : HeardIn c ts turn
+  pub modems : ModemsAfter m c others (turn ∷ ts) after
+  pub lines : LinesWait l c links (and_sent streams c.dlci turn)
   pub writes : AddEach old new (outputs_of n) (added going.mid (turn_text (length ts) turn))
 
 -- Nothing is sent in this turn: the line has passed the slots that arrived in it, and those of them that were lost are counted.
-pub record SendsNone (w : World) (ts : List Turn) (turn : Turn) : Type 0 where
-  pub lines : HaveArrived (lines_of w) (channel_of (script_of w)) 1 (both_sent_by 0 ts)
-  pub lost : lost_of w ≡ lost_slots (turn ∷ ts)
-  pub again : again_of w ≡ sent_again ts
+pub record SendsNone (m : Modems) (l : Lines) (c : Channel) (links : ℕ) (streams : Both (List Carried)) (ts : List Turn) (turn : Turn) : Type 0 where
+  pub lines : HaveArrived l c links streams
+  pub lost : m.tally.lost ≡ lost_slots (turn ∷ ts)
+  pub again : m.tally.again ≡ sent_again ts
 
 -- Nothing is heard in it either, and no more is counted than in the turns before.
-pub record HearsNone (w : World) (ts : List Turn) : Type 0 where
-  pub lost : lost_of w ≡ lost_slots ts
-  pub again : again_of w ≡ sent_again ts
+pub record HearsNone (m : Modems) (ts : List Turn) : Type 0 where
+  pub lost : m.tally.lost ≡ lost_slots ts
+  pub again : m.tally.again ≡ sent_again ts
 
 -- The run ends in this turn, with that outcome.
-pub record EndsInTurn (w : World) (old new : FolderState) (n : Written) (files : Both (List ℕ)) (ts : List Turn) (ends : Ends)
+pub record EndsInTurn (m : Modems) (l : Lines) (c : Channel) (links : ℕ) (streams : Both (List Carried)) (old new : FolderState) (n : Written) (files : Both (List ℕ)) (ts : List Turn) (ends : Ends)
     (outcome : Outcome) (number : ℕ) : Type 0 where
   pub number_is : number ≡ length ts
   pub others : Both (List ℕ)
   pub known : StayKnown old new n files others
   pub turn : Turn
   pub mid : Ends
-  pub makes : MakesTurn (script_of w) others ts ends turn mid outcome
-  pub halts : SendsNone w ts turn
+  pub makes : MakesTurn c others ts ends turn mid outcome
+  pub halts : SendsNone m l c links streams ts turn
+  pub checks : (role : Role) → of role m.heard_by ≡ check_of (of role mid)
   pub writes : AddEach old new (outputs_of n) (added mid (turn_text (length ts) turn))
 
 -- The line is lost as this turn begins: nothing is written.
-pub record LosesLine (w : World) (old new : FolderState) (n : Written) (ts : List Turn) (ends : Ends) (role : Role)
+pub record LosesLine (m : Modems) (c : Channel) (old new : FolderState) (n : Written) (ts : List Turn) (ends : Ends) (role : Role)
     (symbol : ℕ) : Type 0 where
-  pub is : EndsLine (channel_of (script_of w)) ts ends (lines.LineLost role symbol)
-  pub halts : HearsNone w ts
+  pub is : EndsLine c ts ends (lines.LineLost role symbol)
+  pub halts : HearsNone m ts
   pub kept : KeepsEach old new (outputs_of n)
 
 -- A slot is a chance match: the one line of it is written.
-pub record MeetsChance (w : World) (old new : FolderState) (n : Written) (ts : List Turn) (ends : Ends) (role : Role)
+pub record MeetsChance (m : Modems) (c : Channel) (old new : FolderState) (n : Written) (ts : List Turn) (ends : Ends) (role : Role)
     (number : ℕ) : Type 0 where
   pub number_is : number ≡ length ts
-  pub is : EndsLine (channel_of (script_of w)) ts ends (lines.ChanceMatch role)
-  pub halts : HearsNone w ts
+  pub is : EndsLine c ts ends (lines.ChanceMatch role)
+  pub halts : HearsNone m ts
   pub received : KeepsEach old new (received_of n)
   pub trace : Appended old new n.trace (chance_line (length ts) role)
 
 -- The folder fails in this turn, and a part of what it adds is written: whatever the turn comes to,
-pub record StopsInTurn (w : World) (old new : FolderState) (n : Written) (files : Both (List ℕ)) (ts : List Turn)
+pub record StopsInTurn (m : Modems) (l : Lines) (c : Channel) (links : ℕ) (streams : Both (List Carried)) (old new : FolderState) (n : Written) (files : Both (List ℕ)) (ts : List Turn)
     (ends : Ends) : Type 0 where
   pub others : Both (List ℕ)
   pub known : StayKnown old new n files others
   pub turn : Turn
   pub mid : Ends
   pub outcome : Outcome
-  pub makes : MakesTurn (script_of w) others ts ends turn mid outcome
-  pub halts : SendsNone w ts turn
+  pub makes : MakesTurn c others ts ends turn mid outcome
+  pub halts : SendsNone m l c links streams ts turn
   pub writes : AddPart old new (outputs_of n) (added mid (turn_text (length ts) turn))
 
 -- or where a slot is a chance match.
-pub record StopsAtChance (w : World) (old new : FolderState) (n : Written) (ts : List Turn) (ends : Ends) : Type 0 where
+pub record StopsAtChance (m : Modems) (c : Channel) (old new : FolderState) (n : Written) (ts : List Turn) (ends : Ends) : Type 0 where
   pub role : Role
-  pub is : EndsLine (channel_of (script_of w)) ts ends (lines.ChanceMatch role)
-  pub halts : HearsNone w ts
+  pub is : EndsLine c ts ends (lines.ChanceMatch role)
+  pub halts : HearsNone m ts
   pub received : KeepsEach old new (received_of n)
   pub trace : PartlyAppended old new n.trace (chance_line (length ts) role)
 
 -- A file that is sent isn't read: what both ends took is written, and nothing of the lines.
-abbrev pub StopsReading : World → FolderState → FolderState → Written → Both (List ℕ) → List Turn → Ends → Type 0
-StopsReading w old new n files ts ends = (stops : StopsInTurn w old new n files ts ends) × AddEach old new (outputs_of n) (octets_of stops.mid)
+abbrev pub StopsReading : Modems → Lines → Channel → ℕ → Both (List Carried) → FolderState → FolderState → Written → Both (List ℕ) → List Turn → Ends → Type 0
+StopsReading m l c links streams old new n files ts ends = (stops : StopsInTurn m l c links streams old new n files ts ends) × AddEach old new (outputs_of n) (octets_of stops.mid)
 
-abbrev pub Stops : World → FolderState → FolderState → Written → Both (List ℕ) → List Turn → Ends → Type 0
-Stops w old new n files ts ends = StopsInTurn w old new n files ts ends ⊎ StopsAtChance w old new n ts ends
+abbrev pub Stops : Modems → Lines → Channel → ℕ → Both (List Carried) → FolderState → FolderState → Written → Both (List ℕ) → List Turn → Ends → Type 0
+Stops m l c links streams old new n files ts ends = StopsInTurn m l c links streams old new n files ts ends ⊎ StopsAtChance m c old new n ts ends
 
 -- an end's tries are spent, at its front
-abbrev pub LosesLink : World → FolderState → FolderState → Written → Both (List ℕ) → List Turn → Ends → Role → ℕ → ℕ → Type 0
-LosesLink w old new n files ts ends role segment number =
-    (since : ℕ) × EndsInTurn w old new n files ts ends (Broken role (faults.Spent segment since)) number
+abbrev pub LosesLink : Modems → Lines → Channel → ℕ → Both (List Carried) → FolderState → FolderState → Written → Both (List ℕ) → List Turn → Ends → Role → ℕ → ℕ → Type 0
+LosesLink m l c links streams old new n files ts ends role segment number =
+    (since : ℕ) × EndsInTurn m l c links streams old new n files ts ends (Broken role (faults.Spent segment since)) number
 
 -- why a run ends in this turn with less than both files
-abbrev pub EndsBy : World → FolderState → FolderState → Written → Both (List ℕ) → List Turn → Ends → RunFault → Type 0
-EndsBy w old new n files ts ends run_faults.ReadFault = StopsReading w old new n files ts ends
-EndsBy w old new n files ts ends run_faults.WriteFault = Stops w old new n files ts ends
-EndsBy w old new n files ts ends (run_faults.LineLost role symbol) = LosesLine w old new n ts ends role symbol
-EndsBy w old new n files ts ends (run_faults.ChanceMatch role turn) = MeetsChance w old new n ts ends role turn
-EndsBy w old new n files ts ends (run_faults.NotDetected turn) =
-    EndsInTurn w old new n files ts ends (Broken Originator faults.NotDetected) turn
-EndsBy w old new n files ts ends (run_faults.LinkLost role segment turn) = LosesLink w old new n files ts ends role segment turn
-EndsBy w old new n files ts ends run_faults.NoMemory = Stops w old new n files ts ends
+abbrev pub EndsBy : Modems → Lines → Channel → ℕ → Both (List Carried) → FolderState → FolderState → Written → Both (List ℕ) → List Turn → Ends → RunFault → Type 0
+EndsBy m l c links streams old new n files ts ends run_faults.ReadFault = StopsReading m l c links streams old new n files ts ends
+EndsBy m l c links streams old new n files ts ends run_faults.WriteFault = Stops m l c links streams old new n files ts ends
+EndsBy m l c links streams old new n files ts ends (run_faults.LineLost role symbol) = LosesLine m c old new n ts ends role symbol
+EndsBy m l c links streams old new n files ts ends (run_faults.ChanceMatch role turn) = MeetsChance m c old new n ts ends role turn
+EndsBy m l c links streams old new n files ts ends (run_faults.NotDetected turn) =
+    EndsInTurn m l c links streams old new n files ts ends (Broken Originator faults.NotDetected) turn
+EndsBy m l c links streams old new n files ts ends (run_faults.LinkLost role segment turn) = LosesLink m l c links streams old new n files ts ends role segment turn
+EndsBy m l c links streams old new n files ts ends run_faults.NoMemory = Stops m l c links streams old new n files ts ends
 
 -- what a turn answers, after these turns
-abbrev pub TurnAnswers : World → FolderState → FolderState → Written → Both (List ℕ) → List Turn → Ends → Result Step RunFault → Type 0
-TurnAnswers w old new n files ts ends (Ok steps.Going) = GoesOnBy w old new n files ts ends
-TurnAnswers w old new n files ts ends (Ok (steps.Done turn)) = EndsInTurn w old new n files ts ends Done turn
-TurnAnswers w old new n files ts ends (Err fault) = EndsBy w old new n files ts ends fault
+abbrev pub TurnAnswers : Modems → Lines → Channel → ℕ → Both (List Carried) → FolderState → FolderState → Written → Both (List ℕ) → List Turn → Ends → Result Step RunFault → Type 0
+TurnAnswers m l c links streams old new n files ts ends (Ok steps.Going) = GoesOnBy m l c links streams old new n files ts ends
+TurnAnswers m l c links streams old new n files ts ends (Ok (steps.Done turn)) = EndsInTurn m l c links streams old new n files ts ends Done turn
+TurnAnswers m l c links streams old new n files ts ends (Err fault) = EndsBy m l c links streams old new n files ts ends fault
 
 -- how many turns were made, once a turn is answered: one more where the run goes on
 abbrev pub turns_made : ℕ → Result Step RunFault → ℕ
 turns_made turn (Ok steps.Going) = turn + 1
 turns_made turn answer = turn
+
+-- whether the run goes on, so that both ends sent in the turn
+abbrev pub goes_on : Result Step RunFault → Bool
+goes_on (Ok steps.Going) = true
+goes_on answer = false
 
 -- why a run ends where a call of the folder is not done: this, where it failed
 abbrev pub fault_of : RunFault → FolderFault → RunFault

@@ -1,40 +1,51 @@
 -- For which run a world stands: its turns so far, over two files that are known as far as they were read.
-use Rattle.std.specs.Prelude.{◌≡◌, ℕ, ◌+◌, ◌-◌, ◌≤◌, IsTrue, List, length}
+use Rattle.std.specs.Prelude.{◌≡◌, ℕ, ◌-◌, ◌*◌, IsTrue, Bool, List, Option, Some, None}
 use Rattle.outside_calls.specs.Folder.{FolderState}
-use Rattle.roles.specs.Both.{Both}
-use Rattle.noise_script.specs.Script.{ScriptValue, IsInLimits, delay_of}
+use Rattle.bit_stuffing.specs.BitSlot.{line_bits}
+use Rattle.bit_stuffing.specs.declared.bit_slot.BitSlot.{BitSlot}
 use Rattle.roles.specs.declared.role.Role.{Role}
-use Rattle.sample_line.specs.Line.{Kept}
-use Rattle.link_run.specs.Run.{Ends, Turn}
-use Rattle.line_run.specs.Sampled.{LineRun}
-use Rattle.line_run.specs.Scripted.{channel_of, link_of}
+use Rattle.roles.specs.Both.{Both, of}
+use Rattle.noise_script.specs.Script.{ScriptValue, IsInLimits, delay_of}
+use Rattle.sample_line.specs.Line.{Kept, bits_behind}
+use Rattle.sample_line.specs.Signals.{signal_of}
+use Rattle.link_run.specs.Run.{Ends, Spoken, Turn}
+use Rattle.line_run.specs.Sampled.{signals}
+use Rattle.line_run.specs.Scripted.{channel_of}
+use Rattle.line_run.specs.Stream.{sent_by, both_sent_by}
 use Rattle.turn_bound.specs.Limits.{file_limit}
 use Rattle.stations.specs.Station.{file_at}
-use Rattle.run_world.specs.Names.{Written}
-use Rattle.run_world.specs.Link.{LinkStands, AreIdle, AreCounted, AreWithin}
-use Rattle.line_run.specs.Stream.{sent_by, both_sent_by}
 use Rattle.shared_line.specs.Way.{Carries}
 use Rattle.shared_line.specs.Lines.{LinesWait}
 use Rattle.shared_line.specs.declared.lines.Lines.{Lines}
+use Rattle.run_world.specs.Names.{Written}
+use Rattle.run_world.specs.Link.{AreWithin}
+use Rattle.run_world.specs.Modems.{AreKept, ModemsAfter}
+use Rattle.run_world.specs.declared.modems.Modems.{Modems}
 use Rattle.run_world.specs.declared.world.World.{World}
-use Rattle.run_world.specs.Tally.{Tallies, IsFew}
 
--- the script of a world, its two directions of the line, and how many turns it made
+-- the script of a world, its ends with their users, its two directions of the line, and how many turns it made
 abbrev pub script_of : World → ScriptValue
 script_of w = w.script
+
+abbrev pub modems_of : World → Modems
+modems_of w = w.modems
 
 abbrev pub lines_of : World → Lines
 lines_of w = w.lines
 
 abbrev pub turn_of : World → ℕ
-turn_of w = w.turn
+turn_of w = w.modems.turn
 
 -- how many slots were lost in them, and how many segments went again
 abbrev pub lost_of : World → ℕ
-lost_of w = w.tally.lost
+lost_of w = w.modems.tally.lost
 
 abbrev pub again_of : World → ℕ
-again_of w = w.tally.again
+again_of w = w.modems.tally.again
+
+-- both ends sent in the last turn
+abbrev pub spoke_of : World → Bool
+spoke_of w = w.modems.spoke
 
 -- The files are within the limit at which they end for who reads them. One that the folder tells is what it tells, up to there.
 pub record KnowsFiles (f : FolderState) (n : Written) (files : Both (List ℕ)) : Type 0 where
@@ -47,13 +58,11 @@ pub record StayKnown (old new : FolderState) (n : Written) (files others : Both 
   pub within : AreWithin others
   pub known : KnowsFiles old n files → KnowsFiles new n others
 
--- The world made these turns of the run of its script and these files, which has come to these ends, and counted what they show.
+-- The world made these turns of the run of its script and these files, which has come to these ends, and counted what they show. Its link is
+-- alone on its line.
 pub record WorldAfter (w : World) (files : Both (List ℕ)) (ts : List Turn) (ends : Ends) : Type 0 where
-  pub run : LineRun (channel_of w.script) (link_of w.script files) ts ends
-  pub link : LinkStands w.link files ends
+  pub modems : ModemsAfter w.modems (channel_of w.script) files ts ends
   pub lines : LinesWait w.lines (channel_of w.script) 1 (both_sent_by 0 ts)
-  pub turn : w.turn ≡ length ts
-  pub tally : Tallies w.tally ts ends
 
 -- the line of this role stands for its slots of these turns: those sent as many turns ago as its delay have passed, the others wait
 abbrev pub HasPassed : Kept → ScriptValue → Role → List Turn → Type 0
@@ -63,14 +72,19 @@ HasPassed line script role ts = Carries line script role (sent_by 0 role ts) (de
 abbrev pub HasPassedToo : Kept → ScriptValue → Role → List Turn → Type 0
 HasPassedToo line script role ts = Carries line script role (sent_by 0 role ts) (delay_of script role - 1)
 
+-- These are the bits of the slot that a role sent in a turn behind these.
+abbrev pub HasSent : Option BitSlot → ScriptValue → Role → List Turn → Turn → Type 0
+HasSent None script role ts t = ⊥
+HasSent (Some bits) script role ts t = (slot : Spoken) × ((of role t).sent ≡ Some slot)
+    × (line_bits bits ≡ bits_behind (4 * (channel_of script).symbols) (signals (channel_of script) role ts) (signal_of slot.check role 0 slot.sent))
+
 -- A turn may be made: the world stands for a run of some files, and what its ends took is handed over.
 pub record IsReady (w : World) : Type 0 where
   pub limits : IsInLimits w.script
+  pub channel : w.modems.dlci ≡ 0
+  pub kept : AreKept w.modems
   pub files : Both (List ℕ)
   pub within : AreWithin files
   pub turns : List Turn
   pub ends : Ends
   pub after : WorldAfter w files turns ends
-  pub idle : AreIdle w.link
-  pub counted : AreCounted w.link w.turn w.turn
-  pub few : IsFew w.tally w.turn w.turn

@@ -2,14 +2,16 @@
 //! determine it. A pure function of the script and of the folder that is lent to each turn. The central type is [`World`], and
 //! [`run_turns`] makes its turns up to the end of the run.
 //!
-//! A world is what there is twice: both ends, each with its user ([`Link`]), and both directions of the line ([`shared_line::Lines`]), the
-//! originator's first where the order counts. A direction has a delay: what an end sends in a turn is on its way for some turns, and then
-//! passes through the line of samples to the other end.
+//! A world is what there is twice: both ends, each with its user ([`Modems`]), and both directions of the line ([`shared_line::Lines`]), the
+//! originator's first where the order counts. The line and the script are lent to each turn of the ends, so that links can share a line. A
+//! direction has a delay: what an end sends in a turn is on its way for some turns, and then passes through the line of samples to the
+//! other end.
 #![tactic(auto)]
 
 mod heard;
 pub mod laws;
 mod link;
+mod modems;
 mod names;
 mod step;
 mod tally;
@@ -19,6 +21,7 @@ mod world;
 
 use heard::arrived;
 use link::{Breaking, Link};
+pub use modems::Modems;
 pub use names::{FILE_LIMIT, Names};
 pub use step::{RunFault, Step};
 pub use turns::run_turns;

@@ -136,13 +136,13 @@ impl Link {
         })
     }
 
-    /// The check with which an end hears in this turn.
-    pub fn check(&self, role: Role) -> Check
-        ensures { (files : Both (List ℕ)) (ends : Ends) → LinkStands self.now files ends → result ≡ check_of (of role ends) }
+    /// The checks of both ends' frames with numbers: with these each hears, and sends.
+    pub fn checks(&self) -> Both<Check>
+        ensures { (files : Both (List ℕ)) (ends : Ends) → LinkStands self.now files ends → (role : Role) → of role result ≡ check_of (of role ends) }
     {
-        match role {
-            Role::Originator => self.orig.check(),
-            Role::Answerer => self.answ.check(),
+        Both {
+            orig: self.orig.check(),
+            answ: self.answ.check(),
         }
     }
 

@@ -1,6 +1,9 @@
 -- The two directions of the line, between the turns of links and within one.
-use Rattle.std.specs.Prelude.{◌≡◌, ◌≢◌, ◌*◌, ◌<◌, ◌^◌, ℕ, List, [], ◌∷◌, ◌++◌, Result, Ok, Err}
+use Rattle.std.specs.Prelude.{◌≡◌, ◌≢◌, ◌*◌, ◌<◌, ◌^◌, ℕ, List, [], ◌∷◌, ◌++◌, map, Option, Some, None, Result, Ok, Err}
 use Rattle.frame_check.specs.declared.check.Check.{Check}
+use Rattle.bit_stuffing.specs.BitSlot.{line_bits}
+use Rattle.bit_stuffing.specs.declared.bit_slot.BitSlot.{BitSlot}
+use Rattle.sample_line.specs.Line.{bits_behind}
 use Rattle.roles.specs.declared.role.Role.{Role}
 use Rattle.roles.specs.declared.role.Role.TheVariants.{Originator, Answerer}
 use Rattle.roles.specs.Role.{other}
@@ -13,7 +16,7 @@ use Rattle.sample_line.specs.Signals.{IsCodable}
 use Rattle.link_run.specs.Run.{Turn}
 use Rattle.line_run.specs.Sampled.{Channel, IsHeardOf, EndsLineBy}
 use Rattle.line_run.specs.Sampled as line_ends
-use Rattle.line_run.specs.Stream.{Carried, IsDue}
+use Rattle.line_run.specs.Stream.{Carried, carried_signal, IsDue}
 use Rattle.shared_line.specs.Way.{WaitsFor, HasRoom}
 use Rattle.shared_line.specs.declared.direction.DelayedLine.{DelayedLine}
 use Rattle.shared_line.specs.declared.lines.Lines.{Lines}
@@ -80,3 +83,8 @@ ArePut more sent checks dlci = (role : Role) → IsPut (of role more) (of role s
 -- one more behind each
 abbrev pub and_more : Both (List Carried) → Both Carried → Both (List Carried)
 and_more streams more = record { orig = streams.orig ++ more.orig ∷ []; answ = streams.answ ++ more.answ ∷ [] }
+
+-- The bits of a slot that was sent behind these.
+abbrev pub IsNewest : Option BitSlot → ℕ → Role → List Carried → Carried → Type 0
+IsNewest None size role front x = ⊥
+IsNewest (Some bits) size role front x = line_bits bits ≡ bits_behind size (map (carried_signal role) front) (carried_signal role x)

@@ -165,8 +165,12 @@ const SIZES: [usize; 3] = [1500, 4096, 66_560];
 fn reads(rt: &impl Abort, alloc: Global, size: usize) -> Result<(), Fail> {
     let fault = Some(ErrorKind::BrokenPipe);
     let mut buf = vec![in alloc; 0u8; size]?;
-    let few = size - 400;
-    for (left, end, count) in [(size + 500, None, size), (size, fault, size), (few, None, few)] {
+    let few = size / 2;
+    for (left, end, count) in [
+        (size + 500, None, size),
+        (size, fault, size),
+        (few, None, few),
+    ] {
         let read = fill(&mut transfer_of(left, end), &mut buf)?;
         assert!(rt; read == count, "{left}");
         assert!(rt; buf[..read].iter().all(|octet| *octet == b'r'), "{left}");
@@ -196,7 +200,7 @@ fn writes(rt: &impl Abort, alloc: Global, size: usize) -> Result<(), Fail> {
         assert!(rt; writer.left == rest, "{left}");
     }
     for (end, kind) in [(fault, ErrorKind::BrokenPipe), (None, ErrorKind::WriteZero)] {
-        match write_all(&mut transfer_of(size - 400, end), &piece) {
+        match write_all(&mut transfer_of(size / 2, end), &piece) {
             Ok(()) => panic!(rt; "wrote over a fault"),
             Err(error) => assert!(rt; error.kind() == kind),
         }

@@ -27,13 +27,13 @@ loop-place-preserved c =
     (subst (λ xs. Makes old new (take n quads ++ c.quad.result ∷ []) xs c.if-not-are_same.same) next-samples
     (elim c.if-not-are_same.branch [
       | then-not-are_same w ↦ subst
-      (Makes old new (take n quads ++ c.quad.result ∷ []) (take n (samples_in octets) ++ c.sample_at.result ∷ [])) (sym w.same-is)
-      (makes-other old mid new (take n quads) (take n (samples_in octets)) c.loop-place.same c.quad.result c.push-sample.result c.sample_at.result
-      (c.are_same.ensures.no w.if-not-are_same.true) c.push-sample.ensures c.loop-place.invariant)
+          (Makes old new (take n quads ++ c.quad.result ∷ []) (take n (samples_in octets) ++ c.sample_at.result ∷ [])) (sym w.same-is)
+          (makes-other old mid new (take n quads) (take n (samples_in octets)) c.loop-place.same c.quad.result c.push-sample.result c.sample_at.result
+          (c.are_same.ensures.no w.if-not-are_same.true) c.push-sample.ensures c.loop-place.invariant)
       | else-not-are_same w ↦ subst
-      (Makes old new (take n quads ++ c.quad.result ∷ []) (take n (samples_in octets) ++ c.sample_at.result ∷ [])) (sym w.same-is)
-      (makes-same old mid new (take n quads) (take n (samples_in octets)) c.loop-place.same c.quad.result c.push-sample.result c.sample_at.result
-      (c.are_same.ensures.yes w.if-not-are_same.false) c.push-sample.ensures c.loop-place.invariant)
+          (Makes old new (take n quads ++ c.quad.result ∷ []) (take n (samples_in octets) ++ c.sample_at.result ∷ [])) (sym w.same-is)
+          (makes-same old mid new (take n quads) (take n (samples_in octets)) c.loop-place.same c.quad.result c.push-sample.result c.sample_at.result
+          (c.are_same.ensures.yes w.if-not-are_same.false) c.push-sample.ensures c.loop-place.invariant)
     ]))
 
 pub returns : goal.returns

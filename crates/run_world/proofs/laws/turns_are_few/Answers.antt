@@ -1,5 +1,6 @@
-use Rattle.run_world.proofs.Hearing.{few-turns}
+use Rattle.std.proofs.Common.{arith}
+use Rattle.run_world.proofs.Lending.{few-turns}
 use Rattle.run_world.proofs.laws.turns_are_few.Goals as goal
 
 pub returns : goal.returns
-returns c = few-turns c.line_runs_end_soon.ensures.within_limits
+returns c = λ w ready. let few = few-turns c.line_runs_end_soon.ensures.within_limits w ready in omega (arith, few)

@@ -1,4 +1,4 @@
-use Rattle.run_world.proofs.Serving.{passed-so, passed-too}
+use Rattle.run_world.proofs.Lending.{passed-so, passed-too}
 use Rattle.run_world.proofs.world.World.line.Goals as goal
 
 pub returns-clause-passed : goal.returns-clause-passed

@@ -1,12 +1,18 @@
 use Rattle.std.proofs.Common.{refl, None}
-use Rattle.run_world.proofs.Hearing.{begins, ready-first}
+use Rattle.line_run.specs.Scripted.{channel_of}
+use Rattle.run_world.proofs.Lending.{ready-first}
 use Rattle.run_world.proofs.world.World.new.Goals as goal
 
 pub returns-clause-ready : goal.returns-clause-ready
 returns-clause-ready c =
-    ready-first _ c.is_in_limits.ensures
-    (begins _ _ refl c.in_ok-new.ensures.stands (c.in_ok-new-2.ensures 0 (λ role turn. None)) refl c.new-3.ensures) c.in_ok-new.ensures.idle
-    c.in_ok-new.ensures.counted refl c.new-3.ensures
+    ready-first _ c.is_in_limits.ensures c.in_ok-new.ensures.channel c.in_ok-new.ensures.kept
+    (λ files. record {
+      modems = c.in_ok-new.ensures.after (channel_of c.args.script) files refl;
+      lines = c.in_ok-new-2.ensures 0 (λ role turn. None);
+    })
 
 pub returns-clause-world : goal.returns-clause-world
-returns-clause-world c = begins _ _ refl c.in_ok-new.ensures.stands (c.in_ok-new-2.ensures 0 (λ role turn. None)) refl c.new-3.ensures
+returns-clause-world c = λ files. record {
+  modems = c.in_ok-new.ensures.after (channel_of c.args.script) files refl;
+  lines = c.in_ok-new-2.ensures 0 (λ role turn. None);
+}

@@ -1,379 +1,64 @@
-use Rattle.std.proofs.Common.{◌≡◌, ◌+◌, length, refl, sym, ◌∙◌, ap, subst}
-use Rattle.outside_calls.proofs.Steps.{CountsStand-trans}
-use Rattle.noise_script.specs.Script.{ScriptValue, IsInLimits}
-use Rattle.link_run.specs.End.{is_closed}
-use Rattle.outside_calls.proofs.Putting.{OnlyPuts-trans, OnlyPuts-reads, KeepsEach-refl, KeepsEach-reads, AddEach-kept}
-use Rattle.run_world.specs.Names.{outputs_of, written}
-use Rattle.run_world.specs.Link.{AreCounted, octets_of}
-use Rattle.shared_line.specs.declared.lines.LineEnd.{LineEnd}
-use Rattle.line_run.specs.Sampled.{EndsLine}
-use Rattle.line_run.specs.Scripted.{channel_of}
-use Rattle.shared_line.specs.Lines.{end_of}
-use Rattle.link_run.specs.Outcomes.{Done}
-use Rattle.run_world.specs.Mid.{Overhears, handed, served}
-use Rattle.run_world.specs.Turn.{GoesOnBy}
-use Rattle.run_world.proofs.Serving.{phase-delivered, none-after, none-faulty}
-use Rattle.run_world.proofs.Folders.{lines-only, counts-later, stay-known, others-known}
-use Rattle.run_world.proofs.Turning.{MakingLaws, writing-ends, reading-ends, same-beside, halts-so, stops-handing, stops-reading, stops-writing, ends-in}
-use Rattle.run_world.proofs.Turning.{speaks-last, goes-on-by, ready-on}
+use Rattle.std.proofs.Common.{◌∷◌, sym, ◌∙◌, subst, Result}
+use Rattle.line_run.specs.Scripted.{channel_at, channel_of}
+use Rattle.line_run.specs.Stream.{both_sent_by}
+use Rattle.shared_line.specs.Lines.{AreDue, LinesWait}
+use Rattle.run_world.specs.Names.{written}
+use Rattle.run_world.specs.Modems.{ModemsAfter}
+use Rattle.run_world.specs.Turn.{GoesOnBy, TurnAnswers}
+use Rattle.run_world.specs.declared.step.Step.{Step}
+use Rattle.run_world.specs.declared.step.RunFault.{RunFault}
+use Rattle.run_world.proofs.Lending.{LoneLaws, alone, are-due, lends}
 use Rattle.run_world.proofs.world.World.turn.Goals as goal
 
-pub returns-in-Err-Lost-clause-turn : goal.returns-in-Err-Lost-clause-turn
-returns-in-Err-Lost-clause-turn g c = λ files ts ends h within. record {
-  is = subst (λ (e : LineEnd). EndsLine (channel_of c.hear.new.self.script) ts ends (end_of e)) c.in-Err-Lost.field-0-is
-      (c.in-Err-Lost.ensures.hears files ts ends h).0;
-  halts = (c.in-Err-Lost.ensures.hears files ts ends h).1;
-  kept = KeepsEach-refl (g.F.Folder.state c.args.folder.now) (outputs_of (written c.args.names.now));
-}
-
-pub returns-in-Err-Chance-clause-turn : goal.returns-in-Err-Chance-clause-turn
-returns-in-Err-Chance-clause-turn g c = λ files ts ends h within.
-    c.meet_chance.ensures.meets ts ends (c.hear.ensures.turn ∙ h.turn)
-    (subst (λ (e : LineEnd). EndsLine (channel_of c.hear.new.self.script) ts ends (end_of e)) c.in-Err-Chance.field-0-is
-    (c.in-Err-Chance.ensures.hears files ts ends h).0) (c.in-Err-Chance.ensures.hears files ts ends h).1 files
-
-pub returns-in-Err-clause-turn : goal.returns-in-Err-clause-turn
-returns-in-Err-clause-turn g c = λ files ts ends h within.
-    let a = g.F.Folder.state c.args.folder.now in
-    let b = g.F.Folder.state c.hand_over.new.folder in
-    let n = written c.args.names.now in
-    let w = c.hand_over.new.self in
-    let has = c.in-Ok.ensures.hears files ts ends h in
-    let laws : MakingLaws = record {
-      play = c.scripts_make_links.ensures.ends;
+pub turn-requires-clause-ready : goal.turn-requires-clause-ready
+turn-requires-clause-ready g c =
+    let laws : LoneLaws = record {
+      due = c.slots_are_due_alone.ensures.due;
+      sent = c.slots_are_due_alone.ensures.sent;
+      counted = c.slots_are_due_alone.ensures.counted;
       delays = c.scripts_make_links.ensures.delays;
-      carried = c.samples_are_carried.ensures.runs;
-      one = c.samples_are_carried.ensures.turn;
-      made = c.each_turn_is_made.ensures.made;
     } in
-    let limits : IsInLimits w.script =
-    subst IsInLimits (sym (c.hand_over.ensures.beside.script ∙ c.hear.ensures.script)) c.requires.ready.limits in
-    writing-ends w a b n files ts ends c.in-Err.fault c.in-Err.ensures.write
-    (stops-handing laws w a b n files ts ends c.in-Ok.heard has.mid limits c.requires.apart within c.hand_over.ensures.only
-    (subst (λ (s : ScriptValue). Overhears s files ts ends c.in-Ok.heard has.mid) (sym c.hand_over.ensures.beside.script) has.stands.overhears)
-    (halts-so c.hear.new.self w files ts ends c.in-Ok.heard has.mid has.mid has.stands c.hand_over.ensures.beside)
-    (c.in-Err.ensures.part files ts ends c.in-Ok.heard has.mid has.stands))
+    lends laws c.line_runs_end_soon.ensures.within_limits c.args.self.now c.requires.ready
 
-pub returns-in-Ok-finish-clause-turn : goal.returns-in-Ok-finish-clause-turn
-returns-in-Ok-finish-clause-turn g c = λ files ts ends h within.
-    let a = g.F.Folder.state c.args.folder.now in
-    let b = g.F.Folder.state c.hand_over.new.folder in
-    let d = g.F.Folder.state c.finish.new.folder in
-    let n = written c.args.names.now in
-    let has = c.in-Ok.ensures.hears files ts ends h in
-    let hands = c.in-Ok-hand_over.ensures.hands files ts ends c.in-Ok.heard has.mid has.stands in
-    let closed = sym (ap is_closed (phase-delivered has.mid.orig)) ∙ sym (c.is_closed.ensures files (handed has.mid) hands.stands.link)
-    ∙ c.if-is_closed.true in
-    let w = c.hand_over.new.self in
-    ends-in w a b d n files files ts ends c.in-Ok.heard has.mid Done w.turn c.requires.apart hands.stands.turn
-    (stay-known a d n files c.requires.apart (OnlyPuts-trans a b d (outputs_of n) c.hand_over.ensures.only (lines-only b d n c.finish.ensures.only)) within)
-    c.hand_over.ensures.only hands.delivered c.finish.ensures.only
-    (halts-so w w files ts ends c.in-Ok.heard has.mid (handed has.mid) hands.stands (same-beside w))
-    (c.in-Ok-finish.ensures.adds files ts ends has.mid hands.stands closed hands.orig_given hands.answ_given)
-
-pub returns-in-Ok-finish-clause-only : goal.returns-in-Ok-finish-clause-only
-returns-in-Ok-finish-clause-only g c =
-    OnlyPuts-trans _ _ _ (outputs_of (written c.args.names.now)) c.hand_over.ensures.only (lines-only _ _ (written c.args.names.now) c.finish.ensures.only)
-
-pub returns-in-Ok-finish-clause-counts : goal.returns-in-Ok-finish-clause-counts
-returns-in-Ok-finish-clause-counts g c = CountsStand-trans c.in-Ok-hand_over.ensures.counts c.in-Ok-finish.ensures.counts
-
-pub returns-in-Err-finish-clause-turn : goal.returns-in-Err-finish-clause-turn
-returns-in-Err-finish-clause-turn g c = λ files ts ends h within.
-    let a = g.F.Folder.state c.args.folder.now in
-    let b = g.F.Folder.state c.hand_over.new.folder in
-    let d = g.F.Folder.state c.finish.new.folder in
-    let n = written c.args.names.now in
-    let w = c.hand_over.new.self in
-    let has = c.in-Ok.ensures.hears files ts ends h in
-    let hands = c.in-Ok-hand_over.ensures.hands files ts ends c.in-Ok.heard has.mid has.stands in
-    let closed = sym (ap is_closed (phase-delivered has.mid.orig)) ∙ sym (c.is_closed.ensures files (handed has.mid) hands.stands.link)
-    ∙ c.if-is_closed.true in
-    writing-ends w a d n files ts ends c.in-Err-finish.fault c.in-Err-finish.ensures.write
-    (stops-writing w a b d n files files ts ends c.in-Ok.heard has.mid c.requires.apart
-    (stay-known a d n files c.requires.apart (OnlyPuts-trans a b d (outputs_of n) c.hand_over.ensures.only (lines-only b d n c.finish.ensures.only)) within)
-    c.hand_over.ensures.only hands.delivered c.finish.ensures.only
-    (halts-so w w files ts ends c.in-Ok.heard has.mid (handed has.mid) hands.stands (same-beside w))
-    (c.in-Err-finish.ensures.part files ts ends has.mid hands.stands closed hands.orig_given hands.answ_given))
-
-pub returns-in-Err-finish-clause-only : goal.returns-in-Err-finish-clause-only
-returns-in-Err-finish-clause-only g c =
-    OnlyPuts-trans _ _ _ (outputs_of (written c.args.names.now)) c.hand_over.ensures.only (lines-only _ _ (written c.args.names.now) c.finish.ensures.only)
-
-pub returns-in-Err-finish-clause-counts : goal.returns-in-Err-finish-clause-counts
-returns-in-Err-finish-clause-counts g c =
-    counts-later (g.F.Folder.state c.args.folder.now) (g.F.Folder.state c.hand_over.new.folder) (g.F.Folder.state c.finish.new.folder)
-    (written c.args.names.now) c.in-Err-finish.fault c.in-Ok-hand_over.ensures.counts c.in-Err-finish.ensures.counts
-
-pub serve-requires-clause-counted : goal.serve-requires-clause-counted
-serve-requires-clause-counted g c =
-    let t = c.args.self.now.turn in
-    let e : c.hand_over.new.self.turn ≡ t = c.hand_over.ensures.beside.turn ∙ c.hear.ensures.turn in
-    subst (λ x. AreCounted c.hand_over.new.self.link (x + 1) x) (sym e)
-    (c.in-Ok-hand_over.ensures.counted (t + 1) t c.in-Ok.ensures.counted)
-
-pub serve-requires-clause-limits : goal.serve-requires-clause-limits
-serve-requires-clause-limits g c =
-    subst IsInLimits (sym (c.hand_over.ensures.beside.script ∙ c.hear.ensures.script)) c.requires.ready.limits
-
-pub serve-requires-clause-stands : goal.serve-requires-clause-stands
-serve-requires-clause-stands g c =
-    let r = c.requires.ready in
-    let has = c.in-Ok.ensures.hears r.files r.turns r.ends r.after in
-    let hands = c.in-Ok-hand_over.ensures.hands r.files r.turns r.ends c.in-Ok.heard has.mid has.stands in
-    (r.files, r.turns, r.ends, c.in-Ok.heard, has.mid, hands.stands, r.within)
-
-pub returns-in-Err-serve-clause-turn : goal.returns-in-Err-serve-clause-turn
-returns-in-Err-serve-clause-turn g c = λ files ts ends h within.
-    let a = g.F.Folder.state c.args.folder.now in
-    let b = g.F.Folder.state c.hand_over.new.folder in
-    let d = g.F.Folder.state c.serve.new.folder in
-    let n = written c.args.names.now in
-    let w = c.serve.new.self in
-    let has = c.in-Ok.ensures.hears files ts ends h in
-    let hands = c.in-Ok-hand_over.ensures.hands files ts ends c.in-Ok.heard has.mid has.stands in
-    let laws : MakingLaws = record {
-      play = c.scripts_make_links.ensures.ends;
+-- a turn of the world is one of its link, on channel 0 and with nothing beside
+answers : goal.returns-clause-turn
+answers g c = λ files ts ends h within.
+    let script = c.args.self.now.script in
+    let laws : LoneLaws = record {
+      due = c.slots_are_due_alone.ensures.due;
+      sent = c.slots_are_due_alone.ensures.sent;
+      counted = c.slots_are_due_alone.ensures.counted;
       delays = c.scripts_make_links.ensures.delays;
-      carried = c.samples_are_carried.ensures.runs;
-      one = c.samples_are_carried.ensures.turn;
-      made = c.each_turn_is_made.ensures.made;
     } in
-    let limits : IsInLimits w.script =
-    subst IsInLimits (sym (c.serve.ensures.beside.script ∙ c.hand_over.ensures.beside.script ∙ c.hear.ensures.script)) c.requires.ready.limits in
-    reading-ends w a d n files ts ends c.in-Err-serve.fault c.in-Err-serve.ensures.read
-    (stops-reading laws w a d n files ts ends c.in-Ok.heard has.mid limits c.requires.apart within
-    (OnlyPuts-trans a b d (outputs_of n) c.hand_over.ensures.only (OnlyPuts-reads b d (outputs_of n) c.serve.ensures.only))
-    (subst (λ (s : ScriptValue). Overhears s files ts ends c.in-Ok.heard has.mid) (sym c.serve.ensures.beside.script) hands.stands.overhears)
-    (halts-so c.hand_over.new.self w files ts ends c.in-Ok.heard has.mid (handed has.mid) hands.stands c.serve.ensures.beside)
-    (AddEach-kept a b d (outputs_of n) (octets_of has.mid) c.hand_over.ensures.only.goes_on hands.delivered
-    (KeepsEach-reads b d (outputs_of n) c.serve.ensures.only)))
+    let zero = c.requires.ready.channel in
+    subst (λ n. TurnAnswers c.turn.new.self c.turn.new.lines (channel_at script n alone) 1 (both_sent_by 0 ts)
+    (g.F.Folder.state c.args.folder.now) (g.F.Folder.state c.turn.new.folder) (written c.args.names.now) files ts ends c.turn.result) zero
+    (c.turn.ensures.turn alone 1 (both_sent_by 0 ts) files ts ends
+    (subst (λ n. ModemsAfter c.args.self.now.modems (channel_at script n alone) files ts ends) (sym zero) h.modems) within
+    (subst (λ n. LinesWait c.args.self.now.lines (channel_at script n alone) 1 (both_sent_by 0 ts)) (sym zero) h.lines)
+    (subst (λ n. AreDue (channel_at script n alone) 1 ts (both_sent_by 0 ts)) (sym zero)
+    (are-due laws script files ts ends c.requires.ready.limits h.modems.run)))
 
-pub returns-in-Err-serve-clause-only : goal.returns-in-Err-serve-clause-only
-returns-in-Err-serve-clause-only g c =
-    OnlyPuts-trans _ _ _ (outputs_of (written c.args.names.now)) c.hand_over.ensures.only (OnlyPuts-reads _ _ (outputs_of (written c.args.names.now)) c.serve.ensures.only)
+pub returns-clause-turn : goal.returns-clause-turn
+returns-clause-turn = answers
 
-pub returns-in-Err-serve-clause-counts : goal.returns-in-Err-serve-clause-counts
-returns-in-Err-serve-clause-counts g c =
-    counts-later (g.F.Folder.state c.args.folder.now) (g.F.Folder.state c.hand_over.new.folder) (g.F.Folder.state c.serve.new.folder)
-    (written c.args.names.now) c.in-Err-serve.fault c.in-Ok-hand_over.ensures.counts c.in-Err-serve.ensures.counts
-
-pub speak-requires-clause-early : goal.speak-requires-clause-early
-speak-requires-clause-early g c =
-    rw (c.serve.ensures.beside.turn, c.hand_over.ensures.beside.turn, c.hear.ensures.turn)
-    (c.turns_are_few.ensures c.args.self.now c.requires.ready)
-
-pub speak-requires-clause-limits : goal.speak-requires-clause-limits
-speak-requires-clause-limits g c =
-    subst IsInLimits (sym (c.serve.ensures.beside.script ∙ c.hand_over.ensures.beside.script ∙ c.hear.ensures.script))
-    c.requires.ready.limits
-
-pub speak-requires-clause-few : goal.speak-requires-clause-few
-speak-requires-clause-few g c =
-    rw (
-      c.serve.ensures.beside.turn,
-      c.hand_over.ensures.beside.turn,
-      c.serve.ensures.beside.tally,
-      c.hand_over.ensures.beside.tally,
-      c.hear.ensures.turn,
-    ) c.in-Ok.ensures.few
-
-pub speak-requires-clause-stands : goal.speak-requires-clause-stands
-speak-requires-clause-stands g c =
+pub returns-clause-ready : goal.returns-clause-ready
+unfolding answers
+returns-clause-ready g c = λ going.
     let r = c.requires.ready in
-    let has = c.in-Ok.ensures.hears r.files r.turns r.ends r.after in
-    let hands = c.in-Ok-hand_over.ensures.hands r.files r.turns r.ends c.in-Ok.heard has.mid has.stands in
-    let still = sym (ap is_closed (phase-delivered has.mid.orig)) ∙ sym (c.is_closed.ensures r.files (handed has.mid) hands.stands.link)
-    ∙ c.if-is_closed.false in
-    let s = c.in-Ok-serve.ensures.serves r.files r.turns r.ends c.in-Ok.heard has.mid hands.stands r.within in
-    (s.others, r.turns, r.ends, has.mid, record { stands = s.stands; going = still })
-
-pub returns-in-Ok-speak-clause-turn : goal.returns-in-Ok-speak-clause-turn
-returns-in-Ok-speak-clause-turn g c = λ files ts ends h within.
-    let a = g.F.Folder.state c.args.folder.now in
-    let b = g.F.Folder.state c.hand_over.new.folder in
-    let d = g.F.Folder.state c.serve.new.folder in
-    let z = g.F.Folder.state c.speak.new.folder in
-    let n = written c.args.names.now in
-    let has = c.in-Ok.ensures.hears files ts ends h in
-    let hands = c.in-Ok-hand_over.ensures.hands files ts ends c.in-Ok.heard has.mid has.stands in
-    let still = sym (ap is_closed (phase-delivered has.mid.orig)) ∙ sym (c.is_closed.ensures files (handed has.mid) hands.stands.link)
-    ∙ c.if-is_closed.false in
-    let s = c.in-Ok-serve.ensures.serves files ts ends c.in-Ok.heard has.mid hands.stands within in
-    let gone = c.in-Ok-speak.ensures.speaks s.others ts ends has.mid
-    (record { stands = s.stands; going = still }) hands.orig_given hands.answ_given in
-    let only-d = OnlyPuts-trans a b d (outputs_of n) c.hand_over.ensures.only (OnlyPuts-reads b d (outputs_of n) c.serve.ensures.only) in
-    let only-z = OnlyPuts-trans a d z (outputs_of n) only-d (lines-only d z n c.speak.ensures.only) in
-    goes-on-by c.speak.new.self a d z n files s.others ts ends has.mid c.requires.apart
-    (others-known a b z n files s.others has.mid c.requires.apart c.hand_over.ensures.only only-z s.reads) only-d
-    (AddEach-kept a b d (outputs_of n) (octets_of has.mid) c.hand_over.ensures.only.goes_on hands.delivered
-    (KeepsEach-reads b d (outputs_of n) c.serve.ensures.only)) c.speak.ensures.only gone
-
-pub returns-in-Ok-speak-clause-ready : goal.returns-in-Ok-speak-clause-ready
-returns-in-Ok-speak-clause-ready g c = λ going.
-    let r = c.requires.ready in
-    let files = r.files in
-    let ts = r.turns in
-    let ends = r.ends in
-    let a = g.F.Folder.state c.args.folder.now in
-    let b = g.F.Folder.state c.hand_over.new.folder in
-    let d = g.F.Folder.state c.serve.new.folder in
-    let z = g.F.Folder.state c.speak.new.folder in
-    let n = written c.args.names.now in
-    let has = c.in-Ok.ensures.hears files ts ends r.after in
-    let hands = c.in-Ok-hand_over.ensures.hands files ts ends c.in-Ok.heard has.mid has.stands in
-    let still = sym (ap is_closed (phase-delivered has.mid.orig)) ∙ sym (c.is_closed.ensures files (handed has.mid) hands.stands.link)
-    ∙ c.if-is_closed.false in
-    let s = c.in-Ok-serve.ensures.serves files ts ends c.in-Ok.heard has.mid hands.stands r.within in
-    let gone = c.in-Ok-speak.ensures.speaks s.others ts ends has.mid
-    (record { stands = s.stands; going = still }) hands.orig_given hands.answ_given in
-    let only-d = OnlyPuts-trans a b d (outputs_of n) c.hand_over.ensures.only (OnlyPuts-reads b d (outputs_of n) c.serve.ensures.only) in
-    let only-z = OnlyPuts-trans a d z (outputs_of n) only-d (lines-only d z n c.speak.ensures.only) in
-    let by : GoesOnBy c.speak.new.self a z n files ts ends =
-    goes-on-by c.speak.new.self a d z n files s.others ts ends has.mid c.requires.apart
-    (others-known a b z n files s.others has.mid c.requires.apart c.hand_over.ensures.only only-z s.reads) only-d
-    (AddEach-kept a b d (outputs_of n) (octets_of has.mid) c.hand_over.ensures.only.goes_on hands.delivered
-    (KeepsEach-reads b d (outputs_of n) c.serve.ensures.only)) c.speak.ensures.only gone in
-    let t = c.hand_over.new.self.turn + 1 in
-    let same : c.serve.new.self.turn + 1 ≡ t = ap (λ x. x + 1) c.serve.ensures.beside.turn in
-    ready-on c.speak.new.self a d z n files ts ends t
-    (subst IsInLimits (sym (c.speak.ensures.script ∙ c.serve.ensures.beside.script ∙ c.hand_over.ensures.beside.script
-    ∙ c.hear.ensures.script)) r.limits) by
-    (c.in-Ok-speak.ensures.idle (c.in-Ok-serve.ensures.idle c.in-Ok-hand_over.ensures.idle))
-    (c.in-Ok-speak.ensures.counted t t c.in-Ok-serve.ensures.counted)
-    (rw (sym same) c.in-Ok-speak.ensures.few)
-    (c.in-Ok-speak.ensures.turn ∙ same)
-
-pub returns-in-Ok-speak-clause-only : goal.returns-in-Ok-speak-clause-only
-returns-in-Ok-speak-clause-only g c =
-    let n = written c.args.names.now in
-    OnlyPuts-trans _ _ _ (outputs_of n) (OnlyPuts-trans _ _ _ (outputs_of n) c.hand_over.ensures.only (OnlyPuts-reads _ _ (outputs_of n) c.serve.ensures.only))
-    (lines-only _ _ n c.speak.ensures.only)
-
-pub returns-in-Ok-speak-clause-counts : goal.returns-in-Ok-speak-clause-counts
-returns-in-Ok-speak-clause-counts g c =
-    CountsStand-trans (CountsStand-trans c.in-Ok-hand_over.ensures.counts c.in-Ok-serve.ensures.counts) c.in-Ok-speak.ensures.counts
-
-pub returns-in-Err-speak-clause-turn : goal.returns-in-Err-speak-clause-turn
-returns-in-Err-speak-clause-turn g c = λ files ts ends h within.
-    let a = g.F.Folder.state c.args.folder.now in
-    let b = g.F.Folder.state c.hand_over.new.folder in
-    let d = g.F.Folder.state c.serve.new.folder in
-    let z = g.F.Folder.state c.speak.new.folder in
-    let n = written c.args.names.now in
-    let has = c.in-Ok.ensures.hears files ts ends h in
-    let hands = c.in-Ok-hand_over.ensures.hands files ts ends c.in-Ok.heard has.mid has.stands in
-    let still = sym (ap is_closed (phase-delivered has.mid.orig)) ∙ sym (c.is_closed.ensures files (handed has.mid) hands.stands.link)
-    ∙ c.if-is_closed.false in
-    let s = c.in-Ok-serve.ensures.serves files ts ends c.in-Ok.heard has.mid hands.stands within in
-    let last = c.in-Err-speak.ensures.speaks s.others ts ends has.mid
-    (record { stands = s.stands; going = still }) hands.orig_given hands.answ_given in
-    let only-d = OnlyPuts-trans a b d (outputs_of n) c.hand_over.ensures.only (OnlyPuts-reads b d (outputs_of n) c.serve.ensures.only) in
-    let only-z = OnlyPuts-trans a d z (outputs_of n) only-d (lines-only d z n c.speak.ensures.only) in
-    speaks-last c.speak.new.self a d z n files s.others ts ends c.in-Ok.heard has.mid c.in-Err-speak.fault c.requires.apart
-    (others-known a b z n files s.others has.mid c.requires.apart c.hand_over.ensures.only only-z s.reads) only-d
-    (AddEach-kept a b d (outputs_of n) (octets_of has.mid) c.hand_over.ensures.only.goes_on hands.delivered
-    (KeepsEach-reads b d (outputs_of n) c.serve.ensures.only)) c.speak.ensures.only
-    (halts-so c.serve.new.self c.speak.new.self s.others ts ends c.in-Ok.heard has.mid
-    (served c.serve.new.self.script s.others (length ts) has.mid) s.stands c.in-Err-speak.ensures.beside) last
-
-pub returns-in-Err-speak-clause-only : goal.returns-in-Err-speak-clause-only
-returns-in-Err-speak-clause-only g c =
-    let n = written c.args.names.now in
-    OnlyPuts-trans _ _ _ (outputs_of n) (OnlyPuts-trans _ _ _ (outputs_of n) c.hand_over.ensures.only (OnlyPuts-reads _ _ (outputs_of n) c.serve.ensures.only))
-    (lines-only _ _ n c.speak.ensures.only)
-
-pub returns-in-Err-speak-clause-counts : goal.returns-in-Err-speak-clause-counts
-returns-in-Err-speak-clause-counts g c =
-    counts-later (g.F.Folder.state c.args.folder.now) (g.F.Folder.state c.serve.new.folder) (g.F.Folder.state c.speak.new.folder)
-    (written c.args.names.now) c.in-Err-speak.fault
-    (CountsStand-trans c.in-Ok-hand_over.ensures.counts c.in-Ok-serve.ensures.counts) c.in-Err-speak.ensures.counts
-
-pub returns-in-Err-Lost-clause-number : goal.returns-in-Err-Lost-clause-number
-returns-in-Err-Lost-clause-number g c = c.hear.ensures.turn
-
-pub returns-in-Err-Chance-clause-number : goal.returns-in-Err-Chance-clause-number
-returns-in-Err-Chance-clause-number g c = c.hear.ensures.turn
-
-pub returns-in-Err-clause-number : goal.returns-in-Err-clause-number
-returns-in-Err-clause-number g c = c.hand_over.ensures.beside.turn ∙ c.hear.ensures.turn
-
-pub returns-in-Ok-finish-clause-number : goal.returns-in-Ok-finish-clause-number
-returns-in-Ok-finish-clause-number g c = c.hand_over.ensures.beside.turn ∙ c.hear.ensures.turn
-
-pub returns-in-Err-finish-clause-number : goal.returns-in-Err-finish-clause-number
-returns-in-Err-finish-clause-number g c = c.hand_over.ensures.beside.turn ∙ c.hear.ensures.turn
-
-pub returns-in-Err-serve-clause-number : goal.returns-in-Err-serve-clause-number
-returns-in-Err-serve-clause-number g c = c.serve.ensures.beside.turn ∙ c.hand_over.ensures.beside.turn ∙ c.hear.ensures.turn
-
-pub returns-in-Ok-speak-clause-number : goal.returns-in-Ok-speak-clause-number
-returns-in-Ok-speak-clause-number g c =
-    c.in-Ok-speak.ensures.turn ∙ ap (λ x. x + 1) (c.serve.ensures.beside.turn ∙ c.hand_over.ensures.beside.turn ∙ c.hear.ensures.turn)
-
-pub returns-in-Err-speak-clause-number : goal.returns-in-Err-speak-clause-number
-returns-in-Err-speak-clause-number g c =
-    c.in-Err-speak.ensures.beside.turn ∙ c.serve.ensures.beside.turn ∙ c.hand_over.ensures.beside.turn ∙ c.hear.ensures.turn
-
-pub returns-in-Ok-finish-clause-ready : goal.returns-in-Ok-finish-clause-ready
-returns-in-Ok-finish-clause-ready g c = λ going. absurd (none-after _ c.hand_over.new.self.turn going refl)
-
-pub returns-in-Err-Lost-clause-script : goal.returns-in-Err-Lost-clause-script
-returns-in-Err-Lost-clause-script g c = c.hear.ensures.script
-
-pub returns-in-Err-Chance-clause-script : goal.returns-in-Err-Chance-clause-script
-returns-in-Err-Chance-clause-script g c = c.hear.ensures.script
-
-pub returns-in-Err-clause-script : goal.returns-in-Err-clause-script
-returns-in-Err-clause-script g c = c.hand_over.ensures.beside.script ∙ c.hear.ensures.script
-
-pub returns-in-Ok-finish-clause-script : goal.returns-in-Ok-finish-clause-script
-returns-in-Ok-finish-clause-script g c = c.hand_over.ensures.beside.script ∙ c.hear.ensures.script
-
-pub returns-in-Err-finish-clause-script : goal.returns-in-Err-finish-clause-script
-returns-in-Err-finish-clause-script g c = c.hand_over.ensures.beside.script ∙ c.hear.ensures.script
-
-pub returns-in-Err-serve-clause-script : goal.returns-in-Err-serve-clause-script
-returns-in-Err-serve-clause-script g c = c.serve.ensures.beside.script ∙ c.hand_over.ensures.beside.script ∙ c.hear.ensures.script
-
-pub returns-in-Ok-speak-clause-script : goal.returns-in-Ok-speak-clause-script
-returns-in-Ok-speak-clause-script g c =
-    c.speak.ensures.script ∙ c.serve.ensures.beside.script ∙ c.hand_over.ensures.beside.script ∙ c.hear.ensures.script
-
-pub returns-in-Err-speak-clause-script : goal.returns-in-Err-speak-clause-script
-returns-in-Err-speak-clause-script g c =
-    c.speak.ensures.script ∙ c.serve.ensures.beside.script ∙ c.hand_over.ensures.beside.script ∙ c.hear.ensures.script
-
-pub returns-in-Err-Lost-clause-ready : goal.returns-in-Err-Lost-clause-ready
-returns-in-Err-Lost-clause-ready g c = λ going. absurd (none-faulty _ going)
-
-pub returns-in-Err-Chance-clause-ready : goal.returns-in-Err-Chance-clause-ready
-returns-in-Err-Chance-clause-ready g c = λ going. absurd (none-faulty _ going)
-
-pub returns-in-Err-clause-ready : goal.returns-in-Err-clause-ready
-returns-in-Err-clause-ready g c = λ going. absurd (none-faulty _ going)
-
-pub returns-in-Err-finish-clause-ready : goal.returns-in-Err-finish-clause-ready
-returns-in-Err-finish-clause-ready g c = λ going. absurd (none-faulty _ going)
-
-pub returns-in-Err-serve-clause-ready : goal.returns-in-Err-serve-clause-ready
-returns-in-Err-serve-clause-ready g c = λ going. absurd (none-faulty _ going)
-
-pub returns-in-Err-speak-clause-ready : goal.returns-in-Err-speak-clause-ready
-returns-in-Err-speak-clause-ready g c = λ going. absurd (none-faulty _ going)
-
-pub returns-in-Err-clause-only : goal.returns-in-Err-clause-only
-returns-in-Err-clause-only g c = c.hand_over.ensures.only
-
-pub returns-in-Err-clause-counts : goal.returns-in-Err-clause-counts
-returns-in-Err-clause-counts g c = c.in-Err.ensures.counts
-
-pub returns-in-Err-Chance-clause-only : goal.returns-in-Err-Chance-clause-only
-returns-in-Err-Chance-clause-only g c = lines-only _ _ (written c.args.names.now) c.meet_chance.ensures.only
-
-pub returns-in-Err-Chance-clause-counts : goal.returns-in-Err-Chance-clause-counts
-returns-in-Err-Chance-clause-counts g c = c.meet_chance.ensures.counts
-
-pub serve-requires-clause-early : goal.serve-requires-clause-early
-serve-requires-clause-early g c =
-    rw (c.hand_over.ensures.beside.turn, c.hear.ensures.turn) (c.turns_are_few.ensures c.args.self.now c.requires.ready)
+    let script = c.args.self.now.script in
+    let by : GoesOnBy c.turn.new.self c.turn.new.lines (channel_of script) 1 (both_sent_by 0 r.turns) (g.F.Folder.state c.args.folder.now)
+    (g.F.Folder.state c.turn.new.folder) (written c.args.names.now) r.files r.turns r.ends =
+    subst (λ (x : Result Step RunFault). TurnAnswers c.turn.new.self c.turn.new.lines (channel_of script) 1 (both_sent_by 0 r.turns)
+    (g.F.Folder.state c.args.folder.now) (g.F.Folder.state c.turn.new.folder) (written c.args.names.now) r.files r.turns r.ends x) going
+    (answers g c r.files r.turns r.ends r.after r.within) in
+    record {
+      limits = r.limits;
+      channel = c.turn.ensures.channel ∙ r.channel;
+      kept = c.turn.ensures.kept going;
+      files = by.others;
+      within = by.known.within;
+      turns = by.turn ∷ r.turns;
+      ends = by.after;
+      after = record { modems = by.modems; lines = by.lines };
+    }

@@ -1,16 +1,16 @@
-use Rattle.std.proofs.Common.{◌+◌, subst}
+use Rattle.std.proofs.Common.{◌+◌, length, sym, subst}
+use Rattle.noise_script.specs.Script.{IsInLimits}
 use Rattle.run_world.specs.Link.{LinkStands}
 use Rattle.run_world.specs.Mid.{ReadsBoth, served, supplied, handed}
 use Rattle.run_world.proofs.Serving.{over-others, reading-fault, reading-counts}
 use Rattle.run_world.specs.Names.{written}
-use Rattle.run_world.proofs.world.World.serve.Goals as goal
+use Rattle.run_world.proofs.modems.Modems.serve.Goals as goal
 
 pub serve-requires-clause-counted : goal.serve-requires-clause-counted
 serve-requires-clause-counted g c = c.supply.ensures.counted (c.args.self.now.turn + 1) c.args.self.now.turn c.requires.counted
 
 pub returns-clause-serves : goal.returns-clause-serves
-returns-clause-serves g c = λ files ts ends heard mid h within.
-    let script = c.args.self.now.script in
+returns-clause-serves g c = λ channel files ts ends heard mid script h within.
     let f = g.F.Folder.state c.args.folder.now in
     let n = written c.args.names.now in
     let s = c.in-Ok.ensures.stands files (handed mid) h.link within in
@@ -19,13 +19,14 @@ returns-clause-serves g c = λ files ts ends heard mid h within.
       others = s.others;
       reads = reads;
       stands = record {
-        overhears = over-others c.files_count_as_far_as_they_were_read.ensures.next script files s.others ts ends mid heard f n
-            c.requires.limits h.overhears reads;
-        link = subst (λ t. LinkStands c.serve.new.self s.others (served script s.others t mid)) h.turn
-            (c.serve.ensures.stands s.others (supplied s.others (handed mid)) s.stands);
-        lines = h.lines;
+        overhears = over-others c.files_count_as_far_as_they_were_read.ensures.next channel files s.others ts ends mid heard f n
+            (subst IsInLimits (sym script) c.requires.limits) h.overhears reads;
+        link = subst (λ v. LinkStands c.serve.new.self s.others (served v s.others (length ts) mid)) (sym script)
+            (subst (λ t. LinkStands c.serve.new.self s.others (served c.args.script.now s.others t mid)) h.turn
+            (c.serve.ensures.stands s.others (supplied s.others (handed mid)) s.stands));
         turn = h.turn;
         tally = h.tally;
+        checks = h.checks;
       };
     }
 

@@ -4,10 +4,10 @@ use Rattle.line_texts.specs.LineText.{chance_line}
 use Rattle.run_world.specs.Names.{written}
 use Rattle.run_world.proofs.Folders.{receives-none}
 use Rattle.run_world.proofs.Turning.{writing-ends}
-use Rattle.run_world.proofs.world.World.meet_chance.Goals as goal
+use Rattle.run_world.proofs.modems.Modems.meet_chance.Goals as goal
 
 pub returns-in-Ok-clause-meets : goal.returns-in-Ok-clause-meets
-returns-in-Ok-clause-meets g c = λ ts ends number is halts files.
+returns-in-Ok-clause-meets g c = λ l channel links streams ts ends number is halts files.
     let f = g.F.Folder.state c.args.folder.now in
     let new = g.F.Folder.state c.write_chance.new.folder in
     let n = written c.args.names.now in
@@ -20,11 +20,11 @@ returns-in-Ok-clause-meets g c = λ ts ends number is halts files.
     }
 
 pub returns-in-Err-clause-meets : goal.returns-in-Err-clause-meets
-returns-in-Err-clause-meets g c = λ ts ends number is halts files.
+returns-in-Err-clause-meets g c = λ l channel links streams ts ends number is halts files.
     let f = g.F.Folder.state c.args.folder.now in
     let new = g.F.Folder.state c.write_chance.new.folder in
     let n = written c.args.names.now in
-    writing-ends c.args.self.now f new n files ts ends c.in-Err.fault c.in-Err.ensures.write
+    writing-ends c.args.self.now l channel links streams f new n files ts ends c.in-Err.fault c.in-Err.ensures.write
     (inr (record {
       role = c.args.role;
       is = is;
