@@ -45,6 +45,32 @@ fn no_frame() -> BitSlot {
     slot
 }
 
+/// More of these, none with five ones in a row: of another channel, an answer as a command, an I frame that is cut, and SABME with information.
+const NO_FRAMES: [&[u8]; 4] = [
+    b"\x43\x63\xd4\x32",
+    b"\x01\x63\x02\x47",
+    b"\x03\x00\x2f\x25",
+    b"\x01\x6f\x61\x02\x08",
+];
+
+/// The octets of a slot.
+const OCTETS: usize = 232;
+
+/// The points of an answerer's first slot, of flags with these octets behind the first four.
+fn flags_with(alloc: Global, octets: &[u8]) -> Result<Vec<Sample>, Fail> {
+    let mut modulator = Modulator::new(Mode::Answer);
+    let mut points = Vec::new(alloc);
+    for place in 0..OCTETS {
+        let octet = match place.checked_sub(4) {
+            Some(at) => *octets.get(at).unwrap_or(&0x7e),
+            None => 0x7e,
+        };
+        points.push(modulator.push(octet % 16))?;
+        points.push(modulator.push(octet / 16))?;
+    }
+    Ok(points)
+}
+
 /// The line of a script that moves a symbol of the answerer's from one point to another.
 fn write_hit(text: &mut String, symbol: usize, from: &Sample, to: &Sample) -> Result<(), Fail> {
     let re = i32::from(to.re) - i32::from(from.re);
@@ -85,10 +111,9 @@ fn samples_that_say_nothing_lose_the_line(rt: HostRuntime) -> Result<(), Fail> {
     Ok(())
 }
 
-/// Looks whether a run ends by a chance match where the answerer's first slot is turned into this one.
-fn is_chance(rt: &impl Abort, alloc: Global, slot: &BitSlot) -> Result<(), Fail> {
-    let other = points(alloc, Mode::Answer, slot)?;
-    let ran = run_hit(alloc, &other)?;
+/// Looks whether a run ends by a chance match where the answerer's first symbols are moved to these points.
+fn is_chance(rt: &impl Abort, alloc: Global, to: &[Sample]) -> Result<(), Fail> {
+    let ran = run_hit(alloc, to)?;
     let chance = Status::ChanceMatch {
         role: Role::Originator,
         turn: 1,
@@ -101,12 +126,19 @@ fn is_chance(rt: &impl Abort, alloc: Global, slot: &BitSlot) -> Result<(), Fail>
 
 #[test]
 fn a_pattern_that_was_not_sent_is_a_chance_match(rt: HostRuntime) -> Result<(), Fail> {
-    is_chance(&rt, rt.alloc(), &patterns(Seen::Adp))
+    let to = points(rt.alloc(), Mode::Answer, &patterns(Seen::Adp))?;
+    is_chance(&rt, rt.alloc(), &to)
 }
 
 #[test]
 fn octets_that_pass_the_check_are_a_chance_match(rt: HostRuntime) -> Result<(), Fail> {
-    is_chance(&rt, rt.alloc(), &no_frame())
+    let to = points(rt.alloc(), Mode::Answer, &no_frame())?;
+    is_chance(&rt, rt.alloc(), &to)?;
+    for octets in NO_FRAMES {
+        let to = flags_with(rt.alloc(), octets)?;
+        is_chance(&rt, rt.alloc(), &to)?;
+    }
+    Ok(())
 }
 
 /// The originator's first sample and its noise.
