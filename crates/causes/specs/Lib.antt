@@ -1,2 +1,3 @@
 pub mod Timer
 pub mod Cause
+pub mod AuditCause

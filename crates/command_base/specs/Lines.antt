@@ -5,9 +5,10 @@ use Rattle.xid_params.specs.declared.fault.XidFault.TheVariants as xid
 use Rattle.causes.specs.declared.fault.LinkFault.{LinkFault}
 use Rattle.causes.specs.declared.fault.LinkFault.TheVariants.{BadAck, PeerReset, PeerRefused}
 use Rattle.command_base.specs.declared.status.Status.{Status}
-use Rattle.command_base.specs.declared.status.Status.TheVariants.{BadScript, BadRecording, BadHex, BadXid, TooLong, ReadFault, WriteFault, LineLost, NotDetected, LinkLost, ChanceMatch, NoMemory, PeerFault}
+use Rattle.command_base.specs.declared.status.Status.TheVariants.{BadScript, BadRecording, BadHex, BadXid, TooLong, ReadFault, WriteFault, LineLost, NotDetected, LinkLost, ChanceMatch, NoMemory, PeerFault, AuditNo, BadTap, PairLinkLost, PairNotDetected}
 use Rattle.roles.specs.Role.{role_word}
 use Rattle.causes.specs.Cause.{cause_word}
+use Rattle.causes.specs.AuditCause.{audit_word}
 
 -- why a field spells no offer
 abbrev pub xid_words : XidFault → List ℕ
@@ -41,6 +42,18 @@ octets_line octets = count_line (codes "octets") octets
 abbrev pub pieces_line : ℕ → List ℕ
 pieces_line pieces = count_line (codes "pieces") pieces
 
+-- a tap of a line: how many turns its trace has
+abbrev pub turns_line : ℕ → List ℕ
+turns_line turns = count_line (codes "turns") turns
+
+-- two links that are done, each with its last turn
+abbrev pub both_done_line : ℕ → ℕ → List ℕ
+both_done_line first second = codes "done " ++ decimal first ++ codes " " ++ decimal second ++ codes "\n"
+
+-- a trace that is a run's, with the number of its lines
+abbrev pub true_line : ℕ → List ℕ
+true_line lines = codes "true " ++ decimal lines ++ codes " lines\n"
+
 -- a soak that is done: its seed, the last turn, slots lost, and segments sent again
 abbrev pub soak_line : ℕ → ℕ → ℕ → ℕ → List ℕ
 soak_line seed turn lost again =
@@ -65,10 +78,10 @@ listed (word ∷ words) = word ++ listed_behind words
 abbrev pub usage_line : List (List ℕ) → List ℕ
 usage_line commands = codes "usage: modem " ++ listed commands ++ codes "\n"
 
--- each of these words has at most eight octets
+-- each of these words has at most seven octets
 abbrev pub AreShort : List (List ℕ) → Type 0
 AreShort [] = Unit {0}
-AreShort (word ∷ words) = (length word ≤ 8) × AreShort words
+AreShort (word ∷ words) = (length word ≤ 7) × AreShort words
 
 -- ---- other answers
 
@@ -90,6 +103,12 @@ short_line (LinkLost role segment turn) =
 short_line (ChanceMatch role turn) = codes "chance match: " ++ role_word role ++ codes " turn " ++ decimal turn ++ codes "\n"
 short_line NoMemory = codes "no memory\n"
 short_line (PeerFault fault turn) = codes "peer fault: " ++ peer_words fault ++ codes " turn " ++ decimal turn ++ codes "\n"
+short_line (AuditNo line cause) = codes "false line " ++ decimal line ++ codes ": " ++ audit_word cause ++ codes "\n"
+short_line (BadTap role turn) = codes "bad tap: " ++ role_word role ++ codes " turn " ++ decimal turn ++ codes "\n"
+short_line (PairLinkLost link role segment turn) =
+    codes "link lost: link " ++ decimal link ++ codes " " ++ role_word role ++ codes " segment " ++ decimal segment ++ codes " turn "
+    ++ decimal turn ++ codes "\n"
+short_line (PairNotDetected link turn) = codes "not detected: link " ++ decimal link ++ codes " turn " ++ decimal turn ++ codes "\n"
 short_line status = []
 
 -- the line of an answer that is neither Done nor Usage, to these words

@@ -2,7 +2,7 @@
 use Rattle.std.specs.Prelude.{◌⊎◌, ℕ}
 use Rattle.outside_calls.specs.Folder.{FolderState, CountsStand}
 use Rattle.command_base.specs.declared.status.Status.{Status}
-use Rattle.command_base.specs.declared.status.Status.TheVariants.{Done, Usage, BadScript, BadRecording, BadHex, BadXid, TooLong, ReadFault, WriteFault, LineLost, NotDetected, LinkLost, ChanceMatch, NoMemory, PeerFault}
+use Rattle.command_base.specs.declared.status.Status.TheVariants.{Done, Usage, BadScript, BadRecording, BadHex, BadXid, TooLong, ReadFault, WriteFault, LineLost, NotDetected, LinkLost, ChanceMatch, NoMemory, PeerFault, AuditNo, BadTap, PairLinkLost, PairNotDetected}
 
 abbrev pub code_of : Status → ℕ
 code_of Done = 0
@@ -20,6 +20,10 @@ code_of (LinkLost role segment turn) = 9
 code_of (ChanceMatch role turn) = 10
 code_of NoMemory = 11
 code_of (PeerFault fault turn) = 12
+code_of (AuditNo line cause) = 13
+code_of (BadTap role turn) = 14
+code_of (PairLinkLost link role segment turn) = 9
+code_of (PairNotDetected link turn) = 8
 
 -- input that is refused before anything is written
 abbrev pub IsRefusal : Status → Type 0

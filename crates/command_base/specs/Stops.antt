@@ -37,6 +37,10 @@ IsOwn (status.NotDetected turn) = Unit {0}
 IsOwn (status.LinkLost role segment turn) = Unit {0}
 IsOwn (status.ChanceMatch role turn) = Unit {0}
 IsOwn (status.PeerFault fault turn) = Unit {0}
+IsOwn (status.AuditNo line cause) = Unit {0}
+IsOwn (status.BadTap role turn) = Unit {0}
+IsOwn (status.PairLinkLost link role segment turn) = Unit {0}
+IsOwn (status.PairNotDetected link turn) = Unit {0}
 IsOwn answer = ⊥
 
 -- why one of these inputs is not read

@@ -1,11 +1,12 @@
 // The lines that answers say.
 ghost use Rattle.std.specs.Prelude.{◌≡◌, ◌<◌, ◌≤◌, ◌+◌, ◌*◌, [], ◌++◌, map, length, decimal, codes};
 ghost use Rattle.roles.specs.Role.{role_word};
-ghost use Rattle.command_base.specs.Lines.{xid_words, count_line, done_line, samples_line, octets_line, pieces_line, soak_line, margin_line, listed_behind, usage_line, AreShort, peer_words, short_line};
+ghost use Rattle.command_base.specs.Lines.{xid_words, count_line, done_line, samples_line, octets_line, pieces_line, turns_line, both_done_line, true_line, soak_line, margin_line, listed_behind, usage_line, AreShort, peer_words, short_line};
 ghost use Rattle.causes.specs.Cause.{cause_word};
+ghost use Rattle.causes.specs.AuditCause.{audit_word};
 
 use crate::Status;
-use causes::{Cause, LinkFault};
+use causes::{AuditCause, Cause, LinkFault};
 use frame_check::Octets;
 use line_texts::put_decimal;
 use roles::Role;
@@ -103,6 +104,33 @@ pub fn write_pieces(pieces: u64) -> Line
     write_count("pieces", pieces)
 }
 
+/// The line of a line's tap, with the number of its turns.
+pub fn write_turns(turns: u64) -> Line
+    ensures { result ≡ turns_line turns }
+{
+    write_count("turns", turns)
+}
+
+/// The line of two links that are done, each with its last turn.
+pub fn write_both_done(first: u64, second: u64) -> Line
+    ensures { result ≡ both_done_line first second }
+{
+    let mut line = Line::new();
+    put_number(&mut line, b"done ", first);
+    put_last_number(&mut line, b" ", second);
+    line
+}
+
+/// The line of a trace that is a run's, with the number of its lines.
+pub fn write_true(lines: u64) -> Line
+    ensures { result ≡ true_line lines }
+{
+    let mut line = Line::new();
+    put_number(&mut line, b"true ", lines);
+    line.extend(b" lines\n");
+    line
+}
+
 /// Puts a word, and a number in decimal digits behind it.
 fn put_number(line: &mut Line, word: &[u8], number: u64)
     requires { length line.old + length word.now + 20 ≤ LINE }
@@ -141,10 +169,10 @@ pub fn write_margin(cost: u64, sure: bool) -> Line
 
 /// Puts words behind the first one, each behind a comma.
 fn put_behind(line: &mut Line, words: &[&str])
-    requires room { length line.old + 10 * length words.now < LINE }
+    requires room { length line.old + 9 * length words.now < LINE }
     requires short { AreShort (map (λ word. word.now) words.now) }
     ensures text { line.new ≡ line.old ++ listed_behind (map (λ word. word.now) words.now) }
-    ensures room { length line.new ≤ length line.old + 10 * length words.now }
+    ensures room { length line.new ≤ length line.old + 9 * length words.now }
 {
     match words.split_first() {
         None => {}
@@ -158,7 +186,7 @@ fn put_behind(line: &mut Line, words: &[&str])
 
 /// The line that tells how the program is used: the words of its commands, in this order.
 pub fn write_usage(commands: &[&str]) -> Line
-    requires few { length commands.now ≤ 14 }
+    requires few { length commands.now ≤ 15 }
     requires short { AreShort (map (λ word. word.now) commands.now) }
     ensures { result ≡ usage_line (map (λ word. word.now) commands.now) }
 {
@@ -200,6 +228,17 @@ fn put_script_fault(line: &mut Line, number: u32, cause: Cause)
     ensures { line.new ≡ codes "bad script: line " ++ decimal number ++ codes ": " ++ cause_word cause ++ codes "\n" }
 {
     put_number(line, b"bad script: line ", u64::from(number));
+    line.extend(b": ");
+    line.extend(cause.word().as_bytes());
+    line.extend(b"\n");
+}
+
+/// Puts the line of a trace that isn't a run's.
+fn put_audit_no(line: &mut Line, number: u64, cause: AuditCause)
+    requires { line.old ≡ [] }
+    ensures { line.new ≡ codes "false line " ++ decimal number ++ codes ": " ++ audit_word cause ++ codes "\n" }
+{
+    put_number(line, b"false line ", number);
     line.extend(b": ");
     line.extend(cause.word().as_bytes());
     line.extend(b"\n");
@@ -247,6 +286,29 @@ fn put_short(line: &mut Line, status: Status)
         Status::PeerFault { fault, turn } => {
             line.extend(b"peer fault: ");
             put_peer_fault(line, fault);
+            put_last_number(line, b" turn ", turn);
+        }
+        Status::AuditNo {
+            line: number,
+            cause,
+        } => put_audit_no(line, number, cause),
+        Status::BadTap { role, turn } => {
+            put_role(line, b"bad tap: ", role);
+            put_last_number(line, b" turn ", turn);
+        }
+        Status::PairLinkLost {
+            link,
+            role,
+            segment,
+            turn,
+        } => {
+            put_number(line, b"link lost: link ", u64::from(link));
+            put_role(line, b" ", role);
+            put_number(line, b" segment ", segment);
+            put_last_number(line, b" turn ", turn);
+        }
+        Status::PairNotDetected { link, turn } => {
+            put_number(line, b"not detected: link ", u64::from(link));
             put_last_number(line, b" turn ", turn);
         }
     }

@@ -1,7 +1,7 @@
 // How a command ends.
 ghost use Rattle.std.specs.Prelude.{◌≡◌};
 
-use causes::{Cause, LinkFault};
+use causes::{AuditCause, Cause, LinkFault};
 use roles::Role;
 use xid_params::XidFault;
 
@@ -13,31 +13,77 @@ pub enum Status {
     /// The words are no command's.
     Usage,
     /// The script's first faulty line, counted from 1.
-    BadScript { line: u32, cause: Cause },
+    BadScript {
+        line: u32,
+        cause: Cause,
+    },
     /// The octet of a recording that is none of a recording's, or the place where one is missing, counted from 0.
-    BadRecording { at: u64 },
+    BadRecording {
+        at: u64,
+    },
     /// The octet that is no hexadecimal digit, counted from 0, or the number of digits where that is odd.
-    BadHex { at: u64 },
+    BadHex {
+        at: u64,
+    },
     /// The digits spell no offer.
     BadXid(XidFault),
     /// The input that this word names, or is, is longer than its limit. Words count from 0.
-    TooLong { word: usize },
+    TooLong {
+        word: usize,
+    },
     /// An input was not read.
     ReadFault,
     /// An output was not made, not written, or a line was not said.
     WriteFault,
     /// What that end receives can't be followed from that symbol on, counted from 0.
-    LineLost { role: Role, symbol: u64 },
+    LineLost {
+        role: Role,
+        symbol: u64,
+    },
     /// Up to that turn, the last one, the originator saw no pattern of the answerer's.
-    NotDetected { turn: u64 },
+    NotDetected {
+        turn: u64,
+    },
     /// That end sent a segment as often as it may, and never heard an acknowledgement.
-    LinkLost { role: Role, segment: u64, turn: u64 },
+    LinkLost {
+        role: Role,
+        segment: u64,
+        turn: u64,
+    },
     /// That end received in that turn what was not sent, by a chance of the noise.
-    ChanceMatch { role: Role, turn: u64 },
+    ChanceMatch {
+        role: Role,
+        turn: u64,
+    },
     /// Memory was not found, by the program or by the folder.
     NoMemory,
     /// In that turn the end heard what no peer may send, or was refused.
-    PeerFault { fault: LinkFault, turn: u64 },
+    PeerFault {
+        fault: LinkFault,
+        turn: u64,
+    },
+    /// The first line of a trace that isn't the run's, counted from 1, and in what it differs.
+    AuditNo {
+        line: u64,
+        cause: AuditCause,
+    },
+    /// What that end sent in that turn isn't all in its recording, or is no slot that an end sends.
+    BadTap {
+        role: Role,
+        turn: u64,
+    },
+    /// Of two links over one line this one, 1 or 2, was given up, for that end's segment.
+    PairLinkLost {
+        link: u8,
+        role: Role,
+        segment: u64,
+        turn: u64,
+    },
+    /// Of two links over one line this one, 1 or 2, saw no pattern of its answerer's.
+    PairNotDetected {
+        link: u8,
+        turn: u64,
+    },
 }
 
 impl Status {
@@ -58,11 +104,13 @@ impl Status {
             Status::ReadFault => 5,
             Status::WriteFault => 6,
             Status::LineLost { .. } => 7,
-            Status::NotDetected { .. } => 8,
-            Status::LinkLost { .. } => 9,
+            Status::NotDetected { .. } | Status::PairNotDetected { .. } => 8,
+            Status::LinkLost { .. } | Status::PairLinkLost { .. } => 9,
             Status::ChanceMatch { .. } => 10,
             Status::NoMemory => 11,
             Status::PeerFault { .. } => 12,
+            Status::AuditNo { .. } => 13,
+            Status::BadTap { .. } => 14,
         }
     }
 }

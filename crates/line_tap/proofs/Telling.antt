@@ -49,7 +49,8 @@ use Rattle.line_run.specs.Ends.{RunEnd, Left, RunsTo}
 use Rattle.line_run.specs.Ends as runs
 use Rattle.line_tap.specs.Tapping.{tapping, phase_behind, next_bits, octets_of, HoldsNext, Hears, Tells}
 use Rattle.line_tap.specs.Ends.{EndsWhole, EndsLine, EndsOnLine, EndsBy}
-use Rattle.line_tap.specs.Laws.{AreCoded, IsRecorded, told_end, RecordingsTellRuns}
+use Rattle.line_run.specs.Recorded.{IsRecorded}
+use Rattle.line_tap.specs.Laws.{AreCoded, told_end, RecordingsTellRuns}
 use Rattle.line_tap.proofs.Plain.{plain_slot, plain, plains, plain-heard, plain-check, plain-given, plain-sent, plain-judged}
 use Rattle.line_tap.proofs.Plain.{plain-received, plain-given_to, plain-text, AllChecked, plain-signal, plain-signals}
 use Rattle.line_tap.proofs.Plain.{heard_of-plain, well-plain, heard_in-plain, loses-plain}
@@ -137,19 +138,19 @@ pub record All (c : Channel) (role : Role) (ts : List Turn) (body : List ℕ) : 
   pub count : length body ≡ octets_of c (length ts)
 
 within-all : TellingLaws → (c : Channel) (role : Role) (ts : List Turn) (body : List ℕ) → IsAlone c → HEAD + TAIL < c.symbols → c.dlci < 64
-    → AllSent role ts → IsRecorded c role ts body → All c role ts body
-within-all laws c role ts body alone long low s r =
+    → AllSent role ts → AreCoded c role ts → IsRecorded c role ts body → All c role ts body
+within-all laws c role ts body alone long low s k r =
     let tap : ℕ = tap_of (mode_of role) in
     let back = recorded-back laws.equal tap (bits_of c role ts) r.samples r.modulated in
     let same : samples_in body ≡ r.samples = ap samples_in r.body_is ∙ back.same in
-    let bits = length-bits laws c role ts alone long low s r.coded in
+    let bits = length-bits laws c role ts alone long low s k in
     let samples = length-modulated tap (bits_of c role ts) r.samples r.modulated in
     let count : length body ≡ octets_of c (length ts) = ap length r.body_is ∙ back.count ∙ (sym samples ∙ bits) in
     let all : take (c.symbols * length ts) (samples_in body) ≡ r.samples =
     ap (take (c.symbols * length ts)) same ∙ take_all (c.symbols * length ts) r.samples (omega (arith, samples, bits)) in
     record {
       within = record {
-        coded = r.coded;
+        coded = k;
         front = subst (Modulates tap (bits_of c role ts)) (sym all) r.modulated;
         long = omega (arith, count);
       };
@@ -400,12 +401,13 @@ ended laws script files bodies ts ends (runs.ChanceMatch role turn) left limits 
     )
 
 pub recordings_tell_runs : TellingLaws → RecordingsTellRuns
-recordings_tell_runs laws script files end left bodies limits r recorded =
+recordings_tell_runs laws script files end left bodies limits r coded recorded =
     let c = channel_of script in
     let link = link_of script files in
     let long = (laws.room script limits).0 in
     let all : (role : Role) → All c role r.turns (of role bodies) =
-    λ role. within-all laws c role r.turns (of role bodies) (λ side n. refl) long (omega arith) (all-sent link role r.turns r.ends r.run.run) (recorded role) in
+    λ role. within-all laws c role r.turns (of role bodies) (λ side n. refl) long (omega arith) (all-sent link role r.turns r.ends r.run.run)
+    (coded role) (recorded role) in
     record {
       turns = plains (check_in script files) r.turns;
       tells = tells-run laws script files bodies r.turns r.ends limits r.run (λ role. (all role).within);

@@ -1,5 +1,5 @@
 -- Numbers in decimal digits.
-use Rattle.std.specs.Prelude.{ℕ, ◌+◌, ◌-◌, ◌*◌, ◌^◌, Bool, ◌&&◌, nat_eq, nat_le, if◌then◌else◌, ℤ, pos, neg_ℤ, List, [], ◌∷◌, length}
+use Rattle.std.specs.Prelude.{ℕ, ◌+◌, ◌-◌, ◌*◌, ◌^◌, Bool, not, ◌&&◌, nat_eq, nat_le, nat_lt, if◌then◌else◌, ℤ, pos, neg_ℤ, List, [], ◌∷◌, length, Option, Some, None}
 use Rattle.std.specs.List.{list_all}
 use Rattle.noise_script.specs.Lines.{begins_with}
 
@@ -14,6 +14,14 @@ is_number word = nat_le 1 (length word) && (nat_le (length word) 20 && list_all 
 abbrev pub value_of : List ℕ → ℕ
 value_of [] = 0
 value_of (digit ∷ digits) = (digit - 48) * 10 ^ length digits + value_of digits
+
+-- no zero stands before other digits
+abbrev pub leads_well : List ℕ → Bool
+leads_well word = not (nat_le 2 (length word) && begins_with 48 word)
+
+-- 1 to 20 decimal digits without a zero before others, whose number fits 64 bits
+abbrev pub plain_number : List ℕ → Option ℕ
+plain_number word = if is_number word && (nat_lt (value_of word) (2 ^ 64) && leads_well word) then Some (value_of word) else None
 
 -- a word without the minus sign before it
 abbrev pub without_sign : List ℕ → List ℕ

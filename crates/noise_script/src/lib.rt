@@ -25,6 +25,7 @@ pub use fault::ScriptFault;
 pub use limits::{
     BREAK_LINES, BUSY_LINES, HIT_LINES, LOSE_LINES, NOISE_LINES, OFFSET_MOST, SCRIPT_OCTETS,
 };
+pub use numbers::read_plain_number;
 pub use offset::Offset;
 pub use reader::read_script;
 pub use script::Script;

@@ -1,6 +1,7 @@
 // Reading words: roles, and numbers in decimal digits.
 ghost use Rattle.std.specs.Prelude.{◌≡◌, ◌<◌, ◌≤◌, ◌^◌, MatchResult, IfSome, IfNone, true, false, length, pos};
-ghost use Rattle.noise_script.specs.Numbers.{is_digit, is_number, value_of, without_sign, is_signed, signed_value_of};
+ghost use Rattle.std.specs.Option.{option_map};
+ghost use Rattle.noise_script.specs.Numbers.{is_digit, is_number, value_of, plain_number, without_sign, is_signed, signed_value_of};
 ghost use Rattle.noise_script.specs.Lines.{begins_with};
 ghost use Rattle.noise_script.specs.Forms.{ARole, Number, Signed, RoleIs, NumberIs, SignedIs, Spells, Fails};
 
@@ -25,6 +26,20 @@ fn read_digits(word: &[u8]) -> Option<u128>
         value = 10 * value + u128::from(*octet - b'0');
     }
     Some(value)
+}
+
+/// A number of 1 to 20 decimal digits that fits 64 bits, without a zero before other digits: so each number has one word.
+pub fn read_plain_number(word: &[u8]) -> Option<u64>
+    ensures { result ≡ plain_number word.now }
+{
+    let value = read_digits(word)?;
+    if value > u128::from(u64::MAX) {
+        return None;
+    }
+    if word.len() > 1 && word[0] == b'0' {
+        return None;
+    }
+    Some(value as u64)
 }
 
 /// A number of 1 to 20 decimal digits, where it is in its range.

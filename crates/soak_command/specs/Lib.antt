@@ -1,7 +1,6 @@
 pub mod Drawing
 pub mod Soak
 pub mod Text
-pub mod Seed
 pub mod Words
 pub mod Folder
 pub mod Ends

@@ -11,7 +11,6 @@ mod files;
 mod folder;
 mod laws;
 mod script;
-mod seed;
 mod soaking;
 mod words;
 
@@ -19,5 +18,4 @@ pub use command::soak;
 pub use counts::SoakCounts;
 pub use files::soak_file;
 pub use script::soak_script;
-pub use seed::read_seed;
 pub use words::soak_words;

@@ -2,7 +2,7 @@
 ghost use Rattle.std.specs.Prelude.{◌≡◌, map, string_bytes};
 ghost use Rattle.soak_command.specs.Words.{seed_named};
 
-use crate::seed::read_seed;
+use noise_script::read_plain_number;
 
 /// The seed in the words `soak SEED`, where these are such words.
 pub fn soak_words(words: &[String]) -> Option<u64>
@@ -14,5 +14,5 @@ pub fn soak_words(words: &[String]) -> Option<u64>
     if command.as_str() != "soak" {
         return None;
     }
-    read_seed(seed.as_bytes())
+    read_plain_number(seed.as_bytes())
 }

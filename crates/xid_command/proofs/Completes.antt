@@ -11,7 +11,7 @@ use Rattle.command_base.specs.declared.limits.TheConstants.{HEX_LIMIT}
 use Rattle.command_base.specs.declared.status.Status.{Status}
 use Rattle.command_base.specs.declared.status.Status.TheVariants.{Done, Usage, BadScript, BadRecording, BadHex, BadXid, TooLong, ReadFault}
 use Rattle.command_base.specs.declared.status.Status.TheVariants.{WriteFault}
-use Rattle.command_base.specs.declared.status.Status.TheVariants.{LineLost, NotDetected, LinkLost, ChanceMatch, NoMemory, PeerFault}
+use Rattle.command_base.specs.declared.status.Status.TheVariants.{LineLost, NotDetected, LinkLost, ChanceMatch, NoMemory, PeerFault, AuditNo, BadTap, PairLinkLost, PairNotDetected}
 use Rattle.command_base.specs.declared.stop.Stop.TheVariants.{Own}
 use Rattle.command_base.specs.Stops.{IsOwn}
 use Rattle.command_base.specs.Job.{SaysStop, Answers}
@@ -49,6 +49,10 @@ never-refused digits (LinkLost role segment turn) r why = why
 never-refused digits (ChanceMatch role turn) r why = why
 never-refused digits NoMemory r why = why
 never-refused digits (PeerFault fault turn) r why = why
+never-refused digits (AuditNo line cause) r why = why
+never-refused digits (BadTap role turn) r why = why
+never-refused digits (PairLinkLost link role segment turn) r why = why
+never-refused digits (PairNotDetected link turn) r why = why
 
 -- what digits are refused for is the command's own answer
 refuses-own : (digits : List ℕ) (answer : Status) → Refuses digits answer → IsOwn answer
@@ -67,6 +71,10 @@ refuses-own digits (LinkLost role segment turn) why = tt
 refuses-own digits (ChanceMatch role turn) why = tt
 refuses-own digits NoMemory why = why
 refuses-own digits (PeerFault fault turn) why = tt
+refuses-own digits (AuditNo line cause) why = tt
+refuses-own digits (BadTap role turn) why = tt
+refuses-own digits (PairLinkLost link role segment turn) why = tt
+refuses-own digits (PairNotDetected link turn) why = tt
 
 -- the offer was explained
 pub explained : (words : List (List ℕ)) (old new : FolderState) (digits : List ℕ) (offer : Offer) (s : Status) → Explains digits offer
