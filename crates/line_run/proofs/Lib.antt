@@ -7,3 +7,4 @@ mod Pausing
 mod Timing
 pub mod Slots
 pub mod Streaming
+pub mod Bits

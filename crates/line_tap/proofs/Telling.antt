@@ -50,6 +50,7 @@ use Rattle.line_run.specs.Ends as runs
 use Rattle.line_tap.specs.Tapping.{tapping, phase_behind, next_bits, octets_of, HoldsNext, Hears, Tells}
 use Rattle.line_tap.specs.Ends.{EndsWhole, EndsLine, EndsOnLine, EndsBy}
 use Rattle.line_run.specs.Recorded.{IsRecorded}
+use Rattle.line_run.proofs.Bits.{signals-more, bits-more}
 use Rattle.line_tap.specs.Laws.{AreCoded, told_end, RecordingsTellRuns}
 use Rattle.line_tap.proofs.Plain.{plain_slot, plain, plains, plain-heard, plain-check, plain-given, plain-sent, plain-judged}
 use Rattle.line_tap.proofs.Plain.{plain-received, plain-given_to, plain-text, AllChecked, plain-signal, plain-signals}
@@ -78,12 +79,6 @@ abbrev AllSent : Role → List Turn → Type 0
 AllSent role [] = Unit {0}
 AllSent role (t ∷ ts) = ((slot : Spoken) × ((of role t).sent ≡ Some slot)) × AllSent role ts
 
-signals-more : (c : Channel) (role : Role) (ts : List Turn) (slot : Spoken) (t : Turn) → IsAlone c → (of role t).sent ≡ Some slot
-    → signals c role (t ∷ ts) ≡ signals c role ts ++ signal_of slot.check role c.dlci slot.sent ∷ []
-signals-more c role ts slot t alone e =
-    ap (λ o. and_then (signals c role ts) o ++ signal_in c role (of role t).sent) (alone role (length ts))
-    ∙ ap (λ o. signals c role ts ++ signal_in c role o) e
-
 pub all-fit : TellingLaws → (c : Channel) (role : Role) (ts : List Turn) → IsAlone c → c.dlci < 64 → AllSent role ts → AreCoded c role ts
     → AreFit (4 * c.symbols) 0 (signals c role ts) × (length (signals c role ts) ≡ length ts)
 all-fit laws c role [] alone low s k = (tt, refl)
@@ -107,16 +102,6 @@ length-bits laws c role ts alone long low s k =
     let h = all-fit laws c role ts alone low s k in
     laws.size (4 * c.symbols) (signals c role ts) (omega (arith, long)) h.0 ∙ ap (λ n. 4 * c.symbols * n) h.1
     ∙ mul_assoc 4 c.symbols (length ts)
-
--- one slot more
-pub bits-more : (c : Channel) (role : Role) (ts : List Turn) (slot : Spoken) (t : Turn) → IsAlone c → (of role t).sent ≡ Some slot
-    → bits_of c role (t ∷ ts) ≡ bits_of c role ts ++ next_bits c slot.check role ts slot.sent
-bits-more c role ts slot t alone e =
-    let size : ℕ = 4 * c.symbols in
-    let x : Signal = signal_of slot.check role c.dlci slot.sent in
-    ap (signal_bits size) (signals-more c role ts slot t alone e)
-    ∙ ap (sent_bits size) (map-append (slot_of size) (signals c role ts) (x ∷ []))
-    ∙ bits-append size 0 (slots_of size (signals c role ts)) (slot_of size x)
 
 tap-some : (role : Role) → 1 ≤ tap_of (mode_of role)
 tap-some Originator = omega arith

@@ -1,6 +1,6 @@
 //! Recordings of one direction of a line: a header that says its [`Rate`] and mode, and then its samples. Pure functions of these and of
 //! the octets, both ways: [`header_octets`] gives the first octets and a [`Recorder`] those of what is sent then; [`read_header`]
-//! reads the mode, and [`sample_at`] a sample.
+//! reads the mode, and [`sample_at`] a sample, whose octets [`octets_of`] gives.
 #![tactic(auto)]
 
 mod header;
@@ -11,4 +11,4 @@ mod sample;
 pub use header::{HEADER, header_octets, read_header};
 pub use rate::Rate;
 pub use recorder::{RECORDED, Recorder};
-pub use sample::{SAMPLE, sample_at};
+pub use sample::{SAMPLE, octets_of, sample_at};

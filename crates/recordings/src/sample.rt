@@ -10,7 +10,7 @@ use symbol_map::Sample;
 pub const SAMPLE: usize = 4;
 
 /// The octets of a sample: both coordinates as 16 bits, the low octet first.
-pub(crate) fn octets_of(sample: Sample) -> [u8; 4]
+pub fn octets_of(sample: Sample) -> [u8; 4]
     ensures { result ≡ sample_octets sample }
 {
     let mut octets = [0; 4];

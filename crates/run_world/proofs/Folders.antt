@@ -1,5 +1,5 @@
 -- What the steps of a turn leave of the folder, in a row.
-use Rattle.std.proofs.Common.{◌≡◌, ℕ, List, [], take, IsTrue, refl, sym, ◌∙◌, ap, subst}
+use Rattle.std.proofs.Common.{◌≡◌, ℕ, List, [], ◌++◌, take, IsTrue, refl, sym, ◌∙◌, ap, subst}
 use Rattle.outside_calls.specs.Folder.{FolderState, KeepsName, GoesOn, OnlyWrites, CountsStand, Rose}
 use Rattle.outside_calls.proofs.Steps.{told_later, octets-kept, FaultsStand-trans, CountsStand-trans}
 use Rattle.outside_calls.specs.Outputs.{KeepsEach}
@@ -13,8 +13,9 @@ use Rattle.run_world.specs.Names.{Written, inputs_of, outputs_of, received_of}
 use Rattle.run_world.specs.Link.{AreWithin}
 use Rattle.run_world.specs.declared.step.RunFault.{RunFault}
 use Rattle.run_world.specs.declared.step.RunFault.TheVariants as run_faults
-use Rattle.run_world.specs.World.{StayKnown}
-use Rattle.run_world.specs.Turn.{FaultCounts}
+use Rattle.run_world.specs.World.{StayKnown, KnowsFiles}
+use Rattle.run_world.specs.Turn.{FaultCounts, FaultCountsOver, IsWriting}
+use Rattle.run_world.proofs.Several.{rose-front, rose-behind}
 use Rattle.run_world.specs.Mid.{ReadsBoth, handed}
 
 -- no output is another one, nor an input
@@ -39,6 +40,29 @@ counts-later a b c n (run_faults.LineLost role symbol) s h = CountsStand-trans s
 counts-later a b c n (run_faults.ChanceMatch role turn) s h = CountsStand-trans s h
 counts-later a b c n (run_faults.NotDetected turn) s h = CountsStand-trans s h
 counts-later a b c n (run_faults.LinkLost role segment turn) s h = CountsStand-trans s h
+
+-- the outputs are some of all that is written
+pub counts-front : (a b : FolderState) (inputs outputs others : List (List ℕ)) (fault : RunFault) → FaultCountsOver a b inputs outputs fault
+    → FaultCountsOver a b inputs (outputs ++ others) fault
+counts-front a b inputs outputs others run_faults.ReadFault h = h
+counts-front a b inputs outputs others run_faults.WriteFault h = rose-front a.write_faults b.write_faults outputs others h
+counts-front a b inputs outputs others run_faults.NoMemory h = h
+counts-front a b inputs outputs others (run_faults.LineLost role symbol) h = h
+counts-front a b inputs outputs others (run_faults.ChanceMatch role turn) h = h
+counts-front a b inputs outputs others (run_faults.NotDetected turn) h = h
+counts-front a b inputs outputs others (run_faults.LinkLost role segment turn) h = h
+
+-- and so are those behind them
+pub counts-behind : (a b c : FolderState) (inputs outputs others : List (List ℕ)) (fault : RunFault) → IsWriting fault → CountsStand a b
+    → FaultCountsOver b c [] others fault → FaultCountsOver a c inputs (outputs ++ others) fault
+counts-behind a b c inputs outputs others run_faults.WriteFault w s h =
+    rose-behind a.write_faults c.write_faults outputs others (SomeRose-earlier a.write_faults b.write_faults c.write_faults others s.faults.writes h)
+counts-behind a b c inputs outputs others run_faults.NoMemory w s h = (FaultsStand-trans s.faults h.0, subst (λ x. Rose x c.refusals) s.refusals h.1)
+counts-behind a b c inputs outputs others run_faults.ReadFault w s h = absurd w
+counts-behind a b c inputs outputs others (run_faults.LineLost role symbol) w s h = absurd w
+counts-behind a b c inputs outputs others (run_faults.ChanceMatch role turn) w s h = absurd w
+counts-behind a b c inputs outputs others (run_faults.NotDetected turn) w s h = absurd w
+counts-behind a b c inputs outputs others (run_faults.LinkLost role segment turn) w s h = absurd w
 
 -- ---- which files are known
 
@@ -86,3 +110,12 @@ others-known a b c n files others mid apart p q r = record {
   where
     within : AreWithin others
     within = record { orig = r.orig.within; answ = r.answ.within }
+
+-- files that are known stay so where their names are kept
+pub knows-kept : (a b : FolderState) (n : Written) (files : Both (List ℕ)) → GoesOn a b → KeepsEach a b (inputs_of n) → KnowsFiles a n files
+    → KnowsFiles b n files
+knows-kept a b n files g kept k = record {
+  within = k.within;
+  orig = one-known a b b n.orig files.orig files.orig g g kept.0 kept.0 (λ t e. refl) k.orig;
+  answ = one-known a b b n.answ files.answ files.answ g g kept.1.0 kept.1.0 (λ t e. refl) k.answ;
+}

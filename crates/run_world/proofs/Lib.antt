@@ -1,3 +1,4 @@
+pub mod Several
 pub mod Hearing
 pub mod Serving
 pub mod Speaking
@@ -6,3 +7,4 @@ pub mod Turning
 pub mod Reached
 pub mod Linking
 pub mod Lending
+pub mod Taping

@@ -270,6 +270,7 @@ goes-on laws c old m l links streams f new n files ts ends heard mid from_orig f
     record {
       turn = turn;
       after = after;
+      run = o.run;
       going = t.going;
       mid_is = t.mid_is;
       heard = t.heard_in;

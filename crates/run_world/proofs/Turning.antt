@@ -276,6 +276,7 @@ goes-on-by m l c links streams a b z n files others ts ends mid apart known only
   known = known;
   turn = h.turn;
   after = h.after;
+  run = h.run;
   going = h.going;
   heard = h.heard;
   modems = h.modems;

@@ -8,3 +8,5 @@ pub mod Mid
 pub mod Turns
 pub mod Names
 pub mod Link
+pub mod Tapes
+pub mod Taping

@@ -148,6 +148,7 @@ pub record HasGone (m : Modems) (l : Lines) (c : Channel) (links : ℕ) (streams
     (ends mid : Ends) : Type 0 where
   pub turn : Turn
   pub after : Ends
+  pub run : LineRun c (link_of c.script files) ts ends
   pub going : GoingTurn (link_of c.script files) ts ends turn after
   pub mid_is : going.mid ≡ mid
   pub heard : HeardIn c ts turn

@@ -48,6 +48,7 @@ pub record GoesOnBy (m : Modems) (l : Lines) (c : Channel) (links : ℕ) (stream
   pub known : StayKnown old new n files others
   pub turn : Turn
   pub after : Ends
+  pub run : LineRun c (link_of c.script others) ts ends
   pub going : GoingTurn (link_of c.script others) ts ends turn after
   pub heard : HeardIn c ts turn
   pub modems : ModemsAfter m c others (turn ∷ ts) after
@@ -170,15 +171,24 @@ IsReading run_faults.ReadFault = Unit {0}
 IsReading run_faults.NoMemory = Unit {0}
 IsReading fault = ⊥
 
--- what was counted where a run ends in this turn: a fault of its own names, a refusal of memory by the folder, or nothing
+-- what was counted where a run ends in this turn: a fault of these names, a refusal of memory by the folder, or nothing
+abbrev pub FaultCountsOver : FolderState → FolderState → List (List ℕ) → List (List ℕ) → RunFault → Type 0
+FaultCountsOver old new inputs outputs run_faults.ReadFault = SomeRose old.read_faults new.read_faults inputs
+FaultCountsOver old new inputs outputs run_faults.WriteFault = SomeRose old.write_faults new.write_faults outputs
+FaultCountsOver old new inputs outputs run_faults.NoMemory = FaultsStand old new × Rose old.refusals new.refusals
+FaultCountsOver old new inputs outputs (run_faults.LineLost role symbol) = CountsStand old new
+FaultCountsOver old new inputs outputs (run_faults.ChanceMatch role turn) = CountsStand old new
+FaultCountsOver old new inputs outputs (run_faults.NotDetected turn) = CountsStand old new
+FaultCountsOver old new inputs outputs (run_faults.LinkLost role segment turn) = CountsStand old new
+
+-- of the run's own names
 abbrev pub FaultCounts : FolderState → FolderState → Written → RunFault → Type 0
-FaultCounts old new n run_faults.ReadFault = SomeRose old.read_faults new.read_faults (inputs_of n)
-FaultCounts old new n run_faults.WriteFault = SomeRose old.write_faults new.write_faults (outputs_of n)
-FaultCounts old new n run_faults.NoMemory = FaultsStand old new × Rose old.refusals new.refusals
-FaultCounts old new n (run_faults.LineLost role symbol) = CountsStand old new
-FaultCounts old new n (run_faults.ChanceMatch role turn) = CountsStand old new
-FaultCounts old new n (run_faults.NotDetected turn) = CountsStand old new
-FaultCounts old new n (run_faults.LinkLost role segment turn) = CountsStand old new
+FaultCounts old new n fault = FaultCountsOver old new (inputs_of n) (outputs_of n) fault
+
+-- what turns counted
+abbrev pub CountsOver : {T : Type 0} → FolderState → FolderState → List (List ℕ) → List (List ℕ) → Result T RunFault → Type 0
+CountsOver old new inputs outputs (Ok done) = CountsStand old new
+CountsOver old new inputs outputs (Err fault) = FaultCountsOver old new inputs outputs fault
 
 -- what a turn counted, or a part of it
 abbrev pub TurnCounts : {T : Type 0} → FolderState → FolderState → Written → Result T RunFault → Type 0

@@ -8,7 +8,7 @@ use Rattle.line_texts.specs.LineText.{chance_line}
 use Rattle.link_run.specs.Counts.{lost_slots, sent_again}
 use Rattle.link_run.specs.End.{deliveries}
 use Rattle.link_run.specs.Run.{Link, Ends, Turn}
-use Rattle.link_run.specs.Outcomes.{Outcome, TurnIs}
+use Rattle.link_run.specs.Outcomes.{Outcome, Going, TurnIs}
 use Rattle.link_run.specs.Trace.{trace_text, turn_text}
 use Rattle.line_run.specs.Sampled.{Channel, HeardIn, LineRun, EndsLine}
 use Rattle.line_run.specs.Sampled as lines
@@ -18,6 +18,7 @@ use Rattle.line_run.specs.Scripted.{channel_of, link_of}
 use Rattle.noise_script.specs.Script.{ScriptValue}
 use Rattle.outside_calls.specs.Outputs.{HoldEach, HoldPart, joined}
 use Rattle.run_world.specs.Names.{Written, outputs_of}
+use Rattle.run_world.specs.Tapes.{Tapes, HoldTapes, HoldTapesPartly}
 use Rattle.run_world.specs.World.{KnowsFiles}
 use Rattle.run_world.specs.declared.step.RunFault.{RunFault}
 use Rattle.run_world.specs.declared.step.RunFault.TheVariants as faults
@@ -55,47 +56,64 @@ pub record StopsAfter (c : Channel) (link : Link) (f : FolderState) (n : Written
   pub holds : HoldPart f (outputs_of n) (held_of left) (held_of more)
 
 -- It failed to read a file that is sent: the outputs hold all that both users are given in that turn, and nothing of its lines.
-pub record StopsReading (c : Channel) (link : Link) (f : FolderState) (n : Written) (s : StopsAfter c link f n) : Type 0 where
+pub record StopsReading (c : Channel) (link : Link) (f : FolderState) (n : Written) (tapes : Tapes) (s : StopsAfter c link f n)
+    : Type 0 where
   pub adds : AddsTurn c link s.turns s.ends s.more
   pub holds : HoldEach f (outputs_of n) (joined (held_of s.left) (s.more.got.orig ∷ s.more.got.answ ∷ []))
+  pub taped : HoldTapes f tapes c s.turns
+
+-- It failed as what was sent in that turn was recorded: the outputs hold all that the turn adds.
+pub record StopsTaping (c : Channel) (link : Link) (f : FolderState) (n : Written) (tapes : Tapes) (s : StopsAfter c link f n)
+    : Type 0 where
+  pub adds : AddsTurn c link s.turns s.ends s.more
+  pub goes_on : adds.outcome ≡ Going
+  pub holds : HoldEach f (outputs_of n) (joined (held_of s.left) (held_of s.more))
+  pub taped : HoldTapesPartly f tapes c s.turns adds.turn
+
+-- what recordings hold where the folder fails in a turn: what was sent before it, unless it fails as they are written
+abbrev pub TapesStop : (c : Channel) (link : Link) (f : FolderState) (n : Written) (tapes : Tapes) → StopsAfter c link f n → Type 0
+TapesStop c link f n tapes s = HoldTapes f tapes c s.turns ⊎ StopsTaping c link f n tapes s
 
 -- ---- what turns come to that are made over a folder
 
 -- The run of a script and these files ended so.
-pub record RunEnds (script : ScriptValue) (f : FolderState) (n : Written) (end : RunEnd) : Type 0 where
+pub record RunEnds (script : ScriptValue) (f : FolderState) (n : Written) (tapes : Tapes) (end : RunEnd) : Type 0 where
   pub files : Both (List ℕ)
   pub knows : KnowsFiles f n files
   pub left : Left
   pub run : RunsTo (channel_of script) (link_of script files) end left
   pub holds : HoldEach f (outputs_of n) (held_of left)
+  pub taped : HoldTapes f tapes (channel_of script) run.turns
 
 -- It was done in this turn, with so many slots lost and so many segments sent again in all its turns.
-pub record RunCounts (script : ScriptValue) (f : FolderState) (n : Written) (turn lost again : ℕ) : Type 0 where
-  pub ran : RunEnds script f n (runs.IsDone turn)
+pub record RunCounts (script : ScriptValue) (f : FolderState) (n : Written) (tapes : Tapes) (turn lost again : ℕ) : Type 0 where
+  pub ran : RunEnds script f n tapes (runs.IsDone turn)
   pub lost_is : lost ≡ lost_slots (ran.run.ended.last ∷ ran.run.turns)
   pub again_is : again ≡ sent_again (ran.run.ended.last ∷ ran.run.turns)
 
 -- The folder failed in a turn of it.
-pub record RunStops (script : ScriptValue) (f : FolderState) (n : Written) : Type 0 where
+pub record RunStops (script : ScriptValue) (f : FolderState) (n : Written) (tapes : Tapes) : Type 0 where
   pub files : Both (List ℕ)
   pub knows : KnowsFiles f n files
   pub stops : StopsAfter (channel_of script) (link_of script files) f n
+  pub taped : TapesStop (channel_of script) (link_of script files) f n tapes stops
 
 -- It failed to read a file that is sent.
-abbrev pub RunStopsReading : ScriptValue → FolderState → Written → Type 0
-RunStopsReading script f n = (s : RunStops script f n) × StopsReading (channel_of script) (link_of script s.files) f n s.stops
+abbrev pub RunStopsReading : ScriptValue → FolderState → Written → Tapes → Type 0
+RunStopsReading script f n tapes =
+    (s : RunStops script f n tapes) × StopsReading (channel_of script) (link_of script s.files) f n tapes s.stops
 
 -- how turns end with a fault
-abbrev pub FaultEnds : ScriptValue → FolderState → Written → RunFault → Type 0
-FaultEnds script f n faults.ReadFault = RunStopsReading script f n
-FaultEnds script f n faults.WriteFault = RunStops script f n
-FaultEnds script f n (faults.LineLost role symbol) = RunEnds script f n (runs.LineLost role symbol)
-FaultEnds script f n (faults.ChanceMatch role turn) = RunEnds script f n (runs.ChanceMatch role turn)
-FaultEnds script f n (faults.NotDetected turn) = RunEnds script f n (runs.NotDetected turn)
-FaultEnds script f n (faults.LinkLost role segment turn) = RunEnds script f n (runs.LinkLost role segment turn)
-FaultEnds script f n faults.NoMemory = RunStops script f n
+abbrev pub FaultEnds : ScriptValue → FolderState → Written → Tapes → RunFault → Type 0
+FaultEnds script f n tapes faults.ReadFault = RunStopsReading script f n tapes
+FaultEnds script f n tapes faults.WriteFault = RunStops script f n tapes
+FaultEnds script f n tapes (faults.LineLost role symbol) = RunEnds script f n tapes (runs.LineLost role symbol)
+FaultEnds script f n tapes (faults.ChanceMatch role turn) = RunEnds script f n tapes (runs.ChanceMatch role turn)
+FaultEnds script f n tapes (faults.NotDetected turn) = RunEnds script f n tapes (runs.NotDetected turn)
+FaultEnds script f n tapes (faults.LinkLost role segment turn) = RunEnds script f n tapes (runs.LinkLost role segment turn)
+FaultEnds script f n tapes faults.NoMemory = RunStops script f n tapes
 
 -- how turns end
-abbrev pub TurnsEnd : ScriptValue → FolderState → Written → Result ℕ RunFault → Type 0
-TurnsEnd script f n (Ok turn) = RunEnds script f n (runs.IsDone turn)
-TurnsEnd script f n (Err fault) = FaultEnds script f n fault
+abbrev pub TurnsEnd : ScriptValue → FolderState → Written → Tapes → Result ℕ RunFault → Type 0
+TurnsEnd script f n tapes (Ok turn) = RunEnds script f n tapes (runs.IsDone turn)
+TurnsEnd script f n tapes (Err fault) = FaultEnds script f n tapes fault

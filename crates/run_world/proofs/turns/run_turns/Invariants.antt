@@ -1,15 +1,20 @@
-use Rattle.std.proofs.Common.{◌-◌, ◌^◌}
+use Rattle.std.proofs.Common.{◌≡◌, ◌-◌, ◌^◌}
+use Rattle.line_run.specs.Scripted.{channel_of}
 use Rattle.run_world.specs.Names.{written}
 use Rattle.run_world.specs.World.{IsReady, script_of, turn_of}
+use Rattle.run_world.specs.Taping.{KeepTapes, tape_names}
 use Rattle.run_world.proofs.Reached.{Reached}
 use Rattle.run_world.proofs.turns.run_turns.Given as goal
 
-abbrev pub invariant-loop-turn : goal.invariant-loop-turn
-invariant-loop-turn g l = record {
-  reached : Reached l.world (script_of l.fn.world) (written l.names) (g.F.Folder.state l.fn.folder) (g.F.Folder.state l.folder);
+abbrev pub invariant-loop-tapes : goal.invariant-loop-tapes
+invariant-loop-tapes g l = record {
+  reached : Reached l.world (script_of l.fn.world) (written l.names) (tape_names l.fn.tapes) (g.F.Folder.state l.fn.folder)
+      (g.F.Folder.state l.folder);
+  named : tape_names l.tapes ≡ tape_names l.fn.tapes;
+  taped : KeepTapes l.tapes (g.F.Folder.state l.folder) (channel_of (script_of l.fn.world)) reached.turns;
   ready : IsReady l.world;
   came : g.F.Folder.came l.fn.folder l.folder;
 }
 
-abbrev pub decreases-loop-turn : goal.decreases-loop-turn
-decreases-loop-turn g l = 2 ^ 40 - turn_of l.world
+abbrev pub decreases-loop-tapes : goal.decreases-loop-tapes
+decreases-loop-tapes g l = 2 ^ 40 - turn_of l.world
