@@ -5,7 +5,7 @@ use Rattle.std.proofs.lemmas.List.{take_more}
 use Rattle.std.proofs.lemmas.Grind.{flat_map-append}
 use Rattle.plain_lists.specs.Bits.{low_bits}
 use Rattle.outside_calls.specs.Folder.{FolderState, GoesOn, KeepsName, OnlyWrites, Appended, PartlyAppended}
-use Rattle.outside_calls.specs.Outputs.{Holds, HoldsPart, KeepsEach}
+use Rattle.outside_calls.specs.Outputs.{Holds, KeepsEach}
 use Rattle.outside_calls.proofs.Holding.{Holds-kept, Holds-more, HoldsPart-more}
 use Rattle.roles.specs.declared.role.Role.{Role}
 use Rattle.roles.specs.declared.role.Role.TheVariants.{Originator, Answerer}

@@ -1,4 +1,4 @@
-use Rattle.std.proofs.Common.{◌≡◌, ◌++◌, ◌∷◌, ◌+◌, ◌*◌, ◌∙◌, ℕ, Bool, List, [], length, take, sym, ap, subst, arith, length-append}
+use Rattle.std.proofs.Common.{◌≡◌, ◌++◌, ◌+◌, ◌∙◌, ℕ, Bool, List, length, take, sym, ap, subst, arith, length-append}
 use Rattle.bit_stuffing.specs.BitSlot.{line_bits}
 use Rattle.plain_lists.specs.Bits.{low_bits}
 use Rattle.run_world.specs.Taping.{RecordsBits}

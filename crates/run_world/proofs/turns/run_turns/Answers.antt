@@ -10,7 +10,7 @@ use Rattle.run_world.specs.Tapes.{Tapes, tapes_of, HoldTapes, HoldTapesPartly}
 use Rattle.run_world.specs.Taping.{KeepTapes, tape_names}
 use Rattle.run_world.specs.Turn.{FaultCountsOver}
 use Rattle.run_world.specs.World.{script_of}
-use Rattle.run_world.proofs.Reached.{Reached, reached-start, reached-going, reached-put, reached-taping, reached-done, reached-counts, reached-fault}
+use Rattle.run_world.proofs.Reached.{reached-start, reached-going, reached-put, reached-taping, reached-done, reached-counts, reached-fault}
 use Rattle.run_world.proofs.Reached.{nearer, next-turn, tapes-kept, apart-outputs}
 use Rattle.run_world.proofs.Several.{puts-front, puts-behind, apart-behind}
 use Rattle.run_world.proofs.Folders.{counts-later, counts-front, counts-behind}
