@@ -1,14 +1,23 @@
 -- What a recording of a direction of the line has, where nothing disturbs what is sent.
-use Rattle.std.specs.Prelude.{◌≡◌, ℕ, List}
+use Rattle.std.specs.Prelude.{◌≡◌, ℕ, List, [], ◌∷◌, Option, Some, None}
 use Rattle.std.specs.List.{flat_map}
 use Rattle.scramblers.specs.Mode.{tap_of}
 use Rattle.roles.specs.declared.role.Role.{Role}
 use Rattle.roles.specs.Role.{mode_of}
+use Rattle.roles.specs.Both.{Both}
 use Rattle.symbol_map.specs.declared.sample.Sample.{Sample}
 use Rattle.line_coding.specs.Modulates.{Modulates}
 use Rattle.recordings.specs.Recording.{sample_octets}
 use Rattle.link_run.specs.Run.{Turn}
 use Rattle.line_run.specs.Sampled.{Channel, bits_of}
+
+-- the names of the recordings of both directions, where there are any; the originator's is written first
+abbrev pub Tapes : Type 0
+Tapes = Option (Both (List ℕ))
+
+abbrev pub tapes_of : Tapes → List (List ℕ)
+tapes_of None = []
+tapes_of (Some names) = names.orig ∷ names.answ ∷ []
 
 -- These octets are the samples of all that a role sent in these turns, as it sent them.
 pub record IsRecorded (c : Channel) (role : Role) (ts : List Turn) (body : List ℕ) : Type 0 where

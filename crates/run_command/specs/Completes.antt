@@ -11,7 +11,7 @@ use Rattle.line_ends.specs.Carried.{LineStays, IsCarried}
 use Rattle.command_base.specs.declared.status.Status.{Status}
 use Rattle.command_base.specs.declared.status.Status.TheVariants.{NoMemory}
 use Rattle.command_base.specs.Sound.{IsSound, DoneUnlessMemory}
-use Rattle.run_inputs.specs.Words.{RunNames, inputs_of, outputs_of}
+use Rattle.run_inputs.specs.Words.{RunNames, texts_of, inputs_of, outputs_of}
 use Rattle.run_inputs.specs.Answers.{answer_of}
 use Rattle.outside_calls.specs.Outputs.{HoldEach}
 use Rattle.run_world.specs.Turns.{held_of}
@@ -56,7 +56,7 @@ DoneWhere old new n s Holds =
 -- The answer is that to this end of a run, and the outputs hold what it leaves.
 pub record Answered (new : FolderState) (n : RunNames) (end : RunEnd) (left : Left) (s : Status) : Type 0 where
   pub answer : s ≡ answer_of end
-  pub holds : HoldEach new (outputs_of n) (held_of left)
+  pub holds : HoldEach new (texts_of n) (held_of left)
 
 -- However the run of right inputs ends over a sound folder, that is the answer, but for want of memory.
 abbrev pub AnsweredByItsEnd : FolderState → FolderState → RunNames → Status → Type 0

@@ -19,14 +19,16 @@ use Rattle.command_base.specs.declared.stop.Stop.TheVariants.{Own, Read, Write, 
 use Rattle.command_base.specs.Inputs.{IsWithin}
 use Rattle.command_base.specs.Job.{Job}
 use Rattle.command_base.specs.Lines.{done_line}
-use Rattle.outside_calls.specs.Outputs.{KeepsAll, SaysNothing, CreatesPart}
+use Rattle.outside_calls.specs.Outputs.{KeepsAll, SaysNothing, Creates, CreatesPart}
 use Rattle.run_inputs.specs.declared.limits.Limits.{Limits}
 use Rattle.run_inputs.specs.declared.limits.TheConstants.{LIMITS}
-use Rattle.run_inputs.specs.Words.{RunNames, files_of, inputs_of, outputs_of}
+use Rattle.run_inputs.specs.Words.{RunNames, files_of, texts_of, inputs_of, outputs_of}
 use Rattle.run_inputs.specs.Inputs.{Opens, RefusesOwn, FailsToRead}
 use Rattle.outside_calls.specs.Outputs.{HoldEach, SomeRose}
-use Rattle.run_world.specs.Turns.{StopsAfter, StopsReading, held_of}
+use Rattle.run_world.specs.Tapes.{HoldTapes}
+use Rattle.run_world.specs.Turns.{StopsAfter, StopsReading, TapesStop, held_of}
 use Rattle.run_command.specs.Names.{names_written}
+use Rattle.run_command.specs.Tapes.{HeadsPartly}
 
 -- The inputs were opened, nothing else was done, and no fault was counted: they are within their limits, and this is the script.
 pub record IsBegun (l : Limits) (old now : FolderState) (n : RunNames) (script : ScriptValue) : Type 0 where
@@ -43,14 +45,15 @@ pub record Takes (l : Limits) (f : FolderState) (n : RunNames) (script : ScriptV
   pub orig : IsTrue (f.tells n.orig) → files.orig ≡ octets_at f n.orig
   pub answ : IsTrue (f.tells n.answ) → files.answ ≡ octets_at f n.answ
 
--- The run of the inputs ends so, and the outputs hold what it leaves.
+-- The run of the inputs ends so, the outputs hold what it leaves, and the recordings what both ends sent in it.
 pub record RanTo (l : Limits) (old new : FolderState) (n : RunNames) (end : RunEnd) : Type 0 where
   pub script : ScriptValue
   pub files : Both (List ℕ)
   pub takes : Takes l old n script files
   pub left : Left
   pub run : RunsTo (channel_of script) (link_of script files) end left
-  pub holds : HoldEach new (outputs_of n) (held_of left)
+  pub holds : HoldEach new (texts_of n) (held_of left)
+  pub taped : HoldTapes new n.tapes (channel_of script) run.turns
 
 -- The folder failed in a turn of the run of the inputs, behind few turns.
 pub record StopsInTurn (l : Limits) (old new : FolderState) (n : RunNames) : Type 0 where
@@ -58,18 +61,26 @@ pub record StopsInTurn (l : Limits) (old new : FolderState) (n : RunNames) : Typ
   pub files : Both (List ℕ)
   pub takes : Takes l old n script files
   pub stops : StopsAfter (channel_of script) (link_of script files) new (names_written n)
+  pub taped : TapesStop (channel_of script) (link_of script files) new (names_written n) n.tapes stops
   pub few : HasFewTurns script files stops.turns stops.ends
 
 -- It failed to read a file that is sent.
 abbrev pub StopsInReading : Limits → FolderState → FolderState → RunNames → Type 0
 StopsInReading l old new n =
-    (s : StopsInTurn l old new n) × StopsReading (channel_of s.script) (link_of s.script s.files) new (names_written n) s.stops
+    (s : StopsInTurn l old new n) × StopsReading (channel_of s.script) (link_of s.script s.files) new (names_written n) n.tapes s.stops
 
 -- An output was not created, once the inputs were opened.
 pub record StopsCreating (l : Limits) (old new : FolderState) (n : RunNames) : Type 0 where
   pub script : ScriptValue
   pub opens : Opens l old n.script (files_of n) script
   pub creates : CreatesPart old new (outputs_of n)
+
+-- The outputs were created, and a recording's header was not written.
+pub record StopsHeading (l : Limits) (old new : FolderState) (n : RunNames) : Type 0 where
+  pub script : ScriptValue
+  pub opens : Opens l old n.script (files_of n) script
+  pub creates : Creates new (texts_of n)
+  pub heads : HeadsPartly new n.tapes
 
 -- the answers by which a run itself ends, each by its cause
 abbrev pub RanBy : Limits → FolderState → FolderState → RunNames → Status → Type 0
@@ -85,7 +96,7 @@ EndsBy l old new n (Own answer) = (KeepsAll old new × RefusesOwn l old n.script
 EndsBy l old new n (Read fault) =
     (KeepsAll old new × FailsToRead l old new n.script (files_of n) fault)
     ⊎ ((fault ≡ folder.Failed) × SomeRose old.read_faults new.read_faults (files_of n) × StopsInReading l old new n)
-EndsBy l old new n (Write fault) = StopsCreating l old new n ⊎ StopsInTurn l old new n
+EndsBy l old new n (Write fault) = StopsCreating l old new n ⊎ (StopsHeading l old new n ⊎ StopsInTurn l old new n)
 EndsBy l old new n (Say fault) = ⊥
 EndsBy l old new n NoMemory = KeepsAll old new × IsWithin old n.script l.script
 

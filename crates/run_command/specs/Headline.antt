@@ -5,7 +5,6 @@ use Rattle.outside_calls.specs.Folder.{FolderState, held_at, octets_at, KeepsNam
 use Rattle.roles.specs.declared.role.Role.TheVariants.{Originator, Answerer}
 use Rattle.roles.specs.Both.{Both}
 use Rattle.noise_script.specs.Script.{ScriptValue, IsInLimits, delay_of}
-use Rattle.noise_script.specs.Grammar.{ScriptSpelling}
 use Rattle.link_run.specs.Run.{Link, Turn}
 use Rattle.link_run.specs.Laws.{agreed_srej}
 use Rattle.link_run.specs.Taken.{taken_octets}
@@ -20,7 +19,10 @@ use Rattle.command_base.specs.Job.{Shared}
 use Rattle.command_base.specs.Lines.{done_line}
 use Rattle.outside_calls.specs.Outputs.{Holds}
 use Rattle.run_inputs.specs.Words.{RunNames, inputs_of, outputs_of}
+use Rattle.run_world.specs.Tapes.{HoldTapes}
+use Rattle.run_command.specs.Files.{AreOf}
 use Rattle.run_command.specs.ReadOff.{AreReadOff}
+use Rattle.run_command.specs.Tapes.{TapesBegun}
 
 -- a received file is as it was, or holds the beginning of the other end's file
 abbrev pub KeptOrPrefix : FolderState → FolderState → List ℕ → List ℕ → Type 0
@@ -33,19 +35,14 @@ KeptOrPrefix old new got sent =
 abbrev pub HoldsWhole : FolderState → FolderState → List ℕ → List ℕ → Type 0
 HoldsWhole old new got sent = IsTrue (old.tells sent) → IsTrue (old.tells got) → held_at new got ≡ Some (octets_at old sent)
 
--- The script and the files of a run are those of the folder.
-pub record AreOf (f : FolderState) (n : RunNames) (script : ScriptValue) (files : Both (List ℕ)) : Type 0 where
-  pub script_is : IsTrue (f.tells n.script) → ScriptSpelling (octets_at f n.script) script
-  pub orig_is : IsTrue (f.tells n.orig) → files.orig ≡ octets_at f n.orig
-  pub answ_is : IsTrue (f.tells n.answ) → files.answ ≡ octets_at f n.answ
-
 -- The received files hold what passed in these turns, by the numbers that were meant.
 pub record HoldWhatPassed (f : FolderState) (n : RunNames) (script : ScriptValue) (link : Link) (ts : List Turn) : Type 0 where
   pub got_o : Holds f n.got_o (taken_octets (agreed_srej link) (delay_of script) Originator ts)
   pub got_a : Holds f n.got_a (taken_octets (agreed_srej link) (delay_of script) Answerer ts)
 
 -- The run of the folder's script and files ended so: each outcome was read off the line, the received files hold what passed, the trace holds
--- its text, there were few turns, and its end has its cause: no link was given up but for losses that went on.
+-- its text, where the run is recorded the recordings hold what both ends sent, there were few turns, and its end has its cause: no link was
+-- given up but for losses that went on.
 pub record Ran (old new : FolderState) (n : RunNames) (end : RunEnd) : Type 0 where
   pub script : ScriptValue
   pub limits : IsInLimits script
@@ -58,6 +55,7 @@ pub record Ran (old new : FolderState) (n : RunNames) (end : RunEnd) : Type 0 wh
   pub read_off : AreReadOff (channel_of script) heard
   pub got : HoldWhatPassed new n script (link_of script files) heard
   pub trace : Holds new n.trace left.trace
+  pub taped : HoldTapes new n.tapes (channel_of script) run.turns
   pub few : HasFewTurns script files run.turns run.ends
   pub cause : HasCause (channel_of script) files end left run
 
@@ -70,11 +68,13 @@ RanBy old new n (LineLost role symbol) = Ran old new n (runs.LineLost role symbo
 RanBy old new n (ChanceMatch role turn) = Ran old new n (runs.ChanceMatch role turn)
 RanBy old new n status = Unit {0}
 
--- Whatever the line does, each end receives a prefix of the other's file; done means both whole; every other end has its cause.
+-- Whatever the line does, each end receives a prefix of the other's file; done means both whole; every other end has its cause. Where the run is
+-- recorded, each recording holds the beginning of what its end sends.
 pub record Headline (old new : FolderState) (n : RunNames) (s : Status) : Type 0 where
   pub shared : Shared (inputs_of n) (outputs_of n) old new s
   pub got_o : KeptOrPrefix old new n.got_o n.answ
   pub got_a : KeptOrPrefix old new n.got_a n.orig
   pub whole_o : s ≡ Done → HoldsWhole old new n.got_o n.answ
   pub whole_a : s ≡ Done → HoldsWhole old new n.got_a n.orig
+  pub taped : TapesBegun old new n n.tapes
   pub ran : RanBy old new n s

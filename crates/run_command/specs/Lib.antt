@@ -1,4 +1,6 @@
 pub mod Names
+pub mod Files
+pub mod Tapes
 pub mod Ends
 pub mod ReadOff
 pub mod Headline

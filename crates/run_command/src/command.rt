@@ -17,7 +17,7 @@ ghost use Rattle.run_command.specs.Headline.{Headline};
 ghost use Rattle.run_command.specs.Completes.{Completes};
 
 use crate::laws::{answers_keep_the_headline, right_runs_are_done};
-use crate::outputs::create_all;
+use crate::outputs::make_outputs;
 use command_base::{Status, Stop, apart_names_differ, tell, tell_stop, write_done};
 use line_run::laws::line_runs_end_soon;
 use outside_calls::{Folder, FolderFault};
@@ -83,11 +83,11 @@ fn run_world<F: Folder>(
 {
     apart_names_differ();
     line_runs_end_soon();
-    match create_all(folder, words) {
-        Ok(()) => {}
+    let mut tapes = match make_outputs(folder, words) {
+        Ok(tapes) => tapes,
         Err(fault) => return Err(Stop::Write(fault)),
-    }
-    match run_turns(world, folder, &names_of(words)) {
+    };
+    match run_turns(world, folder, &names_of(words), &mut tapes) {
         Ok(turn) => Ok(turn),
         Err(fault) => Err(stop_of(fault)),
     }

@@ -1,1 +1,2 @@
 mod Looking
+mod Places

@@ -1,10 +1,13 @@
 -- The words of a run, as octets.
-use Rattle.std.specs.Prelude.{ℕ, ◌&&◌, List, [], ◌∷◌, Option, Some, None, if◌then◌else◌, codes}
+use Rattle.std.specs.Prelude.{ℕ, nat_eq, ◌&&◌, List, [], ◌∷◌, length, Option, Some, None, if◌then◌else◌, codes}
 use Rattle.std.specs.Str.{bytes_eq}
+use Rattle.std.specs.Option.{option_map}
+use Rattle.roles.specs.Both.{Both}
+use Rattle.line_run.specs.Recorded.{Tapes, tapes_of}
 use Rattle.command_base.specs.Apart.{are_apart}
 use Rattle.run_inputs.specs.declared.words.RunWords.{RunWords}
 
--- the names of a run
+-- the names of a run; where it is recorded, those of its recordings too
 pub record RunNames : Type 0 where
   pub orig : List ℕ
   pub answ : List ℕ
@@ -12,6 +15,7 @@ pub record RunNames : Type 0 where
   pub got_o : List ℕ
   pub got_a : List ℕ
   pub trace : List ℕ
+  pub tapes : Tapes
 
 -- the files that are sent, the names that are read, and those that are written, in the order of the words
 abbrev pub files_of : RunNames → List (List ℕ)
@@ -20,15 +24,41 @@ files_of n = n.orig ∷ n.answ ∷ []
 abbrev pub inputs_of : RunNames → List (List ℕ)
 inputs_of n = n.orig ∷ n.answ ∷ n.script ∷ []
 
+-- what a run writes, recorded or not, and all that is written
+abbrev pub texts_of : RunNames → List (List ℕ)
+texts_of n = n.got_o ∷ n.got_a ∷ n.trace ∷ []
+
 abbrev pub outputs_of : RunNames → List (List ℕ)
-outputs_of n = n.got_o ∷ n.got_a ∷ n.trace ∷ []
+outputs_of n = n.got_o ∷ n.got_a ∷ n.trace ∷ tapes_of n.tapes
+
+-- these names, where the command is that word and no output is another one or an input
+abbrev pub asked_by : List ℕ → List ℕ → RunNames → Option RunNames
+asked_by command word n = if bytes_eq command word && are_apart (inputs_of n) (outputs_of n) then Some n else None
 
 -- the words `run ORIG ANSW SCRIPT GOT_O GOT_A TRACE`, and no others
+abbrev pub run_named : List (List ℕ) → Option RunNames
+run_named (command ∷ orig ∷ answ ∷ script ∷ got_o ∷ got_a ∷ trace ∷ []) =
+    asked_by command (codes "run")
+    (record { orig = orig; answ = answ; script = script; got_o = got_o; got_a = got_a; trace = trace; tapes = None })
+run_named words = None
+
+-- the words `record ORIG ANSW SCRIPT GOT_O GOT_A TRACE REC_O REC_A`, and no others
+abbrev pub record_named : List (List ℕ) → Option RunNames
+record_named (command ∷ orig ∷ answ ∷ script ∷ got_o ∷ got_a ∷ trace ∷ rec_o ∷ rec_a ∷ []) =
+    asked_by command (codes "record") (record {
+      orig = orig;
+      answ = answ;
+      script = script;
+      got_o = got_o;
+      got_a = got_a;
+      trace = trace;
+      tapes = Some (record { orig = rec_o; answ = rec_a });
+    })
+record_named words = None
+
+-- the words of either, which the number of words tells
 abbrev pub names_of : List (List ℕ) → Option RunNames
-names_of (command ∷ orig ∷ answ ∷ script ∷ got_o ∷ got_a ∷ trace ∷ []) =
-    let n : RunNames = record { orig = orig; answ = answ; script = script; got_o = got_o; got_a = got_a; trace = trace } in
-    if bytes_eq command (codes "run") && are_apart (inputs_of n) (outputs_of n) then Some n else None
-names_of words = None
+names_of words = if nat_eq (length words) 7 then run_named words else record_named words
 
 abbrev pub named : RunWords → RunNames
 named w = record {
@@ -38,4 +68,5 @@ named w = record {
   got_o = w.got_o.now;
   got_a = w.got_a.now;
   trace = w.trace.now;
+  tapes = option_map (λ names. record { orig = names.orig.now; answ = names.answ.now }) w.tapes;
 }

@@ -1,13 +1,14 @@
 // The words of a run.
-ghost use Rattle.std.specs.Prelude.{◌≡◌, true, IfSome, string_bytes, map};
+ghost use Rattle.std.specs.Prelude.{◌≡◌, true, if◌then◌else◌, Some, None, IfSome, string_bytes, map};
 ghost use Rattle.std.specs.Option.{option_map};
 ghost use Rattle.command_base.specs.Apart.{are_apart};
-ghost use Rattle.run_inputs.specs.Words.{names_of, named, inputs_of, outputs_of};
+ghost use Rattle.run_inputs.specs.Words.{names_of, run_named, record_named, named, inputs_of, outputs_of};
 
 use command_base::are_apart;
+use roles::Both;
 
 /// The names of a run.
-#[derive(Clone, Copy)]
+#[derive(Drop)]
 pub struct RunWords<'a> {
     /// The originator's file.
     pub orig: &'a str,
@@ -21,28 +22,95 @@ pub struct RunWords<'a> {
     pub got_a: &'a str,
     /// What becomes of each turn.
     pub trace: &'a str,
+    /// What each end sends, where the run is recorded.
+    pub tapes: Option<Both<&'a str>>,
 }
 
-/// The words of `run`, where these are such words.
-pub fn run_words(words: &[String]) -> Option<RunWords<'_>>
-    ensures names { option_map named result ≡ names_of (map string_bytes words.now) }
+/// These names, where no output is another one or an input.
+fn apart<'a>(names: RunWords<'a>, outputs: &[&str]) -> Option<RunWords<'a>>
+    requires { map (λ name. name.now) outputs.now ≡ outputs_of (named names) }
+    ensures names { option_map named result ≡ (if are_apart (inputs_of (named names.entry)) (outputs_of (named names.entry)) then Some (named names.entry) else None) }
+    ensures apart { IfSome result (λ it. are_apart (inputs_of (named it)) (outputs_of (named it)) ≡ true) }
+{
+    let inputs = [names.orig, names.answ, names.script];
+    if are_apart(&inputs, outputs) {
+        Some(names)
+    } else {
+        None
+    }
+}
+
+/// The words of a run that isn't recorded.
+fn read_run(words: &[String]) -> Option<RunWords<'_>>
+    ensures names { option_map named result ≡ run_named (map string_bytes words.now) }
     ensures apart { IfSome result (λ names. are_apart (inputs_of (named names)) (outputs_of (named names)) ≡ true) }
 {
     let [command, orig, answ, script, got_o, got_a, trace] = words else {
         return None;
     };
-    let words = RunWords {
+    if command.as_str() != "run" {
+        return None;
+    }
+    let names = RunWords {
         orig: orig.as_str(),
         answ: answ.as_str(),
         script: script.as_str(),
         got_o: got_o.as_str(),
         got_a: got_a.as_str(),
         trace: trace.as_str(),
+        tapes: None,
     };
-    let inputs = [words.orig, words.answ, words.script];
-    let outputs = [words.got_o, words.got_a, words.trace];
-    if command.as_str() != "run" || !are_apart(&inputs, &outputs) {
+    let outputs = [names.got_o, names.got_a, names.trace];
+    apart(names, &outputs)
+}
+
+/// The words of a run that is recorded.
+fn read_record(words: &[String]) -> Option<RunWords<'_>>
+    ensures names { option_map named result ≡ record_named (map string_bytes words.now) }
+    ensures apart { IfSome result (λ names. are_apart (inputs_of (named names)) (outputs_of (named names)) ≡ true) }
+{
+    let [
+        command,
+        orig,
+        answ,
+        script,
+        got_o,
+        got_a,
+        trace,
+        rec_o,
+        rec_a,
+    ] = words
+    else {
+        return None;
+    };
+    if command.as_str() != "record" {
         return None;
     }
-    Some(words)
+    let (rec_o, rec_a) = (rec_o.as_str(), rec_a.as_str());
+    let names = RunWords {
+        orig: orig.as_str(),
+        answ: answ.as_str(),
+        script: script.as_str(),
+        got_o: got_o.as_str(),
+        got_a: got_a.as_str(),
+        trace: trace.as_str(),
+        tapes: Some(Both {
+            orig: rec_o,
+            answ: rec_a,
+        }),
+    };
+    let outputs = [names.got_o, names.got_a, names.trace, rec_o, rec_a];
+    apart(names, &outputs)
+}
+
+/// The words of `run` and of `record`, where these are such words.
+pub fn run_words(words: &[String]) -> Option<RunWords<'_>>
+    ensures names { option_map named result ≡ names_of (map string_bytes words.now) }
+    ensures apart { IfSome result (λ names. are_apart (inputs_of (named names)) (outputs_of (named names)) ≡ true) }
+{
+    if words.len() == 7 {
+        read_run(words)
+    } else {
+        read_record(words)
+    }
 }

@@ -38,7 +38,8 @@ use Rattle.outside_calls.specs.Outputs.{AreApartFrom, Holds, HoldsPart, KeepsEac
 use Rattle.outside_calls.proofs.Holding.{Holds-kept, Holds-more, HoldsPart-more}
 use Rattle.outside_calls.specs.Outputs.{OnlyPuts, AddEach, HoldEach}
 use Rattle.outside_calls.proofs.Putting.{OnlyPuts-refl, OnlyPuts-trans, inputs-kept, HoldEach-kept, HoldEach-add, HoldPart-add}
-use Rattle.run_world.specs.Tapes.{Tapes, tapes_of, HoldTapes, HoldTapesPartly}
+use Rattle.line_run.specs.Recorded.{Tapes, tapes_of}
+use Rattle.run_world.specs.Tapes.{HoldTapes, HoldTapesPartly}
 use Rattle.run_world.proofs.Folders.{IsApart, stay-known, knows-kept}
 use Rattle.run_world.proofs.Several.{puts-front, puts-behind, apart-front, inputs-front, inputs-behind, keeps-front, keeps-behind}
 use Rattle.run_world.specs.Turns.{held_of, AddsTurn, RunEnds, RunCounts, RunStops, RunStopsReading}

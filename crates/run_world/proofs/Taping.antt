@@ -27,7 +27,8 @@ use Rattle.line_run.specs.Scripted.{channel_of}
 use Rattle.line_run.specs.Recorded.{IsRecorded}
 use Rattle.line_run.proofs.Bits.{bits-more}
 use Rattle.run_world.specs.World.{HasSent}
-use Rattle.run_world.specs.Tapes.{Tapes, tapes_of, HoldsTape, HoldsTapePart, HoldTapes}
+use Rattle.line_run.specs.Recorded.{Tapes, tapes_of}
+use Rattle.run_world.specs.Tapes.{HoldsTape, HoldsTapePart, HoldTapes}
 use Rattle.run_world.specs.Taping.{RecordsBits, TapeStands, KeepsTape, TakesSlot, KeepTapes, TakeTurn, tape_names}
 use Rattle.run_world.specs.declared.step.RunFault.{RunFault}
 use Rattle.run_world.specs.declared.tape.Tape.{Tape}

@@ -1,4 +1,4 @@
--- The recordings of what both ends of a run send, where there are any, and what they hold.
+-- What the recordings hold of what both ends of a run send, where there are any.
 use Rattle.std.specs.Prelude.{◌⊎◌, ℕ, List, [], ◌∷◌, ◌++◌, Option, Some, None}
 use Rattle.outside_calls.specs.Folder.{FolderState}
 use Rattle.outside_calls.specs.Outputs.{Holds, HoldsPart}
@@ -9,16 +9,7 @@ use Rattle.roles.specs.Both.{Both}
 use Rattle.recordings.specs.Recording.{header_of}
 use Rattle.link_run.specs.Run.{Turn}
 use Rattle.line_run.specs.Sampled.{Channel}
-use Rattle.line_run.specs.Recorded.{IsRecorded}
-
--- their names
-abbrev pub Tapes : Type 0
-Tapes = Option (Both (List ℕ))
-
--- the originator's is written first
-abbrev pub tapes_of : Tapes → List (List ℕ)
-tapes_of None = []
-tapes_of (Some names) = names.orig ∷ names.answ ∷ []
+use Rattle.line_run.specs.Recorded.{Tapes, IsRecorded}
 
 -- A recording holds its header and the samples of all that a role sent in these turns,
 pub record HoldsTape (f : FolderState) (name : List ℕ) (c : Channel) (role : Role) (ts : List Turn) : Type 0 where

@@ -14,7 +14,8 @@ use Rattle.line_coding.specs.declared.modulator.Modulator.{Modulator}
 use Rattle.recordings.specs.Recording.{header_of, sample_octets}
 use Rattle.link_run.specs.Run.{Turn}
 use Rattle.line_run.specs.Sampled.{Channel, bits_of}
-use Rattle.run_world.specs.Tapes.{Tapes, HoldsTapePart, HoldTapesPartly}
+use Rattle.line_run.specs.Recorded.{Tapes}
+use Rattle.run_world.specs.Tapes.{HoldsTapePart, HoldTapesPartly}
 use Rattle.run_world.specs.declared.step.RunFault.{RunFault}
 use Rattle.run_world.specs.declared.tape.Tape.{Tape}
 

@@ -18,7 +18,8 @@ use Rattle.line_run.specs.Scripted.{channel_of, link_of}
 use Rattle.noise_script.specs.Script.{ScriptValue}
 use Rattle.outside_calls.specs.Outputs.{HoldEach, HoldPart, joined}
 use Rattle.run_world.specs.Names.{Written, outputs_of}
-use Rattle.run_world.specs.Tapes.{Tapes, HoldTapes, HoldTapesPartly}
+use Rattle.line_run.specs.Recorded.{Tapes}
+use Rattle.run_world.specs.Tapes.{HoldTapes, HoldTapesPartly}
 use Rattle.run_world.specs.World.{KnowsFiles}
 use Rattle.run_world.specs.declared.step.RunFault.{RunFault}
 use Rattle.run_world.specs.declared.step.RunFault.TheVariants as faults

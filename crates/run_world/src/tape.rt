@@ -11,7 +11,7 @@ ghost use Rattle.link_run.specs.Run.{Ends, Turn};
 ghost use Rattle.line_run.specs.Sampled.{Channel};
 ghost use Rattle.line_run.specs.Scripted.{channel_of};
 ghost use Rattle.run_world.specs.World.{HasSent, WorldAfter, script_of};
-ghost use Rattle.run_world.specs.Tapes.{tapes_of};
+ghost use Rattle.line_run.specs.Recorded.{tapes_of};
 ghost use Rattle.run_world.specs.Taping.{RecordsBits, TapeStands, KeepsTape, TakesSlot, KeepTapes, TakeTurn, tape_names};
 ghost use Rattle.run_world.specs.Turn.{CountsOver, IsWriting};
 

@@ -8,7 +8,7 @@ ghost use Rattle.run_world.specs.World.{IsReady, WorldAfter, script_of, lost_of,
 ghost use Rattle.run_world.specs.Turn.{CountsOver};
 ghost use Rattle.outside_calls.specs.Outputs.{Creates};
 ghost use Rattle.outside_calls.specs.Outputs.{AreApartFrom, OnlyPuts};
-ghost use Rattle.run_world.specs.Tapes.{tapes_of};
+ghost use Rattle.line_run.specs.Recorded.{tapes_of};
 ghost use Rattle.run_world.specs.Taping.{KeepTapes, tape_names};
 ghost use Rattle.run_world.specs.Turns.{TurnsEnd, RunCounts};
 

@@ -6,7 +6,8 @@ use Rattle.outside_calls.specs.Outputs.{AreApart, KeepsEach, OnlyPuts}
 use Rattle.noise_script.specs.Script.{ScriptValue}
 use Rattle.line_run.specs.Scripted.{channel_of}
 use Rattle.run_world.specs.Names.{Written, inputs_of, outputs_of, written}
-use Rattle.run_world.specs.Tapes.{Tapes, tapes_of, HoldTapes, HoldTapesPartly}
+use Rattle.line_run.specs.Recorded.{Tapes, tapes_of}
+use Rattle.run_world.specs.Tapes.{HoldTapes, HoldTapesPartly}
 use Rattle.run_world.specs.Taping.{KeepTapes, tape_names}
 use Rattle.run_world.specs.Turn.{FaultCountsOver}
 use Rattle.run_world.specs.World.{script_of}

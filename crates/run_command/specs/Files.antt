@@ -1,0 +1,13 @@
+-- Of which script and files a run is.
+use Rattle.std.specs.Prelude.{◌≡◌, ℕ, IsTrue, List}
+use Rattle.outside_calls.specs.Folder.{FolderState, octets_at}
+use Rattle.roles.specs.Both.{Both}
+use Rattle.noise_script.specs.Script.{ScriptValue}
+use Rattle.noise_script.specs.Grammar.{ScriptSpelling}
+use Rattle.run_inputs.specs.Words.{RunNames}
+
+-- The script and the files of a run are those of the folder.
+pub record AreOf (f : FolderState) (n : RunNames) (script : ScriptValue) (files : Both (List ℕ)) : Type 0 where
+  pub script_is : IsTrue (f.tells n.script) → ScriptSpelling (octets_at f n.script) script
+  pub orig_is : IsTrue (f.tells n.orig) → files.orig ≡ octets_at f n.orig
+  pub answ_is : IsTrue (f.tells n.answ) → files.answ ≡ octets_at f n.answ
