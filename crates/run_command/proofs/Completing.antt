@@ -26,7 +26,7 @@ use Rattle.outside_calls.specs.Outputs.{OnlyOutputs, KeepsEach}
 use Rattle.outside_calls.specs.Outputs.{HoldEach}
 use Rattle.outside_calls.proofs.Putting.{HoldEach-kept}
 use Rattle.run_inputs.specs.declared.limits.TheConstants.{LIMITS}
-use Rattle.run_inputs.specs.Words.{RunNames, files_of, outputs_of}
+use Rattle.run_inputs.specs.Words.{RunNames, files_of, texts_of}
 use Rattle.run_inputs.specs.Answers.{answer_of}
 use Rattle.run_world.specs.Turns.{held_of}
 use Rattle.run_inputs.specs.Inputs.{RefusesOwn}
@@ -194,8 +194,8 @@ answered laws old before new n s script found end left last r e run is =
     (inputs-run laws.one old before n script found r e) run in
     record {
       answer = is ∙ ap answer_of one.0;
-      holds = subst (λ (l : Left). HoldEach new (outputs_of n) (held_of l)) one.1
-          (HoldEach-kept before new (outputs_of n) (held_of e.left) last.goes_on e.holds (kept (outputs_of n)));
+      holds = subst (λ (l : Left). HoldEach new (texts_of n) (held_of l)) one.1
+          (HoldEach-kept before new (texts_of n) (held_of e.left) last.goes_on e.holds (kept (texts_of n)));
     }
   where
     kept : (names : List (List ℕ)) → KeepsEach before new names

@@ -33,6 +33,7 @@ use Rattle.run_command.specs.Ends as ends
 use Rattle.run_command.specs.Headline.{KeptOrPrefix, HoldsWhole, Ran, RanBy, Headline}
 use Rattle.run_command.proofs.Prefixes.{RunLaws, BothPrefix, may-run, both-of}
 use Rattle.run_command.proofs.ReadingOff.{run-read}
+use Rattle.run_command.proofs.Tapes.{tapes-last, begun-last, tapes-of}
 
 prefix-later : (old before new : FolderState) (got sent : List ℕ) → GoesOn old before → KeepsName before new got
     → KeptOrPrefix old before got sent → KeptOrPrefix old new got sent
@@ -75,6 +76,7 @@ ran-of laws old before new n end last e =
             (subst (Holds before n.got_a) (passed Answerer) e.holds.1.0) (last.names n.got_a tt);
       };
       trace = Holds-kept before new n.trace e.left.trace last.goes_on e.holds.1.1.0 (last.names n.trace tt);
+      taped = tapes-last before new n.tapes c e.run.turns last e.taped;
       few = laws.soon c e.files e.run.turns e.run.ends e.takes.limits e.run.run;
       cause = laws.causes c e.files end e.left e.takes.limits e.run;
     }
@@ -147,6 +149,7 @@ headline-of laws words old new n s a = record {
       (whole-of laws old a.before new n d.done a.only.goes_on kept d.ends.0).0;
   whole_a = λ e. let d = done-of (run_job n) words old new s a e in
       (whole-of laws old a.before new n d.done a.only.goes_on kept d.ends.0).1;
+  taped = begun-last old a.before new n n.tapes last a.only.goes_on (tapes-of old a.before n a.end a.ends.0);
   ran = ran-by laws words old new n s s a last refl;
 }
   where

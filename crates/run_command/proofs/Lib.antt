@@ -2,5 +2,7 @@ pub mod Runs
 pub mod Refusing
 pub mod ReadingOff
 pub mod Prefixes
+pub mod Tapes
 pub mod Headline
 pub mod Completing
+pub mod Heads

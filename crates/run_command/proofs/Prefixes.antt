@@ -29,11 +29,11 @@ use Rattle.command_base.specs.declared.stop.Stop.{Stop}
 use Rattle.command_base.specs.declared.stop.Stop.TheVariants as stops
 use Rattle.outside_calls.specs.Outputs.{Holds, HoldsPart, KeptOrEmpty, KeepsAll, CreatesPart}
 use Rattle.run_inputs.specs.declared.limits.TheConstants.{LIMITS}
-use Rattle.run_inputs.specs.Words.{RunNames, outputs_of}
+use Rattle.run_inputs.specs.Words.{RunNames, texts_of, outputs_of}
 use Rattle.run_world.specs.Turns.{AddsTurn, AddsChance, StopsAfter, held_of}
 use Rattle.outside_calls.specs.Outputs.{HoldPart}
 use Rattle.run_command.specs.Names.{names_written}
-use Rattle.run_command.specs.Ends.{RanTo, StopsInTurn, RanBy, EndsBy, Ends as EndsSo}
+use Rattle.run_command.specs.Ends.{RanTo, StopsInTurn, StopsHeading, RanBy, EndsBy, Ends as EndsSo}
 use Rattle.run_command.specs.Headline.{KeptOrPrefix}
 
 -- the laws of runs that the headline rests on
@@ -115,12 +115,12 @@ part-none f name octets piece holds told = ([], (piece, refl), holds told ∙ ap
 part-all : (f : FolderState) (name octets piece : List ℕ) → Holds f name (octets ++ piece) → HoldsPart f name octets piece
 part-all f name octets piece holds told = (piece, ([], append-nil piece), holds told)
 
-part-o : (f : FolderState) (n : RunNames) (left more : Left) → HoldPart f (outputs_of n) (held_of left) (held_of more)
+part-o : (f : FolderState) (n : RunNames) (left more : Left) → HoldPart f (texts_of n) (held_of left) (held_of more)
     → HoldsPart f n.got_o left.got.orig more.got.orig
 part-o f n left more (inl h) = h.0
 part-o f n left more (inr h) = part-all f n.got_o left.got.orig more.got.orig h.0
 
-part-a : (f : FolderState) (n : RunNames) (left more : Left) → HoldPart f (outputs_of n) (held_of left) (held_of more)
+part-a : (f : FolderState) (n : RunNames) (left more : Left) → HoldPart f (texts_of n) (held_of left) (held_of more)
     → HoldsPart f n.got_a left.got.answ more.got.answ
 part-a f n left more (inl h) = part-none f n.got_a left.got.answ more.got.answ h.1.0
 part-a f n left more (inr (o, inl h)) = h.0
@@ -182,6 +182,12 @@ both-creating old before n g (inr (o, inl (a, rest))) =
 both-creating old before n g (inr (o, inr (a, rest))) =
     record { got_o = empty-of old before n.got_o n.answ g (inr o); got_a = empty-of old before n.got_a n.orig g (inr a) }
 
+both-heading : (old before : FolderState) (n : RunNames) → GoesOn old before → StopsHeading LIMITS old before n → BothPrefix old before n
+both-heading old before n g h = record {
+  got_o = empty-of old before n.got_o n.answ g (inr h.creates.0);
+  got_a = empty-of old before n.got_a n.orig g (inr h.creates.1.0);
+}
+
 both-kept : (old before : FolderState) (n : RunNames) → KeepsAll old before → BothPrefix old before n
 both-kept old before n kept = record { got_o = inl (kept n.got_o); got_a = inl (kept n.got_a) }
 
@@ -201,7 +207,8 @@ both-by laws old before n (stops.Read fault) g (inl refused) = both-kept old bef
 both-by laws old before n (stops.Read fault) g (inr (failed, rose, s)) = both-stopped laws old before n g s.0
 both-by laws old before n stops.NoMemory g e = both-kept old before n e.0
 both-by laws old before n (stops.Write fault) g (inl c) = both-creating old before n g c.creates
-both-by laws old before n (stops.Write fault) g (inr e) = both-stopped laws old before n g e
+both-by laws old before n (stops.Write fault) g (inr (inl h)) = both-heading old before n g h
+both-by laws old before n (stops.Write fault) g (inr (inr e)) = both-stopped laws old before n g e
 both-by laws old before n (stops.Say fault) g never = absurd never
 
 pub both-of : RunLaws → (old before : FolderState) (n : RunNames) (end : Result ℕ Stop) → GoesOn old before → EndsSo LIMITS old before n end

@@ -1,8 +1,8 @@
 -- From the phases of a run to how it ends.
-use Rattle.std.proofs.Common.{◌≡◌, ◌≢◌, inl, inr, ℕ, ◌≤◌, IsTrue, List, [], ◌∷◌, ◌++◌, refl, sym, ◌∙◌, ap, take, arith}
+use Rattle.std.proofs.Common.{◌≡◌, inl, inr, ℕ, ◌≤◌, IsTrue, List, [], ◌∷◌, refl, ◌∙◌, ap, take, arith}
 use Rattle.std.proofs.lemmas.List.{take_all}
 use Rattle.outside_calls.specs.Folder.{FolderState, octets_at, GoesOn, KeepsName, OnlyReads, CountsStand}
-use Rattle.outside_calls.proofs.Steps.{GoesOn-trans, KeepsName-trans, octets-kept, told_later}
+use Rattle.outside_calls.proofs.Steps.{GoesOn-trans, octets-kept, told_later}
 use Rattle.roles.specs.Both.{Both}
 use Rattle.noise_script.specs.Script.{ScriptValue}
 use Rattle.line_run.specs.Ends.{RunEnd}
@@ -13,22 +13,23 @@ use Rattle.run_world.specs.Limits.{file_limit}
 use Rattle.run_world.specs.declared.step.RunFault.{RunFault}
 use Rattle.run_world.specs.declared.step.RunFault.TheVariants as faults
 use Rattle.run_world.specs.World.{KnowsFiles}
-use Rattle.run_world.specs.Turn.{FaultCounts}
+use Rattle.run_world.specs.Turn.{FaultCountsOver}
 use Rattle.command_base.specs.declared.stop.Stop.{Stop}
 use Rattle.command_base.specs.declared.stop.Stop.TheVariants as stops
 use Rattle.command_base.specs.Inputs.{IsWithin}
-use Rattle.outside_calls.specs.Outputs.{IsNoneOf, AreNoneOf, OnlyOutputs, CreatesPart, AreApart}
+use Rattle.outside_calls.specs.Outputs.{AreNoneOf, OnlyOutputs, Creates, CreatesPart, AreApart, KeepsEach}
 use Rattle.outside_calls.specs.Outputs.{AreApartFrom, OnlyPuts}
-use Rattle.outside_calls.proofs.Putting.{KeepsEach-reads, SomeRose-earlier, none-fronts}
+use Rattle.outside_calls.proofs.Putting.{KeepsEach-reads, KeepsEach-trans, SomeRose-earlier, none-fronts, inputs-kept}
 use Rattle.command_base.specs.Stops.{StopCounts}
 use Rattle.command_base.proofs.Creating.{CreatesPart-earlier}
 use Rattle.run_inputs.specs.declared.limits.Limits.{Limits}
 use Rattle.run_inputs.specs.declared.limits.TheConstants.{LIMITS}
-use Rattle.run_inputs.specs.Words.{RunNames, files_of, inputs_of, outputs_of}
+use Rattle.run_inputs.specs.Words.{RunNames, files_of, texts_of, inputs_of, outputs_of}
 use Rattle.run_inputs.specs.Inputs.{Refuses}
 use Rattle.run_world.specs.Turns.{RunEnds, RunStops, RunStopsReading, FaultEnds}
 use Rattle.run_command.specs.Names.{names_written}
-use Rattle.run_command.specs.Ends.{IsBegun, Takes, RanTo, StopsInTurn, StopsInReading, StopsCreating, EndsBy, fault_stop}
+use Rattle.run_command.specs.Ends.{IsBegun, Takes, RanTo, StopsInTurn, StopsInReading, StopsCreating, StopsHeading, EndsBy, fault_stop}
+use Rattle.run_command.specs.Tapes.{HeadsPartly}
 
 -- the inputs were not taken
 pub ends-refused : (l : Limits) (old new : FolderState) (n : RunNames) (stop : Stop) → OnlyReads old new
@@ -48,6 +49,11 @@ ends-creating l old mid new n script b c = record {
   opens = b.opens;
   creates = CreatesPart-earlier old mid new (outputs_of n) b.reads.goes_on (KeepsEach-reads old mid (outputs_of n) b.reads) c;
 }
+
+-- a header was not written
+pub ends-heading : (l : Limits) (old mid new : FolderState) (n : RunNames) (script : ScriptValue) → IsBegun l old mid n script
+    → Creates new (texts_of n) → HeadsPartly new n.tapes → StopsHeading l old new n
+ends-heading l old mid new n script b c h = record { script = script; opens = b.opens; creates = c; heads = h }
 
 -- names that the words keep apart
 pub apart-names : (n : RunNames) → AreApart (outputs_of n) → AreNoneOf (outputs_of n) (inputs_of n)
@@ -77,25 +83,22 @@ takes old mid now next n script files p k =
       opens = p.begun.opens;
       limits = p.begun.limits;
       within = k.within;
-      orig = file-is old next n.orig files.orig LIMITS.file on
-          (kept n.orig p.apart.0.0 p.apart.1.0.0 p.apart.1.1.0.0) p.begun.opens.files.0 (omega arith) k.orig;
-      answ = file-is old next n.answ files.answ LIMITS.file on
-          (kept n.answ p.apart.0.1.0 p.apart.1.0.1.0 p.apart.1.1.0.1.0) p.begun.opens.files.1.0 (omega arith) k.answ;
+      orig = file-is old next n.orig files.orig LIMITS.file on kept.0 p.begun.opens.files.0 (omega arith) k.orig;
+      answ = file-is old next n.answ files.answ LIMITS.file on kept.1.0 p.begun.opens.files.1.0 (omega arith) k.answ;
     }
   where
     on : GoesOn old next
     on = GoesOn-trans p.begun.reads.goes_on (GoesOn-trans p.creates.goes_on p.turns.goes_on)
 
-    kept : (name : List ℕ) → n.got_o ≢ name → n.got_a ≢ name → n.trace ≢ name → KeepsName old next name
-    kept name o a t =
-        let other : IsNoneOf name (outputs_of n) = (λ e. o (sym e), (λ e. a (sym e), (λ e. t (sym e), tt))) in
-        KeepsName-trans old mid next name p.begun.reads.goes_on (p.begun.reads.names name)
-        (KeepsName-trans mid now next name p.creates.goes_on (p.creates.names name other)
-        (p.turns.names name other))
+    kept : KeepsEach old next (files_of n)
+    kept = KeepsEach-trans old mid next (files_of n) p.begun.reads.goes_on (KeepsEach-reads old mid (files_of n) p.begun.reads)
+        (KeepsEach-trans mid now next (files_of n) p.creates.goes_on
+        (inputs-kept mid now (files_of n) (outputs_of n) p.apart p.creates.names)
+        (inputs-kept now next (files_of n) (outputs_of n) p.apart p.turns.names))
 
 -- the run ended by itself
 pub ran-to : (old mid now next : FolderState) (n : RunNames) (script : ScriptValue) (end : RunEnd) → Phases LIMITS old mid now next n script
-    → RunEnds script next (names_written n) end → RanTo LIMITS old next n end
+    → RunEnds script next (names_written n) n.tapes end → RanTo LIMITS old next n end
 ran-to old mid now next n script end p r =
     record {
       script = script;
@@ -104,28 +107,30 @@ ran-to old mid now next n script end p r =
       left = r.left;
       run = r.run;
       holds = r.holds;
+      taped = r.taped;
     }
 
 -- or for the folder
 stops-in : LineRunsEndSoon → (old mid now next : FolderState) (n : RunNames) (script : ScriptValue) → Phases LIMITS old mid now next n script
-    → RunStops script next (names_written n) → StopsInTurn LIMITS old next n
+    → RunStops script next (names_written n) n.tapes → StopsInTurn LIMITS old next n
 stops-in soon old mid now next n script p r =
     record {
       script = script;
       files = r.files;
       takes = takes old mid now next n script r.files p r.knows;
       stops = r.stops;
+      taped = r.taped;
       few = soon (channel_of script) r.files r.stops.turns r.stops.ends p.begun.limits r.stops.run;
     }
 
 stops-in-reading : LineRunsEndSoon → (old mid now next : FolderState) (n : RunNames) (script : ScriptValue) → Phases LIMITS old mid now next n script
-    → RunStopsReading script next (names_written n) → StopsInReading LIMITS old next n
+    → RunStopsReading script next (names_written n) n.tapes → StopsInReading LIMITS old next n
 unfolding stops-in
 stops-in-reading soon old mid now next n script p r = (stops-in soon old mid now next n script p r.0, r.1)
 
 -- a turn's fault ended the run
 pub ends-in-turn : LineRunsEndSoon → (old mid now next : FolderState) (n : RunNames) (script : ScriptValue) (fault : RunFault)
-    → Phases LIMITS old mid now next n script → FaultCounts now next (names_written n) fault → FaultEnds script next (names_written n) fault
+    → Phases LIMITS old mid now next n script → FaultCountsOver now next (files_of n) (outputs_of n) fault → FaultEnds script next (names_written n) n.tapes fault
     → EndsBy LIMITS old next n (fault_stop fault)
 ends-in-turn soon old mid now next n script faults.ReadFault p counts e =
     inr (
@@ -134,8 +139,8 @@ ends-in-turn soon old mid now next n script faults.ReadFault p counts e =
           (λ name. p.stand.faults.reads name ∙ p.begun.stand.faults.reads name) counts,
       stops-in-reading soon old mid now next n script p e,
     )
-ends-in-turn soon old mid now next n script faults.WriteFault p counts e = inr (stops-in soon old mid now next n script p e)
-ends-in-turn soon old mid now next n script faults.NoMemory p counts e = inr (stops-in soon old mid now next n script p e)
+ends-in-turn soon old mid now next n script faults.WriteFault p counts e = inr (inr (stops-in soon old mid now next n script p e))
+ends-in-turn soon old mid now next n script faults.NoMemory p counts e = inr (inr (stops-in soon old mid now next n script p e))
 ends-in-turn soon old mid now next n script (faults.LineLost role symbol) p counts e =
     inr (ran-to old mid now next n script (runs.LineLost role symbol) p e)
 ends-in-turn soon old mid now next n script (faults.ChanceMatch role turn) p counts e =
@@ -146,7 +151,7 @@ ends-in-turn soon old mid now next n script (faults.LinkLost role segment turn) 
     inr (ran-to old mid now next n script (runs.LinkLost role segment turn) p e)
 
 -- what a turn's fault counts
-pub turn-counts : (now next : FolderState) (n : RunNames) (fault : RunFault) → FaultCounts now next (names_written n) fault
+pub turn-counts : (now next : FolderState) (n : RunNames) (fault : RunFault) → FaultCountsOver now next (files_of n) (outputs_of n) fault
     → StopCounts now next (inputs_of n) (outputs_of n) (fault_stop fault)
 turn-counts now next n faults.ReadFault (inl rose) = inl rose
 turn-counts now next n faults.ReadFault (inr (inl rose)) = inr (inl rose)

@@ -53,6 +53,7 @@ fn begin_tape<'a, F: Folder>(
 ) -> Result<Tape<'a>, FolderFault>
     requires { Holds (F.state folder.old) name.now [] }
     ensures ok { IfOk result (λ tape. (tape.name.now ≡ name.now) × ((c : Channel) → KeepsTape tape (F.state folder.new) c role [])) }
+    ensures head { OnOk result (Holds (F.state folder.new) name.now (header_of (mode_of role))) }
     ensures err { OnErr result (HoldsFront (F.state folder.new) name.now (header_of (mode_of role))) }
     ensures only { OnlyWrites (F.state folder.old) (F.state folder.new) name.now }
     ensures stand { OnOk result (CountsStand (F.state folder.old) (F.state folder.new)) }
