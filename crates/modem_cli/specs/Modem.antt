@@ -86,6 +86,7 @@ commands =
     ∷ command (codes "margin") Margin margin_names
     ∷ command (codes "encode4") Encode encode_names
     ∷ command (codes "decode4") Decode decode_names
+    ∷ command (codes "record") Run run_names
     ∷ []
 
 -- what words ask for whose first one is this: nothing, where no command has that word

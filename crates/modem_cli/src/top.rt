@@ -41,7 +41,7 @@ fn read_words(words: &[String]) -> Option<Asked<'_>>
         return None;
     };
     let asked = match first.as_str() {
-        "run" => Asked::Run(run_words(words)?),
+        "run" | "record" => Asked::Run(run_words(words)?),
         "encode" | "encode4" => Asked::Encode(encode_words(words)?),
         "decode" | "decode4" => Asked::Decode(decode_words(words)?),
         "frames" => Asked::Frames(frames_words(words)?),
@@ -61,7 +61,7 @@ fn usage() -> Line
 {
     write_usage(&[
         "run", "encode", "decode", "frames", "xid", "soak", "peer", "pickup", "margin", "encode4",
-        "decode4",
+        "decode4", "record",
     ])
 }
 

@@ -1,5 +1,5 @@
 -- From the turns of a soak to how it ends.
-use Rattle.std.proofs.Common.{◌≡◌, ◌∙◌, ℕ, List, ◌∷◌, length, take, Ok, Err, refl, ap, subst, arith}
+use Rattle.std.proofs.Common.{◌≡◌, ◌∙◌, ℕ, List, ◌∷◌, length, take, None, Ok, Err, refl, ap, subst, arith}
 use Rattle.std.proofs.lemmas.List.{take_all}
 use Rattle.outside_calls.specs.Folder.{octets_at, KeepsName}
 use Rattle.outside_calls.proofs.Steps.{octets-kept}
@@ -62,7 +62,7 @@ files-are seed a b d files m k =
         ap (λ (x : List ℕ). record { orig = x; answ = files.answ }) o in
         first ∙ ap (λ (x : List ℕ). record { orig = soak_file seed Originator; answ = x }) a
 
-ends-so : (seed : ℕ) (a b d : SureState) (end : RunEnd) → Made seed a b d → RunEnds (soak_script seed) (sure_folder d) soak_names end
+ends-so : (seed : ℕ) (a b d : SureState) (end : RunEnd) → Made seed a b d → RunEnds (soak_script seed) (sure_folder d) soak_names None end
     → SoakEnds seed end
 ends-so seed a b d end m r = record {
   limits = m.limits;
@@ -73,7 +73,7 @@ ends-so seed a b d end m r = record {
 
 -- the run is done
 soaked : (seed : ℕ) (a b d : SureState) (turn lost again : ℕ) → Made seed a b d
-    → RunCounts (soak_script seed) (sure_folder d) soak_names turn lost again
+    → RunCounts (soak_script seed) (sure_folder d) soak_names None turn lost again
     → Ends seed (Ok (record { turn = turn; lost = lost; again = again }))
 soaked seed a b d turn lost again m c =
     let r = c.ran in
@@ -85,7 +85,7 @@ soaked seed a b d turn lost again m c =
 
 -- or it ends otherwise
 ended : (seed : ℕ) (a b d : SureState) (fault : RunFault) → Made seed a b d → IsTurnEnd fault
-    → FaultEnds (soak_script seed) (sure_folder d) soak_names fault → Ends seed (Err (fault_stop fault))
+    → FaultEnds (soak_script seed) (sure_folder d) soak_names None fault → Ends seed (Err (fault_stop fault))
 ended seed a b d faults.ReadFault m t e = absurd t
 ended seed a b d faults.WriteFault m t e = absurd t
 ended seed a b d faults.NoMemory m t e = tt
@@ -114,18 +114,18 @@ made seed a b d script n m = record {
 }
 
 pub soaked-over : (seed : ℕ) (a b d : SureState) (script : ScriptValue) (n : Written) (turn lost again : ℕ) → MadeOver seed a b d script n
-    → RunCounts script (sure_folder d) n turn lost again
+    → RunCounts script (sure_folder d) n None turn lost again
     → Ends seed (Ok (record { turn = turn; lost = lost; again = again }))
 soaked-over seed a b d script n turn lost again m c =
     soaked seed a b d turn lost again (made seed a b d script n m)
-    (subst (λ (s : ScriptValue). RunCounts s (sure_folder d) soak_names turn lost again) m.script_is
-    (subst (λ (w : Written). RunCounts script (sure_folder d) w turn lost again) m.names_are c))
+    (subst (λ (s : ScriptValue). RunCounts s (sure_folder d) soak_names None turn lost again) m.script_is
+    (subst (λ (w : Written). RunCounts script (sure_folder d) w None turn lost again) m.names_are c))
 
 pub ended-over : (seed : ℕ) (a b d : SureState) (script : ScriptValue) (n : Written) (fault : RunFault) → MadeOver seed a b d script n
-    → FaultCounts (sure_folder b) (sure_folder d) n fault → FaultEnds script (sure_folder d) n fault
+    → FaultCounts (sure_folder b) (sure_folder d) n fault → FaultEnds script (sure_folder d) n None fault
     → Ends seed (Err (fault_stop fault))
 ended-over seed a b d script n fault m counts e =
     ended seed a b d fault (made seed a b d script n m)
     (turn-end b d fault (subst (λ (w : Written). FaultCounts (sure_folder b) (sure_folder d) w fault) m.names_are counts))
-    (subst (λ (s : ScriptValue). FaultEnds s (sure_folder d) soak_names fault) m.script_is
-    (subst (λ (w : Written). FaultEnds script (sure_folder d) w fault) m.names_are e))
+    (subst (λ (s : ScriptValue). FaultEnds s (sure_folder d) soak_names None fault) m.script_is
+    (subst (λ (w : Written). FaultEnds script (sure_folder d) w None fault) m.names_are e))

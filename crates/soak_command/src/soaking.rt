@@ -52,7 +52,8 @@ fn soak_world(world: &mut World, folder: &mut SureFolder) -> Result<SoakCounts, 
         Ok(()) => {}
         Err(_) => return Err(Stop::NoMemory),
     }
-    match run_turns(world, folder, &soak_names()) {
+    let mut tapes = None;
+    match run_turns(world, folder, &soak_names(), &mut tapes) {
         Ok(turn) => Ok(SoakCounts {
             turn,
             lost: world.lost(),
