@@ -16,6 +16,7 @@ use std::alloc::Global;
 use std::test::Fail;
 
 mod chance;
+mod forged;
 mod frames;
 mod losses;
 mod noise;
