@@ -46,7 +46,32 @@ const WORDS: &[(&[&str], Status, &str)] = &[
     (&["pickup", "r"], Status::Done, "pieces 0\n"),
     (&["margin", "r", "z"], Status::Done, "cost 0 sure 1\n"),
     (
+        &["record", "o", "a", "s", "go", "ga", "t", "ro", "ra"],
+        Status::Done,
+        "done 12\n",
+    ),
+    (
         &["run", "o", "a", "s", "go", "go", "t"],
+        Status::Usage,
+        USAGE,
+    ),
+    (
+        &["record", "o", "a", "s", "go", "ga", "t", "ro", "ro"],
+        Status::Usage,
+        USAGE,
+    ),
+    (
+        &["record", "o", "a", "s", "go", "ga", "t", "o", "ra"],
+        Status::Usage,
+        USAGE,
+    ),
+    (
+        &["record", "o", "a", "s", "go", "ga", "t"],
+        Status::Usage,
+        USAGE,
+    ),
+    (
+        &["run", "o", "a", "s", "go", "ga", "t", "ro", "ra"],
         Status::Usage,
         USAGE,
     ),

@@ -30,6 +30,8 @@ mod opening;
 #[cfg(test)]
 mod picking;
 #[cfg(test)]
+mod recording;
+#[cfg(test)]
 mod running;
 #[cfg(test)]
 mod saying;
