@@ -1,6 +1,6 @@
 -- What a turn of one link leaves of the other's names.
-use Rattle.std.proofs.Common.{◌≡◌, ◌≢◌, inl, inr, ℕ, List, [], ◌∷◌, IsTrue, refl, sym, ◌∙◌, ap, subst, take, Result, Ok, Err}
-use Rattle.outside_calls.specs.Folder.{FolderState, KeepsName, GoesOn, Rose}
+use Rattle.std.proofs.Common.{◌≡◌, ◌≢◌, inl, inr, ℕ, List, IsTrue, sym, ◌∙◌, ap, take}
+use Rattle.outside_calls.specs.Folder.{FolderState, KeepsName, GoesOn}
 use Rattle.outside_calls.proofs.OnlyOutputs.{told_earlier}
 use Rattle.outside_calls.proofs.Steps.{octets-kept}
 use Rattle.outside_calls.specs.Outputs.{AreApartFrom, IsNoneOf, KeepsEach, OnlyPuts, SomeRose}
@@ -14,7 +14,7 @@ use Rattle.run_world.specs.World.{KnowsFiles}
 use Rattle.pair_run.specs.Pair.{Progress}
 use Rattle.link_pair.specs.declared.half.PairFault.{PairFault}
 use Rattle.link_pair.specs.declared.half.PairFault.TheVariants as faults
-use Rattle.link_pair.specs.Counts.{FaultCounts, CountsBy}
+use Rattle.link_pair.specs.Counts.{FaultCounts}
 use Rattle.link_pair.specs.Half.{left_by, HoldLeft}
 use Rattle.link_pair.specs.Pair.{all_inputs, all_outputs}
 

@@ -1,9 +1,9 @@
 -- A link of a pair that goes on, or ends in its turn.
-use Rattle.std.proofs.Common.{◌≡◌, inl, inr, ℕ, suc, ◌-◌, ◌<◌, List, [], ◌∷◌, ◌++◌, length, refl, sym, ◌∙◌, ap, subst, arith}
+use Rattle.std.proofs.Common.{◌≡◌, inl, inr, ℕ, suc, ◌-◌, List, [], ◌∷◌, ◌++◌, length, refl, sym, ap, subst, arith}
 use Rattle.std.proofs.Common.{Option, Some, None, Result, Ok, Err, append-nil}
 use Rattle.std.specs.List.{concat}
 use Rattle.outside_calls.specs.Folder.{FolderState, GoesOn, KeepsName}
-use Rattle.outside_calls.specs.Outputs.{OnlyPuts, AddEach, KeepsEach, Holds, HoldEach}
+use Rattle.outside_calls.specs.Outputs.{OnlyPuts, Holds, HoldEach}
 use Rattle.outside_calls.proofs.Holding.{Holds-kept, Holds-more, HoldsPart-more}
 use Rattle.outside_calls.proofs.Putting.{HoldEach-kept, HoldEach-add, HoldPart-add}
 use Rattle.roles.specs.declared.role.Role.{Role}
@@ -17,12 +17,11 @@ use Rattle.link_account.specs.Account.{check_of}
 use Rattle.link_run.specs.End.{deliveries}
 use Rattle.link_run.specs.Laws.{HearingsDeliver, SpeakingTakesNothing}
 use Rattle.link_run.specs.Outcomes.{Outcome, Going, Done, Broken, TurnIs}
-use Rattle.link_run.specs.Run.{Link, Ends, Turn, Hears, RunOf}
+use Rattle.link_run.specs.Run.{Link, Ends, Turn, Hears}
 use Rattle.link_run.specs.Trace.{trace_text, turn_text}
 use Rattle.line_run.specs.Sampled.{Channel, LineRun, EndsLine}
 use Rattle.line_run.specs.Sampled as lines
-use Rattle.line_run.specs.Ends.{RunEnd, Left, Leaves, RunsTo, EndsInTurn}
-use Rattle.line_run.specs.Ends as runs
+use Rattle.line_run.specs.Ends.{Left, Leaves, RunsTo, EndsInTurn}
 use Rattle.line_run.specs.Scripted.{channel_at, link_of}
 use Rattle.line_run.specs.Stream.{Carried, and_sent}
 use Rattle.shared_line.specs.Lines.{LinesWait, HaveArrived, AreDue}
@@ -37,17 +36,16 @@ use Rattle.run_world.specs.Link.{AreWithin, octets_of}
 use Rattle.run_world.specs.Modems.{AreKept, AreReady, ModemsAfter}
 use Rattle.run_world.specs.Turn.{added, GoesOnBy, LosesLine, MeetsChance, StopsInTurn, StopsAtChance, StopsReading, Stops, TurnAnswers}
 use Rattle.run_world.specs.Turn as turns
-use Rattle.run_world.specs.Turns.{AddsTurn, AddsChance, held_of}
+use Rattle.run_world.specs.Turns.{AddsTurn, held_of}
 use Rattle.run_world.specs.World.{KnowsFiles}
 use Rattle.run_world.proofs.Folders.{IsApart}
 use Rattle.run_world.proofs.Reached.{held-turn, knows-later, none_got}
 use Rattle.pair_run.specs.Beside.{idle_turn, lasting}
-use Rattle.pair_run.specs.Pair.{Progress, Goes, Ended, turns_on_line, last_ends, IsByLink, IdlesFor, GoesFor, HasEnded, Lasts}
+use Rattle.pair_run.specs.Pair.{Progress, Goes, Ended, turns_on_line, last_ends, IsByLink, IdlesFor, GoesFor, Lasts}
 use Rattle.link_pair.specs.declared.half.Half.{Half}
 use Rattle.link_pair.specs.declared.half.LinkEnd.{LinkEnd}
 use Rattle.link_pair.specs.declared.half.LinkEnd.TheVariants as link_ends
 use Rattle.link_pair.specs.declared.half.PairFault.{PairFault}
-use Rattle.link_pair.specs.declared.half.PairFault.TheVariants as faults
 use Rattle.link_pair.specs.Half.{run_end, sorted, MayGoOn, StandsFor, left_by, HoldLeft, HalfAt, HalfIsReady, HasCome}
 use Rattle.link_pair.specs.Half.{IsEndedByLine, LinkStops, LinkStopsReading, IsStopped, HalfEnds}
 

@@ -1,12 +1,11 @@
 -- A link of a pair that has ended.
-use Rattle.std.proofs.Common.{◌≡◌, inl, inr, ℕ, suc, ◌-◌, ◌<◌, ◌*◌, List, [], ◌∷◌, ◌++◌, length, refl, sym, ◌∙◌, ap, subst, arith}
+use Rattle.std.proofs.Common.{◌≡◌, inl, inr, ℕ, suc, ◌-◌, ◌<◌, List, [], ◌∷◌, ◌++◌, length, refl, sym, ◌∙◌, ap, subst, arith}
 use Rattle.std.proofs.Common.{Option, Some, None, append-nil}
 use Rattle.std.specs.Prelude.{is_some, true}
 use Rattle.std.proofs.lemmas.Bool.{false≢true}
 use Rattle.outside_calls.specs.Folder.{FolderState, Appended, PartlyAppended, OnlyWrites}
 use Rattle.outside_calls.specs.Outputs.{Holds, HoldEach, KeepsEach, SomeRose}
 use Rattle.outside_calls.proofs.Holding.{Holds-kept, Holds-more, HoldsPart-more}
-use Rattle.outside_calls.proofs.Putting.{KeepsEach-refl, HoldEach-kept, OnlyPuts-refl}
 use Rattle.frame_check.specs.declared.check.Check.{Check}
 use Rattle.frame_check.specs.declared.check.Check.TheVariants.{Sixteen}
 use Rattle.lapm_frames.specs.declared.sent.Sent.TheVariants as slots
@@ -29,7 +28,7 @@ use Rattle.line_run.specs.Stream.{Carried, and_sent}
 use Rattle.shared_line.specs.Lines.{LinesWait, ArrivesBoth, ArePut}
 use Rattle.shared_line.specs.declared.lines.Lines.{Lines}
 use Rattle.run_world.specs.Names.{Written, inputs_of, outputs_of, received_of}
-use Rattle.run_world.specs.Turns.{AddsChance, held_of}
+use Rattle.run_world.specs.Turns.{held_of}
 use Rattle.run_world.specs.World.{KnowsFiles}
 use Rattle.run_world.proofs.Folders.{IsApart, receives-none, lines-only}
 use Rattle.run_world.proofs.Reached.{knows-later, none_got}
