@@ -83,11 +83,13 @@ fn sorted(answer: Result<Step, RunFault>) -> Result<Option<LinkEnd>, PairFault>
     match answer {
         Ok(Step::Going) => Ok(None),
         Ok(Step::Done { turn }) => Ok(Some(LinkEnd::Done { turn })),
-        Err(RunFault::LinkLost {
-            role,
-            segment,
-            turn,
-        }) => Ok(Some(LinkEnd::LinkLost {
+        Err(
+            RunFault::LinkLost {
+                role,
+                segment,
+                turn,
+            },
+        ) => Ok(Some(LinkEnd::LinkLost {
             role,
             segment,
             turn,
