@@ -34,7 +34,7 @@ use Rattle.run_command.specs.Headline.{KeptOrPrefix, HoldsWhole, Ran, RanBy, Hea
 use Rattle.run_command.proofs.Prefixes.{RunLaws, BothPrefix, may-run, both-of}
 use Rattle.run_command.proofs.ReadingOff.{run-read}
 
-prefix-later : (old before new : FolderState) (got sent : List ℕ) → GoesOn old before → KeepsName before new got
+pub prefix-later : (old before new : FolderState) (got sent : List ℕ) → GoesOn old before → KeepsName before new got
     → KeptOrPrefix old before got sent → KeptOrPrefix old new got sent
 prefix-later old before new got sent g k (inl h) = inl (KeepsName-trans old before new got g h k)
 prefix-later old before new got sent g k (inr h) = inr (λ ts tg. let p = h ts tg in (p.0, k (told_later g got tg) ∙ p.1, p.2))
