@@ -247,7 +247,8 @@ ended-lost : HearingsDeliver
     → EndedNow m l c links streams new n ts (link_ends.LinkLost role segment turn)
 unfolding last-turn
 ended-lost delivers m l c links streams old new n files ts ends role segment turn a run (since, e) =
-    let k = last-turn delivers m l c links streams old new n files ts ends (Broken role (causes.Spent segment since)) turn a run e in record {
+    let k = last-turn delivers m l c links streams old new n files ts ends (Broken role
+    (causes.Spent segment since)) turn a run e in record {
       others = e.others;
       mid = e.mid;
       left = left_of e.mid (trace_text (e.turn ∷ ts));

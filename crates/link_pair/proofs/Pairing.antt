@@ -132,8 +132,10 @@ stream-short script files others First round p q at role = by role
         omega (
           arith,
           long,
-          both-length side P Q (sent-on-line script first_dlci (after_second (turns_in q)) (link_of script files) round round p at.first side)
-              (sent-on-line script second_dlci (after_first (turns_in p)) (link_of script others) round round q at.second side) (long ∙ sym wide),
+          both-length side P Q (sent-on-line script first_dlci (after_second (turns_in q))
+              (link_of script files) round round p at.first side)
+              (sent-on-line script second_dlci (after_first (turns_in p)) (link_of script others) round round q at.second side) (long
+              ∙ sym wide),
         )
 
     by : (side : Role) → length (of side (streams_at First round p q)) ≤ 2 * round + 1
@@ -183,7 +185,8 @@ passed laws x f n m link a = each
           arith,
           short,
           long Originator,
-          passed-few x.lines.from_orig (first_channel x.script (turns_in a.q)) Originator 2 (of Originator (streams_at link x.round a.p a.q))
+          passed-few x.lines.from_orig (first_channel x.script (turns_in a.q)) Originator 2 (of Originator
+              (streams_at link x.round a.p a.q))
               (a.lines Originator),
         )
     each Answerer =
@@ -268,7 +271,8 @@ follows-stays (Goes ts ends) (Ended us mid end left) rounds is count dlci role r
 follows-stays (Ended ts ends end left) next rounds is count dlci role round l =
     ap (λ z. slot_in dlci role (turns_in z) round) (sym is)
 
-pub counted : (c : Channel) (link : Link) (rounds : ℕ) (p : Progress) → Lasts c link rounds p → is_going p ≡ true → length (turns_in p) ≡ rounds
+pub counted : (c : Channel) (link : Link) (rounds : ℕ) (p : Progress) → Lasts c link rounds p → is_going p ≡ true
+    → length (turns_in p) ≡ rounds
 counted c link rounds (Goes ts ends) l e = l.count
 counted c link rounds (Ended ts ends end left) l e = absurd (false≢true e)
 

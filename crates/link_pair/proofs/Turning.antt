@@ -27,10 +27,12 @@ use Rattle.link_pair.specs.declared.half.PairFault.{PairFault}
 use Rattle.link_pair.specs.declared.half.PairFault.TheVariants as faults
 use Rattle.link_pair.specs.declared.pair.Pair.{Pair}
 use Rattle.link_pair.specs.declared.pair.Endings.{Endings}
-use Rattle.link_pair.specs.Half.{run_end, left_by, HoldLeft, Follows, HasCome, IsEndedByLine, LinkStops, LinkStopsReading, IsStopped, HalfEnds}
+use Rattle.link_pair.specs.Half.{run_end, left_by, HoldLeft, Follows, HasCome, IsEndedByLine, LinkStops, LinkStopsReading, IsStopped}
+use Rattle.link_pair.specs.Half.{HalfEnds}
 use Rattle.link_pair.specs.Pair.{both_ended, streams_at, Awaits, PairEnded, HaveEnded, PairStops, FaultEnds}
 use Rattle.link_pair.proofs.Beside.{AllApart, first-beside, second-beside, known-beside, held-beside}
-use Rattle.link_pair.proofs.Pairing.{PairLaws, AreOver, either, counted, waits-over, at-first, at-second, after-first-turn, after-second-turn}
+use Rattle.link_pair.proofs.Pairing.{PairLaws, AreOver, either, counted, waits-over, at-first, at-second, after-first-turn}
+use Rattle.link_pair.proofs.Pairing.{after-second-turn}
 use Rattle.link_pair.proofs.Pairing.{stands-going, stands-over}
 
 -- the pair with one of its links in its next round, and the line then
@@ -199,7 +201,8 @@ goes-to-first laws x h l old new n m a around same none came =
       going = stands-going x.first.ended h.ended x.first.modems h.modems a.files k.others a.p k.next a.first k.stands none;
       first = a.first;
       second = k.stands;
-      lines = subst (λ r. LinesWait l (first_channel x.script (turns_in k.next)) 2 (streams_at First r a.p k.next)) (one-more x.round) waits;
+      lines = subst (λ r. LinesWait l (first_channel x.script (turns_in k.next)) 2 (streams_at First r a.p k.next))
+          (one-more x.round) waits;
       first_known = known-beside old new n m a.files beside around.only a.first_known;
       second_known = k.knows;
       first_holds = held-beside old new n m a.p beside around.only a.first_holds;
@@ -269,7 +272,8 @@ line-first : (x : Pair) (old new : FolderState) (n m : Written) (a : Awaits x ol
     → IsEndedByLine (channel_at x.script x.first.dlci (after_second (turns_in a.q))) new n a.files x.round a.p cause
     → PairEnded x.script new n m (pairs.line_end x.round cause)
 line-first x old new n m a cause around e =
-    let k = subst (λ d. IsEndedByLine (channel_at x.script d (after_second (turns_in a.q))) new n a.files x.round a.p cause) a.first_dlci_is e in
+    let k = subst (λ d. IsEndedByLine (channel_at x.script d (after_second
+    (turns_in a.q))) new n a.files x.round a.p cause) a.first_dlci_is e in
     let beside = second-beside n m around.apart in record {
       files = a.files;
       others = a.others;
@@ -294,7 +298,8 @@ line-second : (x : Pair) (old new : FolderState) (n m : Written) (a : Awaits x o
     → IsEndedByLine (channel_at x.script x.second.dlci (after_first (turns_in a.p))) new m a.others x.round a.q cause
     → PairEnded x.script new n m (pairs.line_end x.round cause)
 line-second x old new n m a cause around e =
-    let k = subst (λ d. IsEndedByLine (channel_at x.script d (after_first (turns_in a.p))) new m a.others x.round a.q cause) a.second_dlci_is e in
+    let k = subst (λ d. IsEndedByLine (channel_at x.script d (after_first
+    (turns_in a.p))) new m a.others x.round a.q cause) a.second_dlci_is e in
     let beside = first-beside n m around.apart in record {
       files = a.files;
       others = a.others;
@@ -363,7 +368,8 @@ fault-first x old new n m a faults.WriteFault around e = stops-first LinkStops x
 fault-first x old new n m a faults.NoMemory around e = stops-first LinkStops x old new n m a around e
 fault-first x old new n m a (faults.LineLost role symbol) around e = line-first x old new n m a (lines.LineLost role symbol) around e
 fault-first x old new n m a (faults.ChanceMatch role turn) around e =
-    subst (λ t. PairEnded x.script new n m (pairs.ChanceMatch role t)) (sym e.0) (line-first x old new n m a (lines.ChanceMatch role) around e.1)
+    subst (λ t. PairEnded x.script new n m (pairs.ChanceMatch role t)) (sym e.0) (line-first x old new n m a
+    (lines.ChanceMatch role) around e.1)
 
 pub fault-second : (x : Pair) (old new : FolderState) (n m : Written) (a : Awaits x old n m Second) (fault : PairFault)
     → Leaves old new n m m
@@ -374,7 +380,8 @@ fault-second x old new n m a faults.WriteFault around e = stops-second LinkStops
 fault-second x old new n m a faults.NoMemory around e = stops-second LinkStops x old new n m a around e
 fault-second x old new n m a (faults.LineLost role symbol) around e = line-second x old new n m a (lines.LineLost role symbol) around e
 fault-second x old new n m a (faults.ChanceMatch role turn) around e =
-    subst (λ t. PairEnded x.script new n m (pairs.ChanceMatch role t)) (sym e.0) (line-second x old new n m a (lines.ChanceMatch role) around e.1)
+    subst (λ t. PairEnded x.script new n m (pairs.ChanceMatch role t)) (sym e.0) (line-second x old new n m a
+    (lines.ChanceMatch role) around e.1)
 
 -- ---- what is answered of both links
 

@@ -11,7 +11,7 @@ use Rattle.line_run.specs.Ends.{Left}
 use Rattle.line_run.specs.Scripted.{link_of}
 use Rattle.line_run.specs.Stream.{Carried}
 use Rattle.shared_line.specs.Lines.{LinesWait, none_sent}
-use Rattle.run_world.specs.Names.{Written, outputs_of}
+use Rattle.run_world.specs.Names.{Written, outputs_of, written}
 use Rattle.run_world.specs.Turns.{held_of}
 use Rattle.run_world.specs.World.{KnowsFiles}
 use Rattle.pair_run.specs.Beside.{first_dlci, second_dlci, first_channel, second_channel}
@@ -23,6 +23,7 @@ use Rattle.link_pair.specs.declared.half.PairFault.{PairFault}
 use Rattle.link_pair.specs.declared.half.PairFault.TheVariants as faults
 use Rattle.link_pair.specs.declared.pair.Pair.{Pair}
 use Rattle.link_pair.specs.declared.pair.Endings.{Endings}
+use Rattle.link_pair.specs.declared.pair.PairNames.{PairNames}
 use Rattle.link_pair.specs.Half.{run_end, StandsFor, StandsFirst, HoldLeft, LinkStops, LinkStopsReading}
 
 -- the files that are sent over both links, and all that is written, in the order of a pair's words
@@ -31,6 +32,12 @@ all_inputs n m = n.orig ∷ n.answ ∷ m.orig ∷ m.answ ∷ []
 
 abbrev pub all_outputs : Written → Written → List (List ℕ)
 all_outputs n m = n.got_o ∷ n.got_a ∷ m.got_o ∷ m.got_a ∷ n.trace ∷ m.trace ∷ []
+
+abbrev pub inputs_in : PairNames → List (List ℕ)
+inputs_in names = all_inputs (written names.first) (written names.second)
+
+abbrev pub outputs_in : PairNames → List (List ℕ)
+outputs_in names = all_outputs (written names.first) (written names.second)
 
 -- the script of a pair, and how many rounds it made
 abbrev pub script_of : Pair → ScriptValue
@@ -69,7 +76,8 @@ streams_at Second round p q = record {
   answ = first_sent Answerer (turns_on_line (firsts_at Second round) p) (turns_on_line round q);
 }
 
--- The turn of this link is next: each link has come so far over the line beside the other, not both have ended, the files are known as far as
+-- The turn of this link is next: each link has come so far over the line beside the other, not both have ended, the files are known as far
+-- as
 -- they were read, and the outputs hold what the turns left.
 pub record Awaits (x : Pair) (f : FolderState) (n m : Written) (link : Which) : Type 0 where
   pub limits : IsInLimits x.script

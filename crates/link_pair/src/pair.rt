@@ -64,7 +64,7 @@ impl Drop for Pair {
 
 impl Pair {
     ghost use Rattle.link_pair.specs.declared.pair.Pair.{Pair};
-    ghost use Rattle.link_pair.specs.Pair.{Awaits, FaultEnds, HaveEnded, IsFirst, all_inputs, all_outputs, ended_of, script_of, round_of};
+    ghost use Rattle.link_pair.specs.Pair.{Awaits, FaultEnds, HaveEnded, IsFirst, inputs_in, outputs_in, ended_of, script_of, round_of};
 
     /// A pair before its first round. It takes all memory of its ends and its lines.
     pub fn new(alloc: Global, script: Script) -> Result<Pair, NoMemory>
@@ -99,16 +99,16 @@ impl Pair {
         names: &PairNames<'_>,
     ) -> Result<Option<Endings>, PairFault>
         requires ready { Awaits self.old (F.state folder.old) (written names.now.first) (written names.now.second) First }
-        requires apart { AreApartFrom (all_inputs (written names.now.first) (written names.now.second)) (all_outputs (written names.now.first) (written names.now.second)) }
+        requires apart { AreApartFrom (inputs_in names.now) (outputs_in names.now) }
         ensures going { result ≡ Ok None → Awaits self.new (F.state folder.new) (written names.now.first) (written names.now.second) Second }
         ensures ended { (endings : Endings) → result ≡ Ok (Some endings)
             → HaveEnded (script_of self.old) (F.state folder.new) (written names.now.first) (written names.now.second) endings }
         ensures fault { IfErr result (FaultEnds (script_of self.old) (F.state folder.new) (written names.now.first) (written names.now.second)) }
         ensures script { script_of self.new ≡ script_of self.old }
         ensures round { round_of self.new ≡ round_of self.old }
-        ensures only { OnlyPuts (F.state folder.old) (F.state folder.new) (all_outputs (written names.now.first) (written names.now.second)) }
+        ensures only { OnlyPuts (F.state folder.old) (F.state folder.new) (outputs_in names.now) }
         ensures came { F.came folder.old folder.new }
-        ensures counts { CountsBy (F.state folder.old) (F.state folder.new) (all_inputs (written names.now.first) (written names.now.second)) (all_outputs (written names.now.first) (written names.now.second)) result }
+        ensures counts { CountsBy (F.state folder.old) (F.state folder.new) (inputs_in names.now) (outputs_in names.now) result }
     {
         scripts_make_links();
         slots_are_due();
@@ -132,16 +132,16 @@ impl Pair {
         names: &PairNames<'_>,
     ) -> Result<Option<Endings>, PairFault>
         requires ready { Awaits self.old (F.state folder.old) (written names.now.first) (written names.now.second) Second }
-        requires apart { AreApartFrom (all_inputs (written names.now.first) (written names.now.second)) (all_outputs (written names.now.first) (written names.now.second)) }
+        requires apart { AreApartFrom (inputs_in names.now) (outputs_in names.now) }
         ensures going { result ≡ Ok None → Awaits self.new (F.state folder.new) (written names.now.first) (written names.now.second) First }
         ensures ended { (endings : Endings) → result ≡ Ok (Some endings)
             → HaveEnded (script_of self.old) (F.state folder.new) (written names.now.first) (written names.now.second) endings }
         ensures fault { IfErr result (FaultEnds (script_of self.old) (F.state folder.new) (written names.now.first) (written names.now.second)) }
         ensures script { script_of self.new ≡ script_of self.old }
         ensures round { result ≡ Ok None → round_of self.new ≡ round_of self.old + 1 }
-        ensures only { OnlyPuts (F.state folder.old) (F.state folder.new) (all_outputs (written names.now.first) (written names.now.second)) }
+        ensures only { OnlyPuts (F.state folder.old) (F.state folder.new) (outputs_in names.now) }
         ensures came { F.came folder.old folder.new }
-        ensures counts { CountsBy (F.state folder.old) (F.state folder.new) (all_inputs (written names.now.first) (written names.now.second)) (all_outputs (written names.now.first) (written names.now.second)) result }
+        ensures counts { CountsBy (F.state folder.old) (F.state folder.new) (inputs_in names.now) (outputs_in names.now) result }
     {
         scripts_make_links();
         slots_are_due();
@@ -169,7 +169,7 @@ impl Pair {
         names: &PairNames<'_>,
     ) -> Result<Option<Endings>, PairFault>
         requires ready { Awaits self.old (F.state folder.old) (written names.now.first) (written names.now.second) First }
-        requires apart { AreApartFrom (all_inputs (written names.now.first) (written names.now.second)) (all_outputs (written names.now.first) (written names.now.second)) }
+        requires apart { AreApartFrom (inputs_in names.now) (outputs_in names.now) }
 
         // The round is that of the pair which the script and the files make, and the outputs hold what its turns leave.
         ensures going { result ≡ Ok None → Awaits self.new (F.state folder.new) (written names.now.first) (written names.now.second) First }
@@ -180,9 +180,9 @@ impl Pair {
         ensures round { result ≡ Ok None → round_of self.new ≡ round_of self.old + 1 }
 
         // It touches the outputs alone, and a fault has its cause.
-        ensures only { OnlyPuts (F.state folder.old) (F.state folder.new) (all_outputs (written names.now.first) (written names.now.second)) }
+        ensures only { OnlyPuts (F.state folder.old) (F.state folder.new) (outputs_in names.now) }
         ensures came { F.came folder.old folder.new }
-        ensures counts { CountsBy (F.state folder.old) (F.state folder.new) (all_inputs (written names.now.first) (written names.now.second)) (all_outputs (written names.now.first) (written names.now.second)) result }
+        ensures counts { CountsBy (F.state folder.old) (F.state folder.new) (inputs_in names.now) (outputs_in names.now) result }
     {
         match self.first_turn(folder, names) {
             Ok(None) => self.second_turn(folder, names),

@@ -1,5 +1,6 @@
 -- Where the inputs are right and the line carries both links to their ends, they are done, but for want of memory.
-use Rattle.std.proofs.Common.{◌≡◌, ◌⊎◌, inl, inr, ℕ, ◌+◌, ◌≤◌, ◌<◌, IsTrue, List, [], ◌∷◌, length, refl, sym, ◌∙◌, ap, subst, arith, Result, Err}
+use Rattle.std.proofs.Common.{◌≡◌, ◌⊎◌, inl, inr, ℕ, ◌+◌, ◌≤◌, ◌<◌, IsTrue, List, [], ◌∷◌, length, refl, sym, ◌∙◌, ap, subst, arith}
+use Rattle.std.proofs.Common.{Result, Err}
 use Rattle.plain_lists.specs.Octets.{AreOctets}
 use Rattle.outside_calls.specs.Folder.{FolderState, octets_at}
 use Rattle.outside_calls.specs.Outputs.{HoldEach, OnlyOutputs, KeepsEach}
@@ -67,7 +68,8 @@ abbrev AllShort : FolderState → List (List ℕ) → Type 0
 AllShort f [] = Unit {0}
 AllShort f (name ∷ names) = (IsTrue (f.tells name) × (length (octets_at f name) ≤ 16777216)) × AllShort f names
 
-never-long : (f : FolderState) (place : ℕ) (names : List (List ℕ)) (word : ℕ) → AllShort f names → IsFirstLong LIMITS.file f place names word
+never-long : (f : FolderState) (place : ℕ) (names : List (List ℕ)) (word : ℕ) → AllShort f names
+    → IsFirstLong LIMITS.file f place names word
     → ⊥
 never-long f place [] word short h = h
 never-long f place (name ∷ names) word short (inl h) = file-fits (length (octets_at f name)) short.0.1 (h.1 short.0.0)
@@ -90,7 +92,8 @@ never-refused law old n script answer r never = never
 
 -- ---- the pair that was made is that of the inputs
 
-pub files-told : (f : FolderState) (n : Written) (files : Both (List ℕ)) → AreFiles f n files → IsTrue (f.tells n.orig) → IsTrue (f.tells n.answ)
+pub files-told : (f : FolderState) (n : Written) (files : Both (List ℕ)) → AreFiles f n files → IsTrue (f.tells n.orig)
+    → IsTrue (f.tells n.answ)
     → files ≡ files_at f n
 files-told f n files are o a = λ k. record { orig = are.orig o k; answ = are.answ a k }
 
@@ -161,7 +164,8 @@ carried-done : DoneLaws → (script : ScriptValue) (files others : Both (List �
     → AllDone script files others
 carried-done laws script files others h c end left leaves (by_links first second e is) =
     subst EndsDone (sym is)
-    (laws.unstarved script files others first second left leaves h e (c.first first second left leaves e) (c.second first second left leaves e))
+    (laws.unstarved script files others first second left leaves h e (c.first first second left leaves e)
+    (c.second first second left leaves e))
 carried-done laws script files others h c end left leaves (by_line link round cause e is) =
     absurd (c.stays end left leaves (by_line link round cause e is) (subst IsByLine (sym is) (line-is round cause)))
 
@@ -196,7 +200,8 @@ undisturbed-quiet laws script u =
 
 -- ---- over a sound folder the answer is that of the one pair that there is
 
-answered : DoneLaws → (old before new : FolderState) (n : Names) (s : Status) (script : ScriptValue) (found end : PairEnd) (left leaves : Left)
+answered : DoneLaws → (old before new : FolderState) (n : Names) (s : Status) (script : ScriptValue) (found end : PairEnd)
+    (left leaves : Left)
     → OnlyOutputs before new [] → AreRight old n script → RanTo LIMITS old before n found
     → PairRunsTo script (files_at old n.first) (files_at old n.second) end left leaves → s ≡ answer_of found
     → Answered new n end left leaves s

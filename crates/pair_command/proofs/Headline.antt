@@ -56,7 +56,8 @@ passed : HeadLaws → (c : Channel) (files : Both (List ℕ)) (rounds : ℕ) (p 
     → (l : Lasts c (link_of c.script files) rounds p) → (role : Role)
     → of role (left_by p).got ≡ taken_octets (agreed_srej (link_of c.script files)) (delay_of c.script) role (heard_in c files rounds p l)
 passed laws c files rounds (Goes ts ends) h l role =
-    given-is ts ends role ∙ sym (laws.took (link_of c.script files) (delay_of c.script) ts ends (runs-over laws c files ts ends h l.run) role)
+    given-is ts ends role ∙ sym (laws.took (link_of c.script files) (delay_of c.script) ts ends
+    (runs-over laws c files ts ends h l.run) role)
 passed laws c files rounds (Ended ts ends end left) h l role =
     laws.runs.passed c (link_of c.script files) end left (may-run laws c files h) l.ran role
 
@@ -71,7 +72,8 @@ cause-in : HeadLaws → (c : Channel) (files : Both (List ℕ)) (rounds : ℕ) (
 cause-in laws c files rounds (Goes ts ends) h l = tt
 cause-in laws c files rounds (Ended ts ends end left) h l = laws.runs.causes c files end left h l.ran
 
-link-ran : HeadLaws → (c : Channel) (files : Both (List ℕ)) (before new : FolderState) (n : Written) (rounds : ℕ) (p : Progress) (left : Left)
+link-ran : HeadLaws → (c : Channel) (files : Both (List ℕ)) (before new : FolderState) (n : Written) (rounds : ℕ) (p : Progress)
+    (left : Left)
     → IsInLimits c.script → OnlyOutputs before new [] → (l : Lasts c (link_of c.script files) rounds p)
     → ((role : Role) → of role left.got ≡ of role (left_by p).got) → HoldEach before (written.outputs_of n) (held_of left)
     → LinkRan c files new n rounds p l left
@@ -125,9 +127,11 @@ ran-of laws old before new n end last e =
       runs = k.runs;
       came = came;
       came_is = refl;
-      first = link-ran laws (first_channel script (turns_in came.q)) k.files before new n.first came.firsts came.p k.left e.takes.limits last
+      first = link-ran laws (first_channel script
+          (turns_in came.q)) k.files before new n.first came.firsts came.p k.left e.takes.limits last
           came.at.first (first-same script k.files k.others end k.left k.leaves k.runs) k.first_holds;
-      second = link-ran laws (second_channel script (turns_in came.p)) k.others before new n.second came.seconds came.q k.leaves e.takes.limits
+      second = link-ran laws (second_channel script
+          (turns_in came.p)) k.others before new n.second came.seconds came.q k.leaves e.takes.limits
           last came.at.second (second-same script k.files k.others end k.left k.leaves k.runs) k.second_holds;
     }
 
@@ -210,7 +214,8 @@ ran-by laws words old new n s (status.LinkLost role segment turn) a last e =
     by-answer laws old a.before new n (status.LinkLost role segment turn) last (λ x. x)
     (own-ends words old new n s (status.LinkLost role segment turn) a refl e)
 ran-by laws words old new n s (status.NotDetected turn) a last e =
-    by-answer laws old a.before new n (status.NotDetected turn) last (λ x. x) (own-ends words old new n s (status.NotDetected turn) a refl e)
+    by-answer laws old a.before new n (status.NotDetected turn) last (λ x. x) (own-ends words old new n s
+    (status.NotDetected turn) a refl e)
 ran-by laws words old new n s t a last e = tt
 
 -- ---- both links are done

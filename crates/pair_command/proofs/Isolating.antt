@@ -99,7 +99,8 @@ pub record OfPair (script : ScriptValue) (files : Both (List ℕ)) (f : FolderSt
   pub runs : ScriptRunsTo script files end left
   pub holds : HoldEach f (written.outputs_of w) (held_of left)
 
-same-run : AloneLaws → (was before then : FolderState) (w : Written) (m : RunNames) (text : List ℕ) (script : ScriptValue) (files : Both (List ℕ))
+same-run : AloneLaws → (was before then : FolderState) (w : Written) (m : RunNames) (text : List ℕ) (script : ScriptValue) (files : Both
+    (List ℕ))
     (new : FolderState) (end : RunEnd)
     → OfPair script files new w → (r : run_ends.RanTo LIMITS was before m end) → ScriptSpelling text script → ScriptSpelling text r.script
     → files ≡ r.files → OnlyOutputs before then []

@@ -1,5 +1,6 @@
 -- However a pair ends, each received file is as it was, or holds the beginning of the file of the other end of its link.
-use Rattle.std.proofs.Common.{◌≡◌, inl, inr, ℕ, suc, List, [], ◌∷◌, ◌++◌, length, Some, Result, Ok, Err, refl, sym, ◌∙◌, ap, subst, append-nil}
+use Rattle.std.proofs.Common.{◌≡◌, inl, inr, ℕ, suc, List, [], ◌∷◌, ◌++◌, length, Some, Result, Ok, Err, refl, sym, ◌∙◌, ap, subst}
+use Rattle.std.proofs.Common.{append-nil}
 use Rattle.std.proofs.lemmas.List.Folds.{concat-append}
 use Rattle.std.specs.List.{concat}
 use Rattle.plain_lists.specs.Prefix.{IsPrefixOf}
@@ -92,7 +93,8 @@ turn-prefix laws c files ts ends more h run a role =
     let link : Link = link_of c.script files in
     let hears = hears-of link ts ends a.turn a.mid a.outcome a.is in
     let whole : HoldPrefixes link a.mid =
-    laws.runs.hears link (delay_of c.script) ts ends a.turn a.mid (runs-over laws c files ts ends h run) (laws.runs.one c ts a.turn a.heard) hears
+    laws.runs.hears link (delay_of c.script) ts ends a.turn a.mid (runs-over laws c files ts ends h run)
+    (laws.runs.one c ts a.turn a.heard) hears
     in
     let all : of role (left_by (Goes ts ends)).got ++ of role more.got ≡ concat (of role a.mid).incoming.taken =
     ap (λ x. x ++ of role more.got) (given-is ts ends role) ∙ ap (λ x. concat (of role ends).incoming.taken ++ x) (a.got_is role)
@@ -106,7 +108,8 @@ none-prefix files left more h role e =
     subst (λ x. IsPrefixOf x (of (other role) files)) (sym (ap (λ x. of role left.got ++ x) e ∙ append-nil (of role left.got))) (h role)
 
 more-prefixes : HeadLaws → (c : Channel) (files : Both (List ℕ)) (f : FolderState) (n : Written) (rounds : ℕ) (p : Progress)
-    → IsInLimits c.script → Lasts c (link_of c.script files) rounds p → (s : LinkStops c (link_of c.script files) f n rounds p) → (role : Role)
+    → IsInLimits c.script → Lasts c (link_of c.script files) rounds p → (s : LinkStops c (link_of c.script files) f n rounds p)
+    → (role : Role)
     → IsPrefixOf (of role (left_by p).got ++ of role s.more.got) (of (other role) files)
 more-prefixes laws c files f n rounds p h l s role = by p l s.adds
   where
@@ -180,7 +183,8 @@ both-ran laws old before n result g e =
 abbrev Stopping : Type 1
 Stopping = Channel → Link → FolderState → Written → ℕ → Progress → Type 0
 
-both-stopped : (S : Stopping) → ((c : Channel) (link : Link) (f : FolderState) (n : Written) (rounds : ℕ) (p : Progress) → S c link f n rounds p
+both-stopped : (S : Stopping) → ((c : Channel) (link : Link) (f : FolderState) (n : Written) (rounds : ℕ) (p : Progress)
+    → S c link f n rounds p
     → LinkStops c link f n rounds p)
     → HeadLaws → (old before : FolderState) (n : Names) → GoesOn old before → StopsInRound S LIMITS old before n → BothPrefix old before n
 both-stopped S to laws old before n g e = by e.stops.link e.stops.at e.stops.stops

@@ -41,7 +41,8 @@ own-refused : (old before : FolderState) (n : Names) (answer : Status) → IsRef
     → KeepsAll old before
 own-refused old before n answer r (inl refused) = refused.0
 own-refused old before n answer r (inr e) =
-    absurd (no-refusal e.end (subst IsRefusal (own-answer answer e.end (Err (stops.Own answer)) (λ k. Err (stops.Own answer)) e.result_is) r))
+    absurd (no-refusal e.end (subst IsRefusal (own-answer answer e.end (Err (stops.Own answer)) (λ k. Err
+    (stops.Own answer)) e.result_is) r))
 
 pub refused-by : (old before : FolderState) (n : Names) (end : Result LastTurns Stop) → Ends LIMITS old before n end
     → IsRefusal (end_status end) → KeepsAll old before

@@ -44,7 +44,8 @@ first_heard script files others a b left leaves e =
 abbrev pub second_heard : (script : ScriptValue) (files others : Both (List ℕ)) (a b : RunEnd) (left leaves : Left)
     → BothEnd script files others a b left leaves → List Turn
 second_heard script files others a b left leaves e =
-    turns_heard (second_channel script e.ts) (link_of script others) e.at.second.ran.turns e.at.second.ran.ends b leaves e.at.second.ran.ended
+    turns_heard (second_channel script e.ts)
+    (link_of script others) e.at.second.ran.turns e.at.second.ran.ends b leaves e.at.second.ran.ended
 
 -- The line doesn't end the pair, and losses don't go on for so long at a link that one of its ends gives up.
 pub record IsCarried (script : ScriptValue) (files others : Both (List ℕ)) : Type 0 where
@@ -99,7 +100,8 @@ AnsweredByItsEnd old new n s =
     IsSound old new (inputs_of n) (outputs_of n) → (script : ScriptValue) → AreRight old n script → (end : PairEnd) (left leaves : Left)
     → PairRunsTo script (files_at old n.first) (files_at old n.second) end left leaves → Answered new n end left leaves s ⊎ (s ≡ NoMemory)
 
--- Both links are done, but for want of memory: where they are carried to their ends; where each loses few slots; and, whatever else the script says
+-- Both links are done, but for want of memory: where they are carried to their ends; where each loses few slots; and, whatever else the
+-- script says
 -- and whatever the files hold, where few are named and noise is faint, so also where the script is quiet, and where nothing disturbs it.
 pub record Completes (old new : FolderState) (n : Names) (s : Status) : Type 0 where
   pub exact : AnsweredByItsEnd old new n s

@@ -96,7 +96,8 @@ pub record Ran (old new : FolderState) (n : Names) (end : PairEnd) : Type 0 wher
 
 -- the pair, where the answer is one by which a pair itself ends; done says the last turns of both links
 abbrev pub RanBy : FolderState → FolderState → Names → Status → Type 0
-RanBy old new n status.Done = (first : ℕ) × (second : ℕ) × Said old new (both_done_line first second) × Ran old new n (BothDone first second)
+RanBy old new n status.Done = (first : ℕ) × (second : ℕ) × Said old new (both_done_line first second) × Ran old new n
+    (BothDone first second)
 RanBy old new n (status.PairLinkLost link role segment turn) =
     (which : Which) × (link ≡ number_of which) × Ran old new n (LinkLost which role segment turn)
 RanBy old new n (status.PairNotDetected link turn) = (which : Which) × (link ≡ number_of which) × Ran old new n (NotDetected which turn)
@@ -106,7 +107,8 @@ RanBy old new n (status.LinkLost role segment turn) = ⊥
 RanBy old new n (status.NotDetected turn) = ⊥
 RanBy old new n s = Unit {0}
 
--- Whatever the line does, each end receives a prefix of the file of the other end of its link; done means all four whole; every other end has its
+-- Whatever the line does, each end receives a prefix of the file of the other end of its link; done means all four whole; every other end
+-- has its
 -- cause.
 pub record Headline (old new : FolderState) (n : Names) (s : Status) : Type 0 where
   pub shared : Shared (inputs_of n) (outputs_of n) old new s

@@ -1,4 +1,5 @@
-//! What every answer of a pair promises, and how a pair and a run of one of its links alone compare. The functions do nothing but name the laws that
+//! What every answer of a pair promises, and how a pair and a run of one of its links alone compare. The functions do nothing but name the
+//! laws that
 //! they rest on: each law is a contract.
 ghost use Rattle.std.specs.Prelude.{List, ℕ};
 ghost use Rattle.outside_calls.specs.Folder.{FolderState};
@@ -19,9 +20,7 @@ use line_run::laws::{
 };
 use link_run::laws::{prefixes, turns_deliver_what_came, what_passed_is_taken};
 use noise_script::laws::{one_answer, spelled_scripts_are_in_limits};
-use pair_run::laws::{
-    one_pair_result, pairs_are_isolated, pairs_complete, pairs_leave_prefixes,
-};
+use pair_run::laws::{one_pair_result, pairs_are_isolated, pairs_complete, pairs_leave_prefixes};
 use survivors::laws::released_labels_begin_a_least_sequence;
 
 /// Whatever a pair answers, its headline holds.
@@ -40,7 +39,8 @@ pub(crate) fn answers_keep_the_headline()
     released_labels_begin_a_least_sequence();
 }
 
-/// Where the inputs are right and the folder is sound, the answer is that to how their pair ends, but for want of memory; where besides both links
+/// Where the inputs are right and the folder is sound, the answer is that to how their pair ends, but for want of memory; where besides
+/// both links
 /// are carried to their ends, or their losses are few, they are done.
 pub(crate) fn right_pairs_are_done()
     ensures { (words : List (List ℕ)) (old new : FolderState) (n : Names) (s : Status) → Answers (pair_job n) words old new s → Completes old new n s }
@@ -55,7 +55,8 @@ pub(crate) fn right_pairs_are_done()
     undisturbed_runs_complete();
 }
 
-/// Where the noise of a script is faint, or no line of it displaces a symbol, a pair leaves of each link what `run` leaves of that link alone, where
+/// Where the noise of a script is faint, or no line of it displaces a symbol, a pair leaves of each link what `run` leaves of that link
+/// alone, where
 /// both end by themselves.
 pub fn links_are_alone()
     ensures faint { FaintLinksAreAlone }

@@ -10,7 +10,8 @@ use Rattle.pair_command.proofs.command.pair_to_end.Goals as goal
 
 pub returns-in-Err-clause-ends : goal.returns-in-Err-clause-ends
 returns-in-Err-clause-ends g c =
-    ends-refused LIMITS (g.F.Folder.state c.args.folder.now) (g.F.Folder.state c.open_inputs.new.folder) (named c.args.words.now) c.in-Err.stop
+    ends-refused LIMITS (g.F.Folder.state c.args.folder.now) (g.F.Folder.state c.open_inputs.new.folder)
+    (named c.args.words.now) c.in-Err.stop
     c.in-Err.ensures.reads c.in-Err.ensures.refused
 
 pub returns-in-Err-clause-counts : goal.returns-in-Err-clause-counts
@@ -43,4 +44,5 @@ returns-clause-counts g c =
     let mid : FolderState = g.F.Folder.state c.open_inputs.new.folder in
     let next : FolderState = g.F.Folder.state c.run_pair.new.folder in
     let n : Names = named c.args.words.now in
-    end-earlier old mid next (inputs_of n) (outputs_of n) c.run_pair.result (c.in-Ok.ensures.counts (outputs_of n)) c.run_pair.ensures.counts
+    end-earlier old mid next (inputs_of n) (outputs_of n) c.run_pair.result (c.in-Ok.ensures.counts
+    (outputs_of n)) c.run_pair.ensures.counts

@@ -30,7 +30,8 @@ returns-in-Ok-None-clause-turn g c = λ beside links streams files round p at.
     c.turn.new.lines script beside links streams (g.F.Folder.state c.args.folder.now) new n files round p c.turn.result _
     (sym c.in-Ok-None.ensures ∙ ap Ok c.in-Ok-None.field-0-is) c.requires.going c.requires.apart c.turn.ensures.only at c.turn.ensures.kept
     c.turn.ensures.turn in
-    came-going (record { modems = c.turn.new.self; dlci = h.dlci; ended = h.ended }) c.turn.new.lines (channel_at script h.dlci beside) links
+    came-going (record { modems = c.turn.new.self; dlci = h.dlci; ended = h.ended }) c.turn.new.lines
+    (channel_at script h.dlci beside) links
     streams new n files round p c.requires.going (c.turn.ensures.channel ∙ at.channel) a
 
 pub returns-in-Ok-Some-clause-turn : goal.returns-in-Ok-Some-clause-turn

@@ -44,7 +44,8 @@ returns-in-Ok-clause-turn g c = λ beside links streams files p h.
     let arrives = c.in-Ok.ensures.arrives channel links (turns_on_line c.args.round p) streams h.waits h.due refl refl
     (count-at half script beside files c.args.round p a) in
     has-idled half c.send_flags.new.lines c.arrive.new.self script beside links streams (g.F.Folder.state c.args.folder.now)
-    (written c.args.names.now) files c.args.round p c.heard_by.result.now c.in-Ok.field-0 a h.channel h.knows h.holds c.heard_by.ensures arrives
+    (written c.args.names.now) files c.args.round p c.heard_by.result.now c.in-Ok.field-0 a h.channel h.knows h.holds c.heard_by.ensures
+    arrives
     (c.send_flags.ensures channel links streams arrives.lines refl)
 
 pub returns-in-Err-Lost-clause-turn : goal.returns-in-Err-Lost-clause-turn
@@ -56,9 +57,11 @@ returns-in-Err-Lost-clause-turn g c = λ beside links streams files p h.
     let a = at-end half script beside files c.args.round p c.requires.ended h.stands h.lasts in
     let e = c.in-Err-Lost.ensures.arrives channel links (turns_on_line c.args.round p) streams h.waits h.due refl refl
     (count-at half script beside files c.args.round p a) in
-    lost-idly half script beside (g.F.Folder.state c.args.folder.now) (written c.args.names.now) files c.args.round p checks c.in-Err-Lost.role
+    lost-idly half script beside (g.F.Folder.state c.args.folder.now)
+    (written c.args.names.now) files c.args.round p checks c.in-Err-Lost.role
     c.in-Err-Lost.symbol a h.knows h.holds c.heard_by.ensures
-    (subst (λ (x : LineEnd). EndsLineBy channel (turns_on_line c.args.round p) (λ side. of side checks) (end_of x)) c.in-Err-Lost.field-0-is e)
+    (subst (λ (x : LineEnd). EndsLineBy channel (turns_on_line c.args.round p) (λ side. of side checks)
+    (end_of x)) c.in-Err-Lost.field-0-is e)
 
 pub returns-in-Ok-write_chance-clause-turn : goal.returns-in-Ok-write_chance-clause-turn
 returns-in-Ok-write_chance-clause-turn g c = λ beside links streams files p h.
@@ -70,7 +73,8 @@ returns-in-Ok-write_chance-clause-turn g c = λ beside links streams files p h.
     let e = c.in-Err-Chance.ensures.arrives channel links (turns_on_line c.args.round p) streams h.waits h.due refl refl
     (count-at half script beside files c.args.round p a) in (
       refl,
-      met-idly half script beside (g.F.Folder.state c.args.folder.now) (g.F.Folder.state c.write_chance.new.folder) (written c.args.names.now)
+      met-idly half script beside (g.F.Folder.state c.args.folder.now) (g.F.Folder.state c.write_chance.new.folder)
+          (written c.args.names.now)
           files c.args.round p checks c.in-Err-Chance.role a c.requires.apart h.knows h.holds c.heard_by.ensures c.write_chance.ensures.only
           c.in-Ok-write_chance.ensures.ok
           (subst (λ (x : LineEnd). EndsLineBy channel (turns_on_line c.args.round p) (λ side. of side checks) (end_of x))
@@ -99,5 +103,6 @@ returns-in-Err-clause-turn g c = λ beside links streams files p h.
 
 pub returns-in-Err-clause-counts : goal.returns-in-Err-clause-counts
 returns-in-Err-clause-counts g c =
-    writes-counts (g.F.Folder.state c.args.folder.now) (g.F.Folder.state c.write_chance.new.folder) (written c.args.names.now) c.in-Err.fault
+    writes-counts (g.F.Folder.state c.args.folder.now) (g.F.Folder.state c.write_chance.new.folder)
+    (written c.args.names.now) c.in-Err.fault
     c.in-Err.ensures.write (c.in-Err.ensures.counts (inputs_of (written c.args.names.now)))

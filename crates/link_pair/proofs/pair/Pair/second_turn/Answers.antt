@@ -43,7 +43,8 @@ returns-in-Ok-clause-going g c = λ none.
     let a = c.requires.ready in
     let new : FolderState = g.F.Folder.state c.turn.new.folder in
     let around : Leaves old new n m m = record { apart = c.requires.apart; only = c.turn.ensures.only } in
-    goes-to-first laws x c.turn.new.self c.turn.new.lines old new n m a around c.turn.ensures.channel (sym c.endings.ensures ∙ none-of _ none)
+    goes-to-first laws x c.turn.new.self c.turn.new.lines old new n m a around c.turn.ensures.channel (sym c.endings.ensures
+    ∙ none-of _ none)
     (c.in-Ok.ensures.turn (after_first (turns_in a.p)) 2 (streams_at Second x.round a.p a.q) a.others a.q (second-at laws x old n m a))
 
 pub returns-in-Ok-clause-ended : goal.returns-in-Ok-clause-ended
