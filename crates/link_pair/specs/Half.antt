@@ -89,8 +89,7 @@ abbrev pub HoldLeft : FolderState → Written → Progress → Type 0
 HoldLeft f n p = HoldEach f (outputs_of n) (held_of (left_by p))
 
 -- As the link's part of a round begins, it has come so far over the channel beside which that goes, its slots are due on the line among
--- these of
--- so many links, its files are known as far as they were read, and its outputs hold what its turns left.
+-- these of so many links, its files are known as far as they were read, and its outputs hold what its turns left.
 pub record HalfAt (h : Half) (l : Lines) (f : FolderState) (n : Written) (script : ScriptValue) (beside : Role → ℕ → Option Signal)
     (links : ℕ) (streams : Both (List Carried)) (files : Both (List ℕ)) (round : ℕ) (p : Progress) : Type 0 where
   pub lasts : Lasts (channel_at script h.dlci beside) (link_of script files) round p

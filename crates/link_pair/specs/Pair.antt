@@ -77,8 +77,7 @@ streams_at Second round p q = record {
 }
 
 -- The turn of this link is next: each link has come so far over the line beside the other, not both have ended, the files are known as far
--- as
--- they were read, and the outputs hold what the turns left.
+-- as they were read, and the outputs hold what the turns left.
 pub record Awaits (x : Pair) (f : FolderState) (n m : Written) (link : Which) : Type 0 where
   pub limits : IsInLimits x.script
   pub first_dlci_is : x.first.dlci ≡ first_dlci

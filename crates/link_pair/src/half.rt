@@ -261,9 +261,8 @@ impl Half {
         requires ready { HalfIsReady self.old lines.old script.now (F.state folder.old) (written names.now) round }
         requires apart { AreApartFrom (inputs_of (written names.now)) (outputs_of (written names.now)) }
 
-        // The link comes farther by one turn, as the script and its files make it over the line, whatever goes beside, and its outputs
-        // hold what
-        // its turns leave; or it ends the pair.
+        // The link comes farther by one turn, as the script and its files make it over the line, whatever goes beside, and its outputs hold
+        // what its turns leave; or it ends the pair.
         ensures turn { (beside : Role → ℕ → Option Signal) (links : ℕ) (streams : Both (List Carried)) (files : Both (List ℕ)) (p : Progress)
             → HalfAt self.old lines.old (F.state folder.old) (written names.now) script.now beside links streams files round p
             → HalfAnswers self.new lines.new (channel_at script.now self.old.dlci beside) links streams (F.state folder.new) (written names.now) files round p result }

@@ -101,8 +101,8 @@ AnsweredByItsEnd old new n s =
     → PairRunsTo script (files_at old n.first) (files_at old n.second) end left leaves → Answered new n end left leaves s ⊎ (s ≡ NoMemory)
 
 -- Both links are done, but for want of memory: where they are carried to their ends; where each loses few slots; and, whatever else the
--- script says
--- and whatever the files hold, where few are named and noise is faint, so also where the script is quiet, and where nothing disturbs it.
+-- script says and whatever the files hold, where few are named and noise is faint, so also where the script is quiet, and where nothing
+-- disturbs it.
 pub record Completes (old new : FolderState) (n : Names) (s : Status) : Type 0 where
   pub exact : AnsweredByItsEnd old new n s
   pub carried : DoneWhere old new n s IsCarried

@@ -1,6 +1,5 @@
 -- How a pair ends, before its line is said: by its answer, which pair it was, and what the outputs then hold. What is said of a name's
--- octets
--- holds where the folder tells that name.
+-- octets holds where the folder tells that name.
 use Rattle.std.specs.Prelude.{◌≡◌, ◌⊎◌, ℕ, IsTrue, List, Result, Ok, Err}
 use Rattle.outside_calls.specs.Folder.{FolderState, OnlyReads, CountsStand, octets_at}
 use Rattle.outside_calls.specs.declared.folder.FolderFault.TheVariants as folder

@@ -108,8 +108,7 @@ RanBy old new n (status.NotDetected turn) = ⊥
 RanBy old new n s = Unit {0}
 
 -- Whatever the line does, each end receives a prefix of the file of the other end of its link; done means all four whole; every other end
--- has its
--- cause.
+-- has its cause.
 pub record Headline (old new : FolderState) (n : Names) (s : Status) : Type 0 where
   pub shared : Shared (inputs_of n) (outputs_of n) old new s
   pub first_got_o : KeptOrPrefix old new n.first.got_o n.first.answ

@@ -49,8 +49,7 @@ AreLeftAlike f g (name ∷ names) =
     (IsTrue (f.tells name) → IsTrue (g.tells name) → held_at f name ≡ held_at g name) × AreLeftAlike f g names
 
 -- A pair, and a run of one of its links alone with the same inputs, each of which ends by itself: `old` and `was` are the folders before,
--- `new` and
--- `then` those behind them.
+-- `new` and `then` those behind them.
 pub record RunsBoth (words others : List (List ℕ)) (old new was then : FolderState) (n : Names) (link : Which) (s r : Status) : Type 0 where
   pub pair : Answers (pair_job n) words old new s
   pub run : Answers (run_job (run_of link n)) others was then r
@@ -60,9 +59,8 @@ pub record RunsBoth (words others : List (List ℕ)) (old new was then : FolderS
   pub told_alone : AreTold was (alone.inputs_of (run_of link n))
   pub same : HoldSame old was (alone.inputs_of (run_of link n))
 
--- Where the noise of the script is faint, the link's received files and its trace are left as its run alone leaves them, whatever the
--- files of
--- the other link hold;
+-- Where the noise of the script is faint, the link's received files and its trace are left as its run alone leaves them, whatever the files
+-- of the other link hold;
 abbrev pub FaintLinksAreAlone : Type 0
 FaintLinksAreAlone = (words others : List (List ℕ)) (old new was then : FolderState) (n : Names) (link : Which) (s r : Status)
     → RunsBoth words others old new was then n link s r

@@ -194,13 +194,11 @@ pub fn pair<F: Folder>(
     requires { are_apart (inputs_of (named names.now)) (outputs_of (named names.now)) ≡ true }
 
     // Each end receives a prefix of the file of the other end of its link, and done means that all four are whole. The pair is that of the
-    // script
-    // and the files.
+    // script and the files.
     ensures headline { Headline (F.state folder.old) (F.state folder.new) (named names.now) result }
 
-    // Where the inputs are right and the folder is sound, and but for want of memory, the answer is that to how their pair ends. It is
-    // done if
-    // the line carries both links to their ends, or loses few slots of each, or the script names few and its noise is faint.
+    // Where the inputs are right and the folder is sound, and but for want of memory, the answer is that to how their pair ends. It is done
+    // if the line carries both links to their ends, or loses few slots of each, or the script names few and its noise is faint.
     ensures completes { Completes (F.state folder.old) (F.state folder.new) (named names.now) result }
 
     // Each answer comes where it has to, with its line.

@@ -1,6 +1,5 @@
 //! What every answer of a pair promises, and how a pair and a run of one of its links alone compare. The functions do nothing but name the
-//! laws that
-//! they rest on: each law is a contract.
+//! laws that they rest on: each law is a contract.
 ghost use Rattle.std.specs.Prelude.{List, ℕ};
 ghost use Rattle.outside_calls.specs.Folder.{FolderState};
 ghost use Rattle.command_base.specs.declared.status.Status.{Status};
@@ -40,8 +39,7 @@ pub(crate) fn answers_keep_the_headline()
 }
 
 /// Where the inputs are right and the folder is sound, the answer is that to how their pair ends, but for want of memory; where besides
-/// both links
-/// are carried to their ends, or their losses are few, they are done.
+/// both links are carried to their ends, or their losses are few, they are done.
 pub(crate) fn right_pairs_are_done()
     ensures { (words : List (List ℕ)) (old new : FolderState) (n : Names) (s : Status) → Answers (pair_job n) words old new s → Completes old new n s }
 {
@@ -56,8 +54,7 @@ pub(crate) fn right_pairs_are_done()
 }
 
 /// Where the noise of a script is faint, or no line of it displaces a symbol, a pair leaves of each link what `run` leaves of that link
-/// alone, where
-/// both end by themselves.
+/// alone, where both end by themselves.
 pub fn links_are_alone()
     ensures faint { FaintLinksAreAlone }
     ensures undisplaced { UndisplacedLinksAreAlone }
