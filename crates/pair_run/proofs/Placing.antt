@@ -31,14 +31,14 @@ lasting-sent role (suc n) ts h = (idle role, lasting-sent role n ts h)
     idle Originator = refl
     idle Answerer = refl
 
-sent-on-line : (script : ScriptValue) (dlci : ℕ) (beside : Beside) (link : Link) (count rounds : ℕ) (p : Progress)
+pub sent-on-line : (script : ScriptValue) (dlci : ℕ) (beside : Beside) (link : Link) (count rounds : ℕ) (p : Progress)
     → Lasts (channel_at script dlci beside) link count p → (role : Role) → AreSent role (turns_on_line rounds p)
 sent-on-line script dlci beside link count rounds (Goes ts ends) h role = run-sent link role ts ends h.run.run
 sent-on-line script dlci beside link count rounds (Ended ts ends end left) h role =
     let r = has-run (channel_at script dlci beside) link count (Ended ts ends end left) h in
     lasting-sent role (rounds - length ts) ts (run-sent link role ts r.before r.run.run)
 
-length-on-line : (script : ScriptValue) (dlci : ℕ) (beside : Beside) (link : Link) (rounds : ℕ) (p : Progress)
+pub length-on-line : (script : ScriptValue) (dlci : ℕ) (beside : Beside) (link : Link) (rounds : ℕ) (p : Progress)
     → Lasts (channel_at script dlci beside) link rounds p → length (turns_on_line rounds p) ≡ rounds
 length-on-line script dlci beside link rounds (Goes ts ends) h = h.count
 length-on-line script dlci beside link rounds (Ended ts ends end left) h =

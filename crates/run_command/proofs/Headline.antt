@@ -35,7 +35,7 @@ use Rattle.run_command.proofs.Prefixes.{RunLaws, BothPrefix, may-run, both-of}
 use Rattle.run_command.proofs.ReadingOff.{run-read}
 use Rattle.run_command.proofs.Tapes.{tapes-last, begun-last, tapes-of}
 
-prefix-later : (old before new : FolderState) (got sent : List ℕ) → GoesOn old before → KeepsName before new got
+pub prefix-later : (old before new : FolderState) (got sent : List ℕ) → GoesOn old before → KeepsName before new got
     → KeptOrPrefix old before got sent → KeptOrPrefix old new got sent
 prefix-later old before new got sent g k (inl h) = inl (KeepsName-trans old before new got g h k)
 prefix-later old before new got sent g k (inr h) = inr (λ ts tg. let p = h ts tg in (p.0, k (told_later g got tg) ∙ p.1, p.2))
@@ -82,7 +82,7 @@ ran-of laws old before new n end last e =
     }
 
 -- answers by which a run itself ends
-abbrev is_run_end : Status → Bool
+abbrev pub is_run_end : Status → Bool
 is_run_end (LineLost role symbol) = true
 is_run_end (NotDetected turn) = true
 is_run_end (LinkLost role segment turn) = true
@@ -105,13 +105,13 @@ own-end (Err (stops.Say fault)) s e f = absurd (no-fault WriteFault fault refl (
 own-end (Err stops.NoMemory) s e f = absurd (false≢true (ap is_run_end f ∙ e))
 
 -- the answer is that of the run's end
-own-ends : (words : List (List ℕ)) (old new : FolderState) (n : RunNames) (s t : Status) (a : Answers (run_job n) words old new s)
+pub own-ends : (words : List (List ℕ)) (old new : FolderState) (n : RunNames) (s t : Status) (a : Answers (run_job n) words old new s)
     → is_run_end t ≡ true → s ≡ t → EndsBy LIMITS old a.before n (stops.Own t)
 own-ends words old new n s t a e f =
     let is = own-end a.end t e (last-plain done_line words a.before new a.end s t a.says f (plain-end t e)) in
     subst (ends.Ends LIMITS old a.before n) is a.ends.0
 
-not-refused : {P : Type 0} → (old before : FolderState) (n : RunNames) (answer : Status)
+pub not-refused : {P : Type 0} → (old before : FolderState) (n : RunNames) (answer : Status)
     → (RefusesOwn LIMITS old n.script 3 (files_of n) 1 answer → ⊥)
     → (KeepsAll old before × RefusesOwn LIMITS old n.script 3 (files_of n) 1 answer) ⊎ P → P
 not-refused old before n answer never (inl r) = absurd (never r.1)

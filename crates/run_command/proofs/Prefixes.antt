@@ -68,13 +68,13 @@ runs-over laws script files ts ends limits r =
     }
 
 -- what a received file holds begins the file that was read
-prefix-of : (old before : FolderState) (got sent file taken : List ℕ) → GoesOn old before
+pub prefix-of : (old before : FolderState) (got sent file taken : List ℕ) → GoesOn old before
     → (IsTrue (old.tells sent) → file ≡ octets_at old sent) → Holds before got taken → IsPrefixOf taken file
     → KeptOrPrefix old before got sent
 prefix-of old before got sent file taken g reads holds p = inr (λ ts tg. (taken, holds (told_later g got tg), (p.0, p.1 ∙ reads ts)))
 
 -- and so it does with a part of what comes behind it
-part-of : (old before : FolderState) (got sent file taken more : List ℕ) → GoesOn old before
+pub part-of : (old before : FolderState) (got sent file taken more : List ℕ) → GoesOn old before
     → (IsTrue (old.tells sent) → file ≡ octets_at old sent) → HoldsPart before got taken more → IsPrefixOf (taken ++ more) file
     → KeptOrPrefix old before got sent
 part-of old before got sent file taken more g reads holds p =
@@ -85,7 +85,7 @@ part-of old before got sent file taken more g reads holds p =
     regroup part rest e = sym (append_assoc (taken ++ part) rest p.0)
         ∙ ap (λ x. x ++ p.0) (append_assoc taken part rest ∙ ap (λ x. taken ++ x) e)
 
-empty-of : (old before : FolderState) (got sent : List ℕ) → GoesOn old before → KeptOrEmpty old before got
+pub empty-of : (old before : FolderState) (got sent : List ℕ) → GoesOn old before → KeptOrEmpty old before got
     → KeptOrPrefix old before got sent
 empty-of old before got sent g (inl k) = inl k
 empty-of old before got sent g (inr h) = inr (λ ts tg. ([], h (told_later g got tg), (octets_at old sent, refl)))

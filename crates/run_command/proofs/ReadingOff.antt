@@ -34,7 +34,7 @@ turn-read least c ts t h role slot e =
     slot-read least c (other role) earlier upto (of role t).check slot (of role t).heard
     (subst (λ o. ArrivesAs c (other role) earlier upto (of role t).check o (of role t).heard) e (h role).heard_of)
 
-turns-read : OfEachCode ReleasedIsLeast → (c : Channel) (ts : List Turn) → IsHeardOver c ts → AreReadOff c ts
+pub turns-read : OfEachCode ReleasedIsLeast → (c : Channel) (ts : List Turn) → IsHeardOver c ts → AreReadOff c ts
 turns-read least c [] h = tt
 turns-read least c (t ∷ ts) h = (turn-read least c ts t h.0, turns-read least c ts h.1)
 

@@ -1,0 +1,60 @@
+-- A pair before its first round, and from round to round.
+use Rattle.std.proofs.Common.{◌≡◌, ℕ, ◌+◌, ◌-◌, ◌^◌, ◌<◌, List, [], sym, subst, arith, refl}
+use Rattle.outside_calls.specs.Folder.{FolderState, CountsStand}
+use Rattle.outside_calls.specs.Outputs.{Creates}
+use Rattle.outside_calls.proofs.Steps.{CountsStand-trans, FaultsStand-trans}
+use Rattle.outside_calls.proofs.Putting.{SomeRose-earlier}
+use Rattle.outside_calls.specs.Folder.{Rose}
+use Rattle.link_run.specs.Run.{start}
+use Rattle.line_run.specs.Scripted.{link_of}
+use Rattle.run_world.specs.Names.{Written}
+use Rattle.run_world.proofs.Reached.{files_at, knows-told}
+use Rattle.pair_run.specs.Pair.{Goes}
+use Rattle.pair_run.specs.Ends.{First}
+use Rattle.link_pair.specs.declared.half.PairFault.{PairFault}
+use Rattle.link_pair.specs.declared.half.PairFault.TheVariants as faults
+use Rattle.link_pair.specs.declared.pair.Pair.{Pair}
+use Rattle.link_pair.specs.Counts.{FaultCounts}
+use Rattle.link_pair.specs.Pair.{all_outputs, IsFirst, Awaits}
+
+pub begins : (x : Pair) (f : FolderState) (n m : Written) → IsFirst x → Creates f (all_outputs n m) → Awaits x f n m First
+begins x f n m is created =
+    let files = files_at f n in
+    let others = files_at f m in record {
+      limits = is.limits;
+      first_dlci_is = is.first_dlci_is;
+      second_dlci_is = is.second_dlci_is;
+      first_channel_is = is.first.channel;
+      second_channel_is = is.second.channel;
+      files = files;
+      others = others;
+      p = Goes [] (start (link_of x.script files));
+      q = Goes [] (start (link_of x.script others));
+      at = record {
+        first = record { run = record { run = refl; heard = tt }; count = sym is.round };
+        second = record { run = record { run = refl; heard = tt }; count = sym is.round };
+      };
+      going = refl;
+      first = is.first.stands files;
+      second = is.second.stands others;
+      lines = is.lines;
+      first_known = knows-told f n;
+      second_known = knows-told f m;
+      first_holds = (created.0, (created.1.0, (created.1.1.1.1.0, tt)));
+      second_holds = (created.1.1.0, (created.1.1.1.0, (created.1.1.1.1.1.0, tt)));
+    }
+
+-- a round more is nearer to the bound
+pub nearer : (round next : ℕ) → round < 2 ^ 39 → next ≡ round + 1 → 2 ^ 39 - next < 2 ^ 39 - round
+nearer round next h e = omega (arith, h, e)
+
+-- a fault behind rounds that counted nothing
+pub counts-later : (a b c : FolderState) (inputs outputs : List (List ℕ)) (fault : PairFault) → CountsStand a b
+    → FaultCounts b c inputs outputs fault → FaultCounts a c inputs outputs fault
+counts-later a b c inputs outputs faults.ReadFault s h = SomeRose-earlier a.read_faults b.read_faults c.read_faults inputs s.faults.reads h
+counts-later a b c inputs outputs faults.WriteFault s h =
+    SomeRose-earlier a.write_faults b.write_faults c.write_faults outputs s.faults.writes h
+counts-later a b c inputs outputs faults.NoMemory s h =
+    (FaultsStand-trans s.faults h.0, subst (λ x. Rose x c.refusals) s.refusals h.1)
+counts-later a b c inputs outputs (faults.LineLost role symbol) s h = CountsStand-trans s h
+counts-later a b c inputs outputs (faults.ChanceMatch role turn) s h = CountsStand-trans s h

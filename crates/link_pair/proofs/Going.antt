@@ -1,0 +1,529 @@
+-- A link of a pair that goes on, or ends in its turn.
+use Rattle.std.proofs.Common.{◌≡◌, inl, inr, ℕ, suc, ◌-◌, List, [], ◌∷◌, ◌++◌, length, refl, sym, ap, subst, arith}
+use Rattle.std.proofs.Common.{Option, Some, None, Result, Ok, Err, append-nil}
+use Rattle.std.specs.List.{concat}
+use Rattle.outside_calls.specs.Folder.{FolderState, GoesOn, KeepsName}
+use Rattle.outside_calls.specs.Outputs.{OnlyPuts, Holds, HoldEach}
+use Rattle.outside_calls.proofs.Holding.{Holds-kept, Holds-more, HoldsPart-more}
+use Rattle.outside_calls.proofs.Putting.{HoldEach-kept, HoldEach-add, HoldPart-add}
+use Rattle.roles.specs.declared.role.Role.{Role}
+use Rattle.roles.specs.declared.role.Role.TheVariants.{Originator, Answerer}
+use Rattle.roles.specs.Both.{Both, of}
+use Rattle.detection.specs.Slots.{Signal}
+use Rattle.noise_script.specs.Script.{ScriptValue}
+use Rattle.line_texts.specs.LineText.{chance_line}
+use Rattle.causes.specs.declared.fault.LinkFault.TheVariants as causes
+use Rattle.link_account.specs.Account.{check_of}
+use Rattle.link_run.specs.End.{deliveries}
+use Rattle.link_run.specs.Laws.{HearingsDeliver, SpeakingTakesNothing}
+use Rattle.link_run.specs.Outcomes.{Outcome, Going, Done, Broken, TurnIs}
+use Rattle.link_run.specs.Run.{Link, Ends, Turn, Hears}
+use Rattle.link_run.specs.Trace.{trace_text, turn_text}
+use Rattle.line_run.specs.Sampled.{Channel, LineRun, EndsLine}
+use Rattle.line_run.specs.Sampled as lines
+use Rattle.line_run.specs.Ends.{Left, Leaves, RunsTo, EndsInTurn}
+use Rattle.line_run.specs.Scripted.{channel_at, link_of}
+use Rattle.line_run.specs.Stream.{Carried, and_sent}
+use Rattle.shared_line.specs.Lines.{LinesWait, HaveArrived, AreDue}
+use Rattle.shared_line.specs.declared.lines.Lines.{Lines}
+use Rattle.run_world.specs.declared.modems.Modems.{Modems}
+use Rattle.run_world.specs.declared.step.Step.{Step}
+use Rattle.run_world.specs.declared.step.Step.TheVariants as steps
+use Rattle.run_world.specs.declared.step.RunFault.{RunFault}
+use Rattle.run_world.specs.declared.step.RunFault.TheVariants as run_faults
+use Rattle.run_world.specs.Names.{Written, outputs_of}
+use Rattle.run_world.specs.Link.{AreWithin, octets_of}
+use Rattle.run_world.specs.Modems.{AreKept, AreReady, ModemsAfter}
+use Rattle.run_world.specs.Turn.{added, GoesOnBy, LosesLine, MeetsChance, StopsInTurn, StopsAtChance, StopsReading, Stops, TurnAnswers}
+use Rattle.run_world.specs.Turn as turns
+use Rattle.run_world.specs.Turns.{AddsTurn, held_of}
+use Rattle.run_world.specs.World.{KnowsFiles}
+use Rattle.run_world.proofs.Folders.{IsApart}
+use Rattle.run_world.proofs.Reached.{held-turn, knows-later, none_got}
+use Rattle.pair_run.specs.Beside.{idle_turn, lasting}
+use Rattle.pair_run.specs.Pair.{Progress, Goes, Ended, turns_on_line, last_ends, IsByLink, IdlesFor, GoesFor, Lasts}
+use Rattle.link_pair.specs.declared.half.Half.{Half}
+use Rattle.link_pair.specs.declared.half.LinkEnd.{LinkEnd}
+use Rattle.link_pair.specs.declared.half.LinkEnd.TheVariants as link_ends
+use Rattle.link_pair.specs.declared.half.PairFault.{PairFault}
+use Rattle.link_pair.specs.Half.{run_end, sorted, MayGoOn, StandsFor, left_by, HoldLeft, HalfAt, HalfIsReady, HasCome}
+use Rattle.link_pair.specs.Half.{IsEndedByLine, LinkStops, LinkStopsReading, IsStopped, HalfEnds}
+
+-- ---- what a link is that goes on
+
+pub record AtGoing (h : Half) (script : ScriptValue) (beside : Role → ℕ → Option Signal) (files : Both (List ℕ)) (round : ℕ)
+    (p : Progress) : Type 0 where
+  pub ts : List Turn
+  pub ends : Ends
+  pub is : p ≡ Goes ts ends
+  pub may : MayGoOn h.modems files ts ends
+  pub goes : GoesFor (channel_at script h.dlci beside) (link_of script files) round ts ends
+
+pub at-going : (h : Half) (script : ScriptValue) (beside : Role → ℕ → Option Signal) (files : Both (List ℕ)) (round : ℕ) (p : Progress)
+    → h.ended ≡ None → StandsFor h.ended h.modems files p → Lasts (channel_at script h.dlci beside) (link_of script files) round p
+    → AtGoing h script beside files round p
+at-going h script beside files round p none stands = by p (subst (λ o. StandsFor o h.modems files p) none stands)
+  where
+    by : (p : Progress) → StandsFor None h.modems files p → Lasts (channel_at script h.dlci beside) (link_of script files) round p
+        → AtGoing h script beside files round p
+    by (Goes ts ends) may goes = record { ts = ts; ends = ends; is = refl; may = may; goes = goes }
+    by (Ended ts ends end left) never goes = absurd never
+
+pub modems-after : (h : Half) (script : ScriptValue) (beside : Role → ℕ → Option Signal) (files : Both (List ℕ)) (round : ℕ) (p : Progress)
+    (a : AtGoing h script beside files round p) → ModemsAfter h.modems (channel_at script h.dlci beside) files a.ts a.ends
+modems-after h script beside files round p a =
+    record { run = a.goes.run; link = a.may.link; turn = a.may.turn; tally = a.may.tally; spoke = a.may.spoke }
+
+-- its turn may be made
+pub ready-for : (h : Half) (l : Lines) (script : ScriptValue) (f : FolderState) (n : Written) (round : ℕ) → h.ended ≡ None
+    → HalfIsReady h l script f n round → AreReady h.modems script l
+ready-for h l script f n round none r =
+    let a : AtGoing h script r.beside r.files round r.p =
+    at-going h script r.beside r.files round r.p none r.at.stands r.at.lasts in
+    let due : AreDue (channel_at script h.dlci r.beside) r.links a.ts r.streams =
+    subst (λ p. AreDue (channel_at script h.dlci r.beside) r.links (turns_on_line round p) r.streams) a.is r.at.due in
+    record {
+      limits = r.limits;
+      kept = a.may.kept;
+      beside = r.beside;
+      links = r.links;
+      streams = r.streams;
+      files = r.files;
+      within = r.at.knows.within;
+      turns = a.ts;
+      ends = a.ends;
+      after = subst (λ x. ModemsAfter h.modems (channel_at script x r.beside) r.files a.ts a.ends) (sym r.at.channel)
+          (modems-after h script r.beside r.files round r.p a);
+      waits = subst (λ x. LinesWait l (channel_at script x r.beside) r.links r.streams) (sym r.at.channel) r.at.waits;
+      due = subst (λ x. AreDue (channel_at script x r.beside) r.links a.ts r.streams) (sym r.at.channel) due;
+      few = r.few;
+    }
+
+-- ---- what its turn comes to
+
+-- it goes on
+pub record GoneOn (m : Modems) (l : Lines) (c : Channel) (links : ℕ) (streams : Both (List Carried)) (f : FolderState) (n : Written)
+    (ts : List Turn) : Type 0 where
+  pub others : Both (List ℕ)
+  pub turn : Turn
+  pub after : Ends
+  pub run : LineRun c (link_of c.script others) (turn ∷ ts) after
+  pub may : MayGoOn m others (turn ∷ ts) after
+  pub waits : LinesWait l c links (and_sent streams c.dlci turn)
+  pub knows : KnowsFiles f n others
+  pub holds : HoldLeft f n (Goes (turn ∷ ts) after)
+
+-- it ends so
+pub record EndedNow (m : Modems) (l : Lines) (c : Channel) (links : ℕ) (streams : Both (List Carried)) (f : FolderState) (n : Written)
+    (ts : List Turn) (found : LinkEnd) : Type 0 where
+  pub others : Both (List ℕ)
+  pub mid : Ends
+  pub left : Left
+  pub ran : RunsTo c (link_of c.script others) (run_end found) left
+  pub turns_are : ran.turns ≡ ts
+  pub ends_are : last_ends c (link_of c.script others) ran.turns ran.ends (run_end found) left ran.ended ≡ mid
+  pub checks : (role : Role) → of role m.heard_by ≡ check_of (of role mid)
+  pub arrived : HaveArrived l c links streams
+  pub knows : KnowsFiles f n others
+  pub holds : HoldEach f (outputs_of n) (held_of left)
+
+abbrev pub Comes : Modems → Lines → Channel → ℕ → Both (List Carried) → FolderState → Written → Both (List ℕ) → List Turn → Ends
+    → Result (Option LinkEnd) PairFault → Type 0
+Comes m l c links streams f n files ts ends (Ok None) = GoneOn m l c links streams f n ts
+Comes m l c links streams f n files ts ends (Ok (Some found)) = EndedNow m l c links streams f n ts found
+Comes m l c links streams f n files ts ends (Err fault) = HalfEnds c f n files (length ts) (Goes ts ends) fault
+
+-- what the folder and the outputs are before the turn, and how the turn touches them
+pub record Around (old new : FolderState) (n : Written) (files : Both (List ℕ)) (ts : List Turn) (ends : Ends) : Type 0 where
+  pub apart : IsApart n
+  pub only : OnlyPuts old new (outputs_of n)
+  pub knows : KnowsFiles old n files
+  pub holds : HoldLeft old n (Goes ts ends)
+
+gone-on : HearingsDeliver → SpeakingTakesNothing
+    → (m : Modems) (l : Lines) (c : Channel) (links : ℕ) (streams : Both (List Carried)) (old new : FolderState) (n : Written)
+    (files : Both (List ℕ)) (ts : List Turn) (ends : Ends) → Around old new n files ts ends → LineRun c (link_of c.script files) ts ends
+    → AreKept m → GoesOnBy m l c links streams old new n files ts ends → GoneOn m l c links streams new n ts
+gone-on delivers speaks m l c links streams old new n files ts ends a run kept g =
+    let held = held-turn delivers (link_of c.script files) ts ends g.turn g.going.mid old new n run.run g.going.hearing a.only.goes_on
+    a.holds g.writes in
+    let nothing = speaks (link_of c.script g.others) ts ends g.turn g.after g.going in record {
+      others = g.others;
+      turn = g.turn;
+      after = g.after;
+      run = g.modems.run;
+      may = record { kept = kept; link = g.modems.link; turn = g.modems.turn; tally = g.modems.tally; spoke = g.modems.spoke };
+      waits = g.lines;
+      knows = g.known.known a.knows;
+      holds = (
+        subst (λ t. Holds new n.got_o (concat t)) (sym (nothing Originator)) held.0,
+        (subst (λ t. Holds new n.got_a (concat t)) (sym (nothing Answerer)) held.1.0, held.1.1),
+      );
+    }
+
+-- what is left of ends and of a text
+abbrev pub left_of : Ends → List ℕ → Left
+left_of ends text = record { got = record { orig = concat ends.orig.incoming.taken; answ = concat ends.answ.incoming.taken }; trace = text }
+
+leaves-so : (ends : Ends) (text : List ℕ) → Leaves ends text (left_of ends text)
+leaves-so ends text = record { got_is = is; trace_is = refl }
+  where
+    is : (role : Role) → of role (left_of ends text).got ≡ concat (of role ends).incoming.taken
+    is Originator = refl
+    is Answerer = refl
+
+hears-of : (link : Link) (ts : List Turn) (ends : Ends) (t : Turn) (mid : Ends) (o : Outcome) → TurnIs link ts ends t mid o
+    → Hears (length ts) ends t mid
+hears-of link ts ends t mid Going g = subst (Hears (length ts) ends t) g.2 g.1.hearing
+hears-of link ts ends t mid Done l = l.hearing
+hears-of link ts ends t mid (Broken role fault) b = b.hearing
+
+-- the last turn, and what the outputs hold behind it
+last-turn : HearingsDeliver
+    → (m : Modems) (l : Lines) (c : Channel) (links : ℕ) (streams : Both (List Carried)) (old new : FolderState) (n : Written)
+    (files : Both (List ℕ)) (ts : List Turn) (ends : Ends) (outcome : Outcome) (number : ℕ) → Around old new n files ts ends
+    → LineRun c (link_of c.script files) ts ends
+    → (e : turns.EndsInTurn m l c links streams old new n files ts ends outcome number)
+    → EndsInTurn c (link_of c.script e.others) ts ends outcome number (left_of e.mid (trace_text (e.turn ∷ ts)))
+    × HoldEach new (outputs_of n) (held_of (left_of e.mid (trace_text (e.turn ∷ ts))))
+last-turn delivers m l c links streams old new n files ts ends outcome number a run e = (
+  record {
+    number = e.number_is;
+    last = e.turn;
+    mid = e.mid;
+    heard = e.makes.heard;
+    is = e.makes.is;
+    leaves = leaves-so e.mid (trace_text (e.turn ∷ ts));
+  },
+  held-turn delivers (link_of c.script files) ts ends e.turn e.mid old new n run.run
+      (hears-of (link_of c.script e.others) ts ends e.turn e.mid outcome e.makes.is) a.only.goes_on a.holds e.writes,
+)
+
+ended-done : HearingsDeliver
+    → (m : Modems) (l : Lines) (c : Channel) (links : ℕ) (streams : Both (List Carried)) (old new : FolderState) (n : Written)
+    (files : Both (List ℕ)) (ts : List Turn) (ends : Ends) (turn : ℕ) → Around old new n files ts ends
+    → LineRun c (link_of c.script files) ts ends → turns.EndsInTurn m l c links streams old new n files ts ends Done turn
+    → EndedNow m l c links streams new n ts (link_ends.Done turn)
+unfolding last-turn
+ended-done delivers m l c links streams old new n files ts ends turn a run e =
+    let k = last-turn delivers m l c links streams old new n files ts ends Done turn a run e in record {
+      others = e.others;
+      mid = e.mid;
+      left = left_of e.mid (trace_text (e.turn ∷ ts));
+      ran = record { turns = ts; ends = ends; run = e.makes.run; ended = k.0 };
+      turns_are = refl;
+      ends_are = refl;
+      checks = e.checks;
+      arrived = e.halts.lines;
+      knows = e.known.known a.knows;
+      holds = k.1;
+    }
+
+ended-undetected : HearingsDeliver
+    → (m : Modems) (l : Lines) (c : Channel) (links : ℕ) (streams : Both (List Carried)) (old new : FolderState) (n : Written)
+    (files : Both (List ℕ)) (ts : List Turn) (ends : Ends) (turn : ℕ) → Around old new n files ts ends
+    → LineRun c (link_of c.script files) ts ends
+    → turns.EndsInTurn m l c links streams old new n files ts ends (Broken Originator causes.NotDetected) turn
+    → EndedNow m l c links streams new n ts (link_ends.NotDetected turn)
+unfolding last-turn
+ended-undetected delivers m l c links streams old new n files ts ends turn a run e =
+    let k = last-turn delivers m l c links streams old new n files ts ends (Broken Originator causes.NotDetected) turn a run e in record {
+      others = e.others;
+      mid = e.mid;
+      left = left_of e.mid (trace_text (e.turn ∷ ts));
+      ran = record { turns = ts; ends = ends; run = e.makes.run; ended = k.0 };
+      turns_are = refl;
+      ends_are = refl;
+      checks = e.checks;
+      arrived = e.halts.lines;
+      knows = e.known.known a.knows;
+      holds = k.1;
+    }
+
+ended-lost : HearingsDeliver
+    → (m : Modems) (l : Lines) (c : Channel) (links : ℕ) (streams : Both (List Carried)) (old new : FolderState) (n : Written)
+    (files : Both (List ℕ)) (ts : List Turn) (ends : Ends) (role : Role) (segment turn : ℕ) → Around old new n files ts ends
+    → LineRun c (link_of c.script files) ts ends → turns.LosesLink m l c links streams old new n files ts ends role segment turn
+    → EndedNow m l c links streams new n ts (link_ends.LinkLost role segment turn)
+unfolding last-turn
+ended-lost delivers m l c links streams old new n files ts ends role segment turn a run (since, e) =
+    let k = last-turn delivers m l c links streams old new n files ts ends (Broken role
+    (causes.Spent segment since)) turn a run e in record {
+      others = e.others;
+      mid = e.mid;
+      left = left_of e.mid (trace_text (e.turn ∷ ts));
+      ran = record { turns = ts; ends = ends; run = e.makes.run; ended = (since, k.0) };
+      turns_are = refl;
+      ends_are = refl;
+      checks = e.checks;
+      arrived = e.halts.lines;
+      knows = e.known.known a.knows;
+      holds = k.1;
+    }
+
+-- the line ends the pair
+line-lost : (m : Modems) (c : Channel) (old new : FolderState) (n : Written) (files : Both (List ℕ)) (ts : List Turn) (ends : Ends)
+    (role : Role) (symbol : ℕ) → Around old new n files ts ends → LosesLine m c old new n ts ends role symbol
+    → IsEndedByLine c new n files (length ts) (Goes ts ends) (lines.LineLost role symbol)
+line-lost m c old new n files ts ends role symbol a e = record {
+  is = e.is;
+  knows = knows-later old new n files a.apart a.only a.knows;
+  left = left_of ends (trace_text ts ++ []);
+  leaves = leaves-so ends (trace_text ts ++ []);
+  holds =
+      let h = HoldEach-kept old new (outputs_of n) (held_of (left_by (Goes ts ends))) a.only.goes_on a.holds e.kept in
+      (h.0, (h.1.0, (subst (Holds new n.trace) (sym (append-nil (trace_text ts))) h.1.1.0, tt)));
+}
+
+chance-met : (m : Modems) (c : Channel) (old new : FolderState) (n : Written) (files : Both (List ℕ)) (ts : List Turn) (ends : Ends)
+    (role : Role) (turn : ℕ) → Around old new n files ts ends → MeetsChance m c old new n ts ends role turn
+    → (turn ≡ length ts) × IsEndedByLine c new n files (length ts) (Goes ts ends) (lines.ChanceMatch role)
+chance-met m c old new n files ts ends role turn a e = (
+  e.number_is,
+  record {
+    is = e.is;
+    knows = knows-later old new n files a.apart a.only a.knows;
+    left = left_of ends (trace_text ts ++ chance_line (length ts) role);
+    leaves = leaves-so ends (trace_text ts ++ chance_line (length ts) role);
+    holds = (
+      Holds-kept old new n.got_o _ a.only.goes_on a.holds.0 e.received.0,
+      (
+        Holds-kept old new n.got_a _ a.only.goes_on a.holds.1.0 e.received.1.0,
+        (Holds-more old new n.trace (trace_text ts) (chance_line (length ts) role) a.only.goes_on a.holds.1.1.0 e.trace, tt),
+      ),
+    );
+  },
+)
+
+-- the folder fails
+pub kept-none : (now next : FolderState) (name octets : List ℕ) → GoesOn now next → Holds now name octets → KeepsName now next name
+    → Holds next name (octets ++ [])
+kept-none now next name octets on holds kept =
+    subst (Holds next name) (sym (append-nil octets)) (Holds-kept now next name octets on holds kept)
+
+abbrev more_of : Ends → List ℕ → Left
+more_of mid text = record { got = record { orig = concat (deliveries mid.orig); answ = concat (deliveries mid.answ) }; trace = text }
+
+adds-turn : (m : Modems) (l : Lines) (c : Channel) (links : ℕ) (streams : Both (List Carried)) (old new : FolderState) (n : Written)
+    (files : Both (List ℕ)) (ts : List Turn) (ends : Ends) (s : StopsInTurn m l c links streams old new n files ts ends)
+    → AddsTurn c (link_of c.script s.others) ts ends (more_of s.mid (turn_text (length ts) s.turn))
+adds-turn m l c links streams old new n files ts ends s = record {
+  turn = s.turn;
+  mid = s.mid;
+  outcome = s.outcome;
+  heard = s.makes.heard;
+  is = s.makes.is;
+  got_is = got;
+  trace_is = refl;
+}
+  where
+    got : (role : Role) → of role (record { orig = concat (deliveries s.mid.orig); answ = concat (deliveries s.mid.answ) }) ≡ concat
+        (deliveries (of role s.mid))
+    got Originator = refl
+    got Answerer = refl
+
+stops-so : (m : Modems) (l : Lines) (c : Channel) (links : ℕ) (streams : Both (List Carried)) (old new : FolderState) (n : Written)
+    (files : Both (List ℕ)) (ts : List Turn) (ends : Ends) → Around old new n files ts ends
+    → (s : StopsInTurn m l c links streams old new n files ts ends)
+    → LinkStops c (link_of c.script s.others) new n (length ts) (Goes ts ends)
+stops-so m l c links streams old new n files ts ends a s = record {
+  more = more_of s.mid (turn_text (length ts) s.turn);
+  adds = inl (adds-turn m l c links streams old new n files ts ends s);
+  holds = HoldPart-add old new (outputs_of n) (held_of (left_by (Goes ts ends))) (added s.mid (turn_text (length ts) s.turn))
+      a.only.goes_on a.holds s.writes;
+}
+
+stopped : (m : Modems) (l : Lines) (c : Channel) (links : ℕ) (streams : Both (List Carried)) (old new : FolderState) (n : Written)
+    (files : Both (List ℕ)) (ts : List Turn) (ends : Ends) → Around old new n files ts ends → LineRun c (link_of c.script files) ts ends
+    → Stops m l c links streams old new n files ts ends → IsStopped LinkStops c new n (length ts) (Goes ts ends)
+stopped m l c links streams old new n files ts ends a run (inl s) = record {
+  others = s.others;
+  knows = s.known.known a.knows;
+  lasts = record { run = s.makes.run; count = refl };
+  stops = stops-so m l c links streams old new n files ts ends a s;
+}
+stopped m l c links streams old new n files ts ends a run (inr s) = record {
+  others = files;
+  knows = knows-later old new n files a.apart a.only a.knows;
+  lasts = record { run = run; count = refl };
+  stops = record {
+    more = record { got = none_got; trace = chance_line (length ts) s.role };
+    adds = inr (record { role = s.role; is = s.is; got_is = none; trace_is = refl });
+    holds = inr (
+      kept-none old new n.got_o _ a.only.goes_on a.holds.0 s.received.0,
+      inr (
+        kept-none old new n.got_a _ a.only.goes_on a.holds.1.0 s.received.1.0,
+        inl (HoldsPart-more old new n.trace (trace_text ts) (chance_line (length ts) s.role) a.only.goes_on a.holds.1.1.0 s.trace, tt),
+      ),
+    );
+  };
+}
+  where
+    none : (side : Role) → of side none_got ≡ []
+    none Originator = refl
+    none Answerer = refl
+
+stopped-reading : (m : Modems) (l : Lines) (c : Channel) (links : ℕ) (streams : Both (List Carried)) (old new : FolderState) (n : Written)
+    (files : Both (List ℕ)) (ts : List Turn) (ends : Ends) → Around old new n files ts ends
+    → StopsReading m l c links streams old new n files ts ends → IsStopped LinkStopsReading c new n (length ts) (Goes ts ends)
+unfolding stops-so
+stopped-reading m l c links streams old new n files ts ends a (s, delivered) = record {
+  others = s.others;
+  knows = s.known.known a.knows;
+  lasts = record { run = s.makes.run; count = refl };
+  stops = record {
+    stops = stops-so m l c links streams old new n files ts ends a s;
+    adds = adds-turn m l c links streams old new n files ts ends s;
+    holds = HoldEach-add old new (outputs_of n) (held_of (left_by (Goes ts ends))) (octets_of s.mid) a.only.goes_on a.holds delivered;
+  };
+}
+
+pub comes : HearingsDeliver → SpeakingTakesNothing
+    → (m : Modems) (l : Lines) (c : Channel) (links : ℕ) (streams : Both (List Carried)) (old new : FolderState) (n : Written)
+    (files : Both (List ℕ)) (ts : List Turn) (ends : Ends) (answer : Result Step RunFault) → Around old new n files ts ends
+    → LineRun c (link_of c.script files) ts ends → (answer ≡ Ok steps.Going → AreKept m)
+    → TurnAnswers m l c links streams old new n files ts ends answer → Comes m l c links streams new n files ts ends (sorted answer)
+comes delivers speaks m l c links streams old new n files ts ends (Ok steps.Going) a run kept t =
+    gone-on delivers speaks m l c links streams old new n files ts ends a run (kept refl) t
+comes delivers speaks m l c links streams old new n files ts ends (Ok (steps.Done turn)) a run kept t =
+    ended-done delivers m l c links streams old new n files ts ends turn a run t
+comes delivers speaks m l c links streams old new n files ts ends (Err (run_faults.LinkLost role segment turn)) a run kept t =
+    ended-lost delivers m l c links streams old new n files ts ends role segment turn a run t
+comes delivers speaks m l c links streams old new n files ts ends (Err (run_faults.NotDetected turn)) a run kept t =
+    ended-undetected delivers m l c links streams old new n files ts ends turn a run t
+comes delivers speaks m l c links streams old new n files ts ends (Err (run_faults.LineLost role symbol)) a run kept t =
+    line-lost m c old new n files ts ends role symbol a t
+comes delivers speaks m l c links streams old new n files ts ends (Err (run_faults.ChanceMatch role turn)) a run kept t =
+    chance-met m c old new n files ts ends role turn a t
+comes delivers speaks m l c links streams old new n files ts ends (Err run_faults.ReadFault) a run kept t =
+    stopped-reading m l c links streams old new n files ts ends a t
+comes delivers speaks m l c links streams old new n files ts ends (Err run_faults.WriteFault) a run kept t =
+    stopped m l c links streams old new n files ts ends a run t
+comes delivers speaks m l c links streams old new n files ts ends (Err run_faults.NoMemory) a run kept t =
+    stopped m l c links streams old new n files ts ends a run t
+
+-- ---- so the link has come farther
+
+pub has-gone : (h : Half) (l : Lines) (c : Channel) (links : ℕ) (streams : Both (List Carried)) (f : FolderState) (n : Written)
+    (files : Both (List ℕ)) (ts : List Turn) (ends : Ends) → h.ended ≡ None → h.modems.dlci ≡ c.dlci
+    → GoneOn h.modems l c links streams f n ts → HasCome h l c links streams f n (length ts) (Goes ts ends)
+has-gone h l c links streams f n files ts ends none channel g = record {
+  others = g.others;
+  next = Goes (g.turn ∷ ts) g.after;
+  sent = g.turn;
+  lasts = record { run = g.run; count = refl };
+  stands = subst (λ o. StandsFor o h.modems g.others (Goes (g.turn ∷ ts) g.after)) (sym none) g.may;
+  channel = channel;
+  follows = (g.turn, refl);
+  on_line = refl;
+  waits = g.waits;
+  knows = g.knows;
+  holds = g.holds;
+}
+
+by-link : (found : LinkEnd) → IsByLink (run_end found)
+by-link (link_ends.Done turn) = tt
+by-link (link_ends.LinkLost role segment turn) = tt
+by-link (link_ends.NotDetected turn) = tt
+
+pub has-ended : (h : Half) (l m : Lines) (c : Channel) (links : ℕ) (streams : Both (List Carried)) (f : FolderState) (n : Written)
+    (files : Both (List ℕ)) (ts : List Turn) (ends : Ends) (found : LinkEnd) → h.ended ≡ Some found → h.modems.dlci ≡ c.dlci
+    → LinesWait l c links (and_sent streams c.dlci idle_turn)
+    → EndedNow h.modems m c links streams f n ts found → HasCome h l c links streams f n (length ts) (Goes ts ends)
+has-ended h l m c links streams f n files ts ends found is channel waits e = record {
+  others = e.others;
+  next = Ended ts e.mid (run_end found) e.left;
+  sent = idle_turn;
+  lasts = record {
+    ran = e.ran;
+    turns_are = e.turns_are;
+    ends_are = e.ends_are;
+    by_link = by-link found;
+    before = omega arith;
+    idles = subst (λ k. IdlesFor c e.mid k ts) (sym none-left) tt;
+  };
+  stands = subst (λ o. StandsFor o h.modems e.others (Ended ts e.mid (run_end found) e.left)) (sym is)
+      (record { end_is = refl; checks = e.checks });
+  channel = channel;
+  follows = refl;
+  on_line = ap (λ k. lasting k ts) one-left;
+  waits = waits;
+  knows = e.knows;
+  holds = e.holds;
+}
+  where
+    none-left : suc (length ts) - suc (length ts) ≡ 0
+    none-left = omega arith
+
+    one-left : suc (length ts) - length ts ≡ 1
+    one-left = omega arith
+
+-- ---- from what a turn over a lent line answers
+
+abbrev pub AnswersSo : Modems → Modems → Lines → Lines → ScriptValue → FolderState → FolderState → Written → Result Step RunFault → Type 0
+AnswersSo m m' l l' script old new n answer =
+    (beside : Role → ℕ → Option Signal) (links : ℕ) (streams : Both (List Carried)) (files : Both (List ℕ)) (ts : List Turn) (ends : Ends)
+    → ModemsAfter m (channel_at script m.dlci beside) files ts ends → AreWithin files
+    → LinesWait l (channel_at script m.dlci beside) links streams → AreDue (channel_at script m.dlci beside) links ts streams
+    → TurnAnswers m' l' (channel_at script m.dlci beside) links streams old new n files ts ends answer
+
+pub record CameTo (m : Modems) (l : Lines) (c : Channel) (links : ℕ) (streams : Both (List Carried)) (f : FolderState) (n : Written)
+    (files : Both (List ℕ)) (round : ℕ) (p : Progress) (o : Result (Option LinkEnd) PairFault) : Type 0 where
+  pub ts : List Turn
+  pub ends : Ends
+  pub is : p ≡ Goes ts ends
+  pub count : length ts ≡ round
+  pub comes : Comes m l c links streams f n files ts ends o
+
+pub came-to : HearingsDeliver → SpeakingTakesNothing
+    → (h : Half) (m : Modems) (l l' : Lines) (script : ScriptValue) (beside : Role → ℕ → Option Signal) (links : ℕ)
+    (streams : Both (List Carried)) (old new : FolderState) (n : Written) (files : Both (List ℕ)) (round : ℕ) (p : Progress)
+    (answer : Result Step RunFault) (o : Result (Option LinkEnd) PairFault) → sorted answer ≡ o → h.ended ≡ None → IsApart n
+    → OnlyPuts old new (outputs_of n) → HalfAt h l old n script beside links streams files round p → (answer ≡ Ok steps.Going → AreKept m)
+    → AnswersSo h.modems m l l' script old new n answer
+    → CameTo m l' (channel_at script h.dlci beside) links streams new n files round p o
+came-to delivers speaks h m l l' script beside links streams old new n files round p answer o sorts none apart only at kept turn =
+    let a : AtGoing h script beside files round p = at-going h script beside files round p none at.stands at.lasts in
+    let due : AreDue (channel_at script h.dlci beside) links a.ts streams =
+    subst (λ x. AreDue (channel_at script h.dlci beside) links (turns_on_line round x) streams) a.is at.due in
+    let made : TurnAnswers m l' (channel_at script h.modems.dlci beside) links streams old new n files a.ts a.ends answer =
+    turn beside links streams files a.ts a.ends
+    (subst (λ x. ModemsAfter h.modems (channel_at script x beside) files a.ts a.ends) (sym at.channel)
+    (modems-after h script beside files round p a)) at.knows.within
+    (subst (λ x. LinesWait l (channel_at script x beside) links streams) (sym at.channel) at.waits)
+    (subst (λ x. AreDue (channel_at script x beside) links a.ts streams) (sym at.channel) due) in
+    let there : TurnAnswers m l' (channel_at script h.dlci beside) links streams old new n files a.ts a.ends answer =
+    subst (λ x. TurnAnswers m l' (channel_at script x beside) links streams old new n files a.ts a.ends answer) at.channel made in
+    record {
+      ts = a.ts;
+      ends = a.ends;
+      is = a.is;
+      count = a.goes.count;
+      comes = subst (Comes m l' (channel_at script h.dlci beside) links streams new n files a.ts a.ends) sorts
+          (comes delivers speaks m l' (channel_at script h.dlci beside) links streams old new n files a.ts a.ends answer
+          (record { apart = apart; only = only; knows = at.knows; holds = subst (HoldLeft old n) a.is at.holds }) a.goes.run kept there);
+    }
+
+pub came-going : (h : Half) (l : Lines) (c : Channel) (links : ℕ) (streams : Both (List Carried)) (f : FolderState) (n : Written)
+    (files : Both (List ℕ)) (round : ℕ) (p : Progress) → h.ended ≡ None → h.modems.dlci ≡ c.dlci
+    → CameTo h.modems l c links streams f n files round p (Ok None) → HasCome h l c links streams f n round p
+came-going h l c links streams f n files round p none channel a =
+    subst (λ x. HasCome h l c links streams f n round x) (sym a.is)
+    (subst (λ k. HasCome h l c links streams f n k (Goes a.ts a.ends)) a.count
+    (has-gone h l c links streams f n files a.ts a.ends none channel a.comes))
+
+pub came-ended : (h : Half) (l m : Lines) (c : Channel) (links : ℕ) (streams : Both (List Carried)) (f : FolderState) (n : Written)
+    (files : Both (List ℕ)) (round : ℕ) (p : Progress) (found : LinkEnd) → h.ended ≡ Some found → h.modems.dlci ≡ c.dlci
+    → LinesWait l c links (and_sent streams c.dlci idle_turn) → CameTo h.modems m c links streams f n files round p (Ok (Some found))
+    → HasCome h l c links streams f n round p
+came-ended h l m c links streams f n files round p found is channel waits a =
+    subst (λ x. HasCome h l c links streams f n round x) (sym a.is)
+    (subst (λ k. HasCome h l c links streams f n k (Goes a.ts a.ends)) a.count
+    (has-ended h l m c links streams f n files a.ts a.ends found is channel waits a.comes))
+
+pub came-halted : (m : Modems) (l : Lines) (c : Channel) (links : ℕ) (streams : Both (List Carried)) (f : FolderState) (n : Written)
+    (files : Both (List ℕ)) (round : ℕ) (p : Progress) (fault : PairFault) → CameTo m l c links streams f n files round p (Err fault)
+    → HalfEnds c f n files round p fault
+came-halted m l c links streams f n files round p fault a =
+    subst (λ x. HalfEnds c f n files round x fault) (sym a.is)
+    (subst (λ k. HalfEnds c f n files k (Goes a.ts a.ends) fault) a.count a.comes)

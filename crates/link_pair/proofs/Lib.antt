@@ -1,0 +1,6 @@
+mod Going
+mod Idling
+mod Beside
+mod Pairing
+mod Turning
+mod Beginning

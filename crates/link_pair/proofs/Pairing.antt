@@ -1,0 +1,380 @@
+-- A pair, from turn to turn of its links.
+use Rattle.std.proofs.Common.{◌≡◌, ◌⊎◌, inl, inr, ℕ, zero, suc, ◌+◌, ◌*◌, ◌^◌, ◌<◌, ◌≤◌, ◌||◌, Bool, true, false, List, [], ◌∷◌, ◌++◌}
+use Rattle.std.proofs.Common.{length, arith, refl, sym, ◌∙◌, ap, subst, Option, Some, None}
+use Rattle.std.proofs.lemmas.Bool.{false≢true}
+use Rattle.std.proofs.lemmas.List.{length-append}
+use Rattle.outside_calls.specs.Folder.{FolderState}
+use Rattle.roles.specs.declared.role.Role.{Role}
+use Rattle.roles.specs.declared.role.Role.TheVariants.{Originator, Answerer}
+use Rattle.roles.specs.Both.{Both, of}
+use Rattle.noise_script.specs.Script.{ScriptValue, IsInLimits}
+use Rattle.link_run.specs.Run.{Link, Ends, Turn, Spoken}
+use Rattle.line_run.specs.Sampled.{Channel}
+use Rattle.line_run.specs.Ends.{Left}
+use Rattle.line_run.specs.Scripted.{channel_at, link_of, ScriptsHaveDelays}
+use Rattle.line_run.specs.Stream.{Carried, carry, and_sent, AreSent}
+use Rattle.shared_line.specs.Lines.{LinesWait, AreDue, PassedFew, from}
+use Rattle.shared_line.specs.declared.lines.Lines.{Lines}
+use Rattle.shared_line.proofs.Waiting.{passed-few}
+use Rattle.run_world.specs.declared.modems.Modems.{Modems}
+use Rattle.run_world.specs.Names.{Written}
+use Rattle.run_world.specs.Link.{AreWithin}
+use Rattle.pair_run.specs.Beside.{first_dlci, second_dlci, slot_in, after_second, after_first, first_channel, second_channel}
+use Rattle.pair_run.specs.Pair.{Progress, Goes, Ended, turns_in, turns_on_line, Lasts, PairAt}
+use Rattle.pair_run.specs.Ends.{Which, First, Second, is_going, firsts_at}
+use Rattle.pair_run.specs.Stream.{both_sent, first_sent}
+use Rattle.pair_run.specs.Laws.{AreFewRounds, AreShort, PairsHaveFewRounds, FirstSlotsAreDue, SecondSlotsAreDue}
+use Rattle.pair_run.proofs.Clear.{Beside}
+use Rattle.pair_run.proofs.Agreeing.{same-lasts, slot-stays}
+use Rattle.pair_run.proofs.Streaming.{both-length}
+use Rattle.pair_run.proofs.Placing.{sent-on-line, length-on-line}
+use Rattle.link_pair.specs.declared.half.LinkEnd.{LinkEnd}
+use Rattle.link_pair.specs.declared.pair.Pair.{Pair}
+use Rattle.link_pair.specs.declared.pair.Endings.{Endings}
+use Rattle.link_pair.specs.Half.{run_end, StandsFor, HalfAt, HalfIsReady, Follows}
+use Rattle.link_pair.specs.Pair.{both_ended, streams_at, Awaits}
+
+pub record PairLaws : Type 0 where
+  pub delays : ScriptsHaveDelays
+  pub first : FirstSlotsAreDue
+  pub second : SecondSlotsAreDue
+  pub few : PairsHaveFewRounds
+
+-- ---- how many rounds there are
+
+pub either : (x y : Bool) → (x || y) ≡ true → (x ≡ true) ⊎ ((x ≡ false) × (y ≡ true))
+either true y e = inl refl
+either false y e = inr (refl, e)
+
+are-short : (files : Both (List ℕ)) → AreWithin files → AreShort files
+are-short files within Originator = within.orig
+are-short files within Answerer = within.answ
+
+firsts-least : (link : Which) (round : ℕ) → round ≤ firsts_at link round
+firsts-least First round = omega arith
+firsts-least Second round = omega arith
+
+pub few-rounds : PairsHaveFewRounds → (x : Pair) (f : FolderState) (n m : Written) (link : Which) → Awaits x f n m link
+    → x.round < 2 ^ 39
+few-rounds law x f n m link a = go (either (is_going a.p) (is_going a.q) a.going)
+  where
+    both : (is_going a.p ≡ true → AreFewRounds x.script a.files (firsts_at link x.round) a.p)
+        × (is_going a.q ≡ true → AreFewRounds x.script a.others x.round a.q)
+    both = law x.script a.files a.others (firsts_at link x.round) x.round a.p a.q a.limits (are-short a.files a.first_known.within)
+        (are-short a.others a.second_known.within) a.at
+
+    go : (is_going a.p ≡ true) ⊎ ((is_going a.p ≡ false) × (is_going a.q ≡ true)) → x.round < 2 ^ 39
+    go (inl e) = omega (arith, (both.0 e).below, firsts-least link x.round)
+    go (inr e) = (both.1 e.1).below
+
+-- ---- the line between turns
+
+-- it waits for the same whatever goes beside, on every channel
+pub waits-over : (l : Lines) (script : ScriptValue) (dlci at : ℕ) (b d : Beside) (links : ℕ) (streams : Both (List Carried))
+    → LinesWait l (channel_at script dlci b) links streams → LinesWait l (channel_at script at d) links streams
+waits-over l script dlci at b d links streams h role =
+    let k = h role in
+    record { stands = k.stands; sends = k.sends; symbols = k.symbols; delay = k.delay; lag = k.lag; some = k.some; lag_some = k.lag_some }
+
+pub first-due : PairLaws → (script : ScriptValue) (files others : Both (List ℕ)) (round : ℕ) (p q : Progress) → IsInLimits script
+    → PairAt script files others round round p q
+    → AreDue (first_channel script (turns_in q)) 2 (turns_on_line round p) (streams_at First round p q)
+first-due laws script files others round p q h at Originator =
+    laws.first script files others round p q at Originator (laws.delays script h Originator)
+first-due laws script files others round p q h at Answerer =
+    laws.first script files others round p q at Answerer (laws.delays script h Answerer)
+
+pub second-due : PairLaws → (script : ScriptValue) (files others : Both (List ℕ)) (round : ℕ) (p q : Progress) → IsInLimits script
+    → PairAt script files others (suc round) round p q
+    → AreDue (second_channel script (turns_in p)) 2 (turns_on_line round q) (streams_at Second round p q)
+second-due laws script files others round p q h at Originator =
+    laws.second script files others round p q at Originator (laws.delays script h Originator)
+second-due laws script files others round p q h at Answerer =
+    laws.second script files others round p q at Answerer (laws.delays script h Answerer)
+
+-- how many slots both have sent
+one-carried : (dlci : ℕ) (o : Option Spoken) → length (carry dlci o) ≤ 1
+one-carried dlci None = omega arith
+one-carried dlci (Some slot) = omega arith
+
+first-length : (role : Role) (ts us : List Turn) → AreSent role ts → AreSent role us → length ts ≡ suc (length us)
+    → length (first_sent role ts us) ≤ 2 * length us + 1
+first-length role [] us h k e = omega arith
+first-length role (t ∷ ts) us h k e =
+    let same : length ts ≡ length us = omega (arith, e) in
+    omega (
+      arith,
+      both-length role ts us h.1 k same,
+      same,
+      one-carried first_dlci (of role t).sent,
+      length-append {A = Carried} (both_sent role ts us) (carry first_dlci (of role t).sent),
+    )
+
+stream-short : (script : ScriptValue) (files others : Both (List ℕ)) (link : Which) (round : ℕ) (p q : Progress)
+    → PairAt script files others (firsts_at link round) round p q → (role : Role)
+    → length (of role (streams_at link round p q)) ≤ 2 * round + 1
+stream-short script files others First round p q at role = by role
+  where
+    P : List Turn
+    P = turns_on_line round p
+
+    Q : List Turn
+    Q = turns_on_line round q
+
+    long : length P ≡ round
+    long = length-on-line script first_dlci (after_second (turns_in q)) (link_of script files) round p at.first
+
+    wide : length Q ≡ round
+    wide = length-on-line script second_dlci (after_first (turns_in p)) (link_of script others) round q at.second
+
+    count : (side : Role) → length (both_sent side P Q) ≤ 2 * round + 1
+    count side =
+        omega (
+          arith,
+          long,
+          both-length side P Q (sent-on-line script first_dlci (after_second (turns_in q))
+              (link_of script files) round round p at.first side)
+              (sent-on-line script second_dlci (after_first (turns_in p)) (link_of script others) round round q at.second side) (long
+              ∙ sym wide),
+        )
+
+    by : (side : Role) → length (of side (streams_at First round p q)) ≤ 2 * round + 1
+    by Originator = count Originator
+    by Answerer = count Answerer
+stream-short script files others Second round p q at role = by role
+  where
+    P : List Turn
+    P = turns_on_line (suc round) p
+
+    Q : List Turn
+    Q = turns_on_line round q
+
+    long : length P ≡ suc round
+    long = length-on-line script first_dlci (after_second (turns_in q)) (link_of script files) (suc round) p at.first
+
+    wide : length Q ≡ round
+    wide = length-on-line script second_dlci (after_first (turns_in p)) (link_of script others) round q at.second
+
+    count : (side : Role) → length (first_sent side P Q) ≤ 2 * round + 1
+    count side =
+        omega (
+          arith,
+          wide,
+          first-length side P Q
+              (sent-on-line script first_dlci (after_second (turns_in q)) (link_of script files) (suc round) (suc round) p at.first side)
+              (sent-on-line script second_dlci (after_first (turns_in p)) (link_of script others) round round q at.second side)
+              (long ∙ ap suc (sym wide)),
+        )
+
+    by : (side : Role) → length (of side (streams_at Second round p q)) ≤ 2 * round + 1
+    by Originator = count Originator
+    by Answerer = count Answerer
+
+passed : PairLaws → (x : Pair) (f : FolderState) (n m : Written) (link : Which) → Awaits x f n m link → PassedFew x.lines
+passed laws x f n m link a = each
+  where
+    short : x.round < 2 ^ 39
+    short = few-rounds laws.few x f n m link a
+
+    long : (role : Role) → length (of role (streams_at link x.round a.p a.q)) ≤ 2 * x.round + 1
+    long = stream-short x.script a.files a.others link x.round a.p a.q a.at
+
+    each : (role : Role) → (from role x.lines).line.passed < 2 ^ 40
+    each Originator =
+        omega (
+          arith,
+          short,
+          long Originator,
+          passed-few x.lines.from_orig (first_channel x.script (turns_in a.q)) Originator 2 (of Originator
+              (streams_at link x.round a.p a.q))
+              (a.lines Originator),
+        )
+    each Answerer =
+        omega (
+          arith,
+          short,
+          long Answerer,
+          passed-few x.lines.from_answ (first_channel x.script (turns_in a.q)) Answerer 2 (of Answerer (streams_at link x.round a.p a.q))
+              (a.lines Answerer),
+        )
+
+-- ---- so each link's part of a round may be made
+
+pub first-at : PairLaws → (x : Pair) (f : FolderState) (n m : Written) (a : Awaits x f n m First)
+    → HalfAt x.first x.lines f n x.script (after_second (turns_in a.q)) 2 (streams_at First x.round a.p a.q) a.files x.round a.p
+first-at laws x f n m a =
+    let beside = after_second (turns_in a.q) in
+    let streams = streams_at First x.round a.p a.q in record {
+      lasts = subst (λ d. Lasts (channel_at x.script d beside) (link_of x.script a.files) x.round a.p) (sym a.first_dlci_is) a.at.first;
+      stands = a.first;
+      channel = a.first_channel_is;
+      waits = subst (λ d. LinesWait x.lines (channel_at x.script d beside) 2 streams) (sym a.first_dlci_is) a.lines;
+      due = subst (λ d. AreDue (channel_at x.script d beside) 2 (turns_on_line x.round a.p) streams) (sym a.first_dlci_is)
+          (first-due laws x.script a.files a.others x.round a.p a.q a.limits a.at);
+      knows = a.first_known;
+      holds = a.first_holds;
+    }
+
+pub second-at : PairLaws → (x : Pair) (f : FolderState) (n m : Written) (a : Awaits x f n m Second)
+    → HalfAt x.second x.lines f m x.script (after_first (turns_in a.p)) 2 (streams_at Second x.round a.p a.q) a.others x.round a.q
+second-at laws x f n m a =
+    let beside = after_first (turns_in a.p) in
+    let streams = streams_at Second x.round a.p a.q in record {
+      lasts = subst (λ d. Lasts (channel_at x.script d beside) (link_of x.script a.others) x.round a.q) (sym a.second_dlci_is) a.at.second;
+      stands = a.second;
+      channel = a.second_channel_is;
+      waits = waits-over x.lines x.script first_dlci x.second.dlci (after_second (turns_in a.q)) beside 2 streams a.lines;
+      due = subst (λ d. AreDue (channel_at x.script d beside) 2 (turns_on_line x.round a.q) streams) (sym a.second_dlci_is)
+          (second-due laws x.script a.files a.others x.round a.p a.q a.limits a.at);
+      knows = a.second_known;
+      holds = a.second_holds;
+    }
+
+pub first-ready : PairLaws → (x : Pair) (f : FolderState) (n m : Written) → Awaits x f n m First
+    → HalfIsReady x.first x.lines x.script f n x.round
+first-ready laws x f n m a = record {
+  limits = a.limits;
+  low = omega (arith, a.first_dlci_is);
+  few = passed laws x f n m First a;
+  beside = after_second (turns_in a.q);
+  links = 2;
+  streams = streams_at First x.round a.p a.q;
+  files = a.files;
+  p = a.p;
+  at = first-at laws x f n m a;
+}
+
+pub second-ready : PairLaws → (x : Pair) (f : FolderState) (n m : Written) → Awaits x f n m Second
+    → HalfIsReady x.second x.lines x.script f m x.round
+second-ready laws x f n m a = record {
+  limits = a.limits;
+  low = omega (arith, a.second_dlci_is);
+  few = passed laws x f n m Second a;
+  beside = after_first (turns_in a.p);
+  links = 2;
+  streams = streams_at Second x.round a.p a.q;
+  files = a.others;
+  p = a.q;
+  at = second-at laws x f n m a;
+}
+
+-- ---- what a turn leaves of the other link
+
+-- the slots of earlier rounds stay as they are
+follows-stays : (p next : Progress) (rounds : ℕ) → Follows p next → (is_going p ≡ true → length (turns_in p) ≡ rounds)
+    → (dlci : ℕ) (role : Role) (round : ℕ) → round < rounds → slot_in dlci role (turns_in p) round ≡ slot_in dlci role (turns_in next) round
+follows-stays (Goes ts ends) (Goes us after) rounds (t, is) count dlci role round l =
+    subst (λ vs. slot_in dlci role ts round ≡ slot_in dlci role vs round) (sym is)
+    (sym (slot-stays dlci role t ts round (omega (arith, l, count refl))))
+follows-stays (Goes ts ends) (Ended us mid end left) rounds is count dlci role round l =
+    ap (λ vs. slot_in dlci role vs round) (sym is)
+follows-stays (Ended ts ends end left) next rounds is count dlci role round l =
+    ap (λ z. slot_in dlci role (turns_in z) round) (sym is)
+
+pub counted : (c : Channel) (link : Link) (rounds : ℕ) (p : Progress) → Lasts c link rounds p → is_going p ≡ true
+    → length (turns_in p) ≡ rounds
+counted c link rounds (Goes ts ends) l e = l.count
+counted c link rounds (Ended ts ends end left) l e = absurd (false≢true e)
+
+-- the pair once the first link has come farther,
+pub at-second : ScriptsHaveDelays → (script : ScriptValue) (files more others : Both (List ℕ)) (round : ℕ) (p next q : Progress)
+    → IsInLimits script → PairAt script files others round round p q → Follows p next
+    → Lasts (first_channel script (turns_in q)) (link_of script more) (suc round) next
+    → PairAt script more others (suc round) round next q
+at-second delays script files more others round p next q h at follows l = record {
+  first = l;
+  second = same-lasts script second_dlci (after_first (turns_in p)) (after_first (turns_in next)) (delays script h) (link_of script others)
+      round q (λ role r k. ap Some (follows-stays p next round follows
+      (counted (first_channel script (turns_in q)) (link_of script files) round p at.first) first_dlci role r k)) at.second;
+}
+
+-- and once the second has
+pub at-first : ScriptsHaveDelays → (script : ScriptValue) (files others more : Both (List ℕ)) (round : ℕ) (p q next : Progress)
+    → IsInLimits script → PairAt script files others (suc round) round p q → Follows q next
+    → Lasts (second_channel script (turns_in p)) (link_of script more) (suc round) next
+    → PairAt script files more (suc round) (suc round) p next
+at-first delays script files others more round p q next h at follows l = record {
+  first = same-lasts script first_dlci (after_second (turns_in q)) (after_second (turns_in next)) (delays script h) (link_of script files)
+      (suc round) p near at.first;
+  second = l;
+}
+  where
+    near : (role : Role) (r : ℕ) → r < suc round → after_second (turns_in q) role r ≡ after_second (turns_in next) role r
+    near role zero k = refl
+    near role (suc r) k = ap Some (follows-stays q next round follows
+        (counted (second_channel script (turns_in p)) (link_of script others) round q at.second) second_dlci role r (omega (arith, k)))
+
+-- what is on the line then
+pub after-first-turn : (sent : Turn) (round : ℕ) (p next q : Progress) → turns_on_line (suc round) next ≡ sent ∷ turns_on_line round p
+    → streams_at Second round next q ≡ and_sent (streams_at First round p q) first_dlci sent
+after-first-turn sent round p next q e =
+    ap (λ ts. record {
+      orig = first_sent Originator ts (turns_on_line round q);
+      answ = first_sent Answerer ts (turns_on_line round q);
+    }) e
+
+second-more : (role : Role) (ts us : List Turn) (u : Turn) (count : ℕ) → length ts ≡ suc count
+    → both_sent role ts (u ∷ us) ≡ first_sent role ts us ++ carry second_dlci (of role u).sent
+second-more role [] us u count e = absurd (omega (arith, e))
+second-more role (t ∷ ts) us u count e = refl
+
+pub after-second-turn : (sent : Turn) (round : ℕ) (p q next : Progress) → length (turns_on_line (suc round) p) ≡ suc round
+    → turns_on_line (suc round) next ≡ sent ∷ turns_on_line round q
+    → streams_at First (suc round) p next ≡ and_sent (streams_at Second round p q) second_dlci sent
+after-second-turn sent round p q next long e =
+    ap (λ us. record {
+      orig = both_sent Originator (turns_on_line (suc round) p) us;
+      answ = both_sent Answerer (turns_on_line (suc round) p) us;
+    }) e
+    ∙ (λ k. record {
+      orig = second-more Originator (turns_on_line (suc round) p) (turns_on_line round q) sent round long k;
+      answ = second-more Answerer (turns_on_line (suc round) p) (turns_on_line round q) sent round long k;
+    })
+
+-- ---- both have ended, or one goes on
+
+pub stands-going : (a b : Option LinkEnd) (x y : Modems) (files others : Both (List ℕ))
+    (p q : Progress) → StandsFor a x files p → StandsFor b y others q → both_ended a b ≡ None → (is_going p || is_going q) ≡ true
+stands-going None b x y files others (Goes ts ends) q s t e = refl
+stands-going None b x y files others (Ended ts ends end left) q s t e = absurd s
+stands-going (Some found) None x y files others (Ended ts ends end left) (Goes us mids) s t e = refl
+stands-going (Some found) None x y files others (Ended ts ends end left) (Ended us mids last had) s t e = absurd t
+stands-going (Some found) None x y files others (Goes ts ends) q s t e = absurd s
+stands-going (Some found) (Some last) x y files others p q s t e = absurd (cc e)
+
+-- both have
+pub record AreOver (endings : Endings) (p q : Progress) : Type 0 where
+  pub ts : List Turn
+  pub ends : Ends
+  pub left : Left
+  pub us : List Turn
+  pub mids : Ends
+  pub leaves : Left
+  pub first_is : p ≡ Ended ts ends (run_end endings.first) left
+  pub second_is : q ≡ Ended us mids (run_end endings.second) leaves
+
+pub stands-over : (a b : Option LinkEnd) (x y : Modems) (files others : Both (List ℕ))
+    (p q : Progress) (endings : Endings) → StandsFor a x files p → StandsFor b y others q → both_ended a b ≡ Some endings
+    → AreOver endings p q
+stands-over None b x y files others p q endings s t e = absurd (cc e)
+stands-over (Some found) None x y files others p q endings s t e = absurd (cc e)
+stands-over (Some found) (Some last) x y files others (Goes ts ends) q endings s t e = absurd s
+stands-over (Some found) (Some last) x y files others (Ended ts ends end left) (Goes us mids) endings s t e = absurd t
+stands-over (Some found) (Some last) x y files others (Ended ts ends end left) (Ended us mids by had) endings s t e = record {
+  ts = ts;
+  ends = ends;
+  left = left;
+  us = us;
+  mids = mids;
+  leaves = had;
+  first_is = ap (λ z. Ended ts ends z left) (s.end_is ∙ ap (λ z. run_end (first-of z)) e);
+  second_is = ap (λ z. Ended us mids z had) (t.end_is ∙ ap (λ z. run_end (second-of z)) e);
+}
+  where
+    first-of : Option Endings → LinkEnd
+    first-of None = found
+    first-of (Some z) = z.first
+
+    second-of : Option Endings → LinkEnd
+    second-of None = last
+    second-of (Some z) = z.second

@@ -1,0 +1,401 @@
+-- What a link's turn comes to for the pair.
+use Rattle.std.proofs.Common.{◌≡◌, ◌⊎◌, inl, inr, ℕ, suc, ◌+◌, ◌<◌, max, true, false, List, [], length, arith, refl, sym, ◌∙◌}
+use Rattle.std.proofs.Common.{ap, subst, Option, Some, None, Result, Ok, Err, append-nil}
+use Rattle.std.proofs.lemmas.Bool.{false≢true}
+use Rattle.std.specs.List.{concat}
+use Rattle.outside_calls.specs.Folder.{FolderState}
+use Rattle.outside_calls.specs.Outputs.{OnlyPuts}
+use Rattle.roles.specs.declared.role.Role.{Role}
+use Rattle.roles.specs.declared.role.Role.TheVariants.{Originator, Answerer}
+use Rattle.roles.specs.Both.{Both, of}
+use Rattle.noise_script.specs.Script.{ScriptValue}
+use Rattle.link_run.specs.Run.{Link}
+use Rattle.link_run.specs.Trace.{trace_text}
+use Rattle.line_run.specs.Sampled.{Channel, LineEnd}
+use Rattle.line_run.specs.Sampled as lines
+use Rattle.line_run.specs.Scripted.{channel_at, link_of}
+use Rattle.shared_line.specs.Lines.{LinesWait}
+use Rattle.shared_line.specs.declared.lines.Lines.{Lines}
+use Rattle.run_world.specs.Names.{Written, outputs_of}
+use Rattle.pair_run.specs.Beside.{first_dlci, second_dlci, after_second, after_first, first_channel, second_channel}
+use Rattle.pair_run.specs.Pair.{Progress, Goes, Ended, turns_in, Lasts, PairAt}
+use Rattle.pair_run.specs.Ends.{Which, First, Second, is_going, LeavesOf, BothEnd, LineEnds, by_links, by_line}
+use Rattle.pair_run.specs.Ends as pairs
+use Rattle.pair_run.proofs.Placing.{length-on-line}
+use Rattle.link_pair.specs.declared.half.Half.{Half}
+use Rattle.link_pair.specs.declared.half.PairFault.{PairFault}
+use Rattle.link_pair.specs.declared.half.PairFault.TheVariants as faults
+use Rattle.link_pair.specs.declared.pair.Pair.{Pair}
+use Rattle.link_pair.specs.declared.pair.Endings.{Endings}
+use Rattle.link_pair.specs.Half.{run_end, left_by, HoldLeft, Follows, HasCome, IsEndedByLine, LinkStops, LinkStopsReading, IsStopped}
+use Rattle.link_pair.specs.Half.{HalfEnds}
+use Rattle.link_pair.specs.Pair.{both_ended, streams_at, Awaits, PairEnded, HaveEnded, PairStops, FaultEnds}
+use Rattle.link_pair.proofs.Beside.{AllApart, first-beside, second-beside, known-beside, held-beside}
+use Rattle.link_pair.proofs.Pairing.{PairLaws, AreOver, either, counted, waits-over, at-first, at-second, after-first-turn}
+use Rattle.link_pair.proofs.Pairing.{after-second-turn}
+use Rattle.link_pair.proofs.Pairing.{stands-going, stands-over}
+
+-- the pair with one of its links in its next round, and the line then
+abbrev pub first_moved : Pair → Half → Lines → Pair
+first_moved x h l = record { first = h; second = x.second; lines = l; script = x.script; round = x.round }
+
+abbrev pub second_moved : Pair → Half → Lines → Pair
+second_moved x h l = record { first = x.first; second = h; lines = l; script = x.script; round = x.round + 1 }
+
+-- how the folder is around the turn
+pub record Leaves (old new : FolderState) (n m : Written) (own : Written) : Type 0 where
+  pub apart : AllApart n m
+  pub only : OnlyPuts old new (outputs_of own)
+
+-- ---- the first link has come farther
+
+first-come : (x : Pair) (h : Half) (l : Lines) (old new : FolderState) (n m : Written) (a : Awaits x old n m First)
+    → HasCome h l (channel_at x.script x.first.dlci (after_second (turns_in a.q))) 2 (streams_at First x.round a.p a.q) new n x.round a.p
+    → HasCome h l (first_channel x.script (turns_in a.q)) 2 (streams_at First x.round a.p a.q) new n x.round a.p
+first-come x h l old new n m a =
+    subst (λ d. HasCome h l (channel_at x.script d (after_second (turns_in a.q))) 2 (streams_at First x.round a.p a.q) new n x.round a.p)
+    a.first_dlci_is
+
+pub goes-to-second : PairLaws
+    → (x : Pair) (h : Half) (l : Lines) (old new : FolderState) (n m : Written) (a : Awaits x old n m First) → Leaves old new n m n
+    → h.dlci ≡ x.first.dlci → both_ended h.ended x.second.ended ≡ None
+    → HasCome h l (channel_at x.script x.first.dlci (after_second (turns_in a.q))) 2 (streams_at First x.round a.p a.q) new n x.round a.p
+    → Awaits (first_moved x h l) new n m Second
+goes-to-second laws x h l old new n m a around same none came =
+    let k = first-come x h l old new n m a came in
+    let beside = second-beside n m around.apart in record {
+      limits = a.limits;
+      first_dlci_is = same ∙ a.first_dlci_is;
+      second_dlci_is = a.second_dlci_is;
+      first_channel_is = k.channel ∙ sym (same ∙ a.first_dlci_is);
+      second_channel_is = a.second_channel_is;
+      files = k.others;
+      others = a.others;
+      p = k.next;
+      q = a.q;
+      at = at-second laws.delays x.script a.files k.others a.others x.round a.p k.next a.q a.limits a.at k.follows k.lasts;
+      going = stands-going h.ended x.second.ended h.modems x.second.modems k.others a.others k.next a.q k.stands a.second none;
+      first = k.stands;
+      second = a.second;
+      lines = subst (LinesWait l (first_channel x.script (turns_in a.q)) 2) (sym (after-first-turn k.sent x.round a.p k.next a.q k.on_line))
+          k.waits;
+      first_known = k.knows;
+      second_known = known-beside old new m n a.others beside around.only a.second_known;
+      first_holds = k.holds;
+      second_holds = held-beside old new m n a.q beside around.only a.second_holds;
+    }
+
+-- both have ended: the later one in this round
+ended-before : (c : Channel) (files : Both (List ℕ)) (rounds : ℕ) (p : Progress) → Lasts c (link_of c.script files) rounds p
+    → is_going p ≡ false → length (turns_in p) < rounds
+ended-before c files rounds (Goes ts ends) l e = absurd (false≢true (sym e))
+ended-before c files rounds (Ended ts ends end left) l e = l.before
+
+ended-now : (p next : Progress) (rounds : ℕ) → Follows p next → is_going p ≡ true → is_going next ≡ false → length (turns_in p) ≡ rounds
+    → length (turns_in next) ≡ rounds
+ended-now (Goes ts ends) (Goes us after) rounds f g e count = absurd (false≢true (sym e))
+ended-now (Goes ts ends) (Ended us mid end left) rounds f g e count = ap length f ∙ count
+ended-now (Ended ts ends end left) next rounds f g e count = absurd (false≢true g)
+
+over-pair : (script : ScriptValue) (files others : Both (List ℕ)) (firsts seconds : ℕ) (p q : Progress) (endings : Endings)
+    → PairAt script files others firsts seconds p q → (o : AreOver endings p q)
+    → firsts ≡ suc (max (length o.ts) (length o.us)) → seconds ≡ max (length o.ts) (suc (length o.us))
+    → BothEnd script files others (run_end endings.first) (run_end endings.second) o.left o.leaves
+over-pair script files others firsts seconds p q endings at o e f =
+    let first = Ended o.ts o.ends (run_end endings.first) o.left in
+    let second = Ended o.us o.mids (run_end endings.second) o.leaves in record {
+      ts = o.ts;
+      us = o.us;
+      ends = o.ends;
+      mids = o.mids;
+      at = subst (λ k. PairAt script files others (suc (max (length o.ts) (length o.us))) k first second) f
+          (subst (λ k. PairAt script files others k seconds first second) e
+          (subst (λ z. PairAt script files others firsts seconds first z) o.second_is
+          (subst (λ z. PairAt script files others firsts seconds z q) o.first_is at)));
+    }
+
+pub ends-first : PairLaws
+    → (x : Pair) (h : Half) (l : Lines) (old new : FolderState) (n m : Written) (a : Awaits x old n m First) (endings : Endings)
+    → Leaves old new n m n → both_ended h.ended x.second.ended ≡ Some endings
+    → HasCome h l (channel_at x.script x.first.dlci (after_second (turns_in a.q))) 2 (streams_at First x.round a.p a.q) new n x.round a.p
+    → HaveEnded x.script new n m endings
+ends-first laws x h l old new n m a endings around some came = record {
+  files = k.others;
+  others = a.others;
+  first_known = k.knows;
+  second_known = known-beside old new m n a.others (second-beside n m around.apart) around.only a.second_known;
+  left = o.left;
+  leaves = o.leaves;
+  runs = by_links (run_end endings.first) (run_end endings.second)
+      (over-pair x.script k.others a.others (suc x.round) x.round k.next a.q endings at o (omega (arith, first-long, second-short))
+      (omega (arith, first-long, second-short))) refl;
+  first_holds = subst (HoldLeft new n) o.first_is k.holds;
+  second_holds = subst (HoldLeft new m) o.second_is
+      (held-beside old new m n a.q (second-beside n m around.apart) around.only a.second_holds);
+}
+  where
+    k : HasCome h l (first_channel x.script (turns_in a.q)) 2 (streams_at First x.round a.p a.q) new n x.round a.p
+    k = first-come x h l old new n m a came
+
+    o : AreOver endings k.next a.q
+    o = stands-over h.ended x.second.ended h.modems x.second.modems k.others a.others k.next a.q endings k.stands a.second some
+
+    at : PairAt x.script k.others a.others (suc x.round) x.round k.next a.q
+    at = at-second laws.delays x.script a.files k.others a.others x.round a.p k.next a.q a.limits a.at k.follows k.lasts
+
+    second-over : is_going a.q ≡ false
+    second-over = ap is_going o.second_is
+
+    going : (is_going a.p ≡ true) ⊎ ((is_going a.p ≡ false) × (is_going a.q ≡ true)) → is_going a.p ≡ true
+    going (inl e) = e
+    going (inr e) = absurd (false≢true (sym second-over ∙ e.1))
+
+    was : is_going a.p ≡ true
+    was = going (either (is_going a.p) (is_going a.q) a.going)
+
+    first-long : length o.ts ≡ x.round
+    first-long = ap (λ z. length (turns_in z)) (sym o.first_is)
+        ∙ ended-now a.p k.next x.round k.follows was (ap is_going o.first_is)
+        (counted (first_channel x.script (turns_in a.q)) (link_of x.script a.files) x.round a.p a.at.first was)
+
+    second-short : length o.us < x.round
+    second-short = subst (λ z. length (turns_in z) < x.round) o.second_is
+        (ended-before (second_channel x.script (turns_in a.p)) a.others x.round a.q a.at.second second-over)
+
+-- ---- the second link has
+
+second-come : (x : Pair) (h : Half) (l : Lines) (old new : FolderState) (n m : Written) (a : Awaits x old n m Second)
+    → HasCome h l (channel_at x.script x.second.dlci (after_first (turns_in a.p))) 2 (streams_at Second x.round a.p a.q) new m x.round a.q
+    → HasCome h l (second_channel x.script (turns_in a.p)) 2 (streams_at Second x.round a.p a.q) new m x.round a.q
+second-come x h l old new n m a =
+    subst (λ d. HasCome h l (channel_at x.script d (after_first (turns_in a.p))) 2 (streams_at Second x.round a.p a.q) new m x.round a.q)
+    a.second_dlci_is
+
+one-more : (round : ℕ) → suc round ≡ round + 1
+one-more round = omega arith
+
+pub goes-to-first : PairLaws
+    → (x : Pair) (h : Half) (l : Lines) (old new : FolderState) (n m : Written) (a : Awaits x old n m Second) → Leaves old new n m m
+    → h.dlci ≡ x.second.dlci → both_ended x.first.ended h.ended ≡ None
+    → HasCome h l (channel_at x.script x.second.dlci (after_first (turns_in a.p))) 2 (streams_at Second x.round a.p a.q) new m x.round a.q
+    → Awaits (second_moved x h l) new n m First
+goes-to-first laws x h l old new n m a around same none came =
+    let k = second-come x h l old new n m a came in
+    let beside = first-beside n m around.apart in
+    let long = length-on-line x.script first_dlci (after_second (turns_in a.q)) (link_of x.script a.files) (suc x.round) a.p a.at.first in
+    let waits : LinesWait l (first_channel x.script (turns_in k.next)) 2 (streams_at First (suc x.round) a.p k.next) =
+    subst (LinesWait l (first_channel x.script (turns_in k.next)) 2)
+    (sym (after-second-turn k.sent x.round a.p a.q k.next long k.on_line))
+    (waits-over l x.script second_dlci first_dlci (after_first (turns_in a.p)) (after_second (turns_in k.next)) 2 _ k.waits) in record {
+      limits = a.limits;
+      first_dlci_is = a.first_dlci_is;
+      second_dlci_is = same ∙ a.second_dlci_is;
+      first_channel_is = a.first_channel_is;
+      second_channel_is = k.channel ∙ sym (same ∙ a.second_dlci_is);
+      files = a.files;
+      others = k.others;
+      p = a.p;
+      q = k.next;
+      at = subst (λ r. PairAt x.script a.files k.others r r a.p k.next) (one-more x.round)
+          (at-first laws.delays x.script a.files a.others k.others x.round a.p a.q k.next a.limits a.at k.follows k.lasts);
+      going = stands-going x.first.ended h.ended x.first.modems h.modems a.files k.others a.p k.next a.first k.stands none;
+      first = a.first;
+      second = k.stands;
+      lines = subst (λ r. LinesWait l (first_channel x.script (turns_in k.next)) 2 (streams_at First r a.p k.next))
+          (one-more x.round) waits;
+      first_known = known-beside old new n m a.files beside around.only a.first_known;
+      second_known = k.knows;
+      first_holds = held-beside old new n m a.p beside around.only a.first_holds;
+      second_holds = k.holds;
+    }
+
+pub ends-second : PairLaws
+    → (x : Pair) (h : Half) (l : Lines) (old new : FolderState) (n m : Written) (a : Awaits x old n m Second) (endings : Endings)
+    → Leaves old new n m m → both_ended x.first.ended h.ended ≡ Some endings
+    → HasCome h l (channel_at x.script x.second.dlci (after_first (turns_in a.p))) 2 (streams_at Second x.round a.p a.q) new m x.round a.q
+    → HaveEnded x.script new n m endings
+ends-second laws x h l old new n m a endings around some came = record {
+  files = a.files;
+  others = k.others;
+  first_known = known-beside old new n m a.files (first-beside n m around.apart) around.only a.first_known;
+  second_known = k.knows;
+  left = o.left;
+  leaves = o.leaves;
+  runs = by_links (run_end endings.first) (run_end endings.second)
+      (over-pair x.script a.files k.others (suc x.round) (suc x.round) a.p k.next endings at o (omega (arith, first-short, second-long))
+      (omega (arith, first-short, second-long))) refl;
+  first_holds = subst (HoldLeft new n) o.first_is
+      (held-beside old new n m a.p (first-beside n m around.apart) around.only a.first_holds);
+  second_holds = subst (HoldLeft new m) o.second_is k.holds;
+}
+  where
+    k : HasCome h l (second_channel x.script (turns_in a.p)) 2 (streams_at Second x.round a.p a.q) new m x.round a.q
+    k = second-come x h l old new n m a came
+
+    o : AreOver endings a.p k.next
+    o = stands-over x.first.ended h.ended x.first.modems h.modems a.files k.others a.p k.next endings a.first k.stands some
+
+    at : PairAt x.script a.files k.others (suc x.round) (suc x.round) a.p k.next
+    at = at-first laws.delays x.script a.files a.others k.others x.round a.p a.q k.next a.limits a.at k.follows k.lasts
+
+    first-over : is_going a.p ≡ false
+    first-over = ap is_going o.first_is
+
+    going : (is_going a.p ≡ true) ⊎ ((is_going a.p ≡ false) × (is_going a.q ≡ true)) → is_going a.q ≡ true
+    going (inl e) = absurd (false≢true (sym first-over ∙ e))
+    going (inr e) = e.1
+
+    was : is_going a.q ≡ true
+    was = going (either (is_going a.p) (is_going a.q) a.going)
+
+    second-long : length o.us ≡ x.round
+    second-long = ap (λ z. length (turns_in z)) (sym o.second_is)
+        ∙ ended-now a.q k.next x.round k.follows was (ap is_going o.second_is)
+        (counted (second_channel x.script (turns_in a.p)) (link_of x.script a.others) x.round a.q a.at.second was)
+
+    first-short : length o.ts < suc x.round
+    first-short = subst (λ z. length (turns_in z) < suc x.round) o.first_is
+        (ended-before (first_channel x.script (turns_in a.q)) a.files (suc x.round) a.p a.at.first first-over)
+
+-- ---- the pair ends in the turn of a link
+
+-- what is left of the other one, with nothing behind its trace
+leaves-none : (p : Progress) → LeavesOf p [] (left_by p)
+leaves-none (Goes ts ends) = record { got_is = is; trace_is = sym (append-nil (trace_text ts)) }
+  where
+    is : (role : Role) → of role (left_by (Goes ts ends)).got ≡ concat (of role ends).incoming.taken
+    is Originator = refl
+    is Answerer = refl
+leaves-none (Ended ts ends end left) = (refl, sym (append-nil left.trace))
+
+line-first : (x : Pair) (old new : FolderState) (n m : Written) (a : Awaits x old n m First) (cause : LineEnd) → Leaves old new n m n
+    → IsEndedByLine (channel_at x.script x.first.dlci (after_second (turns_in a.q))) new n a.files x.round a.p cause
+    → PairEnded x.script new n m (pairs.line_end x.round cause)
+line-first x old new n m a cause around e =
+    let k = subst (λ d. IsEndedByLine (channel_at x.script d (after_second
+    (turns_in a.q))) new n a.files x.round a.p cause) a.first_dlci_is e in
+    let beside = second-beside n m around.apart in record {
+      files = a.files;
+      others = a.others;
+      first_known = k.knows;
+      second_known = known-beside old new m n a.others beside around.only a.second_known;
+      left = k.left;
+      leaves = left_by a.q;
+      runs = by_line First x.round cause (record {
+        p = a.p;
+        q = a.q;
+        at = a.at;
+        going = a.going;
+        is = k.is;
+        first_leaves = k.leaves;
+        second_leaves = leaves-none a.q;
+      }) refl;
+      first_holds = k.holds;
+      second_holds = held-beside old new m n a.q beside around.only a.second_holds;
+    }
+
+line-second : (x : Pair) (old new : FolderState) (n m : Written) (a : Awaits x old n m Second) (cause : LineEnd) → Leaves old new n m m
+    → IsEndedByLine (channel_at x.script x.second.dlci (after_first (turns_in a.p))) new m a.others x.round a.q cause
+    → PairEnded x.script new n m (pairs.line_end x.round cause)
+line-second x old new n m a cause around e =
+    let k = subst (λ d. IsEndedByLine (channel_at x.script d (after_first
+    (turns_in a.p))) new m a.others x.round a.q cause) a.second_dlci_is e in
+    let beside = first-beside n m around.apart in record {
+      files = a.files;
+      others = a.others;
+      first_known = known-beside old new n m a.files beside around.only a.first_known;
+      second_known = k.knows;
+      left = left_by a.p;
+      leaves = k.left;
+      runs = by_line Second x.round cause (record {
+        p = a.p;
+        q = a.q;
+        at = a.at;
+        going = a.going;
+        is = k.is;
+        first_leaves = leaves-none a.p;
+        second_leaves = k.leaves;
+      }) refl;
+      first_holds = held-beside old new n m a.p beside around.only a.first_holds;
+      second_holds = k.holds;
+    }
+
+abbrev Stopping : Type 1
+Stopping = Channel → Link → FolderState → Written → ℕ → Progress → Type 0
+
+stops-first : (S : Stopping) (x : Pair) (old new : FolderState) (n m : Written) (a : Awaits x old n m First) → Leaves old new n m n
+    → IsStopped S (channel_at x.script x.first.dlci (after_second (turns_in a.q))) new n x.round a.p → PairStops S x.script new n m
+stops-first S x old new n m a around e =
+    let k = subst (λ d. IsStopped S (channel_at x.script d (after_second (turns_in a.q))) new n x.round a.p) a.first_dlci_is e in
+    let beside = second-beside n m around.apart in record {
+      link = First;
+      round = x.round;
+      files = k.others;
+      others = a.others;
+      first_known = k.knows;
+      second_known = known-beside old new m n a.others beside around.only a.second_known;
+      p = a.p;
+      q = a.q;
+      at = record { first = k.lasts; second = a.at.second };
+      going = a.going;
+      stops = (k.stops, held-beside old new m n a.q beside around.only a.second_holds);
+    }
+
+stops-second : (S : Stopping) (x : Pair) (old new : FolderState) (n m : Written) (a : Awaits x old n m Second) → Leaves old new n m m
+    → IsStopped S (channel_at x.script x.second.dlci (after_first (turns_in a.p))) new m x.round a.q → PairStops S x.script new n m
+stops-second S x old new n m a around e =
+    let k = subst (λ d. IsStopped S (channel_at x.script d (after_first (turns_in a.p))) new m x.round a.q) a.second_dlci_is e in
+    let beside = first-beside n m around.apart in record {
+      link = Second;
+      round = x.round;
+      files = a.files;
+      others = k.others;
+      first_known = known-beside old new n m a.files beside around.only a.first_known;
+      second_known = k.knows;
+      p = a.p;
+      q = a.q;
+      at = record { first = a.at.first; second = k.lasts };
+      going = a.going;
+      stops = (held-beside old new n m a.p beside around.only a.first_holds, k.stops);
+    }
+
+pub fault-first : (x : Pair) (old new : FolderState) (n m : Written) (a : Awaits x old n m First) (fault : PairFault)
+    → Leaves old new n m n
+    → HalfEnds (channel_at x.script x.first.dlci (after_second (turns_in a.q))) new n a.files x.round a.p fault
+    → FaultEnds x.script new n m fault
+fault-first x old new n m a faults.ReadFault around e = stops-first LinkStopsReading x old new n m a around e
+fault-first x old new n m a faults.WriteFault around e = stops-first LinkStops x old new n m a around e
+fault-first x old new n m a faults.NoMemory around e = stops-first LinkStops x old new n m a around e
+fault-first x old new n m a (faults.LineLost role symbol) around e = line-first x old new n m a (lines.LineLost role symbol) around e
+fault-first x old new n m a (faults.ChanceMatch role turn) around e =
+    subst (λ t. PairEnded x.script new n m (pairs.ChanceMatch role t)) (sym e.0) (line-first x old new n m a
+    (lines.ChanceMatch role) around e.1)
+
+pub fault-second : (x : Pair) (old new : FolderState) (n m : Written) (a : Awaits x old n m Second) (fault : PairFault)
+    → Leaves old new n m m
+    → HalfEnds (channel_at x.script x.second.dlci (after_first (turns_in a.p))) new m a.others x.round a.q fault
+    → FaultEnds x.script new n m fault
+fault-second x old new n m a faults.ReadFault around e = stops-second LinkStopsReading x old new n m a around e
+fault-second x old new n m a faults.WriteFault around e = stops-second LinkStops x old new n m a around e
+fault-second x old new n m a faults.NoMemory around e = stops-second LinkStops x old new n m a around e
+fault-second x old new n m a (faults.LineLost role symbol) around e = line-second x old new n m a (lines.LineLost role symbol) around e
+fault-second x old new n m a (faults.ChanceMatch role turn) around e =
+    subst (λ t. PairEnded x.script new n m (pairs.ChanceMatch role t)) (sym e.0) (line-second x old new n m a
+    (lines.ChanceMatch role) around e.1)
+
+-- ---- what is answered of both links
+
+abbrev answered : Option Endings → Result (Option Endings) PairFault
+answered o = Ok o
+
+value : Option Endings → Result (Option Endings) PairFault → Option Endings
+value other (Ok z) = z
+value other (Err fault) = other
+
+pub none-of : (o : Option Endings) → answered o ≡ answered None → o ≡ None
+unfolding value
+none-of o e = ap (value o) e
+
+pub some-of : (o : Option Endings) (endings : Endings) → answered o ≡ answered (Some endings) → o ≡ Some endings
+unfolding value
+some-of o endings e = ap (value o) e

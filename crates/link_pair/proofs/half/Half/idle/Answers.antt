@@ -1,0 +1,108 @@
+use Rattle.std.proofs.Common.{refl, subst}
+use Rattle.roles.specs.Both.{of}
+use Rattle.line_run.specs.Sampled.{EndsLineBy}
+use Rattle.line_run.specs.Scripted.{channel_at}
+use Rattle.shared_line.specs.Lines.{end_of}
+use Rattle.shared_line.specs.declared.lines.LineEnd.{LineEnd}
+use Rattle.run_world.specs.Names.{inputs_of, written}
+use Rattle.pair_run.specs.Pair.{turns_on_line}
+use Rattle.link_pair.proofs.Idling.{at-end, count-at, has-idled, lost-idly, met-idly, stopped-idly, writes-ends, writes-counts}
+use Rattle.link_pair.proofs.half.Half.idle.Goals as goal
+
+pub arrive-requires-clause-due : goal.arrive-requires-clause-due
+arrive-requires-clause-due g c =
+    let h = c.args.self.now in
+    let script = c.args.script.now in
+    let r = c.requires.ready in
+    let a = at-end h script r.beside r.files c.args.round r.p c.requires.ended r.at.stands r.at.lasts in (
+      channel_at script h.dlci r.beside,
+      r.links,
+      turns_on_line c.args.round r.p,
+      r.streams,
+      r.at.waits,
+      r.at.due,
+      refl,
+      count-at h script r.beside r.files c.args.round r.p a,
+    )
+
+pub send_flags-requires-clause-room : goal.send_flags-requires-clause-room
+send_flags-requires-clause-room g c =
+    let h = c.args.self.now in
+    let script = c.args.script.now in
+    let r = c.requires.ready in
+    let a = at-end h script r.beside r.files c.args.round r.p c.requires.ended r.at.stands r.at.lasts in
+    let arrives = c.in-Ok.ensures.arrives (channel_at script h.dlci r.beside) r.links (turns_on_line c.args.round r.p) r.streams r.at.waits
+    r.at.due refl refl (count-at h script r.beside r.files c.args.round r.p a) in
+    (channel_at script h.dlci r.beside, r.links, r.streams, arrives.lines)
+
+pub returns-in-Ok-clause-turn : goal.returns-in-Ok-clause-turn
+returns-in-Ok-clause-turn g c = λ beside links streams files p h.
+    let half = c.args.self.now in
+    let script = c.args.script.now in
+    let channel = channel_at script half.dlci beside in
+    let a = at-end half script beside files c.args.round p c.requires.ended h.stands h.lasts in
+    let arrives = c.in-Ok.ensures.arrives channel links (turns_on_line c.args.round p) streams h.waits h.due refl refl
+    (count-at half script beside files c.args.round p a) in
+    has-idled half c.send_flags.new.lines c.arrive.new.self script beside links streams (g.F.Folder.state c.args.folder.now)
+    (written c.args.names.now) files c.args.round p c.heard_by.result.now c.in-Ok.field-0 a h.channel h.knows h.holds c.heard_by.ensures
+    arrives
+    (c.send_flags.ensures channel links streams arrives.lines refl)
+
+pub returns-in-Err-Lost-clause-turn : goal.returns-in-Err-Lost-clause-turn
+returns-in-Err-Lost-clause-turn g c = λ beside links streams files p h.
+    let half = c.args.self.now in
+    let script = c.args.script.now in
+    let channel = channel_at script half.dlci beside in
+    let checks = c.heard_by.result.now in
+    let a = at-end half script beside files c.args.round p c.requires.ended h.stands h.lasts in
+    let e = c.in-Err-Lost.ensures.arrives channel links (turns_on_line c.args.round p) streams h.waits h.due refl refl
+    (count-at half script beside files c.args.round p a) in
+    lost-idly half script beside (g.F.Folder.state c.args.folder.now)
+    (written c.args.names.now) files c.args.round p checks c.in-Err-Lost.role
+    c.in-Err-Lost.symbol a h.knows h.holds c.heard_by.ensures
+    (subst (λ (x : LineEnd). EndsLineBy channel (turns_on_line c.args.round p) (λ side. of side checks)
+    (end_of x)) c.in-Err-Lost.field-0-is e)
+
+pub returns-in-Ok-write_chance-clause-turn : goal.returns-in-Ok-write_chance-clause-turn
+returns-in-Ok-write_chance-clause-turn g c = λ beside links streams files p h.
+    let half = c.args.self.now in
+    let script = c.args.script.now in
+    let channel = channel_at script half.dlci beside in
+    let checks = c.heard_by.result.now in
+    let a = at-end half script beside files c.args.round p c.requires.ended h.stands h.lasts in
+    let e = c.in-Err-Chance.ensures.arrives channel links (turns_on_line c.args.round p) streams h.waits h.due refl refl
+    (count-at half script beside files c.args.round p a) in (
+      refl,
+      met-idly half script beside (g.F.Folder.state c.args.folder.now) (g.F.Folder.state c.write_chance.new.folder)
+          (written c.args.names.now)
+          files c.args.round p checks c.in-Err-Chance.role a c.requires.apart h.knows h.holds c.heard_by.ensures c.write_chance.ensures.only
+          c.in-Ok-write_chance.ensures.ok
+          (subst (λ (x : LineEnd). EndsLineBy channel (turns_on_line c.args.round p) (λ side. of side checks) (end_of x))
+          c.in-Err-Chance.field-0-is e),
+    )
+
+pub returns-in-Ok-write_chance-clause-counts : goal.returns-in-Ok-write_chance-clause-counts
+returns-in-Ok-write_chance-clause-counts g c = c.in-Ok-write_chance.ensures.counts (inputs_of (written c.args.names.now))
+
+pub returns-in-Err-clause-turn : goal.returns-in-Err-clause-turn
+returns-in-Err-clause-turn g c = λ beside links streams files p h.
+    let half = c.args.self.now in
+    let script = c.args.script.now in
+    let channel = channel_at script half.dlci beside in
+    let checks = c.heard_by.result.now in
+    let new = g.F.Folder.state c.write_chance.new.folder in
+    let n = written c.args.names.now in
+    let a = at-end half script beside files c.args.round p c.requires.ended h.stands h.lasts in
+    let e = c.in-Err-Chance.ensures.arrives channel links (turns_on_line c.args.round p) streams h.waits h.due refl refl
+    (count-at half script beside files c.args.round p a) in
+    writes-ends channel new n files c.args.round p c.in-Err.fault c.in-Err.ensures.write
+    (stopped-idly half script beside (g.F.Folder.state c.args.folder.now) new n files c.args.round p checks c.in-Err-Chance.role a
+    c.requires.apart h.knows h.holds c.heard_by.ensures c.write_chance.ensures.only c.in-Err.ensures.err
+    (subst (λ (x : LineEnd). EndsLineBy channel (turns_on_line c.args.round p) (λ side. of side checks) (end_of x))
+    c.in-Err-Chance.field-0-is e))
+
+pub returns-in-Err-clause-counts : goal.returns-in-Err-clause-counts
+returns-in-Err-clause-counts g c =
+    writes-counts (g.F.Folder.state c.args.folder.now) (g.F.Folder.state c.write_chance.new.folder)
+    (written c.args.names.now) c.in-Err.fault
+    c.in-Err.ensures.write (c.in-Err.ensures.counts (inputs_of (written c.args.names.now)))

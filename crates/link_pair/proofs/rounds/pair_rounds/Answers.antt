@@ -1,0 +1,92 @@
+use Rattle.std.proofs.Common.{refl, ◌∙◌, ap, subst, Ok}
+use Rattle.outside_calls.specs.Folder.{FolderState}
+use Rattle.outside_calls.proofs.Steps.{CountsStand-refl, CountsStand-trans}
+use Rattle.outside_calls.proofs.Putting.{OnlyPuts-refl, OnlyPuts-trans}
+use Rattle.noise_script.specs.Script.{ScriptValue}
+use Rattle.run_world.specs.Names.{Written, written}
+use Rattle.pair_run.specs.Ends.{First}
+use Rattle.link_pair.specs.Pair.{FaultEnds, HaveEnded, all_inputs, all_outputs}
+use Rattle.link_pair.proofs.Pairing.{few-rounds}
+use Rattle.link_pair.proofs.Beginning.{begins, nearer, counts-later}
+use Rattle.link_pair.proofs.rounds.pair_rounds.Goals as goal
+
+pub loop-endings-init : goal.loop-endings-init
+loop-endings-init g c =
+    let now : FolderState = g.F.Folder.state c.args.folder.now in
+    let n : Written = written c.args.names.now.first in
+    let m : Written = written c.args.names.now.second in
+    record {
+      ready = begins c.args.pair.now now n m c.requires.first c.requires.created;
+      script_is = refl;
+      only = OnlyPuts-refl now (all_outputs n m);
+      stand = CountsStand-refl now;
+      came = g.met.F.Folder.came_none _;
+    }
+
+pub loop-endings-smaller : goal.loop-endings-smaller
+loop-endings-smaller g c =
+    let now : FolderState = g.F.Folder.state c.loop-endings.folder in
+    let n : Written = written c.args.names.now.first in
+    let m : Written = written c.args.names.now.second in
+    nearer _ _ (few-rounds c.pairs_have_few_rounds.ensures c.loop-endings.pair now n m First c.loop-endings.invariant.ready)
+    (c.in-Ok-None.ensures.round (ap Ok c.in-Ok-None.field-0-is))
+
+pub loop-endings-preserved : goal.loop-endings-preserved
+loop-endings-preserved g c =
+    let old : FolderState = g.F.Folder.state c.args.folder.now in
+    let now : FolderState = g.F.Folder.state c.loop-endings.folder in
+    let next : FolderState = g.F.Folder.state c.round.new.folder in
+    let n : Written = written c.args.names.now.first in
+    let m : Written = written c.args.names.now.second in
+    record {
+      ready = c.in-Ok-None.ensures.going (ap Ok c.in-Ok-None.field-0-is);
+      script_is = c.in-Ok-None.ensures.script ∙ c.loop-endings.invariant.script_is;
+      only = OnlyPuts-trans old now next (all_outputs n m) c.loop-endings.invariant.only c.in-Ok-None.ensures.only;
+      stand = CountsStand-trans c.loop-endings.invariant.stand c.in-Ok-None.ensures.counts;
+      came = g.met.F.Folder.came_on _ _ _ c.loop-endings.invariant.came c.in-Ok-None.ensures.came;
+    }
+
+pub returns-in-Ok-Some-clause-ended : goal.returns-in-Ok-Some-clause-ended
+returns-in-Ok-Some-clause-ended g c =
+    let next : FolderState = g.F.Folder.state c.round.new.folder in
+    let n : Written = written c.args.names.now.first in
+    let m : Written = written c.args.names.now.second in
+    subst (λ (s : ScriptValue). HaveEnded s next n m c.in-Ok-Some.endings) c.loop-endings.invariant.script_is
+    (c.in-Ok-Some.ensures.ended c.in-Ok-Some.endings (ap Ok c.in-Ok-Some.field-0-is))
+
+pub returns-in-Ok-Some-clause-only : goal.returns-in-Ok-Some-clause-only
+returns-in-Ok-Some-clause-only g c =
+    let n : Written = written c.args.names.now.first in
+    let m : Written = written c.args.names.now.second in
+    OnlyPuts-trans (g.F.Folder.state c.args.folder.now) (g.F.Folder.state c.loop-endings.folder) (g.F.Folder.state c.round.new.folder)
+    (all_outputs n m) c.loop-endings.invariant.only c.in-Ok-Some.ensures.only
+
+pub returns-in-Ok-Some-clause-came : goal.returns-in-Ok-Some-clause-came
+returns-in-Ok-Some-clause-came g c = g.met.F.Folder.came_on _ _ _ c.loop-endings.invariant.came c.in-Ok-Some.ensures.came
+
+pub returns-in-Ok-Some-clause-counts : goal.returns-in-Ok-Some-clause-counts
+returns-in-Ok-Some-clause-counts g c = CountsStand-trans c.loop-endings.invariant.stand c.in-Ok-Some.ensures.counts
+
+pub returns-in-Err-clause-fault : goal.returns-in-Err-clause-fault
+returns-in-Err-clause-fault g c =
+    let next : FolderState = g.F.Folder.state c.round.new.folder in
+    let n : Written = written c.args.names.now.first in
+    let m : Written = written c.args.names.now.second in
+    subst (λ (s : ScriptValue). FaultEnds s next n m c.in-Err.fault) c.loop-endings.invariant.script_is c.in-Err.ensures.fault
+
+pub returns-in-Err-clause-only : goal.returns-in-Err-clause-only
+returns-in-Err-clause-only g c =
+    let n : Written = written c.args.names.now.first in
+    let m : Written = written c.args.names.now.second in
+    OnlyPuts-trans (g.F.Folder.state c.args.folder.now) (g.F.Folder.state c.loop-endings.folder) (g.F.Folder.state c.round.new.folder)
+    (all_outputs n m) c.loop-endings.invariant.only c.in-Err.ensures.only
+
+pub returns-in-Err-clause-came : goal.returns-in-Err-clause-came
+returns-in-Err-clause-came g c = g.met.F.Folder.came_on _ _ _ c.loop-endings.invariant.came c.in-Err.ensures.came
+
+pub returns-in-Err-clause-counts : goal.returns-in-Err-clause-counts
+returns-in-Err-clause-counts g c =
+    let n : Written = written c.args.names.now.first in
+    let m : Written = written c.args.names.now.second in
+    counts-later (g.F.Folder.state c.args.folder.now) (g.F.Folder.state c.loop-endings.folder) (g.F.Folder.state c.round.new.folder)
+    (all_inputs n m) (all_outputs n m) c.in-Err.fault c.loop-endings.invariant.stand c.in-Err.ensures.counts

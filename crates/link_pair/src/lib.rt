@@ -1,0 +1,17 @@
+//! Two links over one line, in rounds: each end sends a slot of the first link and then one of the second, through one coder and one
+//! decoder a direction. A pure function of the script and of the folder that is lent to each round. The central type is [`Pair`], and
+//! [`pair_rounds`] makes its rounds up to the end of the pair.
+//!
+//! A link of a pair is a run of one link whose channel has the other one's slots beside its own: it is [`run_world::Modems`] with lines
+//! that are lent to its turns. Once it has ended its ends send flags and hear nothing, but what arrives of its slots can still end the
+//! pair.
+#![tactic(auto)]
+
+mod half;
+mod pair;
+mod rounds;
+
+use half::Half;
+pub use half::{LinkEnd, PairFault};
+pub use pair::{Endings, Pair, PairNames};
+pub use rounds::pair_rounds;

@@ -1,0 +1,6 @@
+pub mod Words
+pub mod Answers
+pub mod Ends
+pub mod Headline
+pub mod Completes
+pub mod Isolates
