@@ -1,5 +1,6 @@
 -- The first line in which a text differs from lines, and in what.
-use Rattle.std.specs.Prelude.{◌≡◌, ◌≢◌, ℕ, ◌+◌, List, [], ◌∷◌, ◌++◌, length}
+use Rattle.std.specs.Prelude.{◌≡◌, ◌≢◌, true, ℕ, ◌+◌, List, [], ◌∷◌, ◌++◌, length}
+use Rattle.std.specs.List.{list_all}
 use Rattle.line_reader.specs.Cutting.{front_of, is_no_feed}
 use Rattle.line_reader.specs.Grammar.{HasParts}
 use Rattle.line_reader.specs.declared.line.LineText.{LineText}
@@ -15,6 +16,16 @@ fed line = line ++ 10 ∷ []
 abbrev pub text_of : List (List ℕ) → List ℕ
 text_of [] = []
 text_of (line ∷ lines) = fed line ++ text_of lines
+
+-- no line feed stands in any of these lines
+abbrev pub AreWhole : List (List ℕ) → Type 0
+AreWhole [] = Unit {0}
+AreWhole (line ∷ lines) = (list_all is_no_feed line ≡ true) × AreWhole lines
+
+-- These are the lines of a text, each of which ends with a line feed.
+pub record IsCut (text : List ℕ) (lines : List (List ℕ)) : Type 0 where
+  pub whole : AreWhole lines
+  pub text_is : text ≡ text_of lines
 
 -- the line that a text begins with, up to its line feed or the end of the text
 abbrev pub own_line : List ℕ → List ℕ

@@ -8,5 +8,5 @@ pub mod laws;
 
 pub use causes::AuditCause;
 pub use comparison::{Comparison, Difference};
-pub use difference::WINDOW;
+pub use difference::{WINDOW, cut_line};
 pub use line_reader::{LineText, Spelling, Words, read_text};
