@@ -10,6 +10,9 @@ pub record Swallowed : Type 0 where
   pub got_a : List ℕ
   pub trace : List ℕ
 
+abbrev pub swallowed : List ℕ → List ℕ → List ℕ → Swallowed
+swallowed got_o got_a trace = record { got_o = got_o; got_a = got_a; trace = trace }
+
 -- whether it tells a name: the trace, and of the others those that the folder handed in tells, without the swallowed ones
 abbrev pub audit_tells : FolderState → Swallowed → List ℕ → Bool
 audit_tells inner n name =

@@ -3,7 +3,7 @@ ghost use Rattle.std.specs.Prelude.{◌≡◌, ◌≤◌, []};
 ghost use Rattle.std.specs.Prelude.{refl};
 ghost use Rattle.std.proofs.Common.{◌∙◌};
 ghost use Rattle.outside_calls.specs.Folder.{raised};
-ghost use Rattle.audit_folder.specs.Audited.{audit_state, Swallowed};
+ghost use Rattle.audit_folder.specs.Audited.{audit_state, swallowed};
 ghost use Rattle.audit_folder.specs.Passed.{OnlyPassed, OnlyPassed-refl, OnlyPassed-trans};
 
 use frame_check::Octets;
@@ -56,6 +56,13 @@ impl<'a, F: Folder> AuditFolder<'a, F> {
             refusals: 0,
         }
     }
+
+    /// The octets of the trace.
+    pub fn text(&self) -> Octets<HELD>
+        ensures { result ≡ self.now.text }
+    {
+        self.text.copy()
+    }
 }
 
 /// One refusal of memory more.
@@ -70,13 +77,16 @@ fn refused(refusals: &mut u64) -> FolderFault
 
 impl<F: Folder> Folder for AuditFolder<'_, F> {
     ghost state = { λ f. audit_state (F.state f.inner.now)
-        (record { got_o = f.got_o.now; got_a = f.got_a.now; trace = f.trace.now }) f.text f.refusals };
+        (swallowed f.got_o.now f.got_a.now f.trace.now) f.text f.refusals };
 
-    ghost came = { λ a b. (b.inner.ghost_name ≡ a.inner.ghost_name) × OnlyPassed (F.state a.inner.now) (F.state b.inner.now) a.refusals b.refusals };
+    // The same reference, and the same names.
+    ghost came = { λ a b. (b.inner.ghost_name ≡ a.inner.ghost_name)
+        × (swallowed b.got_o.now b.got_a.now b.trace.now ≡ swallowed a.got_o.now a.got_a.now a.trace.now)
+        × OnlyPassed (F.state a.inner.now) (F.state b.inner.now) a.refusals b.refusals };
 
-    ghost came_none = { λ a. (refl, OnlyPassed-refl (F.state a.inner.now) a.refusals) };
+    ghost came_none = { λ a. (refl, refl, OnlyPassed-refl (F.state a.inner.now) a.refusals) };
 
-    ghost came_on = { λ a b c p q. (q.0 ∙ p.0, OnlyPassed-trans p.1 q.1) };
+    ghost came_on = { λ a b c p q. (q.0 ∙ p.0, q.1 ∙ p.1, OnlyPassed-trans p.2 q.2) };
 
     fn read_at(&mut self, name: &str, at: u64, buf: &mut [u8]) -> Result<usize, FolderFault> {
         if name == self.trace {

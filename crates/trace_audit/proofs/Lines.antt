@@ -83,6 +83,34 @@ module _ (text : List ℕ) (lines : List (List ℕ)) where
     );
   }
 
+  -- no octet stands behind the lines, or one does
+  none-behind : (rest : List ℕ) → take 1 rest ≡ [] → rest ≡ []
+  none-behind [] e = refl
+  none-behind (x ∷ rest) e = absurd cc
+
+  some-behind : (rest : List ℕ) → take 1 rest ≢ [] → 0 < length rest
+  some-behind [] e = absurd (e refl)
+  some-behind (x ∷ rest) e = omega arith
+
+  pub all-there : (at count : ℕ) (behind : List ℕ) → HasLines text lines at count → behind ≡ take 1 (drop at text) → behind ≡ []
+      → (text ≡ text_of lines) × (count ≡ length lines)
+  all-there at count behind h window none =
+      let rest : h.rest ≡ [] = none-behind h.rest (ap (λ t. take 1 t) (sym (behind-lines at count h)) ∙ sym window ∙ none) in
+      (h.text_is ∙ ap (λ t. text_of lines ++ t) rest ∙ append-nil (text_of lines), h.count_is)
+
+  pub goes-further : (at count : ℕ) (behind : List ℕ) → HasLines text lines at count → behind ≡ take 1 (drop at text) → behind ≢ []
+      → FirstDiffers lines text (count + 1) Beyond
+  goes-further at count behind h window some =
+      let more : 0 < length h.rest =
+      some-behind h.rest (λ none. some (window ∙ ap (λ t. take 1 t) (behind-lines at count h) ∙ none)) in
+      goes-beyond at count h (omega (
+        arith,
+        more,
+        h.at_is,
+        ap (λ (t : List ℕ). length t) h.text_is,
+        length-append {A = ℕ} (text_of lines) h.rest,
+      ))
+
 -- ---- one first difference
 
 -- what is left of one list cut in two places

@@ -1,5 +1,5 @@
 -- How far a text was compared with lines.
-use Rattle.std.specs.Prelude.{◌≡◌, ◌≢◌, ℕ, ◌+◌, ◌*◌, ◌<◌, ◌≤◌, IsTrue, Bool, true, false, List, [], ◌∷◌, ◌++◌, length, drop}
+use Rattle.std.specs.Prelude.{◌≡◌, ℕ, ◌+◌, ◌*◌, ◌≤◌, List, ◌∷◌, ◌++◌, length, take, drop, Option, Some, None}
 use Rattle.trace_audit.specs.Differences.{text_of, LineDiffers}
 use Rattle.causes.specs.declared.audit_cause.AuditCause.{AuditCause}
 use Rattle.trace_audit.specs.declared.comparison.Comparison.{Comparison}
@@ -28,17 +28,17 @@ abbrev pub Compared : List ℕ → List (List ℕ) → Comparison → Type 0
 Compared text lines (Agrees at count) = HasLines text lines at count
 Compared text lines (Differs number cause) = DiffersIn text lines number cause
 
--- where the text is to be read on
-abbrev pub place_of : Comparison → ℕ
-place_of (Agrees at count) = at
-place_of (Differs number cause) = 0
+-- where the text is to be read on: nowhere, once it differs
+abbrev pub place_of : Comparison → Option ℕ
+place_of (Agrees at count) = Some at
+place_of (Differs number cause) = None
+
+-- where it is to be read on it has these octets, or more than so many, of which these are the first
+abbrev pub HasWindow : List ℕ → Comparison → ℕ → List ℕ → Type 0
+HasWindow text (Agrees at count) size window = window ≡ take size (drop at text)
+HasWindow text (Differs number cause) size window = Unit {0}
 
 -- at most so many lines were compared, of 161 octets each
 abbrev pub IsFew : ℕ → Comparison → Type 0
 IsFew n (Agrees at count) = (count ≤ n) × (at ≤ 161 * n)
 IsFew n (Differs number cause) = Unit {0}
-
--- the text goes on where it was compared up to there
-abbrev pub Continues : List ℕ → Comparison → Bool → Type 0
-Continues text c true = place_of c < length text
-Continues text c false = length text ≤ place_of c
