@@ -32,11 +32,11 @@ untied : (q bs : List ℕ) (b : Bool) → eq_by_cmp (slice_cmp nat_cmp) q bs ≡
 untied q bs true e apart = absurd (apart (tied q bs e))
 untied q bs false e apart = refl
 
-at-name : (m : Files) (name xs : List ℕ) → get (insert m name xs) name ≡ Some xs
+pub at-name : (m : Files) (name xs : List ℕ) → get (insert m name xs) name ≡ Some xs
 at-name m name xs =
     get-insert nat_list_cmp_total m name xs name ∙ ap (λ b. cond b (Some xs) (get m name)) ((eq_by_cmp_equiv nat_list_cmp_total).refl name)
 
-at-other : (m : Files) (name xs q : List ℕ) → q ≢ name → get (insert m name xs) q ≡ get m q
+pub at-other : (m : Files) (name xs q : List ℕ) → q ≢ name → get (insert m name xs) q ≡ get m q
 at-other m name xs q apart =
     get-insert nat_list_cmp_total m name xs q ∙ ap (λ b. cond b (Some xs) (get m q)) (untied q name _ refl apart)
 
@@ -45,7 +45,7 @@ at-other m name xs q apart =
 same-name : (a b : List ℕ) → bytes_eq a b ≡ true → a ≡ b
 same-name a b e = (bytes_eq-Decides a b).0 e
 
-false-true : {P : Type 0} → false ≡ true → P
+pub false-true : {P : Type 0} → false ≡ true → P
 false-true e = absurd cc
 
 other-name : (a b : List ℕ) → bytes_eq a b ≡ false → a ≢ b
@@ -53,7 +53,7 @@ other-name a b e s = false-true (sym e ∙ (bytes_eq-Decides a b).1 s)
 
 module _ (n : Swallowed) where
   -- what is told beside the trace is told by the folder handed in
-  told : (i : FolderState) (name : List ℕ) → bytes_eq name n.trace ≡ false → IsTrue (audit_tells i n name) → IsTrue (i.tells name)
+  pub told : (i : FolderState) (name : List ℕ) → bytes_eq name n.trace ≡ false → IsTrue (audit_tells i n name) → IsTrue (i.tells name)
   told i name e t = go (bytes_eq name n.trace) (bytes_eq name n.got_o) (bytes_eq name n.got_a) e t
     where
       go : (a b c : Bool) → a ≡ false → IsTrue (cond a true (cond b false (cond c false (i.tells name)))) → IsTrue (i.tells name)

@@ -1,2 +1,2 @@
+pub mod Auditing
 pub mod Passed
-mod Auditing
