@@ -10,6 +10,10 @@ use Rattle.command_base.specs.declared.status.Status.TheVariants.{BadScript, Too
 use Rattle.command_base.specs.declared.stop.Stop.{Stop}
 use Rattle.command_base.specs.declared.stop.Stop.TheVariants.{Own, Read, NoMemory}
 
+-- some text spells this script, whether the folder tells it or not
+abbrev pub IsSpelled : ScriptValue → Type 0
+IsSpelled script = (text : List ℕ) × ScriptSpelling text script
+
 -- A file within its limit that spells this script.
 pub record ReadsScript (limit : ℕ) (f : FolderState) (name : List ℕ) (script : ScriptValue) : Type 0 where
   pub within : IsWithin f name limit

@@ -4,6 +4,7 @@ ghost use Rattle.outside_calls.specs.Folder.{OnlyReads};
 ghost use Rattle.command_base.specs.Stops.{EndCounts};
 ghost use Rattle.noise_script.specs.declared.limits.TheConstants.{SCRIPT_OCTETS};
 ghost use Rattle.run_inputs.specs.Inputs.{Opens, Refuses};
+ghost use Rattle.run_inputs.specs.Scripts.{IsSpelled};
 
 use crate::lengths::check_lengths;
 use crate::limits::Limits;
@@ -26,6 +27,7 @@ pub fn open_inputs<F: Folder>(
     requires script { limits.script ≤ SCRIPT_OCTETS }
     requires words { first + length files.now < 2 ^ 32 }
     ensures opened { IfOk result (Opens limits (F.state folder.old) script.entry.0.now (map (λ name. name.now) files.now)) }
+    ensures spelled { IfOk result IsSpelled }
     ensures refused { IfErr result (Refuses limits (F.state folder.old) (F.state folder.new) script.entry.0.now script.entry.1 (map (λ name. name.now) files.now) first) }
     ensures reads { OnlyReads (F.state folder.old) (F.state folder.new) }
     ensures counts { (outputs : List (List ℕ)) → EndCounts (F.state folder.old) (F.state folder.new) (map (λ name. name.now) files.now ++ script.entry.0.now ∷ []) outputs result }

@@ -3,7 +3,7 @@ ghost use Rattle.std.specs.Prelude.{◌≤◌, ◌∷◌, [], List, ℕ, IfOk, I
 ghost use Rattle.outside_calls.specs.Folder.{OnlyReads};
 ghost use Rattle.command_base.specs.Stops.{EndCounts};
 ghost use Rattle.noise_script.specs.declared.limits.TheConstants.{SCRIPT_OCTETS};
-ghost use Rattle.run_inputs.specs.Scripts.{ReadsScript, RefusesScript};
+ghost use Rattle.run_inputs.specs.Scripts.{IsSpelled, ReadsScript, RefusesScript};
 
 use command_base::{Status, Stop, read_file, within_limit};
 use noise_script::{Script, ScriptFault, read_script};
@@ -21,6 +21,7 @@ pub(crate) fn open_script<F: Folder>(
 ) -> Result<Script, Stop>
     requires { limit ≤ SCRIPT_OCTETS }
     ensures opened { IfOk result (ReadsScript limit (F.state folder.old) name.now) }
+    ensures spelled { IfOk result IsSpelled }
     ensures refused { IfErr result (RefusesScript limit (F.state folder.old) name.now word) }
     ensures reads { OnlyReads (F.state folder.old) (F.state folder.new) }
     ensures counts { (outputs : List (List ℕ)) → EndCounts (F.state folder.old) (F.state folder.new) (name.now ∷ []) outputs result }

@@ -1,0 +1,7 @@
+mod Inside
+mod Turning
+mod Splitting
+mod Running
+mod Deciding
+mod Opening
+mod Judging

@@ -1,0 +1,228 @@
+-- The folder of an audit against what a folder has to do.
+use Rattle.std.proofs.Common.{◌≡◌, ◌≢◌, ℕ, ◌+◌, ◌-◌, ◌^◌, ◌<◌, ◌≤◌, min, Bool, true, false, not, cond, List, [], ◌∷◌, ◌++◌, length, take, drop, Option, Some, None}
+use Rattle.std.proofs.Common.{refl, sym, ap, subst, ◌∙◌, arith, inl, inr, ◌⊎◌, unwrap_or, Result, Ok, Err, length-drop}
+use Rattle.std.specs.Prelude.{IsTrue, IsErrOf, IfOk, OnOk}
+use Rattle.std.specs.FinMap.{get, insert, get-insert, slice_cmp-IsAntisymmetric, nat_cmp-IsAntisymmetric}
+use Rattle.std.specs.Str.{bytes_eq}
+use Rattle.std.specs.Ordering.{nat_cmp, is_eq, eq_by_cmp}
+use Rattle.std.specs.Cmp.{eq_by_cmp_equiv}
+use Rattle.std.specs.Cmp.Lexicographic.{slice_cmp, nat_list_cmp_total}
+use Rattle.std.specs.declared.cmp.Ordering.{Ordering}
+use Rattle.std.specs.declared.cmp.Ordering.TheVariants.{Less, Equal, Greater}
+use Rattle.std.proofs.lemmas.Slice.Eq.{bytes_eq-Decides}
+use Rattle.outside_calls.specs.Folder.{Files, FolderState, held_at, octets_at, raised, Rose, GoesOn, FaultsStand, CountsStand, KeepsName, OnlyReads, OnlyWrites, HasCause}
+use Rattle.plain_lists.specs.Octets.{AreOctets}
+use Rattle.outside_calls.specs.Folder.{ReadsFront, TellsOctets, Appended, PartlyAppended, Created}
+use Rattle.outside_calls.proofs.Steps.{GoesOn-refl, FaultsStand-refl, CountsStand-refl}
+use Rattle.outside_calls.specs.declared.folder.FolderFault.{FolderFault}
+use Rattle.outside_calls.specs.declared.folder.FolderFault.TheVariants.{Failed, NoMemory}
+use Rattle.audit_folder.specs.Audited.{Swallowed, audit_tells, sum_of, audit_state}
+
+-- ---- finite maps
+
+is_Equal : (r : Ordering) → is_eq r ≡ true → r ≡ Equal
+is_Equal Less e = cc
+is_Equal Equal e = refl
+is_Equal Greater e = cc
+
+tied : (q bs : List ℕ) → eq_by_cmp (slice_cmp nat_cmp) q bs ≡ true → q ≡ bs
+tied q bs same = slice_cmp-IsAntisymmetric nat_cmp-IsAntisymmetric q bs (is_Equal (slice_cmp nat_cmp q bs) same)
+
+untied : (q bs : List ℕ) (b : Bool) → eq_by_cmp (slice_cmp nat_cmp) q bs ≡ b → q ≢ bs → b ≡ false
+untied q bs true e apart = absurd (apart (tied q bs e))
+untied q bs false e apart = refl
+
+pub at-name : (m : Files) (name xs : List ℕ) → get (insert m name xs) name ≡ Some xs
+at-name m name xs =
+    get-insert nat_list_cmp_total m name xs name ∙ ap (λ b. cond b (Some xs) (get m name)) ((eq_by_cmp_equiv nat_list_cmp_total).refl name)
+
+pub at-other : (m : Files) (name xs q : List ℕ) → q ≢ name → get (insert m name xs) q ≡ get m q
+at-other m name xs q apart =
+    get-insert nat_list_cmp_total m name xs q ∙ ap (λ b. cond b (Some xs) (get m q)) (untied q name _ refl apart)
+
+-- ---- names
+
+same-name : (a b : List ℕ) → bytes_eq a b ≡ true → a ≡ b
+same-name a b e = (bytes_eq-Decides a b).0 e
+
+pub false-true : {P : Type 0} → false ≡ true → P
+false-true e = absurd cc
+
+other-name : (a b : List ℕ) → bytes_eq a b ≡ false → a ≢ b
+other-name a b e s = false-true (sym e ∙ (bytes_eq-Decides a b).1 s)
+
+module _ (n : Swallowed) where
+  -- what is told beside the trace is told by the folder handed in
+  pub told : (i : FolderState) (name : List ℕ) → bytes_eq name n.trace ≡ false → IsTrue (audit_tells i n name) → IsTrue (i.tells name)
+  told i name e t = go (bytes_eq name n.trace) (bytes_eq name n.got_o) (bytes_eq name n.got_a) e t
+    where
+      go : (a b c : Bool) → a ≡ false → IsTrue (cond a true (cond b false (cond c false (i.tells name)))) → IsTrue (i.tells name)
+      go true b c e t = false-true (sym e)
+      go false true c e t = false-true t
+      go false false true e t = false-true t
+      go false false false e t = t
+
+  -- a swallowed name isn't told
+  untold : (i : FolderState) (name : List ℕ) → bytes_eq name n.trace ≡ false → bytes_eq name n.got_o ≡ true ⊎ bytes_eq name n.got_a ≡ true
+      → IsTrue (audit_tells i n name) → ⊥
+  untold i name e s t = go (bytes_eq name n.trace) (bytes_eq name n.got_o) (bytes_eq name n.got_a) e s t
+    where
+      go : (a b c : Bool) → a ≡ false → b ≡ true ⊎ c ≡ true → IsTrue (cond a true (cond b false (cond c false (i.tells name)))) → ⊥
+      go true b c e s t = false-true (sym e)
+      go false true c e s t = false-true t
+      go false false true e s t = false-true t
+      go false false false e s t = elim s [ inl p ↦ false-true p | inr p ↦ false-true p ]
+
+  -- ---- reads
+
+  pub reads-trace : (i : FolderState) (text : List ℕ) (r : ℕ) (name : List ℕ) (at : ℕ) (before after : List ℕ) (count : ℕ)
+      → bytes_eq name n.trace ≡ true → count ≡ min (length before) (length text - at)
+      → after ≡ take count (drop at text) ++ drop count before → ReadsFront (audit_state i n text r) name at before after count
+  reads-trace i text r name at before after count e c f told =
+      let o : octets_at (audit_state i n text r) name ≡ text =
+      ap (λ (q : List ℕ). octets_at (audit_state i n text r) q) (same-name name n.trace e)
+      ∙ ap (λ o. unwrap_or o []) (at-name i.held n.trace text) in
+      subst (λ (t : List ℕ). (count ≡ min (length before) (length (drop at t))) × (after ≡ take count (drop at t) ++ drop count before)) (sym o)
+      (c ∙ ap (λ k. min (length before) k) (sym (length-drop at text)), f)
+
+  pub reads-on : (i : FolderState) (text : List ℕ) (r : ℕ) (name : List ℕ) (at : ℕ) (before after : List ℕ) (count : ℕ)
+      → bytes_eq name n.trace ≡ false → ReadsFront i name at before after count → ReadsFront (audit_state i n text r) name at before after count
+  reads-on i text r name at before after count e f t =
+      let o : octets_at (audit_state i n text r) name ≡ octets_at i name =
+      ap (λ o. unwrap_or o []) (at-other i.held n.trace text name (other-name name n.trace e)) in
+      subst (λ (t : List ℕ). (count ≡ min (length before) (length (drop at t))) × (after ≡ take count (drop at t) ++ drop count before)) (sym o)
+      (f (told i name e t))
+
+  -- what is told of a name stays, where the folder handed in keeps its names
+  keeps : (i j : FolderState) (text : List ℕ) (r s : ℕ) (name : List ℕ) → KeepsName i j name
+      → KeepsName (audit_state i n text r) (audit_state j n text s) name
+  keeps i j text r s name k t = go (bytes_eq name n.trace) refl
+    where
+      go : (b : Bool) → bytes_eq name n.trace ≡ b → get (insert j.held n.trace text) name ≡ get (insert i.held n.trace text) name
+      go true e =
+          ap (get (insert j.held n.trace text)) (same-name name n.trace e) ∙ at-name j.held n.trace text ∙ sym (at-name i.held n.trace text)
+          ∙ ap (get (insert i.held n.trace text)) (sym (same-name name n.trace e))
+      go false e =
+          at-other j.held n.trace text name (other-name name n.trace e) ∙ k (told i name e t)
+          ∙ sym (at-other i.held n.trace text name (other-name name n.trace e))
+
+  tells-on : (i j : FolderState) (name : List ℕ) → j.tells name ≡ i.tells name → audit_tells j n name ≡ audit_tells i n name
+  tells-on i j name e =
+      ap (λ t. cond (bytes_eq name n.trace) true (cond (bytes_eq name n.got_o) false (cond (bytes_eq name n.got_a) false t))) e
+
+  sum-more : (a b r : ℕ) → a ≤ b → sum_of a r ≤ sum_of b r
+  sum-more a b r h = omega (arith, h)
+
+  pub only-reads : (i j : FolderState) (text : List ℕ) (r : ℕ) → OnlyReads i j
+      → OnlyReads (audit_state i n text r) (audit_state j n text r)
+  only-reads i j text r o = record {
+    goes_on = record {
+      tells = λ name. tells-on i j name (o.goes_on.tells name);
+      reads = o.goes_on.reads;
+      writes = λ name. omega arith;
+      says = omega arith;
+      refused = sum-more i.refusals j.refusals r o.goes_on.refused;
+    };
+    names = λ name. keeps i j text r r name (o.names name);
+    said = refl;
+    write_faults = λ name. refl;
+    say_faults = refl;
+  }
+
+  -- ---- counts
+
+  rose-inner : (a b r : ℕ) → Rose a b → Rose (sum_of a r) (sum_of b r)
+  rose-inner a b r h = omega (arith, h)
+
+  rose-own : (a r : ℕ) → Rose (sum_of a r) (sum_of a (raised r))
+  rose-own a r = omega arith
+
+  pub reads-cause : {T : Type 0} (i j : FolderState) (r f f' : ℕ) (result : Result T FolderFault)
+      → HasCause f f' i.refusals j.refusals result → HasCause f f' (sum_of i.refusals r) (sum_of j.refusals r) result
+  reads-cause i j r f f' result h = record { failed = h.failed; memory = λ e. rose-inner i.refusals j.refusals r (h.memory e) }
+
+  pub reads-stand : (i j : FolderState) (text : List ℕ) (r : ℕ) → CountsStand i j
+      → CountsStand (audit_state i n text r) (audit_state j n text r)
+  reads-stand i j text r h = record {
+    faults = record { reads = h.faults.reads; writes = λ name. refl; says = refl };
+    refusals = ap (λ a. sum_of a r) h.refusals;
+  }
+
+  -- ---- writes
+
+  -- the trace alone changes
+  pub only-trace : (i : FolderState) (text text' : List ℕ) (r : ℕ) (name : List ℕ) → bytes_eq name n.trace ≡ true
+      → OnlyWrites (audit_state i n text r) (audit_state i n text' r) name
+  only-trace i text text' r name e = record {
+    goes_on = record {
+      tells = λ q. refl;
+      reads = λ q. omega arith;
+      writes = λ q. omega arith;
+      says = omega arith;
+      refused = omega arith;
+    };
+    names = λ q apart t.
+        let other : q ≢ n.trace = λ s. apart (s ∙ sym (same-name name n.trace e)) in
+        at-other i.held n.trace text' q other ∙ sym (at-other i.held n.trace text q other);
+    said = refl;
+    read_faults = λ q. refl;
+  }
+
+  pub trace-is : (i : FolderState) (text : List ℕ) (r : ℕ) (name : List ℕ) → bytes_eq name n.trace ≡ true
+      → held_at (audit_state i n text r) name ≡ Some text
+  trace-is i text r name e = ap (get (insert i.held n.trace text)) (same-name name n.trace e) ∙ at-name i.held n.trace text
+
+  pub creates : (i : FolderState) (text : List ℕ) (r : ℕ) (name : List ℕ) → bytes_eq name n.trace ≡ true
+      → Created (audit_state i n text r) (audit_state i n [] r) name
+  creates i text r name e t = trace-is i [] r name e
+
+  pub appends : (i : FolderState) (text piece : List ℕ) (r : ℕ) (name : List ℕ) → bytes_eq name n.trace ≡ true
+      → Appended (audit_state i n text r) (audit_state i n (text ++ piece) r) name piece
+  appends i text piece r name e t =
+      trace-is i (text ++ piece) r name e ∙ ap (λ o. Some (unwrap_or o [] ++ piece)) (sym (trace-is i text r name e))
+
+  -- ---- refusals
+
+  pub only-refused : (i : FolderState) (text : List ℕ) (r r' : ℕ) (name : List ℕ) → r ≤ r'
+      → OnlyWrites (audit_state i n text r) (audit_state i n text r') name
+  only-refused i text r r' name more = record {
+    goes_on = record {
+      tells = λ q. refl;
+      reads = λ q. omega arith;
+      writes = λ q. omega arith;
+      says = omega arith;
+      refused = omega (arith, more);
+    };
+    names = λ q apart t. refl;
+    said = refl;
+    read_faults = λ q. refl;
+  }
+
+  pub swallows-creation : (i : FolderState) (text : List ℕ) (r : ℕ) (name : List ℕ) → bytes_eq name n.trace ≡ false
+      → bytes_eq name n.got_o ≡ true ⊎ bytes_eq name n.got_a ≡ true → Created (audit_state i n text r) (audit_state i n text r) name
+  swallows-creation i text r name e s t = absurd (untold i name e s t)
+
+  pub swallows : (i : FolderState) (text piece : List ℕ) (r : ℕ) (name : List ℕ) → bytes_eq name n.trace ≡ false
+      → bytes_eq name n.got_o ≡ true ⊎ bytes_eq name n.got_a ≡ true → Appended (audit_state i n text r) (audit_state i n text r) name piece
+  swallows i text piece r name e s t = absurd (untold i name e s t)
+
+  pub reads-on-ok : (i : FolderState) (text : List ℕ) (r : ℕ) (name : List ℕ) (at : ℕ) (before after : List ℕ) (result : Result ℕ FolderFault)
+      → bytes_eq name n.trace ≡ false → IfOk result (ReadsFront i name at before after)
+      → IfOk result (ReadsFront (audit_state i n text r) name at before after)
+  reads-on-ok i text r name at before after (Ok count) e h = reads-on i text r name at before after count e h
+  reads-on-ok i text r name at before after (Err fault) e h = tt
+
+  -- what is told are octets
+  pub tells-trace : (i : FolderState) (text : List ℕ) (r : ℕ) (name : List ℕ) → bytes_eq name n.trace ≡ true → AreOctets text
+      → TellsOctets (audit_state i n text r) name
+  tells-trace i text r name e octets told =
+      let o : octets_at (audit_state i n text r) name ≡ text = ap (λ o. unwrap_or o []) (trace-is i text r name e) in
+      subst AreOctets (sym o) octets
+
+  pub tells-inner : {T : Type 0} (i : FolderState) (text : List ℕ) (r : ℕ) (name : List ℕ) (result : Result T FolderFault)
+      → bytes_eq name n.trace ≡ false → OnOk result (TellsOctets i name) → OnOk result (TellsOctets (audit_state i n text r) name)
+  tells-inner i text r name (Ok value) e h = λ t.
+      let o : octets_at (audit_state i n text r) name ≡ octets_at i name =
+      ap (λ o. unwrap_or o []) (at-other i.held n.trace text name (other-name name n.trace e)) in
+      subst AreOctets (sym o) (h (told i name e t))
+  tells-inner i text r name (Err fault) e h = tt

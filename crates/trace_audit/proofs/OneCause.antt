@@ -1,0 +1,126 @@
+-- A text differs from lines first in one of them, and in one part of it.
+use Rattle.std.proofs.Common.{◌≡◌, ◌≢◌, ℕ, ◌+◌, ◌<◌, List, [], ◌∷◌, ◌++◌, length, refl, sym, ap, subst, ◌∙◌, arith, ◌⊎◌, inl, inr}
+use Rattle.std.proofs.lemmas.Bool.{cases_lt}
+use Rattle.line_reader.proofs.Lines.{one-reading}
+use Rattle.line_reader.specs.declared.line.LineText.{LineText}
+use Rattle.trace_audit.specs.Differences.{text_of, IsRead, StopsIn, PartsDiffer, ReadsDiffer, OwnDiffers, Departs, LineDiffers, RestDiffers, FirstDiffers}
+use Rattle.causes.specs.declared.audit_cause.AuditCause.{AuditCause}
+use Rattle.causes.specs.declared.audit_cause.AuditCause.TheVariants.{End, Beyond, Spelling, Turn, Role, Arrived, Sent, Break}
+use Rattle.trace_audit.proofs.Lines.{not-before, split-same, front-same}
+
+parts-one : (a b : LineText) (c d : AuditCause) → PartsDiffer a b c → PartsDiffer a b d → c ≡ d
+parts-one a b Turn Turn p q = refl
+parts-one a b Turn Role p q = absurd (p q.0)
+parts-one a b Turn Arrived p q = absurd (p q.0)
+parts-one a b Turn Sent p q = absurd (p q.0)
+parts-one a b Turn Break p q = absurd (p q.0)
+parts-one a b Turn End p q = absurd q
+parts-one a b Turn Beyond p q = absurd q
+parts-one a b Turn Spelling p q = absurd q
+parts-one a b Role Turn p q = absurd (q p.0)
+parts-one a b Role Role p q = refl
+parts-one a b Role Arrived p q = absurd (p.1 q.1)
+parts-one a b Role Sent p q = absurd (p.1 q.1)
+parts-one a b Role Break p q = absurd (p.1 q.1)
+parts-one a b Role End p q = absurd q
+parts-one a b Role Beyond p q = absurd q
+parts-one a b Role Spelling p q = absurd q
+parts-one a b Arrived Turn p q = absurd (q p.0)
+parts-one a b Arrived Role p q = absurd (q.1 p.1)
+parts-one a b Arrived Arrived p q = refl
+parts-one a b Arrived Sent p q = absurd (p.2 q.2)
+parts-one a b Arrived Break p q = absurd (p.2 q.2)
+parts-one a b Arrived End p q = absurd q
+parts-one a b Arrived Beyond p q = absurd q
+parts-one a b Arrived Spelling p q = absurd q
+parts-one a b Sent Turn p q = absurd (q p.0)
+parts-one a b Sent Role p q = absurd (q.1 p.1)
+parts-one a b Sent Arrived p q = absurd (q.2 p.2)
+parts-one a b Sent Sent p q = refl
+parts-one a b Sent Break p q = absurd (p.3 q.3)
+parts-one a b Sent End p q = absurd q
+parts-one a b Sent Beyond p q = absurd q
+parts-one a b Sent Spelling p q = absurd q
+parts-one a b Break Turn p q = absurd (q p.0)
+parts-one a b Break Role p q = absurd (q.1 p.1)
+parts-one a b Break Arrived p q = absurd (q.2 p.2)
+parts-one a b Break Sent p q = absurd (q.3 p.3)
+parts-one a b Break Break p q = refl
+parts-one a b Break End p q = absurd q
+parts-one a b Break Beyond p q = absurd q
+parts-one a b Break Spelling p q = absurd q
+parts-one a b End d p q = absurd p
+parts-one a b Beyond d p q = absurd p
+parts-one a b Spelling d p q = absurd p
+
+reads-one : (line own : List ℕ) (c d : AuditCause) → ReadsDiffer line own c → ReadsDiffer line own d → c ≡ d
+reads-one line own c d p q =
+    let right : q.right ≡ p.right = one-reading line q.right p.right q.right_is p.right_is in
+    let other : q.other ≡ p.other = one-reading own q.other p.other q.other_is p.other_is in
+    parts-one p.right p.other c d p.differ (subst (λ a. PartsDiffer a p.other d) right (subst (λ b. PartsDiffer q.right b d) other q.differ))
+
+own-cases : (line own : List ℕ) (c : AuditCause) → OwnDiffers line own c → ((c ≡ Spelling) × (IsRead own → ⊥)) ⊎ ReadsDiffer line own c
+own-cases line own End p = absurd p
+own-cases line own Beyond p = absurd p
+own-cases line own Spelling p = inl (refl, p)
+own-cases line own Turn p = inr p
+own-cases line own Role p = inr p
+own-cases line own Arrived p = inr p
+own-cases line own Sent p = inr p
+own-cases line own Break p = inr p
+
+own-one : (line own : List ℕ) (c d : AuditCause) → OwnDiffers line own c → OwnDiffers line own d → c ≡ d
+own-one line own c d p q = elim (own-cases line own c p) [
+  | inl a ↦ elim (own-cases line own d q) [
+    | inl b ↦ a.0 ∙ sym b.0
+    | inr b ↦ absurd (a.1 (b.other, b.other_is))
+  ]
+  | inr a ↦ elim (own-cases line own d q) [
+    | inl b ↦ absurd (b.1 (a.other, a.other_is))
+    | inr b ↦ reads-one line own c d a b
+  ]
+]
+
+line-cases : (line rest : List ℕ) (c : AuditCause) → LineDiffers line rest c → ((c ≡ End) × StopsIn line rest) ⊎ Departs line rest c
+line-cases line rest End p = inl (refl, p)
+line-cases line rest Beyond p = inr p
+line-cases line rest Spelling p = inr p
+line-cases line rest Turn p = inr p
+line-cases line rest Role p = inr p
+line-cases line rest Arrived p = inr p
+line-cases line rest Sent p = inr p
+line-cases line rest Break p = inr p
+
+line-one : (line rest : List ℕ) (c d : AuditCause) → LineDiffers line rest c → LineDiffers line rest d → c ≡ d
+line-one line rest c d p q = elim (line-cases line rest c p) [
+  | inl a ↦ elim (line-cases line rest d q) [
+    | inl b ↦ a.0 ∙ sym b.0
+    | inr b ↦ absurd (b.stays a.1)
+  ]
+  | inr a ↦ elim (line-cases line rest d q) [
+    | inl b ↦ absurd (a.stays b.1)
+    | inr b ↦ own-one line _ c d a.own b.own
+  ]
+]
+
+rest-one : (more : List (List ℕ)) (rest : List ℕ) (c d : AuditCause) → RestDiffers more rest c → RestDiffers more rest d → c ≡ d
+rest-one [] rest c d p q = p.0 ∙ sym q.0
+rest-one (line ∷ more) rest c d p q = line-one line rest c d p q
+
+-- one first difference, and one cause
+pub one-difference : (lines : List (List ℕ)) (text : List ℕ) (m n : ℕ) (c d : AuditCause) → FirstDiffers lines text m c
+    → FirstDiffers lines text n d → (m ≡ n) × (c ≡ d)
+one-difference lines text m n c d a b = elim (cases_lt (length a.before) (length b.before)) [
+  | inl less ↦ absurd (not-before lines text m n c d a b less)
+  | inr more ↦ elim (cases_lt (length b.before) (length a.before)) [
+    | inl less ↦ absurd (not-before lines text n m d c b a less)
+    | inr most ↦
+        let same : length a.before ≡ length b.before = omega (arith, more, most) in
+        let s = split-same a.before a.more b.before b.more (sym a.lines_is ∙ b.lines_is) same in
+        let rest : a.rest ≡ b.rest = front-same (text_of a.before) a.rest b.rest
+        (sym a.text_is ∙ b.text_is ∙ ap (λ l. text_of l ++ b.rest) (sym s.0)) in (
+          a.number_is ∙ ap (λ k. k + 1) same ∙ sym b.number_is,
+          rest-one a.more a.rest c d a.differs (subst (λ l. RestDiffers l a.rest d) (sym s.1) (subst (λ r. RestDiffers b.more r d) (sym rest) b.differs)),
+        )
+  ]
+]
