@@ -47,6 +47,14 @@ use Rattle.margin_command.specs.Words.{MarginNames, named as margin_named, names
 use Rattle.margin_command.specs.Ends.{margin_job}
 use Rattle.margin_command.specs.Headline.{Headline as MarginHeadline}
 use Rattle.margin_command.specs.Completes.{Completes as MarginCompletes}
+use Rattle.pair_command.specs.Words.{Names as PairNames, inputs_of as pair_inputs, outputs_of as pair_outputs, named as pair_named, names_of as pair_names}
+use Rattle.pair_command.specs.Ends.{pair_job}
+use Rattle.pair_command.specs.Headline.{Headline as PairHeadline}
+use Rattle.pair_command.specs.Completes.{Completes as PairCompletes}
+use Rattle.audit_command.specs.Words.{AuditNames, named as audit_named, names_of as audit_names}
+use Rattle.audit_command.specs.Ends.{audit_job}
+use Rattle.audit_command.specs.Headline.{Headline as AuditHeadline}
+use Rattle.audit_command.specs.Completes.{Completes as AuditCompletes}
 use Rattle.modem_cli.specs.declared.top.Asked.{Asked as AskedInCode}
 use Rattle.modem_cli.specs.declared.top.Asked.TheVariants as code
 
@@ -61,6 +69,8 @@ pub data Asked : Type 0 where
   Peer : PeerNames → Asked
   Pickup : List ℕ → Asked
   Margin : MarginNames → Asked
+  Pair : PairNames → Asked
+  Audit : AuditNames → Asked
   Nothing : Asked
 
 -- A first word, and what words ask for that begin with it.
@@ -87,6 +97,8 @@ commands =
     ∷ command (codes "encode4") Encode encode_names
     ∷ command (codes "decode4") Decode decode_names
     ∷ command (codes "record") Run run_names
+    ∷ command (codes "pair") Pair pair_names
+    ∷ command (codes "audit") Audit audit_names
     ∷ []
 
 -- what words ask for whose first one is this: nothing, where no command has that word
@@ -114,6 +126,8 @@ PromisesOf (Soak seed) old new s = SoakHeadline old new seed s
 PromisesOf (Peer n) old new s = PeerHeadline old new n s
 PromisesOf (Pickup rec) old new s = PickupHeadline old new rec s
 PromisesOf (Margin n) old new s = MarginHeadline old new n s
+PromisesOf (Pair n) old new s = PairHeadline old new n s
+PromisesOf (Audit n) old new s = AuditHeadline old new n s
 PromisesOf Nothing old new s = KeepsAll old new
 
 -- the answer to words that ask for this
@@ -127,6 +141,8 @@ AnswersBy (Soak seed) words old new s = Answers (soak_job seed) words old new s
 AnswersBy (Peer n) words old new s = Answers (peer_job n) words old new s
 AnswersBy (Pickup rec) words old new s = Answers (pickup_job rec) words old new s
 AnswersBy (Margin n) words old new s = Answers (margin_job n) words old new s
+AnswersBy (Pair n) words old new s = Answers (pair_job n) words old new s
+AnswersBy (Audit n) words old new s = Answers (audit_job n) words old new s
 AnswersBy Nothing words old new s = Tells old new usage Usage s
 
 -- when words that ask for this are done, but for want of memory
@@ -140,6 +156,8 @@ CompletesOf (Soak seed) old new s = SoakCompletes old new seed s
 CompletesOf (Peer n) old new s = PeerCompletes old new n s
 CompletesOf (Pickup rec) old new s = PickupCompletes old new rec s
 CompletesOf (Margin n) old new s = MarginCompletes old new n s
+CompletesOf (Pair n) old new s = PairCompletes old new n s
+CompletesOf (Audit n) old new s = AuditCompletes old new n s
 CompletesOf Nothing old new s = Unit {0}
 
 -- ---- in code
@@ -155,6 +173,8 @@ named (code.Soak seed) = Soak seed
 named (code.Peer names) = Peer (peer_named names)
 named (code.Pickup rec) = Pickup rec.now
 named (code.Margin names) = Margin (margin_named names)
+named (code.Pair names) = Pair (pair_named names)
+named (code.Audit names) = Audit (audit_named names)
 
 -- outputs have names of their own, where words ask for a command that makes any
 abbrev pub AreApart : Asked → Type 0
@@ -162,4 +182,5 @@ AreApart (Run n) = are_apart (run_inputs n) (run_outputs n) ≡ true
 AreApart (Encode n) = are_apart (encode_inputs n) (encode_outputs n) ≡ true
 AreApart (Decode n) = are_apart (decode_inputs n) (decode_outputs n) ≡ true
 AreApart (Peer n) = are_apart (peer_inputs n) (peer_outputs n) ≡ true
+AreApart (Pair n) = are_apart (pair_inputs n) (pair_outputs n) ≡ true
 AreApart other = Unit {0}

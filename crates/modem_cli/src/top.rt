@@ -4,12 +4,14 @@ ghost use Rattle.std.specs.Option.{option_map_or};
 ghost use Rattle.command_base.specs.Status.{PassesNoneOver};
 ghost use Rattle.modem_cli.specs.Modem.{Nothing, named, AreApart, asked, PromisesOf, AnswersBy, CompletesOf, usage};
 
+use audit_command::{AuditWords, audit, audit_words};
 use command_base::{Line, Status, tell, write_usage};
 use decode_command::{DecodeWords, decode, decode_words};
 use encode_command::{EncodeWords, encode, encode_words};
 use frames_command::{FramesWords, frames, frames_words};
 use margin_command::{MarginWords, margin, margin_words};
 use outside_calls::Folder;
+use pair_command::{PairWords, pair, pair_words};
 use peer_command::{PeerWords, peer, peer_words};
 use pickup_command::{pickup, pickup_words};
 use run_command::{RunWords, run, run_words};
@@ -29,6 +31,8 @@ enum Asked<'a> {
     Peer(PeerWords<'a>),
     Pickup(&'a str),
     Margin(MarginWords<'a>),
+    Pair(PairWords<'a>),
+    Audit(AuditWords<'a>),
 }
 
 /// What words ask for, by the first one.
@@ -50,6 +54,8 @@ fn read_words(words: &[String]) -> Option<Asked<'_>>
         "peer" => Asked::Peer(peer_words(words)?),
         "pickup" => Asked::Pickup(pickup_words(words)?),
         "margin" => Asked::Margin(margin_words(words)?),
+        "pair" => Asked::Pair(pair_words(words)?),
+        "audit" => Asked::Audit(audit_words(words)?),
         _ => return None,
     };
     Some(asked)
@@ -61,7 +67,7 @@ fn usage() -> Line
 {
     write_usage(&[
         "run", "encode", "decode", "frames", "xid", "soak", "peer", "pickup", "margin", "encode4",
-        "decode4", "record",
+        "decode4", "record", "pair", "audit",
     ])
 }
 
@@ -71,7 +77,8 @@ pub fn modem<F: Folder>(alloc: Global, words: &[String], folder: &mut F) -> Stat
     // the file's recording, or the beginning of it. What `decode` writes is carried by a code sequence that is no farther from the
     // recording than any other, or is the beginning of that. What `frames` says are the pieces of the file's bits, and what `pickup` says
     // those that a recording gives from whatever state its line began in. What `peer` leaves is what an end's run against the file's bits
-    // gives. Where `margin` says that it is sure, what a recording releases begins the labels of the file.
+    // gives. Where `margin` says that it is sure, what a recording releases begins the labels of the file. What `record` records is what both
+    // ends send. Each link of a `pair` leaves what a run leaves. A trace that `audit` calls true is that of the run of the files and the script.
     ensures promises { PromisesOf (asked (map string_bytes words.now)) (F.state folder.old) (F.state folder.new) result }
 
     // Each answer comes where it has to, with its line.
@@ -96,6 +103,8 @@ pub fn modem<F: Folder>(alloc: Global, words: &[String], folder: &mut F) -> Stat
         Some(Asked::Peer(names)) => peer(alloc, folder, words, &names),
         Some(Asked::Pickup(rec)) => pickup(alloc, folder, words, rec),
         Some(Asked::Margin(names)) => margin(folder, words, &names),
+        Some(Asked::Pair(names)) => pair(alloc, folder, words, &names),
+        Some(Asked::Audit(names)) => audit(alloc, folder, words, &names),
         None => tell(folder, usage().as_slice(), Status::Usage),
     }
 }

@@ -104,7 +104,7 @@ same-run : AloneLaws → (was before then : FolderState) (w : Written) (m : RunN
     (new : FolderState) (end : RunEnd)
     → OfPair script files new w → (r : run_ends.RanTo LIMITS was before m end) → ScriptSpelling text script → ScriptSpelling text r.script
     → files ≡ r.files → OnlyOutputs before then []
-    → alone.outputs_of m ≡ written.outputs_of w
+    → alone.texts_of m ≡ written.outputs_of w
     → AreLeftAlike new then (written.outputs_of w)
 same-run laws was before then w m text script files new end o r spelled spelt same last names =
     let scripts : script ≡ r.script = laws.one text script r.script spelled spelt in
@@ -115,7 +115,7 @@ same-run laws was before then w m text script files new end o r spelled spelt sa
     let holds : HoldEach then (written.outputs_of w) (held_of o.left) =
     subst (λ (l : Left). HoldEach then (written.outputs_of w) (held_of l)) (sym one.1)
     (subst (λ (ns : List (List ℕ)). HoldEach then ns (held_of r.left)) names
-    (HoldEach-kept before then (alone.outputs_of m) (held_of r.left) last.goes_on r.holds (kept before then (alone.outputs_of m) last))) in
+    (HoldEach-kept before then (alone.texts_of m) (held_of r.left) last.goes_on r.holds (kept before then (alone.texts_of m) last))) in
     alike new then (written.outputs_of w) (held_of o.left) o.holds holds
 
 -- ---- both
@@ -152,7 +152,7 @@ links-are-alone laws words others old new was then n link s r b faint = by link 
     last = last-only (λ (turns : LastTurns). both_done_line turns.first turns.second) words b.pair.before new b.pair.end s b.pair.says
 
     by : (link : Which) → Answers (run_job (run_of link n)) others was then r → AreTold was (alone.inputs_of (run_of link n))
-        → HoldSame old was (alone.inputs_of (run_of link n)) → AreLeftAlike new then (alone.outputs_of (run_of link n))
+        → HoldSame old was (alone.inputs_of (run_of link n)) → AreLeftAlike new then (alone.texts_of (run_of link n))
     by First run told_alone same =
         let c = run-by others was then (run_of First n) r r run refl b.run_ends in
         let f = c.1 in

@@ -65,11 +65,11 @@ abbrev pub FaintLinksAreAlone : Type 0
 FaintLinksAreAlone = (words others : List (List ℕ)) (old new was then : FolderState) (n : Names) (link : Which) (s r : Status)
     → RunsBoth words others old new was then n link s r
     → ((script : ScriptValue) → ScriptSpelling (octets_at old n.script) script → IsFaint script)
-    → AreLeftAlike new then (alone.outputs_of (run_of link n))
+    → AreLeftAlike new then (alone.texts_of (run_of link n))
 
 -- and so they are where no line of it displaces a symbol.
 abbrev pub UndisplacedLinksAreAlone : Type 0
 UndisplacedLinksAreAlone = (words others : List (List ℕ)) (old new was then : FolderState) (n : Names) (link : Which) (s r : Status)
     → RunsBoth words others old new was then n link s r
     → ((script : ScriptValue) → ScriptSpelling (octets_at old n.script) script → DisplacesNone script)
-    → AreLeftAlike new then (alone.outputs_of (run_of link n))
+    → AreLeftAlike new then (alone.texts_of (run_of link n))

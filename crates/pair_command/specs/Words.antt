@@ -47,4 +47,4 @@ link_names Second n = n.second
 abbrev pub run_of : Which → Names → RunNames
 run_of which n =
     let w : Written = link_names which n in
-    record { orig = w.orig; answ = w.answ; script = n.script; got_o = w.got_o; got_a = w.got_a; trace = w.trace }
+    record { orig = w.orig; answ = w.answ; script = n.script; got_o = w.got_o; got_a = w.got_a; trace = w.trace; tapes = None }
