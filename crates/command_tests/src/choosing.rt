@@ -21,7 +21,7 @@ const FILES: &[(&str, &[u8])] = &[
 
 /// What other words are told.
 pub(crate) const USAGE: &str =
-    "usage: modem run, encode, decode, frames, xid, soak, peer, pickup, margin, encode4, decode4\n";
+    "usage: modem run, encode, decode, frames, xid, soak, peer, pickup, margin, encode4, decode4, record, tap, pair, audit\n";
 
 /// Words of each command with what is said once it is done, and words that are no command's.
 const WORDS: &[(&[&str], Status, &str)] = &[
