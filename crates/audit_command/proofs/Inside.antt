@@ -1,12 +1,12 @@
 -- What the folder of an audit knows of files, and what it holds of a turn's lines.
-use Rattle.std.proofs.Common.{◌≡◌, ◌≢◌, ℕ, List, [], ◌∷◌, ◌++◌, Some, refl, sym, ◌∙◌, ap, subst, IsTrue, take}
-use Rattle.outside_calls.specs.Folder.{FolderState, held_at, octets_at, GoesOn, KeepsName, Appended, Adds}
-use Rattle.outside_calls.specs.Outputs.{Holds, AreApartFrom, OnlyPuts}
+use Rattle.std.proofs.Common.{◌≡◌, ◌≢◌, ℕ, List, [], Some, sym, ◌∙◌, ap, IsTrue, take}
+use Rattle.outside_calls.specs.Folder.{FolderState, GoesOn, KeepsName, Appended, Adds}
+use Rattle.outside_calls.specs.Outputs.{Holds}
 use Rattle.outside_calls.proofs.Holding.{Holds-kept, Holds-more, Holds-add}
 use Rattle.roles.specs.Both.{Both}
 use Rattle.stations.specs.Station.{file_at}
 use Rattle.turn_bound.specs.Limits.{file_limit}
-use Rattle.run_world.specs.Names.{Written, inputs_of, outputs_of}
+use Rattle.run_world.specs.Names.{Written}
 use Rattle.run_world.specs.World.{KnowsFiles}
 use Rattle.run_world.proofs.Folders.{IsApart}
 use Rattle.audit_folder.specs.Audited.{swallowed}

@@ -1,9 +1,8 @@
 -- From every answer to the headline, and to which answer right inputs have.
-use Rattle.std.proofs.Common.{◌≡◌, ◌≢◌, ◌⊎◌, inl, inr, ℕ, ◌≤◌, ◌<◌, List, [], ◌∷◌, ◌++◌, length, Option, Result, Ok, Err, refl, sym, ◌∙◌, ap, subst, arith}
+use Rattle.std.proofs.Common.{◌≡◌, ◌⊎◌, inl, inr, ℕ, ◌≤◌, ◌<◌, List, ◌++◌, length, Option, Result, Ok, Err, refl, sym, ◌∙◌, ap, subst, arith}
 use Rattle.std.specs.Option.{option_map}
-use Rattle.outside_calls.specs.Folder.{FolderState, OnlyReads, octets_at}
+use Rattle.outside_calls.specs.Folder.{FolderState, octets_at}
 use Rattle.outside_calls.specs.declared.folder.FolderFault.TheVariants as folder
-use Rattle.roles.specs.Both.{Both}
 use Rattle.causes.specs.declared.audit_cause.AuditCause.{AuditCause}
 use Rattle.noise_script.specs.Script.{ScriptValue}
 use Rattle.noise_script.specs.Laws.{ScriptsAreOne, NoFaultInScripts}
@@ -16,15 +15,13 @@ use Rattle.command_base.specs.declared.stop.Stop.TheVariants as stops
 use Rattle.command_base.specs.Inputs.{IsWithin, IsLonger}
 use Rattle.command_base.specs.Job.{Answers}
 use Rattle.command_base.specs.Lines.{true_line}
-use Rattle.command_base.specs.Sound.{IsSound, DoneUnlessMemory}
 use Rattle.command_base.specs.Stops.{end_status}
-use Rattle.command_base.proofs.Answering.{IsPlain}
 use Rattle.command_base.proofs.Jobs.{last-plain, done-of, shared-of, Comes, is_done, is_own, is_memory, comes-to}
 use Rattle.run_inputs.specs.declared.limits.TheConstants.{LIMITS}
 use Rattle.run_inputs.specs.Inputs.{RefusesOwn}
 use Rattle.trace_audit.specs.declared.comparison.Difference.{Difference}
-use Rattle.audit_command.specs.Words.{AuditNames, files_of, inputs_of}
-use Rattle.audit_command.specs.Verdict.{IsText, DiffersIn, IsFound}
+use Rattle.audit_command.specs.Words.{AuditNames, files_of}
+use Rattle.audit_command.specs.Verdict.{DiffersIn, IsFound}
 use Rattle.audit_command.specs.Ends.{Audits, AnswersOwn, Ends, audit_job}
 use Rattle.audit_command.specs.Headline.{Audited, AuditedBy, Headline}
 use Rattle.audit_command.specs.Completes.{AreRight, files_at, InputsRunTo, IsAnswerTo, Where, Completes}

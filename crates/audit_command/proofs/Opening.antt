@@ -1,12 +1,12 @@
 -- From the phases of an audit to how it ends.
-use Rattle.std.proofs.Common.{◌≡◌, ◌≢◌, ◌⊎◌, inl, inr, ℕ, ◌<◌, ◌≤◌, IsTrue, List, [], ◌∷◌, length, Result, Ok, Err, refl, sym, ◌∙◌, ap, subst, take, arith}
+use Rattle.std.proofs.Common.{◌≡◌, inl, inr, ℕ, ◌<◌, ◌≤◌, IsTrue, List, [], ◌∷◌, length, Result, Ok, Err, refl, sym, ◌∙◌, ap, subst, take, arith}
 use Rattle.std.proofs.lemmas.List.{take_all}
-use Rattle.outside_calls.specs.Folder.{FolderState, octets_at, GoesOn, KeepsName, OnlyReads, CountsStand}
+use Rattle.outside_calls.specs.Folder.{FolderState, octets_at, OnlyReads, CountsStand}
 use Rattle.outside_calls.specs.declared.folder.FolderFault.{FolderFault}
 use Rattle.outside_calls.specs.declared.folder.FolderFault.TheVariants as folder
-use Rattle.outside_calls.proofs.Steps.{GoesOn-trans, OnlyReads-trans, octets-kept, told_later, CountsStand-trans}
+use Rattle.outside_calls.proofs.Steps.{OnlyReads-trans, octets-kept, told_later}
 use Rattle.roles.specs.Both.{Both}
-use Rattle.noise_script.specs.Script.{ScriptValue, IsInLimits}
+use Rattle.noise_script.specs.Script.{ScriptValue}
 use Rattle.turn_bound.specs.Limits.{file_limit}
 use Rattle.run_world.specs.Names.{Written}
 use Rattle.run_world.specs.World.{KnowsFiles}
@@ -14,16 +14,16 @@ use Rattle.command_base.specs.declared.status.Status.{Status}
 use Rattle.command_base.specs.declared.status.Status.TheVariants as status
 use Rattle.command_base.specs.declared.stop.Stop.{Stop}
 use Rattle.command_base.specs.declared.stop.Stop.TheVariants as stops
-use Rattle.command_base.specs.Inputs.{IsWithin, IsLonger, IsNotWithin}
+use Rattle.command_base.specs.Inputs.{IsWithin, IsNotWithin}
 use Rattle.command_base.specs.Stops.{ReadFails, StopCounts, EndCounts}
 use Rattle.command_base.proofs.Jobs.{stop-earlier}
 use Rattle.run_inputs.specs.declared.limits.TheConstants.{LIMITS}
-use Rattle.run_inputs.specs.Inputs.{Opens, Refuses}
+use Rattle.run_inputs.specs.Inputs.{Refuses}
 use Rattle.trace_audit.specs.declared.comparison.Difference.{Difference}
 use Rattle.audit_command.specs.Words.{AuditNames, files_of, inputs_of}
 use Rattle.audit_command.specs.Verdict.{IsFound}
-use Rattle.audit_command.specs.Turns.{RunFound, RunIs, audit_inputs}
-use Rattle.audit_command.specs.Ends.{trace_limit, AreOpen, IsBegun, Takes, Audits, TraceTooLong, FailsLater, AnswersOwn, EndsBy, Ends}
+use Rattle.audit_command.specs.Turns.{RunFound, RunIs}
+use Rattle.audit_command.specs.Ends.{AreOpen, IsBegun, Takes, Audits, FailsLater, AnswersOwn, EndsBy, Ends}
 
 -- ---- the inputs
 

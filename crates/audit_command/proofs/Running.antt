@@ -1,10 +1,9 @@
 -- The turns of an audit, one after the other, up to what is found.
-use Rattle.std.proofs.Common.{◌≡◌, ◌⊎◌, inl, inr, ℕ, ◌+◌, ◌*◌, ◌<◌, ◌≤◌, ◌^◌, ◌-◌, Bool, true, false, List, [], ◌∷◌, ◌++◌, length, Result, Ok, Err, refl, sym, ◌∙◌, ap, subst, arith, length-append}
+use Rattle.std.proofs.Common.{◌≡◌, inr, ℕ, ◌+◌, ◌*◌, ◌<◌, ◌^◌, Bool, true, false, List, [], ◌∷◌, ◌++◌, length, Result, Ok, Err, refl, sym, ◌∙◌, ap, subst, arith, length-append}
 use Rattle.std.specs.Prelude.{IsTrue, MatchResult}
 use Rattle.outside_calls.specs.Folder.{FolderState, OnlyReads, CountsStand, octets_at}
 use Rattle.outside_calls.specs.declared.folder.FolderFault.TheVariants as folder
-use Rattle.outside_calls.specs.Outputs.{OnlyPuts}
-use Rattle.outside_calls.proofs.Steps.{told_later, octets-kept}
+use Rattle.outside_calls.proofs.Steps.{octets-kept}
 use Rattle.outside_calls.proofs.OnlyOutputs.{told_earlier}
 use Rattle.outside_calls.proofs.Putting.{OnlyPuts-reads}
 use Rattle.roles.specs.Both.{Both}
@@ -12,11 +11,10 @@ use Rattle.noise_script.specs.Script.{ScriptValue}
 use Rattle.link_run.specs.Run.{Turn, start}
 use Rattle.line_run.specs.Scripted.{link_of}
 use Rattle.run_world.specs.Names.{Written, outputs_of}
-use Rattle.run_world.specs.World.{KnowsFiles, WorldAfter, IsReady, script_of, turn_of}
+use Rattle.run_world.specs.World.{KnowsFiles, WorldAfter, script_of, turn_of}
 use Rattle.run_world.specs.declared.world.World.{World}
 use Rattle.run_world.proofs.Folders.{IsApart}
 use Rattle.run_world.proofs.Reached.{knows-later, knows-told, files_at}
-use Rattle.command_base.specs.declared.status.Status.TheVariants.{AuditNo}
 use Rattle.command_base.specs.declared.stop.Stop.{Stop}
 use Rattle.command_base.specs.declared.stop.Stop.TheVariants as stops
 use Rattle.command_base.specs.Stops.{StopCounts, EndCounts}
@@ -24,9 +22,9 @@ use Rattle.trace_audit.specs.Differences.{text_of, FirstDiffers, IsCut}
 use Rattle.trace_audit.specs.Compared.{Compared, HasWindow, IsFew}
 use Rattle.trace_audit.specs.declared.comparison.Comparison.{Comparison}
 use Rattle.trace_audit.specs.declared.comparison.Difference.{Difference}
-use Rattle.readable_runs.specs.Lines.{AreLines, trace_lines, turn_lines}
+use Rattle.readable_runs.specs.Lines.{trace_lines, turn_lines}
 use Rattle.audit_command.specs.Verdict.{IsFound}
-use Rattle.audit_command.specs.Turns.{StillRuns, HasRun, ComesTo, TurnMade, AreCompared, HasFew, IsReading, RunFound, RunIs, found_end, audit_inputs}
+use Rattle.audit_command.specs.Turns.{ComesTo, TurnMade, AreCompared, HasFew, IsReading, RunFound, RunIs, found_end, audit_inputs}
 
 -- two lines a turn
 trace-count : (ts : List Turn) → length (trace_lines ts) ≡ 2 * length ts

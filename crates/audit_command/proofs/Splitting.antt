@@ -1,10 +1,10 @@
 -- The lines of a text, compared one after the other.
-use Rattle.std.proofs.Common.{◌≡◌, ◌≢◌, true, ℕ, ◌+◌, ◌<◌, ◌^◌, List, [], ◌∷◌, ◌++◌, length, drop, refl, sym, ◌∙◌, ap, subst, arith, append_assoc, append-nil, length-append}
+use Rattle.std.proofs.Common.{◌≡◌, ◌≢◌, ℕ, ◌+◌, ◌<◌, List, [], ◌∷◌, ◌++◌, length, drop, refl, sym, ◌∙◌, ap, subst, arith, append_assoc, append-nil, length-append}
 use Rattle.std.specs.Prelude.{IsTrue}
 use Rattle.outside_calls.specs.Folder.{FolderState, OnlyReads, octets_at}
 use Rattle.outside_calls.proofs.Steps.{told_later, octets-kept}
 use Rattle.line_reader.specs.Cutting.{front_of, rest_of}
-use Rattle.trace_audit.specs.Differences.{is_no_feed, text_of, AreWhole, AreRead, IsCut}
+use Rattle.trace_audit.specs.Differences.{is_no_feed, text_of, AreWhole, IsCut}
 use Rattle.trace_audit.specs.Compared.{Compared, IsFew}
 use Rattle.trace_audit.specs.declared.comparison.Comparison.{Comparison}
 use Rattle.trace_audit.proofs.Cuts.{first-front, first-rest, first-some, one-cut}

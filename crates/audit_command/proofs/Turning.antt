@@ -1,15 +1,15 @@
 -- From a turn over the folder of an audit to the lines that it adds.
-use Rattle.std.proofs.Common.{◌≡◌, ◌≢◌, ℕ, ◌+◌, ◌<◌, ◌≤◌, ◌^◌, Bool, true, false, List, [], ◌∷◌, ◌++◌, length, Result, Ok, Err, refl, sym, ◌∙◌, ap, subst, arith, append-nil}
+use Rattle.std.proofs.Common.{◌≡◌, ℕ, ◌<◌, ◌^◌, Bool, true, false, List, [], ◌∷◌, ◌++◌, length, Result, Ok, Err, refl, sym, ◌∙◌, ap, subst, arith, append-nil}
 use Rattle.std.specs.List.{concat}
 use Rattle.outside_calls.specs.Folder.{FolderState, CountsStand}
 use Rattle.outside_calls.specs.Outputs.{OnlyPuts}
 use Rattle.roles.specs.declared.role.Role.{Role}
 use Rattle.roles.specs.declared.role.Role.TheVariants.{Originator, Answerer}
-use Rattle.roles.specs.Both.{Both, of}
+use Rattle.roles.specs.Both.{of}
 use Rattle.causes.specs.declared.fault.LinkFault.TheVariants as causes
 use Rattle.noise_script.specs.Script.{ScriptValue, IsInLimits}
 use Rattle.line_texts.specs.LineText.{chance_line}
-use Rattle.link_run.specs.Run.{Link, Ends, Turn}
+use Rattle.link_run.specs.Run.{Ends, Turn}
 use Rattle.link_run.specs.Outcomes.{Outcome, Going, Done, Broken}
 use Rattle.link_run.specs.Trace.{trace_text, turn_text}
 use Rattle.line_run.specs.Sampled.{Channel, LineRun}
@@ -18,7 +18,7 @@ use Rattle.line_run.specs.Ends as runs
 use Rattle.line_run.specs.Scripted.{channel_of, link_of}
 use Rattle.line_run.specs.Stream.{both_sent_by}
 use Rattle.run_world.specs.Names.{Written, outputs_of}
-use Rattle.run_world.specs.World.{KnowsFiles, WorldAfter, IsReady, script_of, turn_of}
+use Rattle.run_world.specs.World.{KnowsFiles, script_of, turn_of}
 use Rattle.run_world.specs.Turn.{GoesOnBy, LosesLine, MeetsChance, TurnAnswers, TurnCounts}
 use Rattle.run_world.specs.Turn as turns
 use Rattle.run_world.specs.declared.world.World.{World}
@@ -28,12 +28,10 @@ use Rattle.run_world.specs.declared.step.RunFault.{RunFault}
 use Rattle.run_world.specs.declared.step.RunFault.TheVariants as faults
 use Rattle.run_world.proofs.Folders.{IsApart}
 use Rattle.run_world.proofs.Reached.{knows-later}
-use Rattle.command_base.specs.declared.stop.Stop.{Stop}
-use Rattle.trace_audit.specs.Differences.{text_of, AreWhole, IsCut}
+use Rattle.trace_audit.specs.Differences.{text_of, AreWhole}
 use Rattle.trace_audit.proofs.Lines.{text_of-append}
 use Rattle.readable_runs.specs.Lines.{AreLines, chance_words, turn_lines, trace_lines, TextsHaveLines, TurnsHaveLines, ChancesHaveLines}
 use Rattle.readable_runs.specs.Readable.{AsksInOctets}
-use Rattle.audit_folder.specs.Passed.{OnlyPassed}
 use Rattle.audit_folder.proofs.Passed.{stands-inside}
 use Rattle.audit_command.specs.Turns.{step_end, held_by, Watched, StillRuns, HasRun, TurnMade}
 use Rattle.audit_command.proofs.Inside.{knows-inside, knows-outside, text-added, text-more, text-kept}

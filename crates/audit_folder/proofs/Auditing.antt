@@ -1,7 +1,7 @@
 -- The folder of an audit against what a folder has to do.
-use Rattle.std.proofs.Common.{◌≡◌, ◌≢◌, ℕ, ◌+◌, ◌-◌, ◌^◌, ◌<◌, ◌≤◌, min, Bool, true, false, not, cond, List, [], ◌∷◌, ◌++◌, length, take, drop, Option, Some, None}
+use Rattle.std.proofs.Common.{◌≡◌, ◌≢◌, ℕ, ◌-◌, ◌≤◌, min, Bool, true, false, cond, List, [], ◌++◌, length, take, drop, Some}
 use Rattle.std.proofs.Common.{refl, sym, ap, subst, ◌∙◌, arith, inl, inr, ◌⊎◌, unwrap_or, Result, Ok, Err, length-drop}
-use Rattle.std.specs.Prelude.{IsTrue, IsErrOf, IfOk, OnOk}
+use Rattle.std.specs.Prelude.{IsTrue, IfOk, OnOk}
 use Rattle.std.specs.FinMap.{get, insert, get-insert, slice_cmp-IsAntisymmetric, nat_cmp-IsAntisymmetric}
 use Rattle.std.specs.Str.{bytes_eq}
 use Rattle.std.specs.Ordering.{nat_cmp, is_eq, eq_by_cmp}
@@ -10,12 +10,10 @@ use Rattle.std.specs.Cmp.Lexicographic.{slice_cmp, nat_list_cmp_total}
 use Rattle.std.specs.declared.cmp.Ordering.{Ordering}
 use Rattle.std.specs.declared.cmp.Ordering.TheVariants.{Less, Equal, Greater}
 use Rattle.std.proofs.lemmas.Slice.Eq.{bytes_eq-Decides}
-use Rattle.outside_calls.specs.Folder.{Files, FolderState, held_at, octets_at, raised, Rose, GoesOn, FaultsStand, CountsStand, KeepsName, OnlyReads, OnlyWrites, HasCause}
+use Rattle.outside_calls.specs.Folder.{Files, FolderState, held_at, octets_at, raised, Rose, CountsStand, KeepsName, OnlyReads, OnlyWrites, HasCause}
 use Rattle.plain_lists.specs.Octets.{AreOctets}
-use Rattle.outside_calls.specs.Folder.{ReadsFront, TellsOctets, Appended, PartlyAppended, Created}
-use Rattle.outside_calls.proofs.Steps.{GoesOn-refl, FaultsStand-refl, CountsStand-refl}
+use Rattle.outside_calls.specs.Folder.{ReadsFront, TellsOctets, Appended, Created}
 use Rattle.outside_calls.specs.declared.folder.FolderFault.{FolderFault}
-use Rattle.outside_calls.specs.declared.folder.FolderFault.TheVariants.{Failed, NoMemory}
 use Rattle.audit_folder.specs.Audited.{Swallowed, audit_tells, sum_of, audit_state}
 
 -- ---- finite maps

@@ -1,21 +1,19 @@
 -- Texts of frames, and of what is sent and heard.
-use Rattle.std.proofs.Common.{◌≡◌, ◌≢◌, ℕ, ◌+◌, ◌-◌, ◌^◌, ◌<◌, ◌≤◌, Bool, true, false, cond, List, [], ◌∷◌, ◌++◌, length, take, codes, decimal}
-use Rattle.std.proofs.Common.{Option, Some, None, refl, sym, ap, subst, ◌∙◌, arith, append_assoc, ◌⊎◌, inl, inr, length-append, append-nil}
+use Rattle.std.proofs.Common.{◌≡◌, ℕ, ◌+◌, ◌<◌, ◌≤◌, Bool, true, false, cond, List, ◌∷◌, ◌++◌, length, codes, decimal}
+use Rattle.std.proofs.Common.{Option, Some, None, refl, sym, ap, subst, ◌∙◌, arith, append_assoc, inl, inr, length-append}
 use Rattle.std.specs.Prelude.{IfSome}
-use Rattle.std.specs.Option.{option_map, option_and_then}
 use Rattle.std.specs.Str.{bytes_eq}
 use Rattle.std.proofs.lemmas.Fmt.{length-decimal-le}
 use Rattle.std.proofs.lemmas.Slice.Eq.{bytes_eq-Decides}
 use Rattle.break_signals.specs.declared.word.BreakWord.{BreakWord}
 use Rattle.break_signals.specs.declared.word.BreakWord.TheVariants.{Brk, Ack}
-use Rattle.line_texts.specs.FrameText.{kind_word, poll_word, number_word, break_words}
-use Rattle.noise_script.specs.Numbers.{is_digit}
+use Rattle.line_texts.specs.FrameText.{kind_word, poll_word, number_word}
 use Rattle.line_reader.specs.Cutting.{behind, first_of, front_of, rest_of, is_no_space}
 use Rattle.line_reader.specs.Pieces.{behind_shape, behind_frame, behind_signal, behind_lost, behind_heard, behind_sent}
-use Rattle.line_reader.specs.Grammar.{Shape, Numbered, Supervisory, Commanding, Responding, Rejecting, Exchanging, Unnumbered, number_bound, count_bound, shape_named}
+use Rattle.line_reader.specs.Grammar.{Shape, Numbered, Supervisory, Commanding, Responding, Rejecting, Exchanging, Unnumbered, count_bound, shape_named}
 use Rattle.line_reader.specs.Grammar.{FrameWords, AreInRange, IsBreak, count_word, information_word, shape_text, IsFrameText, IsSignal, odp, adp, frame}
 use Rattle.line_reader.specs.Grammar.{IsHeard, nothing, lost, passed, IsSent, mark, flags, none, signal}
-use Rattle.line_reader.proofs.Fronts.{chained, either, behind-reads, behind-is, begins, front-rest}
+use Rattle.line_reader.proofs.Fronts.{chained, either, behind-is, front-rest}
 use Rattle.line_reader.proofs.Shapes.{Stops, shape-reads, shape-is}
 
 -- ---- names

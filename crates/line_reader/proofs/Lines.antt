@@ -1,5 +1,5 @@
 -- A line's parts are read, and what is read has them.
-use Rattle.std.proofs.Common.{◌≡◌, ◌≢◌, ℕ, ◌+◌, ◌-◌, ◌^◌, ◌<◌, ◌≤◌, Bool, true, false, cond, List, [], ◌∷◌, ◌++◌, length, take, codes, decimal}
+use Rattle.std.proofs.Common.{◌≡◌, ℕ, ◌+◌, ◌-◌, ◌<◌, ◌≤◌, Bool, true, false, cond, List, [], ◌∷◌, ◌++◌, length, take, codes, decimal}
 use Rattle.std.proofs.Common.{Option, Some, None, refl, sym, ap, subst, ◌∙◌, arith, append_assoc, ◌⊎◌, inl, inr, length-append, append-nil}
 use Rattle.std.proofs.Math.Seq.{take-append_seam}
 use Rattle.std.specs.Prelude.{IfSome, ◌==◌}
@@ -7,9 +7,7 @@ use Rattle.std.specs.Option.{option_map, option_and_then}
 use Rattle.std.specs.Str.{bytes_eq}
 use Rattle.roles.specs.declared.role.Role.{Role}
 use Rattle.roles.specs.declared.role.Role.TheVariants.{Originator, Answerer}
-use Rattle.roles.specs.Role.{role_word}
 use Rattle.line_texts.specs.LineText.{line_begins, break_word}
-use Rattle.noise_script.specs.Numbers.{is_digit}
 use Rattle.line_reader.specs.declared.line.LineText.{LineText}
 use Rattle.line_reader.specs.Cutting.{behind, number_at}
 use Rattle.line_reader.specs.Pieces.{behind_heard, behind_sent}

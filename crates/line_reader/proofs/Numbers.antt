@@ -1,6 +1,6 @@
 -- Numbers in decimal digits without leading zeros.
-use Rattle.std.proofs.Common.{◌≡◌, ℕ, zero, suc, ◌+◌, ◌-◌, ◌^◌, ◌<◌, ◌≤◌, Bool, true, false, not, ◌&&◌, cond, leb, eqb, List, [], ◌∷◌, ◌++◌, length, get_or}
-use Rattle.std.proofs.Common.{Option, Some, None, refl, sym, ap, subst, ◌∙◌, arith, append_assoc}
+use Rattle.std.proofs.Common.{◌≡◌, ℕ, zero, suc, ◌^◌, ◌<◌, ◌≤◌, Bool, true, false, not, ◌&&◌, cond, eqb, List, [], ◌∷◌, ◌++◌, length, get_or}
+use Rattle.std.proofs.Common.{Some, None, refl, sym, ap, subst, ◌∙◌, arith, append_assoc}
 use Rattle.std.specs.Prelude.{decimal, nat_le, nat_lt}
 use Rattle.std.specs.List.{list_all}
 use Rattle.std.specs.Option.{option_map, option_and_then}
@@ -8,10 +8,9 @@ use Rattle.std.proofs.lemmas.Bool.{and_parts}
 use Rattle.std.proofs.lemmas.Bool.Decides.{nat_tests}
 use Rattle.std.proofs.lemmas.Fmt.{decimal_nonempty, digits_decimal, digits_value-decimal, decimal-digits_value, length-decimal-le, first_decimal, decimal_digit}
 use Rattle.std.proofs.lemmas.Str.Parse.{IsDigitsTest, IsNumeralModel, numerals_by_weight}
-use Rattle.noise_script.specs.Lines.{begins_with}
 use Rattle.noise_script.specs.Numbers.{is_digit, is_number, value_of, leads_well, plain_number}
 use Rattle.line_reader.specs.Cutting.{behind, front_of, rest_of, if_below, number_at, behind_number, behind_labelled}
-use Rattle.line_reader.proofs.Fronts.{chained, mapped, behind-reads, behind-is, begins, front-rest, front-passes, front-reads, rest-reads, join2}
+use Rattle.line_reader.proofs.Fronts.{chained, mapped, behind-reads, behind-is, begins, front-rest, front-reads, rest-reads, join2}
 
 abbrev AllDigits : List ℕ → Type 0
 AllDigits word = list_all is_digit word ≡ true

@@ -1,11 +1,10 @@
 -- What is written of a line has its parts.
-use Rattle.std.proofs.Common.{◌≡◌, ℕ, zero, suc, ◌+◌, ◌-◌, ◌^◌, ◌<◌, ◌≤◌, Bool, true, false, cond, ◌||◌, nat_eq, nat_lt, List, [], ◌∷◌, ◌++◌, length, codes, decimal}
-use Rattle.std.proofs.Common.{Option, Some, None, Result, Ok, Err, refl, sym, ap, subst, ◌∙◌, arith, append_assoc, length-append, append-nil, ◌⊎◌, inl, inr}
+use Rattle.std.proofs.Common.{◌≡◌, ℕ, ◌<◌, ◌≤◌, Bool, true, false, cond, ◌||◌, nat_eq, nat_lt, List, [], ◌∷◌, ◌++◌, length, codes, decimal}
+use Rattle.std.proofs.Common.{Option, Some, None, Result, Ok, Err, refl, sym, ap, subst, ◌∙◌, arith, append_assoc, length-append, append-nil, inl, inr}
 use Rattle.std.specs.Prelude.{IfSome}
 use Rattle.std.proofs.lemmas.Bool.Decides.{nat_tests}
 use Rattle.std.proofs.lemmas.Fmt.{length-decimal-le}
 use Rattle.plain_lists.specs.Octets.{AreOctets}
-use Rattle.frame_check.specs.declared.sizes.TheConstants.{INFO}
 use Rattle.roles.specs.declared.role.Role.{Role}
 use Rattle.roles.specs.declared.role.Role.TheVariants.{Originator, Answerer}
 use Rattle.roles.specs.Role.{role_word}
@@ -20,15 +19,14 @@ use Rattle.break_signals.specs.declared.word.BreakWord.{BreakWord}
 use Rattle.break_signals.specs.declared.word.BreakWord.TheVariants.{Brk, Ack}
 use Rattle.break_signals.specs.declared.fault.BreakFault.{BreakFault}
 use Rattle.break_signals.specs.declared.fault.BreakFault.TheVariants.{Kind, Number, Length}
-use Rattle.break_signals.specs.Words.{word_in, word_behind, word_of, spelled}
+use Rattle.break_signals.specs.Words.{word_in, spelled}
 use Rattle.break_signals.proofs.Spelling.{is_spelled_back_always}
-use Rattle.line_texts.specs.FrameText.{IsInformation, IsPrintable, kind_word, poll_word, number_word, if_word, break_in, break_words, frame_text, information_words}
+use Rattle.line_texts.specs.FrameText.{IsInformation, kind_word, poll_word, number_word, if_word, break_in, frame_text, information_words}
 use Rattle.line_texts.specs.LineText.{slot_word, heard_word, sent_word, break_word, is_chance, line_begins, chance_line, trace_line, line_text}
 use Rattle.line_texts.specs.declared.trace_line.TraceLine.{TraceLine}
-use Rattle.line_reader.specs.declared.line.LineText.{LineText}
 use Rattle.line_reader.specs.Grammar.{Shape, Numbered, Supervisory, Commanding, Responding, Rejecting, Exchanging, Unnumbered, number_bound, count_bound, shape_named}
-use Rattle.line_reader.specs.Grammar.{FrameWords, AreInRange, IsBreak, count_word, information_word, shape_text, IsFrameText, IsSignal, odp, adp, frame}
-use Rattle.line_reader.specs.Grammar.{IsHeard, nothing, lost, passed, IsSent, mark, flags, none, signal, IsChance, IsPlain, HasParts}
+use Rattle.line_reader.specs.Grammar.{FrameWords, IsBreak, count_word, information_word, shape_text, IsFrameText, IsSignal, odp, adp, frame}
+use Rattle.line_reader.specs.Grammar.{IsHeard, nothing, lost, passed, IsSent, mark, flags, none, signal, HasParts}
 use Rattle.line_reader.specs.Reading.{chance_parts}
 use Rattle.line_reader.specs.Written.{IsReadableFrame, IsReadableSent, IsReadableSignal, IsReadableHeard, IsReadable, text_of_line, parts_of_line}
 use Rattle.line_reader.proofs.Frames.{heard-short, sent-short}

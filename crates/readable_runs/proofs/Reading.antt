@@ -1,10 +1,9 @@
 -- Both lines of a turn are lines that are read.
-use Rattle.std.proofs.Common.{◌≡◌, ℕ, ◌<◌, ◌≤◌, ◌^◌, Bool, true, false, cond, nat_lt, List, [], ◌∷◌, length, slice_index_or, arith, refl, sym, ◌∙◌, ap, subst}
-use Rattle.std.proofs.Common.{Option, Some, None, Ok}
+use Rattle.std.proofs.Common.{◌≡◌, ℕ, ◌<◌, ◌≤◌, ◌^◌, Bool, true, false, cond, nat_lt, List, [], ◌∷◌, length, slice_index_or, arith, refl, sym, ◌∙◌, subst}
+use Rattle.std.proofs.Common.{Option, Some, None}
 use Rattle.std.specs.Prelude.{IfSome, unwrap_or}
 use Rattle.std.specs.Option.{option_map}
 use Rattle.frame_check.specs.declared.sizes.TheConstants.{INFO}
-use Rattle.plain_lists.specs.Octets.{AreOctets}
 use Rattle.roles.specs.declared.role.Role.{Role}
 use Rattle.roles.specs.Role.{other}
 use Rattle.roles.specs.Both.{Both, of}
@@ -18,9 +17,8 @@ use Rattle.lapm_frames.specs.declared.heard.Heard.{Heard}
 use Rattle.lapm_frames.specs.declared.heard.Heard.TheVariants.{Nothing, Passed, Lost, Chance}
 use Rattle.break_signals.specs.Words.{word_in}
 use Rattle.noise_script.specs.Script.{ScriptValue, IsInLimits, delay_of}
-use Rattle.causes.specs.declared.fault.LinkFault.{LinkFault}
 use Rattle.link_account.specs.Account.{Account, is_connected, given_break}
-use Rattle.link_run.specs.Run.{Link, Ends, Side, Spoken, Turn, Hears, GoingTurn}
+use Rattle.link_run.specs.Run.{Link, Ends, Spoken, Turn, Hears}
 use Rattle.link_run.specs.Carried.{sent_ago, has_message, Crosses, Carries}
 use Rattle.link_run.specs.Outcomes.{Outcome, Going, Done, Broken, TurnIs}
 use Rattle.line_run.specs.Sampled.{HeardIn, LineRun}
@@ -30,10 +28,9 @@ use Rattle.line_texts.specs.LineText.{is_chance}
 use Rattle.line_reader.specs.Grammar.{IsBreak, count_bound}
 use Rattle.line_reader.specs.Written.{IsReadableFrame, IsReadableSent, IsReadableSignal, IsReadableHeard, IsReadable}
 use Rattle.line_reader.proofs.Written.{read-break}
-use Rattle.readable_runs.specs.Readable.{InOctets, IsPlain, IsPlainSent, AllPlain, AllShort, AsksInOctets, line_of, LinesAreRead}
+use Rattle.readable_runs.specs.Readable.{InOctets, IsPlain, IsPlainSent, AsksInOctets, line_of, LinesAreRead}
 use Rattle.readable_runs.proofs.Words.{Owes}
 use Rattle.readable_runs.proofs.Saying.{octet-at}
-use Rattle.readable_runs.proofs.Handing.{Holds}
 use Rattle.readable_runs.proofs.Slots.{sent-ago}
 use Rattle.readable_runs.proofs.Sending.{SendLaws, HoldBoth, holds-all, mid-holds-at}
 

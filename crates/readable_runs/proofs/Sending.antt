@@ -1,7 +1,6 @@
 -- Ends that are handed octets send what can be sent, all through a run.
 use Rattle.std.proofs.Common.{◌≡◌, ℕ, ◌<◌, ◌≤◌, false, List, [], ◌∷◌, All, length, filter, arith, refl, sym, ◌∙◌, ap, subst, Option, Some}
-use Rattle.std.proofs.Common.{None, IfSome, Ok}
-use Rattle.std.specs.Prelude.{unwrap_or}
+use Rattle.std.proofs.Common.{None, Ok}
 use Rattle.std.proofs.lemmas.List.Elements.{All-nil, All-map, All-filter}
 use Rattle.frame_check.specs.declared.sizes.TheConstants.{INFO}
 use Rattle.plain_lists.specs.Octets.{AreOctets}
@@ -13,7 +12,6 @@ use Rattle.xid_params.specs.Offers.{IsAllowed}
 use Rattle.break_signals.specs.Words.{IsSpelledBack}
 use Rattle.lapm_frames.specs.declared.frame.Frame.{Frame}
 use Rattle.lapm_frames.specs.Frame.{information_of}
-use Rattle.lapm_frames.specs.Parts.{parts_of}
 use Rattle.lapm_frames.specs.declared.sent.Sent.{Sent}
 use Rattle.lapm_frames.specs.declared.sent.Sent.TheVariants as slots
 use Rattle.lapm_frames.specs.declared.heard.Heard.{Heard}
@@ -30,7 +28,7 @@ use Rattle.link_run.specs.Reading.{StaysOffered, BeginsUnoffered, HearingStaysOf
 use Rattle.line_run.specs.Sampled.{LineRun}
 use Rattle.line_run.specs.Scripted.{channel_of, link_of, break_line, breaks_of, ScriptsMayPlay, ScriptsHaveDelays}
 use Rattle.line_run.specs.LineLaws.{SamplesAreCarried, OneIsCarried}
-use Rattle.readable_runs.specs.Readable.{IsPlain, IsPlainSent, AllPlain, AllShort, AsksInOctets}
+use Rattle.readable_runs.specs.Readable.{IsPlainSent, AllPlain, AllShort, AsksInOctets}
 use Rattle.readable_runs.proofs.Slots.{sent-ago}
 use Rattle.readable_runs.proofs.Words.{ArrivesInOctets, heard-owes}
 use Rattle.readable_runs.proofs.Saying.{IsGood, said-good}

@@ -1,26 +1,19 @@
 -- The words of a trace's lines are read.
-use Rattle.std.proofs.Common.{◌≡◌, ◌≢◌, true, false, ℕ, ◌<◌, ◌^◌, cond, List, [], ◌∷◌, ◌++◌, length, Option, None, refl, sym, ap, subst}
-use Rattle.std.specs.Prelude.{codes}
-use Rattle.std.specs.Option.{option_map}
+use Rattle.std.proofs.Common.{◌≡◌, ◌≢◌, true, false, ℕ, List, [], ◌∷◌, length, None, refl, subst}
 use Rattle.std.specs.List.{list_all}
 use Rattle.roles.specs.declared.role.Role.{Role}
 use Rattle.roles.specs.declared.role.Role.TheVariants.{Originator, Answerer}
-use Rattle.roles.specs.Both.{Both, of}
+use Rattle.roles.specs.Both.{of}
 use Rattle.lapm_frames.specs.declared.heard.Heard.{Heard}
 use Rattle.lapm_frames.specs.declared.heard.Heard.TheVariants.{Nothing, Passed, Lost, Chance}
-use Rattle.noise_script.specs.Script.{ScriptValue, IsInLimits}
-use Rattle.link_run.specs.Run.{Ends, Side, Spoken, Turn}
-use Rattle.link_run.specs.Outcomes.{Outcome, TurnIs}
-use Rattle.line_run.specs.Sampled.{HeardIn, LineRun}
-use Rattle.line_run.specs.Scripted.{channel_of, link_of}
-use Rattle.line_texts.specs.LineText.{is_chance, line_begins, heard_word, sent_word, break_word}
+use Rattle.link_run.specs.Run.{Side}
+use Rattle.line_texts.specs.LineText.{is_chance}
 use Rattle.line_texts.specs.declared.trace_line.TraceLine.{TraceLine}
 use Rattle.line_reader.specs.Cutting.{is_no_feed}
 use Rattle.line_reader.specs.Grammar.{HasParts}
 use Rattle.line_reader.specs.declared.line.LineText.{LineText}
 use Rattle.line_reader.specs.Written.{IsReadable, parts_of_line, text_of_line}
-use Rattle.trace_audit.specs.Differences.{IsRead}
-use Rattle.readable_runs.specs.Readable.{AsksInOctets, LinesAreRead, line_of}
+use Rattle.readable_runs.specs.Readable.{LinesAreRead, line_of}
 use Rattle.readable_runs.specs.Lines.{side_words, chance_words, AreLines, TurnsHaveLines, ChancesHaveLines}
 
 -- what is written is read

@@ -1,6 +1,6 @@
 -- What the octets that a text begins with tell of it.
 use Rattle.std.proofs.Common.{◌≡◌, ◌≢◌, ℕ, zero, suc, ◌+◌, ◌-◌, ◌<◌, ◌≤◌, Bool, true, false, not, ◌&&◌, cond, eqb, List, [], ◌∷◌, ◌++◌, length, take, drop}
-use Rattle.std.proofs.Common.{Option, Some, None, refl, sym, ap, subst, ◌∙◌, arith, append_assoc, ◌⊎◌, inl, inr, length-append, append-nil, take-append-drop, length-take}
+use Rattle.std.proofs.Common.{refl, sym, ap, subst, ◌∙◌, arith, append_assoc, ◌⊎◌, inl, inr, length-append, append-nil, take-append-drop, length-take}
 use Rattle.std.specs.Prelude.{◌==◌}
 use Rattle.std.specs.List.{list_all}
 use Rattle.std.specs.Str.{bytes_eq}
@@ -12,7 +12,7 @@ use Rattle.line_reader.proofs.Fronts.{begins, front-rest, front-passes, front-re
 use Rattle.line_reader.proofs.Lines.{one-line}
 use Rattle.line_reader.specs.Grammar.{HasParts}
 use Rattle.line_reader.specs.declared.line.LineText.{LineText}
-use Rattle.trace_audit.specs.Differences.{is_no_feed, fed, own_line, IsRead, StopsIn, GoesOnWith, PartsDiffer, ReadsDiffer, OwnDiffers, Departs, LineDiffers}
+use Rattle.trace_audit.specs.Differences.{is_no_feed, fed, own_line, StopsIn, GoesOnWith, OwnDiffers, LineDiffers}
 use Rattle.causes.specs.declared.audit_cause.AuditCause.{AuditCause}
 use Rattle.causes.specs.declared.audit_cause.AuditCause.TheVariants.{End, Beyond, Spelling, Turn, Role, Arrived, Sent, Break}
 

@@ -12,7 +12,7 @@ use symbol_map::Sample;
 const SYMBOLS: u16 = 464;
 
 /// The points of an end's first slot.
-fn points(alloc: Global, mode: Mode, slot: &BitSlot) -> Result<Vec<Sample>, Fail> {
+pub(super) fn points(alloc: Global, mode: Mode, slot: &BitSlot) -> Result<Vec<Sample>, Fail> {
     let mut modulator = Modulator::new(mode);
     let mut points = Vec::new(alloc);
     for place in 0..slot.len() {
@@ -29,7 +29,7 @@ fn marks() -> BitSlot {
 }
 
 /// A slot of patterns.
-fn patterns(seen: Seen) -> BitSlot {
+pub(super) fn patterns(seen: Seen) -> BitSlot {
     let mut slot = BitSlot::new();
     pattern_slot(seen, SYMBOLS, &mut slot);
     slot
@@ -90,13 +90,13 @@ fn hits(alloc: Global, to: &[Sample]) -> Result<String, Fail> {
 }
 
 /// A run in which the first symbols of the answerer are moved to these points.
-fn run_hit(alloc: Global, to: &[Sample]) -> Result<Ran, Fail> {
+pub(super) fn run_hit(alloc: Global, to: &[Sample]) -> Result<Ran, Fail> {
     let script = hits(alloc, to)?;
     run(alloc, b"a", b"b", script.as_bytes())
 }
 
 /// As many samples that say nothing as lose a line.
-const ZEROS: [Sample; 129] = [Sample { re: 0, im: 0 }; 129];
+pub(super) const ZEROS: [Sample; 129] = [Sample { re: 0, im: 0 }; 129];
 
 #[test]
 fn samples_that_say_nothing_lose_the_line(rt: HostRuntime) -> Result<(), Fail> {

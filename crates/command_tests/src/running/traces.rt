@@ -24,7 +24,7 @@ const EMPTY_FILES: &str = "\
 ";
 
 /// Each file is one octet.
-const ONE_OCTET_EACH: &str = "\
+pub(super) const ONE_OCTET_EACH: &str = "\
 0 orig - > odp\n\
 0 answ - > mark\n\
 1 orig - > odp\n\

@@ -1,4 +1,4 @@
-use Rattle.std.proofs.Common.{List, ℕ, ◌∷◌, [], sym, ◌∙◌, subst}
+use Rattle.std.proofs.Common.{List, ℕ, [], sym, ◌∙◌, subst}
 use Rattle.outside_calls.specs.Folder.{FolderState}
 use Rattle.outside_calls.proofs.Steps.{OnlyReads-trans}
 use Rattle.run_world.specs.Names.{Written, written}

@@ -1,12 +1,11 @@
-use Rattle.std.proofs.Common.{Bool, Ok, refl, sym, ◌∙◌, ap, subst, []}
+use Rattle.std.proofs.Common.{Bool, Ok, refl, sym, ◌∙◌, ap, subst}
 use Rattle.outside_calls.specs.Folder.{FolderState}
 use Rattle.outside_calls.proofs.Steps.{OnlyReads-refl, OnlyReads-trans, CountsStand-refl, CountsStand-trans}
 use Rattle.run_world.specs.Names.{written}
 use Rattle.run_world.specs.World.{turn_of}
 use Rattle.run_world.proofs.Reached.{nearer}
 use Rattle.readable_runs.specs.Readable.{AsksInOctets}
-use Rattle.command_base.proofs.Jobs.{stop-earlier}
-use Rattle.audit_command.specs.Turns.{AreCompared, audit_inputs}
+use Rattle.audit_command.specs.Turns.{AreCompared}
 use Rattle.audit_command.proofs.Running.{compared-none}
 use Rattle.audit_command.proofs.turns.audit_turns.Goals as goal
 

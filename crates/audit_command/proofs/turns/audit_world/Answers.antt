@@ -1,6 +1,5 @@
 use Rattle.std.proofs.Common.{Result, ℕ, sym, subst}
 use Rattle.outside_calls.specs.Folder.{FolderState}
-use Rattle.outside_calls.proofs.Steps.{OnlyReads-trans, CountsStand-trans}
 use Rattle.noise_script.specs.Script.{ScriptValue}
 use Rattle.run_world.specs.Names.{Written, written}
 use Rattle.run_world.specs.World.{script_of}

@@ -1,4 +1,4 @@
-use Rattle.std.proofs.Common.{sym, ◌∙◌, ap, Ok, true, Bool}
+use Rattle.std.proofs.Common.{sym, ◌∙◌, ap, Ok, Bool}
 use Rattle.outside_calls.specs.Folder.{FolderState}
 use Rattle.run_world.specs.Names.{written}
 use Rattle.audit_command.proofs.Turning.{LineLaws, made, made-counts, going-step}

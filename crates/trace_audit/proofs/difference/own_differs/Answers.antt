@@ -1,5 +1,4 @@
-use Rattle.std.proofs.Common.{◌≡◌, ◌≢◌, ◌∙◌, refl, sym, Bool, true, false, not, List, ℕ, rules}
-use Rattle.std.specs.Str.{bytes_eq}
+use Rattle.std.proofs.Common.{refl, sym, rules}
 use denote.Enum.Bare.{same_true}
 use Rattle.roles.specs.contracts.role.Role.{the_type}
 use Rattle.trace_audit.proofs.Windows.{unnot, differ, same-octets, given-differs}
