@@ -28,6 +28,8 @@ mod noting;
 #[cfg(test)]
 mod opening;
 #[cfg(test)]
+mod pairing;
+#[cfg(test)]
 mod picking;
 #[cfg(test)]
 mod recording;
