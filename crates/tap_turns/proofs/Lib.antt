@@ -1,0 +1,2 @@
+mod Listening
+mod Handing
