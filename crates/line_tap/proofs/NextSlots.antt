@@ -44,7 +44,7 @@ samples-take (suc n) (a ∷ b ∷ c ∷ d ∷ octets) h =
 abbrev pub piece_of : Channel → ℕ → List ℕ → List ℕ
 piece_of c turns body = take (4 * c.symbols) (drop (octets_of c turns) body)
 
-one-slot-more : (c : Channel) (turns : ℕ) (body : List ℕ) → octets_of c (turns + 1) ≤ length body
+pub one-slot-more : (c : Channel) (turns : ℕ) (body : List ℕ) → octets_of c (turns + 1) ≤ length body
     → take (c.symbols * (turns + 1)) (samples_in body)
     ≡ take (c.symbols * turns) (samples_in body) ++ samples_in (piece_of c turns body)
 one-slot-more c turns body h =

@@ -1,1 +1,3 @@
+pub mod Words
 pub mod Listener
+pub mod End

@@ -6,11 +6,13 @@
 //! much as the octets, the breaks and the check want. No end of a link is played.
 #![tactic(auto)]
 
+mod end;
 mod limits;
 mod listener;
 mod step;
 mod words;
 
+pub use end::{Slot, TappedEnd};
 pub use limits::TAP_LIMIT;
 pub use listener::Listener;
 pub use step::Step;
