@@ -1,3 +1,5 @@
 mod Listening
 mod Handing
 mod SlotNext
+mod HeardSo
+mod Looking

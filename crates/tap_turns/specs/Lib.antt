@@ -1,3 +1,5 @@
 pub mod Words
 pub mod Listener
 pub mod End
+pub mod Turn
+pub mod Tap

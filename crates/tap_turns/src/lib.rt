@@ -9,11 +9,15 @@
 mod end;
 mod limits;
 mod listener;
+mod recordings;
 mod step;
+mod tap;
+mod texts;
 mod words;
 
 pub use end::{Slot, TappedEnd};
 pub use limits::TAP_LIMIT;
 pub use listener::Listener;
 pub use step::Step;
+pub use tap::{Hearing, Tap};
 pub use words::TapWords;

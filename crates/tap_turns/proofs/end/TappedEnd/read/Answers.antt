@@ -1,6 +1,5 @@
-use Rattle.std.proofs.Common.{◌≡◌, ◌*◌, ◌++◌, length, take, arith, sym, ◌∙◌, subst, ℕ, List}
+use Rattle.std.proofs.Common.{◌≡◌, ◌*◌, ◌++◌, length, take, arith, sym, subst, ℕ, List}
 use Rattle.std.proofs.lemmas.List.{take_all}
-use Rattle.detection.specs.Slots.{Signal}
 use Rattle.lapm_frames.specs.declared.sent.Sent.{Sent}
 use Rattle.recordings.specs.Samples.{samples_in}
 use Rattle.line_tap.specs.Tapping.{HoldsNext}
