@@ -3,3 +3,5 @@ mod Handing
 mod SlotNext
 mod HeardSo
 mod Looking
+mod TurnTexts
+mod Going

@@ -111,6 +111,7 @@ has-read d line r x check role ts body slot h symbols path k =
       sender = refl;
       delay = refl;
       lag = refl;
+      slots = refl;
       symbols = symbols;
       coded = coded-so d line x.script (passed_of d role ts) (way_of d role ts) item (line_bits slot.bits) h.stands symbols
           (ap (λ p. p.transmitter.sender) path)

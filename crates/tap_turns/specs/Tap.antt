@@ -219,6 +219,7 @@ pub record HasRead (d : DelayedLine) (c : Channel) (role : Role) (ts : List Turn
   pub sender : d.sender ≡ before.sender
   pub delay : d.delay ≡ before.delay
   pub lag : d.lag ≡ before.lag
+  pub slots : d.slots ≡ before.slots
   pub symbols : d.line.writer.symbols ≡ before.line.writer.symbols
   pub coded : HasCoded d c.script
       (map (carried_signal before.sender) (take (length (sent_by 0 role ts) - (before.lag - 1)) (sent_by 0 role ts)))
@@ -245,3 +246,29 @@ LooksAt tap x ts (Err role) = IsFirstRefused x ts role
 -- what was read and the octets of these pieces behind it
 abbrev pub and_pieces : Both (List ℕ) → List ℕ → List ℕ → Both (List ℕ)
 and_pieces bodies orig answ = record { orig = bodies.orig ++ orig; answ = bodies.answ ++ answ }
+
+-- the turn in which these slots were read
+abbrev pub going_in : Tapping → List Turn → Both Heard → Both Slot → Turn
+going_in x ts heard slots = turn_in x ts heard (record {
+  orig = Some (told (check_by (terms_of x)) slots.orig.sent);
+  answ = Some (told (check_by (terms_of x)) slots.answ.sent);
+})
+
+-- what was heard, and the breaks that are given by it
+pub record HearsSo (x : Tapping) (ts : List Turn) (h : Hearing) : Type 0 where
+  pub hears : HearsThese x ts h.heard
+  pub orig : h.given.orig ≡ given_to Originator ts h.heard.orig
+  pub answ : h.given.answ ≡ given_to Answerer ts h.heard.answ
+
+-- Both slots of the turn after these were read, and are to go on the line.
+pub record IsToGo (tap : Tap) (x : Tapping) (ts : List Turn) (h : Hearing) (slots : Both Slot) : Type 0 where
+  pub script_is : tap.script ≡ x.script
+  pub tells : Tells x ts
+  pub turn : tap.turn ≡ length ts
+  pub at : tap.at ≡ HEADER + octets_of (line_of x) (length ts)
+  pub hears : HearsSo x ts h
+  pub orig : ListensFor tap.orig.listener (terms_of x) Originator (silent_in x ts h.heard ∷ ts)
+  pub answ : ListensFor tap.answ.listener (terms_of x) Answerer (silent_in x ts h.heard ∷ ts)
+  pub read : HaveRead tap x ts slots
+  pub orig_room : length tap.orig.piece.items ≡ 4 * (line_of x).symbols
+  pub answ_room : length tap.answ.piece.items ≡ 4 * (line_of x).symbols

@@ -17,10 +17,7 @@ abbrev pub recording_of : Role → TapNames → List ℕ
 recording_of Originator n = n.rec_o
 recording_of Answerer n = n.rec_a
 
--- the recordings, the names that are read, and those that are written, in the order of the words
-abbrev pub recordings_of : TapNames → List (List ℕ)
-recordings_of n = n.rec_o ∷ n.rec_a ∷ []
-
+-- the names that are read, and those that are written, in the order of the words
 abbrev pub inputs_of : TapNames → List (List ℕ)
 inputs_of n = n.rec_o ∷ n.rec_a ∷ n.script ∷ []
 

@@ -1,15 +1,16 @@
 // Turns of a tap.
-ghost use Rattle.std.specs.Prelude.{◌≡◌, ℕ, ◌+◌, ◌*◌, ◌<◌, ◌≤◌, ◌^◌, List, [], ◌∷◌, ◌++◌, length, take, vec_len, Option, Some, None, IfOk, OnOk, OnErr, IfErr};
-ghost use Rattle.outside_calls.specs.Folder.{FolderState, OnlyReads, OnlyWrites, CountsStand};
+ghost use Rattle.std.specs.Prelude.{◌≡◌, ℕ, ◌+◌, ◌*◌, ◌<◌, ◌≤◌, ◌^◌, List, [], ◌∷◌, ◌++◌, length, take, vec_len, Option, Some, None, true, false, IfOk, OnOk, OnErr, IfErr};
+ghost use Rattle.outside_calls.specs.Folder.{FolderState, Appended, PartlyAppended, OnlyReads, OnlyWrites, CountsStand};
+ghost use Rattle.link_run.specs.Trace.{turn_text};
 ghost use Rattle.outside_calls.specs.Outputs.{AddEach, AddPart, AreApartFrom, OnlyPuts};
-ghost use Rattle.command_base.specs.Stops.{EndCounts, ReadFails, WriteFails};
+ghost use Rattle.command_base.specs.Stops.{EndCounts, StopCounts, WriteFails};
 ghost use Rattle.line_texts.specs.LineText.{chance_line};
 ghost use Rattle.link_run.specs.Run.{Turn};
 ghost use Rattle.link_run.specs.Listened.{given_to};
 ghost use Rattle.line_run.specs.Sampled as line_ends;
 ghost use Rattle.noise_script.specs.Script.{IsInLimits};
 ghost use Rattle.roles.specs.Both.{Both as BothValue};
-ghost use Rattle.line_tap.specs.Tapping.{Tapping, tapping};
+ghost use Rattle.line_tap.specs.Tapping.{Tapping, Tells, tapping};
 ghost use Rattle.line_tap.specs.Ends.{EndsLine};
 ghost use Rattle.tap_turns.specs.Words.{named, inputs_of, outputs_of};
 ghost use Rattle.tap_turns.specs.Listener.{IsIdle, HasTaken};
@@ -20,7 +21,7 @@ use crate::limits::TAP_LIMIT;
 use crate::listener::{Listener, agreed_check};
 use crate::recordings::read_pieces;
 use crate::step::Step;
-use crate::texts::{write_chance, write_turn};
+use crate::texts::{sent_in, turn_lines, write_chance, write_turn};
 use crate::words::TapWords;
 use command_base::{Status, Stop};
 use lapm_frames::Heard;
@@ -39,11 +40,21 @@ use xid_params::{Terms, agree};
 const DLCI: u8 = 0;
 
 /// What both ends hear in a turn, and the lengths of the breaks that their users are given by it, in units of 10 ms.
+#[derive(Drop)]
 pub struct Hearing {
     /// What arrives.
     pub heard: Both<Heard>,
     /// The breaks.
     pub given: Both<Option<u8>>,
+}
+
+/// Nothing was read of either recording.
+fn are_none(counts: &Both<usize>) -> bool
+    ensures orig { result ≡ true → counts.now.orig ≡ 0 }
+    ensures answ { result ≡ true → counts.now.answ ≡ 0 }
+    ensures some { result ≡ false → counts.now.orig ≡ 0 → counts.now.answ ≡ 0 → ⊥ }
+{
+    counts.orig == 0 && counts.answ == 0
 }
 
 /// Two recordings of a line, read beside its script.
@@ -78,7 +89,7 @@ impl Drop for Tap {
 
 impl Tap {
     ghost use Rattle.tap_turns.specs.declared.tap.Tap.{Tap};
-    ghost use Rattle.tap_turns.specs.Tap.{IsReady, IsBehind, TapAfter, HasHeard, InTurn, HearsTurn, LooksAt, HaveRead, AreReadTo, TurnAnswers, GoesOnBy, and_pieces, got_pieces, silent_in};
+    ghost use Rattle.tap_turns.specs.Tap.{IsReady, IsBehind, TapAfter, HasHeard, InTurn, HearsTurn, LooksAt, AreReadTo, TurnAnswers, TurnStops, HearsSo, IsToGo, and_pieces, going_in, got_pieces, silent_in};
 
     /// Both ends hear what arrives, or the line ends the reading.
     fn hear(&mut self) -> Result<Hearing, LineEnd>
@@ -174,27 +185,144 @@ impl Tap {
         names: &TapWords<'_>,
         hearing: Hearing,
     ) -> Result<(), FolderFault>
-        ensures ok { OnOk result ((x : Tapping) (ts : List Turn) → self.now.turn ≡ length ts → hearing.given.orig ≡ given_to RoleValue.Originator ts hearing.heard.orig
-            → hearing.given.answ ≡ given_to RoleValue.Answerer ts hearing.heard.answ → HearsThese x ts hearing.heard
+        ensures ok { OnOk result ((x : Tapping) (ts : List Turn) → self.now.turn ≡ length ts → HearsSo x ts hearing
             → Appended (F.state folder.old) (F.state folder.new) (named names.now).trace (turn_text (length ts) (silent_in x ts hearing.heard))) }
-        ensures err { OnErr result ((x : Tapping) (ts : List Turn) → self.now.turn ≡ length ts → hearing.given.orig ≡ given_to RoleValue.Originator ts hearing.heard.orig
-            → hearing.given.answ ≡ given_to RoleValue.Answerer ts hearing.heard.answ → HearsThese x ts hearing.heard
+        ensures err { OnErr result ((x : Tapping) (ts : List Turn) → self.now.turn ≡ length ts → HearsSo x ts hearing
             → PartlyAppended (F.state folder.old) (F.state folder.new) (named names.now).trace (turn_text (length ts) (silent_in x ts hearing.heard))) }
         ensures only { OnlyWrites (F.state folder.old) (F.state folder.new) (named names.now).trace }
         ensures stand { OnOk result (CountsStand (F.state folder.old) (F.state folder.new)) }
-        ensures fails { IfErr result (WriteFails (F.state folder.old) (F.state folder.new) ((named names.now).trace ∷ [])) }
+        ensures fails { IfErr result (WriteFails (F.state folder.old) (F.state folder.new) (outputs_of (named names.now))) }
     {
-        let lines = turn_lines(
-            self.turn,
-            hearing,
-            Both {
-                orig: None,
-                answ: None,
-            },
-        );
+        let silent = Both {
+            orig: None,
+            answ: None,
+        };
+        let lines = turn_lines(self.turn, hearing, silent);
         match write_turn(folder, names.trace, &lines) {
             Ok(()) => Ok(()),
             Err(fault) => Err(fault),
+        }
+    }
+
+    /// Both slots were read: the lines of the turn go out, and the slots go on the line.
+    fn go_on<F: Folder>(
+        &mut self,
+        folder: &mut F,
+        names: &TapWords<'_>,
+        hearing: Hearing,
+        slots: Both<Slot>,
+    ) -> Result<(), FolderFault>
+        requires early { self.old.turn < 2 ^ 40 }
+        requires within { self.old.at ≤ TAP_LIMIT }
+        requires stands { (x : Tapping) × (ts : List Turn) × IsToGo self.old x ts hearing slots }
+        ensures ok { OnOk result ((x : Tapping) (ts : List Turn) → IsToGo self.old x ts hearing slots
+            → TapAfter self.new x (going_in x ts hearing.heard slots ∷ ts)
+            × Appended (F.state folder.old) (F.state folder.new) (named names.now).trace (turn_text (length ts) (going_in x ts hearing.heard slots))) }
+        ensures err { OnErr result ((x : Tapping) (ts : List Turn) → IsToGo self.old x ts hearing slots
+            → PartlyAppended (F.state folder.old) (F.state folder.new) (named names.now).trace (turn_text (length ts) (going_in x ts hearing.heard slots))) }
+        ensures orig { self.new.orig.listener ≡ self.old.orig.listener }
+        ensures answ { self.new.answ.listener ≡ self.old.answ.listener }
+        ensures turn { OnOk result (self.new.turn ≡ self.old.turn + 1) }
+        ensures at { OnOk result (self.new.at ≡ self.old.at + vec_len self.old.orig.piece) }
+        ensures script { self.new.script ≡ self.old.script }
+        ensures only { OnlyWrites (F.state folder.old) (F.state folder.new) (named names.now).trace }
+        ensures stand { OnOk result (CountsStand (F.state folder.old) (F.state folder.new)) }
+        ensures fails { IfErr result (WriteFails (F.state folder.old) (F.state folder.new) (outputs_of (named names.now))) }
+    {
+        codable_slots_fit();
+        let Both { orig, answ } = slots;
+        let sent = Both {
+            orig: Some(orig.sent),
+            answ: Some(answ.sent),
+        };
+        let lines = turn_lines(self.turn, hearing, sent);
+        match write_turn(folder, names.trace, &lines) {
+            Ok(()) => {}
+            Err(fault) => return Err(fault),
+        }
+        let sent = sent_in(lines);
+        self.lines.from_orig.put(sent.orig, orig.bits);
+        self.lines.from_answ.put(sent.answ, answ.bits);
+        self.turn += 1;
+        self.at += self.orig.piece.len() as u64;
+        Ok(())
+    }
+
+    /// A slot that arrives is a chance match: its one line goes out.
+    fn meet_chance<F: Folder>(&self, folder: &mut F, names: &TapWords<'_>, role: Role) -> Stop
+        requires { AreApartFrom (inputs_of (named names.now)) (outputs_of (named names.now)) }
+        ensures meets { (start : FolderState) (x : Tapping) (ts : List Turn) → self.now.turn ≡ length ts → Tells x ts
+            → EndsLine x ts (line_ends.ChanceMatch role) → AreReadTo start (F.state folder.old) (named names.now) x.bodies
+            → TurnStops start (F.state folder.old) (F.state folder.new) (named names.now) x ts result }
+        ensures only { OnlyPuts (F.state folder.old) (F.state folder.new) (outputs_of (named names.now)) }
+        ensures counts { StopCounts (F.state folder.old) (F.state folder.new) (inputs_of (named names.now)) (outputs_of (named names.now)) result }
+    {
+        match write_chance(folder, names.trace, self.turn, role) {
+            Ok(()) => Stop::Own(Status::ChanceMatch {
+                role,
+                turn: self.turn,
+            }),
+            Err(fault) => Stop::Write(fault),
+        }
+    }
+
+    /// One turn: both ends hear, what they took is written, and both slots of it are read and go on the line. The names of all turns are the same.
+    pub fn turn<F: Folder>(&mut self, folder: &mut F, names: &TapWords<'_>) -> Result<Step, Stop>
+        requires ready { IsReady self.old }
+        requires apart { AreApartFrom (inputs_of (named names.now)) (outputs_of (named names.now)) }
+
+        // A turn is one of those that the script and the recordings tell, and adds to each output what that turn gives.
+        ensures turn { (start : FolderState) (x : Tapping) (ts : List Turn) → TapAfter self.old x ts → AreReadTo start (F.state folder.old) (named names.now) x.bodies
+            → TurnAnswers self.new start (F.state folder.old) (F.state folder.new) (named names.now) x ts result }
+        ensures script { self.new.script ≡ self.old.script }
+        ensures ready { result ≡ Ok Step.Going → IsReady self.new }
+        ensures nearer { result ≡ Ok Step.Going → self.old.at < self.new.at }
+
+        // It touches the outputs alone, and a fault has its cause.
+        ensures only { OnlyPuts (F.state folder.old) (F.state folder.new) (outputs_of (named names.now)) }
+        ensures counts { EndCounts (F.state folder.old) (F.state folder.new) (inputs_of (named names.now)) (outputs_of (named names.now)) result }
+    {
+        let hearing = match self.hear() {
+            Ok(hearing) => hearing,
+            Err(LineEnd::Lost { role, symbol }) => {
+                return Err(Stop::Own(Status::LineLost { role, symbol }));
+            }
+            Err(LineEnd::Chance { role }) => return Err(self.meet_chance(folder, names, role)),
+        };
+        match self.deliver(folder, names) {
+            Ok(()) => {}
+            Err(fault) => return Err(Stop::Write(fault)),
+        }
+        let counts = match read_pieces(
+            folder,
+            names,
+            self.at,
+            &mut self.orig.piece,
+            &mut self.answ.piece,
+        ) {
+            Ok(counts) => counts,
+            Err(fault) => return Err(Stop::Read(fault)),
+        };
+        if are_none(&counts) {
+            return match self.finish(folder, names, hearing) {
+                Ok(()) => Ok(Step::Done {
+                    turns: self.turn + 1,
+                }),
+                Err(fault) => Err(Stop::Write(fault)),
+            };
+        }
+        let slots = match self.look(&counts) {
+            Ok(slots) => slots,
+            Err(role) => {
+                return Err(Stop::Own(Status::BadTap {
+                    role,
+                    turn: self.turn,
+                }));
+            }
+        };
+        match self.go_on(folder, names, hearing, slots) {
+            Ok(()) => Ok(Step::Going),
+            Err(fault) => Err(Stop::Write(fault)),
         }
     }
 }
