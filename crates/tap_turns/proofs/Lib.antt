@@ -5,3 +5,5 @@ mod HeardSo
 mod Looking
 mod TurnTexts
 mod Going
+mod Longer
+mod Turning

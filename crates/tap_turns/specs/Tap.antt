@@ -247,6 +247,19 @@ LooksAt tap x ts (Err role) = IsFirstRefused x ts role
 abbrev pub and_pieces : Both (List ℕ) → List ℕ → List ℕ → Both (List ℕ)
 and_pieces bodies orig answ = record { orig = bodies.orig ++ orig; answ = bodies.answ ++ answ }
 
+-- so many octets of both pieces
+abbrev pub read_of : Tap → Tapping → Both ℕ → Both (List ℕ)
+read_of tap x counts = and_pieces x.bodies (take counts.orig tap.orig.piece.items) (take counts.answ tap.answ.piece.items)
+
+-- Both pieces were read, up to a slot's end or to the recording's.
+pub record HasReadPieces (tap : Tap) (start now : FolderState) (n : TapNames) (x : Tapping) (ts : List Turn) (heard : Both Heard)
+    (counts : Both ℕ) : Type 0 where
+  pub turn : InTurn tap x ts heard
+  pub read : AreReadTo start now n (read_of tap x counts)
+  pub out : AreReadOut start n (tapping x.script (read_of tap x counts)) ts
+  pub few_orig : counts.orig ≤ length tap.orig.piece.items
+  pub few_answ : counts.answ ≤ length tap.answ.piece.items
+
 -- the turn in which these slots were read
 abbrev pub going_in : Tapping → List Turn → Both Heard → Both Slot → Turn
 going_in x ts heard slots = turn_in x ts heard (record {

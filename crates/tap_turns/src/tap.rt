@@ -3,7 +3,7 @@ ghost use Rattle.std.specs.Prelude.{◌≡◌, ℕ, ◌+◌, ◌*◌, ◌<◌, �
 ghost use Rattle.outside_calls.specs.Folder.{FolderState, Appended, PartlyAppended, OnlyReads, OnlyWrites, CountsStand};
 ghost use Rattle.link_run.specs.Trace.{turn_text};
 ghost use Rattle.outside_calls.specs.Outputs.{AddEach, AddPart, AreApartFrom, OnlyPuts};
-ghost use Rattle.command_base.specs.Stops.{EndCounts, StopCounts, WriteFails};
+ghost use Rattle.command_base.specs.Stops.{EndCounts, StopCounts, ReadFails, WriteFails};
 ghost use Rattle.line_texts.specs.LineText.{chance_line};
 ghost use Rattle.link_run.specs.Run.{Turn};
 ghost use Rattle.link_run.specs.Listened.{given_to};
@@ -89,7 +89,7 @@ impl Drop for Tap {
 
 impl Tap {
     ghost use Rattle.tap_turns.specs.declared.tap.Tap.{Tap};
-    ghost use Rattle.tap_turns.specs.Tap.{IsReady, IsBehind, TapAfter, HasHeard, InTurn, HearsTurn, LooksAt, AreReadTo, TurnAnswers, TurnStops, HearsSo, IsToGo, and_pieces, going_in, got_pieces, silent_in};
+    ghost use Rattle.tap_turns.specs.Tap.{IsReady, IsBehind, TapAfter, HasHeard, InTurn, HearsTurn, LooksAt, AreReadTo, HasReadPieces, TurnAnswers, TurnStops, HearsSo, IsToGo, going_in, got_pieces, read_of, silent_in};
 
     /// Both ends hear what arrives, or the line ends the reading.
     fn hear(&mut self) -> Result<Hearing, LineEnd>
@@ -150,6 +150,41 @@ impl Tap {
         }
     }
 
+    /// Both pieces are read, the originator's first: how many octets each is.
+    fn read<F: Folder>(
+        &mut self,
+        folder: &mut F,
+        names: &TapWords<'_>,
+    ) -> Result<Both<usize>, FolderFault>
+        requires { self.old.at ≤ TAP_LIMIT }
+        ensures pieces { (start : FolderState) (x : Tapping) (ts : List Turn) (heard : BothValue Heard) → InTurn self.old x ts heard
+            → AreReadTo start (F.state folder.old) (named names.now) x.bodies
+            → IfOk result (λ counts. HasReadPieces self.new start (F.state folder.new) (named names.now) x ts heard counts) }
+        ensures stands { (x : Tapping) (ts : List Turn) (heard : BothValue Heard) → InTurn self.old x ts heard → InTurn self.new x ts heard }
+        ensures orig_few { IfOk result (λ counts. counts.orig ≤ vec_len self.new.orig.piece) }
+        ensures answ_few { IfOk result (λ counts. counts.answ ≤ vec_len self.new.answ.piece) }
+        ensures within { IfOk result (λ counts. self.old.at + counts.orig ≤ TAP_LIMIT) }
+        ensures orig { self.new.orig.listener ≡ self.old.orig.listener }
+        ensures answ { self.new.answ.listener ≡ self.old.answ.listener }
+        ensures turn { self.new.turn ≡ self.old.turn }
+        ensures at { self.new.at ≡ self.old.at }
+        ensures script { self.new.script ≡ self.old.script }
+        ensures reads { OnlyReads (F.state folder.old) (F.state folder.new) }
+        ensures stand { OnOk result (CountsStand (F.state folder.old) (F.state folder.new)) }
+        ensures fails { IfErr result (ReadFails (F.state folder.old) (F.state folder.new) (inputs_of (named names.now))) }
+    {
+        match read_pieces(
+            folder,
+            names,
+            self.at,
+            &mut self.orig.piece,
+            &mut self.answ.piece,
+        ) {
+            Ok(counts) => Ok(counts),
+            Err(fault) => Err(fault),
+        }
+    }
+
     /// Both slots of the turn, of which so many octets were read, the originator's first; or the first role whose slot is refused.
     fn look(&mut self, counts: &Both<usize>) -> Result<Both<Slot>, Role>
         requires limits { IsInLimits self.old.script }
@@ -157,7 +192,7 @@ impl Tap {
         requires answ { counts.now.answ ≤ vec_len self.old.answ.piece }
         requires stands { (x : Tapping) × (ts : List Turn) × (heard : BothValue Heard) × InTurn self.old x ts heard }
         ensures looks { (x : Tapping) (ts : List Turn) (heard : BothValue Heard) → InTurn self.old x ts heard
-            → LooksAt self.new (tapping x.script (and_pieces x.bodies (take counts.now.orig self.old.orig.piece.items) (take counts.now.answ self.old.answ.piece.items))) ts result }
+            → LooksAt self.new (tapping x.script (read_of self.old x counts.now)) ts result }
         ensures orig { self.new.orig.listener ≡ self.old.orig.listener }
         ensures answ { self.new.answ.listener ≡ self.old.answ.listener }
         ensures orig_piece { self.new.orig.piece ≡ self.old.orig.piece }
@@ -293,13 +328,7 @@ impl Tap {
             Ok(()) => {}
             Err(fault) => return Err(Stop::Write(fault)),
         }
-        let counts = match read_pieces(
-            folder,
-            names,
-            self.at,
-            &mut self.orig.piece,
-            &mut self.answ.piece,
-        ) {
+        let counts = match self.read(folder, names) {
             Ok(counts) => counts,
             Err(fault) => return Err(Stop::Read(fault)),
         };
