@@ -28,11 +28,16 @@ use Rattle.command_base.specs.Inputs.{ReadTo}
 use Rattle.tap_turns.specs.declared.limits.TheConstants.{TAP_LIMIT}
 use Rattle.tap_turns.specs.declared.tap.Tap.{Tap}
 use Rattle.tap_turns.specs.declared.tap.Hearing.{Hearing}
+use Rattle.tap_turns.specs.declared.end.Slot.{Slot}
+use Rattle.bit_stuffing.specs.declared.slot_writer.TheConstants.{HEAD, TAIL}
+use Rattle.noise_script.specs.Script.{IsInLimits}
+use Rattle.tap_turns.specs.Listener.{IsIdle}
 use Rattle.tap_turns.specs.Words.{TapNames, recording_of, inputs_of, outputs_of}
 use Rattle.tap_turns.specs.Turn.{held_of, left_of, added, AddsGot, IsLast}
-use Rattle.tap_turns.specs.Tap.{IsReadTo, AreReadTo, IsReadOut, AreReadOut, HearsThese, HearsSo, InTurn, silent_in, got_pieces, EndsInTurn, EndsReading, StopsInTurn, StopsReadingIn, IsBehind, HasReadPieces, and_pieces, read_of}
+use Rattle.tap_turns.specs.Tap.{IsReadTo, AreReadTo, IsReadOut, AreReadOut, HearsThese, HearsSo, InTurn, silent_in, got_pieces, EndsInTurn, EndsReading, StopsInTurn, StopsReadingIn, IsBehind, HasReadPieces, HaveRead, IsReady, IsToGo, TapAfter, GoesOnBy, going_in, and_pieces, read_of}
 use Rattle.tap_turns.proofs.Longer.{hears-longer, tells-longer, got-more}
-use Rattle.tap_turns.proofs.Going.{hears-so}
+use Rattle.tap_turns.proofs.HeardSo.{SameReading, behind-on}
+use Rattle.tap_turns.proofs.Going.{hears-so, goes-on}
 use Rattle.tap_turns.proofs.SlotNext.{octets-next}
 
 -- ---- what was read stays read
@@ -265,6 +270,12 @@ at-count : (tap : Tap) (x : Tapping) (ts : List Turn) → IsBehind tap x ts → 
     → tap.at ≡ HEADER + length body
 at-count tap x ts h body count = h.at ∙ ap (λ n. HEADER + n) (sym count)
 
+pub read-turn : (old new : Tap) (x : Tapping) (ts : List Turn) (heard : Both Heard) → SameReading old new
+    → new.orig.listener ≡ old.orig.listener → new.answ.listener ≡ old.answ.listener → new.lines ≡ old.lines → InTurn old x ts heard
+    → InTurn new x ts heard
+read-turn old new x ts heard same o a l h =
+    record { behind = behind-on old new x ts same h.behind; hears = h.hears; orig = rw o h.orig; answ = rw a h.answ; lines = rw l h.lines }
+
 pub has-read-pieces : (old new : Tap) (start b c : FolderState) (n : TapNames) (x : Tapping) (ts : List Turn) (heard : Both Heard) (counts : Both ℕ)
     → InTurn old x ts heard → InTurn new x ts heard → new.at ≡ old.at → AreReadTo start b n x.bodies
     → ReadsPieces start b c n old.at counts.orig counts.answ new.orig.piece.items new.answ.piece.items
@@ -435,3 +446,84 @@ ends-badly law tap start a b c n x ts h counts role number k some same refused =
     add-none : (a c : FolderState) (n : TapNames) (more : Left) → AddEach a c (outputs_of n) (more.got.orig ∷ more.got.answ ∷ [])
         → AddEach a c (outputs_of n) (more.got.orig ∷ more.got.answ ∷ [] ∷ [])
     add-none a c n more p = (p.0, (p.1.0, (inl (refl, p.1.1.0), tt)))
+
+-- ---- both slots were read
+
+pub to-go : (tap new : Tap) (x : Tapping) (ts : List Turn) (h : Hearing) (counts : Both ℕ) (slots : Both Slot)
+    → InTurn tap x ts h.heard → HearsSo x ts h → HaveRead new (now_of tap x counts) ts slots → new.script ≡ tap.script → new.turn ≡ tap.turn
+    → new.at ≡ tap.at → new.orig.listener ≡ tap.orig.listener → new.answ.listener ≡ tap.answ.listener → new.orig.piece ≡ tap.orig.piece
+    → new.answ.piece ≡ tap.answ.piece → IsToGo new (now_of tap x counts) ts h slots
+to-go tap new x ts h counts slots k so read script turn at lo la po pa = record {
+  script_is = script ∙ k.behind.script_is;
+  tells = tells-now tap x ts counts k.behind.tells;
+  turn = turn ∙ k.behind.turn;
+  at = at ∙ k.behind.at;
+  hears = hears-now tap x ts h counts so;
+  orig = rw lo k.orig;
+  answ = rw la k.answ;
+  read = read;
+  orig_room = rw po k.behind.orig_room;
+  answ_room = rw pa k.behind.answ_room;
+}
+
+pub goes-on-by : (tap new : Tap) (start a b c d : FolderState) (n : TapNames) (x : Tapping) (ts : List Turn) (h : Hearing) (counts : Both ℕ)
+    (slots : Both Slot) → HasPieces tap start a b c n x ts h counts → TapAfter new (now_of tap x counts) (going_in (now_of tap x counts) ts h.heard slots ∷ ts)
+    → OnlyWrites c d n.trace
+    → Appended c d n.trace (turn_text (length ts) (going_in (now_of tap x counts) ts h.heard slots)) → GoesOnBy new start a d n x ts
+goes-on-by tap new start a b c d n x ts h counts slots k after w put = record {
+  others = read_of tap x counts;
+  read = read-later start c d n (read_of tap x counts) k.apart (OnlyPuts-one c d (n.got_o ∷ n.got_a ∷ []) n.trace [] w) k.pieces.read;
+  turn = going_in (now_of tap x counts) ts h.heard slots;
+  after = after;
+  writes = put-lines tap start a b c d n x ts h counts (turn_text (length ts) (going_in (now_of tap x counts) ts h.heard slots)) k w put;
+}
+
+pub stops-going : (tap mid : Tap) (start a b c d : FolderState) (n : TapNames) (x : Tapping) (ts : List Turn) (h : Hearing) (counts : Both ℕ)
+    (slots : Both Slot) → HasPieces tap start a b c n x ts h counts → IsToGo mid (now_of tap x counts) ts h slots → OnlyWrites c d n.trace
+    → PartlyAppended c d n.trace (turn_text (length ts) (going_in (now_of tap x counts) ts h.heard slots)) → StopsInTurn start a d n x ts
+stops-going tap mid start a b c d n x ts h counts slots k go w part =
+    let y : Tapping = now_of tap x counts in
+    let t : Turn = going_in y ts h.heard slots in
+    record {
+      others = read_of tap x counts;
+      read = read-later start c d n (read_of tap x counts) k.apart (OnlyPuts-one c d (n.got_o ∷ n.got_a ∷ []) n.trace [] w) k.pieces.read;
+      tells = tells-now tap x ts counts k.pieces.turn.behind.tells;
+      more = added x ts t (turn_text (length ts) t);
+      adds = inr (inl (record { turn = t; makes = inl (goes-on y ts mid h slots go); is = refl }, k.pieces.out));
+      writes = part-lines tap start a b c d n x ts h counts (turn_text (length ts) t) k w part;
+    }
+
+-- a whole slot was read of each recording
+pub whole-orig : (tap mid : Tap) (x : Tapping) (ts : List Turn) (h : Hearing) (counts : Both ℕ) (slots : Both Slot)
+    → InTurn tap x ts h.heard → counts.orig ≤ length tap.orig.piece.items → IsToGo mid (now_of tap x counts) ts h slots
+    → counts.orig ≡ length tap.orig.piece.items
+whole-orig tap mid x ts h counts slots k few go =
+    omega (arith, go.read.orig.holds.whole, few, k.behind.orig.count, k.behind.orig_room, octets-next (line_of x) (length ts),
+    length-append {A = ℕ} x.bodies.orig (take counts.orig tap.orig.piece.items), length-take counts.orig tap.orig.piece.items)
+
+-- a piece has octets
+pub some-octets : (x : Tapping) (room : ℕ) → HEAD + TAIL < (line_of x).symbols → room ≡ 4 * (line_of x).symbols → 0 < room
+some-octets x room long e = omega (arith, long, e)
+
+-- the tap is ready for the next turn
+pub ready-again : (old mid new : Tap) (x : Tapping) (t : Turn) (ts : List Turn) → IsReady old → TapAfter new x (t ∷ ts) → new.script ≡ old.script
+    → IsIdle mid.orig.listener (old.turn + 1) → IsIdle mid.answ.listener (old.turn + 1) → new.orig.listener ≡ mid.orig.listener
+    → new.answ.listener ≡ mid.answ.listener → new.turn ≡ old.turn + 1 → old.at < new.at → new.at ≤ TAP_LIMIT → IsReady new
+ready-again old mid new x t ts h after script io ia lo la turn more within = record {
+  limits = subst IsInLimits (sym script) h.limits;
+  orig = rw (lo, turn) io;
+  answ = rw (la, turn) ia;
+  early = omega (arith, turn, more, h.early);
+  within = within;
+  what = x;
+  turns = t ∷ ts;
+  after = after;
+}
+
+-- ---- what was touched, and counted
+
+pub only-written : (a b c d : FolderState) (n : TapNames) → OnlyPuts a b (outputs_of n) → OnlyReads b c → OnlyWrites c d n.trace
+    → OnlyPuts a d (outputs_of n)
+only-written a b c d n p r w =
+    OnlyPuts-trans a c d (outputs_of n) (OnlyPuts-trans a b c (outputs_of n) p (OnlyPuts-reads b c (outputs_of n) r))
+    (OnlyPuts-one c d (n.got_o ∷ n.got_a ∷ []) n.trace [] w)

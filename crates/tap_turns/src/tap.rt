@@ -25,8 +25,9 @@ use crate::texts::{sent_in, turn_lines, write_chance, write_turn};
 use crate::words::TapWords;
 use command_base::{Status, Stop};
 use lapm_frames::Heard;
+use lapm_receiver::laws::keeps_taken;
 use line_laws::laws::{codable_slots_fit, slots_that_fit_follow_one_another};
-use line_run::laws::{scripts_make_links, slots_are_due_alone};
+use line_run::laws::{scripts_make_links, slots_are_due_alone, slots_have_room};
 use line_tap::{Sender, SlotReader};
 use noise_script::Script;
 use outside_calls::{Folder, FolderFault, NoMemory};
@@ -161,8 +162,8 @@ impl Tap {
             → AreReadTo start (F.state folder.old) (named names.now) x.bodies
             → IfOk result (λ counts. HasReadPieces self.new start (F.state folder.new) (named names.now) x ts heard counts) }
         ensures stands { (x : Tapping) (ts : List Turn) (heard : BothValue Heard) → InTurn self.old x ts heard → InTurn self.new x ts heard }
-        ensures orig_few { IfOk result (λ counts. counts.orig ≤ vec_len self.new.orig.piece) }
-        ensures answ_few { IfOk result (λ counts. counts.answ ≤ vec_len self.new.answ.piece) }
+        ensures orig_few { IfOk result (λ counts. counts.orig ≤ length self.new.orig.piece.items) }
+        ensures answ_few { IfOk result (λ counts. counts.answ ≤ length self.new.answ.piece.items) }
         ensures within { IfOk result (λ counts. self.old.at + counts.orig ≤ TAP_LIMIT) }
         ensures orig { self.new.orig.listener ≡ self.old.orig.listener }
         ensures answ { self.new.answ.listener ≡ self.old.answ.listener }
@@ -188,8 +189,8 @@ impl Tap {
     /// Both slots of the turn, of which so many octets were read, the originator's first; or the first role whose slot is refused.
     fn look(&mut self, counts: &Both<usize>) -> Result<Both<Slot>, Role>
         requires limits { IsInLimits self.old.script }
-        requires orig { counts.now.orig ≤ vec_len self.old.orig.piece }
-        requires answ { counts.now.answ ≤ vec_len self.old.answ.piece }
+        requires orig { counts.now.orig ≤ length self.old.orig.piece.items }
+        requires answ { counts.now.answ ≤ length self.old.answ.piece.items }
         requires stands { (x : Tapping) × (ts : List Turn) × (heard : BothValue Heard) × InTurn self.old x ts heard }
         ensures looks { (x : Tapping) (ts : List Turn) (heard : BothValue Heard) → InTurn self.old x ts heard
             → LooksAt self.new (tapping x.script (read_of self.old x counts.now)) ts result }
@@ -258,7 +259,7 @@ impl Tap {
         ensures orig { self.new.orig.listener ≡ self.old.orig.listener }
         ensures answ { self.new.answ.listener ≡ self.old.answ.listener }
         ensures turn { OnOk result (self.new.turn ≡ self.old.turn + 1) }
-        ensures at { OnOk result (self.new.at ≡ self.old.at + vec_len self.old.orig.piece) }
+        ensures at { OnOk result (self.new.at ≡ self.old.at + length self.old.orig.piece.items) }
         ensures script { self.new.script ≡ self.old.script }
         ensures only { OnlyWrites (F.state folder.old) (F.state folder.new) (named names.now).trace }
         ensures stand { OnOk result (CountsStand (F.state folder.old) (F.state folder.new)) }
@@ -317,6 +318,8 @@ impl Tap {
         ensures only { OnlyPuts (F.state folder.old) (F.state folder.new) (outputs_of (named names.now)) }
         ensures counts { EndCounts (F.state folder.old) (F.state folder.new) (inputs_of (named names.now)) (outputs_of (named names.now)) result }
     {
+        keeps_taken();
+        slots_have_room();
         let hearing = match self.hear() {
             Ok(hearing) => hearing,
             Err(LineEnd::Lost { role, symbol }) => {
