@@ -7,3 +7,5 @@ mod TurnTexts
 mod Going
 mod Longer
 mod Turning
+mod Whole
+mod Reached

@@ -3,3 +3,4 @@ pub mod Listener
 pub mod End
 pub mod Turn
 pub mod Tap
+pub mod Turns

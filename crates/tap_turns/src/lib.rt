@@ -13,6 +13,7 @@ mod recordings;
 mod step;
 mod tap;
 mod texts;
+mod turns;
 mod words;
 
 pub use end::{Slot, TappedEnd};
@@ -20,4 +21,5 @@ pub use limits::TAP_LIMIT;
 pub use listener::Listener;
 pub use step::Step;
 pub use tap::{Hearing, Tap};
+pub use turns::tap_turns;
 pub use words::TapWords;
