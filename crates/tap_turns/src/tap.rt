@@ -14,11 +14,10 @@ ghost use Rattle.line_tap.specs.Tapping.{Tapping, Tells, tapping};
 ghost use Rattle.line_tap.specs.Ends.{EndsLine};
 ghost use Rattle.tap_turns.specs.Words.{named, inputs_of, outputs_of};
 ghost use Rattle.tap_turns.specs.Listener.{IsIdle, HasTaken};
-ghost use Rattle.tap_turns.specs.Turn.{held_of, added};
+ghost use Rattle.tap_turns.specs.Turns.{no_octets};
 
 use crate::end::{Slot, TappedEnd};
-use crate::limits::TAP_LIMIT;
-use crate::listener::{Listener, agreed_check};
+use crate::limits::{DLCI, TAP_LIMIT};
 use crate::recordings::read_pieces;
 use crate::step::Step;
 use crate::texts::{sent_in, turn_lines, write_chance, write_turn};
@@ -28,17 +27,13 @@ use lapm_frames::Heard;
 use lapm_receiver::laws::keeps_taken;
 use line_laws::laws::{codable_slots_fit, slots_that_fit_follow_one_another};
 use line_run::laws::{scripts_make_links, slots_are_due_alone, slots_have_room};
-use line_tap::{Sender, SlotReader};
 use noise_script::Script;
 use outside_calls::{Folder, FolderFault, NoMemory};
 use recordings::HEADER;
 use roles::{Both, Role};
 use shared_line::{LineEnd, Lines, slot_symbols};
 use std::alloc::Global;
-use xid_params::{Terms, agree};
-
-/// The channel of the link.
-const DLCI: u8 = 0;
+use xid_params::agree;
 
 /// What both ends hear in a turn, and the lengths of the breaks that their users are given by it, in units of 10 ms.
 #[derive(Drop)]
@@ -91,6 +86,33 @@ impl Drop for Tap {
 impl Tap {
     ghost use Rattle.tap_turns.specs.declared.tap.Tap.{Tap};
     ghost use Rattle.tap_turns.specs.Tap.{IsReady, IsBehind, TapAfter, HasHeard, InTurn, HearsTurn, LooksAt, AreReadTo, HasReadPieces, TurnAnswers, TurnStops, HearsSo, IsToGo, going_in, got_pieces, read_of, silent_in};
+
+    /// A tap before the first turn: both recordings are read up to behind their headers. It takes all its memory.
+    pub fn new(alloc: Global, script: Script) -> Result<Tap, NoMemory>
+        ensures script { IfOk result (λ tap. tap.script ≡ script) }
+        ensures ready { IfOk result IsReady }
+        ensures first { IfOk result (λ tap. TapAfter tap (tapping script no_octets) []) }
+    {
+        scripts_make_links();
+        slots_have_room();
+        script.is_in_limits();
+        let terms = agree(
+            &script.offer(Role::Originator),
+            &script.offer(Role::Answerer),
+        );
+        let symbols = slot_symbols(&script);
+        let lines = Lines::new(alloc, &script, 1)?;
+        let orig = TappedEnd::new(alloc, Role::Originator, &terms, symbols)?;
+        let answ = TappedEnd::new(alloc, Role::Answerer, &terms, symbols)?;
+        Ok(Tap {
+            script,
+            lines,
+            orig,
+            answ,
+            at: HEADER as u64,
+            turn: 0,
+        })
+    }
 
     /// Both ends hear what arrives, or the line ends the reading.
     fn hear(&mut self) -> Result<Hearing, LineEnd>
