@@ -1,8 +1,7 @@
 -- Slots that were read go on the line, and the reading goes on.
-use Rattle.std.proofs.Common.{◌≡◌, ℕ, suc, ◌+◌, ◌*◌, ◌<◌, Bool, Option, List, [], ◌∷◌, ◌++◌, length, arith, refl, sym, ◌∙◌, ap, subst, Some}
+use Rattle.std.proofs.Common.{◌≡◌, ℕ, suc, ◌+◌, ◌<◌, Bool, Option, List, [], ◌∷◌, ◌++◌, length, arith, refl, ◌∙◌, ap}
 use Rattle.bit_stuffing.specs.BitSlot.{line_bits}
 use Rattle.frame_check.specs.declared.check.Check.{Check}
-use Rattle.recordings.specs.declared.header.TheConstants.{HEADER}
 use Rattle.roles.specs.declared.role.Role.{Role}
 use Rattle.roles.specs.declared.role.Role.TheVariants.{Originator, Answerer}
 use Rattle.roles.specs.Role.{other}
@@ -17,18 +16,15 @@ use Rattle.link_run.specs.Listened.{check_by, judged_by, given_to}
 use Rattle.line_run.specs.Sampled.{HeardAt}
 use Rattle.line_run.specs.Stream.{Carried, sent_by, both_sent_by}
 use Rattle.shared_line.specs.declared.direction.DelayedLine.{DelayedLine}
-use Rattle.shared_line.specs.declared.lines.Lines.{Lines}
 use Rattle.shared_line.specs.Way.{HasCoded, Stands, WaitsFor}
 use Rattle.shared_line.specs.Lines.{LinesWait}
 use Rattle.shared_line.proofs.Waiting.{room-of, sends-behind}
-use Rattle.line_tap.specs.Tapping.{Tapping, line_of, terms_of, octets_of, Hears, Sends, GoesOn, Tells, told}
+use Rattle.line_tap.specs.Tapping.{Tapping, line_of, terms_of, octets_of, Hears, Sends, GoesOn, told}
 use Rattle.tap_turns.specs.declared.end.Slot.{Slot}
 use Rattle.tap_turns.specs.declared.end.TappedEnd.{TappedEnd}
 use Rattle.tap_turns.specs.declared.tap.Tap.{Tap}
 use Rattle.tap_turns.specs.declared.tap.Hearing.{Hearing}
-use Rattle.tap_turns.specs.Listener.{ListensFor}
-use Rattle.tap_turns.specs.End.{ReadsOn}
-use Rattle.tap_turns.specs.Tap.{IsBehind, TapAfter, HasRead, HaveRead, HearsThese, IsToGo, turn_in, silent_in, going_in}
+use Rattle.tap_turns.specs.Tap.{TapAfter, HasRead, HearsThese, IsToGo, turn_in, going_in}
 use Rattle.tap_turns.proofs.SlotNext.{octets-next}
 
 -- ---- the turn that was heard

@@ -1,12 +1,11 @@
 -- Both ends hear in a turn of a tap, and what they took is delivered.
-use Rattle.std.proofs.Common.{◌≡◌, ◌≢◌, ℕ, ◌+◌, ◌*◌, ◌<◌, ◌≤◌, ◌^◌, Bool, true, List, [], ◌∷◌, ◌++◌, length, arith, refl, sym, ◌∙◌, ap, subst, Some, Ok}
+use Rattle.std.proofs.Common.{◌≡◌, ℕ, ◌*◌, ◌<◌, ◌≤◌, ◌^◌, List, [], ◌∷◌, ◌++◌, length, arith, refl, sym, ◌∙◌, ap, subst}
 use Rattle.std.specs.Prelude.{is_some}
 use Rattle.frame_check.specs.declared.check.Check.{Check}
 use Rattle.roles.specs.declared.role.Role.{Role}
 use Rattle.roles.specs.declared.role.Role.TheVariants.{Originator, Answerer}
 use Rattle.roles.specs.Role.{other}
 use Rattle.roles.specs.Both.{Both, of}
-use Rattle.lapm_frames.specs.declared.frame.Frame.{Frame}
 use Rattle.lapm_frames.specs.declared.frame.Frame.TheVariants.{I}
 use Rattle.lapm_frames.specs.declared.heard.Heard.{Heard}
 use Rattle.lapm_frames.specs.declared.heard.Heard.TheVariants.{Passed, Chance}
@@ -14,11 +13,11 @@ use Rattle.lapm_frames.specs.declared.sent.Sent.TheVariants as slots
 use Rattle.xid_params.specs.declared.terms.Terms.{Terms}
 use Rattle.lapm_receiver.specs.declared.took.Took.{Took}
 use Rattle.lapm_receiver.specs.declared.took.Took.TheVariants.{InOrder, Kept, Repeat, Gap}
-use Rattle.lapm_receiver.specs.Incoming.{Incoming, after_kind, after_take, kind_of, offset}
+use Rattle.lapm_receiver.specs.Incoming.{Incoming, after_kind, kind_of, offset}
 use Rattle.noise_script.specs.Script.{IsInLimits, delay_of}
 use Rattle.link_run.specs.Run.{Turn}
 use Rattle.link_run.specs.Laws.{given_in, given_breaks}
-use Rattle.link_run.specs.Listened.{judged_by, received, taking_in, given_by, given_to}
+use Rattle.link_run.specs.Listened.{judged_by, received, taking_in, given_to}
 use Rattle.link_run.specs.Overheard.{has_passed, is_xid, opens}
 use Rattle.line_run.specs.Sampled.{Channel, IsHeardOf, IsHeardWell, EndsLineBy, LineEnd, LineLost, ChanceMatch}
 use Rattle.line_run.specs.Scripted.{ScriptsHaveDelays}
@@ -29,8 +28,8 @@ use Rattle.shared_line.proofs.Waiting.{passed-few}
 use Rattle.line_tap.specs.Tapping.{Tapping, line_of, terms_of, Tells}
 use Rattle.tap_turns.specs.declared.listener.Listener.{Listener}
 use Rattle.tap_turns.specs.declared.tap.Tap.{Tap}
-use Rattle.tap_turns.specs.Listener.{Listens, Overhears, HasTaken, IsIdle, ListensFor, ListensToo, delivered}
-use Rattle.tap_turns.specs.Tap.{IsBehind, TapAfter, IsReady, HasHeard, HearsThese, silent_in}
+use Rattle.tap_turns.specs.Listener.{Listens, Overhears, ListensToo, delivered}
+use Rattle.tap_turns.specs.Tap.{IsBehind, TapAfter, IsReady, HearsThese}
 
 -- ---- the slots of turns that the recordings tell are due
 

@@ -9,3 +9,4 @@ mod Longer
 mod Turning
 mod Whole
 mod Reached
+mod Beginning

@@ -1,5 +1,5 @@
 -- What more octets of the recordings leave as it was.
-use Rattle.std.proofs.Common.{◌≡◌, ◌⊎◌, inl, inr, ℕ, suc, ◌+◌, ◌*◌, ◌<◌, ◌≤◌, List, [], ◌∷◌, ◌++◌, length, take, arith, length-append, refl, sym, ◌∙◌, ap, subst, append-nil}
+use Rattle.std.proofs.Common.{◌≡◌, ℕ, ◌+◌, ◌*◌, ◌≤◌, List, [], ◌∷◌, ◌++◌, length, take, arith, length-append, sym, ◌∙◌, ap, subst, append-nil}
 use Rattle.std.proofs.lemmas.List.{take-append-le}
 use Rattle.std.specs.Prelude.{drop}
 use Rattle.std.specs.List.{concat}
@@ -11,7 +11,6 @@ use Rattle.roles.specs.declared.role.Role.{Role}
 use Rattle.roles.specs.declared.role.Role.TheVariants.{Originator, Answerer}
 use Rattle.roles.specs.Role.{mode_of}
 use Rattle.roles.specs.Both.{Both, of}
-use Rattle.symbol_map.specs.declared.sample.Sample.{Sample}
 use Rattle.line_coding.specs.Modulates.{Modulates}
 use Rattle.recordings.specs.Samples.{samples_in}
 use Rattle.lapm_frames.specs.declared.frame.Frame.TheVariants.{I}
@@ -20,7 +19,6 @@ use Rattle.lapm_frames.specs.declared.heard.Heard.TheVariants.{Passed}
 use Rattle.lapm_frames.specs.declared.sent.Sent.{Sent}
 use Rattle.lapm_frames.specs.declared.sent.Sent.TheVariants as slots
 use Rattle.lapm_receiver.specs.Incoming.{Incoming, KeepsTaken}
-use Rattle.noise_script.specs.Script.{ScriptValue}
 use Rattle.link_run.specs.Run.{Turn}
 use Rattle.link_run.specs.Listened.{check_by, received, taking_in}
 use Rattle.line_run.specs.Sampled.{Channel, bits_of}

@@ -1,5 +1,5 @@
 -- Slots that are read in a turn, and lines that have coded them.
-use Rattle.std.proofs.Common.{◌≡◌, ℕ, suc, ◌+◌, ◌-◌, ◌*◌, ◌<◌, ◌≤◌, List, [], ◌∷◌, ◌++◌, length, map, take, drop, arith, refl, sym, ◌∙◌, ap, subst, Option, Some}
+use Rattle.std.proofs.Common.{◌≡◌, ℕ, suc, ◌+◌, ◌-◌, ◌*◌, List, [], ◌∷◌, ◌++◌, length, map, take, drop, arith, refl, sym, ◌∙◌, ap, subst, Option, Some}
 use Rattle.std.proofs.lemmas.List.{append_assoc, map-append, take-append-drop}
 use Rattle.frame_check.specs.declared.check.Check.{Check}
 use Rattle.bit_stuffing.specs.BitSlot.{line_bits}
@@ -23,7 +23,7 @@ use Rattle.shared_line.specs.Way.{HasRoom}
 use Rattle.shared_line.proofs.Passing.{coded-so}
 use Rattle.line_tap.specs.declared.seeker.Sender.{Sender}
 use Rattle.line_tap.specs.declared.reader.SlotReader.{SlotReader}
-use Rattle.line_tap.specs.Reader.{ReaderStands, ReadsFor, sender_for}
+use Rattle.line_tap.specs.Reader.{ReaderStands, ReadsFor}
 use Rattle.line_tap.specs.Tapping.{Tapping, line_of, terms_of, octets_of, Tells, told, phase_behind}
 use Rattle.tap_turns.specs.declared.end.Slot.{Slot}
 use Rattle.tap_turns.specs.End.{ReadsOn, ReadsNext}

@@ -1,8 +1,8 @@
 -- Where the turns of a tap have come.
-use Rattle.std.proofs.Common.{◌≡◌, inl, inr, ℕ, ◌+◌, ◌-◌, ◌*◌, ◌<◌, ◌≤◌, List, [], ◌∷◌, ◌++◌, length, arith, refl, sym, ◌∙◌, ap, subst}
+use Rattle.std.proofs.Common.{◌≡◌, inl, ℕ, ◌+◌, ◌<◌, List, [], ◌∷◌, ◌++◌, length, sym, subst}
 use Rattle.std.specs.List.{concat}
 use Rattle.outside_calls.specs.Folder.{FolderState, GoesOn}
-use Rattle.outside_calls.specs.Outputs.{Holds, HoldEach, AddEach, Creates, OnlyPuts}
+use Rattle.outside_calls.specs.Outputs.{Holds, HoldEach}
 use Rattle.outside_calls.proofs.Putting.{HoldEach-add, HoldPart-add, AddPart-none}
 use Rattle.roles.specs.declared.role.Role.{Role}
 use Rattle.roles.specs.declared.role.Role.TheVariants.{Originator, Answerer}
@@ -17,7 +17,6 @@ use Rattle.line_run.specs.Ends.{Left}
 use Rattle.line_tap.specs.Tapping.{Tapping, tapping, line_of, terms_of}
 use Rattle.line_tap.specs.Ends.{TapEnd, EndsBy}
 use Rattle.line_tap.specs.Ends as ends
-use Rattle.command_base.specs.declared.status.Status.{Status}
 use Rattle.command_base.specs.declared.status.Status.TheVariants.{LineLost, ChanceMatch, BadTap}
 use Rattle.command_base.specs.declared.stop.Stop.{Stop}
 use Rattle.command_base.specs.declared.stop.Stop.TheVariants.{Own, Read, Write, Say, NoMemory}

@@ -1,12 +1,11 @@
 -- The octets of one slot more, behind those of all slots before.
-use Rattle.std.proofs.Common.{◌≡◌, ◌∙◌, ℕ, zero, suc, ◌+◌, ◌*◌, ◌<◌, ◌≤◌, List, [], ◌∷◌, ◌++◌, length, take, drop, arith, length-append, refl, sym, ap, subst}
+use Rattle.std.proofs.Common.{◌≡◌, ◌∙◌, ℕ, ◌+◌, ◌*◌, ◌≤◌, List, [], ◌∷◌, ◌++◌, length, take, drop, arith, length-append, sym, ap, subst}
 use Rattle.std.proofs.Math.Seq.{take-append_seam, drop-append_seam}
 use Rattle.std.proofs.lemmas.List.{take_all}
 use Rattle.std.proofs.lemmas.Grind.{common_steps}
 use Rattle.frame_check.specs.declared.check.Check.{Check}
 use Rattle.roles.specs.declared.role.Role.{Role}
 use Rattle.symbol_map.specs.declared.sample.Sample.{Sample}
-use Rattle.bit_stuffing.specs.BitSlot.{line_bits}
 use Rattle.detection.specs.Slots.{Signal}
 use Rattle.recordings.specs.Samples.{samples_in}
 use Rattle.lapm_frames.specs.declared.sent.Sent.{Sent}
@@ -17,7 +16,7 @@ use Rattle.link_run.specs.Run.{Turn}
 use Rattle.line_run.specs.Sampled.{Channel, signals}
 use Rattle.line_tap.specs.declared.seeker.Sender.{Sender}
 use Rattle.line_tap.specs.declared.reader.SlotReader.{SlotReader}
-use Rattle.line_tap.specs.Reader.{ReadsFor, ReaderStands, ReadsSlot, IsNext, carries, sender_for}
+use Rattle.line_tap.specs.Reader.{ReadsFor, ReaderStands, ReadsSlot, IsNext, carries}
 use Rattle.line_tap.specs.Tapping.{octets_of, HoldsNext}
 use Rattle.line_tap.proofs.NextSlots.{samples-take, one-slot-more, piece_of, held-is-next, next-is-held}
 use Rattle.tap_turns.specs.declared.end.Slot.{Slot}

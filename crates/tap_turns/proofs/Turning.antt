@@ -1,12 +1,12 @@
 -- What a turn of a tap comes to, at each of its ways out.
-use Rattle.std.proofs.Common.{◌≡◌, ◌≢◌, ◌⊎◌, inl, inr, ℕ, suc, ◌+◌, ◌-◌, ◌*◌, ◌<◌, ◌≤◌, IsTrue, List, [], ◌∷◌, ◌++◌, length, take, arith, length-append, refl, sym, ◌∙◌, ap, subst, append-nil, append_assoc, None}
+use Rattle.std.proofs.Common.{◌≡◌, ◌⊎◌, inl, inr, ℕ, ◌+◌, ◌*◌, ◌<◌, ◌≤◌, IsTrue, List, [], ◌∷◌, ◌++◌, length, take, arith, length-append, refl, sym, ◌∙◌, ap, subst, append-nil, append_assoc, None}
 use Rattle.std.proofs.lemmas.Bool.{cases_lt}
 use Rattle.std.proofs.lemmas.List.{length-take}
 use Rattle.std.specs.List.{concat}
-use Rattle.outside_calls.specs.Folder.{FolderState, GoesOn, OnlyReads, OnlyWrites, Appended, PartlyAppended, CountsStand, octets_at}
-use Rattle.outside_calls.specs.Outputs.{AreApartFrom, AreNoneOf, KeepsEach, OnlyPuts, AddEach, AddPart}
+use Rattle.outside_calls.specs.Folder.{FolderState, GoesOn, OnlyReads, OnlyWrites, Appended, PartlyAppended, octets_at}
+use Rattle.outside_calls.specs.Outputs.{AreApartFrom, KeepsEach, OnlyPuts, AddEach, AddPart}
 use Rattle.outside_calls.proofs.Steps.{GoesOn-trans, KeepsName-trans}
-use Rattle.outside_calls.proofs.Putting.{OnlyPuts-trans, OnlyPuts-reads, OnlyPuts-one, KeepsEach-refl, KeepsEach-reads, inputs-kept, AddEach-kept, AddEach-next, AddPart-next, AddPart-longer}
+use Rattle.outside_calls.proofs.Putting.{OnlyPuts-trans, OnlyPuts-reads, OnlyPuts-one, KeepsEach-reads, inputs-kept, AddEach-kept, AddEach-next, AddPart-next, AddPart-longer}
 use Rattle.roles.specs.declared.role.Role.{Role}
 use Rattle.roles.specs.declared.role.Role.TheVariants.{Originator, Answerer}
 use Rattle.roles.specs.Role.{mode_of}
@@ -33,9 +33,9 @@ use Rattle.bit_stuffing.specs.declared.slot_writer.TheConstants.{HEAD, TAIL}
 use Rattle.noise_script.specs.Script.{IsInLimits}
 use Rattle.tap_turns.specs.Listener.{IsIdle}
 use Rattle.tap_turns.specs.Words.{TapNames, recording_of, inputs_of, outputs_of}
-use Rattle.tap_turns.specs.Turn.{held_of, left_of, added, AddsGot, IsLast}
-use Rattle.tap_turns.specs.Tap.{IsReadTo, AreReadTo, IsReadOut, AreReadOut, HearsThese, HearsSo, InTurn, silent_in, got_pieces, EndsInTurn, EndsReading, StopsInTurn, StopsReadingIn, IsBehind, HasReadPieces, HaveRead, IsReady, IsToGo, TapAfter, GoesOnBy, going_in, and_pieces, read_of}
-use Rattle.tap_turns.proofs.Longer.{hears-longer, tells-longer, got-more}
+use Rattle.tap_turns.specs.Turn.{held_of, left_of, added, AddsGot}
+use Rattle.tap_turns.specs.Tap.{AreReadTo, AreReadOut, HearsThese, HearsSo, InTurn, silent_in, got_pieces, EndsInTurn, EndsReading, StopsInTurn, StopsReadingIn, IsBehind, HasReadPieces, HaveRead, IsReady, IsToGo, TapAfter, GoesOnBy, going_in, and_pieces, read_of}
+use Rattle.tap_turns.proofs.Longer.{tells-longer, got-more}
 use Rattle.tap_turns.proofs.HeardSo.{SameReading, behind-on}
 use Rattle.tap_turns.proofs.Going.{hears-so, goes-on}
 use Rattle.tap_turns.proofs.SlotNext.{octets-next}
@@ -120,12 +120,28 @@ pub read-out : (start a b : FolderState) (n : TapNames) (x : Tapping) (ts : List
     → AreReadOut start n (tapping x.script (read_pieces_of x.bodies orig answ of_orig of_answ)) ts
 read-out start a b n x ts at orig answ of_orig of_answ eo ea h r count ro ra Originator less told =
     out-so start a n.rec_o (header_of (mode_of Originator)) x.bodies.orig of_orig at orig eo r.end_orig (h Originator)
-    (omega (arith, less, r.few_orig, count Originator, ro, octets-next (line_of x) (length ts),
-    length-append {A = ℕ} x.bodies.orig (take orig of_orig), length-take orig of_orig)) told
+    (omega (
+      arith,
+      less,
+      r.few_orig,
+      count Originator,
+      ro,
+      octets-next (line_of x) (length ts),
+      length-append {A = ℕ} x.bodies.orig (take orig of_orig),
+      length-take orig of_orig,
+    )) told
 read-out start a b n x ts at orig answ of_orig of_answ eo ea h r count ro ra Answerer less told =
     out-so start a n.rec_a (header_of (mode_of Answerer)) x.bodies.answ of_answ at answ ea r.end_answ (h Answerer)
-    (omega (arith, less, r.few_answ, count Answerer, ra, octets-next (line_of x) (length ts),
-    length-append {A = ℕ} x.bodies.answ (take answ of_answ), length-take answ of_answ)) told
+    (omega (
+      arith,
+      less,
+      r.few_answ,
+      count Answerer,
+      ra,
+      octets-next (line_of x) (length ts),
+      length-append {A = ℕ} x.bodies.answ (take answ of_answ),
+      length-take answ of_answ,
+    )) told
 
 -- ---- what is left
 
@@ -406,8 +422,14 @@ some-more tap x ts counts h fo fa some = by (cases_lt 0 counts.orig)
     by : (0 < counts.orig) ⊎ (counts.orig ≤ 0) → (side : Role) × (octets_of (line_of x) (length ts) < length (of side (read_of tap x counts)))
     by (inl l) = (
       Originator,
-      omega (arith, h.orig.count, l, fo, length-append {A = ℕ} x.bodies.orig (take counts.orig tap.orig.piece.items),
-          length-take counts.orig tap.orig.piece.items),
+      omega (
+        arith,
+        h.orig.count,
+        l,
+        fo,
+        length-append {A = ℕ} x.bodies.orig (take counts.orig tap.orig.piece.items),
+        length-take counts.orig tap.orig.piece.items,
+      ),
     )
     by (inr none) = (Answerer, at)
       where
@@ -415,8 +437,14 @@ some-more tap x ts counts h fo fa some = by (cases_lt 0 counts.orig)
         answ-some = elim (cases_lt 0 counts.answ) [ inl l ↦ l | inr m ↦ absurd (some (omega (arith, none)) (omega (arith, m))) ]
 
         at : octets_of (line_of x) (length ts) < length (of Answerer (read_of tap x counts))
-        at = omega (arith, h.answ.count, answ-some, fa, length-append {A = ℕ} x.bodies.answ (take counts.answ tap.answ.piece.items),
-            length-take counts.answ tap.answ.piece.items)
+        at = omega (
+          arith,
+          h.answ.count,
+          answ-some,
+          fa,
+          length-append {A = ℕ} x.bodies.answ (take counts.answ tap.answ.piece.items),
+          length-take counts.answ tap.answ.piece.items,
+        )
 
 pub ends-badly : KeepsTaken → (tap : Tap) (start a b c : FolderState) (n : TapNames) (x : Tapping) (ts : List Turn) (h : Hearing) (counts : Both ℕ)
     (role : Role) (number : ℕ) → HasPieces tap start a b c n x ts h counts → (counts.orig ≡ 0 → counts.answ ≡ 0 → ⊥) → number ≡ length ts
@@ -498,8 +526,16 @@ pub whole-orig : (tap mid : Tap) (x : Tapping) (ts : List Turn) (h : Hearing) (c
     → InTurn tap x ts h.heard → counts.orig ≤ length tap.orig.piece.items → IsToGo mid (now_of tap x counts) ts h slots
     → counts.orig ≡ length tap.orig.piece.items
 whole-orig tap mid x ts h counts slots k few go =
-    omega (arith, go.read.orig.holds.whole, few, k.behind.orig.count, k.behind.orig_room, octets-next (line_of x) (length ts),
-    length-append {A = ℕ} x.bodies.orig (take counts.orig tap.orig.piece.items), length-take counts.orig tap.orig.piece.items)
+    omega (
+      arith,
+      go.read.orig.holds.whole,
+      few,
+      k.behind.orig.count,
+      k.behind.orig_room,
+      octets-next (line_of x) (length ts),
+      length-append {A = ℕ} x.bodies.orig (take counts.orig tap.orig.piece.items),
+      length-take counts.orig tap.orig.piece.items,
+    )
 
 -- a piece has octets
 pub some-octets : (x : Tapping) (room : ℕ) → HEAD + TAIL < (line_of x).symbols → room ≡ 4 * (line_of x).symbols → 0 < room

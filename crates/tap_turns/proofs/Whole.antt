@@ -1,9 +1,8 @@
 -- What the whole recordings tell, where what was read of them tells it.
-use Rattle.std.proofs.Common.{◌≡◌, ◌⊎◌, inl, inr, ℕ, suc, ◌+◌, ◌*◌, ◌<◌, ◌≤◌, Bool, true, false, IsTrue, List, [], ◌∷◌, ◌++◌, length, take, drop, arith, length-append, refl, sym, ◌∙◌, ap, subst, append_assoc, append-nil}
+use Rattle.std.proofs.Common.{◌≡◌, inl, inr, ℕ, ◌+◌, ◌<◌, ◌≤◌, Bool, true, false, IsTrue, List, [], ◌∷◌, ◌++◌, length, drop, arith, length-append, refl, sym, ◌∙◌, ap, subst, append_assoc, append-nil}
 use Rattle.std.proofs.lemmas.Bool.{cases_lt, false≢true}
 use Rattle.std.proofs.lemmas.List.{take-append-drop, length-drop}
 use Rattle.outside_calls.specs.Folder.{FolderState, octets_at}
-use Rattle.outside_calls.specs.Outputs.{HoldEach}
 use Rattle.roles.specs.declared.role.Role.{Role}
 use Rattle.roles.specs.declared.role.Role.TheVariants.{Originator, Answerer}
 use Rattle.roles.specs.Role.{mode_of}
@@ -12,12 +11,11 @@ use Rattle.bit_stuffing.specs.declared.slot_writer.TheConstants.{HEAD, TAIL}
 use Rattle.recordings.specs.declared.header.TheConstants.{HEADER}
 use Rattle.recordings.specs.Recording.{header_of}
 use Rattle.lapm_frames.specs.declared.sent.Sent.{Sent}
-use Rattle.noise_script.specs.Script.{ScriptValue}
 use Rattle.link_run.specs.Run.{Turn}
 use Rattle.link_run.specs.Listened.{check_by}
 use Rattle.line_run.specs.Sampled.{LineEnd}
 use Rattle.line_run.specs.Ends.{Left}
-use Rattle.line_tap.specs.Tapping.{Tapping, tapping, line_of, terms_of, octets_of, HoldsNext, Tells}
+use Rattle.line_tap.specs.Tapping.{Tapping, line_of, terms_of, octets_of, HoldsNext}
 use Rattle.line_tap.specs.Ends.{TapEnd, EndsBy, EndsWhole, EndsBadly, EndsOnLine, HoldsNone, IsFirstRefused, Leaves, LastHears, TapOf}
 use Rattle.line_tap.specs.Ends as ends
 use Rattle.tap_turns.specs.Words.{TapNames, recording_of}
@@ -25,7 +23,7 @@ use Rattle.tap_turns.specs.Turn.{MakesTurn, AddsGot, AddsTurn, Adds}
 use Rattle.tap_turns.specs.Tap.{IsReadTo, AreReadTo, AreReadOut, AddsSo}
 use Rattle.tap_turns.specs.Turns.{KnowsBodies}
 use Rattle.tap_turns.proofs.SlotNext.{octets-next}
-use Rattle.tap_turns.proofs.Longer.{and_more, longer, holds-longer, holds-shorter, hears-longer, goes-longer, tells-longer}
+use Rattle.tap_turns.proofs.Longer.{and_more, longer, holds-longer, holds-shorter, hears-longer, goes-longer}
 
 -- ---- what stands behind what was read
 

@@ -12,22 +12,21 @@ use Rattle.lapm_frames.specs.declared.heard.Heard.{Heard}
 use Rattle.lapm_frames.specs.declared.heard.Heard.TheVariants.{Chance}
 use Rattle.recordings.specs.declared.header.TheConstants.{HEADER}
 use Rattle.recordings.specs.Recording.{header_of}
-use Rattle.noise_script.specs.Script.{ScriptValue, IsInLimits}
+use Rattle.noise_script.specs.Script.{IsInLimits}
 use Rattle.link_run.specs.Run.{Spoken, Side, Turn}
 use Rattle.link_run.specs.Trace.{trace_text, turn_text}
 use Rattle.link_run.specs.Listened.{check_by, judged_by, given_to}
 use Rattle.line_run.specs.Sampled.{Channel, IsHeardOf}
 use Rattle.line_run.specs.Ends.{Left}
-use Rattle.line_run.specs.Stream.{Carried, carried_signal, sent_by, both_sent_by}
+use Rattle.line_run.specs.Stream.{carried_signal, sent_by, both_sent_by}
 use Rattle.shared_line.specs.declared.direction.DelayedLine.{DelayedLine}
 use Rattle.shared_line.specs.declared.lines.LineEnd.{LineEnd}
 use Rattle.shared_line.specs.Way.{HasCoded, HasRoom}
 use Rattle.shared_line.specs.Lines.{LinesWait, HaveArrived, end_of}
 use Rattle.line_tap.specs.declared.reader.SlotReader.{SlotReader}
-use Rattle.line_tap.specs.Tapping.{Tapping, tapping, line_of, terms_of, octets_of, HoldsNext, Hears, Tells, told}
+use Rattle.line_tap.specs.Tapping.{Tapping, tapping, line_of, terms_of, octets_of, HoldsNext, Tells, told}
 use Rattle.line_tap.specs.Ends.{TapEnd, EndsBy, EndsLine, HoldsNone, IsFirstRefused}
 use Rattle.line_tap.specs.Ends as ends
-use Rattle.command_base.specs.declared.status.Status.{Status}
 use Rattle.command_base.specs.declared.status.Status.TheVariants.{LineLost, ChanceMatch, BadTap}
 use Rattle.command_base.specs.declared.stop.Stop.{Stop}
 use Rattle.command_base.specs.declared.stop.Stop.TheVariants.{Own, Read, Write, Say, NoMemory}

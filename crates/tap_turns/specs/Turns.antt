@@ -11,7 +11,6 @@ use Rattle.line_run.specs.Ends.{Left}
 use Rattle.line_tap.specs.Tapping.{tapping}
 use Rattle.line_tap.specs.Ends.{TapEnd, TapOf}
 use Rattle.line_tap.specs.Ends as ends
-use Rattle.command_base.specs.declared.status.Status.{Status}
 use Rattle.command_base.specs.declared.status.Status.TheVariants.{LineLost, ChanceMatch, BadTap}
 use Rattle.command_base.specs.declared.stop.Stop.{Stop}
 use Rattle.command_base.specs.declared.stop.Stop.TheVariants.{Own, Read, Write, Say, NoMemory}

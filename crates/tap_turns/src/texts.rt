@@ -13,11 +13,7 @@ use roles::{Both, Role};
 use stations::{append_line, append_lines};
 
 /// Both lines of a turn.
-pub(crate) fn turn_lines(
-    turn: u64,
-    hearing: Hearing,
-    sent: Both<Option<Sent>>,
-) -> Both<TraceLine>
+pub(crate) fn turn_lines(turn: u64, hearing: Hearing, sent: Both<Option<Sent>>) -> Both<TraceLine>
     ensures { result ≡ record {
       orig = record { turn = turn; role = RoleValue.Originator; arrived = hearing.heard.orig; sent = sent.orig; given = hearing.given.orig };
       answ = record { turn = turn; role = RoleValue.Answerer; arrived = hearing.heard.answ; sent = sent.answ; given = hearing.given.answ };

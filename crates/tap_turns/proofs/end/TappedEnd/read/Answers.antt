@@ -16,7 +16,7 @@ returns-in-Some-clause-some c = λ channel check role ts script passed waiting b
     let size : length piece ≡ 4 * channel.symbols = omega (arith, c.requires.size, h.reads.symbols) in
     let all : piece ≡ take c.args.count piece = sym (take_all c.args.count piece (omega arith)) in
     let read : ReadsSlot c.args.self.now.reader c.read.new.self c.read.new.line script passed waiting (samples_in body) (samples_in piece)
-        c.read.new.bits c.in-Some.sent =
+    c.read.new.bits c.in-Some.sent =
     subst (λ p. ReadsSlot c.args.self.now.reader c.read.new.self c.read.new.line script passed waiting (samples_in body) (samples_in p)
     c.read.new.bits c.in-Some.sent) c.deref.ensures.value
     (c.in-Some.ensures.some script passed waiting (samples_in body) line

@@ -1,4 +1,4 @@
-use Rattle.std.proofs.Common.{List, [], ◌∷◌, refl}
+use Rattle.std.proofs.Common.{[], ◌∷◌, refl}
 use Rattle.outside_calls.specs.Folder.{FolderState}
 use Rattle.outside_calls.proofs.Putting.{AddPart-next, KeepsEach-writes}
 use Rattle.roles.specs.declared.role.Role.TheVariants.{Originator, Answerer}

@@ -1,4 +1,4 @@
-use Rattle.std.proofs.Common.{◌≡◌, ◌+◌, arith, refl, subst, sym, Some}
+use Rattle.std.proofs.Common.{◌+◌, arith, refl, subst, sym, Some}
 use Rattle.outside_calls.specs.Folder.{Appended, PartlyAppended}
 use Rattle.roles.specs.Both.{Both}
 use Rattle.roles.specs.declared.role.Role.TheVariants.{Originator, Answerer}
