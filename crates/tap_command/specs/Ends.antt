@@ -1,9 +1,8 @@
 -- How a tap ends, before its line is said: by its answer, which tap it was, and what the outputs then hold. What is said of a name's octets
 -- holds where the folder tells that name.
-use Rattle.std.specs.Prelude.{◌≡◌, ◌⊎◌, ℕ, IsTrue, List, [], ◌∷◌, Result, Ok, Err}
+use Rattle.std.specs.Prelude.{◌⊎◌, ℕ, List, [], ◌∷◌, Result, Ok, Err}
 use Rattle.scramblers.specs.declared.mode.Mode.TheVariants.{Call, Answer}
-use Rattle.outside_calls.specs.Folder.{FolderState, OnlyReads, CountsStand, octets_at}
-use Rattle.outside_calls.specs.declared.folder.FolderFault.{FolderFault}
+use Rattle.outside_calls.specs.Folder.{FolderState, OnlyReads, CountsStand}
 use Rattle.outside_calls.specs.Outputs.{KeepsAll, SaysNothing, CreatesPart}
 use Rattle.noise_script.specs.Script.{ScriptValue, IsInLimits}
 use Rattle.line_tap.specs.Ends.{TapEnd}

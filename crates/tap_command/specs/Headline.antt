@@ -1,5 +1,5 @@
 -- What a tap promises, over the folder before and after it. What is said of a name's octets holds where the folder tells that name.
-use Rattle.std.specs.Prelude.{◌≡◌, ℕ, IsTrue, List}
+use Rattle.std.specs.Prelude.{ℕ, IsTrue, List}
 use Rattle.roles.specs.Both.{Both}
 use Rattle.outside_calls.specs.Folder.{FolderState, octets_at, Said}
 use Rattle.outside_calls.specs.Outputs.{HoldEach}

@@ -38,11 +38,7 @@ fn create_all<F: Folder>(folder: &mut F, words: &TapWords<'_>) -> Result<(), Fol
 }
 
 /// The tap, once its inputs are opened: the outputs are made, and turns follow to its end.
-fn run_tap<F: Folder>(
-    tap: &mut Tap,
-    folder: &mut F,
-    words: &TapWords<'_>,
-) -> Result<u64, Stop>
+fn run_tap<F: Folder>(tap: &mut Tap, folder: &mut F, words: &TapWords<'_>) -> Result<u64, Stop>
     requires ready { IsReady tap.old }
     requires first { TapAfter tap.old (tapping tap.old.script no_octets) [] }
     requires apart { are_apart (inputs_of (named words.now)) (outputs_of (named words.now)) ≡ true }

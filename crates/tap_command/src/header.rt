@@ -7,7 +7,7 @@ ghost use Rattle.recordings.specs.Recording.{header_of};
 ghost use Rattle.tap_turns.specs.declared.limits.TheConstants.{TAP_LIMIT};
 ghost use Rattle.command_base.specs.Inputs.{ReadTo};
 ghost use Rattle.command_base.specs.Stops.{StopCounts};
-ghost use Rattle.tap_command.specs.Headers.{IsNotHeader, NoHeader};
+ghost use Rattle.tap_command.specs.Headers.{fits, IsNotHeader, NoHeader};
 
 use command_base::{Status, Stop, read_piece};
 use outside_calls::Folder;
@@ -15,16 +15,23 @@ use recordings::{HEADER, Rate, header_octets};
 use scramblers::Mode;
 use tap_turns::TAP_LIMIT;
 
+/// Whether the header of this mode has this octet at this place.
+fn fits(mode: Mode, place: usize, octet: u8) -> bool
+    requires { place < HEADER }
+    ensures { result ≡ fits mode place octet }
+{
+    octet == header_octets(Rate::Trellis, mode).as_slice()[place]
+}
+
 /// Looks whether these octets are the header of a recording of this mode; else the first place where they are not.
 fn check_header(octets: &[u8], mode: Mode) -> Result<(), u64>
     requires { length octets.now ≤ HEADER }
     ensures ok { OnOk result (octets.now ≡ header_of mode) }
     ensures err { IfErr result (IsNotHeader mode octets.now) }
 {
-    let header = header_octets(Rate::Trellis, mode);
     for place in 0..HEADER {
         match octets.get(place) {
-            Some(octet) if *octet == header.as_slice()[place] => {}
+            Some(octet) if fits(mode, place, *octet) => {}
             _ => return Err(place as u64),
         }
     }

@@ -11,7 +11,7 @@ ghost use Rattle.tap_command.specs.Headline.{Headline};
 ghost use Rattle.tap_command.specs.Completes.{Completes};
 
 use line_tap::laws::recordings_tell_once;
-use noise_script::laws::{one_answer, spelled_scripts_are_in_limits};
+use noise_script::laws::one_answer;
 
 /// A script has at most 65,536 octets, and a recording at most 268,435,456.
 pub fn limits_of_a_tap()
@@ -30,5 +30,4 @@ pub(crate) fn right_taps_are_told()
 {
     recordings_tell_once();
     one_answer();
-    spelled_scripts_are_in_limits();
 }
