@@ -17,10 +17,10 @@ use Rattle.link_run.specs.Run.{Turn}
 use Rattle.line_run.specs.Sampled.{Channel, signals, bits_of}
 use Rattle.line_tap.specs.declared.seeker.Sender.{Sender}
 use Rattle.line_tap.specs.declared.reader.SlotReader.{SlotReader}
-use Rattle.line_tap.specs.Reader.{IsNext, carries}
-use Rattle.line_tap.specs.Tapping.{HoldsNext, next_bits, octets_of, phase_behind}
+use Rattle.line_tap.specs.Reader.{IsNext, ReadsFor, carries}
+use Rattle.line_tap.specs.Tapping.{HoldsNext, next_bits, octets_of}
 
-samples-drop : (n : ℕ) (octets : List ℕ) → 4 * n ≤ length octets → samples_in (drop (4 * n) octets) ≡ drop n (samples_in octets)
+pub samples-drop : (n : ℕ) (octets : List ℕ) → 4 * n ≤ length octets → samples_in (drop (4 * n) octets) ≡ drop n (samples_in octets)
 samples-drop zero octets h = refl
 samples-drop (suc n) [] h = absurd (omega (arith, h))
 samples-drop (suc n) (a ∷ []) h = absurd (omega (arith, h))
@@ -30,7 +30,7 @@ samples-drop (suc n) (a ∷ b ∷ c ∷ d ∷ octets) h =
     let four : 4 * suc n ≡ suc (suc (suc (suc (4 * n)))) = omega arith in
     ap (λ k. samples_in (drop k (a ∷ b ∷ c ∷ d ∷ octets))) four ∙ samples-drop n octets (omega (arith, h))
 
-samples-take : (n : ℕ) (octets : List ℕ) → 4 * n ≤ length octets → samples_in (take (4 * n) octets) ≡ take n (samples_in octets)
+pub samples-take : (n : ℕ) (octets : List ℕ) → 4 * n ≤ length octets → samples_in (take (4 * n) octets) ≡ take n (samples_in octets)
 samples-take zero octets h = refl
 samples-take (suc n) [] h = absurd (omega (arith, h))
 samples-take (suc n) (a ∷ []) h = absurd (omega (arith, h))
@@ -44,7 +44,7 @@ samples-take (suc n) (a ∷ b ∷ c ∷ d ∷ octets) h =
 abbrev pub piece_of : Channel → ℕ → List ℕ → List ℕ
 piece_of c turns body = take (4 * c.symbols) (drop (octets_of c turns) body)
 
-one-slot-more : (c : Channel) (turns : ℕ) (body : List ℕ) → octets_of c (turns + 1) ≤ length body
+pub one-slot-more : (c : Channel) (turns : ℕ) (body : List ℕ) → octets_of c (turns + 1) ≤ length body
     → take (c.symbols * (turns + 1)) (samples_in body)
     ≡ take (c.symbols * turns) (samples_in body) ++ samples_in (piece_of c turns body)
 one-slot-more c turns body h =
@@ -61,15 +61,6 @@ one-slot-more c turns body h =
 
     rest-long : (i j : ℕ) (xs : List ℕ) → i + j ≤ length xs → j ≤ length (drop i xs)
     rest-long i j xs h = grind (arith, common_steps)
-
-abbrev pub sender_for : Check → Role → ℕ → Sender
-sender_for check role dlci = record { check = check; role = role; dlci = dlci }
-
--- The reader reads what this role sends, frames with numbers by this check, and it stands behind these turns.
-pub record ReadsFor (r : SlotReader) (c : Channel) (check : Check) (role : Role) (ts : List Turn) : Type 0 where
-  pub symbols : r.symbols ≡ c.symbols
-  pub sender : r.sender ≡ sender_for check role c.dlci
-  pub phase : r.phase ≡ phase_behind c role ts
 
 -- the same bits
 same-bits : (r : SlotReader) (c : Channel) (check : Check) (role : Role) (ts : List Turn) (s : Sent) → ReadsFor r c check role ts

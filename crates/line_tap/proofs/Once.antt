@@ -25,10 +25,12 @@ use Rattle.line_run.specs.Sampled.{Channel, signals, bits_of, ArrivesAs, IsHeard
 use Rattle.line_run.specs.Sampled as lines
 use Rattle.line_run.specs.LineLaws.{HeardOnce, OneLineEndBy, EndsOrIsHeard}
 use Rattle.line_run.specs.Ends.{Left}
-use Rattle.line_tap.specs.Tapping.{Tapping, phase_behind, next_bits, octets_of, HoldsNext, told, Hears, GoesOn, Tells}
+use Rattle.line_run.specs.Scripted.{SlotsHaveRoom}
+use Rattle.noise_script.specs.Script.{IsInLimits}
+use Rattle.line_tap.specs.Tapping.{Tapping, line_of, terms_of, phase_behind, next_bits, octets_of, HoldsNext, told, Hears, GoesOn, Tells}
 use Rattle.line_tap.specs.Ends.{TapEnd, IsDone, LineLost, ChanceMatch, BadTap, Leaves, LastHears, EndsWhole, EndsBadly}
 use Rattle.line_tap.specs.Ends.{EndsLine, EndsOnLine, EndsBy}
-use Rattle.line_tap.specs.Laws.{IsTapped, TellsOnce}
+use Rattle.line_tap.specs.Laws.{TellsOnce}
 use Rattle.line_tap.proofs.Coding.{samples-tell}
 
 pub record OnceLaws : Type 0 where
@@ -37,6 +39,7 @@ pub record OnceLaws : Type 0 where
   pub either : EndsOrIsHeard
   pub slots : SlotsTellWhatWasSent
   pub points : PointsDiffer
+  pub room : SlotsHaveRoom
 
 -- ---- one slot
 
@@ -79,8 +82,8 @@ heard-same : OnceLaws → (x : Tapping) (ts : List Turn) (t u : Turn) → Hears 
     → (of role t).heard ≡ (of role u).heard
 heard-same laws x ts t u h k role =
     let same : (of role t).check ≡ (of role u).check = h.checks role ∙ sym (k.checks role) in
-    laws.heard x.channel (other role) ts (of role u).check (of role t).heard (of role u).heard
-    (subst (λ z. IsHeardOf x.channel (other role) ts z (of role t).heard) same (h.heard role).heard_of) (k.heard role).heard_of
+    laws.heard (line_of x) (other role) ts (of role u).check (of role t).heard (of role u).heard
+    (subst (λ z. IsHeardOf (line_of x) (other role) ts z (of role t).heard) same (h.heard role).heard_of) (k.heard role).heard_of
 
 one-turn : OnceLaws → (x : Tapping) (ts : List Turn) (t u : Turn) → Hears x ts t → Hears x ts u
     → ((role : Role) → (of role t).sent ≡ (of role u).sent) → t ≡ u
@@ -88,16 +91,16 @@ one-turn laws x ts t u h k e =
     turn-same t u (λ role. side-same (of role t) (of role u) (heard-same laws x ts t u h k role) (h.checks role ∙ sym (k.checks role)) (e role)
     (h.given role ∙ ap (given_to role ts) (heard-same laws x ts t u h k role) ∙ sym (k.given role)))
 
-one-going : OnceLaws → (x : Tapping) (ts : List Turn) (t u : Turn) → IsTapped x → GoesOn x ts t → GoesOn x ts u → t ≡ u
+one-going : OnceLaws → (x : Tapping) (ts : List Turn) (t u : Turn) → IsInLimits x.script → GoesOn x ts t → GoesOn x ts u → t ≡ u
 one-going laws x ts t u w g h =
     one-turn laws x ts t u g.hears h.hears
     (λ role. (g.sends role).sent_is
-    ∙ ap (λ s. Some (told (check_by x.terms) s))
-    (holds-once laws x.channel (check_by x.terms) role ts (of role x.bodies) (g.sends role).sent (h.sends role).sent w.long w.channel
+    ∙ ap (λ s. Some (told (check_by (terms_of x)) s))
+    (holds-once laws (line_of x) (check_by (terms_of x)) role ts (of role x.bodies) (g.sends role).sent (h.sends role).sent (laws.room x.script w).0 (omega arith)
     (g.sends role).holds (h.sends role).holds)
     ∙ sym (h.sends role).sent_is)
 
-one-tells : OnceLaws → (x : Tapping) (ts us : List Turn) → IsTapped x → length ts ≡ length us → Tells x ts → Tells x us → ts ≡ us
+one-tells : OnceLaws → (x : Tapping) (ts us : List Turn) → IsInLimits x.script → length ts ≡ length us → Tells x ts → Tells x us → ts ≡ us
 one-tells laws x [] [] w e h k = refl
 one-tells laws x [] (u ∷ us) w e h k = absurd (omega (arith, e))
 one-tells laws x (t ∷ ts) [] w e h k = absurd (omega (arith, e))
@@ -109,18 +112,18 @@ one-tells laws x (t ∷ ts) (u ∷ us) w e h k =
 -- ---- the line, or not
 
 well-in : (x : Tapping) (ts : List Turn) (t : Turn) → Hears x ts t → (role : Role)
-    → IsHeardWell x.channel (other role) ts (judged_by x.terms role ts)
+    → IsHeardWell (line_of x) (other role) ts (judged_by (terms_of x) role ts)
 well-in x ts t h role = record {
   heard = (of role t).heard;
-  is = subst (λ z. IsHeardOf x.channel (other role) ts z (of role t).heard) (h.checks role) (h.heard role).heard_of;
+  is = subst (λ z. IsHeardOf (line_of x) (other role) ts z (of role t).heard) (h.checks role) (h.heard role).heard_of;
   well = (h.heard role).well;
 }
 
 line-or-hears : OnceLaws → (x : Tapping) (ts : List Turn) (t : Turn) (end : LineEnd) → EndsLine x ts end → Hears x ts t → ⊥
-line-or-hears laws x ts t end e h = laws.either x.channel ts (λ role. judged_by x.terms role ts) end e (well-in x ts t h)
+line-or-hears laws x ts t end e h = laws.either (line_of x) ts (λ role. judged_by (terms_of x) role ts) end e (well-in x ts t h)
 
 one-line : OnceLaws → (x : Tapping) (ts : List Turn) (a b : LineEnd) → EndsLine x ts a → EndsLine x ts b → a ≡ b
-one-line laws x ts a b h k = laws.end x.channel ts (λ role. judged_by x.terms role ts) a b h k
+one-line laws x ts a b h k = laws.end (line_of x) ts (λ role. judged_by (terms_of x) role ts) a b h k
 
 -- ---- the ends by what ends it
 
@@ -176,7 +179,7 @@ left-same a b e t = lefts a.got.orig b.got.orig a.got.answ b.got.answ a.trace b.
 leaves-once : (x : Tapping) (ts us : List Turn) (text others : List ℕ) (a b : Left) → ts ≡ us → text ≡ others → Leaves x ts text a
     → Leaves x us others b → a ≡ b
 leaves-once x ts us text others a b e t h k =
-    left-same a b (λ role. h.got_is role ∙ ap (λ l. concat (received x.terms role l).taken) e ∙ sym (k.got_is role))
+    left-same a b (λ role. h.got_is role ∙ ap (λ l. concat (received (terms_of x) role l).taken) e ∙ sym (k.got_is role))
     (h.trace_is ∙ t ∙ sym k.trace_is)
 
 last-once : OnceLaws → (x : Tapping) (ts : List Turn) (a b : LastHears x ts) → a.last ≡ b.last
@@ -221,10 +224,10 @@ more-octets c n long =
     plus-one : (n : ℕ) → n + 1 ≡ suc n
     plus-one n = omega arith
 
-ends-or-goes : OnceLaws → (x : Tapping) (ts : List Turn) (k : Cause) (left : Left) (t : Turn) → IsTapped x → EndsWith x ts k left
+ends-or-goes : OnceLaws → (x : Tapping) (ts : List Turn) (k : Cause) (left : Left) (t : Turn) → IsInLimits x.script → EndsWith x ts k left
     → GoesOn x ts t → ⊥
 ends-or-goes laws x ts Whole left t w e g =
-    omega (arith, more-octets x.channel (length ts) w.long, (g.sends Originator).holds.whole, e.none Originator)
+    omega (arith, more-octets (line_of x) (length ts) (laws.room x.script w).0, (g.sends Originator).holds.whole, e.none Originator)
 ends-or-goes laws x ts (Refused Originator) left t w e g = e.refused (g.sends Originator).sent (g.sends Originator).holds
 ends-or-goes laws x ts (Refused Answerer) left t w e g = e.refused.1 (g.sends Answerer).sent (g.sends Answerer).holds
 ends-or-goes laws x ts (On_line end) left t w e g = line-or-hears laws x ts t end e.is g.hears
@@ -244,7 +247,7 @@ cut x (u ∷ us) n l h =
       | inr more ↦ record { turns = us; count = omega (arith, l, more); tells = h.1; turn = u; goes = h.0 }
     ]
 
-not-longer : OnceLaws → (x : Tapping) (ts us : List Turn) (k : Cause) (left : Left) → IsTapped x → Tells x ts → EndsWith x ts k left
+not-longer : OnceLaws → (x : Tapping) (ts us : List Turn) (k : Cause) (left : Left) → IsInLimits x.script → Tells x ts → EndsWith x ts k left
     → Tells x us → length ts < length us → ⊥
 not-longer laws x ts us k left w h e g l =
     let c = cut x us (length ts) l g in

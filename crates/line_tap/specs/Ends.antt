@@ -12,7 +12,7 @@ use Rattle.link_run.specs.Listened.{check_by, judged_by, received}
 use Rattle.line_run.specs.Sampled.{IsHeardOf, IsHeardWell, LosesLine, LineEnd}
 use Rattle.line_run.specs.Sampled as lines
 use Rattle.line_run.specs.Ends.{Left}
-use Rattle.line_tap.specs.Tapping.{Tapping, octets_of, HoldsNext, Hears, Tells}
+use Rattle.line_tap.specs.Tapping.{Tapping, line_of, terms_of, octets_of, HoldsNext, Hears, Tells}
 
 -- How the reading ends.
 pub data TapEnd : Type 0 where
@@ -23,7 +23,7 @@ pub data TapEnd : Type 0 where
 
 -- What is left of turns in which something was heard, with this text: what the receivers took of the I frames that passed.
 pub record Leaves (x : Tapping) (ts : List Turn) (text : List ℕ) (left : Left) : Type 0 where
-  pub got_is : (role : Role) → of role left.got ≡ concat (received x.terms role ts).taken
+  pub got_is : (role : Role) → of role left.got ≡ concat (received (terms_of x) role ts).taken
   pub trace_is : left.trace ≡ text
 
 -- One turn more, in which nothing is sent.
@@ -36,31 +36,31 @@ pub record LastHears (x : Tapping) (ts : List Turn) : Type 0 where
 pub record EndsWhole (x : Tapping) (ts : List Turn) (turns : ℕ) (left : Left) : Type 0 where
   pub number : turns ≡ length ts + 1
   pub last : LastHears x ts
-  pub none : (role : Role) → length (of role x.bodies) ≤ octets_of x.channel (length ts)
+  pub none : (role : Role) → length (of role x.bodies) ≤ octets_of (line_of x) (length ts)
   pub leaves : Leaves x (last.last ∷ ts) (trace_text (last.last ∷ ts)) left
 
 -- a role's recording doesn't hold a slot of the turn after these: it isn't all there, or no slot has its samples
 abbrev pub HoldsNone : Tapping → List Turn → Role → Type 0
-HoldsNone x ts role = (s : Sent) → HoldsNext x.channel (check_by x.terms) role ts (of role x.bodies) s → ⊥
+HoldsNone x ts role = (s : Sent) → HoldsNext (line_of x) (check_by (terms_of x)) role ts (of role x.bodies) s → ⊥
 
 -- the first role whose slot is refused, the originator first
 abbrev pub IsFirstRefused : Tapping → List Turn → Role → Type 0
 IsFirstRefused x ts Originator = HoldsNone x ts Originator
 IsFirstRefused x ts Answerer =
-    ((s : Sent) × HoldsNext x.channel (check_by x.terms) Originator ts (of Originator x.bodies) s) × HoldsNone x ts Answerer
+    ((s : Sent) × HoldsNext (line_of x) (check_by (terms_of x)) Originator ts (of Originator x.bodies) s) × HoldsNone x ts Answerer
 
 -- One of the recordings has something of the turn after these, and a slot of it is refused. What was heard in the turn was taken, and its
 -- lines aren't written.
 pub record EndsBadly (x : Tapping) (ts : List Turn) (role : Role) (turn : ℕ) (left : Left) : Type 0 where
   pub number : turn ≡ length ts
   pub last : LastHears x ts
-  pub some : (side : Role) × (octets_of x.channel (length ts) < length (of side x.bodies))
+  pub some : (side : Role) × (octets_of (line_of x) (length ts) < length (of side x.bodies))
   pub refused : IsFirstRefused x ts role
   pub leaves : Leaves x (last.last ∷ ts) (trace_text ts) left
 
 -- the line ends the reading in the turn after these, as it ends a run whose ends judge by these checks
 abbrev pub EndsLine : Tapping → List Turn → LineEnd → Type 0
-EndsLine x ts end = lines.EndsLineBy x.channel ts (λ role. judged_by x.terms role ts) end
+EndsLine x ts end = lines.EndsLineBy (line_of x) ts (λ role. judged_by (terms_of x) role ts) end
 
 -- it does so, and this is left
 pub record EndsOnLine (x : Tapping) (ts : List Turn) (end : LineEnd) (text : List ℕ) (left : Left) : Type 0 where

@@ -1,5 +1,7 @@
 -- For which past a reader of slots stands, and what it reads.
 use Rattle.std.specs.Prelude.{◌≡◌, ℕ, ◌*◌, List, [], ◌∷◌, ◌++◌}
+use Rattle.frame_check.specs.declared.check.Check.{Check}
+use Rattle.roles.specs.declared.role.Role.{Role}
 use Rattle.roles.specs.Role.{mode_of}
 use Rattle.scramblers.specs.Mode.{tap_of}
 use Rattle.symbol_map.specs.declared.sample.Sample.{Sample}
@@ -12,8 +14,22 @@ use Rattle.lapm_frames.specs.declared.sent.Sent.{Sent}
 use Rattle.noise_script.specs.Script.{ScriptValue}
 use Rattle.sample_line.specs.Signals.{signal_of, IsCodable}
 use Rattle.sample_line.specs.Line.{Kept, LineStands, bits_behind}
+use Rattle.link_run.specs.Run.{Turn}
+use Rattle.line_run.specs.Sampled.{Channel}
+use Rattle.line_tap.specs.declared.seeker.Sender.{Sender}
 use Rattle.line_tap.specs.declared.reader.SlotReader.{SlotReader}
+use Rattle.line_tap.specs.Tapping.{phase_behind}
 use Rattle.line_tap.specs.Labels.{AreLabels}
+
+-- how a role's frames are judged
+abbrev pub sender_for : Check → Role → ℕ → Sender
+sender_for check role dlci = record { check = check; role = role; dlci = dlci }
+
+-- The reader reads what this role sends, frames with numbers by this check, and it stands behind these turns.
+pub record ReadsFor (r : SlotReader) (c : Channel) (check : Check) (role : Role) (ts : List Turn) : Type 0 where
+  pub symbols : r.symbols ≡ c.symbols
+  pub sender : r.sender ≡ sender_for check role c.dlci
+  pub phase : r.phase ≡ phase_behind c role ts
 
 -- A reader has read these samples, which are those of these slots.
 pub record ReaderStands (reader : SlotReader) (sigs : List Signal) (samples : List Sample) : Type 0 where

@@ -22,15 +22,21 @@ use Rattle.link_run.specs.Listened.{check_by, judged_by, given_to}
 use Rattle.line_run.specs.Sampled.{Channel, signals, bits_of, HeardIn}
 use Rattle.line_run.specs.Scripted.{channel_of}
 
--- What is tapped: a line, what both ends offered, and the octets behind the header of each end's recording.
+-- What is tapped: the line of a script, whose link is alone on it, and the octets behind the header of each end's recording.
 pub record Tapping : Type 0 where
-  pub channel : Channel
-  pub terms : Terms
+  pub script : ScriptValue
   pub bodies : Both (List ℕ)
 
--- the line and the offers of a script, with the octets of two recordings
 abbrev pub tapping : ScriptValue → Both (List ℕ) → Tapping
-tapping script bodies = record { channel = channel_of script; terms = agree script.offer_orig script.offer_answ; bodies = bodies }
+tapping script bodies = record { script = script; bodies = bodies }
+
+-- its line
+abbrev pub line_of : Tapping → Channel
+line_of x = channel_of x.script
+
+-- what both ends' offers come to
+abbrev pub terms_of : Tapping → Terms
+terms_of x = agree x.script.offer_orig x.script.offer_answ
 
 -- how many bits of an unfinished flag a role's slots of these turns leave
 abbrev pub phase_behind : Channel → Role → List Turn → ℕ
@@ -58,15 +64,15 @@ told check s = record { sent = s; number = 0; check = check }
 
 -- What both ends heard in the turn after these, by which checks, and the breaks that their users were given.
 pub record Hears (x : Tapping) (ts : List Turn) (t : Turn) : Type 0 where
-  pub heard : HeardIn x.channel ts t
-  pub checks : (role : Role) → (of role t).check ≡ judged_by x.terms role ts
+  pub heard : HeardIn (line_of x) ts t
+  pub checks : (role : Role) → (of role t).check ≡ judged_by (terms_of x) role ts
   pub given : (role : Role) → (of role t).given ≡ given_to role ts (of role t).heard
 
 -- What a role sent in it, by its recording.
 pub record Sends (x : Tapping) (ts : List Turn) (t : Turn) (role : Role) : Type 0 where
   pub sent : Sent
-  pub holds : HoldsNext x.channel (check_by x.terms) role ts (of role x.bodies) sent
-  pub sent_is : (of role t).sent ≡ Some (told (check_by x.terms) sent)
+  pub holds : HoldsNext (line_of x) (check_by (terms_of x)) role ts (of role x.bodies) sent
+  pub sent_is : (of role t).sent ≡ Some (told (check_by (terms_of x)) sent)
 
 -- Both slots of the turn after these are there.
 pub record GoesOn (x : Tapping) (ts : List Turn) (t : Turn) : Type 0 where

@@ -35,7 +35,7 @@ use Rattle.link_run.specs.Run.{arrival}
 use Rattle.shared_line.specs.declared.slot.Slot.{Slot}
 use Rattle.shared_line.specs.declared.direction.DelayedLine.{DelayedLine}
 use Rattle.line_run.specs.Stream.{Carried, carried_signal}
-use Rattle.shared_line.specs.Way.{IsOnWay, AreOnWay, Stands, HeardBehind, PassesOldest}
+use Rattle.shared_line.specs.Way.{IsOnWay, AreOnWay, Stands, HasCoded, HeardBehind, PassesOldest}
 
 -- as many slots as are said
 pub same-count : (size : ℕ) (role : Role) (before : List Signal) (items : List Slot) (way : List Carried) → AreOnWay size role before items way
@@ -267,29 +267,43 @@ all-kept items slot room h = go (length (items ++ slot ∷ []) - room) (omega (a
     go n e = rw e refl
 
 -- a direction on which a slot was put
-pub record HasSent (d new : DelayedLine) (items : List Slot) : Type 0 where
+pub record IsPutOn (d new : DelayedLine) (items : List Slot) : Type 0 where
   pub sender : new.sender ≡ d.sender
   pub lag : new.lag ≡ d.lag
   pub items_are : new.slots.items ≡ items
   pub capacity : new.slots.capacity ≡ d.slots.capacity
-  pub from : sender_of new.line ≡ sender_of d.line
-  pub symbols : new.line.writer.symbols ≡ d.line.writer.symbols
+  pub line : new.line ≡ d.line
 
-pub sends-so : (d new : DelayedLine) (script : ScriptValue) (passed : List Signal) (way : List Carried) (slot : Slot) (x : Carried)
-    → Stands d script passed way → HasSent d new (d.slots.items ++ slot ∷ []) → slot.sent ≡ x.spoken.sent → IsSendable x.spoken.sent
-    → line_bits slot.bits ≡ bits_behind (size_of d.line) (passed ++ map (carried_signal d.sender) way) (carried_signal d.sender x)
-    → LineStands new.line script passed (map (carried_signal d.sender) way ++ carried_signal d.sender x ∷ [])
-    → Stands new script passed (way ++ x ∷ [])
-sends-so d new script passed way slot x h m sent sendable bits stands = record {
+pub puts-so : (d new : DelayedLine) (script : ScriptValue) (passed : List Signal) (way : List Carried) (slot : Slot) (x : Carried)
+    → HasCoded d script passed way x (line_bits slot.bits) → IsPutOn d new (d.slots.items ++ slot ∷ []) → slot.sent ≡ x.spoken.sent
+    → IsSendable x.spoken.sent → Stands new script passed (way ++ x ∷ [])
+puts-so d new script passed way slot x h m sent sendable = record {
   line = subst (λ s. LineStands new.line script passed (map (carried_signal s) (way ++ x ∷ []))) (sym m.sender)
-      (subst (LineStands new.line script passed) (sym (map-append (carried_signal d.sender) way (x ∷ []))) stands);
+      (subst (λ l. LineStands l script passed (map (carried_signal d.sender) (way ++ x ∷ []))) (sym m.line)
+      (subst (LineStands d.line script passed) (sym (map-append (carried_signal d.sender) way (x ∷ []))) h.line));
   slots = subst (λ s. AreOnWay (size_of new.line) s passed new.slots.items (way ++ x ∷ [])) (sym m.sender)
-      (subst (λ n. AreOnWay n d.sender passed new.slots.items (way ++ x ∷ [])) (sym (ap (λ n. 4 * n) m.symbols))
+      (subst (λ n. AreOnWay n d.sender passed new.slots.items (way ++ x ∷ [])) (sym (ap size_of m.line))
       (subst (λ xs. AreOnWay (size_of d.line) d.sender passed xs (way ++ x ∷ [])) (sym m.items_are)
-      (behind (size_of d.line) d.sender passed d.slots.items way slot x h.slots (record { sent = sent; sendable = sendable; bits = bits }))));
-  sender = m.from ∙ h.sender ∙ sym m.sender;
+      (behind (size_of d.line) d.sender passed d.slots.items way slot x h.slots (record { sent = sent; sendable = sendable; bits = h.bits_are }))));
+  sender = ap sender_of m.line ∙ h.sender ∙ sym m.sender;
   room = m.capacity ∙ h.room ∙ sym m.lag;
 }
+
+-- a direction whose line has coded a slot behind what is on its way
+pub coded-so : (d : DelayedLine) (line : Kept) (script : ScriptValue) (passed : List Signal) (way : List Carried) (x : Carried) (bits : List Bool)
+    → Stands d script passed way → line.writer.symbols ≡ d.line.writer.symbols → sender_of line ≡ sender_of d.line
+    → LineStands line script passed (map (carried_signal d.sender) way ++ carried_signal d.sender x ∷ [])
+    → bits ≡ bits_behind (size_of d.line) (passed ++ map (carried_signal d.sender) way) (carried_signal d.sender x)
+    → HasCoded (record d { line = line }) script passed way x bits
+coded-so d line script passed way x bits h symbols from stands bits-are =
+    let size : size_of d.line ≡ size_of line = ap (λ n. 4 * n) (sym symbols) in
+    record {
+      line = stands;
+      slots = subst (λ n. AreOnWay n d.sender passed d.slots.items way) size h.slots;
+      bits_are = bits-are ∙ ap (λ n. bits_behind n (passed ++ map (carried_signal d.sender) way) (carried_signal d.sender x)) size;
+      sender = from ∙ h.sender;
+      room = h.room;
+    }
 
 -- before the first slot
 pub starts : (d : DelayedLine) (script : ScriptValue) → LineStands d.line script [] [] → d.slots.items ≡ [] → sender_of d.line ≡ d.sender

@@ -1,6 +1,6 @@
 -- What arrives of a stream is what a link's channel has.
 use Rattle.std.proofs.Common.{◌≡◌, ◌≢◌, ℕ, zero, suc, ◌-◌, ◌*◌, ◌<◌, ◌≤◌, List, [], ◌∷◌, ◌++◌, length, map, take, drop}
-use Rattle.std.proofs.Common.{arith, length-append, refl, sym, ◌∙◌, ap, subst, Some, None, Ok, Err, append-nil, append_assoc}
+use Rattle.std.proofs.Common.{arith, length-append, refl, sym, ◌∙◌, ap, subst, Some, Ok, Err, append-nil, append_assoc}
 use Rattle.std.specs.Prelude.{is_some, slice_get, Option, Result}
 use Rattle.circular_buffer.specs.Buffer.{last_item}
 use Rattle.std.specs.Option.{option_map}

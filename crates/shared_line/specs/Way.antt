@@ -1,5 +1,5 @@
 -- For which slots a direction stands: those that have passed, and those that are on their way.
-use Rattle.std.specs.Prelude.{◌≡◌, ℕ, ◌-◌, ◌*◌, ◌<◌, ◌≤◌, List, [], ◌∷◌, ◌++◌, length, map, take, drop, None, Result, Ok, Err}
+use Rattle.std.specs.Prelude.{◌≡◌, ℕ, ◌-◌, ◌*◌, ◌<◌, ◌≤◌, Bool, List, [], ◌∷◌, ◌++◌, length, map, take, drop, None, Result, Ok, Err}
 use Rattle.frame_check.specs.declared.check.Check.{Check}
 use Rattle.bit_stuffing.specs.BitSlot.{line_bits}
 use Rattle.symbol_map.specs.declared.sample.Sample.{Sample}
@@ -41,6 +41,15 @@ AreOnWay size role before [] (x ∷ way) = ⊥
 pub record Stands (d : DelayedLine) (script : ScriptValue) (passed : List Signal) (way : List Carried) : Type 0 where
   pub line : LineStands d.line script passed (map (carried_signal d.sender) way)
   pub slots : AreOnWay (size_of d.line) d.sender passed d.slots.items way
+  pub sender : sender_of d.line ≡ d.sender
+  pub room : d.slots.capacity ≡ d.lag
+
+-- The line of a direction has coded one slot behind those that are on their way, and these are its bits. It is to be put on its way next.
+pub record HasCoded (d : DelayedLine) (script : ScriptValue) (passed : List Signal) (way : List Carried) (x : Carried)
+    (bits : List Bool) : Type 0 where
+  pub line : LineStands d.line script passed (map (carried_signal d.sender) way ++ carried_signal d.sender x ∷ [])
+  pub slots : AreOnWay (size_of d.line) d.sender passed d.slots.items way
+  pub bits_are : bits ≡ bits_behind (size_of d.line) (passed ++ map (carried_signal d.sender) way) (carried_signal d.sender x)
   pub sender : sender_of d.line ≡ d.sender
   pub room : d.slots.capacity ≡ d.lag
 

@@ -1,0 +1,4 @@
+mod Taps
+mod HeaderRead
+mod Headline
+mod Completing

@@ -1,0 +1,12 @@
+mod Listening
+mod Handing
+mod SlotNext
+mod HeardSo
+mod Looking
+mod TurnTexts
+mod Going
+mod Longer
+mod Turning
+mod Whole
+mod Reached
+mod Beginning
