@@ -10,6 +10,7 @@ use std::test::Fail;
 mod crossing;
 mod ending;
 mod failing;
+mod idling;
 
 /// The words of a pair.
 const WORDS: [&str; 12] = [

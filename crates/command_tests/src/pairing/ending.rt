@@ -88,56 +88,6 @@ fn the_first_link_that_is_not_done_is_the_answer(rt: HostRuntime) -> Result<(), 
     Ok(())
 }
 
-/// What is said where the line ends a pair of a small link, which is done by then, and a large one.
-struct OnLine {
-    script: &'static [u8],
-    status: Status,
-    said: &'static str,
-    /// What stands behind the trace of the first link.
-    line: &'static [u8],
-}
-
-/// Noise in one slot of the link that has ended.
-const ON_LINE: &[OnLine] = &[OnLine {
-    script: b"noise answ 12992 464 4000 68014",
-    status: Status::LineLost {
-        role: Role::Originator,
-        symbol: 13_367,
-    },
-    said: "line lost: orig symbol 13367\n",
-    line: b"",
-}];
-
-/// Looks at what the first link left: all that its run alone leaves, and this line behind its trace.
-fn leaves_first(rt: &impl Abort, alloc: Global, ran: &Ran, line: &[u8]) -> Result<(), Fail> {
-    let alone = run(alloc, SMALL, b"")?;
-    let mut trace = Vec::from_slice(alloc, alone.left("t"))?;
-    trace.extend_from_slice(line)?;
-    leaves(rt, ran, "go1", b"b");
-    leaves(rt, ran, "ga1", b"a");
-    leaves(rt, ran, "t1", &trace);
-    Ok(())
-}
-
-/// Looks whether the second link's trace begins that of its run alone.
-fn begins_second(rt: &impl Abort, alloc: Global, ran: &Ran) -> Result<(), Fail> {
-    let alone = run(alloc, LARGE, b"")?;
-    assert!(rt; alone.left("t").starts_with(ran.left("t2")));
-    assert!(rt; ran.count_lines("t2") < alone.count_lines("t"));
-    Ok(())
-}
-
-#[test]
-fn slots_of_a_link_that_has_ended_can_end_the_pair(rt: HostRuntime) -> Result<(), Fail> {
-    for on_line in ON_LINE {
-        let ran = pair(rt.alloc(), SMALL, LARGE, on_line.script)?;
-        says(&rt, &ran, on_line.status, on_line.said);
-        leaves_first(&rt, rt.alloc(), &ran, on_line.line)?;
-        begins_second(&rt, rt.alloc(), &ran)?;
-    }
-    Ok(())
-}
-
 #[test]
 fn the_first_faulty_line_of_a_script_is_named(rt: HostRuntime) -> Result<(), Fail> {
     let ran = pair(rt.alloc(), SMALL, SMALL, b"# a comment\nspeed 3\n")?;
