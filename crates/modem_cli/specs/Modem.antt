@@ -51,6 +51,11 @@ use Rattle.pair_command.specs.Words.{Names as PairNames, inputs_of as pair_input
 use Rattle.pair_command.specs.Ends.{pair_job}
 use Rattle.pair_command.specs.Headline.{Headline as PairHeadline}
 use Rattle.pair_command.specs.Completes.{Completes as PairCompletes}
+use Rattle.tap_turns.specs.Words.{TapNames, inputs_of as tap_inputs, outputs_of as tap_outputs, named as tap_named}
+use Rattle.tap_command.specs.Words.{names_of as tap_names}
+use Rattle.tap_command.specs.Ends.{tap_job}
+use Rattle.tap_command.specs.Headline.{Headline as TapHeadline}
+use Rattle.tap_command.specs.Completes.{Completes as TapCompletes}
 use Rattle.audit_command.specs.Words.{AuditNames, named as audit_named, names_of as audit_names}
 use Rattle.audit_command.specs.Ends.{audit_job}
 use Rattle.audit_command.specs.Headline.{Headline as AuditHeadline}
@@ -69,6 +74,7 @@ pub data Asked : Type 0 where
   Peer : PeerNames → Asked
   Pickup : List ℕ → Asked
   Margin : MarginNames → Asked
+  Tap : TapNames → Asked
   Pair : PairNames → Asked
   Audit : AuditNames → Asked
   Nothing : Asked
@@ -97,6 +103,7 @@ commands =
     ∷ command (codes "encode4") Encode encode_names
     ∷ command (codes "decode4") Decode decode_names
     ∷ command (codes "record") Run run_names
+    ∷ command (codes "tap") Tap tap_names
     ∷ command (codes "pair") Pair pair_names
     ∷ command (codes "audit") Audit audit_names
     ∷ []
@@ -126,6 +133,7 @@ PromisesOf (Soak seed) old new s = SoakHeadline old new seed s
 PromisesOf (Peer n) old new s = PeerHeadline old new n s
 PromisesOf (Pickup rec) old new s = PickupHeadline old new rec s
 PromisesOf (Margin n) old new s = MarginHeadline old new n s
+PromisesOf (Tap n) old new s = TapHeadline old new n s
 PromisesOf (Pair n) old new s = PairHeadline old new n s
 PromisesOf (Audit n) old new s = AuditHeadline old new n s
 PromisesOf Nothing old new s = KeepsAll old new
@@ -141,6 +149,7 @@ AnswersBy (Soak seed) words old new s = Answers (soak_job seed) words old new s
 AnswersBy (Peer n) words old new s = Answers (peer_job n) words old new s
 AnswersBy (Pickup rec) words old new s = Answers (pickup_job rec) words old new s
 AnswersBy (Margin n) words old new s = Answers (margin_job n) words old new s
+AnswersBy (Tap n) words old new s = Answers (tap_job n) words old new s
 AnswersBy (Pair n) words old new s = Answers (pair_job n) words old new s
 AnswersBy (Audit n) words old new s = Answers (audit_job n) words old new s
 AnswersBy Nothing words old new s = Tells old new usage Usage s
@@ -156,6 +165,7 @@ CompletesOf (Soak seed) old new s = SoakCompletes old new seed s
 CompletesOf (Peer n) old new s = PeerCompletes old new n s
 CompletesOf (Pickup rec) old new s = PickupCompletes old new rec s
 CompletesOf (Margin n) old new s = MarginCompletes old new n s
+CompletesOf (Tap n) old new s = TapCompletes old new n s
 CompletesOf (Pair n) old new s = PairCompletes old new n s
 CompletesOf (Audit n) old new s = AuditCompletes old new n s
 CompletesOf Nothing old new s = Unit {0}
@@ -173,6 +183,7 @@ named (code.Soak seed) = Soak seed
 named (code.Peer names) = Peer (peer_named names)
 named (code.Pickup rec) = Pickup rec.now
 named (code.Margin names) = Margin (margin_named names)
+named (code.Tap names) = Tap (tap_named names)
 named (code.Pair names) = Pair (pair_named names)
 named (code.Audit names) = Audit (audit_named names)
 
@@ -182,5 +193,6 @@ AreApart (Run n) = are_apart (run_inputs n) (run_outputs n) ≡ true
 AreApart (Encode n) = are_apart (encode_inputs n) (encode_outputs n) ≡ true
 AreApart (Decode n) = are_apart (decode_inputs n) (decode_outputs n) ≡ true
 AreApart (Peer n) = are_apart (peer_inputs n) (peer_outputs n) ≡ true
+AreApart (Tap n) = are_apart (tap_inputs n) (tap_outputs n) ≡ true
 AreApart (Pair n) = are_apart (pair_inputs n) (pair_outputs n) ≡ true
 AreApart other = Unit {0}

@@ -17,6 +17,7 @@ use pickup_command::{pickup, pickup_words};
 use run_command::{RunWords, run, run_words};
 use soak_command::{soak, soak_words};
 use std::alloc::Global;
+use tap_command::{TapWords, tap, tap_words};
 use xid_command::{xid, xid_words};
 
 /// A command, with the names that words give it.
@@ -31,6 +32,7 @@ enum Asked<'a> {
     Peer(PeerWords<'a>),
     Pickup(&'a str),
     Margin(MarginWords<'a>),
+    Tap(TapWords<'a>),
     Pair(PairWords<'a>),
     Audit(AuditWords<'a>),
 }
@@ -54,6 +56,7 @@ fn read_words(words: &[String]) -> Option<Asked<'_>>
         "peer" => Asked::Peer(peer_words(words)?),
         "pickup" => Asked::Pickup(pickup_words(words)?),
         "margin" => Asked::Margin(margin_words(words)?),
+        "tap" => Asked::Tap(tap_words(words)?),
         "pair" => Asked::Pair(pair_words(words)?),
         "audit" => Asked::Audit(audit_words(words)?),
         _ => return None,
@@ -67,7 +70,7 @@ fn usage() -> Line
 {
     write_usage(&[
         "run", "encode", "decode", "frames", "xid", "soak", "peer", "pickup", "margin", "encode4",
-        "decode4", "record", "pair", "audit",
+        "decode4", "record", "tap", "pair", "audit",
     ])
 }
 
@@ -78,7 +81,7 @@ pub fn modem<F: Folder>(alloc: Global, words: &[String], folder: &mut F) -> Stat
     // recording than any other, or is the beginning of that. What `frames` says are the pieces of the file's bits, and what `pickup` says
     // those that a recording gives from whatever state its line began in. What `peer` leaves is what an end's run against the file's bits
     // gives. Where `margin` says that it is sure, what a recording releases begins the labels of the file. What `record` records is what both
-    // ends send. Each link of a `pair` leaves what a run leaves. A trace that `audit` calls true is that of the run of the files and the script.
+    // ends send, and what `tap` writes is what two recordings tell. Each link of a `pair` leaves what a run leaves. A trace that `audit` calls true is that of the run of the files and the script.
     ensures promises { PromisesOf (asked (map string_bytes words.now)) (F.state folder.old) (F.state folder.new) result }
 
     // Each answer comes where it has to, with its line.
@@ -103,6 +106,7 @@ pub fn modem<F: Folder>(alloc: Global, words: &[String], folder: &mut F) -> Stat
         Some(Asked::Peer(names)) => peer(alloc, folder, words, &names),
         Some(Asked::Pickup(rec)) => pickup(alloc, folder, words, rec),
         Some(Asked::Margin(names)) => margin(folder, words, &names),
+        Some(Asked::Tap(names)) => tap(alloc, folder, words, &names),
         Some(Asked::Pair(names)) => pair(alloc, folder, words, &names),
         Some(Asked::Audit(names)) => audit(alloc, folder, words, &names),
         None => tell(folder, usage().as_slice(), Status::Usage),

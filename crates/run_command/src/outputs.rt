@@ -12,7 +12,7 @@ ghost use Rattle.run_world.specs.Taping.{KeepsTape, KeepTapes, tape_names};
 ghost use Rattle.run_inputs.specs.Words.{named, inputs_of, outputs_of, texts_of};
 ghost use Rattle.run_command.specs.Tapes.{HeadsPartly};
 
-use command_base::{append_output, apart_names_differ, create_outputs};
+use command_base::{apart_names_differ, append_output, create_outputs};
 use outside_calls::{Folder, FolderFault};
 use recordings::{Rate, header_octets};
 use roles::{Both, Role};
@@ -59,7 +59,11 @@ fn begin_tape<'a, F: Folder>(
     ensures stand { OnOk result (CountsStand (F.state folder.old) (F.state folder.new)) }
     ensures fails { IfErr result (WriteFails (F.state folder.old) (F.state folder.new) (name.now ∷ [])) }
 {
-    match append_output(folder, name, header_octets(Rate::Trellis, role.mode()).as_slice()) {
+    match append_output(
+        folder,
+        name,
+        header_octets(Rate::Trellis, role.mode()).as_slice(),
+    ) {
         Ok(()) => Ok(Tape::new(name, role)),
         Err(fault) => Err(fault),
     }

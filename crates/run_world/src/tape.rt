@@ -15,9 +15,9 @@ ghost use Rattle.line_run.specs.Recorded.{tapes_of};
 ghost use Rattle.run_world.specs.Taping.{RecordsBits, TapeStands, KeepsTape, TakesSlot, KeepTapes, TakeTurn, tape_names};
 ghost use Rattle.run_world.specs.Turn.{CountsOver, IsWriting};
 
+use crate::World;
 use crate::step::RunFault;
 use crate::turn_text::folder_fault;
-use crate::World;
 use bit_stuffing::BitSlot;
 use frame_check::Octets;
 use line_coding::Modulator;

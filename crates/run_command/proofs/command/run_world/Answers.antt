@@ -28,8 +28,8 @@ returns-in-Err-clause-ends g c = λ begin b.
     let now : FolderState = g.F.Folder.state c.make_outputs.new.folder in
     let n : RunNames = named c.args.words.now in
     elim c.in-Err.ensures.err [
-      inl part ↦ inl (ends-creating LIMITS begin mid now n (script_of c.args.world.now) b part)
-    | inr (created, heads) ↦ inr (inl (ends-heading LIMITS begin mid now n (script_of c.args.world.now) b created heads))
+      | inl part ↦ inl (ends-creating LIMITS begin mid now n (script_of c.args.world.now) b part)
+      | inr (created, heads) ↦ inr (inl (ends-heading LIMITS begin mid now n (script_of c.args.world.now) b created heads))
     ]
 
 pub run_turns-requires-clause-apart : goal.run_turns-requires-clause-apart

@@ -32,9 +32,9 @@ returns-in-Err-begin_tapes-clause-err g c =
           (keeps-front now next (texts_of n) (tapes_of n.tapes)
           (c.apart_names_differ.ensures.outputs (inputs_of n) (outputs_of n) c.requires)
           (record {
-        goes_on = c.in-Err-begin_tapes.ensures.only.goes_on;
-        names = c.in-Err-begin_tapes.ensures.only.names;
-        said = c.in-Err-begin_tapes.ensures.said;
-      })) (creates-front now n c.in-Ok.ensures.ok),
+            goes_on = c.in-Err-begin_tapes.ensures.only.goes_on;
+            names = c.in-Err-begin_tapes.ensures.only.names;
+            said = c.in-Err-begin_tapes.ensures.said;
+          })) (creates-front now n c.in-Ok.ensures.ok),
       c.in-Err-begin_tapes.ensures.err,
     )
