@@ -50,7 +50,12 @@ type Change = (&'static str, &'static str, u64, AuditCause);
 const ENDS: &[Change] = &[
     ("12 answ - > none\n", "", 26, AuditCause::End),
     ("12 answ - > none\n", "12 answ -", 26, AuditCause::End),
-    ("12 answ - > none\n", "12 answ - > none", 26, AuditCause::End),
+    (
+        "12 answ - > none\n",
+        "12 answ - > none",
+        26,
+        AuditCause::End,
+    ),
     (
         "> none\n12 answ - > none\n",
         "> none\n12 answ - > none\n1",
@@ -73,12 +78,42 @@ const ENDS: &[Change] = &[
 
 /// Traces with a line that is none.
 const SPELLINGS: &[Change] = &[
-    ("3 orig adp > flags", "03 orig adp > flags", 7, AuditCause::Spelling),
-    ("3 orig adp > flags", "3 orig ADP > flags", 7, AuditCause::Spelling),
-    ("3 orig adp > flags", "3 orig adp > flags\r", 7, AuditCause::Spelling),
-    ("3 orig adp > flags", "3 orig adp > flags ", 7, AuditCause::Spelling),
-    ("3 orig adp > flags", "3 orig flags > flags", 7, AuditCause::Spelling),
-    ("3 orig adp > flags", "3 orig chance > flags", 7, AuditCause::Spelling),
+    (
+        "3 orig adp > flags",
+        "03 orig adp > flags",
+        7,
+        AuditCause::Spelling,
+    ),
+    (
+        "3 orig adp > flags",
+        "3 orig ADP > flags",
+        7,
+        AuditCause::Spelling,
+    ),
+    (
+        "3 orig adp > flags",
+        "3 orig adp > flags\r",
+        7,
+        AuditCause::Spelling,
+    ),
+    (
+        "3 orig adp > flags",
+        "3 orig adp > flags ",
+        7,
+        AuditCause::Spelling,
+    ),
+    (
+        "3 orig adp > flags",
+        "3 orig flags > flags",
+        7,
+        AuditCause::Spelling,
+    ),
+    (
+        "3 orig adp > flags",
+        "3 orig chance > flags",
+        7,
+        AuditCause::Spelling,
+    ),
     ("3 orig adp > flags", "", 7, AuditCause::Spelling),
     (
         "3 orig adp > flags",
@@ -126,18 +161,48 @@ const PARTS: &[Change] = &[
         18,
         AuditCause::Sent,
     ),
-    ("3 orig adp > flags", "4 orig adp > flags", 7, AuditCause::Turn),
+    (
+        "3 orig adp > flags",
+        "4 orig adp > flags",
+        7,
+        AuditCause::Turn,
+    ),
     (
         "3 orig adp > flags",
         "1099511627775 orig adp > flags",
         7,
         AuditCause::Turn,
     ),
-    ("3 orig adp > flags", "3 answ adp > flags", 7, AuditCause::Role),
-    ("3 orig adp > flags", "3 orig odp > flags", 7, AuditCause::Arrived),
-    ("3 orig adp > flags", "3 orig lost adp > flags", 7, AuditCause::Arrived),
-    ("3 orig adp > flags", "3 orig chance", 7, AuditCause::Arrived),
-    ("3 orig adp > flags", "3 orig adp > none", 7, AuditCause::Sent),
+    (
+        "3 orig adp > flags",
+        "3 answ adp > flags",
+        7,
+        AuditCause::Role,
+    ),
+    (
+        "3 orig adp > flags",
+        "3 orig odp > flags",
+        7,
+        AuditCause::Arrived,
+    ),
+    (
+        "3 orig adp > flags",
+        "3 orig lost adp > flags",
+        7,
+        AuditCause::Arrived,
+    ),
+    (
+        "3 orig adp > flags",
+        "3 orig chance",
+        7,
+        AuditCause::Arrived,
+    ),
+    (
+        "3 orig adp > flags",
+        "3 orig adp > none",
+        7,
+        AuditCause::Sent,
+    ),
     (
         "3 orig adp > flags",
         "3 orig adp > flags break=255",
@@ -234,7 +299,8 @@ fn a_trace_is_true_however_its_run_ends(rt: HostRuntime) -> Result<(), Fail> {
 fn a_chance_line_of_the_other_role_is_false(rt: HostRuntime) -> Result<(), Fail> {
     let to = points(rt.alloc(), Mode::Answer, &patterns(Seen::Adp))?;
     let mut ran = run_hit(rt.alloc(), &to)?;
-    ran.folder.put("t", b"0 orig - > odp\n0 answ - > mark\n1 answ chance\n")?;
+    ran.folder
+        .put("t", b"0 orig - > odp\n0 answ - > mark\n1 answ chance\n")?;
     let no = Status::AuditNo {
         line: 3,
         cause: AuditCause::Role,
@@ -302,11 +368,29 @@ fn inputs_are_refused_in_order(rt: HostRuntime) -> Result<(), Fail> {
         folder.put(name, b"")?;
     }
     put(rt.alloc(), &mut folder, "t", 16_777_217)?;
-    refuses(&rt, rt.alloc(), &mut folder, Status::TooLong { word: 4 }, "too long: t\n")?;
+    refuses(
+        &rt,
+        rt.alloc(),
+        &mut folder,
+        Status::TooLong { word: 4 },
+        "too long: t\n",
+    )?;
     put(rt.alloc(), &mut folder, "a", 16_777_217)?;
-    refuses(&rt, rt.alloc(), &mut folder, Status::TooLong { word: 2 }, "too long: a\n")?;
+    refuses(
+        &rt,
+        rt.alloc(),
+        &mut folder,
+        Status::TooLong { word: 2 },
+        "too long: a\n",
+    )?;
     put(rt.alloc(), &mut folder, "s", 65_537)?;
-    refuses(&rt, rt.alloc(), &mut folder, Status::TooLong { word: 3 }, "too long: s\n")
+    refuses(
+        &rt,
+        rt.alloc(),
+        &mut folder,
+        Status::TooLong { word: 3 },
+        "too long: s\n",
+    )
 }
 
 /// Each call of an audit fails in turn: the answer is a fault of the folder.
