@@ -23,7 +23,7 @@ use Rattle.trace_audit.specs.declared.comparison.Difference.{Difference}
 use Rattle.audit_command.specs.Words.{AuditNames, files_of}
 use Rattle.audit_command.specs.Verdict.{DiffersIn, IsFound}
 use Rattle.audit_command.specs.Ends.{Audits, AnswersOwn, Ends, audit_job}
-use Rattle.audit_command.specs.Headline.{Audited, AuditedBy, Headline}
+use Rattle.audit_command.specs.Headline.{Audited, AuditedBy, Headline, YesIsTheTrace}
 use Rattle.audit_command.specs.Completes.{AreRight, files_at, InputsRunTo, IsAnswerTo, Where, Completes}
 use Rattle.audit_command.proofs.Deciding.{VerdictLaws, never-both, one-difference}
 
@@ -188,3 +188,21 @@ completes-of laws words old new n s a = record {
     exact : Where old new n (λ text octets. IsAnswerTo text octets s ⊎ (s ≡ NoMemory))
     exact sound script r end left run =
         exact-so laws old n script r end left run words new s a (comes-to (audit_job n) words old new s a sound)
+
+-- ---- what a yes says
+
+pub yes-is-the-trace : YesIsTheTrace
+yes-is-the-trace old new n h told =
+    let a = h.audited.2 in
+    let of-orig : RunsTo (channel_of a.script) (link_of a.script (record { orig = octets_at old n.orig; answ = a.files.answ })) a.end a.left =
+    subst (λ (o : List ℕ). RunsTo (channel_of a.script) (link_of a.script (record { orig = o; answ = a.files.answ })) a.end a.left)
+    (a.are_of.orig_is told.orig) a.run in
+    record {
+      script = a.script;
+      spelled = a.are_of.script_is told.script;
+      end = a.end;
+      left = a.left;
+      run = subst (λ (w : List ℕ). RunsTo (channel_of a.script) (link_of a.script (record { orig = octets_at old n.orig; answ = w })) a.end a.left)
+          (a.are_of.answ_is told.answ) of-orig;
+      same = (a.found_is told.trace).same;
+    }

@@ -42,3 +42,25 @@ AuditedBy old new n status = Unit {0}
 pub record Headline (old new : FolderState) (n : AuditNames) (s : Status) : Type 0 where
   pub shared : Shared (inputs_of n) [] old new s
   pub audited : AuditedBy old new n s
+
+-- ---- what a yes says
+
+-- All inputs are told.
+pub record AreTold (f : FolderState) (n : AuditNames) : Type 0 where
+  pub script : IsTrue (f.tells n.script)
+  pub orig : IsTrue (f.tells n.orig)
+  pub answ : IsTrue (f.tells n.answ)
+  pub trace : IsTrue (f.tells n.trace)
+
+-- The trace is the text of the run of the script and of both files, as the folder holds them.
+pub record IsTheTrace (f : FolderState) (n : AuditNames) : Type 0 where
+  pub script : ScriptValue
+  pub spelled : ScriptSpelling (octets_at f n.script) script
+  pub end : RunEnd
+  pub left : Left
+  pub run : RunsTo (channel_of script) (link_of script (record { orig = octets_at f n.orig; answ = octets_at f n.answ })) end left
+  pub same : octets_at f n.trace ≡ left.trace
+
+-- Where an audit is done, it is so.
+abbrev pub YesIsTheTrace : Type 0
+YesIsTheTrace = (old new : FolderState) (n : AuditNames) → Headline old new n Done → AreTold old n → IsTheTrace old n

@@ -1,5 +1,5 @@
 // Lines of a run, compared with the octets of a name.
-ghost use Rattle.std.specs.Prelude.{◌≡◌, ◌≤◌, ◌<◌, ◌+◌, ◌^◌, ◌++◌, ◌∷◌, [], List, ℕ, IsTrue, IfOk, IfErr, OnOk, drop, length, take};
+ghost use Rattle.std.specs.Prelude.{◌≡◌, ◌≤◌, ◌<◌, ◌+◌, ◌++◌, ◌∷◌, [], List, ℕ, IsTrue, IfOk, IfErr, OnOk, drop, length, take};
 ghost use Rattle.outside_calls.specs.Folder.{OnlyReads, octets_at};
 ghost use Rattle.command_base.specs.Stops.{EndCounts};
 ghost use Rattle.trace_audit.specs.Differences.{is_no_feed, IsCut, text_of};

@@ -6,7 +6,7 @@ ghost use Rattle.command_base.specs.Job.{Answers};
 ghost use Rattle.audit_command.specs.Words.{AuditNames};
 ghost use Rattle.audit_command.specs.Verdict.{VerdictsAreOne};
 ghost use Rattle.audit_command.specs.Ends.{audit_job};
-ghost use Rattle.audit_command.specs.Headline.{Headline};
+ghost use Rattle.audit_command.specs.Headline.{Headline, YesIsTheTrace};
 ghost use Rattle.audit_command.specs.Completes.{Completes};
 
 use line_run::laws::one_result;
@@ -20,6 +20,11 @@ pub fn one_verdict()
     differences_are_one();
     texts_have_one_cut();
 }
+
+/// Where an audit is done and its inputs are told, the trace is the text of the run of exactly these files and of this script, up to its end.
+pub fn a_yes_is_the_trace()
+    ensures { YesIsTheTrace }
+{}
 
 /// Whatever an audit answers, its headline holds.
 pub(crate) fn answers_keep_the_headline()

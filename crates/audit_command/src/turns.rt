@@ -1,5 +1,5 @@
 // Turns of a run, each compared with the octets of a name, up to the end of the run.
-ghost use Rattle.std.specs.Prelude.{◌≡◌, ◌++◌, ◌+◌, ◌∷◌, [], List, ℕ, IfOk, IfErr, Ok, true, false};
+ghost use Rattle.std.specs.Prelude.{◌≡◌, ◌+◌, [], List, ℕ, IfOk, IfErr, Ok, true, false};
 ghost use Rattle.outside_calls.specs.Folder.{OnlyReads};
 ghost use Rattle.outside_calls.specs.Outputs.{AreApartFrom};
 ghost use Rattle.roles.specs.Both.{Both};

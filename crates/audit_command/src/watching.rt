@@ -1,5 +1,5 @@
 // A turn of a run, of which only its lines are kept.
-ghost use Rattle.std.specs.Prelude.{◌≡◌, ◌≢◌, ◌+◌, [], List, ℕ, IfOk, IfErr, Ok, true};
+ghost use Rattle.std.specs.Prelude.{◌≡◌, ◌+◌, [], List, ℕ, IfOk, IfErr, Ok, true};
 ghost use Rattle.outside_calls.specs.Folder.{OnlyReads};
 ghost use Rattle.outside_calls.specs.Outputs.{AreApartFrom};
 ghost use Rattle.command_base.specs.Stops.{EndCounts};

@@ -1,0 +1,77 @@
+-- The trace that a run leaves is its own.
+use Rattle.std.proofs.Common.{◌≡◌, ◌≢◌, true, ℕ, IsTrue, List, [], refl, sym, ◌∙◌, subst}
+use Rattle.outside_calls.specs.Folder.{FolderState, octets_at}
+use Rattle.outside_calls.specs.Outputs.{AreNoneOf}
+use Rattle.outside_calls.proofs.Steps.{octets-kept, octets-held}
+use Rattle.noise_script.specs.Script.{ScriptValue}
+use Rattle.noise_script.specs.Grammar.{ScriptSpelling}
+use Rattle.noise_script.specs.Laws.{ScriptsAreOne}
+use Rattle.line_run.specs.Ends.{RunEnd, RunsTo}
+use Rattle.line_run.specs.Scripted.{channel_of, link_of}
+use Rattle.command_base.specs.declared.status.Status.{Status}
+use Rattle.command_base.specs.declared.status.Status.TheVariants.{Done, LinkLost, NotDetected, LineLost, ChanceMatch}
+use Rattle.command_base.specs.Apart.{are_apart}
+use Rattle.command_base.specs.Sound.{IsSound, DoneUnlessMemory}
+use Rattle.run_inputs.specs.Words.{RunNames, inputs_of, outputs_of}
+use Rattle.run_command.specs.Headline as run
+use Rattle.audit_command.specs.Words as audit
+use Rattle.audit_command.specs.Completes.{AreRight, InputsRunTo, Completes}
+use Rattle.audit_laws.specs.Traces.{audit_of, IsRunEnd, TracesOfRunsAreTrue}
+
+-- names that are apart
+abbrev pub ApartNames : Type 0
+ApartNames = (inputs outputs : List (List ℕ)) → are_apart inputs outputs ≡ true → AreNoneOf outputs inputs
+
+module _ (one : ScriptsAreOne) (old mid new : FolderState) (n : RunNames) (r s : Status) (script : ScriptValue)
+    (apart : AreNoneOf (outputs_of n) (inputs_of n)) (same : (name : List ℕ) → mid.tells name ≡ old.tells name) (h : run.Headline old mid n r)
+    (completes : Completes mid new (audit_of n) s) (sound : IsSound mid new (audit.inputs_of (audit_of n)) [])
+    (right : AreRight mid (audit_of n) script) where
+  -- an input holds what it held
+  kept : (name : List ℕ) → n.got_o ≢ name → n.got_a ≢ name → n.trace ≢ name → IsTrue (mid.tells name)
+      → octets_at mid name ≡ octets_at old name
+  kept name o a t told =
+      octets-kept old mid name (h.shared.names name (λ e. o (sym e), (λ e. a (sym e), (λ e. t (sym e), tt)))) (subst IsTrue (same name) told)
+
+  was : (name : List ℕ) → IsTrue (mid.tells name) → IsTrue (old.tells name)
+  was name told = subst IsTrue (same name) told
+
+  by-run : (end : RunEnd) → run.Ran old mid n end → DoneUnlessMemory s
+  by-run end e =
+      let text : octets_at mid n.script ≡ octets_at old n.script =
+      kept n.script apart.0.1.1.0 apart.1.0.1.1.0 apart.1.1.0.1.1.0 right.script_told in
+      let spelled : ScriptSpelling (octets_at mid n.script) e.script =
+      subst (λ (o : List ℕ). ScriptSpelling o e.script) (sym text) (e.are_of.script_is (was n.script right.script_told)) in
+      let is : e.script ≡ script = one (octets_at mid n.script) e.script script spelled right.spelled in
+      let orig : e.files.orig ≡ octets_at mid n.orig =
+      e.are_of.orig_is (was n.orig right.orig_told) ∙ sym (kept n.orig apart.0.0 apart.1.0.0 apart.1.1.0.0 right.orig_told) in
+      let answ : e.files.answ ≡ octets_at mid n.answ =
+      e.are_of.answ_is (was n.answ right.answ_told) ∙ sym (kept n.answ apart.0.1.0 apart.1.0.1.0 apart.1.1.0.1.0 right.answ_told) in
+      let over : RunsTo (channel_of script) (link_of script e.files) end e.left =
+      subst (λ (x : ScriptValue). RunsTo (channel_of x) (link_of x e.files) end e.left) is e.run in
+      let of-orig : RunsTo (channel_of script) (link_of script (record { orig = octets_at mid n.orig; answ = e.files.answ })) end e.left =
+      subst (λ (o : List ℕ). RunsTo (channel_of script) (link_of script (record { orig = o; answ = e.files.answ })) end e.left) orig over in
+      let of-both : InputsRunTo mid (audit_of n) script end e.left =
+      subst (λ (w : List ℕ). RunsTo (channel_of script) (link_of script (record { orig = octets_at mid n.orig; answ = w })) end e.left)
+      answ of-orig in
+      completes.yes sound script right end e.left of-both (octets-held mid n.trace e.left.trace (e.trace right.trace_told))
+
+by-answer : ScriptsAreOne → ApartNames → (old mid new : FolderState) (n : RunNames) (ran s : Status) (script : ScriptValue)
+    → are_apart (inputs_of n) (outputs_of n) ≡ true → ((name : List ℕ) → mid.tells name ≡ old.tells name)
+    → (r : Status) → r ≡ ran → run.Headline old mid n ran → run.RanBy old mid n r → IsRunEnd r
+    → Completes mid new (audit_of n) s → IsSound mid new (audit.inputs_of (audit_of n)) [] → AreRight mid (audit_of n) script
+    → DoneUnlessMemory s
+by-answer one names old mid new n ran s script apart same Done e h b x c sound right =
+    by-run one old mid new n ran s script (names (inputs_of n) (outputs_of n) apart) same h c sound right _ b.2
+by-answer one names old mid new n ran s script apart same (LinkLost role segment turn) e h b x c sound right =
+    by-run one old mid new n ran s script (names (inputs_of n) (outputs_of n) apart) same h c sound right _ b
+by-answer one names old mid new n ran s script apart same (NotDetected turn) e h b x c sound right =
+    by-run one old mid new n ran s script (names (inputs_of n) (outputs_of n) apart) same h c sound right _ b
+by-answer one names old mid new n ran s script apart same (LineLost role symbol) e h b x c sound right =
+    by-run one old mid new n ran s script (names (inputs_of n) (outputs_of n) apart) same h c sound right _ b
+by-answer one names old mid new n ran s script apart same (ChanceMatch role turn) e h b x c sound right =
+    by-run one old mid new n ran s script (names (inputs_of n) (outputs_of n) apart) same h c sound right _ b
+by-answer one names old mid new n ran s script apart same r e h b x c sound right = absurd x
+
+pub traces-of-runs-are-true : ScriptsAreOne → ApartNames → TracesOfRunsAreTrue
+traces-of-runs-are-true one names old mid new n ran s script apart same h x c sound right =
+    by-answer one names old mid new n ran s script apart same ran refl h h.ran x c sound right
