@@ -80,7 +80,7 @@ never-refused : NoFaultInScripts → (old before : FolderState) (n : TapNames) (
 never-refused law old before n script bodies answer r (inl own) = never-own law old n script bodies answer r own
 never-refused law old before n script bodies answer r (inr refused) = elim refused.bad [
   | inl orig ↦ never-header old n.rec_o Call bodies.orig answer r.orig_told r.orig_is orig
-  | inr answ ↦ never-header old n.rec_a Answer bodies.answ answer r.answ_told r.answ_is answ
+  | inr answ ↦ never-header old n.rec_a Answer bodies.answ answer r.answ_told r.answ_is answ.1
 ]
 
 -- ---- the tap that was made is the one of these inputs

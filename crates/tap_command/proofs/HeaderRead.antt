@@ -2,6 +2,7 @@
 use Rattle.std.proofs.Common.{◌≡◌, ◌∙◌, inl, inr, ℕ, ◌+◌, ◌≤◌, ◌<◌, List, IsTrue, length, take, sym, ap, arith}
 use Rattle.std.proofs.lemmas.List.{take_all}
 use Rattle.std.proofs.lemmas.Bool.{cases_lt}
+use Rattle.scramblers.specs.declared.mode.Mode.{Mode}
 use Rattle.scramblers.specs.declared.mode.Mode.TheVariants.{Call, Answer}
 use Rattle.outside_calls.specs.Folder.{FolderState, octets_at}
 use Rattle.outside_calls.specs.Outputs.{SomeRose}
@@ -19,7 +20,7 @@ use Rattle.tap_turns.specs.declared.limits.TheConstants.{TAP_LIMIT}
 use Rattle.tap_turns.specs.Words.{TapNames}
 use Rattle.tap_turns.specs.Tap.{AreReadTo}
 use Rattle.tap_turns.specs.Turns.{no_octets}
-use Rattle.tap_command.specs.Headers.{NoHeader}
+use Rattle.tap_command.specs.Headers.{HasHeader, NoHeader}
 use Rattle.tap_command.specs.Ends.{recordings_of, IsRefused}
 
 -- the octets that a header is looked for in
@@ -47,14 +48,19 @@ orig-refused l old new n script (Write fault) opens bad = bad
 orig-refused l old new n script (Say fault) opens bad = bad
 orig-refused l old new n script NoMemory opens bad = absurd bad
 
--- or the answerer's
+-- what was read of a recording is its header
+pub header-read : (start now : FolderState) (name : List ℕ) (mode : Mode) → ReadTo start now name TAP_LIMIT 8 (header_of mode)
+    → HasHeader start name mode
+header-read start now name mode r told = sym (r.front told)
+
+-- or the answerer's alone
 pub answ-refused : (l : Limits) (old new : FolderState) (n : TapNames) (script : ScriptValue) (stop : Stop)
-    → Opens l old n.script (recordings_of n) script → NoHeader old n.rec_a Answer stop → IsRefused l old new n stop
-answ-refused l old new n script (Own answer) opens bad = inr (record { script = script; opens = opens; bad = inr bad })
-answ-refused l old new n script (Read fault) opens bad = inr (record { script = script; opens = opens })
-answ-refused l old new n script (Write fault) opens bad = bad
-answ-refused l old new n script (Say fault) opens bad = bad
-answ-refused l old new n script NoMemory opens bad = absurd bad
+    → Opens l old n.script (recordings_of n) script → HasHeader old n.rec_o Call → NoHeader old n.rec_a Answer stop → IsRefused l old new n stop
+answ-refused l old new n script (Own answer) opens good bad = inr (record { script = script; opens = opens; bad = inr (good, bad) })
+answ-refused l old new n script (Read fault) opens good bad = inr (record { script = script; opens = opens })
+answ-refused l old new n script (Write fault) opens good bad = bad
+answ-refused l old new n script (Say fault) opens good bad = bad
+answ-refused l old new n script NoMemory opens good bad = absurd bad
 
 -- a fault of some inputs is one of all
 pub stop-widened : (old new : FolderState) (some all outputs : List (List ℕ)) (stop : Stop)

@@ -81,7 +81,7 @@ not-refused : {P : Type 0} → (old before : FolderState) (n : TapNames) (answer
     → (KeepsAll old before × IsRefused LIMITS old before n (stops.Own answer)) ⊎ P → P
 not-refused old before n answer never none (inl (kept, inl r)) = absurd (never r)
 not-refused old before n answer never none (inl (kept, inr r)) =
-    absurd (elim r.bad [ inl o ↦ none Call n.rec_o o | inr a ↦ none Answer n.rec_a a ])
+    absurd (elim r.bad [ inl o ↦ none Call n.rec_o o | inr a ↦ none Answer n.rec_a a.1 ])
 not-refused old before n answer never none (inr p) = p
 
 told-by : (words : List (List ℕ)) (old new : FolderState) (n : TapNames) (s t : Status) (a : Answers (tap_job n) words old new s)

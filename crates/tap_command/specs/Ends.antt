@@ -20,7 +20,7 @@ use Rattle.tap_turns.specs.Words.{TapNames, inputs_of, outputs_of}
 use Rattle.tap_turns.specs.Tap.{AreReadTo}
 use Rattle.tap_turns.specs.Turns.{TapEnds, TapStops, TapStopsReading, no_octets}
 use Rattle.tap_command.specs.declared.limits.TheConstants.{LIMITS}
-use Rattle.tap_command.specs.Headers.{HasNoHeader}
+use Rattle.tap_command.specs.Headers.{HasHeader, HasNoHeader}
 
 -- both recordings
 abbrev pub recordings_of : TapNames → List (List ℕ)
@@ -34,11 +34,11 @@ pub record IsBegun (l : Limits) (old now : FolderState) (n : TapNames) (script :
   pub reads : OnlyReads old now
   pub stand : CountsStand old now
 
--- The script and both lengths are right, and a recording has no header: the originator's, or the answerer's.
+-- The script and both lengths are right, and a recording has no header: the originator's, or the answerer's alone.
 pub record HeaderRefused (l : Limits) (f : FolderState) (n : TapNames) (answer : Status) : Type 0 where
   pub script : ScriptValue
   pub opens : Opens l f n.script (recordings_of n) script
-  pub bad : HasNoHeader f n.rec_o Call answer ⊎ HasNoHeader f n.rec_a Answer answer
+  pub bad : HasNoHeader f n.rec_o Call answer ⊎ (HasHeader f n.rec_o Call × HasNoHeader f n.rec_a Answer answer)
 
 -- They are right, and a header wasn't read.
 pub record HeaderFails (l : Limits) (f : FolderState) (n : TapNames) : Type 0 where

@@ -20,6 +20,10 @@ pub record IsNotHeader (mode : Mode) (octets : List ℕ) (at : ℕ) : Type 0 whe
   pub before : (place : ℕ) → place < at → fits mode place (slice_index octets place) ≡ true
   pub here : (at ≡ length octets) ⊎ ((at < length octets) × (fits mode at (slice_index octets at) ≡ false))
 
+-- a recording begins with the header of this mode
+abbrev pub HasHeader : FolderState → List ℕ → Mode → Type 0
+HasHeader f name mode = IsTrue (f.tells name) → take HEADER (octets_at f name) ≡ header_of mode
+
 -- what is answered of a recording whose header isn't that of this mode
 abbrev pub HasNoHeader : FolderState → List ℕ → Mode → Status → Type 0
 HasNoHeader f name mode (BadRecording at) = IsTrue (f.tells name) → IsNotHeader mode (take HEADER (octets_at f name)) at

@@ -1,4 +1,5 @@
 use Rattle.std.proofs.Common.{inl, inr, [], ◌∷◌}
+use Rattle.scramblers.specs.declared.mode.Mode.TheVariants.{Call}
 use Rattle.outside_calls.specs.Folder.{FolderState, OnlyReads}
 use Rattle.outside_calls.proofs.Steps.{OnlyReads-trans, CountsStand-trans}
 use Rattle.command_base.proofs.Jobs.{stop-earlier}
@@ -6,7 +7,7 @@ use Rattle.command_base.proofs.Reading.{ReadTo-none, ReadTo-kept}
 use Rattle.tap_turns.specs.declared.limits.TheConstants.{TAP_LIMIT}
 use Rattle.tap_turns.specs.Words.{TapNames, named, inputs_of}
 use Rattle.tap_command.specs.declared.limits.TheConstants.{LIMITS}
-use Rattle.tap_command.proofs.HeaderRead.{both-read, orig-refused, answ-refused, stop-widened}
+use Rattle.tap_command.proofs.HeaderRead.{both-read, header-read, orig-refused, answ-refused, stop-widened}
 use Rattle.tap_command.proofs.opening.open.Goals as goal
 
 pub returns-in-Err-open_header-clause-refused : goal.returns-in-Err-open_header-clause-refused
@@ -61,8 +62,13 @@ returns-in-Err-open_header-2-clause-refused g c =
     let n : TapNames = named c.args.words.now in
     let old : FolderState = g.F.Folder.state c.args.folder.now in
     let n2 : FolderState = g.F.Folder.state c.open_header.new.folder in
-    let second : OnlyReads old n2 = OnlyReads-trans c.in-Ok.ensures.reads c.in-Ok-open_header.ensures.reads in
+    let first = c.in-Ok.ensures.reads in
+    let second : OnlyReads old n2 = OnlyReads-trans first c.in-Ok-open_header.ensures.reads in
+    let orig = c.in-Ok-open_header.ensures.ok old
+    (ReadTo-none old (g.F.Folder.state c.open_inputs.new.folder) n.rec_o TAP_LIMIT c.in-Ok.ensures.opened.files.0 first.goes_on
+    (first.names n.rec_o)) in
     answ-refused LIMITS old (g.F.Folder.state c.open_header-2.new.folder) n c.in-Ok.script c.in-Err-open_header-2.stop c.in-Ok.ensures.opened
+    (header-read old n2 n.rec_o Call orig)
     (c.in-Err-open_header-2.ensures.err old
     (ReadTo-none old n2 n.rec_a TAP_LIMIT c.in-Ok.ensures.opened.files.1.0 second.goes_on (second.names n.rec_a)))
 
