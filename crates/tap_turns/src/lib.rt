@@ -9,7 +9,7 @@
 mod end;
 mod limits;
 mod listener;
-mod recordings;
+mod pieces;
 mod step;
 mod tap;
 mod texts;

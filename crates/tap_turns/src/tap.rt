@@ -18,7 +18,7 @@ ghost use Rattle.tap_turns.specs.Turns.{no_octets};
 
 use crate::end::{Slot, TappedEnd};
 use crate::limits::{DLCI, TAP_LIMIT};
-use crate::recordings::read_pieces;
+use crate::pieces::read_pieces;
 use crate::step::Step;
 use crate::texts::{sent_in, turn_lines, write_chance, write_turn};
 use crate::words::TapWords;
