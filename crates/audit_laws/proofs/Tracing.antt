@@ -1,7 +1,7 @@
 -- The trace that a run leaves is its own.
-use Rattle.std.proofs.Common.{◌≡◌, ◌≢◌, true, ℕ, IsTrue, List, [], refl, sym, ◌∙◌, subst}
+use Rattle.std.proofs.Common.{◌≡◌, ◌≢◌, true, ℕ, IsTrue, List, [], ◌∷◌, refl, sym, ◌∙◌, subst}
 use Rattle.outside_calls.specs.Folder.{FolderState, octets_at}
-use Rattle.outside_calls.specs.Outputs.{AreNoneOf}
+use Rattle.outside_calls.specs.Outputs.{IsNoneOf, AreNoneOf}
 use Rattle.outside_calls.proofs.Steps.{octets-kept, octets-held}
 use Rattle.noise_script.specs.Script.{ScriptValue}
 use Rattle.noise_script.specs.Grammar.{ScriptSpelling}
@@ -22,15 +22,22 @@ use Rattle.audit_laws.specs.Traces.{audit_of, IsRunEnd, TracesOfRunsAreTrue}
 abbrev pub ApartNames : Type 0
 ApartNames = (inputs outputs : List (List ℕ)) → are_apart inputs outputs ≡ true → AreNoneOf outputs inputs
 
+-- a name that is among the inputs of outputs that are none of these is none of the outputs
+none-of : (inputs : List (List ℕ)) (name : List ℕ) → ((output : List ℕ) → IsNoneOf output inputs → output ≢ name) → (outputs : List (List ℕ))
+    → AreNoneOf outputs inputs → IsNoneOf name outputs
+none-of inputs name differs [] apart = tt
+none-of inputs name differs (output ∷ outputs) apart =
+    (λ e. differs output apart.0 (sym e), none-of inputs name differs outputs apart.1)
+
 module _ (one : ScriptsAreOne) (old mid new : FolderState) (n : RunNames) (r s : Status) (script : ScriptValue)
     (apart : AreNoneOf (outputs_of n) (inputs_of n)) (same : (name : List ℕ) → mid.tells name ≡ old.tells name) (h : run.Headline old mid n r)
     (completes : Completes mid new (audit_of n) s) (sound : IsSound mid new (audit.inputs_of (audit_of n)) [])
     (right : AreRight mid (audit_of n) script) where
   -- an input holds what it held
-  kept : (name : List ℕ) → n.got_o ≢ name → n.got_a ≢ name → n.trace ≢ name → IsTrue (mid.tells name)
+  kept : (name : List ℕ) → ((output : List ℕ) → IsNoneOf output (inputs_of n) → output ≢ name) → IsTrue (mid.tells name)
       → octets_at mid name ≡ octets_at old name
-  kept name o a t told =
-      octets-kept old mid name (h.shared.names name (λ e. o (sym e), (λ e. a (sym e), (λ e. t (sym e), tt)))) (subst IsTrue (same name) told)
+  kept name differs told =
+      octets-kept old mid name (h.shared.names name (none-of (inputs_of n) name differs (outputs_of n) apart)) (subst IsTrue (same name) told)
 
   was : (name : List ℕ) → IsTrue (mid.tells name) → IsTrue (old.tells name)
   was name told = subst IsTrue (same name) told
@@ -38,14 +45,14 @@ module _ (one : ScriptsAreOne) (old mid new : FolderState) (n : RunNames) (r s :
   by-run : (end : RunEnd) → run.Ran old mid n end → DoneUnlessMemory s
   by-run end e =
       let text : octets_at mid n.script ≡ octets_at old n.script =
-      kept n.script apart.0.1.1.0 apart.1.0.1.1.0 apart.1.1.0.1.1.0 right.script_told in
+      kept n.script (λ output a. a.1.1.0) right.script_told in
       let spelled : ScriptSpelling (octets_at mid n.script) e.script =
       subst (λ (o : List ℕ). ScriptSpelling o e.script) (sym text) (e.are_of.script_is (was n.script right.script_told)) in
       let is : e.script ≡ script = one (octets_at mid n.script) e.script script spelled right.spelled in
       let orig : e.files.orig ≡ octets_at mid n.orig =
-      e.are_of.orig_is (was n.orig right.orig_told) ∙ sym (kept n.orig apart.0.0 apart.1.0.0 apart.1.1.0.0 right.orig_told) in
+      e.are_of.orig_is (was n.orig right.orig_told) ∙ sym (kept n.orig (λ output a. a.0) right.orig_told) in
       let answ : e.files.answ ≡ octets_at mid n.answ =
-      e.are_of.answ_is (was n.answ right.answ_told) ∙ sym (kept n.answ apart.0.1.0 apart.1.0.1.0 apart.1.1.0.1.0 right.answ_told) in
+      e.are_of.answ_is (was n.answ right.answ_told) ∙ sym (kept n.answ (λ output a. a.1.0) right.answ_told) in
       let over : RunsTo (channel_of script) (link_of script e.files) end e.left =
       subst (λ (x : ScriptValue). RunsTo (channel_of x) (link_of x e.files) end e.left) is e.run in
       let of-orig : RunsTo (channel_of script) (link_of script (record { orig = octets_at mid n.orig; answ = e.files.answ })) end e.left =
