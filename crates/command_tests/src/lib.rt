@@ -39,3 +39,5 @@ mod running;
 mod saying;
 #[cfg(test)]
 mod soaking;
+#[cfg(test)]
+mod tapping;
