@@ -4,16 +4,15 @@ use Rattle.std.proofs.Common.{take, arith, length-append, refl, sym, ◌∙◌, 
 use Rattle.std.specs.List.{concat}
 use Rattle.std.specs.Option.{option_map}
 use Rattle.std.proofs.Math.Nat.{mul-suc, mul_assoc}
-use Rattle.std.proofs.lemmas.List.{length-map, take_all, map-append}
+use Rattle.std.proofs.lemmas.List.{length-map, take_all}
 use Rattle.std.proofs.lemmas.Grind.{common_steps}
 use Rattle.frame_check.specs.declared.check.Check.{Check}
 use Rattle.frame_check.specs.declared.check.Check.TheVariants.{Sixteen}
 use Rattle.frame_check.specs.Division.{with_check}
 use Rattle.scramblers.specs.Mode.{tap_of}
 use Rattle.bit_stuffing.specs.declared.slot_writer.TheConstants.{HEAD, TAIL}
-use Rattle.bit_stuffing.specs.Slots.{opening, sent_bits, phase_after}
+use Rattle.bit_stuffing.specs.Slots.{opening, phase_after}
 use Rattle.sample_line.specs.Line.{bits_behind}
-use Rattle.bit_stuffing.proofs.Fill.{bits-append}
 use Rattle.roles.specs.declared.role.Role.{Role}
 use Rattle.roles.specs.declared.role.Role.TheVariants.{Originator, Answerer}
 use Rattle.roles.specs.Role.{other, mode_of}
@@ -21,7 +20,7 @@ use Rattle.roles.specs.Both.{Both, of}
 use Rattle.symbol_map.specs.Laws.{NoDistanceIsEqual}
 use Rattle.line_coding.specs.Modulates.{Modulates}
 use Rattle.recordings.specs.Samples.{samples_in}
-use Rattle.detection.specs.Slots.{Signal, slot_of, slots_of, signal_bits}
+use Rattle.detection.specs.Slots.{Signal, slots_of, signal_bits}
 use Rattle.lapm_frames.specs.declared.frame.Frame.{Frame}
 use Rattle.lapm_frames.specs.Frame.{has_number, spelled}
 use Rattle.lapm_frames.specs.Checked.{checked}

@@ -22,14 +22,14 @@ loop-place-preserved c =
     let within : place < length c.args.slot.now = omega (arith, c.loop-place-test.true, c.len-place-end.ensures.count) in
     record {
       stands = λ bits h.
-          subst (DeframerStands c.with_four-found.new.deframer)
+          subst (DeframerStands c.with_four.new.deframer)
           (sent-part bits c.args.slot.now place c.quad.result within c.quad.ensures.value)
-          (c.with_four-found.ensures.stands _ (c.loop-place.invariant.stands bits h));
+          (c.with_four.ensures.stands _ (c.loop-place.invariant.stands bits h));
       seeks = λ bits h.
-          subst (λ xs. Seeks c.args.sender.check c.args.sender.role c.args.sender.dlci bits xs c.with_four-found.result)
+          subst (λ xs. Seeks c.args.sender.check c.args.sender.role c.args.sender.dlci bits xs c.with_four.new.found)
           (sent-part bits c.args.slot.now place c.quad.result within c.quad.ensures.value)
-          (c.with_four-found.ensures.seeks bits _ (c.loop-place.invariant.stands bits h) (c.loop-place.invariant.seeks bits h));
-      sendable = c.with_four-found.ensures.sendable c.loop-place.invariant.sendable;
+          (c.with_four.ensures.seeks bits _ (c.loop-place.invariant.stands bits h) (c.loop-place.invariant.seeks bits h));
+      sendable = c.with_four.ensures.sendable c.loop-place.invariant.sendable;
     }
 
 pub returns-clause-stands : goal.returns-clause-stands
