@@ -40,6 +40,7 @@ pub fn exchange(alloc: Global, files: &Both<&[u8]>, lost: &[u64]) -> Result<Both
         let (next_answ, from_answ) = answ.turn(&to_answ, files.answ)?;
         orig = next_orig;
         answ = next_answ;
+        // What is acknowledged was taken (`link_account::laws::acknowledgements`): so each user has the other's file.
         if orig.is_whole() && answ.is_whole() {
             return Ok(Both {
                 orig: orig.taken(),
