@@ -32,6 +32,7 @@ fn put_name(frame: &Frame, names: &mut Octets<ROOM>) {
     // The text is empty: it is new.
     let mut text = FrameText::new();
     write_frame_text(frame, &mut text);
+    // There is room: the text is no longer than TEXT.
     if names.len() < ROOM - TEXT {
         names.extend(text.as_slice());
         names.push(b'\n');
