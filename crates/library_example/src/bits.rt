@@ -52,6 +52,7 @@ fn read_labels(mut demodulator: Demodulator, labels: &[u8]) -> Quads
 {
     let mut quads = Quads::new();
     for label in labels {
+        // The label is small, and there is room: our caller.
         quads.push(demodulator.push(*label));
     }
     quads

@@ -65,6 +65,7 @@ impl End {
             Ok(link) => link,
             Err(broken) => return Err(Fault::Broken(broken.fault)),
         };
+        // What is sent can be written: `speak`.
         let slot = Slot::of(&sent, link.check(), role);
         Ok((
             End {

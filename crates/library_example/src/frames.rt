@@ -18,11 +18,21 @@ pub struct FrameEar {
     names: Octets<ROOM>,
 }
 
+/// The frame that these octets with their check are.
+fn frame_of(octets: &[u8], sender: Role) -> Option<Frame> {
+    // The channel is below 64: it is the constant 0.
+    match read_checked(octets, Check::Sixteen, sender, 0) {
+        Ok(frame) => Some(frame),
+        Err(_) => None,
+    }
+}
+
 /// Puts a frame's name and a line feed behind the others, where there is room for the longest.
 fn put_name(frame: &Frame, names: &mut Octets<ROOM>) {
     // The text is empty: it is new.
     let mut text = FrameText::new();
     write_frame_text(frame, &mut text);
+    // There is room: the text is no longer than TEXT.
     if names.len() < ROOM - TEXT {
         names.extend(text.as_slice());
         names.push(b'\n');
@@ -41,14 +51,9 @@ impl FrameEar {
 
     /// One bit more: the frame that ends with it. What is no frame is passed over, and what came damaged.
     fn push(&mut self, bit: bool) -> Option<Frame> {
+        // The octets are lent until the next bit.
         match self.deframer.push(bit) {
-            // The octets are read before the next bit is pushed. The channel is below 64: it is the constant 0.
-            Some(Piece::Whole) => {
-                match read_checked(self.deframer.whole(), Check::Sixteen, self.sender, 0) {
-                    Ok(frame) => Some(frame),
-                    Err(_) => None,
-                }
-            }
+            Some(Piece::Whole) => frame_of(self.deframer.whole(), self.sender),
             _ => None,
         }
     }

@@ -31,6 +31,7 @@ fn carried(slot: Slot, turn: u64, lost: &[u64]) -> Slot {
 
 /// What both users took, once each end's file is acknowledged. The slots that are sent in the turns `lost` don't arrive, either way.
 pub fn exchange(alloc: Global, files: &Both<&[u8]>, lost: &[u64]) -> Result<Both<Taken>, Fault> {
+    // Both are set up as ends may be: `setup_of`.
     let mut orig = End::new(alloc, setup_of(Role::Originator))?;
     let mut answ = End::new(alloc, setup_of(Role::Answerer))?;
     let mut to_orig = Slot::Idle;
@@ -40,6 +41,7 @@ pub fn exchange(alloc: Global, files: &Both<&[u8]>, lost: &[u64]) -> Result<Both
         let (next_answ, from_answ) = answ.turn(&to_answ, files.answ)?;
         orig = next_orig;
         answ = next_answ;
+        // What is acknowledged was taken (`link_account::laws::acknowledgements`): so each user has the other's file.
         if orig.is_whole() && answ.is_whole() {
             return Ok(Both {
                 orig: orig.taken(),

@@ -43,7 +43,7 @@ fn offer(link: &mut AnyEnd, file: &[u8])
     ensures { TakesNothing link.old link.new }
 {
     while let Some(number) = link.wants() {
-        // The number is small, though no contract says so: a file of 2^40 pieces doesn't fit into memory.
+        // No contract says so, but no file of 2^40 pieces fits into memory.
         if number >= 1 << 40 {
             return;
         }
