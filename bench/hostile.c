@@ -39,7 +39,8 @@ static void put_number(long long number) {
     put_text(text);
 }
 
-static char path[8][512];
+enum { PATHS = 12, SAID = PATHS - 1 };
+static char path[PATHS][512];
 static void save(int at) {
     int file = open(path[at], O_WRONLY | O_CREAT | O_TRUNC, 0600);
     if (file < 0 || write(file, buffer, length) != (ssize_t)length) {
@@ -63,8 +64,20 @@ static int begins(int part, int whole) {
     if (m == (size_t)-1) return 1;
     return m <= n && memcmp(a, b, m) == 0;
 }
+static int same(int one, int other) { return begins(one, other) && begins(other, one); }
 
-enum { SAID = 7 };
+/* One bit of a file is turned, or the file is cut; where it is empty it stays. */
+static void damage(int at) {
+    size_t count = load(at, buffer, sizeof buffer);
+    if (count == (size_t)-1 || count == 0) return;
+    length = count;
+    if (below(3))
+        buffer[below(count)] ^= 1 << below(8);
+    else
+        length = below(count);
+    save(at);
+}
+
 extern char **environ;
 
 static int run(char **words) {
@@ -206,22 +219,60 @@ static int try_decode(void) {
     return (status == 3 && says("bad recording: at ")) || (status == 7 && says("line lost: "));
 }
 
-static int try_run(void) {
-    char *words[] = {"modem", "run", path[0], path[1], path[2], path[3], path[4], path[5], NULL};
-    for (int file = 0; file < 2; file++) {
+static void save_files(int count) {
+    for (int file = 0; file < count; file++) {
         length = 0;
         for (unsigned n = below(below(4) ? 40 : 700); n > 0; n--) put_octet(word());
         save(file);
     }
     length = 0;
     put_script();
-    save(2);
+    save(count);
+}
+
+static int try_run(void) {
+    char *words[] = {"modem", "run", path[0], path[1], path[2], path[3], path[4], path[5], NULL};
+    save_files(2);
     for (int i = 3; i < 6; i++) unlink(path[i]);
     int status = run(words);
     if (lines() != 1 || !begins(3, 1) || !begins(4, 0)) return 0;
     if (status == 0) return says("done ") && begins(1, 3) && begins(0, 4);
     return (status == 3 && says("bad script: line ")) || (status == 7 && says("line lost: ")) || (status == 8 && says("not detected: ")) ||
            (status == 9 && says("link lost: ")) || (status == 10 && says("chance match: "));
+}
+
+/* A recorded run, its tap and its audit, and then those of a recording and of a trace that are damaged. */
+static int try_record(void) {
+    char *record[] = {"modem", "record", path[0], path[1], path[2], path[3], path[4], path[5], path[6], path[7], NULL};
+    char *tap[] = {"modem", "tap", path[6], path[7], path[2], path[8], path[9], path[10], NULL};
+    char *audit[] = {"modem", "audit", path[0], path[1], path[2], path[5], NULL};
+    save_files(2);
+    for (int i = 3; i < 11; i++) unlink(path[i]);
+    int status = run(record), told, damaged = 6 + below(2);
+    if (lines() != 1 || !begins(3, 1) || !begins(4, 0)) return 0;
+    if (status == 3) return says("bad script: line ");
+    if (status != 0 && (status < 7 || status > 10)) return 0;
+    told = run(tap);
+    if (lines() != 1 || told != (status == 7 || status == 10 ? status : 0) || (told == 0 && !says("turns "))) return 0;
+    if (!same(3, 8) || !same(4, 9) || !same(5, 10)) return 0;
+    if (run(audit) != 0 || lines() != 1 || !says("true ")) return 0;
+    damage(damaged);
+    told = run(tap);
+    if (lines() != 1 || !begins(8, 1) || !begins(9, 0)) return 0;
+    if (told != 0 && told != 3 && told != 7 && told != 10 && !(told == 14 && says("bad tap: "))) return 0;
+    damage(5);
+    return run(audit) == 13 && lines() == 1 && says("false line ");
+}
+
+static int try_pair(void) {
+    char *words[] = {"modem", "pair", path[0], path[1], path[2], path[3], path[4], path[5], path[6], path[7], path[8], path[9], path[10], NULL};
+    save_files(4);
+    for (int i = 5; i < 11; i++) unlink(path[i]);
+    int status = run(words);
+    if (lines() != 1 || !begins(5, 1) || !begins(6, 0) || !begins(7, 3) || !begins(8, 2)) return 0;
+    if (status == 0) return says("done ") && begins(1, 5) && begins(0, 6) && begins(3, 7) && begins(2, 8);
+    return (status == 3 && says("bad script: line ")) || (status == 7 && says("line lost: ")) || (status == 8 && says("not detected: link ")) ||
+           (status == 9 && says("link lost: link ")) || (status == 10 && says("chance match: "));
 }
 
 static int try_peer(void) {
@@ -252,14 +303,14 @@ static int try_pickup(void) {
 }
 
 int main(int count, char **words) {
-    static const struct { const char *name; int (*try)(void); } kinds[] = {{"xid", try_xid}, {"frames", try_frames}, {"decode", try_decode}, {"run", try_run}, {"peer", try_peer}, {"pickup", try_pickup}};
+    static const struct { const char *name; int (*try)(void); } kinds[] = {{"xid", try_xid}, {"frames", try_frames}, {"decode", try_decode}, {"run", try_run}, {"record", try_record}, {"pair", try_pair}, {"peer", try_peer}, {"pickup", try_pickup}};
     if (count != 6) {
         fprintf(stderr, "usage: hostile PROGRAM FOLDER KIND SEED COUNT\n");
         return 2;
     }
     program = words[1];
     folder = words[2];
-    for (int i = 0; i < 8; i++) snprintf(path[i], sizeof path[i], "%s/%s-%s-%d", folder, words[3], words[4], i);
+    for (int i = 0; i < PATHS; i++) snprintf(path[i], sizeof path[i], "%s/%s-%s-%d", folder, words[3], words[4], i);
     for (size_t k = 0; k < sizeof kinds / sizeof *kinds; k++)
         if (strcmp(kinds[k].name, words[3]) == 0) {
             long bad = 0, tries = atol(words[5]);
@@ -269,14 +320,14 @@ int main(int count, char **words) {
                 if (!kinds[k].try()) {
                     bad++;
                     fprintf(stderr, "%s: try %ld of seed %s (state %llu) is wrong: %s", words[3], n, words[4], (unsigned long long)before, said);
-                    for (int i = 0; i < 6 && bad < 4; i++) {
+                    for (int i = 0; i < SAID && bad < 4; i++) {
                         char kept[600];
                         snprintf(kept, sizeof kept, "%.500s-wrong-%ld", path[i], n);
                         rename(path[i], kept);
                     }
                 }
             }
-            for (int i = 0; i < 8; i++) unlink(path[i]);
+            for (int i = 0; i < PATHS; i++) unlink(path[i]);
             printf("%ld\n", bad);
             return bad != 0;
         }
