@@ -29,11 +29,12 @@ pub(super) fn record(alloc: Global, orig: &[u8], answ: &[u8], script: &[u8]) -> 
 }
 
 /// Looks whether both recordings have their headers and the slots of so many turns.
-fn holds_turns(rt: &impl Abort, ran: &Ran, turns: usize) {
+fn holds_turns(rt: &impl Abort, ran: &Ran, turns: u16) {
+    let octets = 8 + SLOT * usize::from(turns);
     assert!(rt; ran.left("ro").starts_with(b"V32R\0\0\0\0"));
     assert!(rt; ran.left("ra").starts_with(b"V32R\x01\0\0\0"));
-    assert!(rt; ran.left("ro").len() == 8 + SLOT * turns, "{turns}");
-    assert!(rt; ran.left("ra").len() == 8 + SLOT * turns, "{turns}");
+    assert!(rt; ran.left("ro").len() == octets, "{turns}");
+    assert!(rt; ran.left("ra").len() == octets, "{turns}");
 }
 
 /// The first sample of all is that of a pattern, (8192, -2048). Nothing is sent in the last turn.
@@ -51,7 +52,7 @@ fn two_files_are_recorded(rt: HostRuntime) -> Result<(), Fail> {
 }
 
 /// Scripts, what a run of two small files says under each, and in how many of its turns both ends sent.
-const ENDS: &[(&[u8], Status, &str, usize)] = &[
+const ENDS: &[(&[u8], Status, &str, u16)] = &[
     (
         b"lose answ 0 1000000\n",
         Status::NotDetected { turn: 120 },
