@@ -3,7 +3,7 @@ use Rattle.std.proofs.Common.{◌≡◌, ◌≢◌, ℕ, ◌+◌, ◌<◌, List,
 use Rattle.std.specs.Prelude.{IsTrue}
 use Rattle.outside_calls.specs.Folder.{FolderState, OnlyReads, octets_at}
 use Rattle.outside_calls.proofs.Steps.{told_later, octets-kept}
-use Rattle.line_reader.specs.Cutting.{front_of, rest_of}
+use Rattle.trace_audit.specs.Cutting.{front_of, rest_of}
 use Rattle.trace_audit.specs.Differences.{is_no_feed, text_of, AreWhole, IsCut}
 use Rattle.trace_audit.specs.Compared.{Compared, IsFew}
 use Rattle.trace_audit.specs.declared.comparison.Comparison.{Comparison}

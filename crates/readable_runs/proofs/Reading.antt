@@ -25,9 +25,9 @@ use Rattle.line_run.specs.Sampled.{HeardIn, LineRun}
 use Rattle.line_run.specs.Scripted.{channel_of, link_of}
 use Rattle.line_texts.specs.FrameText.{break_in}
 use Rattle.line_texts.specs.LineText.{is_chance}
-use Rattle.line_reader.specs.Grammar.{IsBreak, count_bound}
-use Rattle.line_reader.specs.Written.{IsReadableFrame, IsReadableSent, IsReadableSignal, IsReadableHeard, IsReadable}
-use Rattle.line_reader.proofs.Written.{read-break}
+use Rattle.trace_audit.specs.Grammar.{IsBreak, count_bound}
+use Rattle.trace_audit.specs.Written.{IsReadableFrame, IsReadableSent, IsReadableSignal, IsReadableHeard, IsReadable}
+use Rattle.trace_audit.proofs.Written.{read-break}
 use Rattle.readable_runs.specs.Readable.{InOctets, IsPlain, IsPlainSent, AsksInOctets, line_of, LinesAreRead}
 use Rattle.readable_runs.proofs.Words.{Owes}
 use Rattle.readable_runs.proofs.Saying.{octet-at}

@@ -9,10 +9,10 @@ use Rattle.lapm_frames.specs.declared.heard.Heard.TheVariants.{Nothing, Passed, 
 use Rattle.link_run.specs.Run.{Side}
 use Rattle.line_texts.specs.LineText.{is_chance}
 use Rattle.line_texts.specs.declared.trace_line.TraceLine.{TraceLine}
-use Rattle.line_reader.specs.Cutting.{is_no_feed}
-use Rattle.line_reader.specs.Grammar.{HasParts}
-use Rattle.line_reader.specs.declared.line.LineText.{LineText}
-use Rattle.line_reader.specs.Written.{IsReadable, parts_of_line, text_of_line}
+use Rattle.trace_audit.specs.Cutting.{is_no_feed}
+use Rattle.trace_audit.specs.Grammar.{HasParts}
+use Rattle.trace_audit.specs.declared.line.LineText.{LineText}
+use Rattle.trace_audit.specs.Written.{IsReadable, parts_of_line, text_of_line}
 use Rattle.readable_runs.specs.Readable.{LinesAreRead, line_of}
 use Rattle.readable_runs.specs.Lines.{side_words, chance_words, AreLines, TurnsHaveLines, ChancesHaveLines}
 

@@ -1,8 +1,8 @@
 -- The lines of a text.
 use Rattle.std.proofs.Common.{◌≡◌, ◌≢◌, true, ℕ, List, [], ◌∷◌, ◌++◌, drop, refl, sym, ap, ◌∙◌, append_assoc}
 use Rattle.std.specs.List.{list_all}
-use Rattle.line_reader.specs.Cutting.{front_of, rest_of}
-use Rattle.line_reader.proofs.Fronts.{front-reads, rest-reads}
+use Rattle.trace_audit.specs.Cutting.{front_of, rest_of}
+use Rattle.trace_audit.proofs.Fronts.{front-reads, rest-reads}
 use Rattle.trace_audit.specs.Differences.{is_no_feed, text_of, AreWhole, IsCut}
 
 -- the text of lines, with the first line feed on its own

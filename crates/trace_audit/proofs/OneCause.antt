@@ -1,8 +1,8 @@
 -- A text differs from lines first in one of them, and in one part of it.
 use Rattle.std.proofs.Common.{◌≡◌, ℕ, ◌+◌, List, [], ◌∷◌, ◌++◌, length, refl, sym, ap, subst, ◌∙◌, arith, ◌⊎◌, inl, inr}
 use Rattle.std.proofs.lemmas.Bool.{cases_lt}
-use Rattle.line_reader.proofs.Lines.{one-reading}
-use Rattle.line_reader.specs.declared.line.LineText.{LineText}
+use Rattle.trace_audit.proofs.LineParts.{one-reading}
+use Rattle.trace_audit.specs.declared.line.LineText.{LineText}
 use Rattle.trace_audit.specs.Differences.{text_of, IsRead, StopsIn, PartsDiffer, ReadsDiffer, OwnDiffers, Departs, LineDiffers, RestDiffers, FirstDiffers}
 use Rattle.causes.specs.declared.audit_cause.AuditCause.{AuditCause}
 use Rattle.causes.specs.declared.audit_cause.AuditCause.TheVariants.{End, Beyond, Spelling, Turn, Role, Arrived, Sent, Break}

@@ -7,11 +7,11 @@ use Rattle.std.specs.Str.{bytes_eq}
 use Rattle.std.proofs.lemmas.Slice.Eq.{bytes_eq-Decides}
 use Rattle.std.proofs.lemmas.Bool.{and_parts, eqb-true, cases_lt}
 use Rattle.std.proofs.lemmas.List.{take_all}
-use Rattle.line_reader.specs.Cutting.{front_of, rest_of}
-use Rattle.line_reader.proofs.Fronts.{begins, front-rest, front-passes, front-reads, rest-reads}
-use Rattle.line_reader.proofs.Lines.{one-line}
-use Rattle.line_reader.specs.Grammar.{HasParts}
-use Rattle.line_reader.specs.declared.line.LineText.{LineText}
+use Rattle.trace_audit.specs.Cutting.{front_of, rest_of}
+use Rattle.trace_audit.proofs.Fronts.{begins, front-rest, front-passes, front-reads, rest-reads}
+use Rattle.trace_audit.proofs.LineParts.{one-line}
+use Rattle.trace_audit.specs.Grammar.{HasParts}
+use Rattle.trace_audit.specs.declared.line.LineText.{LineText}
 use Rattle.trace_audit.specs.Differences.{is_no_feed, fed, own_line, StopsIn, GoesOnWith, OwnDiffers, LineDiffers}
 use Rattle.causes.specs.declared.audit_cause.AuditCause.{AuditCause}
 use Rattle.causes.specs.declared.audit_cause.AuditCause.TheVariants.{End, Beyond, Spelling, Turn, Role, Arrived, Sent, Break}

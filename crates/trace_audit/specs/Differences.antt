@@ -1,12 +1,12 @@
 -- The first line in which a text differs from lines, and in what.
 use Rattle.std.specs.Prelude.{◌≡◌, ◌≢◌, true, ℕ, ◌+◌, List, [], ◌∷◌, ◌++◌, length}
 use Rattle.std.specs.List.{list_all}
-use Rattle.line_reader.specs.Cutting.{front_of, is_no_feed}
-use Rattle.line_reader.specs.Grammar.{HasParts}
-use Rattle.line_reader.specs.declared.line.LineText.{LineText}
+use Rattle.trace_audit.specs.Cutting.{front_of, is_no_feed}
+use Rattle.trace_audit.specs.Grammar.{HasParts}
+use Rattle.trace_audit.specs.declared.line.LineText.{LineText}
 use Rattle.causes.specs.declared.audit_cause.AuditCause.{AuditCause}
 use Rattle.causes.specs.declared.audit_cause.AuditCause.TheVariants.{End, Beyond, Spelling, Turn, Role, Arrived, Sent, Break}
-pub use Rattle.line_reader.specs.Cutting.{is_no_feed}
+pub use Rattle.trace_audit.specs.Cutting.{is_no_feed}
 
 -- a line with its line feed
 abbrev pub fed : List ℕ → List ℕ

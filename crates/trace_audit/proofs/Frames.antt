@@ -1,0 +1,347 @@
+-- Texts of frames, and of what is sent and heard.
+use Rattle.std.proofs.Common.{◌≡◌, ℕ, ◌+◌, ◌<◌, ◌≤◌, Bool, true, false, cond, List, ◌∷◌, ◌++◌, length, codes, decimal}
+use Rattle.std.proofs.Common.{Option, Some, None, refl, sym, ap, subst, ◌∙◌, arith, append_assoc, inl, inr, length-append}
+use Rattle.std.specs.Prelude.{IfSome}
+use Rattle.std.specs.Str.{bytes_eq}
+use Rattle.std.proofs.lemmas.Fmt.{length-decimal-le}
+use Rattle.std.proofs.lemmas.Slice.Eq.{bytes_eq-Decides}
+use Rattle.break_signals.specs.declared.word.BreakWord.{BreakWord}
+use Rattle.break_signals.specs.declared.word.BreakWord.TheVariants.{Brk, Ack}
+use Rattle.line_texts.specs.FrameText.{kind_word, poll_word, number_word}
+use Rattle.trace_audit.specs.Cutting.{behind, first_of, front_of, rest_of, is_no_space}
+use Rattle.trace_audit.specs.Pieces.{behind_shape, behind_frame, behind_signal, behind_lost, behind_heard, behind_sent}
+use Rattle.trace_audit.specs.Grammar.{Shape, Numbered, Supervisory, Commanding, Responding, Rejecting, Exchanging, Unnumbered, count_bound, shape_named}
+use Rattle.trace_audit.specs.Grammar.{FrameWords, AreInRange, IsBreak, count_word, information_word, shape_text, IsFrameText, IsSignal, odp, adp, frame}
+use Rattle.trace_audit.specs.Grammar.{IsHeard, nothing, lost, passed, IsSent, mark, flags, none, signal}
+use Rattle.trace_audit.proofs.Fronts.{chained, either, behind-is, front-rest}
+use Rattle.trace_audit.proofs.Shapes.{Stops, shape-reads, shape-is}
+
+-- ---- names
+
+pub same-bytes : (a b : List ℕ) → bytes_eq a b ≡ true → a ≡ b
+same-bytes a b e = (bytes_eq-Decides a b).0 e
+
+step : {P : Type 0} (b : Bool) (s shape : Shape) (rest : Option Shape) → cond b (Some s) rest ≡ Some shape → (b ≡ true → s ≡ shape → P)
+    → (rest ≡ Some shape → P) → P
+step true s shape rest e f g = f refl cc
+step false s shape rest e f g = g e
+
+named : (P : List ℕ → Shape → Type 0) (name label : List ℕ) (s shape : Shape) → P label s → bytes_eq name label ≡ true → s ≡ shape → P name shape
+named P name label s shape p e f = subst (λ n. P n shape) (sym (same-bytes name label e)) (subst (P label) f p)
+
+-- what holds of each name with its shape
+pub at-names : (P : List ℕ → Shape → Type 0)
+    → P (codes "i") Numbered
+    → P (codes "rr") Supervisory
+    → P (codes "rnr") Supervisory
+    → P (codes "rej") Supervisory
+    → P (codes "srej") Supervisory
+    → P (codes "sabme") Commanding
+    → P (codes "disc") Commanding
+    → P (codes "ua") Responding
+    → P (codes "dm") Responding
+    → P (codes "frmr") Rejecting
+    → P (codes "xid") Exchanging
+    → P (codes "test") Exchanging
+    → P (codes "ui") Unnumbered
+    → (name : List ℕ) (shape : Shape) → shape_named name ≡ Some shape → P name shape
+at-names P p0 p1 p2 p3 p4 p5 p6 p7 p8 p9 p10 p11 p12 name shape e =
+    step (bytes_eq name (codes "i")) Numbered shape (cond (bytes_eq name (codes "rr")) (Some Supervisory) (cond (bytes_eq name (codes "rnr")) (Some Supervisory) (cond (bytes_eq name (codes "rej")) (Some Supervisory) (cond (bytes_eq name (codes "srej")) (Some Supervisory) (cond (bytes_eq name (codes "sabme")) (Some Commanding) (cond (bytes_eq name (codes "disc")) (Some Commanding) (cond (bytes_eq name (codes "ua")) (Some Responding) (cond (bytes_eq name (codes "dm")) (Some Responding) (cond (bytes_eq name (codes "frmr")) (Some Rejecting) (cond (bytes_eq name (codes "xid")) (Some Exchanging) (cond (bytes_eq name (codes "test")) (Some Exchanging) (cond (bytes_eq name (codes "ui")) (Some Unnumbered) None)))))))))))) e (named P name (codes "i") Numbered shape p0) (λ e1.
+    step (bytes_eq name (codes "rr")) Supervisory shape (cond (bytes_eq name (codes "rnr")) (Some Supervisory) (cond (bytes_eq name (codes "rej")) (Some Supervisory) (cond (bytes_eq name (codes "srej")) (Some Supervisory) (cond (bytes_eq name (codes "sabme")) (Some Commanding) (cond (bytes_eq name (codes "disc")) (Some Commanding) (cond (bytes_eq name (codes "ua")) (Some Responding) (cond (bytes_eq name (codes "dm")) (Some Responding) (cond (bytes_eq name (codes "frmr")) (Some Rejecting) (cond (bytes_eq name (codes "xid")) (Some Exchanging) (cond (bytes_eq name (codes "test")) (Some Exchanging) (cond (bytes_eq name (codes "ui")) (Some Unnumbered) None))))))))))) e1 (named P name (codes "rr") Supervisory shape p1) (λ e2.
+    step (bytes_eq name (codes "rnr")) Supervisory shape (cond (bytes_eq name (codes "rej")) (Some Supervisory) (cond (bytes_eq name (codes "srej")) (Some Supervisory) (cond (bytes_eq name (codes "sabme")) (Some Commanding) (cond (bytes_eq name (codes "disc")) (Some Commanding) (cond (bytes_eq name (codes "ua")) (Some Responding) (cond (bytes_eq name (codes "dm")) (Some Responding) (cond (bytes_eq name (codes "frmr")) (Some Rejecting) (cond (bytes_eq name (codes "xid")) (Some Exchanging) (cond (bytes_eq name (codes "test")) (Some Exchanging) (cond (bytes_eq name (codes "ui")) (Some Unnumbered) None)))))))))) e2 (named P name (codes "rnr") Supervisory shape p2) (λ e3.
+    step (bytes_eq name (codes "rej")) Supervisory shape (cond (bytes_eq name (codes "srej")) (Some Supervisory) (cond (bytes_eq name (codes "sabme")) (Some Commanding) (cond (bytes_eq name (codes "disc")) (Some Commanding) (cond (bytes_eq name (codes "ua")) (Some Responding) (cond (bytes_eq name (codes "dm")) (Some Responding) (cond (bytes_eq name (codes "frmr")) (Some Rejecting) (cond (bytes_eq name (codes "xid")) (Some Exchanging) (cond (bytes_eq name (codes "test")) (Some Exchanging) (cond (bytes_eq name (codes "ui")) (Some Unnumbered) None))))))))) e3 (named P name (codes "rej") Supervisory shape p3) (λ e4.
+    step (bytes_eq name (codes "srej")) Supervisory shape (cond (bytes_eq name (codes "sabme")) (Some Commanding) (cond (bytes_eq name (codes "disc")) (Some Commanding) (cond (bytes_eq name (codes "ua")) (Some Responding) (cond (bytes_eq name (codes "dm")) (Some Responding) (cond (bytes_eq name (codes "frmr")) (Some Rejecting) (cond (bytes_eq name (codes "xid")) (Some Exchanging) (cond (bytes_eq name (codes "test")) (Some Exchanging) (cond (bytes_eq name (codes "ui")) (Some Unnumbered) None)))))))) e4 (named P name (codes "srej") Supervisory shape p4) (λ e5.
+    step (bytes_eq name (codes "sabme")) Commanding shape (cond (bytes_eq name (codes "disc")) (Some Commanding) (cond (bytes_eq name (codes "ua")) (Some Responding) (cond (bytes_eq name (codes "dm")) (Some Responding) (cond (bytes_eq name (codes "frmr")) (Some Rejecting) (cond (bytes_eq name (codes "xid")) (Some Exchanging) (cond (bytes_eq name (codes "test")) (Some Exchanging) (cond (bytes_eq name (codes "ui")) (Some Unnumbered) None))))))) e5 (named P name (codes "sabme") Commanding shape p5) (λ e6.
+    step (bytes_eq name (codes "disc")) Commanding shape (cond (bytes_eq name (codes "ua")) (Some Responding) (cond (bytes_eq name (codes "dm")) (Some Responding) (cond (bytes_eq name (codes "frmr")) (Some Rejecting) (cond (bytes_eq name (codes "xid")) (Some Exchanging) (cond (bytes_eq name (codes "test")) (Some Exchanging) (cond (bytes_eq name (codes "ui")) (Some Unnumbered) None)))))) e6 (named P name (codes "disc") Commanding shape p6) (λ e7.
+    step (bytes_eq name (codes "ua")) Responding shape (cond (bytes_eq name (codes "dm")) (Some Responding) (cond (bytes_eq name (codes "frmr")) (Some Rejecting) (cond (bytes_eq name (codes "xid")) (Some Exchanging) (cond (bytes_eq name (codes "test")) (Some Exchanging) (cond (bytes_eq name (codes "ui")) (Some Unnumbered) None))))) e7 (named P name (codes "ua") Responding shape p7) (λ e8.
+    step (bytes_eq name (codes "dm")) Responding shape (cond (bytes_eq name (codes "frmr")) (Some Rejecting) (cond (bytes_eq name (codes "xid")) (Some Exchanging) (cond (bytes_eq name (codes "test")) (Some Exchanging) (cond (bytes_eq name (codes "ui")) (Some Unnumbered) None)))) e8 (named P name (codes "dm") Responding shape p8) (λ e9.
+    step (bytes_eq name (codes "frmr")) Rejecting shape (cond (bytes_eq name (codes "xid")) (Some Exchanging) (cond (bytes_eq name (codes "test")) (Some Exchanging) (cond (bytes_eq name (codes "ui")) (Some Unnumbered) None))) e9 (named P name (codes "frmr") Rejecting shape p9) (λ e10.
+    step (bytes_eq name (codes "xid")) Exchanging shape (cond (bytes_eq name (codes "test")) (Some Exchanging) (cond (bytes_eq name (codes "ui")) (Some Unnumbered) None)) e10 (named P name (codes "xid") Exchanging shape p10) (λ e11.
+    step (bytes_eq name (codes "test")) Exchanging shape (cond (bytes_eq name (codes "ui")) (Some Unnumbered) None) e11 (named P name (codes "test") Exchanging shape p11) (λ e12.
+    step (bytes_eq name (codes "ui")) Unnumbered shape None e12 (named P name (codes "ui") Unnumbered shape p12) (λ e13.
+    absurd cc)))))))))))))
+
+-- a name begins nothing but a frame
+abbrev BeginsFrame : List ℕ → Shape → Type 0
+BeginsFrame name shape = (text : List ℕ)
+    → (behind_frame (name ++ 32 ∷ text) ≡ behind_shape shape (32 ∷ text)) × (behind_signal (name ++ 32 ∷ text) ≡ behind_frame (name ++ 32 ∷ text))
+    × (behind_heard (name ++ 32 ∷ text) ≡ behind_frame (name ++ 32 ∷ text)) × (behind_sent (name ++ 32 ∷ text) ≡ behind_frame (name ++ 32 ∷ text))
+
+begins-frame : (name : List ℕ) (shape : Shape) → shape_named name ≡ Some shape → BeginsFrame name shape
+begins-frame =
+    at-names BeginsFrame
+    (λ text. (refl, refl, refl, refl))
+    (λ text. (refl, refl, refl, refl))
+    (λ text. (refl, refl, refl, refl))
+    (λ text. (refl, refl, refl, refl))
+    (λ text. (refl, refl, refl, refl))
+    (λ text. (refl, refl, refl, refl))
+    (λ text. (refl, refl, refl, refl))
+    (λ text. (refl, refl, refl, refl))
+    (λ text. (refl, refl, refl, refl))
+    (λ text. (refl, refl, refl, refl))
+    (λ text. (refl, refl, refl, refl))
+    (λ text. (refl, refl, refl, refl))
+    (λ text. (refl, refl, refl, refl))
+
+abbrev IsShortName : List ℕ → Shape → Type 0
+IsShortName name shape = (length name ≤ 5) × (1 ≤ length name)
+
+short-name : (name : List ℕ) (shape : Shape) → shape_named name ≡ Some shape → IsShortName name shape
+short-name =
+    at-names IsShortName
+    (omega arith, omega arith)
+    (omega arith, omega arith)
+    (omega arith, omega arith)
+    (omega arith, omega arith)
+    (omega arith, omega arith)
+    (omega arith, omega arith)
+    (omega arith, omega arith)
+    (omega arith, omega arith)
+    (omega arith, omega arith)
+    (omega arith, omega arith)
+    (omega arith, omega arith)
+    (omega arith, omega arith)
+    (omega arith, omega arith)
+
+-- ---- frames
+
+-- what stands behind the name begins with a space
+spaced : (shape : Shape) (w : FrameWords) (rest : List ℕ) → (text : List ℕ) × (shape_text shape w ++ rest ≡ 32 ∷ text)
+spaced Numbered w rest = (_, refl)
+spaced Supervisory w rest = go w.command
+  where
+    go : (command : Bool) → (text : List ℕ) × ((kind_word command ++ (number_word (codes " r=") w.nr ++ poll_word w.pf)) ++ rest ≡ 32 ∷ text)
+    go true = (_, refl)
+    go false = (_, refl)
+spaced Commanding w rest = (_, refl)
+spaced Responding w rest = (_, refl)
+spaced Rejecting w rest = (_, refl)
+spaced Exchanging w rest = go w.command
+  where
+    go : (command : Bool) → (text : List ℕ) × ((kind_word command ++ (poll_word w.pf ++ count_word w.count)) ++ rest ≡ 32 ∷ text)
+    go true = (_, refl)
+    go false = (_, refl)
+spaced Unnumbered w rest = go w.command
+  where
+    go : (command : Bool) → (text : List ℕ) × ((kind_word command ++ (poll_word w.pf ++ information_word w.word w.count)) ++ rest ≡ 32 ∷ text)
+    go true = (_, refl)
+    go false = (_, refl)
+
+-- how a frame's text is read, by each reader that reads frames
+pub record FrameReads (text rest : List ℕ) : Type 0 where
+  pub frame : behind_frame (text ++ rest) ≡ Some rest
+  pub signal : behind_signal (text ++ rest) ≡ Some rest
+  pub heard : behind_heard (text ++ rest) ≡ Some rest
+  pub sent : behind_sent (text ++ rest) ≡ Some rest
+
+frame-reads : (text rest : List ℕ) → IsFrameText text → Stops rest → FrameReads text rest
+frame-reads text rest f s =
+    let w = f.words in
+    let cut = spaced f.shape w rest in
+    let whole : text ++ rest ≡ w.name ++ 32 ∷ cut.0 =
+    ap (λ t. t ++ rest) f.text_is ∙ append_assoc w.name (shape_text f.shape w) rest ∙ ap (λ t. w.name ++ t) cut.1 in
+    let b = begins-frame w.name f.shape f.named cut.0 in
+    let reads : behind_frame (w.name ++ 32 ∷ cut.0) ≡ Some rest =
+    b.0 ∙ ap (behind_shape f.shape) (sym cut.1) ∙ shape-reads f.shape w rest f.ranges s in
+    record {
+      frame = ap behind_frame whole ∙ reads;
+      signal = ap behind_signal whole ∙ b.1 ∙ reads;
+      heard = ap behind_heard whole ∙ b.2 ∙ reads;
+      sent = ap behind_sent whole ∙ b.3 ∙ reads;
+    }
+
+-- what is read as a frame is one
+abbrev pub Found : (List ℕ → Type 0) → List ℕ → List ℕ → Type 0
+Found P text rest = (front : List ℕ) × P front × (text ≡ front ++ rest)
+
+renamed : (shape : Shape) (name : List ℕ) (w : FrameWords) → shape_text shape (record w { name = name }) ≡ shape_text shape w
+renamed Numbered name w = refl
+renamed Supervisory name w = refl
+renamed Commanding name w = refl
+renamed Responding name w = refl
+renamed Rejecting name w = refl
+renamed Exchanging name w = refl
+renamed Unnumbered name w = refl
+
+frame-is : (text rest : List ℕ) → behind_frame text ≡ Some rest → Found IsFrameText text rest
+frame-is text rest e =
+    let name = front_of is_no_space text in
+    let c = chained (λ shape. behind_shape shape (rest_of is_no_space text)) (shape_named name) rest e in
+    let p = shape-is c.0 (rest_of is_no_space text) rest c.2 in
+    let w = record p.0 { name = name } in
+    let frame_text : IsFrameText (name ++ shape_text c.0 w) = record {
+      words = w;
+      shape = c.0;
+      named = c.1;
+      ranges = record { ns = p.1.ns; nr = p.1.nr; count = p.1.count; word = p.1.word };
+      text_is = refl;
+    } in (
+      name ++ shape_text c.0 w,
+      frame_text,
+      sym (front-rest is_no_space text)
+          ∙ ap (λ t. name ++ t) (p.2 ∙ ap (λ t. t ++ rest) (sym (renamed c.0 name p.0)))
+          ∙ sym (append_assoc name (shape_text c.0 w) rest),
+    )
+
+-- ---- signals
+
+pub signal-reads : (text rest : List ℕ) → IsSignal text → Stops rest → behind_signal (text ++ rest) ≡ Some rest
+signal-reads text rest (odp e) s = ap (λ t. behind_signal (t ++ rest)) e
+signal-reads text rest (adp e) s = ap (λ t. behind_signal (t ++ rest)) e
+signal-reads text rest (frame f) s = (frame-reads text rest f s).signal
+
+signal-is : (text rest : List ℕ) → behind_signal text ≡ Some rest → Found IsSignal text rest
+signal-is text rest e = elim (either (behind (codes "odp") text) (first_of (behind (codes "adp") text) (behind_frame text)) rest e) [
+  | inl a ↦ (codes "odp", odp refl, behind-is (codes "odp") text rest a)
+  | inr b ↦ elim (either (behind (codes "adp") text) (behind_frame text) rest b) [
+    | inl a ↦ (codes "adp", adp refl, behind-is (codes "adp") text rest a)
+    | inr c ↦ let p = frame-is text rest c in (p.0, frame p.1, p.2)
+  ]
+]
+
+-- ---- what arrives
+
+heard-signal : (text rest : List ℕ) → IsSignal text → Stops rest → behind_heard (text ++ rest) ≡ Some rest
+heard-signal text rest (odp e) s = ap (λ t. behind_heard (t ++ rest)) e
+heard-signal text rest (adp e) s = ap (λ t. behind_heard (t ++ rest)) e
+heard-signal text rest (frame f) s = (frame-reads text rest f s).heard
+
+pub heard-reads : (text rest : List ℕ) → IsHeard text → Stops rest → behind_heard (text ++ rest) ≡ Some rest
+heard-reads text rest (nothing e) s = ap (λ t. behind_heard (t ++ rest)) e
+heard-reads text rest (lost front f e) s =
+    ap (λ t. behind_heard (t ++ rest)) e
+    ∙ ap (λ o. first_of o (behind_signal ((codes "lost " ++ front) ++ rest))) (signal-reads front rest f s)
+heard-reads text rest (passed f) s = heard-signal text rest f s
+
+pub heard-is : (text rest : List ℕ) → behind_heard text ≡ Some rest → Found IsHeard text rest
+heard-is text rest e = elim (either (behind (codes "-") text) (first_of (behind_lost text) (behind_signal text)) rest e) [
+  | inl a ↦ (codes "-", nothing refl, behind-is (codes "-") text rest a)
+  | inr b ↦ elim (either (behind_lost text) (behind_signal text) rest b) [
+    | inl a ↦
+        let c = chained behind_signal (behind (codes "lost ") text) rest a in
+        let p = signal-is c.0 rest c.2 in (
+          codes "lost " ++ p.0,
+          lost p.0 p.1 refl,
+          behind-is (codes "lost ") text c.0 c.1 ∙ ap (λ t. codes "lost " ++ t) p.2 ∙ sym (append_assoc (codes "lost ") p.0 rest),
+        )
+    | inr c ↦ let p = signal-is text rest c in (p.0, passed p.1, p.2)
+  ]
+]
+
+-- ---- what is sent
+
+sent-signal : (text rest : List ℕ) → IsSignal text → Stops rest → behind_sent (text ++ rest) ≡ Some rest
+sent-signal text rest (odp e) s = ap (λ t. behind_sent (t ++ rest)) e
+sent-signal text rest (adp e) s = ap (λ t. behind_sent (t ++ rest)) e
+sent-signal text rest (frame f) s = (frame-reads text rest f s).sent
+
+pub sent-reads : (text rest : List ℕ) → IsSent text → Stops rest → behind_sent (text ++ rest) ≡ Some rest
+sent-reads text rest (mark e) s = ap (λ t. behind_sent (t ++ rest)) e
+sent-reads text rest (flags e) s = ap (λ t. behind_sent (t ++ rest)) e
+sent-reads text rest (none e) s = ap (λ t. behind_sent (t ++ rest)) e
+sent-reads text rest (signal f) s = sent-signal text rest f s
+
+pub sent-is : (text rest : List ℕ) → behind_sent text ≡ Some rest → Found IsSent text rest
+sent-is text rest e =
+    elim (either (behind (codes "mark") text) (first_of (behind (codes "flags") text) (first_of (behind (codes "none") text) (behind_signal text))) rest e) [
+      | inl a ↦ (codes "mark", mark refl, behind-is (codes "mark") text rest a)
+      | inr b ↦ elim (either (behind (codes "flags") text) (first_of (behind (codes "none") text) (behind_signal text)) rest b) [
+        | inl a ↦ (codes "flags", flags refl, behind-is (codes "flags") text rest a)
+        | inr c ↦ elim (either (behind (codes "none") text) (behind_signal text) rest c) [
+          | inl a ↦ (codes "none", none refl, behind-is (codes "none") text rest a)
+          | inr d ↦ let p = signal-is text rest d in (p.0, signal p.1, p.2)
+        ]
+      ]
+    ]
+
+-- ---- lengths
+
+length-kind : (command : Bool) → length (kind_word command) ≤ 4
+length-kind true = omega arith
+length-kind false = omega arith
+
+length-poll : (pf : Bool) → length (poll_word pf) ≤ 4
+length-poll true = omega arith
+length-poll false = omega arith
+
+length-number : (label : List ℕ) (n : ℕ) → n < count_bound → length (number_word label n) ≤ length label + 13
+length-number label n h = omega (
+  arith,
+  length-append {A = ℕ} label (decimal n),
+  length-decimal-le 13 n (omega arith) (omega (arith, h)) (omega (arith, h)),
+)
+
+length-break : (label : List ℕ) (number units : ℕ) → number < 2 → units < 256 → length label ≤ 8
+    → length (number_word label number ++ number_word (codes " ") units) ≤ 35
+length-break label number units h k l = omega (
+  arith,
+  length-append {A = ℕ} (number_word label number) (number_word (codes " ") units),
+  length-number label number (omega (arith, h)),
+  length-number (codes " ") units (omega (arith, k)),
+)
+
+length-information : (word : Option BreakWord) (n : ℕ) → IfSome word IsBreak → n < count_bound → length (information_word word n) ≤ 35
+length-information None n w h = omega (arith, length-number (codes " n=") n h)
+length-information (Some (Brk number units)) n w h = length-break (codes " brk ") number units w.0 w.1 (omega arith)
+length-information (Some (Ack number units)) n w h = length-break (codes " brkack ") number units w.0 w.1 (omega arith)
+
+two : (a b : List ℕ) (m n : ℕ) → length a ≤ m → length b ≤ n → length (a ++ b) ≤ m + n
+two a b m n h k = omega (arith, length-append {A = ℕ} a b)
+
+length-shape : (shape : Shape) (w : FrameWords) → AreInRange w → length (shape_text shape w) ≤ 52
+length-shape Numbered w r =
+    two (number_word (codes " s=") w.ns) (number_word (codes " r=") w.nr ++ (poll_word w.pf ++ count_word w.count)) 16 36
+    (length-number (codes " s=") w.ns (omega (arith, r.ns)))
+    (two (number_word (codes " r=") w.nr) (poll_word w.pf ++ count_word w.count) 16 20 (length-number (codes " r=") w.nr (omega (arith, r.nr)))
+    (two (poll_word w.pf) (count_word w.count) 4 16 (length-poll w.pf) (length-number (codes " n=") w.count r.count)))
+length-shape Supervisory w r =
+    let l = two (kind_word w.command) (number_word (codes " r=") w.nr ++ poll_word w.pf) 4 20 (length-kind w.command)
+    (two (number_word (codes " r=") w.nr) (poll_word w.pf) 16 4 (length-number (codes " r=") w.nr (omega (arith, r.nr))) (length-poll w.pf)) in
+    omega (arith, l)
+length-shape Commanding w r = let l = two (kind_word true) (poll_word w.pf) 4 4 (length-kind true) (length-poll w.pf) in omega (arith, l)
+length-shape Responding w r = let l = two (kind_word false) (poll_word w.pf) 4 4 (length-kind false) (length-poll w.pf) in omega (arith, l)
+length-shape Rejecting w r =
+    let l = two (kind_word false) (poll_word w.pf ++ count_word w.count) 4 20 (length-kind false)
+    (two (poll_word w.pf) (count_word w.count) 4 16 (length-poll w.pf) (length-number (codes " n=") w.count r.count)) in
+    omega (arith, l)
+length-shape Exchanging w r =
+    let l = two (kind_word w.command) (poll_word w.pf ++ count_word w.count) 4 20 (length-kind w.command)
+    (two (poll_word w.pf) (count_word w.count) 4 16 (length-poll w.pf) (length-number (codes " n=") w.count r.count)) in
+    omega (arith, l)
+length-shape Unnumbered w r =
+    let l = two (kind_word w.command) (poll_word w.pf ++ information_word w.word w.count) 4 39 (length-kind w.command)
+    (two (poll_word w.pf) (information_word w.word w.count) 4 35 (length-poll w.pf) (length-information w.word w.count r.word r.count)) in
+    omega (arith, l)
+
+-- a text has an octet, and not many
+abbrev IsShort : ℕ → List ℕ → Type 0
+IsShort most text = (1 ≤ length text) × (length text ≤ most)
+
+literal : (text word : List ℕ) (most : ℕ) → text ≡ word → IsShort most word → IsShort most text
+literal text word most e h = subst (IsShort most) (sym e) h
+
+frame-short : (text : List ℕ) → IsFrameText text → IsShort 57 text
+frame-short text f =
+    let n = short-name f.words.name f.shape f.named in
+    let a = length-append {A = ℕ} f.words.name (shape_text f.shape f.words) in
+    let l = length-shape f.shape f.words f.ranges in
+    literal text (f.words.name ++ shape_text f.shape f.words) 57 f.text_is (omega (arith, n.1, a), omega (arith, n.0, a, l))
+
+signal-short : (text : List ℕ) → IsSignal text → IsShort 57 text
+signal-short text (odp e) = literal text (codes "odp") 57 e (omega arith, omega arith)
+signal-short text (adp e) = literal text (codes "adp") 57 e (omega arith, omega arith)
+signal-short text (frame f) = frame-short text f
+
+pub heard-short : (text : List ℕ) → IsHeard text → IsShort 62 text
+heard-short text (nothing e) = literal text (codes "-") 62 e (omega arith, omega arith)
+heard-short text (lost front f e) =
+    let s = signal-short front f in
+    literal text (codes "lost " ++ front) 62 e (omega (arith, length-append {A = ℕ} (codes "lost ") front), omega (arith, s.1, length-append {A = ℕ} (codes "lost ") front))
+heard-short text (passed f) = let s = signal-short text f in (s.0, omega (arith, s.1))
+
+pub sent-short : (text : List ℕ) → IsSent text → IsShort 57 text
+sent-short text (mark e) = literal text (codes "mark") 57 e (omega arith, omega arith)
+sent-short text (flags e) = literal text (codes "flags") 57 e (omega arith, omega arith)
+sent-short text (none e) = literal text (codes "none") 57 e (omega arith, omega arith)
+sent-short text (signal f) = signal-short text f

@@ -1,0 +1,150 @@
+-- Numbers in decimal digits without leading zeros.
+use Rattle.std.proofs.Common.{◌≡◌, ℕ, zero, suc, ◌^◌, ◌<◌, ◌≤◌, Bool, true, false, not, ◌&&◌, cond, eqb, List, [], ◌∷◌, ◌++◌, length, get_or}
+use Rattle.std.proofs.Common.{Some, None, refl, sym, ap, subst, ◌∙◌, arith, append_assoc}
+use Rattle.std.specs.Prelude.{decimal, nat_le, nat_lt}
+use Rattle.std.specs.List.{list_all}
+use Rattle.std.specs.Option.{option_map, option_and_then}
+use Rattle.std.proofs.lemmas.Bool.{and_parts}
+use Rattle.std.proofs.lemmas.Bool.Decides.{nat_tests}
+use Rattle.std.proofs.lemmas.Fmt.{decimal_nonempty, digits_decimal, digits_value-decimal, decimal-digits_value, length-decimal-le, first_decimal, decimal_digit}
+use Rattle.std.proofs.lemmas.Str.Parse.{IsDigitsTest, IsNumeralModel, numerals_by_weight}
+use Rattle.noise_script.specs.Numbers.{is_digit, is_number, value_of, leads_well, plain_number}
+use Rattle.trace_audit.specs.Cutting.{behind, front_of, rest_of, if_below, number_at, behind_number, behind_labelled}
+use Rattle.trace_audit.proofs.Fronts.{chained, mapped, behind-reads, behind-is, begins, front-rest, front-reads, rest-reads, join2}
+
+abbrev AllDigits : List ℕ → Type 0
+AllDigits word = list_all is_digit word ≡ true
+
+at-most : (a b : ℕ) → nat_le a b ≡ true → a ≤ b
+at-most a b e = grind (arith, nat_tests, e)
+
+is-most : (a b : ℕ) → a ≤ b → nat_le a b ≡ true
+is-most a b l = grind (arith, nat_tests, l)
+
+both : (a b : Bool) → a ≡ true → b ≡ true → (a && b) ≡ true
+both a b e f = rw (e, f) refl
+
+tells : IsDigitsTest AllDigits
+tells = record {
+  empty = refl;
+  parts = λ c cs e. let p = and_parts (is_digit c) (list_all is_digit cs) e in let q = and_parts (nat_le 48 c) (nat_le c 57) p.0 in
+      ((at-most 48 c q.0, at-most c 57 q.1), p.1);
+  more = λ c cs k e. both (is_digit c) (list_all is_digit cs) (both (nat_le 48 c) (nat_le c 57) (is-most 48 c k.0) (is-most c 57 k.1)) e;
+}
+
+numerals : IsNumeralModel AllDigits value_of
+numerals = numerals_by_weight AllDigits tells value_of (record { empty = refl; more = λ c cs k. refl })
+
+abbrev IsSmall : ℕ → Type 0
+IsSmall n = n < 2 ^ 64
+
+is-number : (n : ℕ) → IsSmall n → is_number (decimal n) ≡ true
+is-number n h =
+    both (nat_le 1 (length (decimal n))) (nat_le (length (decimal n)) 20 && list_all is_digit (decimal n))
+    (is-most 1 (length (decimal n)) (decimal_nonempty n h))
+    (both (nat_le (length (decimal n)) 20) (list_all is_digit (decimal n))
+    (is-most (length (decimal n)) 20 (length-decimal-le 20 n (omega arith) (omega (arith, h)) h)) (digits_decimal numerals n h))
+
+-- a zero leads no other digit
+no-zero : (word : List ℕ) → 48 < get_or word 0 0 → leads_well word ≡ true
+no-zero [] h = refl
+no-zero (x ∷ word) h = let e : eqb x 48 ≡ false = grind (arith, nat_tests, h) in go (nat_le 2 (length (x ∷ word))) (eqb x 48) e
+  where
+    go : (a b : Bool) → b ≡ false → not (a && b) ≡ true
+    go true b e = rw e refl
+    go false b e = refl
+
+alone : (word : List ℕ) → length word ≤ 1 → leads_well word ≡ true
+alone word h = let e : nat_le 2 (length word) ≡ false = grind (arith, nat_tests, h) in rw e refl
+
+leads : (n : ℕ) → IsSmall n → leads_well (decimal n) ≡ true
+leads zero h = alone (decimal 0) (omega (arith, ap (λ (l : List ℕ). length l) (decimal_digit 0 (omega arith))))
+leads (suc n) h = no-zero (decimal (suc n)) (first_decimal (suc n) (omega arith) h)
+
+below-is : (n m : ℕ) → n < m → nat_lt n m ≡ true
+below-is n m h = grind (arith, nat_tests, h)
+
+pub plain-reads : (n : ℕ) → IsSmall n → plain_number (decimal n) ≡ Some n
+plain-reads n h =
+    let v : value_of (decimal n) ≡ n = digits_value-decimal numerals n h in
+    rw (is-number n h, leads n h, v, below-is n (2 ^ 64) h) refl
+
+-- the tests of a word, where all pass
+tested : (a b c : Bool) (v n : ℕ) → cond (a && (b && c)) (Some v) None ≡ Some n → (a ≡ true) × (b ≡ true) × (c ≡ true) × (v ≡ n)
+tested true true true v n e = (refl, refl, refl, cc)
+tested true true false v n e = absurd cc
+tested true false c v n e = absurd cc
+tested false b c v n e = absurd cc
+
+led : (word : List ℕ) → leads_well word ≡ true → 0 < length word → get_or word 0 0 ≡ 48 → length word ≡ 1
+led [] l h z = omega (arith, h)
+led (x ∷ []) l h z = refl
+led (x ∷ y ∷ word) l h z = absurd (go (eqb x 48) (grind (arith, nat_tests, z)) (nat_le 2 (length (x ∷ y ∷ word))) (is-most 2 (length (x ∷ y ∷ word)) (omega arith)) l)
+  where
+    go : (b : Bool) → b ≡ true → (a : Bool) → a ≡ true → not (a && b) ≡ true → ⊥
+    go true e true f l = cc
+    go true e false f l = cc
+    go false e a f l = cc
+
+pub plain-is : (word : List ℕ) (n : ℕ) → plain_number word ≡ Some n → word ≡ decimal n
+plain-is word n e =
+    let t = tested (is_number word) (nat_lt (value_of word) (2 ^ 64)) (leads_well word) (value_of word) n e in
+    let p = and_parts (nat_le 1 (length word)) (nat_le (length word) 20 && list_all is_digit word) t.0 in
+    let q = and_parts (nat_le (length word) 20) (list_all is_digit word) p.1 in
+    let some : 0 < length word = omega (arith, at-most 1 (length word) p.0) in
+    let small : value_of word < 2 ^ 64 = grind (arith, nat_tests, t.1) in
+    sym (decimal-digits_value numerals word q.1 some (led word t.2 some) small) ∙ ap decimal t.3
+
+bounded : (n bound m : ℕ) → if_below bound n ≡ Some m → (n ≡ m) × (m < bound)
+bounded n bound m e = go (nat_lt n bound) refl e
+  where
+    go : (b : Bool) → nat_lt n bound ≡ b → cond b (Some n) None ≡ Some m → (n ≡ m) × (m < bound)
+    go true t e = let s : n ≡ m = cc in (s, grind (arith, nat_tests, t, s))
+    go false t e = absurd cc
+
+-- ---- at the front of a text
+
+pub number-reads : (bound n : ℕ) (rest : List ℕ) → n < bound → bound ≤ 2 ^ 64 → begins is_digit rest ≡ false
+    → number_at bound (decimal n ++ rest) ≡ Some (n, rest)
+number-reads bound n rest h fits stops =
+    let small : IsSmall n = omega (arith, h, fits) in
+    let digits : list_all is_digit (decimal n) ≡ true = digits_decimal numerals n small in
+    rw (front-reads is_digit (decimal n) rest digits stops, rest-reads is_digit (decimal n) rest digits stops, plain-reads n small, below-is n bound h) refl
+
+pub number-is : (bound : ℕ) (text : List ℕ) (n : ℕ) (rest : List ℕ) → number_at bound text ≡ Some (n, rest)
+    → (n < bound) × (text ≡ decimal n ++ rest)
+number-is bound text n rest e =
+    let m = mapped (λ (n : ℕ). (n, rest_of is_digit text)) (option_and_then (if_below bound) (plain_number (front_of is_digit text))) (n, rest) e in
+    let c = chained (if_below bound) (plain_number (front_of is_digit text)) m.0 m.1 in
+    let b = bounded c.0 bound m.0 c.2 in
+    let front : front_of is_digit text ≡ decimal c.0 = plain-is (front_of is_digit text) c.0 c.1 in
+    let is_n : m.0 ≡ n = ap (λ (p : ℕ × List ℕ). p.0) m.2 in
+    let is_rest : rest_of is_digit text ≡ rest = ap (λ (p : ℕ × List ℕ). p.1) m.2 in (
+      subst (λ k. k < bound) is_n b.1,
+      sym (front-rest is_digit text) ∙ ap (λ l. l ++ rest_of is_digit text) (front ∙ ap decimal (b.0 ∙ is_n)) ∙ ap (λ l. decimal n ++ l) is_rest,
+    )
+
+pub behind-number-reads : (bound n : ℕ) (rest : List ℕ) → n < bound → bound ≤ 2 ^ 64 → begins is_digit rest ≡ false
+    → behind_number bound (decimal n ++ rest) ≡ Some rest
+behind-number-reads bound n rest h fits stops = ap (option_map (λ (r : ℕ × List ℕ). r.1)) (number-reads bound n rest h fits stops)
+
+pub behind-number-is : (bound : ℕ) (text rest : List ℕ) → behind_number bound text ≡ Some rest
+    → (n : ℕ) × (n < bound) × (text ≡ decimal n ++ rest)
+behind-number-is bound text rest e =
+    let m = mapped (λ (r : ℕ × List ℕ). r.1) (number_at bound text) rest e in
+    let p = number-is bound text m.0.0 m.0.1 m.1 in
+    (m.0.0, p.0, p.1 ∙ ap (λ l. decimal m.0.0 ++ l) m.2)
+
+-- behind a label
+pub labelled-reads : (label : List ℕ) (bound n : ℕ) (rest : List ℕ) → n < bound → bound ≤ 2 ^ 64 → begins is_digit rest ≡ false
+    → behind_labelled label bound ((label ++ decimal n) ++ rest) ≡ Some rest
+labelled-reads label bound n rest h fits stops =
+    ap (λ t. option_and_then (behind_number bound) (behind label t)) (append_assoc label (decimal n) rest)
+    ∙ ap (option_and_then (behind_number bound)) (behind-reads label (decimal n ++ rest)) ∙ behind-number-reads bound n rest h fits stops
+
+pub labelled-is : (label : List ℕ) (bound : ℕ) (text rest : List ℕ) → behind_labelled label bound text ≡ Some rest
+    → (n : ℕ) × (n < bound) × (text ≡ (label ++ decimal n) ++ rest)
+labelled-is label bound text rest e =
+    let c = chained (behind_number bound) (behind label text) rest e in
+    let p = behind-number-is bound c.0 rest c.2 in
+    (p.0, p.1, join2 text label c.0 (decimal p.0) rest (behind-is label text c.0 c.1) p.2)

@@ -1,0 +1,165 @@
+-- No line feed stands in a line that is read.
+use Rattle.std.proofs.Common.{◌≡◌, ℕ, ◌<◌, ◌≤◌, Bool, true, false, ◌&&◌, List, [], ◌∷◌, ◌++◌, codes, decimal, refl, subst, sym, arith, ◌∙◌}
+use Rattle.std.proofs.Common.{Option, Some, None, inl, inr}
+use Rattle.std.specs.Prelude.{IfSome, nat_le}
+use Rattle.std.specs.List.{list_all}
+use Rattle.std.proofs.lemmas.Bool.{and_parts}
+use Rattle.std.proofs.lemmas.Bool.Decides.{nat_tests}
+use Rattle.std.proofs.lemmas.List.Folds.{list_all-append}
+use Rattle.std.proofs.lemmas.Fmt.{digits_decimal}
+use Rattle.std.proofs.lemmas.Str.Parse.{IsDigitsTest, IsNumeralModel, numerals_by_weight}
+use Rattle.roles.specs.declared.role.Role.{Role}
+use Rattle.roles.specs.declared.role.Role.TheVariants.{Originator, Answerer}
+use Rattle.roles.specs.Role.{role_word}
+use Rattle.break_signals.specs.declared.word.BreakWord.{BreakWord}
+use Rattle.break_signals.specs.declared.word.BreakWord.TheVariants.{Brk, Ack}
+use Rattle.noise_script.specs.Numbers.{is_digit, value_of}
+use Rattle.line_texts.specs.FrameText.{kind_word, poll_word, number_word}
+use Rattle.line_texts.specs.LineText.{line_begins, break_word}
+use Rattle.trace_audit.specs.declared.line.LineText.{LineText}
+use Rattle.trace_audit.specs.Grammar.{Shape, Numbered, Supervisory, Commanding, Responding, Rejecting, Exchanging, Unnumbered, count_bound}
+use Rattle.trace_audit.specs.Grammar.{FrameWords, AreInRange, IsBreak, count_word, information_word, shape_text, IsFrameText, IsSignal, odp, adp, frame}
+use Rattle.trace_audit.specs.Grammar.{IsHeard, nothing, lost, passed, IsSent, mark, flags, none, signal, HasParts}
+use Rattle.trace_audit.proofs.Frames.{at-names}
+use Rattle.trace_audit.specs.Cutting.{is_no_feed}
+
+-- no line feed stands in these octets
+abbrev pub IsWhole : List ℕ → Type 0
+IsWhole line = list_all is_no_feed line ≡ true
+
+both : (a b : Bool) → a ≡ true → b ≡ true → (a && b) ≡ true
+both a b e f = rw (e, f) refl
+
+joined : (xs ys : List ℕ) → IsWhole xs → IsWhole ys → IsWhole (xs ++ ys)
+joined xs ys h k = list_all-append is_no_feed xs ys ∙ both (list_all is_no_feed xs) (list_all is_no_feed ys) h k
+
+-- ---- numbers
+
+abbrev AllDigits : List ℕ → Type 0
+AllDigits word = list_all is_digit word ≡ true
+
+at-most : (a b : ℕ) → nat_le a b ≡ true → a ≤ b
+at-most a b e = grind (arith, nat_tests, e)
+
+is-most : (a b : ℕ) → a ≤ b → nat_le a b ≡ true
+is-most a b l = grind (arith, nat_tests, l)
+
+tells : IsDigitsTest AllDigits
+tells = record {
+  empty = refl;
+  parts = λ c cs e. let p = and_parts (is_digit c) (list_all is_digit cs) e in let q = and_parts (nat_le 48 c) (nat_le c 57) p.0 in
+      ((at-most 48 c q.0, at-most c 57 q.1), p.1);
+  more = λ c cs k e. both (is_digit c) (list_all is_digit cs) (both (nat_le 48 c) (nat_le c 57) (is-most 48 c k.0) (is-most c 57 k.1)) e;
+}
+
+numerals : IsNumeralModel AllDigits value_of
+numerals = numerals_by_weight AllDigits tells value_of (record { empty = refl; more = λ c cs k. refl })
+
+no-feed : (x : ℕ) → is_digit x ≡ true → is_no_feed x ≡ true
+no-feed x d = let low = at-most 48 x (and_parts (nat_le 48 x) (nat_le x 57) d).0 in grind (arith, nat_tests, low)
+
+digits-whole : (xs : List ℕ) → AllDigits xs → IsWhole xs
+digits-whole [] h = refl
+digits-whole (x ∷ xs) h = let p = and_parts (is_digit x) (list_all is_digit xs) h in
+    both (is_no_feed x) (list_all is_no_feed xs) (no-feed x p.0) (digits-whole xs p.1)
+
+number : (n : ℕ) → n < count_bound → IsWhole (decimal n)
+number n h = digits-whole (decimal n) (digits_decimal numerals n (omega (arith, h)))
+
+labelled : (label : List ℕ) (n : ℕ) → IsWhole label → n < count_bound → IsWhole (number_word label n)
+labelled label n w h = joined label (decimal n) w (number n h)
+
+-- ---- frames
+
+kind : (command : Bool) → IsWhole (kind_word command)
+kind true = refl
+kind false = refl
+
+poll : (pf : Bool) → IsWhole (poll_word pf)
+poll true = refl
+poll false = refl
+
+abbrev IsWholeName : List ℕ → Shape → Type 0
+IsWholeName name shape = IsWhole name
+
+break-whole : (label : List ℕ) (number units : ℕ) → IsWhole label → number < 2 → units < 256
+    → IsWhole (number_word label number ++ number_word (codes " ") units)
+break-whole label number units w h k =
+    joined (number_word label number) (number_word (codes " ") units) (labelled label number w (omega (arith, h)))
+    (labelled (codes " ") units refl (omega (arith, k)))
+
+information : (word : Option BreakWord) (n : ℕ) → IfSome word IsBreak → n < count_bound → IsWhole (information_word word n)
+information None n w h = labelled (codes " n=") n refl h
+information (Some (Brk number units)) n w h = break-whole (codes " brk ") number units refl w.0 w.1
+information (Some (Ack number units)) n w h = break-whole (codes " brkack ") number units refl w.0 w.1
+
+shape-whole : (shape : Shape) (w : FrameWords) → AreInRange w → IsWhole (shape_text shape w)
+shape-whole Numbered w r =
+    joined (number_word (codes " s=") w.ns) _ (labelled (codes " s=") w.ns refl (omega (arith, r.ns)))
+    (joined (number_word (codes " r=") w.nr) _ (labelled (codes " r=") w.nr refl (omega (arith, r.nr)))
+    (joined (poll_word w.pf) (count_word w.count) (poll w.pf) (labelled (codes " n=") w.count refl r.count)))
+shape-whole Supervisory w r =
+    joined (kind_word w.command) _ (kind w.command)
+    (joined (number_word (codes " r=") w.nr) (poll_word w.pf) (labelled (codes " r=") w.nr refl (omega (arith, r.nr))) (poll w.pf))
+shape-whole Commanding w r = joined (kind_word true) (poll_word w.pf) refl (poll w.pf)
+shape-whole Responding w r = joined (kind_word false) (poll_word w.pf) refl (poll w.pf)
+shape-whole Rejecting w r =
+    joined (kind_word false) (poll_word w.pf ++ count_word w.count) refl (joined (poll_word w.pf) (count_word w.count) (poll w.pf) (labelled (codes " n=") w.count refl r.count))
+shape-whole Exchanging w r =
+    joined (kind_word w.command) _ (kind w.command)
+    (joined (poll_word w.pf) (count_word w.count) (poll w.pf) (labelled (codes " n=") w.count refl r.count))
+shape-whole Unnumbered w r =
+    joined (kind_word w.command) _ (kind w.command)
+    (joined (poll_word w.pf) (information_word w.word w.count) (poll w.pf) (information w.word w.count r.word r.count))
+
+is-literal : (text word : List ℕ) → text ≡ word → IsWhole word → IsWhole text
+is-literal text word e h = subst IsWhole (sym e) h
+
+frame-whole : (text : List ℕ) → IsFrameText text → IsWhole text
+frame-whole text f =
+    is-literal text (f.words.name ++ shape_text f.shape f.words) f.text_is
+    (joined f.words.name (shape_text f.shape f.words)
+    (at-names IsWholeName refl refl refl refl refl refl refl refl refl refl refl refl refl f.words.name f.shape f.named)
+    (shape-whole f.shape f.words f.ranges))
+
+signal-whole : (text : List ℕ) → IsSignal text → IsWhole text
+signal-whole text (odp e) = is-literal text (codes "odp") e refl
+signal-whole text (adp e) = is-literal text (codes "adp") e refl
+signal-whole text (frame f) = frame-whole text f
+
+heard-whole : (text : List ℕ) → IsHeard text → IsWhole text
+heard-whole text (nothing e) = is-literal text (codes "-") e refl
+heard-whole text (lost front f e) = is-literal text (codes "lost " ++ front) e (joined (codes "lost ") front refl (signal-whole front f))
+heard-whole text (passed f) = signal-whole text f
+
+sent-whole : (text : List ℕ) → IsSent text → IsWhole text
+sent-whole text (mark e) = is-literal text (codes "mark") e refl
+sent-whole text (flags e) = is-literal text (codes "flags") e refl
+sent-whole text (none e) = is-literal text (codes "none") e refl
+sent-whole text (signal f) = signal-whole text f
+
+given-whole : (given : Option ℕ) → IfSome given (λ units. units < 256) → IsWhole (break_word given)
+given-whole None h = refl
+given-whole (Some units) h = labelled (codes " break=") units refl (omega (arith, h))
+
+-- ---- lines
+
+role-whole : (role : Role) → IsWhole (role_word role)
+role-whole Originator = refl
+role-whole Answerer = refl
+
+begins-whole : (turn : ℕ) (role : Role) → turn < count_bound → IsWhole (line_begins turn role)
+begins-whole turn role h =
+    joined (number_word [] turn ++ codes " " ++ role_word role) (codes " ")
+    (joined (number_word [] turn ++ codes " ") (role_word role)
+    (joined (number_word [] turn) (codes " ") (labelled [] turn refl h) refl) (role-whole role)) refl
+
+pub parts-whole : (line : List ℕ) (t : LineText) → HasParts line t → IsWhole line
+parts-whole line t h = elim h.parts [
+  | inl c ↦ is-literal line (line_begins t.turn t.role ++ codes "chance") c.line_is
+      (joined (line_begins t.turn t.role) (codes "chance") (begins-whole t.turn t.role h.turn) refl)
+  | inr p ↦ is-literal line (line_begins t.turn t.role ++ (t.arrived ++ (codes " > " ++ (t.sent ++ break_word t.given)))) p.line_is
+      (joined (line_begins t.turn t.role) (t.arrived ++ (codes " > " ++ (t.sent ++ break_word t.given))) (begins-whole t.turn t.role h.turn)
+      (joined t.arrived (codes " > " ++ (t.sent ++ break_word t.given)) (heard-whole t.arrived p.arrived)
+      (joined (codes " > ") (t.sent ++ break_word t.given) refl (joined t.sent (break_word t.given) (sent-whole t.sent p.sent) (given-whole t.given p.given)))))
+]

@@ -1,0 +1,9 @@
+use Rattle.std.proofs.Common.{sym}
+use Rattle.trace_audit.proofs.LineParts.{heard-few}
+use Rattle.trace_audit.proofs.reader.heard_at.Goals as goal
+
+pub words_before-requires-clause-within : goal.words_before-requires-clause-within
+words_before-requires-clause-within c = (heard-few c.args.text.now c.in_ok-rest.rest.now (sym c.in_ok-rest.ensures)).0
+
+pub words_before-requires-clause-short : goal.words_before-requires-clause-short
+words_before-requires-clause-short c = (heard-few c.args.text.now c.in_ok-rest.rest.now (sym c.in_ok-rest.ensures)).1
