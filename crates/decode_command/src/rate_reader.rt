@@ -9,7 +9,7 @@ ghost use Rattle.decode_command.specs.Playing.{decoding_of, ReadsAt, IsReady};
 
 use crate::octet_joiner::Bits;
 use exact_decoder::Lost;
-use line_decoding::{DEPTH, LineReader};
+use line_coding::{DEPTH, LineReader};
 use outside_calls::NoMemory;
 use rate_4800::{QuarterReader, Rate4800};
 use recordings::Rate;

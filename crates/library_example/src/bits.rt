@@ -4,7 +4,7 @@ ghost use Rattle.std.specs.Prelude.{◌≡◌, ◌≤◌, ◌<◌, [], None, All
 use crate::Fault;
 use frame_check::Octets;
 use line_coding::{Demodulate, Demodulator};
-use line_decoding::{DEPTH, LineReader};
+use line_coding::{DEPTH, LineReader};
 use outside_calls::NoMemory;
 use scramblers::Mode;
 use std::alloc::Global;

@@ -1,3 +1,8 @@
 pub mod Fours
 pub mod Standing
 pub mod Readings
+pub mod Quads
+pub mod Late
+pub mod Middle
+pub mod Taking
+pub mod Readers

@@ -19,11 +19,11 @@ use Rattle.symbol_map.specs.Laws.{turned_label}
 use Rattle.survivors.specs.V32.{at_any}
 use Rattle.decoder_laws.proofs.Least.{all_states_turn}
 use Rattle.decoder_laws.specs.Near.{sure_of_any, IsNear}
-use Rattle.picked_up_lines.specs.PickedUp.{IsPickedUp, line_behind}
-use Rattle.picked_up_lines.specs.Reading.{Middle}
-use Rattle.picked_up_lines.specs.Laws.{ReadsMiddle}
-use Rattle.picked_up_lines.proofs.Quads.{quads-turned}
-use Rattle.picked_up_lines.proofs.Readers.{readers_pick_up}
+use Rattle.line_coding.specs.PickedUp.{IsPickedUp, line_behind}
+use Rattle.line_coding.specs.MiddleReading.{Middle}
+use Rattle.line_coding.specs.Laws.{ReadsMiddle}
+use Rattle.line_coding.proofs.Quads.{quads-turned}
+use Rattle.line_coding.proofs.Readers.{readers_pick_up}
 use Rattle.bit_stuffing.specs.Found.{pieces_of}
 use Rattle.bit_stuffing.proofs.Sent.{pieces-stay}
 use Rattle.noise_bound.specs.Turned.{OneBegins}

@@ -13,8 +13,8 @@ use Rattle.trellis_tables.specs.Quads.{quad_of}
 use Rattle.trellis_tables.specs.LabelReader.{quads_of, quad_at}
 use Rattle.trellis_tables.proofs.Readings.{quads_of-take, quads_of-turned, length-quads_of, get_or-quads_of}
 use Rattle.line_coding.specs.Demodulates.{line_of}
-use Rattle.picked_up_lines.specs.PickedUp.{line_behind}
-use Rattle.picked_up_lines.proofs.Quads.{quads-turned}
+use Rattle.line_coding.specs.PickedUp.{line_behind}
+use Rattle.line_coding.proofs.Quads.{quads-turned}
 use Rattle.noise_bound.proofs.Turned.{BothBegin}
 
 -- what more labels add to the quads

@@ -13,8 +13,8 @@ use Rattle.survivors.specs.V32.{at_any, v32_code}
 use Rattle.decoder_laws.specs.Turned.{StartsTurn}
 use Rattle.decoder_laws.specs.Near.{only, sure, sure_of_any, IsNear}
 use Rattle.line_coding.specs.Demodulates.{Demodulates}
-use Rattle.picked_up_lines.specs.PickedUp.{IsPickedUp}
-use Rattle.picked_up_lines.specs.Reading.{Middle, MiddleRead}
+use Rattle.line_coding.specs.PickedUp.{IsPickedUp}
+use Rattle.line_coding.specs.MiddleReading.{Middle, MiddleRead}
 use Rattle.bit_stuffing.specs.Found.{pieces_of}
 use Rattle.noise_bound.specs.Margins.{IsCostOf}
 use Rattle.noise_bound.specs.Turned.{BothRelease, IsOfFirstTwo, OneBegins}

@@ -16,9 +16,9 @@ use Rattle.survivors.proofs.Fronts.{stays-prefix}
 use Rattle.survivors.specs.V32.{any_trellis}
 use Rattle.bit_stuffing.specs.Found.{Found, pieces_of}
 use Rattle.bit_stuffing.proofs.Sent.{pieces-stay}
-use Rattle.picked_up_lines.specs.PickedUp.{line_behind, IsPickedUp}
-use Rattle.picked_up_lines.proofs.Middle.{picked_up_once}
-use Rattle.picked_up_lines.proofs.Readers.{descrambled, descrambles}
+use Rattle.line_coding.specs.PickedUp.{line_behind, IsPickedUp}
+use Rattle.line_coding.proofs.Middle.{picked_up_once}
+use Rattle.line_coding.proofs.Readers.{descrambled, descrambles}
 use Rattle.pickup_command.specs.Laws.{LaterPiecesStandBehind}
 
 -- a list without its first elements begins a longer one without them

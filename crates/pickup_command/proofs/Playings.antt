@@ -15,9 +15,9 @@ use Rattle.bit_stuffing.specs.Found.{pieces_of}
 use Rattle.bit_stuffing.proofs.Sent.{pieces-stay}
 use Rattle.command_base.specs.declared.stop.Stop.{Stop}
 use Rattle.command_base.specs.declared.stop.Stop.TheVariants.{Own, Read, Write, Say, NoMemory}
-use Rattle.picked_up_lines.specs.Reading.{Middle, MiddleRead, bits_of_taken}
-use Rattle.picked_up_lines.specs.declared.middle_reader.Taken.{Taken}
-use Rattle.picked_up_lines.proofs.Readers.{readers_pick_up}
+use Rattle.line_coding.specs.MiddleReading.{Middle, MiddleRead, bits_of_taken}
+use Rattle.line_coding.specs.declared.middle_reader.Taken.{Taken}
+use Rattle.line_coding.proofs.Readers.{readers_pick_up}
 use Rattle.piece_listener.specs.Readings.{AreLines}
 use Rattle.piece_listener.specs.Heard.{Listening, Heard, PartlyHeard}
 use Rattle.piece_listener.proofs.Hearing.{heard-after}

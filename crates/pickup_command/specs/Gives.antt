@@ -8,7 +8,7 @@ use Rattle.survivors.specs.Survivors.{IsReleased, IsOver}
 use Rattle.survivors.specs.V32.{any_trellis, line_depth}
 use Rattle.bit_stuffing.specs.Found.{Found, pieces_of}
 use Rattle.outside_calls.specs.Folder.{FolderState, Said, PartlySaid}
-use Rattle.picked_up_lines.specs.PickedUp.{IsPickedUp}
+use Rattle.line_coding.specs.PickedUp.{IsPickedUp}
 use Rattle.piece_listener.specs.Readings.{AreLines}
 use Rattle.recording_inputs.specs.Recordings.{sender_of}
 

@@ -10,7 +10,7 @@ use Rattle.command_base.specs.declared.status.Status.TheVariants.{LineLost}
 use Rattle.command_base.specs.declared.stop.Stop.{Stop}
 use Rattle.command_base.specs.declared.stop.Stop.TheVariants.{Own, Say}
 use Rattle.outside_calls.specs.Outputs.{OnlyOutputs}
-use Rattle.picked_up_lines.specs.Reading.{Middle, MiddleRead}
+use Rattle.line_coding.specs.MiddleReading.{Middle, MiddleRead}
 use Rattle.piece_listener.specs.Heard.{Listening, Heard}
 use Rattle.recordings.specs.declared.rate.Rate.TheVariants as rates
 use Rattle.recordings.specs.Samples.{samples_in}

@@ -4,13 +4,13 @@ ghost use Rattle.scramblers.specs.declared.mode.Mode.{Mode};
 ghost use Rattle.symbol_map.specs.declared.sample.Sample.{Sample};
 ghost use Rattle.outside_calls.specs.Folder.{FolderState, OnlySays, CountsStand};
 ghost use Rattle.command_base.specs.Stops.{SayFails, EndCounts};
-ghost use Rattle.picked_up_lines.specs.Reading.{bits_of_taken};
+ghost use Rattle.line_coding.specs.MiddleReading.{bits_of_taken};
 ghost use Rattle.piece_listener.specs.Heard.{Heard, PartlyHeard};
 ghost use Rattle.pickup_command.specs.Playing.{Plays, IsReady, SaysSome, StopsPlay};
 
 use command_base::{Status, Stop};
 use outside_calls::{Folder, FolderFault, NoMemory};
-use picked_up_lines::{DEPTH, MiddleReader, Taken};
+use line_coding::{DEPTH, MiddleReader, Taken};
 use piece_listener::Listener;
 use recording_inputs::{hearer_of, sender_of};
 use scramblers::Mode;

@@ -10,7 +10,7 @@ mod modulator;
 
 pub use code::Rate4800;
 pub use demodulator::Demodulator;
-use line_decoding::SampleReader;
+use line_coding::SampleReader;
 pub use modulator::Modulator;
 
 /// Reads a line of this rate, two bits a label.

@@ -5,7 +5,7 @@ use Rattle.scramblers.specs.declared.mode.Mode.{Mode}
 use Rattle.symbol_map.specs.declared.sample.Sample.{Sample}
 use Rattle.survivors.specs.Survivors.{LostIs}
 use Rattle.survivors.specs.V32.{at_beginning, line_depth, line_trellis}
-use Rattle.line_decoding.specs.V32.{LineRead}
+use Rattle.line_coding.specs.V32.{LineRead}
 use Rattle.exact_decoder.specs.declared.decoder.Lost.{Lost}
 use Rattle.roles.specs.declared.role.Role.{Role}
 use Rattle.lapm_frames.specs.declared.sent.Sent.{Sent}

@@ -7,7 +7,7 @@ ghost use Rattle.sample_line.specs.Hears.{Hears, HearsBetween, HearsSample};
 use crate::receiver::{Finder, Slot};
 use crate::tally::Tally;
 use exact_decoder::{Decoder, Lost};
-use line_decoding::{DEPTH, LineReader};
+use line_coding::{DEPTH, LineReader};
 use outside_calls::NoMemory;
 use scramblers::Mode;
 use std::alloc::Global;

@@ -3,7 +3,7 @@ ghost use Rattle.std.specs.Prelude.{◌≡◌, [], OnOk};
 
 use line_coding::Modulator;
 use outside_calls::NoMemory;
-use picked_up_lines::{MiddleReader, Taken};
+use line_coding::{MiddleReader, Taken};
 use scramblers::Mode;
 use std::alloc::Global;
 use std::process::Abort;

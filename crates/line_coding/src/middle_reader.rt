@@ -1,0 +1,117 @@
+// Samples from the middle of a line become bits.
+ghost use Rattle.std.specs.Prelude.{◌≡◌, ℕ, ◌+◌, ◌<◌, ◌≤◌, ◌^◌, Bool, List, [], ◌∷◌, ◌++◌, Some, None, length, drop, IfOk, MatchOption, MatchResult};
+ghost use Rattle.scramblers.specs.declared.mode.Mode.{Mode};
+ghost use Rattle.symbol_map.specs.declared.sample.Sample.{Sample};
+ghost use Rattle.line_coding.specs.MiddleReading.{MiddleRead, bits_taken};
+
+use exact_decoder::Lost;
+use crate::line::LineReader;
+use outside_calls::NoMemory;
+use scramblers::Mode;
+use std::alloc::Global;
+use std::marker::Model;
+use symbol_map::Sample;
+use trellis_tables::V32Code;
+
+/// What a label gives.
+#[derive(Clone, Copy, PartialEq, Eq)]
+pub enum Taken {
+    /// No bit: it is the first one, or fills the register of the descrambler.
+    Nothing,
+    /// The last bit of a quad of which the others fill the register.
+    LastBit(bool),
+    /// Four bits, the first one lowest.
+    Four(u8),
+}
+
+/// How many labels give nothing.
+const SILENT: u8 = 6;
+
+/// Reads the bits of a line that is picked up in its middle, by however many quarters its points are turned. At most `DEPTH` labels are
+/// unreleased while the line is not lost.
+#[derive(Drop)]
+pub struct MiddleReader<const DEPTH: usize> {
+    /// From any state.
+    reader: LineReader<DEPTH>,
+    /// How many labels were taken, counted up to `SILENT`.
+    taken: u8,
+}
+
+impl<const DEPTH: usize> Model for MiddleReader<DEPTH> {
+    ghost use Rattle.line_coding.specs.MiddleReading.{Middle};
+
+    ghost Value = { Middle };
+
+    ghost view = { λ m. record { reading = m.reader; taken = m.taken } };
+}
+
+impl<const DEPTH: usize> MiddleReader<DEPTH> {
+    /// A reader before its first sample. All memory is taken here.
+    pub fn new(alloc: Global, mode: Mode) -> Result<MiddleReader<DEPTH>, NoMemory>
+        requires low { 1 ≤ DEPTH }
+        requires high { DEPTH ≤ 128 }
+        ensures stands { IfOk result (λ m. MiddleRead mode DEPTH m [] []) }
+        ensures count { IfOk result (λ m. m.reading.decoder.count ≡ 0) }
+        ensures pending { IfOk result (λ m. m.reading.decoder.pending ≡ []) }
+        ensures lost { IfOk result (λ m. m.reading.decoder.lost ≡ None) }
+    {
+        Ok(MiddleReader {
+            reader: LineReader::new_any(alloc, V32Code, mode)?,
+            taken: 0,
+        })
+    }
+
+    /// One sample more. `Lost` comes with the first sample after which more than `DEPTH` labels are unreleased, and again with each later
+    /// one.
+    pub fn push(&mut self, sample: Sample) -> Result<(), Lost>
+        requires taken { self.old.reading.decoder.pending ≡ [] }
+        requires count { self.old.reading.decoder.count < 2 ^ 56 }
+        ensures stands { (mode : Mode) (samples : List Sample) (bits : List Bool) → MiddleRead mode DEPTH self.old samples bits
+            → MiddleRead mode DEPTH self.new (samples ++ sample ∷ []) bits }
+        ensures answer { MatchResult result (λ _. self.new.reading.decoder.lost ≡ None) (λ lost. self.new.reading.decoder.lost ≡ Some lost.symbol) }
+        ensures count { self.new.reading.decoder.count ≤ self.old.reading.decoder.count + 1 }
+    {
+        self.reader.push(sample)
+    }
+
+    /// What the oldest label gives that is released and not yet taken.
+    pub fn take(&mut self) -> Option<Taken>
+        ensures stands { (mode : Mode) (samples : List Sample) (bits : List Bool) → MiddleRead mode DEPTH self.old samples bits
+            → MiddleRead mode DEPTH self.new samples (bits ++ bits_taken result) }
+        ensures first { MatchOption result (self.old.reading.decoder.pending ≡ [])
+            (λ _. length self.old.reading.decoder.pending ≡ length self.new.reading.decoder.pending + 1) }
+        ensures pending { self.new.reading.decoder.pending ≡ drop 1 self.old.reading.decoder.pending }
+        ensures count { self.new.reading.decoder.count ≡ self.old.reading.decoder.count }
+        ensures lost { self.new.reading.decoder.lost ≡ self.old.reading.decoder.lost }
+    {
+        match self.reader.take() {
+            None => None,
+            Some(four) => {
+                if self.taken < SILENT {
+                    self.taken += 1;
+                    return Some(Taken::Nothing);
+                }
+                if self.taken == SILENT {
+                    self.taken = SILENT + 1;
+                    return Some(Taken::LastBit(four / 8 == 1));
+                }
+                Some(Taken::Four(four))
+            }
+        }
+    }
+
+    /// How many labels are released and not taken.
+    pub fn pending(&self) -> usize
+        ensures value { result ≡ length self.now.reading.decoder.pending }
+        ensures few { result ≤ DEPTH + 1 }
+    {
+        self.reader.pending()
+    }
+
+    /// Where the line was lost.
+    pub fn lost(&self) -> Option<Lost>
+        ensures { MatchOption result (self.now.reading.decoder.lost ≡ None) (λ lost. self.now.reading.decoder.lost ≡ Some lost.symbol) }
+    {
+        self.reader.lost()
+    }
+}

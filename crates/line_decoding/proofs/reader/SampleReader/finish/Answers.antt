@@ -1,9 +1,0 @@
-use Rattle.std.proofs.Common.{subst, sym}
-use Rattle.line_decoding.specs.Reading.{SamplesRead}
-use Rattle.line_decoding.proofs.reader.SampleReader.finish.Goals as goal
-
-pub returns-clause-least : goal.returns-clause-least
-returns-clause-least g c mode starts samples bits s =
-    let read = subst (λ r. SamplesRead g.C.TrellisCode.table g.C.TrellisCode.points
-    (g.D.Demodulate.reads mode) starts g.row.DEPTH r samples bits) (sym c.self.view_is) s in
-    record { labels = read.labels; read = read.demodulator; least = c.finish.ensures.least starts samples read.labels read.decoder }

@@ -1,5 +1,0 @@
-pub mod Quads
-pub mod Late
-pub mod Middle
-pub mod Taking
-pub mod Readers

@@ -1,5 +1,0 @@
-use Rattle.picked_up_lines.proofs.Middle.{picked_up_once}
-use Rattle.picked_up_lines.proofs.laws.one_list_is_picked_up.Goals as goal
-
-pub returns : goal.returns
-returns c = picked_up_once

@@ -1,5 +1,0 @@
-use Rattle.std.proofs.Common.{[], refl}
-use Rattle.picked_up_lines.proofs.middle_reader.MiddleReader.new.Goals as goal
-
-pub returns-clause-stands : goal.returns-clause-stands
-returns-clause-stands g c = record { all = []; read = c.in_ok-new_any.ensures.stands; bits_are = refl; counted = refl }

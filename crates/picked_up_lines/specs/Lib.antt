@@ -1,3 +1,0 @@
-pub mod PickedUp
-pub mod Reading
-pub mod Laws
