@@ -9,8 +9,8 @@ use Rattle.turn_bound.specs.Limits.{file_limit}
 use Rattle.run_world.specs.Names.{Written}
 use Rattle.run_world.specs.World.{KnowsFiles}
 use Rattle.run_world.proofs.Folders.{IsApart}
-use Rattle.audit_folder.specs.Audited.{swallowed}
-use Rattle.audit_folder.proofs.Passed.{told-inside, told-outside, octets-inside, trace-told, trace-held}
+use Rattle.program_folders.specs.Audited.{swallowed}
+use Rattle.program_folders.proofs.Passed.{told-inside, told-outside, octets-inside, trace-told, trace-held}
 use Rattle.audit_command.specs.Turns.{held_by}
 
 module _ (f : FolderState) (n : Written) (text : List ℕ) (r : ℕ) (apart : IsApart n) where

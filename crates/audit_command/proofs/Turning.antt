@@ -32,7 +32,7 @@ use Rattle.trace_audit.specs.Differences.{text_of, AreWhole}
 use Rattle.trace_audit.proofs.Lines.{text_of-append}
 use Rattle.readable_runs.specs.Lines.{AreLines, chance_words, turn_lines, trace_lines, TextsHaveLines, TurnsHaveLines, ChancesHaveLines}
 use Rattle.readable_runs.specs.Readable.{AsksInOctets}
-use Rattle.audit_folder.proofs.Passed.{stands-inside}
+use Rattle.program_folders.proofs.Passed.{stands-inside}
 use Rattle.audit_command.specs.Turns.{step_end, held_by, Watched, StillRuns, HasRun, TurnMade}
 use Rattle.audit_command.proofs.Inside.{knows-inside, knows-outside, text-added, text-more, text-kept}
 

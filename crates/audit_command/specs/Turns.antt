@@ -27,8 +27,8 @@ use Rattle.trace_audit.specs.declared.comparison.Comparison.{Comparison}
 use Rattle.trace_audit.specs.declared.comparison.Difference.{Difference}
 use Rattle.audit_command.specs.Verdict.{IsFound}
 use Rattle.readable_runs.specs.Lines.{AreLines, trace_lines}
-use Rattle.audit_folder.specs.Audited.{audit_state, swallowed}
-use Rattle.audit_folder.specs.Passed.{OnlyPassed}
+use Rattle.program_folders.specs.Audited.{audit_state, swallowed}
+use Rattle.program_folders.specs.Passed.{OnlyPassed}
 
 -- whether the run goes on behind a turn, or why the audit stops in it
 abbrev pub step_end : Result Step RunFault → Result Bool Stop

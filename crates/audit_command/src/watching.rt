@@ -9,7 +9,7 @@ ghost use Rattle.run_world.specs.Turn.{turns_made};
 ghost use Rattle.readable_runs.specs.Readable.{AsksInOctets};
 ghost use Rattle.audit_command.specs.Turns.{IsReading, StillRuns, TurnMade, Watched, step_end};
 
-use audit_folder::{AuditFolder, HELD};
+use program_folders::{AuditFolder, HELD};
 use command_base::Stop;
 use frame_check::Octets;
 use outside_calls::{Folder, FolderFault};

@@ -1,2 +1,4 @@
 pub mod Stored
 pub mod Moved
+pub mod Auditing
+pub mod Passed

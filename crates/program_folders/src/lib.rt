@@ -2,16 +2,19 @@
 //!
 //! [`SureFolder`] keeps its files in memory, tells all of them, and fails for want of memory alone. [`DiskFolder`] is the
 //! folder that the program runs in: it tells nothing of its files. Each is a `Folder`, which stands in `outside_calls`, so
-//! that what only asks a folder needs none of them. A [`Store`] is the files that a folder in memory holds.
+//! that what only asks a folder needs none of them. A [`Store`] is the files that a folder in memory holds. [`AuditFolder`] stands over another
+//! folder: reads go on to that one, and of what a run writes the trace of a turn alone is held.
 //!
 //! Trusted is what the operating system reads and writes for [`DiskFolder`]; all else is a function of the calls made.
 #![tactic(auto)]
 
+mod audit;
 mod disk;
 mod store;
 mod sure;
 mod transfer;
 
+pub use audit::{AuditFolder, HELD};
 pub use disk::DiskFolder;
 pub use store::Store;
 pub use sure::SureFolder;

@@ -3,12 +3,12 @@ ghost use Rattle.std.specs.Prelude.{◌≡◌, ◌≤◌, []};
 ghost use Rattle.std.specs.Prelude.{refl};
 ghost use Rattle.std.proofs.Common.{◌∙◌};
 ghost use Rattle.outside_calls.specs.Folder.{raised};
-ghost use Rattle.audit_folder.specs.Audited.{audit_state, swallowed};
-ghost use Rattle.audit_folder.specs.Passed.{OnlyPassed, OnlyPassed-refl, OnlyPassed-trans};
+ghost use Rattle.program_folders.specs.Audited.{audit_state, swallowed};
+ghost use Rattle.program_folders.specs.Passed.{OnlyPassed, OnlyPassed-refl, OnlyPassed-trans};
 
 use frame_check::Octets;
 use outside_calls::{Folder, FolderFault};
-use program_folders::copy_from;
+use crate::transfer::copy_from;
 
 /// The most octets of a turn's trace: two lines of 160 octets, each with its line feed.
 pub const HELD: usize = 322;

@@ -4,9 +4,9 @@ use Rattle.std.proofs.Common.{arith, Bool, true, false, refl, ap}
 use Rattle.std.specs.Str.{bytes_eq}
 use Rattle.std.proofs.lemmas.Slice.Eq.{bytes_eq-Decides}
 use Rattle.outside_calls.specs.Folder.{FolderState, held_at, octets_at, FaultsStand, CountsStand, Rose}
-use Rattle.audit_folder.specs.Audited.{Swallowed, audit_tells, audit_state}
-use Rattle.audit_folder.specs.Passed.{OnlyPassed}
-use Rattle.audit_folder.proofs.Auditing.{at-name, at-other, told}
+use Rattle.program_folders.specs.Audited.{Swallowed, audit_tells, audit_state}
+use Rattle.program_folders.specs.Passed.{OnlyPassed}
+use Rattle.program_folders.proofs.Auditing.{at-name, at-other, told}
 
 -- where nothing was counted, nothing was counted by the folder handed in,
 pub stands-inside : (a b : FolderState) (n m : Swallowed) (text more : List ℕ) (r s : ℕ) → OnlyPassed a b r s

@@ -14,7 +14,7 @@ use Rattle.outside_calls.specs.Folder.{Files, FolderState, held_at, octets_at, r
 use Rattle.plain_lists.specs.Octets.{AreOctets}
 use Rattle.outside_calls.specs.Folder.{ReadsFront, TellsOctets, Appended, Created}
 use Rattle.outside_calls.specs.declared.folder.FolderFault.{FolderFault}
-use Rattle.audit_folder.specs.Audited.{Swallowed, audit_tells, sum_of, audit_state}
+use Rattle.program_folders.specs.Audited.{Swallowed, audit_tells, sum_of, audit_state}
 
 -- ---- finite maps
 

@@ -1,8 +1,8 @@
 use Rattle.std.proofs.Common.{sym, subst, ◌∙◌, ap, List, ℕ, ◌-◌, min, length, take, drop, ◌++◌}
-use Rattle.audit_folder.specs.Audited.{Swallowed}
+use Rattle.program_folders.specs.Audited.{Swallowed}
 use Rattle.plain_lists.specs.Octets.{AreOctets}
-use Rattle.audit_folder.proofs.Auditing.{reads-trace, reads-on-ok, only-reads, tells-trace, tells-inner}
-use Rattle.audit_folder.proofs.folder.AuditFolderFolder.read_at.Goals as goal
+use Rattle.program_folders.proofs.Auditing.{reads-trace, reads-on-ok, only-reads, tells-trace, tells-inner}
+use Rattle.program_folders.proofs.audit.AuditFolderFolder.read_at.Goals as goal
 
 pub returns-then-eq-clause-octets : goal.returns-then-eq-clause-octets
 returns-then-eq-clause-octets g c =
