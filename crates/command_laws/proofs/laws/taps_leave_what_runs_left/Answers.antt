@@ -1,5 +1,5 @@
-use Rattle.tap_laws.proofs.Tapping.{taps-leave}
-use Rattle.tap_laws.proofs.laws.taps_leave_what_runs_left.Goals as goal
+use Rattle.command_laws.proofs.Tapping.{taps-leave}
+use Rattle.command_laws.proofs.laws.taps_leave_what_runs_left.Goals as goal
 
 pub returns : goal.returns
 returns c = taps-leave (record {

@@ -34,7 +34,7 @@ use Rattle.run_world.specs.Tapes.{HoldsTape, HoldTapes}
 use Rattle.run_command.specs.Headline.{Ran}
 use Rattle.tap_turns.specs.Words.{TapNames, inputs_of, outputs_of}
 use Rattle.tap_command.specs.Completes.{AreRight, Answered, Completes}
-use Rattle.tap_laws.specs.Taps.{AreTold, AreOfRun, LeftAlike, LeavesTheSame, TapsLeaveWhatRunsLeft}
+use Rattle.command_laws.specs.Taps.{AreTold, AreOfRun, LeftAlike, LeavesTheSame, TapsLeaveWhatRunsLeft}
 
 -- the laws that it rests on
 pub record TapLaws : Type 0 where

@@ -39,8 +39,8 @@ use Rattle.pair_run.proofs.Clear.{bits_in, due, due_of, due-heard, due-well}
 use Rattle.pair_run.proofs.Isolating.{IsolationLaws, MaySend, clear-on, agrees-on}
 use Rattle.pair_run.proofs.Same.{left_of}
 use Rattle.pair_run.proofs.Becoming.{leaves-so}
-use Rattle.pair_rows.specs.Rows.{plain_offer, no_lines, one_octet_each, fifteen_segments, way_of, first_made, second_made, EndsSo, PairEndsSo}
-use Rattle.pair_rows.specs.Rows.{RowsHold}
+use Rattle.pair_run.specs.Rows.{plain_offer, no_lines, one_octet_each, fifteen_segments, way_of, first_made, second_made, EndsSo, PairEndsSo}
+use Rattle.pair_run.specs.Rows.{RowsHold}
 
 -- what crosses a way is what is to be heard
 crossed : (lose : Bool) (check-slot : Spoken) (s : Sent)

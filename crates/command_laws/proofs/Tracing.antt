@@ -16,7 +16,7 @@ use Rattle.run_inputs.specs.Words.{RunNames, inputs_of, outputs_of}
 use Rattle.run_command.specs.Headline as run
 use Rattle.audit_command.specs.Words as audit
 use Rattle.audit_command.specs.Completes.{AreRight, InputsRunTo, Completes}
-use Rattle.audit_laws.specs.Traces.{audit_of, IsRunEnd, TracesOfRunsAreTrue}
+use Rattle.command_laws.specs.Traces.{audit_of, IsRunEnd, TracesOfRunsAreTrue}
 
 -- names that are apart
 abbrev pub ApartNames : Type 0

@@ -1,0 +1,29 @@
+//! Laws over what several commands promise. The functions do nothing but name the laws that they rest on: each law is a contract.
+ghost use Rattle.command_laws.specs.Taps.{TapsLeaveWhatRunsLeft};
+ghost use Rattle.command_laws.specs.Traces.{TracesOfRunsAreTrue};
+
+use command_base::apart_names_differ;
+use line_ends::laws::octets_are_sendable;
+use line_run::laws::{runs_leave_prefixes, scripts_make_links, slots_have_room};
+use line_tap::laws::recordings_tell_runs;
+use noise_script::laws::{one_answer, spelled_scripts_are_in_limits};
+
+/// A tap of what was recorded of a run leaves what the run left, however the run ended.
+pub fn taps_leave_what_runs_left()
+    ensures { TapsLeaveWhatRunsLeft }
+{
+    recordings_tell_runs();
+    octets_are_sendable();
+    slots_have_room();
+    scripts_make_links();
+    runs_leave_prefixes();
+    spelled_scripts_are_in_limits();
+}
+
+/// However a run ends, an audit of the trace that it leaves is done, but for want of memory, over any sound folder that tells the inputs.
+pub fn traces_of_runs_are_true()
+    ensures { TracesOfRunsAreTrue }
+{
+    apart_names_differ();
+    one_answer();
+}

@@ -1,0 +1,4 @@
+//! Laws that join commands: what a tap makes of what was recorded of a run, and what an audit says of the trace that a run leaves.
+#![tactic(auto)]
+
+pub mod laws;

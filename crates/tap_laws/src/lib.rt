@@ -1,4 +1,0 @@
-//! Laws that join `tap` with `record`: each is a contract.
-#![tactic(auto)]
-
-pub mod laws;
