@@ -9,7 +9,7 @@ use Rattle.roles.specs.Both.{of}
 use Rattle.causes.specs.declared.fault.LinkFault.TheVariants as causes
 use Rattle.noise_script.specs.Script.{ScriptValue, IsInLimits}
 use Rattle.line_texts.specs.LineText.{chance_line}
-use Rattle.link_run.specs.Run.{Ends, Turn}
+use Rattle.link_run.specs.Run.{Accounts, Turn}
 use Rattle.link_run.specs.Outcomes.{Outcome, Going, Done, Broken}
 use Rattle.link_run.specs.Trace.{trace_text, turn_text}
 use Rattle.line_run.specs.Sampled.{Channel, LineRun}
@@ -47,10 +47,10 @@ whole-append [] b h k = k
 whole-append (line ∷ a) b h k = (h.0, whole-append a b h.1 k)
 
 -- what ends and a text leave
-left_of : Ends → List ℕ → Left
+left_of : Accounts → List ℕ → Left
 left_of ends text = record { got = record { orig = concat ends.orig.incoming.taken; answ = concat ends.answ.incoming.taken }; trace = text }
 
-leaves-so : (ends : Ends) (text : List ℕ) → Leaves ends text (left_of ends text)
+leaves-so : (ends : Accounts) (text : List ℕ) → Leaves ends text (left_of ends text)
 unfolding left_of
 leaves-so ends text = record { got_is = by; trace_is = refl }
   where

@@ -5,7 +5,7 @@ use Rattle.outside_calls.specs.declared.folder.FolderFault.TheVariants as folder
 use Rattle.outside_calls.specs.Outputs.{OnlyPuts}
 use Rattle.roles.specs.Both.{Both}
 use Rattle.noise_script.specs.Script.{ScriptValue}
-use Rattle.link_run.specs.Run.{Ends, Turn}
+use Rattle.link_run.specs.Run.{Accounts, Turn}
 use Rattle.line_run.specs.Ends.{RunEnd, Left, RunsTo}
 use Rattle.line_run.specs.Scripted.{channel_of, link_of}
 use Rattle.line_run.specs.Stream.{both_sent_by}
@@ -50,7 +50,7 @@ held_by f n text refusals = audit_state f (swallowed n.got_o n.got_a n.trace) te
 pub record Watched (w v : World) (old new : FolderState) (n : Written) (step : Result Step RunFault) (text : List ℕ) : Type 0 where
   pub refusals : ℕ
   pub passed : OnlyPassed old new 0 refusals
-  pub turn : (files : Both (List ℕ)) (ts : List Turn) (ends : Ends) → WorldAfter w files ts ends → AreWithin files
+  pub turn : (files : Both (List ℕ)) (ts : List Turn) (ends : Accounts) → WorldAfter w files ts ends → AreWithin files
       → TurnAnswers (modems_of v) (lines_of v) (channel_of (script_of v)) 1 (both_sent_by 0 ts) (held_by old n [] 0)
       (held_by new n text refusals) n files ts ends step
   pub only : OnlyPuts (held_by old n [] 0) (held_by new n text refusals) (outputs_of n)
@@ -61,7 +61,7 @@ pub record StillRuns (w : World) (f : FolderState) (n : Written) (lines : List (
   pub files : Both (List ℕ)
   pub knows : KnowsFiles f n files
   pub turns : List Turn
-  pub ends : Ends
+  pub ends : Accounts
   pub world : WorldAfter w files turns ends
   pub lines_is : lines ≡ trace_lines turns
   pub whole : AreWhole lines

@@ -14,7 +14,7 @@ use Rattle.recordings.specs.Recording.{header_of}
 use Rattle.noise_script.specs.Script.{ScriptValue, IsInLimits, delay_of}
 use Rattle.noise_script.specs.Grammar.{ScriptSpelling}
 use Rattle.noise_script.specs.Laws.{BreaksAreOctets}
-use Rattle.link_run.specs.Run.{Ends, Turn}
+use Rattle.link_run.specs.Run.{Accounts, Turn}
 use Rattle.link_run.specs.Laws.{agreed_srej}
 use Rattle.link_run.specs.Taken.{taken_octets}
 use Rattle.line_run.specs.Sampled.{LineRun, signals}
@@ -48,7 +48,7 @@ pub record TapLaws : Type 0 where
 
 -- all that was sent could be coded where it stands
 coded : SlotsAreCodable → (script : ScriptValue) (files : Both (List ℕ)) (ts : List Turn)
-    (ends : Ends) → IsInLimits script → LineRun (channel_of script) (link_of script files) ts ends → AllSendable ts → (role : Role)
+    (ends : Accounts) → IsInLimits script → LineRun (channel_of script) (link_of script files) ts ends → AllSendable ts → (role : Role)
     → AreCoded (channel_of script) role ts
 coded codable script files [] ends limits r s role = tt
 coded codable script files (t ∷ ts) ends limits r s role =

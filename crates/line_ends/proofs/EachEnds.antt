@@ -25,7 +25,7 @@ use Rattle.line_laws.specs.Laws.{SlotsAreRecorded}
 use Rattle.causes.specs.declared.fault.LinkFault.{LinkFault}
 use Rattle.causes.specs.declared.fault.LinkFault.TheVariants as faults
 use Rattle.link_account.specs.Account.{check_of}
-use Rattle.link_run.specs.Run.{Ends, Spoken, Turn, start}
+use Rattle.link_run.specs.Run.{Accounts, Spoken, Turn, start}
 use Rattle.link_run.specs.Carried.{sent_ago}
 use Rattle.link_run.specs.Outcomes.{Outcome, Going, Done, Broken, TurnIs}
 use Rattle.link_run.specs.Laws.{EachEndIsNamed, IsNamed}
@@ -184,10 +184,10 @@ each-turn-is-decided slots made script files ts ends h o r = first (slots script
     first (becomes.Heard w) = second w (slots script files ts ends Answerer h o r)
 
 -- what is left of these ends and this text
-left-of : Ends → List ℕ → Left
+left-of : Accounts → List ℕ → Left
 left-of ends text = record { got = record { orig = concat ends.orig.incoming.taken; answ = concat ends.answ.incoming.taken }; trace = text }
 
-leaves-so : (ends : Ends) (text : List ℕ) → Leaves ends text (left-of ends text)
+leaves-so : (ends : Accounts) (text : List ℕ) → Leaves ends text (left-of ends text)
 unfolding left-of
 leaves-so ends text = record { got_is = is; trace_is = refl }
   where
@@ -201,7 +201,7 @@ pub record EndLaws : Type 0 where
   pub named : EachEndIsNamed
   pub short : NoLineRunIsLong
 
-line-end : (script : ScriptValue) (files : Both (List ℕ)) (ts : List Turn) (ends : Ends)
+line-end : (script : ScriptValue) (files : Both (List ℕ)) (ts : List Turn) (ends : Accounts)
     → LineRun (channel_of script) (link_of script files) ts ends
     → (end : LineEnd) → EndsLine (channel_of script) ts ends end → HasEnd script files
 line-end script files ts ends r (lines.LineLost role symbol) e = record {
@@ -217,7 +217,7 @@ line-end script files ts ends r (lines.ChanceMatch role) e =
       runs = record { turns = ts; ends = ends; run = r; ended = (refl, record { is = e; leaves = leaves-so ends text }) };
     }
 
-in-turn : (script : ScriptValue) (files : Both (List ℕ)) (ts : List Turn) (ends : Ends) (m : MadeOver (channel_of script) files ts ends)
+in-turn : (script : ScriptValue) (files : Both (List ℕ)) (ts : List Turn) (ends : Accounts) (m : MadeOver (channel_of script) files ts ends)
     (o : Outcome) → m.outcome ≡ o
     → EndsInTurn (channel_of script) (link_of script files) ts ends o (length ts) (left-of m.mid (trace_text (m.turn ∷ ts)))
 in-turn script files ts ends m o e = record {
@@ -229,7 +229,7 @@ in-turn script files ts ends m o e = record {
   leaves = leaves-so m.mid (trace_text (m.turn ∷ ts));
 }
 
-broken-end : EndLaws → (script : ScriptValue) (files : Both (List ℕ)) (ts : List Turn) (ends : Ends) → IsInLimits script
+broken-end : EndLaws → (script : ScriptValue) (files : Both (List ℕ)) (ts : List Turn) (ends : Accounts) → IsInLimits script
     → LineRun (channel_of script) (link_of script files) ts ends
     → (m : MadeOver (channel_of script) files ts ends) (role : Role) (fault : LinkFault)
     → m.outcome ≡ Broken role fault → HasEnd script files
@@ -267,9 +267,9 @@ broken-end laws script files ts ends h r m role fault e =
     go role faults.PeerRefused e n = absurd n
 
 -- by the turns that follow, where one is made
-goes : EndLaws → (script : ScriptValue) (files : Both (List ℕ)) → IsInLimits script → (ts : List Turn) (ends : Ends)
+goes : EndLaws → (script : ScriptValue) (files : Both (List ℕ)) → IsInLimits script → (ts : List Turn) (ends : Accounts)
     → LineRun (channel_of script) (link_of script files) ts ends
-    → ((t : Turn) (after : Ends) → LineRun (channel_of script) (link_of script files) (t ∷ ts) after → HasEnd script files)
+    → ((t : Turn) (after : Accounts) → LineRun (channel_of script) (link_of script files) (t ∷ ts) after → HasEnd script files)
     → ((end : LineEnd) × EndsLine (channel_of script) ts ends end) ⊎ MadeOver (channel_of script) files ts ends → HasEnd script files
 goes laws script files h ts ends r on (inl e) = line-end script files ts ends r e.0 e.1
 goes laws script files h ts ends r on (inr m) = made m.outcome refl
@@ -289,7 +289,7 @@ goes laws script files h ts ends r on (inr m) = made m.outcome refl
 -- with so many turns to go at most
 ends-within : EndLaws → (script : ScriptValue) (files : Both (List ℕ)) → IsInLimits script
     → ((role : Role) → length (of role files) ≤ file_limit) → AreOfOctets script files
-    → (n : ℕ) (ts : List Turn) (ends : Ends) → LineRun (channel_of script) (link_of script files) ts ends → 2 ^ 39 ≤ length ts + n
+    → (n : ℕ) (ts : List Turn) (ends : Accounts) → LineRun (channel_of script) (link_of script files) ts ends → 2 ^ 39 ≤ length ts + n
     → HasEnd script files
 ends-within laws script files h f o zero ts ends r l = absurd (omega (arith, l, laws.short (channel_of script) files ts ends h f r))
 ends-within laws script files h f o (suc n) ts ends r l =

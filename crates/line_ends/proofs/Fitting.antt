@@ -10,7 +10,7 @@ use Rattle.noise_script.specs.Script.{ScriptValue, IsInLimits}
 use Rattle.sample_line.specs.Signals.{signal_of}
 use Rattle.line_laws.specs.Fitting.{Fits, AreFit}
 use Rattle.line_laws.proofs.Fitting.{codable-fits, fit-front, fit-more, spelled-octets}
-use Rattle.link_run.specs.Run.{Ends, Spoken, Turn, spoken, GoingTurn}
+use Rattle.link_run.specs.Run.{Accounts, Spoken, Turn, spoken, GoingTurn}
 use Rattle.line_run.specs.Sampled.{signal_in, signals, HeardIn, LineRun}
 use Rattle.line_run.specs.Scripted.{channel_of, link_of, slot_symbols, longest_of, SlotsAreCodable}
 use Rattle.line_run.specs.Stream.{AllSendable}
@@ -23,8 +23,8 @@ abbrev pub bits_in : ScriptValue → ℕ
 bits_in script = 4 * symbols_of script
 
 -- one more slot
-fits-one : (codable : SlotsAreCodable) (script : ScriptValue) (files : Both (List ℕ)) (ts : List Turn) (ends : Ends) (t : Turn)
-    (after : Ends) → IsInLimits script
+fits-one : (codable : SlotsAreCodable) (script : ScriptValue) (files : Both (List ℕ)) (ts : List Turn) (ends : Accounts) (t : Turn)
+    (after : Accounts) → IsInLimits script
     → LineRun (channel_of script) (link_of script files) ts ends → HeardIn (channel_of script) ts t
     → GoingTurn (link_of script files) ts ends t after
     → (role : Role) → ((slot : Spoken) → (of role t).sent ≡ Some slot → IsSendable slot.sent)
@@ -45,7 +45,7 @@ fits-one codable script files ts ends t after h r k g role sendable fit =
     (fit-more size 0 before (signal_of slot.check role 0 slot.sent) fit fits)
 
 -- and so all of them do
-pub fits-all : (codable : SlotsAreCodable) (script : ScriptValue) (files : Both (List ℕ)) (ts : List Turn) (ends : Ends) → IsInLimits script
+pub fits-all : (codable : SlotsAreCodable) (script : ScriptValue) (files : Both (List ℕ)) (ts : List Turn) (ends : Accounts) → IsInLimits script
     → LineRun (channel_of script) (link_of script files) ts ends → AllSendable ts → (role : Role)
     → AreFit (bits_in script) 0 (signals (channel_of script) role ts)
 fits-all codable script files [] ends h r s role = tt

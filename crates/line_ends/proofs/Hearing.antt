@@ -24,7 +24,7 @@ use Rattle.line_laws.specs.Unhindered.{ChecksAgree, octets_in, patterns_in, unhi
 use Rattle.line_laws.specs.Laws.{FaintNeverLost, FaintReceivedIsSent, NeverChance}
 use Rattle.line_laws.proofs.Received.{as-expected}
 use Rattle.link_account.specs.Account.{check_of}
-use Rattle.link_run.specs.Run.{Ends, Spoken, Turn}
+use Rattle.link_run.specs.Run.{Accounts, Spoken, Turn}
 use Rattle.link_run.specs.Carried.{sent_ago}
 use Rattle.link_run.specs.Laws.{RunsOver}
 use Rattle.link_run.specs.Overheard.{JudgesByItsCheck}
@@ -51,7 +51,7 @@ pub record HearLaws : Type 0 where
   pub one : OneOutcome
 
 -- the line of samples as any line
-pub over : HearLaws → (script : ScriptValue) (files : Both (List ℕ)) (ts : List Turn) (ends : Ends) → IsInLimits script
+pub over : HearLaws → (script : ScriptValue) (files : Both (List ℕ)) (ts : List Turn) (ends : Accounts) → IsInLimits script
     → LineRun (channel_of script) (link_of script files) ts ends → RunsOver (link_of script files) (delay_of script) ts ends
 over laws script files ts ends h r = record {
   may_play = laws.play script files h;
@@ -110,7 +110,7 @@ lost-named false (slots.Frame frame) h = absurd h
 nothing-named : (script : ScriptValue) (sender : Role) (ts : List Turn) → AsNamed script sender ts Nothing
 nothing-named script sender ts = record { well = λ e. absurd cc; lost = λ h. absurd h }
 
-pub heard-named : HearLaws → (script : ScriptValue) (files : Both (List ℕ)) (ts : List Turn) (ends : Ends) → IsInLimits script
+pub heard-named : HearLaws → (script : ScriptValue) (files : Both (List ℕ)) (ts : List Turn) (ends : Accounts) → IsInLimits script
     → IsFaint script
     → LineRun (channel_of script) (link_of script files) ts ends → AllSendable ts → (role : Role) (heard : Heard)
     → IsHeardOf (channel_of script) (other role) ts (check_of (of role ends)) heard → AsNamed script (other role) ts heard

@@ -6,7 +6,7 @@ use Rattle.roles.specs.Role.{other}
 use Rattle.roles.specs.Both.{of}
 use Rattle.noise_script.specs.Script.{delay_of}
 use Rattle.link_account.specs.Account.{check_of}
-use Rattle.link_run.specs.Run.{Link, Ends, Side, Turn, Hears}
+use Rattle.link_run.specs.Run.{Link, Accounts, Side, Turn, Hears}
 use Rattle.link_run.specs.Outcomes.{Outcome, Going, Done, Broken, TurnIs}
 use Rattle.link_run.specs.Laws.{EachTurnIsMade, MakesTurn}
 use Rattle.line_run.specs.Sampled.{HeardIn, IsHeardOf}
@@ -21,7 +21,7 @@ pub record Makes : Type 0 where
   pub one : OneIsCarried
   pub made : EachTurnIsMade
 
-hearing-in : (link : Link) (ts : List Turn) (ends : Ends) (t : Turn) (mid : Ends) (o : Outcome) → TurnIs link ts ends t mid o
+hearing-in : (link : Link) (ts : List Turn) (ends : Accounts) (t : Turn) (mid : Accounts) (o : Outcome) → TurnIs link ts ends t mid o
     → Hears (length ts) ends t mid
 hearing-in link ts ends t mid Going h = subst (Hears (length ts) ends t) h.2 h.1.hearing
 hearing-in link ts ends t mid Done h = h.hearing

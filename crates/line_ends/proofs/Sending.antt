@@ -24,7 +24,7 @@ use Rattle.noise_script.specs.Script.{ScriptValue, IsInLimits, delay_of}
 use Rattle.link_account.specs.Speak.{Said}
 use Rattle.link_account.specs.Play.{arrives}
 use Rattle.link_run.specs.End.{is_released}
-use Rattle.link_run.specs.Run.{Link, Ends, Spoken, Turn, start, arrival, served_at, said_at, releases, GoingTurn}
+use Rattle.link_run.specs.Run.{Link, Accounts, Spoken, Turn, start, arrival, served_at, said_at, releases, GoingTurn}
 use Rattle.link_run.specs.Carried.{sent_ago, Crosses, Carries}
 use Rattle.link_run.specs.Laws.{RunsOver, SendsShort}
 use Rattle.link_run.specs.Reading.{StaysOffered, BeginsUnoffered, HearingStaysOffered, SpeakingStaysOffered}
@@ -102,7 +102,7 @@ plain-sendable slots.Flags p f = tt
 plain-sendable (slots.Frame frame) p f = frame-sendable frame p (f frame refl)
 
 -- what an end says as a turn's end of it
-says-good : (link : Link) (turn : ℕ) (mid : Ends) (role : Role) (said : Said) → said_at link turn mid role ≡ Ok said → (file : List ℕ)
+says-good : (link : Link) (turn : ℕ) (mid : Accounts) (role : Role) (said : Said) → said_at link turn mid role ≡ Ok said → (file : List ℕ)
     → AreOctets file → Holds file (served_at link turn mid role).account → IsGood said
 says-good link turn mid Originator said e file f h =
     said-good turn (releases link turn mid) (served_at link turn mid Originator).account said
@@ -110,14 +110,14 @@ says-good link turn mid Originator said e file f h =
 says-good link turn mid Answerer said e file f h =
     said-good turn false (served_at link turn mid Answerer).account said (ready file (served_at link turn mid Answerer).account f h) e
 
-stays-offered : SpeakingStaysOffered → (link : Link) (turn : ℕ) (mid : Ends) (role : Role) (said : Said)
+stays-offered : SpeakingStaysOffered → (link : Link) (turn : ℕ) (mid : Accounts) (role : Role) (said : Said)
     → said_at link turn mid role ≡ Ok said → (file : List ℕ) → Holds file (served_at link turn mid role).account
     → StaysOffered file (served_at link turn mid role).account said.account
 stays-offered law link turn mid Originator said e file h =
     law file turn (releases link turn mid) (served_at link turn mid Originator).account said h.offered e
 stays-offered law link turn mid Answerer said e file h = law file turn false (served_at link turn mid Answerer).account said h.offered e
 
-says-holds : SpeakingStaysOffered → (link : Link) (turn : ℕ) (mid : Ends) (role : Role) (said : Said) → said_at link turn mid role ≡ Ok said
+says-holds : SpeakingStaysOffered → (link : Link) (turn : ℕ) (mid : Accounts) (role : Role) (said : Said) → said_at link turn mid role ≡ Ok said
     → (file : List ℕ) → AreOctets file → Holds file (served_at link turn mid role).account → Holds file said.account
 says-holds law link turn mid role said e file f h =
     let good : IsGood said = says-good link turn mid role said e file f h in
@@ -125,12 +125,12 @@ says-holds law link turn mid role said e file f h =
     record { offered = stays.offered; own = subst AreOctets (sym stays.breaks) h.own; owes = good.owes }
 
 -- a run and what its ends hold
-pub record HoldBoth (files : Role → List ℕ) (ts : List Turn) (ends : Ends) : Type 0 where
+pub record HoldBoth (files : Role → List ℕ) (ts : List Turn) (ends : Accounts) : Type 0 where
   pub sendable : AllSendable ts
   pub holds : (role : Role) → Holds (files role) (of role ends)
 
 -- one turn more
-next-turn : SendLaws → (c : Channel) (files : Both (List ℕ)) (ts : List Turn) (before : Ends) (t : Turn) (after : Ends)
+next-turn : SendLaws → (c : Channel) (files : Both (List ℕ)) (ts : List Turn) (before : Accounts) (t : Turn) (after : Accounts)
     → IsInLimits c.script → AreOfOctets c.script files
     → LineRun c (link_of c.script files) ts before → Carries (delay_of c.script) ts t
     → GoingTurn (link_of c.script files) ts before t after
@@ -205,13 +205,13 @@ next-turn laws c files ts before t after h o r carries g k =
         let same : (g.speaking role).said.sent ≡ slot.sent = ap (sent-of slot) (sym (g.speaking role).sent_is ∙ e) in
         plain-sendable slot.sent (subst IsPlainSent same (good role).sent) (λ frame f. few role slot frame e f)
 
-holds-all : SendLaws → (c : Channel) (files : Both (List ℕ)) (ts : List Turn) (ends : Ends) → IsInLimits c.script
+holds-all : SendLaws → (c : Channel) (files : Both (List ℕ)) (ts : List Turn) (ends : Accounts) → IsInLimits c.script
     → AreOfOctets c.script files
     → LineRun c (link_of c.script files) ts ends → HoldBoth (λ role. (of role (link_of c.script files)).user.file) ts ends
 holds-all laws c files [] ends h o r =
     record {
       sendable = tt;
-      holds = λ role. subst (λ (e : Ends). Holds (of role (link_of c.script files)).user.file (of role e)) (sym r.run) (begins role);
+      holds = λ role. subst (λ (e : Accounts). Holds (of role (link_of c.script files)).user.file (of role e)) (sym r.run) (begins role);
     }
   where
     begins : (role : Role) → Holds (of role (link_of c.script files)).user.file (of role (start (link_of c.script files)))

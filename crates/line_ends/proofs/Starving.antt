@@ -7,7 +7,7 @@ use Rattle.roles.specs.Both.{Both, of}
 use Rattle.noise_script.specs.declared.entry.Break.{Break}
 use Rattle.noise_script.specs.Script.{ScriptValue, IsInLimits, delay_of}
 use Rattle.causes.specs.declared.fault.LinkFault.TheVariants as faults
-use Rattle.link_run.specs.Run.{Ends, Turn}
+use Rattle.link_run.specs.Run.{Accounts, Turn}
 use Rattle.link_run.specs.Laws.{RunsOver, DoneIsWhole, HearingsGiveAllBreaks}
 use Rattle.turn_losses.specs.Losses.{OriginatorWantsPattern, UndetectedOnTime, StarvedLosesMany}
 use Rattle.turn_losses.specs.Tries.{GivesUpForLosses, GivesUpUnbroken}
@@ -37,7 +37,7 @@ pub record Laws : Type 0 where
   pub given : HearingsGiveAllBreaks
 
 -- the line of samples as any line
-over : Laws → (c : Channel) (files : Both (List ℕ)) (ts : List Turn) (ends : Ends) → IsInLimits c.script
+over : Laws → (c : Channel) (files : Both (List ℕ)) (ts : List Turn) (ends : Accounts) → IsInLimits c.script
     → LineRun c (link_of c.script files) ts ends → RunsOver (link_of c.script files) (delay_of c.script) ts ends
 over laws c files ts ends h r = record
     { may_play = laws.play c.script files h; delays = laws.delays c.script h; carried = laws.carried c ts r.heard; run = r.run }

@@ -7,7 +7,7 @@ use Rattle.roles.specs.Both.{Both, of}
 use Rattle.noise_script.specs.Script.{ScriptValue, IsInLimits}
 use Rattle.line_laws.specs.Laws.{EmptyScriptDisplacesNone, UndisplacedIsFaint}
 use Rattle.causes.specs.declared.fault.LinkFault.TheVariants as faults
-use Rattle.link_run.specs.Run.{Link, Ends, Turn, Hears}
+use Rattle.link_run.specs.Run.{Link, Accounts, Turn, Hears}
 use Rattle.link_run.specs.Outcomes.{Outcome, Going, Done, Broken, TurnIs}
 use Rattle.line_run.specs.Sampled.{Channel, IsHeardOf, HeardIn, LineRun}
 use Rattle.line_run.specs.Sampled as lines
@@ -21,14 +21,14 @@ use Rattle.line_ends.specs.EachEnds.{HasEnd, EachRunEnds, QuietRunsDeliver, Undi
 use Rattle.line_ends.proofs.Hearing.{HearLaws, AsNamed, heard-named}
 use Rattle.line_ends.proofs.Counting.{AllNamed, lost-few}
 
-hearing-in : (link : Link) (ts : List Turn) (ends : Ends) (t : Turn) (mid : Ends) (o : Outcome) → TurnIs link ts ends t mid o
+hearing-in : (link : Link) (ts : List Turn) (ends : Accounts) (t : Turn) (mid : Accounts) (o : Outcome) → TurnIs link ts ends t mid o
     → Hears (length ts) ends t mid
 hearing-in link ts ends t mid Going h = subst (Hears (length ts) ends t) h.2 h.1.hearing
 hearing-in link ts ends t mid Done h = h.hearing
 hearing-in link ts ends t mid (Broken role fault) h = h.hearing
 
 -- what is heard in a turn, and in all turns of a run
-turn-named : HearLaws → (script : ScriptValue) (files : Both (List ℕ)) (ts : List Turn) (ends : Ends) (t : Turn) (mid : Ends)
+turn-named : HearLaws → (script : ScriptValue) (files : Both (List ℕ)) (ts : List Turn) (ends : Accounts) (t : Turn) (mid : Accounts)
     → IsInLimits script → IsFaint script
     → LineRun (channel_of script) (link_of script files) ts ends → AllSendable ts → Hears (length ts) ends t mid
     → HeardIn (channel_of script) ts t
@@ -37,7 +37,7 @@ turn-named laws script files ts ends t mid h d r s k w role =
     heard-named laws script files ts ends h d r s role (of role t).heard
     (subst (λ z. IsHeardOf (channel_of script) (other role) ts z (of role t).heard) (k role).check_is (w role).heard_of)
 
-run-named : HearLaws → (script : ScriptValue) (files : Both (List ℕ)) (ts : List Turn) (ends : Ends) → IsInLimits script → IsFaint script
+run-named : HearLaws → (script : ScriptValue) (files : Both (List ℕ)) (ts : List Turn) (ends : Accounts) → IsInLimits script → IsFaint script
     → LineRun (channel_of script) (link_of script files) ts ends → AllSendable ts → AllNamed script ts
 run-named laws script files [] ends h d r s = tt
 run-named laws script files (t ∷ ts) ends h d r s =
@@ -46,7 +46,7 @@ run-named laws script files (t ∷ ts) ends h d r s =
       run-named laws script files ts r.run.0 h d before s.1,
     )
 
-last-named : HearLaws → (script : ScriptValue) (files : Both (List ℕ)) (ts : List Turn) (ends : Ends) (o : Outcome) (turn : ℕ) (left : Left)
+last-named : HearLaws → (script : ScriptValue) (files : Both (List ℕ)) (ts : List Turn) (ends : Accounts) (o : Outcome) (turn : ℕ) (left : Left)
     → IsInLimits script → IsFaint script
     → LineRun (channel_of script) (link_of script files) ts ends → AllSendable ts
     → (e : EndsInTurn (channel_of script) (link_of script files) ts ends o turn left) → AllNamed script (e.last ∷ ts)

@@ -5,7 +5,7 @@ use Rattle.roles.specs.Role.{other}
 use Rattle.roles.specs.Both.{Both, of}
 use Rattle.noise_script.specs.Script.{IsInLimits}
 use Rattle.link_account.specs.Account.{break_waits, check_of}
-use Rattle.link_run.specs.Run.{Link, Ends, Turn, served_at}
+use Rattle.link_run.specs.Run.{Link, Accounts, Turn, served_at}
 use Rattle.link_run.specs.Outcomes.{Outcome, TurnIs}
 use Rattle.link_run.specs.Counts.{lost_slots}
 use Rattle.link_run.specs.Laws.{given_breaks}
@@ -32,7 +32,7 @@ GivesUp (LineLost role symbol) = ⊥
 GivesUp (ChanceMatch role turn) = ⊥
 
 -- No break waits at the end whose tries are spent.
-abbrev pub WaitsForNoBreak : (c : Channel) (link : Link) (ts : List Turn) (ends : Ends) (end : RunEnd) (left : Left)
+abbrev pub WaitsForNoBreak : (c : Channel) (link : Link) (ts : List Turn) (ends : Accounts) (end : RunEnd) (left : Left)
     → EndsBy c link ts ends end left → Type 0
 WaitsForNoBreak c link ts ends (LinkLost role segment turn) left e = break_waits (served_at link (length ts) e.1.mid role).account ≡ false
 WaitsForNoBreak c link ts ends (NotDetected turn) left e = Unit {0}
@@ -55,7 +55,7 @@ LosesInPeriods c files end left r =
 
 -- An originator that saw no pattern gives up in the first turn behind the periods of all its tries, and none of the answerer's patterns
 -- passed until then.
-abbrev pub GivesUpOnTime : (c : Channel) (link : Link) (ts : List Turn) (ends : Ends) (end : RunEnd) (left : Left)
+abbrev pub GivesUpOnTime : (c : Channel) (link : Link) (ts : List Turn) (ends : Accounts) (end : RunEnd) (left : Left)
     → EndsBy c link ts ends end left → Type 0
 GivesUpOnTime c link ts ends (NotDetected turn) left e =
     (turn ≡ (c.script.tries + 1) * period_of c.script) × PassesNoPattern (e.last ∷ ts)
@@ -65,7 +65,7 @@ GivesUpOnTime c link ts ends (LineLost role symbol) left e = Unit {0}
 GivesUpOnTime c link ts ends (ChanceMatch role turn) left e = Unit {0}
 
 -- In a run that is done the breaks that a user was given are those that the other end took of its user, in their order.
-abbrev pub GivesEachBreak : (c : Channel) (link : Link) (ts : List Turn) (ends : Ends) (end : RunEnd) (left : Left)
+abbrev pub GivesEachBreak : (c : Channel) (link : Link) (ts : List Turn) (ends : Accounts) (end : RunEnd) (left : Left)
     → EndsBy c link ts ends end left → Type 0
 GivesEachBreak c link ts ends (IsDone turn) left e =
     (role : Role) → given_breaks role (e.last ∷ ts) ≡ (of (other role) e.mid).own_breaks.lengths
@@ -96,15 +96,15 @@ FewLossesKeepLinks = (c : Channel) (files : Both (List ℕ)) (end : RunEnd) (lef
     → GivesUp end → ⊥
 
 -- What is heard of each other's slots makes a next turn, where it is no chance match: it goes on, is done, or an end gives up.
-pub record MadeOver (c : Channel) (files : Both (List ℕ)) (ts : List Turn) (ends : Ends) : Type 0 where
+pub record MadeOver (c : Channel) (files : Both (List ℕ)) (ts : List Turn) (ends : Accounts) : Type 0 where
   pub turn : Turn
-  pub mid : Ends
+  pub mid : Accounts
   pub outcome : Outcome
   pub heard : HeardIn c ts turn
   pub is : TurnIs (link_of c.script files) ts ends turn mid outcome
 
 abbrev pub HeardTurnsAreMade : Type 0
-HeardTurnsAreMade = (c : Channel) (files : Both (List ℕ)) (ts : List Turn) (ends : Ends) → IsInLimits c.script
+HeardTurnsAreMade = (c : Channel) (files : Both (List ℕ)) (ts : List Turn) (ends : Accounts) → IsInLimits c.script
     → LineRun c (link_of c.script files) ts ends
     → ((role : Role) → IsHeardWell c (other role) ts (check_of (of role ends)))
     → MadeOver c files ts ends

@@ -8,7 +8,7 @@ use Rattle.noise_script.specs.declared.entry.Break.{Break}
 use Rattle.noise_script.specs.declared.entry.Loss.{Loss}
 use Rattle.noise_script.specs.Script.{ScriptValue, IsInLimits}
 use Rattle.line_laws.specs.Faint.{IsFaintBefore}
-use Rattle.link_run.specs.Run.{Ends, Spoken, Turn}
+use Rattle.link_run.specs.Run.{Accounts, Spoken, Turn}
 use Rattle.link_run.specs.Counts.{lost_slots}
 use Rattle.line_run.specs.Sampled.{Channel, LineRun, LineEnd, EndsLine}
 use Rattle.line_run.specs.Scripted.{channel_of, link_of}
@@ -73,12 +73,12 @@ pub record AreOfOctets (script : ScriptValue) (files : Both (List ℕ)) : Type 0
 
 -- Ends that are handed octets send what can be sent.
 abbrev pub OctetsAreSendable : Type 0
-OctetsAreSendable = (c : Channel) (files : Both (List ℕ)) (ts : List Turn) (ends : Ends) → IsInLimits c.script
+OctetsAreSendable = (c : Channel) (files : Both (List ℕ)) (ts : List Turn) (ends : Accounts) → IsInLimits c.script
     → AreOfOctets c.script files → LineRun c (link_of c.script files) ts ends → AllSendable ts
 
 -- The line doesn't end a run whose noise is faint.
 abbrev pub FaintGoOn : Type 0
-FaintGoOn = (script : ScriptValue) (files : Both (List ℕ)) (ts : List Turn) (ends : Ends) (end : LineEnd) → IsInLimits script
+FaintGoOn = (script : ScriptValue) (files : Both (List ℕ)) (ts : List Turn) (ends : Accounts) (end : LineEnd) → IsInLimits script
     → IsFaint script → LineRun (channel_of script) (link_of script files) ts ends → AllSendable ts
     → EndsLine (channel_of script) ts ends end → ⊥
 

@@ -7,7 +7,7 @@ use Rattle.roles.specs.Both.{Both, of}
 use Rattle.lapm_frames.specs.declared.heard.Heard.TheVariants.{Chance}
 use Rattle.noise_script.specs.Script.{ScriptValue, IsInLimits}
 use Rattle.link_account.specs.Account.{check_of}
-use Rattle.link_run.specs.Run.{Ends, Turn}
+use Rattle.link_run.specs.Run.{Accounts, Turn}
 use Rattle.turn_bound.specs.Limits.{file_limit}
 use Rattle.line_run.specs.Sampled.{Channel, IsHeardOf, LineRun, LineEnd, LosesLine, IsHeardWell, EndsLine}
 use Rattle.line_run.specs.Scripted.{channel_of, link_of}
@@ -23,13 +23,13 @@ pub data Becomes (c : Channel) (sender : Role) (ts : List Turn) (hearing : Check
 
 -- In each turn the line is lost, or the slot is a chance match, or something is heard.
 abbrev pub EachSlotBecomes : Type 0
-EachSlotBecomes = (script : ScriptValue) (files : Both (List ℕ)) (ts : List Turn) (ends : Ends) (role : Role) → IsInLimits script
+EachSlotBecomes = (script : ScriptValue) (files : Both (List ℕ)) (ts : List Turn) (ends : Accounts) (role : Role) → IsInLimits script
     → AreOfOctets script files → LineRun (channel_of script) (link_of script files) ts ends
     → Becomes (channel_of script) (other role) ts (check_of (of role ends))
 
 -- So each run that goes on so far is ended by the line, or a next turn is made.
 abbrev pub EachTurnIsDecided : Type 0
-EachTurnIsDecided = (script : ScriptValue) (files : Both (List ℕ)) (ts : List Turn) (ends : Ends) → IsInLimits script
+EachTurnIsDecided = (script : ScriptValue) (files : Both (List ℕ)) (ts : List Turn) (ends : Accounts) → IsInLimits script
     → AreOfOctets script files → LineRun (channel_of script) (link_of script files) ts ends
     → ((end : LineEnd) × EndsLine (channel_of script) ts ends end) ⊎ MadeOver (channel_of script) files ts ends
 

@@ -5,7 +5,7 @@ use Rattle.roles.specs.Role.{other}
 use Rattle.roles.specs.Both.{of}
 use Rattle.plain_lists.specs.Prefix.{IsPrefixOf}
 use Rattle.noise_script.specs.Script.{delay_of}
-use Rattle.link_run.specs.Run.{Link, Ends, Turn, Hears}
+use Rattle.link_run.specs.Run.{Link, Accounts, Turn, Hears}
 use Rattle.link_run.specs.Outcomes.{Outcome, Going, Done, Broken, TurnIs}
 use Rattle.link_run.specs.Taken.{taken_octets}
 use Rattle.link_run.specs.Laws.{RunsOver, agreed_srej, HoldPrefixes, TakesPrefixes, HearsPrefixes, DoneIsWhole, TakesWhatPassed}
@@ -32,29 +32,29 @@ ArePrefixes link left = (role : Role) → IsPrefixOf (of role left.got) (of (oth
 abbrev ArePassed : Channel → Link → List Turn → Left → Type 0
 ArePassed c link ts left = (role : Role) → of role left.got ≡ taken_octets (agreed_srej link) (delay_of c.script) role ts
 
-left-prefixes : (link : Link) (ends : Ends) (text : List ℕ) (left : Left) → HoldPrefixes link ends → Leaves ends text left
+left-prefixes : (link : Link) (ends : Accounts) (text : List ℕ) (left : Left) → HoldPrefixes link ends → Leaves ends text left
     → ArePrefixes link left
 left-prefixes link ends text left h l role = subst (λ g. IsPrefixOf g (of (other role) link).user.file) (sym (l.got_is role)) (h role)
 
 -- the line of samples as any line
-over : (laws : RunLaws) (c : Channel) (link : Link) (ts : List Turn) (ends : Ends) → MayRun c link → LineRun c link ts ends
+over : (laws : RunLaws) (c : Channel) (link : Link) (ts : List Turn) (ends : Accounts) → MayRun c link → LineRun c link ts ends
     → RunsOver link (delay_of c.script) ts ends
 over laws c link ts ends m r = record { may_play = m.may_play; delays = m.delays; carried = laws.carried c ts r.heard; run = r.run }
 
-pub hearing-in : (link : Link) (ts : List Turn) (ends : Ends) (t : Turn) (mid : Ends) (o : Outcome) → TurnIs link ts ends t mid o
+pub hearing-in : (link : Link) (ts : List Turn) (ends : Accounts) (t : Turn) (mid : Accounts) (o : Outcome) → TurnIs link ts ends t mid o
     → Hears (length ts) ends t mid
 hearing-in link ts ends t mid Going h = subst (Hears (length ts) ends t) h.2 h.1.hearing
 hearing-in link ts ends t mid Done h = h.hearing
 hearing-in link ts ends t mid (Broken role fault) h = h.hearing
 
-in-turn : (laws : RunLaws) (c : Channel) (link : Link) (ts : List Turn) (ends : Ends) (o : Outcome) (turn : ℕ) (left : Left) → MayRun c link
+in-turn : (laws : RunLaws) (c : Channel) (link : Link) (ts : List Turn) (ends : Accounts) (o : Outcome) (turn : ℕ) (left : Left) → MayRun c link
     → LineRun c link ts ends → EndsInTurn c link ts ends o turn left → ArePrefixes link left
 in-turn laws c link ts ends o turn left m r e =
     left-prefixes link e.mid _ left
     (laws.hears link (delay_of c.script) ts ends e.last e.mid (over laws c link ts ends m r) (laws.one c ts e.last e.heard)
     (hearing-in link ts ends e.last e.mid o e.is)) e.leaves
 
-on-line : (laws : RunLaws) (c : Channel) (link : Link) (ts : List Turn) (ends : Ends) (end : LineEnd) (text : List ℕ) (left : Left)
+on-line : (laws : RunLaws) (c : Channel) (link : Link) (ts : List Turn) (ends : Accounts) (end : LineEnd) (text : List ℕ) (left : Left)
     → MayRun c link → LineRun c link ts ends → EndsOnLine c ts ends end text left → ArePrefixes link left
 on-line laws c link ts ends end text left m r e =
     left-prefixes link ends text left (laws.takes link (delay_of c.script) ts ends (over laws c link ts ends m r)) e.leaves
@@ -73,14 +73,14 @@ leaves_whole laws c link turn left m r role =
     (laws.whole link (delay_of c.script) r.turns r.ends e.last e.mid (over laws c link r.turns r.ends m r.run)
     (laws.one c r.turns e.last e.heard) e.is role).file_is
 
-passed-in-turn : (laws : RunLaws) (c : Channel) (link : Link) (ts : List Turn) (ends : Ends) (o : Outcome) (turn : ℕ) (left : Left)
+passed-in-turn : (laws : RunLaws) (c : Channel) (link : Link) (ts : List Turn) (ends : Accounts) (o : Outcome) (turn : ℕ) (left : Left)
     → MayRun c link → LineRun c link ts ends → (e : EndsInTurn c link ts ends o turn left) → ArePassed c link (e.last ∷ ts) left
 passed-in-turn laws c link ts ends o turn left m r e role =
     e.leaves.got_is role ∙ sym
     (laws.heard link (delay_of c.script) ts ends e.last e.mid (over laws c link ts ends m r) (laws.one c ts e.last e.heard)
     (hearing-in link ts ends e.last e.mid o e.is) role)
 
-passed-on-line : (laws : RunLaws) (c : Channel) (link : Link) (ts : List Turn) (ends : Ends) (end : LineEnd) (text : List ℕ) (left : Left)
+passed-on-line : (laws : RunLaws) (c : Channel) (link : Link) (ts : List Turn) (ends : Accounts) (end : LineEnd) (text : List ℕ) (left : Left)
     → MayRun c link → LineRun c link ts ends → EndsOnLine c ts ends end text left → ArePassed c link ts left
 passed-on-line laws c link ts ends end text left m r e role =
     e.leaves.got_is role ∙ sym (laws.took link (delay_of c.script) ts ends (over laws c link ts ends m r) role)

@@ -8,7 +8,7 @@ use Rattle.roles.specs.Role.{other}
 use Rattle.roles.specs.Both.{of}
 use Rattle.causes.specs.declared.fault.LinkFault.{LinkFault}
 use Rattle.causes.specs.declared.fault.LinkFault.TheVariants.{NotDetected, Spent}
-use Rattle.link_run.specs.Run.{Link, Ends, Turn, Hears, GoingTurn, RunOf}
+use Rattle.link_run.specs.Run.{Link, Accounts, Turn, Hears, GoingTurn, RunOf}
 use Rattle.link_run.specs.Outcomes.{Outcome, Going, Done, Broken, TurnIs}
 use Rattle.line_texts.specs.LineText.{chance_line}
 use Rattle.link_run.specs.Trace.{trace_text}
@@ -37,15 +37,15 @@ abbrev pub line_text : List Turn → LineEnd → List ℕ
 line_text ts (lines.LineLost role symbol) = trace_text ts
 line_text ts (lines.ChanceMatch role) = trace_text ts ++ chance_line (length ts) role
 
-pub record TurnEnds (c : Channel) (link : Link) (ts : List Turn) (es : Ends) (o : Outcome) (left : Left) : Type 0 where
+pub record TurnEnds (c : Channel) (link : Link) (ts : List Turn) (es : Accounts) (o : Outcome) (left : Left) : Type 0 where
   pub last : Turn
-  pub mid : Ends
+  pub mid : Accounts
   pub heard : HeardIn c ts last
   pub is : TurnIs link ts es last mid o
   pub not_going : o ≢ Going
   pub leaves : Leaves mid (trace_text (last ∷ ts)) left
 
-abbrev EndsWith : Channel → Link → List Turn → Ends → Cause → Left → Type 0
+abbrev EndsWith : Channel → Link → List Turn → Accounts → Cause → Left → Type 0
 EndsWith c link ts es (In_turn o) left = TurnEnds c link ts es o left
 EndsWith c link ts es (On_line e) left = EndsLine c ts es e × Leaves es (line_text ts e) left
 
@@ -60,7 +60,7 @@ end_of n (In_turn (Broken role fault)) = broken_end n role fault
 end_of n (On_line (lines.LineLost role symbol)) = LineLost role symbol
 end_of n (On_line (lines.ChanceMatch role)) = ChanceMatch role n
 
-pub record Caused (c : Channel) (link : Link) (ts : List Turn) (es : Ends) (end : RunEnd) (left : Left) : Type 0 where
+pub record Caused (c : Channel) (link : Link) (ts : List Turn) (es : Accounts) (end : RunEnd) (left : Left) : Type 0 where
   pub cause : Cause
   pub ends : EndsWith c link ts es cause left
   pub is : end_of (length ts) cause ≡ end
@@ -71,7 +71,7 @@ number Going = 0
 number Done = 1
 number (Broken role fault) = 2
 
-in-turn : (c : Channel) (link : Link) (ts : List Turn) (es : Ends) (o : Outcome) (turn : ℕ) (left : Left) → o ≢ Going
+in-turn : (c : Channel) (link : Link) (ts : List Turn) (es : Accounts) (o : Outcome) (turn : ℕ) (left : Left) → o ≢ Going
     → EndsInTurn c link ts es o turn left → TurnEnds c link ts es o left
 in-turn c link ts es o turn left n e = record { last = e.last; mid = e.mid; heard = e.heard; is = e.is; not_going = n; leaves = e.leaves }
 
@@ -81,7 +81,7 @@ done-not z = omega (arith, ap number z)
 broken-not : (role : Role) (fault : LinkFault) → Broken role fault ≢ Going
 broken-not role fault z = omega (arith, ap number z)
 
-caused : (c : Channel) (link : Link) (ts : List Turn) (es : Ends) (end : RunEnd) (left : Left) → EndsBy c link ts es end left
+caused : (c : Channel) (link : Link) (ts : List Turn) (es : Accounts) (end : RunEnd) (left : Left) → EndsBy c link ts es end left
     → Caused c link ts es end left
 caused c link ts es (IsDone turn) left e =
     record { cause = In_turn Done; ends = in-turn c link ts es Done turn left done-not e; is = ap IsDone (sym e.number) }
@@ -100,17 +100,17 @@ caused c link ts es (LineLost role symbol) left e =
 caused c link ts es (ChanceMatch role turn) left e =
     record { cause = On_line (lines.ChanceMatch role); ends = (e.1.is, e.1.leaves); is = ap (ChanceMatch role) (sym e.0) }
 
-same-left : (es fs : Ends) (text others : List ℕ) (a b : Left) → Leaves es text a → Leaves fs others b → es ≡ fs → text ≡ others → a ≡ b
+same-left : (es fs : Accounts) (text others : List ℕ) (a b : Left) → Leaves es text a → Leaves fs others b → es ≡ fs → text ≡ others → a ≡ b
 same-left es fs text others a b h k e t =
     let got : (role : Role) → of role a.got ≡ of role b.got =
-    λ role. h.got_is role ∙ ap (λ (x : Ends). concat (of role x).incoming.taken) e ∙ sym (k.got_is role) in
+    λ role. h.got_is role ∙ ap (λ (x : Accounts). concat (of role x).incoming.taken) e ∙ sym (k.got_is role) in
     let both : a.got ≡ b.got =
     ap (λ z. record { orig = z; answ = a.got.answ }) (got Originator)
     ∙ ap (λ z. record { orig = b.got.orig; answ = z }) (got Answerer) in
     ap (λ z. record { got = z; trace = a.trace }) both ∙ ap (λ z. record { got = b.got; trace = z }) (h.trace_is ∙ t ∙ sym k.trace_is)
 
 -- two turns after the same ones, which the same is heard in
-both-heard : (laws : ResultLaws) (c : Channel) (ts : List Turn) (es : Ends) (t u : Turn) (mid later : Ends) → Hears (length ts) es t mid
+both-heard : (laws : ResultLaws) (c : Channel) (ts : List Turn) (es : Accounts) (t u : Turn) (mid later : Accounts) → Hears (length ts) es t mid
     → Hears (length ts) es u later → HeardIn c ts t → HeardIn c ts u → heard_in t ≡ heard_in u
 both-heard laws c ts es t u mid later h k p q =
     ap (λ z. record { orig = z; answ = t.answ.heard }) (each Originator)
@@ -122,7 +122,7 @@ both-heard laws c ts es t u mid later h k p q =
         (subst (λ z. IsHeardOf c (other role) ts z (of role t).heard)
         (same-checks (length ts) (length ts) es es t u mid later refl h k role) (p role).heard_of) (q role).heard_of
 
-same-cause : (laws : ResultLaws) (c : Channel) (link : Link) (ts : List Turn) (es : Ends) (k q : Cause) (a b : Left)
+same-cause : (laws : ResultLaws) (c : Channel) (link : Link) (ts : List Turn) (es : Accounts) (k q : Cause) (a b : Left)
     → EndsWith c link ts es k a → EndsWith c link ts es q b → (k ≡ q) × (a ≡ b)
 same-cause laws c link ts es (In_turn o) (In_turn p) a b h w =
     let e = both-heard laws c ts es h.last w.last h.mid w.mid (hearing-in link ts es h.last h.mid o h.is)
@@ -143,15 +143,15 @@ same-cause laws c link ts es (On_line e) (On_line f) a b h w =
 -- the turn of that number in a longer run
 pub record Cut (c : Channel) (link : Link) (n : ℕ) : Type 0 where
   pub turns : List Turn
-  pub before : Ends
+  pub before : Accounts
   pub count : length turns ≡ n
   pub run : LineRun c link turns before
   pub turn : Turn
-  pub after : Ends
+  pub after : Accounts
   pub going : GoingTurn link turns before turn after
   pub heard : HeardIn c turns turn
 
-cut : (c : Channel) (link : Link) (n : ℕ) (ts : List Turn) (es : Ends) → RunOf link ts es → IsHeardOver c ts → n < length ts → Cut c link n
+cut : (c : Channel) (link : Link) (n : ℕ) (ts : List Turn) (es : Accounts) → RunOf link ts es → IsHeardOver c ts → n < length ts → Cut c link n
 cut c link n [] es h k l = absurd (omega (arith, l))
 cut c link n (t ∷ ts) es h k l = go (n-or n (length ts) (omega (arith, l))) (cut c link n ts h.0 h.1 k.1)
   where
@@ -180,7 +180,7 @@ cut c link n (t ∷ ts) es h k l = go (n-or n (length ts) (omega (arith, l))) (c
 
 -- a run that ended doesn't go on
 ended-stays : (laws : ResultLaws) (c : Channel) (link : Link) (end : RunEnd) (left : Left) (r : RunsTo c link end left) (ts : List Turn)
-    (es : Ends) → LineRun c link ts es → length r.turns < length ts → ⊥
+    (es : Accounts) → LineRun c link ts es → length r.turns < length ts → ⊥
 ended-stays laws c link end left r ts es h less =
     let k = cut c link (length r.turns) ts es h.run h.heard less in
     let same = laws.run c link r.turns k.turns r.ends k.before (sym k.count) r.run k.run in

@@ -21,7 +21,7 @@ use Rattle.sample_line.specs.Outcomes.{is_message, IsWhatWasSent, IsOutcome}
 use Rattle.sample_line.specs.Received.{Receives}
 use Rattle.sample_line.specs.Laws.{RecordedOnce, ReceivedOnce, OneOutcome}
 use Rattle.link_account.specs.Account.{check_of}
-use Rattle.link_run.specs.Run.{Link, Ends, Spoken, Turn, Hears, RunOf}
+use Rattle.link_run.specs.Run.{Link, Accounts, Spoken, Turn, Hears, RunOf}
 use Rattle.link_run.specs.Carried.{sent_ago, has_message, Crosses}
 use Rattle.link_run.specs.Laws.{heard_in, OneRun}
 use Rattle.line_run.specs.Sampled.{Channel, bits_of, bits_before, ArrivesAs, IsHeardOf, HeardIn, IsHeardOver, LineLost, ChanceMatch, LosesLine}
@@ -109,12 +109,12 @@ same-heard laws c ts t u e h k =
         (subst (λ z. IsHeardOf c (other role) ts z (of role t).heard) (e role) (h role).heard_of) (k role).heard_of
 
 -- the checks of turns that the same ends hear
-pub same-checks : (turn others : ℕ) (before ends : Ends) (t u : Turn) (mid later : Ends) → before ≡ ends → Hears turn before t mid
+pub same-checks : (turn others : ℕ) (before ends : Accounts) (t u : Turn) (mid later : Accounts) → before ≡ ends → Hears turn before t mid
     → Hears others ends u later → (role : Role) → (of role t).check ≡ (of role u).check
 same-checks turn others before ends t u mid later e h k role =
-    (h role).check_is ∙ ap (λ (z : Ends). check_of (of role z)) e ∙ sym (k role).check_is
+    (h role).check_is ∙ ap (λ (z : Accounts). check_of (of role z)) e ∙ sym (k role).check_is
 
-same-heards : (laws : SampleLaws) (c : Channel) (link : Link) (one : OneRun) (ts us : List Turn) (ends others : Ends)
+same-heards : (laws : SampleLaws) (c : Channel) (link : Link) (one : OneRun) (ts us : List Turn) (ends others : Accounts)
     → length ts ≡ length us → RunOf link ts ends → RunOf link us others → IsHeardOver c ts → IsHeardOver c us
     → map heard_in ts ≡ map heard_in us
 same-heards laws c link one [] [] ends others e h k p q = refl
@@ -194,7 +194,7 @@ pub one_line_end : SampleLaws → OneLineEnd
 one_line_end laws c ts ends = one_line_end_by laws c ts (λ role. check_of (of role ends))
 
 -- what an end hears by the check that it has
-heard-by : (c : Channel) (ts : List Turn) (ends : Ends) (t : Turn) (mid : Ends) → Hears (length ts) ends t mid → HeardIn c ts t
+heard-by : (c : Channel) (ts : List Turn) (ends : Accounts) (t : Turn) (mid : Accounts) → Hears (length ts) ends t mid → HeardIn c ts t
     → (role : Role) → IsHeardWell c (other role) ts (check_of (of role ends))
 heard-by c ts ends t mid h k role =
     record {

@@ -8,7 +8,7 @@ use Rattle.std.proofs.Math.Seq.{take-append_seam, drop-append_seam}
 use Rattle.roles.specs.declared.role.Role.{Role}
 use Rattle.roles.specs.Both.{of}
 use Rattle.noise_script.specs.Script.{delay_of}
-use Rattle.link_run.specs.Run.{Link, Ends, Spoken, Turn, RunOf}
+use Rattle.link_run.specs.Run.{Link, Accounts, Spoken, Turn, RunOf}
 use Rattle.link_run.specs.Carried.{sent_in, sent_ago}
 use Rattle.line_run.specs.Sampled.{Channel, IsAlone, and_then, signal_in, signals, signals_before}
 use Rattle.line_run.specs.Stream.{Carried, carried_signal, carry, sent_by, AreSent}
@@ -55,7 +55,7 @@ sent-dropped role (suc n) [] h = h
 sent-dropped role (suc n) (t ∷ ts) h = sent-dropped role n ts h.1
 
 -- what a role sent in the turns of a run
-pub run-sent : (link : Link) (role : Role) (ts : List Turn) (ends : Ends) → RunOf link ts ends → AreSent role ts
+pub run-sent : (link : Link) (role : Role) (ts : List Turn) (ends : Accounts) → RunOf link ts ends → AreSent role ts
 run-sent link role [] ends h = tt
 run-sent link role (t ∷ ts) ends h = (ap is_some (h.2.speaking role).sent_is, run-sent link role ts h.0 h.1)
 

@@ -8,7 +8,7 @@ use Rattle.roles.specs.Both.{Both, of}
 use Rattle.noise_script.specs.declared.entry.Break.{Break}
 use Rattle.noise_script.specs.declared.entry.Pause.{Pause}
 use Rattle.noise_script.specs.Script.{ScriptValue, IsInLimits, delay_of}
-use Rattle.link_run.specs.Run.{Ends}
+use Rattle.link_run.specs.Run.{Accounts}
 use Rattle.link_run.specs.Carried.{IsCarried}
 use Rattle.line_run.specs.LineLaws.{SamplesAreCarried}
 use Rattle.line_run.specs.Scripted.{period_of, link_of, break_line, busy_line}
@@ -47,7 +47,7 @@ scripts-keep-time script files h = record { roles = roles; timed = timed; some_t
     delays Answerer = h.delay_answ_some
 
 -- the files of the link are those
-same-hold : (script : ScriptValue) (files : Both (List ℕ)) (ends : Ends) (segments : Role → ℕ)
+same-hold : (script : ScriptValue) (files : Both (List ℕ)) (ends : Accounts) (segments : Role → ℕ)
     → ((role : Role) → HoldsFile (of role files) (of role ends).outgoing (segments role))
     → (role : Role) → HoldsFile (of role (link_of script files)).user.file (of role ends).outgoing (segments role)
 same-hold script files ends segments h Originator = h Originator

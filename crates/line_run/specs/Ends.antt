@@ -9,7 +9,7 @@ use Rattle.plain_lists.specs.Prefix.{IsPrefixOf}
 use Rattle.noise_script.specs.Script.{ScriptValue, delay_of}
 use Rattle.causes.specs.declared.fault.LinkFault.TheVariants as faults
 use Rattle.link_account.specs.Laws.{MayPlay}
-use Rattle.link_run.specs.Run.{Link, Ends, Turn}
+use Rattle.link_run.specs.Run.{Link, Accounts, Turn}
 use Rattle.link_run.specs.Carried.{HasDelays}
 use Rattle.link_run.specs.Outcomes.{Outcome, Done, Broken, TurnIs}
 use Rattle.link_run.specs.Starved.{IsStarved}
@@ -35,26 +35,26 @@ pub record Left : Type 0 where
   pub trace : List ℕ  -- as text
 
 -- What is left of turns, and of the ends after them.
-pub record Leaves (ends : Ends) (text : List ℕ) (left : Left) : Type 0 where
+pub record Leaves (ends : Accounts) (text : List ℕ) (left : Left) : Type 0 where
   pub got_is : (role : Role) → of role left.got ≡ concat (of role ends).incoming.taken
   pub trace_is : left.trace ≡ text
 
 -- A last turn is made after these, with this outcome.
-pub record EndsInTurn (c : Channel) (link : Link) (ts : List Turn) (ends : Ends) (outcome : Outcome) (turn : ℕ) (left : Left) : Type 0 where
+pub record EndsInTurn (c : Channel) (link : Link) (ts : List Turn) (ends : Accounts) (outcome : Outcome) (turn : ℕ) (left : Left) : Type 0 where
   pub number : turn ≡ length ts
   pub last : Turn
-  pub mid : Ends
+  pub mid : Accounts
   pub heard : HeardIn c ts last
   pub is : TurnIs link ts ends last mid outcome
   pub leaves : Leaves mid (trace_text (last ∷ ts)) left
 
 -- The line ends the run as the turn after these begins.
-pub record EndsOnLine (c : Channel) (ts : List Turn) (ends : Ends) (end : LineEnd) (text : List ℕ) (left : Left) : Type 0 where
+pub record EndsOnLine (c : Channel) (ts : List Turn) (ends : Accounts) (end : LineEnd) (text : List ℕ) (left : Left) : Type 0 where
   pub is : EndsLine c ts ends end
   pub leaves : Leaves ends text left
 
 -- The ends by their causes. A link is lost where an end's tries are spent, at its front's segment.
-abbrev pub EndsBy : Channel → Link → List Turn → Ends → RunEnd → Left → Type 0
+abbrev pub EndsBy : Channel → Link → List Turn → Accounts → RunEnd → Left → Type 0
 EndsBy c link ts ends (IsDone turn) left = EndsInTurn c link ts ends Done turn left
 EndsBy c link ts ends (LinkLost role segment turn) left =
     (since : ℕ) × EndsInTurn c link ts ends (Broken role (faults.Spent segment since)) turn left
@@ -66,7 +66,7 @@ EndsBy c link ts ends (ChanceMatch role turn) left =
 -- A run goes on for some turns, and ends.
 pub record RunsTo (c : Channel) (link : Link) (end : RunEnd) (left : Left) : Type 0 where
   pub turns : List Turn
-  pub ends : Ends
+  pub ends : Accounts
   pub run : LineRun c link turns ends
   pub ended : EndsBy c link turns ends end left
 
@@ -86,7 +86,7 @@ DoneLeavesWhole = (c : Channel) (link : Link) (turn : ℕ) (left : Left) → May
     → (role : Role) → of role left.got ≡ (of (other role) link).user.file
 
 -- the turns in which something was heard: the last one too, where one was made
-abbrev pub turns_heard : (c : Channel) (link : Link) (ts : List Turn) (ends : Ends) (end : RunEnd) (left : Left)
+abbrev pub turns_heard : (c : Channel) (link : Link) (ts : List Turn) (ends : Accounts) (end : RunEnd) (left : Left)
     → EndsBy c link ts ends end left → List Turn
 turns_heard c link ts ends (IsDone turn) left e = e.last ∷ ts
 turns_heard c link ts ends (LinkLost role segment turn) left e = e.1.last ∷ ts

@@ -20,7 +20,7 @@ use Rattle.sample_line.specs.Received.{Receives}
 use Rattle.sample_line.specs.Outcomes.{IsOutcome}
 use Rattle.sample_line.specs.Path.{LosesAt}
 use Rattle.link_account.specs.Account.{check_of}
-use Rattle.link_run.specs.Run.{Link, Ends, Spoken, Side, Turn, RunOf}
+use Rattle.link_run.specs.Run.{Link, Accounts, Spoken, Side, Turn, RunOf}
 use Rattle.link_run.specs.Carried.{sent_ago}
 
 -- How the slots of a link go over the line.
@@ -99,7 +99,7 @@ IsHeardOver c [] = Unit {0}
 IsHeardOver c (t ∷ ts) = HeardIn c ts t × IsHeardOver c ts
 
 -- Turns after which a run over the line goes on, and the ends after them.
-pub record LineRun (c : Channel) (link : Link) (ts : List Turn) (ends : Ends) : Type 0 where
+pub record LineRun (c : Channel) (link : Link) (ts : List Turn) (ends : Accounts) : Type 0 where
   pub run : RunOf link ts ends
   pub heard : IsHeardOver c ts
 
@@ -129,5 +129,5 @@ EndsLineBy c ts checks (ChanceMatch Answerer) =
     IsHeardWell c Answerer ts (checks Originator) × IsHeardOf c Originator ts (checks Answerer) Chance
 
 -- so it ends the run with these ends
-abbrev pub EndsLine : Channel → List Turn → Ends → LineEnd → Type 0
+abbrev pub EndsLine : Channel → List Turn → Accounts → LineEnd → Type 0
 EndsLine c ts ends end = EndsLineBy c ts (λ role. check_of (of role ends)) end

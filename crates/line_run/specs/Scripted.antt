@@ -19,7 +19,7 @@ use Rattle.link_run.specs.Carried.{HasDelays}
 use Rattle.link_run.specs.End.{BreakLine, BusyLine, is_busy}
 use Rattle.lapm_frames.specs.Sendable.{IsSendable}
 use Rattle.sample_line.specs.Signals.{IsCodable}
-use Rattle.link_run.specs.Run.{Party, Link, Ends, Spoken, Turn, GoingTurn}
+use Rattle.link_run.specs.Run.{Party, Link, Accounts, Spoken, Turn, GoingTurn}
 use Rattle.line_run.specs.Sampled.{Channel, HeardIn, LineRun}
 
 -- a period: two ways there and back, and what an answer may wait
@@ -109,7 +109,7 @@ SlotsHaveRoom = (script : ScriptValue) → IsInLimits script
 
 -- and whatever its ends send fits a slot of that size, on each channel and behind any unfinished flag, whatever goes beside it.
 abbrev pub SlotsAreCodable : Type 0
-SlotsAreCodable = (c : Channel) (files : Both (List ℕ)) (ts : List Turn) (ends : Ends) (t : Turn) (after : Ends)
+SlotsAreCodable = (c : Channel) (files : Both (List ℕ)) (ts : List Turn) (ends : Accounts) (t : Turn) (after : Accounts)
     → IsInLimits c.script
     → LineRun c (link_of c.script files) ts ends → HeardIn c ts t
     → GoingTurn (link_of c.script files) ts ends t after

@@ -4,7 +4,7 @@ use Rattle.roles.specs.declared.role.Role.{Role}
 use Rattle.roles.specs.Both.{Both, of}
 use Rattle.lapm_sender.specs.Outgoing.{is_whole}
 use Rattle.noise_script.specs.Script.{ScriptValue, IsInLimits, delay_of}
-use Rattle.link_run.specs.Run.{Ends, Turn}
+use Rattle.link_run.specs.Run.{Accounts, Turn}
 use Rattle.line_run.specs.Sampled.{Channel, IsHeardOver, LineRun}
 use Rattle.line_run.specs.Scripted.{period_of, link_of}
 use Rattle.turn_bound.specs.Time.{KeepsTime}
@@ -19,19 +19,19 @@ ScriptsKeepTime = (script : ScriptValue) (files : Both (List ℕ)) → IsInLimit
     → KeepsTime script.tries (period_of script) (delay_of script) (link_of script files)
 
 -- A script's run ends soon: by the segments that were offered, by those of the files where these are told, and by the files' octets.
-pub record HasFewTurns (script : ScriptValue) (files : Both (List ℕ)) (ts : List Turn) (ends : Ends) : Type 0 where
+pub record HasFewTurns (script : ScriptValue) (files : Both (List ℕ)) (ts : List Turn) (ends : Accounts) : Type 0 where
   pub offered : length ts < most_turns script.tries (period_of script) (link_of script files) (offered_to ends)
   pub told : (segments : Role → ℕ) → ((role : Role) → HoldsFile (of role files) (of role ends).outgoing (segments role))
       → length ts < most_turns script.tries (period_of script) (link_of script files) segments
   pub octets : length ts < most_turns script.tries (period_of script) (link_of script files) (λ role. length (of role files))
 
 abbrev pub LineRunsEndSoon : Type 0
-LineRunsEndSoon = (c : Channel) (files : Both (List ℕ)) (ts : List Turn) (ends : Ends)
+LineRunsEndSoon = (c : Channel) (files : Both (List ℕ)) (ts : List Turn) (ends : Accounts)
     → IsInLimits c.script → LineRun c (link_of c.script files) ts ends → HasFewTurns c.script files ts ends
 
 -- Without pauses the front of an end that may send advances within the turns of one segment, or it is whole, or the run ends.
 abbrev pub LineRunsAdvance : Type 0
-LineRunsAdvance = (c : Channel) (files : Both (List ℕ)) (ts us : List Turn) (before after : Ends) (role : Role)
+LineRunsAdvance = (c : Channel) (files : Both (List ℕ)) (ts us : List Turn) (before after : Accounts) (role : Role)
     → IsInLimits c.script → c.script.pauses ≡ [] → LineRun c (link_of c.script files) ts before → MaySend (of role before)
     → GoesOn (link_of c.script files) ts before us after → IsHeardOver c (us ++ ts)
     → is_whole (of role after).outgoing ≡ false → (of role after).outgoing.front ≡ (of role before).outgoing.front
@@ -39,6 +39,6 @@ LineRunsAdvance = (c : Channel) (files : Both (List ℕ)) (ts us : List Turn) (b
 
 -- No run of a script, of files within their limit, is half as long as the turns that an end can count.
 abbrev pub NoLineRunIsLong : Type 0
-NoLineRunIsLong = (c : Channel) (files : Both (List ℕ)) (ts : List Turn) (ends : Ends)
+NoLineRunIsLong = (c : Channel) (files : Both (List ℕ)) (ts : List Turn) (ends : Accounts)
     → IsInLimits c.script → ((role : Role) → length (of role files) ≤ file_limit)
     → LineRun c (link_of c.script files) ts ends → length ts < 2 ^ 39

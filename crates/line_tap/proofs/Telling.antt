@@ -34,7 +34,7 @@ use Rattle.line_texts.specs.LineText.{chance_line}
 use Rattle.line_laws.specs.Fitting.{AreFit}
 use Rattle.line_laws.specs.Laws.{OneMoreFits, SlotsHaveSize, CodableFits, CodableIsSendable, SpelledInOctets}
 use Rattle.link_account.specs.Account.{check_of}
-use Rattle.link_run.specs.Run.{Link, Ends, Spoken, Turn, spoken, RunOf, GoingTurn, IsSilent}
+use Rattle.link_run.specs.Run.{Link, Accounts, Spoken, Turn, spoken, RunOf, GoingTurn, IsSilent}
 use Rattle.link_run.specs.Run as run
 use Rattle.link_run.specs.Laws.{RunsOver}
 use Rattle.link_run.specs.Overheard.{agreed_terms, SendsAgreedCheck}
@@ -206,12 +206,12 @@ holds-next laws c check role ts t body slot alone e a w =
 
 -- ---- the turns of a run
 
-all-sent : (link : Link) (role : Role) (ts : List Turn) (ends : Ends) → RunOf link ts ends → AllSent role ts
+all-sent : (link : Link) (role : Role) (ts : List Turn) (ends : Accounts) → RunOf link ts ends → AllSent role ts
 all-sent link role [] ends h = tt
 all-sent link role (t ∷ ts) ends h =
     ((spoken (h.2.speaking role).said, (h.2.speaking role).sent_is), all-sent link role ts h.0 h.1)
 
-over : TellingLaws → (script : ScriptValue) (files : Both (List ℕ)) (ts : List Turn) (ends : Ends) → IsInLimits script
+over : TellingLaws → (script : ScriptValue) (files : Both (List ℕ)) (ts : List Turn) (ends : Accounts) → IsInLimits script
     → LineRun (channel_of script) (link_of script files) ts ends → RunsOver (link_of script files) (delay_of script) ts ends
 over laws script files ts ends limits r = record {
   may_play = laws.play script files limits;
@@ -224,7 +224,7 @@ over laws script files ts ends limits r = record {
 abbrev check_in : ScriptValue → Both (List ℕ) → Check
 check_in script files = check_by (agreed_terms (link_of script files))
 
-all-checked : TellingLaws → (script : ScriptValue) (files : Both (List ℕ)) (ts : List Turn) (ends : Ends) → IsInLimits script
+all-checked : TellingLaws → (script : ScriptValue) (files : Both (List ℕ)) (ts : List Turn) (ends : Accounts) → IsInLimits script
     → LineRun (channel_of script) (link_of script files) ts ends → (role : Role) → AllChecked (check_in script files) role ts
 all-checked laws script files [] ends limits r role = tt
 all-checked laws script files (t ∷ ts) ends limits r role =
@@ -234,7 +234,7 @@ all-checked laws script files (t ∷ ts) ends limits r role =
       all-checked laws script files ts r.run.0 limits before role,
     )
 
-hears-plain : TellingLaws → (script : ScriptValue) (files bodies : Both (List ℕ)) (ts : List Turn) (ends : Ends) (t : Turn) (mid : Ends)
+hears-plain : TellingLaws → (script : ScriptValue) (files bodies : Both (List ℕ)) (ts : List Turn) (ends : Accounts) (t : Turn) (mid : Accounts)
     → IsInLimits script → LineRun (channel_of script) (link_of script files) ts ends → HeardIn (channel_of script) ts t
     → run.Hears (length ts) ends t mid
     → Hears (tapping script bodies) (plains (check_in script files) ts) (plain (check_in script files) t)
@@ -251,7 +251,7 @@ hears-plain laws script files bodies ts ends t mid limits r h k =
           ∙ ap (given_to role (plains check ts)) (sym (plain-heard check role t));
     }
 
-tells-run : TellingLaws → (script : ScriptValue) (files bodies : Both (List ℕ)) (ts : List Turn) (ends : Ends) → IsInLimits script
+tells-run : TellingLaws → (script : ScriptValue) (files bodies : Both (List ℕ)) (ts : List Turn) (ends : Accounts) → IsInLimits script
     → LineRun (channel_of script) (link_of script files) ts ends → ((role : Role) → Within (channel_of script) role ts (of role bodies))
     → Tells (tapping script bodies) (plains (check_in script files) ts)
 tells-run laws script files bodies [] ends limits r w = tt
@@ -282,7 +282,7 @@ tells-run laws script files bodies (t ∷ ts) ends limits r w =
 silent-plain : (check : Check) (t : Turn) → IsSilent t → IsSilent (plain check t)
 silent-plain check t s role = plain-sent check role t ∙ ap (option_map (plain_slot check)) (s role)
 
-in-turn : TellingLaws → (script : ScriptValue) (files bodies : Both (List ℕ)) (ts : List Turn) (ends : Ends) (last : Turn) (mid : Ends)
+in-turn : TellingLaws → (script : ScriptValue) (files bodies : Both (List ℕ)) (ts : List Turn) (ends : Accounts) (last : Turn) (mid : Accounts)
     (turn : ℕ) (left : Left) → IsInLimits script → LineRun (channel_of script) (link_of script files) ts ends
     → ((role : Role) → All (channel_of script) role ts (of role bodies)) → turn ≡ length ts → HeardIn (channel_of script) ts last
     → run.Hears (length ts) ends last mid → IsSilent last → runs.Leaves mid (trace_text (last ∷ ts)) left
@@ -308,7 +308,7 @@ in-turn laws script files bodies ts ends last mid turn left limits r w e h k sil
       };
     }
 
-on-line : TellingLaws → (script : ScriptValue) (files bodies : Both (List ℕ)) (ts : List Turn) (ends : Ends) (end : LineEnd)
+on-line : TellingLaws → (script : ScriptValue) (files bodies : Both (List ℕ)) (ts : List Turn) (ends : Accounts) (end : LineEnd)
     (text others : List ℕ) (left : Left) → IsInLimits script → LineRun (channel_of script) (link_of script files) ts ends
     → lines.EndsLine (channel_of script) ts ends end → runs.Leaves ends text left → text ≡ others
     → EndsOnLine (tapping script bodies) (plains (check_in script files) ts) end others left
@@ -359,7 +359,7 @@ on-line laws script files bodies ts ends end text others left limits r is l same
     by (lines.LineLost Answerer symbol) h = (well h.0, loses-plain c check Originator ts symbol (a Originator) h.1)
     by (lines.ChanceMatch Answerer) h = (well h.0, heard Answerer h.1)
 
-ended : TellingLaws → (script : ScriptValue) (files bodies : Both (List ℕ)) (ts : List Turn) (ends : Ends) (end : RunEnd) (left : Left)
+ended : TellingLaws → (script : ScriptValue) (files bodies : Both (List ℕ)) (ts : List Turn) (ends : Accounts) (end : RunEnd) (left : Left)
     → IsInLimits script → LineRun (channel_of script) (link_of script files) ts ends
     → ((role : Role) → All (channel_of script) role ts (of role bodies))
     → runs.EndsBy (channel_of script) (link_of script files) ts ends end left

@@ -17,7 +17,7 @@ use Rattle.link_account.specs.Account.{check_of}
 use Rattle.link_run.specs.End.{deliveries}
 use Rattle.link_run.specs.Laws.{HearingsDeliver, SpeakingTakesNothing}
 use Rattle.link_run.specs.Outcomes.{Outcome, Going, Done, Broken, TurnIs}
-use Rattle.link_run.specs.Run.{Link, Ends, Turn, Hears}
+use Rattle.link_run.specs.Run.{Link, Accounts, Turn, Hears}
 use Rattle.link_run.specs.Trace.{trace_text, turn_text}
 use Rattle.line_run.specs.Sampled.{Channel, LineRun, EndsLine}
 use Rattle.line_run.specs.Sampled as lines
@@ -54,7 +54,7 @@ use Rattle.link_pair.specs.Half.{IsEndedByLine, LinkStops, LinkStopsReading, IsS
 pub record AtGoing (h : Half) (script : ScriptValue) (beside : Role → ℕ → Option Signal) (files : Both (List ℕ)) (round : ℕ)
     (p : Progress) : Type 0 where
   pub ts : List Turn
-  pub ends : Ends
+  pub ends : Accounts
   pub is : p ≡ Goes ts ends
   pub may : MayGoOn h.modems files ts ends
   pub goes : GoesFor (channel_at script h.dlci beside) (link_of script files) round ts ends
@@ -106,7 +106,7 @@ pub record GoneOn (m : Modems) (l : Lines) (c : Channel) (links : ℕ) (streams 
     (ts : List Turn) : Type 0 where
   pub others : Both (List ℕ)
   pub turn : Turn
-  pub after : Ends
+  pub after : Accounts
   pub run : LineRun c (link_of c.script others) (turn ∷ ts) after
   pub may : MayGoOn m others (turn ∷ ts) after
   pub waits : LinesWait l c links (and_sent streams c.dlci turn)
@@ -117,7 +117,7 @@ pub record GoneOn (m : Modems) (l : Lines) (c : Channel) (links : ℕ) (streams 
 pub record EndedNow (m : Modems) (l : Lines) (c : Channel) (links : ℕ) (streams : Both (List Carried)) (f : FolderState) (n : Written)
     (ts : List Turn) (found : LinkEnd) : Type 0 where
   pub others : Both (List ℕ)
-  pub mid : Ends
+  pub mid : Accounts
   pub left : Left
   pub ran : RunsTo c (link_of c.script others) (run_end found) left
   pub turns_are : ran.turns ≡ ts
@@ -127,14 +127,14 @@ pub record EndedNow (m : Modems) (l : Lines) (c : Channel) (links : ℕ) (stream
   pub knows : KnowsFiles f n others
   pub holds : HoldEach f (outputs_of n) (held_of left)
 
-abbrev pub Comes : Modems → Lines → Channel → ℕ → Both (List Carried) → FolderState → Written → Both (List ℕ) → List Turn → Ends
+abbrev pub Comes : Modems → Lines → Channel → ℕ → Both (List Carried) → FolderState → Written → Both (List ℕ) → List Turn → Accounts
     → Result (Option LinkEnd) PairFault → Type 0
 Comes m l c links streams f n files ts ends (Ok None) = GoneOn m l c links streams f n ts
 Comes m l c links streams f n files ts ends (Ok (Some found)) = EndedNow m l c links streams f n ts found
 Comes m l c links streams f n files ts ends (Err fault) = HalfEnds c f n files (length ts) (Goes ts ends) fault
 
 -- what the folder and the outputs are before the turn, and how the turn touches them
-pub record Around (old new : FolderState) (n : Written) (files : Both (List ℕ)) (ts : List Turn) (ends : Ends) : Type 0 where
+pub record Around (old new : FolderState) (n : Written) (files : Both (List ℕ)) (ts : List Turn) (ends : Accounts) : Type 0 where
   pub apart : IsApart n
   pub only : OnlyPuts old new (outputs_of n)
   pub knows : KnowsFiles old n files
@@ -142,7 +142,7 @@ pub record Around (old new : FolderState) (n : Written) (files : Both (List ℕ)
 
 gone-on : HearingsDeliver → SpeakingTakesNothing
     → (m : Modems) (l : Lines) (c : Channel) (links : ℕ) (streams : Both (List Carried)) (old new : FolderState) (n : Written)
-    (files : Both (List ℕ)) (ts : List Turn) (ends : Ends) → Around old new n files ts ends → LineRun c (link_of c.script files) ts ends
+    (files : Both (List ℕ)) (ts : List Turn) (ends : Accounts) → Around old new n files ts ends → LineRun c (link_of c.script files) ts ends
     → AreKept m → GoesOnBy m l c links streams old new n files ts ends → GoneOn m l c links streams new n ts
 gone-on delivers speaks m l c links streams old new n files ts ends a run kept g =
     let held = held-turn delivers (link_of c.script files) ts ends g.turn g.going.mid old new n run.run g.going.hearing a.only.goes_on
@@ -162,17 +162,17 @@ gone-on delivers speaks m l c links streams old new n files ts ends a run kept g
     }
 
 -- what is left of ends and of a text
-abbrev pub left_of : Ends → List ℕ → Left
+abbrev pub left_of : Accounts → List ℕ → Left
 left_of ends text = record { got = record { orig = concat ends.orig.incoming.taken; answ = concat ends.answ.incoming.taken }; trace = text }
 
-leaves-so : (ends : Ends) (text : List ℕ) → Leaves ends text (left_of ends text)
+leaves-so : (ends : Accounts) (text : List ℕ) → Leaves ends text (left_of ends text)
 leaves-so ends text = record { got_is = is; trace_is = refl }
   where
     is : (role : Role) → of role (left_of ends text).got ≡ concat (of role ends).incoming.taken
     is Originator = refl
     is Answerer = refl
 
-hears-of : (link : Link) (ts : List Turn) (ends : Ends) (t : Turn) (mid : Ends) (o : Outcome) → TurnIs link ts ends t mid o
+hears-of : (link : Link) (ts : List Turn) (ends : Accounts) (t : Turn) (mid : Accounts) (o : Outcome) → TurnIs link ts ends t mid o
     → Hears (length ts) ends t mid
 hears-of link ts ends t mid Going g = subst (Hears (length ts) ends t) g.2 g.1.hearing
 hears-of link ts ends t mid Done l = l.hearing
@@ -181,7 +181,7 @@ hears-of link ts ends t mid (Broken role fault) b = b.hearing
 -- the last turn, and what the outputs hold behind it
 last-turn : HearingsDeliver
     → (m : Modems) (l : Lines) (c : Channel) (links : ℕ) (streams : Both (List Carried)) (old new : FolderState) (n : Written)
-    (files : Both (List ℕ)) (ts : List Turn) (ends : Ends) (outcome : Outcome) (number : ℕ) → Around old new n files ts ends
+    (files : Both (List ℕ)) (ts : List Turn) (ends : Accounts) (outcome : Outcome) (number : ℕ) → Around old new n files ts ends
     → LineRun c (link_of c.script files) ts ends
     → (e : turns.EndsInTurn m l c links streams old new n files ts ends outcome number)
     → EndsInTurn c (link_of c.script e.others) ts ends outcome number (left_of e.mid (trace_text (e.turn ∷ ts)))
@@ -201,7 +201,7 @@ last-turn delivers m l c links streams old new n files ts ends outcome number a 
 
 ended-done : HearingsDeliver
     → (m : Modems) (l : Lines) (c : Channel) (links : ℕ) (streams : Both (List Carried)) (old new : FolderState) (n : Written)
-    (files : Both (List ℕ)) (ts : List Turn) (ends : Ends) (turn : ℕ) → Around old new n files ts ends
+    (files : Both (List ℕ)) (ts : List Turn) (ends : Accounts) (turn : ℕ) → Around old new n files ts ends
     → LineRun c (link_of c.script files) ts ends → turns.EndsInTurn m l c links streams old new n files ts ends Done turn
     → EndedNow m l c links streams new n ts (link_ends.Done turn)
 unfolding last-turn
@@ -221,7 +221,7 @@ ended-done delivers m l c links streams old new n files ts ends turn a run e =
 
 ended-undetected : HearingsDeliver
     → (m : Modems) (l : Lines) (c : Channel) (links : ℕ) (streams : Both (List Carried)) (old new : FolderState) (n : Written)
-    (files : Both (List ℕ)) (ts : List Turn) (ends : Ends) (turn : ℕ) → Around old new n files ts ends
+    (files : Both (List ℕ)) (ts : List Turn) (ends : Accounts) (turn : ℕ) → Around old new n files ts ends
     → LineRun c (link_of c.script files) ts ends
     → turns.EndsInTurn m l c links streams old new n files ts ends (Broken Originator causes.NotDetected) turn
     → EndedNow m l c links streams new n ts (link_ends.NotDetected turn)
@@ -242,7 +242,7 @@ ended-undetected delivers m l c links streams old new n files ts ends turn a run
 
 ended-lost : HearingsDeliver
     → (m : Modems) (l : Lines) (c : Channel) (links : ℕ) (streams : Both (List Carried)) (old new : FolderState) (n : Written)
-    (files : Both (List ℕ)) (ts : List Turn) (ends : Ends) (role : Role) (segment turn : ℕ) → Around old new n files ts ends
+    (files : Both (List ℕ)) (ts : List Turn) (ends : Accounts) (role : Role) (segment turn : ℕ) → Around old new n files ts ends
     → LineRun c (link_of c.script files) ts ends → turns.LosesLink m l c links streams old new n files ts ends role segment turn
     → EndedNow m l c links streams new n ts (link_ends.LinkLost role segment turn)
 unfolding last-turn
@@ -262,7 +262,7 @@ ended-lost delivers m l c links streams old new n files ts ends role segment tur
     }
 
 -- the line ends the pair
-line-lost : (m : Modems) (c : Channel) (old new : FolderState) (n : Written) (files : Both (List ℕ)) (ts : List Turn) (ends : Ends)
+line-lost : (m : Modems) (c : Channel) (old new : FolderState) (n : Written) (files : Both (List ℕ)) (ts : List Turn) (ends : Accounts)
     (role : Role) (symbol : ℕ) → Around old new n files ts ends → LosesLine m c old new n ts ends role symbol
     → IsEndedByLine c new n files (length ts) (Goes ts ends) (lines.LineLost role symbol)
 line-lost m c old new n files ts ends role symbol a e = record {
@@ -275,7 +275,7 @@ line-lost m c old new n files ts ends role symbol a e = record {
       (h.0, (h.1.0, (subst (Holds new n.trace) (sym (append-nil (trace_text ts))) h.1.1.0, tt)));
 }
 
-chance-met : (m : Modems) (c : Channel) (old new : FolderState) (n : Written) (files : Both (List ℕ)) (ts : List Turn) (ends : Ends)
+chance-met : (m : Modems) (c : Channel) (old new : FolderState) (n : Written) (files : Both (List ℕ)) (ts : List Turn) (ends : Accounts)
     (role : Role) (turn : ℕ) → Around old new n files ts ends → MeetsChance m c old new n ts ends role turn
     → (turn ≡ length ts) × IsEndedByLine c new n files (length ts) (Goes ts ends) (lines.ChanceMatch role)
 chance-met m c old new n files ts ends role turn a e = (
@@ -301,11 +301,11 @@ pub kept-none : (now next : FolderState) (name octets : List ℕ) → GoesOn now
 kept-none now next name octets on holds kept =
     subst (Holds next name) (sym (append-nil octets)) (Holds-kept now next name octets on holds kept)
 
-abbrev more_of : Ends → List ℕ → Left
+abbrev more_of : Accounts → List ℕ → Left
 more_of mid text = record { got = record { orig = concat (deliveries mid.orig); answ = concat (deliveries mid.answ) }; trace = text }
 
 adds-turn : (m : Modems) (l : Lines) (c : Channel) (links : ℕ) (streams : Both (List Carried)) (old new : FolderState) (n : Written)
-    (files : Both (List ℕ)) (ts : List Turn) (ends : Ends) (s : StopsInTurn m l c links streams old new n files ts ends)
+    (files : Both (List ℕ)) (ts : List Turn) (ends : Accounts) (s : StopsInTurn m l c links streams old new n files ts ends)
     → AddsTurn c (link_of c.script s.others) ts ends (more_of s.mid (turn_text (length ts) s.turn))
 adds-turn m l c links streams old new n files ts ends s = record {
   turn = s.turn;
@@ -323,7 +323,7 @@ adds-turn m l c links streams old new n files ts ends s = record {
     got Answerer = refl
 
 stops-so : (m : Modems) (l : Lines) (c : Channel) (links : ℕ) (streams : Both (List Carried)) (old new : FolderState) (n : Written)
-    (files : Both (List ℕ)) (ts : List Turn) (ends : Ends) → Around old new n files ts ends
+    (files : Both (List ℕ)) (ts : List Turn) (ends : Accounts) → Around old new n files ts ends
     → (s : StopsInTurn m l c links streams old new n files ts ends)
     → LinkStops c (link_of c.script s.others) new n (length ts) (Goes ts ends)
 stops-so m l c links streams old new n files ts ends a s = record {
@@ -334,7 +334,7 @@ stops-so m l c links streams old new n files ts ends a s = record {
 }
 
 stopped : (m : Modems) (l : Lines) (c : Channel) (links : ℕ) (streams : Both (List Carried)) (old new : FolderState) (n : Written)
-    (files : Both (List ℕ)) (ts : List Turn) (ends : Ends) → Around old new n files ts ends → LineRun c (link_of c.script files) ts ends
+    (files : Both (List ℕ)) (ts : List Turn) (ends : Accounts) → Around old new n files ts ends → LineRun c (link_of c.script files) ts ends
     → Stops m l c links streams old new n files ts ends → IsStopped LinkStops c new n (length ts) (Goes ts ends)
 stopped m l c links streams old new n files ts ends a run (inl s) = record {
   others = s.others;
@@ -364,7 +364,7 @@ stopped m l c links streams old new n files ts ends a run (inr s) = record {
     none Answerer = refl
 
 stopped-reading : (m : Modems) (l : Lines) (c : Channel) (links : ℕ) (streams : Both (List Carried)) (old new : FolderState) (n : Written)
-    (files : Both (List ℕ)) (ts : List Turn) (ends : Ends) → Around old new n files ts ends
+    (files : Both (List ℕ)) (ts : List Turn) (ends : Accounts) → Around old new n files ts ends
     → StopsReading m l c links streams old new n files ts ends → IsStopped LinkStopsReading c new n (length ts) (Goes ts ends)
 unfolding stops-so
 stopped-reading m l c links streams old new n files ts ends a (s, delivered) = record {
@@ -380,7 +380,7 @@ stopped-reading m l c links streams old new n files ts ends a (s, delivered) = r
 
 pub comes : HearingsDeliver → SpeakingTakesNothing
     → (m : Modems) (l : Lines) (c : Channel) (links : ℕ) (streams : Both (List Carried)) (old new : FolderState) (n : Written)
-    (files : Both (List ℕ)) (ts : List Turn) (ends : Ends) (answer : Result Step RunFault) → Around old new n files ts ends
+    (files : Both (List ℕ)) (ts : List Turn) (ends : Accounts) (answer : Result Step RunFault) → Around old new n files ts ends
     → LineRun c (link_of c.script files) ts ends → (answer ≡ Ok steps.Going → AreKept m)
     → TurnAnswers m l c links streams old new n files ts ends answer → Comes m l c links streams new n files ts ends (sorted answer)
 comes delivers speaks m l c links streams old new n files ts ends (Ok steps.Going) a run kept t =
@@ -405,7 +405,7 @@ comes delivers speaks m l c links streams old new n files ts ends (Err run_fault
 -- ---- so the link has come farther
 
 pub has-gone : (h : Half) (l : Lines) (c : Channel) (links : ℕ) (streams : Both (List Carried)) (f : FolderState) (n : Written)
-    (files : Both (List ℕ)) (ts : List Turn) (ends : Ends) → h.ended ≡ None → h.modems.dlci ≡ c.dlci
+    (files : Both (List ℕ)) (ts : List Turn) (ends : Accounts) → h.ended ≡ None → h.modems.dlci ≡ c.dlci
     → GoneOn h.modems l c links streams f n ts → HasCome h l c links streams f n (length ts) (Goes ts ends)
 has-gone h l c links streams f n files ts ends none channel g = record {
   others = g.others;
@@ -427,7 +427,7 @@ by-link (link_ends.LinkLost role segment turn) = tt
 by-link (link_ends.NotDetected turn) = tt
 
 pub has-ended : (h : Half) (l m : Lines) (c : Channel) (links : ℕ) (streams : Both (List Carried)) (f : FolderState) (n : Written)
-    (files : Both (List ℕ)) (ts : List Turn) (ends : Ends) (found : LinkEnd) → h.ended ≡ Some found → h.modems.dlci ≡ c.dlci
+    (files : Both (List ℕ)) (ts : List Turn) (ends : Accounts) (found : LinkEnd) → h.ended ≡ Some found → h.modems.dlci ≡ c.dlci
     → LinesWait l c links (and_sent streams c.dlci idle_turn)
     → EndedNow h.modems m c links streams f n ts found → HasCome h l c links streams f n (length ts) (Goes ts ends)
 has-ended h l m c links streams f n files ts ends found is channel waits e = record {
@@ -462,7 +462,7 @@ has-ended h l m c links streams f n files ts ends found is channel waits e = rec
 
 abbrev pub AnswersSo : Modems → Modems → Lines → Lines → ScriptValue → FolderState → FolderState → Written → Result Step RunFault → Type 0
 AnswersSo m m' l l' script old new n answer =
-    (beside : Role → ℕ → Option Signal) (links : ℕ) (streams : Both (List Carried)) (files : Both (List ℕ)) (ts : List Turn) (ends : Ends)
+    (beside : Role → ℕ → Option Signal) (links : ℕ) (streams : Both (List Carried)) (files : Both (List ℕ)) (ts : List Turn) (ends : Accounts)
     → ModemsAfter m (channel_at script m.dlci beside) files ts ends → AreWithin files
     → LinesWait l (channel_at script m.dlci beside) links streams → AreDue (channel_at script m.dlci beside) links ts streams
     → TurnAnswers m' l' (channel_at script m.dlci beside) links streams old new n files ts ends answer
@@ -470,7 +470,7 @@ AnswersSo m m' l l' script old new n answer =
 pub record CameTo (m : Modems) (l : Lines) (c : Channel) (links : ℕ) (streams : Both (List Carried)) (f : FolderState) (n : Written)
     (files : Both (List ℕ)) (round : ℕ) (p : Progress) (o : Result (Option LinkEnd) PairFault) : Type 0 where
   pub ts : List Turn
-  pub ends : Ends
+  pub ends : Accounts
   pub is : p ≡ Goes ts ends
   pub count : length ts ≡ round
   pub comes : Comes m l c links streams f n files ts ends o

@@ -19,7 +19,7 @@ use Rattle.detection.specs.Slots.{Signal}
 use Rattle.noise_script.specs.Script.{ScriptValue}
 use Rattle.line_texts.specs.LineText.{chance_line}
 use Rattle.link_account.specs.Account.{check_of}
-use Rattle.link_run.specs.Run.{Ends, Turn}
+use Rattle.link_run.specs.Run.{Accounts, Turn}
 use Rattle.line_run.specs.Sampled.{Channel, IsHeardOf, IsHeardWell, LineEnd, EndsLine, EndsLineBy, LosesLine}
 use Rattle.line_run.specs.Sampled as lines
 use Rattle.line_run.specs.Ends.{RunEnd, Left}
@@ -61,7 +61,7 @@ flags-put dlci at e Answerer = record { dlci_is = e; sent_is = refl; check_is = 
 pub record AtEnd (h : Half) (script : ScriptValue) (beside : Role → ℕ → Option Signal) (files : Both (List ℕ)) (round : ℕ)
     (p : Progress) : Type 0 where
   pub ts : List Turn
-  pub ends : Ends
+  pub ends : Accounts
   pub end : RunEnd
   pub left : Left
   pub found : LinkEnd
@@ -92,7 +92,7 @@ at-end h script beside files round p some stands = by h.ended refl p (subst (λ 
     by (Some found) e (Goes ts ends) s l = absurd s
 
 -- so many turns stand on the line
-pub count-on-line : (c : Channel) (round : ℕ) (ts : List Turn) (ends : Ends) (end : RunEnd) (left : Left) → length ts < round
+pub count-on-line : (c : Channel) (round : ℕ) (ts : List Turn) (ends : Accounts) (end : RunEnd) (left : Left) → length ts < round
     → length (turns_on_line round (Ended ts ends end left)) ≡ round
 count-on-line c round ts ends end left before = omega (arith, length-lasting (round - length ts) ts, before)
 
@@ -159,7 +159,7 @@ has-idled h l m script beside links streams f n files round p checks heard a cha
     }
 
 -- the line ends the pair, by the checks that both ends had last
-by-ends : (c : Channel) (ts : List Turn) (checks : Both Check) (ends : Ends) (end : LineEnd)
+by-ends : (c : Channel) (ts : List Turn) (checks : Both Check) (ends : Accounts) (end : LineEnd)
     → ((role : Role) → of role checks ≡ check_of (of role ends)) → EndsLineBy c ts (λ role. of role checks) end → EndsLine c ts ends end
 by-ends c ts checks ends (lines.LineLost Originator symbol) same h = h
 by-ends c ts checks ends (lines.ChanceMatch Originator) same h = subst (λ x. IsHeardOf c Answerer ts x Chance) (same Originator) h

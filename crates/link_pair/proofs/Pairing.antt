@@ -8,7 +8,7 @@ use Rattle.roles.specs.declared.role.Role.{Role}
 use Rattle.roles.specs.declared.role.Role.TheVariants.{Originator, Answerer}
 use Rattle.roles.specs.Both.{Both, of}
 use Rattle.noise_script.specs.Script.{ScriptValue, IsInLimits}
-use Rattle.link_run.specs.Run.{Link, Ends, Turn, Spoken}
+use Rattle.link_run.specs.Run.{Link, Accounts, Turn, Spoken}
 use Rattle.line_run.specs.Sampled.{Channel}
 use Rattle.line_run.specs.Ends.{Left}
 use Rattle.line_run.specs.Scripted.{channel_at, link_of, ScriptsHaveDelays}
@@ -345,10 +345,10 @@ stands-going (Some found) (Some last) x y files others p q s t e = absurd (cc e)
 -- both have
 pub record AreOver (endings : Endings) (p q : Progress) : Type 0 where
   pub ts : List Turn
-  pub ends : Ends
+  pub ends : Accounts
   pub left : Left
   pub us : List Turn
-  pub mids : Ends
+  pub mids : Accounts
   pub leaves : Left
   pub first_is : p ≡ Ended ts ends (run_end endings.first) left
   pub second_is : q ≡ Ended us mids (run_end endings.second) leaves

@@ -8,7 +8,7 @@ use Rattle.roles.specs.Both.{Both, of}
 use Rattle.detection.specs.Slots.{Signal}
 use Rattle.noise_script.specs.Script.{ScriptValue, IsInLimits}
 use Rattle.link_account.specs.Account.{check_of}
-use Rattle.link_run.specs.Run.{Link, Ends, Turn, start}
+use Rattle.link_run.specs.Run.{Link, Accounts, Turn, start}
 use Rattle.link_run.specs.Trace.{trace_text}
 use Rattle.line_run.specs.Sampled.{Channel, LineEnd, EndsLine}
 use Rattle.line_run.specs.Sampled as lines
@@ -58,7 +58,7 @@ sorted (Err run_faults.NoMemory) = Err faults.NoMemory
 -- ---- how far a link has come
 
 -- The ends stand for a run of these files that goes on, and may make a turn.
-pub record MayGoOn (m : Modems) (files : Both (List ℕ)) (ts : List Turn) (ends : Ends) : Type 0 where
+pub record MayGoOn (m : Modems) (files : Both (List ℕ)) (ts : List Turn) (ends : Accounts) : Type 0 where
   pub kept : AreKept m
   pub link : LinkStands m.link files ends
   pub turn : m.turn ≡ length ts
@@ -66,7 +66,7 @@ pub record MayGoOn (m : Modems) (files : Both (List ℕ)) (ts : List Turn) (ends
   pub spoke : m.spoke ≡ has_turns ts
 
 -- They ended their run so, and judge by the checks that both had once they had heard in its last turn.
-pub record HasStopped (m : Modems) (found : LinkEnd) (ends : Ends) (end : RunEnd) : Type 0 where
+pub record HasStopped (m : Modems) (found : LinkEnd) (ends : Accounts) (end : RunEnd) : Type 0 where
   pub end_is : end ≡ run_end found
   pub checks : (role : Role) → of role m.heard_by ≡ check_of (of role ends)
 

@@ -19,7 +19,7 @@ use Rattle.link_account.specs.Account.{Account, wants, piece_size, after_given}
 use Rattle.link_account.specs.Laws.{MayPlay, has_begun, IsInRange, SendsInOrder, SendsInRange}
 use Rattle.link_account.specs.Speak.{Said}
 use Rattle.link_run.specs.End.{User, delivered, piece_at, offered_at, offered_times, room_for, served, is_released}
-use Rattle.link_run.specs.Run.{Link, Ends, Spoken, Turn, arrival, GoingTurn, start, said_at, served_at, releases}
+use Rattle.link_run.specs.Run.{Link, Accounts, Spoken, Turn, arrival, GoingTurn, start, said_at, served_at, releases}
 use Rattle.link_run.specs.Carried.{Carries}
 use Rattle.link_run.specs.Laws.{RunsOver, IsPlayed}
 use Rattle.link_run.specs.Counts.{number_in, segment_number, is_number, numbers_sent, repeated, sequence_number, sequence_in, sequence_of}
@@ -85,7 +85,7 @@ heard-high a b s (inl g) = g.high
 heard-high a b s (inr g) = ap (λ o. o.high) g.outgoing_is ∙ sym (s.unsent (not-begun a.phase g.was))
 
 -- both ends of a play
-both-in-order : SendsInRange → (link : Link) → MayPlay link.orig.setup link.answ.setup → (ends : Ends) (line : Role → List (Option Spoken))
+both-in-order : SendsInRange → (link : Link) → MayPlay link.orig.setup link.answ.setup → (ends : Accounts) (line : Role → List (Option Spoken))
     → IsPlayed link ends line → (r : Role) → SendsInOrder (of r ends)
 both-in-order sends link m ends line p Originator =
     subst SendsInOrder (p.is_at Originator).account_is (sends link.orig.setup link.answ.setup p.events m).0
@@ -93,7 +93,7 @@ both-in-order sends link m ends line p Answerer =
     subst SendsInOrder (p.is_at Answerer).account_is (sends link.orig.setup link.answ.setup p.events m).1
 
 -- what an end sends in a turn
-said-sends : (link : Link) (turn : ℕ) (mid : Ends) (r : Role) (said : Said) → IsInRange (of r mid).outgoing
+said-sends : (link : Link) (turn : ℕ) (mid : Accounts) (r : Role) (said : Said) → IsInRange (of r mid).outgoing
     → said_at link turn mid r ≡ Ok said → SentAs (sequence_in said.sent) said.number (of r mid).outgoing.high said.account.outgoing.high
 said-sends link turn mid Originator said h e =
     let k = served-alike link.orig.user turn (is_released mid.orig.phase) mid.orig in
@@ -178,7 +178,7 @@ slot-goes numbers old new slot below s = go (sequence_in slot.sent) refl s
 
 -- a turn of a run
 turn-goes : ReadsAllowed → KeepsTaken → SendsInRange
-    → (link : Link) (delay : Role → ℕ) (ts : List Turn) (ends : Ends) (t : Turn) (after : Ends) → RunsOver link delay ts ends
+    → (link : Link) (delay : Role → ℕ) (ts : List Turn) (ends : Accounts) (t : Turn) (after : Accounts) → RunsOver link delay ts ends
     → Carries delay ts t → GoingTurn link ts ends t after → (r : Role)
     → ((n : ℕ) → is_number n (numbers_sent r ts) ≡ nat_lt n (of r ends).outgoing.high)
     → Goes (numbers_sent r ts) (of r ends).outgoing.high (of r t).sent (of r after).outgoing.high
@@ -198,7 +198,7 @@ turn-goes reads keeps sends link delay ts ends t after v n g r below =
     (slot-goes (numbers_sent r ts) (of r ends).outgoing.high s.said.account.outgoing.high _ below k))
 
 pub sent_below_high : ReadsAllowed → KeepsTaken → SendsInRange → SentBelowHigh
-sent_below_high reads keeps sends link delay [] ends v r n = none r ∙ ap (λ (e : Ends). nat_lt n (of r e).outgoing.high) (sym v.run)
+sent_below_high reads keeps sends link delay [] ends v r n = none r ∙ ap (λ (e : Accounts). nat_lt n (of r e).outgoing.high) (sym v.run)
   where
     none : (r : Role) → false ≡ nat_lt n (of r (start link)).outgoing.high
     none Originator = grind (arith, nat_tests)

@@ -10,7 +10,7 @@ use Rattle.link_account.specs.Account.{Account, fresh, is_connected}
 use Rattle.link_account.specs.Play.{Play}
 use Rattle.link_account.specs.Laws.{MayPlay, TakesInOrder, AcknowledgesTaken, GivesBreaksInOrder, AnswersGiven}
 use Rattle.link_run.specs.End.{delivered, served, is_released}
-use Rattle.link_run.specs.Run.{Link, Ends, Turn, arrival, Hears, GoingTurn, RunOf, served_at}
+use Rattle.link_run.specs.Run.{Link, Accounts, Turn, arrival, Hears, GoingTurn, RunOf, served_at}
 use Rattle.link_run.specs.Run as run
 use Rattle.link_run.specs.Laws.{HoldPrefixes, TakesPrefixes, HearsPrefixes}
 use Rattle.link_run.proofs.Keeping.{Books, GoesOn, hears}
@@ -27,16 +27,16 @@ pub record IsKept (P : Role → Account → Type 0) (link : Link) : Type 0 where
   pub serves : (r : Role) (turn : ℕ) (released : Bool) (a : Account) → P r a → P r (served (of r link).user turn released a).account
   pub speaks : (r : Role) (release : Bool) (a b : Account) → P r a → Speaks release a b → P r b
 
-abbrev pub AtBoth : (Role → Account → Type 0) → Ends → Type 0
+abbrev pub AtBoth : (Role → Account → Type 0) → Accounts → Type 0
 AtBoth P ends = (r : Role) → P r (of r ends)
 
 pub kept-heard : (reads : ReadsAllowed) (keeps : KeepsTaken) (P : Role → Account → Type 0) (link : Link) → IsKept P link
-    → (turn : ℕ) (before : Ends) (t : Turn) (mid : Ends) → AtBoth P before → Hears turn before t mid → AtBoth P mid
+    → (turn : ℕ) (before : Accounts) (t : Turn) (mid : Accounts) → AtBoth P before → Hears turn before t mid → AtBoth P mid
 kept-heard reads keeps P link k turn before t mid h e r =
     k.hears r (of r before) (of r mid) (h r) (hears reads keeps turn (arrival (of r t).heard) (of r before) (of r mid) (e r).hears)
 
 pub kept-run : (reads : ReadsAllowed) (keeps : KeepsTaken) (P : Role → Account → Type 0) (link : Link) → IsKept P link
-    → (ts : List Turn) (ends : Ends) → RunOf link ts ends → AtBoth P ends
+    → (ts : List Turn) (ends : Accounts) → RunOf link ts ends → AtBoth P ends
 kept-run reads keeps P link k [] ends h = subst (AtBoth P) (sym h) starts
   where
     starts : (r : Role) → P r (of r (run.start link))
@@ -109,7 +109,7 @@ pub record PlayLaws : Type 0 where
   pub answers : AnswersGiven
 
 pub facts : (laws : PlayLaws) (link : Link) → MayPlay link.orig.setup link.answ.setup
-    → (ends : Ends) (line : Role → List (Option run.Spoken)) → Reaches link ends line → Facts ends.orig ends.answ
+    → (ends : Accounts) (line : Role → List (Option run.Spoken)) → Reaches link ends line → Facts ends.orig ends.answ
 facts laws link m ends line p =
     let so = link.orig.setup in
     let sa = link.answ.setup in
@@ -130,7 +130,7 @@ allowed-both link m Originator = m.offer_o
 allowed-both link m Answerer = m.offer_a
 
 -- what was taken begins the files
-prefixes : (link : Link) (ends : Ends) → Facts ends.orig ends.answ → AtBoth (HasCut link) ends → HoldPrefixes link ends
+prefixes : (link : Link) (ends : Accounts) → Facts ends.orig ends.answ → AtBoth (HasCut link) ends → HoldPrefixes link ends
 prefixes link ends f c Originator = begins-file link.answ.user.file ends.answ ends.orig.incoming.taken (c Answerer) f.taken_o
 prefixes link ends f c Answerer = begins-file link.orig.user.file ends.orig ends.answ.incoming.taken (c Originator) f.taken_a
 

@@ -21,7 +21,7 @@ use Rattle.link_account.specs.Speak.{Said}
 use Rattle.link_account.specs.Laws.{MayPlay}
 use Rattle.link_run.specs.End.{User, delivered, offered_at, offered_times, room_for, is_busy, served, is_released, is_closed, has_finished}
 use Rattle.link_run.specs.End.{is_ready, next_break}
-use Rattle.link_run.specs.Run.{Link, Ends, Turn, arrival, Hears, RunOf, served_at, finished_at, releases, said_at}
+use Rattle.link_run.specs.Run.{Link, Accounts, Turn, arrival, Hears, RunOf, served_at, finished_at, releases, said_at}
 use Rattle.link_run.specs.Run as run
 use Rattle.link_run.specs.Carried.{IsCarried, HasDelays}
 use Rattle.link_run.specs.Laws.{HoldWhole, DoneIsWhole}
@@ -170,7 +170,7 @@ idles-over o p a b h i l = record {
   a_breaks = omega (arith, h.a_breaks, ap length (idles-left a b l).lengths, ap (λ z. length z.lengths) i.theirs);
 }
 
-over-heard : (reads : ReadsAllowed) (keeps : KeepsTaken) (turn : ℕ) (before : Ends) (t : Turn) (mid : Ends) → 2 ≤ stage before.orig.phase
+over-heard : (reads : ReadsAllowed) (keeps : KeepsTaken) (turn : ℕ) (before : Accounts) (t : Turn) (mid : Accounts) → 2 ≤ stage before.orig.phase
     → Over before.orig before.answ → Hears turn before t mid → Over mid.orig mid.answ
 over-heard reads keeps turn before t mid s h k =
     still-over before.orig mid.orig before.answ mid.answ h
@@ -178,11 +178,11 @@ over-heard reads keeps turn before t mid s h k =
     (heard-left before.answ mid.answ h.a_linked (hears reads keeps turn (arrival t.answ.heard) before.answ mid.answ (k Answerer).hears))
 
 -- both ends have been served
-abbrev pub both_served : Link → ℕ → Ends → Ends
+abbrev pub both_served : Link → ℕ → Accounts → Accounts
 both_served link turn mid =
     record { orig = (served_at link turn mid Originator).account; answ = (served_at link turn mid Answerer).account }
 
-served-reaches : (link : Link) (turn : ℕ) (mid : Ends) (line : Role → List (Option run.Spoken)) → Reaches link mid line
+served-reaches : (link : Link) (turn : ℕ) (mid : Accounts) (line : Role → List (Option run.Spoken)) → Reaches link mid line
     → ((r : Role) → Waiting (of r mid)) → Reaches link (both_served link turn mid) line
 served-reaches link turn mid line p w =
     let s = both_served link turn mid in
@@ -208,7 +208,7 @@ released-at Negotiating e h = absurd (omega (arith, h))
 released-at Establishing e h = absurd (omega (arith, h))
 released-at Connected e h = absurd (omega (arith, h))
 
-over-going : (link : Link) (turn : ℕ) (mid : Ends) (o a : Said) → is_closed mid.orig.phase ≡ false
+over-going : (link : Link) (turn : ℕ) (mid : Accounts) (o a : Said) → is_closed mid.orig.phase ≡ false
     → (2 ≤ stage mid.orig.phase → Over mid.orig mid.answ)
     → Facts (both_served link turn mid).orig (both_served link turn mid).answ
     → said_at link turn mid Originator ≡ Ok o → Speaks (releases link turn mid) (both_served link turn mid).orig o.account
@@ -254,9 +254,9 @@ over-going link turn mid o a going h f e (Releases on role linked k stand) l two
     }) stand (spoken-left s.answ a.account l)
 
 pub over-run : (reads : ReadsAllowed) (keeps : KeepsTaken) (laws : PlayLaws) (link : Link) (delay : Role → ℕ)
-    → MayPlay link.orig.setup link.answ.setup → HasDelays delay → (ts : List Turn) (ends : Ends) → IsCarried delay ts → RunOf link ts ends
+    → MayPlay link.orig.setup link.answ.setup → HasDelays delay → (ts : List Turn) (ends : Accounts) → IsCarried delay ts → RunOf link ts ends
     → 2 ≤ stage ends.orig.phase → Over ends.orig ends.answ
-over-run reads keeps laws link delay m some [] ends c h two = absurd (omega (arith, two, ap (λ (e : Ends). stage e.orig.phase) h))
+over-run reads keeps laws link delay m some [] ends c h two = absurd (omega (arith, two, ap (λ (e : Accounts). stage e.orig.phase) h))
 over-run reads keeps laws link delay m some (t ∷ ts) ends c h two =
     let before = h.0 in
     let g = h.2 in
@@ -271,7 +271,7 @@ over-run reads keeps laws link delay m some (t ∷ ts) ends c h two =
     let earlier = was-released (hears reads keeps turn (arrival t.orig.heard) before.orig g.mid.orig (g.hearing Originator).hears)
     (not-closed g.mid.orig.phase g.going) z in
     over-heard reads keeps turn before t g.mid earlier (over-run reads keeps laws link delay m some ts before c.1 h.1 earlier) g.hearing in
-    subst (λ (e : Ends). Over e.orig e.answ) (sym (same-ends ends ko.said.account ka.said.account ko.after_is ka.after_is))
+    subst (λ (e : Accounts). Over e.orig e.answ) (sym (same-ends ends ko.said.account ka.said.account ko.after_is ka.after_is))
     (over-going link turn g.mid ko.said ka.said g.going mids f ko.says (speaks-at link turn g.mid Originator ko.said ko.says)
     (speaks-at link turn g.mid Answerer ka.said ka.says)
     (subst (λ (x : Account). 2 ≤ stage x.phase) ko.after_is two))
@@ -288,7 +288,7 @@ over-run reads keeps laws link delay m some (t ∷ ts) ends c h two =
     was-released (inl w) low high = omega (arith, w.unreleased (omega (arith, low, high)))
     was-released (inr w) low high = absurd (omega (arith, ap stage w.is, high))
 
-    same-ends : (e : Ends) (x y : Account) → e.orig ≡ x → e.answ ≡ y → e ≡ record { orig = x; answ = y }
+    same-ends : (e : Accounts) (x y : Account) → e.orig ≡ x → e.answ ≡ y → e ≡ record { orig = x; answ = y }
     same-ends e x y p q = ap (λ z. record { orig = z; answ = e.answ }) p ∙ ap (λ z. record { orig = x; answ = z }) q
 
 -- a prefix that isn't shorter is the whole
@@ -299,7 +299,7 @@ whole-prefix {X} xs ys p h = go p.0 p.1
     go [] e = sym (append-nil xs) ∙ e
     go (z ∷ rest) e = absurd (omega (arith, h, ap length e, length-append xs (z ∷ rest)))
 
-whole : (link : Link) (mid : Ends) → Over mid.orig mid.answ → Facts mid.orig mid.answ → AtBoth (HasCut link) mid → HoldWhole link mid
+whole : (link : Link) (mid : Accounts) → Over mid.orig mid.answ → Facts mid.orig mid.answ → AtBoth (HasCut link) mid → HoldWhole link mid
 whole link mid h f c Originator = record {
   file_is = ap concat (whole-prefix mid.orig.incoming.taken mid.answ.outgoing.pieces f.taken_o h.a_taken)
       ∙ (c Answerer).cut.whole h.a_ended;

@@ -21,7 +21,7 @@ use Rattle.link_account.specs.Account.{Account, is_connected, first_terms}
 use Rattle.link_account.specs.Speak.{Said}
 use Rattle.link_account.specs.Laws.{MayPlay}
 use Rattle.link_run.specs.End.{User, delivered, served}
-use Rattle.link_run.specs.Run.{Link, Ends, Turn, Spoken, spoken, arrival, Hears, RunOf, served_at}
+use Rattle.link_run.specs.Run.{Link, Accounts, Turn, Spoken, spoken, arrival, Hears, RunOf, served_at}
 use Rattle.link_run.specs.Carried.{Carries, IsCarried}
 use Rattle.link_run.specs.Overheard.{has_passed, is_xid, opens}
 use Rattle.link_run.proofs.Keeping.{stage}
@@ -265,11 +265,11 @@ course-served u turn released a =
         ∙ ap (λ z. record { phase = d.phase; terms = z; answer = c.answer }) q
         ∙ ap (λ z. record { phase = d.phase; terms = d.terms; answer = z }) r
 
-abbrev pub KnownOf : Link → List Turn → List Turn → Ends → Type 0
+abbrev pub KnownOf : Link → List Turn → List Turn → Accounts → Type 0
 KnownOf link sent heard ends = Known link.orig.setup link.answ.setup sent heard (course ends.orig) (course ends.answ)
 
 pub known-mid : (reads : ReadsAllowed) (keeps : KeepsTaken) (written : ReadsWritten) (link : Link) (delay : Role → ℕ) (ts : List Turn)
-    (before : Ends) (t : Turn) (mid : Ends) → MayPlay link.orig.setup link.answ.setup → RunOf link ts before → KnownOf link ts ts before
+    (before : Accounts) (t : Turn) (mid : Accounts) → MayPlay link.orig.setup link.answ.setup → RunOf link ts before → KnownOf link ts ts before
     → Carries delay ts t → Hears (length ts) before t mid → KnownOf link ts (t ∷ ts) mid
 known-mid reads keeps written link delay ts before t mid p h m c k =
     let s = kept-run reads keeps (HasSetup link) link (setups-kept link) ts before h in
@@ -287,7 +287,7 @@ known-mid reads keeps written link delay ts before t mid p h m c k =
     (k Answerer).hears))
 
 pub known-run : (reads : ReadsAllowed) (keeps : KeepsTaken) (written : ReadsWritten) (link : Link) (delay : Role → ℕ)
-    → MayPlay link.orig.setup link.answ.setup → (ts : List Turn) (ends : Ends) → IsCarried delay ts → RunOf link ts ends
+    → MayPlay link.orig.setup link.answ.setup → (ts : List Turn) (ends : Accounts) → IsCarried delay ts → RunOf link ts ends
     → KnownOf link ts ts ends
 known-run reads keeps written link delay p [] ends c h = subst (KnownOf link [] []) (sym h) (record {
   sent_o = tt;

@@ -16,7 +16,7 @@ use Rattle.link_account.specs.Laws.{MayPlay}
 use Rattle.lapm_frames.specs.declared.heard.Heard.{Heard}
 use Rattle.lapm_frames.specs.declared.heard.Heard.TheVariants.{Nothing, Passed, Lost, Chance}
 use Rattle.link_run.specs.End.{User, delivered, room_for, offered, is_busy, served, is_released}
-use Rattle.link_run.specs.Run.{Link, Ends, Turn, Spoken, spoken, arrival, Hears, RunOf, served_at}
+use Rattle.link_run.specs.Run.{Link, Accounts, Turn, Spoken, spoken, arrival, Hears, RunOf, served_at}
 use Rattle.link_run.specs.Carried.{sent_in, sent_ago, Crosses, Carries, IsCarried}
 use Rattle.link_run.proofs.Keeping.{stage, GoesOn, hears}
 use Rattle.link_run.proofs.Speaking.{Ledger, Speaks, Keeps_on, Releases}
@@ -213,8 +213,8 @@ met-left ts o a p b l k m = record {
   never = λ z. m.never (omega (arith, ap stage k.phase, z));
 }
 
-pub met-mid : (reads : ReadsAllowed) (keeps : KeepsTaken) (link : Link) (delay : Role → ℕ) (ts : List Turn) (before : Ends) (t : Turn)
-    (mid : Ends) → MayPlay link.orig.setup link.answ.setup → RunOf link ts before → Met ts before.orig before.answ → Carries delay ts t
+pub met-mid : (reads : ReadsAllowed) (keeps : KeepsTaken) (link : Link) (delay : Role → ℕ) (ts : List Turn) (before : Accounts) (t : Turn)
+    (mid : Accounts) → MayPlay link.orig.setup link.answ.setup → RunOf link ts before → Met ts before.orig before.answ → Carries delay ts t
     → Hears (length ts) before t mid → Met ts mid.orig mid.answ
 met-mid reads keeps link delay ts before t mid p h m c k =
     let s = kept-run reads keeps (HasSetup link) link (setups-kept link) ts before h in
@@ -226,8 +226,8 @@ met-mid reads keeps link delay ts before t mid p h m c k =
     (is-told (length ts) (arrival t.answ.heard) before.answ mid.answ (k Answerer).hears) (c Originator) (c Answerer)
 
 pub met-run : (reads : ReadsAllowed) (keeps : KeepsTaken) (link : Link) (delay : Role → ℕ) → MayPlay link.orig.setup link.answ.setup
-    → (ts : List Turn) (ends : Ends) → IsCarried delay ts → RunOf link ts ends → Met ts ends.orig ends.answ
-met-run reads keeps link delay p [] ends c h = subst (λ (e : Ends). Met [] e.orig e.answ) (sym h) (record {
+    → (ts : List Turn) (ends : Accounts) → IsCarried delay ts → RunOf link ts ends → Met ts ends.orig ends.answ
+met-run reads keeps link delay p [] ends c h = subst (λ (e : Accounts). Met [] e.orig e.answ) (sym h) (record {
   up = λ z. absurd (omega (arith, z));
   uas = λ z. absurd (false≢true z);
   due = λ z. absurd (false≢true z);
@@ -261,6 +261,6 @@ met-run reads keeps link delay p (t ∷ ts) ends c h =
     subst (λ (x : Account). Met (t ∷ ts) x ends.answ) (sym ko.after_is)
     (subst (λ (x : Account). Met (t ∷ ts) ko.said.account x) (sym ka.after_is) m)
   where
-    role-of : (e : Ends) (x y : Account) → e.answ ≡ x → Speaks false y x → e.answ.setup.role ≡ Answerer → y.setup.role ≡ Answerer
+    role-of : (e : Accounts) (x y : Account) → e.answ ≡ x → Speaks false y x → e.answ.setup.role ≡ Answerer → y.setup.role ≡ Answerer
     role-of e x y q (Keeps_on z) w = sym (ap (λ (l : Ledger). l.books.setup.role) z) ∙ sym (ap (λ (v : Account). v.setup.role) q) ∙ w
     role-of e x y q (Releases on r linked z n) w = absurd (false≢true on)

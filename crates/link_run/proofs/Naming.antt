@@ -24,7 +24,7 @@ use Rattle.link_account.specs.Speak.{after_timers}
 use Rattle.lapm_frames.specs.declared.sent.Sent.TheVariants as slots
 use Rattle.lapm_frames.specs.declared.heard.Heard.{Heard}
 use Rattle.link_run.specs.End.{is_closed, is_released}
-use Rattle.link_run.specs.Run.{Link, Ends, Turn, Spoken, spoken, arrival, served_at, said_at, Hears, Speaks}
+use Rattle.link_run.specs.Run.{Link, Accounts, Turn, Spoken, spoken, arrival, served_at, said_at, Hears, Speaks}
 use Rattle.link_run.specs.Outcomes.{Going, Done, Broken}
 use Rattle.link_run.specs.Laws.{HearingsAreWell, BrokenForWant, EachEndIsNamed, MakesTurn, EachTurnIsMade}
 use Rattle.link_run.proofs.Ending.{HasSetup, setups-kept, kept-run, kept-heard}
@@ -121,26 +121,26 @@ each_end_is_named reads keeps want link ts before t mid role (PeerReset va vr) m
 each_end_is_named reads keeps want link ts before t mid role PeerRefused m h b = absurd (want link ts before t mid role PeerRefused b)
 
 -- a turn by what is heard and sent
-abbrev turn_with : Ends → Ends → (Role → Heard) → (Role → Option Spoken) → Turn
+abbrev turn_with : Accounts → Accounts → (Role → Heard) → (Role → Option Spoken) → Turn
 turn_with before mid heard sent = record {
   orig = record { heard = heard Originator; check = check_of before.orig; sent = sent Originator; given = given_break mid.orig };
   answ = record { heard = heard Answerer; check = check_of before.answ; sent = sent Answerer; given = given_break mid.answ };
 }
 
-abbrev Hear : ℕ → Ends → (Role → Heard) → Ends → Type 0
+abbrev Hear : ℕ → Accounts → (Role → Heard) → Accounts → Type 0
 Hear turn before heard mid = (role : Role) → hear turn (arrival (heard role)) (of role before) ≡ Ok (of role mid)
 
-turn-hears : (turn : ℕ) (before mid : Ends) (heard : Role → Heard) (sent : Role → Option Spoken) → Hear turn before heard mid
+turn-hears : (turn : ℕ) (before mid : Accounts) (heard : Role → Heard) (sent : Role → Option Spoken) → Hear turn before heard mid
     → Hears turn before (turn_with before mid heard sent) mid
 turn-hears turn before mid heard sent h Originator = record { hears = h Originator; check_is = refl; given_is = refl }
 turn-hears turn before mid heard sent h Answerer = record { hears = h Answerer; check_is = refl; given_is = refl }
 
-turn-heard : (before mid : Ends) (heard : Role → Heard) (sent : Role → Option Spoken) (role : Role)
+turn-heard : (before mid : Accounts) (heard : Role → Heard) (sent : Role → Option Spoken) (role : Role)
     → (of role (turn_with before mid heard sent)).heard ≡ heard role
 turn-heard before mid heard sent Originator = refl
 turn-heard before mid heard sent Answerer = refl
 
-turn-sent : (before mid : Ends) (heard : Role → Heard) (sent : Role → Option Spoken) (role : Role)
+turn-sent : (before mid : Accounts) (heard : Role → Heard) (sent : Role → Option Spoken) (role : Role)
     → (of role (turn_with before mid heard sent)).sent ≡ sent role
 turn-sent before mid heard sent Originator = refl
 turn-sent before mid heard sent Answerer = refl
@@ -149,7 +149,7 @@ turn-sent before mid heard sent Answerer = refl
 abbrev none : Role → Option Spoken
 none role = None
 
-speaking : (link : Link) (ts : List Turn) (ends mid : Ends) (heard : Role → Heard) → Hear (length ts) ends heard mid
+speaking : (link : Link) (ts : List Turn) (ends mid : Accounts) (heard : Role → Heard) → Hear (length ts) ends heard mid
     → (b : Bool) → is_closed mid.orig.phase ≡ b → (o a : Result Said LinkFault) → said_at link (length ts) mid Originator ≡ o
     → said_at link (length ts) mid Answerer ≡ a
     → MakesTurn link ts ends heard
@@ -191,21 +191,21 @@ speaking link ts ends mid heard h false e (Ok o) (Ok a) p q = record {
     said Originator = Some (spoken o)
     said Answerer = Some (spoken a)
 
-    after : Ends
+    after : Accounts
     after = record { orig = o.account; answ = a.account }
 
     both : Speaks link (length ts) mid (turn_with ends mid heard said) after
     both Originator = record { said = o; says = p; sent_is = refl; after_is = refl }
     both Answerer = record { said = a; says = q; sent_is = refl; after_is = refl }
 
-hearing : (link : Link) (ts : List Turn) (ends : Ends) (heard : Role → Heard) (o a : Result Account LinkFault)
+hearing : (link : Link) (ts : List Turn) (ends : Accounts) (heard : Role → Heard) (o a : Result Account LinkFault)
     → hear (length ts) (arrival (heard Originator)) ends.orig ≡ o
     → hear (length ts) (arrival (heard Answerer)) ends.answ ≡ a → is_ok o ≡ true → is_ok a ≡ true → MakesTurn link ts ends heard
 hearing link ts ends heard (Ok o) (Ok a) h k x y =
     speaking link ts ends mid heard both (is_closed o.phase) refl (said_at link (length ts) mid Originator)
     (said_at link (length ts) mid Answerer) refl refl
   where
-    mid : Ends
+    mid : Accounts
     mid = record { orig = o; answ = a }
 
     both : Hear (length ts) ends heard mid

@@ -11,7 +11,7 @@ use Rattle.link_account.specs.Account.{given_break}
 use Rattle.link_account.specs.Hear.{hear}
 use Rattle.link_account.specs.Speak.{Said}
 use Rattle.link_run.specs.End.{is_closed}
-use Rattle.link_run.specs.Run.{Link, Ends, Side, Turn, spoken, arrival, Hears, IsSilent, IsBroken, GoingTurn, said_at}
+use Rattle.link_run.specs.Run.{Link, Accounts, Side, Turn, spoken, arrival, Hears, IsSilent, IsBroken, GoingTurn, said_at}
 use Rattle.link_run.specs.Outcomes.{Outcome, Going, Done, Broken, TurnIs}
 use Rattle.link_run.specs.Laws.{heard_in, OneRun, OneOutcome}
 
@@ -48,25 +48,25 @@ same-side s u h c p g =
 abbrev pub HearSame : Turn → Turn → Type 0
 HearSame t u = (r : Role) → (of r t).heard ≡ (of r u).heard
 
-one-mid : (turn : ℕ) (before : Ends) (t u : Turn) (mid others : Ends) → Hears turn before t mid → Hears turn before u others → HearSame t u
+one-mid : (turn : ℕ) (before : Accounts) (t u : Turn) (mid others : Accounts) → Hears turn before t mid → Hears turn before u others → HearSame t u
     → mid ≡ others
 one-mid turn before t u mid others h k e =
     same-both mid others (λ r. one-ok (h r).hears (ap (λ x. hear turn (arrival x) (of r before)) (e r) ∙ (k r).hears))
 
 -- a turn by what was heard, the ends that have heard, and what was sent
-one-turn : (turn : ℕ) (before : Ends) (t u : Turn) (mid others : Ends) → Hears turn before t mid → Hears turn before u others → HearSame t u
+one-turn : (turn : ℕ) (before : Accounts) (t u : Turn) (mid others : Accounts) → Hears turn before t mid → Hears turn before u others → HearSame t u
     → mid ≡ others
     → ((r : Role) → (of r t).sent ≡ (of r u).sent) → t ≡ u
 one-turn turn before t u mid others h k e m p =
     same-both t u (λ r. same-side (of r t) (of r u) (e r) ((h r).check_is ∙ sym (k r).check_is) (p r)
-    ((h r).given_is ∙ ap (λ (z : Ends). given_break (of r z)) m ∙ sym (k r).given_is))
+    ((h r).given_is ∙ ap (λ (z : Accounts). given_break (of r z)) m ∙ sym (k r).given_is))
 
-pub record SameGoing (t u : Turn) (mid others after later : Ends) : Type 0 where
+pub record SameGoing (t u : Turn) (mid others after later : Accounts) : Type 0 where
   pub mids : mid ≡ others
   pub turns : t ≡ u
   pub ends : after ≡ later
 
-one-going : (link : Link) (ts : List Turn) (before : Ends) (t u : Turn) (after later : Ends) (g : GoingTurn link ts before t after)
+one-going : (link : Link) (ts : List Turn) (before : Accounts) (t u : Turn) (after later : Accounts) (g : GoingTurn link ts before t after)
     (k : GoingTurn link ts before u later) → HearSame t u → SameGoing t u g.mid k.mid after later
 one-going link ts before t u after later g k e =
     let turn = length ts in
@@ -109,25 +109,25 @@ one_run link (t ∷ ts) (u ∷ us) ends others h k e =
     (ap (λ z. z ∷ ts) s.turns ∙ ap (λ l. u ∷ l) ih.0, s.ends)
 
 -- what becomes of a turn
-hearing-of : (link : Link) (ts : List Turn) (before : Ends) (t : Turn) (mid : Ends) (a : Outcome) → TurnIs link ts before t mid a
+hearing-of : (link : Link) (ts : List Turn) (before : Accounts) (t : Turn) (mid : Accounts) (a : Outcome) → TurnIs link ts before t mid a
     → Hears (length ts) before t mid
 hearing-of link ts before t mid Going h = subst (Hears (length ts) before t) h.2 h.1.hearing
 hearing-of link ts before t mid Done h = h.hearing
 hearing-of link ts before t mid (Broken role fault) h = h.hearing
 
 -- what an outcome says of the ends that have heard, and of what is sent
-pub record Says (link : Link) (turn : ℕ) (t : Turn) (mid : Ends) : Type 0 where
+pub record Says (link : Link) (turn : ℕ) (t : Turn) (mid : Accounts) : Type 0 where
   pub going : is_closed mid.orig.phase ≡ false
   pub said : Role → Said
   pub says : (r : Role) → said_at link turn mid r ≡ Ok (said r)
   pub sent_is : (r : Role) → (of r t).sent ≡ Some (spoken (said r))
 
-abbrev Tells : Link → ℕ → Turn → Ends → Outcome → Type 0
+abbrev Tells : Link → ℕ → Turn → Accounts → Outcome → Type 0
 Tells link turn t mid Going = Says link turn t mid
 Tells link turn t mid Done = (is_closed mid.orig.phase ≡ true) × IsSilent t
 Tells link turn t mid (Broken role fault) = (is_closed mid.orig.phase ≡ false) × IsBroken link turn mid role fault × IsSilent t
 
-tells : (link : Link) (ts : List Turn) (before : Ends) (t : Turn) (mid : Ends) (a : Outcome) → TurnIs link ts before t mid a
+tells : (link : Link) (ts : List Turn) (before : Accounts) (t : Turn) (mid : Accounts) (a : Outcome) → TurnIs link ts before t mid a
     → Tells link (length ts) t mid a
 tells link ts before t mid Going h =
     let g = h.1 in
@@ -147,19 +147,19 @@ SameOutcome t u a b = (a ≡ b) × ((r : Role) → (of r t).sent ≡ (of r u).se
 silent-both : (t u : Turn) → IsSilent t → IsSilent u → (r : Role) → (of r t).sent ≡ (of r u).sent
 silent-both t u h k r = h r ∙ sym (k r)
 
-same-role : (link : Link) (turn : ℕ) (mid : Ends) (r s : Role) (f g : LinkFault) → IsBroken link turn mid r f → IsBroken link turn mid s g
+same-role : (link : Link) (turn : ℕ) (mid : Accounts) (r s : Role) (f g : LinkFault) → IsBroken link turn mid r f → IsBroken link turn mid s g
     → Broken r f ≡ Broken s g
 same-role link turn mid Originator Originator f g h k = ap (Broken Originator) (one-err h k)
 same-role link turn mid Originator Answerer f g h k = absurd (false≢true (sym (ap is_ok h) ∙ k.0))
 same-role link turn mid Answerer Originator f g h k = absurd (false≢true (sym (ap is_ok k) ∙ h.0))
 same-role link turn mid Answerer Answerer f g h k = ap (Broken Answerer) (one-err h.1 k.1)
 
-not-broken : (link : Link) (turn : ℕ) (t : Turn) (mid : Ends) (r : Role) (f : LinkFault) → Says link turn t mid → IsBroken link turn mid r f
+not-broken : (link : Link) (turn : ℕ) (t : Turn) (mid : Accounts) (r : Role) (f : LinkFault) → Says link turn t mid → IsBroken link turn mid r f
     → ⊥
 not-broken link turn t mid Originator f h k = not-both (h.says Originator) k
 not-broken link turn t mid Answerer f h k = not-both (h.says Answerer) k.1
 
-same-outcome : (link : Link) (turn : ℕ) (t u : Turn) (mid : Ends) (a b : Outcome) → Tells link turn t mid a → Tells link turn u mid b
+same-outcome : (link : Link) (turn : ℕ) (t u : Turn) (mid : Accounts) (a b : Outcome) → Tells link turn t mid a → Tells link turn u mid b
     → SameOutcome t u a b
 same-outcome link turn t u mid Going Going h k =
     (refl, λ r. h.sent_is r ∙ ap (λ s. Some (spoken s)) (one-ok (h.says r) (k.says r)) ∙ sym (k.sent_is r))

@@ -37,7 +37,7 @@ use Rattle.link_account.specs.Play.{Slot, Play}
 use Rattle.link_account.specs.Laws.{MayPlay, has_begun, NextIsKnown, KnownByNumber, NextWasOffered, SendsWhatWasOffered, NextIsBreak}
 use Rattle.link_account.specs.Laws.{SendsBreaksTaken}
 use Rattle.link_run.specs.End.{is_released}
-use Rattle.link_run.specs.Run.{RunOf, Link, Ends, Spoken, Turn, spoken, arrival}
+use Rattle.link_run.specs.Run.{RunOf, Link, Accounts, Spoken, Turn, spoken, arrival}
 use Rattle.link_run.specs.Carried.{sent_in, sent_ago, Crosses, HasDelays, IsCarried}
 use Rattle.link_run.specs.Laws.{RunsOver, told_by_play, told_by_turn}
 use Rattle.link_run.specs.Overheard.{has_passed, is_xid, opens, OpensByFrames, agreed_terms, AgreesByXid, agreed_check, SendsAgreedCheck}
@@ -59,7 +59,7 @@ pub record KnowingLaws : Type 0 where
   pub keeps : KeepsTaken
   pub written : ReadsWritten
 
-known : (laws : KnowingLaws) (link : Link) (delay : Role → ℕ) (ts : List Turn) (ends : Ends) → RunsOver link delay ts ends
+known : (laws : KnowingLaws) (link : Link) (delay : Role → ℕ) (ts : List Turn) (ends : Accounts) → RunsOver link delay ts ends
     → KnownOf link ts ts ends
 known laws link delay ts ends v = known-run laws.reads laws.keeps laws.written link delay v.may_play ts ends v.carried v.run
 
@@ -96,11 +96,11 @@ agreed-at : (link : Link) (a : Account) (b : Bool) → a.terms ≡ cond b (agree
     → check_of a ≡ agreed_check link
 agreed-at link a b e t = ap (λ (x : Terms). cond x.check32 ThirtyTwo Sixteen) (e ∙ ap (λ c. cond c (agreed_terms link) first_terms) t)
 
-orig-agreed : (link : Link) (sent heard : List Turn) (ends : Ends) → KnownOf link sent heard ends → 2 ≤ rank ends.orig.phase
+orig-agreed : (link : Link) (sent heard : List Turn) (ends : Accounts) → KnownOf link sent heard ends → 2 ≤ rank ends.orig.phase
     → check_of ends.orig ≡ agreed_check link
 orig-agreed link sent heard ends k l = agreed-at link ends.orig (nat_le 2 (rank ends.orig.phase)) k.terms_o (grind (arith, nat_tests))
 
-answ-agreed : (link : Link) (sent heard : List Turn) (ends : Ends) → KnownOf link sent heard ends → 2 ≤ rank ends.orig.phase
+answ-agreed : (link : Link) (sent heard : List Turn) (ends : Accounts) → KnownOf link sent heard ends → 2 ≤ rank ends.orig.phase
     → check_of ends.answ ≡ agreed_check link
 answ-agreed link sent heard ends k l = let m = k.met l in
     agreed-at link ends.answ (nat_le 1 (rank ends.answ.phase)) k.terms_a (grind (arith, nat_tests))
@@ -197,7 +197,7 @@ AllChecked check role [] = Unit {0}
 AllChecked check role (t ∷ ts) = HasCheck check (of role t).sent × AllChecked check role ts
 
 all-checked : KnowingLaws → (link : Link) (delay : Role → ℕ) → MayPlay link.orig.setup link.answ.setup → HasDelays delay
-    → (role : Role) (ts : List Turn) (ends : Ends) → IsCarried delay ts → RunOf link ts ends → AllChecked (agreed_check link) role ts
+    → (role : Role) (ts : List Turn) (ends : Accounts) → IsCarried delay ts → RunOf link ts ends → AllChecked (agreed_check link) role ts
 all-checked laws link delay m d role [] ends c h = tt
 all-checked laws link delay m d role (t ∷ ts) ends c h = (
   sends_agreed_check laws link delay ts h.0 t ends (record { may_play = m; delays = d; carried = c.1; run = h.1 }) c.0 h.2 role,
@@ -211,7 +211,7 @@ ago-checked check role zero (t ∷ ts) h = h.0
 ago-checked check role (suc k) (t ∷ ts) h = ago-checked check role k ts h.1
 
 -- what was sent in these turns, where so much is known of both ends
-judges-all : KnowingLaws → (link : Link) (delay : Role → ℕ) (ts heard : List Turn) (before ends : Ends) → RunsOver link delay ts before
+judges-all : KnowingLaws → (link : Link) (delay : Role → ℕ) (ts heard : List Turn) (before ends : Accounts) → RunsOver link delay ts before
     → KnownOf link ts heard ends → (ago : ℕ) (role : Role) (slot : Spoken) (frame : Frame) → sent_ago ago (other role) ts ≡ Some slot
     → slot.sent ≡ slots.Frame frame → check_for slot.check frame ≡ check_for (check_of (of role ends)) frame
 judges-all laws link delay ts heard before ends v k ago role slot frame e f = go (has_number frame) refl

@@ -16,7 +16,7 @@ use Rattle.link_account.specs.Account.{Account, is_connected, wants, piece_size,
 use Rattle.link_account.specs.Speak.{speak}
 use Rattle.link_run.specs.End.{User, Served, deliveries, delivered, piece_at, offered_at, offered_times, room_for, offered, is_busy, asked}
 use Rattle.link_run.specs.End.{served, is_released, has_finished}
-use Rattle.link_run.specs.Run.{Link, Ends, arrival, GoingTurn, SpeaksAt, said_at, served_at}
+use Rattle.link_run.specs.Run.{Link, Accounts, arrival, GoingTurn, SpeaksAt, said_at, served_at}
 use Rattle.link_run.specs.Reading.{IsCut, IsOffered, SameSoFar, with_segment, BeginsUnoffered}
 use Rattle.link_run.specs.Reading.{HearingStaysOffered, SpeakingStaysOffered, OffersWhatIsRead, SegmentsAreTold}
 use Rattle.link_run.specs.Reading.{OwnSegmentsStay, with_files, RunsByWhatWasRead, RunsByWhatIsReadOn}
@@ -315,7 +315,7 @@ runs_by_what_was_read reads keeps link files others (t ∷ ts) ends allowed h sa
     g : GoingTurn old ts h.0 t ends
     g = h.2
 
-    mid : Ends
+    mid : Accounts
     mid = g.mid
 
     turn : ℕ

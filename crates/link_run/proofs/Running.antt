@@ -11,7 +11,7 @@ use Rattle.link_account.specs.Laws.{played}
 use Rattle.link_account.specs.Play.{Slot, Play, Speaks, start, seen_from}
 use Rattle.link_account.specs.Speak.{Said}
 use Rattle.link_run.specs.End.{is_released}
-use Rattle.link_run.specs.Run.{Link, Ends, Turn, arrival, Hears, GoingTurn, RunOf, served_at, releases, said_at}
+use Rattle.link_run.specs.Run.{Link, Accounts, Turn, arrival, Hears, GoingTurn, RunOf, served_at, releases, said_at}
 use Rattle.link_run.specs.Run as run
 use Rattle.link_run.specs.Carried.{Carries, IsCarried, HasDelays, on_line}
 use Rattle.link_run.specs.Laws.{told_by_play, told_by_turn, IsAt, IsPlayed, RunsArePlays, HearingsArePlays}
@@ -26,7 +26,7 @@ abbrev pub begun : Link → Play
 begun link = start (fresh link.orig.setup) (fresh link.answ.setup)
 
 -- where a play is, with what was sent and hasn't arrived
-pub record Reaches (link : Link) (ends : Ends) (line : Role → List (Option run.Spoken)) : Type 0 where
+pub record Reaches (link : Link) (ends : Accounts) (line : Role → List (Option run.Spoken)) : Type 0 where
   pub lo : List Slot
   pub la : List Slot
   pub leads : Leads (begun link) (at Originator ends.orig lo ends.answ la)
@@ -41,23 +41,23 @@ abbrev pub left : (Role → ℕ) → List Turn → Role → List (Option run.Spo
 left delay ts role = on_line (delay role - 1) role ts
 
 -- whether that role's end is told to release
-abbrev pub told : Link → ℕ → Ends → Role → Bool
+abbrev pub told : Link → ℕ → Accounts → Role → Bool
 told link turn mid Originator = releases link turn mid
 told link turn mid Answerer = false
 
 -- what an end is that has spoken
-pub speaks-at : (link : Link) (turn : ℕ) (mid : Ends) (role : Role) (said : Said) → said_at link turn mid role ≡ Ok said
+pub speaks-at : (link : Link) (turn : ℕ) (mid : Accounts) (role : Role) (said : Said) → said_at link turn mid role ≡ Ok said
     → speaking.Speaks (told link turn mid role) (served_at link turn mid role).account said.account
 speaks-at link turn mid Originator said e = speaks turn (releases link turn mid) (served_at link turn mid Originator).account said e
 speaks-at link turn mid Answerer said e = speaks turn false (served_at link turn mid Answerer).account said e
 
 -- what both ends have handed over
-pub hearing-waits : (reads : ReadsAllowed) (keeps : KeepsTaken) (turn : ℕ) (before : Ends) (t : Turn) (mid : Ends)
+pub hearing-waits : (reads : ReadsAllowed) (keeps : KeepsTaken) (turn : ℕ) (before : Accounts) (t : Turn) (mid : Accounts)
     → ((r : Role) → Handed (of r before)) → Hears turn before t mid → (r : Role) → Waiting (of r mid)
 hearing-waits reads keeps turn before t mid h k r =
     heard-waits (of r before) (of r mid) (h r) (hears reads keeps turn (arrival (of r t).heard) (of r before) (of r mid) (k r).hears)
 
-pub going-handed : (reads : ReadsAllowed) (keeps : KeepsTaken) (link : Link) (ts : List Turn) (before : Ends) (t : Turn) (after : Ends)
+pub going-handed : (reads : ReadsAllowed) (keeps : KeepsTaken) (link : Link) (ts : List Turn) (before : Accounts) (t : Turn) (after : Accounts)
     → ((r : Role) → Handed (of r before)) → GoingTurn link ts before t after → (r : Role) → Handed (of r after)
 going-handed reads keeps link ts before t after h g r =
     let w = hearing-waits reads keeps (length ts) before t g.mid h g.hearing r in
@@ -71,13 +71,13 @@ start-handed : (link : Link) (r : Role) → Handed (of r (run.start link))
 start-handed link Originator = record { given = refl; told = refl }
 start-handed link Answerer = record { given = refl; told = refl }
 
-pub run-handed : (reads : ReadsAllowed) (keeps : KeepsTaken) (link : Link) (ts : List Turn) (ends : Ends) → RunOf link ts ends → (r : Role)
+pub run-handed : (reads : ReadsAllowed) (keeps : KeepsTaken) (link : Link) (ts : List Turn) (ends : Accounts) → RunOf link ts ends → (r : Role)
     → Handed (of r ends)
-run-handed reads keeps link [] ends h r = subst (λ (e : Ends). Handed (of r e)) (sym h) (start-handed link r)
+run-handed reads keeps link [] ends h r = subst (λ (e : Accounts). Handed (of r e)) (sym h) (start-handed link r)
 run-handed reads keeps link (t ∷ ts) ends h r = going-handed reads keeps link ts h.0 t ends (run-handed reads keeps link ts h.0 h.1) h.2 r
 
 -- hearing
-pub hearing-reaches : (link : Link) (delay : Role → ℕ) (ts : List Turn) (before : Ends) (turn : ℕ) (t : Turn) (mid : Ends) → HasDelays delay
+pub hearing-reaches : (link : Link) (delay : Role → ℕ) (ts : List Turn) (before : Accounts) (turn : ℕ) (t : Turn) (mid : Accounts) → HasDelays delay
     → Reaches link before (lines delay ts) → Carries delay ts t → Hears turn before t mid → Reaches link mid (left delay ts)
 hearing-reaches link delay ts before turn t mid some p c k =
     let first = arrives-next Answerer turn (delay Answerer) ts before.answ before.orig mid.orig p.la p.lo t.orig.heard
@@ -108,7 +108,7 @@ said-behind delay role ts t line slot said some h s n e =
     ∙ sym (turns-behind (left delay ts role) (of role t).sent) ∙ ap (map told_by_turn) (sym (behind role (delay role) t ts (some role)))
 
 -- a turn
-going-reaches : (link : Link) (delay : Role → ℕ) (ts : List Turn) (before : Ends) (t : Turn) (after : Ends) → HasDelays delay
+going-reaches : (link : Link) (delay : Role → ℕ) (ts : List Turn) (before : Accounts) (t : Turn) (after : Accounts) → HasDelays delay
     → Reaches link before (lines delay ts) → Carries delay ts t → (g : GoingTurn link ts before t after)
     → ((r : Role) → Waiting (of r g.mid)) → Reaches link after (lines delay (t ∷ ts))
 going-reaches link delay ts before t after some p c g w =
@@ -146,13 +146,13 @@ nothing-sent : (d : ℕ) (role : Role) → on_line d role [] ≡ []
 nothing-sent zero role = refl
 nothing-sent (suc d) role = refl
 
-pub run-reaches : (reads : ReadsAllowed) (keeps : KeepsTaken) (link : Link) (delay : Role → ℕ) (ts : List Turn) (ends : Ends)
+pub run-reaches : (reads : ReadsAllowed) (keeps : KeepsTaken) (link : Link) (delay : Role → ℕ) (ts : List Turn) (ends : Accounts)
     → HasDelays delay → IsCarried delay ts → RunOf link ts ends
     → Reaches link ends (lines delay ts)
 run-reaches reads keeps link delay [] ends some c h = record {
   lo = [];
   la = [];
-  leads = subst (λ (e : Ends). Leads (begun link) (at Originator e.orig [] e.answ [])) (sym h) (stay (begun link));
+  leads = subst (λ (e : Accounts). Leads (begun link) (at Originator e.orig [] e.answ [])) (sym h) (stay (begun link));
   orig_line = ap (map told_by_turn) (sym (nothing-sent (delay Originator) Originator));
   answ_line = ap (map told_by_turn) (sym (nothing-sent (delay Answerer) Answerer));
 }
@@ -160,7 +160,7 @@ run-reaches reads keeps link delay (t ∷ ts) ends some c h =
     going-reaches link delay ts h.0 t ends some (run-reaches reads keeps link delay ts h.0 some c.1 h.1) c.0 h.2
     (hearing-waits reads keeps (length ts) h.0 t h.2.mid (run-handed reads keeps link ts h.0 h.1) h.2.hearing)
 
-played-at : (link : Link) (ends : Ends) (line : Role → List (Option run.Spoken)) → Reaches link ends line → IsPlayed link ends line
+played-at : (link : Link) (ends : Accounts) (line : Role → List (Option run.Spoken)) → Reaches link ends line → IsPlayed link ends line
 played-at link ends line p = record { events = p.leads.events; is_at = at-role }
   where
     at-role : (role : Role) → IsAt (seen_from role (played link.orig.setup link.answ.setup p.leads.events)).own (of role ends) (line role)

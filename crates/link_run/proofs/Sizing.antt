@@ -16,7 +16,7 @@ use Rattle.link_account.specs.Account.{Account, is_connected, wants, piece_size,
 use Rattle.link_account.specs.Speak.{Said}
 use Rattle.link_account.specs.Laws.{MayPlay}
 use Rattle.link_run.specs.End.{User, delivered, piece_at, offered_at, offered_times, room_for, offered, is_busy, served, is_released}
-use Rattle.link_run.specs.Run.{Link, Ends, Turn, start, Spoken, arrival, Hears, RunOf, served_at, releases, said_at}
+use Rattle.link_run.specs.Run.{Link, Accounts, Turn, start, Spoken, arrival, Hears, RunOf, served_at, releases, said_at}
 use Rattle.link_run.specs.Carried.{Carries, IsCarried}
 use Rattle.link_run.specs.Laws.{SendsShort}
 use Rattle.link_run.proofs.Keeping.{Books, GoesOn, hears}
@@ -142,7 +142,7 @@ abbrev most_of : Link → Role → ℕ
 most_of link role = (of role link).setup.offer.tx_len
 
 -- the agreed length is at most that
-orig-most : (link : Link) (sent heard : List Turn) (mid : Ends) → KnownOf link sent heard mid → link.orig.setup.role ≡ Originator
+orig-most : (link : Link) (sent heard : List Turn) (mid : Accounts) → KnownOf link sent heard mid → link.orig.setup.role ≡ Originator
     → mid.orig.setup ≡ link.orig.setup → mid.orig.phase ≡ Connected → size_for mid.orig.setup.role mid.orig.terms ≤ most_of link Originator
 orig-most link sent heard mid k r s e =
     let terms : mid.orig.terms ≡ terms_of link.orig.setup link.answ.setup =
@@ -151,7 +151,7 @@ orig-most link sent heard mid k r s e =
     subst (λ x. size_for x mid.orig.terms ≤ most_of link Originator) (sym role)
     (subst (λ (x : Terms). x.len_o ≤ most_of link Originator) (sym terms) (omega arith))
 
-answ-most : (link : Link) (sent heard : List Turn) (mid : Ends) → KnownOf link sent heard mid → link.answ.setup.role ≡ Answerer
+answ-most : (link : Link) (sent heard : List Turn) (mid : Accounts) → KnownOf link sent heard mid → link.answ.setup.role ≡ Answerer
     → mid.answ.setup ≡ link.answ.setup → mid.answ.phase ≡ Connected → size_for mid.answ.setup.role mid.answ.terms ≤ most_of link Answerer
 answ-most link sent heard mid k r s e =
     let terms : mid.answ.terms ≡ terms_of link.orig.setup link.answ.setup =
@@ -162,7 +162,7 @@ answ-most link sent heard mid k r s e =
 
 -- all through a run
 sized-mid : (reads : ReadsAllowed) (keeps : KeepsTaken) (written : ReadsWritten) (link : Link) (delay : Role → ℕ) (ts : List Turn)
-    (before : Ends) (t : Turn) (mid : Ends) → MayPlay link.orig.setup link.answ.setup → IsCarried delay ts → RunOf link ts before
+    (before : Accounts) (t : Turn) (mid : Accounts) → MayPlay link.orig.setup link.answ.setup → IsCarried delay ts → RunOf link ts before
     → Carries delay ts t → Hears (length ts) before t mid
     → ((r : Role) → Sized (most_of link r) (of r before)) → (r : Role) → Sized (most_of link r) (of r mid)
 sized-mid reads keeps written link delay ts before t mid m cs h c k s role = at-role role
@@ -185,9 +185,9 @@ sized-mid reads keeps written link delay ts before t mid m cs h c k s role = at-
         (answ-most link ts (t ∷ ts) mid known m.answers (setups Answerer))
 
 sized-run : (reads : ReadsAllowed) (keeps : KeepsTaken) (written : ReadsWritten) (link : Link) (delay : Role → ℕ)
-    → MayPlay link.orig.setup link.answ.setup → (ts : List Turn) (ends : Ends) → IsCarried delay ts → RunOf link ts ends → (r : Role)
+    → MayPlay link.orig.setup link.answ.setup → (ts : List Turn) (ends : Accounts) → IsCarried delay ts → RunOf link ts ends → (r : Role)
     → Sized (most_of link r) (of r ends)
-sized-run reads keeps written link delay m [] ends c h r = subst (λ (e : Ends). Sized (most_of link r) (of r e)) (sym h) (starts r)
+sized-run reads keeps written link delay m [] ends c h r = subst (λ (e : Accounts). Sized (most_of link r) (of r e)) (sym h) (starts r)
   where
     starts : (r : Role) → Sized (most_of link r) (of r (start link))
     starts Originator = record { size = omega arith }

@@ -9,7 +9,7 @@ use Rattle.lapm_frames.specs.declared.sent.Sent.{Sent}
 use Rattle.lapm_frames.specs.declared.sent.Sent.TheVariants as slots
 use Rattle.lapm_frames.specs.declared.heard.Heard.{Heard}
 use Rattle.lapm_frames.specs.declared.heard.Heard.TheVariants.{Nothing, Passed, Lost, Chance}
-use Rattle.link_run.specs.Run.{Link, Ends, Spoken, Turn, GoingTurn}
+use Rattle.link_run.specs.Run.{Link, Accounts, Spoken, Turn, GoingTurn}
 use Rattle.link_run.specs.Carried.{Carries}
 use Rattle.link_run.specs.Laws.{RunsOver}
 
@@ -83,16 +83,16 @@ again_in None sent = 0
 again_in (Some ns) sent = if nat_eq ns (sent % 128) then 0 else 1
 
 -- So it comes to all that is counted by the meant numbers.
-pub record CountsOn (role : Role) (ts : List Turn) (ends : Ends) (t : Turn) (after : Ends) : Type 0 where
+pub record CountsOn (role : Role) (ts : List Turn) (ends : Accounts) (t : Turn) (after : Accounts) : Type 0 where
   pub high : (of role after).outgoing.high ≡ next_count (sequence_of (of role t).sent) (of role ends).outgoing.high
   pub again : repeated (numbers_sent role (t ∷ ts)) ≡ repeated (numbers_sent role ts) + again_in (sequence_of (of role t).sent)
       (of role ends).outgoing.high
 
 abbrev pub CountsByNumber : Type 0
-CountsByNumber = (link : Link) (delay : Role → ℕ) (ts : List Turn) (ends : Ends) (t : Turn) (after : Ends) → RunsOver link delay ts ends
+CountsByNumber = (link : Link) (delay : Role → ℕ) (ts : List Turn) (ends : Accounts) (t : Turn) (after : Accounts) → RunsOver link delay ts ends
     → Carries delay ts t → GoingTurn link ts ends t after → (role : Role) → CountsOn role ts ends t after
 
 -- And the segments that were sent are all those before a number.
 abbrev pub SentBelowHigh : Type 0
-SentBelowHigh = (link : Link) (delay : Role → ℕ) (ts : List Turn) (ends : Ends) → RunsOver link delay ts ends → (role : Role) (n : ℕ)
+SentBelowHigh = (link : Link) (delay : Role → ℕ) (ts : List Turn) (ends : Accounts) → RunsOver link delay ts ends → (role : Role) (n : ℕ)
     → is_number n (numbers_sent role ts) ≡ nat_lt n (of role ends).outgoing.high

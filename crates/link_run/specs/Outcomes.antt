@@ -2,7 +2,7 @@
 use Rattle.std.specs.Prelude.{◌≡◌, List}
 use Rattle.roles.specs.declared.role.Role.{Role}
 use Rattle.causes.specs.declared.fault.LinkFault.{LinkFault}
-use Rattle.link_run.specs.Run.{Link, Ends, Turn, GoingTurn, LastTurn, BrokenTurn}
+use Rattle.link_run.specs.Run.{Link, Accounts, Turn, GoingTurn, LastTurn, BrokenTurn}
 
 -- what a turn comes to
 pub data Outcome : Type 0 where
@@ -11,7 +11,7 @@ pub data Outcome : Type 0 where
   Broken : (role : Role) (fault : LinkFault) → Outcome  -- the end of that role gives the link up
 
 -- a turn with that outcome, and the ends as both have heard
-abbrev pub TurnIs : Link → List Turn → Ends → Turn → Ends → Outcome → Type 0
-TurnIs link ts before t mid Going = (after : Ends) × (g : GoingTurn link ts before t after) × (g.mid ≡ mid)
+abbrev pub TurnIs : Link → List Turn → Accounts → Turn → Accounts → Outcome → Type 0
+TurnIs link ts before t mid Going = (after : Accounts) × (g : GoingTurn link ts before t after) × (g.mid ≡ mid)
 TurnIs link ts before t mid Done = LastTurn ts before t mid
 TurnIs link ts before t mid (Broken role fault) = BrokenTurn link ts before t mid role fault

@@ -23,7 +23,7 @@ use Rattle.lapm_frames.specs.declared.heard.Heard.TheVariants.{Passed}
 use Rattle.link_account.specs.Account.{Account, first_terms, check_of}
 use Rattle.link_account.specs.Laws.{has_begun}
 use Rattle.link_run.specs.End.{is_released}
-use Rattle.link_run.specs.Run.{Link, Ends, Spoken, Turn, Hears, GoingTurn}
+use Rattle.link_run.specs.Run.{Link, Accounts, Spoken, Turn, Hears, GoingTurn}
 use Rattle.link_run.specs.Carried.{sent_ago, Carries}
 use Rattle.link_run.specs.Laws.{RunsOver}
 
@@ -50,12 +50,12 @@ opens role frame = false
 
 -- An end has been Connected exactly where such a frame passed to it.
 abbrev pub OpensByFrames : Type 0
-OpensByFrames = (link : Link) (delay : Role → ℕ) (ts : List Turn) (ends : Ends) → RunsOver link delay ts ends
+OpensByFrames = (link : Link) (delay : Role → ℕ) (ts : List Turn) (ends : Accounts) → RunsOver link delay ts ends
     → (role : Role) → has_begun (of role ends).phase ≡ has_passed (opens role) role ts
 
 -- No I frame passes to an end before.
 abbrev pub SegmentsPassLater : Type 0
-SegmentsPassLater = (link : Link) (delay : Role → ℕ) (ts : List Turn) (ends : Ends) (t : Turn) → RunsOver link delay ts ends
+SegmentsPassLater = (link : Link) (delay : Role → ℕ) (ts : List Turn) (ends : Accounts) (t : Turn) → RunsOver link delay ts ends
     → Carries delay ts t
     → (role : Role) (ns nr : ℕ) (pf : Bool) (info : List ℕ) → (of role t).heard ≡ Passed (slots.Frame (I ns nr pf info))
     → has_passed (opens role) role ts ≡ true
@@ -66,7 +66,7 @@ agreed_terms link = agree link.orig.setup.offer link.answ.setup.offer
 
 -- The terms are agreed once: an end has those of both offers exactly from when an XID frame passed to it.
 abbrev pub AgreesByXid : Type 0
-AgreesByXid = (link : Link) (delay : Role → ℕ) (ts : List Turn) (ends : Ends) → RunsOver link delay ts ends
+AgreesByXid = (link : Link) (delay : Role → ℕ) (ts : List Turn) (ends : Accounts) → RunsOver link delay ts ends
     → (role : Role) → (of role ends).terms ≡ (if has_passed is_xid role ts then agreed_terms link else first_terms)
 
 -- the agreed check of the frames with numbers
@@ -75,14 +75,14 @@ agreed_check link = if (agreed_terms link).check32 then ThirtyTwo else Sixteen
 
 -- Each frame with numbers is sent with the agreed check,
 abbrev pub SendsAgreedCheck : Type 0
-SendsAgreedCheck = (link : Link) (delay : Role → ℕ) (ts : List Turn) (ends : Ends) (t : Turn) (after : Ends) → RunsOver link delay ts ends
+SendsAgreedCheck = (link : Link) (delay : Role → ℕ) (ts : List Turn) (ends : Accounts) (t : Turn) (after : Accounts) → RunsOver link delay ts ends
     → Carries delay ts t → GoingTurn link ts ends t after
     → (role : Role) (slot : Spoken) (frame : Frame) → (of role t).sent ≡ Some slot → slot.sent ≡ slots.Frame frame
     → has_number frame ≡ true → slot.check ≡ agreed_check link
 
 -- and where it passes, its hearer has that check.
 abbrev pub HearsAgreedCheck : Type 0
-HearsAgreedCheck = (link : Link) (delay : Role → ℕ) (ts : List Turn) (ends : Ends) (t : Turn) (mid : Ends) → RunsOver link delay ts ends
+HearsAgreedCheck = (link : Link) (delay : Role → ℕ) (ts : List Turn) (ends : Accounts) (t : Turn) (mid : Accounts) → RunsOver link delay ts ends
     → Carries delay ts t → Hears (length ts) ends t mid
     → (role : Role) (frame : Frame) → (of role t).heard ≡ Passed (slots.Frame frame) → has_number frame ≡ true
     → (of role t).check ≡ agreed_check link
@@ -90,14 +90,14 @@ HearsAgreedCheck = (link : Link) (delay : Role → ℕ) (ts : List Turn) (ends :
 -- So whatever becomes of a frame on the line, and however long ago it was sent, its hearer judges it by the check that it was sent with,
 -- between turns
 abbrev pub JudgesByItsCheck : Type 0
-JudgesByItsCheck = (link : Link) (delay : Role → ℕ) (ts : List Turn) (ends : Ends) → RunsOver link delay ts ends
+JudgesByItsCheck = (link : Link) (delay : Role → ℕ) (ts : List Turn) (ends : Accounts) → RunsOver link delay ts ends
     → (ago : ℕ) (role : Role) (slot : Spoken) (frame : Frame) → sent_ago ago (other role) ts ≡ Some slot
     → slot.sent ≡ slots.Frame frame
     → check_for slot.check frame ≡ check_for (check_of (of role ends)) frame
 
 -- and once both ends have heard.
 abbrev pub JudgesOnceHeard : Type 0
-JudgesOnceHeard = (link : Link) (delay : Role → ℕ) (ts : List Turn) (ends : Ends) (t : Turn) (mid : Ends) → RunsOver link delay ts ends
+JudgesOnceHeard = (link : Link) (delay : Role → ℕ) (ts : List Turn) (ends : Accounts) (t : Turn) (mid : Accounts) → RunsOver link delay ts ends
     → Carries delay ts t → Hears (length ts) ends t mid
     → (ago : ℕ) (role : Role) (slot : Spoken) (frame : Frame) → sent_ago ago (other role) ts ≡ Some slot
     → slot.sent ≡ slots.Frame frame
@@ -119,13 +119,13 @@ pub record NothingNew (a : Account) (heard : Heard) (b : Account) : Type 0 where
 
 -- at each end
 abbrev pub ReleasesLast : Type 0
-ReleasesLast = (link : Link) (delay : Role → ℕ) (ts : List Turn) (ends : Ends) (t : Turn) (mid : Ends) → RunsOver link delay ts ends
+ReleasesLast = (link : Link) (delay : Role → ℕ) (ts : List Turn) (ends : Accounts) (t : Turn) (mid : Accounts) → RunsOver link delay ts ends
     → Carries delay ts t → Hears (length ts) ends t mid → is_released ends.orig.phase ≡ true
     → (role : Role) → NothingNew (of role ends) (of role t).heard (of role mid)
 
 -- A break's word that passes before its hearer is Connected is ignored.
 abbrev pub EarlyBreaksAreIgnored : Type 0
-EarlyBreaksAreIgnored = (link : Link) (delay : Role → ℕ) (ts : List Turn) (ends : Ends) (t : Turn) (mid : Ends)
+EarlyBreaksAreIgnored = (link : Link) (delay : Role → ℕ) (ts : List Turn) (ends : Accounts) (t : Turn) (mid : Accounts)
     → RunsOver link delay ts ends
     → Carries delay ts t → Hears (length ts) ends t mid
     → (role : Role) (command pf : Bool) (info : List ℕ) → has_passed (opens role) role ts ≡ false

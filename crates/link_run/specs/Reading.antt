@@ -12,7 +12,7 @@ use Rattle.link_account.specs.Account.{Account, fresh, is_connected, wants, piec
 use Rattle.link_account.specs.Hear.{hear}
 use Rattle.link_account.specs.Speak.{Said, speak}
 use Rattle.link_run.specs.End.{piece_at, delivered}
-use Rattle.link_run.specs.Run.{Party, Link, Ends, Turn, Hears, RunOf}
+use Rattle.link_run.specs.Run.{Party, Link, Accounts, Turn, Hears, RunOf}
 
 -- a size is agreed both ways
 abbrev pub AreSized : Terms → Type 0
@@ -94,7 +94,7 @@ with_files files link = record { orig = with_file files.orig link.orig; answ = w
 
 -- Files count as far as they were read: a run is one of any others that are the same up to there.
 abbrev pub RunsByWhatWasRead : Type 0
-RunsByWhatWasRead = (link : Link) (files others : Both (List ℕ)) (ts : List Turn) (ends : Ends)
+RunsByWhatWasRead = (link : Link) (files others : Both (List ℕ)) (ts : List Turn) (ends : Accounts)
     → ((role : Role) → IsAllowed (of role link).setup.offer)
     → RunOf (with_files files link) ts ends
     → ((role : Role) → SameSoFar (of role ends).outgoing (of role files) (of role others))
@@ -102,7 +102,7 @@ RunsByWhatWasRead = (link : Link) (files others : Both (List ℕ)) (ts : List Tu
 
 -- The same, by what is known in the middle of the next turn: once both ends have heard and what they took is handed over.
 abbrev pub RunsByWhatIsReadOn : Type 0
-RunsByWhatIsReadOn = (link : Link) (files others : Both (List ℕ)) (ts : List Turn) (ends : Ends) (t : Turn) (mid : Ends)
+RunsByWhatIsReadOn = (link : Link) (files others : Both (List ℕ)) (ts : List Turn) (ends : Accounts) (t : Turn) (mid : Accounts)
     → ((role : Role) → IsAllowed (of role link).setup.offer)
     → RunOf (with_files files link) ts ends → Hears (length ts) ends t mid
     → ((role : Role) → SameSoFar (after_given (delivered (of role mid))).outgoing (of role files) (of role others))

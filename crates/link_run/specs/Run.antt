@@ -28,11 +28,11 @@ abbrev pub Link : Type 0
 Link = Both Party
 
 -- the two ends' accounts
-abbrev pub Ends : Type 0
-Ends = Both Account
+abbrev pub Accounts : Type 0
+Accounts = Both Account
 
 -- as a run begins
-abbrev pub start : Link → Ends
+abbrev pub start : Link → Accounts
 start link = record { orig = fresh link.orig.setup; answ = fresh link.answ.setup }
 
 -- a slot that was sent
@@ -66,23 +66,23 @@ pub record HearsAt (turn : ℕ) (before : Account) (s : Side) (mid : Account) : 
   pub given_is : s.given ≡ given_break mid
 
 -- In this turn both ends hear.
-abbrev pub Hears : ℕ → Ends → Turn → Ends → Type 0
+abbrev pub Hears : ℕ → Accounts → Turn → Accounts → Type 0
 Hears turn before t mid = (role : Role) → HearsAt turn (of role before) (of role t) (of role mid)
 
 -- an end with its user, once it has heard
-abbrev pub served_at : Link → ℕ → Ends → Role → Served
+abbrev pub served_at : Link → ℕ → Accounts → Role → Served
 served_at link turn mid role = served (of role link).user turn (is_released mid.orig.phase) (of role mid)
 
 -- whether an end needs the link no more
-abbrev pub finished_at : Link → ℕ → Ends → Role → Bool
+abbrev pub finished_at : Link → ℕ → Accounts → Role → Bool
 finished_at link turn mid role = has_finished (of role link).user turn (served_at link turn mid role).account
 
 -- the originator is told to release once both ends have finished: the two users hang up together
-abbrev pub releases : Link → ℕ → Ends → Bool
+abbrev pub releases : Link → ℕ → Accounts → Bool
 releases link turn mid = finished_at link turn mid Originator && finished_at link turn mid Answerer
 
 -- what an end says in this turn; the originator alone is told to release
-abbrev pub said_at : Link → ℕ → Ends → Role → Result Said LinkFault
+abbrev pub said_at : Link → ℕ → Accounts → Role → Result Said LinkFault
 said_at link turn mid Originator = speak turn (releases link turn mid) (served_at link turn mid Originator).account
 said_at link turn mid Answerer = speak turn false (served_at link turn mid Answerer).account
 
@@ -98,7 +98,7 @@ pub record SpeaksAt (answer : Result Said LinkFault) (s : Side) (after : Account
   pub after_is : after ≡ said.account
 
 -- Then both ends speak, and neither breaks.
-abbrev pub Speaks : Link → ℕ → Ends → Turn → Ends → Type 0
+abbrev pub Speaks : Link → ℕ → Accounts → Turn → Accounts → Type 0
 Speaks link turn mid t after = (role : Role) → SpeaksAt (said_at link turn mid role) (of role t) (of role after)
 
 -- nothing is sent
@@ -106,25 +106,25 @@ abbrev pub IsSilent : Turn → Type 0
 IsSilent t = (role : Role) → (of role t).sent ≡ None
 
 -- the end of a role breaks as it is to speak; where both ends do, the originator counts
-abbrev pub IsBroken : Link → ℕ → Ends → Role → LinkFault → Type 0
+abbrev pub IsBroken : Link → ℕ → Accounts → Role → LinkFault → Type 0
 IsBroken link turn mid Originator fault = said_at link turn mid Originator ≡ Err fault
 IsBroken link turn mid Answerer fault = (is_ok (said_at link turn mid Originator) ≡ true) × (said_at link turn mid Answerer ≡ Err fault)
 
 -- A turn after which the run goes on.
-pub record GoingTurn (link : Link) (ts : List Turn) (before : Ends) (t : Turn) (after : Ends) : Type 0 where
-  pub mid : Ends
+pub record GoingTurn (link : Link) (ts : List Turn) (before : Accounts) (t : Turn) (after : Accounts) : Type 0 where
+  pub mid : Accounts
   pub hearing : Hears (length ts) before t mid
   pub going : is_closed mid.orig.phase ≡ false
   pub speaking : Speaks link (length ts) mid t after
 
 -- A turn in which the run is done: the originator is closed.
-pub record LastTurn (ts : List Turn) (before : Ends) (t : Turn) (mid : Ends) : Type 0 where
+pub record LastTurn (ts : List Turn) (before : Accounts) (t : Turn) (mid : Accounts) : Type 0 where
   pub hearing : Hears (length ts) before t mid
   pub done : is_closed mid.orig.phase ≡ true
   pub silent : IsSilent t
 
 -- A turn in which an end breaks.
-pub record BrokenTurn (link : Link) (ts : List Turn) (before : Ends) (t : Turn) (mid : Ends) (role : Role)
+pub record BrokenTurn (link : Link) (ts : List Turn) (before : Accounts) (t : Turn) (mid : Accounts) (role : Role)
     (fault : LinkFault) : Type 0 where
   pub hearing : Hears (length ts) before t mid
   pub going : is_closed mid.orig.phase ≡ false
@@ -132,6 +132,6 @@ pub record BrokenTurn (link : Link) (ts : List Turn) (before : Ends) (t : Turn) 
   pub silent : IsSilent t
 
 -- turns after which a run goes on, the newest first, and the ends after them
-abbrev pub RunOf : Link → List Turn → Ends → Type 0
+abbrev pub RunOf : Link → List Turn → Accounts → Type 0
 RunOf link [] ends = ends ≡ start link
-RunOf link (t ∷ ts) ends = (before : Ends) × RunOf link ts before × GoingTurn link ts before t ends
+RunOf link (t ∷ ts) ends = (before : Accounts) × RunOf link ts before × GoingTurn link ts before t ends

@@ -12,7 +12,7 @@ use Rattle.roles.specs.Role.{other}
 use Rattle.roles.specs.Both.{Both, of}
 use Rattle.noise_script.specs.Script.{ScriptValue, IsInLimits, delay_of}
 use Rattle.link_run.specs.End.{deliveries}
-use Rattle.link_run.specs.Run.{Link, Ends, Turn, Hears}
+use Rattle.link_run.specs.Run.{Link, Accounts, Turn, Hears}
 use Rattle.link_run.specs.Outcomes.{Outcome, Going, Done, Broken, TurnIs}
 use Rattle.link_run.specs.Laws.{RunsOver, HoldPrefixes, TakesWhatPassed}
 use Rattle.line_run.specs.Sampled.{Channel, LineRun}
@@ -48,7 +48,7 @@ pub record HeadLaws : Type 0 where
 pub may-run : HeadLaws → (c : Channel) (files : Both (List ℕ)) → IsInLimits c.script → MayRun c (link_of c.script files)
 may-run laws c files h = record { may_play = laws.runs.play c.script files h; delays = laws.runs.delays c.script h }
 
-pub runs-over : HeadLaws → (c : Channel) (files : Both (List ℕ)) (ts : List Turn) (ends : Ends) → IsInLimits c.script
+pub runs-over : HeadLaws → (c : Channel) (files : Both (List ℕ)) (ts : List Turn) (ends : Accounts) → IsInLimits c.script
     → LineRun c (link_of c.script files) ts ends → RunsOver (link_of c.script files) (delay_of c.script) ts ends
 runs-over laws c files ts ends h r = record {
   may_play = laws.runs.play c.script files h;
@@ -64,7 +64,7 @@ same-prefix script files Originator got h = h
 same-prefix script files Answerer got h = h
 
 -- what a link that goes on has given its users
-pub given-is : (ts : List Turn) (ends : Ends) (role : Role) → of role (left_by (Goes ts ends)).got ≡ concat (of role ends).incoming.taken
+pub given-is : (ts : List Turn) (ends : Accounts) (role : Role) → of role (left_by (Goes ts ends)).got ≡ concat (of role ends).incoming.taken
 given-is ts ends Originator = refl
 given-is ts ends Answerer = refl
 
@@ -79,14 +79,14 @@ left-prefixes laws c files rounds (Ended ts ends end left) h l role =
     same-prefix c.script files role (of role left.got)
     (laws.runs.prefixes c (link_of c.script files) end left (may-run laws c files h) l.ran role)
 
-hears-of : (link : Link) (ts : List Turn) (ends : Ends) (t : Turn) (mid : Ends) (o : Outcome) → TurnIs link ts ends t mid o
+hears-of : (link : Link) (ts : List Turn) (ends : Accounts) (t : Turn) (mid : Accounts) (o : Outcome) → TurnIs link ts ends t mid o
     → Hears (length ts) ends t mid
 hears-of link ts ends t mid Going g = subst (Hears (length ts) ends t) g.2 g.1.hearing
 hears-of link ts ends t mid Done l = l.hearing
 hears-of link ts ends t mid (Broken role fault) b = b.hearing
 
 -- and of it with what a turn adds
-turn-prefix : HeadLaws → (c : Channel) (files : Both (List ℕ)) (ts : List Turn) (ends : Ends) (more : Left) → IsInLimits c.script
+turn-prefix : HeadLaws → (c : Channel) (files : Both (List ℕ)) (ts : List Turn) (ends : Accounts) (more : Left) → IsInLimits c.script
     → LineRun c (link_of c.script files) ts ends → AddsTurn c (link_of c.script files) ts ends more → (role : Role)
     → IsPrefixOf (of role (left_by (Goes ts ends)).got ++ of role more.got) (of (other role) files)
 turn-prefix laws c files ts ends more h run a role =

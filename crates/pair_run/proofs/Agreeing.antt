@@ -12,7 +12,7 @@ use Rattle.lapm_frames.specs.declared.heard.Heard.{Heard}
 use Rattle.noise_script.specs.Script.{ScriptValue, delay_of}
 use Rattle.sample_line.specs.Recorded.{Records}
 use Rattle.link_account.specs.Account.{check_of}
-use Rattle.link_run.specs.Run.{Link, Ends, Spoken, Turn}
+use Rattle.link_run.specs.Run.{Link, Accounts, Spoken, Turn}
 use Rattle.link_run.specs.Carried.{sent_ago}
 use Rattle.link_run.specs.Outcomes.{Outcome}
 use Rattle.line_run.specs.Sampled.{and_then, signal_in, signals, signals_before, ArrivesAs, IsHeardOf}
@@ -93,13 +93,13 @@ same-over script dlci b d delays (t ∷ ts) s h =
     (same-in script dlci b d delays ts t few h.0, same-over script dlci b d delays ts few h.1)
 
 same-run : (script : ScriptValue) (dlci : ℕ) (b d : Beside) → ((role : Role) → 1 ≤ delay_of script role) → (link : Link) (ts : List Turn)
-    (ends : Ends) → SameBelow (length ts) b d → LineRun (channel_at script dlci b) link ts ends
+    (ends : Accounts) → SameBelow (length ts) b d → LineRun (channel_at script dlci b) link ts ends
     → LineRun (channel_at script dlci d) link ts ends
 same-run script dlci b d delays link ts ends s r =
     record { run = r.run; heard = same-over script dlci b d delays ts s r.heard }
 
 abbrev same-last : (script : ScriptValue) (dlci : ℕ) (b d : Beside) → ((role : Role) → 1 ≤ delay_of script role) → (link : Link)
-    (ts : List Turn) (ends : Ends) (o : Outcome) (turn : ℕ) (left : Left) → SameBelow (length ts) b d
+    (ts : List Turn) (ends : Accounts) (o : Outcome) (turn : ℕ) (left : Left) → SameBelow (length ts) b d
     → EndsInTurn (channel_at script dlci b) link ts ends o turn left → EndsInTurn (channel_at script dlci d) link ts ends o turn left
 same-last script dlci b d delays link ts ends o turn left s e = record {
   number = e.number;
@@ -111,13 +111,13 @@ same-last script dlci b d delays link ts ends o turn left s e = record {
 }
 
 -- a run that an end of the link ended, with the ends that it has then
-record SameEnd (script : ScriptValue) (dlci : ℕ) (d : Beside) (link : Link) (ts : List Turn) (ends mid : Ends) (end : RunEnd)
+record SameEnd (script : ScriptValue) (dlci : ℕ) (d : Beside) (link : Link) (ts : List Turn) (ends mid : Accounts) (end : RunEnd)
     (left : Left) : Type 0 where
   ended : EndsBy (channel_at script dlci d) link ts ends end left
   mid_is : last_ends (channel_at script dlci d) link ts ends end left ended ≡ mid
 
 same-end : (script : ScriptValue) (dlci : ℕ) (b d : Beside) → ((role : Role) → 1 ≤ delay_of script role) → (link : Link) (ts : List Turn)
-    (ends : Ends) (end : RunEnd) (left : Left) → SameBelow (length ts) b d → IsByLink end
+    (ends : Accounts) (end : RunEnd) (left : Left) → SameBelow (length ts) b d → IsByLink end
     → (e : EndsBy (channel_at script dlci b) link ts ends end left)
     → SameEnd script dlci d link ts ends (last_ends (channel_at script dlci b) link ts ends end left e) end left
 same-end script dlci b d delays link ts ends (IsDone turn) left s by e =
@@ -134,7 +134,7 @@ pub length-lasting : (n : ℕ) (ts : List Turn) → length (lasting n ts) ≡ n 
 length-lasting zero ts = omega arith
 length-lasting (suc n) ts = omega (arith, length-lasting n ts)
 
-same-idly : (script : ScriptValue) (dlci : ℕ) (b d : Beside) → ((role : Role) → 1 ≤ delay_of script role) → (ts : List Turn) (ends : Ends)
+same-idly : (script : ScriptValue) (dlci : ℕ) (b d : Beside) → ((role : Role) → 1 ≤ delay_of script role) → (ts : List Turn) (ends : Accounts)
     → SameBelow (length ts) b d → HearsIdly (channel_at script dlci b) ts ends → HearsIdly (channel_at script dlci d) ts ends
 same-idly script dlci b d delays ts ends s h role = record {
   heard = (h role).heard;
@@ -142,7 +142,7 @@ same-idly script dlci b d delays ts ends s h role = record {
   well = (h role).well;
 }
 
-same-idles : (script : ScriptValue) (dlci : ℕ) (b d : Beside) → ((role : Role) → 1 ≤ delay_of script role) → (ends : Ends) (n : ℕ)
+same-idles : (script : ScriptValue) (dlci : ℕ) (b d : Beside) → ((role : Role) → 1 ≤ delay_of script role) → (ends : Accounts) (n : ℕ)
     (ts : List Turn) → SameBelow (n + length ts) b d → IdlesFor (channel_at script dlci b) ends n ts
     → IdlesFor (channel_at script dlci d) ends n ts
 same-idles script dlci b d delays ends zero ts s h = tt

@@ -24,7 +24,7 @@ use Rattle.line_laws.specs.Laws.{SlotsAreRecorded}
 use Rattle.causes.specs.declared.fault.LinkFault.{LinkFault}
 use Rattle.causes.specs.declared.fault.LinkFault.TheVariants as faults
 use Rattle.link_account.specs.Account.{check_of}
-use Rattle.link_run.specs.Run.{Link, Ends, Spoken, Turn}
+use Rattle.link_run.specs.Run.{Link, Accounts, Spoken, Turn}
 use Rattle.link_run.specs.Carried.{sent_ago}
 use Rattle.link_run.specs.Outcomes.{Outcome, Going, Done, Broken, TurnIs}
 use Rattle.link_run.specs.Trace.{trace_text}
@@ -143,7 +143,7 @@ slot-becomes laws script dlci beside sender ts hearing delays fits b = go (sent_
         (subst (AllFitting (bits_in script) dlci) x.rest (fitting-dropped (bits_in script) dlci (delay - 1) ts fits)) b x.sent)
 
 -- by what becomes of both slots
-pub turn-decided : BecomeLaws → (script : ScriptValue) (dlci : ℕ) (beside : Beside) (ts : List Turn) (ends : Ends)
+pub turn-decided : BecomeLaws → (script : ScriptValue) (dlci : ℕ) (beside : Beside) (ts : List Turn) (ends : Accounts)
     → ((role : Role) → 1 ≤ delay_of script role) → AllFitting (bits_in script) dlci ts → BesideFits (bits_in script) beside
     → ((end : LineEnd) × EndsLine (channel_at script dlci beside) ts ends end) ⊎ HearsIdly (channel_at script dlci beside) ts ends
 turn-decided laws script dlci beside ts ends delays fits b =
@@ -165,7 +165,7 @@ turn-decided laws script dlci beside ts ends delays fits b =
     first (becomes.Heard w) (becomes.Mistaken m) = inl (lines.ChanceMatch Answerer, (w, m))
     first (becomes.Heard w) (becomes.Heard v) = inr (both w v)
 
-pub leaves-so : (ends : Ends) (text : List ℕ) → Leaves ends text (left_of ends text)
+pub leaves-so : (ends : Accounts) (text : List ℕ) → Leaves ends text (left_of ends text)
 leaves-so ends text = record { got_is = is; trace_is = refl }
   where
     is : (role : Role) → of role (left_of ends text).got ≡ concat (of role ends).incoming.taken
@@ -183,15 +183,15 @@ pub data NextOf (script : ScriptValue) (dlci : ℕ) (beside : Beside) (link : Li
       → (is_going next ≡ true → is_going p ≡ true)
       → NextOf script dlci beside link rounds p
 
-ended-now : (script : ScriptValue) (dlci : ℕ) (beside : Beside) (link : Link) (ts : List Turn) (ends : Ends)
+ended-now : (script : ScriptValue) (dlci : ℕ) (beside : Beside) (link : Link) (ts : List Turn) (ends : Accounts)
     → LineRun (channel_at script dlci beside) link ts ends → (rounds : ℕ) → length ts ≡ rounds
-    → (mid : Ends) (end : RunEnd) (left : Left) → (r : RunsTo (channel_at script dlci beside) link end left)
+    → (mid : Accounts) (end : RunEnd) (left : Left) → (r : RunsTo (channel_at script dlci beside) link end left)
     → Lasts (channel_at script dlci beside) link (suc rounds) (Ended ts mid end left) → NextOf script dlci beside link rounds (Goes ts ends)
 ended-now script dlci beside link ts ends run rounds e mid end left r l =
     Made (Ended ts mid end left) l (λ at role round k. refl) (λ g h. e) (λ g. absurd (false≢true (sym g))) (λ g. refl)
 
 goes-on : BecomeLaws → (script : ScriptValue) (files : Both (List ℕ)) (dlci : ℕ) (beside : Beside) (rounds : ℕ) (ts : List Turn)
-    (ends : Ends) → IsInLimits script
+    (ends : Accounts) → IsInLimits script
     → Lasts (channel_at script dlci beside) (link_of script files) rounds (Goes ts ends)
     → MadeOver (channel_at script dlci beside) files ts ends
     → NextOf script dlci beside (link_of script files) rounds (Goes ts ends)

@@ -21,7 +21,7 @@ use Rattle.link_account.specs.Account.{Account, check_of}
 use Rattle.link_account.specs.Hear.{hear}
 use Rattle.link_account.specs.Speak.{Said}
 use Rattle.link_run.specs.End.{is_closed}
-use Rattle.link_run.specs.Run.{Link, Ends, Spoken, Turn, Hears, RunOf, arrival, said_at, start}
+use Rattle.link_run.specs.Run.{Link, Accounts, Spoken, Turn, Hears, RunOf, arrival, said_at, start}
 use Rattle.link_run.specs.Carried.{sent_ago, has_message}
 use Rattle.link_run.specs.Outcomes.{Outcome, Done, TurnIs}
 use Rattle.link_run.specs.Trace.{trace_text}
@@ -74,7 +74,7 @@ abbrev AllDue : ScriptValue → List Turn → Type 0
 AllDue script [] = Unit {0}
 AllDue script (t ∷ ts) = TurnDue script ts t × AllDue script ts
 
-turn-due : (script : ScriptValue) (ts : List Turn) (before mid : Ends) (sent : Role → Option Spoken)
+turn-due : (script : ScriptValue) (ts : List Turn) (before mid : Accounts) (sent : Role → Option Spoken)
     → TurnDue script ts (turn_with before mid (heard_by (way_of script) ts) sent)
 turn-due script ts before mid sent Originator = heard-due script ts Originator
 turn-due script ts before mid sent Answerer = heard-due script ts Answerer
@@ -84,22 +84,22 @@ NextDue script ts (Goes t later) = TurnDue script ts t
 NextDue script ts (Ends_run t mid outcome) = TurnDue script ts t
 NextDue script ts Stops = Unit {0}
 
-spoken-due : (script : ScriptValue) (ts : List Turn) (ends mid : Ends) (b : Bool) (o a : Result Said LinkFault)
+spoken-due : (script : ScriptValue) (ts : List Turn) (ends mid : Accounts) (b : Bool) (o a : Result Said LinkFault)
     → NextDue script ts (speaking ends mid (heard_by (way_of script) ts) b o a)
 spoken-due script ts ends mid true o a = turn-due script ts ends mid (λ role. None)
 spoken-due script ts ends mid false (Err fault) a = turn-due script ts ends mid (λ role. None)
 spoken-due script ts ends mid false (Ok o) (Err fault) = turn-due script ts ends mid (λ role. None)
 spoken-due script ts ends mid false (Ok o) (Ok a) = turn-due script ts ends mid (both_said o a)
 
-hearing-due : (link : Link) (script : ScriptValue) (ts : List Turn) (ends : Ends) (o a : Result Account LinkFault)
+hearing-due : (link : Link) (script : ScriptValue) (ts : List Turn) (ends : Accounts) (o a : Result Account LinkFault)
     → NextDue script ts (hearing link (length ts) ends (heard_by (way_of script) ts) o a)
 hearing-due link script ts ends (Ok o) (Ok a) =
-    let mid : Ends = record { orig = o; answ = a } in
+    let mid : Accounts = record { orig = o; answ = a } in
     spoken-due script ts ends mid (is_closed o.phase) (said_at link (length ts) mid Originator) (said_at link (length ts) mid Answerer)
 hearing-due link script ts ends (Ok o) (Err fault) = tt
 hearing-due link script ts ends (Err fault) a = tt
 
-next-due : (link : Link) (script : ScriptValue) (ts : List Turn) (ends : Ends) → NextDue script ts (next link (way_of script) ts ends)
+next-due : (link : Link) (script : ScriptValue) (ts : List Turn) (ends : Accounts) → NextDue script ts (next link (way_of script) ts ends)
 next-due link script ts ends =
     hearing-due link script ts ends (hear (length ts) (arrival (heard_by (way_of script) ts Originator)) ends.orig)
     (hear (length ts) (arrival (heard_by (way_of script) ts Answerer)) ends.answ)
@@ -108,7 +108,7 @@ abbrev LastDue : ScriptValue → List Turn → Option Turn → Type 0
 LastDue script ts None = Unit {0}
 LastDue script ts (Some t) = TurnDue script ts t
 
-made-due : (count : ℕ) (link : Link) (script : ScriptValue) (ts : List Turn) (ends : Ends) (n : Next) → AllDue script ts → NextDue script ts n
+made-due : (count : ℕ) (link : Link) (script : ScriptValue) (ts : List Turn) (ends : Accounts) (n : Next) → AllDue script ts → NextDue script ts n
     → AllDue script (made count link (way_of script) ts ends n).turns
     × LastDue script (made count link (way_of script) ts ends n).turns (made count link (way_of script) ts ends n).last
 made-due zero link script ts ends n h k = (h, tt)
@@ -118,8 +118,8 @@ made-due (suc count) link script ts ends (Ends_run t mid outcome) h k = (h, k)
 made-due (suc count) link script ts ends Stops h k = (h, tt)
 
 -- so it is heard on the line of samples
-due-in : IsolationLaws → (script : ScriptValue) (files : Both (List ℕ)) → MaySend script files → (ts : List Turn) (ends : Ends)
-    → LineRun (channel_of script) (link_of script files) ts ends → (t : Turn) (mid : Ends) → Hears (length ts) ends t mid → TurnDue script ts t
+due-in : IsolationLaws → (script : ScriptValue) (files : Both (List ℕ)) → MaySend script files → (ts : List Turn) (ends : Accounts)
+    → LineRun (channel_of script) (link_of script files) ts ends → (t : Turn) (mid : Accounts) → Hears (length ts) ends t mid → TurnDue script ts t
     → HeardIn (channel_of script) ts t
 due-in laws script files m ts ends r t mid h k role = record {
   heard_of = subst (IsHeardOf (channel_of script) (other role) ts (of role t).check) (sym (k role))
@@ -130,7 +130,7 @@ due-in laws script files m ts ends r t mid h k role = record {
   well = λ e. due-well laws.clear script (other role) ts (sym (k role) ∙ e);
 }
 
-due-run : IsolationLaws → (script : ScriptValue) (files : Both (List ℕ)) → MaySend script files → (ts : List Turn) (ends : Ends)
+due-run : IsolationLaws → (script : ScriptValue) (files : Both (List ℕ)) → MaySend script files → (ts : List Turn) (ends : Accounts)
     → RunOf (link_of script files) ts ends → AllDue script ts → LineRun (channel_of script) (link_of script files) ts ends
 due-run laws script files m [] ends r k = record { run = r; heard = tt }
 due-run laws script files m (t ∷ ts) ends r k =

@@ -16,7 +16,7 @@ use Rattle.noise_script.specs.Script.{IsInLimits}
 use Rattle.sample_line.specs.Signals.{signal_of}
 use Rattle.line_laws.specs.Fitting.{Fits, AreFit}
 use Rattle.line_laws.proofs.Fitting.{codable-fits, spelled-octets}
-use Rattle.link_run.specs.Run.{Ends, Spoken, Turn}
+use Rattle.link_run.specs.Run.{Accounts, Spoken, Turn}
 use Rattle.line_run.specs.Sampled.{Channel, and_then, signal_in, signals, signals_before, LineRun}
 use Rattle.line_run.specs.Scripted.{link_of, slot_symbols, longest_of, SlotsAreCodable}
 use Rattle.line_run.specs.Stream.{AllSendable}
@@ -60,7 +60,7 @@ fitting-dropped size dlci zero ts h = h
 fitting-dropped size dlci (suc n) [] h = h
 fitting-dropped size dlci (suc n) (t ∷ ts) h = fitting-dropped size dlci n ts h.1
 
-pub fitting-run : (codable : SlotsAreCodable) (c : Channel) (files : Both (List ℕ)) (ts : List Turn) (ends : Ends) → IsInLimits c.script
+pub fitting-run : (codable : SlotsAreCodable) (c : Channel) (files : Both (List ℕ)) (ts : List Turn) (ends : Accounts) → IsInLimits c.script
     → LineRun c (link_of c.script files) ts ends → AllSendable ts → (dlci : ℕ) → dlci < 64
     → AllFitting (4 * slot_symbols (longest_of c.script)) dlci ts
 fitting-run codable c files [] ends h r s dlci low = tt

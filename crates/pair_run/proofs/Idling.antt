@@ -10,7 +10,7 @@ use Rattle.lapm_frames.specs.declared.sent.Sent.TheVariants as slots
 use Rattle.line_laws.specs.Unhindered.{ChecksAgree}
 use Rattle.noise_script.specs.Script.{ScriptValue, IsInLimits, delay_of}
 use Rattle.link_account.specs.Account.{check_of}
-use Rattle.link_run.specs.Run.{Ends, Spoken, Turn}
+use Rattle.link_run.specs.Run.{Accounts, Spoken, Turn}
 use Rattle.link_run.specs.Carried.{sent_in, sent_ago}
 use Rattle.link_run.specs.Overheard.{JudgesOnceHeard}
 use Rattle.link_run.specs.Outcomes.{Outcome}
@@ -34,11 +34,11 @@ in-lasting role zero (suc k) ts slot e = inl (idle-sends role slot e)
 in-lasting role (suc n) (suc k) ts slot e = in-lasting role n k ts slot e
 
 -- both ends judge what was sent before by the check that it was sent with
-abbrev pub Judges : List Turn → Ends → Type 0
+abbrev pub Judges : List Turn → Accounts → Type 0
 Judges ts ends = (ago : ℕ) (role : Role) (slot : Spoken) (frame : Frame) → sent_ago ago (other role) ts ≡ Some slot
     → slot.sent ≡ slots.Frame frame → check_for slot.check frame ≡ check_for (check_of (of role ends)) frame
 
-pub agrees-lasting : (script : ScriptValue) (ts : List Turn) (ends : Ends) → Judges ts ends → (k : ℕ) (role : Role)
+pub agrees-lasting : (script : ScriptValue) (ts : List Turn) (ends : Accounts) → Judges ts ends → (k : ℕ) (role : Role)
     → Agrees script (other role) (lasting k ts) (check_of (of role ends))
 agrees-lasting script ts ends judges k role = λ slot e.
     go slot (in-lasting (other role) (delay_of script (other role) - 1) k ts slot e)
@@ -53,7 +53,7 @@ agrees-lasting script ts ends judges k role = λ slot e.
 
 -- so it is once both have heard in a link's last turn
 judges-in-turn : IsolationLaws → OneIsCarried → JudgesOnceHeard
-    → (script : ScriptValue) (files : Both (List ℕ)) (dlci : ℕ) (beside : Beside) (ts : List Turn) (ends : Ends) → IsInLimits script
+    → (script : ScriptValue) (files : Both (List ℕ)) (dlci : ℕ) (beside : Beside) (ts : List Turn) (ends : Accounts) → IsInLimits script
     → LineRun (channel_at script dlci beside) (link_of script files) ts ends
     → (o : Outcome) (turn : ℕ) (left : Left)
     → (e : EndsInTurn (channel_at script dlci beside) (link_of script files) ts ends o turn left) → Judges ts e.mid
@@ -63,7 +63,7 @@ judges-in-turn laws one heard script files dlci beside ts ends h r o turn left e
     (one (channel_at script dlci beside) ts e.last e.heard) (hearing-in script files ts ends e.last e.mid o e.is) ago role slot frame p f
 
 pub judges-last : IsolationLaws → OneIsCarried → JudgesOnceHeard
-    → (script : ScriptValue) (files : Both (List ℕ)) (dlci : ℕ) (beside : Beside) (ts : List Turn) (ends : Ends) → IsInLimits script
+    → (script : ScriptValue) (files : Both (List ℕ)) (dlci : ℕ) (beside : Beside) (ts : List Turn) (ends : Accounts) → IsInLimits script
     → LineRun (channel_at script dlci beside) (link_of script files) ts ends → (end : RunEnd) (left : Left) → IsByLink end
     → (e : EndsBy (channel_at script dlci beside) (link_of script files) ts ends end left)
     → Judges ts (last_ends (channel_at script dlci beside) (link_of script files) ts ends end left e)

@@ -5,7 +5,7 @@ use Rattle.roles.specs.Role.{other}
 use Rattle.roles.specs.Both.{Both, of}
 use Rattle.noise_script.specs.Script.{ScriptValue, IsInLimits, delay_of}
 use Rattle.link_account.specs.Account.{check_of}
-use Rattle.link_run.specs.Run.{Ends, Turn, Hears}
+use Rattle.link_run.specs.Run.{Accounts, Turn, Hears}
 use Rattle.link_run.specs.Outcomes.{Outcome, Going, Done, Broken, TurnIs}
 use Rattle.link_run.specs.Laws.{RunsOver}
 use Rattle.link_run.specs.Overheard.{JudgesByItsCheck}
@@ -30,7 +30,7 @@ pub record IsolationLaws : Type 0 where
   pub judges : JudgesByItsCheck
 
 -- the line of samples as any line
-pub over : IsolationLaws → (script : ScriptValue) (dlci : ℕ) (beside : Beside) (files : Both (List ℕ)) (ts : List Turn) (ends : Ends)
+pub over : IsolationLaws → (script : ScriptValue) (dlci : ℕ) (beside : Beside) (files : Both (List ℕ)) (ts : List Turn) (ends : Accounts)
     → IsInLimits script → LineRun (channel_at script dlci beside) (link_of script files) ts ends
     → RunsOver (link_of script files) (delay_of script) ts ends
 over laws script dlci beside files ts ends h r = record {
@@ -46,7 +46,7 @@ pub record MaySend (script : ScriptValue) (files : Both (List ℕ)) : Type 0 whe
   pub faint : IsFaint script
   pub octets : AreOfOctets script files
 
-pub fitting-on : IsolationLaws → (script : ScriptValue) (files : Both (List ℕ)) (dlci : ℕ) (beside : Beside) (ts : List Turn) (ends : Ends)
+pub fitting-on : IsolationLaws → (script : ScriptValue) (files : Both (List ℕ)) (dlci : ℕ) (beside : Beside) (ts : List Turn) (ends : Accounts)
     → IsInLimits script → AreOfOctets script files → LineRun (channel_at script dlci beside) (link_of script files) ts ends → (at : ℕ)
     → at < 64 → AllFitting (bits_in script) at ts
 fitting-on laws script files dlci beside ts ends h o r at low =
@@ -54,7 +54,7 @@ fitting-on laws script files dlci beside ts ends h o r at low =
     (laws.octets (channel_at script dlci beside) files ts ends h o r) at low
 
 -- a run's line is clear on any channel, beside whatever fits
-pub clear-on : IsolationLaws → (script : ScriptValue) (files : Both (List ℕ)) (dlci : ℕ) (beside : Beside) (ts : List Turn) (ends : Ends)
+pub clear-on : IsolationLaws → (script : ScriptValue) (files : Both (List ℕ)) (dlci : ℕ) (beside : Beside) (ts : List Turn) (ends : Accounts)
     → MaySend script files → LineRun (channel_at script dlci beside) (link_of script files) ts ends
     → (at : ℕ) (near : Beside) → at < 64 → BesideFits (bits_in script) near → IsClear script at near ts
 clear-on laws script files dlci beside ts ends m r at near low b = record {
@@ -66,7 +66,7 @@ clear-on laws script files dlci beside ts ends m r at near low b = record {
 }
 
 -- and both ends judge by the right check
-pub agrees-on : IsolationLaws → (script : ScriptValue) (files : Both (List ℕ)) (dlci : ℕ) (beside : Beside) (ts : List Turn) (ends : Ends)
+pub agrees-on : IsolationLaws → (script : ScriptValue) (files : Both (List ℕ)) (dlci : ℕ) (beside : Beside) (ts : List Turn) (ends : Accounts)
     → IsInLimits script → LineRun (channel_at script dlci beside) (link_of script files) ts ends → (role : Role)
     → Agrees script (other role) ts (check_of (of role ends))
 agrees-on laws script files dlci beside ts ends h r role = λ slot e.
@@ -84,8 +84,8 @@ pub record Moves (script : ScriptValue) (dlci : ℕ) (beside : Beside) (at : ℕ
 -- What is heard in a turn is heard there too.
 pub heard-moves : IsolationLaws → (script : ScriptValue) (files : Both (List ℕ)) (dlci : ℕ) (beside : Beside) (at : ℕ) (near : Beside)
     → MaySend script files → Moves script dlci beside at near
-    → (ts : List Turn) (ends : Ends) → LineRun (channel_at script dlci beside) (link_of script files) ts ends
-    → (t : Turn) (mid : Ends) → Hears (length ts) ends t mid
+    → (ts : List Turn) (ends : Accounts) → LineRun (channel_at script dlci beside) (link_of script files) ts ends
+    → (t : Turn) (mid : Accounts) → Hears (length ts) ends t mid
     → HeardIn (channel_at script dlci beside) ts t → HeardIn (channel_at script at near) ts t
 heard-moves laws script files dlci beside at near m v ts ends r t mid h k role = record { heard_of = there; well = (k role).well }
   where
@@ -110,7 +110,7 @@ heard-moves laws script files dlci beside at near m v ts ends r t mid h k role =
 -- so are all turns of a run,
 pub run-moves : IsolationLaws → (script : ScriptValue) (files : Both (List ℕ)) (dlci : ℕ) (beside : Beside) (at : ℕ) (near : Beside)
     → MaySend script files → Moves script dlci beside at near
-    → (ts : List Turn) (ends : Ends) → LineRun (channel_at script dlci beside) (link_of script files) ts ends
+    → (ts : List Turn) (ends : Accounts) → LineRun (channel_at script dlci beside) (link_of script files) ts ends
     → LineRun (channel_at script at near) (link_of script files) ts ends
 run-moves laws script files dlci beside at near m v [] ends r = record { run = r.run; heard = tt }
 run-moves laws script files dlci beside at near m v (t ∷ ts) ends r =
@@ -119,7 +119,7 @@ run-moves laws script files dlci beside at near m v (t ∷ ts) ends r =
     let now = heard-moves laws script files dlci beside at near m v ts r.run.0 before t r.run.2.mid r.run.2.hearing r.heard.0 in
     record { run = r.run; heard = (now, there.heard) }
 
-pub hearing-in : (script : ScriptValue) (files : Both (List ℕ)) (ts : List Turn) (ends : Ends) (t : Turn) (mid : Ends) (o : Outcome)
+pub hearing-in : (script : ScriptValue) (files : Both (List ℕ)) (ts : List Turn) (ends : Accounts) (t : Turn) (mid : Accounts) (o : Outcome)
     → TurnIs (link_of script files) ts ends t mid o → Hears (length ts) ends t mid
 hearing-in script files ts ends t mid Going h = subst (Hears (length ts) ends t) h.2 h.1.hearing
 hearing-in script files ts ends t mid Done h = h.hearing
@@ -128,7 +128,7 @@ hearing-in script files ts ends t mid (Broken role fault) h = h.hearing
 -- and its last turn, where an end of the link ended it.
 last-moves : IsolationLaws → (script : ScriptValue) (files : Both (List ℕ)) (dlci : ℕ) (beside : Beside) (at : ℕ) (near : Beside)
     → MaySend script files → Moves script dlci beside at near
-    → (ts : List Turn) (ends : Ends) → LineRun (channel_at script dlci beside) (link_of script files) ts ends
+    → (ts : List Turn) (ends : Accounts) → LineRun (channel_at script dlci beside) (link_of script files) ts ends
     → (o : Outcome) (turn : ℕ) (left : Left)
     → EndsInTurn (channel_at script dlci beside) (link_of script files) ts ends o turn left
     → EndsInTurn (channel_at script at near) (link_of script files) ts ends o turn left

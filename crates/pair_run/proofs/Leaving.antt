@@ -7,7 +7,7 @@ use Rattle.roles.specs.Role.{other}
 use Rattle.roles.specs.Both.{Both, of}
 use Rattle.plain_lists.specs.Prefix.{IsPrefixOf}
 use Rattle.noise_script.specs.Script.{ScriptValue, IsInLimits, delay_of}
-use Rattle.link_run.specs.Run.{Ends, Turn}
+use Rattle.link_run.specs.Run.{Accounts, Turn}
 use Rattle.link_run.specs.Laws.{TakesPrefixes}
 use Rattle.line_run.specs.Sampled.{Channel, LineRun, LineEnd}
 use Rattle.line_run.specs.Sampled as lines
@@ -52,7 +52,7 @@ same-whole script files Answerer got e = e
 
 -- what is left of a link that has ended
 ended-prefixes : LeaveLaws → (script : ScriptValue) (files : Both (List ℕ)) (dlci : ℕ) (beside : Beside) (rounds : ℕ) → IsInLimits script
-    → (ts : List Turn) (ends : Ends) (end : RunEnd) (left : Left)
+    → (ts : List Turn) (ends : Accounts) (end : RunEnd) (left : Left)
     → Lasts (channel_at script dlci beside) (link_of script files) rounds (Ended ts ends end left) → ArePrefixes left files
 ended-prefixes laws script files dlci beside rounds h ts ends end left l role =
     same-prefix script files role (of role left.got)
@@ -118,7 +118,7 @@ line-not-done m n round (lines.LineLost role symbol) e = omega (arith, ap kind e
 line-not-done m n round (lines.ChanceMatch role) e = omega (arith, ap kind e)
 
 ended-whole : LeaveLaws → (script : ScriptValue) (files : Both (List ℕ)) (dlci : ℕ) (beside : Beside) (rounds : ℕ) → IsInLimits script
-    → (ts : List Turn) (ends : Ends) (end : RunEnd) (left : Left) (turn : ℕ) → end ≡ IsDone turn
+    → (ts : List Turn) (ends : Accounts) (end : RunEnd) (left : Left) (turn : ℕ) → end ≡ IsDone turn
     → Lasts (channel_at script dlci beside) (link_of script files) rounds (Ended ts ends end left) → AreWhole left files
 ended-whole laws script files dlci beside rounds h ts ends end left turn e l role =
     same-whole script files role (of role left.got)

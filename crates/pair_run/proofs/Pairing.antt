@@ -7,7 +7,7 @@ use Rattle.roles.specs.Both.{Both, of}
 use Rattle.lapm_frames.specs.declared.heard.Heard.TheVariants.{Chance}
 use Rattle.noise_script.specs.Script.{ScriptValue}
 use Rattle.link_account.specs.Account.{check_of}
-use Rattle.link_run.specs.Run.{Link, Ends, Turn}
+use Rattle.link_run.specs.Run.{Link, Accounts, Turn}
 use Rattle.link_run.specs.Overheard.{JudgesOnceHeard}
 use Rattle.line_run.specs.Sampled.{Channel, IsHeardOf, LineRun, LineEnd, EndsLine}
 use Rattle.line_run.specs.Sampled as lines
@@ -31,7 +31,7 @@ pub record PairLaws : Type 0 where
 
 -- the turns that a link made are a run
 pub record HasRun (c : Channel) (link : Link) (ts : List Turn) : Type 0 where
-  pub before : Ends
+  pub before : Accounts
   pub run : LineRun c link ts before
 
 pub has-run : (c : Channel) (link : Link) (rounds : ℕ) (p : Progress) → Lasts c link rounds p → HasRun c link (turns_in p)
@@ -48,7 +48,7 @@ fits-in laws script files dlci beside rounds p m h at low =
     fitting-on laws script files dlci beside (turns_in p) r.before m.limits m.octets r.run at low
 
 -- a link's line is clear and both its ends judge by the right checks, also once it has ended
-pub record IsHeardRight (script : ScriptValue) (dlci : ℕ) (beside : Beside) (ts : List Turn) (ends : Ends) : Type 0 where
+pub record IsHeardRight (script : ScriptValue) (dlci : ℕ) (beside : Beside) (ts : List Turn) (ends : Accounts) : Type 0 where
   pub clear : IsClear script dlci beside ts
   pub agrees : (role : Role) → Agrees script (other role) ts (check_of (of role ends))
 
@@ -83,7 +83,7 @@ heard-right laws script files dlci beside rounds count (Ended ts ends end left) 
     }
 
 -- so the line doesn't end it
-never-ends : PairLaws → (script : ScriptValue) (dlci : ℕ) (beside : Beside) (ts : List Turn) (ends : Ends) → IsFaint script
+never-ends : PairLaws → (script : ScriptValue) (dlci : ℕ) (beside : Beside) (ts : List Turn) (ends : Accounts) → IsFaint script
     → IsHeardRight script dlci beside ts ends → (end : LineEnd) → EndsLine (channel_at script dlci beside) ts ends end → ⊥
 never-ends laws script dlci beside ts ends d h (lines.LineLost Originator symbol) e =
     not-lost laws.links.clear script dlci beside Answerer ts symbol d e

@@ -5,7 +5,7 @@ use Rattle.std.proofs.lemmas.Bool.{false≢true}
 use Rattle.roles.specs.declared.role.Role.{Role}
 use Rattle.roles.specs.Both.{Both}
 use Rattle.noise_script.specs.Script.{ScriptValue, delay_of}
-use Rattle.link_run.specs.Run.{Link, Ends, Turn, start}
+use Rattle.link_run.specs.Run.{Link, Accounts, Turn, start}
 use Rattle.line_run.specs.Scripted.{link_of}
 use Rattle.line_run.specs.Ends.{RunEnd, Left}
 use Rattle.pair_run.specs.Beside.{first_dlci, second_dlci, slot_in, after_second, after_first, first_channel, second_channel, lasting}
@@ -24,7 +24,7 @@ pub record Before (script : ScriptValue) (dlci : ℕ) (beside : Beside) (link : 
   pub well : HearsIdly (channel_at script dlci beside) (turns_on_line rounds earlier) (ends_in earlier)
   pub stays : is_going earlier ≡ false → p ≡ earlier
 
-before-ended : (script : ScriptValue) (dlci : ℕ) (beside : Beside) (link : Link) (rounds : ℕ) (ts : List Turn) (ends : Ends) (end : RunEnd)
+before-ended : (script : ScriptValue) (dlci : ℕ) (beside : Beside) (link : Link) (rounds : ℕ) (ts : List Turn) (ends : Accounts) (end : RunEnd)
     (left : Left) → Lasts (channel_at script dlci beside) link (suc rounds) (Ended ts ends end left)
     → (rounds ≡ length ts) ⊎ (length ts < rounds) → Before script dlci beside link rounds (Ended ts ends end left)
 before-ended script dlci beside link rounds ts ends end left h (inl e) =

@@ -4,7 +4,7 @@ use Rattle.roles.specs.declared.role.Role.{Role}
 use Rattle.roles.specs.Both.{Both}
 use Rattle.noise_script.specs.Script.{ScriptValue}
 use Rattle.line_texts.specs.LineText.{chance_line}
-use Rattle.link_run.specs.Run.{Ends, Turn}
+use Rattle.link_run.specs.Run.{Accounts, Turn}
 use Rattle.link_run.specs.Trace.{trace_text}
 use Rattle.line_run.specs.Sampled.{LineEnd, EndsLine}
 use Rattle.line_run.specs.Sampled as lines
@@ -47,8 +47,8 @@ line_end round (lines.ChanceMatch role) = ChanceMatch role round
 pub record BothEnd (script : ScriptValue) (files others : Both (List ℕ)) (first second : RunEnd) (left leaves : Left) : Type 0 where
   pub ts : List Turn
   pub us : List Turn
-  pub ends : Ends
-  pub mids : Ends
+  pub ends : Accounts
+  pub mids : Accounts
   pub at : PairAt script files others (suc (max (length ts) (length us))) (max (length ts) (suc (length us)))
       (Ended ts ends first left) (Ended us mids second leaves)
 

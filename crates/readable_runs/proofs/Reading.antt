@@ -18,7 +18,7 @@ use Rattle.lapm_frames.specs.declared.heard.Heard.TheVariants.{Nothing, Passed, 
 use Rattle.break_signals.specs.Words.{word_in}
 use Rattle.noise_script.specs.Script.{ScriptValue, IsInLimits, delay_of}
 use Rattle.link_account.specs.Account.{Account, is_connected, given_break}
-use Rattle.link_run.specs.Run.{Link, Ends, Spoken, Turn, Hears}
+use Rattle.link_run.specs.Run.{Link, Accounts, Spoken, Turn, Hears}
 use Rattle.link_run.specs.Carried.{sent_ago, has_message, Crosses, Carries}
 use Rattle.link_run.specs.Outcomes.{Outcome, Going, Done, Broken, TurnIs}
 use Rattle.line_run.specs.Sampled.{HeardIn, LineRun}
@@ -101,19 +101,19 @@ given-read a h = go (is_connected a.phase) (nat_lt a.breaks_told (length a.their
     go false c = tt
 
 -- both ends hear, whatever the turn comes to
-hears-of : (link : Link) (ts : List Turn) (ends : Ends) (t : Turn) (mid : Ends) (o : Outcome) → TurnIs link ts ends t mid o
+hears-of : (link : Link) (ts : List Turn) (ends : Accounts) (t : Turn) (mid : Accounts) (o : Outcome) → TurnIs link ts ends t mid o
     → Hears (length ts) ends t mid
 hears-of link ts ends t mid Going g = subst (Hears (length ts) ends t) g.2 g.1.hearing
 hears-of link ts ends t mid Done l = l.hearing
 hears-of link ts ends t mid (Broken role fault) b = b.hearing
 
-module _ (laws : SendLaws) (script : ScriptValue) (files : Both (List ℕ)) (ts : List Turn) (ends : Ends) (h : IsInLimits script)
+module _ (laws : SendLaws) (script : ScriptValue) (files : Both (List ℕ)) (ts : List Turn) (ends : Accounts) (h : IsInLimits script)
     (o : AsksInOctets script) (r : LineRun (channel_of script) (link_of script files) ts ends) where
   both : HoldBoth (λ role. (of role (link_of script files)).user.file) ts ends
   both = holds-all laws script files ts ends h o r
 
   -- what a turn sends
-  spoken-read : (t : Turn) (mid : Ends) (outcome : Outcome) → HeardIn (channel_of script) ts t → TurnIs (link_of script files) ts ends t mid outcome
+  spoken-read : (t : Turn) (mid : Accounts) (outcome : Outcome) → HeardIn (channel_of script) ts t → TurnIs (link_of script files) ts ends t mid outcome
       → (role : Role) → IsKnown (of role t).sent
   spoken-read t mid Going heard g role slot e =
       let run : LineRun (channel_of script) (link_of script files) (t ∷ ts) g.0 =
@@ -127,7 +127,7 @@ module _ (laws : SendLaws) (script : ScriptValue) (files : Both (List ℕ)) (ts 
   sent-line None f = tt
   sent-line (Some slot) f = let k = f slot refl in sent-read slot.sent k.0 k.1
 
-  line-read : (t : Turn) (mid : Ends) (outcome : Outcome) → HeardIn (channel_of script) ts t → TurnIs (link_of script files) ts ends t mid outcome
+  line-read : (t : Turn) (mid : Accounts) (outcome : Outcome) → HeardIn (channel_of script) ts t → TurnIs (link_of script files) ts ends t mid outcome
       → length ts < 2 ^ 40 → (role : Role) → IsReadable (line_of (length ts) role (of role t))
   line-read t mid outcome heard is early role =
       let hearing = hears-of (link_of script files) ts ends t mid outcome is in

@@ -21,7 +21,7 @@ use Rattle.noise_script.specs.Script.{ScriptValue, IsInLimits, delay_of}
 use Rattle.link_account.specs.Speak.{Said}
 use Rattle.link_account.specs.Play.{arrives}
 use Rattle.link_run.specs.End.{is_released}
-use Rattle.link_run.specs.Run.{Link, Ends, Spoken, Turn, start, arrival, Hears, served_at, said_at, releases, GoingTurn}
+use Rattle.link_run.specs.Run.{Link, Accounts, Spoken, Turn, start, arrival, Hears, served_at, said_at, releases, GoingTurn}
 use Rattle.link_run.specs.Carried.{sent_ago, Crosses, Carries}
 use Rattle.link_run.specs.Laws.{RunsOver, SendsShort}
 use Rattle.link_run.specs.Reading.{StaysOffered, BeginsUnoffered, HearingStaysOffered, SpeakingStaysOffered}
@@ -82,7 +82,7 @@ crosses-octets None (Passed s) c f = absurd c
 crosses-octets (Some slot) (Passed s) c f = subst (λ z. ArrivesInOctets (arrives z)) (sym c.0) (passes-octets slot.sent (f slot refl))
 
 -- what an end says as a turn's end of it
-says-good : (link : Link) (turn : ℕ) (mid : Ends) (role : Role) (said : Said) → said_at link turn mid role ≡ Ok said → (file : List ℕ)
+says-good : (link : Link) (turn : ℕ) (mid : Accounts) (role : Role) (said : Said) → said_at link turn mid role ≡ Ok said → (file : List ℕ)
     → Holds file (served_at link turn mid role).account → IsGood said
 says-good link turn mid Originator said e file h =
     said-good turn (releases link turn mid) (served_at link turn mid Originator).account said
@@ -90,14 +90,14 @@ says-good link turn mid Originator said e file h =
 says-good link turn mid Answerer said e file h =
     said-good turn false (served_at link turn mid Answerer).account said (ready file (served_at link turn mid Answerer).account h) e
 
-stays-offered : SpeakingStaysOffered → (link : Link) (turn : ℕ) (mid : Ends) (role : Role) (said : Said)
+stays-offered : SpeakingStaysOffered → (link : Link) (turn : ℕ) (mid : Accounts) (role : Role) (said : Said)
     → said_at link turn mid role ≡ Ok said → (file : List ℕ) → Holds file (served_at link turn mid role).account
     → StaysOffered file (served_at link turn mid role).account said.account
 stays-offered law link turn mid Originator said e file h =
     law file turn (releases link turn mid) (served_at link turn mid Originator).account said h.offered e
 stays-offered law link turn mid Answerer said e file h = law file turn false (served_at link turn mid Answerer).account said h.offered e
 
-says-holds : SpeakingStaysOffered → (link : Link) (turn : ℕ) (mid : Ends) (role : Role) (said : Said) → said_at link turn mid role ≡ Ok said
+says-holds : SpeakingStaysOffered → (link : Link) (turn : ℕ) (mid : Accounts) (role : Role) (said : Said) → said_at link turn mid role ≡ Ok said
     → (file : List ℕ) → Holds file (served_at link turn mid role).account → Holds file said.account
 says-holds law link turn mid role said e file h =
     let good : IsGood said = says-good link turn mid role said e file h in
@@ -105,13 +105,13 @@ says-holds law link turn mid role said e file h =
     record { offered = stays.offered; own = subst AreOctets (sym stays.breaks) h.own; owes = good.owes }
 
 -- a run and what its ends hold
-pub record HoldBoth (files : Role → List ℕ) (ts : List Turn) (ends : Ends) : Type 0 where
+pub record HoldBoth (files : Role → List ℕ) (ts : List Turn) (ends : Accounts) : Type 0 where
   pub sendable : AllPlain ts
   pub short : AllShort ts
   pub holds : (role : Role) → Holds (files role) (of role ends)
 
 -- what ends hold once they have heard
-pub mid-holds-at : SendLaws → (script : ScriptValue) (files : Both (List ℕ)) (ts : List Turn) (before : Ends) (t : Turn) (mid : Ends)
+pub mid-holds-at : SendLaws → (script : ScriptValue) (files : Both (List ℕ)) (ts : List Turn) (before : Accounts) (t : Turn) (mid : Accounts)
     → IsInLimits script → Carries (delay_of script) ts t → Hears (length ts) before t mid
     → HoldBoth (λ role. (of role (link_of script files)).user.file) ts before
     → (role : Role) → Holds (of role (link_of script files)).user.file (of role mid)
@@ -130,7 +130,7 @@ mid-holds-at laws script files ts before t mid h c hearing k role =
     }
 
 -- one turn more
-next-turn : SendLaws → (script : ScriptValue) (files : Both (List ℕ)) (ts : List Turn) (before : Ends) (t : Turn) (after : Ends)
+next-turn : SendLaws → (script : ScriptValue) (files : Both (List ℕ)) (ts : List Turn) (before : Accounts) (t : Turn) (after : Accounts)
     → IsInLimits script → AsksInOctets script
     → LineRun (channel_of script) (link_of script files) ts before → Carries (delay_of script) ts t
     → GoingTurn (link_of script files) ts before t after
@@ -206,14 +206,14 @@ next-turn laws script files ts before t after h o r c g k =
         let same : (g.speaking role).said.sent ≡ slot.sent = ap (sent-of slot) (sym (g.speaking role).sent_is ∙ e) in
         subst IsPlainSent same (good role).sent
 
-pub holds-all : SendLaws → (script : ScriptValue) (files : Both (List ℕ)) (ts : List Turn) (ends : Ends) → IsInLimits script
+pub holds-all : SendLaws → (script : ScriptValue) (files : Both (List ℕ)) (ts : List Turn) (ends : Accounts) → IsInLimits script
     → AsksInOctets script
     → LineRun (channel_of script) (link_of script files) ts ends → HoldBoth (λ role. (of role (link_of script files)).user.file) ts ends
 holds-all laws script files [] ends h o r =
     record {
       sendable = tt;
       short = tt;
-      holds = λ role. subst (λ (e : Ends). Holds (of role (link_of script files)).user.file (of role e)) (sym r.run) (begins role);
+      holds = λ role. subst (λ (e : Accounts). Holds (of role (link_of script files)).user.file (of role e)) (sym r.run) (begins role);
     }
   where
     begins : (role : Role) → Holds (of role (link_of script files)).user.file (of role (start (link_of script files)))

@@ -14,7 +14,7 @@ use Rattle.roles.specs.Both.{Both, of}
 use Rattle.noise_script.specs.Script.{ScriptValue, IsInLimits, delay_of}
 use Rattle.survivors.specs.Laws.{ReleasedIsLeast, OfEachCode}
 use Rattle.link_run.specs.End.{deliveries}
-use Rattle.link_run.specs.Run.{Link, Ends, Turn, Hears}
+use Rattle.link_run.specs.Run.{Link, Accounts, Turn, Hears}
 use Rattle.link_run.specs.Outcomes.{Outcome, Going, Done, Broken, TurnIs}
 use Rattle.link_run.specs.Laws.{RunsOver, TakesPrefixes, HearsPrefixes, HearingsDeliver, HoldPrefixes}
 use Rattle.line_run.specs.Sampled.{LineRun}
@@ -56,7 +56,7 @@ pub may-run : RunLaws → (script : ScriptValue) (files : Both (List ℕ)) → I
     → MayRun (channel_of script) (link_of script files)
 may-run laws script files limits = record { may_play = laws.play script files limits; delays = laws.delays script limits }
 
-runs-over : RunLaws → (script : ScriptValue) (files : Both (List ℕ)) (ts : List Turn) (ends : Ends) → IsInLimits script
+runs-over : RunLaws → (script : ScriptValue) (files : Both (List ℕ)) (ts : List Turn) (ends : Accounts) → IsInLimits script
     → LineRun (channel_of script) (link_of script files) ts ends
     → RunsOver (link_of script files) (delay_of script) ts ends
 runs-over laws script files ts ends limits r =
@@ -126,7 +126,7 @@ part-a f n left more (inl h) = part-none f n.got_a left.got.answ more.got.answ h
 part-a f n left more (inr (o, inl h)) = h.0
 part-a f n left more (inr (o, inr h)) = part-all f n.got_a left.got.answ more.got.answ h.0
 
-hears-of : (link : Link) (ts : List Turn) (ends : Ends) (t : Turn) (mid : Ends) (o : Outcome) → TurnIs link ts ends t mid o
+hears-of : (link : Link) (ts : List Turn) (ends : Accounts) (t : Turn) (mid : Accounts) (o : Outcome) → TurnIs link ts ends t mid o
     → Hears (length ts) ends t mid
 hears-of link ts ends t mid Going g = subst (Hears (length ts) ends t) g.2 g.1.hearing
 hears-of link ts ends t mid Done l = l.hearing

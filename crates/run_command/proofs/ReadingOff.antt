@@ -9,7 +9,7 @@ use Rattle.survivors.proofs.V32.{line-has-laws}
 use Rattle.survivors.specs.V32.{line_trellis}
 use Rattle.lapm_frames.specs.declared.heard.Heard.{Heard}
 use Rattle.noise_script.specs.Script.{delay_of}
-use Rattle.link_run.specs.Run.{Link, Ends, Spoken, Turn}
+use Rattle.link_run.specs.Run.{Link, Accounts, Spoken, Turn}
 use Rattle.link_run.specs.Carried.{sent_ago}
 use Rattle.line_run.specs.Sampled.{Channel, Arrives, ArrivesAs, HeardIn, IsHeardOver, LineRun}
 use Rattle.line_run.specs.Ends.{RunEnd, IsDone, LinkLost, NotDetected, LineLost, ChanceMatch, Left, EndsBy, turns_heard}
@@ -39,7 +39,7 @@ turns-read least c [] h = tt
 turns-read least c (t ∷ ts) h = (turn-read least c ts t h.0, turns-read least c ts h.1)
 
 -- of all turns in which something was heard
-pub run-read : OfEachCode ReleasedIsLeast → (c : Channel) (link : Link) (ts : List Turn) (ends : Ends) (end : RunEnd) (left : Left)
+pub run-read : OfEachCode ReleasedIsLeast → (c : Channel) (link : Link) (ts : List Turn) (ends : Accounts) (end : RunEnd) (left : Left)
     → LineRun c link ts ends → (e : EndsBy c link ts ends end left)
     → AreReadOff c (turns_heard c link ts ends end left e)
 run-read least c link ts ends (IsDone turn) left run e = (turn-read least c ts e.last e.heard, turns-read least c ts run.heard)

@@ -11,7 +11,7 @@ use Rattle.roles.specs.Role.{mode_of}
 use Rattle.roles.specs.Both.{Both}
 use Rattle.recordings.specs.Recording.{header_of}
 use Rattle.noise_script.specs.Script.{ScriptValue}
-use Rattle.link_run.specs.Run.{Ends, Turn}
+use Rattle.link_run.specs.Run.{Accounts, Turn}
 use Rattle.link_run.specs.Outcomes.{Going, TurnIs}
 use Rattle.line_run.specs.Sampled.{Channel, LineRun}
 use Rattle.line_run.specs.Ends.{RunEnd}
@@ -72,7 +72,7 @@ module _ (old before : FolderState) (n : RunNames) (script : ScriptValue) (files
   abbrev c : Channel
   c = channel_of script
 
-  of-turns : (name : List ℕ) (role : Role) (ts : List Turn) (ends : Ends) → LineRun c (link_of script files) ts ends
+  of-turns : (name : List ℕ) (role : Role) (ts : List Turn) (ends : Accounts) → LineRun c (link_of script files) ts ends
       → HoldsTape before name c role ts → TapeBegun old before n name role
   of-turns name role ts ends run h = inr (inr (record {
     script = script;
@@ -87,7 +87,7 @@ module _ (old before : FolderState) (n : RunNames) (script : ScriptValue) (files
     holds = HoldsFront-all before name (header_of (mode_of role) ++ h.body) h.holds;
   }))
 
-  of-part : (name : List ℕ) (role : Role) (ts : List Turn) (t : Turn) (ends : Ends) → LineRun c (link_of script files) (t ∷ ts) ends
+  of-part : (name : List ℕ) (role : Role) (ts : List Turn) (t : Turn) (ends : Accounts) → LineRun c (link_of script files) (t ∷ ts) ends
       → HoldsTapePart before name c role ts t → TapeBegun old before n name role
   of-part name role ts t ends run h = inr (inr (record {
     script = script;
@@ -103,13 +103,13 @@ module _ (old before : FolderState) (n : RunNames) (script : ScriptValue) (files
         (HoldsFront-part before name (header_of (mode_of role) ++ h.body) h.more h.holds);
   }))
 
-  pub both-turns : (tapes : Tapes) (ts : List Turn) (ends : Ends) → LineRun c (link_of script files) ts ends → HoldTapes before tapes c ts
+  pub both-turns : (tapes : Tapes) (ts : List Turn) (ends : Accounts) → LineRun c (link_of script files) ts ends → HoldTapes before tapes c ts
       → TapesBegun old before n tapes
   both-turns None ts ends run h = tt
   both-turns (Some names) ts ends run h =
       (of-turns names.orig Originator ts ends run h.0, of-turns names.answ Answerer ts ends run h.1)
 
-  pub both-parts : (tapes : Tapes) (ts : List Turn) (t : Turn) (ends after : Ends) → LineRun c (link_of script files) ts ends
+  pub both-parts : (tapes : Tapes) (ts : List Turn) (t : Turn) (ends after : Accounts) → LineRun c (link_of script files) ts ends
       → LineRun c (link_of script files) (t ∷ ts) after → HoldTapesPartly before tapes c ts t → TapesBegun old before n tapes
   both-parts None ts t ends after run more h = tt
   both-parts (Some names) ts t ends after run more (inl h) =

@@ -8,7 +8,7 @@ use Rattle.roles.specs.Role.{mode_of}
 use Rattle.roles.specs.Both.{Both}
 use Rattle.recordings.specs.Recording.{header_of}
 use Rattle.noise_script.specs.Script.{ScriptValue, IsInLimits}
-use Rattle.link_run.specs.Run.{Ends, Turn}
+use Rattle.link_run.specs.Run.{Accounts, Turn}
 use Rattle.line_run.specs.Recorded.{Tapes, IsRecorded}
 use Rattle.line_run.specs.Sampled.{LineRun}
 use Rattle.line_run.specs.Scripted.{channel_of, link_of}
@@ -31,7 +31,7 @@ pub record HoldsTapeFront (old new : FolderState) (n : RunNames) (name : List �
   pub files : Both (List ℕ)
   pub are_of : AreOf old n script files
   pub turns : List Turn
-  pub ends : Ends
+  pub ends : Accounts
   pub run : LineRun (channel_of script) (link_of script files) turns ends
   pub body : List ℕ
   pub recorded : IsRecorded (channel_of script) role turns body

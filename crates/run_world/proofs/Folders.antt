@@ -6,7 +6,7 @@ use Rattle.outside_calls.specs.Outputs.{KeepsEach}
 use Rattle.outside_calls.specs.Outputs.{AreApartFrom, OnlyPuts}
 use Rattle.outside_calls.proofs.Putting.{OnlyPuts-one, SomeRose-earlier, inputs-kept}
 use Rattle.roles.specs.Both.{Both}
-use Rattle.link_run.specs.Run.{Ends}
+use Rattle.link_run.specs.Run.{Accounts}
 use Rattle.turn_bound.specs.Limits.{file_limit}
 use Rattle.stations.specs.Station.{file_at}
 use Rattle.run_world.specs.Names.{Written, inputs_of, outputs_of, received_of}
@@ -94,7 +94,7 @@ stay-known a b n files apart p within = record {
   };
 }
 
-pub others-known : (a b c : FolderState) (n : Written) (files others : Both (List ℕ)) (mid : Ends) → IsApart n → OnlyPuts a b (outputs_of n)
+pub others-known : (a b c : FolderState) (n : Written) (files others : Both (List ℕ)) (mid : Accounts) → IsApart n → OnlyPuts a b (outputs_of n)
     → OnlyPuts a c (outputs_of n)
     → ReadsBoth b n files (handed mid) others → StayKnown a c n files others
 others-known a b c n files others mid apart p q r = record {

@@ -11,7 +11,7 @@ use Rattle.lapm_frames.specs.declared.heard.Heard.{Heard}
 use Rattle.lapm_frames.specs.declared.heard.Heard.TheVariants.{Chance}
 use Rattle.link_account.specs.Account.{check_of}
 use Rattle.link_account.specs.Hear.{hear}
-use Rattle.link_run.specs.Run.{Ends, Spoken, Turn, arrival, start}
+use Rattle.link_run.specs.Run.{Accounts, Spoken, Turn, arrival, start}
 use Rattle.link_run.specs.Counts.{lost_in}
 use Rattle.link_run.specs.Laws.{RunsOver, HearingsAreWell}
 use Rattle.line_run.specs.Sampled.{Channel, HeardIn, IsHeardOf, LineRun, EndsLine, EndsLineBy}
@@ -50,7 +50,7 @@ pub record HearingLaws : Type 0 where
   pub well : HearingsAreWell
 
 pub runs-over : ScriptsMayPlay → ScriptsHaveDelays → SamplesAreCarried
-    → (c : Channel) (files : Both (List ℕ)) (ts : List Turn) (ends : Ends) → IsInLimits c.script
+    → (c : Channel) (files : Both (List ℕ)) (ts : List Turn) (ends : Accounts) → IsInLimits c.script
     → LineRun c (link_of c.script files) ts ends → RunsOver (link_of c.script files) (delay_of c.script) ts ends
 runs-over play delays carried c files ts ends limits run = record {
   may_play = play c.script files limits;
@@ -59,7 +59,7 @@ runs-over play delays carried c files ts ends limits run = record {
   run = run.run;
 }
 
-pub heard-in : (c : Channel) (files : Both (List ℕ)) (ts : List Turn) (ends : Ends) (heard : Both Heard) (mid : Ends)
+pub heard-in : (c : Channel) (files : Both (List ℕ)) (ts : List Turn) (ends : Accounts) (heard : Both Heard) (mid : Accounts)
     (sent : Both (Option Spoken)) → Overhears c files ts ends heard mid → HeardIn c ts (turn_in heard ends mid sent)
 heard-in c files ts ends heard mid sent o Originator = record { heard_of = o.heard_of Originator; well = o.well Originator }
 heard-in c files ts ends heard mid sent o Answerer = record { heard_of = o.heard_of Answerer; well = o.well Answerer }
@@ -68,11 +68,11 @@ abbrev pub none-sent : Both (Option Spoken)
 none-sent = record { orig = None; answ = None }
 
 -- What arrives by the checks that both ends have.
-pub record IsHeardBy (c : Channel) (ts : List Turn) (ends : Ends) (heard : Both Heard) : Type 0 where
+pub record IsHeardBy (c : Channel) (ts : List Turn) (ends : Accounts) (heard : Both Heard) : Type 0 where
   pub heard_of : (role : Role) → IsHeardOf c (other role) ts (check_of (of role ends)) (of role heard)
   pub well : (role : Role) → of role heard ≢ Chance
 
-pub heard-by : (l : Lines) (c : Channel) (links : ℕ) (streams : Both (List Carried)) (ts : List Turn) (ends : Ends) (heard : Both Heard) (checks : Both Check)
+pub heard-by : (l : Lines) (c : Channel) (links : ℕ) (streams : Both (List Carried)) (ts : List Turn) (ends : Accounts) (heard : Both Heard) (checks : Both Check)
     → ((role : Role) → of role checks ≡ check_of (of role ends))
     → ArrivesBoth l c links ts streams checks heard → IsHeardBy c ts ends heard
 heard-by l c links streams ts ends heard checks same a = record {
@@ -81,7 +81,7 @@ heard-by l c links streams ts ends heard checks same a = record {
 }
 
 -- what arrives of own slots breaks no end
-pub hears-well : HearingLaws → (c : Channel) (files : Both (List ℕ)) (ts : List Turn) (ends : Ends) (heard : Both Heard)
+pub hears-well : HearingLaws → (c : Channel) (files : Both (List ℕ)) (ts : List Turn) (ends : Accounts) (heard : Both Heard)
     → IsInLimits c.script → LineRun c (link_of c.script files) ts ends → IsHeardBy c ts ends heard
     → HearsWell ends (length ts) (arrival heard.orig) (arrival heard.answ)
 hears-well laws c files ts ends heard limits run h = record { orig = well Originator; answ = well Answerer }
@@ -98,7 +98,7 @@ hears-well laws c files ts ends heard limits run h = record { orig = well Origin
         (runs-over laws.play laws.delays laws.carried c files ts ends limits run) (laws.one c ts t in-turn)
 
 -- what both ends are once they have heard
-both-of : (ends : Ends) (turn : ℕ) (heard : Both Heard) (mid : Ends) (to_orig to_answ : Arrived) (number : ℕ) → number ≡ turn
+both-of : (ends : Accounts) (turn : ℕ) (heard : Both Heard) (mid : Accounts) (to_orig to_answ : Arrived) (number : ℕ) → number ≡ turn
     → to_orig ≡ arrival heard.orig → to_answ ≡ arrival heard.answ
     → hear number to_orig ends.orig ≡ Ok mid.orig → hear number to_answ ends.answ ≡ Ok mid.answ
     → (role : Role) → hear turn (arrival (of role heard)) (of role ends) ≡ Ok (of role mid)
@@ -107,14 +107,14 @@ both-of ends turn heard mid to_orig to_answ number n o a ho ha Originator =
 both-of ends turn heard mid to_orig to_answ number n o a ho ha Answerer =
     ap (λ t. hear t (arrival heard.answ) ends.answ) (sym n) ∙ ap (λ x. hear number x ends.answ) (sym a) ∙ ha
 
-pub record Hearing (m : Modems) (files : Both (List ℕ)) (ends : Ends) (heard : Both Heard) (turn : ℕ) (to_orig to_answ : Arrived) : Type 0 where
+pub record Hearing (m : Modems) (files : Both (List ℕ)) (ends : Accounts) (heard : Both Heard) (turn : ℕ) (to_orig to_answ : Arrived) : Type 0 where
   pub orig_is : to_orig ≡ arrival heard.orig
   pub answ_is : to_answ ≡ arrival heard.answ
   pub hears : HearsBoth m.link files ends turn to_orig to_answ
   pub checks : (role : Role) → of role m.heard_by ≡ check_of (of role hears.mid)
 
 pub has-heard : (old m : Modems) (l : Lines) (c : Channel) (links : ℕ) (streams : Both (List Carried)) (files : Both (List ℕ)) (ts : List Turn)
-    (ends : Ends) (heard : Both Heard) (to_orig to_answ : Arrived)
+    (ends : Accounts) (heard : Both Heard) (to_orig to_answ : Arrived)
     → ModemsAfter old c files ts ends → m.turn ≡ old.turn → IsHeardBy c ts ends heard → HaveArrived l c links streams
     → Hearing m files ends heard old.turn to_orig to_answ → TalliesHeard m.tally ts ends heard → HasHeard m l c links streams files ts ends heard
 has-heard old m l c links streams files ts ends heard to_orig to_answ h number a arrived hearing tally = record {
@@ -135,7 +135,7 @@ has-heard old m l c links streams files ts ends heard to_orig to_answ h number a
   lines = arrived;
 }
 
-pub tallies-heard : (old new : Tally) (ts : List Turn) (ends : Ends) (heard : Both Heard) → Tallies old ts ends
+pub tallies-heard : (old new : Tally) (ts : List Turn) (ends : Accounts) (heard : Both Heard) → Tallies old ts ends
     → new ≡ record old { lost = old.lost + lost_in heard.orig + lost_in heard.answ }
     → TalliesHeard new ts ends heard
 tallies-heard old new ts ends heard h e = rw e (record {
@@ -146,7 +146,7 @@ tallies-heard old new ts ends heard h e = rw e (record {
 })
 
 -- the line ends the run
-pub lost-so : (c : Channel) (ts : List Turn) (ends : Ends) (checks : Both Check) (end : LineEnd)
+pub lost-so : (c : Channel) (ts : List Turn) (ends : Accounts) (checks : Both Check) (end : LineEnd)
     → ((role : Role) → of role checks ≡ check_of (of role ends))
     → EndsLineBy c ts (λ role. of role checks) (end_of end) → EndsLine c ts ends (end_of end)
 lost-so c ts ends checks end same h = subst (λ f. EndsLineBy c ts f (end_of end)) (λ k role. same role k) h

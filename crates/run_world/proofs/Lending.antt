@@ -10,7 +10,7 @@ use Rattle.roles.specs.declared.role.Role.TheVariants.{Originator, Answerer}
 use Rattle.roles.specs.Both.{Both, of}
 use Rattle.noise_script.specs.Script.{ScriptValue, IsInLimits, delay_of}
 use Rattle.sample_line.specs.Line.{Kept, LineStands, bits_behind}
-use Rattle.link_run.specs.Run.{Ends, Spoken, Turn, start}
+use Rattle.link_run.specs.Run.{Accounts, Spoken, Turn, start}
 use Rattle.line_run.specs.Sampled.{LineRun}
 use Rattle.line_run.specs.Scripted.{channel_at, channel_of, link_of, ScriptsHaveDelays}
 use Rattle.line_run.specs.Scripts.{NoLineRunIsLong}
@@ -41,7 +41,7 @@ pub record LoneLaws : Type 0 where
   pub counted : LoneSlotsAreCounted
   pub delays : ScriptsHaveDelays
 
-due-in : LoneLaws → (script : ScriptValue) (files : Both (List ℕ)) (ts : List Turn) (ends : Ends) → IsInLimits script
+due-in : LoneLaws → (script : ScriptValue) (files : Both (List ℕ)) (ts : List Turn) (ends : Accounts) → IsInLimits script
     → LineRun (channel_of script) (link_of script files) ts ends → (role : Role)
     → IsDue (channel_of script) role ts (sent_by 0 role ts) (1 * delay_of script role)
 due-in laws script files ts ends limits run role =
@@ -50,7 +50,7 @@ due-in laws script files ts ends limits run role =
     (laws.due (channel_of script) role ts (λ r n. refl) (laws.delays script limits role)
     (laws.sent (link_of script files) ts ends run.run role))
 
-pub are-due : LoneLaws → (script : ScriptValue) (files : Both (List ℕ)) (ts : List Turn) (ends : Ends) → IsInLimits script
+pub are-due : LoneLaws → (script : ScriptValue) (files : Both (List ℕ)) (ts : List Turn) (ends : Accounts) → IsInLimits script
     → LineRun (channel_of script) (link_of script files) ts ends → AreDue (channel_of script) 1 ts (both_sent_by 0 ts)
 are-due laws script files ts ends limits run Originator = due-in laws script files ts ends limits run Originator
 are-due laws script files ts ends limits run Answerer = due-in laws script files ts ends limits run Answerer

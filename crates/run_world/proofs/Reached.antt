@@ -14,7 +14,7 @@ use Rattle.causes.specs.declared.fault.LinkFault.TheVariants as causes
 use Rattle.line_texts.specs.LineText.{chance_line}
 use Rattle.link_run.specs.Counts.{numbers_sent, repeated, segment_number, sent_again}
 use Rattle.link_run.specs.End.{deliveries}
-use Rattle.link_run.specs.Run.{Link, Ends, Turn, LastTurn, start, Hears, RunOf}
+use Rattle.link_run.specs.Run.{Link, Accounts, Turn, LastTurn, start, Hears, RunOf}
 use Rattle.link_run.specs.Outcomes.{Outcome, Going, Done, Broken, TurnIs}
 use Rattle.link_run.specs.Laws.{HearingsDeliver, SpeakingTakesNothing}
 use Rattle.link_run.specs.Trace.{trace_text, turn_text}
@@ -46,10 +46,10 @@ use Rattle.run_world.specs.Turns.{held_of, AddsTurn, RunEnds, RunCounts, RunStop
 use Rattle.run_world.specs.Turns.{FaultEnds}
 
 -- what ends and a text leave
-abbrev pub left_of : Ends → List ℕ → Left
+abbrev pub left_of : Accounts → List ℕ → Left
 left_of ends text = record { got = record { orig = concat ends.orig.incoming.taken; answ = concat ends.answ.incoming.taken }; trace = text }
 
-leaves-so : (ends : Ends) (text : List ℕ) → Leaves ends text (left_of ends text)
+leaves-so : (ends : Accounts) (text : List ℕ) → Leaves ends text (left_of ends text)
 leaves-so ends text = record { got_is = by; trace_is = refl }
   where
     by : (role : Role) → of role (left_of ends text).got ≡ concat (of role ends).incoming.taken
@@ -62,7 +62,7 @@ pub record Reached (w : World) (script : ScriptValue) (n : Written) (tapes : Tap
   pub files : Both (List ℕ)
   pub knows : KnowsFiles now n files
   pub turns : List Turn
-  pub ends : Ends
+  pub ends : Accounts
   pub world : WorldAfter w files turns ends
   pub holds : HoldEach now (outputs_of n) (held_of (left_of ends (trace_text turns)))
   pub only : OnlyPuts old now (outputs_of n ++ tapes_of tapes)
@@ -124,7 +124,7 @@ held-more : (next : FolderState) (name : List ℕ) (taken more all : List (List 
 held-more next name taken more all holds e = subst (Holds next name) (sym (concat-append taken more) ∙ ap concat (sym e)) holds
 
 -- a turn is heard, whatever it comes to
-hears-of : (link : Link) (ts : List Turn) (ends : Ends) (t : Turn) (mid : Ends) (o : Outcome) → TurnIs link ts ends t mid o
+hears-of : (link : Link) (ts : List Turn) (ends : Accounts) (t : Turn) (mid : Accounts) (o : Outcome) → TurnIs link ts ends t mid o
     → Hears (length ts) ends t mid
 hears-of link ts ends t mid Going g = subst (Hears (length ts) ends t) g.2 g.1.hearing
 hears-of link ts ends t mid Done l = l.hearing
@@ -132,7 +132,7 @@ hears-of link ts ends t mid (Broken role fault) b = b.hearing
 
 -- the outputs after a turn that is written
 pub held-turn : HearingsDeliver
-    → (link : Link) (ts : List Turn) (ends : Ends) (t : Turn) (mid : Ends) (now next : FolderState) (n : Written) → RunOf link ts ends
+    → (link : Link) (ts : List Turn) (ends : Accounts) (t : Turn) (mid : Accounts) (now next : FolderState) (n : Written) → RunOf link ts ends
     → Hears (length ts) ends t mid
     → GoesOn now next → HoldEach now (outputs_of n) (held_of (left_of ends (trace_text ts)))
     → AddEach now next (outputs_of n) (added mid (turn_text (length ts) t))
@@ -193,7 +193,7 @@ ended-turn delivers w v n tapes old now next r outcome number only e = (
 )
 
 run-ends : (script : ScriptValue) (f : FolderState) (n : Written) (tapes : Tapes) (end : RunEnd) (files : Both (List ℕ)) (left : Left) (ts : List Turn)
-    (ends : Ends) → KnowsFiles f n files → LineRun (channel_of script) (link_of script files) ts ends
+    (ends : Accounts) → KnowsFiles f n files → LineRun (channel_of script) (link_of script files) ts ends
     → EndsBy (channel_of script) (link_of script files) ts ends end left → HoldEach f (outputs_of n) (held_of left)
     → HoldTapes f tapes (channel_of script) ts → RunEnds script f n tapes end
 run-ends script f n tapes end files left ts ends knows run ended holds t =
@@ -218,7 +218,7 @@ reached-done delivers w v script n tapes old now next number r same e only t =
     (subst (λ s. HoldTapes next tapes (channel_of s) r.turns) (sym (same ∙ r.script_is)) t))
 
 -- nothing goes again in a turn in which nothing is sent
-none-again : (ts : List Turn) (ends : Ends) (t : Turn) (mid : Ends) → LastTurn ts ends t mid → sent_again (t ∷ ts) ≡ sent_again ts
+none-again : (ts : List Turn) (ends : Accounts) (t : Turn) (mid : Accounts) → LastTurn ts ends t mid → sent_again (t ∷ ts) ≡ sent_again ts
 none-again ts ends t mid h = λ k.
     repeated (segment_number (h.silent Originator k) ++ numbers_sent Originator ts)
     + repeated (segment_number (h.silent Answerer k) ++ numbers_sent Answerer ts)
@@ -277,7 +277,7 @@ kept-none now next name octets on holds kept =
     subst (Holds next name) (sym (append-nil octets)) (Holds-kept now next name octets on holds kept)
 
 -- what a turn adds to the outputs
-abbrev more_of : Ends → List ℕ → Left
+abbrev more_of : Accounts → List ℕ → Left
 more_of mid text = record { got = record { orig = concat (deliveries mid.orig); answ = concat (deliveries mid.answ) }; trace = text }
 
 -- the folder fails in a turn, whatever it comes to,

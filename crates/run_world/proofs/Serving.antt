@@ -11,7 +11,7 @@ use Rattle.noise_script.specs.Script.{ScriptValue, IsInLimits}
 use Rattle.xid_params.specs.Offers.{IsAllowed}
 use Rattle.link_account.specs.Account.{Account, after_busy, after_given, given_break, wants}
 use Rattle.link_run.specs.End.{asked, delivered, is_busy, is_released, offered, offered_at, offered_times, room_for}
-use Rattle.link_run.specs.Run.{Ends, Spoken, Turn, Hears, served_at}
+use Rattle.link_run.specs.Run.{Accounts, Spoken, Turn, Hears, served_at}
 use Rattle.link_run.specs.Reading.{RunsByWhatIsReadOn, SameSoFar}
 use Rattle.line_run.specs.Scripted.{link_of, breaks_of, busy_of}
 use Rattle.line_run.specs.Sampled.{Channel}
@@ -31,7 +31,7 @@ given-delivered a = go _
     go true = refl
     go false = refl
 
-pub hears-in : (c : Channel) (files : Both (List ℕ)) (ts : List Turn) (ends mid : Ends) (heard : Both Heard)
+pub hears-in : (c : Channel) (files : Both (List ℕ)) (ts : List Turn) (ends mid : Accounts) (heard : Both Heard)
     (sent : Both (Option Spoken))
     → Overhears c files ts ends heard mid → Hears (length ts) ends (turn_in heard ends mid sent) mid
 hears-in c files ts ends mid heard sent o Originator = record { hears = o.hears Originator; check_is = refl; given_is = refl }
@@ -39,7 +39,7 @@ hears-in c files ts ends mid heard sent o Answerer = record { hears = o.hears An
 
 -- a run is one of the files as far as they are read now
 pub over-others : RunsByWhatIsReadOn
-    → (c : Channel) (files others : Both (List ℕ)) (ts : List Turn) (ends mid : Ends) (heard : Both Heard) (f : FolderState)
+    → (c : Channel) (files others : Both (List ℕ)) (ts : List Turn) (ends mid : Accounts) (heard : Both Heard) (f : FolderState)
     (n : Written)
     → IsInLimits c.script → Overhears c files ts ends heard mid → ReadsBoth f n files (handed mid) others
     → Overhears c others ts ends heard mid
@@ -80,7 +80,7 @@ phase-delivered a = go _
     go false = refl
 
 -- both ends as they are to speak, as a run's definition has it
-pub served-is : (script : ScriptValue) (files : Both (List ℕ)) (turn : ℕ) (mid : Ends)
+pub served-is : (script : ScriptValue) (files : Both (List ℕ)) (turn : ℕ) (mid : Accounts)
     → served script files turn mid ≡ record {
       orig = (served_at (link_of script files) turn mid Originator).account;
       answ = (served_at (link_of script files) turn mid Answerer).account;

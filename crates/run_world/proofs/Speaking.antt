@@ -19,7 +19,7 @@ use Rattle.causes.specs.declared.fault.LinkFault.{LinkFault}
 use Rattle.causes.specs.declared.fault.LinkFault.TheVariants as faults
 use Rattle.link_account.specs.Account.{given_break, check_of}
 use Rattle.link_account.specs.Speak.{Said, speak}
-use Rattle.link_run.specs.Run.{Ends, Side, Spoken, Turn, GoingTurn, LastTurn, BrokenTurn, IsBroken, SpeaksAt, spoken, said_at}
+use Rattle.link_run.specs.Run.{Accounts, Side, Spoken, Turn, GoingTurn, LastTurn, BrokenTurn, IsBroken, SpeaksAt, spoken, said_at}
 use Rattle.link_run.specs.Counts.{CountsByNumber, CountsOn, next_count, again_in, sequence_in}
 use Rattle.link_run.specs.Laws.{IsNamed}
 use Rattle.link_run.specs.Outcomes.{Outcome, TurnIs}
@@ -49,10 +49,10 @@ use Rattle.run_world.proofs.Serving.{hears-in, served-is}
 abbrev pub spoken_by : Said → Said → Both (Option Spoken)
 spoken_by orig answ = record { orig = Some (spoken orig); answ = Some (spoken answ) }
 
-abbrev pub ends_of : Said → Said → Ends
+abbrev pub ends_of : Said → Said → Accounts
 ends_of orig answ = record { orig = orig.account; answ = answ.account }
 
-pub record SpokenTurn (c : Channel) (files : Both (List ℕ)) (ts : List Turn) (ends : Ends) (heard : Both Heard) (mid : Ends)
+pub record SpokenTurn (c : Channel) (files : Both (List ℕ)) (ts : List Turn) (ends : Accounts) (heard : Both Heard) (mid : Accounts)
     (from_orig from_answ : Sent) (l : Link) : Type 0 where
   pub orig : Said
   pub answ : Said
@@ -63,7 +63,7 @@ pub record SpokenTurn (c : Channel) (files : Both (List ℕ)) (ts : List Turn) (
   pub heard_in : HeardIn c ts (turn_in heard ends mid (spoken_by orig answ))
   pub stands : LinkStands l files (ends_of orig answ)
 
-pub spoken-turn : (c : Channel) (files : Both (List ℕ)) (ts : List Turn) (ends : Ends) (heard : Both Heard) (mid : Ends)
+pub spoken-turn : (c : Channel) (files : Both (List ℕ)) (ts : List Turn) (ends : Accounts) (heard : Both Heard) (mid : Accounts)
     (from_orig from_answ : Sent) (l : Link) (turn : ℕ)
     → turn ≡ length ts → Overhears c files ts ends heard mid → is_closed mid.orig.phase ≡ false
     → SaysBoth l files (link_of c.script files) turn (served c.script files (length ts) mid) from_orig from_answ
@@ -85,13 +85,13 @@ spoken-turn c files ts ends heard mid from_orig from_answ l turn number o open-s
 }
   where
     orig-says : said_at (link_of c.script files) (length ts) mid Originator ≡ Ok s.orig
-    orig-says = subst (λ (e : Ends). speak (length ts) (both_finished (link_of c.script files) (length ts) e) e.orig ≡ Ok s.orig)
+    orig-says = subst (λ (e : Accounts). speak (length ts) (both_finished (link_of c.script files) (length ts) e) e.orig ≡ Ok s.orig)
         (served-is c.script files (length ts) mid)
         (subst (λ t. speak t (both_finished (link_of c.script files) t (served c.script files (length ts) mid))
         (served c.script files (length ts) mid).orig ≡ Ok s.orig) number s.orig_says)
 
     answ-says : said_at (link_of c.script files) (length ts) mid Answerer ≡ Ok s.answ
-    answ-says = subst (λ (e : Ends). speak (length ts) false e.answ ≡ Ok s.answ) (served-is c.script files (length ts) mid)
+    answ-says = subst (λ (e : Accounts). speak (length ts) false e.answ ≡ Ok s.answ) (served-is c.script files (length ts) mid)
         (subst (λ t. speak t false (served c.script files (length ts) mid).answ ≡ Ok s.answ) number s.answ_says)
 
     says : (role : Role) → SpeaksAt (said_at (link_of c.script files) (length ts) mid role)
@@ -100,28 +100,28 @@ spoken-turn c files ts ends heard mid from_orig from_answ l turn number o open-s
     says Answerer = record { said = s.answ; says = answ-says; sent_is = refl; after_is = refl }
 
 -- an end that breaks does so by a run's definition
-broken-so : (c : Channel) (files : Both (List ℕ)) (number turn : ℕ) (mid : Ends) (role : Role) (fault : LinkFault) → turn ≡ number
+broken-so : (c : Channel) (files : Both (List ℕ)) (number turn : ℕ) (mid : Accounts) (role : Role) (fault : LinkFault) → turn ≡ number
     → BreaksSo (link_of c.script files) turn (served c.script files number mid) role fault
     → IsBroken (link_of c.script files) number mid role fault
 broken-so c files number turn mid Originator fault e h =
-    subst (λ (x : Ends). speak number (both_finished (link_of c.script files) number x) x.orig ≡ Err fault)
+    subst (λ (x : Accounts). speak number (both_finished (link_of c.script files) number x) x.orig ≡ Err fault)
     (served-is c.script files number mid)
     (subst (λ t. speak t (both_finished (link_of c.script files) t (served c.script files number mid))
     (served c.script files number mid).orig ≡ Err fault) e h)
 broken-so c files number turn mid Answerer fault e h = (
-  subst (λ (x : Ends). is_ok (speak number (both_finished (link_of c.script files) number x) x.orig) ≡ true)
+  subst (λ (x : Accounts). is_ok (speak number (both_finished (link_of c.script files) number x) x.orig) ≡ true)
       (served-is c.script files number mid)
       (subst (λ t. is_ok (speak t (both_finished (link_of c.script files) t (served c.script files number mid))
       (served c.script files number mid).orig) ≡ true) e h.0),
-  subst (λ (x : Ends). speak number false x.answ ≡ Err fault) (served-is c.script files number mid)
+  subst (λ (x : Accounts). speak number false x.answ ≡ Err fault) (served-is c.script files number mid)
       (subst (λ t. speak t false (served c.script files number mid).answ ≡ Err fault) e h.1),
 )
 
-silent : (heard : Both Heard) (ends mid : Ends) (role : Role) → (of role (turn_in heard ends mid none-sent)).sent ≡ None
+silent : (heard : Both Heard) (ends mid : Accounts) (role : Role) → (of role (turn_in heard ends mid none-sent)).sent ≡ None
 silent heard ends mid Originator = refl
 silent heard ends mid Answerer = refl
 
-pub broken-turn : (c : Channel) (files : Both (List ℕ)) (ts : List Turn) (ends : Ends) (heard : Both Heard) (mid : Ends) (turn : ℕ)
+pub broken-turn : (c : Channel) (files : Both (List ℕ)) (ts : List Turn) (ends : Accounts) (heard : Both Heard) (mid : Accounts) (turn : ℕ)
     (role : Role) (fault : LinkFault)
     → turn ≡ length ts → Overhears c files ts ends heard mid → is_closed mid.orig.phase ≡ false
     → BreaksSo (link_of c.script files) turn (served c.script files (length ts) mid) role fault
@@ -134,7 +134,7 @@ broken-turn c files ts ends heard mid turn role fault number o open-still b = re
 }
 
 -- both ends hear in it what was heard
-pub hears-these : (heard : Both Heard) (ends mid : Ends) (sent : Both (Option Spoken)) → HearsThese heard (turn_in heard ends mid sent)
+pub hears-these : (heard : Both Heard) (ends mid : Accounts) (sent : Both (Option Spoken)) → HearsThese heard (turn_in heard ends mid sent)
 hears-these heard ends mid sent Originator = refl
 hears-these heard ends mid sent Answerer = refl
 
@@ -154,7 +154,7 @@ side-text : (line : TraceLine) (number t : ℕ) (role : Role) (heard : Heard) (s
 side-text line number t role heard sent given s e well n h x g =
     ap line_text e ∙ line-of number role heard sent given well ∙ (λ k. trace_line (n k) role (h k) (x k) (g k))
 
-pub text-is : (lines : Both TraceLine) (number : ℕ) (ts : List Turn) (ends mid : Ends) (heard : Both Heard) (given : Both (Option ℕ))
+pub text-is : (lines : Both TraceLine) (number : ℕ) (ts : List Turn) (ends mid : Accounts) (heard : Both Heard) (given : Both (Option ℕ))
     (sent : Both (Option Sent)) (sents : Both (Option Spoken))
     → lines ≡ record {
       orig = record { turn = number; role = Originator; arrived = heard.orig; sent = sent.orig; given = given.orig };
@@ -179,7 +179,7 @@ taken-back x y a b e f g = ap (λ o. unwrap_or o x) (sym e ∙ g ∙ f)
 -- ---- what is sent can be coded
 
 pub all-codable : SlotsAreCodable
-    → (c : Channel) (files : Both (List ℕ)) (ts : List Turn) (ends : Ends) (heard : Both Heard) (mid : Ends)
+    → (c : Channel) (files : Both (List ℕ)) (ts : List Turn) (ends : Accounts) (heard : Both Heard) (mid : Accounts)
     (from_orig from_answ : Sent) (sent : Both Sent)
     (k : Link) (l : Lines) (links : ℕ) (streams : Both (List Carried)) (dlci : ℕ) (checks : Both Check)
     → c.symbols ≡ slot_symbols (longest_of c.script) → IsInLimits c.script → Overhears c files ts ends heard mid
@@ -231,7 +231,7 @@ pub counts-what : (old new : Tally) (sent said : Both Sent) → sent.orig ≡ sa
 counts-what old new sent said o a h =
     subst (λ (x : Sent). CountsSent old new x said.answ) o (subst (λ (y : Sent). CountsSent old new sent.orig y) a h)
 
-pub tallies-on : GoingLaws → (c : Channel) (files : Both (List ℕ)) (ts : List Turn) (ends : Ends) (heard : Both Heard) (mid : Ends)
+pub tallies-on : GoingLaws → (c : Channel) (files : Both (List ℕ)) (ts : List Turn) (ends : Accounts) (heard : Both Heard) (mid : Accounts)
     (from_orig from_answ : Sent) (k : Link)
     (old new : Tally) → IsInLimits c.script → Overhears c files ts ends heard mid
     → (t : SpokenTurn c files ts ends heard mid from_orig from_answ k)
@@ -257,7 +257,7 @@ tallies-on laws c files ts ends heard mid from_orig from_answ k old new limits o
 
 pub goes-on : GoingLaws → (c : Channel) (old : Tally) (m : Modems) (l : Lines) (links : ℕ) (streams : Both (List Carried))
     (f new : FolderState) (n : Written) (files : Both (List ℕ))
-    (ts : List Turn) (ends : Ends) (heard : Both Heard) (mid : Ends)
+    (ts : List Turn) (ends : Accounts) (heard : Both Heard) (mid : Accounts)
     (from_orig from_answ : Sent) → IsInLimits c.script → m.turn ≡ length ts + 1 → m.spoke ≡ true
     → Overhears c files ts ends heard mid → (t : SpokenTurn c files ts ends heard mid from_orig from_answ m.link)
     → TalliesHeard old ts ends heard → CountsSent old m.tally from_orig from_answ
@@ -266,7 +266,7 @@ pub goes-on : GoingLaws → (c : Channel) (old : Tally) (m : Modems) (l : Lines)
     → HasGone m l c links streams f new n files ts ends mid
 goes-on laws c old m l links streams f new n files ts ends heard mid from_orig from_answ limits number spoke o t tally counts lines trace =
     let turn : Turn = turn_in heard ends mid (spoken_by t.orig t.answ) in
-    let after : Ends = ends_of t.orig t.answ in
+    let after : Accounts = ends_of t.orig t.answ in
     record {
       turn = turn;
       after = after;
@@ -287,8 +287,8 @@ goes-on laws c old m l links streams f new n files ts ends heard mid from_orig f
 
 -- ---- the run ends as an end breaks
 
-pub ends-so : (c : Channel) (f new : FolderState) (n : Written) (files : Both (List ℕ)) (ts : List Turn) (ends : Ends)
-    (heard : Both Heard) (mid : Ends) (turn : ℕ) (role : Role)
+pub ends-so : (c : Channel) (f new : FolderState) (n : Written) (files : Both (List ℕ)) (ts : List Turn) (ends : Accounts)
+    (heard : Both Heard) (mid : Accounts) (turn : ℕ) (role : Role)
     (fault : LinkFault) → turn ≡ length ts → IsNamed role fault → Overhears c files ts ends heard mid
     → BrokenTurn (link_of c.script files) ts ends (turn_in heard ends mid none-sent) mid role fault
     → Appended f new n.trace (turn_text (length ts) (turn_in heard ends mid none-sent))
@@ -335,8 +335,8 @@ counts-so f new n turn role faults.PeerRefused named stand = absurd named
 
 -- ---- the folder doesn't take the lines
 
-pub stops-so : (c : Channel) (f new : FolderState) (n : Written) (files : Both (List ℕ)) (ts : List Turn) (ends : Ends)
-    (heard : Both Heard) (mid : Ends) (fault : RunFault) → IsWriting fault
+pub stops-so : (c : Channel) (f new : FolderState) (n : Written) (files : Both (List ℕ)) (ts : List Turn) (ends : Accounts)
+    (heard : Both Heard) (mid : Accounts) (fault : RunFault) → IsWriting fault
     → AddsPart c f new n files ts ends heard mid → SpeaksLast c f new n files ts ends heard mid fault
 stops-so c f new n files ts ends heard mid run_faults.WriteFault w h = h
 stops-so c f new n files ts ends heard mid run_faults.NoMemory w h = h
@@ -346,8 +346,8 @@ stops-so c f new n files ts ends heard mid (run_faults.ChanceMatch role turn) w 
 stops-so c f new n files ts ends heard mid (run_faults.NotDetected turn) w h = absurd w
 stops-so c f new n files ts ends heard mid (run_faults.LinkLost role segment turn) w h = absurd w
 
-pub adds-part : (c : Channel) (f new : FolderState) (n : Written) (files : Both (List ℕ)) (ts : List Turn) (ends : Ends)
-    (heard : Both Heard) (mid : Ends) (sents : Both (Option Spoken))
+pub adds-part : (c : Channel) (f new : FolderState) (n : Written) (files : Both (List ℕ)) (ts : List Turn) (ends : Accounts)
+    (heard : Both Heard) (mid : Accounts) (sents : Both (Option Spoken))
     (outcome : Outcome) → Overhears c files ts ends heard mid
     → TurnIs (link_of c.script files) ts ends (turn_in heard ends mid sents) mid outcome
     → PartlyAppended f new n.trace (turn_text (length ts) (turn_in heard ends mid sents)) → AddsPart c f new n files ts ends heard mid
@@ -365,7 +365,7 @@ adds-part c f new n files ts ends heard mid sents outcome o is trace = record {
 
 -- ---- the run is done
 
-pub last-turn : (c : Channel) (files : Both (List ℕ)) (ts : List Turn) (ends : Ends) (heard : Both Heard) (mid : Ends)
+pub last-turn : (c : Channel) (files : Both (List ℕ)) (ts : List Turn) (ends : Accounts) (heard : Both Heard) (mid : Accounts)
     → Overhears c files ts ends heard mid
     → is_closed mid.orig.phase ≡ true → LastTurn ts ends (turn_in heard ends mid none-sent) mid
 last-turn c files ts ends heard mid o closed = record {

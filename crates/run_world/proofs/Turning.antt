@@ -13,7 +13,7 @@ use Rattle.link_account.specs.Account.{Account, check_of}
 use Rattle.causes.specs.declared.fault.LinkFault.{LinkFault}
 use Rattle.causes.specs.declared.fault.LinkFault.TheVariants as faults
 use Rattle.link_account.specs.Hear.{hear}
-use Rattle.link_run.specs.Run.{Ends, Turn, Hears, arrival}
+use Rattle.link_run.specs.Run.{Accounts, Turn, Hears, arrival}
 use Rattle.link_run.specs.Laws.{EachTurnIsMade, MakesTurn as MakesAny}
 use Rattle.link_run.specs.Outcomes.{Outcome, Going, Done, Broken, TurnIs}
 use Rattle.link_run.specs.Trace.{turn_text}
@@ -50,7 +50,7 @@ pub record MakingLaws : Type 0 where
   pub one : OneIsCarried
   pub made : EachTurnIsMade
 
-hearing-of : (c : Channel) (files : Both (List ℕ)) (ts : List Turn) (ends : Ends) (t : Turn) (mid : Ends) (outcome : Outcome)
+hearing-of : (c : Channel) (files : Both (List ℕ)) (ts : List Turn) (ends : Accounts) (t : Turn) (mid : Accounts) (outcome : Outcome)
     → TurnIs (link_of c.script files) ts ends t mid outcome
     → Hears (length ts) ends t mid
 hearing-of c files ts ends t mid Going h = subst (Hears (length ts) ends t) h.2 h.1.hearing
@@ -64,17 +64,17 @@ ok-inj r a b p q = ap value (sym p ∙ q)
     value (Ok x) = x
     value (Err fault) = a
 
-both-same : (x y : Ends) → x.orig ≡ y.orig → x.answ ≡ y.answ → x ≡ y
+both-same : (x y : Accounts) → x.orig ≡ y.orig → x.answ ≡ y.answ → x ≡ y
 both-same x y o a = λ k. record { orig = o k; answ = a k }
 
 -- The turn that is being made.
-pub record Making (c : Channel) (files : Both (List ℕ)) (ts : List Turn) (ends : Ends) (heard : Both Heard) (mid : Ends) : Type 0 where
+pub record Making (c : Channel) (files : Both (List ℕ)) (ts : List Turn) (ends : Accounts) (heard : Both Heard) (mid : Accounts) : Type 0 where
   pub turn : Turn
   pub outcome : Outcome
   pub hears : HearsThese heard turn
   pub makes : MakesTurn c files ts ends turn mid outcome
 
-pub making : MakingLaws → (c : Channel) (files : Both (List ℕ)) (ts : List Turn) (ends : Ends) (heard : Both Heard) (mid : Ends)
+pub making : MakingLaws → (c : Channel) (files : Both (List ℕ)) (ts : List Turn) (ends : Accounts) (heard : Both Heard) (mid : Accounts)
     → IsInLimits c.script
     → Overhears c files ts ends heard mid → Making c files ts ends heard mid
 making laws c files ts ends heard mid limits o = record {
@@ -128,7 +128,7 @@ pub same-beside : (m : Modems) → SameBeside m m
 same-beside m = record { dlci = refl; turn = refl; tally = refl; heard_by = refl; spoke = refl }
 
 pub halts-so : (old m : Modems) (l : Lines) (c : Channel) (links : ℕ) (streams : Both (List Carried)) (files : Both (List ℕ)) (ts : List Turn)
-    (ends : Ends) (heard : Both Heard) (mid now : Ends)
+    (ends : Accounts) (heard : Both Heard) (mid now : Accounts)
     → InTurn old c files ts ends heard mid now → HaveArrived l c links streams → SameBeside old m → Halts m l c links streams ts heard
 halts-so old m l c links streams files ts ends heard mid now h arrived same t hears =
     let orig = sym (hears Originator) in
@@ -140,16 +140,16 @@ halts-so old m l c links streams files ts ends heard mid now h arrived same t he
     }
 
 -- what both hear with once they have heard
-abbrev pub Checked : Modems → Ends → Type 0
+abbrev pub Checked : Modems → Accounts → Type 0
 Checked m mid = (role : Role) → of role m.heard_by ≡ check_of (of role mid)
 
-pub checked-so : (old m : Modems) (c : Channel) (files : Both (List ℕ)) (ts : List Turn) (ends : Ends) (heard : Both Heard) (mid now : Ends)
+pub checked-so : (old m : Modems) (c : Channel) (files : Both (List ℕ)) (ts : List Turn) (ends : Accounts) (heard : Both Heard) (mid now : Accounts)
     → InTurn old c files ts ends heard mid now → SameBeside old m → Checked m mid
 checked-so old m c files ts ends heard mid now h same role = ap (of role) same.heard_by ∙ h.checks role
 
 -- ---- a fault of the folder
 
-pub writing-ends : (m : Modems) (l : Lines) (c : Channel) (links : ℕ) (streams : Both (List Carried)) (a b : FolderState) (n : Written) (files : Both (List ℕ)) (ts : List Turn) (ends : Ends)
+pub writing-ends : (m : Modems) (l : Lines) (c : Channel) (links : ℕ) (streams : Both (List Carried)) (a b : FolderState) (n : Written) (files : Both (List ℕ)) (ts : List Turn) (ends : Accounts)
     (fault : RunFault) → IsWriting fault
     → Stops m l c links streams a b n files ts ends → EndsBy m l c links streams a b n files ts ends fault
 writing-ends m l c links streams a b n files ts ends run_faults.WriteFault is h = h
@@ -160,7 +160,7 @@ writing-ends m l c links streams a b n files ts ends (run_faults.ChanceMatch rol
 writing-ends m l c links streams a b n files ts ends (run_faults.NotDetected turn) is h = absurd is
 writing-ends m l c links streams a b n files ts ends (run_faults.LinkLost role segment turn) is h = absurd is
 
-pub reading-ends : (m : Modems) (l : Lines) (c : Channel) (links : ℕ) (streams : Both (List Carried)) (a b : FolderState) (n : Written) (files : Both (List ℕ)) (ts : List Turn) (ends : Ends)
+pub reading-ends : (m : Modems) (l : Lines) (c : Channel) (links : ℕ) (streams : Both (List Carried)) (a b : FolderState) (n : Written) (files : Both (List ℕ)) (ts : List Turn) (ends : Accounts)
     (fault : RunFault) → IsReading fault
     → StopsReading m l c links streams a b n files ts ends → EndsBy m l c links streams a b n files ts ends fault
 reading-ends m l c links streams a b n files ts ends run_faults.ReadFault is h = h
@@ -173,8 +173,8 @@ reading-ends m l c links streams a b n files ts ends (run_faults.LinkLost role s
 
 -- as what both took is handed over,
 pub stops-handing : MakingLaws
-    → (m : Modems) (l : Lines) (c : Channel) (links : ℕ) (streams : Both (List Carried)) (a b : FolderState) (n : Written) (files : Both (List ℕ)) (ts : List Turn) (ends : Ends) (heard : Both Heard)
-    (mid : Ends)
+    → (m : Modems) (l : Lines) (c : Channel) (links : ℕ) (streams : Both (List Carried)) (a b : FolderState) (n : Written) (files : Both (List ℕ)) (ts : List Turn) (ends : Accounts) (heard : Both Heard)
+    (mid : Accounts)
     → IsInLimits c.script → IsApart n → AreWithin files → OnlyPuts a b (outputs_of n) → Overhears c files ts ends heard mid
     → Halts m l c links streams ts heard → AddPart a b (outputs_of n) (octets_of mid)
     → Stops m l c links streams a b n files ts ends
@@ -193,8 +193,8 @@ stops-handing laws m l c links streams a b n files ts ends heard mid limits apar
 
 -- as the files are read,
 pub stops-reading : MakingLaws
-    → (m : Modems) (l : Lines) (c : Channel) (links : ℕ) (streams : Both (List Carried)) (a b : FolderState) (n : Written) (files : Both (List ℕ)) (ts : List Turn) (ends : Ends) (heard : Both Heard)
-    (mid : Ends)
+    → (m : Modems) (l : Lines) (c : Channel) (links : ℕ) (streams : Both (List Carried)) (a b : FolderState) (n : Written) (files : Both (List ℕ)) (ts : List Turn) (ends : Accounts) (heard : Both Heard)
+    (mid : Accounts)
     → IsInLimits c.script → IsApart n → AreWithin files → OnlyPuts a b (outputs_of n) → Overhears c files ts ends heard mid
     → Halts m l c links streams ts heard → AddEach a b (outputs_of n) (octets_of mid) → StopsReading m l c links streams a b n files ts ends
 stops-reading laws m l c links streams a b n files ts ends heard mid limits apart within only o halts delivered =
@@ -214,7 +214,7 @@ stops-reading laws m l c links streams a b n files ts ends heard mid limits apar
 
 -- and as the lines go out.
 pub stops-writing : (m : Modems) (l : Lines) (c : Channel) (links : ℕ) (streams : Both (List Carried)) (a b z : FolderState) (n : Written) (files others : Both (List ℕ)) (ts : List Turn)
-    (ends : Ends) (heard : Both Heard) (mid : Ends) → IsApart n
+    (ends : Accounts) (heard : Both Heard) (mid : Accounts) → IsApart n
     → StayKnown a z n files others → OnlyPuts a b (outputs_of n) → AddEach a b (outputs_of n) (octets_of mid) → OnlyWrites b z n.trace
     → Halts m l c links streams ts heard → AddsPart c b z n others ts ends heard mid → Stops m l c links streams a z n files ts ends
 stops-writing m l c links streams a b z n files others ts ends heard mid apart known only delivered lines halts p =
@@ -231,8 +231,8 @@ stops-writing m l c links streams a b z n files others ts ends heard mid apart k
 
 -- ---- the run ends in this turn
 
-pub ends-in : (m : Modems) (l : Lines) (c : Channel) (links : ℕ) (streams : Both (List Carried)) (a b z : FolderState) (n : Written) (files others : Both (List ℕ)) (ts : List Turn) (ends : Ends)
-    (heard : Both Heard) (mid : Ends) (outcome : Outcome) (number : ℕ)
+pub ends-in : (m : Modems) (l : Lines) (c : Channel) (links : ℕ) (streams : Both (List Carried)) (a b z : FolderState) (n : Written) (files others : Both (List ℕ)) (ts : List Turn) (ends : Accounts)
+    (heard : Both Heard) (mid : Accounts) (outcome : Outcome) (number : ℕ)
     → IsApart n → number ≡ length ts → StayKnown a z n files others → OnlyPuts a b (outputs_of n) → AddEach a b (outputs_of n) (octets_of mid)
     → OnlyWrites b z n.trace → Halts m l c links streams ts heard → Checked m mid
     → AddsLines c b z n others ts ends heard mid outcome → EndsInTurn m l c links streams a z n files ts ends outcome number
@@ -249,7 +249,7 @@ ends-in m l c links streams a b z n files others ts ends heard mid outcome numbe
 }
 
 pub speaks-last : (m : Modems) (l : Lines) (c : Channel) (links : ℕ) (streams : Both (List Carried)) (a b z : FolderState) (n : Written) (files others : Both (List ℕ)) (ts : List Turn)
-    (ends : Ends) (heard : Both Heard) (mid : Ends) (fault : RunFault)
+    (ends : Accounts) (heard : Both Heard) (mid : Accounts) (fault : RunFault)
     → IsApart n → StayKnown a z n files others → OnlyPuts a b (outputs_of n) → AddEach a b (outputs_of n) (octets_of mid)
     → OnlyWrites b z n.trace → Halts m l c links streams ts heard → Checked m mid
     → SpeaksLast c b z n others ts ends heard mid fault → EndsBy m l c links streams a z n files ts ends fault
@@ -268,7 +268,7 @@ speaks-last m l c links streams a b z n files others ts ends heard mid (run_faul
 -- ---- the run goes on
 
 pub goes-on-by : (m : Modems) (l : Lines) (c : Channel) (links : ℕ) (streams : Both (List Carried)) (a b z : FolderState) (n : Written)
-    (files others : Both (List ℕ)) (ts : List Turn) (ends mid : Ends)
+    (files others : Both (List ℕ)) (ts : List Turn) (ends mid : Accounts)
     → IsApart n → StayKnown a z n files others → OnlyPuts a b (outputs_of n) → AddEach a b (outputs_of n) (octets_of mid) → OnlyWrites b z n.trace
     → HasGone m l c links streams b z n others ts ends mid → GoesOnBy m l c links streams a z n files ts ends
 goes-on-by m l c links streams a b z n files others ts ends mid apart known only delivered lines h = record {

@@ -14,7 +14,7 @@ use Rattle.link_account.specs.Account.{Account, after_busy}
 use Rattle.link_account.specs.Hear.{hear}
 use Rattle.link_account.specs.Speak.{Said, speak}
 use Rattle.link_run.specs.End.{deliveries, offered, asked, is_busy, is_released, has_finished}
-use Rattle.link_run.specs.Run.{Link as RunLink, Ends}
+use Rattle.link_run.specs.Run.{Link as RunLink, Accounts}
 use Rattle.line_run.specs.Scripted.{breaks_of, busy_of}
 use Rattle.turn_bound.specs.Limits.{file_limit}
 use Rattle.stations.specs.declared.station.Station.{Station}
@@ -24,7 +24,7 @@ use Rattle.run_world.specs.declared.link.Breaking.{Breaking}
 use Rattle.run_world.specs.Names.{Written}
 
 -- Both stations stand for these ends, whose users send these files.
-pub record LinkStands (l : Link) (files : Both (List ℕ)) (ends : Ends) : Type 0 where
+pub record LinkStands (l : Link) (files : Both (List ℕ)) (ends : Accounts) : Type 0 where
   pub orig : Stands l.orig files.orig ends.orig
   pub answ : Stands l.answ files.answ ends.answ
 
@@ -39,14 +39,14 @@ pub record AreCounted (l : Link) (heard asked : ℕ) : Type 0 where
   pub answ : IsCounted l.answ heard asked
 
 -- Both ends hear these, and neither breaks.
-pub record HearsBoth (l : Link) (files : Both (List ℕ)) (ends : Ends) (turn : ℕ) (to_orig to_answ : Arrived) : Type 0 where
-  pub mid : Ends
+pub record HearsBoth (l : Link) (files : Both (List ℕ)) (ends : Accounts) (turn : ℕ) (to_orig to_answ : Arrived) : Type 0 where
+  pub mid : Accounts
   pub orig : hear turn to_orig ends.orig ≡ Ok mid.orig
   pub answ : hear turn to_answ ends.answ ≡ Ok mid.answ
   pub stands : LinkStands l files mid
 
 -- hearing these breaks no end
-pub record HearsWell (ends : Ends) (turn : ℕ) (to_orig to_answ : Arrived) : Type 0 where
+pub record HearsWell (ends : Accounts) (turn : ℕ) (to_orig to_answ : Arrived) : Type 0 where
   pub orig : is_ok (hear turn to_orig ends.orig) ≡ true
   pub answ : is_ok (hear turn to_answ ends.answ) ≡ true
 
@@ -67,19 +67,19 @@ pub record AreWithin (files : Both (List ℕ)) : Type 0 where
   pub answ : length files.answ ≤ file_limit
 
 -- the octets that both users are given
-abbrev pub octets_of : Ends → List (List ℕ)
+abbrev pub octets_of : Accounts → List (List ℕ)
 octets_of ends = concat (deliveries ends.orig) ∷ concat (deliveries ends.answ) ∷ []
 
 -- each end, as a function of its account
-abbrev pub both_ends : (Account → Account) → Ends → Ends
+abbrev pub both_ends : (Account → Account) → Accounts → Accounts
 both_ends f ends = record { orig = f ends.orig; answ = f ends.answ }
 
 -- both need the link no more
-abbrev pub both_finished : RunLink → ℕ → Ends → Bool
+abbrev pub both_finished : RunLink → ℕ → Accounts → Bool
 both_finished link turn ends = has_finished link.orig.user turn ends.orig && has_finished link.answ.user turn ends.answ
 
 -- what happens to both ends behind their offers
-abbrev pub served_on : ScriptValue → ℕ → Ends → Ends
+abbrev pub served_on : ScriptValue → ℕ → Accounts → Accounts
 served_on script turn ends =
     let released = is_released ends.orig.phase in
     record {
@@ -88,14 +88,14 @@ served_on script turn ends =
     }
 
 -- Both were offered all that they want of their users' files, which are known as far as they were read.
-pub record SuppliesBoth (f : FolderState) (n : Written) (l : Link) (files : Both (List ℕ)) (ends : Ends) : Type 0 where
+pub record SuppliesBoth (f : FolderState) (n : Written) (l : Link) (files : Both (List ℕ)) (ends : Accounts) : Type 0 where
   pub others : Both (List ℕ)
   pub orig : ReadsOn f n.orig file_limit files.orig ends.orig others.orig
   pub answ : ReadsOn f n.answ file_limit files.answ ends.answ others.answ
   pub stands : LinkStands l others (record { orig = offered others.orig ends.orig; answ = offered others.answ ends.answ })
 
 -- Both ends speak, and neither breaks.
-pub record SaysBoth (l : Link) (files : Both (List ℕ)) (link : RunLink) (turn : ℕ) (ends : Ends) (from_orig from_answ : Sent) : Type 0 where
+pub record SaysBoth (l : Link) (files : Both (List ℕ)) (link : RunLink) (turn : ℕ) (ends : Accounts) (from_orig from_answ : Sent) : Type 0 where
   pub orig : Said
   pub answ : Said
   pub orig_says : speak turn (both_finished link turn ends) ends.orig ≡ Ok orig
@@ -105,11 +105,11 @@ pub record SaysBoth (l : Link) (files : Both (List ℕ)) (link : RunLink) (turn 
   pub stands : LinkStands l files (record { orig = orig.account; answ = answ.account })
 
 -- an end breaks, the originator first
-abbrev pub BreaksSo : RunLink → ℕ → Ends → Role → LinkFault → Type 0
+abbrev pub BreaksSo : RunLink → ℕ → Accounts → Role → LinkFault → Type 0
 BreaksSo link turn ends Originator fault = speak turn (both_finished link turn ends) ends.orig ≡ Err fault
 BreaksSo link turn ends Answerer fault = (is_ok (speak turn (both_finished link turn ends) ends.orig) ≡ true) × (speak turn false ends.answ ≡ Err fault)
 
 -- what speaking answers
-abbrev pub SpeaksBoth : Link → Both (List ℕ) → RunLink → ℕ → Ends → Result (Both Sent) Breaking → Type 0
+abbrev pub SpeaksBoth : Link → Both (List ℕ) → RunLink → ℕ → Accounts → Result (Both Sent) Breaking → Type 0
 SpeaksBoth l files link turn ends (Ok sent) = SaysBoth l files link turn ends sent.orig sent.answ
 SpeaksBoth l files link turn ends (Err breaking) = BreaksSo link turn ends breaking.role breaking.fault

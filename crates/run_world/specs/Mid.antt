@@ -14,7 +14,7 @@ use Rattle.causes.specs.declared.fault.LinkFault.TheVariants as faults
 use Rattle.link_account.specs.Account.{Account, after_given, given_break, check_of}
 use Rattle.link_account.specs.Hear.{hear}
 use Rattle.link_run.specs.End.{delivered, offered, is_closed}
-use Rattle.link_run.specs.Run.{Ends, Side, Spoken, Turn, GoingTurn, arrival}
+use Rattle.link_run.specs.Run.{Accounts, Side, Spoken, Turn, GoingTurn, arrival}
 use Rattle.link_run.specs.Outcomes.{Outcome, Broken}
 use Rattle.link_run.specs.Trace.{turn_text}
 use Rattle.link_run.specs.Counts.{lost_in, lost_slots, sent_again}
@@ -36,8 +36,8 @@ use Rattle.run_world.specs.Modems.{ModemsAfter}
 use Rattle.run_world.specs.Turn.{MakesTurn, HearsNone}
 
 -- What both ends hear in the turn after these, and are once they have heard.
-pub record Overhears (c : Channel) (files : Both (List ℕ)) (ts : List Turn) (ends : Ends) (heard : Both Heard)
-    (mid : Ends) : Type 0 where
+pub record Overhears (c : Channel) (files : Both (List ℕ)) (ts : List Turn) (ends : Accounts) (heard : Both Heard)
+    (mid : Accounts) : Type 0 where
   pub run : LineRun c (link_of c.script files) ts ends
   pub heard_of : (role : Role) → IsHeardOf c (other role) ts (check_of (of role ends)) (of role heard)
   pub well : (role : Role) → of role heard ≢ Chance
@@ -48,33 +48,33 @@ abbrev pub side_of : Heard → Account → Account → Option Spoken → Side
 side_of heard before mid sent = record { heard = heard; check = check_of before; sent = sent; given = given_break mid }
 
 -- the turn, where this is sent in it
-abbrev pub turn_in : Both Heard → Ends → Ends → Both (Option Spoken) → Turn
+abbrev pub turn_in : Both Heard → Accounts → Accounts → Both (Option Spoken) → Turn
 turn_in heard ends mid sent = record {
   orig = side_of heard.orig ends.orig mid.orig sent.orig;
   answ = side_of heard.answ ends.answ mid.answ sent.answ;
 }
 
 -- what both took is handed over
-abbrev pub handed : Ends → Ends
+abbrev pub handed : Accounts → Accounts
 handed mid = both_ends after_given (both_ends delivered mid)
 
 -- and both are offered what they want of their users' files
-abbrev pub supplied : Both (List ℕ) → Ends → Ends
+abbrev pub supplied : Both (List ℕ) → Accounts → Accounts
 supplied files ends = record { orig = offered files.orig ends.orig; answ = offered files.answ ends.answ }
 
 -- as both are when they are to speak
-abbrev pub served : ScriptValue → Both (List ℕ) → ℕ → Ends → Ends
+abbrev pub served : ScriptValue → Both (List ℕ) → ℕ → Accounts → Accounts
 served script files turn mid = served_on script turn (supplied files (handed mid))
 
 -- A tally of these turns, and of what is heard in the next one.
-pub record TalliesHeard (t : Tally) (ts : List Turn) (ends : Ends) (heard : Both Heard) : Type 0 where
+pub record TalliesHeard (t : Tally) (ts : List Turn) (ends : Accounts) (heard : Both Heard) : Type 0 where
   pub lost : t.lost ≡ lost_slots ts + lost_in heard.orig + lost_in heard.answ
   pub again : t.again ≡ sent_again ts
   pub orig : t.orig ≡ ends.orig.outgoing.high
   pub answ : t.answ ≡ ends.answ.outgoing.high
 
 -- Ends in the turn after these, which by now are these.
-pub record InTurn (m : Modems) (c : Channel) (files : Both (List ℕ)) (ts : List Turn) (ends : Ends) (heard : Both Heard) (mid now : Ends) : Type 0 where
+pub record InTurn (m : Modems) (c : Channel) (files : Both (List ℕ)) (ts : List Turn) (ends : Accounts) (heard : Both Heard) (mid now : Accounts) : Type 0 where
   pub overhears : Overhears c files ts ends heard mid
   pub link : LinkStands m.link files now
   pub turn : m.turn ≡ length ts
@@ -91,19 +91,19 @@ pub record SameBeside (old new : Modems) : Type 0 where
 
 -- both ends have heard
 pub record HasHeard (m : Modems) (l : Lines) (c : Channel) (links : ℕ) (streams : Both (List Carried)) (files : Both (List ℕ)) (ts : List Turn)
-    (ends : Ends) (heard : Both Heard) : Type 0 where
-  pub mid : Ends
+    (ends : Accounts) (heard : Both Heard) : Type 0 where
+  pub mid : Accounts
   pub stands : InTurn m c files ts ends heard mid mid
   pub lines : HaveArrived l c links streams
 
 -- what hearing answers
-abbrev pub HearsTurn : Modems → Lines → Channel → ℕ → Both (List Carried) → Both (List ℕ) → List Turn → Ends → Result (Both Heard) LineEnd → Type 0
+abbrev pub HearsTurn : Modems → Lines → Channel → ℕ → Both (List Carried) → Both (List ℕ) → List Turn → Accounts → Result (Both Heard) LineEnd → Type 0
 HearsTurn m l c links streams files ts ends (Ok heard) = HasHeard m l c links streams files ts ends heard
 HearsTurn m l c links streams files ts ends (Err end) = EndsLine c ts ends (end_of end) × HearsNone m ts
 
 -- What both ends took is handed over, segments and the lengths of breaks.
-pub record HandsOver (m : Modems) (c : Channel) (old new : FolderState) (n : Written) (files : Both (List ℕ)) (ts : List Turn) (ends : Ends)
-    (heard : Both Heard) (mid : Ends)
+pub record HandsOver (m : Modems) (c : Channel) (old new : FolderState) (n : Written) (files : Both (List ℕ)) (ts : List Turn) (ends : Accounts)
+    (heard : Both Heard) (mid : Accounts)
     (given : Both (Option ℕ)) : Type 0 where
   pub stands : InTurn m c files ts ends heard mid (handed mid)
   pub orig_given : given.orig ≡ given_break mid.orig
@@ -111,13 +111,13 @@ pub record HandsOver (m : Modems) (c : Channel) (old new : FolderState) (n : Wri
   pub delivered : AddEach old new (outputs_of n) (octets_of mid)
 
 -- Both files were read on, as far as the ends want them.
-pub record ReadsBoth (f : FolderState) (n : Written) (files : Both (List ℕ)) (ends : Ends) (others : Both (List ℕ)) : Type 0 where
+pub record ReadsBoth (f : FolderState) (n : Written) (files : Both (List ℕ)) (ends : Accounts) (others : Both (List ℕ)) : Type 0 where
   pub orig : ReadsOn f n.orig file_limit files.orig ends.orig others.orig
   pub answ : ReadsOn f n.answ file_limit files.answ ends.answ others.answ
 
 -- Both ends are served, and are to speak.
-pub record Serves (m : Modems) (c : Channel) (f : FolderState) (n : Written) (files : Both (List ℕ)) (ts : List Turn) (ends : Ends)
-    (heard : Both Heard) (mid : Ends) : Type 0 where
+pub record Serves (m : Modems) (c : Channel) (f : FolderState) (n : Written) (files : Both (List ℕ)) (ts : List Turn) (ends : Accounts)
+    (heard : Both Heard) (mid : Accounts) : Type 0 where
   pub others : Both (List ℕ)
   pub reads : ReadsBoth f n files (handed mid) others
   pub stands : InTurn m c others ts ends heard mid (served c.script others (length ts) mid)
@@ -127,8 +127,8 @@ abbrev pub HearsThese : Both Heard → Turn → Type 0
 HearsThese heard t = (role : Role) → (of role t).heard ≡ of role heard
 
 -- The turn after these is made, with that outcome, and its lines stand behind the trace.
-pub record AddsLines (c : Channel) (old new : FolderState) (n : Written) (files : Both (List ℕ)) (ts : List Turn) (ends : Ends)
-    (heard : Both Heard) (mid : Ends) (outcome : Outcome) : Type 0 where
+pub record AddsLines (c : Channel) (old new : FolderState) (n : Written) (files : Both (List ℕ)) (ts : List Turn) (ends : Accounts)
+    (heard : Both Heard) (mid : Accounts) (outcome : Outcome) : Type 0 where
   pub turn : Turn
   pub hears : HearsThese heard turn
   pub makes : MakesTurn c files ts ends turn mid outcome
@@ -136,7 +136,7 @@ pub record AddsLines (c : Channel) (old new : FolderState) (n : Written) (files 
 
 -- A part of its lines does, whatever it comes to.
 pub record AddsPart (c : Channel) (old new : FolderState) (n : Written) (files : Both (List ℕ)) (ts : List Turn)
-    (ends : Ends) (heard : Both Heard) (mid : Ends) : Type 0 where
+    (ends : Accounts) (heard : Both Heard) (mid : Accounts) : Type 0 where
   pub outcome : Outcome
   pub turn : Turn
   pub hears : HearsThese heard turn
@@ -145,9 +145,9 @@ pub record AddsPart (c : Channel) (old new : FolderState) (n : Written) (files :
 
 -- The run goes on.
 pub record HasGone (m : Modems) (l : Lines) (c : Channel) (links : ℕ) (streams : Both (List Carried)) (old new : FolderState) (n : Written) (files : Both (List ℕ)) (ts : List Turn)
-    (ends mid : Ends) : Type 0 where
+    (ends mid : Accounts) : Type 0 where
   pub turn : Turn
-  pub after : Ends
+  pub after : Accounts
   pub run : LineRun c (link_of c.script files) ts ends
   pub going : GoingTurn (link_of c.script files) ts ends turn after
   pub mid_is : going.mid ≡ mid
@@ -157,7 +157,7 @@ pub record HasGone (m : Modems) (l : Lines) (c : Channel) (links : ℕ) (streams
   pub trace : Appended old new n.trace (turn_text (length ts) turn)
 
 -- why the run ends as the ends speak
-abbrev pub SpeaksLast : Channel → FolderState → FolderState → Written → Both (List ℕ) → List Turn → Ends → Both Heard → Ends → RunFault → Type 0
+abbrev pub SpeaksLast : Channel → FolderState → FolderState → Written → Both (List ℕ) → List Turn → Accounts → Both Heard → Accounts → RunFault → Type 0
 SpeaksLast c old new n files ts ends heard mid run_faults.WriteFault = AddsPart c old new n files ts ends heard mid
 SpeaksLast c old new n files ts ends heard mid run_faults.NoMemory = AddsPart c old new n files ts ends heard mid
 SpeaksLast c old new n files ts ends heard mid (run_faults.LinkLost role segment turn) =
@@ -169,13 +169,13 @@ SpeaksLast c old new n files ts ends heard mid (run_faults.LineLost role symbol)
 SpeaksLast c old new n files ts ends heard mid (run_faults.ChanceMatch role turn) = ⊥
 
 -- what speaking answers
-abbrev pub SpeaksTurn : Modems → Lines → Channel → ℕ → Both (List Carried) → FolderState → FolderState → Written → Both (List ℕ) → List Turn → Ends → Both Heard → Ends → Result (Unit {0}) RunFault
+abbrev pub SpeaksTurn : Modems → Lines → Channel → ℕ → Both (List Carried) → FolderState → FolderState → Written → Both (List ℕ) → List Turn → Accounts → Both Heard → Accounts → Result (Unit {0}) RunFault
     → Type 0
 SpeaksTurn m l c links streams old new n files ts ends heard mid (Ok done) = HasGone m l c links streams old new n files ts ends mid
 SpeaksTurn m l c links streams old new n files ts ends heard mid (Err fault) = SpeaksLast c old new n files ts ends heard mid fault
 
 -- Both ends are to speak, in a turn in which the originator isn't closed.
-pub record IsToSpeak (m : Modems) (c : Channel) (files : Both (List ℕ)) (ts : List Turn) (ends : Ends) (heard : Both Heard) (mid : Ends) : Type 0 where
+pub record IsToSpeak (m : Modems) (c : Channel) (files : Both (List ℕ)) (ts : List Turn) (ends : Accounts) (heard : Both Heard) (mid : Accounts) : Type 0 where
   pub stands : InTurn m c files ts ends heard mid (served c.script files (length ts) mid)
   pub going : is_closed mid.orig.phase ≡ false
 

@@ -4,7 +4,7 @@ use Rattle.roles.specs.declared.role.Role.{Role}
 use Rattle.roles.specs.Both.{Both}
 use Rattle.detection.specs.Slots.{Signal}
 use Rattle.noise_script.specs.Script.{ScriptValue, IsInLimits}
-use Rattle.link_run.specs.Run.{Ends, Turn}
+use Rattle.link_run.specs.Run.{Accounts, Turn}
 use Rattle.line_run.specs.Sampled.{Channel, LineRun}
 use Rattle.line_run.specs.Scripted.{channel_at, link_of, longest_of, slot_symbols}
 use Rattle.line_run.specs.Stream.{Carried}
@@ -26,7 +26,7 @@ pub record IsChannelOf (c : Channel) (script : ScriptValue) (dlci : ℕ) : Type 
   pub symbols_are : c.symbols ≡ slot_symbols (longest_of script)
 
 -- They made these turns of the run of the channel's script and these files, which has come to these ends, and counted what they show.
-pub record ModemsAfter (m : Modems) (c : Channel) (files : Both (List ℕ)) (ts : List Turn) (ends : Ends) : Type 0 where
+pub record ModemsAfter (m : Modems) (c : Channel) (files : Both (List ℕ)) (ts : List Turn) (ends : Accounts) : Type 0 where
   pub run : LineRun c (link_of c.script files) ts ends
   pub link : LinkStands m.link files ends
   pub turn : m.turn ≡ length ts
@@ -50,7 +50,7 @@ pub record AreReady (m : Modems) (script : ScriptValue) (l : Lines) : Type 0 whe
   pub files : Both (List ℕ)
   pub within : AreWithin files
   pub turns : List Turn
-  pub ends : Ends
+  pub ends : Accounts
   pub after : ModemsAfter m (channel_at script m.dlci beside) files turns ends
   pub waits : LinesWait l (channel_at script m.dlci beside) links streams
   pub due : AreDue (channel_at script m.dlci beside) links turns streams

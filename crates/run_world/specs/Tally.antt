@@ -1,11 +1,11 @@
 -- What a tally counts.
 use Rattle.std.specs.Prelude.{◌≡◌, ℕ, ◌*◌, ◌≤◌, List}
-use Rattle.link_run.specs.Run.{Ends, Turn}
+use Rattle.link_run.specs.Run.{Accounts, Turn}
 use Rattle.link_run.specs.Counts.{lost_slots, sent_again}
 use Rattle.run_world.specs.declared.tally.Tally.{Tally}
 
 -- It counts what these turns show, which came to these ends.
-pub record Tallies (t : Tally) (ts : List Turn) (ends : Ends) : Type 0 where
+pub record Tallies (t : Tally) (ts : List Turn) (ends : Accounts) : Type 0 where
   pub lost : t.lost ≡ lost_slots ts
   pub again : t.again ≡ sent_again ts
   pub orig : t.orig ≡ ends.orig.outgoing.high

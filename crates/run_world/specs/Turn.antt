@@ -11,7 +11,7 @@ use Rattle.roles.specs.Both.{Both, of}
 use Rattle.link_account.specs.Account.{check_of}
 use Rattle.line_texts.specs.LineText.{chance_line}
 use Rattle.causes.specs.declared.fault.LinkFault.TheVariants as faults
-use Rattle.link_run.specs.Run.{Ends, Turn, GoingTurn}
+use Rattle.link_run.specs.Run.{Accounts, Turn, GoingTurn}
 use Rattle.link_run.specs.Outcomes.{Outcome, Done, Broken, TurnIs}
 use Rattle.link_run.specs.Trace.{turn_text}
 use Rattle.link_run.specs.Counts.{lost_slots, sent_again}
@@ -32,22 +32,22 @@ use Rattle.run_world.specs.Modems.{ModemsAfter}
 use Rattle.run_world.specs.World.{StayKnown}
 
 -- what a turn adds to the outputs: to each received file what its end took, and to the trace both lines
-abbrev pub added : Ends → List ℕ → List (List ℕ)
+abbrev pub added : Accounts → List ℕ → List (List ℕ)
 added mid text = octets_of mid ++ text ∷ []
 
 -- The turn after these, over a channel and files: what both ends hear in it, are once they have heard, and what it comes to.
-pub record MakesTurn (c : Channel) (files : Both (List ℕ)) (ts : List Turn) (ends : Ends) (turn : Turn) (mid : Ends)
+pub record MakesTurn (c : Channel) (files : Both (List ℕ)) (ts : List Turn) (ends : Accounts) (turn : Turn) (mid : Accounts)
     (outcome : Outcome) : Type 0 where
   pub run : LineRun c (link_of c.script files) ts ends
   pub heard : HeardIn c ts turn
   pub is : TurnIs (link_of c.script files) ts ends turn mid outcome
 
 -- The run goes on by one turn.
-pub record GoesOnBy (m : Modems) (l : Lines) (c : Channel) (links : ℕ) (streams : Both (List Carried)) (old new : FolderState) (n : Written) (files : Both (List ℕ)) (ts : List Turn) (ends : Ends) : Type 0 where
+pub record GoesOnBy (m : Modems) (l : Lines) (c : Channel) (links : ℕ) (streams : Both (List Carried)) (old new : FolderState) (n : Written) (files : Both (List ℕ)) (ts : List Turn) (ends : Accounts) : Type 0 where
   pub others : Both (List ℕ)
   pub known : StayKnown old new n files others
   pub turn : Turn
-  pub after : Ends
+  pub after : Accounts
   pub run : LineRun c (link_of c.script others) ts ends
   pub going : GoingTurn (link_of c.script others) ts ends turn after
   pub heard : HeardIn c ts turn
@@ -67,27 +67,27 @@ pub record HearsNone (m : Modems) (ts : List Turn) : Type 0 where
   pub again : m.tally.again ≡ sent_again ts
 
 -- The run ends in this turn, with that outcome.
-pub record EndsInTurn (m : Modems) (l : Lines) (c : Channel) (links : ℕ) (streams : Both (List Carried)) (old new : FolderState) (n : Written) (files : Both (List ℕ)) (ts : List Turn) (ends : Ends)
+pub record EndsInTurn (m : Modems) (l : Lines) (c : Channel) (links : ℕ) (streams : Both (List Carried)) (old new : FolderState) (n : Written) (files : Both (List ℕ)) (ts : List Turn) (ends : Accounts)
     (outcome : Outcome) (number : ℕ) : Type 0 where
   pub number_is : number ≡ length ts
   pub others : Both (List ℕ)
   pub known : StayKnown old new n files others
   pub turn : Turn
-  pub mid : Ends
+  pub mid : Accounts
   pub makes : MakesTurn c others ts ends turn mid outcome
   pub halts : SendsNone m l c links streams ts turn
   pub checks : (role : Role) → of role m.heard_by ≡ check_of (of role mid)
   pub writes : AddEach old new (outputs_of n) (added mid (turn_text (length ts) turn))
 
 -- The line is lost as this turn begins: nothing is written.
-pub record LosesLine (m : Modems) (c : Channel) (old new : FolderState) (n : Written) (ts : List Turn) (ends : Ends) (role : Role)
+pub record LosesLine (m : Modems) (c : Channel) (old new : FolderState) (n : Written) (ts : List Turn) (ends : Accounts) (role : Role)
     (symbol : ℕ) : Type 0 where
   pub is : EndsLine c ts ends (lines.LineLost role symbol)
   pub halts : HearsNone m ts
   pub kept : KeepsEach old new (outputs_of n)
 
 -- A slot is a chance match: the one line of it is written.
-pub record MeetsChance (m : Modems) (c : Channel) (old new : FolderState) (n : Written) (ts : List Turn) (ends : Ends) (role : Role)
+pub record MeetsChance (m : Modems) (c : Channel) (old new : FolderState) (n : Written) (ts : List Turn) (ends : Accounts) (role : Role)
     (number : ℕ) : Type 0 where
   pub number_is : number ≡ length ts
   pub is : EndsLine c ts ends (lines.ChanceMatch role)
@@ -97,18 +97,18 @@ pub record MeetsChance (m : Modems) (c : Channel) (old new : FolderState) (n : W
 
 -- The folder fails in this turn, and a part of what it adds is written: whatever the turn comes to,
 pub record StopsInTurn (m : Modems) (l : Lines) (c : Channel) (links : ℕ) (streams : Both (List Carried)) (old new : FolderState) (n : Written) (files : Both (List ℕ)) (ts : List Turn)
-    (ends : Ends) : Type 0 where
+    (ends : Accounts) : Type 0 where
   pub others : Both (List ℕ)
   pub known : StayKnown old new n files others
   pub turn : Turn
-  pub mid : Ends
+  pub mid : Accounts
   pub outcome : Outcome
   pub makes : MakesTurn c others ts ends turn mid outcome
   pub halts : SendsNone m l c links streams ts turn
   pub writes : AddPart old new (outputs_of n) (added mid (turn_text (length ts) turn))
 
 -- or where a slot is a chance match.
-pub record StopsAtChance (m : Modems) (c : Channel) (old new : FolderState) (n : Written) (ts : List Turn) (ends : Ends) : Type 0 where
+pub record StopsAtChance (m : Modems) (c : Channel) (old new : FolderState) (n : Written) (ts : List Turn) (ends : Accounts) : Type 0 where
   pub role : Role
   pub is : EndsLine c ts ends (lines.ChanceMatch role)
   pub halts : HearsNone m ts
@@ -116,19 +116,19 @@ pub record StopsAtChance (m : Modems) (c : Channel) (old new : FolderState) (n :
   pub trace : PartlyAppended old new n.trace (chance_line (length ts) role)
 
 -- A file that is sent isn't read: what both ends took is written, and nothing of the lines.
-abbrev pub StopsReading : Modems → Lines → Channel → ℕ → Both (List Carried) → FolderState → FolderState → Written → Both (List ℕ) → List Turn → Ends → Type 0
+abbrev pub StopsReading : Modems → Lines → Channel → ℕ → Both (List Carried) → FolderState → FolderState → Written → Both (List ℕ) → List Turn → Accounts → Type 0
 StopsReading m l c links streams old new n files ts ends = (stops : StopsInTurn m l c links streams old new n files ts ends) × AddEach old new (outputs_of n) (octets_of stops.mid)
 
-abbrev pub Stops : Modems → Lines → Channel → ℕ → Both (List Carried) → FolderState → FolderState → Written → Both (List ℕ) → List Turn → Ends → Type 0
+abbrev pub Stops : Modems → Lines → Channel → ℕ → Both (List Carried) → FolderState → FolderState → Written → Both (List ℕ) → List Turn → Accounts → Type 0
 Stops m l c links streams old new n files ts ends = StopsInTurn m l c links streams old new n files ts ends ⊎ StopsAtChance m c old new n ts ends
 
 -- an end's tries are spent, at its front
-abbrev pub LosesLink : Modems → Lines → Channel → ℕ → Both (List Carried) → FolderState → FolderState → Written → Both (List ℕ) → List Turn → Ends → Role → ℕ → ℕ → Type 0
+abbrev pub LosesLink : Modems → Lines → Channel → ℕ → Both (List Carried) → FolderState → FolderState → Written → Both (List ℕ) → List Turn → Accounts → Role → ℕ → ℕ → Type 0
 LosesLink m l c links streams old new n files ts ends role segment number =
     (since : ℕ) × EndsInTurn m l c links streams old new n files ts ends (Broken role (faults.Spent segment since)) number
 
 -- why a run ends in this turn with less than both files
-abbrev pub EndsBy : Modems → Lines → Channel → ℕ → Both (List Carried) → FolderState → FolderState → Written → Both (List ℕ) → List Turn → Ends → RunFault → Type 0
+abbrev pub EndsBy : Modems → Lines → Channel → ℕ → Both (List Carried) → FolderState → FolderState → Written → Both (List ℕ) → List Turn → Accounts → RunFault → Type 0
 EndsBy m l c links streams old new n files ts ends run_faults.ReadFault = StopsReading m l c links streams old new n files ts ends
 EndsBy m l c links streams old new n files ts ends run_faults.WriteFault = Stops m l c links streams old new n files ts ends
 EndsBy m l c links streams old new n files ts ends (run_faults.LineLost role symbol) = LosesLine m c old new n ts ends role symbol
@@ -139,7 +139,7 @@ EndsBy m l c links streams old new n files ts ends (run_faults.LinkLost role seg
 EndsBy m l c links streams old new n files ts ends run_faults.NoMemory = Stops m l c links streams old new n files ts ends
 
 -- what a turn answers, after these turns
-abbrev pub TurnAnswers : Modems → Lines → Channel → ℕ → Both (List Carried) → FolderState → FolderState → Written → Both (List ℕ) → List Turn → Ends → Result Step RunFault → Type 0
+abbrev pub TurnAnswers : Modems → Lines → Channel → ℕ → Both (List Carried) → FolderState → FolderState → Written → Both (List ℕ) → List Turn → Accounts → Result Step RunFault → Type 0
 TurnAnswers m l c links streams old new n files ts ends (Ok steps.Going) = GoesOnBy m l c links streams old new n files ts ends
 TurnAnswers m l c links streams old new n files ts ends (Ok (steps.Done turn)) = EndsInTurn m l c links streams old new n files ts ends Done turn
 TurnAnswers m l c links streams old new n files ts ends (Err fault) = EndsBy m l c links streams old new n files ts ends fault

@@ -7,7 +7,7 @@ use Rattle.roles.specs.Both.{Both, of}
 use Rattle.line_texts.specs.LineText.{chance_line}
 use Rattle.link_run.specs.Counts.{lost_slots, sent_again}
 use Rattle.link_run.specs.End.{deliveries}
-use Rattle.link_run.specs.Run.{Link, Ends, Turn}
+use Rattle.link_run.specs.Run.{Link, Accounts, Turn}
 use Rattle.link_run.specs.Outcomes.{Outcome, Going, TurnIs}
 use Rattle.link_run.specs.Trace.{trace_text, turn_text}
 use Rattle.line_run.specs.Sampled.{Channel, HeardIn, LineRun, EndsLine}
@@ -29,9 +29,9 @@ abbrev pub held_of : Left → List (List ℕ)
 held_of left = left.got.orig ∷ left.got.answ ∷ left.trace ∷ []
 
 -- What a turn after these adds, whatever it comes to: what both ends take in it, and its two lines of the trace.
-pub record AddsTurn (c : Channel) (link : Link) (ts : List Turn) (ends : Ends) (more : Left) : Type 0 where
+pub record AddsTurn (c : Channel) (link : Link) (ts : List Turn) (ends : Accounts) (more : Left) : Type 0 where
   pub turn : Turn
-  pub mid : Ends
+  pub mid : Accounts
   pub outcome : Outcome
   pub heard : HeardIn c ts turn
   pub is : TurnIs link ts ends turn mid outcome
@@ -39,7 +39,7 @@ pub record AddsTurn (c : Channel) (link : Link) (ts : List Turn) (ends : Ends) (
   pub trace_is : more.trace ≡ turn_text (length ts) turn
 
 -- What is added where a slot of that turn is a chance match: one line of the trace.
-pub record AddsChance (c : Channel) (ts : List Turn) (ends : Ends) (more : Left) : Type 0 where
+pub record AddsChance (c : Channel) (ts : List Turn) (ends : Accounts) (more : Left) : Type 0 where
   pub role : Role
   pub is : EndsLine c ts ends (lines.ChanceMatch role)
   pub got_is : (side : Role) → of side more.got ≡ []
@@ -48,7 +48,7 @@ pub record AddsChance (c : Channel) (ts : List Turn) (ends : Ends) (more : Left)
 -- The folder failed in the turn after some: the outputs hold what these left, and a part of what that turn adds.
 pub record StopsAfter (c : Channel) (link : Link) (f : FolderState) (n : Written) : Type 0 where
   pub turns : List Turn
-  pub ends : Ends
+  pub ends : Accounts
   pub run : LineRun c link turns ends
   pub left : Left
   pub leaves : Leaves ends (trace_text turns) left

@@ -8,7 +8,7 @@ use Rattle.roles.specs.Both.{Both, of}
 use Rattle.noise_script.specs.Script.{ScriptValue, IsInLimits, delay_of}
 use Rattle.sample_line.specs.Line.{Kept, bits_behind}
 use Rattle.sample_line.specs.Signals.{signal_of}
-use Rattle.link_run.specs.Run.{Ends, Spoken, Turn}
+use Rattle.link_run.specs.Run.{Accounts, Spoken, Turn}
 use Rattle.line_run.specs.Sampled.{signals}
 use Rattle.line_run.specs.Scripted.{channel_of}
 use Rattle.line_run.specs.Stream.{sent_by, both_sent_by}
@@ -60,7 +60,7 @@ pub record StayKnown (old new : FolderState) (n : Written) (files others : Both 
 
 -- The world made these turns of the run of its script and these files, which has come to these ends, and counted what they show. Its link is
 -- alone on its line.
-pub record WorldAfter (w : World) (files : Both (List ℕ)) (ts : List Turn) (ends : Ends) : Type 0 where
+pub record WorldAfter (w : World) (files : Both (List ℕ)) (ts : List Turn) (ends : Accounts) : Type 0 where
   pub modems : ModemsAfter w.modems (channel_of w.script) files ts ends
   pub lines : LinesWait w.lines (channel_of w.script) 1 (both_sent_by 0 ts)
 
@@ -86,5 +86,5 @@ pub record IsReady (w : World) : Type 0 where
   pub files : Both (List ℕ)
   pub within : AreWithin files
   pub turns : List Turn
-  pub ends : Ends
+  pub ends : Accounts
   pub after : WorldAfter w files turns ends

@@ -12,7 +12,7 @@ ghost use Rattle.lapm_frames.specs.Sendable.{IsSendable};
 ghost use Rattle.link_account.specs.Numbers.{IsNumbered};
 ghost use Rattle.link_account.specs.Account.{Account, fresh, after_given, after_busy, given_break, check_of};
 ghost use Rattle.link_run.specs.End.{delivered, asked, is_busy, is_closed, is_released, has_finished};
-ghost use Rattle.link_run.specs.Run.{Ends, start};
+ghost use Rattle.link_run.specs.Run.{Accounts, start};
 ghost use Rattle.line_run.specs.Scripted.{setup_of, breaks_of, busy_of, party_of, link_of};
 ghost use Rattle.stations.specs.Station.{Stands, IsIdle, IsCounted};
 ghost use Rattle.run_world.specs.Names.{inputs_of, outputs_of, written};
@@ -138,7 +138,7 @@ impl Link {
 
     /// The checks of both ends' frames with numbers: with these each hears, and sends.
     pub fn checks(&self) -> Both<Check>
-        ensures { (files : Both (List ℕ)) (ends : Ends) → LinkStands self.now files ends → (role : Role) → of role result ≡ check_of (of role ends) }
+        ensures { (files : Both (List ℕ)) (ends : Accounts) → LinkStands self.now files ends → (role : Role) → of role result ≡ check_of (of role ends) }
     {
         Both {
             orig: self.orig.check(),
@@ -153,8 +153,8 @@ impl Link {
         requires answ_numbers { IsNumbered to_answ.now }
         requires idle { AreIdle self.old }
         requires counted { AreCounted self.old turn turn }
-        requires well { (files : Both (List ℕ)) × (ends : Ends) × LinkStands self.old files ends × HearsWell ends turn to_orig.now to_answ.now }
-        ensures hears { (files : Both (List ℕ)) (ends : Ends) → LinkStands self.old files ends → HearsWell ends turn to_orig.now to_answ.now
+        requires well { (files : Both (List ℕ)) × (ends : Accounts) × LinkStands self.old files ends × HearsWell ends turn to_orig.now to_answ.now }
+        ensures hears { (files : Both (List ℕ)) (ends : Accounts) → LinkStands self.old files ends → HearsWell ends turn to_orig.now to_answ.now
             → HearsBoth self.new files ends turn to_orig.now to_answ.now }
         ensures counted { AreCounted self.new (turn + 1) turn }
     {
@@ -169,11 +169,11 @@ impl Link {
         names: &Names<'_>,
     ) -> Result<(), FolderFault>
         requires apart { AreApart (outputs_of (written names.now)) }
-        ensures stands { OnOk result ((files : Both (List ℕ)) (ends : Ends) → LinkStands self.old files ends → LinkStands self.new files (both_ends delivered ends)) }
+        ensures stands { OnOk result ((files : Both (List ℕ)) (ends : Accounts) → LinkStands self.old files ends → LinkStands self.new files (both_ends delivered ends)) }
         ensures delivered { OnOk result (HaveDelivered self.new) }
         ensures counted { OnOk result ((heard asked : ℕ) → AreCounted self.old heard asked → AreCounted self.new heard asked) }
-        ensures ok { OnOk result ((files : Both (List ℕ)) (ends : Ends) → LinkStands self.old files ends → AddEach (F.state folder.old) (F.state folder.new) (outputs_of (written names.now)) (octets_of ends)) }
-        ensures err { OnErr result ((files : Both (List ℕ)) (ends : Ends) → LinkStands self.old files ends → AddPart (F.state folder.old) (F.state folder.new) (outputs_of (written names.now)) (octets_of ends)) }
+        ensures ok { OnOk result ((files : Both (List ℕ)) (ends : Accounts) → LinkStands self.old files ends → AddEach (F.state folder.old) (F.state folder.new) (outputs_of (written names.now)) (octets_of ends)) }
+        ensures err { OnErr result ((files : Both (List ℕ)) (ends : Accounts) → LinkStands self.old files ends → AddPart (F.state folder.old) (F.state folder.new) (outputs_of (written names.now)) (octets_of ends)) }
         ensures only { OnlyPuts (F.state folder.old) (F.state folder.new) (outputs_of (written names.now)) }
         ensures cause { SomeCause (F.state folder.old).write_faults (F.state folder.new).write_faults (outputs_of (written names.now)) (F.state folder.old).refusals (F.state folder.new).refusals result }
         ensures stand { OnOk result (CountsStand (F.state folder.old) (F.state folder.new)) }
@@ -193,8 +193,8 @@ impl Link {
     /// The lengths of the breaks that came, for both users.
     pub fn given_breaks(&mut self) -> Both<Option<u8>>
         requires { HaveDelivered self.old }
-        ensures answer { (files : Both (List ℕ)) (ends : Ends) → LinkStands self.old files ends → (result.orig ≡ given_break ends.orig) × (result.answ ≡ given_break ends.answ) }
-        ensures stands { (files : Both (List ℕ)) (ends : Ends) → LinkStands self.old files ends → LinkStands self.new files (both_ends after_given ends) }
+        ensures answer { (files : Both (List ℕ)) (ends : Accounts) → LinkStands self.old files ends → (result.orig ≡ given_break ends.orig) × (result.answ ≡ given_break ends.answ) }
+        ensures stands { (files : Both (List ℕ)) (ends : Accounts) → LinkStands self.old files ends → LinkStands self.new files (both_ends after_given ends) }
         ensures idle { AreIdle self.new }
         ensures counted { (heard asked : ℕ) → AreCounted self.old heard asked → AreCounted self.new heard asked }
     {
@@ -205,7 +205,7 @@ impl Link {
 
     /// The originator is closed: the run is done.
     pub fn is_closed(&self) -> bool
-        ensures { (files : Both (List ℕ)) (ends : Ends) → LinkStands self.now files ends → result ≡ is_closed ends.orig.phase }
+        ensures { (files : Both (List ℕ)) (ends : Accounts) → LinkStands self.now files ends → result ≡ is_closed ends.orig.phase }
     {
         self.orig.phase() == Phase::Closed
     }
@@ -216,8 +216,8 @@ impl Link {
         folder: &mut F,
         names: &Names<'_>,
     ) -> Result<(), FolderFault>
-        requires stands { (files : Both (List ℕ)) × (ends : Ends) × LinkStands self.old files ends × AreWithin files }
-        ensures stands { OnOk result ((files : Both (List ℕ)) (ends : Ends) → LinkStands self.old files ends → AreWithin files
+        requires stands { (files : Both (List ℕ)) × (ends : Accounts) × LinkStands self.old files ends × AreWithin files }
+        ensures stands { OnOk result ((files : Both (List ℕ)) (ends : Accounts) → LinkStands self.old files ends → AreWithin files
             → SuppliesBoth (F.state folder.old) (written names.now) self.new files ends) }
         ensures idle { AreIdle self.old → AreIdle self.new }
         ensures counted { (heard asked : ℕ) → AreCounted self.old heard asked → AreCounted self.new heard asked }
@@ -241,7 +241,7 @@ impl Link {
     pub fn serve(&mut self, script: &Script, turn: u64)
         requires turn { turn < 2 ^ 40 }
         requires counted { AreCounted self.old (turn + 1) turn }
-        ensures stands { (files : Both (List ℕ)) (ends : Ends) → LinkStands self.old files ends → LinkStands self.new files (served_on script.now turn ends) }
+        ensures stands { (files : Both (List ℕ)) (ends : Accounts) → LinkStands self.old files ends → LinkStands self.new files (served_on script.now turn ends) }
         ensures idle { AreIdle self.old → AreIdle self.new }
         ensures counted { AreCounted self.new (turn + 1) (turn + 1) }
     {
@@ -252,7 +252,7 @@ impl Link {
 
     /// Both ends need the link no more.
     fn are_finished(&self, script: &Script, turn: u64) -> bool
-        ensures { (files : Both (List ℕ)) (ends : Ends) → LinkStands self.now files ends → result ≡ both_finished (link_of script.now files) turn ends }
+        ensures { (files : Both (List ℕ)) (ends : Accounts) → LinkStands self.now files ends → result ≡ both_finished (link_of script.now files) turn ends }
     {
         is_finished(&self.orig, script, Role::Originator, turn)
             && is_finished(&self.answ, script, Role::Answerer, turn)
@@ -261,7 +261,7 @@ impl Link {
     /// What both ends send in this turn. The originator is told to release where both need the link no more; where both break it counts.
     pub fn speak(&mut self, script: &Script, turn: u64) -> Result<Both<Sent>, Breaking>
         requires { turn < 2 ^ 40 }
-        ensures speaks { (files : Both (List ℕ)) (ends : Ends) → LinkStands self.old files ends → SpeaksBoth self.new files (link_of script.now files) turn ends result }
+        ensures speaks { (files : Both (List ℕ)) (ends : Accounts) → LinkStands self.old files ends → SpeaksBoth self.new files (link_of script.now files) turn ends result }
         ensures orig_sendable { IfOk result (λ sent. IsSendable sent.orig) }
         ensures answ_sendable { IfOk result (λ sent. IsSendable sent.answ) }
         ensures idle { OnOk result (AreIdle self.old → AreIdle self.new) }

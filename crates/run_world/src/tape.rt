@@ -7,7 +7,7 @@ ghost use Rattle.bit_stuffing.specs.BitSlot.{line_bits};
 ghost use Rattle.roles.specs.declared.role.Role.{Role};
 ghost use Rattle.roles.specs.Both.{Both};
 ghost use Rattle.noise_script.specs.Script.{ScriptValue};
-ghost use Rattle.link_run.specs.Run.{Ends, Turn};
+ghost use Rattle.link_run.specs.Run.{Accounts, Turn};
 ghost use Rattle.line_run.specs.Sampled.{Channel};
 ghost use Rattle.line_run.specs.Scripted.{channel_of};
 ghost use Rattle.run_world.specs.World.{HasSent, WorldAfter, script_of};
@@ -103,7 +103,7 @@ fn record_both<F: Folder>(
     folder: &mut F,
 ) -> Result<(), RunFault>
     requires apart { AreApart (tapes.old.orig.name.now ∷ tapes.old.answ.name.now ∷ []) }
-    ensures records { (files : Both (List ℕ)) (ts : List Turn) (t : Turn) (ends : Ends) → WorldAfter world.now files (t ∷ ts) ends
+    ensures records { (files : Both (List ℕ)) (ts : List Turn) (t : Turn) (ends : Accounts) → WorldAfter world.now files (t ∷ ts) ends
         → KeepTapes (Some tapes.old) (F.state folder.old) (channel_of (script_of world.now)) ts
         → TakeTurn (Some tapes.new) (F.state folder.new) (channel_of (script_of world.now)) ts t result }
     ensures orig { tapes.new.orig.name.now ≡ tapes.old.orig.name.now }
@@ -127,7 +127,7 @@ pub(crate) fn record_turn<F: Folder>(
     folder: &mut F,
 ) -> Result<(), RunFault>
     requires apart { AreApart (tapes_of (tape_names tapes.old)) }
-    ensures records { (files : Both (List ℕ)) (ts : List Turn) (t : Turn) (ends : Ends) → WorldAfter world.now files (t ∷ ts) ends
+    ensures records { (files : Both (List ℕ)) (ts : List Turn) (t : Turn) (ends : Accounts) → WorldAfter world.now files (t ∷ ts) ends
         → KeepTapes tapes.old (F.state folder.old) (channel_of (script_of world.now)) ts
         → TakeTurn tapes.new (F.state folder.new) (channel_of (script_of world.now)) ts t result }
     ensures names { tape_names tapes.new ≡ tape_names tapes.old }

@@ -1,7 +1,7 @@
 // Turns of the world.
 ghost use Rattle.std.specs.Prelude.{◌≡◌, ℕ, [], ◌∷◌, List, Option, false, None, option_copied, IfOk};
 ghost use Rattle.roles.specs.Both.{Both};
-ghost use Rattle.link_run.specs.Run.{Ends, Turn, start};
+ghost use Rattle.link_run.specs.Run.{Accounts, Turn, start};
 ghost use Rattle.line_run.specs.Scripted.{channel_of, link_of};
 ghost use Rattle.line_run.specs.Stream.{both_sent_by};
 ghost use Rattle.shared_line.specs.Lines.{HaveArrived};
@@ -75,7 +75,7 @@ impl World {
         requires apart { AreApartFrom (inputs_of (written names.now)) (outputs_of (written names.now)) }
 
         // A turn is one of the run that the script and the files make, and adds to each output what that turn gives.
-        ensures turn { (files : Both (List ℕ)) (ts : List Turn) (ends : Ends) → WorldAfter self.old files ts ends → AreWithin files
+        ensures turn { (files : Both (List ℕ)) (ts : List Turn) (ends : Accounts) → WorldAfter self.old files ts ends → AreWithin files
             → TurnAnswers (modems_of self.new) (lines_of self.new) (channel_of (script_of self.new)) 1 (both_sent_by 0 ts) (F.state folder.old) (F.state folder.new) (written names.now) files ts ends result }
         ensures script { script_of self.new ≡ script_of self.old }
         ensures ready { result ≡ Ok Step.Going → IsReady self.new }
@@ -97,7 +97,7 @@ impl World {
     /// The direction in which this role sends. Its decoder has heard the samples of exactly the slots that have arrived, also of those that the
     /// script loses, and also once the run is done.
     pub fn line(&self, role: Role) -> &Line
-        ensures passed { (files : Both (List ℕ)) (ts : List Turn) (ends : Ends) → WorldAfter self.now files ts ends → HasPassed result.now (script_of self.now) role ts }
+        ensures passed { (files : Both (List ℕ)) (ts : List Turn) (ends : Accounts) → WorldAfter self.now files ts ends → HasPassed result.now (script_of self.now) role ts }
         ensures arrived { (ts : List Turn) → HaveArrived (lines_of self.now) (channel_of (script_of self.now)) 1 (both_sent_by 0 ts) → HasPassedToo result.now (script_of self.now) role ts }
     {
         self.lines.line(role)
@@ -107,7 +107,7 @@ impl World {
     /// nothing is sent in that.
     pub fn sent(&self, role: Role) -> Option<&BitSlot>
         ensures none { spoke_of self.now ≡ false → option_copied result ≡ None }
-        ensures sent { (files : Both (List ℕ)) (ts : List Turn) (t : Turn) (ends : Ends) → WorldAfter self.now files (t ∷ ts) ends
+        ensures sent { (files : Both (List ℕ)) (ts : List Turn) (t : Turn) (ends : Accounts) → WorldAfter self.now files (t ∷ ts) ends
             → HasSent (option_copied result) (script_of self.now) role ts t }
     {
         slots_are_due_alone();

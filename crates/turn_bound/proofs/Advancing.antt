@@ -10,7 +10,7 @@ use Rattle.lapm_sender.specs.Outgoing.{Outgoing, is_whole}
 use Rattle.link_account.specs.declared.phase.Phase.TheVariants.{Connected}
 use Rattle.link_account.specs.Account.{Account}
 use Rattle.link_run.specs.End.{User, is_released}
-use Rattle.link_run.specs.Run.{Link, Ends, Turn, GoingTurn, RunOf, arrival}
+use Rattle.link_run.specs.Run.{Link, Accounts, Turn, GoingTurn, RunOf, arrival}
 use Rattle.link_run.specs.Carried.{IsCarried}
 use Rattle.turn_bound.specs.Time.{KeepsTime}
 use Rattle.turn_bound.specs.Due.{NoneDue}
@@ -32,16 +32,16 @@ use Rattle.turn_bound.proofs.CalmRuns.{said-speaks, EndAt, end-at, never-at, lig
 use Rattle.turn_bound.proofs.CalmRuns.{few-heard}
 
 -- the run behind later turns is one run
-joins : (link : Link) (ts us : List Turn) (before after : Ends) → RunOf link ts before → GoesOn link ts before us after
+joins : (link : Link) (ts us : List Turn) (before after : Accounts) → RunOf link ts before → GoesOn link ts before us after
     → RunOf link (us ++ ts) after
 joins link ts [] before after run goes = subst (RunOf link ts) (sym goes) run
 joins link ts (t ∷ us) before after run (ends, goes, g) = (ends, joins link ts us before ends run goes, g)
 
 -- an end that has begun, and that isn't told to release
-begun-on : (delay : Role → ℕ) (link : Link) (ts us : List Turn) (before after : Ends) (role : Role) → NeverBusy link → RunOf link ts before
+begun-on : (delay : Role → ℕ) (link : Link) (ts us : List Turn) (before after : Accounts) (role : Role) → NeverBusy link → RunOf link ts before
     → GoesOn link ts before us after → IsCarried delay (us ++ ts)
     → is_begun (of role before).phase ≡ true → is_begun (of role after).phase ≡ true
-begun-on delay link ts [] before after role n run goes c e = ap (λ (x : Ends). is_begun (of role x).phase) goes ∙ e
+begun-on delay link ts [] before after role n run goes c e = ap (λ (x : Accounts). is_begun (of role x).phase) goes ∙ e
 begun-on delay link ts (t ∷ us) before after role n run (ends, goes, g) c e =
     (going-run delay link (us ++ ts) ends t after role n (joins link ts us before ends run goes) c.0 g).0
     (begun-on delay link ts us before ends role n run goes c.1 e)
@@ -72,7 +72,7 @@ abbrev pub Lingers : ℕ → ℕ → ℕ → List Turn → Turn → Role → Acc
 Lingers tries period total ts t role a b =
     Linger (rates tries period) total (length ts) (of_arrived frame_poll (arrival (of role t).heard)) a b
 
-lingers-in : (tries period : ℕ) (delay : Role → ℕ) (link : Link) (ts : List Turn) (before : Ends) (t : Turn) (after : Ends) (role : Role)
+lingers-in : (tries period : ℕ) (delay : Role → ℕ) (link : Link) (ts : List Turn) (before : Accounts) (t : Turn) (after : Accounts) (role : Role)
     (total : ℕ)
     → KeepsTime tries period delay link → NeverBusy link → RunOf link ts before → IsCarried delay (t ∷ ts)
     → GoingTurn link ts before t after → Linking (rates tries period) (length ts) role (of role before)
@@ -98,12 +98,12 @@ lingers-in tries period delay link ts before t after role total k n run c g l ph
     )
 
 -- The end is Connected and may send, all along.
-linking : (tries period : ℕ) (delay : Role → ℕ) (link : Link) (ts us : List Turn) (before after : Ends) (role : Role)
+linking : (tries period : ℕ) (delay : Role → ℕ) (link : Link) (ts us : List Turn) (before after : Accounts) (role : Role)
     → KeepsTime tries period delay link → NeverBusy link → RunOf link ts before → MaySend (of role before) → GoesOn link ts before us after
     → IsCarried delay (us ++ ts) → (of role after).phase ≡ Connected
     → Linking (rates tries period) (length (us ++ ts)) role (of role after)
 linking tries period delay link ts [] before after role k n run m goes c phase =
-    subst (λ (x : Ends). Linking (rates tries period) (length ts) role (of role x)) (sym goes)
+    subst (λ (x : Accounts). Linking (rates tries period) (length ts) role (of role x)) (sym goes)
     (linking-of (rates tries period) (length ts) role (of role before) (end-at tries period delay link ts before role k run c) m.connected
     (at-once-always tries period delay link ts before k run c role)
     (calm-run delay link ts before role n run c)
@@ -135,7 +135,7 @@ pub data Stage (z : Rates) (total start n : ℕ) (list : List Turn) (role : Role
 few-held : (h polls e : ℕ) → 3 * h + e ≤ 68 + 8 * polls → 19 * polls ≤ h + 38 → h ≤ 32
 few-held h polls e x y = omega arith
 
-next-stage : (tries period : ℕ) (delay : Role → ℕ) (link : Link) (list : List Turn) (ends : Ends) (t : Turn) (after : Ends) (role : Role)
+next-stage : (tries period : ℕ) (delay : Role → ℕ) (link : Link) (list : List Turn) (ends : Accounts) (t : Turn) (after : Accounts) (role : Role)
     (total start n : ℕ)
     → KeepsTime tries period delay link → NeverBusy link → RunOf link list ends → IsCarried delay list → AreRates (rates tries period)
     → (of role after).outgoing.front < total
@@ -192,7 +192,7 @@ next-stage tries period delay link list ends t after role total start n k nb run
             eight false = omega arith
 
 -- the stages, from the first
-stages : (tries period : ℕ) (delay : Role → ℕ) (link : Link) (ts us : List Turn) (before after : Ends) (role : Role) (total : ℕ)
+stages : (tries period : ℕ) (delay : Role → ℕ) (link : Link) (ts us : List Turn) (before after : Accounts) (role : Role) (total : ℕ)
     → KeepsTime tries period delay link → NeverBusy link → RunOf link ts before → MaySend (of role before) → GoesOn link ts before us after
     → IsCarried delay (us ++ ts) → AreRates (rates tries period)
     → (of role after).phase ≡ Connected → Offered total (of role after) → (of role after).outgoing.front < total
@@ -200,7 +200,7 @@ stages : (tries period : ℕ) (delay : Role → ℕ) (link : Link) (ts us : List
     (sender_value (rates tries period) total (length ts) (of role before).outgoing (of role before).wait.timer) (length us)
     (us ++ ts) role (of role after)
 stages tries period delay link ts [] before after role total k n run m goes c y phase offered less =
-    subst (λ (x : Ends). Stage z total start 0 ts role (of role x)) (sym goes) (first (is_waiting (of role before).outgoing) refl)
+    subst (λ (x : Accounts). Stage z total start 0 ts role (of role x)) (sym goes) (first (is_waiting (of role before).outgoing) refl)
   where
     z : Rates
     z = rates tries period
@@ -254,7 +254,7 @@ soon z total start n front list role a y low same less few (Holds h e s p) =
     first-false true c f = cc
     first-false false c f = refl
 
-advances-linked : (tries period : ℕ) (delay : Role → ℕ) (link : Link) (ts us : List Turn) (before after : Ends) (role : Role)
+advances-linked : (tries period : ℕ) (delay : Role → ℕ) (link : Link) (ts us : List Turn) (before after : Accounts) (role : Role)
     → KeepsTime tries period delay link → NeverBusy link → RunOf link ts before → MaySend (of role before) → GoesOn link ts before us after
     → IsCarried delay (us ++ ts)
     → (of role after).phase ≡ Connected → is_whole (of role after).outgoing ≡ false

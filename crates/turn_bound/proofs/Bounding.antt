@@ -4,7 +4,7 @@ use Rattle.roles.specs.declared.role.Role.{Role}
 use Rattle.roles.specs.declared.role.Role.TheVariants.{Originator, Answerer}
 use Rattle.roles.specs.Both.{of}
 use Rattle.link_run.specs.End.{is_released}
-use Rattle.link_run.specs.Run.{Link, Ends, Turn, RunOf, BrokenTurn, IsBroken, served_at, releases}
+use Rattle.link_run.specs.Run.{Link, Accounts, Turn, RunOf, BrokenTurn, IsBroken, served_at, releases}
 use Rattle.link_run.specs.Run as runs
 use Rattle.turn_bound.specs.Bound.{of_both, weight, most_turns, offered_to, EndsSoon, EndsSoonByFiles, EndsSoonByOctets}
 use Rattle.turn_bound.specs.Offered.{HoldsFile, IsWithin, OffersWithin}

@@ -13,7 +13,7 @@ use Rattle.causes.specs.declared.fault.LinkFault.{LinkFault}
 use Rattle.link_account.specs.Account.{Account, is_connected}
 use Rattle.link_account.specs.Speak.{Said, speak}
 use Rattle.link_run.specs.End.{User, BusyLine, is_busy, is_released}
-use Rattle.link_run.specs.Run.{Link, Ends, Spoken, Turn, GoingTurn, RunOf, said_at, served_at, releases, arrival}
+use Rattle.link_run.specs.Run.{Link, Accounts, Spoken, Turn, GoingTurn, RunOf, said_at, served_at, releases, arrival}
 use Rattle.link_run.specs.Run as runs
 use Rattle.link_run.specs.Carried.{Crosses, Carries, IsCarried, sent_in, sent_ago}
 use Rattle.turn_bound.specs.Time.{KeepsTime}
@@ -36,7 +36,7 @@ use Rattle.turn_bound.proofs.Pausing.{goes-on, says-calm}
 use Rattle.turn_bound.proofs.Polled.{poll-turn}
 
 -- an end speaks, told to release or not
-pub said-speaks : (link : Link) (turn : ℕ) (mid : Ends) (role : Role) (said : Said) → said_at link turn mid role ≡ Ok said
+pub said-speaks : (link : Link) (turn : ℕ) (mid : Accounts) (role : Role) (said : Said) → said_at link turn mid role ≡ Ok said
     → (release : Bool) × (speak turn release (served_account (of role link).user turn (is_released mid.orig.phase) (of role mid)) ≡ Ok said)
 said-speaks link turn mid Originator said e = (releases link turn mid, e)
 said-speaks link turn mid Answerer said e = (false, e)
@@ -48,7 +48,7 @@ pub record EndAt (z : Rates) (turn : ℕ) (role : Role) (a : Account) : Type 0 w
   pub is_of : IsOf z a.setup
   pub role_is : a.setup.role ≡ role
 
-pub end-at : (tries period : ℕ) (delay : Role → ℕ) (link : Link) (ts : List Turn) (ends : Ends) (role : Role)
+pub end-at : (tries period : ℕ) (delay : Role → ℕ) (link : Link) (ts : List Turn) (ends : Accounts) (role : Role)
     → KeepsTime tries period delay link → RunOf link ts ends → IsCarried delay ts
     → EndAt (rates tries period) (length ts) role (of role ends)
 end-at tries period delay link ts ends role k run c = by role
@@ -105,7 +105,7 @@ said-light busy said turn release b e h = by (speak turn release b) e h
     by (Err fault) e h = cc
     by (Ok other) e h = let same : other ≡ said = cc in subst (Light busy) same h
 
-light-turn : (link : Link) (ts : List Turn) (before : Ends) (t : Turn) (after : Ends) → NeverBusy link → GoingTurn link ts before t after
+light-turn : (link : Link) (ts : List Turn) (before : Accounts) (t : Turn) (after : Accounts) → NeverBusy link → GoingTurn link ts before t after
     → LightTurn t
 light-turn link ts before t after n g role =
     let o = g.speaking role in
@@ -120,7 +120,7 @@ light-turn link ts before t after n g role =
     (λ c. s.busy_now (ap is_connected (sym s.phase) ∙ c))))
     o.sent_is
 
-pub light-run : (link : Link) (ts : List Turn) (ends : Ends) → NeverBusy link → RunOf link ts ends → AllByRecursion LightTurn ts
+pub light-run : (link : Link) (ts : List Turn) (ends : Accounts) → NeverBusy link → RunOf link ts ends → AllByRecursion LightTurn ts
 light-run link [] ends n run = tt
 light-run link (t ∷ ts) ends n (before, run, g) = (light-turn link ts before t ends n g, light-run link ts before n run)
 
@@ -138,7 +138,7 @@ light-heard None (Passed s) c l = absurd c
 light-heard (Some slot) (Passed s) c l = (omega (arith, l.0, ap weight c.0, arrives-weight s), arrives-rnrs s ∙ (ap rnrs c.0 ∙ l.1))
 light-heard m Chance c l = (omega arith, refl)
 
-pub light-arrival : (delay : Role → ℕ) (link : Link) (ts : List Turn) (ends : Ends) (t : Turn) (role : Role) → NeverBusy link
+pub light-arrival : (delay : Role → ℕ) (link : Link) (ts : List Turn) (ends : Accounts) (t : Turn) (role : Role) → NeverBusy link
     → RunOf link ts ends → Carries delay ts t
     → (arrived_weight (arrival (of role t).heard) ≤ 2) × (arrived_rnrs (arrival (of role t).heard) ≡ 0)
 light-arrival delay link ts ends t role n run c =
@@ -150,7 +150,7 @@ pub record Unpaused (a : Account) : Type 0 where
   pub paused : a.outgoing.paused ≡ false
   pub told : a.owes.busy_told ≡ false
 
-pub calm-run : (delay : Role → ℕ) (link : Link) (ts : List Turn) (ends : Ends) (role : Role) → NeverBusy link → RunOf link ts ends
+pub calm-run : (delay : Role → ℕ) (link : Link) (ts : List Turn) (ends : Accounts) (role : Role) → NeverBusy link → RunOf link ts ends
     → IsCarried delay ts → Unpaused (of role ends)
 calm-run delay link [] ends role n run c = subst (λ e. Unpaused (of role e)) (sym run) (by role)
   where
@@ -175,7 +175,7 @@ calm-run delay link (t ∷ ts) ends role n (before, run, g) c =
     })
 
 -- phases don't go back
-pub going-run : (delay : Role → ℕ) (link : Link) (ts : List Turn) (before : Ends) (t : Turn) (after : Ends) (role : Role) → NeverBusy link
+pub going-run : (delay : Role → ℕ) (link : Link) (ts : List Turn) (before : Accounts) (t : Turn) (after : Accounts) (role : Role) → NeverBusy link
     → RunOf link ts before → Carries delay ts t → GoingTurn link ts before t after
     → (is_begun (of role before).phase ≡ true → is_begun (of role after).phase ≡ true)
     × (is_released (of role before).phase ≡ true → is_released (of role after).phase ≡ true)
@@ -213,7 +213,7 @@ nineteen : (b : Bool) → nineteen_if b ≡ 19 * one_if b
 nineteen true = omega arith
 nineteen false = omega arith
 
-pub few-sent : (tries period : ℕ) (delay : Role → ℕ) (link : Link) (n : ℕ) (ts : List Turn) (ends : Ends) (role : Role)
+pub few-sent : (tries period : ℕ) (delay : Role → ℕ) (link : Link) (n : ℕ) (ts : List Turn) (ends : Accounts) (role : Role)
     → KeepsTime tries period delay link → NeverBusy link → RunOf link ts ends → IsCarried delay ts
     → 19 * polls_sent n role ts + poll_value (length ts) (of role ends).phase (of role ends) ≤ n + 38
 few-sent tries period delay link zero ts ends role k nb run c = omega (arith, poll-most (length ts) (of role ends).phase (of role ends))
@@ -294,7 +294,7 @@ heard-sent delay (suc d) (suc n) (t ∷ ts) role e some c = go (split d ts) (hea
         gone (suc k) (x ∷ m) p = gone k m p
 
 -- a run's beginning is a run
-pub before-run : (n : ℕ) (link : Link) (ts : List Turn) (ends : Ends) → RunOf link ts ends → (first : Ends) × RunOf link (drop n ts) first
+pub before-run : (n : ℕ) (link : Link) (ts : List Turn) (ends : Accounts) → RunOf link ts ends → (first : Accounts) × RunOf link (drop n ts) first
 before-run zero link ts ends run = (ends, run)
 before-run (suc n) link [] ends run = (ends, run)
 before-run (suc n) link (t ∷ ts) ends (before, run, g) = before-run n link ts before run
@@ -305,7 +305,7 @@ before-carried (suc n) delay [] c = c
 before-carried (suc n) delay (t ∷ ts) c = before-carried n delay ts c.1
 
 -- So few polls are heard in so many turns.
-pub few-heard : (tries period : ℕ) (delay : Role → ℕ) (link : Link) (n : ℕ) (ts : List Turn) (ends : Ends) (role : Role)
+pub few-heard : (tries period : ℕ) (delay : Role → ℕ) (link : Link) (n : ℕ) (ts : List Turn) (ends : Accounts) (role : Role)
     → KeepsTime tries period delay link → NeverBusy link → RunOf link ts ends → IsCarried delay ts
     → 19 * polls_heard n role ts ≤ n + 38
 few-heard tries period delay link n ts ends role k nb run c =

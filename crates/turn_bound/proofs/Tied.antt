@@ -14,7 +14,7 @@ use Rattle.lapm_frames.specs.declared.heard.Heard.TheVariants.{Nothing, Passed, 
 use Rattle.link_account.specs.Hear.{hear}
 use Rattle.link_account.specs.Play.{Slot, arrives}
 use Rattle.link_run.specs.End.{is_released}
-use Rattle.link_run.specs.Run.{Link, Ends, Spoken, Turn, GoingTurn, RunOf}
+use Rattle.link_run.specs.Run.{Link, Accounts, Spoken, Turn, GoingTurn, RunOf}
 use Rattle.link_run.specs.Run as runs
 use Rattle.link_run.specs.Carried.{Crosses, Carries, IsCarried, HasDelays, has_message, sent_in, sent_ago}
 use Rattle.turn_bound.specs.Time.{KeepsTime}
@@ -164,10 +164,10 @@ link_of delay link = record {
 abbrev pub turn_of : Turn → queued.Turn
 turn_of t = record { orig_loses = is_lost t.orig.heard; answ_loses = is_lost t.answ.heard }
 
-abbrev pub state_of : Ends → List Slot → List Slot → State
+abbrev pub state_of : Accounts → List Slot → List Slot → State
 state_of ends forward back = record { orig = ends.orig; answ = ends.answ; forward = forward; back = back }
 
-pub record Tied (delay : Role → ℕ) (link : Link) (ts : List Turn) (ends : Ends) : Type 0 where
+pub record Tied (delay : Role → ℕ) (link : Link) (ts : List Turn) (ends : Accounts) : Type 0 where
   pub forward : List Slot
   pub back : List Slot
   pub lies_forward : Lies (delay Originator) Originator ts forward
@@ -182,17 +182,17 @@ none-sent : (delay : ℕ) (role : Role) → sents delay role [] ≡ []
 none-sent zero role = refl
 none-sent (suc n) role = refl
 
-forth : (delay : Role → ℕ) (link : Link) (t : Turn) (ts : List Turn) (ends : Ends) → HasDelays delay → (h : Tied delay link ts ends)
+forth : (delay : Role → ℕ) (link : Link) (t : Turn) (ts : List Turn) (ends : Accounts) → HasDelays delay → (h : Tied delay link ts ends)
     → Carries delay ts t → Crossed (delay Originator) Originator ts h.forward t.answ.heard
 forth delay link t ts ends some h c =
     crossed (delay Originator) Originator ts h.forward t.answ.heard (some Originator) h.lies_forward (c Answerer)
 
-back-again : (delay : Role → ℕ) (link : Link) (t : Turn) (ts : List Turn) (ends : Ends) → HasDelays delay → (h : Tied delay link ts ends)
+back-again : (delay : Role → ℕ) (link : Link) (t : Turn) (ts : List Turn) (ends : Accounts) → HasDelays delay → (h : Tied delay link ts ends)
     → Carries delay ts t → Crossed (delay Answerer) Answerer ts h.back t.orig.heard
 back-again delay link t ts ends some h c =
     crossed (delay Answerer) Answerer ts h.back t.orig.heard (some Answerer) h.lies_back (c Originator)
 
-tied-turn : (delay : Role → ℕ) (link : Link) (t : Turn) (ts : List Turn) (before after : Ends) → HasDelays delay → Tied delay link ts before
+tied-turn : (delay : Role → ℕ) (link : Link) (t : Turn) (ts : List Turn) (before after : Accounts) → HasDelays delay → Tied delay link ts before
     → GoingTurn link ts before t after → Carries delay ts t → Tied delay link (t ∷ ts) after
 tied-turn delay link t ts before after some h g c =
     let o = g.speaking Originator in
@@ -231,7 +231,7 @@ tied-turn delay link t ts before after some h g c =
       );
     }
 
-pub tied : (delay : Role → ℕ) (link : Link) (ts : List Turn) (ends : Ends) → HasDelays delay → RunOf link ts ends → IsCarried delay ts
+pub tied : (delay : Role → ℕ) (link : Link) (ts : List Turn) (ends : Accounts) → HasDelays delay → RunOf link ts ends → IsCarried delay ts
     → Tied delay link ts ends
 tied delay link [] ends some run c = record {
   forward = [];

@@ -14,7 +14,7 @@ use Rattle.link_account.specs.Account.{Account, is_connected, is_done}
 use Rattle.link_account.specs.Hear.{hear, trying}
 use Rattle.link_account.specs.Speak.{Said, speak, speak_in, speak_linked, speak_releasing}
 use Rattle.link_run.specs.End.{User, is_busy, is_released, has_finished}
-use Rattle.link_run.specs.Run.{Link, Ends, Turn, GoingTurn, RunOf, arrival, releases, finished_at}
+use Rattle.link_run.specs.Run.{Link, Accounts, Turn, GoingTurn, RunOf, arrival, releases, finished_at}
 use Rattle.link_run.specs.Carried.{IsCarried}
 use Rattle.turn_bound.specs.Time.{KeepsTime}
 use Rattle.turn_bound.specs.Advance.{NeverBusy}
@@ -222,7 +222,7 @@ told-now z turn role release b said y s e open_ told = go (is_connected b.phase)
             (omega arith) g in
             let wrong : true ≡ false = sym told ∙ ap is_released (p.stepped.same.phase ∙ (p.is_timed.same.phase ∙ linked)) in cc
 
-in-turn : (tries period : ℕ) (delay : Role → ℕ) (link : Link) (ts : List Turn) (before : Ends) (t : Turn) (after : Ends) (role : Role)
+in-turn : (tries period : ℕ) (delay : Role → ℕ) (link : Link) (ts : List Turn) (before : Accounts) (t : Turn) (after : Accounts) (role : Role)
     → KeepsTime tries period delay link → NeverBusy link → RunOf link ts before → IsCarried delay (t ∷ ts)
     → (g : GoingTurn link ts before t after) → (release : Bool)
     → speak (length ts) release (served_account (of role link).user (length ts) (is_released g.mid.orig.phase) (of role g.mid)) ≡ Ok
@@ -261,11 +261,11 @@ and-both true false h = cc
 and-both false y h = cc
 
 -- Once the originator is told to release both ends are whole.
-pub released-whole : (tries period : ℕ) (delay : Role → ℕ) (link : Link) (ts : List Turn) (ends : Ends) → KeepsTime tries period delay link
+pub released-whole : (tries period : ℕ) (delay : Role → ℕ) (link : Link) (ts : List Turn) (ends : Accounts) → KeepsTime tries period delay link
     → NeverBusy link → RunOf link ts ends → IsCarried delay ts
     → is_released ends.orig.phase ≡ true → (role : Role) → IsWhole (of role ends).outgoing
 released-whole tries period delay link [] ends k n run c e role = let wrong : true ≡ false =
-    sym e ∙ ap (λ (x : Ends). is_released x.orig.phase) run in cc
+    sym e ∙ ap (λ (x : Accounts). is_released x.orig.phase) run in cc
 released-whole tries period delay link (t ∷ ts) ends k n (before, run, g) c e role =
     go (λ f. released-whole tries period delay link ts before k n run c.1 f) (is_released before.orig.phase) refl
   where
@@ -349,7 +349,7 @@ released-whole tries period delay link (t ∷ ts) ends k n (before, run, g) c e 
     go whole false f = finished (told f) role
 
 -- An end that is told to release, or closed, is whole.
-pub late-whole : (tries period : ℕ) (delay : Role → ℕ) (link : Link) (ts : List Turn) (ends : Ends) (role : Role)
+pub late-whole : (tries period : ℕ) (delay : Role → ℕ) (link : Link) (ts : List Turn) (ends : Accounts) (role : Role)
     → KeepsTime tries period delay link → NeverBusy link → RunOf link ts ends → IsCarried delay ts
     → is_released (of role ends).phase ≡ true → is_whole (of role ends).outgoing ≡ true
 late-whole tries period delay link ts ends role k n run c e =

@@ -4,7 +4,7 @@ use Rattle.roles.specs.declared.role.Role.{Role}
 use Rattle.roles.specs.declared.role.Role.TheVariants.{Originator, Answerer}
 use Rattle.roles.specs.Both.{of}
 use Rattle.link_run.specs.End.{busy_turns}
-use Rattle.link_run.specs.Run.{Link, Ends, Turn, RunOf}
+use Rattle.link_run.specs.Run.{Link, Accounts, Turn, RunOf}
 use Rattle.link_run.specs.Carried.{IsCarried}
 use Rattle.turn_bound.specs.Time.{KeepsTime}
 use Rattle.turn_bound.specs.Offered.{HoldsFile}
@@ -26,25 +26,25 @@ abbrev pub most_turns : ℕ → ℕ → Link → (Role → ℕ) → ℕ
 most_turns tries period link segments = quota tries period * weight link segments
 
 -- the segments that an end was offered of its user's file
-abbrev pub offered_to : Ends → Role → ℕ
+abbrev pub offered_to : Accounts → Role → ℕ
 offered_to ends role = length (of role ends).outgoing.pieces
 
 -- A run ends soon: there are fewer turns after which it goes on, by the segments that were offered. With its last turn it has so many at
 -- most.
 abbrev pub EndsSoon : Type 0
-EndsSoon = (tries period : ℕ) (delay : Role → ℕ) (link : Link) (ts : List Turn) (ends : Ends)
+EndsSoon = (tries period : ℕ) (delay : Role → ℕ) (link : Link) (ts : List Turn) (ends : Accounts)
     → KeepsTime tries period delay link → RunOf link ts ends → IsCarried delay ts
     → length ts < most_turns tries period link (offered_to ends)
 
 -- By the segments of both files, where these are told.
 abbrev pub EndsSoonByFiles : Type 0
-EndsSoonByFiles = (tries period : ℕ) (delay : Role → ℕ) (link : Link) (ts : List Turn) (ends : Ends) (segments : Role → ℕ)
+EndsSoonByFiles = (tries period : ℕ) (delay : Role → ℕ) (link : Link) (ts : List Turn) (ends : Accounts) (segments : Role → ℕ)
     → KeepsTime tries period delay link → RunOf link ts ends → IsCarried delay ts
     → ((role : Role) → HoldsFile (of role link).user.file (of role ends).outgoing (segments role))
     → length ts < most_turns tries period link segments
 
 -- And by the octets of both files, before any size is agreed: a segment has one at least.
 abbrev pub EndsSoonByOctets : Type 0
-EndsSoonByOctets = (tries period : ℕ) (delay : Role → ℕ) (link : Link) (ts : List Turn) (ends : Ends)
+EndsSoonByOctets = (tries period : ℕ) (delay : Role → ℕ) (link : Link) (ts : List Turn) (ends : Accounts)
     → KeepsTime tries period delay link → RunOf link ts ends → IsCarried delay ts
     → length ts < most_turns tries period link (λ role. length (of role link).user.file)

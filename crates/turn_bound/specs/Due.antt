@@ -4,7 +4,7 @@ use Rattle.roles.specs.declared.role.Role.{Role}
 use Rattle.roles.specs.Both.{of}
 use Rattle.link_account.specs.Account.{Account}
 use Rattle.link_run.specs.End.{is_released}
-use Rattle.link_run.specs.Run.{Link, Ends, Turn, RunOf}
+use Rattle.link_run.specs.Run.{Link, Accounts, Turn, RunOf}
 use Rattle.link_run.specs.Carried.{IsCarried}
 use Rattle.turn_bound.specs.Time.{KeepsTime}
 
@@ -14,5 +14,5 @@ pub record NoneDue (a : Account) : Type 0 where
   pub reply : is_released a.phase ≡ false → a.owes.reply ≡ false
 
 abbrev pub AnswersAtOnce : Type 0
-AnswersAtOnce = (tries period : ℕ) (delay : Role → ℕ) (link : Link) (ts : List Turn) (ends : Ends)
+AnswersAtOnce = (tries period : ℕ) (delay : Role → ℕ) (link : Link) (ts : List Turn) (ends : Accounts)
     → KeepsTime tries period delay link → RunOf link ts ends → IsCarried delay ts → (role : Role) → NoneDue (of role ends)

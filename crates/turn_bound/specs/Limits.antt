@@ -4,7 +4,7 @@ use Rattle.std.specs.List.{AllByRecursion}
 use Rattle.roles.specs.declared.role.Role.{Role}
 use Rattle.roles.specs.Both.{of}
 use Rattle.link_run.specs.End.{BusyLine}
-use Rattle.link_run.specs.Run.{Link, Ends, Turn, RunOf}
+use Rattle.link_run.specs.Run.{Link, Accounts, Turn, RunOf}
 use Rattle.link_run.specs.Carried.{IsCarried}
 use Rattle.turn_bound.specs.Time.{KeepsTime}
 use Rattle.turn_bound.specs.Bound.{of_both}
@@ -43,6 +43,6 @@ pub record IsLimited (tries : ℕ) (delay : Role → ℕ) (link : Link) : Type 0
 
 -- No run is half as long as the turns that an end can count, so that a line may carry the slots of two links.
 abbrev pub NoRunIsLong : Type 0
-NoRunIsLong = (tries period : ℕ) (delay : Role → ℕ) (link : Link) (ts : List Turn) (ends : Ends)
+NoRunIsLong = (tries period : ℕ) (delay : Role → ℕ) (link : Link) (ts : List Turn) (ends : Accounts)
     → KeepsTime tries period delay link → IsLimited tries delay link → RunOf link ts ends → IsCarried delay ts
     → length ts < 2 ^ 39

@@ -3,7 +3,7 @@ use Rattle.std.specs.Prelude.{ℕ, ◌-◌, ◌*◌, ◌<◌, ◌≤◌, List, l
 use Rattle.roles.specs.declared.role.Role.{Role}
 use Rattle.roles.specs.Both.{of}
 use Rattle.lapm_sender.specs.Outgoing.{Outgoing}
-use Rattle.link_run.specs.Run.{Link, Ends, Turn, RunOf}
+use Rattle.link_run.specs.Run.{Link, Accounts, Turn, RunOf}
 use Rattle.link_run.specs.Carried.{IsCarried}
 use Rattle.turn_bound.specs.Time.{KeepsTime}
 
@@ -17,6 +17,6 @@ pub record IsWithin (file : List ℕ) (o : Outgoing) : Type 0 where
   pub last : 1 ≤ length o.pieces → o.size * (length o.pieces - 1) < length file
 
 abbrev pub OffersWithin : Type 0
-OffersWithin = (tries period : ℕ) (delay : Role → ℕ) (link : Link) (ts : List Turn) (ends : Ends)
+OffersWithin = (tries period : ℕ) (delay : Role → ℕ) (link : Link) (ts : List Turn) (ends : Accounts)
     → KeepsTime tries period delay link → RunOf link ts ends → IsCarried delay ts
     → (role : Role) → IsWithin (of role link).user.file (of role ends).outgoing

@@ -5,7 +5,7 @@ use Rattle.break_signals.specs.Breaks.{waits}
 use Rattle.causes.specs.declared.fault.LinkFault.{LinkFault}
 use Rattle.causes.specs.declared.fault.LinkFault.TheVariants.{NotDetected, Spent, BadAck, PeerReset, PeerRefused}
 use Rattle.link_account.specs.Account.{Account, is_connected}
-use Rattle.link_run.specs.Run.{Link, Ends, Turn, RunOf, BrokenTurn, served_at}
+use Rattle.link_run.specs.Run.{Link, Accounts, Turn, RunOf, BrokenTurn, served_at}
 use Rattle.link_run.specs.Carried.{IsCarried}
 use Rattle.turn_bound.specs.Time.{KeepsTime}
 
@@ -37,7 +37,7 @@ IsTimely period whole turn a (PeerReset va vr) = ⊥
 IsTimely period whole turn a PeerRefused = ⊥
 
 abbrev pub SpendsOnTime : Type 0
-SpendsOnTime = (tries period : ℕ) (delay : Role → ℕ) (link : Link) (ts : List Turn) (before : Ends) (t : Turn) (mid : Ends) (role : Role)
+SpendsOnTime = (tries period : ℕ) (delay : Role → ℕ) (link : Link) (ts : List Turn) (before : Accounts) (t : Turn) (mid : Accounts) (role : Role)
     (fault : LinkFault)
     → KeepsTime tries period delay link → RunOf link ts before → IsCarried delay ts
     → BrokenTurn link ts before t mid role fault

@@ -7,7 +7,7 @@ use Rattle.link_account.specs.declared.phase.Phase.{Phase}
 use Rattle.link_account.specs.declared.phase.Phase.TheVariants.{Connected}
 use Rattle.link_account.specs.Account.{is_connected}
 use Rattle.link_run.specs.End.{is_released}
-use Rattle.link_run.specs.Run.{Link, Ends, Turn, Hears, arrival}
+use Rattle.link_run.specs.Run.{Link, Accounts, Turn, Hears, arrival}
 use Rattle.link_run.specs.Laws.{RunsOver}
 use Rattle.turn_bound.specs.Time.{KeepsTime}
 use Rattle.turn_bound.proofs.Clock.{Rates, rates}
@@ -41,13 +41,13 @@ only-connected Connected l r = refl
 only-connected Releasing l r = cc
 only-connected Closed l r = cc
 
-pub answerer-each : Plays → (tries period : ℕ) (delay : Role → ℕ) (link : Link) (ts : List Turn) (before : Ends) (t : Turn) (mid : Ends)
+pub answerer-each : Plays → (tries period : ℕ) (delay : Role → ℕ) (link : Link) (ts : List Turn) (before : Accounts) (t : Turn) (mid : Accounts)
     → KeepsTime tries period delay link → RunsOver link delay ts before → Hears (length ts) before t mid
     → is_released mid.orig.phase ≡ false → LastTry tries period (length ts) before.answ → LosesEach period tries (length ts) ts
 answerer-each laws tries period delay link ts before t mid kt run hearing going last =
     wants-answers tries period delay link ts w.state w.deed kt w.trace Answerer
     (counts-of laws tries period delay link ts w.state w.deed kt run.may_play w.trace Answerer)
-    (subst (λ (x : Ends). LastTry tries period turns x.answ) (sym w.last) last) both
+    (subst (λ (x : Accounts). LastTry tries period turns x.answ) (sym w.last) last) both
   where
     z : Rates
     z = rates tries period
@@ -74,16 +74,16 @@ answerer-each laws tries period delay link ts before t mid kt run hearing going 
     tm r = timed tries period delay link kt r
 
     -- its clock runs once it heard a number, so its peer is Connected or was
-    counted : (b : Bool) (x : Ends) (us : List Turn) → Known z link (length us) x Answerer → is_connected x.answ.phase ≡ true → (s : ℕ)
+    counted : (b : Bool) (x : Accounts) (us : List Turn) → Known z link (length us) x Answerer → is_connected x.answ.phase ≡ true → (s : ℕ)
         → x.answ.wait.timer ≡ Some s → x.answ.numbered ≡ b → x.answ.numbered ≡ true
     counted true x us h c s q n = n
     counted false x us h c s q n = let wrong : None ≡ Some s = sym
         (silent-of z (length us) (length us) Answerer x.answ.phase x.answ h.stands refl c n) ∙ q in cc
 
     linked-last : is_linked before.orig.phase ≡ true
-    linked-last = ap (λ (x : Ends). is_linked x.orig.phase) (sym w.last)
+    linked-last = ap (λ (x : Accounts). is_linked x.orig.phase) (sym w.last)
         ∙ numbered-linked tries period delay link ts w.state w.deed kt w.trace Answerer turns (omega arith)
-        (ap (λ (x : Ends). x.answ.numbered) w.last
+        (ap (λ (x : Accounts). x.answ.numbered) w.last
         ∙ counted before.answ.numbered before ts (k Answerer) last.connected last.set last.runs refl)
 
     heard : PollHeard Originator turns (of_arrived is_poll (arrival t.orig.heard)) before.orig mid.orig
@@ -109,7 +109,7 @@ answerer-each laws tries period delay link ts before t mid kt run hearing going 
         let first = numbered-linked tries period delay link ts w.state w.deed kt w.trace Answerer s (omega (arith, l)) n in
         let back = turned period turns e o ends in
         connected-back period turns o e back u turns high (omega arith) (linked-on period turns o e back s u low high first)
-        (ap (λ (x : Ends). is_connected x.orig.phase) w.last ∙ peer-last)
+        (ap (λ (x : Accounts). is_connected x.orig.phase) w.last ∙ peer-last)
 
 pub answerer-wants : Plays → AnswererWantsAnswers
 answerer-wants laws tries period delay link ts before t mid segment since kt run cs broken cm quiet

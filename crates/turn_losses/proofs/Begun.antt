@@ -27,7 +27,7 @@ use Rattle.link_account.specs.Hear.{on_xid_command, on_xid_response, owing, tryi
 use Rattle.link_account.specs.Speak.{Said, says, says_frame, else_says, where_says, spent, answering, trying_again, tries_frame, u_try}
 use Rattle.link_account.specs.Speak.{speak, speak_in, speak_detecting, speak_negotiating}
 use Rattle.link_run.specs.End.{is_released}
-use Rattle.link_run.specs.Run.{Link, Ends, Turn, SpeaksAt, arrival, served_at, said_at}
+use Rattle.link_run.specs.Run.{Link, Accounts, Turn, SpeaksAt, arrival, served_at, said_at}
 use Rattle.turn_bound.specs.Time.{KeepsTime}
 use Rattle.turn_bound.proofs.Clock.{rates}
 use Rattle.turn_bound.proofs.MeetHear.{of_arrived}
@@ -208,15 +208,15 @@ old-said turn release b said l h = go (speak turn release b) h (phase-old b.phas
         same k
 
 -- all through a run
-pub blank : (tries period : ℕ) (delay : Role → ℕ) (link : Link) (ts : List Turn) (state : ℕ → Ends) (deed : ℕ → Deed)
+pub blank : (tries period : ℕ) (delay : Role → ℕ) (link : Link) (ts : List Turn) (state : ℕ → Accounts) (deed : ℕ → Deed)
     → KeepsTime tries period delay link → Trace period delay link ts state deed → (r : Role)
     → (u : ℕ) → u ≤ length ts → is_linked (of r (state u)).phase ≡ false
     → ((of r (state u)).special ≡ false) × ((of r (state u)).wait.urgent ≡ false)
 blank tries period delay link ts state deed kt w r zero y l = start r
   where
     start : (r : Role) → ((of r (state 0)).special ≡ false) × ((of r (state 0)).wait.urgent ≡ false)
-    start Originator = (ap (λ (x : Ends). x.orig.special) w.starts, ap (λ (x : Ends). x.orig.wait.urgent) w.starts)
-    start Answerer = (ap (λ (x : Ends). x.answ.special) w.starts, ap (λ (x : Ends). x.answ.wait.urgent) w.starts)
+    start Originator = (ap (λ (x : Accounts). x.orig.special) w.starts, ap (λ (x : Accounts). x.orig.wait.urgent) w.starts)
+    start Answerer = (ap (λ (x : Accounts). x.answ.special) w.starts, ap (λ (x : Accounts). x.answ.wait.urgent) w.starts)
 blank tries period delay link ts state deed kt w r (suc u) y l =
     subst (λ x. ((of r (state x)).special ≡ false) × ((of r (state x)).wait.urgent ≡ false)) (omega arith)
     (after (blank tries period delay link ts state deed kt w r u (omega (arith, y)) unlinked))

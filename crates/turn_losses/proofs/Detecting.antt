@@ -31,7 +31,7 @@ use Rattle.link_account.specs.Speak.{Said, says, says_frame, else_says, where_sa
 use Rattle.link_account.specs.Speak.{polling, timer_expires, breaking, after_timers, then_tries, speak_linked, speak, speak_in}
 use Rattle.link_account.specs.Speak.{speak_detecting, speak_answer, speak_negotiating, speak_releasing}
 use Rattle.link_run.specs.End.{User, is_busy, is_released}
-use Rattle.link_run.specs.Run.{Link, Ends, Turn, Hears, RunOf, arrival, served_at, releases}
+use Rattle.link_run.specs.Run.{Link, Accounts, Turn, Hears, RunOf, arrival, served_at, releases}
 use Rattle.link_run.specs.Carried.{IsCarried}
 use Rattle.link_run.specs.Starved.{LosesSome}
 use Rattle.turn_bound.specs.Time.{KeepsTime}
@@ -328,7 +328,7 @@ err-detecting turn release b h = go b.phase refl h
     go Closed e q = cc
 
 -- an end's setup is its link's, also once it has heard
-pub heard-setup : (tries period : ℕ) (delay : Role → ℕ) (link : Link) (ts : List Turn) (before : Ends) (t : Turn) (mid : Ends)
+pub heard-setup : (tries period : ℕ) (delay : Role → ℕ) (link : Link) (ts : List Turn) (before : Accounts) (t : Turn) (mid : Accounts)
     → KeepsTime tries period delay link → RunOf link ts before → IsCarried delay ts → Hears (length ts) before t mid → (r : Role)
     → (of r mid).setup ≡ (of r link).setup
 heard-setup tries period delay link ts before t mid kt run c hears r =
@@ -366,7 +366,7 @@ wants-pattern spends tries period delay link ts before t mid kt run c broken num
     k : TwoEnds period turns e o
     k = two-ends tries period delay link ts w.state w.deed kt w.trace Originator
 
-    role-at : (r : Role) (n : ℕ) (us : List Turn) (x : Ends) → RunOf link us x → IsCarried delay us → (of r x).setup.role ≡ r
+    role-at : (r : Role) (n : ℕ) (us : List Turn) (x : Accounts) → RunOf link us x → IsCarried delay us → (of r x).setup.role ≡ r
     role-at r n us x run' c' =
         ap (λ s. s.role) (known tries period delay link us x kt run' c' r).setup ∙ (timed tries period delay link kt r).role_is
 
@@ -408,7 +408,7 @@ wants-pattern spends tries period delay link ts before t mid kt run c broken num
         )
 
     down : (n u : ℕ) → u + n ≡ turns → (w.state u).orig.phase ≡ Detecting
-    down zero u q = ap (λ (x : Ends). x.orig.phase) (ap w.state (same u q) ∙ w.last) ∙ last
+    down zero u q = ap (λ (x : Accounts). x.orig.phase) (ap w.state (same u q) ∙ w.last) ∙ last
       where
         same : (x : ℕ) → x + 0 ≡ turns → x ≡ turns
         same x q = omega (arith, q)
@@ -445,7 +445,7 @@ wants-pattern spends tries period delay link ts before t mid kt run c broken num
         (ap (λ (x : Account). x.phase) s.after_is ∙ f.0, λ q. ap sent_or s.sent_is ∙ f.1 q)
 
     up : (u : ℕ) → u ≤ turns → (w.state u).answ.phase ≡ Detecting
-    up zero l = ap (λ (x : Ends). x.answ.phase) w.trace.starts
+    up zero l = ap (λ (x : Accounts). x.answ.phase) w.trace.starts
     up (suc u) l = ap (λ n. (w.state n).answ.phase) (next u) ∙ (answers-turn u (omega (arith, l)) (up u (omega (arith, l)))).0
       where
         next : (x : ℕ) → suc x ≡ x + 1

@@ -9,7 +9,7 @@ use Rattle.xid_params.specs.Offers.{ReadsWritten}
 use Rattle.break_signals.specs.Breaks.{waits}
 use Rattle.link_account.specs.Account.{is_connected}
 use Rattle.link_run.specs.End.{is_released}
-use Rattle.link_run.specs.Run.{Link, Ends, Turn, Hears, arrival, served_at}
+use Rattle.link_run.specs.Run.{Link, Accounts, Turn, Hears, arrival, served_at}
 use Rattle.link_run.specs.Carried.{Carries}
 use Rattle.link_run.specs.Laws.{RunsOver}
 use Rattle.turn_bound.specs.Time.{KeepsTime}
@@ -33,7 +33,7 @@ use Rattle.turn_losses.proofs.Quiet.{answ-no-sabme}
 use Rattle.turn_losses.proofs.Spending.{LastWait}
 
 -- the periods of the break that waits at the end
-pub periods-of : (tries period : ℕ) (delay : Role → ℕ) (link : Link) (ts : List Turn) (state : ℕ → Ends) (deed : ℕ → Deed)
+pub periods-of : (tries period : ℕ) (delay : Role → ℕ) (link : Link) (ts : List Turn) (state : ℕ → Accounts) (deed : ℕ → Deed)
     → (kt : KeepsTime tries period delay link) → (w : Trace period delay link ts state deed) → (r : Role)
     → LastWait tries period (length ts) (of r (state (length ts))) → (n : ℕ) → n < tries + 1
     → (s : ℕ) × (s + (n + 1) * period ≡ length ts) × BreakPeriod period (length ts) (number_of (of r (state (length ts))))
@@ -46,14 +46,14 @@ periods-of tries period delay link ts state deed kt w r l n less =
     (omega (arith, less))
   where
     first : (r : Role) → is_connected (of r (state 0)).phase ≡ false
-    first Originator = ap (λ (y : Ends). is_connected y.orig.phase) w.starts
-    first Answerer = ap (λ (y : Ends). is_connected y.answ.phase) w.starts
+    first Originator = ap (λ (y : Accounts). is_connected y.orig.phase) w.starts
+    first Answerer = ap (λ (y : Accounts). is_connected y.answ.phase) w.starts
 
 pub number-small : (x : ℕ) → x % 2 < 2
 number-small x = omega arith
 
 -- the answer isn't heard in the last turn
-pub none-last : (link : Link) (ts : List Turn) (before : Ends) (t : Turn) (mid : Ends) (r : Role) (tries period : ℕ)
+pub none-last : (link : Link) (ts : List Turn) (before : Accounts) (t : Turn) (mid : Accounts) (r : Role) (tries period : ℕ)
     → Hears (length ts) before t mid → is_connected (of r mid).phase ≡ true → LastWait tries period (length ts) (of r before)
     → waits (served_at link (length ts) mid r).account.own_breaks ≡ true
     → of_arrived (of_word (ack_of (number_of (of r before)))) (arrival (of r t).heard) ≡ true → ⊥
@@ -64,7 +64,7 @@ none-last link ts before t mid r tries period hearing cm l w e =
 
 -- an originator
 pub originator-breaks : ReadsWritten → StandTogether → (tries period : ℕ) (delay : Role → ℕ) (link : Link) (ts : List Turn)
-    (before : Ends) (t : Turn) (mid : Ends) → KeepsTime tries period delay link → RunsOver link delay ts before → Carries delay ts t
+    (before : Accounts) (t : Turn) (mid : Accounts) → KeepsTime tries period delay link → RunsOver link delay ts before → Carries delay ts t
     → Hears (length ts) before t mid → is_connected mid.orig.phase ≡ true → LastWait tries period (length ts) before.orig
     → waits (served_at link (length ts) mid Originator).account.own_breaks ≡ true → LosesEach period (tries + 1) (length ts) (t ∷ ts)
 originator-breaks reads together tries period delay link ts before t mid kt run cs hearing cm l waiting n less = go
@@ -77,7 +77,7 @@ originator-breaks reads together tries period delay link ts before t mid kt run 
     w = traced tries period delay link ts before kt run.run run.carried
 
     last : LastWait tries period turns (w.state turns).orig
-    last = subst (λ (x : Ends). LastWait tries period turns x.orig) (sym w.last) l
+    last = subst (λ (x : Accounts). LastWait tries period turns x.orig) (sym w.last) l
 
     k : TwoEnds period turns (end_run delay w.state w.deed Originator) (end_run delay w.state w.deed Answerer)
     k = two-ends tries period delay link ts w.state w.deed kt w.trace Originator
@@ -88,7 +88,7 @@ originator-breaks reads together tries period delay link ts before t mid kt run 
     same : (x : ℕ) → x ≤ turns → turns ≤ x → x ≡ turns
     same x a b = omega (arith, a, b)
 
-    joined : (x : Ends) → Together x → is_connected x.orig.phase ≡ true → is_connected x.answ.phase ≡ true
+    joined : (x : Accounts) → Together x → is_connected x.orig.phase ≡ true → is_connected x.answ.phase ≡ true
     joined x h c = ap is_connected (h.answ (connected-is x.orig.phase c))
 
     peer : (u : ℕ) → u ≤ turns → is_connected (w.state u).orig.phase ≡ true → is_connected (w.state u).answ.phase ≡ true
@@ -112,4 +112,4 @@ originator-breaks reads together tries period delay link ts before t mid kt run 
         (omega (arith, b, q, m)) f in
         answ-no-sabme tries period delay link ts w.state w.deed kt w.trace (u - delay Answerer) (omega (arith, b, q, m)) c.1)
         (λ g f. none-last link ts before t mid Originator tries period hearing cm l waiting
-        (ap (λ (x : Ends). of_arrived (of_word (ack_of (number_of x.orig))) (arrival t.orig.heard)) (sym w.last) ∙ f))
+        (ap (λ (x : Accounts). of_arrived (of_word (ack_of (number_of x.orig))) (arrival t.orig.heard)) (sym w.last) ∙ f))

@@ -11,7 +11,7 @@ use Rattle.lapm_frames.specs.declared.sent.Sent.TheVariants as slots
 use Rattle.lapm_frames.specs.declared.heard.Heard.{Heard}
 use Rattle.lapm_frames.specs.declared.heard.Heard.TheVariants.{Nothing, Passed, Lost, Chance}
 use Rattle.link_account.specs.Account.{is_connected}
-use Rattle.link_run.specs.Run.{Link, Ends, Spoken, Turn, arrival}
+use Rattle.link_run.specs.Run.{Link, Accounts, Spoken, Turn, arrival}
 use Rattle.link_run.specs.Carried.{sent_in, sent_ago}
 use Rattle.link_run.specs.Overheard.{passes_in}
 use Rattle.link_run.specs.Starved.{turn_at}
@@ -60,14 +60,14 @@ passes-kind is (Passed slots.Adp) = refl
 passes-kind is (Passed (slots.Frame frame)) = refl
 
 -- the turn of that number
-pub turn-is : (period : ℕ) (delay : Role → ℕ) (link : Link) (ts : List Turn) (state : ℕ → Ends) (deed : ℕ → Deed)
+pub turn-is : (period : ℕ) (delay : Role → ℕ) (link : Link) (ts : List Turn) (state : ℕ → Accounts) (deed : ℕ → Deed)
     → Trace period delay link ts state deed
     → (t : ℕ) → t < length ts → turn_at t ts ≡ Some (deed t).turn
 turn-is period delay link ts state deed w t l =
     ap (λ us. slice_get us (length ts - 1 - t)) (sym (ap (past ts) (omega (arith, l)) ∙ past-all ts))
     ∙ looked period delay link ts state deed w (length ts - 1 - t) t (omega (arith, l))
 
-polls-of : (period : ℕ) (delay : Role → ℕ) (link : Link) (ts : List Turn) (state : ℕ → Ends) (deed : ℕ → Deed)
+polls-of : (period : ℕ) (delay : Role → ℕ) (link : Link) (ts : List Turn) (state : ℕ → Accounts) (deed : ℕ → Deed)
     → Trace period delay link ts state deed
     → (role : Role) (t : ℕ) → t < length ts → PollsIn role t ts → sends_poll (end_run delay state deed role) t ≡ true
 polls-of period delay link ts state deed w role t l p =
@@ -97,8 +97,8 @@ replies-at-once tries period delay link ts before t after k run g c role cb ca =
     go (d, dt, m) =
         both-ways _ _ (λ e. hears ∙ keeps.reply_from n (omega arith) (sym sends ∙ e))
         (λ e. sends ∙ keeps.reply_at_once n (omega arith) (sym hears ∙ e)
-        (ap (λ (x : Ends). is_connected (of role x).phase) m.before_is ∙ ap is_connected cb)
-        (ap (λ (x : Ends). is_connected (of role x).phase) (ap w.state (omega arith) ∙ w.last) ∙ ap is_connected ca))
+        (ap (λ (x : Accounts). is_connected (of role x).phase) m.before_is ∙ ap is_connected cb)
+        (ap (λ (x : Accounts). is_connected (of role x).phase) (ap w.state (omega arith) ∙ w.last) ∙ ap is_connected ca))
       where
         n : ℕ
         n = length ts
@@ -127,9 +127,9 @@ answers-match tries period delay link ts before t after k run g c role cb h =
     go : (d : Deed) × (d.turn ≡ t) × OneMore period delay link t ts before d after → AnswersPoll delay ts before role
     go (d, dt, m) = record {
       polled = polled role refl;
-      awaited = ap (λ (x : Ends). (of role x).outgoing.awaited) (sym m.before_is) ∙ still.awaited;
+      awaited = ap (λ (x : Accounts). (of role x).outgoing.awaited) (sym m.before_is) ∙ still.awaited;
       none_due = not-due (is_connected (of role before).phase) (of role before).wait.poll (ap is_connected cb)
-          (ap (λ (x : Ends). is_connected (of role x).phase && (of role x).wait.poll) (sym m.before_is) ∙ still.none_due);
+          (ap (λ (x : Accounts). is_connected (of role x).phase && (of role x).wait.poll) (sym m.before_is) ∙ still.none_due);
     }
       where
         not-due : (x y : Bool) → x ≡ true → x && y ≡ false → y ≡ false
@@ -153,7 +153,7 @@ answers-match tries period delay link ts before t after k run g c role cb h =
         hears = ap (λ (x : Turn). of_arrived is_final (arrival (of role x).heard)) turn ∙ (sym (passes-kind is_final (of role t).heard) ∙ h)
 
         still : StillAwaited (of role (w.state n))
-        still = keeps.still n (omega arith) (ap (λ (x : Ends). is_connected (of role x).phase) m.before_is ∙ ap is_connected cb) hears
+        still = keeps.still n (omega arith) (ap (λ (x : Accounts). is_connected (of role x).phase) m.before_is ∙ ap is_connected cb) hears
 
         a : Answers n (end_run delay w.state w.deed role) (end_run delay w.state w.deed (other role))
         a = keeps.matches n (omega arith) hears

@@ -11,7 +11,7 @@ use Rattle.link_account.specs.Play.{arrives}
 use Rattle.std.specs.Prelude.{slice_get}
 use Rattle.roles.specs.Role.{other}
 use Rattle.roles.specs.Both.{of}
-use Rattle.link_run.specs.Run.{Link, Ends, Turn, arrival}
+use Rattle.link_run.specs.Run.{Link, Accounts, Turn, arrival}
 use Rattle.link_run.specs.Carried.{Crosses, HasDelays, sent_in}
 use Rattle.turn_bound.proofs.Tied.{is_lost, sent_of, none-heard, one-heard}
 use Rattle.turn_losses.proofs.Trace.{past, sent_or}
@@ -24,7 +24,7 @@ use Rattle.turn_losses.proofs.TwoEnds.{ArrivesLate}
 use Rattle.turn_bound.proofs.Meeting.{arrives-flag}
 
 -- the turn so many turns ago
-pub looked : (period : ℕ) (delay : Role → ℕ) (link : Link) (ts : List Turn) (state : ℕ → Ends) (deed : ℕ → Deed)
+pub looked : (period : ℕ) (delay : Role → ℕ) (link : Link) (ts : List Turn) (state : ℕ → Accounts) (deed : ℕ → Deed)
     → Trace period delay link ts state deed
     → (k t : ℕ) → t + k < length ts → slice_get (past ts (t + k + 1)) k ≡ Some (deed t).turn
 looked period delay link ts state deed w zero t l =
@@ -40,7 +40,7 @@ get-none (x ∷ xs) zero l = absurd (omega (arith, l))
 get-none (x ∷ xs) (suc k) l = get-none xs k (omega (arith, l))
 
 -- both lines of a run
-pub arrives-late : (period : ℕ) (delay : Role → ℕ) (link : Link) (ts : List Turn) (state : ℕ → Ends) (deed : ℕ → Deed) → HasDelays delay
+pub arrives-late : (period : ℕ) (delay : Role → ℕ) (link : Link) (ts : List Turn) (state : ℕ → Accounts) (deed : ℕ → Deed) → HasDelays delay
     → Trace period delay link ts state deed → (role : Role)
     → (t : ℕ) → t < length ts
     → ArrivesLate (delay (other role)) t (is_lost (of role (deed t).turn).heard) (λ n. sent_or (of (other role) (deed n).turn).sent)

@@ -17,7 +17,7 @@ use Rattle.link_account.specs.Laws.{MayPlay}
 use Rattle.link_account.specs.Hear.{hear}
 use Rattle.link_account.specs.Play.{arrives}
 use Rattle.link_run.specs.End.{User, is_busy}
-use Rattle.link_run.specs.Run.{Link, Ends, Turn, SpeaksAt, arrival, said_at}
+use Rattle.link_run.specs.Run.{Link, Accounts, Turn, SpeaksAt, arrival, said_at}
 use Rattle.link_run.specs.Carried.{Carries, sent_in}
 use Rattle.link_run.specs.Starved.{LosesSome}
 use Rattle.turn_bound.specs.Time.{KeepsTime}
@@ -55,7 +55,7 @@ waits-not : (b : OwnBreaks) → length b.lengths ≤ b.answered → waits b ≡ 
 waits-not b l = grind (arith, nat_tests, l)
 
 -- what one role sent so long before the last turn arrives in it, unless it is lost
-pub last-heard : (kind : Frame → Bool) (period : ℕ) (delay : Role → ℕ) (link : Link) (ts : List Turn) (state : ℕ → Ends) (deed : ℕ → Deed)
+pub last-heard : (kind : Frame → Bool) (period : ℕ) (delay : Role → ℕ) (link : Link) (ts : List Turn) (state : ℕ → Accounts) (deed : ℕ → Deed)
     → Trace period delay link ts state deed → (t : Turn) → Carries delay ts t → (r : Role) → 1 ≤ delay (other r)
     → (s : ℕ) → s + delay (other r) ≡ length ts → is_lost (of r t).heard ≡ false
     → of_arrived kind (arrival (of r t).heard) ≡ of_frame kind (sent_or (of (other r) (deed s).turn).sent)
@@ -78,7 +78,7 @@ last-heard kind period delay link ts state deed w t cs r d s same f =
         ∙ ap (λ j. arrives (sent_or j)) (sym s'.sent_is)
 
 -- a loss of a turn as one of a period
-pub loses-at : (period : ℕ) (delay : Role → ℕ) (link : Link) (ts : List Turn) (state : ℕ → Ends) (deed : ℕ → Deed)
+pub loses-at : (period : ℕ) (delay : Role → ℕ) (link : Link) (ts : List Turn) (state : ℕ → Accounts) (deed : ℕ → Deed)
     → Trace period delay link ts state deed → (t : Turn) (s n : ℕ) → s + (n + 1) * period ≡ length ts
     → (u : ℕ) → s < u → u ≤ s + period → u < length ts → (r : Role) → is_lost (of r (deed u).turn).heard ≡ true
     → PeriodLoses period (length ts) (t ∷ ts) n
@@ -134,7 +134,7 @@ last-ends user turn released arrived a mid ca cm w high h e = by s.taken refl
     by false q = ap waits (s.no q) ∙ none
 
 -- A period of a waiting break loses something, while the other end is Connected in it.
-pub connected-loses : ReadsWritten → (tries period : ℕ) (delay : Role → ℕ) (link : Link) (ts : List Turn) (state : ℕ → Ends)
+pub connected-loses : ReadsWritten → (tries period : ℕ) (delay : Role → ℕ) (link : Link) (ts : List Turn) (state : ℕ → Accounts)
     (deed : ℕ → Deed) → (kt : KeepsTime tries period delay link) → MayPlay link.orig.setup link.answ.setup
     → (w : Trace period delay link ts state deed) → (t : Turn) → Carries delay ts t → (r : Role) → (number s n : ℕ) → number < 2
     → s + (n + 1) * period ≡ length ts
@@ -210,8 +210,8 @@ connected-loses reads tries period delay link ts state deed kt m w t cs r number
         first = start (other r)
           where
             start : (x : Role) → brk_due (of x (state 0)) ≡ false
-            start Originator = ap (λ (y : Ends). brk_due y.orig) w.starts
-            start Answerer = ap (λ (y : Ends). brk_due y.answ) w.starts
+            start Originator = ap (λ (y : Accounts). brk_due y.orig) w.starts
+            start Answerer = ap (λ (y : Accounts). brk_due y.answ) w.starts
 
         late : (z : ℕ) × (z + o.delay ≡ s + period) × (s < z) × (of_frame (of_word (ack_of number)) (o.slot z) ≡ true)
             → PeriodLoses period turns (t ∷ ts) n

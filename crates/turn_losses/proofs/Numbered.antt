@@ -31,7 +31,7 @@ use Rattle.link_account.specs.Hear.{on_closed, on_disc, on_word, peer_reset, owi
 use Rattle.link_account.specs.Speak.{Said, says, says_frame, else_says, where_says, spent, answering, trying_again, tries_frame, u_try}
 use Rattle.link_account.specs.Speak.{speak, speak_in, speak_detecting, speak_negotiating}
 use Rattle.link_run.specs.End.{is_released}
-use Rattle.link_run.specs.Run.{Link, Ends, Turn, arrival, served_at}
+use Rattle.link_run.specs.Run.{Link, Accounts, Turn, arrival, served_at}
 use Rattle.turn_bound.specs.Time.{KeepsTime}
 use Rattle.turn_bound.proofs.MeetHear.{of_frame, of_arrived}
 use Rattle.turn_bound.proofs.Serving.{serves-all}
@@ -247,14 +247,14 @@ spoken-numbered turn release b said h = go (is_connected said.account.phase) ref
     go false e = (k.other e).1
 
 -- where an end is numbered, its peer is Connected or was
-pub numbered-linked : (tries period : ℕ) (delay : Role → ℕ) (link : Link) (ts : List Turn) (state : ℕ → Ends) (deed : ℕ → Deed)
+pub numbered-linked : (tries period : ℕ) (delay : Role → ℕ) (link : Link) (ts : List Turn) (state : ℕ → Accounts) (deed : ℕ → Deed)
     → KeepsTime tries period delay link → Trace period delay link ts state deed → (role : Role)
     → (u : ℕ) → u ≤ length ts → (of role (state u)).numbered ≡ true → is_linked (of (other role) (state u)).phase ≡ true
 numbered-linked tries period delay link ts state deed kt w role zero l n = let wrong : false ≡ true = sym (none role) ∙ n in cc
   where
     none : (r : Role) → (of r (state 0)).numbered ≡ false
-    none Originator = ap (λ (s : Ends). s.orig.numbered) w.starts
-    none Answerer = ap (λ (s : Ends). s.answ.numbered) w.starts
+    none Originator = ap (λ (s : Accounts). s.orig.numbered) w.starts
+    none Answerer = ap (λ (s : Accounts). s.answ.numbered) w.starts
 numbered-linked tries period delay link ts state deed kt w role (suc u) l n =
     go (numbered-by (arrival (of role (deed u).turn).heard) u (of role (state u)) (of role (deed u).mid)
     (h.hearing role).hears mid-numbered) (λ q. numbered-linked tries period delay link ts state deed kt w role u (omega (arith, l)) q)

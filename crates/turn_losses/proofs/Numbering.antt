@@ -12,7 +12,7 @@ use Rattle.link_account.specs.Account.{Account, is_connected, first_terms}
 use Rattle.link_account.specs.Hear.{hear}
 use Rattle.link_account.specs.Laws.{MayPlay, TakesInOrder, AcknowledgesTaken}
 use Rattle.link_run.specs.End.{is_released}
-use Rattle.link_run.specs.Run.{Link, Ends, Spoken, Turn, arrival}
+use Rattle.link_run.specs.Run.{Link, Accounts, Spoken, Turn, arrival}
 use Rattle.link_run.specs.Laws.{RunsOver, RunsArePlays, HearingsArePlays, IsPlayed}
 use Rattle.link_run.specs.Overheard.{AgreesByXid, has_passed, is_xid, agreed_terms}
 use Rattle.turn_bound.specs.Time.{KeepsTime}
@@ -41,7 +41,7 @@ pub record Plays : Type 0 where
 prefix-length : (xs ys : List (List ℕ)) → IsPrefixOf xs ys → length xs ≤ length ys
 prefix-length xs ys (rest, e) = let q = ap length e in omega (arith, q, length-append {A = List ℕ})
 
-fronts-taken : Plays → (link : Link) → MayPlay link.orig.setup link.answ.setup → (ends : Ends) (line : Role → List (Option Spoken))
+fronts-taken : Plays → (link : Link) → MayPlay link.orig.setup link.answ.setup → (ends : Accounts) (line : Role → List (Option Spoken))
     → IsPlayed link ends line → (role : Role)
     → (of role ends).outgoing.front ≤ length (of (other role) ends).incoming.taken
 fronts-taken laws link m ends line p Originator =
@@ -55,7 +55,7 @@ fronts-taken laws link m ends line p Answerer =
     let y = ap (λ (a : Account). length a.incoming.taken) (p.is_at Originator).account_is in
     omega (arith, h, x, y)
 
-taken-offered : Plays → (link : Link) → MayPlay link.orig.setup link.answ.setup → (ends : Ends) (line : Role → List (Option Spoken))
+taken-offered : Plays → (link : Link) → MayPlay link.orig.setup link.answ.setup → (ends : Accounts) (line : Role → List (Option Spoken))
     → IsPlayed link ends line → (role : Role)
     → length (of (other role) ends).incoming.taken ≤ length (of role ends).outgoing.pieces
 taken-offered laws link m ends line p Originator =
@@ -73,7 +73,7 @@ pub allowed : (link : Link) → MayPlay link.orig.setup link.answ.setup → (r :
 allowed link m Originator = m.offer_o
 allowed link m Answerer = m.offer_a
 
-pub fits-at : Plays → (link : Link) (delay : Role → ℕ) (ts : List Turn) (ends : Ends) → RunsOver link delay ts ends → (role : Role)
+pub fits-at : Plays → (link : Link) (delay : Role → ℕ) (ts : List Turn) (ends : Accounts) → RunsOver link delay ts ends → (role : Role)
     → Fits (of role ends).terms
 fits-at laws link delay ts ends run role = subst Fits (sym (laws.agrees link delay ts ends run role)) (by (has_passed is_xid role ts))
   where
@@ -81,7 +81,7 @@ fits-at laws link delay ts ends run role = subst Fits (sym (laws.agrees link del
     by true = fits-second link.orig.setup.offer link.answ.setup.offer run.may_play.offer_a
     by false = (omega arith, omega arith)
 
-pub counts-of : Plays → (tries period : ℕ) (delay : Role → ℕ) (link : Link) (ts : List Turn) (state : ℕ → Ends) (deed : ℕ → Deed)
+pub counts-of : Plays → (tries period : ℕ) (delay : Role → ℕ) (link : Link) (ts : List Turn) (state : ℕ → Accounts) (deed : ℕ → Deed)
     → KeepsTime tries period delay link → MayPlay link.orig.setup link.answ.setup
     → Trace period delay link ts state deed → (role : Role)
     → Counts (length ts) (end_run delay state deed role) (end_run delay state deed (other role))

@@ -27,7 +27,7 @@ use Rattle.link_account.specs.Laws.{MayPlay}
 use Rattle.link_account.specs.Play.{arrives}
 use Rattle.link_account.specs.Speak.{Said, speak, speak_in, speak_linked, speak_releasing, speak_detecting, speak_negotiating}
 use Rattle.link_run.specs.End.{is_busy, is_released, is_closed, is_ready, next_break}
-use Rattle.link_run.specs.Run.{Link, Ends, Spoken, Turn, RunOf, Hears, BrokenTurn, SpeaksAt, arrival, served_at, said_at, finished_at}
+use Rattle.link_run.specs.Run.{Link, Accounts, Spoken, Turn, RunOf, Hears, BrokenTurn, SpeaksAt, arrival, served_at, said_at, finished_at}
 use Rattle.link_run.specs.Run.{releases, spoken}
 use Rattle.link_run.specs.Carried.{Crosses, Carries, IsCarried, has_message, sent_in}
 use Rattle.link_run.specs.Laws.{RunsOver}
@@ -223,7 +223,7 @@ parted-cleared period turns e o k c s v within before g m ce co late lost =
             (ce (u + 1) (omega (arith, low)) (omega (arith, inside))) h)
 
 -- In the turn in which the originator is told to release, the answerer's file is wholly acknowledged and none of its breaks waits.
-pub record Released (link : Link) (t : ℕ) (mid : Ends) : Type 0 where
+pub record Released (link : Link) (t : ℕ) (mid : Accounts) : Type 0 where
   pub done : is_whole (served_at link t mid Answerer).account.outgoing ≡ true
   pub breaks : waits (served_at link t mid Answerer).account.own_breaks ≡ false
   pub connected : is_connected (served_at link t mid Answerer).account.phase ≡ true
@@ -237,7 +237,7 @@ not-either : (x : Bool) → not x ≡ true → x ≡ false
 not-either true e = cc
 not-either false e = refl
 
-pub told-release : (link : Link) (t : ℕ) (mid : Ends) → releases link t mid ≡ true → Released link t mid
+pub told-release : (link : Link) (t : ℕ) (mid : Accounts) → releases link t mid ≡ true → Released link t mid
 told-release link t mid e = go (is_connected a.phase) refl
     (and-both (finished_at link t mid Originator) (finished_at link t mid Answerer) e).1
   where
@@ -325,17 +325,17 @@ connected-or Releasing l c = inl refl
 connected-or Closed l c = inr refl
 
 -- what an end's setup says its role is
-pub setup-role : (tries period : ℕ) (delay : Role → ℕ) (link : Link) (us : List Turn) (y : Ends) → KeepsTime tries period delay link
+pub setup-role : (tries period : ℕ) (delay : Role → ℕ) (link : Link) (us : List Turn) (y : Accounts) → KeepsTime tries period delay link
     → RunOf link us y → IsCarried delay us → (r : Role) → (of r y).setup.role ≡ r
 setup-role tries period delay link us y kt run c r = ap (λ s. s.role) (start-setup tries period delay link us y kt run c r) ∙ kt.roles r
 
-not-releasing : (tries period : ℕ) (delay : Role → ℕ) (link : Link) (ts : List Turn) (state : ℕ → Ends) (deed : ℕ → Deed)
+not-releasing : (tries period : ℕ) (delay : Role → ℕ) (link : Link) (ts : List Turn) (state : ℕ → Accounts) (deed : ℕ → Deed)
     → KeepsTime tries period delay link → Trace period delay link ts state deed → (state 0).orig.phase ≡ Releasing → ⊥
-not-releasing tries period delay link ts state deed kt w q = let there : Detecting ≡ Releasing = ap (λ (y : Ends). y.orig.phase)
+not-releasing tries period delay link ts state deed kt w q = let there : Detecting ≡ Releasing = ap (λ (y : Accounts). y.orig.phase)
     (sym w.starts) ∙ q in cc
 
 -- when it was told
-pub told-at : ReadsWritten → (tries period : ℕ) (delay : Role → ℕ) (link : Link) (ts : List Turn) (state : ℕ → Ends) (deed : ℕ → Deed)
+pub told-at : ReadsWritten → (tries period : ℕ) (delay : Role → ℕ) (link : Link) (ts : List Turn) (state : ℕ → Accounts) (deed : ℕ → Deed)
     → KeepsTime tries period delay link → MayPlay link.orig.setup link.answ.setup → Trace period delay link ts state deed
     → (u : ℕ) → u ≤ length ts → (state u).orig.phase ≡ Releasing → ToldIn link deed (end_run delay state deed Originator) u
 told-at reads tries period delay link ts state deed kt m w zero y q = absurd (not-releasing tries period delay link ts state deed kt w q)
@@ -423,12 +423,12 @@ told-at reads tries period delay link ts state deed kt m w (suc u) y q = subst (
             by (inr m) = let wrong : true ≡ false = sym f ∙ m in cc
 
 -- what is known of the answerer's segments then
-abbrev HeardIn : (tries period : ℕ) (delay : Role → ℕ) (ts : List Turn) (state : ℕ → Ends) (deed : ℕ → Deed) → ℕ → Type 0
+abbrev HeardIn : (tries period : ℕ) (delay : Role → ℕ) (ts : List Turn) (state : ℕ → Accounts) (deed : ℕ → Deed) → ℕ → Type 0
 HeardIn tries period delay ts state deed u = (q : Phase) × HeardAs (rates tries period) (length (state u).answ.outgoing.pieces) 0
     (length (past ts u)) ((rates tries period).quota * arrived_rnrs (arrival (deed u).turn.answ.heard)) Answerer (state u).answ.phase
     (state u).answ q (deed u).mid.answ
 
-heard-at : (tries period : ℕ) (delay : Role → ℕ) (link : Link) (ts : List Turn) (state : ℕ → Ends) (deed : ℕ → Deed)
+heard-at : (tries period : ℕ) (delay : Role → ℕ) (link : Link) (ts : List Turn) (state : ℕ → Accounts) (deed : ℕ → Deed)
     → KeepsTime tries period delay link → Trace period delay link ts state deed → (u : ℕ) → u < length ts
     → HeardIn tries period delay ts state deed u
 heard-at tries period delay link ts state deed kt w u b =
@@ -436,14 +436,14 @@ heard-at tries period delay link ts state deed kt w u b =
     heard-as tries period delay link (past ts u) (state u) kt h.run h.carried Answerer (arrival (deed u).turn.answ.heard) (deed u).mid.answ
     (ap (λ m. hear m (arrival (deed u).turn.answ.heard) (state u).answ) h.number ∙ (h.hearing Answerer).hears)
 
-served-pieces : (tries period : ℕ) (delay : Role → ℕ) (link : Link) (ts : List Turn) (state : ℕ → Ends) (deed : ℕ → Deed)
+served-pieces : (tries period : ℕ) (delay : Role → ℕ) (link : Link) (ts : List Turn) (state : ℕ → Accounts) (deed : ℕ → Deed)
     → KeepsTime tries period delay link → Trace period delay link ts state deed → (u : ℕ) → u < length ts
     → length (state u).answ.outgoing.pieces ≤ length (served_at link u (deed u).mid Answerer).account.outgoing.pieces
 served-pieces tries period delay link ts state deed kt w u b =
     let q = (serves-all link.answ.user u (is_released (deed u).mid.orig.phase) (deed u).mid.answ).longer.longer in
     let r = ap length (heard-at tries period delay link ts state deed kt w u b).1.pieces in omega (arith, q, r)
 
-pub mid-connected : (tries period : ℕ) (delay : Role → ℕ) (link : Link) (ts : List Turn) (state : ℕ → Ends) (deed : ℕ → Deed)
+pub mid-connected : (tries period : ℕ) (delay : Role → ℕ) (link : Link) (ts : List Turn) (state : ℕ → Accounts) (deed : ℕ → Deed)
     → KeepsTime tries period delay link → Trace period delay link ts state deed → (u : ℕ) → u < length ts
     → is_connected (state (u + 1)).answ.phase ≡ true → is_connected (deed u).mid.answ.phase ≡ true
 mid-connected tries period delay link ts state deed kt w u b g =
@@ -454,7 +454,7 @@ mid-connected tries period delay link ts state deed kt w u b g =
     ∙ ((speak-ok u a s.said (speak u false a) s.says (poll-speaks u false a)).connected
     (ap (λ (y : Account). is_connected y.phase) (sym s.after_is) ∙ g)).0
 
-said-pieces : (tries period : ℕ) (delay : Role → ℕ) (link : Link) (ts : List Turn) (state : ℕ → Ends) (deed : ℕ → Deed)
+said-pieces : (tries period : ℕ) (delay : Role → ℕ) (link : Link) (ts : List Turn) (state : ℕ → Accounts) (deed : ℕ → Deed)
     → KeepsTime tries period delay link → Trace period delay link ts state deed → (u : ℕ) → u < length ts
     → is_connected (state (u + 1)).answ.phase ≡ true
     → length (state (u + 1)).answ.outgoing.pieces ≡ length (served_at link u (deed u).mid Answerer).account.outgoing.pieces
@@ -468,7 +468,7 @@ said-pieces tries period delay link ts state deed kt w u b g =
     ap (λ (y : Account). length y.outgoing.pieces) s.after_is
     ∙ ap length (linked-numbers u a s.said (linked-says u false a s.said phase after s.says)).outgoing.pieces
 
-outstanding-or : (tries period : ℕ) (delay : Role → ℕ) (link : Link) (ts : List Turn) (state : ℕ → Ends) (deed : ℕ → Deed)
+outstanding-or : (tries period : ℕ) (delay : Role → ℕ) (link : Link) (ts : List Turn) (state : ℕ → Accounts) (deed : ℕ → Deed)
     → KeepsTime tries period delay link → Trace period delay link ts state deed → (u : ℕ) → u < length ts
     → is_connected (state u).answ.phase ≡ true → is_connected (state (u + 1)).answ.phase ≡ true → (state u).answ.outgoing.awaited ≡ true
     → hears_final (end_run delay state deed Answerer) u ≡ true
@@ -503,7 +503,7 @@ outstanding-or tries period delay link ts state deed kt w u b f g aw fin = frame
             u' : ℕ
             u' = length (past ts u)
 
-parts-of : (tries period : ℕ) (delay : Role → ℕ) (link : Link) (ts : List Turn) (state : ℕ → Ends) (deed : ℕ → Deed)
+parts-of : (tries period : ℕ) (delay : Role → ℕ) (link : Link) (ts : List Turn) (state : ℕ → Accounts) (deed : ℕ → Deed)
     → KeepsTime tries period delay link → Trace period delay link ts state deed → (v : ℕ) → v < length ts → Released link v (deed v).mid
     → Parts (length ts) (end_run delay state deed Answerer) v
 parts-of tries period delay link ts state deed kt w v b told = record {
@@ -527,7 +527,7 @@ disc-heard : (arrived : Arrived) (turn : ℕ) (a mid : Account) → a.setup.role
 disc-heard arrived turn a mid r c k h = ap is_connected
     (answer-due Releasing arrived turn a mid r (ap (λ p. can_answer Releasing p a.numbered) (connected-is a.phase c)) k h).0
 
-disc-closes : (tries period : ℕ) (delay : Role → ℕ) (link : Link) (ts : List Turn) (state : ℕ → Ends) (deed : ℕ → Deed)
+disc-closes : (tries period : ℕ) (delay : Role → ℕ) (link : Link) (ts : List Turn) (state : ℕ → Accounts) (deed : ℕ → Deed)
     → KeepsTime tries period delay link → Trace period delay link ts state deed → (u : ℕ) → u < length ts
     → is_connected (state u).answ.phase ≡ true → is_connected (state (u + 1)).answ.phase ≡ true
     → of_arrived (asks Releasing) (arrival (deed u).turn.answ.heard) ≡ true → ⊥
@@ -538,7 +538,7 @@ disc-closes tries period delay link ts state deed kt w u b f g k =
     let wrong : true ≡ false = sym (mid-connected tries period delay link ts state deed kt w u b g) ∙ closed in cc
 
 -- A DISC that comes in the last turn of a run, where the answerer is still Connected once it has heard, is lost.
-last-disc : (tries period : ℕ) (delay : Role → ℕ) (link : Link) (ts : List Turn) (state : ℕ → Ends) (deed : ℕ → Deed)
+last-disc : (tries period : ℕ) (delay : Role → ℕ) (link : Link) (ts : List Turn) (state : ℕ → Accounts) (deed : ℕ → Deed)
     → KeepsTime tries period delay link → Trace period delay link ts state deed → (t : Turn) → Carries delay ts t → (before mid : Account)
     → before.setup.role ≡ Answerer → is_connected before.phase ≡ true → hear (length ts) (arrival t.answ.heard) before ≡ Ok mid
     → is_connected mid.phase ≡ true → (s : ℕ) → s + delay Originator ≡ length ts
@@ -570,8 +570,8 @@ last-disc tries period delay link ts state deed kt w t cs before mid r c h cm s 
         let wrong : true ≡ false = sym cm ∙ disc-heard (arrival t.answ.heard) (length ts) before mid r c hears h in cc
 
 -- A run in which an answerer gives up that waits for no break's answer, while the originator releases.
-pub parted-each : Plays → ReadsWritten → (tries period : ℕ) (delay : Role → ℕ) (link : Link) (ts : List Turn) (before : Ends) (t : Turn)
-    (mid : Ends) → KeepsTime tries period delay link → RunsOver link delay ts before → Carries delay ts t
+pub parted-each : Plays → ReadsWritten → (tries period : ℕ) (delay : Role → ℕ) (link : Link) (ts : List Turn) (before : Accounts) (t : Turn)
+    (mid : Accounts) → KeepsTime tries period delay link → RunsOver link delay ts before → Carries delay ts t
     → Hears (length ts) before t mid → is_connected mid.answ.phase ≡ true → mid.orig.phase ≡ Releasing
     → LastTry tries period (length ts) before.answ → LosesEach period tries (length ts) (t ∷ ts)
 parted-each laws reads tries period delay link ts before t mid kt run cs hearing cm om last n less = at-expiry
@@ -614,7 +614,7 @@ parted-each laws reads tries period delay link ts before t mid kt run cs hearing
     long = omega (arith, p)
 
     l : LastTry tries period turns (w.state turns).answ
-    l = subst (λ (y : Ends). LastTry tries period turns y.answ) (sym w.last) last
+    l = subst (λ (y : Accounts). LastTry tries period turns y.answ) (sym w.last) last
 
     some-tries : 1 ≤ tries
     some-tries = kt.some_tries
@@ -651,13 +651,13 @@ parted-each laws reads tries period delay link ts before t mid kt run cs hearing
         by (inr (_, never, _, _, _)) = absurd (never refl)
 
     releasing-last : (o.account turns).phase ≡ Releasing
-    releasing-last = ap (λ (y : Ends). y.orig.phase) w.last ∙ releasing
+    releasing-last = ap (λ (y : Accounts). y.orig.phase) w.last ∙ releasing
 
     tries-on : TriesSo period turns Releasing o
     tries-on = tries-so reads tries period delay link ts w.state w.deed kt run.may_play w.trace Releasing refl
 
     not-first : (o.account 0).phase ≡ Releasing → ⊥
-    not-first q = let there : Detecting ≡ Releasing = ap (λ (y : Ends). y.orig.phase) (sym w.trace.starts) ∙ q in cc
+    not-first q = let there : Detecting ≡ Releasing = ap (λ (y : Accounts). y.orig.phase) (sym w.trace.starts) ∙ q in cc
 
     try-at : (u : ℕ) → u ≤ turns → (o.account u).phase ≡ Releasing → Tried period Releasing o u
     try-at = tried period turns Releasing o long tries-on not-first
@@ -669,7 +669,7 @@ parted-each laws reads tries period delay link ts before t mid kt run cs hearing
     parts = parts-of tries period delay link ts w.state w.deed kt w.trace v.turn v.before v.told
 
     -- its clock runs once it heard a number, so its peer is Connected or was
-    counted : (b : Bool) (y : Ends) (us : List Turn) → Known z link (length us) y Answerer → is_connected y.answ.phase ≡ true → (s : ℕ)
+    counted : (b : Bool) (y : Accounts) (us : List Turn) → Known z link (length us) y Answerer → is_connected y.answ.phase ≡ true → (s : ℕ)
         → y.answ.wait.timer ≡ Some s → y.answ.numbered ≡ b → y.answ.numbered ≡ true
     counted true y us h f s q m = m
     counted false y us h f s q m = let wrong : None ≡ Some s = sym
@@ -843,7 +843,7 @@ answerer-connected z before turn b q fault st e r h = go q e st (ap (λ x. speak
     go Releasing f s q = absurd s
     go Closed f s q = cc
 
-pub answerer-gives-up : (tries period : ℕ) (delay : Role → ℕ) (link : Link) (ts : List Turn) (before : Ends) (t : Turn) (mid : Ends)
+pub answerer-gives-up : (tries period : ℕ) (delay : Role → ℕ) (link : Link) (ts : List Turn) (before : Accounts) (t : Turn) (mid : Accounts)
     (fault : LinkFault) → KeepsTime tries period delay link → RunsOver link delay ts before
     → BrokenTurn link ts before t mid Answerer fault → is_connected mid.answ.phase ≡ true
 answerer-gives-up tries period delay link ts before t mid fault kt run broken =

@@ -13,7 +13,7 @@ use Rattle.link_account.specs.Laws.{MayPlay}
 use Rattle.link_account.specs.Hear.{hear}
 use Rattle.link_account.specs.Speak.{speak}
 use Rattle.link_run.specs.End.{User, is_released, is_closed}
-use Rattle.link_run.specs.Run.{Link, Ends, Turn, arrival, served_at}
+use Rattle.link_run.specs.Run.{Link, Accounts, Turn, arrival, served_at}
 use Rattle.turn_bound.specs.Time.{KeepsTime}
 use Rattle.turn_bound.proofs.Run.{served_account}
 use Rattle.turn_bound.proofs.MeetHear.{frame_ua, frame_final, o-hears, of_arrived}
@@ -52,7 +52,7 @@ no-take user turn true mid e = go (serves-first user turn 0 mid).own
 releasing-released : (p : Phase) → p ≡ Releasing → is_released p ≡ true
 releasing-released p e = ap is_released e
 
-orig-released : (tries period : ℕ) (delay : Role → ℕ) (link : Link) (ts : List Turn) (state : ℕ → Ends) (deed : ℕ → Deed)
+orig-released : (tries period : ℕ) (delay : Role → ℕ) (link : Link) (ts : List Turn) (state : ℕ → Accounts) (deed : ℕ → Deed)
     → KeepsTime tries period delay link → Trace period delay link ts state deed → (u : ℕ) → u < length ts
     → is_released (state u).orig.phase ≡ true
     → is_released (deed u).mid.orig.phase ≡ true
@@ -64,7 +64,7 @@ orig-released tries period delay link ts state deed kt w u l e =
     (h.hearing Originator).hears (o-hears arrived u (state u).orig role)).released e
 
 -- so none waits from then on
-unasked : (tries period : ℕ) (delay : Role → ℕ) (link : Link) (ts : List Turn) (state : ℕ → Ends) (deed : ℕ → Deed)
+unasked : (tries period : ℕ) (delay : Role → ℕ) (link : Link) (ts : List Turn) (state : ℕ → Accounts) (deed : ℕ → Deed)
     → KeepsTime tries period delay link → Trace period delay link ts state deed → (v : ℕ) → v < length ts
     → waits (served_at link v (deed v).mid Answerer).account.own_breaks ≡ false → (n : ℕ) → v + 1 + n ≤ length ts
     → ((u : ℕ) → v < u → u ≤ v + 1 + n → (state u).orig.phase ≡ Releasing) → is_linked (state (v + 1)).answ.phase ≡ true
@@ -144,7 +144,7 @@ not-closed arrived turn a mid r h n e = by (try-heard arrived turn a mid r h Rel
     by (inr (_, never, _, _, _)) = never refl
 
 -- Where the originator is linked as an answerer's break waits, it is Connected.
-pub peer-connected : ReadsWritten → (tries period : ℕ) (delay : Role → ℕ) (link : Link) (ts : List Turn) (state : ℕ → Ends)
+pub peer-connected : ReadsWritten → (tries period : ℕ) (delay : Role → ℕ) (link : Link) (ts : List Turn) (state : ℕ → Accounts)
     (deed : ℕ → Deed) → KeepsTime tries period delay link → MayPlay link.orig.setup link.answ.setup
     → Trace period delay link ts state deed
     → (u : ℕ) → u ≤ length ts → ((state u).orig.phase ≡ Closed → ⊥) → is_linked (state u).orig.phase ≡ true

@@ -7,7 +7,7 @@ use Rattle.std.proofs.Common.{List, length}
 use Rattle.roles.specs.declared.role.Role.{Role}
 use Rattle.roles.specs.Role.{other}
 use Rattle.roles.specs.Both.{of}
-use Rattle.link_run.specs.Run.{Link, Ends, Turn, served_at}
+use Rattle.link_run.specs.Run.{Link, Accounts, Turn, served_at}
 use Rattle.turn_bound.specs.Time.{KeepsTime}
 use Rattle.turn_losses.proofs.Trace.{past}
 use Rattle.turn_losses.proofs.Answered.{SendsSegment, AnswerTurn}
@@ -48,13 +48,13 @@ poll-answered period turns e o k t within c h mid b said after c' answers =
     not-due false y p q = cc
 
 -- in a turn of a run an end's retry count is 0 once it has heard, or it sends the first segment that isn't acknowledged
-abbrev pub SendsFirst : (period : ℕ) (delay : Role → ℕ) (link : Link) (ts : List Turn) (state : ℕ → Ends) (deed : ℕ → Deed)
+abbrev pub SendsFirst : (period : ℕ) (delay : Role → ℕ) (link : Link) (ts : List Turn) (state : ℕ → Accounts) (deed : ℕ → Deed)
     → Trace period delay link ts state deed → Role → ℕ → Type 0
 SendsFirst period delay link ts state deed w role t =
     (l : t < length ts) × SendsSegment (of role (deed t).mid).outgoing.front (served_at link t (deed t).mid role).account
     ((w.happens t l).speaking role).said
 
-pub end-answered : (tries period : ℕ) (delay : Role → ℕ) (link : Link) (ts : List Turn) (state : ℕ → Ends) (deed : ℕ → Deed)
+pub end-answered : (tries period : ℕ) (delay : Role → ℕ) (link : Link) (ts : List Turn) (state : ℕ → Accounts) (deed : ℕ → Deed)
     → KeepsTime tries period delay link → (w : Trace period delay link ts state deed) → (role : Role)
     → (t : ℕ) → t < length ts → is_connected (of role (state t)).phase ≡ true → is_connected (of role (state (t + 1))).phase ≡ true
     → hears_final (end_run delay state deed role) t ≡ true

@@ -25,7 +25,7 @@ use Rattle.link_account.specs.Hear.{on_xid_command, owing}
 use Rattle.link_account.specs.Speak.{Said, says, says_frame, else_says, where_says, spent, answering, trying_again, tries_frame, u_try}
 use Rattle.link_account.specs.Speak.{speak, speak_in, speak_detecting, speak_negotiating}
 use Rattle.link_run.specs.End.{is_released}
-use Rattle.link_run.specs.Run.{Link, Ends, Turn, SpeaksAt, arrival, served_at, said_at}
+use Rattle.link_run.specs.Run.{Link, Accounts, Turn, SpeaksAt, arrival, served_at, said_at}
 use Rattle.turn_bound.specs.Time.{KeepsTime}
 use Rattle.turn_bound.proofs.Clock.{rates}
 use Rattle.turn_bound.proofs.Value.{Stands}
@@ -246,7 +246,7 @@ sends-sabme turn release b said h c = go b.phase refl
     go Closed e = said-established turn release b said h (ap is_established e)
 
 -- What holds of the two all through a run.
-pub established-on : (tries period : ℕ) (delay : Role → ℕ) (link : Link) (ts : List Turn) (state : ℕ → Ends) (deed : ℕ → Deed)
+pub established-on : (tries period : ℕ) (delay : Role → ℕ) (link : Link) (ts : List Turn) (state : ℕ → Accounts) (deed : ℕ → Deed)
     → KeepsTime tries period delay link → Trace period delay link ts state deed
     → (s n : ℕ) → s + n ≤ length ts → is_established (state s).orig.phase ≡ true → is_established (state (s + n)).orig.phase ≡ true
 established-on tries period delay link ts state deed kt w s zero l c = ap (λ x. is_established (state x).orig.phase) (same s) ∙ c
@@ -280,11 +280,11 @@ established-on tries period delay link ts state deed kt w s (suc n) l c = ap (λ
         (sym (said-as link u (deed u).mid Originator) ∙ x.says)
         (ap is_established (serves-all link.orig.user u (is_released (deed u).mid.orig.phase) (deed u).mid.orig).phase ∙ heard before)
 
-pub begun-established : (tries period : ℕ) (delay : Role → ℕ) (link : Link) (ts : List Turn) (state : ℕ → Ends) (deed : ℕ → Deed)
+pub begun-established : (tries period : ℕ) (delay : Role → ℕ) (link : Link) (ts : List Turn) (state : ℕ → Accounts) (deed : ℕ → Deed)
     → KeepsTime tries period delay link → Trace period delay link ts state deed
     → (u : ℕ) → u ≤ length ts → is_begun (state u).answ.phase ≡ true → is_established (state u).orig.phase ≡ true
 begun-established tries period delay link ts state deed kt w zero l b = let wrong : false ≡ true = sym
-    (ap (λ (x : Ends). is_begun x.answ.phase) w.starts) ∙ b in cc
+    (ap (λ (x : Accounts). is_begun x.answ.phase) w.starts) ∙ b in cc
 begun-established tries period delay link ts state deed kt w (suc u) l b = go
     (begun-by (arrival (deed u).turn.answ.heard) u (state u).answ (deed u).mid.answ role never (h.hearing Answerer).hears mid-begun)
     (λ q. begun-established tries period delay link ts state deed kt w u (omega (arith, l)) q)

@@ -5,7 +5,7 @@ use Rattle.roles.specs.declared.role.Role.{Role}
 use Rattle.roles.specs.declared.role.Role.TheVariants.{Originator, Answerer}
 use Rattle.roles.specs.Role.{other}
 use Rattle.roles.specs.Both.{of}
-use Rattle.link_run.specs.Run.{Link, Ends, Turn, arrival}
+use Rattle.link_run.specs.Run.{Link, Accounts, Turn, arrival}
 use Rattle.turn_bound.specs.Time.{KeepsTime}
 use Rattle.turn_bound.proofs.Tied.{is_lost}
 use Rattle.turn_losses.proofs.Trace.{sent_or}
@@ -18,7 +18,7 @@ use Rattle.turn_losses.proofs.KeepsPolls.{Answers}
 use Rattle.turn_losses.proofs.LineLaw.{arrives-late, was-sent, are-polls}
 use Rattle.turn_losses.proofs.PollsFresh.{polls-fresh, sent-soon, sent-apart}
 
-pub two-ends : (tries period : ℕ) (delay : Role → ℕ) (link : Link) (ts : List Turn) (state : ℕ → Ends) (deed : ℕ → Deed)
+pub two-ends : (tries period : ℕ) (delay : Role → ℕ) (link : Link) (ts : List Turn) (state : ℕ → Accounts) (deed : ℕ → Deed)
     → KeepsTime tries period delay link → Trace period delay link ts state deed
     → (role : Role) → TwoEnds period (length ts) (end_run delay state deed role) (end_run delay state deed (other role))
 two-ends tries period delay link ts state deed k w role = record {

@@ -12,7 +12,7 @@ use Rattle.link_account.specs.Laws.{MayPlay}
 use Rattle.link_account.specs.Hear.{hear}
 use Rattle.link_account.specs.Speak.{speak}
 use Rattle.link_run.specs.End.{is_busy, is_released}
-use Rattle.link_run.specs.Run.{Link, Ends, Turn, SpeaksAt, arrival, served_at, said_at}
+use Rattle.link_run.specs.Run.{Link, Accounts, Turn, SpeaksAt, arrival, served_at, said_at}
 use Rattle.turn_bound.specs.Time.{KeepsTime}
 use Rattle.turn_bound.proofs.Clock.{rates}
 use Rattle.turn_bound.proofs.Value.{Stands}
@@ -45,10 +45,10 @@ released-linked Establishing e = cc
 released-linked Connected e = cc
 
 -- the frame of a try is due no more once it spoke
-try-false : (tries period : ℕ) (delay : Role → ℕ) (link : Link) (ts : List Turn) (state : ℕ → Ends) (deed : ℕ → Deed)
+try-false : (tries period : ℕ) (delay : Role → ℕ) (link : Link) (ts : List Turn) (state : ℕ → Accounts) (deed : ℕ → Deed)
     → KeepsTime tries period delay link → Trace period delay link ts state deed
     → (u : ℕ) → u ≤ length ts → (state u).orig.phase ≡ Establishing → (state u).orig.wait.try ≡ false
-try-false tries period delay link ts state deed kt w zero l e = let wrong : Detecting ≡ Establishing = ap (λ (x : Ends). x.orig.phase)
+try-false tries period delay link ts state deed kt w zero l e = let wrong : Detecting ≡ Establishing = ap (λ (x : Accounts). x.orig.phase)
     (sym w.starts) ∙ e in cc
 try-false tries period delay link ts state deed kt w (suc u) l e =
     let s = (w.happens u (omega (arith, l))).speaking Originator in
@@ -62,7 +62,7 @@ try-false tries period delay link ts state deed kt w (suc u) l e =
     next : (x : ℕ) → x + 1 ≡ suc x
     next x = omega arith
 
-pub sabmes-of : ReadsWritten → (tries period : ℕ) (delay : Role → ℕ) (link : Link) (ts : List Turn) (state : ℕ → Ends) (deed : ℕ → Deed)
+pub sabmes-of : ReadsWritten → (tries period : ℕ) (delay : Role → ℕ) (link : Link) (ts : List Turn) (state : ℕ → Accounts) (deed : ℕ → Deed)
     → KeepsTime tries period delay link → MayPlay link.orig.setup link.answ.setup → Trace period delay link ts state deed
     → Sabmes period (length ts) (end_run delay state deed Originator)
 sabmes-of reads tries period delay link ts state deed kt m w = record {
@@ -123,7 +123,7 @@ sabmes-of reads tries period delay link ts state deed kt m w = record {
                 on (inr g) = let wrong : true ≡ false = sym g
                     ∙ (ap (λ x. x.try) wait ∙ try-false tries period delay link ts state deed kt w q (omega (arith, l)) f) in cc
 
-pub meeting-of : (tries period : ℕ) (delay : Role → ℕ) (link : Link) (ts : List Turn) (state : ℕ → Ends) (deed : ℕ → Deed)
+pub meeting-of : (tries period : ℕ) (delay : Role → ℕ) (link : Link) (ts : List Turn) (state : ℕ → Accounts) (deed : ℕ → Deed)
     → KeepsTime tries period delay link → Trace period delay link ts state deed
     → Meeting (length ts) (end_run delay state deed Originator) (end_run delay state deed Answerer)
 meeting-of tries period delay link ts state deed kt w = record {
@@ -159,7 +159,7 @@ meeting-of tries period delay link ts state deed kt w = record {
 }
 
 -- an answerer sends no SABME
-pub answ-no-sabme : (tries period : ℕ) (delay : Role → ℕ) (link : Link) (ts : List Turn) (state : ℕ → Ends) (deed : ℕ → Deed)
+pub answ-no-sabme : (tries period : ℕ) (delay : Role → ℕ) (link : Link) (ts : List Turn) (state : ℕ → Accounts) (deed : ℕ → Deed)
     → KeepsTime tries period delay link → Trace period delay link ts state deed
     → (q : ℕ) → q < length ts → of_frame is_sabme (sent_or (deed q).turn.answ.sent) ≡ true → ⊥
 answ-no-sabme tries period delay link ts state deed kt w q l e =
@@ -176,7 +176,7 @@ answ-no-sabme tries period delay link ts state deed kt w q l e =
         (deed q).mid.answ → ⊥
     never p g st = subst (λ x. Stands (rates tries period) (length (past ts q) + 1) (length (past ts q)) Answerer x (deed q).mid.answ) g st
 
-pub sends-sabme-so : ReadsWritten → (tries period : ℕ) (delay : Role → ℕ) (link : Link) (ts : List Turn) (state : ℕ → Ends)
+pub sends-sabme-so : ReadsWritten → (tries period : ℕ) (delay : Role → ℕ) (link : Link) (ts : List Turn) (state : ℕ → Accounts)
     (deed : ℕ → Deed) → KeepsTime tries period delay link → MayPlay link.orig.setup link.answ.setup
     → Trace period delay link ts state deed → (r : Role)
     → (q : ℕ) → q < length ts → of_frame is_sabme (sent_or (of r (deed q).turn).sent) ≡ true
@@ -187,7 +187,7 @@ sends-sabme-so reads tries period delay link ts state deed kt m w Answerer q l e
     (answ-no-sabme tries period delay link ts state deed kt w q l e)
 
 -- where a UA is due at an end that is Connected then, it heard a SABME
-pub answers-sabme : (tries period : ℕ) (delay : Role → ℕ) (link : Link) (ts : List Turn) (state : ℕ → Ends) (deed : ℕ → Deed)
+pub answers-sabme : (tries period : ℕ) (delay : Role → ℕ) (link : Link) (ts : List Turn) (state : ℕ → Accounts) (deed : ℕ → Deed)
     → (kt : KeepsTime tries period delay link) → (w : Trace period delay link ts state deed) → (r : Role)
     → (u : ℕ) → u < length ts → is_connected (of r (state (u + 1))).phase ≡ true
     → (deeds-of tries period delay link ts state deed kt w r u).answers ≡ true

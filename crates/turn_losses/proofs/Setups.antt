@@ -7,7 +7,7 @@ use Rattle.link_account.specs.declared.phase.Phase.{Phase}
 use Rattle.link_account.specs.Account.{Account}
 use Rattle.link_account.specs.Hear.{hear}
 use Rattle.link_run.specs.End.{User, is_released, is_closed}
-use Rattle.link_run.specs.Run.{Link, Ends, Turn, RunOf}
+use Rattle.link_run.specs.Run.{Link, Accounts, Turn, RunOf}
 use Rattle.link_run.specs.Carried.{IsCarried}
 use Rattle.turn_bound.specs.Time.{KeepsTime}
 use Rattle.turn_bound.proofs.Clock.{Rates, rates}
@@ -23,11 +23,11 @@ use Rattle.turn_bound.proofs.Ending.{fits}
 use Rattle.turn_bound.proofs.Tied.{Tied, tied, keeps, link_of, turn_of, state_of}
 use Rattle.turn_losses.proofs.Tracing.{Known, known, Timed, timed, rated}
 
-pub start-setup : (tries period : ℕ) (delay : Role → ℕ) (link : Link) (ts : List Turn) (ends : Ends) → KeepsTime tries period delay link
+pub start-setup : (tries period : ℕ) (delay : Role → ℕ) (link : Link) (ts : List Turn) (ends : Accounts) → KeepsTime tries period delay link
     → RunOf link ts ends → IsCarried delay ts → (r : Role) → (of r ends).setup ≡ (of r link).setup
 start-setup tries period delay link ts ends k run c r = (known tries period delay link ts ends k run c r).setup
 
-pub heard-as : (tries period : ℕ) (delay : Role → ℕ) (link : Link) (ts : List Turn) (ends : Ends) → KeepsTime tries period delay link
+pub heard-as : (tries period : ℕ) (delay : Role → ℕ) (link : Link) (ts : List Turn) (ends : Accounts) → KeepsTime tries period delay link
     → RunOf link ts ends → IsCarried delay ts → (r : Role) (arrived : Arrived) (mid : Account)
     → hear (length ts) arrived (of r ends) ≡ Ok mid
     → (q : Phase) × HeardAs (rates tries period) (length (of r ends).outgoing.pieces) 0 (length ts)
@@ -41,7 +41,7 @@ heard-as tries period delay link ts ends k run c r arrived mid h =
     (hears-well z (length a.outgoing.pieces) 0 (length ts) r a.phase arrived a (rated tries period delay link k)
     (subst (IsOf z) (sym kn.setup) tm.is_of) kn.stands refl (ap (λ s. s.role) kn.setup ∙ tm.role_is) (omega arith))
 
-pub heard-setup : (tries period : ℕ) (delay : Role → ℕ) (link : Link) (ts : List Turn) (ends : Ends) → KeepsTime tries period delay link
+pub heard-setup : (tries period : ℕ) (delay : Role → ℕ) (link : Link) (ts : List Turn) (ends : Accounts) → KeepsTime tries period delay link
     → RunOf link ts ends → IsCarried delay ts → (r : Role) (arrived : Arrived) (mid : Account)
     → hear (length ts) arrived (of r ends) ≡ Ok mid → mid.setup ≡ (of r link).setup
 heard-setup tries period delay link ts ends k run c r arrived mid h =
@@ -51,11 +51,11 @@ pub served-setup : (user : User) (turn : ℕ) (released : _) (mid : Account) →
 served-setup user turn released mid = (serves-all user turn released mid).setup
 
 -- An answerer is Closed only where the originator is told to release, and begins before it.
-pub record Met (ends : Ends) : Type 0 where
+pub record Met (ends : Accounts) : Type 0 where
   pub closed : is_closed ends.answ.phase ≡ true → is_released ends.orig.phase ≡ true
   pub begun : is_begun ends.orig.phase ≡ true → is_begun ends.answ.phase ≡ true
 
-pub met : (tries period : ℕ) (delay : Role → ℕ) (link : Link) (ts : List Turn) (ends : Ends) → KeepsTime tries period delay link
+pub met : (tries period : ℕ) (delay : Role → ℕ) (link : Link) (ts : List Turn) (ends : Accounts) → KeepsTime tries period delay link
     → RunOf link ts ends → IsCarried delay ts → Met ends
 met tries period delay link ts ends k run c =
     let i : Tied delay link ts ends = tied delay link ts ends k.delays run c in

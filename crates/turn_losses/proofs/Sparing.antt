@@ -12,7 +12,7 @@ use Rattle.link_account.specs.declared.phase.Phase.TheVariants.{Detecting, Negot
 use Rattle.link_account.specs.Account.{is_connected}
 use Rattle.link_account.specs.Hear.{hear}
 use Rattle.link_run.specs.End.{is_closed}
-use Rattle.link_run.specs.Run.{Link, Ends, Turn, RunOf, Hears, arrival, served_at}
+use Rattle.link_run.specs.Run.{Link, Accounts, Turn, RunOf, Hears, arrival, served_at}
 use Rattle.link_run.specs.Carried.{Carries, IsCarried}
 use Rattle.link_run.specs.Laws.{RunsOver}
 use Rattle.link_run.specs.Starved.{LosesSome, SpanLoses, IsStarved, turn_at}
@@ -96,8 +96,8 @@ connected-begun Releasing e = cc
 connected-begun Closed e = cc
 
 -- While the originator isn't linked up to its end, a period loses a SABME or a UA, or did so a delay before it.
-pub unlinked-loses : ReadsWritten → (tries period : ℕ) (delay : Role → ℕ) (link : Link) (ts : List Turn) (before : Ends) (t : Turn)
-    (mid : Ends) → (kt : KeepsTime tries period delay link) → RunsOver link delay ts before → Carries delay ts t
+pub unlinked-loses : ReadsWritten → (tries period : ℕ) (delay : Role → ℕ) (link : Link) (ts : List Turn) (before : Accounts) (t : Turn)
+    (mid : Accounts) → (kt : KeepsTime tries period delay link) → RunsOver link delay ts before → Carries delay ts t
     → Hears (length ts) before t mid
     → (w : Traced period delay link ts before) → (s n : ℕ) → s + (n + 1) * period ≡ length ts
     → ((u : ℕ) → s < u → u ≤ s + period → is_connected (w.state u).answ.phase ≡ true)
@@ -154,7 +154,7 @@ unlinked-loses reads tries period delay link ts before t mid kt run cs hearing w
     i : Tried period Establishing o (x + 1)
     i = tried period turns Establishing o long
         (tries-so reads tries period delay link ts w.state w.deed kt run.may_play w.trace Establishing refl)
-        (λ f. let wrong : Detecting ≡ Establishing = ap (λ (y : Ends). y.orig.phase) (sym w.trace.starts) ∙ f in cc) (x + 1)
+        (λ f. let wrong : Detecting ≡ Establishing = ap (λ (y : Accounts). y.orig.phase) (sym w.trace.starts) ∙ f in cc) (x + 1)
         (omega (arith, within, p, d)) (est (x + 1) (omega (arith, p)) (omega (arith, p, d)))
 
     before-x : i.set ≤ x
@@ -242,7 +242,7 @@ unlinked-loses reads tries period delay link ts before t mid kt run cs hearing w
             on false f' =
                 let comes : of_arrived (moves_on Establishing) (arrival t.orig.heard) ≡ true = last-heard
                 (moves_on Establishing) period delay link ts w.state w.deed w.trace t cs Originator d' u v-is f' ∙ answered in
-                let was : before.orig.phase ≡ Establishing = ap (λ (y : Ends). y.orig.phase) (sym w.last)
+                let was : before.orig.phase ≡ Establishing = ap (λ (y : Accounts). y.orig.phase) (sym w.last)
                 ∙ (ap (λ y. (w.state y).orig.phase) (sym v-is) ∙ est v (omega (arith, u-low)) u-high) in
                 let role = setup-role tries period delay link ts before kt run.run run.carried Originator in
                 let none = (known tries period delay link ts before kt run.run run.carried Originator).none_due.answer in
@@ -260,14 +260,14 @@ unlinked-loses reads tries period delay link ts before t mid kt run cs hearing w
                 unheard comes (inr (never, _, _, _, _)) was = never was
 
 -- whether the originator becomes Connected in a period: it isn't before, and is after
-pub record Joins (period : ℕ) (ts : List Turn) (state : ℕ → Ends) (mid : Ends) (n : ℕ) : Type 0 where
+pub record Joins (period : ℕ) (ts : List Turn) (state : ℕ → Accounts) (mid : Accounts) (n : ℕ) : Type 0 where
   pub start : ℕ
   pub number : start + (n + 1) * period ≡ length ts
   pub before : is_linked (state (start + 1)).orig.phase ≡ false
   pub after : start + period < length ts → is_linked (state (start + period + 1)).orig.phase ≡ true
 
 -- in one period at most
-one-joins : (period turns : ℕ) (o e : EndRun) → TwoEnds period turns o e → (ts : List Turn) (state : ℕ → Ends) (mid : Ends)
+one-joins : (period turns : ℕ) (o e : EndRun) → TwoEnds period turns o e → (ts : List Turn) (state : ℕ → Accounts) (mid : Accounts)
     → turns ≡ length ts → ((u : ℕ) → (o.account u).phase ≡ (state u).orig.phase) → (n m : ℕ) → n < m → Joins period ts state mid n
     → Joins period ts state mid m → ⊥
 one-joins period turns o e k ts state mid same at n m less a b =
@@ -288,8 +288,8 @@ one-joins period turns o e k ts state mid same at n m less a b =
     once : (q j : ℕ) → (j + 1) * q ≡ j * q + q
     once q j = grind (arith)
 
-pub answerer-breaks : ReadsWritten → (tries period : ℕ) (delay : Role → ℕ) (link : Link) (ts : List Turn) (before : Ends) (t : Turn)
-    (mid : Ends) → (kt : KeepsTime tries period delay link) → RunsOver link delay ts before → Carries delay ts t
+pub answerer-breaks : ReadsWritten → (tries period : ℕ) (delay : Role → ℕ) (link : Link) (ts : List Turn) (before : Accounts) (t : Turn)
+    (mid : Accounts) → (kt : KeepsTime tries period delay link) → RunsOver link delay ts before → Carries delay ts t
     → Hears (length ts) before t mid → is_closed mid.orig.phase ≡ false → is_connected mid.answ.phase ≡ true
     → LastWait tries period (length ts) before.answ → waits (served_at link (length ts) mid Answerer).account.own_breaks ≡ true
     → IsStarved tries period delay (t ∷ ts)
@@ -303,7 +303,7 @@ answerer-breaks reads tries period delay link ts before t mid kt run cs hearing 
     w = traced tries period delay link ts before kt run.run run.carried
 
     last : LastWait tries period turns (w.state turns).answ
-    last = subst (λ (x : Ends). LastWait tries period turns x.answ) (sym w.last) l
+    last = subst (λ (x : Accounts). LastWait tries period turns x.answ) (sym w.last) l
 
     o : EndRun
     o = end_run delay w.state w.deed Originator
@@ -320,7 +320,7 @@ answerer-breaks reads tries period delay link ts before t mid kt run cs hearing 
     once : (y : ℕ) → (y + 1) * period ≡ y * period + period
     once y = omega arith
 
-    role : (us : List Turn) (y : Ends) → RunOf link us y → IsCarried delay us → y.orig.setup.role ≡ Originator
+    role : (us : List Turn) (y : Accounts) → RunOf link us y → IsCarried delay us → y.orig.setup.role ≡ Originator
     role us y run' c' = setup-role tries period delay link us y kt run' c' Originator
 
     -- the originator is Closed at no time
@@ -330,7 +330,7 @@ answerer-breaks reads tries period delay link ts before t mid kt run cs hearing 
           (role (past ts u) (w.state u) h.run h.carried) (h.hearing Originator).hears h.going f)
       | inr y ↦ not-closed (arrival t.orig.heard) turns before.orig mid.orig (role ts before run.run run.carried)
           (hearing Originator).hears going
-          (ap (λ (x : Ends). x.orig.phase) (sym w.last) ∙ (ap (λ x. (w.state x).orig.phase) (omega (arith, b, y)) ∙ f))
+          (ap (λ (x : Accounts). x.orig.phase) (sym w.last) ∙ (ap (λ x. (w.state x).orig.phase) (omega (arith, b, y)) ∙ f))
     ]
 
     one-period : (n : ℕ) → n < tries + 1 → SpanLoses period (max (delay Originator) (delay Answerer)) (t ∷ ts) n
@@ -358,7 +358,7 @@ answerer-breaks reads tries period delay link ts before t mid kt run cs hearing 
                 (meeting-of tries period delay link ts w.state w.deed kt w.trace) s (omega (arith, within, p)) f u a
                 (omega (arith, b, within)) g)
                 (λ g h. none-last link ts before t mid Answerer tries period hearing cm l waiting
-                (ap (λ (x : Ends). of_arrived (of_word (ack_of (number_of x.answ))) (arrival t.answ.heard)) (sym w.last) ∙ h))))
+                (ap (λ (x : Accounts). of_arrived (of_word (ack_of (number_of x.answ))) (arrival t.answ.heard)) (sym w.last) ∙ h))))
             by false f = after (cases_lt (s + period) turns)
               where
                 out : (s + period < turns → is_linked (w.state (s + period + 1)).orig.phase ≡ false)
@@ -395,7 +395,7 @@ answerer-breaks reads tries period delay link ts before t mid kt run cs hearing 
                     on false x = out (λ y. absurd (omega (arith, y, border))) (λ y. x)
                         (not-true (is_linked (w.state (s + period)).orig.phase)
                         (λ y. let wrong : true ≡ false = sym
-                        (linked-heard (ap (λ (z : Ends). is_linked z.orig.phase) (sym w.last)
+                        (linked-heard (ap (λ (z : Accounts). is_linked z.orig.phase) (sym w.last)
                         ∙ (ap (λ z. is_linked (w.state z).orig.phase) (sym border) ∙ y))) ∙ x in cc))
 
     -- all of the latest periods, or the one that is let off

@@ -16,7 +16,7 @@ use Rattle.link_account.specs.Hear.{hear, trying}
 use Rattle.link_account.specs.Speak.{spent, trying_again, tries_frame, polling, timer_expires, breaking, on_break_timer, after_timers}
 use Rattle.link_account.specs.Speak.{then_tries, speak_linked, speak, speak_in, speak_releasing}
 use Rattle.link_run.specs.End.{is_busy}
-use Rattle.link_run.specs.Run.{Link, Ends, Turn, RunOf}
+use Rattle.link_run.specs.Run.{Link, Accounts, Turn, RunOf}
 use Rattle.link_run.specs.Carried.{IsCarried}
 use Rattle.turn_bound.specs.Time.{KeepsTime}
 use Rattle.turn_bound.proofs.Clock.{rates}
@@ -118,7 +118,7 @@ pub record LastWait (tries period turn : ℕ) (a : Account) : Type 0 where
   pub count : a.own_breaks.count ≡ tries
   pub high : length a.own_breaks.lengths ≤ a.own_breaks.answered + 1
 
-pub last-wait : (tries period : ℕ) (delay : Role → ℕ) (link : Link) (ts : List Turn) (before : Ends) → KeepsTime tries period delay link
+pub last-wait : (tries period : ℕ) (delay : Role → ℕ) (link : Link) (ts : List Turn) (before : Accounts) → KeepsTime tries period delay link
     → RunOf link ts before → IsCarried delay ts → (r : Role) (arrived : Arrived) (released : Bool) (mid : Account)
     → hear (length ts) arrived (of r before) ≡ Ok mid → is_connected mid.phase ≡ true
     → SpendsBreak (length ts) (served_account (of r link).user (length ts) released mid)

@@ -7,7 +7,7 @@ use Rattle.roles.specs.declared.role.Role.TheVariants.{Originator, Answerer}
 use Rattle.roles.specs.Role.{other}
 use Rattle.link_account.specs.Account.{is_connected}
 use Rattle.link_run.specs.End.{is_released}
-use Rattle.link_run.specs.Run.{Link, Ends, Turn, arrival, releases}
+use Rattle.link_run.specs.Run.{Link, Accounts, Turn, arrival, releases}
 use Rattle.link_run.specs.Laws.{RunsOver}
 use Rattle.turn_bound.specs.Time.{KeepsTime}
 use Rattle.link_run.specs.Starved.{SpanLoses, IsStarved, LosesSome, turn_at}
@@ -23,18 +23,18 @@ use Rattle.turn_losses.proofs.Tracing.{Known, known, Timed, timed, rated, Traced
 use Rattle.turn_losses.proofs.Numbering.{Plays, allowed, fits-at, counts-of}
 use Rattle.turn_losses.proofs.Wanting.{LastTry, last-try, wants-answers}
 
-pub originator-each : Plays → StandTogether → (tries period : ℕ) (delay : Role → ℕ) (link : Link) (ts : List Turn) (before : Ends)
+pub originator-each : Plays → StandTogether → (tries period : ℕ) (delay : Role → ℕ) (link : Link) (ts : List Turn) (before : Accounts)
     → KeepsTime tries period delay link → RunsOver link delay ts before → LastTry tries period (length ts) before.orig
     → LosesEach period tries (length ts) ts
 originator-each laws together tries period delay link ts before kt run last =
     wants-answers tries period delay link ts w.state w.deed kt w.trace Originator
     (counts-of laws tries period delay link ts w.state w.deed kt run.may_play w.trace Originator)
-    (subst (λ (x : Ends). LastTry tries period (length ts) x.orig) (sym w.last) last) both
+    (subst (λ (x : Accounts). LastTry tries period (length ts) x.orig) (sym w.last) last) both
   where
     w : Traced period delay link ts before
     w = traced tries period delay link ts before kt run.run run.carried
 
-    joined : (x : Ends) → Together x → is_connected x.orig.phase ≡ true → is_connected x.answ.phase ≡ true
+    joined : (x : Accounts) → Together x → is_connected x.orig.phase ≡ true → is_connected x.answ.phase ≡ true
     joined x h c = ap is_connected (h.answ (connected-is x.orig.phase c))
 
     both : (s u : ℕ) → s < length ts → s ≤ u → u ≤ length ts → (w.deed s).made Originator ≡ true

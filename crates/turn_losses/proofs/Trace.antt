@@ -5,7 +5,7 @@ use Rattle.roles.specs.Both.{of}
 use Rattle.lapm_frames.specs.declared.sent.Sent.{Sent}
 use Rattle.lapm_frames.specs.declared.sent.Sent.TheVariants as slots
 use Rattle.link_run.specs.End.{is_closed}
-use Rattle.link_run.specs.Run.{Link, Ends, Spoken, Turn, RunOf, Hears, Speaks, served_at, start, arrival}
+use Rattle.link_run.specs.Run.{Link, Accounts, Spoken, Turn, RunOf, Hears, Speaks, served_at, start, arrival}
 use Rattle.link_run.specs.Carried.{Carries, IsCarried}
 use Rattle.turn_bound.proofs.MeetHear.{of_arrived}
 use Rattle.turn_losses.specs.Polls.{is_poll, is_final}
@@ -25,11 +25,11 @@ sent_or (Some slot) = slot.sent
 -- what happens in a turn: the ends once they have heard, and at which of them a poll becomes due
 pub record Deed : Type 0 where
   pub turn : Turn
-  pub mid : Ends
+  pub mid : Accounts
   pub made : Role → Bool
 
-pub record Happens (period : ℕ) (delay : Role → ℕ) (link : Link) (us : List Turn) (turn : ℕ) (before : Ends) (d : Deed)
-    (after : Ends) : Type 0 where
+pub record Happens (period : ℕ) (delay : Role → ℕ) (link : Link) (us : List Turn) (turn : ℕ) (before : Accounts) (d : Deed)
+    (after : Accounts) : Type 0 where
   pub number : length us ≡ turn
   pub run : RunOf link us before
   pub carried : IsCarried delay us
@@ -46,7 +46,7 @@ pub record Happens (period : ℕ) (delay : Role → ℕ) (link : Link) (us : Lis
       (speaking role).said
 
 -- The ends before each turn, and what happens in it.
-pub record Trace (period : ℕ) (delay : Role → ℕ) (link : Link) (ts : List Turn) (state : ℕ → Ends) (deed : ℕ → Deed) : Type 0 where
+pub record Trace (period : ℕ) (delay : Role → ℕ) (link : Link) (ts : List Turn) (state : ℕ → Accounts) (deed : ℕ → Deed) : Type 0 where
   pub starts : state 0 ≡ start link
   pub happens : (t : ℕ) → t < length ts → Happens period delay link (past ts t) t (state t) (deed t) (state (t + 1))
   pub grows : (t : ℕ) → t < length ts → past ts (t + 1) ≡ (deed t).turn ∷ past ts t

@@ -37,7 +37,7 @@ use Rattle.turn_bound.proofs.MeetHear.{of_arrived}
 use Rattle.turn_losses.proofs.Polling.{is_linked, Early, PollTurn}
 use Rattle.std.proofs.Common.{map}
 use Rattle.roles.specs.Both.{of}
-use Rattle.link_run.specs.Run.{Link, Ends, Turn, RunOf, GoingTurn, start, arrival, served_at, said_at, releases}
+use Rattle.link_run.specs.Run.{Link, Accounts, Turn, RunOf, GoingTurn, start, arrival, served_at, said_at, releases}
 use Rattle.link_run.specs.Carried.{Carries, IsCarried}
 use Rattle.turn_bound.specs.Time.{KeepsTime}
 use Rattle.turn_bound.proofs.Tied.{Tied, tied, keeps, link_of, turn_of, state_of, turns-length}
@@ -143,7 +143,7 @@ end-polls z user turn role arrived a mid released release said y k h er hears sp
         by (inr f) = inr (λ x. s.reply ∙ f (ap is_released (sym s.phase) ∙ x))
 
 -- what is known of each end between turns
-pub record Known (z : Rates) (link : Link) (turn : ℕ) (ends : Ends) (role : Role) : Type 0 where
+pub record Known (z : Rates) (link : Link) (turn : ℕ) (ends : Accounts) (role : Role) : Type 0 where
   pub stands : Stands z turn turn role (of role ends).phase (of role ends)
   pub setup : (of role ends).setup ≡ (of role link).setup
   pub none_due : NoneDue (of role ends)
@@ -162,7 +162,7 @@ timed tries period delay link k role = record {
 pub rated : (tries period : ℕ) (delay : Role → ℕ) (link : Link) → KeepsTime tries period delay link → AreRates (rates tries period)
 rated tries period delay link k = (fits tries period (link_of delay link) (keeps tries period delay link k)).rates
 
-pub known : (tries period : ℕ) (delay : Role → ℕ) (link : Link) (ts : List Turn) (ends : Ends) → KeepsTime tries period delay link
+pub known : (tries period : ℕ) (delay : Role → ℕ) (link : Link) (ts : List Turn) (ends : Accounts) → KeepsTime tries period delay link
     → RunOf link ts ends → IsCarried delay ts
     → (role : Role) → Known (rates tries period) link (length ts) ends role
 known tries period delay link ts ends k run c role = by role
@@ -188,20 +188,20 @@ known tries period delay link ts ends k run c role = by role
     by Answerer = record { stands = h.answ; setup = h.answ_setup; none_due = n.1 }
 
 -- an end speaks as its role does
-abbrev pub release_of : Link → ℕ → Ends → Role → Bool
+abbrev pub release_of : Link → ℕ → Accounts → Role → Bool
 release_of link turn mid Originator = releases link turn mid
 release_of link turn mid Answerer = false
 
-pub said-as : (link : Link) (turn : ℕ) (mid : Ends) (role : Role)
+pub said-as : (link : Link) (turn : ℕ) (mid : Accounts) (role : Role)
     → said_at link turn mid role ≡ speak turn (release_of link turn mid role) (served_at link turn mid role).account
 said-as link turn mid Originator = refl
 said-as link turn mid Answerer = refl
 
-abbrev pub AllEarly : Ends → Type 0
+abbrev pub AllEarly : Accounts → Type 0
 AllEarly ends = (role : Role) → Early role (of role ends)
 
 -- a turn of both
-turn-happens : (tries period : ℕ) (delay : Role → ℕ) (link : Link) (ts : List Turn) (before : Ends) (t : Turn) (after : Ends)
+turn-happens : (tries period : ℕ) (delay : Role → ℕ) (link : Link) (ts : List Turn) (before : Accounts) (t : Turn) (after : Accounts)
     → KeepsTime tries period delay link → RunOf link ts before → IsCarried delay ts → Carries delay ts t
     → GoingTurn link ts before t after → AllEarly before
     → (d : Deed) × (d.turn ≡ t) × Happens period delay link ts (length ts) before d after
@@ -251,14 +251,14 @@ turn-happens tries period delay link ts before t after k run c cs g early = (
         (g.hearing role).hears (sym (said-as link (length ts) g.mid role) ∙ (g.speaking role).says) w.none_due (early role)
 
 -- a run as it is looked up
-pub record Traced (period : ℕ) (delay : Role → ℕ) (link : Link) (ts : List Turn) (ends : Ends) : Type 0 where
-  pub state : ℕ → Ends
+pub record Traced (period : ℕ) (delay : Role → ℕ) (link : Link) (ts : List Turn) (ends : Accounts) : Type 0 where
+  pub state : ℕ → Accounts
   pub deed : ℕ → Deed
   pub trace : Trace period delay link ts state deed
   pub last : state (length ts) ≡ ends
   pub early : AllEarly ends
 
-none-deed : Ends → Deed
+none-deed : Accounts → Deed
 none-deed ends = record {
   turn = record {
     orig = record { heard = heards.Nothing; check = checks.Sixteen; sent = None; given = None };
@@ -293,13 +293,13 @@ pub past-before : (x : Turn) (ts : List Turn) → past (x ∷ ts) (length ts) �
 past-before x ts = past-later x ts (length ts) (omega arith) ∙ past-all ts
 
 -- A run with one more turn, and what that turn was.
-pub record OneMore (period : ℕ) (delay : Role → ℕ) (link : Link) (x : Turn) (ts : List Turn) (before : Ends) (d : Deed)
-    (after : Ends) : Type 0 where
+pub record OneMore (period : ℕ) (delay : Role → ℕ) (link : Link) (x : Turn) (ts : List Turn) (before : Accounts) (d : Deed)
+    (after : Accounts) : Type 0 where
   pub traced : Traced period delay link (x ∷ ts) after
   pub before_is : traced.state (length ts) ≡ before
   pub deed_is : traced.deed (length ts) ≡ d
 
-pub longer : (period : ℕ) (delay : Role → ℕ) (link : Link) (ts : List Turn) (s : Ends) (x : Turn) (d : Deed) (u : Ends)
+pub longer : (period : ℕ) (delay : Role → ℕ) (link : Link) (ts : List Turn) (s : Accounts) (x : Turn) (d : Deed) (u : Accounts)
     → Traced period delay link ts s → d.turn ≡ x → Happens period delay link ts (length ts) s d u → OneMore period delay link x ts s d u
 longer period delay link ts s x d u k dx h = record {
   traced = record {
@@ -316,7 +316,7 @@ longer period delay link ts s x d u k dx h = record {
     n : ℕ
     n = length ts
 
-    state : ℕ → Ends
+    state : ℕ → Accounts
     state t = cond (nat_lt n t) u (k.state t)
 
     deed : ℕ → Deed
@@ -340,7 +340,7 @@ longer period delay link ts s x d u k dx h = record {
     late-deed : (t : ℕ) → n ≤ t → deed t ≡ d
     late-deed t l = let e : nat_lt t n ≡ false = not-below t n l in ap (λ b. cond b (k.deed t) d) e
 
-    moved : (t : ℕ) (us : List Turn) (a b : Ends) (w : Deed) → past (x ∷ ts) t ≡ us → state t ≡ a → deed t ≡ w → state (t + 1) ≡ b
+    moved : (t : ℕ) (us : List Turn) (a b : Accounts) (w : Deed) → past (x ∷ ts) t ≡ us → state t ≡ a → deed t ≡ w → state (t + 1) ≡ b
         → Happens period delay link us t a w b
         → Happens period delay link (past (x ∷ ts) t) t (state t) (deed t) (state (t + 1))
     moved t us a b w o p q r g = subst (λ y. Happens period delay link y t (state t) (deed t) (state (t + 1))) (sym o)
@@ -377,7 +377,7 @@ longer period delay link ts s x d u k dx h = record {
             ∙ ap (λ us. (deed t).turn ∷ us) (sym (ap (past (x ∷ ts)) q ∙ (past-later x ts n (omega arith) ∙ past-all ts))))
 
 -- every run is traced
-pub traced : (tries period : ℕ) (delay : Role → ℕ) (link : Link) (ts : List Turn) (ends : Ends) → KeepsTime tries period delay link
+pub traced : (tries period : ℕ) (delay : Role → ℕ) (link : Link) (ts : List Turn) (ends : Accounts) → KeepsTime tries period delay link
     → RunOf link ts ends → IsCarried delay ts → Traced period delay link ts ends
 traced tries period delay link [] ends k run c = record {
   state = λ t. ends;
@@ -401,7 +401,7 @@ traced tries period delay link (t ∷ ts) ends k (before, run, g) c =
     (longer period delay link ts before t d.0 ends w d.1 d.2).traced
 
 -- and so is one more turn of it
-pub traced-turn : (tries period : ℕ) (delay : Role → ℕ) (link : Link) (ts : List Turn) (before : Ends) (t : Turn) (after : Ends)
+pub traced-turn : (tries period : ℕ) (delay : Role → ℕ) (link : Link) (ts : List Turn) (before : Accounts) (t : Turn) (after : Accounts)
     → KeepsTime tries period delay link → RunOf link ts before → GoingTurn link ts before t after → IsCarried delay (t ∷ ts)
     → (d : Deed) × (d.turn ≡ t) × OneMore period delay link t ts before d after
 traced-turn tries period delay link ts before t after k run g c =

@@ -14,7 +14,7 @@ use Rattle.causes.specs.declared.fault.LinkFault.TheVariants.{Spent, NotDetected
 use Rattle.link_account.specs.Account.{Account, is_connected}
 use Rattle.link_account.specs.Speak.{says, speak, speak_in, speak_detecting, speak_negotiating, u_try}
 use Rattle.link_run.specs.End.{is_busy, is_released, is_closed}
-use Rattle.link_run.specs.Run.{Link, Ends, Turn, arrival, served_at, releases}
+use Rattle.link_run.specs.Run.{Link, Accounts, Turn, arrival, served_at, releases}
 use Rattle.link_run.specs.Starved.{LosesSome}
 use Rattle.turn_bound.proofs.Serving.{Served, serves-all}
 use Rattle.turn_bound.proofs.Tied.{is_lost}
@@ -32,7 +32,7 @@ use Rattle.turn_losses.proofs.Setups.{start-setup, heard-setup, served-setup}
 use Rattle.turn_losses.proofs.Trying.{TriesSo, tries-so, unanswered, unanswered-loses}
 
 -- something lost in a period of turns, as a period's loss
-pub lost-in-period : (period : ℕ) (delay : Role → ℕ) (link : Link) (ts : List Turn) (state : ℕ → Ends) (deed : ℕ → Deed)
+pub lost-in-period : (period : ℕ) (delay : Role → ℕ) (link : Link) (ts : List Turn) (state : ℕ → Accounts) (deed : ℕ → Deed)
     → Trace period delay link ts state deed → 1 ≤ period → (s n : ℕ) → s + (n + 1) * period ≡ length ts
     → LostIn (end_run delay state deed Originator) (end_run delay state deed Answerer) (s + 1) (period - 1)
     → PeriodLoses period (length ts) ts n
@@ -128,7 +128,7 @@ originator-wants-frame reads tries period delay link ts before t mid segment sin
     tries-on = tries-so reads tries period delay link ts w.state w.deed kt run.may_play w.trace p trying
 
     none : (w.state 0).orig.phase ≡ p → ⊥
-    none q = let there : is_trying Detecting ≡ true = ap (λ (x : Ends). is_trying x.orig.phase) (sym w.trace.starts)
+    none q = let there : is_trying Detecting ≡ true = ap (λ (x : Accounts). is_trying x.orig.phase) (sym w.trace.starts)
         ∙ (ap is_trying q ∙ trying) in cc
 
     goes-on : TryGoesOn p (arrival t.orig.heard) before.orig mid.orig ⊎ TryBegins turns p before.orig mid.orig
@@ -142,7 +142,7 @@ originator-wants-frame reads tries period delay link ts before t mid segment sin
         (broken.hearing Originator).hears p trying refl)
 
     account-is : (w.state turns).orig ≡ before.orig
-    account-is = ap (λ (x : Ends). x.orig) w.last
+    account-is = ap (λ (x : Accounts). x.orig) w.last
 
     each : LosesEach period (tries + 1) turns ts
     each n less =

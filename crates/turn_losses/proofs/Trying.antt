@@ -16,7 +16,7 @@ use Rattle.link_account.specs.Hear.{hear}
 use Rattle.link_account.specs.Laws.{MayPlay}
 use Rattle.link_account.specs.Speak.{Said, speak}
 use Rattle.link_run.specs.End.{User, is_busy, is_released, is_closed}
-use Rattle.link_run.specs.Run.{Link, Ends, Turn, SpeaksAt, arrival, served_at, said_at}
+use Rattle.link_run.specs.Run.{Link, Accounts, Turn, SpeaksAt, arrival, served_at, said_at}
 use Rattle.turn_bound.specs.Time.{KeepsTime}
 use Rattle.turn_bound.proofs.Clock.{rates}
 use Rattle.turn_bound.proofs.Value.{Stands}
@@ -205,7 +205,7 @@ unanswered period turns p e long h none (suc n) t l f c due (suc j) less =
     (r.0, omega (arith, d, m, q, due), r.2)
 
 -- What both ends of a run are to each other while the originator tries.
-pub tries-so : ReadsWritten → (tries period : ℕ) (delay : Role → ℕ) (link : Link) (ts : List Turn) (state : ℕ → Ends) (deed : ℕ → Deed)
+pub tries-so : ReadsWritten → (tries period : ℕ) (delay : Role → ℕ) (link : Link) (ts : List Turn) (state : ℕ → Accounts) (deed : ℕ → Deed)
     → KeepsTime tries period delay link → MayPlay link.orig.setup link.answ.setup → Trace period delay link ts state deed
     → (p : Phase) → is_trying p ≡ true → TriesSo period (length ts) p (end_run delay state deed Originator)
 tries-so reads tries period delay link ts state deed kt m w p t u l f =
@@ -265,7 +265,7 @@ not-so true f = absurd (f refl)
 not-so false f = refl
 
 -- The answerer answers in the turn in which it hears.
-pub answers-so : ReadsWritten → (tries period : ℕ) (delay : Role → ℕ) (link : Link) (ts : List Turn) (state : ℕ → Ends) (deed : ℕ → Deed)
+pub answers-so : ReadsWritten → (tries period : ℕ) (delay : Role → ℕ) (link : Link) (ts : List Turn) (state : ℕ → Accounts) (deed : ℕ → Deed)
     → KeepsTime tries period delay link → MayPlay link.orig.setup link.answ.setup → Trace period delay link ts state deed
     → (p : Phase) → is_trying p ≡ true → (u : ℕ) → u < length ts → (state u).orig.phase ≡ p
     → of_arrived (asks p) (arrival (deed u).turn.answ.heard) ≡ true → of_frame (moves_on p) (sent_or (deed u).turn.answ.sent) ≡ true
@@ -335,7 +335,7 @@ answers-so reads tries period delay link ts state deed kt m w p t u l f k =
     served-due = moved p mid (served_at link u (deed u).mid Answerer).account v.phase v.answer due
 
 -- So where none moves the originator on for a whole period, something was lost in it.
-pub unanswered-loses : ReadsWritten → (tries period : ℕ) (delay : Role → ℕ) (link : Link) (ts : List Turn) (state : ℕ → Ends)
+pub unanswered-loses : ReadsWritten → (tries period : ℕ) (delay : Role → ℕ) (link : Link) (ts : List Turn) (state : ℕ → Accounts)
     (deed : ℕ → Deed) → KeepsTime tries period delay link → MayPlay link.orig.setup link.answ.setup
     → Trace period delay link ts state deed
     → (p : Phase) → is_trying p ≡ true → (s : ℕ) → s + period ≤ length ts → Unanswered period p (end_run delay state deed Originator) s

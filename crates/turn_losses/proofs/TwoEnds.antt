@@ -7,7 +7,7 @@ use Rattle.lapm_frames.specs.declared.arrived.Arrived.{Arrived}
 use Rattle.lapm_frames.specs.declared.arrived.Arrived.TheVariants as arrivals
 use Rattle.link_account.specs.Account.{Account}
 use Rattle.link_account.specs.Play.{arrives}
-use Rattle.link_run.specs.Run.{Ends, arrival}
+use Rattle.link_run.specs.Run.{Accounts, arrival}
 use Rattle.turn_bound.proofs.MeetHear.{of_frame, of_arrived}
 use Rattle.turn_bound.proofs.Tied.{is_lost}
 use Rattle.turn_losses.specs.Polls.{is_poll, is_final}
@@ -26,7 +26,7 @@ pub record EndRun : Type 0 where
   pub count : ℕ → ℕ  -- the retry count once it has heard
   pub mid : ℕ → Account  -- once it has heard
 
-abbrev pub end_run : (Role → ℕ) → (ℕ → Ends) → (ℕ → Deed) → Role → EndRun
+abbrev pub end_run : (Role → ℕ) → (ℕ → Accounts) → (ℕ → Deed) → Role → EndRun
 end_run delay state deed role = record {
   role = role;
   delay = delay role;

@@ -13,7 +13,7 @@ use Rattle.link_account.specs.Account.{Account, is_connected}
 use Rattle.link_account.specs.Hear.{hear}
 use Rattle.link_account.specs.Speak.{Said, speak}
 use Rattle.link_run.specs.End.{BreakLine, is_busy, is_released}
-use Rattle.link_run.specs.Run.{Link, Ends, Turn, RunOf, SpeaksAt, arrival, served_at, said_at}
+use Rattle.link_run.specs.Run.{Link, Accounts, Turn, RunOf, SpeaksAt, arrival, served_at, said_at}
 use Rattle.link_run.specs.Carried.{IsCarried}
 use Rattle.turn_bound.specs.Time.{KeepsTime}
 use Rattle.turn_bound.proofs.Clock.{Rates, rates}
@@ -47,19 +47,19 @@ said-lengths z total breaks turn role p a said (Ok x) e h = let same : x ≡ sai
     ∙ h.1.lengths
 
 -- what an end that has heard and is served has taken
-served-taken : (tries period : ℕ) (delay : Role → ℕ) (link : Link) (ts : List Turn) (ends : Ends) → KeepsTime tries period delay link
+served-taken : (tries period : ℕ) (delay : Role → ℕ) (link : Link) (ts : List Turn) (ends : Accounts) → KeepsTime tries period delay link
     → RunOf link ts ends → IsCarried delay ts → (r : Role) → (of r link).user.breaks ≡ [] → taken (of r ends) ≡ 0
-    → (arrived : Arrived) (mid : Ends) → hear (length ts) arrived (of r ends) ≡ Ok (of r mid)
+    → (arrived : Arrived) (mid : Accounts) → hear (length ts) arrived (of r ends) ≡ Ok (of r mid)
     → taken (served_at link (length ts) mid r).account ≡ 0
 served-taken tries period delay link ts ends k run c r none e arrived mid h =
     served-none (length ts) (of r link).user.breaks (is_busy (length ts) (of r link).user.busy) (of r mid)
     (served_at link (length ts) mid r).account none (serves-all (of r link).user (length ts) (is_released mid.orig.phase) (of r mid))
     (ap (λ (l : List ℕ). length l) (heard-as tries period delay link ts ends k run c r arrived (of r mid) h).1.lengths ∙ e)
 
-none-taken : (tries period : ℕ) (delay : Role → ℕ) (link : Link) (ts : List Turn) (ends : Ends) → KeepsTime tries period delay link
+none-taken : (tries period : ℕ) (delay : Role → ℕ) (link : Link) (ts : List Turn) (ends : Accounts) → KeepsTime tries period delay link
     → RunOf link ts ends → IsCarried delay ts → (r : Role) → (of r link).user.breaks ≡ [] → taken (of r ends) ≡ 0
-none-taken tries period delay link [] ends k run c Originator none = ap (λ (x : Ends). taken x.orig) run
-none-taken tries period delay link [] ends k run c Answerer none = ap (λ (x : Ends). taken x.answ) run
+none-taken tries period delay link [] ends k run c Originator none = ap (λ (x : Accounts). taken x.orig) run
+none-taken tries period delay link [] ends k run c Answerer none = ap (λ (x : Accounts). taken x.answ) run
 none-taken tries period delay link (t ∷ ts) ends k (before, run, g) c r none =
     let turn : ℕ = length ts in
     let z : Rates = rates tries period in

@@ -14,7 +14,7 @@ use Rattle.causes.specs.declared.fault.LinkFault.TheVariants.{NotDetected}
 use Rattle.link_account.specs.Account.{Account}
 use Rattle.link_account.specs.Speak.{Said, says, speak, speak_in, speak_detecting}
 use Rattle.link_run.specs.End.{is_released}
-use Rattle.link_run.specs.Run.{Link, Ends, Turn, RunOf, arrival, served_at, releases}
+use Rattle.link_run.specs.Run.{Link, Accounts, Turn, RunOf, arrival, served_at, releases}
 use Rattle.link_run.specs.Carried.{IsCarried}
 use Rattle.turn_bound.specs.Time.{KeepsTime}
 use Rattle.turn_bound.specs.Spent.{SpendsOnTime}
@@ -40,7 +40,7 @@ sends-early turn release b said e r h =
     go false f q = grind (arith, nat_tests)
 
 -- as long as it is Detecting
-early : (tries period : ℕ) (delay : Role → ℕ) (link : Link) (ts : List Turn) (ends : Ends) → KeepsTime tries period delay link
+early : (tries period : ℕ) (delay : Role → ℕ) (link : Link) (ts : List Turn) (ends : Accounts) → KeepsTime tries period delay link
     → RunOf link ts ends → IsCarried delay ts → ends.orig.phase ≡ Detecting
     → (length ts ≤ (tries + 1) * period) × PassesNoPattern ts
 early tries period delay link [] ends kt run c d = (omega arith, tt)

@@ -16,7 +16,7 @@ use Rattle.link_account.specs.Account.{Account, is_connected}
 use Rattle.link_account.specs.Hear.{hear}
 use Rattle.link_account.specs.Speak.{speak}
 use Rattle.link_run.specs.End.{is_busy, is_released}
-use Rattle.link_run.specs.Run.{Link, Ends, Turn, SpeaksAt, arrival, served_at, said_at}
+use Rattle.link_run.specs.Run.{Link, Accounts, Turn, SpeaksAt, arrival, served_at, said_at}
 use Rattle.turn_bound.specs.Time.{KeepsTime}
 use Rattle.turn_bound.proofs.Clock.{Rates, rates}
 use Rattle.turn_bound.proofs.Value.{Stands, Linked, Unlinked, IsAck}
@@ -164,12 +164,12 @@ begun-turn period turn arrived sent d a mid c n cm o own ack special urgent k = 
     calm (inr x) = cc
 
 -- a turn of a run
-abbrev pub TurnOf : (period : ℕ) (link : Link) (state : ℕ → Ends) (deed : ℕ → Deed) → Role → ℕ → Deeds → Type 0
+abbrev pub TurnOf : (period : ℕ) (link : Link) (state : ℕ → Accounts) (deed : ℕ → Deed) → Role → ℕ → Deeds → Type 0
 TurnOf period link state deed r u d = (d.answers ≡ is_some (served_at link u (deed u).mid r).account.owes.answer)
     × BreakTurn period u (arrival (of r (deed u).turn).heard) (sent_or (of r (deed u).turn).sent) d (of r (state u)) (of r (state (u + 1)))
     × (waits (of r (state (u + 1))).own_breaks ≡ waits (served_at link u (deed u).mid r).account.own_breaks)
 
-pub turn-of : (tries period : ℕ) (delay : Role → ℕ) (link : Link) (ts : List Turn) (state : ℕ → Ends) (deed : ℕ → Deed)
+pub turn-of : (tries period : ℕ) (delay : Role → ℕ) (link : Link) (ts : List Turn) (state : ℕ → Accounts) (deed : ℕ → Deed)
     → KeepsTime tries period delay link → Trace period delay link ts state deed → (r : Role)
     → (u : ℕ) → u < length ts → is_connected (of r (state (u + 1))).phase ≡ true → (d : Deeds) × TurnOf period link state deed r u d
 turn-of tries period delay link ts state deed kt w r u l c = moved (by (polls.from mid-connected))
@@ -288,11 +288,11 @@ turn-of tries period delay link ts state deed kt w r u l c = moved (by (polls.fr
 none-done : Deeds
 none-done = record { made = false; hurries = false; acks = false; answers = false }
 
-abbrev pub Taken : (period : ℕ) (link : Link) (ts : List Turn) (state : ℕ → Ends) (deed : ℕ → Deed) → Role → ℕ → Deeds → Type 0
+abbrev pub Taken : (period : ℕ) (link : Link) (ts : List Turn) (state : ℕ → Accounts) (deed : ℕ → Deed) → Role → ℕ → Deeds → Type 0
 Taken period link ts state deed r u d = u < length ts → is_connected (of r (state (u + 1))).phase ≡ true
     → TurnOf period link state deed r u d
 
-pub chosen : (tries period : ℕ) (delay : Role → ℕ) (link : Link) (ts : List Turn) (state : ℕ → Ends) (deed : ℕ → Deed)
+pub chosen : (tries period : ℕ) (delay : Role → ℕ) (link : Link) (ts : List Turn) (state : ℕ → Accounts) (deed : ℕ → Deed)
     → KeepsTime tries period delay link → Trace period delay link ts state deed → (r : Role) (u : ℕ)
     → (d : Deeds) × Taken period link ts state deed r u d
 chosen tries period delay link ts state deed kt w r u = go (cases_lt u (length ts)) (is_connected (of r (state (u + 1))).phase) refl
@@ -303,11 +303,11 @@ chosen tries period delay link ts state deed kt w r u = go (cases_lt u (length t
     go (inl l) false e = (none-done, λ l' f. off (is_connected (of r (state (u + 1))).phase) f e)
     go (inl l) true e = let x = turn-of tries period delay link ts state deed kt w r u l e in (x.0, λ l' f. x.1)
 
-abbrev pub deeds-of : (tries period : ℕ) (delay : Role → ℕ) (link : Link) (ts : List Turn) (state : ℕ → Ends) (deed : ℕ → Deed)
+abbrev pub deeds-of : (tries period : ℕ) (delay : Role → ℕ) (link : Link) (ts : List Turn) (state : ℕ → Accounts) (deed : ℕ → Deed)
     → KeepsTime tries period delay link → Trace period delay link ts state deed → Role → ℕ → Deeds
 deeds-of tries period delay link ts state deed kt w r u = (chosen tries period delay link ts state deed kt w r u).0
 
-pub breaking : (tries period : ℕ) (delay : Role → ℕ) (link : Link) (ts : List Turn) (state : ℕ → Ends) (deed : ℕ → Deed)
+pub breaking : (tries period : ℕ) (delay : Role → ℕ) (link : Link) (ts : List Turn) (state : ℕ → Accounts) (deed : ℕ → Deed)
     → (kt : KeepsTime tries period delay link) → (w : Trace period delay link ts state deed) → (r : Role)
     → Breaking period (length ts) (end_run delay state deed r) (deeds-of tries period delay link ts state deed kt w r)
 breaking tries period delay link ts state deed kt w r = record {
@@ -318,14 +318,14 @@ breaking tries period delay link ts state deed kt w r = record {
       (sym (said-as link t (deed t).mid r) ∙ s.says) (ap (λ x. of_frame (of_word any_brk) (sent_or x)) (sym s.sent_is) ∙ e);
 }
 
-pub answers-are : (tries period : ℕ) (delay : Role → ℕ) (link : Link) (ts : List Turn) (state : ℕ → Ends) (deed : ℕ → Deed)
+pub answers-are : (tries period : ℕ) (delay : Role → ℕ) (link : Link) (ts : List Turn) (state : ℕ → Accounts) (deed : ℕ → Deed)
     → (kt : KeepsTime tries period delay link) → (w : Trace period delay link ts state deed) → (r : Role)
     → (u : ℕ) → u < length ts → is_connected (of r (state (u + 1))).phase ≡ true
     → (deeds-of tries period delay link ts state deed kt w r u).answers ≡ is_some
     (served_at link u (deed u).mid r).account.owes.answer
 answers-are tries period delay link ts state deed kt w r u l c = ((chosen tries period delay link ts state deed kt w r u).1 l c).0
 
-pub waits-are : (tries period : ℕ) (delay : Role → ℕ) (link : Link) (ts : List Turn) (state : ℕ → Ends) (deed : ℕ → Deed)
+pub waits-are : (tries period : ℕ) (delay : Role → ℕ) (link : Link) (ts : List Turn) (state : ℕ → Accounts) (deed : ℕ → Deed)
     → (kt : KeepsTime tries period delay link) → (w : Trace period delay link ts state deed) → (r : Role)
     → (u : ℕ) → u < length ts → is_connected (of r (state (u + 1))).phase ≡ true
     → waits (of r (state (u + 1))).own_breaks ≡ waits (served_at link u (deed u).mid r).account.own_breaks

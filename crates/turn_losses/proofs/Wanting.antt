@@ -18,7 +18,7 @@ use Rattle.link_account.specs.Hear.{hear, trying}
 use Rattle.link_account.specs.Speak.{spent, trying_again, tries_frame, polling, timer_expires, breaking, on_break_timer, after_timers}
 use Rattle.link_account.specs.Speak.{then_tries, speak_linked, speak, speak_in, speak_releasing}
 use Rattle.link_run.specs.End.{User, is_busy}
-use Rattle.link_run.specs.Run.{Link, Ends, Turn}
+use Rattle.link_run.specs.Run.{Link, Accounts, Turn}
 use Rattle.link_run.specs.Starved.{IsLost, LosesSome}
 use Rattle.turn_bound.specs.Time.{KeepsTime}
 use Rattle.turn_bound.specs.Due.{NoneDue}
@@ -216,7 +216,7 @@ lost-is (Lost s) e = tt
 lost-is Chance e = cc
 
 -- So where both ends stay Connected, something was lost in each of the last periods.
-pub wants-answers : (tries period : ℕ) (delay : Role → ℕ) (link : Link) (ts : List Turn) (state : ℕ → Ends) (deed : ℕ → Deed)
+pub wants-answers : (tries period : ℕ) (delay : Role → ℕ) (link : Link) (ts : List Turn) (state : ℕ → Accounts) (deed : ℕ → Deed)
     → KeepsTime tries period delay link → (w : Trace period delay link ts state deed) → (role : Role)
     → Counts (length ts) (end_run delay state deed role) (end_run delay state deed (other role))
     → LastTry tries period (length ts) (of role (state (length ts)))

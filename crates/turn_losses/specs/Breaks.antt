@@ -2,7 +2,7 @@
 use Rattle.std.specs.Prelude.{ℕ, List, ◌∷◌}
 use Rattle.roles.specs.declared.role.Role.{Role}
 use Rattle.causes.specs.declared.fault.LinkFault.{LinkFault}
-use Rattle.link_run.specs.Run.{Link, Ends, Turn, BrokenTurn}
+use Rattle.link_run.specs.Run.{Link, Accounts, Turn, BrokenTurn}
 use Rattle.link_run.specs.Carried.{Carries}
 use Rattle.link_run.specs.Laws.{RunsOver}
 use Rattle.link_run.specs.Starved.{IsStarved}
@@ -10,7 +10,7 @@ use Rattle.turn_bound.specs.Time.{KeepsTime}
 
 -- Whatever an end gives up for, the run was starved.
 abbrev pub GivesUpStarved : Type 0
-GivesUpStarved = (tries period : ℕ) (delay : Role → ℕ) (link : Link) (ts : List Turn) (before : Ends) (t : Turn) (mid : Ends) (role : Role)
+GivesUpStarved = (tries period : ℕ) (delay : Role → ℕ) (link : Link) (ts : List Turn) (before : Accounts) (t : Turn) (mid : Accounts) (role : Role)
     (fault : LinkFault)
     → KeepsTime tries period delay link → RunsOver link delay ts before → Carries delay ts t
     → BrokenTurn link ts before t mid role fault

@@ -8,7 +8,7 @@ use Rattle.break_signals.specs.Breaks.{waits}
 use Rattle.link_account.specs.declared.phase.Phase.TheVariants.{Connected}
 use Rattle.causes.specs.declared.fault.LinkFault.TheVariants.{Spent, NotDetected}
 use Rattle.link_run.specs.End.{is_released}
-use Rattle.link_run.specs.Run.{Link, Ends, Turn, RunOf, BrokenTurn, served_at}
+use Rattle.link_run.specs.Run.{Link, Accounts, Turn, RunOf, BrokenTurn, served_at}
 use Rattle.link_run.specs.Carried.{IsCarried, Carries}
 use Rattle.link_run.specs.Laws.{RunsOver}
 use Rattle.link_run.specs.Counts.{lost_slots}
@@ -29,7 +29,7 @@ LosesEach period count last ts = (number : ℕ) → number < count → PeriodLos
 -- Where a Connected originator that waits for no break's answer spends its tries, something was lost in each of the latest periods, as many
 -- as it has tries.
 abbrev pub OriginatorWantsAnswers : Type 0
-OriginatorWantsAnswers = (tries period : ℕ) (delay : Role → ℕ) (link : Link) (ts : List Turn) (before : Ends) (t : Turn) (mid : Ends)
+OriginatorWantsAnswers = (tries period : ℕ) (delay : Role → ℕ) (link : Link) (ts : List Turn) (before : Accounts) (t : Turn) (mid : Accounts)
     (segment since : ℕ)
     → KeepsTime tries period delay link → RunsOver link delay ts before → Carries delay ts t
     → BrokenTurn link ts before t mid Originator (Spent segment since)
@@ -38,7 +38,7 @@ OriginatorWantsAnswers = (tries period : ℕ) (delay : Role → ℕ) (link : Lin
 
 -- So the run was starved.
 abbrev pub OriginatorIsStarved : Type 0
-OriginatorIsStarved = (tries period : ℕ) (delay : Role → ℕ) (link : Link) (ts : List Turn) (before : Ends) (t : Turn) (mid : Ends)
+OriginatorIsStarved = (tries period : ℕ) (delay : Role → ℕ) (link : Link) (ts : List Turn) (before : Accounts) (t : Turn) (mid : Accounts)
     (segment since : ℕ)
     → KeepsTime tries period delay link → RunsOver link delay ts before → Carries delay ts t
     → BrokenTurn link ts before t mid Originator (Spent segment since)
@@ -47,7 +47,7 @@ OriginatorIsStarved = (tries period : ℕ) (delay : Role → ℕ) (link : Link) 
 
 -- So it is with a Connected answerer, while the originator isn't told to release.
 abbrev pub AnswererWantsAnswers : Type 0
-AnswererWantsAnswers = (tries period : ℕ) (delay : Role → ℕ) (link : Link) (ts : List Turn) (before : Ends) (t : Turn) (mid : Ends)
+AnswererWantsAnswers = (tries period : ℕ) (delay : Role → ℕ) (link : Link) (ts : List Turn) (before : Accounts) (t : Turn) (mid : Accounts)
     (segment since : ℕ)
     → KeepsTime tries period delay link → RunsOver link delay ts before → Carries delay ts t
     → BrokenTurn link ts before t mid Answerer (Spent segment since)
@@ -58,7 +58,7 @@ AnswererWantsAnswers = (tries period : ℕ) (delay : Role → ℕ) (link : Link)
 -- Where the originator saw no pattern, something was lost in each of the latest periods, one more than there are tries: the run was
 -- starved.
 abbrev pub OriginatorWantsPattern : Type 0
-OriginatorWantsPattern = (tries period : ℕ) (delay : Role → ℕ) (link : Link) (ts : List Turn) (before : Ends) (t : Turn) (mid : Ends)
+OriginatorWantsPattern = (tries period : ℕ) (delay : Role → ℕ) (link : Link) (ts : List Turn) (before : Accounts) (t : Turn) (mid : Accounts)
     → KeepsTime tries period delay link → RunOf link ts before → IsCarried delay ts
     → BrokenTurn link ts before t mid Originator NotDetected
     → LosesEach period (tries + 1) (length ts) ts
@@ -70,13 +70,13 @@ PassesNoPattern (t ∷ ts) = (t.orig.heard ≢ Passed Adp) × PassesNoPattern ts
 
 -- It gives up in one turn alone, the first one behind the periods of all its tries, and no pattern of the answerer's passed until then.
 abbrev pub UndetectedOnTime : Type 0
-UndetectedOnTime = (tries period : ℕ) (delay : Role → ℕ) (link : Link) (ts : List Turn) (before : Ends) (t : Turn) (mid : Ends)
+UndetectedOnTime = (tries period : ℕ) (delay : Role → ℕ) (link : Link) (ts : List Turn) (before : Accounts) (t : Turn) (mid : Accounts)
     → KeepsTime tries period delay link → RunOf link ts before → IsCarried delay ts
     → BrokenTurn link ts before t mid Originator NotDetected
     → (length ts ≡ (tries + 1) * period) × PassesNoPattern (t ∷ ts)
 
 abbrev pub UndetectedIsStarved : Type 0
-UndetectedIsStarved = (tries period : ℕ) (delay : Role → ℕ) (link : Link) (ts : List Turn) (before : Ends) (t : Turn) (mid : Ends)
+UndetectedIsStarved = (tries period : ℕ) (delay : Role → ℕ) (link : Link) (ts : List Turn) (before : Accounts) (t : Turn) (mid : Accounts)
     → KeepsTime tries period delay link → RunOf link ts before → IsCarried delay ts
     → BrokenTurn link ts before t mid Originator NotDetected
     → IsStarved tries period delay (t ∷ ts)

@@ -7,7 +7,7 @@ use Rattle.break_signals.specs.Breaks.{waits}
 use Rattle.causes.specs.declared.fault.LinkFault.{LinkFault}
 use Rattle.causes.specs.declared.fault.LinkFault.TheVariants.{Spent}
 use Rattle.link_account.specs.Account.{is_connected, break_waits}
-use Rattle.link_run.specs.Run.{Link, Ends, Turn, BrokenTurn, served_at}
+use Rattle.link_run.specs.Run.{Link, Accounts, Turn, BrokenTurn, served_at}
 use Rattle.link_run.specs.Carried.{Carries}
 use Rattle.link_run.specs.Laws.{RunsOver}
 use Rattle.link_run.specs.Starved.{IsStarved}
@@ -17,7 +17,7 @@ use Rattle.turn_losses.specs.Losses.{LosesEach}
 -- Where an originator spends the tries of its XID, its SABME or its DISC, something was lost in each of the latest periods, one more than
 -- it has tries: the run was starved.
 abbrev pub OriginatorWantsFrame : Type 0
-OriginatorWantsFrame = (tries period : ℕ) (delay : Role → ℕ) (link : Link) (ts : List Turn) (before : Ends) (t : Turn) (mid : Ends)
+OriginatorWantsFrame = (tries period : ℕ) (delay : Role → ℕ) (link : Link) (ts : List Turn) (before : Accounts) (t : Turn) (mid : Accounts)
     (segment since : ℕ)
     → KeepsTime tries period delay link → RunsOver link delay ts before → Carries delay ts t
     → BrokenTurn link ts before t mid Originator (Spent segment since)
@@ -27,7 +27,7 @@ OriginatorWantsFrame = (tries period : ℕ) (delay : Role → ℕ) (link : Link)
 -- Where an answerer that waits for no break's answer gives up, something was lost in each of the latest periods, as many as it has
 -- tries, whether or not the originator was told to release by then: its DISC may be lost in the last turn itself.
 abbrev pub AnswererWantsAnswer : Type 0
-AnswererWantsAnswer = (tries period : ℕ) (delay : Role → ℕ) (link : Link) (ts : List Turn) (before : Ends) (t : Turn) (mid : Ends)
+AnswererWantsAnswer = (tries period : ℕ) (delay : Role → ℕ) (link : Link) (ts : List Turn) (before : Accounts) (t : Turn) (mid : Accounts)
     (segment since : ℕ)
     → KeepsTime tries period delay link → RunsOver link delay ts before → Carries delay ts t
     → BrokenTurn link ts before t mid Answerer (Spent segment since)
@@ -42,7 +42,7 @@ pub record IsForLosses (tries period : ℕ) (delay : Role → ℕ) (ts : List Tu
   pub starved : IsStarved tries period delay (t ∷ ts)
 
 abbrev pub GivesUpForLosses : Type 0
-GivesUpForLosses = (tries period : ℕ) (delay : Role → ℕ) (link : Link) (ts : List Turn) (before : Ends) (t : Turn) (mid : Ends)
+GivesUpForLosses = (tries period : ℕ) (delay : Role → ℕ) (link : Link) (ts : List Turn) (before : Accounts) (t : Turn) (mid : Accounts)
     (role : Role)
     (fault : LinkFault)
     → KeepsTime tries period delay link → RunsOver link delay ts before → Carries delay ts t
@@ -52,7 +52,7 @@ GivesUpForLosses = (tries period : ℕ) (delay : Role → ℕ) (link : Link) (ts
 
 -- And so it is with each end whose user asks for no break.
 abbrev pub GivesUpUnbroken : Type 0
-GivesUpUnbroken = (tries period : ℕ) (delay : Role → ℕ) (link : Link) (ts : List Turn) (before : Ends) (t : Turn) (mid : Ends) (role : Role)
+GivesUpUnbroken = (tries period : ℕ) (delay : Role → ℕ) (link : Link) (ts : List Turn) (before : Accounts) (t : Turn) (mid : Accounts) (role : Role)
     (fault : LinkFault)
     → KeepsTime tries period delay link → (of role link).user.breaks ≡ [] → RunsOver link delay ts before → Carries delay ts t
     → BrokenTurn link ts before t mid role fault

@@ -10,7 +10,7 @@ use Rattle.link_account.specs.Account.{Account, given_break, check_of}
 use Rattle.link_account.specs.Hear.{hear}
 use Rattle.link_account.specs.Speak.{Said}
 use Rattle.link_run.specs.End.{is_closed}
-use Rattle.link_run.specs.Run.{Link, Ends, Spoken, Side, Turn, start, arrival, spoken, said_at, RunOf}
+use Rattle.link_run.specs.Run.{Link, Accounts, Spoken, Side, Turn, start, arrival, spoken, said_at, RunOf}
 use Rattle.link_run.specs.Carried.{sent_ago, has_message, Carries, IsCarried}
 use Rattle.link_run.specs.Outcomes.{Outcome, Done, Broken, TurnIs}
 
@@ -30,8 +30,8 @@ heard_by way ts role = crossing (way.loses (other role) (length ts - way.delay (
 
 -- a turn after which the run goes on, and the ends then; the last turn, the ends that have heard, and how it ends; or a fault of the hearing
 pub data Next : Type 0 where
-  Goes : Turn → Ends → Next
-  Ends_run : Turn → Ends → Outcome → Next
+  Goes : Turn → Accounts → Next
+  Ends_run : Turn → Accounts → Outcome → Next
   Stops : Next
 
 -- an end in a turn
@@ -39,14 +39,14 @@ abbrev pub side_with : Account → Account → Heard → Option Spoken → Side
 side_with before mid heard sent = record { heard = heard; check = check_of before; sent = sent; given = given_break mid }
 
 -- both ends in a turn
-abbrev pub turn_with : Ends → Ends → (Role → Heard) → (Role → Option Spoken) → Turn
+abbrev pub turn_with : Accounts → Accounts → (Role → Heard) → (Role → Option Spoken) → Turn
 turn_with before mid heard sent = record {
   orig = side_with before.orig mid.orig (heard Originator) (sent Originator);
   answ = side_with before.answ mid.answ (heard Answerer) (sent Answerer);
 }
 
 -- a turn in which nothing is sent
-abbrev pub last_with : Ends → Ends → (Role → Heard) → Outcome → Next
+abbrev pub last_with : Accounts → Accounts → (Role → Heard) → Outcome → Next
 last_with before mid heard outcome = Ends_run (turn_with before mid heard (λ role. None)) mid outcome
 
 -- what both ends said
@@ -55,45 +55,45 @@ both_said o a Originator = Some (spoken o)
 both_said o a Answerer = Some (spoken a)
 
 -- the turn, by whether the originator is closed and by what both say
-abbrev pub speaking : Ends → Ends → (Role → Heard) → Bool → Result Said LinkFault → Result Said LinkFault → Next
+abbrev pub speaking : Accounts → Accounts → (Role → Heard) → Bool → Result Said LinkFault → Result Said LinkFault → Next
 speaking before mid heard true o a = last_with before mid heard Done
 speaking before mid heard false (Err fault) a = last_with before mid heard (Broken Originator fault)
 speaking before mid heard false (Ok o) (Err fault) = last_with before mid heard (Broken Answerer fault)
 speaking before mid heard false (Ok o) (Ok a) = Goes (turn_with before mid heard (both_said o a)) (record { orig = o.account; answ = a.account })
 
 -- once both have heard
-abbrev pub then_speaking : Link → ℕ → Ends → Ends → (Role → Heard) → Next
+abbrev pub then_speaking : Link → ℕ → Accounts → Accounts → (Role → Heard) → Next
 then_speaking link turn before mid heard = speaking before mid heard (is_closed mid.orig.phase) (said_at link turn mid Originator) (said_at link turn mid Answerer)
 
 -- by what both are that hear
-abbrev pub hearing : Link → ℕ → Ends → (Role → Heard) → Result Account LinkFault → Result Account LinkFault → Next
+abbrev pub hearing : Link → ℕ → Accounts → (Role → Heard) → Result Account LinkFault → Result Account LinkFault → Next
 hearing link turn before heard (Ok o) (Ok a) = then_speaking link turn before (record { orig = o; answ = a }) heard
 hearing link turn before heard (Ok o) (Err fault) = Stops
 hearing link turn before heard (Err fault) a = Stops
 
 -- the turn after these
-abbrev pub next : Link → Way → List Turn → Ends → Next
+abbrev pub next : Link → Way → List Turn → Accounts → Next
 next link way ts ends =
     hearing link (length ts) ends (heard_by way ts) (hear (length ts) (arrival (heard_by way ts Originator)) ends.orig) (hear (length ts) (arrival (heard_by way ts Answerer)) ends.answ)
 
 -- what was made of a run
 pub record Made : Type 0 where
   pub turns : List Turn  -- after which it went on
-  pub ends : Ends  -- after these
+  pub ends : Accounts  -- after these
   pub last : Option Turn
-  pub mid : Ends  -- as both have heard in the last turn
+  pub mid : Accounts  -- as both have heard in the last turn
   pub outcome : Option Outcome
 
 -- no last turn yet
-abbrev pub unfinished : List Turn → Ends → Made
+abbrev pub unfinished : List Turn → Accounts → Made
 unfinished ts ends = record { turns = ts; ends = ends; last = None; mid = ends; outcome = None }
 
 -- with its last turn
-abbrev pub ended : List Turn → Ends → Turn → Ends → Outcome → Made
+abbrev pub ended : List Turn → Accounts → Turn → Accounts → Outcome → Made
 ended ts ends t mid outcome = record { turns = ts; ends = ends; last = Some t; mid = mid; outcome = Some outcome }
 
 -- at most so many turns more, the first of which comes to this
-abbrev pub made : ℕ → Link → Way → List Turn → Ends → Next → Made
+abbrev pub made : ℕ → Link → Way → List Turn → Accounts → Next → Made
 made zero link way ts ends n = unfinished ts ends
 made (suc more) link way ts ends (Goes t later) = made more link way (t ∷ ts) later (next link way (t ∷ ts) later)
 made (suc more) link way ts ends (Ends_run t mid outcome) = ended ts ends t mid outcome
