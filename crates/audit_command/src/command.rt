@@ -14,7 +14,7 @@ use crate::AuditWords;
 use crate::laws::{answers_keep_the_headline, right_traces_are_judged};
 use crate::names::{MadeNames, turn_names};
 use crate::turns::audit_world;
-use command_base::{Status, Stop, tell, tell_stop, within_limit, write_true};
+use command_base::{Status, Stop, tell, tell_stop, within_limit, true_line};
 use noise_script::Script;
 use noise_script::laws::spelled_scripts_are_in_limits;
 use outside_calls::Folder;
@@ -109,7 +109,7 @@ fn audit_and_tell<F: Folder>(
     ensures { Answers (audit_job (named names.now)) (map string_bytes words.now) (F.state folder.old) (F.state folder.new) result }
 {
     match audit_to_end(alloc, folder, names) {
-        Ok(lines) => tell(folder, write_true(lines).as_slice(), Status::Done),
+        Ok(lines) => tell(folder, true_line(lines).as_slice(), Status::Done),
         Err(stop) => tell_stop(folder, words, stop),
     }
 }

@@ -19,8 +19,8 @@ pub use input::{read_file, read_piece, within_limit};
 pub use laws::{apart_names_differ, limits_in_octets};
 pub use limits::{FILE_LIMIT, HEX_LIMIT, RECORDING_LIMIT, RUN_FILE_LIMIT};
 pub use lines::{
-    LINE, Line, write_both_done, write_count, write_done, write_margin, write_octets, write_pieces,
-    write_samples, write_soak, write_true, write_turns, write_usage,
+    LINE, Line, both_done_line, count_line, done_line, margin_line, octets_line, pieces_line,
+    samples_line, soak_line, true_line, turns_line, usage_line,
 };
 pub use output::{append_output, create_output, create_outputs, say_line};
 pub use roles::Role;

@@ -66,7 +66,7 @@ fn put_peer_fault(line: &mut Line, fault: LinkFault)
 }
 
 /// The line of a word and a number.
-pub fn write_count(word: &str, number: u64) -> Line
+pub fn count_line(word: &str, number: u64) -> Line
     requires { length word.now ≤ 8 }
     ensures { result ≡ count_line word.now number }
 {
@@ -77,42 +77,42 @@ pub fn write_count(word: &str, number: u64) -> Line
 }
 
 /// The line of a run that is done, with its last turn.
-pub fn write_done(turn: u64) -> Line
+pub fn done_line(turn: u64) -> Line
     ensures { result ≡ done_line turn }
 {
-    write_count("done", turn)
+    count_line("done", turn)
 }
 
 /// The line of a recording that is written, with the number of its samples.
-pub fn write_samples(samples: u64) -> Line
+pub fn samples_line(samples: u64) -> Line
     ensures { result ≡ samples_line samples }
 {
-    write_count("samples", samples)
+    count_line("samples", samples)
 }
 
 /// The line of a recording that is read, with the number of octets found in it.
-pub fn write_octets(octets: u64) -> Line
+pub fn octets_line(octets: u64) -> Line
     ensures { result ≡ octets_line octets }
 {
-    write_count("octets", octets)
+    count_line("octets", octets)
 }
 
 /// The line behind the pieces of a stream of bits, with their number.
-pub fn write_pieces(pieces: u64) -> Line
+pub fn pieces_line(pieces: u64) -> Line
     ensures { result ≡ pieces_line pieces }
 {
-    write_count("pieces", pieces)
+    count_line("pieces", pieces)
 }
 
 /// The line of a line's tap, with the number of its turns.
-pub fn write_turns(turns: u64) -> Line
+pub fn turns_line(turns: u64) -> Line
     ensures { result ≡ turns_line turns }
 {
-    write_count("turns", turns)
+    count_line("turns", turns)
 }
 
 /// The line of two links that are done, each with its last turn.
-pub fn write_both_done(first: u64, second: u64) -> Line
+pub fn both_done_line(first: u64, second: u64) -> Line
     ensures { result ≡ both_done_line first second }
 {
     let mut line = Line::new();
@@ -122,7 +122,7 @@ pub fn write_both_done(first: u64, second: u64) -> Line
 }
 
 /// The line of a trace that is a run's, with the number of its lines.
-pub fn write_true(lines: u64) -> Line
+pub fn true_line(lines: u64) -> Line
     ensures { result ≡ true_line lines }
 {
     let mut line = Line::new();
@@ -142,7 +142,7 @@ fn put_number(line: &mut Line, word: &[u8], number: u64)
 }
 
 /// The line of a soak that is done, with its seed, its last turn, how many slots were lost, and how many segments went again.
-pub fn write_soak(seed: u64, turn: u64, lost: u64, again: u64) -> Line
+pub fn soak_line(seed: u64, turn: u64, lost: u64, again: u64) -> Line
     ensures { result ≡ soak_line seed turn lost again }
 {
     let mut line = Line::new();
@@ -154,7 +154,7 @@ pub fn write_soak(seed: u64, turn: u64, lost: u64, again: u64) -> Line
 }
 
 /// The line of octets that were held against a recording: what they cost, and whether that is so little that they are told for certain.
-pub fn write_margin(cost: u64, sure: bool) -> Line
+pub fn margin_line(cost: u64, sure: bool) -> Line
     ensures { result ≡ margin_line cost sure }
 {
     let mut line = Line::new();
@@ -185,7 +185,7 @@ fn put_behind(line: &mut Line, words: &[&str])
 }
 
 /// The line that tells how the program is used: the words of its commands, in this order.
-pub fn write_usage(commands: &[&str]) -> Line
+pub fn usage_line(commands: &[&str]) -> Line
     requires few { length commands.now ≤ 15 }
     requires short { AreShort (map (λ word. word.now) commands.now) }
     ensures { result ≡ usage_line (map (λ word. word.now) commands.now) }
@@ -315,7 +315,7 @@ fn put_short(line: &mut Line, status: Status)
 }
 
 /// The line of a status that says no word of the command line.
-pub(crate) fn write_short(status: Status) -> Line
+pub(crate) fn short_line(status: Status) -> Line
     ensures { result ≡ short_line status }
 {
     let mut line = Line::new();

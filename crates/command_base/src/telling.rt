@@ -5,7 +5,7 @@ ghost use Rattle.command_base.specs.Lines.{status_line, too_long_line};
 ghost use Rattle.command_base.specs.Job.{SaysStop};
 ghost use Rattle.command_base.specs.Tells.{Tells};
 
-use crate::lines::write_short;
+use crate::lines::short_line;
 use crate::stop::fault_status;
 use crate::{Status, Stop};
 use outside_calls::{Folder, FolderFault};
@@ -56,7 +56,7 @@ fn tell_status<F: Folder>(folder: &mut F, words: &[String], status: Status) -> S
             };
             tell_too_long(folder, name, status)
         }
-        _ => tell(folder, write_short(status).as_slice(), status),
+        _ => tell(folder, short_line(status).as_slice(), status),
     }
 }
 

@@ -3,8 +3,8 @@ use super::asking::{Ran, folder_with, words_of};
 use causes::Cause;
 use command_base::{
     LinkFault, Status, Stop, append_output, create_output, create_outputs, read_file, read_piece,
-    say_line, tell_stop, within_limit, write_done, write_octets, write_pieces, write_samples,
-    write_usage,
+    say_line, tell_stop, within_limit, done_line, octets_line, pieces_line, samples_line,
+    usage_line,
 };
 use lapm_frames::FrameFault;
 use outside_calls::{FolderFault, NoMemory};
@@ -169,13 +169,13 @@ fn is_line(rt: &impl Abort, line: &[u8], expected: &[u8]) {
 
 #[test]
 fn done_lines_have_their_numbers(rt: HostRuntime) {
-    is_line(&rt, write_done(12).as_slice(), b"done 12\n");
-    is_line(&rt, write_samples(0).as_slice(), b"samples 0\n");
-    is_line(&rt, write_octets(64).as_slice(), b"octets 64\n");
-    is_line(&rt, write_pieces(1).as_slice(), b"pieces 1\n");
+    is_line(&rt, done_line(12).as_slice(), b"done 12\n");
+    is_line(&rt, samples_line(0).as_slice(), b"samples 0\n");
+    is_line(&rt, octets_line(64).as_slice(), b"octets 64\n");
+    is_line(&rt, pieces_line(1).as_slice(), b"pieces 1\n");
     is_line(
         &rt,
-        write_usage(&["run", "xid"]).as_slice(),
+        usage_line(&["run", "xid"]).as_slice(),
         b"usage: modem run, xid\n",
     );
 }

@@ -9,7 +9,7 @@ ghost use Rattle.encode_command.specs.Headline.{Headline};
 
 use crate::recording::make_recording;
 use crate::words::EncodeWords;
-use command_base::{Status, tell, tell_stop, write_samples};
+use command_base::{Status, tell, tell_stop, samples_line};
 use outside_calls::Folder;
 
 /// Makes the recording, and says how it ended.
@@ -18,7 +18,7 @@ fn encode_and_tell<F: Folder>(folder: &mut F, words: &[String], names: &EncodeWo
     ensures { Answers (encode_job (named names.now)) (map string_bytes words.now) (F.state folder.old) (F.state folder.new) result }
 {
     match make_recording(folder, names) {
-        Ok(samples) => tell(folder, write_samples(samples).as_slice(), Status::Done),
+        Ok(samples) => tell(folder, samples_line(samples).as_slice(), Status::Done),
         Err(stop) => tell_stop(folder, words, stop),
     }
 }

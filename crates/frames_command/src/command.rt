@@ -8,7 +8,7 @@ ghost use Rattle.frames_command.specs.Headline.{Headline};
 
 use crate::listing::list_pieces;
 use crate::words::FramesWords;
-use command_base::{Status, tell, tell_stop, write_pieces};
+use command_base::{Status, tell, tell_stop, pieces_line};
 use outside_calls::Folder;
 
 /// Lists the pieces, and says how it ended.
@@ -16,7 +16,7 @@ fn list_and_tell<F: Folder>(folder: &mut F, words: &[String], names: &FramesWord
     ensures { Answers (frames_job (named names.now)) (map string_bytes words.now) (F.state folder.old) (F.state folder.new) result }
 {
     match list_pieces(folder, names) {
-        Ok(pieces) => tell(folder, write_pieces(pieces).as_slice(), Status::Done),
+        Ok(pieces) => tell(folder, pieces_line(pieces).as_slice(), Status::Done),
         Err(stop) => tell_stop(folder, words, stop),
     }
 }

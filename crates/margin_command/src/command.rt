@@ -11,7 +11,7 @@ ghost use Rattle.margin_command.specs.Headline.{Headline};
 use crate::measuring::measure_to_end;
 use crate::opening::open_inputs;
 use crate::words::MarginWords;
-use command_base::{Status, Stop, tell, tell_stop, write_margin};
+use command_base::{Status, Stop, tell, tell_stop, margin_line};
 use noise_bound::Margin;
 use outside_calls::Folder;
 
@@ -34,7 +34,7 @@ fn measure_and_tell<F: Folder>(folder: &mut F, words: &[String], names: &MarginW
     match measure(folder, names) {
         Ok(margin) => tell(
             folder,
-            write_margin(margin.cost(), margin.sure()).as_slice(),
+            margin_line(margin.cost(), margin.sure()).as_slice(),
             Status::Done,
         ),
         Err(stop) => tell_stop(folder, words, stop),

@@ -5,7 +5,7 @@ ghost use Rattle.command_base.specs.Status.{PassesNoneOver};
 ghost use Rattle.modem_cli.specs.Modem.{Nothing, named, AreApart, asked, PromisesOf, AnswersBy, CompletesOf, usage};
 
 use audit_command::{AuditWords, audit, audit_words};
-use command_base::{Line, Status, tell, write_usage};
+use command_base::{Line, Status, tell, usage_line};
 use decode_command::{DecodeWords, decode, decode_words};
 use encode_command::{EncodeWords, encode, encode_words};
 use frames_command::{FramesWords, frames, frames_words};
@@ -68,7 +68,7 @@ fn read_words(words: &[String]) -> Option<Asked<'_>>
 fn usage() -> Line
     ensures { result ≡ usage }
 {
-    write_usage(&[
+    usage_line(&[
         "run", "encode", "decode", "frames", "xid", "soak", "peer", "pickup", "margin", "encode4",
         "decode4", "record", "tap", "pair", "audit",
     ])

@@ -17,7 +17,7 @@ ghost use Rattle.pair_command.specs.Completes.{Completes};
 use crate::PairWords;
 use crate::laws::{answers_keep_the_headline, right_pairs_are_done};
 use command_base::{
-    Status, Stop, apart_names_differ, create_outputs, tell, tell_stop, write_both_done,
+    Status, Stop, apart_names_differ, create_outputs, tell, tell_stop, both_done_line,
 };
 use line_run::laws::line_runs_end_soon;
 use link_pair::{Endings, LinkEnd, Pair, PairFault, pair_rounds};
@@ -177,7 +177,7 @@ fn pair_and_tell<F: Folder>(
 {
     match pair_to_end(alloc, folder, names) {
         Ok(turns) => {
-            let line = write_both_done(turns.first, turns.second);
+            let line = both_done_line(turns.first, turns.second);
             tell(folder, line.as_slice(), Status::Done)
         }
         Err(stop) => tell_stop(folder, words, stop),

@@ -20,7 +20,7 @@ use crate::turns::run_turns;
 use crate::words::PeerWords;
 use command_base::{
     FILE_LIMIT, Status, Stop, apart_names_differ, create_outputs, tell, tell_stop, within_limit,
-    write_done,
+    done_line,
 };
 use outside_calls::Folder;
 use single_end::Single;
@@ -93,7 +93,7 @@ fn meet_and_tell<F: Folder>(
     ensures { Answers (peer_job (named names.now)) (map string_bytes words.now) (F.state folder.old) (F.state folder.new) result }
 {
     match meet_peer(alloc, folder, names) {
-        Ok(turns) => tell(folder, write_done(turns).as_slice(), Status::Done),
+        Ok(turns) => tell(folder, done_line(turns).as_slice(), Status::Done),
         Err(stop) => tell_stop(folder, words, stop),
     }
 }

@@ -12,7 +12,7 @@ ghost use Rattle.pickup_command.specs.Headline.{Headline};
 
 use crate::player::Player;
 use crate::playing::play_to_end;
-use command_base::{Status, Stop, tell, tell_stop, write_pieces};
+use command_base::{Status, Stop, tell, tell_stop, pieces_line};
 use outside_calls::Folder;
 use recording_inputs::open_recording;
 use recordings::Rate;
@@ -56,7 +56,7 @@ fn pick_up_and_tell<F: Folder>(alloc: Global, folder: &mut F, words: &[String], 
     ensures { Answers (pickup_job rec.now) (map string_bytes words.now) (F.state folder.old) (F.state folder.new) result }
 {
     match pick_up(alloc, folder, rec) {
-        Ok(pieces) => tell(folder, write_pieces(pieces).as_slice(), Status::Done),
+        Ok(pieces) => tell(folder, pieces_line(pieces).as_slice(), Status::Done),
         Err(stop) => tell_stop(folder, words, stop),
     }
 }

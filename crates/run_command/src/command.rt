@@ -18,7 +18,7 @@ ghost use Rattle.run_command.specs.Completes.{Completes};
 
 use crate::laws::{answers_keep_the_headline, right_runs_are_done};
 use crate::outputs::make_outputs;
-use command_base::{Status, Stop, apart_names_differ, tell, tell_stop, write_done};
+use command_base::{Status, Stop, apart_names_differ, tell, tell_stop, done_line};
 use line_run::laws::line_runs_end_soon;
 use outside_calls::{Folder, FolderFault};
 use run_inputs::{LIMITS, RunWords, open_inputs};
@@ -125,7 +125,7 @@ fn run_and_tell<F: Folder>(
     ensures { Answers (run_job (named names.now)) (map string_bytes words.now) (F.state folder.old) (F.state folder.new) result }
 {
     match run_to_end(alloc, folder, names) {
-        Ok(turn) => tell(folder, write_done(turn).as_slice(), Status::Done),
+        Ok(turn) => tell(folder, done_line(turn).as_slice(), Status::Done),
         Err(stop) => tell_stop(folder, words, stop),
     }
 }

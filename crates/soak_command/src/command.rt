@@ -7,7 +7,7 @@ ghost use Rattle.soak_command.specs.Headline.{Headline};
 
 use crate::laws::{answers_keep_the_headline, carried_soaks_are_done};
 use crate::soaking::soak_run;
-use command_base::{Status, tell, tell_stop, write_soak};
+use command_base::{Status, tell, tell_stop, soak_line};
 use outside_calls::Folder;
 use std::alloc::Global;
 
@@ -18,7 +18,7 @@ fn soak_and_tell<F: Folder>(alloc: Global, folder: &mut F, words: &[String], see
     match soak_run(alloc, seed) {
         Ok(counts) => tell(
             folder,
-            write_soak(seed, counts.turn, counts.lost, counts.again).as_slice(),
+            soak_line(seed, counts.turn, counts.lost, counts.again).as_slice(),
             Status::Done,
         ),
         Err(stop) => tell_stop(folder, words, stop),

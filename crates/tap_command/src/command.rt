@@ -17,7 +17,7 @@ ghost use Rattle.tap_command.specs.Completes.{Completes};
 use crate::laws::{answers_keep_the_headline, right_taps_are_told};
 use crate::opening::open;
 use command_base::{
-    Status, Stop, apart_names_differ, create_outputs, tell, tell_stop, write_turns,
+    Status, Stop, apart_names_differ, create_outputs, tell, tell_stop, turns_line,
 };
 use outside_calls::{Folder, FolderFault};
 use std::alloc::Global;
@@ -88,7 +88,7 @@ fn tap_and_tell<F: Folder>(
     ensures { Answers (tap_job (named names.now)) (map string_bytes words.now) (F.state folder.old) (F.state folder.new) result }
 {
     match tap_to_end(alloc, folder, names) {
-        Ok(turns) => tell(folder, write_turns(turns).as_slice(), Status::Done),
+        Ok(turns) => tell(folder, turns_line(turns).as_slice(), Status::Done),
         Err(stop) => tell_stop(folder, words, stop),
     }
 }

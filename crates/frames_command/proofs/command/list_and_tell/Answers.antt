@@ -16,7 +16,7 @@ returns-in-Ok g c =
       refused = λ never. absurd never;
       counts = c.in-Ok.ensures.counts;
       says = subst (λ (line : List ℕ). Tells before new line Done c.tell.result) (c.as_slice.ensures.items
-          ∙ c.write_pieces.ensures) c.tell.ensures;
+          ∙ c.pieces_line.ensures) c.tell.ensures;
     }
 
 pub returns-in-Err : goal.returns-in-Err

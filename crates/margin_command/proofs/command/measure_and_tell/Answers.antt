@@ -17,7 +17,7 @@ returns-in-Ok g c =
       only = OnlyOutputs-reads [] c.in-Ok.ensures.reads;
       refused = λ never. absurd never;
       counts = c.in-Ok.ensures.counts;
-      says = subst (λ (line : List ℕ). Tells before new line Done c.tell.result) (c.as_slice.ensures.items ∙ c.write_margin.ensures
+      says = subst (λ (line : List ℕ). Tells before new line Done c.tell.result) (c.as_slice.ensures.items ∙ c.margin_line.ensures
           ∙ (λ i. margin_line (c.cost.ensures.kept i) (c.sure.ensures i))) c.tell.ensures;
     }
 

@@ -17,7 +17,7 @@ returns-in-Ok g c =
       only = c.in-Ok.ensures.only;
       refused = λ never. absurd never;
       counts = c.in-Ok.ensures.counts;
-      says = subst (λ (line : List ℕ). Tells before new line Done c.tell.result) (c.as_slice.ensures.items ∙ c.write_both_done-line.ensures)
+      says = subst (λ (line : List ℕ). Tells before new line Done c.tell.result) (c.as_slice.ensures.items ∙ c.both_done_line-line.ensures)
           c.tell.ensures;
     }
 

@@ -18,7 +18,7 @@ returns-in-Ok g c =
       refused = λ never. absurd never;
       counts = c.in-Ok.ensures.counts;
       says = subst (λ (line : List ℕ). Tells before new line Done c.tell.result)
-          (c.as_slice.ensures.items ∙ c.write_done.ensures) c.tell.ensures;
+          (c.as_slice.ensures.items ∙ c.done_line.ensures) c.tell.ensures;
     }
 
 pub returns-in-Err : goal.returns-in-Err

@@ -9,7 +9,7 @@ pub returns-in-Ok : goal.returns-in-Ok
 returns-in-Ok g c =
     let old : FolderState = g.F.Folder.state c.args.folder.now in let new : FolderState = g.F.Folder.state c.tell.new.folder in
     soaked (map string_bytes c.args.words.now) old new c.args.seed c.in-Ok.counts c.tell.result c.in-Ok.ensures
-    (subst (λ (line : List ℕ). Tells old new line Done c.tell.result) (c.as_slice.ensures.items ∙ c.write_soak.ensures) c.tell.ensures)
+    (subst (λ (line : List ℕ). Tells old new line Done c.tell.result) (c.as_slice.ensures.items ∙ c.soak_line.ensures) c.tell.ensures)
 
 pub returns-in-Err : goal.returns-in-Err
 returns-in-Err g c =
