@@ -7,7 +7,7 @@ use Rattle.causes.specs.declared.audit_cause.AuditCause.{AuditCause}
 use Rattle.noise_script.specs.Script.{ScriptValue}
 use Rattle.noise_script.specs.Laws.{ScriptsAreOne, NoFaultInScripts}
 use Rattle.line_run.specs.Ends.{RunEnd, Left, OneResult, RunsTo}
-use Rattle.line_run.specs.Scripted.{channel_of, link_of}
+use Rattle.line_run.specs.Scripted.{wire_of, link_of}
 use Rattle.command_base.specs.declared.status.Status.{Status}
 use Rattle.command_base.specs.declared.status.Status.TheVariants.{Done, BadScript, TooLong, AuditNo, NoMemory}
 use Rattle.command_base.specs.declared.stop.Stop.{Stop}
@@ -121,15 +121,15 @@ module _ (laws : JudgeLaws) (old : FolderState) (n : AuditNames) (script : Scrip
   same-left : (found : Result ℕ Difference) (a : Audits old n found) → a.left ≡ left
   same-left found a =
       let same : a.script ≡ script = laws.one (octets_at old n.script) a.script script (a.takes.are_open.opens.reads.spelled r.script_told) r.spelled in
-      let over : RunsTo (channel_of script) (link_of script a.files) a.end a.left =
-      subst (λ (s : ScriptValue). RunsTo (channel_of s) (link_of s a.files) a.end a.left) same a.run in
-      let of-orig : RunsTo (channel_of script) (link_of script (record { orig = octets_at old n.orig; answ = a.files.answ })) a.end a.left =
-      subst (λ (o : List ℕ). RunsTo (channel_of script) (link_of script (record { orig = o; answ = a.files.answ })) a.end a.left)
+      let over : RunsTo (wire_of script) (link_of script a.files) a.end a.left =
+      subst (λ (s : ScriptValue). RunsTo (wire_of s) (link_of s a.files) a.end a.left) same a.run in
+      let of-orig : RunsTo (wire_of script) (link_of script (record { orig = octets_at old n.orig; answ = a.files.answ })) a.end a.left =
+      subst (λ (o : List ℕ). RunsTo (wire_of script) (link_of script (record { orig = o; answ = a.files.answ })) a.end a.left)
       (a.takes.orig r.orig_told) over in
       let of-both : InputsRunTo old n script a.end a.left =
-      subst (λ (w : List ℕ). RunsTo (channel_of script) (link_of script (record { orig = octets_at old n.orig; answ = w })) a.end a.left)
+      subst (λ (w : List ℕ). RunsTo (wire_of script) (link_of script (record { orig = octets_at old n.orig; answ = w })) a.end a.left)
       (a.takes.answ r.answ_told) of-orig in
-      (laws.result (channel_of script) (link_of script (files_at old n)) a.end end a.left left of-both run).1
+      (laws.result (wire_of script) (link_of script (files_at old n)) a.end end a.left left of-both run).1
 
   found-so : (found : Result ℕ Difference) → Audits old n found → IsFound left.trace (octets_at old n.trace) found
   found-so found a =
@@ -194,15 +194,15 @@ completes-of laws words old new n s a = record {
 pub yes-is-the-trace : YesIsTheTrace
 yes-is-the-trace old new n h told =
     let a = h.audited.2 in
-    let of-orig : RunsTo (channel_of a.script) (link_of a.script (record { orig = octets_at old n.orig; answ = a.files.answ })) a.end a.left =
-    subst (λ (o : List ℕ). RunsTo (channel_of a.script) (link_of a.script (record { orig = o; answ = a.files.answ })) a.end a.left)
+    let of-orig : RunsTo (wire_of a.script) (link_of a.script (record { orig = octets_at old n.orig; answ = a.files.answ })) a.end a.left =
+    subst (λ (o : List ℕ). RunsTo (wire_of a.script) (link_of a.script (record { orig = o; answ = a.files.answ })) a.end a.left)
     (a.are_of.orig_is told.orig) a.run in
     record {
       script = a.script;
       spelled = a.are_of.script_is told.script;
       end = a.end;
       left = a.left;
-      run = subst (λ (w : List ℕ). RunsTo (channel_of a.script) (link_of a.script (record { orig = octets_at old n.orig; answ = w })) a.end a.left)
+      run = subst (λ (w : List ℕ). RunsTo (wire_of a.script) (link_of a.script (record { orig = octets_at old n.orig; answ = w })) a.end a.left)
           (a.are_of.answ_is told.answ) of-orig;
       same = (a.found_is told.trace).same;
     }

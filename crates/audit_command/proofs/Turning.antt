@@ -12,10 +12,10 @@ use Rattle.line_texts.specs.LineText.{chance_line}
 use Rattle.link_run.specs.Run.{Accounts, Turn}
 use Rattle.link_run.specs.Outcomes.{Outcome, Going, Done, Broken}
 use Rattle.link_run.specs.Trace.{trace_text, turn_text}
-use Rattle.line_run.specs.Sampled.{Channel, LineRun}
+use Rattle.line_run.specs.Sampled.{Wire, LineRun}
 use Rattle.line_run.specs.Ends.{RunEnd, Left, Leaves, RunsTo, EndsBy, EndsInTurn}
 use Rattle.line_run.specs.Ends as runs
-use Rattle.line_run.specs.Scripted.{channel_of, link_of}
+use Rattle.line_run.specs.Scripted.{wire_of, link_of}
 use Rattle.line_run.specs.Stream.{both_sent_by}
 use Rattle.run_world.specs.Names.{Written, outputs_of}
 use Rattle.run_world.specs.World.{KnowsFiles, script_of, turn_of}
@@ -62,8 +62,8 @@ module _ (laws : LineLaws) (w v : World) (old new : FolderState) (n : Written) (
     (only : OnlyPuts (held_by old n [] 0) (held_by new n text r) (outputs_of n)) (limits : IsInLimits (script_of v))
     (asks : AsksInOctets (script_of v)) (same : script_of v ≡ script_of w) (before : List (List ℕ)) (s : StillRuns w old n before)
     (early : length s.turns < 2 ^ 40) where
-  abbrev c : Channel
-  c = channel_of (script_of v)
+  abbrev c : Wire
+  c = wire_of (script_of v)
 
   -- the lines of all turns up to this one
   lines-so : (t : Turn) → before ++ turn_lines (length s.turns) t ≡ trace_lines (t ∷ s.turns)
@@ -141,7 +141,7 @@ module _ (laws : LineLaws) (w v : World) (old new : FolderState) (n : Written) (
 
   -- the run so far, over the script
   run-so : LineRun c (link_of (script_of v) s.files) s.turns s.ends
-  run-so = subst (λ (x : ScriptValue). LineRun (channel_of x) (link_of x s.files) s.turns s.ends) (sym same) s.world.modems.run
+  run-so = subst (λ (x : ScriptValue). LineRun (wire_of x) (link_of x s.files) s.turns s.ends) (sym same) s.world.modems.run
 
   knows-now : KnowsFiles new n s.files
   knows-now =

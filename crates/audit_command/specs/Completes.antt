@@ -6,7 +6,7 @@ use Rattle.causes.specs.declared.audit_cause.AuditCause.{AuditCause}
 use Rattle.noise_script.specs.Script.{ScriptValue}
 use Rattle.noise_script.specs.Grammar.{ScriptSpelling}
 use Rattle.line_run.specs.Ends.{RunEnd, Left, RunsTo}
-use Rattle.line_run.specs.Scripted.{channel_of, link_of}
+use Rattle.line_run.specs.Scripted.{wire_of, link_of}
 use Rattle.command_base.specs.declared.status.Status.{Status}
 use Rattle.command_base.specs.declared.status.Status.TheVariants.{Done, AuditNo, NoMemory}
 use Rattle.command_base.specs.Sound.{IsSound, DoneUnlessMemory}
@@ -31,7 +31,7 @@ files_at f n = record { orig = octets_at f n.orig; answ = octets_at f n.answ }
 
 -- the run of the folder's files over this script ends so, and leaves this
 abbrev pub InputsRunTo : FolderState → AuditNames → ScriptValue → RunEnd → Left → Type 0
-InputsRunTo f n script end left = RunsTo (channel_of script) (link_of script (files_at f n)) end left
+InputsRunTo f n script end left = RunsTo (wire_of script) (link_of script (files_at f n)) end left
 
 -- the answer to a trace of these octets, where that is the text of the run
 abbrev pub IsAnswerTo : List ℕ → List ℕ → Status → Type 0

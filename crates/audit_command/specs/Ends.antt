@@ -5,7 +5,7 @@ use Rattle.outside_calls.specs.declared.folder.FolderFault.{FolderFault}
 use Rattle.roles.specs.Both.{Both}
 use Rattle.noise_script.specs.Script.{ScriptValue, IsInLimits}
 use Rattle.line_run.specs.Ends.{RunEnd, Left, RunsTo}
-use Rattle.line_run.specs.Scripted.{channel_of, link_of}
+use Rattle.line_run.specs.Scripted.{wire_of, link_of}
 use Rattle.run_world.specs.Link.{AreWithin}
 use Rattle.command_base.specs.declared.status.Status.{Status}
 use Rattle.command_base.specs.declared.status.Status.TheVariants.{TooLong, AuditNo}
@@ -52,7 +52,7 @@ pub record Audits (f : FolderState) (n : AuditNames) (found : Result ℕ Differe
   pub takes : Takes f n script files
   pub end : RunEnd
   pub left : Left
-  pub run : RunsTo (channel_of script) (link_of script files) end left
+  pub run : RunsTo (wire_of script) (link_of script files) end left
   pub found_is : IsTrue (f.tells n.trace) → IsFound left.trace (octets_at f n.trace) found
 
 -- The script and the files were opened, and the trace is longer than its limit: word 4 names it.

@@ -5,7 +5,7 @@ use Rattle.roles.specs.Both.{Both}
 use Rattle.noise_script.specs.Script.{ScriptValue, IsInLimits}
 use Rattle.noise_script.specs.Grammar.{ScriptSpelling}
 use Rattle.line_run.specs.Ends.{RunEnd, Left, RunsTo}
-use Rattle.line_run.specs.Scripted.{channel_of, link_of}
+use Rattle.line_run.specs.Scripted.{wire_of, link_of}
 use Rattle.command_base.specs.declared.status.Status.{Status}
 use Rattle.command_base.specs.declared.status.Status.TheVariants.{Done, AuditNo}
 use Rattle.command_base.specs.Job.{Shared}
@@ -28,7 +28,7 @@ pub record Audited (f : FolderState) (n : AuditNames) (found : Result ℕ Differ
   pub are_of : AreOf f n script files
   pub end : RunEnd
   pub left : Left
-  pub run : RunsTo (channel_of script) (link_of script files) end left
+  pub run : RunsTo (wire_of script) (link_of script files) end left
   pub found_is : IsTrue (f.tells n.trace) → IsFound left.trace (octets_at f n.trace) found
 
 -- done says how many lines the trace has, which is the run's; else the answer is the first line in which it differs
@@ -58,7 +58,7 @@ pub record IsTheTrace (f : FolderState) (n : AuditNames) : Type 0 where
   pub spelled : ScriptSpelling (octets_at f n.script) script
   pub end : RunEnd
   pub left : Left
-  pub run : RunsTo (channel_of script) (link_of script (record { orig = octets_at f n.orig; answ = octets_at f n.answ })) end left
+  pub run : RunsTo (wire_of script) (link_of script (record { orig = octets_at f n.orig; answ = octets_at f n.answ })) end left
   pub same : octets_at f n.trace ≡ left.trace
 
 -- Where an audit is done, it is so.

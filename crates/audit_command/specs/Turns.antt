@@ -7,7 +7,7 @@ use Rattle.roles.specs.Both.{Both}
 use Rattle.noise_script.specs.Script.{ScriptValue}
 use Rattle.link_run.specs.Run.{Accounts, Turn}
 use Rattle.line_run.specs.Ends.{RunEnd, Left, RunsTo}
-use Rattle.line_run.specs.Scripted.{channel_of, link_of}
+use Rattle.line_run.specs.Scripted.{wire_of, link_of}
 use Rattle.line_run.specs.Stream.{both_sent_by}
 use Rattle.run_world.specs.Names.{Written, outputs_of}
 use Rattle.run_world.specs.Link.{AreWithin}
@@ -51,7 +51,7 @@ pub record Watched (w v : World) (old new : FolderState) (n : Written) (step : R
   pub refusals : ℕ
   pub passed : OnlyPassed old new 0 refusals
   pub turn : (files : Both (List ℕ)) (ts : List Turn) (ends : Accounts) → WorldAfter w files ts ends → AreWithin files
-      → TurnAnswers (modems_of v) (lines_of v) (channel_of (script_of v)) 1 (both_sent_by 0 ts) (held_by old n [] 0)
+      → TurnAnswers (modems_of v) (lines_of v) (wire_of (script_of v)) 1 (both_sent_by 0 ts) (held_by old n [] 0)
       (held_by new n text refusals) n files ts ends step
   pub only : OnlyPuts (held_by old n [] 0) (held_by new n text refusals) (outputs_of n)
   pub counts : TurnCounts (held_by old n [] 0) (held_by new n text refusals) n step
@@ -72,7 +72,7 @@ pub record HasRun (script : ScriptValue) (f : FolderState) (n : Written) (lines 
   pub knows : KnowsFiles f n files
   pub end : RunEnd
   pub left : Left
-  pub run : RunsTo (channel_of script) (link_of script files) end left
+  pub run : RunsTo (wire_of script) (link_of script files) end left
   pub cut : IsCut left.trace lines
 
 -- either of both
@@ -118,7 +118,7 @@ pub record RunFound (script : ScriptValue) (f : FolderState) (n : Written) (trac
   pub knows : KnowsFiles f n files
   pub end : RunEnd
   pub left : Left
-  pub run : RunsTo (channel_of script) (link_of script files) end left
+  pub run : RunsTo (wire_of script) (link_of script files) end left
   pub found_is : IsTrue (f.tells trace) → IsFound left.trace (octets_at f trace) found
 
 -- as an audit ends by what is found

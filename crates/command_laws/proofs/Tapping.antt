@@ -20,7 +20,7 @@ use Rattle.link_run.specs.Taken.{taken_octets}
 use Rattle.line_run.specs.Sampled.{LineRun, signals}
 use Rattle.line_run.specs.Ends.{RunEnd, Left, RunsLeaveWhatPassed}
 use Rattle.line_run.specs.Recorded.{IsRecorded, Tapes}
-use Rattle.line_run.specs.Scripted.{channel_of, link_of, ScriptsMayPlay, ScriptsHaveDelays, SlotsAreCodable}
+use Rattle.line_run.specs.Scripted.{wire_of, link_of, ScriptsMayPlay, ScriptsHaveDelays, SlotsAreCodable}
 use Rattle.line_run.specs.Stream.{AllSendable}
 use Rattle.line_ends.specs.Completes.{AreOfOctets, OctetsAreSendable}
 use Rattle.line_tap.specs.Tapping.{tapping, phase_behind}
@@ -48,14 +48,14 @@ pub record TapLaws : Type 0 where
 
 -- all that was sent could be coded where it stands
 coded : SlotsAreCodable → (script : ScriptValue) (files : Both (List ℕ)) (ts : List Turn)
-    (ends : Accounts) → IsInLimits script → LineRun (channel_of script) (link_of script files) ts ends → AllSendable ts → (role : Role)
-    → AreCoded (channel_of script) role ts
+    (ends : Accounts) → IsInLimits script → LineRun (wire_of script) (link_of script files) ts ends → AllSendable ts → (role : Role)
+    → AreCoded (wire_of script) role ts
 coded codable script files [] ends limits r s role = tt
 coded codable script files (t ∷ ts) ends limits r s role =
-    let before : LineRun (channel_of script) (link_of script files) ts r.run.0 = record { run = r.run.1; heard = r.heard.1 } in (
-      λ slot e. codable (channel_of script) files ts r.run.0 t ends limits before r.heard.0 r.run.2 role slot 0
-          (phase_behind (channel_of script) role ts) (phase-low (4 * (channel_of script).symbols) 0
-          (slots_of (4 * (channel_of script).symbols) (signals (channel_of script) role ts)) (omega arith)) e (s.0 role slot e),
+    let before : LineRun (wire_of script) (link_of script files) ts r.run.0 = record { run = r.run.1; heard = r.heard.1 } in (
+      λ slot e. codable (wire_of script) files ts r.run.0 t ends limits before r.heard.0 r.run.2 role slot 0
+          (phase_behind (wire_of script) role ts) (phase-low (4 * (wire_of script).symbols) 0
+          (slots_of (4 * (wire_of script).symbols) (signals (wire_of script) role ts)) (omega arith)) e (s.0 role slot e),
       coded codable script files ts r.run.0 limits before s.1 role,
     )
 
@@ -70,13 +70,13 @@ alike f g name other octets left e a b tf tg = b tg ∙ ap Some (sym e) ∙ sym 
 pub taps-leave : TapLaws → TapsLeaveWhatRunsLeft
 taps-leave laws m tapes old new was then n end r is ran told of-run sound completes = by (completes sound ran.script bodies right (told_end end) ran.left tap)
   where
-    hold : HoldTapes new (Some tapes) (channel_of ran.script) ran.run.turns
-    hold = subst (λ (x : Tapes). HoldTapes new x (channel_of ran.script) ran.run.turns) is ran.taped
+    hold : HoldTapes new (Some tapes) (wire_of ran.script) ran.run.turns
+    hold = subst (λ (x : Tapes). HoldTapes new x (wire_of ran.script) ran.run.turns) is ran.taped
 
     bodies : Both (List ℕ)
     bodies = record { orig = hold.0.body; answ = hold.1.body }
 
-    recorded : (role : Role) → IsRecorded (channel_of ran.script) role ran.run.turns (of role bodies)
+    recorded : (role : Role) → IsRecorded (wire_of ran.script) role ran.run.turns (of role bodies)
     recorded Originator = hold.0.recorded
     recorded Answerer = hold.1.recorded
 
@@ -88,7 +88,7 @@ taps-leave laws m tapes old new was then n end r is ran told of-run sound comple
     files Answerer = subst AreOctets (sym (ran.are_of.answ_is told.answ)) told.answ_octets
 
     sendable : AllSendable ran.run.turns
-    sendable = laws.octets (channel_of ran.script) ran.files ran.run.turns ran.run.ends ran.limits
+    sendable = laws.octets (wire_of ran.script) ran.files ran.run.turns ran.run.ends ran.limits
         (record { files_are = files; breaks_are = laws.breaks (octets_at old m.script) ran.script spelled }) ran.run.run
 
     tap : TapOf (tapping ran.script bodies) (told_end end) ran.left
@@ -110,7 +110,7 @@ taps-leave laws m tapes old new was then n end r is ran told of-run sound comple
 
     passed : (role : Role) → of role ran.left.got ≡ taken_octets (agreed_srej (link_of ran.script ran.files)) (delay_of ran.script) role ran.heard
     passed role =
-        laws.passed (channel_of ran.script) (link_of ran.script ran.files) end ran.left
+        laws.passed (wire_of ran.script) (link_of ran.script ran.files) end ran.left
         (record { may_play = laws.play ran.script ran.files ran.limits; delays = laws.delays ran.script ran.limits }) ran.run role
         ∙ ap (taken_octets (agreed_srej (link_of ran.script ran.files)) (delay_of ran.script) role) (sym ran.heard_is)
 

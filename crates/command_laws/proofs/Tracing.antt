@@ -7,7 +7,7 @@ use Rattle.noise_script.specs.Script.{ScriptValue}
 use Rattle.noise_script.specs.Grammar.{ScriptSpelling}
 use Rattle.noise_script.specs.Laws.{ScriptsAreOne}
 use Rattle.line_run.specs.Ends.{RunEnd, RunsTo}
-use Rattle.line_run.specs.Scripted.{channel_of, link_of}
+use Rattle.line_run.specs.Scripted.{wire_of, link_of}
 use Rattle.command_base.specs.declared.status.Status.{Status}
 use Rattle.command_base.specs.declared.status.Status.TheVariants.{Done, LinkLost, NotDetected, LineLost, ChanceMatch}
 use Rattle.command_base.specs.Apart.{are_apart}
@@ -53,12 +53,12 @@ module _ (one : ScriptsAreOne) (old mid new : FolderState) (n : RunNames) (r s :
       e.are_of.orig_is (was n.orig right.orig_told) ∙ sym (kept n.orig (λ output a. a.0) right.orig_told) in
       let answ : e.files.answ ≡ octets_at mid n.answ =
       e.are_of.answ_is (was n.answ right.answ_told) ∙ sym (kept n.answ (λ output a. a.1.0) right.answ_told) in
-      let over : RunsTo (channel_of script) (link_of script e.files) end e.left =
-      subst (λ (x : ScriptValue). RunsTo (channel_of x) (link_of x e.files) end e.left) is e.run in
-      let of-orig : RunsTo (channel_of script) (link_of script (record { orig = octets_at mid n.orig; answ = e.files.answ })) end e.left =
-      subst (λ (o : List ℕ). RunsTo (channel_of script) (link_of script (record { orig = o; answ = e.files.answ })) end e.left) orig over in
+      let over : RunsTo (wire_of script) (link_of script e.files) end e.left =
+      subst (λ (x : ScriptValue). RunsTo (wire_of x) (link_of x e.files) end e.left) is e.run in
+      let of-orig : RunsTo (wire_of script) (link_of script (record { orig = octets_at mid n.orig; answ = e.files.answ })) end e.left =
+      subst (λ (o : List ℕ). RunsTo (wire_of script) (link_of script (record { orig = o; answ = e.files.answ })) end e.left) orig over in
       let of-both : InputsRunTo mid (audit_of n) script end e.left =
-      subst (λ (w : List ℕ). RunsTo (channel_of script) (link_of script (record { orig = octets_at mid n.orig; answ = w })) end e.left)
+      subst (λ (w : List ℕ). RunsTo (wire_of script) (link_of script (record { orig = octets_at mid n.orig; answ = w })) end e.left)
       answ of-orig in
       completes.yes sound script right end e.left of-both (octets-held mid n.trace e.left.trace (e.trace right.trace_told))
 

@@ -1,6 +1,6 @@
 -- A run that the line doesn't end is done where no end gives up.
 use Rattle.std.proofs.Common.{refl}
-use Rattle.line_run.specs.Scripted.{channel_of}
+use Rattle.line_run.specs.Scripted.{wire_of}
 use Rattle.line_run.specs.Ends.{RunEnd, IsDone, LinkLost, NotDetected, LineLost, ChanceMatch}
 use Rattle.line_ends.specs.Causes.{GivesUp, LostLinksWereStarved, FewLossesKeepLinks}
 use Rattle.line_ends.specs.Completes.{EndsDone, LineEnds, CompletesUnstarved, CompletesWithFewLosses}
@@ -14,7 +14,7 @@ done-else (ChanceMatch role turn) up line = absurd (line tt)
 
 pub completes-unstarved : LostLinksWereStarved → CompletesUnstarved
 completes-unstarved starved script files end left h r fed line =
-    done-else end (λ g. fed (starved (channel_of script) files end left h r g)) line
+    done-else end (λ g. fed (starved (wire_of script) files end left h r g)) line
 
 pub completes-with-few : FewLossesKeepLinks → CompletesWithFewLosses
-completes-with-few keep script files end left h r few line = done-else end (λ g. keep (channel_of script) files end left h r few g) line
+completes-with-few keep script files end left h r few line = done-else end (λ g. keep (wire_of script) files end left h r few g) line

@@ -32,9 +32,9 @@ use Rattle.link_run.specs.Laws.{EachEndIsNamed, IsNamed}
 use Rattle.link_run.specs.Trace.{trace_text}
 use Rattle.line_texts.specs.LineText.{chance_line}
 use Rattle.turn_bound.specs.Limits.{file_limit}
-use Rattle.line_run.specs.Sampled.{Channel, signal_in, signals, Arrives, ArrivesAs, IsHeardOf, LineRun, LineEnd, IsHeardWell, EndsLine}
+use Rattle.line_run.specs.Sampled.{Wire, signal_in, signals, Arrives, ArrivesAs, IsHeardOf, LineRun, LineEnd, IsHeardWell, EndsLine}
 use Rattle.line_run.specs.Sampled as lines
-use Rattle.line_run.specs.Scripted.{channel_of, link_of, ScriptsMayPlay, ScriptsHaveDelays, SlotsHaveRoom, SlotsAreCodable}
+use Rattle.line_run.specs.Scripted.{wire_of, link_of, ScriptsMayPlay, ScriptsHaveDelays, SlotsHaveRoom, SlotsAreCodable}
 use Rattle.line_run.specs.Ends.{IsDone, LinkLost, NotDetected, LineLost, ChanceMatch, Left, Leaves, EndsInTurn}
 use Rattle.line_ends.specs.Scripts.{NoLineRunIsLong}
 use Rattle.line_ends.specs.Causes.{MadeOver, HeardTurnsAreMade}
@@ -55,7 +55,7 @@ pub record SlotLaws : Type 0 where
   pub octets : OctetsAreSendable
 
 -- a slot that has arrived, by what is heard of it
-by-heard : (c : Channel) (sender : Role) (ts : List Turn) (hearing : Check) (heard : Heard) → IsHeardOf c sender ts hearing heard
+by-heard : (c : Wire) (sender : Role) (ts : List Turn) (hearing : Check) (heard : Heard) → IsHeardOf c sender ts hearing heard
     → Becomes c sender ts hearing
 by-heard c sender ts hearing Nothing h = becomes.Heard (record { heard = Nothing; is = h; well = λ e. absurd cc })
 by-heard c sender ts hearing (Passed s) h = becomes.Heard (record { heard = Passed s; is = h; well = λ e. absurd cc })
@@ -63,20 +63,20 @@ by-heard c sender ts hearing (Lost s) h = becomes.Heard (record { heard = Lost s
 by-heard c sender ts hearing Chance h = becomes.Mistaken h
 
 -- what becomes of a slot that was sent in that turn, behind those of the earlier ones
-pub data Came (c : Channel) (sender : Role) (earlier : List Turn) (t : Turn) (hearing : Check) (slot : Spoken) : Type 0 where
+pub data Came (c : Wire) (sender : Role) (earlier : List Turn) (t : Turn) (hearing : Check) (slot : Spoken) : Type 0 where
   Is_lost : (symbol : ℕ) (samples : List Sample) → Records c.script sender (lines.bits_of c sender (t ∷ earlier)) samples
       → LostIs line_trellis line_depth samples (Some symbol) → Came c sender earlier t hearing slot
   Is_heard : (heard : Heard) → Arrives c sender earlier (t ∷ earlier) hearing slot heard → Came c sender earlier t hearing slot
 
 comes : SlotLaws → (script : ScriptValue) (sender : Role) (earlier : List Turn) (t : Turn) (hearing : Check) (slot : Spoken)
     → IsInLimits script
-    → AreFit (bits_in script) 0 (signals (channel_of script) sender earlier)
-    → AreFit (bits_in script) 0 (signals (channel_of script) sender (t ∷ earlier))
-    → (of sender t).sent ≡ Some slot → Came (channel_of script) sender earlier t hearing slot
+    → AreFit (bits_in script) 0 (signals (wire_of script) sender earlier)
+    → AreFit (bits_in script) 0 (signals (wire_of script) sender (t ∷ earlier))
+    → (of sender t).sent ≡ Some slot → Came (wire_of script) sender earlier t hearing slot
 comes laws script sender earlier t hearing slot h fits fit e = go (lost-or-not upto.0)
   where
-    c : Channel
-    c = channel_of script
+    c : Wire
+    c = wire_of script
 
     before : (samples : List Sample) × Records script sender (lines.bits_of c sender earlier) samples
     before = laws.recorded script sender (symbols_of script) (signals c sender earlier) (laws.room script h).0 fits
@@ -119,8 +119,8 @@ comes laws script sender earlier t hearing slot h fits fit e = go (lost-or-not u
 pub each-slot-becomes : SlotLaws → EachSlotBecomes
 each-slot-becomes laws script files ts ends role h o r = go (sent_ago delay sender ts) refl
   where
-    c : Channel
-    c = channel_of script
+    c : Wire
+    c = wire_of script
 
     sender : Role
     sender = other role
@@ -132,7 +132,7 @@ each-slot-becomes laws script files ts ends role h o r = go (sent_ago delay send
     hearing = check_of (of role ends)
 
     fits : AreFit (bits_in script) 0 (signals c sender ts)
-    fits = fits-all laws.codable script files ts ends h r (laws.octets (channel_of script) files ts ends h o r) sender
+    fits = fits-all laws.codable script files ts ends h r (laws.octets (wire_of script) files ts ends h o r) sender
 
     heard-as : (o : Option Spoken) → sent_ago delay sender ts ≡ o → (heard : Heard)
         → ArrivesAs c sender (drop delay ts) (drop (delay - 1) ts) hearing o heard → Becomes c sender ts hearing
@@ -164,8 +164,8 @@ each-slot-becomes laws script files ts ends role h o r = go (sent_ago delay send
 pub each-turn-is-decided : EachSlotBecomes → HeardTurnsAreMade → EachTurnIsDecided
 each-turn-is-decided slots made script files ts ends h o r = first (slots script files ts ends Originator h o r)
   where
-    c : Channel
-    c = channel_of script
+    c : Wire
+    c = wire_of script
 
     both : IsHeardWell c Answerer ts (check_of ends.orig) → IsHeardWell c Originator ts (check_of ends.answ) → (role : Role)
         → IsHeardWell c (other role) ts (check_of (of role ends))
@@ -202,8 +202,8 @@ pub record EndLaws : Type 0 where
   pub short : NoLineRunIsLong
 
 line-end : (script : ScriptValue) (files : Both (List ℕ)) (ts : List Turn) (ends : Accounts)
-    → LineRun (channel_of script) (link_of script files) ts ends
-    → (end : LineEnd) → EndsLine (channel_of script) ts ends end → HasEnd script files
+    → LineRun (wire_of script) (link_of script files) ts ends
+    → (end : LineEnd) → EndsLine (wire_of script) ts ends end → HasEnd script files
 line-end script files ts ends r (lines.LineLost role symbol) e = record {
   end = LineLost role symbol;
   left = left-of ends (trace_text ts);
@@ -217,9 +217,9 @@ line-end script files ts ends r (lines.ChanceMatch role) e =
       runs = record { turns = ts; ends = ends; run = r; ended = (refl, record { is = e; leaves = leaves-so ends text }) };
     }
 
-in-turn : (script : ScriptValue) (files : Both (List ℕ)) (ts : List Turn) (ends : Accounts) (m : MadeOver (channel_of script) files ts ends)
+in-turn : (script : ScriptValue) (files : Both (List ℕ)) (ts : List Turn) (ends : Accounts) (m : MadeOver (wire_of script) files ts ends)
     (o : Outcome) → m.outcome ≡ o
-    → EndsInTurn (channel_of script) (link_of script files) ts ends o (length ts) (left-of m.mid (trace_text (m.turn ∷ ts)))
+    → EndsInTurn (wire_of script) (link_of script files) ts ends o (length ts) (left-of m.mid (trace_text (m.turn ∷ ts)))
 in-turn script files ts ends m o e = record {
   number = refl;
   last = m.turn;
@@ -230,8 +230,8 @@ in-turn script files ts ends m o e = record {
 }
 
 broken-end : EndLaws → (script : ScriptValue) (files : Both (List ℕ)) (ts : List Turn) (ends : Accounts) → IsInLimits script
-    → LineRun (channel_of script) (link_of script files) ts ends
-    → (m : MadeOver (channel_of script) files ts ends) (role : Role) (fault : LinkFault)
+    → LineRun (wire_of script) (link_of script files) ts ends
+    → (m : MadeOver (wire_of script) files ts ends) (role : Role) (fault : LinkFault)
     → m.outcome ≡ Broken role fault → HasEnd script files
 broken-end laws script files ts ends h r m role fault e =
     let is : TurnIs (link_of script files) ts ends m.turn m.mid (Broken role fault) =
@@ -268,9 +268,9 @@ broken-end laws script files ts ends h r m role fault e =
 
 -- by the turns that follow, where one is made
 goes : EndLaws → (script : ScriptValue) (files : Both (List ℕ)) → IsInLimits script → (ts : List Turn) (ends : Accounts)
-    → LineRun (channel_of script) (link_of script files) ts ends
-    → ((t : Turn) (after : Accounts) → LineRun (channel_of script) (link_of script files) (t ∷ ts) after → HasEnd script files)
-    → ((end : LineEnd) × EndsLine (channel_of script) ts ends end) ⊎ MadeOver (channel_of script) files ts ends → HasEnd script files
+    → LineRun (wire_of script) (link_of script files) ts ends
+    → ((t : Turn) (after : Accounts) → LineRun (wire_of script) (link_of script files) (t ∷ ts) after → HasEnd script files)
+    → ((end : LineEnd) × EndsLine (wire_of script) ts ends end) ⊎ MadeOver (wire_of script) files ts ends → HasEnd script files
 goes laws script files h ts ends r on (inl e) = line-end script files ts ends r e.0 e.1
 goes laws script files h ts ends r on (inr m) = made m.outcome refl
   where
@@ -289,9 +289,9 @@ goes laws script files h ts ends r on (inr m) = made m.outcome refl
 -- with so many turns to go at most
 ends-within : EndLaws → (script : ScriptValue) (files : Both (List ℕ)) → IsInLimits script
     → ((role : Role) → length (of role files) ≤ file_limit) → AreOfOctets script files
-    → (n : ℕ) (ts : List Turn) (ends : Accounts) → LineRun (channel_of script) (link_of script files) ts ends → 2 ^ 39 ≤ length ts + n
+    → (n : ℕ) (ts : List Turn) (ends : Accounts) → LineRun (wire_of script) (link_of script files) ts ends → 2 ^ 39 ≤ length ts + n
     → HasEnd script files
-ends-within laws script files h f o zero ts ends r l = absurd (omega (arith, l, laws.short (channel_of script) files ts ends h f r))
+ends-within laws script files h f o zero ts ends r l = absurd (omega (arith, l, laws.short (wire_of script) files ts ends h f r))
 ends-within laws script files h f o (suc n) ts ends r l =
     goes laws script files h ts ends r (λ t after k. ends-within laws script files h f o n (t ∷ ts) after k (omega (arith, l)))
     (laws.decided script files ts ends h o r)

@@ -12,7 +12,7 @@ use Rattle.line_laws.specs.Fitting.{Fits, AreFit}
 use Rattle.line_laws.proofs.Fitting.{codable-fits, fit-front, fit-more, spelled-octets}
 use Rattle.link_run.specs.Run.{Accounts, Spoken, Turn, spoken, GoingTurn}
 use Rattle.line_run.specs.Sampled.{signal_in, signals, HeardIn, LineRun}
-use Rattle.line_run.specs.Scripted.{channel_of, link_of, slot_symbols, longest_of, SlotsAreCodable}
+use Rattle.line_run.specs.Scripted.{wire_of, link_of, slot_symbols, longest_of, SlotsAreCodable}
 use Rattle.line_run.specs.Stream.{AllSendable}
 
 -- the symbols of a slot, and its bits
@@ -25,41 +25,41 @@ bits_in script = 4 * symbols_of script
 -- one more slot
 fits-one : (codable : SlotsAreCodable) (script : ScriptValue) (files : Both (List ℕ)) (ts : List Turn) (ends : Accounts) (t : Turn)
     (after : Accounts) → IsInLimits script
-    → LineRun (channel_of script) (link_of script files) ts ends → HeardIn (channel_of script) ts t
+    → LineRun (wire_of script) (link_of script files) ts ends → HeardIn (wire_of script) ts t
     → GoingTurn (link_of script files) ts ends t after
     → (role : Role) → ((slot : Spoken) → (of role t).sent ≡ Some slot → IsSendable slot.sent)
-    → AreFit (bits_in script) 0 (signals (channel_of script) role ts)
-    → AreFit (bits_in script) 0 (signals (channel_of script) role (t ∷ ts))
+    → AreFit (bits_in script) 0 (signals (wire_of script) role ts)
+    → AreFit (bits_in script) 0 (signals (wire_of script) role (t ∷ ts))
 fits-one codable script files ts ends t after h r k g role sendable fit =
     let size : ℕ = bits_in script in
-    let before = signals (channel_of script) role ts in
+    let before = signals (wire_of script) role ts in
     let slot : Spoken = spoken (g.speaking role).said in
     let e : (of role t).sent ≡ Some slot = (g.speaking role).sent_is in
     let is : IsSendable slot.sent = sendable slot e in
     let phase : ℕ = phase_after size (slots_of size before) in
-    let can = codable (channel_of script) files ts ends t after h r k g role slot 0 phase (phase-low size 0 (slots_of size before) (omega arith)) e is in
+    let can = codable (wire_of script) files ts ends t after h r k g role slot 0 phase (phase-low size 0 (slots_of size before) (omega arith)) e is in
     let fits : Fits size phase (signal_of slot.check role 0 slot.sent)
     = codable-fits slot.check role 0 (symbols_of script) phase slot.sent
     (spelled-octets slot.check role 0 slot.sent (omega arith) is) can in
-    subst (λ o. AreFit size 0 (before ++ signal_in (channel_of script) role o)) (sym e)
+    subst (λ o. AreFit size 0 (before ++ signal_in (wire_of script) role o)) (sym e)
     (fit-more size 0 before (signal_of slot.check role 0 slot.sent) fit fits)
 
 -- and so all of them do
 pub fits-all : (codable : SlotsAreCodable) (script : ScriptValue) (files : Both (List ℕ)) (ts : List Turn) (ends : Accounts) → IsInLimits script
-    → LineRun (channel_of script) (link_of script files) ts ends → AllSendable ts → (role : Role)
-    → AreFit (bits_in script) 0 (signals (channel_of script) role ts)
+    → LineRun (wire_of script) (link_of script files) ts ends → AllSendable ts → (role : Role)
+    → AreFit (bits_in script) 0 (signals (wire_of script) role ts)
 fits-all codable script files [] ends h r s role = tt
 fits-all codable script files (t ∷ ts) ends h r s role =
-    let before : LineRun (channel_of script) (link_of script files) ts r.run.0 = record { run = r.run.1; heard = r.heard.1 } in
+    let before : LineRun (wire_of script) (link_of script files) ts r.run.0 = record { run = r.run.1; heard = r.heard.1 } in
     fits-one codable script files ts r.run.0 t ends h before r.heard.0 r.run.2 role (s.0 role)
     (fits-all codable script files ts r.run.0 h before s.1 role)
 
 -- the first ones too
 pub fits-before : (script : ScriptValue) (role : Role) (n : ℕ) (ts : List Turn)
-    → AreFit (bits_in script) 0 (signals (channel_of script) role ts)
-    → AreFit (bits_in script) 0 (signals (channel_of script) role (drop n ts))
+    → AreFit (bits_in script) 0 (signals (wire_of script) role ts)
+    → AreFit (bits_in script) 0 (signals (wire_of script) role (drop n ts))
 fits-before script role zero ts h = h
 fits-before script role (suc n) [] h = h
 fits-before script role (suc n) (t ∷ ts) h =
-    fits-before script role n ts (fit-front (bits_in script) 0 (signals (channel_of script) role ts)
-    (signal_in (channel_of script) role (of role t).sent) h)
+    fits-before script role n ts (fit-front (bits_in script) 0 (signals (wire_of script) role ts)
+    (signal_in (wire_of script) role (of role t).sent) h)

@@ -29,9 +29,9 @@ use Rattle.link_run.specs.Carried.{sent_ago}
 use Rattle.link_run.specs.Laws.{RunsOver}
 use Rattle.link_run.specs.Overheard.{JudgesByItsCheck}
 use Rattle.link_run.specs.Starved.{IsLost}
-use Rattle.line_run.specs.Sampled.{Channel, signal_in, signals, Arrives, ArrivesAs, IsHeardOf, HeardIn, LineRun, LosesLine, EndsLine}
+use Rattle.line_run.specs.Sampled.{Wire, signal_in, signals, Arrives, ArrivesAs, IsHeardOf, HeardIn, LineRun, LosesLine, EndsLine}
 use Rattle.line_run.specs.Sampled as lines
-use Rattle.line_run.specs.Scripted.{channel_of, link_of, ScriptsMayPlay, ScriptsHaveDelays, SlotsHaveRoom, SlotsAreCodable}
+use Rattle.line_run.specs.Scripted.{wire_of, link_of, ScriptsMayPlay, ScriptsHaveDelays, SlotsHaveRoom, SlotsAreCodable}
 use Rattle.line_run.specs.LineLaws.{SamplesAreCarried}
 use Rattle.line_ends.specs.Completes.{IsFaint, FaintGoOn}
 use Rattle.line_run.specs.Stream.{AllSendable}
@@ -52,11 +52,11 @@ pub record HearLaws : Type 0 where
 
 -- the line of samples as any line
 pub over : HearLaws → (script : ScriptValue) (files : Both (List ℕ)) (ts : List Turn) (ends : Accounts) → IsInLimits script
-    → LineRun (channel_of script) (link_of script files) ts ends → RunsOver (link_of script files) (delay_of script) ts ends
+    → LineRun (wire_of script) (link_of script files) ts ends → RunsOver (link_of script files) (delay_of script) ts ends
 over laws script files ts ends h r = record {
   may_play = laws.play script files h;
   delays = laws.delays script h;
-  carried = laws.carried (channel_of script) ts r.heard;
+  carried = laws.carried (wire_of script) ts r.heard;
   run = r.run;
 }
 
@@ -76,11 +76,11 @@ slots-long script = omega arith
 arrives-unhindered : HearLaws → (script : ScriptValue) (sender : Role) (earlier : List Turn) (t : Turn) (hearing : Check) (slot : Spoken)
     (heard : Heard)
     → IsInLimits script → IsFaint script → (of sender t).sent ≡ Some slot
-    → AreFit (bits_in script) 0 (signals (channel_of script) sender (t ∷ earlier)) → IsSendable slot.sent
-    → ChecksAgree slot.check hearing slot.sent → Arrives (channel_of script) sender earlier (t ∷ earlier) hearing slot heard
+    → AreFit (bits_in script) 0 (signals (wire_of script) sender (t ∷ earlier)) → IsSendable slot.sent
+    → ChecksAgree slot.check hearing slot.sent → Arrives (wire_of script) sender earlier (t ∷ earlier) hearing slot heard
     → heard ≡ unhindered (loses script sender (length earlier)) slot.sent
 arrives-unhindered laws script sender earlier t hearing slot heard h d e fit is agree a =
-    let c : Channel = channel_of script in
+    let c : Wire = wire_of script in
     let before : List Signal = signals c sender earlier in
     let signal : Signal = signal_of slot.check sender 0 slot.sent in
     let fits : AreFit (bits_in script) 0 (before ++ signal ∷ []) =
@@ -112,8 +112,8 @@ nothing-named script sender ts = record { well = λ e. absurd cc; lost = λ h. a
 
 pub heard-named : HearLaws → (script : ScriptValue) (files : Both (List ℕ)) (ts : List Turn) (ends : Accounts) → IsInLimits script
     → IsFaint script
-    → LineRun (channel_of script) (link_of script files) ts ends → AllSendable ts → (role : Role) (heard : Heard)
-    → IsHeardOf (channel_of script) (other role) ts (check_of (of role ends)) heard → AsNamed script (other role) ts heard
+    → LineRun (wire_of script) (link_of script files) ts ends → AllSendable ts → (role : Role) (heard : Heard)
+    → IsHeardOf (wire_of script) (other role) ts (check_of (of role ends)) heard → AsNamed script (other role) ts heard
 heard-named laws script files ts ends h d r s role heard k = go (sent_ago delay sender ts) refl k
   where
     sender : Role
@@ -126,15 +126,15 @@ heard-named laws script files ts ends h d r s role heard k = go (sent_ago delay 
     hearing = check_of (of role ends)
 
     go : (o : Option Spoken) → sent_ago delay sender ts ≡ o
-        → ArrivesAs (channel_of script) sender (drop delay ts) (drop (delay - 1) ts) hearing o heard → AsNamed script sender ts heard
+        → ArrivesAs (wire_of script) sender (drop delay ts) (drop (delay - 1) ts) hearing o heard → AsNamed script sender ts heard
     go None e a = subst (AsNamed script sender ts) (sym a) (nothing-named script sender ts)
     go (Some slot) e a =
         let x : SentAgo sender delay ts slot = sent-ago sender delay ts slot (laws.delays script h sender) e in
-        let fit : AreFit (bits_in script) 0 (signals (channel_of script) sender (x.turn ∷ drop delay ts))
-        = subst (λ us. AreFit (bits_in script) 0 (signals (channel_of script) sender us)) x.rest
+        let fit : AreFit (bits_in script) 0 (signals (wire_of script) sender (x.turn ∷ drop delay ts))
+        = subst (λ us. AreFit (bits_in script) 0 (signals (wire_of script) sender us)) x.rest
         (fits-before script sender (delay - 1) ts (fits-all laws.codable script files ts ends h r s sender)) in
-        let arrives : Arrives (channel_of script) sender (drop delay ts) (x.turn ∷ drop delay ts) hearing slot heard
-        = subst (λ us. Arrives (channel_of script) sender (drop delay ts) us hearing slot heard) x.rest a in
+        let arrives : Arrives (wire_of script) sender (drop delay ts) (x.turn ∷ drop delay ts) hearing slot heard
+        = subst (λ us. Arrives (wire_of script) sender (drop delay ts) us hearing slot heard) x.rest a in
         let checks : ChecksAgree slot.check hearing slot.sent
         = agree-on slot.check hearing slot.sent
         (λ frame f. laws.judges (link_of script files) (delay_of script) ts ends
@@ -152,9 +152,9 @@ heard-named laws script files ts ends h d r s role heard k = go (sent_ago delay 
 
 -- the line isn't lost
 stays : HearLaws → (script : ScriptValue) (sender : Role) (ts : List Turn) (symbol : ℕ) → IsFaint script
-    → LosesLine (channel_of script) sender ts symbol → ⊥
+    → LosesLine (wire_of script) sender ts symbol → ⊥
 stays laws script sender ts symbol d l =
-    let bits : List Bool = lines.bits_of (channel_of script) sender (drop (delay_of script sender - 1) ts) in
+    let bits : List Bool = lines.bits_of (wire_of script) sender (drop (delay_of script sender - 1) ts) in
     laws.never_lost sender script (length bits) [] bits symbol (d sender (length bits)) (omega arith)
     (record { first = bits; rest = []; bits_are = sym (append-nil bits); loses = l.loses })
 

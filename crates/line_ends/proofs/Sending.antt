@@ -28,7 +28,7 @@ use Rattle.link_run.specs.Run.{Link, Accounts, Spoken, Turn, start, arrival, ser
 use Rattle.link_run.specs.Carried.{sent_ago, Crosses, Carries}
 use Rattle.link_run.specs.Laws.{RunsOver, SendsShort}
 use Rattle.link_run.specs.Reading.{StaysOffered, BeginsUnoffered, HearingStaysOffered, SpeakingStaysOffered}
-use Rattle.line_run.specs.Sampled.{Channel, LineRun}
+use Rattle.line_run.specs.Sampled.{Wire, LineRun}
 use Rattle.line_run.specs.Scripted.{link_of, break_line, breaks_of, ScriptsMayPlay, ScriptsHaveDelays}
 use Rattle.line_run.specs.LineLaws.{SamplesAreCarried, OneIsCarried}
 use Rattle.line_ends.specs.Completes.{AreOfOctets, OctetsAreSendable}
@@ -130,7 +130,7 @@ pub record HoldBoth (files : Role → List ℕ) (ts : List Turn) (ends : Account
   pub holds : (role : Role) → Holds (files role) (of role ends)
 
 -- one turn more
-next-turn : SendLaws → (c : Channel) (files : Both (List ℕ)) (ts : List Turn) (before : Accounts) (t : Turn) (after : Accounts)
+next-turn : SendLaws → (c : Wire) (files : Both (List ℕ)) (ts : List Turn) (before : Accounts) (t : Turn) (after : Accounts)
     → IsInLimits c.script → AreOfOctets c.script files
     → LineRun c (link_of c.script files) ts before → Carries (delay_of c.script) ts t
     → GoingTurn (link_of c.script files) ts before t after
@@ -205,7 +205,7 @@ next-turn laws c files ts before t after h o r carries g k =
         let same : (g.speaking role).said.sent ≡ slot.sent = ap (sent-of slot) (sym (g.speaking role).sent_is ∙ e) in
         plain-sendable slot.sent (subst IsPlainSent same (good role).sent) (λ frame f. few role slot frame e f)
 
-holds-all : SendLaws → (c : Channel) (files : Both (List ℕ)) (ts : List Turn) (ends : Accounts) → IsInLimits c.script
+holds-all : SendLaws → (c : Wire) (files : Both (List ℕ)) (ts : List Turn) (ends : Accounts) → IsInLimits c.script
     → AreOfOctets c.script files
     → LineRun c (link_of c.script files) ts ends → HoldBoth (λ role. (of role (link_of c.script files)).user.file) ts ends
 holds-all laws c files [] ends h o r =

@@ -13,7 +13,7 @@ use Rattle.turn_losses.specs.Losses.{OriginatorWantsPattern, UndetectedOnTime, S
 use Rattle.turn_losses.specs.Tries.{GivesUpForLosses, GivesUpUnbroken}
 use Rattle.turn_losses.proofs.Parting.{later-loses}
 use Rattle.turn_losses.specs.Breaks.{GivesUpStarved}
-use Rattle.line_run.specs.Sampled.{Channel, LineRun}
+use Rattle.line_run.specs.Sampled.{Wire, LineRun}
 use Rattle.line_run.specs.Scripted.{period_of, link_of, break_line, ScriptsMayPlay, ScriptsHaveDelays}
 use Rattle.line_run.specs.LineLaws.{SamplesAreCarried, OneIsCarried}
 use Rattle.line_run.specs.Ends.{IsDone, LinkLost, NotDetected, LineLost, ChanceMatch, Left, RunsTo, turns_heard}
@@ -37,7 +37,7 @@ pub record Laws : Type 0 where
   pub given : HearingsGiveAllBreaks
 
 -- the line of samples as any line
-over : Laws → (c : Channel) (files : Both (List ℕ)) (ts : List Turn) (ends : Accounts) → IsInLimits c.script
+over : Laws → (c : Wire) (files : Both (List ℕ)) (ts : List Turn) (ends : Accounts) → IsInLimits c.script
     → LineRun c (link_of c.script files) ts ends → RunsOver (link_of c.script files) (delay_of c.script) ts ends
 over laws c files ts ends h r = record
     { may_play = laws.play c.script files h; delays = laws.delays c.script h; carried = laws.carried c ts r.heard; run = r.run }
@@ -57,7 +57,7 @@ lost-links-were-starved laws c files (IsDone turn) left h r g = absurd g
 lost-links-were-starved laws c files (LineLost role symbol) left h r g = absurd g
 lost-links-were-starved laws c files (ChanceMatch role turn) left h r g = absurd g
 
-undetected : Laws → (c : Channel) (files : Both (List ℕ)) (turn : ℕ) (left : Left) → IsInLimits c.script
+undetected : Laws → (c : Wire) (files : Both (List ℕ)) (turn : ℕ) (left : Left) → IsInLimits c.script
     → (r : RunsTo c (link_of c.script files) (NotDetected turn) left) → LosesInPeriods c files (NotDetected turn) left r
 undetected laws c files turn left h r n l =
     let e = r.ended in
@@ -66,7 +66,7 @@ undetected laws c files turn left h r n l =
     (laws.pattern c.script.tries (period_of c.script) (delay_of c.script) (link_of c.script files) r.turns r.ends e.last e.mid
     (laws.time c.script files h) run.run run.carried e.is n l)
 
-loses-without-break : Laws → (c : Channel) (files : Both (List ℕ)) (end : RunEnd) (left : Left) → IsInLimits c.script
+loses-without-break : Laws → (c : Wire) (files : Both (List ℕ)) (end : RunEnd) (left : Left) → IsInLimits c.script
     → (r : RunsTo c (link_of c.script files) end left) → GivesUp end
     → WaitsForNoBreak c (link_of c.script files) r.turns r.ends end left r.ended → LosesInPeriods c files end left r
 loses-without-break laws c files (LinkLost role segment turn) left h r g quiet =
@@ -84,7 +84,7 @@ no-breaks : (script : ScriptValue) (files : Both (List ℕ)) → script.breaks �
 no-breaks script files e Originator = ap (λ (l : List Break). map break_line (filter (λ (b : Break). same_role b.role Originator) l)) e
 no-breaks script files e Answerer = ap (λ (l : List Break). map break_line (filter (λ (b : Break). same_role b.role Answerer) l)) e
 
-loses-unasked : Laws → (c : Channel) (files : Both (List ℕ)) (end : RunEnd) (left : Left) → IsInLimits c.script
+loses-unasked : Laws → (c : Wire) (files : Both (List ℕ)) (end : RunEnd) (left : Left) → IsInLimits c.script
     → (r : RunsTo c (link_of c.script files) end left) → GivesUp end → c.script.breaks ≡ [] → LosesInPeriods c files end left r
 loses-unasked laws c files (LinkLost role segment turn) left h r g none =
     let e = r.ended.1 in
@@ -96,7 +96,7 @@ loses-unasked laws c files (IsDone turn) left h r g none = absurd g
 loses-unasked laws c files (LineLost role symbol) left h r g none = absurd g
 loses-unasked laws c files (ChanceMatch role turn) left h r g none = absurd g
 
-gives-up-on-time : Laws → (c : Channel) (files : Both (List ℕ)) (end : RunEnd) (left : Left) → IsInLimits c.script
+gives-up-on-time : Laws → (c : Wire) (files : Both (List ℕ)) (end : RunEnd) (left : Left) → IsInLimits c.script
     → (r : RunsTo c (link_of c.script files) end left) → GivesUpOnTime c (link_of c.script files) r.turns r.ends end left r.ended
 gives-up-on-time laws c files (NotDetected turn) left h r =
     let e = r.ended in
@@ -109,7 +109,7 @@ gives-up-on-time laws c files (IsDone turn) left h r = tt
 gives-up-on-time laws c files (LineLost role symbol) left h r = tt
 gives-up-on-time laws c files (ChanceMatch role turn) left h r = tt
 
-gives-each-break : Laws → (c : Channel) (files : Both (List ℕ)) (end : RunEnd) (left : Left) → IsInLimits c.script
+gives-each-break : Laws → (c : Wire) (files : Both (List ℕ)) (end : RunEnd) (left : Left) → IsInLimits c.script
     → (r : RunsTo c (link_of c.script files) end left) → GivesEachBreak c (link_of c.script files) r.turns r.ends end left r.ended
 gives-each-break laws c files (IsDone turn) left h r =
     let e = r.ended in

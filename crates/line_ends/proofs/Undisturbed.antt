@@ -9,9 +9,9 @@ use Rattle.line_laws.specs.Laws.{EmptyScriptDisplacesNone, UndisplacedIsFaint}
 use Rattle.causes.specs.declared.fault.LinkFault.TheVariants as faults
 use Rattle.link_run.specs.Run.{Link, Accounts, Turn, Hears}
 use Rattle.link_run.specs.Outcomes.{Outcome, Going, Done, Broken, TurnIs}
-use Rattle.line_run.specs.Sampled.{Channel, IsHeardOf, HeardIn, LineRun}
+use Rattle.line_run.specs.Sampled.{Wire, IsHeardOf, HeardIn, LineRun}
 use Rattle.line_run.specs.Sampled as lines
-use Rattle.line_run.specs.Scripted.{channel_of, link_of, ScriptsMayPlay, ScriptsHaveDelays}
+use Rattle.line_run.specs.Scripted.{wire_of, link_of, ScriptsMayPlay, ScriptsHaveDelays}
 use Rattle.line_run.specs.Ends.{RunEnd, IsDone, LinkLost, NotDetected, LineLost, ChanceMatch, Left, EndsInTurn, DoneLeavesWhole}
 use Rattle.line_ends.specs.Completes.{ScriptRunsTo, heard_turns, LineEnds, IsFaint, IsQuiet, DisplacesNoneIsFaint}
 use Rattle.line_run.specs.Stream.{AllSendable}
@@ -30,26 +30,26 @@ hearing-in link ts ends t mid (Broken role fault) h = h.hearing
 -- what is heard in a turn, and in all turns of a run
 turn-named : HearLaws → (script : ScriptValue) (files : Both (List ℕ)) (ts : List Turn) (ends : Accounts) (t : Turn) (mid : Accounts)
     → IsInLimits script → IsFaint script
-    → LineRun (channel_of script) (link_of script files) ts ends → AllSendable ts → Hears (length ts) ends t mid
-    → HeardIn (channel_of script) ts t
+    → LineRun (wire_of script) (link_of script files) ts ends → AllSendable ts → Hears (length ts) ends t mid
+    → HeardIn (wire_of script) ts t
     → (role : Role) → AsNamed script (other role) ts (of role t).heard
 turn-named laws script files ts ends t mid h d r s k w role =
     heard-named laws script files ts ends h d r s role (of role t).heard
-    (subst (λ z. IsHeardOf (channel_of script) (other role) ts z (of role t).heard) (k role).check_is (w role).heard_of)
+    (subst (λ z. IsHeardOf (wire_of script) (other role) ts z (of role t).heard) (k role).check_is (w role).heard_of)
 
 run-named : HearLaws → (script : ScriptValue) (files : Both (List ℕ)) (ts : List Turn) (ends : Accounts) → IsInLimits script → IsFaint script
-    → LineRun (channel_of script) (link_of script files) ts ends → AllSendable ts → AllNamed script ts
+    → LineRun (wire_of script) (link_of script files) ts ends → AllSendable ts → AllNamed script ts
 run-named laws script files [] ends h d r s = tt
 run-named laws script files (t ∷ ts) ends h d r s =
-    let before : LineRun (channel_of script) (link_of script files) ts r.run.0 = record { run = r.run.1; heard = r.heard.1 } in (
+    let before : LineRun (wire_of script) (link_of script files) ts r.run.0 = record { run = r.run.1; heard = r.heard.1 } in (
       turn-named laws script files ts r.run.0 t r.run.2.mid h d before s.1 r.run.2.hearing r.heard.0,
       run-named laws script files ts r.run.0 h d before s.1,
     )
 
 last-named : HearLaws → (script : ScriptValue) (files : Both (List ℕ)) (ts : List Turn) (ends : Accounts) (o : Outcome) (turn : ℕ) (left : Left)
     → IsInLimits script → IsFaint script
-    → LineRun (channel_of script) (link_of script files) ts ends → AllSendable ts
-    → (e : EndsInTurn (channel_of script) (link_of script files) ts ends o turn left) → AllNamed script (e.last ∷ ts)
+    → LineRun (wire_of script) (link_of script files) ts ends → AllSendable ts
+    → (e : EndsInTurn (wire_of script) (link_of script files) ts ends o turn left) → AllNamed script (e.last ∷ ts)
 last-named laws script files ts ends o turn left h d r s e = (
   turn-named laws script files ts ends e.last e.mid h d r s (hearing-in (link_of script files) ts ends e.last e.mid o e.is) e.heard,
   run-named laws script files ts ends h d r s,
@@ -81,7 +81,7 @@ line-ends-not law script files (NotDetected turn) left h d r s x = x
 
 pub completes-with-few-named : CompletesWithFewLosses → FaintGoOn → LosesWhatIsNamed → OctetsAreSendable → CompletesWithFewNamed
 completes-with-few-named few goes named octets script files end left h d o l r =
-    let s : AllSendable r.turns = octets (channel_of script) files r.turns r.ends h o r.run in
+    let s : AllSendable r.turns = octets (wire_of script) files r.turns r.ends h o r.run in
     let n = named script files end left h d r s in
     few script files end left h r (omega (arith, l, n)) (line-ends-not goes script files end left h d r s)
 
@@ -113,7 +113,7 @@ quiet-deliver play delays whole done ends script files h f q o =
       left = e.left;
       runs = runs;
       whole =
-          λ role. is-whole role (whole (channel_of script) (link_of script files) d.0 e.left
+          λ role. is-whole role (whole (wire_of script) (link_of script files) d.0 e.left
           (record { may_play = play script files h; delays = delays script h }) runs role);
     }
   where

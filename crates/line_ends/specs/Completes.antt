@@ -10,19 +10,19 @@ use Rattle.noise_script.specs.Script.{ScriptValue, IsInLimits}
 use Rattle.line_laws.specs.Faint.{IsFaintBefore}
 use Rattle.link_run.specs.Run.{Accounts, Spoken, Turn}
 use Rattle.link_run.specs.Counts.{lost_slots}
-use Rattle.line_run.specs.Sampled.{Channel, LineRun, LineEnd, EndsLine}
-use Rattle.line_run.specs.Scripted.{channel_of, link_of}
+use Rattle.line_run.specs.Sampled.{Wire, LineRun, LineEnd, EndsLine}
+use Rattle.line_run.specs.Scripted.{wire_of, link_of}
 use Rattle.line_run.specs.Stream.{AllSendable}
 use Rattle.line_run.specs.Ends.{RunEnd, IsDone, LinkLost, NotDetected, LineLost, ChanceMatch, Left, RunsTo, turns_heard, StarvedBy}
 
 -- a script's run, over two users' files, that ends so
 abbrev pub ScriptRunsTo : ScriptValue → Both (List ℕ) → RunEnd → Left → Type 0
-ScriptRunsTo script files end left = RunsTo (channel_of script) (link_of script files) end left
+ScriptRunsTo script files end left = RunsTo (wire_of script) (link_of script files) end left
 
 -- the turns in which something was heard in it
 abbrev pub heard_turns : (script : ScriptValue) (files : Both (List ℕ)) (end : RunEnd) (left : Left) → ScriptRunsTo script files end left
     → List Turn
-heard_turns script files end left r = turns_heard (channel_of script) (link_of script files) r.turns r.ends end left r.ended
+heard_turns script files end left r = turns_heard (wire_of script) (link_of script files) r.turns r.ends end left r.ended
 
 -- both files are whole, and the link is released
 abbrev pub EndsDone : RunEnd → Type 0
@@ -73,14 +73,14 @@ pub record AreOfOctets (script : ScriptValue) (files : Both (List ℕ)) : Type 0
 
 -- Ends that are handed octets send what can be sent.
 abbrev pub OctetsAreSendable : Type 0
-OctetsAreSendable = (c : Channel) (files : Both (List ℕ)) (ts : List Turn) (ends : Accounts) → IsInLimits c.script
+OctetsAreSendable = (c : Wire) (files : Both (List ℕ)) (ts : List Turn) (ends : Accounts) → IsInLimits c.script
     → AreOfOctets c.script files → LineRun c (link_of c.script files) ts ends → AllSendable ts
 
 -- The line doesn't end a run whose noise is faint.
 abbrev pub FaintGoOn : Type 0
 FaintGoOn = (script : ScriptValue) (files : Both (List ℕ)) (ts : List Turn) (ends : Accounts) (end : LineEnd) → IsInLimits script
-    → IsFaint script → LineRun (channel_of script) (link_of script files) ts ends → AllSendable ts
-    → EndsLine (channel_of script) ts ends end → ⊥
+    → IsFaint script → LineRun (wire_of script) (link_of script files) ts ends → AllSendable ts
+    → EndsLine (wire_of script) ts ends end → ⊥
 
 -- how many slots the lose lines of a script name
 abbrev pub slots_named : List Loss → ℕ

@@ -9,14 +9,14 @@ use Rattle.noise_script.specs.Script.{ScriptValue, IsInLimits}
 use Rattle.link_account.specs.Account.{check_of}
 use Rattle.link_run.specs.Run.{Accounts, Turn}
 use Rattle.turn_bound.specs.Limits.{file_limit}
-use Rattle.line_run.specs.Sampled.{Channel, IsHeardOf, LineRun, LineEnd, LosesLine, IsHeardWell, EndsLine}
-use Rattle.line_run.specs.Scripted.{channel_of, link_of}
+use Rattle.line_run.specs.Sampled.{Wire, IsHeardOf, LineRun, LineEnd, LosesLine, IsHeardWell, EndsLine}
+use Rattle.line_run.specs.Scripted.{wire_of, link_of}
 use Rattle.line_run.specs.Ends.{RunEnd, IsDone, Left}
 use Rattle.line_ends.specs.Causes.{MadeOver}
 use Rattle.line_ends.specs.Completes.{ScriptRunsTo, AreOfOctets, IsQuiet}
 
 -- What becomes of the slot of a sender that arrives in the turn after these.
-pub data Becomes (c : Channel) (sender : Role) (ts : List Turn) (hearing : Check) : Type 0 where
+pub data Becomes (c : Wire) (sender : Role) (ts : List Turn) (hearing : Check) : Type 0 where
   Lost : (symbol : ℕ) → LosesLine c sender ts symbol → Becomes c sender ts hearing
   Mistaken : IsHeardOf c sender ts hearing Chance → Becomes c sender ts hearing
   Heard : IsHeardWell c sender ts hearing → Becomes c sender ts hearing
@@ -24,14 +24,14 @@ pub data Becomes (c : Channel) (sender : Role) (ts : List Turn) (hearing : Check
 -- In each turn the line is lost, or the slot is a chance match, or something is heard.
 abbrev pub EachSlotBecomes : Type 0
 EachSlotBecomes = (script : ScriptValue) (files : Both (List ℕ)) (ts : List Turn) (ends : Accounts) (role : Role) → IsInLimits script
-    → AreOfOctets script files → LineRun (channel_of script) (link_of script files) ts ends
-    → Becomes (channel_of script) (other role) ts (check_of (of role ends))
+    → AreOfOctets script files → LineRun (wire_of script) (link_of script files) ts ends
+    → Becomes (wire_of script) (other role) ts (check_of (of role ends))
 
 -- So each run that goes on so far is ended by the line, or a next turn is made.
 abbrev pub EachTurnIsDecided : Type 0
 EachTurnIsDecided = (script : ScriptValue) (files : Both (List ℕ)) (ts : List Turn) (ends : Accounts) → IsInLimits script
-    → AreOfOctets script files → LineRun (channel_of script) (link_of script files) ts ends
-    → ((end : LineEnd) × EndsLine (channel_of script) ts ends end) ⊎ MadeOver (channel_of script) files ts ends
+    → AreOfOctets script files → LineRun (wire_of script) (link_of script files) ts ends
+    → ((end : LineEnd) × EndsLine (wire_of script) ts ends end) ⊎ MadeOver (wire_of script) files ts ends
 
 -- a run ends so, and this is left
 pub record HasEnd (script : ScriptValue) (files : Both (List ℕ)) : Type 0 where

@@ -10,7 +10,7 @@ use Rattle.link_run.specs.Outcomes.{Outcome, Going, Done, Broken, TurnIs}
 use Rattle.link_run.specs.Taken.{taken_octets}
 use Rattle.link_run.specs.Laws.{RunsOver, agreed_srej, HoldPrefixes, TakesPrefixes, HearsPrefixes, DoneIsWhole, TakesWhatPassed}
 use Rattle.link_run.specs.Laws.{HearsWhatPassed}
-use Rattle.line_run.specs.Sampled.{Channel, LineRun, LineEnd}
+use Rattle.line_run.specs.Sampled.{Wire, LineRun, LineEnd}
 use Rattle.line_run.specs.LineLaws.{SamplesAreCarried, OneIsCarried}
 use Rattle.line_run.specs.Ends.{IsDone, LinkLost, NotDetected, LineLost, ChanceMatch, Left, Leaves, EndsInTurn, EndsOnLine, MayRun}
 use Rattle.line_run.specs.Ends.{RunsLeavePrefixes, DoneLeavesWhole, RunsLeaveWhatPassed}
@@ -29,7 +29,7 @@ abbrev ArePrefixes : Link → Left → Type 0
 ArePrefixes link left = (role : Role) → IsPrefixOf (of role left.got) (of (other role) link).user.file
 
 -- what was given is what passed in these turns
-abbrev ArePassed : Channel → Link → List Turn → Left → Type 0
+abbrev ArePassed : Wire → Link → List Turn → Left → Type 0
 ArePassed c link ts left = (role : Role) → of role left.got ≡ taken_octets (agreed_srej link) (delay_of c.script) role ts
 
 left-prefixes : (link : Link) (ends : Accounts) (text : List ℕ) (left : Left) → HoldPrefixes link ends → Leaves ends text left
@@ -37,7 +37,7 @@ left-prefixes : (link : Link) (ends : Accounts) (text : List ℕ) (left : Left) 
 left-prefixes link ends text left h l role = subst (λ g. IsPrefixOf g (of (other role) link).user.file) (sym (l.got_is role)) (h role)
 
 -- the line of samples as any line
-over : (laws : RunLaws) (c : Channel) (link : Link) (ts : List Turn) (ends : Accounts) → MayRun c link → LineRun c link ts ends
+over : (laws : RunLaws) (c : Wire) (link : Link) (ts : List Turn) (ends : Accounts) → MayRun c link → LineRun c link ts ends
     → RunsOver link (delay_of c.script) ts ends
 over laws c link ts ends m r = record { may_play = m.may_play; delays = m.delays; carried = laws.carried c ts r.heard; run = r.run }
 
@@ -47,14 +47,14 @@ hearing-in link ts ends t mid Going h = subst (Hears (length ts) ends t) h.2 h.1
 hearing-in link ts ends t mid Done h = h.hearing
 hearing-in link ts ends t mid (Broken role fault) h = h.hearing
 
-in-turn : (laws : RunLaws) (c : Channel) (link : Link) (ts : List Turn) (ends : Accounts) (o : Outcome) (turn : ℕ) (left : Left) → MayRun c link
+in-turn : (laws : RunLaws) (c : Wire) (link : Link) (ts : List Turn) (ends : Accounts) (o : Outcome) (turn : ℕ) (left : Left) → MayRun c link
     → LineRun c link ts ends → EndsInTurn c link ts ends o turn left → ArePrefixes link left
 in-turn laws c link ts ends o turn left m r e =
     left-prefixes link e.mid _ left
     (laws.hears link (delay_of c.script) ts ends e.last e.mid (over laws c link ts ends m r) (laws.one c ts e.last e.heard)
     (hearing-in link ts ends e.last e.mid o e.is)) e.leaves
 
-on-line : (laws : RunLaws) (c : Channel) (link : Link) (ts : List Turn) (ends : Accounts) (end : LineEnd) (text : List ℕ) (left : Left)
+on-line : (laws : RunLaws) (c : Wire) (link : Link) (ts : List Turn) (ends : Accounts) (end : LineEnd) (text : List ℕ) (left : Left)
     → MayRun c link → LineRun c link ts ends → EndsOnLine c ts ends end text left → ArePrefixes link left
 on-line laws c link ts ends end text left m r e =
     left-prefixes link ends text left (laws.takes link (delay_of c.script) ts ends (over laws c link ts ends m r)) e.leaves
@@ -73,14 +73,14 @@ leaves_whole laws c link turn left m r role =
     (laws.whole link (delay_of c.script) r.turns r.ends e.last e.mid (over laws c link r.turns r.ends m r.run)
     (laws.one c r.turns e.last e.heard) e.is role).file_is
 
-passed-in-turn : (laws : RunLaws) (c : Channel) (link : Link) (ts : List Turn) (ends : Accounts) (o : Outcome) (turn : ℕ) (left : Left)
+passed-in-turn : (laws : RunLaws) (c : Wire) (link : Link) (ts : List Turn) (ends : Accounts) (o : Outcome) (turn : ℕ) (left : Left)
     → MayRun c link → LineRun c link ts ends → (e : EndsInTurn c link ts ends o turn left) → ArePassed c link (e.last ∷ ts) left
 passed-in-turn laws c link ts ends o turn left m r e role =
     e.leaves.got_is role ∙ sym
     (laws.heard link (delay_of c.script) ts ends e.last e.mid (over laws c link ts ends m r) (laws.one c ts e.last e.heard)
     (hearing-in link ts ends e.last e.mid o e.is) role)
 
-passed-on-line : (laws : RunLaws) (c : Channel) (link : Link) (ts : List Turn) (ends : Accounts) (end : LineEnd) (text : List ℕ) (left : Left)
+passed-on-line : (laws : RunLaws) (c : Wire) (link : Link) (ts : List Turn) (ends : Accounts) (end : LineEnd) (text : List ℕ) (left : Left)
     → MayRun c link → LineRun c link ts ends → EndsOnLine c ts ends end text left → ArePassed c link ts left
 passed-on-line laws c link ts ends end text left m r e role =
     e.leaves.got_is role ∙ sym (laws.took link (delay_of c.script) ts ends (over laws c link ts ends m r) role)

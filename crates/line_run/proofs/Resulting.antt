@@ -13,7 +13,7 @@ use Rattle.link_run.specs.Outcomes.{Outcome, Going, Done, Broken, TurnIs}
 use Rattle.line_texts.specs.LineText.{chance_line}
 use Rattle.link_run.specs.Trace.{trace_text}
 use Rattle.link_run.specs.Laws.{heard_in, OneOutcome}
-use Rattle.line_run.specs.Sampled.{Channel, IsHeardOf, HeardIn, IsHeardOver, LineRun, LineEnd, EndsLine}
+use Rattle.line_run.specs.Sampled.{Wire, IsHeardOf, HeardIn, IsHeardOver, LineRun, LineEnd, EndsLine}
 use Rattle.line_run.specs.Sampled as lines
 use Rattle.line_run.specs.LineLaws.{HeardOnce, OneLineRun, OneLineEnd, EndsOrGoesOn}
 use Rattle.line_run.specs.Ends.{RunEnd, IsDone, LinkLost, LineLost, ChanceMatch, Left, Leaves, EndsInTurn, EndsBy, RunsTo, OneResult}
@@ -37,7 +37,7 @@ abbrev pub line_text : List Turn → LineEnd → List ℕ
 line_text ts (lines.LineLost role symbol) = trace_text ts
 line_text ts (lines.ChanceMatch role) = trace_text ts ++ chance_line (length ts) role
 
-pub record TurnEnds (c : Channel) (link : Link) (ts : List Turn) (es : Accounts) (o : Outcome) (left : Left) : Type 0 where
+pub record TurnEnds (c : Wire) (link : Link) (ts : List Turn) (es : Accounts) (o : Outcome) (left : Left) : Type 0 where
   pub last : Turn
   pub mid : Accounts
   pub heard : HeardIn c ts last
@@ -45,7 +45,7 @@ pub record TurnEnds (c : Channel) (link : Link) (ts : List Turn) (es : Accounts)
   pub not_going : o ≢ Going
   pub leaves : Leaves mid (trace_text (last ∷ ts)) left
 
-abbrev EndsWith : Channel → Link → List Turn → Accounts → Cause → Left → Type 0
+abbrev EndsWith : Wire → Link → List Turn → Accounts → Cause → Left → Type 0
 EndsWith c link ts es (In_turn o) left = TurnEnds c link ts es o left
 EndsWith c link ts es (On_line e) left = EndsLine c ts es e × Leaves es (line_text ts e) left
 
@@ -60,7 +60,7 @@ end_of n (In_turn (Broken role fault)) = broken_end n role fault
 end_of n (On_line (lines.LineLost role symbol)) = LineLost role symbol
 end_of n (On_line (lines.ChanceMatch role)) = ChanceMatch role n
 
-pub record Caused (c : Channel) (link : Link) (ts : List Turn) (es : Accounts) (end : RunEnd) (left : Left) : Type 0 where
+pub record Caused (c : Wire) (link : Link) (ts : List Turn) (es : Accounts) (end : RunEnd) (left : Left) : Type 0 where
   pub cause : Cause
   pub ends : EndsWith c link ts es cause left
   pub is : end_of (length ts) cause ≡ end
@@ -71,7 +71,7 @@ number Going = 0
 number Done = 1
 number (Broken role fault) = 2
 
-in-turn : (c : Channel) (link : Link) (ts : List Turn) (es : Accounts) (o : Outcome) (turn : ℕ) (left : Left) → o ≢ Going
+in-turn : (c : Wire) (link : Link) (ts : List Turn) (es : Accounts) (o : Outcome) (turn : ℕ) (left : Left) → o ≢ Going
     → EndsInTurn c link ts es o turn left → TurnEnds c link ts es o left
 in-turn c link ts es o turn left n e = record { last = e.last; mid = e.mid; heard = e.heard; is = e.is; not_going = n; leaves = e.leaves }
 
@@ -81,7 +81,7 @@ done-not z = omega (arith, ap number z)
 broken-not : (role : Role) (fault : LinkFault) → Broken role fault ≢ Going
 broken-not role fault z = omega (arith, ap number z)
 
-caused : (c : Channel) (link : Link) (ts : List Turn) (es : Accounts) (end : RunEnd) (left : Left) → EndsBy c link ts es end left
+caused : (c : Wire) (link : Link) (ts : List Turn) (es : Accounts) (end : RunEnd) (left : Left) → EndsBy c link ts es end left
     → Caused c link ts es end left
 caused c link ts es (IsDone turn) left e =
     record { cause = In_turn Done; ends = in-turn c link ts es Done turn left done-not e; is = ap IsDone (sym e.number) }
@@ -110,7 +110,7 @@ same-left es fs text others a b h k e t =
     ap (λ z. record { got = z; trace = a.trace }) both ∙ ap (λ z. record { got = b.got; trace = z }) (h.trace_is ∙ t ∙ sym k.trace_is)
 
 -- two turns after the same ones, which the same is heard in
-both-heard : (laws : ResultLaws) (c : Channel) (ts : List Turn) (es : Accounts) (t u : Turn) (mid later : Accounts) → Hears (length ts) es t mid
+both-heard : (laws : ResultLaws) (c : Wire) (ts : List Turn) (es : Accounts) (t u : Turn) (mid later : Accounts) → Hears (length ts) es t mid
     → Hears (length ts) es u later → HeardIn c ts t → HeardIn c ts u → heard_in t ≡ heard_in u
 both-heard laws c ts es t u mid later h k p q =
     ap (λ z. record { orig = z; answ = t.answ.heard }) (each Originator)
@@ -122,7 +122,7 @@ both-heard laws c ts es t u mid later h k p q =
         (subst (λ z. IsHeardOf c (other role) ts z (of role t).heard)
         (same-checks (length ts) (length ts) es es t u mid later refl h k role) (p role).heard_of) (q role).heard_of
 
-same-cause : (laws : ResultLaws) (c : Channel) (link : Link) (ts : List Turn) (es : Accounts) (k q : Cause) (a b : Left)
+same-cause : (laws : ResultLaws) (c : Wire) (link : Link) (ts : List Turn) (es : Accounts) (k q : Cause) (a b : Left)
     → EndsWith c link ts es k a → EndsWith c link ts es q b → (k ≡ q) × (a ≡ b)
 same-cause laws c link ts es (In_turn o) (In_turn p) a b h w =
     let e = both-heard laws c ts es h.last w.last h.mid w.mid (hearing-in link ts es h.last h.mid o h.is)
@@ -141,7 +141,7 @@ same-cause laws c link ts es (On_line e) (On_line f) a b h w =
     (ap On_line s, same-left es es (line_text ts e) (line_text ts f) a b h.1 w.1 refl (ap (line_text ts) s))
 
 -- the turn of that number in a longer run
-pub record Cut (c : Channel) (link : Link) (n : ℕ) : Type 0 where
+pub record Cut (c : Wire) (link : Link) (n : ℕ) : Type 0 where
   pub turns : List Turn
   pub before : Accounts
   pub count : length turns ≡ n
@@ -151,7 +151,7 @@ pub record Cut (c : Channel) (link : Link) (n : ℕ) : Type 0 where
   pub going : GoingTurn link turns before turn after
   pub heard : HeardIn c turns turn
 
-cut : (c : Channel) (link : Link) (n : ℕ) (ts : List Turn) (es : Accounts) → RunOf link ts es → IsHeardOver c ts → n < length ts → Cut c link n
+cut : (c : Wire) (link : Link) (n : ℕ) (ts : List Turn) (es : Accounts) → RunOf link ts es → IsHeardOver c ts → n < length ts → Cut c link n
 cut c link n [] es h k l = absurd (omega (arith, l))
 cut c link n (t ∷ ts) es h k l = go (n-or n (length ts) (omega (arith, l))) (cut c link n ts h.0 h.1 k.1)
   where
@@ -179,7 +179,7 @@ cut c link n (t ∷ ts) es h k l = go (n-or n (length ts) (omega (arith, l))) (c
     go (inr e) f = f e
 
 -- a run that ended doesn't go on
-ended-stays : (laws : ResultLaws) (c : Channel) (link : Link) (end : RunEnd) (left : Left) (r : RunsTo c link end left) (ts : List Turn)
+ended-stays : (laws : ResultLaws) (c : Wire) (link : Link) (end : RunEnd) (left : Left) (r : RunsTo c link end left) (ts : List Turn)
     (es : Accounts) → LineRun c link ts es → length r.turns < length ts → ⊥
 ended-stays laws c link end left r ts es h less =
     let k = cut c link (length r.turns) ts es h.run h.heard less in
@@ -190,7 +190,7 @@ ended-stays laws c link end left r ts es h less =
     (subst (λ es. EndsWith c link r.turns es w.cause left) same.1 w.ends) in
     against c link k w.cause left ends-there laws
   where
-    against : (c : Channel) (link : Link) {n : ℕ} (k : Cut c link n) (q : Cause) (left : Left) → EndsWith c link k.turns k.before q left
+    against : (c : Wire) (link : Link) {n : ℕ} (k : Cut c link n) (q : Cause) (left : Left) → EndsWith c link k.turns k.before q left
         → ResultLaws → ⊥
     against c link k (In_turn o) left e laws =
         let same = both-heard laws c k.turns k.before k.turn e.last k.going.mid e.mid k.going.hearing

@@ -24,7 +24,7 @@ use Rattle.link_account.specs.Account.{check_of}
 use Rattle.link_run.specs.Run.{Link, Accounts, Spoken, Turn, Hears, RunOf}
 use Rattle.link_run.specs.Carried.{sent_ago, has_message, Crosses}
 use Rattle.link_run.specs.Laws.{heard_in, OneRun}
-use Rattle.line_run.specs.Sampled.{Channel, bits_of, bits_before, ArrivesAs, IsHeardOf, HeardIn, IsHeardOver, LineLost, ChanceMatch, LosesLine}
+use Rattle.line_run.specs.Sampled.{Wire, bits_of, bits_before, ArrivesAs, IsHeardOf, HeardIn, IsHeardOver, LineLost, ChanceMatch, LosesLine}
 use Rattle.line_run.specs.Sampled.{IsHeardWell}
 use Rattle.line_run.specs.LineLaws.{SamplesAreCarried, OneIsCarried, HeardOnce, OneLineRun, OneLineEnd, OneLineEndBy, EndsOrIsHeard, EndsOrGoesOn}
 
@@ -56,7 +56,7 @@ outcome-crosses false sender dlci slot octets patterns (Passed t) well h =
 outcome-crosses false sender dlci slot octets patterns (Lost t) well h = (h.0, same-message slot.sent ∙ h.1)
 outcome-crosses false sender dlci slot octets patterns Chance well h = absurd (well refl)
 
-arrives-crosses : (c : Channel) (sender : Role) (earlier upto : List Turn) (hearing : Check) (o : Option Spoken) (heard : Heard)
+arrives-crosses : (c : Wire) (sender : Role) (earlier upto : List Turn) (hearing : Check) (o : Option Spoken) (heard : Heard)
     → heard ≢ Chance → ArrivesAs c sender earlier upto hearing o heard → Crosses o heard
 arrives-crosses c sender earlier upto hearing None heard well h = subst (Crosses None) (sym h) tt
 arrives-crosses c sender earlier upto hearing (Some slot) heard well h =
@@ -77,7 +77,7 @@ pub record SampleLaws : Type 0 where
   pub outcome : OneOutcome
   pub lost : LostOnce line_trellis
 
-arrives-once : (laws : SampleLaws) (c : Channel) (sender : Role) (earlier upto : List Turn) (hearing : Check) (o : Option Spoken)
+arrives-once : (laws : SampleLaws) (c : Wire) (sender : Role) (earlier upto : List Turn) (hearing : Check) (o : Option Spoken)
     (heard others : Heard) → ArrivesAs c sender earlier upto hearing o heard → ArrivesAs c sender earlier upto hearing o others
     → heard ≡ others
 arrives-once laws c sender earlier upto hearing None heard others h k = h ∙ sym k
@@ -97,7 +97,7 @@ heard_once laws c sender ts hearing heard others h k =
     arrives-once laws c sender _ _ hearing (sent_ago (delay_of c.script sender) sender ts) heard others h k
 
 -- both ends hear the same of the same slots, where they judge by the same checks
-pub same-heard : (laws : SampleLaws) (c : Channel) (ts : List Turn) (t u : Turn) → ((role : Role) → (of role t).check ≡ (of role u).check)
+pub same-heard : (laws : SampleLaws) (c : Wire) (ts : List Turn) (t u : Turn) → ((role : Role) → (of role t).check ≡ (of role u).check)
     → HeardIn c ts t → HeardIn c ts u → heard_in t ≡ heard_in u
 same-heard laws c ts t u e h k =
     ap (λ z. record { orig = z; answ = t.answ.heard }) (each Originator)
@@ -114,7 +114,7 @@ pub same-checks : (turn others : ℕ) (before ends : Accounts) (t u : Turn) (mid
 same-checks turn others before ends t u mid later e h k role =
     (h role).check_is ∙ ap (λ (z : Accounts). check_of (of role z)) e ∙ sym (k role).check_is
 
-same-heards : (laws : SampleLaws) (c : Channel) (link : Link) (one : OneRun) (ts us : List Turn) (ends others : Accounts)
+same-heards : (laws : SampleLaws) (c : Wire) (link : Link) (one : OneRun) (ts us : List Turn) (ends others : Accounts)
     → length ts ≡ length us → RunOf link ts ends → RunOf link us others → IsHeardOver c ts → IsHeardOver c us
     → map heard_in ts ≡ map heard_in us
 same-heards laws c link one [] [] ends others e h k p q = refl
@@ -133,7 +133,7 @@ one_line_run laws one c link ts us ends others e h k =
     one link ts us ends others h.run k.run (same-heards laws c link one ts us ends others e h.run k.run h.heard k.heard)
 
 -- a line that is lost isn't heard, and is lost once
-lost-not-heard : (laws : SampleLaws) (c : Channel) (sender : Role) (ts : List Turn) (hearing : Check) (symbol : ℕ) (heard : Heard)
+lost-not-heard : (laws : SampleLaws) (c : Wire) (sender : Role) (ts : List Turn) (hearing : Check) (symbol : ℕ) (heard : Heard)
     → LosesLine c sender ts symbol → IsHeardOf c sender ts hearing heard → ⊥
 lost-not-heard laws c sender ts hearing symbol heard h k = go (sent_ago (delay_of c.script sender) sender ts) h.arrives k
   where
@@ -146,7 +146,7 @@ lost-not-heard laws c sender ts hearing symbol heard h k = go (sent_ago (delay_o
         let l = subst (λ z. LostIs line_trellis line_depth z (Some symbol)) s h.loses.lost in
         false≢true (ap is_some (laws.lost line_depth a.samples None (Some symbol) a.not_lost l))
 
-lost-once : (laws : SampleLaws) (c : Channel) (sender : Role) (ts : List Turn) (m n : ℕ) → LosesLine c sender ts m → LosesLine c sender ts n
+lost-once : (laws : SampleLaws) (c : Wire) (sender : Role) (ts : List Turn) (m n : ℕ) → LosesLine c sender ts m → LosesLine c sender ts n
     → m ≡ n
 lost-once laws c sender ts m n h k =
     let s = laws.recorded c.script sender
@@ -154,7 +154,7 @@ lost-once laws c sender ts m n h k =
     let l = subst (λ z. LostIs line_trellis line_depth z (Some m)) s h.loses.lost in
     ap (λ (o : Option ℕ). unwrap_or o 0) (laws.lost line_depth k.loses.samples (Some m) (Some n) l k.loses.lost)
 
-well-not-chance : (laws : SampleLaws) (c : Channel) (sender : Role) (ts : List Turn) (hearing : Check) → IsHeardWell c sender ts hearing
+well-not-chance : (laws : SampleLaws) (c : Wire) (sender : Role) (ts : List Turn) (hearing : Check) → IsHeardWell c sender ts hearing
     → IsHeardOf c sender ts hearing Chance → ⊥
 well-not-chance laws c sender ts hearing h k = h.well (heard_once laws c sender ts hearing h.heard Chance h.is k)
 
@@ -194,7 +194,7 @@ pub one_line_end : SampleLaws → OneLineEnd
 one_line_end laws c ts ends = one_line_end_by laws c ts (λ role. check_of (of role ends))
 
 -- what an end hears by the check that it has
-heard-by : (c : Channel) (ts : List Turn) (ends : Accounts) (t : Turn) (mid : Accounts) → Hears (length ts) ends t mid → HeardIn c ts t
+heard-by : (c : Wire) (ts : List Turn) (ends : Accounts) (t : Turn) (mid : Accounts) → Hears (length ts) ends t mid → HeardIn c ts t
     → (role : Role) → IsHeardWell c (other role) ts (check_of (of role ends))
 heard-by c ts ends t mid h k role =
     record {

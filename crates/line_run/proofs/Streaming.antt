@@ -10,7 +10,7 @@ use Rattle.roles.specs.Both.{of}
 use Rattle.noise_script.specs.Script.{delay_of}
 use Rattle.link_run.specs.Run.{Link, Accounts, Spoken, Turn, RunOf}
 use Rattle.link_run.specs.Carried.{sent_in, sent_ago}
-use Rattle.line_run.specs.Sampled.{Channel, IsAlone, and_then, signal_in, signals, signals_before}
+use Rattle.line_run.specs.Sampled.{Wire, IsAlone, and_then, signal_in, signals, signals_before}
 use Rattle.line_run.specs.Stream.{Carried, carried_signal, carry, sent_by, AreSent}
 use Rattle.line_run.specs.LineLaws.{LoneSlotsAreDue, LoneSlotsAreCounted}
 
@@ -19,7 +19,7 @@ pub one-carried : (dlci : ℕ) (o : Option Spoken) → is_some o ≡ true → le
 one-carried dlci None e = absurd (false≢true e)
 one-carried dlci (Some slot) e = refl
 
-pub carried-signal : (c : Channel) (role : Role) (o : Option Spoken) → map (carried_signal role) (carry c.dlci o) ≡ signal_in c role o
+pub carried-signal : (c : Wire) (role : Role) (o : Option Spoken) → map (carried_signal role) (carry c.dlci o) ≡ signal_in c role o
 carried-signal c role None = refl
 carried-signal c role (Some slot) = refl
 
@@ -105,10 +105,10 @@ lone-front dlci role (suc n) (t ∷ ts) =
     )
 
 -- where nothing goes beside, what was sent before a slot is what the link sent in the turns before
-alone-before : (c : Channel) (role : Role) (ts : List Turn) → IsAlone c → signals_before c role ts ≡ signals c role ts
+alone-before : (c : Wire) (role : Role) (ts : List Turn) → IsAlone c → signals_before c role ts ≡ signals c role ts
 alone-before c role ts alone = ap (and_then (signals c role ts)) (alone role (length ts))
 
-pub lone-signals : (c : Channel) (role : Role) (ts : List Turn) → IsAlone c
+pub lone-signals : (c : Wire) (role : Role) (ts : List Turn) → IsAlone c
     → map (carried_signal role) (sent_by c.dlci role ts) ≡ signals_before c role ts
 lone-signals c role [] alone = sym (alone-before c role [] alone)
 lone-signals c role (t ∷ ts) alone =

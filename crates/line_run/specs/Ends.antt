@@ -17,7 +17,7 @@ use Rattle.link_run.specs.Taken.{taken_octets}
 use Rattle.line_texts.specs.LineText.{chance_line}
 use Rattle.link_run.specs.Trace.{trace_text}
 use Rattle.link_run.specs.Laws.{agreed_srej}
-use Rattle.line_run.specs.Sampled.{Channel, HeardIn, LineRun, LineEnd, EndsLine}
+use Rattle.line_run.specs.Sampled.{Wire, HeardIn, LineRun, LineEnd, EndsLine}
 use Rattle.line_run.specs.Sampled as lines
 use Rattle.line_run.specs.Scripted.{period_of}
 
@@ -40,7 +40,7 @@ pub record Leaves (ends : Accounts) (text : List ℕ) (left : Left) : Type 0 whe
   pub trace_is : left.trace ≡ text
 
 -- A last turn is made after these, with this outcome.
-pub record EndsInTurn (c : Channel) (link : Link) (ts : List Turn) (ends : Accounts) (outcome : Outcome) (turn : ℕ) (left : Left) : Type 0 where
+pub record EndsInTurn (c : Wire) (link : Link) (ts : List Turn) (ends : Accounts) (outcome : Outcome) (turn : ℕ) (left : Left) : Type 0 where
   pub number : turn ≡ length ts
   pub last : Turn
   pub mid : Accounts
@@ -49,12 +49,12 @@ pub record EndsInTurn (c : Channel) (link : Link) (ts : List Turn) (ends : Accou
   pub leaves : Leaves mid (trace_text (last ∷ ts)) left
 
 -- The line ends the run as the turn after these begins.
-pub record EndsOnLine (c : Channel) (ts : List Turn) (ends : Accounts) (end : LineEnd) (text : List ℕ) (left : Left) : Type 0 where
+pub record EndsOnLine (c : Wire) (ts : List Turn) (ends : Accounts) (end : LineEnd) (text : List ℕ) (left : Left) : Type 0 where
   pub is : EndsLine c ts ends end
   pub leaves : Leaves ends text left
 
 -- The ends by their causes. A link is lost where an end's tries are spent, at its front's segment.
-abbrev pub EndsBy : Channel → Link → List Turn → Accounts → RunEnd → Left → Type 0
+abbrev pub EndsBy : Wire → Link → List Turn → Accounts → RunEnd → Left → Type 0
 EndsBy c link ts ends (IsDone turn) left = EndsInTurn c link ts ends Done turn left
 EndsBy c link ts ends (LinkLost role segment turn) left =
     (since : ℕ) × EndsInTurn c link ts ends (Broken role (faults.Spent segment since)) turn left
@@ -64,29 +64,29 @@ EndsBy c link ts ends (ChanceMatch role turn) left =
     (turn ≡ length ts) × EndsOnLine c ts ends (lines.ChanceMatch role) (trace_text ts ++ chance_line (length ts) role) left
 
 -- A run goes on for some turns, and ends.
-pub record RunsTo (c : Channel) (link : Link) (end : RunEnd) (left : Left) : Type 0 where
+pub record RunsTo (c : Wire) (link : Link) (end : RunEnd) (left : Left) : Type 0 where
   pub turns : List Turn
   pub ends : Accounts
   pub run : LineRun c link turns ends
   pub ended : EndsBy c link turns ends end left
 
 -- two ends that may play, over a line with delays
-pub record MayRun (c : Channel) (link : Link) : Type 0 where
+pub record MayRun (c : Wire) (link : Link) : Type 0 where
   pub may_play : MayPlay link.orig.setup link.answ.setup
   pub delays : HasDelays (delay_of c.script)
 
 -- However a run ends, what was given begins the other's file;
 abbrev pub RunsLeavePrefixes : Type 0
-RunsLeavePrefixes = (c : Channel) (link : Link) (end : RunEnd) (left : Left) → MayRun c link → RunsTo c link end left
+RunsLeavePrefixes = (c : Wire) (link : Link) (end : RunEnd) (left : Left) → MayRun c link → RunsTo c link end left
     → (role : Role) → IsPrefixOf (of role left.got) (of (other role) link).user.file
 
 -- done means whole.
 abbrev pub DoneLeavesWhole : Type 0
-DoneLeavesWhole = (c : Channel) (link : Link) (turn : ℕ) (left : Left) → MayRun c link → RunsTo c link (IsDone turn) left
+DoneLeavesWhole = (c : Wire) (link : Link) (turn : ℕ) (left : Left) → MayRun c link → RunsTo c link (IsDone turn) left
     → (role : Role) → of role left.got ≡ (of (other role) link).user.file
 
 -- the turns in which something was heard: the last one too, where one was made
-abbrev pub turns_heard : (c : Channel) (link : Link) (ts : List Turn) (ends : Accounts) (end : RunEnd) (left : Left)
+abbrev pub turns_heard : (c : Wire) (link : Link) (ts : List Turn) (ends : Accounts) (end : RunEnd) (left : Left)
     → EndsBy c link ts ends end left → List Turn
 turns_heard c link ts ends (IsDone turn) left e = e.last ∷ ts
 turns_heard c link ts ends (LinkLost role segment turn) left e = e.1.last ∷ ts
@@ -96,13 +96,13 @@ turns_heard c link ts ends (ChanceMatch role turn) left e = ts
 
 -- What was given is what passed, by the numbers that were meant.
 abbrev pub RunsLeaveWhatPassed : Type 0
-RunsLeaveWhatPassed = (c : Channel) (link : Link) (end : RunEnd) (left : Left) → MayRun c link → (r : RunsTo c link end left)
+RunsLeaveWhatPassed = (c : Wire) (link : Link) (end : RunEnd) (left : Left) → MayRun c link → (r : RunsTo c link end left)
     → (role : Role)
     → of role left.got ≡ taken_octets (agreed_srej link) (delay_of c.script) role (turns_heard c link r.turns r.ends end left r.ended)
 
 -- A script and two users have one result at most: one end, and what it leaves.
 abbrev pub OneResult : Type 0
-OneResult = (c : Channel) (link : Link) (a b : RunEnd) (left others : Left) → RunsTo c link a left → RunsTo c link b others
+OneResult = (c : Wire) (link : Link) (a b : RunEnd) (left others : Left) → RunsTo c link a left → RunsTo c link b others
     → (a ≡ b) × (left ≡ others)
 
 -- losses of a script's line that went on for so long that an end may give up

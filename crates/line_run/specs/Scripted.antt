@@ -20,7 +20,7 @@ use Rattle.link_run.specs.End.{BreakLine, BusyLine, is_busy}
 use Rattle.lapm_frames.specs.Sendable.{IsSendable}
 use Rattle.sample_line.specs.Signals.{IsCodable}
 use Rattle.link_run.specs.Run.{Party, Link, Accounts, Spoken, Turn, GoingTurn}
-use Rattle.line_run.specs.Sampled.{Channel, HeardIn, LineRun}
+use Rattle.line_run.specs.Sampled.{Wire, HeardIn, LineRun}
 
 -- a period: two ways there and back, and what an answer may wait
 abbrev pub period_of : ScriptValue → ℕ
@@ -71,13 +71,13 @@ abbrev pub longest_of : ScriptValue → ℕ
 longest_of script = max 128 (max (offered_octets script.offer_orig) (offered_octets script.offer_answ))
 
 -- a script's line on a channel, with these slots of another link beside
-abbrev pub channel_at : ScriptValue → ℕ → (Role → ℕ → Option Signal) → Channel
-channel_at script dlci beside =
+abbrev pub wire_at : ScriptValue → ℕ → (Role → ℕ → Option Signal) → Wire
+wire_at script dlci beside =
     record { script = script; symbols = slot_symbols (longest_of script); dlci = dlci; beside = beside }
 
 -- the line of a link alone, on channel 0
-abbrev pub channel_of : ScriptValue → Channel
-channel_of script = channel_at script 0 (λ role turn. None)
+abbrev pub wire_of : ScriptValue → Wire
+wire_of script = wire_at script 0 (λ role turn. None)
 
 -- A script within its limits makes two ends that may play, over a line with delays.
 abbrev pub ScriptsMayPlay : Type 0
@@ -109,7 +109,7 @@ SlotsHaveRoom = (script : ScriptValue) → IsInLimits script
 
 -- and whatever its ends send fits a slot of that size, on each channel and behind any unfinished flag, whatever goes beside it.
 abbrev pub SlotsAreCodable : Type 0
-SlotsAreCodable = (c : Channel) (files : Both (List ℕ)) (ts : List Turn) (ends : Accounts) (t : Turn) (after : Accounts)
+SlotsAreCodable = (c : Wire) (files : Both (List ℕ)) (ts : List Turn) (ends : Accounts) (t : Turn) (after : Accounts)
     → IsInLimits c.script
     → LineRun c (link_of c.script files) ts ends → HeardIn c ts t
     → GoingTurn (link_of c.script files) ts ends t after

@@ -5,7 +5,7 @@ use Rattle.roles.specs.Both.{Both, of}
 use Rattle.lapm_sender.specs.Outgoing.{is_whole}
 use Rattle.noise_script.specs.Script.{ScriptValue, IsInLimits, delay_of}
 use Rattle.link_run.specs.Run.{Accounts, Turn}
-use Rattle.line_run.specs.Sampled.{Channel, IsHeardOver, LineRun}
+use Rattle.line_run.specs.Sampled.{Wire, IsHeardOver, LineRun}
 use Rattle.line_run.specs.Scripted.{period_of, link_of}
 use Rattle.turn_bound.specs.Time.{KeepsTime}
 use Rattle.turn_bound.specs.Bound.{quota, most_turns, offered_to}
@@ -26,12 +26,12 @@ pub record HasFewTurns (script : ScriptValue) (files : Both (List ℕ)) (ts : Li
   pub octets : length ts < most_turns script.tries (period_of script) (link_of script files) (λ role. length (of role files))
 
 abbrev pub LineRunsEndSoon : Type 0
-LineRunsEndSoon = (c : Channel) (files : Both (List ℕ)) (ts : List Turn) (ends : Accounts)
+LineRunsEndSoon = (c : Wire) (files : Both (List ℕ)) (ts : List Turn) (ends : Accounts)
     → IsInLimits c.script → LineRun c (link_of c.script files) ts ends → HasFewTurns c.script files ts ends
 
 -- Without pauses the front of an end that may send advances within the turns of one segment, or it is whole, or the run ends.
 abbrev pub LineRunsAdvance : Type 0
-LineRunsAdvance = (c : Channel) (files : Both (List ℕ)) (ts us : List Turn) (before after : Accounts) (role : Role)
+LineRunsAdvance = (c : Wire) (files : Both (List ℕ)) (ts us : List Turn) (before after : Accounts) (role : Role)
     → IsInLimits c.script → c.script.pauses ≡ [] → LineRun c (link_of c.script files) ts before → MaySend (of role before)
     → GoesOn (link_of c.script files) ts before us after → IsHeardOver c (us ++ ts)
     → is_whole (of role after).outgoing ≡ false → (of role after).outgoing.front ≡ (of role before).outgoing.front
@@ -39,6 +39,6 @@ LineRunsAdvance = (c : Channel) (files : Both (List ℕ)) (ts us : List Turn) (b
 
 -- No run of a script, of files within their limit, is half as long as the turns that an end can count.
 abbrev pub NoLineRunIsLong : Type 0
-NoLineRunIsLong = (c : Channel) (files : Both (List ℕ)) (ts : List Turn) (ends : Accounts)
+NoLineRunIsLong = (c : Wire) (files : Both (List ℕ)) (ts : List Turn) (ends : Accounts)
     → IsInLimits c.script → ((role : Role) → length (of role files) ≤ file_limit)
     → LineRun c (link_of c.script files) ts ends → length ts < 2 ^ 39

@@ -9,7 +9,7 @@ use Rattle.noise_script.specs.Script.{delay_of}
 use Rattle.sample_line.specs.Signals.{signal_of}
 use Rattle.link_run.specs.Run.{Spoken, Turn}
 use Rattle.link_run.specs.Carried.{sent_ago}
-use Rattle.line_run.specs.Sampled.{Channel, signals_before}
+use Rattle.line_run.specs.Sampled.{Wire, signals_before}
 
 -- A slot on the line: its link's channel, and what was sent in it.
 pub record Carried : Type 0 where
@@ -49,7 +49,7 @@ AllSendable (t ∷ ts) = ((role : Role) (slot : Spoken) → (of role t).sent ≡
 
 -- The slot that arrives for a link in the turn after these is the one that has so many slots behind it on the line: it is what the link sent as
 -- many turns before as its delay has, and what the link's channel has before it went before it. Before there is one, nothing arrives.
-pub record IsDue (c : Channel) (role : Role) (ts : List Turn) (stream : List Carried) (lag : ℕ) : Type 0 where
+pub record IsDue (c : Wire) (role : Role) (ts : List Turn) (stream : List Carried) (lag : ℕ) : Type 0 where
   pub early : length stream < lag → sent_ago (delay_of c.script role) role ts ≡ None
   pub late : lag ≤ length stream → delay_of c.script role ≤ length ts
   pub due : lag ≤ length stream → (slot : Spoken) × (sent_ago (delay_of c.script role) role ts ≡ Some slot)

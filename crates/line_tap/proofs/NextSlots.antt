@@ -14,7 +14,7 @@ use Rattle.lapm_frames.specs.declared.sent.Sent.{Sent}
 use Rattle.sample_line.specs.Signals.{signal_of, IsCodable}
 use Rattle.sample_line.specs.Line.{bits_behind}
 use Rattle.link_run.specs.Run.{Turn}
-use Rattle.line_run.specs.Sampled.{Channel, signals, bits_of}
+use Rattle.line_run.specs.Sampled.{Wire, signals, bits_of}
 use Rattle.line_tap.specs.declared.seeker.Sender.{Sender}
 use Rattle.line_tap.specs.declared.reader.SlotReader.{SlotReader}
 use Rattle.line_tap.specs.Reader.{IsNext, ReadsFor, carries}
@@ -41,10 +41,10 @@ samples-take (suc n) (a ∷ b ∷ c ∷ d ∷ octets) h =
     ap (λ k. samples_in (take k (a ∷ b ∷ c ∷ d ∷ octets))) four ∙ ap (λ xs. sample_of a b c d ∷ xs) (samples-take n octets (omega (arith, h)))
 
 -- the octets of the slot of the turn after so many
-abbrev pub piece_of : Channel → ℕ → List ℕ → List ℕ
+abbrev pub piece_of : Wire → ℕ → List ℕ → List ℕ
 piece_of c turns body = take (4 * c.symbols) (drop (octets_of c turns) body)
 
-pub one-slot-more : (c : Channel) (turns : ℕ) (body : List ℕ) → octets_of c (turns + 1) ≤ length body
+pub one-slot-more : (c : Wire) (turns : ℕ) (body : List ℕ) → octets_of c (turns + 1) ≤ length body
     → take (c.symbols * (turns + 1)) (samples_in body)
     ≡ take (c.symbols * turns) (samples_in body) ++ samples_in (piece_of c turns body)
 one-slot-more c turns body h =
@@ -63,7 +63,7 @@ one-slot-more c turns body h =
     rest-long i j xs h = grind (arith, common_steps)
 
 -- the same bits
-same-bits : (r : SlotReader) (c : Channel) (check : Check) (role : Role) (ts : List Turn) (s : Sent) → ReadsFor r c check role ts
+same-bits : (r : SlotReader) (c : Wire) (check : Check) (role : Role) (ts : List Turn) (s : Sent) → ReadsFor r c check role ts
     → signal_bits (4 * r.symbols) (signals c role ts) ++ bits_behind (4 * r.symbols) (signals c role ts) (carries r s)
     ≡ bits_of c role ts ++ next_bits c check role ts s
 same-bits r c check role ts s h =
@@ -71,7 +71,7 @@ same-bits r c check role ts s h =
     ap (λ n. signal_bits (4 * n) sigs ++ bits_behind (4 * n) sigs (carries r s)) h.symbols
     ∙ ap (λ (w : Sender). bits_of c role ts ++ bits_behind (4 * c.symbols) sigs (signal_of w.check w.role w.dlci s)) h.sender
 
-pub held-is-next : (r : SlotReader) (c : Channel) (check : Check) (role : Role) (ts : List Turn) (body : List ℕ) (s : Sent)
+pub held-is-next : (r : SlotReader) (c : Wire) (check : Check) (role : Role) (ts : List Turn) (body : List ℕ) (s : Sent)
     → ReadsFor r c check role ts → HoldsNext c check role ts body s
     → IsNext r (signals c role ts) (take (c.symbols * length ts) (samples_in body)) (samples_in (piece_of c (length ts) body)) s
 held-is-next r c check role ts body s h k =
@@ -89,7 +89,7 @@ held-is-next r c check role ts body s h k =
           (one-slot-more c (length ts) body k.whole) k.modulated));
     }
 
-pub next-is-held : (r : SlotReader) (c : Channel) (check : Check) (role : Role) (ts : List Turn) (body : List ℕ) (s : Sent)
+pub next-is-held : (r : SlotReader) (c : Wire) (check : Check) (role : Role) (ts : List Turn) (body : List ℕ) (s : Sent)
     → ReadsFor r c check role ts → octets_of c (length ts + 1) ≤ length body
     → IsNext r (signals c role ts) (take (c.symbols * length ts) (samples_in body)) (samples_in (piece_of c (length ts) body)) s
     → HoldsNext c check role ts body s

@@ -21,7 +21,7 @@ use Rattle.line_laws.specs.Laws.{SlotsTellWhatWasSent}
 use Rattle.link_run.specs.Run.{Spoken, Side, Turn}
 use Rattle.link_run.specs.Trace.{trace_text}
 use Rattle.link_run.specs.Listened.{check_by, judged_by, received, given_to}
-use Rattle.line_run.specs.Sampled.{Channel, signals, bits_of, ArrivesAs, IsHeardOf, IsHeardWell, HeardIn, LineEnd, LosesLine}
+use Rattle.line_run.specs.Sampled.{Wire, signals, bits_of, ArrivesAs, IsHeardOf, IsHeardWell, HeardIn, LineEnd, LosesLine}
 use Rattle.line_run.specs.Sampled as lines
 use Rattle.line_run.specs.LineLaws.{HeardOnce, OneLineEndBy, EndsOrIsHeard}
 use Rattle.line_run.specs.Ends.{Left}
@@ -47,7 +47,7 @@ pub behind-same : {X : Type 0} (front a b : List X) → front ++ a ≡ front ++ 
 behind-same [] a b e = e
 behind-same (x ∷ front) a b e = behind-same front a b cc
 
-pub holds-once : OnceLaws → (c : Channel) (check : Check) (role : Role) (ts : List Turn) (body : List ℕ) (s others : Sent)
+pub holds-once : OnceLaws → (c : Wire) (check : Check) (role : Role) (ts : List Turn) (body : List ℕ) (s others : Sent)
     → HEAD + TAIL < c.symbols → c.dlci < 64 → HoldsNext c check role ts body s → HoldsNext c check role ts body others → s ≡ others
 holds-once laws c check role ts body s others long low h k =
     let phase : ℕ = phase_behind c role ts in
@@ -216,7 +216,7 @@ same-cause laws x ts (On_line end) (On_line other_end) a b h w =
 
 -- ---- how many turns
 
-more-octets : (c : Channel) (n : ℕ) → HEAD + TAIL < c.symbols → octets_of c n < octets_of c (n + 1)
+more-octets : (c : Wire) (n : ℕ) → HEAD + TAIL < c.symbols → octets_of c n < octets_of c (n + 1)
 more-octets c n long =
     let e : c.symbols * (n + 1) ≡ c.symbols * suc n = ap (λ m. c.symbols * m) (plus-one n) in
     omega (arith, e, mul-suc c.symbols n, long)

@@ -30,7 +30,7 @@ use Rattle.link_run.specs.Laws.{given_in, given_breaks}
 use Rattle.link_run.specs.Overheard.{passes_in, has_passed, is_xid, opens}
 use Rattle.link_run.specs.Trace.{side_line, turn_text, trace_text}
 use Rattle.link_run.specs.Listened.{check_by, judged_by, taking_in, received, given_by, given_to}
-use Rattle.line_run.specs.Sampled.{Channel, signal_in, and_then, signals, signals_before, bits_of, bits_before, ArrivesAs, IsHeardOf, IsHeardWell, HeardIn, LosesLine}
+use Rattle.line_run.specs.Sampled.{Wire, signal_in, and_then, signals, signals_before, bits_of, bits_before, ArrivesAs, IsHeardOf, IsHeardWell, HeardIn, LosesLine}
 use Rattle.line_tap.specs.Tapping.{told}
 
 -- a slot, an end in a turn, a turn, as the line tells them
@@ -136,20 +136,20 @@ plain-signal check own role dlci (slots.Frame frame) h =
     go true e = sym (h frame refl e)
     go false e = refl
 
-plain-signal_in : (c : Channel) (check : Check) (role : Role) (o : Option Spoken) → HasCheck check o
+plain-signal_in : (c : Wire) (check : Check) (role : Role) (o : Option Spoken) → HasCheck check o
     → signal_in c role (option_map (plain_slot check) o) ≡ signal_in c role o
 plain-signal_in c check role None h = refl
 plain-signal_in c check role (Some slot) h =
     ap (λ x. x ∷ []) (plain-signal check slot.check role c.dlci slot.sent (λ frame e n. h slot frame refl e n))
 
 -- nothing else goes beside as many turns
-before-by : (c : Channel) (check : Check) (role : Role) (ts : List Turn) → signals c role (plains check ts) ≡ signals c role ts
+before-by : (c : Wire) (check : Check) (role : Role) (ts : List Turn) → signals c role (plains check ts) ≡ signals c role ts
     → signals_before c role (plains check ts) ≡ signals_before c role ts
 before-by c check role ts e =
     ap (λ n. and_then (signals c role (plains check ts)) (c.beside role n)) (length-map ts (plain check))
     ∙ ap (λ l. and_then l (c.beside role (length ts))) e
 
-pub plain-signals : (c : Channel) (check : Check) (role : Role) (ts : List Turn) → AllChecked check role ts
+pub plain-signals : (c : Wire) (check : Check) (role : Role) (ts : List Turn) → AllChecked check role ts
     → signals c role (plains check ts) ≡ signals c role ts
 plain-signals c check role [] h = refl
 plain-signals c check role (t ∷ ts) h =
@@ -157,16 +157,16 @@ plain-signals c check role (t ∷ ts) h =
     ∙ ap (λ l. signals_before c role (plains check ts) ++ l) (plain-signal_in c check role (of role t).sent h.0)
     ∙ ap (λ l. l ++ signal_in c role (of role t).sent) (before-by c check role ts (plain-signals c check role ts h.1))
 
-pub plain-bits : (c : Channel) (check : Check) (role : Role) (ts : List Turn) → AllChecked check role ts
+pub plain-bits : (c : Wire) (check : Check) (role : Role) (ts : List Turn) → AllChecked check role ts
     → bits_of c role (plains check ts) ≡ bits_of c role ts
 plain-bits c check role ts h = ap (signal_bits (4 * c.symbols)) (plain-signals c check role ts h)
 
-bits-dropped : (c : Channel) (check : Check) (role : Role) (n : ℕ) (ts : List Turn) → AllChecked check role ts
+bits-dropped : (c : Wire) (check : Check) (role : Role) (n : ℕ) (ts : List Turn) → AllChecked check role ts
     → bits_of c role (drop n (plains check ts)) ≡ bits_of c role (drop n ts)
 bits-dropped c check role n ts h =
     ap (bits_of c role) (drop-map (plain check) n ts) ∙ plain-bits c check role (drop n ts) (checked-drop check role n ts h)
 
-before-dropped : (c : Channel) (check : Check) (role : Role) (n : ℕ) (ts : List Turn) → AllChecked check role ts
+before-dropped : (c : Wire) (check : Check) (role : Role) (n : ℕ) (ts : List Turn) → AllChecked check role ts
     → bits_before c role (drop n (plains check ts)) ≡ bits_before c role (drop n ts)
 before-dropped c check role n ts h =
     ap (bits_before c role) (drop-map (plain check) n ts)
@@ -187,7 +187,7 @@ plain-ago check d role ts = ap (sent_in role) (slice_get-map (plain check) ts (d
 
 -- ---- what is heard of them
 
-arrives-plain : (c : Channel) (check : Check) (sender : Role) (earlier upto others later : List Turn) (hearing : Check) (o : Option Spoken)
+arrives-plain : (c : Wire) (check : Check) (sender : Role) (earlier upto others later : List Turn) (hearing : Check) (o : Option Spoken)
     (heard : Heard) → bits_before c sender others ≡ bits_before c sender earlier → bits_of c sender later ≡ bits_of c sender upto
     → length others ≡ length earlier
     → ArrivesAs c sender earlier upto hearing o heard → ArrivesAs c sender others later hearing (option_map (plain_slot check) o) heard
@@ -204,7 +204,7 @@ arrives-plain c check sender earlier upto others later hearing (Some slot) heard
   outcome = subst (λ m. IsOutcome (loses c.script sender m) sender c.dlci slot.sent h.octets h.patterns heard) (sym n) h.outcome;
 }
 
-pub heard_of-plain : (c : Channel) (check : Check) (sender : Role) (ts : List Turn) (hearing : Check) (heard : Heard)
+pub heard_of-plain : (c : Wire) (check : Check) (sender : Role) (ts : List Turn) (hearing : Check) (heard : Heard)
     → AllChecked check sender ts → IsHeardOf c sender ts hearing heard → IsHeardOf c sender (plains check ts) hearing heard
 heard_of-plain c check sender ts hearing heard a h =
     let d = delay_of c.script sender in
@@ -214,12 +214,12 @@ heard_of-plain c check sender ts hearing heard a h =
     (sent_ago d sender ts) heard (before-dropped c check sender d ts a) (bits-dropped c check sender (d - 1) ts a)
     (length-dropped check d ts) h)
 
-pub well-plain : (c : Channel) (check : Check) (sender : Role) (ts : List Turn) (hearing : Check) → AllChecked check sender ts
+pub well-plain : (c : Wire) (check : Check) (sender : Role) (ts : List Turn) (hearing : Check) → AllChecked check sender ts
     → IsHeardWell c sender ts hearing → IsHeardWell c sender (plains check ts) hearing
 well-plain c check sender ts hearing a h =
     record { heard = h.heard; is = heard_of-plain c check sender ts hearing h.heard a h.is; well = h.well }
 
-pub heard_in-plain : (c : Channel) (check : Check) (ts : List Turn) (t : Turn) → ((role : Role) → AllChecked check role ts) → HeardIn c ts t
+pub heard_in-plain : (c : Wire) (check : Check) (ts : List Turn) (t : Turn) → ((role : Role) → AllChecked check role ts) → HeardIn c ts t
     → HeardIn c (plains check ts) (plain check t)
 heard_in-plain c check ts t a h Originator = record {
   heard_of = heard_of-plain c check Answerer ts t.orig.check t.orig.heard (a Answerer) (h Originator).heard_of;
@@ -234,7 +234,7 @@ some-plain : (check : Check) (o : Option Spoken) → is_some (option_map (plain_
 some-plain check None = refl
 some-plain check (Some slot) = refl
 
-pub loses-plain : (c : Channel) (check : Check) (sender : Role) (ts : List Turn) (symbol : ℕ) → AllChecked check sender ts
+pub loses-plain : (c : Wire) (check : Check) (sender : Role) (ts : List Turn) (symbol : ℕ) → AllChecked check sender ts
     → LosesLine c sender ts symbol → LosesLine c sender (plains check ts) symbol
 loses-plain c check sender ts symbol a h =
     let d = delay_of c.script sender in

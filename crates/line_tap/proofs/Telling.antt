@@ -40,10 +40,10 @@ use Rattle.link_run.specs.Laws.{RunsOver}
 use Rattle.link_run.specs.Overheard.{agreed_terms, SendsAgreedCheck}
 use Rattle.link_run.specs.Trace.{trace_text}
 use Rattle.link_run.specs.Listened.{check_by, judged_by, given_to, HearsByLine, StaysKnownByLine, RunsByLine}
-use Rattle.line_run.specs.Sampled.{Channel, IsAlone, signal_in, and_then, signals, bits_of, IsHeardOf, IsHeardWell, HeardIn, LineRun, LineEnd, LosesLine}
+use Rattle.line_run.specs.Sampled.{Wire, IsAlone, signal_in, and_then, signals, bits_of, IsHeardOf, IsHeardWell, HeardIn, LineRun, LineEnd, LosesLine}
 use Rattle.line_run.specs.Sampled as lines
 use Rattle.line_run.specs.LineLaws.{SamplesAreCarried, OneIsCarried}
-use Rattle.line_run.specs.Scripted.{channel_of, link_of, ScriptsMayPlay, ScriptsHaveDelays, SlotsHaveRoom}
+use Rattle.line_run.specs.Scripted.{wire_of, link_of, ScriptsMayPlay, ScriptsHaveDelays, SlotsHaveRoom}
 use Rattle.line_run.specs.Ends.{RunEnd, Left, RunsTo}
 use Rattle.line_run.specs.Ends as runs
 use Rattle.line_tap.specs.Tapping.{tapping, phase_behind, next_bits, octets_of, HoldsNext, Hears, Tells}
@@ -78,7 +78,7 @@ abbrev AllSent : Role → List Turn → Type 0
 AllSent role [] = Unit {0}
 AllSent role (t ∷ ts) = ((slot : Spoken) × ((of role t).sent ≡ Some slot)) × AllSent role ts
 
-pub all-fit : TellingLaws → (c : Channel) (role : Role) (ts : List Turn) → IsAlone c → c.dlci < 64 → AllSent role ts → AreCoded c role ts
+pub all-fit : TellingLaws → (c : Wire) (role : Role) (ts : List Turn) → IsAlone c → c.dlci < 64 → AllSent role ts → AreCoded c role ts
     → AreFit (4 * c.symbols) 0 (signals c role ts) × (length (signals c role ts) ≡ length ts)
 all-fit laws c role [] alone low s k = (tt, refl)
 all-fit laws c role (t ∷ ts) alone low s k =
@@ -95,7 +95,7 @@ all-fit laws c role (t ∷ ts) alone low s k =
     ) in
     subst (λ l. AreFit (4 * c.symbols) 0 l × (length l ≡ suc (length ts))) (sym (signals-more c role ts slot t alone s.0.1)) both
 
-pub length-bits : TellingLaws → (c : Channel) (role : Role) (ts : List Turn) → IsAlone c → HEAD + TAIL < c.symbols → c.dlci < 64 → AllSent role ts
+pub length-bits : TellingLaws → (c : Wire) (role : Role) (ts : List Turn) → IsAlone c → HEAD + TAIL < c.symbols → c.dlci < 64 → AllSent role ts
     → AreCoded c role ts → length (bits_of c role ts) ≡ 4 * (c.symbols * length ts)
 length-bits laws c role ts alone long low s k =
     let h = all-fit laws c role ts alone low s k in
@@ -111,17 +111,17 @@ take-take n m xs l = grind (arith, common_steps)
 
 -- ---- what a recording holds of the first turns
 
-pub record Within (c : Channel) (role : Role) (ts : List Turn) (body : List ℕ) : Type 0 where
+pub record Within (c : Wire) (role : Role) (ts : List Turn) (body : List ℕ) : Type 0 where
   pub coded : AreCoded c role ts
   pub front : Modulates (tap_of (mode_of role)) (bits_of c role ts) (take (c.symbols * length ts) (samples_in body))
   pub long : octets_of c (length ts) ≤ length body
 
 -- all of it
-pub record All (c : Channel) (role : Role) (ts : List Turn) (body : List ℕ) : Type 0 where
+pub record All (c : Wire) (role : Role) (ts : List Turn) (body : List ℕ) : Type 0 where
   pub within : Within c role ts body
   pub count : length body ≡ octets_of c (length ts)
 
-within-all : TellingLaws → (c : Channel) (role : Role) (ts : List Turn) (body : List ℕ) → IsAlone c → HEAD + TAIL < c.symbols → c.dlci < 64
+within-all : TellingLaws → (c : Wire) (role : Role) (ts : List Turn) (body : List ℕ) → IsAlone c → HEAD + TAIL < c.symbols → c.dlci < 64
     → AllSent role ts → AreCoded c role ts → IsRecorded c role ts body → All c role ts body
 within-all laws c role ts body alone long low s k r =
     let tap : ℕ = tap_of (mode_of role) in
@@ -141,7 +141,7 @@ within-all laws c role ts body alone long low s k r =
       count = count;
     }
 
-within-less : TellingLaws → (c : Channel) (role : Role) (ts : List Turn) (t : Turn) (body : List ℕ) → IsAlone c → HEAD + TAIL < c.symbols → c.dlci < 64
+within-less : TellingLaws → (c : Wire) (role : Role) (ts : List Turn) (t : Turn) (body : List ℕ) → IsAlone c → HEAD + TAIL < c.symbols → c.dlci < 64
     → AllSent role (t ∷ ts) → Within c role (t ∷ ts) body → Within c role ts body
 within-less laws c role ts t body alone long low s w =
     let tap : ℕ = tap_of (mode_of role) in
@@ -179,7 +179,7 @@ codable-plain check own role dlci symbols phase (slots.Frame frame) h k =
     go false e = refl
 
 -- the slot of a turn is the next one in what its recording holds
-holds-next : TellingLaws → (c : Channel) (check : Check) (role : Role) (ts : List Turn) (t : Turn) (body : List ℕ) (slot : Spoken)
+holds-next : TellingLaws → (c : Wire) (check : Check) (role : Role) (ts : List Turn) (t : Turn) (body : List ℕ) (slot : Spoken)
     → IsAlone c → (of role t).sent ≡ Some slot → AllChecked check role (t ∷ ts) → Within c role (t ∷ ts) body
     → HoldsNext c check role (plains check ts) body slot.sent
 holds-next laws c check role ts t body slot alone e a w =
@@ -212,11 +212,11 @@ all-sent link role (t ∷ ts) ends h =
     ((spoken (h.2.speaking role).said, (h.2.speaking role).sent_is), all-sent link role ts h.0 h.1)
 
 over : TellingLaws → (script : ScriptValue) (files : Both (List ℕ)) (ts : List Turn) (ends : Accounts) → IsInLimits script
-    → LineRun (channel_of script) (link_of script files) ts ends → RunsOver (link_of script files) (delay_of script) ts ends
+    → LineRun (wire_of script) (link_of script files) ts ends → RunsOver (link_of script files) (delay_of script) ts ends
 over laws script files ts ends limits r = record {
   may_play = laws.play script files limits;
   delays = laws.delays script limits;
-  carried = laws.carried (channel_of script) ts r.heard;
+  carried = laws.carried (wire_of script) ts r.heard;
   run = r.run;
 }
 
@@ -225,17 +225,17 @@ abbrev check_in : ScriptValue → Both (List ℕ) → Check
 check_in script files = check_by (agreed_terms (link_of script files))
 
 all-checked : TellingLaws → (script : ScriptValue) (files : Both (List ℕ)) (ts : List Turn) (ends : Accounts) → IsInLimits script
-    → LineRun (channel_of script) (link_of script files) ts ends → (role : Role) → AllChecked (check_in script files) role ts
+    → LineRun (wire_of script) (link_of script files) ts ends → (role : Role) → AllChecked (check_in script files) role ts
 all-checked laws script files [] ends limits r role = tt
 all-checked laws script files (t ∷ ts) ends limits r role =
-    let before : LineRun (channel_of script) (link_of script files) ts r.run.0 = record { run = r.run.1; heard = r.heard.1 } in (
+    let before : LineRun (wire_of script) (link_of script files) ts r.run.0 = record { run = r.run.1; heard = r.heard.1 } in (
       laws.sends (link_of script files) (delay_of script) ts r.run.0 t ends (over laws script files ts r.run.0 limits before)
-          (laws.one (channel_of script) ts t r.heard.0) r.run.2 role,
+          (laws.one (wire_of script) ts t r.heard.0) r.run.2 role,
       all-checked laws script files ts r.run.0 limits before role,
     )
 
 hears-plain : TellingLaws → (script : ScriptValue) (files bodies : Both (List ℕ)) (ts : List Turn) (ends : Accounts) (t : Turn) (mid : Accounts)
-    → IsInLimits script → LineRun (channel_of script) (link_of script files) ts ends → HeardIn (channel_of script) ts t
+    → IsInLimits script → LineRun (wire_of script) (link_of script files) ts ends → HeardIn (wire_of script) ts t
     → run.Hears (length ts) ends t mid
     → Hears (tapping script bodies) (plains (check_in script files) ts) (plain (check_in script files) t)
 hears-plain laws script files bodies ts ends t mid limits r h k =
@@ -243,20 +243,20 @@ hears-plain laws script files bodies ts ends t mid limits r h k =
     let check = check_in script files in
     let terms = agreed_terms link in
     let v = over laws script files ts ends limits r in
-    let known = laws.hears link (delay_of script) ts ends t mid v (laws.one (channel_of script) ts t h) k in
+    let known = laws.hears link (delay_of script) ts ends t mid v (laws.one (wire_of script) ts t h) k in
     record {
-      heard = heard_in-plain (channel_of script) check ts t (all-checked laws script files ts ends limits r) h;
+      heard = heard_in-plain (wire_of script) check ts t (all-checked laws script files ts ends limits r) h;
       checks = λ role. plain-check check role t ∙ (known role).check_is ∙ sym (plain-judged terms check role ts);
       given = λ role. plain-given check role t ∙ (known role).given_is ∙ sym (plain-given_to check role ts (of role t).heard)
           ∙ ap (given_to role (plains check ts)) (sym (plain-heard check role t));
     }
 
 tells-run : TellingLaws → (script : ScriptValue) (files bodies : Both (List ℕ)) (ts : List Turn) (ends : Accounts) → IsInLimits script
-    → LineRun (channel_of script) (link_of script files) ts ends → ((role : Role) → Within (channel_of script) role ts (of role bodies))
+    → LineRun (wire_of script) (link_of script files) ts ends → ((role : Role) → Within (wire_of script) role ts (of role bodies))
     → Tells (tapping script bodies) (plains (check_in script files) ts)
 tells-run laws script files bodies [] ends limits r w = tt
 tells-run laws script files bodies (t ∷ ts) ends limits r w =
-    let c = channel_of script in
+    let c = wire_of script in
     let link = link_of script files in
     let check = check_in script files in
     let before : LineRun c link ts r.run.0 = record { run = r.run.1; heard = r.heard.1 } in
@@ -283,15 +283,15 @@ silent-plain : (check : Check) (t : Turn) → IsSilent t → IsSilent (plain che
 silent-plain check t s role = plain-sent check role t ∙ ap (option_map (plain_slot check)) (s role)
 
 in-turn : TellingLaws → (script : ScriptValue) (files bodies : Both (List ℕ)) (ts : List Turn) (ends : Accounts) (last : Turn) (mid : Accounts)
-    (turn : ℕ) (left : Left) → IsInLimits script → LineRun (channel_of script) (link_of script files) ts ends
-    → ((role : Role) → All (channel_of script) role ts (of role bodies)) → turn ≡ length ts → HeardIn (channel_of script) ts last
+    (turn : ℕ) (left : Left) → IsInLimits script → LineRun (wire_of script) (link_of script files) ts ends
+    → ((role : Role) → All (wire_of script) role ts (of role bodies)) → turn ≡ length ts → HeardIn (wire_of script) ts last
     → run.Hears (length ts) ends last mid → IsSilent last → runs.Leaves mid (trace_text (last ∷ ts)) left
     → EndsWhole (tapping script bodies) (plains (check_in script files) ts) (turn + 1) left
 in-turn laws script files bodies ts ends last mid turn left limits r w e h k silent l =
     let link = link_of script files in
     let check = check_in script files in
     let v = over laws script files ts ends limits r in
-    let known = laws.hears link (delay_of script) ts ends last mid v (laws.one (channel_of script) ts last h) k in
+    let known = laws.hears link (delay_of script) ts ends last mid v (laws.one (wire_of script) ts last h) k in
     let count = length-map ts (plain check) in
     record {
       number = omega (arith, e, count);
@@ -300,7 +300,7 @@ in-turn laws script files bodies ts ends last mid turn left limits r w e h k sil
         hears = hears-plain laws script files bodies ts ends last mid limits r h k;
         silent = silent-plain check last silent;
       };
-      none = λ role. subst (λ n. length (of role bodies) ≤ octets_of (channel_of script) n) (sym count) (omega (arith, (w role).count));
+      none = λ role. subst (λ n. length (of role bodies) ≤ octets_of (wire_of script) n) (sym count) (omega (arith, (w role).count));
       leaves = record {
         got_is = λ role. l.got_is role ∙ ap concat (known role).taken_are
             ∙ sym (ap (λ i. concat i.taken) (plain-received (agreed_terms link) check role (last ∷ ts)));
@@ -309,8 +309,8 @@ in-turn laws script files bodies ts ends last mid turn left limits r w e h k sil
     }
 
 on-line : TellingLaws → (script : ScriptValue) (files bodies : Both (List ℕ)) (ts : List Turn) (ends : Accounts) (end : LineEnd)
-    (text others : List ℕ) (left : Left) → IsInLimits script → LineRun (channel_of script) (link_of script files) ts ends
-    → lines.EndsLine (channel_of script) ts ends end → runs.Leaves ends text left → text ≡ others
+    (text others : List ℕ) (left : Left) → IsInLimits script → LineRun (wire_of script) (link_of script files) ts ends
+    → lines.EndsLine (wire_of script) ts ends end → runs.Leaves ends text left → text ≡ others
     → EndsOnLine (tapping script bodies) (plains (check_in script files) ts) end others left
 on-line laws script files bodies ts ends end text others left limits r is l same =
     record {
@@ -322,8 +322,8 @@ on-line laws script files bodies ts ends end text others left limits r is l same
       };
     }
   where
-    c : Channel
-    c = channel_of script
+    c : Wire
+    c = wire_of script
 
     link : Link
     link = link_of script files
@@ -360,9 +360,9 @@ on-line laws script files bodies ts ends end text others left limits r is l same
     by (lines.ChanceMatch Answerer) h = (well h.0, heard Answerer h.1)
 
 ended : TellingLaws → (script : ScriptValue) (files bodies : Both (List ℕ)) (ts : List Turn) (ends : Accounts) (end : RunEnd) (left : Left)
-    → IsInLimits script → LineRun (channel_of script) (link_of script files) ts ends
-    → ((role : Role) → All (channel_of script) role ts (of role bodies))
-    → runs.EndsBy (channel_of script) (link_of script files) ts ends end left
+    → IsInLimits script → LineRun (wire_of script) (link_of script files) ts ends
+    → ((role : Role) → All (wire_of script) role ts (of role bodies))
+    → runs.EndsBy (wire_of script) (link_of script files) ts ends end left
     → EndsBy (tapping script bodies) (plains (check_in script files) ts) (told_end end) left
 ended laws script files bodies ts ends (runs.IsDone turn) left limits r w e =
     in-turn laws script files bodies ts ends e.last e.mid turn left limits r w e.number e.heard e.is.hearing e.is.silent e.leaves
@@ -386,7 +386,7 @@ ended laws script files bodies ts ends (runs.ChanceMatch role turn) left limits 
 
 pub recordings_tell_runs : TellingLaws → RecordingsTellRuns
 recordings_tell_runs laws script files end left bodies limits r coded recorded =
-    let c = channel_of script in
+    let c = wire_of script in
     let link = link_of script files in
     let long = (laws.room script limits).0 in
     let all : (role : Role) → All c role r.turns (of role bodies) =

@@ -15,7 +15,7 @@ use Rattle.noise_script.specs.Script.{ScriptValue}
 use Rattle.sample_line.specs.Signals.{signal_of, IsCodable}
 use Rattle.sample_line.specs.Line.{Kept, LineStands, bits_behind}
 use Rattle.link_run.specs.Run.{Turn}
-use Rattle.line_run.specs.Sampled.{Channel}
+use Rattle.line_run.specs.Sampled.{Wire}
 use Rattle.line_tap.specs.declared.seeker.Sender.{Sender}
 use Rattle.line_tap.specs.declared.reader.SlotReader.{SlotReader}
 use Rattle.line_tap.specs.Tapping.{phase_behind}
@@ -26,7 +26,7 @@ abbrev pub sender_for : Check → Role → ℕ → Sender
 sender_for check role dlci = record { check = check; role = role; dlci = dlci }
 
 -- The reader reads what this role sends, frames with numbers by this check, and it stands behind these turns.
-pub record ReadsFor (r : SlotReader) (c : Channel) (check : Check) (role : Role) (ts : List Turn) : Type 0 where
+pub record ReadsFor (r : SlotReader) (c : Wire) (check : Check) (role : Role) (ts : List Turn) : Type 0 where
   pub symbols : r.symbols ≡ c.symbols
   pub sender : r.sender ≡ sender_for check role c.dlci
   pub phase : r.phase ≡ phase_behind c role ts

@@ -19,8 +19,8 @@ use Rattle.sample_line.specs.Signals.{signal_of, IsCodable}
 use Rattle.sample_line.specs.Line.{bits_behind}
 use Rattle.link_run.specs.Run.{Spoken, Turn}
 use Rattle.link_run.specs.Listened.{check_by, judged_by, given_to}
-use Rattle.line_run.specs.Sampled.{Channel, signals, bits_of, HeardIn}
-use Rattle.line_run.specs.Scripted.{channel_of}
+use Rattle.line_run.specs.Sampled.{Wire, signals, bits_of, HeardIn}
+use Rattle.line_run.specs.Scripted.{wire_of}
 
 -- What is tapped: the line of a script, whose link is alone on it, and the octets behind the header of each end's recording.
 pub record Tapping : Type 0 where
@@ -31,28 +31,28 @@ abbrev pub tapping : ScriptValue → Both (List ℕ) → Tapping
 tapping script bodies = record { script = script; bodies = bodies }
 
 -- its line
-abbrev pub line_of : Tapping → Channel
-line_of x = channel_of x.script
+abbrev pub line_of : Tapping → Wire
+line_of x = wire_of x.script
 
 -- what both ends' offers come to
 abbrev pub terms_of : Tapping → Terms
 terms_of x = agree x.script.offer_orig x.script.offer_answ
 
 -- how many bits of an unfinished flag a role's slots of these turns leave
-abbrev pub phase_behind : Channel → Role → List Turn → ℕ
+abbrev pub phase_behind : Wire → Role → List Turn → ℕ
 phase_behind c role ts = phase_after (4 * c.symbols) (slots_of (4 * c.symbols) (signals c role ts))
 
 -- the bits of one slot more
-abbrev pub next_bits : Channel → Check → Role → List Turn → Sent → List Bool
+abbrev pub next_bits : Wire → Check → Role → List Turn → Sent → List Bool
 next_bits c check role ts s = bits_behind (4 * c.symbols) (signals c role ts) (signal_of check role c.dlci s)
 
 -- how many octets the slots of so many turns have in a recording
-abbrev pub octets_of : Channel → ℕ → ℕ
+abbrev pub octets_of : Wire → ℕ → ℕ
 octets_of c turns = 4 * (c.symbols * turns)
 
 -- In these octets the slot that a role sent in the turn after these is all there, and it is this one: a slot that can be coded there, whose bits,
 -- coded behind those of all its slots before, give its samples.
-pub record HoldsNext (c : Channel) (check : Check) (role : Role) (ts : List Turn) (body : List ℕ) (s : Sent) : Type 0 where
+pub record HoldsNext (c : Wire) (check : Check) (role : Role) (ts : List Turn) (body : List ℕ) (s : Sent) : Type 0 where
   pub whole : octets_of c (length ts + 1) ≤ length body
   pub codable : IsCodable check role c.dlci c.symbols (phase_behind c role ts) s
   pub modulated : Modulates (tap_of (mode_of role)) (bits_of c role ts ++ next_bits c check role ts s)

@@ -19,10 +19,10 @@ use Rattle.link_run.specs.Laws.{HearingsDeliver, SpeakingTakesNothing}
 use Rattle.link_run.specs.Outcomes.{Outcome, Going, Done, Broken, TurnIs}
 use Rattle.link_run.specs.Run.{Link, Accounts, Turn, Hears}
 use Rattle.link_run.specs.Trace.{trace_text, turn_text}
-use Rattle.line_run.specs.Sampled.{Channel, LineRun, EndsLine}
+use Rattle.line_run.specs.Sampled.{Wire, LineRun, EndsLine}
 use Rattle.line_run.specs.Sampled as lines
 use Rattle.line_run.specs.Ends.{Left, Leaves, RunsTo, EndsInTurn}
-use Rattle.line_run.specs.Scripted.{channel_at, link_of}
+use Rattle.line_run.specs.Scripted.{wire_at, link_of}
 use Rattle.line_run.specs.Stream.{Carried, and_sent}
 use Rattle.shared_line.specs.Lines.{LinesWait, HaveArrived, AreDue}
 use Rattle.shared_line.specs.declared.lines.Lines.{Lines}
@@ -57,20 +57,20 @@ pub record AtGoing (h : Half) (script : ScriptValue) (beside : Role → ℕ → 
   pub ends : Accounts
   pub is : p ≡ Goes ts ends
   pub may : MayGoOn h.modems files ts ends
-  pub goes : GoesFor (channel_at script h.dlci beside) (link_of script files) round ts ends
+  pub goes : GoesFor (wire_at script h.dlci beside) (link_of script files) round ts ends
 
 pub at-going : (h : Half) (script : ScriptValue) (beside : Role → ℕ → Option Signal) (files : Both (List ℕ)) (round : ℕ) (p : Progress)
-    → h.ended ≡ None → StandsFor h.ended h.modems files p → Lasts (channel_at script h.dlci beside) (link_of script files) round p
+    → h.ended ≡ None → StandsFor h.ended h.modems files p → Lasts (wire_at script h.dlci beside) (link_of script files) round p
     → AtGoing h script beside files round p
 at-going h script beside files round p none stands = by p (subst (λ o. StandsFor o h.modems files p) none stands)
   where
-    by : (p : Progress) → StandsFor None h.modems files p → Lasts (channel_at script h.dlci beside) (link_of script files) round p
+    by : (p : Progress) → StandsFor None h.modems files p → Lasts (wire_at script h.dlci beside) (link_of script files) round p
         → AtGoing h script beside files round p
     by (Goes ts ends) may goes = record { ts = ts; ends = ends; is = refl; may = may; goes = goes }
     by (Ended ts ends end left) never goes = absurd never
 
 pub modems-after : (h : Half) (script : ScriptValue) (beside : Role → ℕ → Option Signal) (files : Both (List ℕ)) (round : ℕ) (p : Progress)
-    (a : AtGoing h script beside files round p) → ModemsAfter h.modems (channel_at script h.dlci beside) files a.ts a.ends
+    (a : AtGoing h script beside files round p) → ModemsAfter h.modems (wire_at script h.dlci beside) files a.ts a.ends
 modems-after h script beside files round p a =
     record { run = a.goes.run; link = a.may.link; turn = a.may.turn; tally = a.may.tally; spoke = a.may.spoke }
 
@@ -80,8 +80,8 @@ pub ready-for : (h : Half) (l : Lines) (script : ScriptValue) (f : FolderState) 
 ready-for h l script f n round none r =
     let a : AtGoing h script r.beside r.files round r.p =
     at-going h script r.beside r.files round r.p none r.at.stands r.at.lasts in
-    let due : AreDue (channel_at script h.dlci r.beside) r.links a.ts r.streams =
-    subst (λ p. AreDue (channel_at script h.dlci r.beside) r.links (turns_on_line round p) r.streams) a.is r.at.due in
+    let due : AreDue (wire_at script h.dlci r.beside) r.links a.ts r.streams =
+    subst (λ p. AreDue (wire_at script h.dlci r.beside) r.links (turns_on_line round p) r.streams) a.is r.at.due in
     record {
       limits = r.limits;
       kept = a.may.kept;
@@ -92,17 +92,17 @@ ready-for h l script f n round none r =
       within = r.at.knows.within;
       turns = a.ts;
       ends = a.ends;
-      after = subst (λ x. ModemsAfter h.modems (channel_at script x r.beside) r.files a.ts a.ends) (sym r.at.channel)
+      after = subst (λ x. ModemsAfter h.modems (wire_at script x r.beside) r.files a.ts a.ends) (sym r.at.channel)
           (modems-after h script r.beside r.files round r.p a);
-      waits = subst (λ x. LinesWait l (channel_at script x r.beside) r.links r.streams) (sym r.at.channel) r.at.waits;
-      due = subst (λ x. AreDue (channel_at script x r.beside) r.links a.ts r.streams) (sym r.at.channel) due;
+      waits = subst (λ x. LinesWait l (wire_at script x r.beside) r.links r.streams) (sym r.at.channel) r.at.waits;
+      due = subst (λ x. AreDue (wire_at script x r.beside) r.links a.ts r.streams) (sym r.at.channel) due;
       few = r.few;
     }
 
 -- ---- what its turn comes to
 
 -- it goes on
-pub record GoneOn (m : Modems) (l : Lines) (c : Channel) (links : ℕ) (streams : Both (List Carried)) (f : FolderState) (n : Written)
+pub record GoneOn (m : Modems) (l : Lines) (c : Wire) (links : ℕ) (streams : Both (List Carried)) (f : FolderState) (n : Written)
     (ts : List Turn) : Type 0 where
   pub others : Both (List ℕ)
   pub turn : Turn
@@ -114,7 +114,7 @@ pub record GoneOn (m : Modems) (l : Lines) (c : Channel) (links : ℕ) (streams 
   pub holds : HoldLeft f n (Goes (turn ∷ ts) after)
 
 -- it ends so
-pub record EndedNow (m : Modems) (l : Lines) (c : Channel) (links : ℕ) (streams : Both (List Carried)) (f : FolderState) (n : Written)
+pub record EndedNow (m : Modems) (l : Lines) (c : Wire) (links : ℕ) (streams : Both (List Carried)) (f : FolderState) (n : Written)
     (ts : List Turn) (found : LinkEnd) : Type 0 where
   pub others : Both (List ℕ)
   pub mid : Accounts
@@ -127,7 +127,7 @@ pub record EndedNow (m : Modems) (l : Lines) (c : Channel) (links : ℕ) (stream
   pub knows : KnowsFiles f n others
   pub holds : HoldEach f (outputs_of n) (held_of left)
 
-abbrev pub Comes : Modems → Lines → Channel → ℕ → Both (List Carried) → FolderState → Written → Both (List ℕ) → List Turn → Accounts
+abbrev pub Comes : Modems → Lines → Wire → ℕ → Both (List Carried) → FolderState → Written → Both (List ℕ) → List Turn → Accounts
     → Result (Option LinkEnd) PairFault → Type 0
 Comes m l c links streams f n files ts ends (Ok None) = GoneOn m l c links streams f n ts
 Comes m l c links streams f n files ts ends (Ok (Some found)) = EndedNow m l c links streams f n ts found
@@ -141,7 +141,7 @@ pub record Around (old new : FolderState) (n : Written) (files : Both (List ℕ)
   pub holds : HoldLeft old n (Goes ts ends)
 
 gone-on : HearingsDeliver → SpeakingTakesNothing
-    → (m : Modems) (l : Lines) (c : Channel) (links : ℕ) (streams : Both (List Carried)) (old new : FolderState) (n : Written)
+    → (m : Modems) (l : Lines) (c : Wire) (links : ℕ) (streams : Both (List Carried)) (old new : FolderState) (n : Written)
     (files : Both (List ℕ)) (ts : List Turn) (ends : Accounts) → Around old new n files ts ends → LineRun c (link_of c.script files) ts ends
     → AreKept m → GoesOnBy m l c links streams old new n files ts ends → GoneOn m l c links streams new n ts
 gone-on delivers speaks m l c links streams old new n files ts ends a run kept g =
@@ -180,7 +180,7 @@ hears-of link ts ends t mid (Broken role fault) b = b.hearing
 
 -- the last turn, and what the outputs hold behind it
 last-turn : HearingsDeliver
-    → (m : Modems) (l : Lines) (c : Channel) (links : ℕ) (streams : Both (List Carried)) (old new : FolderState) (n : Written)
+    → (m : Modems) (l : Lines) (c : Wire) (links : ℕ) (streams : Both (List Carried)) (old new : FolderState) (n : Written)
     (files : Both (List ℕ)) (ts : List Turn) (ends : Accounts) (outcome : Outcome) (number : ℕ) → Around old new n files ts ends
     → LineRun c (link_of c.script files) ts ends
     → (e : turns.EndsInTurn m l c links streams old new n files ts ends outcome number)
@@ -200,7 +200,7 @@ last-turn delivers m l c links streams old new n files ts ends outcome number a 
 )
 
 ended-done : HearingsDeliver
-    → (m : Modems) (l : Lines) (c : Channel) (links : ℕ) (streams : Both (List Carried)) (old new : FolderState) (n : Written)
+    → (m : Modems) (l : Lines) (c : Wire) (links : ℕ) (streams : Both (List Carried)) (old new : FolderState) (n : Written)
     (files : Both (List ℕ)) (ts : List Turn) (ends : Accounts) (turn : ℕ) → Around old new n files ts ends
     → LineRun c (link_of c.script files) ts ends → turns.EndsInTurn m l c links streams old new n files ts ends Done turn
     → EndedNow m l c links streams new n ts (link_ends.Done turn)
@@ -220,7 +220,7 @@ ended-done delivers m l c links streams old new n files ts ends turn a run e =
     }
 
 ended-undetected : HearingsDeliver
-    → (m : Modems) (l : Lines) (c : Channel) (links : ℕ) (streams : Both (List Carried)) (old new : FolderState) (n : Written)
+    → (m : Modems) (l : Lines) (c : Wire) (links : ℕ) (streams : Both (List Carried)) (old new : FolderState) (n : Written)
     (files : Both (List ℕ)) (ts : List Turn) (ends : Accounts) (turn : ℕ) → Around old new n files ts ends
     → LineRun c (link_of c.script files) ts ends
     → turns.EndsInTurn m l c links streams old new n files ts ends (Broken Originator causes.NotDetected) turn
@@ -241,7 +241,7 @@ ended-undetected delivers m l c links streams old new n files ts ends turn a run
     }
 
 ended-lost : HearingsDeliver
-    → (m : Modems) (l : Lines) (c : Channel) (links : ℕ) (streams : Both (List Carried)) (old new : FolderState) (n : Written)
+    → (m : Modems) (l : Lines) (c : Wire) (links : ℕ) (streams : Both (List Carried)) (old new : FolderState) (n : Written)
     (files : Both (List ℕ)) (ts : List Turn) (ends : Accounts) (role : Role) (segment turn : ℕ) → Around old new n files ts ends
     → LineRun c (link_of c.script files) ts ends → turns.LosesLink m l c links streams old new n files ts ends role segment turn
     → EndedNow m l c links streams new n ts (link_ends.LinkLost role segment turn)
@@ -262,7 +262,7 @@ ended-lost delivers m l c links streams old new n files ts ends role segment tur
     }
 
 -- the line ends the pair
-line-lost : (m : Modems) (c : Channel) (old new : FolderState) (n : Written) (files : Both (List ℕ)) (ts : List Turn) (ends : Accounts)
+line-lost : (m : Modems) (c : Wire) (old new : FolderState) (n : Written) (files : Both (List ℕ)) (ts : List Turn) (ends : Accounts)
     (role : Role) (symbol : ℕ) → Around old new n files ts ends → LosesLine m c old new n ts ends role symbol
     → IsEndedByLine c new n files (length ts) (Goes ts ends) (lines.LineLost role symbol)
 line-lost m c old new n files ts ends role symbol a e = record {
@@ -275,7 +275,7 @@ line-lost m c old new n files ts ends role symbol a e = record {
       (h.0, (h.1.0, (subst (Holds new n.trace) (sym (append-nil (trace_text ts))) h.1.1.0, tt)));
 }
 
-chance-met : (m : Modems) (c : Channel) (old new : FolderState) (n : Written) (files : Both (List ℕ)) (ts : List Turn) (ends : Accounts)
+chance-met : (m : Modems) (c : Wire) (old new : FolderState) (n : Written) (files : Both (List ℕ)) (ts : List Turn) (ends : Accounts)
     (role : Role) (turn : ℕ) → Around old new n files ts ends → MeetsChance m c old new n ts ends role turn
     → (turn ≡ length ts) × IsEndedByLine c new n files (length ts) (Goes ts ends) (lines.ChanceMatch role)
 chance-met m c old new n files ts ends role turn a e = (
@@ -304,7 +304,7 @@ kept-none now next name octets on holds kept =
 abbrev more_of : Accounts → List ℕ → Left
 more_of mid text = record { got = record { orig = concat (deliveries mid.orig); answ = concat (deliveries mid.answ) }; trace = text }
 
-adds-turn : (m : Modems) (l : Lines) (c : Channel) (links : ℕ) (streams : Both (List Carried)) (old new : FolderState) (n : Written)
+adds-turn : (m : Modems) (l : Lines) (c : Wire) (links : ℕ) (streams : Both (List Carried)) (old new : FolderState) (n : Written)
     (files : Both (List ℕ)) (ts : List Turn) (ends : Accounts) (s : StopsInTurn m l c links streams old new n files ts ends)
     → AddsTurn c (link_of c.script s.others) ts ends (more_of s.mid (turn_text (length ts) s.turn))
 adds-turn m l c links streams old new n files ts ends s = record {
@@ -322,7 +322,7 @@ adds-turn m l c links streams old new n files ts ends s = record {
     got Originator = refl
     got Answerer = refl
 
-stops-so : (m : Modems) (l : Lines) (c : Channel) (links : ℕ) (streams : Both (List Carried)) (old new : FolderState) (n : Written)
+stops-so : (m : Modems) (l : Lines) (c : Wire) (links : ℕ) (streams : Both (List Carried)) (old new : FolderState) (n : Written)
     (files : Both (List ℕ)) (ts : List Turn) (ends : Accounts) → Around old new n files ts ends
     → (s : StopsInTurn m l c links streams old new n files ts ends)
     → LinkStops c (link_of c.script s.others) new n (length ts) (Goes ts ends)
@@ -333,7 +333,7 @@ stops-so m l c links streams old new n files ts ends a s = record {
       a.only.goes_on a.holds s.writes;
 }
 
-stopped : (m : Modems) (l : Lines) (c : Channel) (links : ℕ) (streams : Both (List Carried)) (old new : FolderState) (n : Written)
+stopped : (m : Modems) (l : Lines) (c : Wire) (links : ℕ) (streams : Both (List Carried)) (old new : FolderState) (n : Written)
     (files : Both (List ℕ)) (ts : List Turn) (ends : Accounts) → Around old new n files ts ends → LineRun c (link_of c.script files) ts ends
     → Stops m l c links streams old new n files ts ends → IsStopped LinkStops c new n (length ts) (Goes ts ends)
 stopped m l c links streams old new n files ts ends a run (inl s) = record {
@@ -363,7 +363,7 @@ stopped m l c links streams old new n files ts ends a run (inr s) = record {
     none Originator = refl
     none Answerer = refl
 
-stopped-reading : (m : Modems) (l : Lines) (c : Channel) (links : ℕ) (streams : Both (List Carried)) (old new : FolderState) (n : Written)
+stopped-reading : (m : Modems) (l : Lines) (c : Wire) (links : ℕ) (streams : Both (List Carried)) (old new : FolderState) (n : Written)
     (files : Both (List ℕ)) (ts : List Turn) (ends : Accounts) → Around old new n files ts ends
     → StopsReading m l c links streams old new n files ts ends → IsStopped LinkStopsReading c new n (length ts) (Goes ts ends)
 unfolding stops-so
@@ -379,7 +379,7 @@ stopped-reading m l c links streams old new n files ts ends a (s, delivered) = r
 }
 
 pub comes : HearingsDeliver → SpeakingTakesNothing
-    → (m : Modems) (l : Lines) (c : Channel) (links : ℕ) (streams : Both (List Carried)) (old new : FolderState) (n : Written)
+    → (m : Modems) (l : Lines) (c : Wire) (links : ℕ) (streams : Both (List Carried)) (old new : FolderState) (n : Written)
     (files : Both (List ℕ)) (ts : List Turn) (ends : Accounts) (answer : Result Step RunFault) → Around old new n files ts ends
     → LineRun c (link_of c.script files) ts ends → (answer ≡ Ok steps.Going → AreKept m)
     → TurnAnswers m l c links streams old new n files ts ends answer → Comes m l c links streams new n files ts ends (sorted answer)
@@ -404,7 +404,7 @@ comes delivers speaks m l c links streams old new n files ts ends (Err run_fault
 
 -- ---- so the link has come farther
 
-pub has-gone : (h : Half) (l : Lines) (c : Channel) (links : ℕ) (streams : Both (List Carried)) (f : FolderState) (n : Written)
+pub has-gone : (h : Half) (l : Lines) (c : Wire) (links : ℕ) (streams : Both (List Carried)) (f : FolderState) (n : Written)
     (files : Both (List ℕ)) (ts : List Turn) (ends : Accounts) → h.ended ≡ None → h.modems.dlci ≡ c.dlci
     → GoneOn h.modems l c links streams f n ts → HasCome h l c links streams f n (length ts) (Goes ts ends)
 has-gone h l c links streams f n files ts ends none channel g = record {
@@ -426,7 +426,7 @@ by-link (link_ends.Done turn) = tt
 by-link (link_ends.LinkLost role segment turn) = tt
 by-link (link_ends.NotDetected turn) = tt
 
-pub has-ended : (h : Half) (l m : Lines) (c : Channel) (links : ℕ) (streams : Both (List Carried)) (f : FolderState) (n : Written)
+pub has-ended : (h : Half) (l m : Lines) (c : Wire) (links : ℕ) (streams : Both (List Carried)) (f : FolderState) (n : Written)
     (files : Both (List ℕ)) (ts : List Turn) (ends : Accounts) (found : LinkEnd) → h.ended ≡ Some found → h.modems.dlci ≡ c.dlci
     → LinesWait l c links (and_sent streams c.dlci idle_turn)
     → EndedNow h.modems m c links streams f n ts found → HasCome h l c links streams f n (length ts) (Goes ts ends)
@@ -463,11 +463,11 @@ has-ended h l m c links streams f n files ts ends found is channel waits e = rec
 abbrev pub AnswersSo : Modems → Modems → Lines → Lines → ScriptValue → FolderState → FolderState → Written → Result Step RunFault → Type 0
 AnswersSo m m' l l' script old new n answer =
     (beside : Role → ℕ → Option Signal) (links : ℕ) (streams : Both (List Carried)) (files : Both (List ℕ)) (ts : List Turn) (ends : Accounts)
-    → ModemsAfter m (channel_at script m.dlci beside) files ts ends → AreWithin files
-    → LinesWait l (channel_at script m.dlci beside) links streams → AreDue (channel_at script m.dlci beside) links ts streams
-    → TurnAnswers m' l' (channel_at script m.dlci beside) links streams old new n files ts ends answer
+    → ModemsAfter m (wire_at script m.dlci beside) files ts ends → AreWithin files
+    → LinesWait l (wire_at script m.dlci beside) links streams → AreDue (wire_at script m.dlci beside) links ts streams
+    → TurnAnswers m' l' (wire_at script m.dlci beside) links streams old new n files ts ends answer
 
-pub record CameTo (m : Modems) (l : Lines) (c : Channel) (links : ℕ) (streams : Both (List Carried)) (f : FolderState) (n : Written)
+pub record CameTo (m : Modems) (l : Lines) (c : Wire) (links : ℕ) (streams : Both (List Carried)) (f : FolderState) (n : Written)
     (files : Both (List ℕ)) (round : ℕ) (p : Progress) (o : Result (Option LinkEnd) PairFault) : Type 0 where
   pub ts : List Turn
   pub ends : Accounts
@@ -481,30 +481,30 @@ pub came-to : HearingsDeliver → SpeakingTakesNothing
     (answer : Result Step RunFault) (o : Result (Option LinkEnd) PairFault) → sorted answer ≡ o → h.ended ≡ None → IsApart n
     → OnlyPuts old new (outputs_of n) → HalfAt h l old n script beside links streams files round p → (answer ≡ Ok steps.Going → AreKept m)
     → AnswersSo h.modems m l l' script old new n answer
-    → CameTo m l' (channel_at script h.dlci beside) links streams new n files round p o
+    → CameTo m l' (wire_at script h.dlci beside) links streams new n files round p o
 came-to delivers speaks h m l l' script beside links streams old new n files round p answer o sorts none apart only at kept turn =
     let a : AtGoing h script beside files round p = at-going h script beside files round p none at.stands at.lasts in
-    let due : AreDue (channel_at script h.dlci beside) links a.ts streams =
-    subst (λ x. AreDue (channel_at script h.dlci beside) links (turns_on_line round x) streams) a.is at.due in
-    let made : TurnAnswers m l' (channel_at script h.modems.dlci beside) links streams old new n files a.ts a.ends answer =
+    let due : AreDue (wire_at script h.dlci beside) links a.ts streams =
+    subst (λ x. AreDue (wire_at script h.dlci beside) links (turns_on_line round x) streams) a.is at.due in
+    let made : TurnAnswers m l' (wire_at script h.modems.dlci beside) links streams old new n files a.ts a.ends answer =
     turn beside links streams files a.ts a.ends
-    (subst (λ x. ModemsAfter h.modems (channel_at script x beside) files a.ts a.ends) (sym at.channel)
+    (subst (λ x. ModemsAfter h.modems (wire_at script x beside) files a.ts a.ends) (sym at.channel)
     (modems-after h script beside files round p a)) at.knows.within
-    (subst (λ x. LinesWait l (channel_at script x beside) links streams) (sym at.channel) at.waits)
-    (subst (λ x. AreDue (channel_at script x beside) links a.ts streams) (sym at.channel) due) in
-    let there : TurnAnswers m l' (channel_at script h.dlci beside) links streams old new n files a.ts a.ends answer =
-    subst (λ x. TurnAnswers m l' (channel_at script x beside) links streams old new n files a.ts a.ends answer) at.channel made in
+    (subst (λ x. LinesWait l (wire_at script x beside) links streams) (sym at.channel) at.waits)
+    (subst (λ x. AreDue (wire_at script x beside) links a.ts streams) (sym at.channel) due) in
+    let there : TurnAnswers m l' (wire_at script h.dlci beside) links streams old new n files a.ts a.ends answer =
+    subst (λ x. TurnAnswers m l' (wire_at script x beside) links streams old new n files a.ts a.ends answer) at.channel made in
     record {
       ts = a.ts;
       ends = a.ends;
       is = a.is;
       count = a.goes.count;
-      comes = subst (Comes m l' (channel_at script h.dlci beside) links streams new n files a.ts a.ends) sorts
-          (comes delivers speaks m l' (channel_at script h.dlci beside) links streams old new n files a.ts a.ends answer
+      comes = subst (Comes m l' (wire_at script h.dlci beside) links streams new n files a.ts a.ends) sorts
+          (comes delivers speaks m l' (wire_at script h.dlci beside) links streams old new n files a.ts a.ends answer
           (record { apart = apart; only = only; knows = at.knows; holds = subst (HoldLeft old n) a.is at.holds }) a.goes.run kept there);
     }
 
-pub came-going : (h : Half) (l : Lines) (c : Channel) (links : ℕ) (streams : Both (List Carried)) (f : FolderState) (n : Written)
+pub came-going : (h : Half) (l : Lines) (c : Wire) (links : ℕ) (streams : Both (List Carried)) (f : FolderState) (n : Written)
     (files : Both (List ℕ)) (round : ℕ) (p : Progress) → h.ended ≡ None → h.modems.dlci ≡ c.dlci
     → CameTo h.modems l c links streams f n files round p (Ok None) → HasCome h l c links streams f n round p
 came-going h l c links streams f n files round p none channel a =
@@ -512,7 +512,7 @@ came-going h l c links streams f n files round p none channel a =
     (subst (λ k. HasCome h l c links streams f n k (Goes a.ts a.ends)) a.count
     (has-gone h l c links streams f n files a.ts a.ends none channel a.comes))
 
-pub came-ended : (h : Half) (l m : Lines) (c : Channel) (links : ℕ) (streams : Both (List Carried)) (f : FolderState) (n : Written)
+pub came-ended : (h : Half) (l m : Lines) (c : Wire) (links : ℕ) (streams : Both (List Carried)) (f : FolderState) (n : Written)
     (files : Both (List ℕ)) (round : ℕ) (p : Progress) (found : LinkEnd) → h.ended ≡ Some found → h.modems.dlci ≡ c.dlci
     → LinesWait l c links (and_sent streams c.dlci idle_turn) → CameTo h.modems m c links streams f n files round p (Ok (Some found))
     → HasCome h l c links streams f n round p
@@ -521,7 +521,7 @@ came-ended h l m c links streams f n files round p found is channel waits a =
     (subst (λ k. HasCome h l c links streams f n k (Goes a.ts a.ends)) a.count
     (has-ended h l m c links streams f n files a.ts a.ends found is channel waits a.comes))
 
-pub came-halted : (m : Modems) (l : Lines) (c : Channel) (links : ℕ) (streams : Both (List Carried)) (f : FolderState) (n : Written)
+pub came-halted : (m : Modems) (l : Lines) (c : Wire) (links : ℕ) (streams : Both (List Carried)) (f : FolderState) (n : Written)
     (files : Both (List ℕ)) (round : ℕ) (p : Progress) (fault : PairFault) → CameTo m l c links streams f n files round p (Err fault)
     → HalfEnds c f n files round p fault
 came-halted m l c links streams f n files round p fault a =

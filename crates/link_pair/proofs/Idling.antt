@@ -20,10 +20,10 @@ use Rattle.noise_script.specs.Script.{ScriptValue}
 use Rattle.line_texts.specs.LineText.{chance_line}
 use Rattle.link_account.specs.Account.{check_of}
 use Rattle.link_run.specs.Run.{Accounts, Turn}
-use Rattle.line_run.specs.Sampled.{Channel, IsHeardOf, IsHeardWell, LineEnd, EndsLine, EndsLineBy, LosesLine}
+use Rattle.line_run.specs.Sampled.{Wire, IsHeardOf, IsHeardWell, LineEnd, EndsLine, EndsLineBy, LosesLine}
 use Rattle.line_run.specs.Sampled as lines
 use Rattle.line_run.specs.Ends.{RunEnd, Left}
-use Rattle.line_run.specs.Scripted.{channel_at, link_of}
+use Rattle.line_run.specs.Scripted.{wire_at, link_of}
 use Rattle.line_run.specs.Stream.{Carried, and_sent}
 use Rattle.shared_line.specs.Lines.{LinesWait, ArrivesBoth, ArePut}
 use Rattle.shared_line.specs.declared.lines.Lines.{Lines}
@@ -68,15 +68,15 @@ pub record AtEnd (h : Half) (script : ScriptValue) (beside : Role → ℕ → Op
   pub is : p ≡ Ended ts ends end left
   pub found_is : h.ended ≡ Some found
   pub stopped : HasStopped h.modems found ends end
-  pub ended : HasEnded (channel_at script h.dlci beside) (link_of script files) round ts ends end left
+  pub ended : HasEnded (wire_at script h.dlci beside) (link_of script files) round ts ends end left
 
 pub at-end : (h : Half) (script : ScriptValue) (beside : Role → ℕ → Option Signal) (files : Both (List ℕ)) (round : ℕ) (p : Progress)
-    → is_some h.ended ≡ true → StandsFor h.ended h.modems files p → Lasts (channel_at script h.dlci beside) (link_of script files) round p
+    → is_some h.ended ≡ true → StandsFor h.ended h.modems files p → Lasts (wire_at script h.dlci beside) (link_of script files) round p
     → AtEnd h script beside files round p
 at-end h script beside files round p some stands = by h.ended refl p (subst (λ o. StandsFor o h.modems files p) refl stands)
   where
     by : (o : Option LinkEnd) → h.ended ≡ o → (p : Progress) → StandsFor o h.modems files p
-        → Lasts (channel_at script h.dlci beside) (link_of script files) round p → AtEnd h script beside files round p
+        → Lasts (wire_at script h.dlci beside) (link_of script files) round p → AtEnd h script beside files round p
     by None e p s l = absurd (false≢true (sym (ap is_some e) ∙ some))
     by (Some found) e (Ended ts ends end left) s l = record {
       ts = ts;
@@ -92,7 +92,7 @@ at-end h script beside files round p some stands = by h.ended refl p (subst (λ 
     by (Some found) e (Goes ts ends) s l = absurd s
 
 -- so many turns stand on the line
-pub count-on-line : (c : Channel) (round : ℕ) (ts : List Turn) (ends : Accounts) (end : RunEnd) (left : Left) → length ts < round
+pub count-on-line : (c : Wire) (round : ℕ) (ts : List Turn) (ends : Accounts) (end : RunEnd) (left : Left) → length ts < round
     → length (turns_on_line round (Ended ts ends end left)) ≡ round
 count-on-line c round ts ends end left before = omega (arith, length-lasting (round - length ts) ts, before)
 
@@ -100,7 +100,7 @@ pub count-at : (h : Half) (script : ScriptValue) (beside : Role → ℕ → Opti
     → AtEnd h script beside files round p → round ≡ length (turns_on_line round p)
 count-at h script beside files round p a =
     sym (ap (λ x. length (turns_on_line round x)) a.is
-    ∙ count-on-line (channel_at script h.dlci beside) round a.ts a.ends a.end a.left a.ended.before)
+    ∙ count-on-line (wire_at script h.dlci beside) round a.ts a.ends a.end a.left a.ended.before)
 
 -- ---- what its part of a round comes to
 
@@ -109,9 +109,9 @@ pub has-idled : (h : Half) (l m : Lines) (script : ScriptValue) (beside : Role �
     (streams : Both (List Carried)) (f : FolderState) (n : Written) (files : Both (List ℕ)) (round : ℕ) (p : Progress) (checks : Both Check)
     (heard : Both Heard) (a : AtEnd h script beside files round p) → h.modems.dlci ≡ h.dlci → KnowsFiles f n files → HoldLeft f n p
     → checks ≡ h.modems.heard_by
-    → ArrivesBoth m (channel_at script h.dlci beside) links (turns_on_line round p) streams checks heard
-    → LinesWait l (channel_at script h.dlci beside) links (and_sent streams h.dlci idle_turn)
-    → HasCome h l (channel_at script h.dlci beside) links streams f n round p
+    → ArrivesBoth m (wire_at script h.dlci beside) links (turns_on_line round p) streams checks heard
+    → LinesWait l (wire_at script h.dlci beside) links (and_sent streams h.dlci idle_turn)
+    → HasCome h l (wire_at script h.dlci beside) links streams f n round p
 has-idled h l m script beside links streams f n files round p checks heard a channel knows holds same arrives waits =
     subst (λ x. HasCome h l c links streams f n round x) (sym a.is) (record {
       others = files;
@@ -134,8 +134,8 @@ has-idled h l m script beside links streams f n files round p checks heard a cha
       holds = subst (HoldLeft f n) a.is holds;
     })
   where
-    c : Channel
-    c = channel_at script h.dlci beside
+    c : Wire
+    c = wire_at script h.dlci beside
 
     more : suc round - suc (length a.ts) ≡ suc (round - suc (length a.ts))
     more = omega (arith, a.ended.before)
@@ -159,7 +159,7 @@ has-idled h l m script beside links streams f n files round p checks heard a cha
     }
 
 -- the line ends the pair, by the checks that both ends had last
-by-ends : (c : Channel) (ts : List Turn) (checks : Both Check) (ends : Accounts) (end : LineEnd)
+by-ends : (c : Wire) (ts : List Turn) (checks : Both Check) (ends : Accounts) (end : LineEnd)
     → ((role : Role) → of role checks ≡ check_of (of role ends)) → EndsLineBy c ts (λ role. of role checks) end → EndsLine c ts ends end
 by-ends c ts checks ends (lines.LineLost Originator symbol) same h = h
 by-ends c ts checks ends (lines.ChanceMatch Originator) same h = subst (λ x. IsHeardOf c Answerer ts x Chance) (same Originator) h
@@ -172,20 +172,20 @@ by-ends c ts checks ends (lines.ChanceMatch Answerer) same h = (
 
 ends-of : (h : Half) (script : ScriptValue) (beside : Role → ℕ → Option Signal) (files : Both (List ℕ)) (round : ℕ) (p : Progress)
     (checks : Both Check) (end : LineEnd) (a : AtEnd h script beside files round p) → checks ≡ h.modems.heard_by
-    → EndsLineBy (channel_at script h.dlci beside) (turns_on_line round p) (λ role. of role checks) end
-    → EndsLine (channel_at script h.dlci beside) (turns_on_line round (Ended a.ts a.ends a.end a.left)) a.ends end
+    → EndsLineBy (wire_at script h.dlci beside) (turns_on_line round p) (λ role. of role checks) end
+    → EndsLine (wire_at script h.dlci beside) (turns_on_line round (Ended a.ts a.ends a.end a.left)) a.ends end
 ends-of h script beside files round p checks end a same e =
-    by-ends (channel_at script h.dlci beside) (turns_on_line round (Ended a.ts a.ends a.end a.left)) checks a.ends end
+    by-ends (wire_at script h.dlci beside) (turns_on_line round (Ended a.ts a.ends a.end a.left)) checks a.ends end
     (λ role. ap (of role) same ∙ a.stopped.checks role)
-    (subst (λ x. EndsLineBy (channel_at script h.dlci beside) (turns_on_line round x) (λ role. of role checks) end) a.is e)
+    (subst (λ x. EndsLineBy (wire_at script h.dlci beside) (turns_on_line round x) (λ role. of role checks) end) a.is e)
 
 pub lost-idly : (h : Half) (script : ScriptValue) (beside : Role → ℕ → Option Signal) (f : FolderState) (n : Written)
     (files : Both (List ℕ)) (round : ℕ) (p : Progress) (checks : Both Check) (role : Role) (symbol : ℕ)
     (a : AtEnd h script beside files round p) → KnowsFiles f n files → HoldLeft f n p → checks ≡ h.modems.heard_by
-    → EndsLineBy (channel_at script h.dlci beside) (turns_on_line round p) (λ side. of side checks) (lines.LineLost role symbol)
-    → IsEndedByLine (channel_at script h.dlci beside) f n files round p (lines.LineLost role symbol)
+    → EndsLineBy (wire_at script h.dlci beside) (turns_on_line round p) (λ side. of side checks) (lines.LineLost role symbol)
+    → IsEndedByLine (wire_at script h.dlci beside) f n files round p (lines.LineLost role symbol)
 lost-idly h script beside f n files round p checks role symbol a knows holds same e =
-    subst (λ x. IsEndedByLine (channel_at script h.dlci beside) f n files round x (lines.LineLost role symbol)) (sym a.is) (record {
+    subst (λ x. IsEndedByLine (wire_at script h.dlci beside) f n files round x (lines.LineLost role symbol)) (sym a.is) (record {
       is = ends-of h script beside files round p checks (lines.LineLost role symbol) a same e;
       knows = knows;
       left = record { got = a.left.got; trace = a.left.trace ++ [] };
@@ -201,10 +201,10 @@ pub met-idly : (h : Half) (script : ScriptValue) (beside : Role → ℕ → Opti
     (files : Both (List ℕ)) (round : ℕ) (p : Progress) (checks : Both Check) (role : Role) (a : AtEnd h script beside files round p)
     → IsApart n → KnowsFiles old n files → HoldLeft old n p → checks ≡ h.modems.heard_by → OnlyWrites old new n.trace
     → Appended old new n.trace (chance_line round role)
-    → EndsLineBy (channel_at script h.dlci beside) (turns_on_line round p) (λ side. of side checks) (lines.ChanceMatch role)
-    → IsEndedByLine (channel_at script h.dlci beside) new n files round p (lines.ChanceMatch role)
+    → EndsLineBy (wire_at script h.dlci beside) (turns_on_line round p) (λ side. of side checks) (lines.ChanceMatch role)
+    → IsEndedByLine (wire_at script h.dlci beside) new n files round p (lines.ChanceMatch role)
 met-idly h script beside old new n files round p checks role a apart knows holds same only put e =
-    subst (λ x. IsEndedByLine (channel_at script h.dlci beside) new n files round x (lines.ChanceMatch role)) (sym a.is) (record {
+    subst (λ x. IsEndedByLine (wire_at script h.dlci beside) new n files round x (lines.ChanceMatch role)) (sym a.is) (record {
       is = ends-of h script beside files round p checks (lines.ChanceMatch role) a same e;
       knows = knows-later old new n files apart (lines-only old new n only) knows;
       left = record { got = a.left.got; trace = a.left.trace ++ chance_line round role };
@@ -229,10 +229,10 @@ pub stopped-idly : (h : Half) (script : ScriptValue) (beside : Role → ℕ → 
     (files : Both (List ℕ)) (round : ℕ) (p : Progress) (checks : Both Check) (role : Role) (a : AtEnd h script beside files round p)
     → IsApart n → KnowsFiles old n files → HoldLeft old n p → checks ≡ h.modems.heard_by → OnlyWrites old new n.trace
     → PartlyAppended old new n.trace (chance_line round role)
-    → EndsLineBy (channel_at script h.dlci beside) (turns_on_line round p) (λ side. of side checks) (lines.ChanceMatch role)
-    → IsStopped LinkStops (channel_at script h.dlci beside) new n round p
+    → EndsLineBy (wire_at script h.dlci beside) (turns_on_line round p) (λ side. of side checks) (lines.ChanceMatch role)
+    → IsStopped LinkStops (wire_at script h.dlci beside) new n round p
 stopped-idly h script beside old new n files round p checks role a apart knows holds same only put e =
-    subst (λ x. IsStopped LinkStops (channel_at script h.dlci beside) new n round x) (sym a.is) (record {
+    subst (λ x. IsStopped LinkStops (wire_at script h.dlci beside) new n round x) (sym a.is) (record {
       others = files;
       knows = knows-later old new n files apart (lines-only old new n only) knows;
       lasts = a.ended;
@@ -243,7 +243,7 @@ stopped-idly h script beside old new n files round p checks role a apart knows h
           is = ends-of h script beside files round p checks (lines.ChanceMatch role) a same e;
           got_is = none;
           trace_is = ap (λ k. chance_line k role)
-              (sym (count-on-line (channel_at script h.dlci beside) round a.ts a.ends a.end a.left a.ended.before));
+              (sym (count-on-line (wire_at script h.dlci beside) round a.ts a.ends a.end a.left a.ended.before));
         };
         holds = inr (
           kept-none old new n.got_o _ only.goes_on held.0 kept.0,
@@ -266,7 +266,7 @@ stopped-idly h script beside old new n files round p checks role a apart knows h
     none Answerer = refl
 
 -- so the folder ends the pair
-pub writes-ends : (c : Channel) (f : FolderState) (n : Written) (files : Both (List ℕ)) (round : ℕ) (p : Progress) (fault : PairFault)
+pub writes-ends : (c : Wire) (f : FolderState) (n : Written) (files : Both (List ℕ)) (round : ℕ) (p : Progress) (fault : PairFault)
     → IsWriting fault → IsStopped LinkStops c f n round p → HalfEnds c f n files round p fault
 writes-ends c f n files round p faults.WriteFault is h = h
 writes-ends c f n files round p faults.NoMemory is h = h

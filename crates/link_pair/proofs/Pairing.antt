@@ -9,9 +9,9 @@ use Rattle.roles.specs.declared.role.Role.TheVariants.{Originator, Answerer}
 use Rattle.roles.specs.Both.{Both, of}
 use Rattle.noise_script.specs.Script.{ScriptValue, IsInLimits}
 use Rattle.link_run.specs.Run.{Link, Accounts, Turn, Spoken}
-use Rattle.line_run.specs.Sampled.{Channel}
+use Rattle.line_run.specs.Sampled.{Wire}
 use Rattle.line_run.specs.Ends.{Left}
-use Rattle.line_run.specs.Scripted.{channel_at, link_of, ScriptsHaveDelays}
+use Rattle.line_run.specs.Scripted.{wire_at, link_of, ScriptsHaveDelays}
 use Rattle.line_run.specs.Stream.{Carried, carry, and_sent, AreSent}
 use Rattle.shared_line.specs.Lines.{LinesWait, AreDue, PassedFew, from}
 use Rattle.shared_line.specs.declared.lines.Lines.{Lines}
@@ -19,7 +19,7 @@ use Rattle.shared_line.proofs.Waiting.{passed-few}
 use Rattle.run_world.specs.declared.modems.Modems.{Modems}
 use Rattle.run_world.specs.Names.{Written}
 use Rattle.run_world.specs.Link.{AreWithin}
-use Rattle.pair_run.specs.Beside.{first_dlci, second_dlci, slot_in, after_second, after_first, first_channel, second_channel}
+use Rattle.pair_run.specs.Beside.{first_dlci, second_dlci, slot_in, after_second, after_first, first_wire, second_wire}
 use Rattle.pair_run.specs.Pair.{Progress, Goes, Ended, turns_in, turns_on_line, Lasts, PairAt}
 use Rattle.pair_run.specs.Ends.{Which, First, Second, is_going, firsts_at}
 use Rattle.pair_run.specs.Stream.{both_sent, first_sent}
@@ -71,14 +71,14 @@ few-rounds law x f n m link a = go (either (is_going a.p) (is_going a.q) a.going
 
 -- it waits for the same whatever goes beside, on every channel
 pub waits-over : (l : Lines) (script : ScriptValue) (dlci at : ℕ) (b d : Beside) (links : ℕ) (streams : Both (List Carried))
-    → LinesWait l (channel_at script dlci b) links streams → LinesWait l (channel_at script at d) links streams
+    → LinesWait l (wire_at script dlci b) links streams → LinesWait l (wire_at script at d) links streams
 waits-over l script dlci at b d links streams h role =
     let k = h role in
     record { stands = k.stands; sends = k.sends; symbols = k.symbols; delay = k.delay; lag = k.lag; some = k.some; lag_some = k.lag_some }
 
 pub first-due : PairLaws → (script : ScriptValue) (files others : Both (List ℕ)) (round : ℕ) (p q : Progress) → IsInLimits script
     → PairAt script files others round round p q
-    → AreDue (first_channel script (turns_in q)) 2 (turns_on_line round p) (streams_at First round p q)
+    → AreDue (first_wire script (turns_in q)) 2 (turns_on_line round p) (streams_at First round p q)
 first-due laws script files others round p q h at Originator =
     laws.first script files others round p q at Originator (laws.delays script h Originator)
 first-due laws script files others round p q h at Answerer =
@@ -86,7 +86,7 @@ first-due laws script files others round p q h at Answerer =
 
 pub second-due : PairLaws → (script : ScriptValue) (files others : Both (List ℕ)) (round : ℕ) (p q : Progress) → IsInLimits script
     → PairAt script files others (suc round) round p q
-    → AreDue (second_channel script (turns_in p)) 2 (turns_on_line round q) (streams_at Second round p q)
+    → AreDue (second_wire script (turns_in p)) 2 (turns_on_line round q) (streams_at Second round p q)
 second-due laws script files others round p q h at Originator =
     laws.second script files others round p q at Originator (laws.delays script h Originator)
 second-due laws script files others round p q h at Answerer =
@@ -185,7 +185,7 @@ passed laws x f n m link a = each
           arith,
           short,
           long Originator,
-          passed-few x.lines.from_orig (first_channel x.script (turns_in a.q)) Originator 2 (of Originator
+          passed-few x.lines.from_orig (first_wire x.script (turns_in a.q)) Originator 2 (of Originator
               (streams_at link x.round a.p a.q))
               (a.lines Originator),
         )
@@ -194,7 +194,7 @@ passed laws x f n m link a = each
           arith,
           short,
           long Answerer,
-          passed-few x.lines.from_answ (first_channel x.script (turns_in a.q)) Answerer 2 (of Answerer (streams_at link x.round a.p a.q))
+          passed-few x.lines.from_answ (first_wire x.script (turns_in a.q)) Answerer 2 (of Answerer (streams_at link x.round a.p a.q))
               (a.lines Answerer),
         )
 
@@ -205,11 +205,11 @@ pub first-at : PairLaws → (x : Pair) (f : FolderState) (n m : Written) (a : Aw
 first-at laws x f n m a =
     let beside = after_second (turns_in a.q) in
     let streams = streams_at First x.round a.p a.q in record {
-      lasts = subst (λ d. Lasts (channel_at x.script d beside) (link_of x.script a.files) x.round a.p) (sym a.first_dlci_is) a.at.first;
+      lasts = subst (λ d. Lasts (wire_at x.script d beside) (link_of x.script a.files) x.round a.p) (sym a.first_dlci_is) a.at.first;
       stands = a.first;
-      channel = a.first_channel_is;
-      waits = subst (λ d. LinesWait x.lines (channel_at x.script d beside) 2 streams) (sym a.first_dlci_is) a.lines;
-      due = subst (λ d. AreDue (channel_at x.script d beside) 2 (turns_on_line x.round a.p) streams) (sym a.first_dlci_is)
+      channel = a.first_wire_is;
+      waits = subst (λ d. LinesWait x.lines (wire_at x.script d beside) 2 streams) (sym a.first_dlci_is) a.lines;
+      due = subst (λ d. AreDue (wire_at x.script d beside) 2 (turns_on_line x.round a.p) streams) (sym a.first_dlci_is)
           (first-due laws x.script a.files a.others x.round a.p a.q a.limits a.at);
       knows = a.first_known;
       holds = a.first_holds;
@@ -220,11 +220,11 @@ pub second-at : PairLaws → (x : Pair) (f : FolderState) (n m : Written) (a : A
 second-at laws x f n m a =
     let beside = after_first (turns_in a.p) in
     let streams = streams_at Second x.round a.p a.q in record {
-      lasts = subst (λ d. Lasts (channel_at x.script d beside) (link_of x.script a.others) x.round a.q) (sym a.second_dlci_is) a.at.second;
+      lasts = subst (λ d. Lasts (wire_at x.script d beside) (link_of x.script a.others) x.round a.q) (sym a.second_dlci_is) a.at.second;
       stands = a.second;
-      channel = a.second_channel_is;
+      channel = a.second_wire_is;
       waits = waits-over x.lines x.script first_dlci x.second.dlci (after_second (turns_in a.q)) beside 2 streams a.lines;
-      due = subst (λ d. AreDue (channel_at x.script d beside) 2 (turns_on_line x.round a.q) streams) (sym a.second_dlci_is)
+      due = subst (λ d. AreDue (wire_at x.script d beside) 2 (turns_on_line x.round a.q) streams) (sym a.second_dlci_is)
           (second-due laws x.script a.files a.others x.round a.p a.q a.limits a.at);
       knows = a.second_known;
       holds = a.second_holds;
@@ -271,7 +271,7 @@ follows-stays (Goes ts ends) (Ended us mid end left) rounds is count dlci role r
 follows-stays (Ended ts ends end left) next rounds is count dlci role round l =
     ap (λ z. slot_in dlci role (turns_in z) round) (sym is)
 
-pub counted : (c : Channel) (link : Link) (rounds : ℕ) (p : Progress) → Lasts c link rounds p → is_going p ≡ true
+pub counted : (c : Wire) (link : Link) (rounds : ℕ) (p : Progress) → Lasts c link rounds p → is_going p ≡ true
     → length (turns_in p) ≡ rounds
 counted c link rounds (Goes ts ends) l e = l.count
 counted c link rounds (Ended ts ends end left) l e = absurd (false≢true e)
@@ -279,19 +279,19 @@ counted c link rounds (Ended ts ends end left) l e = absurd (false≢true e)
 -- the pair once the first link has come farther,
 pub at-second : ScriptsHaveDelays → (script : ScriptValue) (files more others : Both (List ℕ)) (round : ℕ) (p next q : Progress)
     → IsInLimits script → PairAt script files others round round p q → Follows p next
-    → Lasts (first_channel script (turns_in q)) (link_of script more) (suc round) next
+    → Lasts (first_wire script (turns_in q)) (link_of script more) (suc round) next
     → PairAt script more others (suc round) round next q
 at-second delays script files more others round p next q h at follows l = record {
   first = l;
   second = same-lasts script second_dlci (after_first (turns_in p)) (after_first (turns_in next)) (delays script h) (link_of script others)
       round q (λ role r k. ap Some (follows-stays p next round follows
-      (counted (first_channel script (turns_in q)) (link_of script files) round p at.first) first_dlci role r k)) at.second;
+      (counted (first_wire script (turns_in q)) (link_of script files) round p at.first) first_dlci role r k)) at.second;
 }
 
 -- and once the second has
 pub at-first : ScriptsHaveDelays → (script : ScriptValue) (files others more : Both (List ℕ)) (round : ℕ) (p q next : Progress)
     → IsInLimits script → PairAt script files others (suc round) round p q → Follows q next
-    → Lasts (second_channel script (turns_in p)) (link_of script more) (suc round) next
+    → Lasts (second_wire script (turns_in p)) (link_of script more) (suc round) next
     → PairAt script files more (suc round) (suc round) p next
 at-first delays script files others more round p q next h at follows l = record {
   first = same-lasts script first_dlci (after_second (turns_in q)) (after_second (turns_in next)) (delays script h) (link_of script files)
@@ -302,7 +302,7 @@ at-first delays script files others more round p q next h at follows l = record 
     near : (role : Role) (r : ℕ) → r < suc round → after_second (turns_in q) role r ≡ after_second (turns_in next) role r
     near role zero k = refl
     near role (suc r) k = ap Some (follows-stays q next round follows
-        (counted (second_channel script (turns_in p)) (link_of script others) round q at.second) second_dlci role r (omega (arith, k)))
+        (counted (second_wire script (turns_in p)) (link_of script others) round q at.second) second_dlci role r (omega (arith, k)))
 
 -- what is on the line then
 pub after-first-turn : (sent : Turn) (round : ℕ) (p next q : Progress) → turns_on_line (suc round) next ≡ sent ∷ turns_on_line round p

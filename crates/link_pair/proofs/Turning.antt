@@ -11,13 +11,13 @@ use Rattle.roles.specs.Both.{Both, of}
 use Rattle.noise_script.specs.Script.{ScriptValue}
 use Rattle.link_run.specs.Run.{Link}
 use Rattle.link_run.specs.Trace.{trace_text}
-use Rattle.line_run.specs.Sampled.{Channel, LineEnd}
+use Rattle.line_run.specs.Sampled.{Wire, LineEnd}
 use Rattle.line_run.specs.Sampled as lines
-use Rattle.line_run.specs.Scripted.{channel_at, link_of}
+use Rattle.line_run.specs.Scripted.{wire_at, link_of}
 use Rattle.shared_line.specs.Lines.{LinesWait}
 use Rattle.shared_line.specs.declared.lines.Lines.{Lines}
 use Rattle.run_world.specs.Names.{Written, outputs_of}
-use Rattle.pair_run.specs.Beside.{first_dlci, second_dlci, after_second, after_first, first_channel, second_channel}
+use Rattle.pair_run.specs.Beside.{first_dlci, second_dlci, after_second, after_first, first_wire, second_wire}
 use Rattle.pair_run.specs.Pair.{Progress, Goes, Ended, turns_in, Lasts, PairAt}
 use Rattle.pair_run.specs.Ends.{Which, First, Second, is_going, LeavesOf, BothEnd, LineEnds, by_links, by_line}
 use Rattle.pair_run.specs.Ends as pairs
@@ -50,16 +50,16 @@ pub record Leaves (old new : FolderState) (n m : Written) (own : Written) : Type
 -- ---- the first link has come farther
 
 first-come : (x : Pair) (h : Half) (l : Lines) (old new : FolderState) (n m : Written) (a : Awaits x old n m First)
-    → HasCome h l (channel_at x.script x.first.dlci (after_second (turns_in a.q))) 2 (streams_at First x.round a.p a.q) new n x.round a.p
-    → HasCome h l (first_channel x.script (turns_in a.q)) 2 (streams_at First x.round a.p a.q) new n x.round a.p
+    → HasCome h l (wire_at x.script x.first.dlci (after_second (turns_in a.q))) 2 (streams_at First x.round a.p a.q) new n x.round a.p
+    → HasCome h l (first_wire x.script (turns_in a.q)) 2 (streams_at First x.round a.p a.q) new n x.round a.p
 first-come x h l old new n m a =
-    subst (λ d. HasCome h l (channel_at x.script d (after_second (turns_in a.q))) 2 (streams_at First x.round a.p a.q) new n x.round a.p)
+    subst (λ d. HasCome h l (wire_at x.script d (after_second (turns_in a.q))) 2 (streams_at First x.round a.p a.q) new n x.round a.p)
     a.first_dlci_is
 
 pub goes-to-second : PairLaws
     → (x : Pair) (h : Half) (l : Lines) (old new : FolderState) (n m : Written) (a : Awaits x old n m First) → Leaves old new n m n
     → h.dlci ≡ x.first.dlci → both_ended h.ended x.second.ended ≡ None
-    → HasCome h l (channel_at x.script x.first.dlci (after_second (turns_in a.q))) 2 (streams_at First x.round a.p a.q) new n x.round a.p
+    → HasCome h l (wire_at x.script x.first.dlci (after_second (turns_in a.q))) 2 (streams_at First x.round a.p a.q) new n x.round a.p
     → Awaits (first_moved x h l) new n m Second
 goes-to-second laws x h l old new n m a around same none came =
     let k = first-come x h l old new n m a came in
@@ -67,8 +67,8 @@ goes-to-second laws x h l old new n m a around same none came =
       limits = a.limits;
       first_dlci_is = same ∙ a.first_dlci_is;
       second_dlci_is = a.second_dlci_is;
-      first_channel_is = k.channel ∙ sym (same ∙ a.first_dlci_is);
-      second_channel_is = a.second_channel_is;
+      first_wire_is = k.channel ∙ sym (same ∙ a.first_dlci_is);
+      second_wire_is = a.second_wire_is;
       files = k.others;
       others = a.others;
       p = k.next;
@@ -77,7 +77,7 @@ goes-to-second laws x h l old new n m a around same none came =
       going = stands-going h.ended x.second.ended h.modems x.second.modems k.others a.others k.next a.q k.stands a.second none;
       first = k.stands;
       second = a.second;
-      lines = subst (LinesWait l (first_channel x.script (turns_in a.q)) 2) (sym (after-first-turn k.sent x.round a.p k.next a.q k.on_line))
+      lines = subst (LinesWait l (first_wire x.script (turns_in a.q)) 2) (sym (after-first-turn k.sent x.round a.p k.next a.q k.on_line))
           k.waits;
       first_known = k.knows;
       second_known = known-beside old new m n a.others beside around.only a.second_known;
@@ -86,7 +86,7 @@ goes-to-second laws x h l old new n m a around same none came =
     }
 
 -- both have ended: the later one in this round
-ended-before : (c : Channel) (files : Both (List ℕ)) (rounds : ℕ) (p : Progress) → Lasts c (link_of c.script files) rounds p
+ended-before : (c : Wire) (files : Both (List ℕ)) (rounds : ℕ) (p : Progress) → Lasts c (link_of c.script files) rounds p
     → is_going p ≡ false → length (turns_in p) < rounds
 ended-before c files rounds (Goes ts ends) l e = absurd (false≢true (sym e))
 ended-before c files rounds (Ended ts ends end left) l e = l.before
@@ -117,7 +117,7 @@ over-pair script files others firsts seconds p q endings at o e f =
 pub ends-first : PairLaws
     → (x : Pair) (h : Half) (l : Lines) (old new : FolderState) (n m : Written) (a : Awaits x old n m First) (endings : Endings)
     → Leaves old new n m n → both_ended h.ended x.second.ended ≡ Some endings
-    → HasCome h l (channel_at x.script x.first.dlci (after_second (turns_in a.q))) 2 (streams_at First x.round a.p a.q) new n x.round a.p
+    → HasCome h l (wire_at x.script x.first.dlci (after_second (turns_in a.q))) 2 (streams_at First x.round a.p a.q) new n x.round a.p
     → HaveEnded x.script new n m endings
 ends-first laws x h l old new n m a endings around some came = record {
   files = k.others;
@@ -134,7 +134,7 @@ ends-first laws x h l old new n m a endings around some came = record {
       (held-beside old new m n a.q (second-beside n m around.apart) around.only a.second_holds);
 }
   where
-    k : HasCome h l (first_channel x.script (turns_in a.q)) 2 (streams_at First x.round a.p a.q) new n x.round a.p
+    k : HasCome h l (first_wire x.script (turns_in a.q)) 2 (streams_at First x.round a.p a.q) new n x.round a.p
     k = first-come x h l old new n m a came
 
     o : AreOver endings k.next a.q
@@ -156,19 +156,19 @@ ends-first laws x h l old new n m a endings around some came = record {
     first-long : length o.ts ≡ x.round
     first-long = ap (λ z. length (turns_in z)) (sym o.first_is)
         ∙ ended-now a.p k.next x.round k.follows was (ap is_going o.first_is)
-        (counted (first_channel x.script (turns_in a.q)) (link_of x.script a.files) x.round a.p a.at.first was)
+        (counted (first_wire x.script (turns_in a.q)) (link_of x.script a.files) x.round a.p a.at.first was)
 
     second-short : length o.us < x.round
     second-short = subst (λ z. length (turns_in z) < x.round) o.second_is
-        (ended-before (second_channel x.script (turns_in a.p)) a.others x.round a.q a.at.second second-over)
+        (ended-before (second_wire x.script (turns_in a.p)) a.others x.round a.q a.at.second second-over)
 
 -- ---- the second link has
 
 second-come : (x : Pair) (h : Half) (l : Lines) (old new : FolderState) (n m : Written) (a : Awaits x old n m Second)
-    → HasCome h l (channel_at x.script x.second.dlci (after_first (turns_in a.p))) 2 (streams_at Second x.round a.p a.q) new m x.round a.q
-    → HasCome h l (second_channel x.script (turns_in a.p)) 2 (streams_at Second x.round a.p a.q) new m x.round a.q
+    → HasCome h l (wire_at x.script x.second.dlci (after_first (turns_in a.p))) 2 (streams_at Second x.round a.p a.q) new m x.round a.q
+    → HasCome h l (second_wire x.script (turns_in a.p)) 2 (streams_at Second x.round a.p a.q) new m x.round a.q
 second-come x h l old new n m a =
-    subst (λ d. HasCome h l (channel_at x.script d (after_first (turns_in a.p))) 2 (streams_at Second x.round a.p a.q) new m x.round a.q)
+    subst (λ d. HasCome h l (wire_at x.script d (after_first (turns_in a.p))) 2 (streams_at Second x.round a.p a.q) new m x.round a.q)
     a.second_dlci_is
 
 one-more : (round : ℕ) → suc round ≡ round + 1
@@ -177,21 +177,21 @@ one-more round = omega arith
 pub goes-to-first : PairLaws
     → (x : Pair) (h : Half) (l : Lines) (old new : FolderState) (n m : Written) (a : Awaits x old n m Second) → Leaves old new n m m
     → h.dlci ≡ x.second.dlci → both_ended x.first.ended h.ended ≡ None
-    → HasCome h l (channel_at x.script x.second.dlci (after_first (turns_in a.p))) 2 (streams_at Second x.round a.p a.q) new m x.round a.q
+    → HasCome h l (wire_at x.script x.second.dlci (after_first (turns_in a.p))) 2 (streams_at Second x.round a.p a.q) new m x.round a.q
     → Awaits (second_moved x h l) new n m First
 goes-to-first laws x h l old new n m a around same none came =
     let k = second-come x h l old new n m a came in
     let beside = first-beside n m around.apart in
     let long = length-on-line x.script first_dlci (after_second (turns_in a.q)) (link_of x.script a.files) (suc x.round) a.p a.at.first in
-    let waits : LinesWait l (first_channel x.script (turns_in k.next)) 2 (streams_at First (suc x.round) a.p k.next) =
-    subst (LinesWait l (first_channel x.script (turns_in k.next)) 2)
+    let waits : LinesWait l (first_wire x.script (turns_in k.next)) 2 (streams_at First (suc x.round) a.p k.next) =
+    subst (LinesWait l (first_wire x.script (turns_in k.next)) 2)
     (sym (after-second-turn k.sent x.round a.p a.q k.next long k.on_line))
     (waits-over l x.script second_dlci first_dlci (after_first (turns_in a.p)) (after_second (turns_in k.next)) 2 _ k.waits) in record {
       limits = a.limits;
       first_dlci_is = a.first_dlci_is;
       second_dlci_is = same ∙ a.second_dlci_is;
-      first_channel_is = a.first_channel_is;
-      second_channel_is = k.channel ∙ sym (same ∙ a.second_dlci_is);
+      first_wire_is = a.first_wire_is;
+      second_wire_is = k.channel ∙ sym (same ∙ a.second_dlci_is);
       files = a.files;
       others = k.others;
       p = a.p;
@@ -201,7 +201,7 @@ goes-to-first laws x h l old new n m a around same none came =
       going = stands-going x.first.ended h.ended x.first.modems h.modems a.files k.others a.p k.next a.first k.stands none;
       first = a.first;
       second = k.stands;
-      lines = subst (λ r. LinesWait l (first_channel x.script (turns_in k.next)) 2 (streams_at First r a.p k.next))
+      lines = subst (λ r. LinesWait l (first_wire x.script (turns_in k.next)) 2 (streams_at First r a.p k.next))
           (one-more x.round) waits;
       first_known = known-beside old new n m a.files beside around.only a.first_known;
       second_known = k.knows;
@@ -212,7 +212,7 @@ goes-to-first laws x h l old new n m a around same none came =
 pub ends-second : PairLaws
     → (x : Pair) (h : Half) (l : Lines) (old new : FolderState) (n m : Written) (a : Awaits x old n m Second) (endings : Endings)
     → Leaves old new n m m → both_ended x.first.ended h.ended ≡ Some endings
-    → HasCome h l (channel_at x.script x.second.dlci (after_first (turns_in a.p))) 2 (streams_at Second x.round a.p a.q) new m x.round a.q
+    → HasCome h l (wire_at x.script x.second.dlci (after_first (turns_in a.p))) 2 (streams_at Second x.round a.p a.q) new m x.round a.q
     → HaveEnded x.script new n m endings
 ends-second laws x h l old new n m a endings around some came = record {
   files = a.files;
@@ -229,7 +229,7 @@ ends-second laws x h l old new n m a endings around some came = record {
   second_holds = subst (HoldLeft new m) o.second_is k.holds;
 }
   where
-    k : HasCome h l (second_channel x.script (turns_in a.p)) 2 (streams_at Second x.round a.p a.q) new m x.round a.q
+    k : HasCome h l (second_wire x.script (turns_in a.p)) 2 (streams_at Second x.round a.p a.q) new m x.round a.q
     k = second-come x h l old new n m a came
 
     o : AreOver endings a.p k.next
@@ -251,11 +251,11 @@ ends-second laws x h l old new n m a endings around some came = record {
     second-long : length o.us ≡ x.round
     second-long = ap (λ z. length (turns_in z)) (sym o.second_is)
         ∙ ended-now a.q k.next x.round k.follows was (ap is_going o.second_is)
-        (counted (second_channel x.script (turns_in a.p)) (link_of x.script a.others) x.round a.q a.at.second was)
+        (counted (second_wire x.script (turns_in a.p)) (link_of x.script a.others) x.round a.q a.at.second was)
 
     first-short : length o.ts < suc x.round
     first-short = subst (λ z. length (turns_in z) < suc x.round) o.first_is
-        (ended-before (first_channel x.script (turns_in a.q)) a.files (suc x.round) a.p a.at.first first-over)
+        (ended-before (first_wire x.script (turns_in a.q)) a.files (suc x.round) a.p a.at.first first-over)
 
 -- ---- the pair ends in the turn of a link
 
@@ -269,10 +269,10 @@ leaves-none (Goes ts ends) = record { got_is = is; trace_is = sym (append-nil (t
 leaves-none (Ended ts ends end left) = (refl, sym (append-nil left.trace))
 
 line-first : (x : Pair) (old new : FolderState) (n m : Written) (a : Awaits x old n m First) (cause : LineEnd) → Leaves old new n m n
-    → IsEndedByLine (channel_at x.script x.first.dlci (after_second (turns_in a.q))) new n a.files x.round a.p cause
+    → IsEndedByLine (wire_at x.script x.first.dlci (after_second (turns_in a.q))) new n a.files x.round a.p cause
     → PairEnded x.script new n m (pairs.line_end x.round cause)
 line-first x old new n m a cause around e =
-    let k = subst (λ d. IsEndedByLine (channel_at x.script d (after_second
+    let k = subst (λ d. IsEndedByLine (wire_at x.script d (after_second
     (turns_in a.q))) new n a.files x.round a.p cause) a.first_dlci_is e in
     let beside = second-beside n m around.apart in record {
       files = a.files;
@@ -295,10 +295,10 @@ line-first x old new n m a cause around e =
     }
 
 line-second : (x : Pair) (old new : FolderState) (n m : Written) (a : Awaits x old n m Second) (cause : LineEnd) → Leaves old new n m m
-    → IsEndedByLine (channel_at x.script x.second.dlci (after_first (turns_in a.p))) new m a.others x.round a.q cause
+    → IsEndedByLine (wire_at x.script x.second.dlci (after_first (turns_in a.p))) new m a.others x.round a.q cause
     → PairEnded x.script new n m (pairs.line_end x.round cause)
 line-second x old new n m a cause around e =
-    let k = subst (λ d. IsEndedByLine (channel_at x.script d (after_first
+    let k = subst (λ d. IsEndedByLine (wire_at x.script d (after_first
     (turns_in a.p))) new m a.others x.round a.q cause) a.second_dlci_is e in
     let beside = first-beside n m around.apart in record {
       files = a.files;
@@ -321,12 +321,12 @@ line-second x old new n m a cause around e =
     }
 
 abbrev Stopping : Type 1
-Stopping = Channel → Link → FolderState → Written → ℕ → Progress → Type 0
+Stopping = Wire → Link → FolderState → Written → ℕ → Progress → Type 0
 
 stops-first : (S : Stopping) (x : Pair) (old new : FolderState) (n m : Written) (a : Awaits x old n m First) → Leaves old new n m n
-    → IsStopped S (channel_at x.script x.first.dlci (after_second (turns_in a.q))) new n x.round a.p → PairStops S x.script new n m
+    → IsStopped S (wire_at x.script x.first.dlci (after_second (turns_in a.q))) new n x.round a.p → PairStops S x.script new n m
 stops-first S x old new n m a around e =
-    let k = subst (λ d. IsStopped S (channel_at x.script d (after_second (turns_in a.q))) new n x.round a.p) a.first_dlci_is e in
+    let k = subst (λ d. IsStopped S (wire_at x.script d (after_second (turns_in a.q))) new n x.round a.p) a.first_dlci_is e in
     let beside = second-beside n m around.apart in record {
       link = First;
       round = x.round;
@@ -342,9 +342,9 @@ stops-first S x old new n m a around e =
     }
 
 stops-second : (S : Stopping) (x : Pair) (old new : FolderState) (n m : Written) (a : Awaits x old n m Second) → Leaves old new n m m
-    → IsStopped S (channel_at x.script x.second.dlci (after_first (turns_in a.p))) new m x.round a.q → PairStops S x.script new n m
+    → IsStopped S (wire_at x.script x.second.dlci (after_first (turns_in a.p))) new m x.round a.q → PairStops S x.script new n m
 stops-second S x old new n m a around e =
-    let k = subst (λ d. IsStopped S (channel_at x.script d (after_first (turns_in a.p))) new m x.round a.q) a.second_dlci_is e in
+    let k = subst (λ d. IsStopped S (wire_at x.script d (after_first (turns_in a.p))) new m x.round a.q) a.second_dlci_is e in
     let beside = first-beside n m around.apart in record {
       link = Second;
       round = x.round;
@@ -361,7 +361,7 @@ stops-second S x old new n m a around e =
 
 pub fault-first : (x : Pair) (old new : FolderState) (n m : Written) (a : Awaits x old n m First) (fault : PairFault)
     → Leaves old new n m n
-    → HalfEnds (channel_at x.script x.first.dlci (after_second (turns_in a.q))) new n a.files x.round a.p fault
+    → HalfEnds (wire_at x.script x.first.dlci (after_second (turns_in a.q))) new n a.files x.round a.p fault
     → FaultEnds x.script new n m fault
 fault-first x old new n m a faults.ReadFault around e = stops-first LinkStopsReading x old new n m a around e
 fault-first x old new n m a faults.WriteFault around e = stops-first LinkStops x old new n m a around e
@@ -373,7 +373,7 @@ fault-first x old new n m a (faults.ChanceMatch role turn) around e =
 
 pub fault-second : (x : Pair) (old new : FolderState) (n m : Written) (a : Awaits x old n m Second) (fault : PairFault)
     → Leaves old new n m m
-    → HalfEnds (channel_at x.script x.second.dlci (after_first (turns_in a.p))) new m a.others x.round a.q fault
+    → HalfEnds (wire_at x.script x.second.dlci (after_first (turns_in a.p))) new m a.others x.round a.q fault
     → FaultEnds x.script new n m fault
 fault-second x old new n m a faults.ReadFault around e = stops-second LinkStopsReading x old new n m a around e
 fault-second x old new n m a faults.WriteFault around e = stops-second LinkStops x old new n m a around e

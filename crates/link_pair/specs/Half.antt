@@ -10,11 +10,11 @@ use Rattle.noise_script.specs.Script.{ScriptValue, IsInLimits}
 use Rattle.link_account.specs.Account.{check_of}
 use Rattle.link_run.specs.Run.{Link, Accounts, Turn, start}
 use Rattle.link_run.specs.Trace.{trace_text}
-use Rattle.line_run.specs.Sampled.{Channel, LineEnd, EndsLine}
+use Rattle.line_run.specs.Sampled.{Wire, LineEnd, EndsLine}
 use Rattle.line_run.specs.Sampled as lines
 use Rattle.line_run.specs.Ends.{RunEnd, Left}
 use Rattle.line_run.specs.Ends as runs
-use Rattle.line_run.specs.Scripted.{channel_at, link_of}
+use Rattle.line_run.specs.Scripted.{wire_at, link_of}
 use Rattle.line_run.specs.Stream.{Carried, and_sent}
 use Rattle.shared_line.specs.Lines.{LinesWait, AreDue, PassedFew}
 use Rattle.shared_line.specs.declared.lines.Lines.{Lines}
@@ -92,11 +92,11 @@ HoldLeft f n p = HoldEach f (outputs_of n) (held_of (left_by p))
 -- these of so many links, its files are known as far as they were read, and its outputs hold what its turns left.
 pub record HalfAt (h : Half) (l : Lines) (f : FolderState) (n : Written) (script : ScriptValue) (beside : Role → ℕ → Option Signal)
     (links : ℕ) (streams : Both (List Carried)) (files : Both (List ℕ)) (round : ℕ) (p : Progress) : Type 0 where
-  pub lasts : Lasts (channel_at script h.dlci beside) (link_of script files) round p
+  pub lasts : Lasts (wire_at script h.dlci beside) (link_of script files) round p
   pub stands : StandsFor h.ended h.modems files p
   pub channel : h.modems.dlci ≡ h.dlci
-  pub waits : LinesWait l (channel_at script h.dlci beside) links streams
-  pub due : AreDue (channel_at script h.dlci beside) links (turns_on_line round p) streams
+  pub waits : LinesWait l (wire_at script h.dlci beside) links streams
+  pub due : AreDue (wire_at script h.dlci beside) links (turns_on_line round p) streams
   pub knows : KnowsFiles f n files
   pub holds : HoldLeft f n p
 
@@ -126,7 +126,7 @@ Follows (Goes ts ends) (Ended us mid end left) = us ≡ ts
 Follows (Ended ts ends end left) next = next ≡ Ended ts ends end left
 
 -- The link has come farther: what it sent stands behind what was sent on the line before, and its outputs hold what its turns leave now.
-pub record HasCome (h : Half) (l : Lines) (c : Channel) (links : ℕ) (streams : Both (List Carried)) (f : FolderState) (n : Written)
+pub record HasCome (h : Half) (l : Lines) (c : Wire) (links : ℕ) (streams : Both (List Carried)) (f : FolderState) (n : Written)
     (round : ℕ) (p : Progress) : Type 0 where
   pub others : Both (List ℕ)
   pub next : Progress
@@ -141,7 +141,7 @@ pub record HasCome (h : Half) (l : Lines) (c : Channel) (links : ℕ) (streams :
   pub holds : HoldLeft f n next
 
 -- The line ends the pair: a chance match is one line of the link's trace, also where the link has ended.
-pub record IsEndedByLine (c : Channel) (f : FolderState) (n : Written) (files : Both (List ℕ)) (round : ℕ) (p : Progress)
+pub record IsEndedByLine (c : Wire) (f : FolderState) (n : Written) (files : Both (List ℕ)) (round : ℕ) (p : Progress)
     (end : LineEnd) : Type 0 where
   pub is : EndsLine c (turns_on_line round p) (ends_in p) end
   pub knows : KnowsFiles f n files
@@ -150,24 +150,24 @@ pub record IsEndedByLine (c : Channel) (f : FolderState) (n : Written) (files : 
   pub holds : HoldEach f (outputs_of n) (held_of left)
 
 -- what the link's turn of a round adds to its outputs, whatever it comes to; one that has ended adds the line of a chance match alone
-abbrev pub AddsMore : Channel → Link → ℕ → Progress → Left → Type 0
+abbrev pub AddsMore : Wire → Link → ℕ → Progress → Left → Type 0
 AddsMore c link round (Goes ts ends) more = AddsTurn c link ts ends more ⊎ AddsChance c ts ends more
 AddsMore c link round (Ended ts ends end left) more = AddsChance c (turns_on_line round (Ended ts ends end left)) ends more
 
 -- The folder failed in it: the outputs hold what the turns before left, and a part of what this one adds.
-pub record LinkStops (c : Channel) (link : Link) (f : FolderState) (n : Written) (round : ℕ) (p : Progress) : Type 0 where
+pub record LinkStops (c : Wire) (link : Link) (f : FolderState) (n : Written) (round : ℕ) (p : Progress) : Type 0 where
   pub more : Left
   pub adds : AddsMore c link round p more
   pub holds : HoldPart f (outputs_of n) (held_of (left_by p)) (held_of more)
 
 -- It failed to read a file that is sent: the outputs hold all that both users are given in that turn, and nothing of its lines.
-pub record LinkStopsReading (c : Channel) (link : Link) (f : FolderState) (n : Written) (round : ℕ) (p : Progress) : Type 0 where
+pub record LinkStopsReading (c : Wire) (link : Link) (f : FolderState) (n : Written) (round : ℕ) (p : Progress) : Type 0 where
   pub stops : LinkStops c link f n round p
   pub adds : AddsTurn c link (turns_in p) (ends_in p) stops.more
   pub holds : HoldEach f (outputs_of n) (joined (held_of (left_by p)) (stops.more.got.orig ∷ stops.more.got.answ ∷ []))
 
 -- So the folder stopped the link, over its files as far as they were read then.
-pub record IsStopped (Stops : Channel → Link → FolderState → Written → ℕ → Progress → Type 0) (c : Channel) (f : FolderState) (n : Written)
+pub record IsStopped (Stops : Wire → Link → FolderState → Written → ℕ → Progress → Type 0) (c : Wire) (f : FolderState) (n : Written)
     (round : ℕ) (p : Progress) : Type 0 where
   pub others : Both (List ℕ)
   pub knows : KnowsFiles f n others
@@ -175,7 +175,7 @@ pub record IsStopped (Stops : Channel → Link → FolderState → Written → �
   pub stops : Stops c (link_of c.script others) f n round p
 
 -- why the pair ends in it
-abbrev pub HalfEnds : Channel → FolderState → Written → Both (List ℕ) → ℕ → Progress → PairFault → Type 0
+abbrev pub HalfEnds : Wire → FolderState → Written → Both (List ℕ) → ℕ → Progress → PairFault → Type 0
 HalfEnds c f n files round p faults.ReadFault = IsStopped LinkStopsReading c f n round p
 HalfEnds c f n files round p faults.WriteFault = IsStopped LinkStops c f n round p
 HalfEnds c f n files round p faults.NoMemory = IsStopped LinkStops c f n round p
@@ -183,7 +183,7 @@ HalfEnds c f n files round p (faults.LineLost role symbol) = IsEndedByLine c f n
 HalfEnds c f n files round p (faults.ChanceMatch role turn) =
     (turn ≡ round) × IsEndedByLine c f n files round p (lines.ChanceMatch role)
 
-abbrev pub HalfAnswers : Half → Lines → Channel → ℕ → Both (List Carried) → FolderState → Written → Both (List ℕ) → ℕ → Progress
+abbrev pub HalfAnswers : Half → Lines → Wire → ℕ → Both (List Carried) → FolderState → Written → Both (List ℕ) → ℕ → Progress
     → Result (Unit {0}) PairFault → Type 0
 HalfAnswers h l c links streams f n files round p (Ok done) = HasCome h l c links streams f n round p
 HalfAnswers h l c links streams f n files round p (Err fault) = HalfEnds c f n files round p fault

@@ -6,7 +6,7 @@ use Rattle.roles.specs.declared.role.Role.TheVariants.{Originator, Answerer}
 use Rattle.roles.specs.Both.{Both}
 use Rattle.noise_script.specs.Script.{ScriptValue, IsInLimits}
 use Rattle.link_run.specs.Run.{Link}
-use Rattle.line_run.specs.Sampled.{Channel}
+use Rattle.line_run.specs.Sampled.{Wire}
 use Rattle.line_run.specs.Ends.{Left}
 use Rattle.line_run.specs.Scripted.{link_of}
 use Rattle.line_run.specs.Stream.{Carried}
@@ -14,7 +14,7 @@ use Rattle.shared_line.specs.Lines.{LinesWait, none_sent}
 use Rattle.run_world.specs.Names.{Written, outputs_of, written}
 use Rattle.run_world.specs.Turns.{held_of}
 use Rattle.run_world.specs.World.{KnowsFiles}
-use Rattle.pair_run.specs.Beside.{first_dlci, second_dlci, first_channel, second_channel}
+use Rattle.pair_run.specs.Beside.{first_dlci, second_dlci, first_wire, second_wire}
 use Rattle.pair_run.specs.Pair.{Progress, turns_in, turns_on_line, PairAt}
 use Rattle.pair_run.specs.Ends.{Which, First, Second, PairEnd, LineLost, ChanceMatch, end_of, is_going, firsts_at, PairRunsTo}
 use Rattle.pair_run.specs.Stream.{both_sent, first_sent}
@@ -63,7 +63,7 @@ pub record IsFirst (x : Pair) : Type 0 where
   pub second_dlci_is : x.second.dlci ≡ second_dlci
   pub first : StandsFirst x.first x.script
   pub second : StandsFirst x.second x.script
-  pub lines : LinesWait x.lines (first_channel x.script []) 2 none_sent
+  pub lines : LinesWait x.lines (first_wire x.script []) 2 none_sent
 
 -- all that both links have sent as the turn of this one begins in a round
 abbrev pub streams_at : Which → ℕ → Progress → Progress → Both (List Carried)
@@ -82,8 +82,8 @@ pub record Awaits (x : Pair) (f : FolderState) (n m : Written) (link : Which) : 
   pub limits : IsInLimits x.script
   pub first_dlci_is : x.first.dlci ≡ first_dlci
   pub second_dlci_is : x.second.dlci ≡ second_dlci
-  pub first_channel_is : x.first.modems.dlci ≡ x.first.dlci
-  pub second_channel_is : x.second.modems.dlci ≡ x.second.dlci
+  pub first_wire_is : x.first.modems.dlci ≡ x.first.dlci
+  pub second_wire_is : x.second.modems.dlci ≡ x.second.dlci
   pub files : Both (List ℕ)
   pub others : Both (List ℕ)
   pub p : Progress
@@ -92,7 +92,7 @@ pub record Awaits (x : Pair) (f : FolderState) (n m : Written) (link : Which) : 
   pub going : (is_going p || is_going q) ≡ true
   pub first : StandsFor x.first.ended x.first.modems files p
   pub second : StandsFor x.second.ended x.second.modems others q
-  pub lines : LinesWait x.lines (first_channel x.script (turns_in q)) 2 (streams_at link x.round p q)
+  pub lines : LinesWait x.lines (first_wire x.script (turns_in q)) 2 (streams_at link x.round p q)
   pub first_known : KnowsFiles f n files
   pub second_known : KnowsFiles f m others
   pub first_holds : HoldLeft f n p
@@ -117,15 +117,15 @@ abbrev pub HaveEnded : ScriptValue → FolderState → Written → Written → E
 HaveEnded script f n m endings = PairEnded script f n m (end_of (run_end endings.first) (run_end endings.second))
 
 -- the folder failed in the turn of one link, and the outputs of the other hold what its turns left
-abbrev pub StopsTurn : (Channel → Link → FolderState → Written → ℕ → Progress → Type 0) → Which → ScriptValue → FolderState → Written
+abbrev pub StopsTurn : (Wire → Link → FolderState → Written → ℕ → Progress → Type 0) → Which → ScriptValue → FolderState → Written
     → Written → Both (List ℕ) → Both (List ℕ) → ℕ → Progress → Progress → Type 0
 StopsTurn Stops First script f n m files others round p q =
-    Stops (first_channel script (turns_in q)) (link_of script files) f n round p × HoldLeft f m q
+    Stops (first_wire script (turns_in q)) (link_of script files) f n round p × HoldLeft f m q
 StopsTurn Stops Second script f n m files others round p q =
-    HoldLeft f n p × Stops (second_channel script (turns_in p)) (link_of script others) f m round q
+    HoldLeft f n p × Stops (second_wire script (turns_in p)) (link_of script others) f m round q
 
 -- The folder failed in a round of the pair of a script and these files, in the turn of this link.
-pub record PairStops (Stops : Channel → Link → FolderState → Written → ℕ → Progress → Type 0) (script : ScriptValue) (f : FolderState)
+pub record PairStops (Stops : Wire → Link → FolderState → Written → ℕ → Progress → Type 0) (script : ScriptValue) (f : FolderState)
     (n m : Written) : Type 0 where
   pub link : Which
   pub round : ℕ

@@ -4,8 +4,8 @@ ghost use Rattle.roles.specs.declared.role.Role.{Role};
 ghost use Rattle.roles.specs.Both.{Both};
 ghost use Rattle.detection.specs.Slots.{Signal};
 ghost use Rattle.line_texts.specs.LineText.{chance_line};
-ghost use Rattle.line_run.specs.Sampled.{Channel};
-ghost use Rattle.line_run.specs.Scripted.{channel_at};
+ghost use Rattle.line_run.specs.Sampled.{Wire};
+ghost use Rattle.line_run.specs.Scripted.{wire_at};
 ghost use Rattle.line_run.specs.Stream.{Carried, and_sent};
 ghost use Rattle.outside_calls.specs.Folder.{Appended, PartlyAppended, OnlyWrites};
 ghost use Rattle.outside_calls.specs.Outputs.{AreApartFrom, OnlyPuts};
@@ -116,8 +116,8 @@ fn writing_fault(fault: FolderFault) -> PairFault
 /// Both ends of a link that has ended send flags.
 fn send_flags(lines: &mut Lines, dlci: u8)
     requires channel { dlci < 64 }
-    requires room { (c : Channel) × (links : ℕ) × (streams : Both (List Carried)) × HaveArrived lines.old c links streams }
-    ensures { (c : Channel) (links : ℕ) (streams : Both (List Carried)) → HaveArrived lines.old c links streams → c.dlci ≡ dlci
+    requires room { (c : Wire) × (links : ℕ) × (streams : Both (List Carried)) × HaveArrived lines.old c links streams }
+    ensures { (c : Wire) (links : ℕ) (streams : Both (List Carried)) → HaveArrived lines.old c links streams → c.dlci ≡ dlci
         → LinesWait lines.new c links (and_sent streams c.dlci idle_turn) }
 {
     let flags = Both {
@@ -195,7 +195,7 @@ impl Half {
         requires apart { AreApartFrom (inputs_of (written names.now)) (outputs_of (written names.now)) }
         ensures turn { (beside : Role → ℕ → Option Signal) (links : ℕ) (streams : Both (List Carried)) (files : Both (List ℕ)) (round : ℕ) (p : Progress)
             → HalfAt self.old lines.old (F.state folder.old) (written names.now) script.now beside links streams files round p
-            → HalfAnswers self.new lines.new (channel_at script.now self.old.dlci beside) links streams (F.state folder.new) (written names.now) files round p result }
+            → HalfAnswers self.new lines.new (wire_at script.now self.old.dlci beside) links streams (F.state folder.new) (written names.now) files round p result }
         ensures channel { self.new.dlci ≡ self.old.dlci }
         ensures only { OnlyPuts (F.state folder.old) (F.state folder.new) (outputs_of (written names.now)) }
         ensures came { F.came folder.old folder.new }
@@ -228,7 +228,7 @@ impl Half {
         requires apart { AreApartFrom (inputs_of (written names.now)) (outputs_of (written names.now)) }
         ensures turn { (beside : Role → ℕ → Option Signal) (links : ℕ) (streams : Both (List Carried)) (files : Both (List ℕ)) (p : Progress)
             → HalfAt self.old lines.old (F.state folder.old) (written names.now) script.now beside links streams files round p
-            → HalfAnswers self.new lines.new (channel_at script.now self.old.dlci beside) links streams (F.state folder.new) (written names.now) files round p result }
+            → HalfAnswers self.new lines.new (wire_at script.now self.old.dlci beside) links streams (F.state folder.new) (written names.now) files round p result }
         ensures channel { self.new.dlci ≡ self.old.dlci }
         ensures only { OnlyPuts (F.state folder.old) (F.state folder.new) (outputs_of (written names.now)) }
         ensures came { F.came folder.old folder.new }
@@ -265,7 +265,7 @@ impl Half {
         // what its turns leave; or it ends the pair.
         ensures turn { (beside : Role → ℕ → Option Signal) (links : ℕ) (streams : Both (List Carried)) (files : Both (List ℕ)) (p : Progress)
             → HalfAt self.old lines.old (F.state folder.old) (written names.now) script.now beside links streams files round p
-            → HalfAnswers self.new lines.new (channel_at script.now self.old.dlci beside) links streams (F.state folder.new) (written names.now) files round p result }
+            → HalfAnswers self.new lines.new (wire_at script.now self.old.dlci beside) links streams (F.state folder.new) (written names.now) files round p result }
         ensures channel { self.new.dlci ≡ self.old.dlci }
 
         // It touches its outputs alone, and a fault has its cause.

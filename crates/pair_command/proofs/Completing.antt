@@ -30,7 +30,7 @@ use Rattle.run_world.specs.Names.{Written}
 use Rattle.run_world.specs.Names as written
 use Rattle.run_world.specs.Turns.{held_of}
 use Rattle.run_command.specs.Completes.{NamesFew, IsUndisturbed}
-use Rattle.pair_run.specs.Beside.{first_channel, second_channel}
+use Rattle.pair_run.specs.Beside.{first_wire, second_wire}
 use Rattle.pair_run.specs.Ends.{PairEnd, BothDone, end_of, line_end, PairRunsTo, by_links, by_line}
 use Rattle.pair_run.specs.Laws.{OnePairResult, FaintPairsAreIsolated, EndsDone, UnstarvedPairsAreDone, QuietPairsAreDone}
 use Rattle.pair_command.specs.declared.command.LastTurns.{LastTurns}
@@ -174,8 +174,8 @@ few-done : DoneLaws → (script : ScriptValue) (files others : Both (List ℕ)) 
 few-done laws script files others h f end left leaves (by_links first second e is) =
     subst EndsDone (sym is)
     (laws.unstarved script files others first second left leaves h e
-    (λ g starved. laws.few (first_channel script e.us) files first left h e.at.first.ran (f.first first second left leaves e) g)
-    (λ g starved. laws.few (second_channel script e.ts) others second leaves h e.at.second.ran (f.second first second left leaves e) g))
+    (λ g starved. laws.few (first_wire script e.us) files first left h e.at.first.ran (f.first first second left leaves e) g)
+    (λ g starved. laws.few (second_wire script e.ts) others second leaves h e.at.second.ran (f.second first second left leaves e) g))
 few-done laws script files others h f end left leaves (by_line link round cause e is) =
     absurd (f.stays end left leaves (by_line link round cause e is) (subst IsByLine (sym is) (line-is round cause)))
 

@@ -14,7 +14,7 @@ use Rattle.roles.specs.Both.{Both, of}
 use Rattle.noise_script.specs.Script.{ScriptValue, IsInLimits, delay_of}
 use Rattle.link_run.specs.Laws.{agreed_srej}
 use Rattle.link_run.specs.Taken.{taken_octets}
-use Rattle.line_run.specs.Sampled.{Channel}
+use Rattle.line_run.specs.Sampled.{Wire}
 use Rattle.line_run.specs.Ends.{Left}
 use Rattle.line_run.specs.Scripted.{link_of}
 use Rattle.command_base.specs.declared.status.Status.{Status}
@@ -35,7 +35,7 @@ use Rattle.run_command.specs.Headline.{HoldsWhole}
 use Rattle.run_command.specs.ReadOff.{AreReadOff}
 use Rattle.run_command.proofs.Headline.{prefix-later}
 use Rattle.run_command.proofs.ReadingOff.{run-read, turns-read}
-use Rattle.pair_run.specs.Beside.{first_channel, second_channel}
+use Rattle.pair_run.specs.Beside.{first_wire, second_wire}
 use Rattle.pair_run.specs.Pair.{Progress, Goes, Ended, turns_in, Lasts}
 use Rattle.pair_run.specs.Ends.{PairEnd, BothDone, LinkLost, NotDetected, LineLost, ChanceMatch, LeavesOf, PairRunsTo, by_links, by_line}
 use Rattle.link_pair.specs.Half.{left_by}
@@ -52,7 +52,7 @@ use Rattle.pair_command.proofs.Prefixes.{HeadLaws, BothPrefix, may-run, runs-ove
 -- ---- one link of a pair that ended
 
 -- what is left of it is what passed
-passed : HeadLaws → (c : Channel) (files : Both (List ℕ)) (rounds : ℕ) (p : Progress) → IsInLimits c.script
+passed : HeadLaws → (c : Wire) (files : Both (List ℕ)) (rounds : ℕ) (p : Progress) → IsInLimits c.script
     → (l : Lasts c (link_of c.script files) rounds p) → (role : Role)
     → of role (left_by p).got ≡ taken_octets (agreed_srej (link_of c.script files)) (delay_of c.script) role (heard_in c files rounds p l)
 passed laws c files rounds (Goes ts ends) h l role =
@@ -61,18 +61,18 @@ passed laws c files rounds (Goes ts ends) h l role =
 passed laws c files rounds (Ended ts ends end left) h l role =
     laws.runs.passed c (link_of c.script files) end left (may-run laws c files h) l.ran role
 
-read-off : HeadLaws → (c : Channel) (files : Both (List ℕ)) (rounds : ℕ) (p : Progress) → (l : Lasts c (link_of c.script files) rounds p)
+read-off : HeadLaws → (c : Wire) (files : Both (List ℕ)) (rounds : ℕ) (p : Progress) → (l : Lasts c (link_of c.script files) rounds p)
     → AreReadOff c (heard_in c files rounds p l)
 read-off laws c files rounds (Goes ts ends) l = turns-read laws.runs.least c ts l.run.heard
 read-off laws c files rounds (Ended ts ends end left) l =
     run-read laws.runs.least c (link_of c.script files) l.ran.turns l.ran.ends end left l.ran.run l.ran.ended
 
-cause-in : HeadLaws → (c : Channel) (files : Both (List ℕ)) (rounds : ℕ) (p : Progress) → IsInLimits c.script
+cause-in : HeadLaws → (c : Wire) (files : Both (List ℕ)) (rounds : ℕ) (p : Progress) → IsInLimits c.script
     → (l : Lasts c (link_of c.script files) rounds p) → CauseIn c files rounds p l
 cause-in laws c files rounds (Goes ts ends) h l = tt
 cause-in laws c files rounds (Ended ts ends end left) h l = laws.runs.causes c files end left h l.ran
 
-link-ran : HeadLaws → (c : Channel) (files : Both (List ℕ)) (before new : FolderState) (n : Written) (rounds : ℕ) (p : Progress)
+link-ran : HeadLaws → (c : Wire) (files : Both (List ℕ)) (before new : FolderState) (n : Written) (rounds : ℕ) (p : Progress)
     (left : Left)
     → IsInLimits c.script → OnlyOutputs before new [] → (l : Lasts c (link_of c.script files) rounds p)
     → ((role : Role) → of role left.got ≡ of role (left_by p).got) → HoldEach before (written.outputs_of n) (held_of left)
@@ -127,10 +127,10 @@ ran-of laws old before new n end last e =
       runs = k.runs;
       came = came;
       came_is = refl;
-      first = link-ran laws (first_channel script
+      first = link-ran laws (first_wire script
           (turns_in came.q)) k.files before new n.first came.firsts came.p k.left e.takes.limits last
           came.at.first (first-same script k.files k.others end k.left k.leaves k.runs) k.first_holds;
-      second = link-ran laws (second_channel script
+      second = link-ran laws (second_wire script
           (turns_in came.p)) k.others before new n.second came.seconds came.q k.leaves e.takes.limits
           last came.at.second (second-same script k.files k.others end k.left k.leaves k.runs) k.second_holds;
     }

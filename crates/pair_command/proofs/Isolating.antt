@@ -12,7 +12,7 @@ use Rattle.noise_script.specs.Grammar.{ScriptSpelling}
 use Rattle.noise_script.specs.Laws.{ScriptsAreOne, BreaksAreOctets}
 use Rattle.line_run.specs.Ends.{RunEnd, Left, OneResult}
 use Rattle.line_run.specs.Ends as runs
-use Rattle.line_run.specs.Scripted.{channel_of, link_of}
+use Rattle.line_run.specs.Scripted.{wire_of, link_of}
 use Rattle.line_ends.specs.Completes.{ScriptRunsTo, DisplacesNoneIsFaint}
 use Rattle.command_base.specs.declared.status.Status.{Status}
 use Rattle.command_base.specs.declared.status.Status.TheVariants as status
@@ -111,7 +111,7 @@ same-run laws was before then w m text script files new end o r spelled spelt sa
     let run : ScriptRunsTo script files end r.left =
     subst (λ (s : ScriptValue). ScriptRunsTo s files end r.left) (sym scripts)
     (subst (λ (f : Both (List ℕ)). ScriptRunsTo r.script f end r.left) (sym same) r.run) in
-    let one = laws.result (channel_of script) (link_of script files) o.end end o.left r.left o.runs run in
+    let one = laws.result (wire_of script) (link_of script files) o.end end o.left r.left o.runs run in
     let holds : HoldEach then (written.outputs_of w) (held_of o.left) =
     subst (λ (l : Left). HoldEach then (written.outputs_of w) (held_of l)) (sym one.1)
     (subst (λ (ns : List (List ℕ)). HoldEach then ns (held_of r.left)) names

@@ -15,7 +15,7 @@ use Rattle.link_run.specs.End.{deliveries}
 use Rattle.link_run.specs.Run.{Link, Accounts, Turn, Hears}
 use Rattle.link_run.specs.Outcomes.{Outcome, Going, Done, Broken, TurnIs}
 use Rattle.link_run.specs.Laws.{RunsOver, HoldPrefixes, TakesWhatPassed}
-use Rattle.line_run.specs.Sampled.{Channel, LineRun}
+use Rattle.line_run.specs.Sampled.{Wire, LineRun}
 use Rattle.line_run.specs.Ends.{Left, MayRun}
 use Rattle.line_run.specs.Scripted.{link_of}
 use Rattle.command_base.specs.declared.stop.Stop.{Stop}
@@ -26,7 +26,7 @@ use Rattle.run_world.specs.Names as written
 use Rattle.run_world.specs.Turns.{AddsTurn, held_of}
 use Rattle.run_command.specs.Headline.{KeptOrPrefix}
 use Rattle.run_command.proofs.Prefixes.{RunLaws, prefix-of, part-of, empty-of}
-use Rattle.pair_run.specs.Beside.{first_channel, second_channel}
+use Rattle.pair_run.specs.Beside.{first_wire, second_wire}
 use Rattle.pair_run.specs.Pair.{Progress, Goes, Ended, turns_in, Lasts, PairAt}
 use Rattle.pair_run.specs.Ends.{Which, First, Second, BothDone, firsts_at}
 use Rattle.pair_run.specs.Laws.{ArePrefixes, PairsLeavePrefixes, DonePairsAreWhole}
@@ -45,10 +45,10 @@ pub record HeadLaws : Type 0 where
   pub prefixes : PairsLeavePrefixes
   pub whole : DonePairsAreWhole
 
-pub may-run : HeadLaws → (c : Channel) (files : Both (List ℕ)) → IsInLimits c.script → MayRun c (link_of c.script files)
+pub may-run : HeadLaws → (c : Wire) (files : Both (List ℕ)) → IsInLimits c.script → MayRun c (link_of c.script files)
 may-run laws c files h = record { may_play = laws.runs.play c.script files h; delays = laws.runs.delays c.script h }
 
-pub runs-over : HeadLaws → (c : Channel) (files : Both (List ℕ)) (ts : List Turn) (ends : Accounts) → IsInLimits c.script
+pub runs-over : HeadLaws → (c : Wire) (files : Both (List ℕ)) (ts : List Turn) (ends : Accounts) → IsInLimits c.script
     → LineRun c (link_of c.script files) ts ends → RunsOver (link_of c.script files) (delay_of c.script) ts ends
 runs-over laws c files ts ends h r = record {
   may_play = laws.runs.play c.script files h;
@@ -69,7 +69,7 @@ given-is ts ends Originator = refl
 given-is ts ends Answerer = refl
 
 -- what is left of a link
-pub left-prefixes : HeadLaws → (c : Channel) (files : Both (List ℕ)) (rounds : ℕ) (p : Progress) → IsInLimits c.script
+pub left-prefixes : HeadLaws → (c : Wire) (files : Both (List ℕ)) (rounds : ℕ) (p : Progress) → IsInLimits c.script
     → Lasts c (link_of c.script files) rounds p → ArePrefixes (left_by p) files
 left-prefixes laws c files rounds (Goes ts ends) h l role =
     same-prefix c.script files role (of role (left_by (Goes ts ends)).got)
@@ -86,7 +86,7 @@ hears-of link ts ends t mid Done l = l.hearing
 hears-of link ts ends t mid (Broken role fault) b = b.hearing
 
 -- and of it with what a turn adds
-turn-prefix : HeadLaws → (c : Channel) (files : Both (List ℕ)) (ts : List Turn) (ends : Accounts) (more : Left) → IsInLimits c.script
+turn-prefix : HeadLaws → (c : Wire) (files : Both (List ℕ)) (ts : List Turn) (ends : Accounts) (more : Left) → IsInLimits c.script
     → LineRun c (link_of c.script files) ts ends → AddsTurn c (link_of c.script files) ts ends more → (role : Role)
     → IsPrefixOf (of role (left_by (Goes ts ends)).got ++ of role more.got) (of (other role) files)
 turn-prefix laws c files ts ends more h run a role =
@@ -107,7 +107,7 @@ none-prefix : (files : Both (List ℕ)) (left more : Left) → ArePrefixes left 
 none-prefix files left more h role e =
     subst (λ x. IsPrefixOf x (of (other role) files)) (sym (ap (λ x. of role left.got ++ x) e ∙ append-nil (of role left.got))) (h role)
 
-more-prefixes : HeadLaws → (c : Channel) (files : Both (List ℕ)) (f : FolderState) (n : Written) (rounds : ℕ) (p : Progress)
+more-prefixes : HeadLaws → (c : Wire) (files : Both (List ℕ)) (f : FolderState) (n : Written) (rounds : ℕ) (p : Progress)
     → IsInLimits c.script → Lasts c (link_of c.script files) rounds p → (s : LinkStops c (link_of c.script files) f n rounds p)
     → (role : Role)
     → IsPrefixOf (of role (left_by p).got ++ of role s.more.got) (of (other role) files)
@@ -152,7 +152,7 @@ part-a f n left more (inl h) = part-none f n.got_a left.got.answ more.got.answ h
 part-a f n left more (inr (o, inl h)) = h.0
 part-a f n left more (inr (o, inr h)) = part-all f n.got_a left.got.answ more.got.answ h.0
 
-link-stopped : HeadLaws → (old before : FolderState) (n : Written) (c : Channel) (files : Both (List ℕ)) (rounds : ℕ) (p : Progress)
+link-stopped : HeadLaws → (old before : FolderState) (n : Written) (c : Wire) (files : Both (List ℕ)) (rounds : ℕ) (p : Progress)
     → GoesOn old before → IsInLimits c.script → AreFiles old n files → Lasts c (link_of c.script files) rounds p
     → LinkStops c (link_of c.script files) before n rounds p → LinkPrefix old before n
 link-stopped laws old before n c files rounds p g h are l s = record {
@@ -181,9 +181,9 @@ both-ran laws old before n result g e =
 
 -- the folder failed in a round
 abbrev Stopping : Type 1
-Stopping = Channel → Link → FolderState → Written → ℕ → Progress → Type 0
+Stopping = Wire → Link → FolderState → Written → ℕ → Progress → Type 0
 
-both-stopped : (S : Stopping) → ((c : Channel) (link : Link) (f : FolderState) (n : Written) (rounds : ℕ) (p : Progress)
+both-stopped : (S : Stopping) → ((c : Wire) (link : Link) (f : FolderState) (n : Written) (rounds : ℕ) (p : Progress)
     → S c link f n rounds p
     → LinkStops c link f n rounds p)
     → HeadLaws → (old before : FolderState) (n : Names) → GoesOn old before → StopsInRound S LIMITS old before n → BothPrefix old before n
@@ -195,11 +195,11 @@ both-stopped S to laws old before n g e = by e.stops.link e.stops.at e.stops.sto
     q : Progress
     q = e.stops.q
 
-    c : Channel
-    c = first_channel e.script (turns_in q)
+    c : Wire
+    c = first_wire e.script (turns_in q)
 
-    d : Channel
-    d = second_channel e.script (turns_in p)
+    d : Wire
+    d = second_wire e.script (turns_in p)
 
     files : Both (List ℕ)
     files = e.stops.files

@@ -7,7 +7,7 @@ use Rattle.outside_calls.proofs.Putting.{KeepsEach-reads, SomeRose-earlier, inpu
 use Rattle.roles.specs.Both.{Both}
 use Rattle.noise_script.specs.Script.{ScriptValue, IsInLimits}
 use Rattle.link_run.specs.Run.{Link}
-use Rattle.line_run.specs.Sampled.{Channel}
+use Rattle.line_run.specs.Sampled.{Wire}
 use Rattle.line_run.specs.Scripted.{link_of}
 use Rattle.line_run.specs.Scripts.{LineRunsEndSoon}
 use Rattle.run_world.specs.Names.{Written}
@@ -20,7 +20,7 @@ use Rattle.run_inputs.specs.declared.limits.Limits.{Limits}
 use Rattle.run_inputs.specs.declared.limits.TheConstants.{LIMITS}
 use Rattle.run_inputs.specs.Inputs.{Refuses}
 use Rattle.run_command.proofs.Runs.{file-is}
-use Rattle.pair_run.specs.Beside.{first_channel, second_channel}
+use Rattle.pair_run.specs.Beside.{first_wire, second_wire}
 use Rattle.pair_run.specs.Pair.{Progress, Goes, Ended, turns_in, Lasts}
 use Rattle.pair_run.specs.Ends.{PairEnd, BothDone, LinkLost, NotDetected, LineLost, ChanceMatch}
 use Rattle.link_pair.specs.declared.half.PairFault.{PairFault}
@@ -108,13 +108,13 @@ ran-to old mid now next n script end p e = record {
 }
 
 -- each link made few turns
-pub few-of : LineRunsEndSoon → (c : Channel) (files : Both (List ℕ)) (rounds : ℕ) (p : Progress) → IsInLimits c.script
+pub few-of : LineRunsEndSoon → (c : Wire) (files : Both (List ℕ)) (rounds : ℕ) (p : Progress) → IsInLimits c.script
     → (l : Lasts c (link_of c.script files) rounds p) → IsFew c files rounds p l
 few-of soon c files rounds (Goes ts ends) h l = soon c files ts ends h l.run
 few-of soon c files rounds (Ended ts ends end left) h l = soon c files l.ran.turns l.ran.ends h l.ran.run
 
 abbrev Stopping : Type 1
-Stopping = Channel → Link → FolderState → Written → ℕ → Progress → Type 0
+Stopping = Wire → Link → FolderState → Written → ℕ → Progress → Type 0
 
 -- or for the folder
 stops-in : (S : Stopping) → LineRunsEndSoon → (old mid now next : FolderState) (n : Names) (script : ScriptValue)
@@ -123,8 +123,8 @@ stops-in S soon old mid now next n script p s = record {
   script = script;
   stops = s;
   takes = takes old mid now next n script s.files s.others p s.first_known s.second_known;
-  first_few = few-of soon (first_channel script (turns_in s.q)) s.files _ s.p p.begun.limits s.at.first;
-  second_few = few-of soon (second_channel script (turns_in s.p)) s.others _ s.q p.begun.limits s.at.second;
+  first_few = few-of soon (first_wire script (turns_in s.q)) s.files _ s.p p.begun.limits s.at.first;
+  second_few = few-of soon (second_wire script (turns_in s.p)) s.others _ s.q p.begun.limits s.at.second;
 }
 
 -- a fault ended the rounds

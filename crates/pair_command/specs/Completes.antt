@@ -18,7 +18,7 @@ use Rattle.run_world.specs.Names.{Written}
 use Rattle.run_world.specs.Names as written
 use Rattle.run_world.specs.Turns.{held_of}
 use Rattle.run_command.specs.Completes.{NamesFew, IsUndisturbed}
-use Rattle.pair_run.specs.Beside.{first_channel, second_channel}
+use Rattle.pair_run.specs.Beside.{first_wire, second_wire}
 use Rattle.pair_run.specs.Ends.{PairEnd, BothDone, LinkLost, NotDetected, LineLost, ChanceMatch, BothEnd, PairRunsTo}
 use Rattle.pair_command.specs.Words.{Names, inputs_of, outputs_of}
 use Rattle.pair_command.specs.Answers.{answer_of}
@@ -39,12 +39,12 @@ LineStays script files others = (end : PairEnd) (left leaves : Left) → PairRun
 abbrev pub first_heard : (script : ScriptValue) (files others : Both (List ℕ)) (a b : RunEnd) (left leaves : Left)
     → BothEnd script files others a b left leaves → List Turn
 first_heard script files others a b left leaves e =
-    turns_heard (first_channel script e.us) (link_of script files) e.at.first.ran.turns e.at.first.ran.ends a left e.at.first.ran.ended
+    turns_heard (first_wire script e.us) (link_of script files) e.at.first.ran.turns e.at.first.ran.ends a left e.at.first.ran.ended
 
 abbrev pub second_heard : (script : ScriptValue) (files others : Both (List ℕ)) (a b : RunEnd) (left leaves : Left)
     → BothEnd script files others a b left leaves → List Turn
 second_heard script files others a b left leaves e =
-    turns_heard (second_channel script e.ts)
+    turns_heard (second_wire script e.ts)
     (link_of script others) e.at.second.ran.turns e.at.second.ran.ends b leaves e.at.second.ran.ended
 
 -- The line doesn't end the pair, and losses don't go on for so long at a link that one of its ends gives up.

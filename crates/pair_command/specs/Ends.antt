@@ -7,7 +7,7 @@ use Rattle.outside_calls.specs.Outputs.{KeepsAll, SaysNothing, CreatesPart, Some
 use Rattle.roles.specs.Both.{Both}
 use Rattle.noise_script.specs.Script.{ScriptValue, IsInLimits}
 use Rattle.link_run.specs.Run.{Link}
-use Rattle.line_run.specs.Sampled.{Channel}
+use Rattle.line_run.specs.Sampled.{Wire}
 use Rattle.line_run.specs.Scripted.{link_of}
 use Rattle.line_run.specs.Scripts.{HasFewTurns}
 use Rattle.run_world.specs.Link.{AreWithin}
@@ -20,7 +20,7 @@ use Rattle.command_base.specs.Lines.{both_done_line}
 use Rattle.run_inputs.specs.declared.limits.Limits.{Limits}
 use Rattle.run_inputs.specs.declared.limits.TheConstants.{LIMITS}
 use Rattle.run_inputs.specs.Inputs.{Opens, RefusesOwn, FailsToRead}
-use Rattle.pair_run.specs.Beside.{first_channel, second_channel}
+use Rattle.pair_run.specs.Beside.{first_wire, second_wire}
 use Rattle.pair_run.specs.Pair.{Progress, Goes, Ended, turns_in, Lasts}
 use Rattle.pair_run.specs.Ends.{PairEnd, BothDone}
 use Rattle.link_pair.specs.Half.{LinkStops, LinkStopsReading}
@@ -56,18 +56,18 @@ pub record RanTo (l : Limits) (old new : FolderState) (n : Names) (end : PairEnd
   pub takes : Takes l old n script ended.files ended.others
 
 -- a link that has come so far made few turns
-abbrev pub IsFew : (c : Channel) (files : Both (List ℕ)) (rounds : ℕ) (p : Progress) → Lasts c (link_of c.script files) rounds p → Type 0
+abbrev pub IsFew : (c : Wire) (files : Both (List ℕ)) (rounds : ℕ) (p : Progress) → Lasts c (link_of c.script files) rounds p → Type 0
 IsFew c files rounds (Goes ts ends) l = HasFewTurns c.script files ts ends
 IsFew c files rounds (Ended ts ends end left) l = HasFewTurns c.script files l.ran.turns l.ran.ends
 
 -- The folder failed in a round of the pair of the inputs, behind few rounds.
-pub record StopsInRound (Stops : Channel → Link → FolderState → Written → ℕ → Progress → Type 0) (l : Limits) (old new : FolderState)
+pub record StopsInRound (Stops : Wire → Link → FolderState → Written → ℕ → Progress → Type 0) (l : Limits) (old new : FolderState)
     (n : Names) : Type 0 where
   pub script : ScriptValue
   pub stops : PairStops Stops script new n.first n.second
   pub takes : Takes l old n script stops.files stops.others
-  pub first_few : IsFew (first_channel script (turns_in stops.q)) stops.files _ stops.p stops.at.first
-  pub second_few : IsFew (second_channel script (turns_in stops.p)) stops.others _ stops.q stops.at.second
+  pub first_few : IsFew (first_wire script (turns_in stops.q)) stops.files _ stops.p stops.at.first
+  pub second_few : IsFew (second_wire script (turns_in stops.p)) stops.others _ stops.q stops.at.second
 
 -- An output was not created, once the inputs were opened.
 pub record StopsCreating (l : Limits) (old new : FolderState) (n : Names) : Type 0 where

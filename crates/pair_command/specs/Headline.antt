@@ -9,7 +9,7 @@ use Rattle.noise_script.specs.Grammar.{ScriptSpelling}
 use Rattle.link_run.specs.Run.{Turn}
 use Rattle.link_run.specs.Laws.{agreed_srej}
 use Rattle.link_run.specs.Taken.{taken_octets}
-use Rattle.line_run.specs.Sampled.{Channel}
+use Rattle.line_run.specs.Sampled.{Wire}
 use Rattle.line_run.specs.Ends.{Left, turns_heard}
 use Rattle.line_run.specs.Scripted.{link_of}
 use Rattle.line_ends.specs.Causes.{HasCause}
@@ -20,7 +20,7 @@ use Rattle.command_base.specs.Lines.{both_done_line}
 use Rattle.run_world.specs.Names.{Written}
 use Rattle.run_command.specs.Headline.{KeptOrPrefix, HoldsWhole}
 use Rattle.run_command.specs.ReadOff.{AreReadOff}
-use Rattle.pair_run.specs.Beside.{first_channel, second_channel}
+use Rattle.pair_run.specs.Beside.{first_wire, second_wire}
 use Rattle.pair_run.specs.Pair.{Progress, Goes, Ended, turns_in, Lasts, PairAt}
 use Rattle.pair_run.specs.Ends.{Which, PairEnd, BothDone, LinkLost, NotDetected, LineLost, ChanceMatch, firsts_at, PairRunsTo}
 use Rattle.pair_run.specs.Ends.{by_links, by_line}
@@ -31,19 +31,19 @@ use Rattle.pair_command.specs.Ends.{AreFiles, IsFew}
 -- ---- one link
 
 -- the turns in which its ends heard something: the last one too, where it ended
-abbrev pub heard_in : (c : Channel) (files : Both (List ℕ)) (rounds : ℕ) (p : Progress) → Lasts c (link_of c.script files) rounds p
+abbrev pub heard_in : (c : Wire) (files : Both (List ℕ)) (rounds : ℕ) (p : Progress) → Lasts c (link_of c.script files) rounds p
     → List Turn
 heard_in c files rounds (Goes ts ends) l = ts
 heard_in c files rounds (Ended ts ends end left) l = turns_heard c (link_of c.script files) l.ran.turns l.ran.ends end left l.ran.ended
 
 -- where it ended, it did so for its cause: no link was given up but for losses that went on
-abbrev pub CauseIn : (c : Channel) (files : Both (List ℕ)) (rounds : ℕ) (p : Progress) → Lasts c (link_of c.script files) rounds p → Type 0
+abbrev pub CauseIn : (c : Wire) (files : Both (List ℕ)) (rounds : ℕ) (p : Progress) → Lasts c (link_of c.script files) rounds p → Type 0
 CauseIn c files rounds (Goes ts ends) l = Unit {0}
 CauseIn c files rounds (Ended ts ends end left) l = HasCause c files end left l.ran
 
 -- A link of a pair came so far: each outcome was read off the line, the received files hold what passed by the numbers that were meant, the
 -- trace holds what is left of it, there were few turns, and its end has its cause.
-pub record LinkRan (c : Channel) (files : Both (List ℕ)) (f : FolderState) (n : Written) (rounds : ℕ) (p : Progress)
+pub record LinkRan (c : Wire) (files : Both (List ℕ)) (f : FolderState) (n : Written) (rounds : ℕ) (p : Progress)
     (l : Lasts c (link_of c.script files) rounds p) (left : Left) : Type 0 where
   pub read_off : AreReadOff c (heard_in c files rounds p l)
   pub got_o : Holds f n.got_o
@@ -91,8 +91,8 @@ pub record Ran (old new : FolderState) (n : Names) (end : PairEnd) : Type 0 wher
   pub runs : PairRunsTo script files others end left leaves
   pub came : Came script files others
   pub came_is : came ≡ came_of script files others end left leaves runs
-  pub first : LinkRan (first_channel script (turns_in came.q)) files new n.first came.firsts came.p came.at.first left
-  pub second : LinkRan (second_channel script (turns_in came.p)) others new n.second came.seconds came.q came.at.second leaves
+  pub first : LinkRan (first_wire script (turns_in came.q)) files new n.first came.firsts came.p came.at.first left
+  pub second : LinkRan (second_wire script (turns_in came.p)) others new n.second came.seconds came.q came.at.second leaves
 
 -- the pair, where the answer is one by which a pair itself ends; done says the last turns of both links
 abbrev pub RanBy : FolderState → FolderState → Names → Status → Type 0

@@ -20,7 +20,7 @@ use Rattle.line_run.specs.Sampled.{HeardIn, IsHeardOver, LineRun}
 use Rattle.line_run.specs.Ends.{RunEnd, IsDone, LinkLost, NotDetected, LineLost, ChanceMatch, Left, EndsInTurn, EndsBy}
 use Rattle.line_run.proofs.Slots.{SentAgo, sent-ago}
 use Rattle.pair_run.specs.Beside.{signal_or_flags, slot_in, lasting}
-use Rattle.line_run.specs.Scripted.{channel_at}
+use Rattle.line_run.specs.Scripted.{wire_at}
 use Rattle.pair_run.specs.Pair.{last_ends, IsByLink, Progress, Goes, Ended, HearsIdly, IdlesFor, Lasts}
 use Rattle.pair_run.proofs.Clear.{Beside, bits_in}
 
@@ -32,33 +32,33 @@ fewer : (m n : ℕ) (b d : Beside) → m ≤ n → SameBelow n b d → SameBelow
 fewer m n b d l h = λ role round k. h role round (omega (arith, l, k))
 
 pub same-signals : (script : ScriptValue) (dlci : ℕ) (b d : Beside) (role : Role) (ts : List Turn) → SameBelow (length ts) b d
-    → signals (channel_at script dlci b) role ts ≡ signals (channel_at script dlci d) role ts
+    → signals (wire_at script dlci b) role ts ≡ signals (wire_at script dlci d) role ts
 same-signals script dlci b d role [] h = refl
 same-signals script dlci b d role (t ∷ ts) h =
-    let sent = signal_in (channel_at script dlci b) role (of role t).sent in
+    let sent = signal_in (wire_at script dlci b) role (of role t).sent in
     ap (λ l. and_then l (b role (length ts)) ++ sent)
     (same-signals script dlci b d role ts (fewer (length ts) (suc (length ts)) b d (omega arith) h))
-    ∙ ap (λ o. and_then (signals (channel_at script dlci d) role ts) o ++ sent) (h role (length ts) (omega arith))
+    ∙ ap (λ o. and_then (signals (wire_at script dlci d) role ts) o ++ sent) (h role (length ts) (omega arith))
 
 pub same-before : (script : ScriptValue) (dlci : ℕ) (b d : Beside) (role : Role) (ts : List Turn) → SameBelow (suc (length ts)) b d
-    → signals_before (channel_at script dlci b) role ts ≡ signals_before (channel_at script dlci d) role ts
+    → signals_before (wire_at script dlci b) role ts ≡ signals_before (wire_at script dlci d) role ts
 same-before script dlci b d role ts h =
     ap (λ l. and_then l (b role (length ts)))
     (same-signals script dlci b d role ts (fewer (length ts) (suc (length ts)) b d (omega arith) h))
-    ∙ ap (and_then (signals (channel_at script dlci d) role ts)) (h role (length ts) (omega arith))
+    ∙ ap (and_then (signals (wire_at script dlci d) role ts)) (h role (length ts) (omega arith))
 
 -- what is heard
 pub same-of : (script : ScriptValue) (dlci : ℕ) (b d : Beside) → ((role : Role) → 1 ≤ delay_of script role)
     → (sender : Role) (ts : List Turn) (hearing : Check) (heard : Heard) → SameBelow (length ts) b d
-    → IsHeardOf (channel_at script dlci b) sender ts hearing heard → IsHeardOf (channel_at script dlci d) sender ts hearing heard
+    → IsHeardOf (wire_at script dlci b) sender ts hearing heard → IsHeardOf (wire_at script dlci d) sender ts hearing heard
 same-of script dlci b d delays sender ts hearing heard s = go (sent_ago delay sender ts) refl
   where
     delay : ℕ
     delay = delay_of script sender
 
     go : (o : Option Spoken) → sent_ago delay sender ts ≡ o
-        → ArrivesAs (channel_at script dlci b) sender (drop delay ts) (drop (delay - 1) ts) hearing o heard
-        → ArrivesAs (channel_at script dlci d) sender (drop delay ts) (drop (delay - 1) ts) hearing o heard
+        → ArrivesAs (wire_at script dlci b) sender (drop delay ts) (drop (delay - 1) ts) hearing o heard
+        → ArrivesAs (wire_at script dlci d) sender (drop delay ts) (drop (delay - 1) ts) hearing o heard
     go None e a = a
     go (Some slot) e a =
         let x : SentAgo sender delay ts slot = sent-ago sender delay ts slot (delays sender) e in
@@ -79,28 +79,28 @@ same-of script dlci b d delays sender ts hearing heard s = go (sent_ago delay se
         }
 
 same-in : (script : ScriptValue) (dlci : ℕ) (b d : Beside) → ((role : Role) → 1 ≤ delay_of script role) → (ts : List Turn) (t : Turn)
-    → SameBelow (length ts) b d → HeardIn (channel_at script dlci b) ts t → HeardIn (channel_at script dlci d) ts t
+    → SameBelow (length ts) b d → HeardIn (wire_at script dlci b) ts t → HeardIn (wire_at script dlci d) ts t
 same-in script dlci b d delays ts t s h role = record {
   heard_of = same-of script dlci b d delays (other role) ts (of role t).check (of role t).heard s (h role).heard_of;
   well = (h role).well;
 }
 
 same-over : (script : ScriptValue) (dlci : ℕ) (b d : Beside) → ((role : Role) → 1 ≤ delay_of script role) → (ts : List Turn)
-    → SameBelow (length ts) b d → IsHeardOver (channel_at script dlci b) ts → IsHeardOver (channel_at script dlci d) ts
+    → SameBelow (length ts) b d → IsHeardOver (wire_at script dlci b) ts → IsHeardOver (wire_at script dlci d) ts
 same-over script dlci b d delays [] s h = tt
 same-over script dlci b d delays (t ∷ ts) s h =
     let few : SameBelow (length ts) b d = fewer (length ts) (suc (length ts)) b d (omega arith) s in
     (same-in script dlci b d delays ts t few h.0, same-over script dlci b d delays ts few h.1)
 
 same-run : (script : ScriptValue) (dlci : ℕ) (b d : Beside) → ((role : Role) → 1 ≤ delay_of script role) → (link : Link) (ts : List Turn)
-    (ends : Accounts) → SameBelow (length ts) b d → LineRun (channel_at script dlci b) link ts ends
-    → LineRun (channel_at script dlci d) link ts ends
+    (ends : Accounts) → SameBelow (length ts) b d → LineRun (wire_at script dlci b) link ts ends
+    → LineRun (wire_at script dlci d) link ts ends
 same-run script dlci b d delays link ts ends s r =
     record { run = r.run; heard = same-over script dlci b d delays ts s r.heard }
 
 abbrev same-last : (script : ScriptValue) (dlci : ℕ) (b d : Beside) → ((role : Role) → 1 ≤ delay_of script role) → (link : Link)
     (ts : List Turn) (ends : Accounts) (o : Outcome) (turn : ℕ) (left : Left) → SameBelow (length ts) b d
-    → EndsInTurn (channel_at script dlci b) link ts ends o turn left → EndsInTurn (channel_at script dlci d) link ts ends o turn left
+    → EndsInTurn (wire_at script dlci b) link ts ends o turn left → EndsInTurn (wire_at script dlci d) link ts ends o turn left
 same-last script dlci b d delays link ts ends o turn left s e = record {
   number = e.number;
   last = e.last;
@@ -113,13 +113,13 @@ same-last script dlci b d delays link ts ends o turn left s e = record {
 -- a run that an end of the link ended, with the ends that it has then
 record SameEnd (script : ScriptValue) (dlci : ℕ) (d : Beside) (link : Link) (ts : List Turn) (ends mid : Accounts) (end : RunEnd)
     (left : Left) : Type 0 where
-  ended : EndsBy (channel_at script dlci d) link ts ends end left
-  mid_is : last_ends (channel_at script dlci d) link ts ends end left ended ≡ mid
+  ended : EndsBy (wire_at script dlci d) link ts ends end left
+  mid_is : last_ends (wire_at script dlci d) link ts ends end left ended ≡ mid
 
 same-end : (script : ScriptValue) (dlci : ℕ) (b d : Beside) → ((role : Role) → 1 ≤ delay_of script role) → (link : Link) (ts : List Turn)
     (ends : Accounts) (end : RunEnd) (left : Left) → SameBelow (length ts) b d → IsByLink end
-    → (e : EndsBy (channel_at script dlci b) link ts ends end left)
-    → SameEnd script dlci d link ts ends (last_ends (channel_at script dlci b) link ts ends end left e) end left
+    → (e : EndsBy (wire_at script dlci b) link ts ends end left)
+    → SameEnd script dlci d link ts ends (last_ends (wire_at script dlci b) link ts ends end left e) end left
 same-end script dlci b d delays link ts ends (IsDone turn) left s by e =
     record { ended = same-last script dlci b d delays link ts ends _ turn left s e; mid_is = refl }
 same-end script dlci b d delays link ts ends (LinkLost role segment turn) left s by e =
@@ -135,7 +135,7 @@ length-lasting zero ts = omega arith
 length-lasting (suc n) ts = omega (arith, length-lasting n ts)
 
 same-idly : (script : ScriptValue) (dlci : ℕ) (b d : Beside) → ((role : Role) → 1 ≤ delay_of script role) → (ts : List Turn) (ends : Accounts)
-    → SameBelow (length ts) b d → HearsIdly (channel_at script dlci b) ts ends → HearsIdly (channel_at script dlci d) ts ends
+    → SameBelow (length ts) b d → HearsIdly (wire_at script dlci b) ts ends → HearsIdly (wire_at script dlci d) ts ends
 same-idly script dlci b d delays ts ends s h role = record {
   heard = (h role).heard;
   is = same-of script dlci b d delays (other role) ts (check_of (of role ends)) (h role).heard s (h role).is;
@@ -143,8 +143,8 @@ same-idly script dlci b d delays ts ends s h role = record {
 }
 
 same-idles : (script : ScriptValue) (dlci : ℕ) (b d : Beside) → ((role : Role) → 1 ≤ delay_of script role) → (ends : Accounts) (n : ℕ)
-    (ts : List Turn) → SameBelow (n + length ts) b d → IdlesFor (channel_at script dlci b) ends n ts
-    → IdlesFor (channel_at script dlci d) ends n ts
+    (ts : List Turn) → SameBelow (n + length ts) b d → IdlesFor (wire_at script dlci b) ends n ts
+    → IdlesFor (wire_at script dlci d) ends n ts
 same-idles script dlci b d delays ends zero ts s h = tt
 same-idles script dlci b d delays ends (suc n) ts s h = (
   same-idly script dlci b d delays (lasting (suc n) ts) ends (subst (λ k. SameBelow k b d) (sym (length-lasting (suc n) ts)) s) h.0,
@@ -153,7 +153,7 @@ same-idles script dlci b d delays ends (suc n) ts s h = (
 
 -- So a link came to the same in so many rounds.
 pub same-lasts : (script : ScriptValue) (dlci : ℕ) (b d : Beside) → ((role : Role) → 1 ≤ delay_of script role) → (link : Link) (rounds : ℕ)
-    (p : Progress) → SameBelow rounds b d → Lasts (channel_at script dlci b) link rounds p → Lasts (channel_at script dlci d) link rounds p
+    (p : Progress) → SameBelow rounds b d → Lasts (wire_at script dlci b) link rounds p → Lasts (wire_at script dlci d) link rounds p
 same-lasts script dlci b d delays link rounds (Goes ts ends) s h =
     record { run = same-run script dlci b d delays link ts ends (fewer (length ts) rounds b d (omega (arith, h.count)) s) h.run; count = h.count }
 same-lasts script dlci b d delays link rounds (Ended ts ends end left) s h =

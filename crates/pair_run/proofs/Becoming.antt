@@ -29,7 +29,7 @@ use Rattle.link_run.specs.Carried.{sent_ago}
 use Rattle.link_run.specs.Outcomes.{Outcome, Going, Done, Broken, TurnIs}
 use Rattle.link_run.specs.Trace.{trace_text}
 use Rattle.link_run.specs.Laws.{EachEndIsNamed, IsNamed}
-use Rattle.line_run.specs.Sampled.{Channel, signals_before, bits_of, Arrives, ArrivesAs, IsHeardOf, LineRun, IsHeardWell, LineEnd, EndsLine}
+use Rattle.line_run.specs.Sampled.{Wire, signals_before, bits_of, Arrives, ArrivesAs, IsHeardOf, LineRun, IsHeardWell, LineEnd, EndsLine}
 use Rattle.line_run.specs.Sampled as lines
 use Rattle.line_run.specs.Scripted.{link_of, ScriptsMayPlay}
 use Rattle.line_run.specs.Ends.{RunEnd, IsDone, LinkLost, NotDetected, Left, Leaves, EndsInTurn, RunsTo}
@@ -40,7 +40,7 @@ use Rattle.line_ends.proofs.Deciding.{some-outcome}
 use Rattle.line_ends.proofs.Receiving.{ReceiveLaws, lost-or-not, some-received}
 use Rattle.line_run.proofs.Slots.{SentAgo, sent-ago}
 use Rattle.pair_run.specs.Beside.{slot_in, lasting}
-use Rattle.line_run.specs.Scripted.{channel_at}
+use Rattle.line_run.specs.Scripted.{wire_at}
 use Rattle.pair_run.specs.Pair.{Progress, Goes, Ended, turns_in, ends_in, turns_on_line, HearsIdly, IdlesFor, Lasts}
 use Rattle.pair_run.specs.Ends.{is_going}
 use Rattle.pair_run.proofs.Fitting.{AllFitting, fitting-dropped, fitting-lasting, BesideFits}
@@ -56,7 +56,7 @@ pub record BecomeLaws : Type 0 where
   pub play : ScriptsMayPlay
 
 -- a slot that has arrived, by what is heard of it
-by-heard : (c : Channel) (sender : Role) (ts : List Turn) (hearing : Check) (heard : Heard) → IsHeardOf c sender ts hearing heard
+by-heard : (c : Wire) (sender : Role) (ts : List Turn) (hearing : Check) (heard : Heard) → IsHeardOf c sender ts hearing heard
     → Becomes c sender ts hearing
 by-heard c sender ts hearing Nothing h = becomes.Heard (record { heard = Nothing; is = h; well = λ e. absurd cc })
 by-heard c sender ts hearing (Passed s) h = becomes.Heard (record { heard = Passed s; is = h; well = λ e. absurd cc })
@@ -65,11 +65,11 @@ by-heard c sender ts hearing Chance h = becomes.Mistaken h
 
 pub slot-becomes : BecomeLaws → (script : ScriptValue) (dlci : ℕ) (beside : Beside) (sender : Role) (ts : List Turn) (hearing : Check)
     → ((role : Role) → 1 ≤ delay_of script role) → AllFitting (bits_in script) dlci ts → BesideFits (bits_in script) beside
-    → Becomes (channel_at script dlci beside) sender ts hearing
+    → Becomes (wire_at script dlci beside) sender ts hearing
 slot-becomes laws script dlci beside sender ts hearing delays fits b = go (sent_ago delay sender ts) refl
   where
-    c : Channel
-    c = channel_at script dlci beside
+    c : Wire
+    c = wire_at script dlci beside
 
     delay : ℕ
     delay = delay_of script sender
@@ -145,13 +145,13 @@ slot-becomes laws script dlci beside sender ts hearing delays fits b = go (sent_
 -- by what becomes of both slots
 pub turn-decided : BecomeLaws → (script : ScriptValue) (dlci : ℕ) (beside : Beside) (ts : List Turn) (ends : Accounts)
     → ((role : Role) → 1 ≤ delay_of script role) → AllFitting (bits_in script) dlci ts → BesideFits (bits_in script) beside
-    → ((end : LineEnd) × EndsLine (channel_at script dlci beside) ts ends end) ⊎ HearsIdly (channel_at script dlci beside) ts ends
+    → ((end : LineEnd) × EndsLine (wire_at script dlci beside) ts ends end) ⊎ HearsIdly (wire_at script dlci beside) ts ends
 turn-decided laws script dlci beside ts ends delays fits b =
     first (slot-becomes laws script dlci beside Answerer ts (check_of ends.orig) delays fits b)
     (slot-becomes laws script dlci beside Originator ts (check_of ends.answ) delays fits b)
   where
-    c : Channel
-    c = channel_at script dlci beside
+    c : Wire
+    c = wire_at script dlci beside
 
     both : IsHeardWell c Answerer ts (check_of ends.orig) → IsHeardWell c Originator ts (check_of ends.answ) → HearsIdly c ts ends
     both w v Originator = w
@@ -174,9 +174,9 @@ leaves-so ends text = record { got_is = is; trace_is = refl }
 
 -- what a link comes to in one more turn
 pub data NextOf (script : ScriptValue) (dlci : ℕ) (beside : Beside) (link : Link) (rounds : ℕ) (p : Progress) : Type 0 where
-  On_line : (end : LineEnd) → EndsLine (channel_at script dlci beside) (turns_on_line rounds p) (ends_in p) end
+  On_line : (end : LineEnd) → EndsLine (wire_at script dlci beside) (turns_on_line rounds p) (ends_in p) end
       → NextOf script dlci beside link rounds p
-  Made : (next : Progress) → Lasts (channel_at script dlci beside) link (suc rounds) next
+  Made : (next : Progress) → Lasts (wire_at script dlci beside) link (suc rounds) next
       → ((at : ℕ) (role : Role) (round : ℕ) → round < rounds → slot_in at role (turns_in p) round ≡ slot_in at role (turns_in next) round)
       → (is_going next ≡ false → is_going p ≡ true → length (turns_in next) ≡ rounds)
       → (is_going p ≡ false → (is_going next ≡ false) × (length (turns_in next) ≡ length (turns_in p)))
@@ -184,21 +184,21 @@ pub data NextOf (script : ScriptValue) (dlci : ℕ) (beside : Beside) (link : Li
       → NextOf script dlci beside link rounds p
 
 ended-now : (script : ScriptValue) (dlci : ℕ) (beside : Beside) (link : Link) (ts : List Turn) (ends : Accounts)
-    → LineRun (channel_at script dlci beside) link ts ends → (rounds : ℕ) → length ts ≡ rounds
-    → (mid : Accounts) (end : RunEnd) (left : Left) → (r : RunsTo (channel_at script dlci beside) link end left)
-    → Lasts (channel_at script dlci beside) link (suc rounds) (Ended ts mid end left) → NextOf script dlci beside link rounds (Goes ts ends)
+    → LineRun (wire_at script dlci beside) link ts ends → (rounds : ℕ) → length ts ≡ rounds
+    → (mid : Accounts) (end : RunEnd) (left : Left) → (r : RunsTo (wire_at script dlci beside) link end left)
+    → Lasts (wire_at script dlci beside) link (suc rounds) (Ended ts mid end left) → NextOf script dlci beside link rounds (Goes ts ends)
 ended-now script dlci beside link ts ends run rounds e mid end left r l =
     Made (Ended ts mid end left) l (λ at role round k. refl) (λ g h. e) (λ g. absurd (false≢true (sym g))) (λ g. refl)
 
 goes-on : BecomeLaws → (script : ScriptValue) (files : Both (List ℕ)) (dlci : ℕ) (beside : Beside) (rounds : ℕ) (ts : List Turn)
     (ends : Accounts) → IsInLimits script
-    → Lasts (channel_at script dlci beside) (link_of script files) rounds (Goes ts ends)
-    → MadeOver (channel_at script dlci beside) files ts ends
+    → Lasts (wire_at script dlci beside) (link_of script files) rounds (Goes ts ends)
+    → MadeOver (wire_at script dlci beside) files ts ends
     → NextOf script dlci beside (link_of script files) rounds (Goes ts ends)
 goes-on laws script files dlci beside rounds ts ends h l m = go m.outcome refl
   where
-    c : Channel
-    c = channel_at script dlci beside
+    c : Wire
+    c = wire_at script dlci beside
 
     link : Link
     link = link_of script files
@@ -265,19 +265,19 @@ goes-on laws script files dlci beside rounds ts ends h l m = go m.outcome refl
 pub next-of : BecomeLaws → (script : ScriptValue) (files : Both (List ℕ)) (dlci : ℕ) (beside : Beside) (rounds : ℕ) (p : Progress)
     → IsInLimits script → ((role : Role) → 1 ≤ delay_of script role) → AllFitting (bits_in script) dlci (turns_in p)
     → BesideFits (bits_in script) beside
-    → Lasts (channel_at script dlci beside) (link_of script files) rounds p → NextOf script dlci beside (link_of script files) rounds p
+    → Lasts (wire_at script dlci beside) (link_of script files) rounds p → NextOf script dlci beside (link_of script files) rounds p
 next-of laws script files dlci beside rounds (Goes ts ends) h delays fits b l = go (turn-decided laws script dlci beside ts ends delays fits b)
   where
-    go : ((end : LineEnd) × EndsLine (channel_at script dlci beside) ts ends end) ⊎ HearsIdly (channel_at script dlci beside) ts ends
+    go : ((end : LineEnd) × EndsLine (wire_at script dlci beside) ts ends end) ⊎ HearsIdly (wire_at script dlci beside) ts ends
         → NextOf script dlci beside (link_of script files) rounds (Goes ts ends)
     go (inl e) = On_line e.0 e.1
     go (inr w) = goes-on laws script files dlci beside rounds ts ends h l
-        (laws.made (channel_at script dlci beside) files ts ends h l.run w)
+        (laws.made (wire_at script dlci beside) files ts ends h l.run w)
 next-of laws script files dlci beside rounds (Ended ts ends end left) h delays fits b l =
     go (turn-decided laws script dlci beside (lasting k ts) ends delays (fitting-lasting (bits_in script) dlci k ts fits) b)
   where
-    c : Channel
-    c = channel_at script dlci beside
+    c : Wire
+    c = wire_at script dlci beside
 
     k : ℕ
     k = rounds - length ts

@@ -23,13 +23,13 @@ use Rattle.line_laws.specs.Laws.{FaintNeverLost, FaintReceivedIsSent, FaintSentI
 use Rattle.line_laws.proofs.Received.{as-expected}
 use Rattle.link_run.specs.Run.{Spoken, Turn}
 use Rattle.link_run.specs.Carried.{sent_ago}
-use Rattle.line_run.specs.Sampled.{Channel, signal_in, signals, signals_before, bits_of, Arrives, ArrivesAs, IsHeardOf, LosesLine}
+use Rattle.line_run.specs.Sampled.{Wire, signal_in, signals, signals_before, bits_of, Arrives, ArrivesAs, IsHeardOf, LosesLine}
 use Rattle.line_run.specs.Scripted.{slot_symbols, longest_of}
 use Rattle.line_ends.specs.Completes.{IsFaint}
 use Rattle.line_run.specs.Stream.{AllSendable}
 use Rattle.line_ends.proofs.Receiving.{lost-or-not}
 use Rattle.line_run.proofs.Slots.{SentAgo, sent-ago}
-use Rattle.line_run.specs.Scripted.{channel_at}
+use Rattle.line_run.specs.Scripted.{wire_at}
 use Rattle.pair_run.proofs.Fitting.{AllFit, all-fit, fit-and-one, AllFitting, fitting-dropped, BesideFits, before-fit}
 
 pub record ClearLaws : Type 0 where
@@ -80,17 +80,17 @@ low script = omega arith
 -- a slot that was sent behind these
 pub record Sent_behind (script : ScriptValue) (dlci : ℕ) (beside : Beside) (sender : Role) (earlier : List Turn) (t : Turn)
     (slot : Spoken) : Type 0 where
-  pub signal_is : signals (channel_at script dlci beside) sender (t ∷ earlier)
-      ≡ signals_before (channel_at script dlci beside) sender earlier ++ signal_of slot.check sender dlci slot.sent ∷ []
-  pub fits : AreFit (bits_in script) 0 (signals_before (channel_at script dlci beside) sender earlier
+  pub signal_is : signals (wire_at script dlci beside) sender (t ∷ earlier)
+      ≡ signals_before (wire_at script dlci beside) sender earlier ++ signal_of slot.check sender dlci slot.sent ∷ []
+  pub fits : AreFit (bits_in script) 0 (signals_before (wire_at script dlci beside) sender earlier
       ++ signal_of slot.check sender dlci slot.sent ∷ [])
-  pub fits_before : AreFit (bits_in script) 0 (signals_before (channel_at script dlci beside) sender earlier)
+  pub fits_before : AreFit (bits_in script) 0 (signals_before (wire_at script dlci beside) sender earlier)
 
 pub sent-behind : (script : ScriptValue) (dlci : ℕ) (beside : Beside) (sender : Role) (earlier : List Turn) (t : Turn) (slot : Spoken)
     → AllFitting (bits_in script) dlci (t ∷ earlier) → BesideFits (bits_in script) beside → (of sender t).sent ≡ Some slot
     → Sent_behind script dlci beside sender earlier t slot
 sent-behind script dlci beside sender earlier t slot h b e =
-    let c : Channel = channel_at script dlci beside in
+    let c : Wire = wire_at script dlci beside in
     let before : List Signal = signals_before c sender earlier in
     let fit : AllFit (bits_in script) before = before-fit c b sender earlier h.1 in
     record {
@@ -105,10 +105,10 @@ heard-behind : ClearLaws → (script : ScriptValue) (dlci : ℕ) (beside : Besid
     (hearing : Check) (slot : Spoken) (heard : Heard)
     → IsFaint script → IsSendable slot.sent → ChecksAgree slot.check hearing slot.sent
     → Sent_behind script dlci beside sender earlier t slot
-    → Arrives (channel_at script dlci beside) sender earlier (t ∷ earlier) hearing slot heard
+    → Arrives (wire_at script dlci beside) sender earlier (t ∷ earlier) hearing slot heard
     → heard ≡ unhindered (loses script sender (length earlier)) slot.sent
 heard-behind laws script dlci beside sender earlier t hearing slot heard d is agree s a =
-    let c : Channel = channel_at script dlci beside in
+    let c : Wire = wire_at script dlci beside in
     let before : List Signal = signals_before c sender earlier in
     let signal : Signal = signal_of slot.check sender dlci slot.sent in
     let recorded : Records script sender (signal_bits (bits_in script) (before ++ signal ∷ [])) a.samples
@@ -137,7 +137,7 @@ due-behind : ClearLaws → (script : ScriptValue) (dlci : ℕ) (beside : Beside)
     (hearing : Check) (slot : Spoken)
     → IsFaint script → IsSendable slot.sent → ChecksAgree slot.check hearing slot.sent
     → Sent_behind script dlci beside sender earlier t slot
-    → Arrives (channel_at script dlci beside) sender earlier (t ∷ earlier) hearing slot
+    → Arrives (wire_at script dlci beside) sender earlier (t ∷ earlier) hearing slot
     (unhindered (loses script sender (length earlier)) slot.sent)
 due-behind laws script dlci beside sender earlier t hearing slot d is agree s =
     record {
@@ -154,7 +154,7 @@ due-behind laws script dlci beside sender earlier t hearing slot d is agree s =
     }
   where
     before : List Signal
-    before = signals_before (channel_at script dlci beside) sender earlier
+    before = signals_before (wire_at script dlci beside) sender earlier
 
     signal : Signal
     signal = signal_of slot.check sender dlci slot.sent
@@ -188,11 +188,11 @@ comes script dlci beside sender ts slot h e =
 pub heard-due : ClearLaws → (script : ScriptValue) (dlci : ℕ) (beside : Beside) (sender : Role) (ts : List Turn) (hearing : Check)
     (heard : Heard)
     → IsClear script dlci beside ts → Agrees script sender ts hearing
-    → IsHeardOf (channel_at script dlci beside) sender ts hearing heard → heard ≡ due script sender ts
+    → IsHeardOf (wire_at script dlci beside) sender ts hearing heard → heard ≡ due script sender ts
 heard-due laws script dlci beside sender ts hearing heard h agrees k = go (sent_ago delay sender ts) refl k
   where
-    c : Channel
-    c = channel_at script dlci beside
+    c : Wire
+    c = wire_at script dlci beside
 
     delay : ℕ
     delay = delay_of script sender
@@ -209,11 +209,11 @@ heard-due laws script dlci beside sender ts hearing heard h agrees k = go (sent_
 -- and what is due is heard.
 pub due-heard : ClearLaws → (script : ScriptValue) (dlci : ℕ) (beside : Beside) (sender : Role) (ts : List Turn) (hearing : Check)
     → IsClear script dlci beside ts → Agrees script sender ts hearing
-    → IsHeardOf (channel_at script dlci beside) sender ts hearing (due script sender ts)
+    → IsHeardOf (wire_at script dlci beside) sender ts hearing (due script sender ts)
 due-heard laws script dlci beside sender ts hearing h agrees = go (sent_ago delay sender ts) refl
   where
-    c : Channel
-    c = channel_at script dlci beside
+    c : Wire
+    c = wire_at script dlci beside
 
     delay : ℕ
     delay = delay_of script sender
@@ -237,7 +237,7 @@ due-well laws script sender ts = go (sent_ago (delay_of script sender) sender ts
 
 -- So the line isn't lost in that turn.
 pub not-lost : ClearLaws → (script : ScriptValue) (dlci : ℕ) (beside : Beside) (sender : Role) (ts : List Turn) (symbol : ℕ)
-    → IsFaint script → LosesLine (channel_at script dlci beside) sender ts symbol → ⊥
+    → IsFaint script → LosesLine (wire_at script dlci beside) sender ts symbol → ⊥
 not-lost laws script dlci beside sender ts symbol d l =
-    never-lost laws script sender (bits_of (channel_at script dlci beside) sender (drop (delay_of script sender - 1) ts)) l.loses.samples
+    never-lost laws script sender (bits_of (wire_at script dlci beside) sender (drop (delay_of script sender - 1) ts)) l.loses.samples
     symbol d l.loses.recorded l.loses.lost

@@ -3,7 +3,7 @@ use Rattle.std.proofs.Common.{◌≡◌, ℕ, refl, ◌∙◌, ap}
 use Rattle.line_run.specs.Ends.{RunEnd, IsDone, LinkLost, NotDetected, LineLost, ChanceMatch}
 use Rattle.line_ends.specs.Causes.{GivesUp, LostLinksWereStarved}
 use Rattle.line_ends.specs.Completes.{CompletesQuiet}
-use Rattle.pair_run.specs.Beside.{first_channel, second_channel}
+use Rattle.pair_run.specs.Beside.{first_wire, second_wire}
 use Rattle.pair_run.specs.Pair.{IsByLink}
 use Rattle.pair_run.specs.Ends.{end_of}
 use Rattle.pair_run.specs.Laws.{EndsDone, UnstarvedPairsAreDone, QuietPairsAreDone, FaintPairsAreIsolated}
@@ -22,8 +22,8 @@ both-so a b x y = (x.0, y.0, ap (λ z. end_of z b) x.1 ∙ ap (end_of (IsDone x.
 pub unstarved-pairs-are-done : LostLinksWereStarved → UnstarvedPairsAreDone
 unstarved-pairs-are-done law script files others a b left leaves h e f g =
     both-so a b
-    (not-given-up a e.at.first.by_link (λ x. f x (law (first_channel script e.us) files a left h e.at.first.ran x)))
-    (not-given-up b e.at.second.by_link (λ x. g x (law (second_channel script e.ts) others b leaves h e.at.second.ran x)))
+    (not-given-up a e.at.first.by_link (λ x. f x (law (first_wire script e.us) files a left h e.at.first.ran x)))
+    (not-given-up b e.at.second.by_link (λ x. g x (law (second_wire script e.ts) others b leaves h e.at.second.ran x)))
 
 pub quiet-pairs-are-done : FaintPairsAreIsolated → CompletesQuiet → QuietPairsAreDone
 quiet-pairs-are-done law quiet script files others end left leaves h q o oo r =

@@ -26,7 +26,7 @@ use Rattle.link_run.specs.Carried.{sent_ago, has_message}
 use Rattle.link_run.specs.Outcomes.{Outcome, Done, TurnIs}
 use Rattle.link_run.specs.Trace.{trace_text}
 use Rattle.line_run.specs.Sampled.{HeardIn, IsHeardOf, LineRun}
-use Rattle.line_run.specs.Scripted.{channel_of, link_of}
+use Rattle.line_run.specs.Scripted.{wire_of, link_of}
 use Rattle.line_run.specs.Ends.{IsDone, Left, OneResult}
 use Rattle.line_ends.specs.Completes.{ScriptRunsTo, DisplacesNone, DisplacesNoneIsFaint, AreOfOctets}
 use Rattle.worked_traces.specs.Made.{Way, Next, Goes, Ends_run, Stops, Made, IsMade, EndsAs, turn_with, both_said, crossing, speaking, hearing, next}
@@ -119,11 +119,11 @@ made-due (suc count) link script ts ends Stops h k = (h, tt)
 
 -- so it is heard on the line of samples
 due-in : IsolationLaws → (script : ScriptValue) (files : Both (List ℕ)) → MaySend script files → (ts : List Turn) (ends : Accounts)
-    → LineRun (channel_of script) (link_of script files) ts ends → (t : Turn) (mid : Accounts) → Hears (length ts) ends t mid → TurnDue script ts t
-    → HeardIn (channel_of script) ts t
+    → LineRun (wire_of script) (link_of script files) ts ends → (t : Turn) (mid : Accounts) → Hears (length ts) ends t mid → TurnDue script ts t
+    → HeardIn (wire_of script) ts t
 due-in laws script files m ts ends r t mid h k role = record {
-  heard_of = subst (IsHeardOf (channel_of script) (other role) ts (of role t).check) (sym (k role))
-      (subst (λ z. IsHeardOf (channel_of script) (other role) ts z (due script (other role) ts)) (sym (h role).check_is)
+  heard_of = subst (IsHeardOf (wire_of script) (other role) ts (of role t).check) (sym (k role))
+      (subst (λ z. IsHeardOf (wire_of script) (other role) ts z (due script (other role) ts)) (sym (h role).check_is)
       (due-heard laws.clear script 0 (λ side turn. None) (other role) ts (check_of (of role ends))
       (clear-on laws script files 0 (λ side turn. None) ts ends m r 0 (λ side turn. None) (omega arith) (none-beside (bits_in script)))
       (agrees-on laws script files 0 (λ side turn. None) ts ends m.limits r role)));
@@ -131,7 +131,7 @@ due-in laws script files m ts ends r t mid h k role = record {
 }
 
 due-run : IsolationLaws → (script : ScriptValue) (files : Both (List ℕ)) → MaySend script files → (ts : List Turn) (ends : Accounts)
-    → RunOf (link_of script files) ts ends → AllDue script ts → LineRun (channel_of script) (link_of script files) ts ends
+    → RunOf (link_of script files) ts ends → AllDue script ts → LineRun (wire_of script) (link_of script files) ts ends
 due-run laws script files m [] ends r k = record { run = r; heard = tt }
 due-run laws script files m (t ∷ ts) ends r k =
     let before = due-run laws script files m ts r.0 r.1 k.1 in
@@ -147,7 +147,7 @@ done-run : IsolationLaws → (script : ScriptValue) (files : Both (List ℕ)) �
     → (left : Left) × ScriptRunsTo script files (IsDone turn) left × (left.trace ≡ trace_text (all_turns m))
 done-run laws script files s m is k turn e = go m.last m.outcome is.last k.1 e.done e.made refl
   where
-    run : LineRun (channel_of script) (link_of script files) m.turns m.ends
+    run : LineRun (wire_of script) (link_of script files) m.turns m.ends
     run = due-run laws script files s m.turns m.ends is.run k.0
 
     go : (last : Option Turn) (outcome : Option Outcome) → EndsAs (link_of script files) (way_of script) m last outcome
@@ -252,8 +252,8 @@ both-so laws files others o oo f g m n first second a b x y =
     let e : HasPairEnd no_lines files others = laws.ends no_lines files others plain-limits f g o oo in
     let i : AreIsolated no_lines files others e.end e.left e.leaves =
     laws.isolated no_lines files others e.end e.left e.leaves plain-limits quiet o oo e.runs in
-    let p = laws.one (channel_of no_lines) (link_of no_lines files) i.first (IsDone m) e.left one.0 i.first_runs one.1 in
-    let q = laws.one (channel_of no_lines) (link_of no_lines others) i.second (IsDone n) e.leaves two.0 i.second_runs two.1 in
+    let p = laws.one (wire_of no_lines) (link_of no_lines files) i.first (IsDone m) e.left one.0 i.first_runs one.1 in
+    let q = laws.one (wire_of no_lines) (link_of no_lines others) i.second (IsDone n) e.leaves two.0 i.second_runs two.1 in
     let end-is : e.end ≡ BothDone m n = i.end_is ∙ ap (λ z. end_of z i.second) p.0 ∙ ap (end_of (IsDone m)) q.0 in
     record {
       left = e.left;

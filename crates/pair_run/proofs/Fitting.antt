@@ -17,7 +17,7 @@ use Rattle.sample_line.specs.Signals.{signal_of}
 use Rattle.line_laws.specs.Fitting.{Fits, AreFit}
 use Rattle.line_laws.proofs.Fitting.{codable-fits, spelled-octets}
 use Rattle.link_run.specs.Run.{Accounts, Spoken, Turn}
-use Rattle.line_run.specs.Sampled.{Channel, and_then, signal_in, signals, signals_before, LineRun}
+use Rattle.line_run.specs.Sampled.{Wire, and_then, signal_in, signals, signals_before, LineRun}
 use Rattle.line_run.specs.Scripted.{link_of, slot_symbols, longest_of, SlotsAreCodable}
 use Rattle.line_run.specs.Stream.{AllSendable}
 use Rattle.pair_run.specs.Beside.{signal_or_flags, slot_in, after_second, after_first, idle_turn, lasting}
@@ -60,7 +60,7 @@ fitting-dropped size dlci zero ts h = h
 fitting-dropped size dlci (suc n) [] h = h
 fitting-dropped size dlci (suc n) (t ∷ ts) h = fitting-dropped size dlci n ts h.1
 
-pub fitting-run : (codable : SlotsAreCodable) (c : Channel) (files : Both (List ℕ)) (ts : List Turn) (ends : Accounts) → IsInLimits c.script
+pub fitting-run : (codable : SlotsAreCodable) (c : Wire) (files : Both (List ℕ)) (ts : List Turn) (ends : Accounts) → IsInLimits c.script
     → LineRun c (link_of c.script files) ts ends → AllSendable ts → (dlci : ℕ) → dlci < 64
     → AllFitting (4 * slot_symbols (longest_of c.script)) dlci ts
 fitting-run codable c files [] ends h r s dlci low = tt
@@ -116,12 +116,12 @@ pub none-beside : (size : ℕ) → BesideFits size (λ role round. None)
 none-beside size role round signal e = absurd cc
 
 -- so the slots of both links fit one another
-fit-before : (c : Channel) → BesideFits (4 * c.symbols) c.beside → (role : Role) (ts : List Turn)
+fit-before : (c : Wire) → BesideFits (4 * c.symbols) c.beside → (role : Role) (ts : List Turn)
     → AllFit (4 * c.symbols) (signals c role ts) → AllFit (4 * c.symbols) (signals_before c role ts)
 fit-before c b role ts h = fit-and-then (4 * c.symbols) (signals c role ts) (c.beside role (length ts)) h
     (λ signal e. b role (length ts) signal e)
 
-pub signals-fit : (c : Channel) → BesideFits (4 * c.symbols) c.beside → (role : Role) (ts : List Turn)
+pub signals-fit : (c : Wire) → BesideFits (4 * c.symbols) c.beside → (role : Role) (ts : List Turn)
     → AllFitting (4 * c.symbols) c.dlci ts → AllFit (4 * c.symbols) (signals c role ts)
 signals-fit c b role [] h = tt
 signals-fit c b role (t ∷ ts) h = go (of role t).sent (h.0 role) (fit-before c b role ts (signals-fit c b role ts h.1))
@@ -133,7 +133,7 @@ signals-fit c b role (t ∷ ts) h = go (of role t).sent (h.0 role) (fit-before c
     go (Some slot) f k =
         fit-and-one (4 * c.symbols) (signals_before c role ts) (signal_of slot.check role c.dlci slot.sent) k (f slot refl)
 
-pub before-fit : (c : Channel) → BesideFits (4 * c.symbols) c.beside → (role : Role) (ts : List Turn)
+pub before-fit : (c : Wire) → BesideFits (4 * c.symbols) c.beside → (role : Role) (ts : List Turn)
     → AllFitting (4 * c.symbols) c.dlci ts → AllFit (4 * c.symbols) (signals_before c role ts)
 before-fit c b role ts h = fit-before c b role ts (signals-fit c b role ts h)
 

@@ -20,7 +20,7 @@ use Rattle.line_run.specs.LineLaws.{OneIsCarried}
 use Rattle.line_run.specs.Ends.{RunEnd, IsDone, LinkLost, NotDetected, LineLost, ChanceMatch, Left, EndsInTurn, EndsBy}
 use Rattle.line_ends.proofs.Hearing.{agree-on}
 use Rattle.pair_run.specs.Beside.{lasting}
-use Rattle.line_run.specs.Scripted.{channel_at}
+use Rattle.line_run.specs.Scripted.{wire_at}
 use Rattle.pair_run.specs.Pair.{last_ends, IsByLink}
 use Rattle.pair_run.proofs.Fitting.{idle-sends}
 use Rattle.pair_run.proofs.Clear.{Beside, Agrees}
@@ -54,19 +54,19 @@ agrees-lasting script ts ends judges k role = λ slot e.
 -- so it is once both have heard in a link's last turn
 judges-in-turn : IsolationLaws → OneIsCarried → JudgesOnceHeard
     → (script : ScriptValue) (files : Both (List ℕ)) (dlci : ℕ) (beside : Beside) (ts : List Turn) (ends : Accounts) → IsInLimits script
-    → LineRun (channel_at script dlci beside) (link_of script files) ts ends
+    → LineRun (wire_at script dlci beside) (link_of script files) ts ends
     → (o : Outcome) (turn : ℕ) (left : Left)
-    → (e : EndsInTurn (channel_at script dlci beside) (link_of script files) ts ends o turn left) → Judges ts e.mid
+    → (e : EndsInTurn (wire_at script dlci beside) (link_of script files) ts ends o turn left) → Judges ts e.mid
 judges-in-turn laws one heard script files dlci beside ts ends h r o turn left e =
     λ ago role slot frame p f. heard (link_of script files) (delay_of script) ts ends e.last e.mid
     (over laws script dlci beside files ts ends h r)
-    (one (channel_at script dlci beside) ts e.last e.heard) (hearing-in script files ts ends e.last e.mid o e.is) ago role slot frame p f
+    (one (wire_at script dlci beside) ts e.last e.heard) (hearing-in script files ts ends e.last e.mid o e.is) ago role slot frame p f
 
 pub judges-last : IsolationLaws → OneIsCarried → JudgesOnceHeard
     → (script : ScriptValue) (files : Both (List ℕ)) (dlci : ℕ) (beside : Beside) (ts : List Turn) (ends : Accounts) → IsInLimits script
-    → LineRun (channel_at script dlci beside) (link_of script files) ts ends → (end : RunEnd) (left : Left) → IsByLink end
-    → (e : EndsBy (channel_at script dlci beside) (link_of script files) ts ends end left)
-    → Judges ts (last_ends (channel_at script dlci beside) (link_of script files) ts ends end left e)
+    → LineRun (wire_at script dlci beside) (link_of script files) ts ends → (end : RunEnd) (left : Left) → IsByLink end
+    → (e : EndsBy (wire_at script dlci beside) (link_of script files) ts ends end left)
+    → Judges ts (last_ends (wire_at script dlci beside) (link_of script files) ts ends end left e)
 judges-last laws one heard script files dlci beside ts ends h r (IsDone turn) left b e =
     judges-in-turn laws one heard script files dlci beside ts ends h r _ turn left e
 judges-last laws one heard script files dlci beside ts ends h r (LinkLost role segment turn) left b e =

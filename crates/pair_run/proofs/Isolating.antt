@@ -15,7 +15,7 @@ use Rattle.line_run.specs.LineLaws.{SamplesAreCarried}
 use Rattle.line_run.specs.Ends.{RunEnd, IsDone, LinkLost, NotDetected, LineLost, ChanceMatch, Left, EndsInTurn, RunsTo}
 use Rattle.line_ends.specs.Completes.{IsFaint, AreOfOctets, OctetsAreSendable}
 use Rattle.line_ends.proofs.Hearing.{agree-on}
-use Rattle.line_run.specs.Scripted.{channel_at}
+use Rattle.line_run.specs.Scripted.{wire_at}
 use Rattle.pair_run.specs.Pair.{IsByLink}
 use Rattle.pair_run.proofs.Fitting.{AllFitting, fitting-run, BesideFits}
 use Rattle.pair_run.proofs.Clear.{ClearLaws, Beside, bits_in, IsClear, Agrees, due, heard-due, due-heard}
@@ -31,12 +31,12 @@ pub record IsolationLaws : Type 0 where
 
 -- the line of samples as any line
 pub over : IsolationLaws → (script : ScriptValue) (dlci : ℕ) (beside : Beside) (files : Both (List ℕ)) (ts : List Turn) (ends : Accounts)
-    → IsInLimits script → LineRun (channel_at script dlci beside) (link_of script files) ts ends
+    → IsInLimits script → LineRun (wire_at script dlci beside) (link_of script files) ts ends
     → RunsOver (link_of script files) (delay_of script) ts ends
 over laws script dlci beside files ts ends h r = record {
   may_play = laws.play script files h;
   delays = laws.delays script h;
-  carried = laws.carried (channel_at script dlci beside) ts r.heard;
+  carried = laws.carried (wire_at script dlci beside) ts r.heard;
   run = r.run;
 }
 
@@ -47,27 +47,27 @@ pub record MaySend (script : ScriptValue) (files : Both (List ℕ)) : Type 0 whe
   pub octets : AreOfOctets script files
 
 pub fitting-on : IsolationLaws → (script : ScriptValue) (files : Both (List ℕ)) (dlci : ℕ) (beside : Beside) (ts : List Turn) (ends : Accounts)
-    → IsInLimits script → AreOfOctets script files → LineRun (channel_at script dlci beside) (link_of script files) ts ends → (at : ℕ)
+    → IsInLimits script → AreOfOctets script files → LineRun (wire_at script dlci beside) (link_of script files) ts ends → (at : ℕ)
     → at < 64 → AllFitting (bits_in script) at ts
 fitting-on laws script files dlci beside ts ends h o r at low =
-    fitting-run laws.codable (channel_at script dlci beside) files ts ends h r
-    (laws.octets (channel_at script dlci beside) files ts ends h o r) at low
+    fitting-run laws.codable (wire_at script dlci beside) files ts ends h r
+    (laws.octets (wire_at script dlci beside) files ts ends h o r) at low
 
 -- a run's line is clear on any channel, beside whatever fits
 pub clear-on : IsolationLaws → (script : ScriptValue) (files : Both (List ℕ)) (dlci : ℕ) (beside : Beside) (ts : List Turn) (ends : Accounts)
-    → MaySend script files → LineRun (channel_at script dlci beside) (link_of script files) ts ends
+    → MaySend script files → LineRun (wire_at script dlci beside) (link_of script files) ts ends
     → (at : ℕ) (near : Beside) → at < 64 → BesideFits (bits_in script) near → IsClear script at near ts
 clear-on laws script files dlci beside ts ends m r at near low b = record {
   delays = laws.delays script m.limits;
   faint = m.faint;
-  sendable = laws.octets (channel_at script dlci beside) files ts ends m.limits m.octets r;
+  sendable = laws.octets (wire_at script dlci beside) files ts ends m.limits m.octets r;
   fits = fitting-on laws script files dlci beside ts ends m.limits m.octets r at low;
   beside_fits = b;
 }
 
 -- and both ends judge by the right check
 pub agrees-on : IsolationLaws → (script : ScriptValue) (files : Both (List ℕ)) (dlci : ℕ) (beside : Beside) (ts : List Turn) (ends : Accounts)
-    → IsInLimits script → LineRun (channel_at script dlci beside) (link_of script files) ts ends → (role : Role)
+    → IsInLimits script → LineRun (wire_at script dlci beside) (link_of script files) ts ends → (role : Role)
     → Agrees script (other role) ts (check_of (of role ends))
 agrees-on laws script files dlci beside ts ends h r role = λ slot e.
     agree-on slot.check (check_of (of role ends)) slot.sent (λ frame f.
@@ -84,9 +84,9 @@ pub record Moves (script : ScriptValue) (dlci : ℕ) (beside : Beside) (at : ℕ
 -- What is heard in a turn is heard there too.
 pub heard-moves : IsolationLaws → (script : ScriptValue) (files : Both (List ℕ)) (dlci : ℕ) (beside : Beside) (at : ℕ) (near : Beside)
     → MaySend script files → Moves script dlci beside at near
-    → (ts : List Turn) (ends : Accounts) → LineRun (channel_at script dlci beside) (link_of script files) ts ends
+    → (ts : List Turn) (ends : Accounts) → LineRun (wire_at script dlci beside) (link_of script files) ts ends
     → (t : Turn) (mid : Accounts) → Hears (length ts) ends t mid
-    → HeardIn (channel_at script dlci beside) ts t → HeardIn (channel_at script at near) ts t
+    → HeardIn (wire_at script dlci beside) ts t → HeardIn (wire_at script at near) ts t
 heard-moves laws script files dlci beside at near m v ts ends r t mid h k role = record { heard_of = there; well = (k role).well }
   where
     sender : Role
@@ -102,19 +102,19 @@ heard-moves laws script files dlci beside at near m v ts ends r t mid h k role =
     is = heard-due laws.clear script dlci beside sender ts (of role t).check (of role t).heard
         (clear-on laws script files dlci beside ts ends m r dlci beside v.low v.fits) agrees (k role).heard_of
 
-    there : IsHeardOf (channel_at script at near) sender ts (of role t).check (of role t).heard
-    there = subst (IsHeardOf (channel_at script at near) sender ts (of role t).check) (sym is)
+    there : IsHeardOf (wire_at script at near) sender ts (of role t).check (of role t).heard
+    there = subst (IsHeardOf (wire_at script at near) sender ts (of role t).check) (sym is)
         (due-heard laws.clear script at near sender ts (of role t).check
         (clear-on laws script files dlci beside ts ends m r at near v.at_low v.near_fits) agrees)
 
 -- so are all turns of a run,
 pub run-moves : IsolationLaws → (script : ScriptValue) (files : Both (List ℕ)) (dlci : ℕ) (beside : Beside) (at : ℕ) (near : Beside)
     → MaySend script files → Moves script dlci beside at near
-    → (ts : List Turn) (ends : Accounts) → LineRun (channel_at script dlci beside) (link_of script files) ts ends
-    → LineRun (channel_at script at near) (link_of script files) ts ends
+    → (ts : List Turn) (ends : Accounts) → LineRun (wire_at script dlci beside) (link_of script files) ts ends
+    → LineRun (wire_at script at near) (link_of script files) ts ends
 run-moves laws script files dlci beside at near m v [] ends r = record { run = r.run; heard = tt }
 run-moves laws script files dlci beside at near m v (t ∷ ts) ends r =
-    let before : LineRun (channel_at script dlci beside) (link_of script files) ts r.run.0 = record { run = r.run.1; heard = r.heard.1 } in
+    let before : LineRun (wire_at script dlci beside) (link_of script files) ts r.run.0 = record { run = r.run.1; heard = r.heard.1 } in
     let there = run-moves laws script files dlci beside at near m v ts r.run.0 before in
     let now = heard-moves laws script files dlci beside at near m v ts r.run.0 before t r.run.2.mid r.run.2.hearing r.heard.0 in
     record { run = r.run; heard = (now, there.heard) }
@@ -128,10 +128,10 @@ hearing-in script files ts ends t mid (Broken role fault) h = h.hearing
 -- and its last turn, where an end of the link ended it.
 last-moves : IsolationLaws → (script : ScriptValue) (files : Both (List ℕ)) (dlci : ℕ) (beside : Beside) (at : ℕ) (near : Beside)
     → MaySend script files → Moves script dlci beside at near
-    → (ts : List Turn) (ends : Accounts) → LineRun (channel_at script dlci beside) (link_of script files) ts ends
+    → (ts : List Turn) (ends : Accounts) → LineRun (wire_at script dlci beside) (link_of script files) ts ends
     → (o : Outcome) (turn : ℕ) (left : Left)
-    → EndsInTurn (channel_at script dlci beside) (link_of script files) ts ends o turn left
-    → EndsInTurn (channel_at script at near) (link_of script files) ts ends o turn left
+    → EndsInTurn (wire_at script dlci beside) (link_of script files) ts ends o turn left
+    → EndsInTurn (wire_at script at near) (link_of script files) ts ends o turn left
 last-moves laws script files dlci beside at near m v ts ends r o turn left e = record {
   number = e.number;
   last = e.last;
@@ -145,8 +145,8 @@ last-moves laws script files dlci beside at near m v ts ends r o turn left e = r
 -- So is a whole run that an end of the link ended: it is the same there.
 pub runs-move : IsolationLaws → (script : ScriptValue) (files : Both (List ℕ)) (dlci : ℕ) (beside : Beside) (at : ℕ) (near : Beside)
     → MaySend script files → Moves script dlci beside at near
-    → (end : RunEnd) (left : Left) → IsByLink end → RunsTo (channel_at script dlci beside) (link_of script files) end left
-    → RunsTo (channel_at script at near) (link_of script files) end left
+    → (end : RunEnd) (left : Left) → IsByLink end → RunsTo (wire_at script dlci beside) (link_of script files) end left
+    → RunsTo (wire_at script at near) (link_of script files) end left
 runs-move laws script files dlci beside at near m v (IsDone turn) left b r = record {
   turns = r.turns;
   ends = r.ends;

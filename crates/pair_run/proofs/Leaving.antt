@@ -9,7 +9,7 @@ use Rattle.plain_lists.specs.Prefix.{IsPrefixOf}
 use Rattle.noise_script.specs.Script.{ScriptValue, IsInLimits, delay_of}
 use Rattle.link_run.specs.Run.{Accounts, Turn}
 use Rattle.link_run.specs.Laws.{TakesPrefixes}
-use Rattle.line_run.specs.Sampled.{Channel, LineRun, LineEnd}
+use Rattle.line_run.specs.Sampled.{Wire, LineRun, LineEnd}
 use Rattle.line_run.specs.Sampled as lines
 use Rattle.line_run.specs.Scripted.{link_of, ScriptsMayPlay, ScriptsHaveDelays}
 use Rattle.line_run.specs.Scripts.{LineRunsEndSoon, NoLineRunIsLong}
@@ -17,8 +17,8 @@ use Rattle.line_run.specs.LineLaws.{SamplesAreCarried}
 use Rattle.line_run.specs.Ends.{RunEnd, IsDone, Left, Leaves, MayRun, RunsLeavePrefixes, DoneLeavesWhole}
 use Rattle.line_run.specs.Ends as runs
 use Rattle.line_ends.specs.Causes.{LostLinksWereStarved}
-use Rattle.pair_run.specs.Beside.{first_dlci, second_dlci, after_second, after_first, first_channel, second_channel}
-use Rattle.line_run.specs.Scripted.{channel_at}
+use Rattle.pair_run.specs.Beside.{first_dlci, second_dlci, after_second, after_first, first_wire, second_wire}
+use Rattle.line_run.specs.Scripted.{wire_at}
 use Rattle.pair_run.specs.Pair.{Progress, Goes, Ended, turns_in, Lasts}
 use Rattle.pair_run.specs.Ends.{Which, First, Second, PairEnd, BothDone, end_of, line_end, is_going, LeavesOf, BothEnd, LineEnds, PairRunsTo}
 use Rattle.pair_run.specs.Ends.{by_links, by_line}
@@ -36,7 +36,7 @@ pub record LeaveLaws : Type 0 where
   pub whole : DoneLeavesWhole
 
 may-run : LeaveLaws → (script : ScriptValue) (dlci : ℕ) (beside : Beside) (files : Both (List ℕ)) → IsInLimits script
-    → MayRun (channel_at script dlci beside) (link_of script files)
+    → MayRun (wire_at script dlci beside) (link_of script files)
 may-run laws script dlci beside files h = record { may_play = laws.play script files h; delays = laws.delays script h }
 
 -- the files of the link are those
@@ -53,14 +53,14 @@ same-whole script files Answerer got e = e
 -- what is left of a link that has ended
 ended-prefixes : LeaveLaws → (script : ScriptValue) (files : Both (List ℕ)) (dlci : ℕ) (beside : Beside) (rounds : ℕ) → IsInLimits script
     → (ts : List Turn) (ends : Accounts) (end : RunEnd) (left : Left)
-    → Lasts (channel_at script dlci beside) (link_of script files) rounds (Ended ts ends end left) → ArePrefixes left files
+    → Lasts (wire_at script dlci beside) (link_of script files) rounds (Ended ts ends end left) → ArePrefixes left files
 ended-prefixes laws script files dlci beside rounds h ts ends end left l role =
     same-prefix script files role (of role left.got)
-    (laws.prefixes (channel_at script dlci beside) (link_of script files) end left (may-run laws script dlci beside files h) l.ran role)
+    (laws.prefixes (wire_at script dlci beside) (link_of script files) end left (may-run laws script dlci beside files h) l.ran role)
 
 -- and of one that goes on, or has ended, where the line ends the pair
 left-prefixes : LeaveLaws → (script : ScriptValue) (files : Both (List ℕ)) (dlci : ℕ) (beside : Beside) (rounds : ℕ) → IsInLimits script
-    → (p : Progress) → Lasts (channel_at script dlci beside) (link_of script files) rounds p → (text : List ℕ) (left : Left)
+    → (p : Progress) → Lasts (wire_at script dlci beside) (link_of script files) rounds p → (text : List ℕ) (left : Left)
     → LeavesOf p text left → ArePrefixes left files
 left-prefixes laws script files dlci beside rounds h (Goes ts ends) l text left k role =
     same-prefix script files role (of role left.got)
@@ -69,7 +69,7 @@ left-prefixes laws script files dlci beside rounds h (Goes ts ends) l text left 
     (record {
       may_play = laws.play script files h;
       delays = laws.delays script h;
-      carried = laws.carried (channel_at script dlci beside) ts l.run.heard;
+      carried = laws.carried (wire_at script dlci beside) ts l.run.heard;
       run = l.run.run;
     }) role))
 left-prefixes laws script files dlci beside rounds h (Ended ts ends end had) l text left k role =
@@ -119,11 +119,11 @@ line-not-done m n round (lines.ChanceMatch role) e = omega (arith, ap kind e)
 
 ended-whole : LeaveLaws → (script : ScriptValue) (files : Both (List ℕ)) (dlci : ℕ) (beside : Beside) (rounds : ℕ) → IsInLimits script
     → (ts : List Turn) (ends : Accounts) (end : RunEnd) (left : Left) (turn : ℕ) → end ≡ IsDone turn
-    → Lasts (channel_at script dlci beside) (link_of script files) rounds (Ended ts ends end left) → AreWhole left files
+    → Lasts (wire_at script dlci beside) (link_of script files) rounds (Ended ts ends end left) → AreWhole left files
 ended-whole laws script files dlci beside rounds h ts ends end left turn e l role =
     same-whole script files role (of role left.got)
-    (laws.whole (channel_at script dlci beside) (link_of script files) turn left (may-run laws script dlci beside files h)
-    (subst (λ x. runs.RunsTo (channel_at script dlci beside) (link_of script files) x left) e l.ran) role)
+    (laws.whole (wire_at script dlci beside) (link_of script files) turn left (may-run laws script dlci beside files h)
+    (subst (λ x. runs.RunsTo (wire_at script dlci beside) (link_of script files) x left) e l.ran) role)
 
 pub done-pairs-are-whole : LeaveLaws → DonePairsAreWhole
 done-pairs-are-whole laws script files others m n left leaves h (by_links first second b is) =
@@ -135,19 +135,19 @@ done-pairs-are-whole laws script files others m n left leaves h (by_line link ro
 
 pub paired-links-were-starved : LostLinksWereStarved → PairedLinksWereStarved
 paired-links-were-starved law script files others firsts seconds p q h a = (
-  (λ end left ends e g. law (first_channel script (turns_in q)) files end left h e.ran g),
-  (λ end left ends e g. law (second_channel script (turns_in p)) others end left h e.ran g),
+  (λ end left ends e g. law (first_wire script (turns_in q)) files end left h e.ran g),
+  (λ end left ends e g. law (second_wire script (turns_in p)) others end left h e.ran g),
 )
 
 -- a link as any run
 is-run : SamplesAreCarried → (script : ScriptValue) (files : Both (List ℕ)) (dlci : ℕ) (beside : Beside) (rounds : ℕ) (p : Progress)
-    → Lasts (channel_at script dlci beside) (link_of script files) rounds p → IsRunOver (link_of script files) script p
+    → Lasts (wire_at script dlci beside) (link_of script files) rounds p → IsRunOver (link_of script files) script p
 is-run carried script files dlci beside rounds (Goes ts ends) l =
-    record { ends = ends; run = l.run.run; carried = carried (channel_at script dlci beside) ts l.run.heard }
+    record { ends = ends; run = l.run.run; carried = carried (wire_at script dlci beside) ts l.run.heard }
 is-run carried script files dlci beside rounds (Ended ts ends end left) l =
-    let run : LineRun (channel_at script dlci beside) (link_of script files) ts l.ran.ends =
-    subst (λ us. LineRun (channel_at script dlci beside) (link_of script files) us l.ran.ends) l.turns_are l.ran.run in
-    record { ends = l.ran.ends; run = run.run; carried = carried (channel_at script dlci beside) ts run.heard }
+    let run : LineRun (wire_at script dlci beside) (link_of script files) ts l.ran.ends =
+    subst (λ us. LineRun (wire_at script dlci beside) (link_of script files) us l.ran.ends) l.turns_are l.ran.run in
+    record { ends = l.ran.ends; run = run.run; carried = carried (wire_at script dlci beside) ts run.heard }
 
 pub paired-links-run : SamplesAreCarried → PairedLinksRun
 paired-links-run carried script files others firsts seconds p q a = (
@@ -156,13 +156,13 @@ paired-links-run carried script files others firsts seconds p q a = (
 )
 
 few-rounds : LineRunsEndSoon → NoLineRunIsLong → (script : ScriptValue) (files : Both (List ℕ)) (dlci : ℕ) (beside : Beside) (rounds : ℕ)
-    → IsInLimits script → AreShort files → (p : Progress) → Lasts (channel_at script dlci beside) (link_of script files) rounds p
+    → IsInLimits script → AreShort files → (p : Progress) → Lasts (wire_at script dlci beside) (link_of script files) rounds p
     → is_going p ≡ true → AreFewRounds script files rounds p
 few-rounds soon long script files dlci beside rounds h f (Goes ts ends) l e = record {
   count = l.count;
   ends = ends;
-  few = soon (channel_at script dlci beside) files ts ends h l.run;
-  below = subst (λ n. n < 2 ^ 39) l.count (long (channel_at script dlci beside) files ts ends h f l.run);
+  few = soon (wire_at script dlci beside) files ts ends h l.run;
+  below = subst (λ n. n < 2 ^ 39) l.count (long (wire_at script dlci beside) files ts ends h f l.run);
 }
 few-rounds soon long script files dlci beside rounds h f (Ended ts ends end left) l e = absurd (false≢true e)
 

@@ -9,7 +9,7 @@ use Rattle.line_run.specs.Sampled.{LineEnd}
 use Rattle.line_run.specs.Scripted.{ScriptsHaveDelays}
 use Rattle.line_run.specs.LineLaws.{OneLineEnd}
 use Rattle.line_run.specs.Ends.{RunEnd, IsDone, Left}
-use Rattle.pair_run.specs.Beside.{first_channel, second_channel}
+use Rattle.pair_run.specs.Beside.{first_wire, second_wire}
 use Rattle.pair_run.specs.Pair.{Progress, Goes, Ended, turns_in, ends_in, turns_on_line, PairAt}
 use Rattle.pair_run.specs.Ends.{Which, First, Second, PairEnd, end_of, line_end, is_going, EndsTurn, LeavesOf, text_for, LineEnds}
 use Rattle.pair_run.specs.Ends.{PairRunsTo, by_links, by_line}
@@ -40,9 +40,9 @@ going-not false false e f g = false≢true g
 ends-not-heard : SameLaws → (script : ScriptValue) (link : Which) (round : ℕ) (p q : Progress) (cause : LineEnd)
     → EndsTurn script link round p q cause → HearsTurn script link round p q → ⊥
 ends-not-heard laws script First round p q cause e h =
-    ends-or-hears laws (first_channel script (turns_in q)) (turns_on_line round p) (ends_in p) cause e h
+    ends-or-hears laws (first_wire script (turns_in q)) (turns_on_line round p) (ends_in p) cause e h
 ends-not-heard laws script Second round p q cause e h =
-    ends-or-hears laws (second_channel script (turns_in p)) (turns_on_line round q) (ends_in q) cause e h
+    ends-or-hears laws (second_wire script (turns_in p)) (turns_on_line round q) (ends_in q) cause e h
 
 -- a pair that stops doesn't go on
 not-later : SameLaws → (script : ScriptValue) (files others : Both (List ℕ)) → HasDelays script → (a b : Which) (m n : ℕ)
@@ -135,8 +135,8 @@ leaves-once (Ended ts ends end had) text left other h k = go left h ∙ sym (go 
 
 one-cause : OneLineEnd → (script : ScriptValue) (link : Which) (round : ℕ) (p q : Progress) (a b : LineEnd)
     → EndsTurn script link round p q a → EndsTurn script link round p q b → a ≡ b
-one-cause law script First round p q a b e f = law (first_channel script (turns_in q)) (turns_on_line round p) (ends_in p) a b e f
-one-cause law script Second round p q a b e f = law (second_channel script (turns_in p)) (turns_on_line round q) (ends_in q) a b e f
+one-cause law script First round p q a b e f = law (first_wire script (turns_in q)) (turns_on_line round p) (ends_in p) a b e f
+one-cause law script Second round p q a b e f = law (second_wire script (turns_in p)) (turns_on_line round q) (ends_in q) a b e f
 
 abbrev Same : PairEnd → PairEnd → Left → Left → Left → Left → Type 0
 Same a b left other leaves others = (a ≡ b) × (left ≡ other) × (leaves ≡ others)

@@ -12,7 +12,7 @@ use Rattle.line_run.specs.Scripted.{link_of}
 use Rattle.line_run.specs.Ends.{Left}
 use Rattle.line_ends.specs.Completes.{AreOfOctets}
 use Rattle.pair_run.specs.Beside.{first_dlci, second_dlci, after_second, after_first, slot_in}
-use Rattle.line_run.specs.Scripted.{channel_at}
+use Rattle.line_run.specs.Scripted.{wire_at}
 use Rattle.pair_run.specs.Pair.{Progress, Goes, Ended, turns_in, Lasts, PairAt}
 use Rattle.pair_run.specs.Ends.{Which, First, Second, end_of, line_end, is_going, EndsTurn, LeavesOf, text_for}
 use Rattle.pair_run.specs.Ends.{by_links, by_line}
@@ -42,9 +42,9 @@ pub record IsGiven (script : ScriptValue) (files others : Both (List ℕ)) : Typ
 -- what a link sent fits each channel
 fitting : EndLaws → (script : ScriptValue) (files : Both (List ℕ)) (dlci : ℕ) (beside : Beside) (rounds : ℕ) (p : Progress)
     → IsInLimits script → AreOfOctets script files
-    → Lasts (channel_at script dlci beside) (link_of script files) rounds p → (at : ℕ) → at < 64 → AllFitting (bits_in script) at (turns_in p)
+    → Lasts (wire_at script dlci beside) (link_of script files) rounds p → (at : ℕ) → at < 64 → AllFitting (bits_in script) at (turns_in p)
 fitting laws script files dlci beside rounds p h o l at low =
-    let r = has-run (channel_at script dlci beside) (link_of script files) rounds p l in
+    let r = has-run (wire_at script dlci beside) (link_of script files) rounds p l in
     fitting-on laws.links script files dlci beside (turns_in p) r.before h o r.run at low
 
 -- what is left where the line ends a pair
@@ -109,7 +109,7 @@ either true y e = inl refl
 either false y e = inr (refl, e)
 
 ended-before : (script : ScriptValue) (dlci : ℕ) (beside : Beside) (files : Both (List ℕ)) (rounds : ℕ) (p : Progress)
-    → Lasts (channel_at script dlci beside) (link_of script files) rounds p → is_going p ≡ false → length (turns_in p) < rounds
+    → Lasts (wire_at script dlci beside) (link_of script files) rounds p → is_going p ≡ false → length (turns_in p) < rounds
 ended-before script dlci beside files rounds (Goes ts ends) l g = absurd (false≢true (sym g))
 ended-before script dlci beside files rounds (Ended ts ends end left) l g = l.before
 

@@ -9,13 +9,13 @@ use Rattle.noise_script.specs.Script.{ScriptValue}
 use Rattle.link_account.specs.Account.{check_of}
 use Rattle.link_run.specs.Run.{Link, Accounts, Turn}
 use Rattle.link_run.specs.Overheard.{JudgesOnceHeard}
-use Rattle.line_run.specs.Sampled.{Channel, IsHeardOf, LineRun, LineEnd, EndsLine}
+use Rattle.line_run.specs.Sampled.{Wire, IsHeardOf, LineRun, LineEnd, EndsLine}
 use Rattle.line_run.specs.Sampled as lines
 use Rattle.line_run.specs.Scripted.{link_of}
 use Rattle.line_run.specs.LineLaws.{OneIsCarried}
 use Rattle.line_ends.specs.Completes.{IsFaint, DisplacesNoneIsFaint}
 use Rattle.pair_run.specs.Beside.{first_dlci, second_dlci, after_second, after_first}
-use Rattle.line_run.specs.Scripted.{channel_at}
+use Rattle.line_run.specs.Scripted.{wire_at}
 use Rattle.pair_run.specs.Pair.{Progress, Goes, Ended, turns_in, ends_in, turns_on_line, Lasts, PairAt}
 use Rattle.pair_run.specs.Ends.{Which, First, Second, EndsTurn, by_links, by_line}
 use Rattle.pair_run.specs.Laws.{FaintPairsAreIsolated, UndisplacedPairsAreIsolated}
@@ -30,21 +30,21 @@ pub record PairLaws : Type 0 where
   pub heard : JudgesOnceHeard
 
 -- the turns that a link made are a run
-pub record HasRun (c : Channel) (link : Link) (ts : List Turn) : Type 0 where
+pub record HasRun (c : Wire) (link : Link) (ts : List Turn) : Type 0 where
   pub before : Accounts
   pub run : LineRun c link ts before
 
-pub has-run : (c : Channel) (link : Link) (rounds : ℕ) (p : Progress) → Lasts c link rounds p → HasRun c link (turns_in p)
+pub has-run : (c : Wire) (link : Link) (rounds : ℕ) (p : Progress) → Lasts c link rounds p → HasRun c link (turns_in p)
 has-run c link rounds (Goes ts ends) h = record { before = ends; run = h.run }
 has-run c link rounds (Ended ts ends end left) h =
     record { before = h.ran.ends; run = subst (λ us. LineRun c link us h.ran.ends) h.turns_are h.ran.run }
 
 -- what it sent fits each channel
 pub fits-in : IsolationLaws → (script : ScriptValue) (files : Both (List ℕ)) (dlci : ℕ) (beside : Beside) (rounds : ℕ) (p : Progress)
-    → MaySend script files → Lasts (channel_at script dlci beside) (link_of script files) rounds p → (at : ℕ) → at < 64
+    → MaySend script files → Lasts (wire_at script dlci beside) (link_of script files) rounds p → (at : ℕ) → at < 64
     → AllFitting (bits_in script) at (turns_in p)
 fits-in laws script files dlci beside rounds p m h at low =
-    let r = has-run (channel_at script dlci beside) (link_of script files) rounds p h in
+    let r = has-run (wire_at script dlci beside) (link_of script files) rounds p h in
     fitting-on laws script files dlci beside (turns_in p) r.before m.limits m.octets r.run at low
 
 -- a link's line is clear and both its ends judge by the right checks, also once it has ended
@@ -54,14 +54,14 @@ pub record IsHeardRight (script : ScriptValue) (dlci : ℕ) (beside : Beside) (t
 
 heard-right : PairLaws → (script : ScriptValue) (files : Both (List ℕ)) (dlci : ℕ) (beside : Beside) (rounds count : ℕ) (p : Progress)
     → MaySend script files → dlci < 64 → BesideFits (bits_in script) beside
-    → Lasts (channel_at script dlci beside) (link_of script files) count p
+    → Lasts (wire_at script dlci beside) (link_of script files) count p
     → IsHeardRight script dlci beside (turns_on_line rounds p) (ends_in p)
 heard-right laws script files dlci beside rounds count (Goes ts ends) m low b h = record {
   clear = clear-on laws.links script files dlci beside ts ends m h.run dlci beside low b;
   agrees = agrees-on laws.links script files dlci beside ts ends m.limits h.run;
 }
 heard-right laws script files dlci beside rounds count (Ended ts ends end left) m low b h =
-    let c : Channel = channel_at script dlci beside in
+    let c : Wire = wire_at script dlci beside in
     let link : Link = link_of script files in
     let k : ℕ = rounds - length ts in
     let run : LineRun c link ts h.ran.ends = subst (λ us. LineRun c link us h.ran.ends) h.turns_are h.ran.run in
@@ -84,7 +84,7 @@ heard-right laws script files dlci beside rounds count (Ended ts ends end left) 
 
 -- so the line doesn't end it
 never-ends : PairLaws → (script : ScriptValue) (dlci : ℕ) (beside : Beside) (ts : List Turn) (ends : Accounts) → IsFaint script
-    → IsHeardRight script dlci beside ts ends → (end : LineEnd) → EndsLine (channel_at script dlci beside) ts ends end → ⊥
+    → IsHeardRight script dlci beside ts ends → (end : LineEnd) → EndsLine (wire_at script dlci beside) ts ends end → ⊥
 never-ends laws script dlci beside ts ends d h (lines.LineLost Originator symbol) e =
     not-lost laws.links.clear script dlci beside Answerer ts symbol d e
 never-ends laws script dlci beside ts ends d h (lines.LineLost Answerer symbol) e =

@@ -11,8 +11,8 @@ use Rattle.noise_script.specs.Script.{ScriptValue, delay_of}
 use Rattle.link_run.specs.Run.{Link, Turn}
 use Rattle.line_run.specs.Scripted.{link_of}
 use Rattle.pair_run.specs.Beside.{first_dlci, second_dlci, signal_or_flags, slot_in, after_second, after_first}
-use Rattle.line_run.specs.Scripted.{channel_at}
-use Rattle.pair_run.specs.Beside.{second_channel, idle_turn, lasting}
+use Rattle.line_run.specs.Scripted.{wire_at}
+use Rattle.pair_run.specs.Beside.{second_wire, idle_turn, lasting}
 use Rattle.pair_run.specs.Pair.{Progress, Goes, Ended, turns_in, turns_on_line, Lasts}
 use Rattle.line_run.specs.Stream.{Carried, AreSent, IsDue}
 use Rattle.line_run.proofs.Streaming.{run-sent}
@@ -32,14 +32,14 @@ lasting-sent role (suc n) ts h = (idle role, lasting-sent role n ts h)
     idle Answerer = refl
 
 pub sent-on-line : (script : ScriptValue) (dlci : ℕ) (beside : Beside) (link : Link) (count rounds : ℕ) (p : Progress)
-    → Lasts (channel_at script dlci beside) link count p → (role : Role) → AreSent role (turns_on_line rounds p)
+    → Lasts (wire_at script dlci beside) link count p → (role : Role) → AreSent role (turns_on_line rounds p)
 sent-on-line script dlci beside link count rounds (Goes ts ends) h role = run-sent link role ts ends h.run.run
 sent-on-line script dlci beside link count rounds (Ended ts ends end left) h role =
-    let r = has-run (channel_at script dlci beside) link count (Ended ts ends end left) h in
+    let r = has-run (wire_at script dlci beside) link count (Ended ts ends end left) h in
     lasting-sent role (rounds - length ts) ts (run-sent link role ts r.before r.run.run)
 
 pub length-on-line : (script : ScriptValue) (dlci : ℕ) (beside : Beside) (link : Link) (rounds : ℕ) (p : Progress)
-    → Lasts (channel_at script dlci beside) link rounds p → length (turns_on_line rounds p) ≡ rounds
+    → Lasts (wire_at script dlci beside) link rounds p → length (turns_on_line rounds p) ≡ rounds
 length-on-line script dlci beside link rounds (Goes ts ends) h = h.count
 length-on-line script dlci beside link rounds (Ended ts ends end left) h =
     omega (arith, length-lasting (rounds - length ts) ts, h.before)
@@ -84,7 +84,7 @@ slot-on-line dlci role rounds (Ended ts ends end left) round = slot-lasting dlci
 -- a slot that is due beside one thing is due beside another that is the same
 due-beside : (script : ScriptValue) (dlci : ℕ) (b d : Beside) (role : Role) (ts : List Turn) (stream : List Carried) (lag : ℕ)
     → ((r : Role) (round : ℕ) → b r round ≡ d r round)
-    → IsDue (channel_at script dlci b) role ts stream lag → IsDue (channel_at script dlci d) role ts stream lag
+    → IsDue (wire_at script dlci b) role ts stream lag → IsDue (wire_at script dlci d) role ts stream lag
 due-beside script dlci b d role ts stream lag same h = record {
   early = h.early;
   late = h.late;
@@ -134,6 +134,6 @@ second-slots-are-due script files others round p q a role some =
     sent = sent-on-line script second_dlci (after_first (turns_in p)) (link_of script others) round round q a.second role
 
     go : (ts : List Turn) → length ts ≡ suc round → AreSent role ts
-        → IsDue (second_channel script ts) role us (first_sent role ts us) (2 * delay_of script role)
+        → IsDue (second_wire script ts) role us (first_sent role ts us) (2 * delay_of script role)
     go [] e h = absurd (omega (arith, e))
     go (t ∷ ts) e h = second-due script role t ts us some h sent (omega (arith, e, count))

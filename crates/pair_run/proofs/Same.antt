@@ -13,7 +13,7 @@ use Rattle.link_run.specs.Run.{Link, Accounts, Turn, Hears, GoingTurn, RunOf}
 use Rattle.link_run.specs.Outcomes.{Outcome, Going, Done, Broken, TurnIs}
 use Rattle.link_run.specs.Trace.{trace_text}
 use Rattle.link_run.specs.Laws.{heard_in, OneOutcome}
-use Rattle.line_run.specs.Sampled.{Channel, IsHeardOf, HeardIn, IsHeardOver, LineRun, LineEnd, EndsLine}
+use Rattle.line_run.specs.Sampled.{Wire, IsHeardOf, HeardIn, IsHeardOver, LineRun, LineEnd, EndsLine}
 use Rattle.line_run.specs.LineLaws.{HeardOnce, OneLineRun, EndsOrIsHeard}
 use Rattle.line_run.specs.Ends.{RunEnd, IsDone, LinkLost, NotDetected, LineLost, ChanceMatch, Left, Leaves, EndsBy}
 use Rattle.pair_run.specs.Pair.{Progress, Goes, Ended, last_ends, IsByLink, HearsIdly, HasEnded, Lasts}
@@ -25,7 +25,7 @@ pub record SameLaws : Type 0 where
   pub outcome : OneOutcome
 
 -- what both ends hear in a turn, by the checks that they had
-pub well-heard : (c : Channel) (ts : List Turn) (ends : Accounts) (t : Turn) (mid : Accounts) → Hears (length ts) ends t mid → HeardIn c ts t
+pub well-heard : (c : Wire) (ts : List Turn) (ends : Accounts) (t : Turn) (mid : Accounts) → Hears (length ts) ends t mid → HeardIn c ts t
     → HearsIdly c ts ends
 well-heard c ts ends t mid h k role = record {
   heard = (of role t).heard;
@@ -33,7 +33,7 @@ well-heard c ts ends t mid h k role = record {
   well = (k role).well;
 }
 
-same-heard : (laws : SameLaws) (c : Channel) (ts : List Turn) (ends : Accounts) (t u : Turn) (mid later : Accounts)
+same-heard : (laws : SameLaws) (c : Wire) (ts : List Turn) (ends : Accounts) (t u : Turn) (mid later : Accounts)
     → Hears (length ts) ends t mid → Hears (length ts) ends u later → HeardIn c ts t → HeardIn c ts u → heard_in t ≡ heard_in u
 same-heard laws c ts ends t u mid later h k p q =
     ap (λ z. record { orig = z; answ = t.answ.heard }) (each Originator)
@@ -51,7 +51,7 @@ hearing-of link ts ends t mid Done h = h.hearing
 hearing-of link ts ends t mid (Broken role fault) h = h.hearing
 
 -- one turn is made behind these, with one outcome
-same-turn : (laws : SameLaws) (c : Channel) (link : Link) (ts : List Turn) (ends : Accounts) (t u : Turn) (mid later : Accounts) (a b : Outcome)
+same-turn : (laws : SameLaws) (c : Wire) (link : Link) (ts : List Turn) (ends : Accounts) (t u : Turn) (mid later : Accounts) (a b : Outcome)
     → TurnIs link ts ends t mid a → TurnIs link ts ends u later b → HeardIn c ts t → HeardIn c ts u
     → (t ≡ u) × (mid ≡ later) × (a ≡ b)
 same-turn laws c link ts ends t u mid later a b h k p q =
@@ -65,7 +65,7 @@ named turn Done = IsDone turn
 named turn (Broken role (faults.Spent segment since)) = LinkLost role segment turn
 named turn (Broken role fault) = NotDetected turn
 
-pub record LastTurnIs (c : Channel) (link : Link) (ts : List Turn) (before mid : Accounts) (end : RunEnd) (left : Left) : Type 0 where
+pub record LastTurnIs (c : Wire) (link : Link) (ts : List Turn) (before mid : Accounts) (end : RunEnd) (left : Left) : Type 0 where
   pub last : Turn
   pub outcome : Outcome
   pub heard : HeardIn c ts last
@@ -87,7 +87,7 @@ broken-not : (role : Role) (fault : LinkFault) → Broken role fault ≢ Going
 unfolding kind
 broken-not role fault e = omega (arith, ap kind e)
 
-last-turn : (c : Channel) (link : Link) (ts : List Turn) (before : Accounts) (end : RunEnd) (left : Left) → IsByLink end
+last-turn : (c : Wire) (link : Link) (ts : List Turn) (before : Accounts) (end : RunEnd) (left : Left) → IsByLink end
     → (e : EndsBy c link ts before end left) → LastTurnIs c link ts before (last_ends c link ts before end left e) end left
 last-turn c link ts before (IsDone turn) left b e = record {
   last = e.last;
@@ -120,12 +120,12 @@ last-turn c link ts before (LineLost role symbol) left b e = absurd b
 last-turn c link ts before (ChanceMatch role turn) left b e = absurd b
 
 -- an ended link, by the turns before its last one
-pub record EndedIs (c : Channel) (link : Link) (ts : List Turn) (ends : Accounts) (end : RunEnd) (left : Left) : Type 0 where
+pub record EndedIs (c : Wire) (link : Link) (ts : List Turn) (ends : Accounts) (end : RunEnd) (left : Left) : Type 0 where
   pub before : Accounts
   pub run : LineRun c link ts before
   pub last : LastTurnIs c link ts before ends end left
 
-pub ended-is : (c : Channel) (link : Link) (rounds : ℕ) (ts : List Turn) (ends : Accounts) (end : RunEnd) (left : Left)
+pub ended-is : (c : Wire) (link : Link) (rounds : ℕ) (ts : List Turn) (ends : Accounts) (end : RunEnd) (left : Left)
     → HasEnded c link rounds ts ends end left → EndedIs c link ts ends end left
 ended-is c link rounds ts ends end left h = record {
   before = h.ran.ends;
@@ -148,7 +148,7 @@ left-is ends text left h =
     h.trace_is
 
 -- the turn of that number in a longer run
-pub record Cut (c : Channel) (link : Link) (n : ℕ) : Type 0 where
+pub record Cut (c : Wire) (link : Link) (n : ℕ) : Type 0 where
   pub turns : List Turn
   pub before : Accounts
   pub count : length turns ≡ n
@@ -168,7 +168,7 @@ same-or-less (suc m) (suc n) l = up (same-or-less m n (omega (arith, l)))
     up (inl e) = inl (ap suc e)
     up (inr k) = inr (omega (arith, k))
 
-cut : (c : Channel) (link : Link) (n : ℕ) (ts : List Turn) (ends : Accounts) → RunOf link ts ends → IsHeardOver c ts → n < length ts
+cut : (c : Wire) (link : Link) (n : ℕ) (ts : List Turn) (ends : Accounts) → RunOf link ts ends → IsHeardOver c ts → n < length ts
     → Cut c link n
 cut c link n [] ends h k l = absurd (omega (arith, l))
 cut c link n (t ∷ ts) ends h k l = go (same-or-less n (length ts) l) (cut c link n ts h.0 h.1 k.1)
@@ -187,7 +187,7 @@ cut c link n (t ∷ ts) ends h k l = go (same-or-less n (length ts) l) (cut c li
     go (inr e) f = f e
 
 -- a link that ended doesn't go on
-ended-stays : (laws : SameLaws) (c : Channel) (link : Link) (ts : List Turn) (ends : Accounts) (end : RunEnd) (left : Left)
+ended-stays : (laws : SameLaws) (c : Wire) (link : Link) (ts : List Turn) (ends : Accounts) (end : RunEnd) (left : Left)
     → EndedIs c link ts ends end left → (us : List Turn) (others : Accounts) → LineRun c link us others → length ts < length us → ⊥
 ended-stays laws c link ts ends end left e us others r l =
     let k : Cut c link (length ts) = cut c link (length ts) us others r.run r.heard l in
@@ -211,7 +211,7 @@ compare (suc m) (suc n) = up (compare m n)
     up (inr (inr l)) = inr (inr (omega (arith, l)))
 
 -- two ends of one link are one
-ended-once : (laws : SameLaws) (c : Channel) (link : Link) (ts us : List Turn) (ends others : Accounts) (a b : RunEnd) (left leaves : Left)
+ended-once : (laws : SameLaws) (c : Wire) (link : Link) (ts us : List Turn) (ends others : Accounts) (a b : RunEnd) (left leaves : Left)
     → EndedIs c link ts ends a left → EndedIs c link us others b leaves → Ended ts ends a left ≡ Ended us others b leaves
 ended-once laws c link ts us ends others a b left leaves e f = go (compare (length ts) (length us))
   where
@@ -233,7 +233,7 @@ ended-once laws c link ts us ends others a b left leaves e f = go (compare (leng
         ∙ ap (Ended us others b) left-same
 
 -- So what a link came to is one thing.
-pub lasts-once : (laws : SameLaws) (c : Channel) (link : Link) (rounds : ℕ) (p q : Progress) → Lasts c link rounds p → Lasts c link rounds q
+pub lasts-once : (laws : SameLaws) (c : Wire) (link : Link) (rounds : ℕ) (p q : Progress) → Lasts c link rounds p → Lasts c link rounds q
     → p ≡ q
 lasts-once laws c link rounds (Goes ts ends) (Goes us others) h k =
     let same = laws.run c link ts us ends others (h.count ∙ sym k.count) h.run k.run in
@@ -249,6 +249,6 @@ lasts-once laws c link rounds (Ended ts ends a left) (Ended us others b leaves) 
     (ended-is c link rounds us others b leaves k)
 
 -- where the line ends a turn, its slots aren't heard well
-pub ends-or-hears : (laws : SameLaws) (c : Channel) (ts : List Turn) (ends : Accounts) (end : LineEnd) → EndsLine c ts ends end
+pub ends-or-hears : (laws : SameLaws) (c : Wire) (ts : List Turn) (ends : Accounts) (end : LineEnd) → EndsLine c ts ends end
     → HearsIdly c ts ends → ⊥
 ends-or-hears laws c ts ends end e w = laws.either c ts (λ role. check_of (of role ends)) end e w

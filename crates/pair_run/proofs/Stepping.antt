@@ -8,8 +8,8 @@ use Rattle.noise_script.specs.Script.{ScriptValue, delay_of}
 use Rattle.link_run.specs.Run.{Link, Accounts, Turn, start}
 use Rattle.line_run.specs.Scripted.{link_of}
 use Rattle.line_run.specs.Ends.{RunEnd, Left}
-use Rattle.pair_run.specs.Beside.{first_dlci, second_dlci, slot_in, after_second, after_first, first_channel, second_channel, lasting}
-use Rattle.line_run.specs.Scripted.{channel_at}
+use Rattle.pair_run.specs.Beside.{first_dlci, second_dlci, slot_in, after_second, after_first, first_wire, second_wire, lasting}
+use Rattle.line_run.specs.Scripted.{wire_at}
 use Rattle.pair_run.specs.Pair.{Progress, Goes, Ended, turns_in, ends_in, turns_on_line, HearsIdly, IdlesFor, Lasts, PairAt}
 use Rattle.pair_run.specs.Ends.{Which, First, Second, is_going, firsts_at}
 use Rattle.pair_run.proofs.Clear.{Beside}
@@ -19,28 +19,28 @@ use Rattle.pair_run.proofs.Agreeing.{same-lasts, slot-stays}
 -- what a link came to one round before: its slots stay, those that arrive in that round are heard well, and once it has ended it stays so
 pub record Before (script : ScriptValue) (dlci : ℕ) (beside : Beside) (link : Link) (rounds : ℕ) (p : Progress) : Type 0 where
   pub earlier : Progress
-  pub lasts : Lasts (channel_at script dlci beside) link rounds earlier
+  pub lasts : Lasts (wire_at script dlci beside) link rounds earlier
   pub same : (at : ℕ) (role : Role) (round : ℕ) → round < rounds → slot_in at role (turns_in p) round ≡ slot_in at role (turns_in earlier) round
-  pub well : HearsIdly (channel_at script dlci beside) (turns_on_line rounds earlier) (ends_in earlier)
+  pub well : HearsIdly (wire_at script dlci beside) (turns_on_line rounds earlier) (ends_in earlier)
   pub stays : is_going earlier ≡ false → p ≡ earlier
 
 before-ended : (script : ScriptValue) (dlci : ℕ) (beside : Beside) (link : Link) (rounds : ℕ) (ts : List Turn) (ends : Accounts) (end : RunEnd)
-    (left : Left) → Lasts (channel_at script dlci beside) link (suc rounds) (Ended ts ends end left)
+    (left : Left) → Lasts (wire_at script dlci beside) link (suc rounds) (Ended ts ends end left)
     → (rounds ≡ length ts) ⊎ (length ts < rounds) → Before script dlci beside link rounds (Ended ts ends end left)
 before-ended script dlci beside link rounds ts ends end left h (inl e) =
-    let k : EndedIs (channel_at script dlci beside) link ts ends end left = ended-is (channel_at script dlci beside) link _ ts ends end left h in
+    let k : EndedIs (wire_at script dlci beside) link ts ends end left = ended-is (wire_at script dlci beside) link _ ts ends end left h in
     record {
       earlier = Goes ts k.before;
       lasts = record { run = k.run; count = sym e };
       same = λ at role round l. refl;
-      well = well-heard (channel_at script dlci beside) ts k.before k.last.last ends
+      well = well-heard (wire_at script dlci beside) ts k.before k.last.last ends
           (hearing-of link ts k.before k.last.last ends k.last.outcome k.last.is) k.last.heard;
       stays = λ g. absurd (false≢true (sym g));
     }
 before-ended script dlci beside link rounds ts ends end left h (inr l) =
     let more : suc rounds - suc (length ts) ≡ suc (rounds - suc (length ts)) = omega (arith, l) in
-    let idles : IdlesFor (channel_at script dlci beside) ends (suc (rounds - suc (length ts))) ts =
-    subst (λ n. IdlesFor (channel_at script dlci beside) ends n ts) more h.idles in
+    let idles : IdlesFor (wire_at script dlci beside) ends (suc (rounds - suc (length ts))) ts =
+    subst (λ n. IdlesFor (wire_at script dlci beside) ends n ts) more h.idles in
     let back : suc (rounds - suc (length ts)) ≡ rounds - length ts = omega (arith, l) in
     record {
       earlier = Ended ts ends end left;
@@ -53,12 +53,12 @@ before-ended script dlci beside link rounds ts ends end left h (inr l) =
         idles = idles.1;
       };
       same = λ at role round k. refl;
-      well = subst (λ n. HearsIdly (channel_at script dlci beside) (lasting n ts) ends) back idles.0;
+      well = subst (λ n. HearsIdly (wire_at script dlci beside) (lasting n ts) ends) back idles.0;
       stays = λ g. refl;
     }
 
 before-of : (script : ScriptValue) (dlci : ℕ) (beside : Beside) (link : Link) (rounds : ℕ) (p : Progress)
-    → Lasts (channel_at script dlci beside) link (suc rounds) p → Before script dlci beside link rounds p
+    → Lasts (wire_at script dlci beside) link (suc rounds) p → Before script dlci beside link rounds p
 before-of script dlci beside link rounds (Goes [] ends) h = absurd (omega (arith, h.count))
 before-of script dlci beside link rounds (Goes (t ∷ ts) ends) h =
     let r = h.run.run in
@@ -66,7 +66,7 @@ before-of script dlci beside link rounds (Goes (t ∷ ts) ends) h =
       earlier = Goes ts r.0;
       lasts = record { run = record { run = r.1; heard = h.run.heard.1 }; count = omega (arith, h.count) };
       same = λ at role round l. slot-stays at role t ts round (omega (arith, l, h.count));
-      well = well-heard (channel_at script dlci beside) ts r.0 t r.2.mid r.2.hearing h.run.heard.0;
+      well = well-heard (wire_at script dlci beside) ts r.0 t r.2.mid r.2.hearing h.run.heard.0;
       stays = λ g. absurd (false≢true (sym g));
     }
 before-of script dlci beside link rounds (Ended ts ends end left) h =
@@ -117,7 +117,7 @@ before-second script files others delays rounds p q a =
     beside role (suc round) l = ap Some (e.same second_dlci role round (omega (arith, l)))
 
 -- there is one thing that a pair came to in so many turns
-starts : (script : ScriptValue) (dlci : ℕ) (beside : Beside) (link : Link) (p : Progress) → Lasts (channel_at script dlci beside) link 0 p
+starts : (script : ScriptValue) (dlci : ℕ) (beside : Beside) (link : Link) (p : Progress) → Lasts (wire_at script dlci beside) link 0 p
     → p ≡ Goes [] (start link)
 starts script dlci beside link (Goes [] ends) h = ap (Goes []) h.run.run
 starts script dlci beside link (Goes (t ∷ ts) ends) h = absurd (omega (arith, h.count))
@@ -141,8 +141,8 @@ one-first laws script files others delays n one p q r s a b =
     let x = before-first script files others delays n p q a in
     let y = before-first script files others delays n r s b in
     let e = one x.was.earlier q y.was.earlier s x.at y.at in (
-      lasts-once laws (first_channel script (turns_in s)) (link_of script files) (suc n) p r
-          (subst (λ z. Lasts (first_channel script (turns_in z)) (link_of script files) (suc n) p) e.1 a.first) b.first,
+      lasts-once laws (first_wire script (turns_in s)) (link_of script files) (suc n) p r
+          (subst (λ z. Lasts (first_wire script (turns_in z)) (link_of script files) (suc n) p) e.1 a.first) b.first,
       e.1,
     )
 
@@ -153,8 +153,8 @@ one-second laws script files others delays n one p q r s a b =
     let y = before-second script files others delays n r s b in
     let e = one p x.was.earlier r y.was.earlier x.at y.at in (
       e.0,
-      lasts-once laws (second_channel script (turns_in r)) (link_of script others) (suc n) q s
-          (subst (λ z. Lasts (second_channel script (turns_in z)) (link_of script others) (suc n) q) e.0 a.second) b.second,
+      lasts-once laws (second_wire script (turns_in r)) (link_of script others) (suc n) q s
+          (subst (λ z. Lasts (second_wire script (turns_in z)) (link_of script others) (suc n) q) e.0 a.second) b.second,
     )
 
 one-round : SameLaws → (script : ScriptValue) (files others : Both (List ℕ)) → HasDelays script → (n : ℕ) → OneAt script files others n n
@@ -175,8 +175,8 @@ one-at laws script files others delays Second round p q r s a b =
 
 -- that turn's slots are heard well
 abbrev pub HearsTurn : ScriptValue → Which → ℕ → Progress → Progress → Type 0
-HearsTurn script First round p q = HearsIdly (first_channel script (turns_in q)) (turns_on_line round p) (ends_in p)
-HearsTurn script Second round p q = HearsIdly (second_channel script (turns_in p)) (turns_on_line round q) (ends_in q)
+HearsTurn script First round p q = HearsIdly (first_wire script (turns_in q)) (turns_on_line round p) (ends_in p)
+HearsTurn script Second round p q = HearsIdly (second_wire script (turns_in p)) (turns_on_line round q) (ends_in q)
 
 -- a pair as an earlier turn began
 pub record Earlier (script : ScriptValue) (files others : Both (List ℕ)) (link : Which) (round : ℕ) (p q : Progress) : Type 0 where

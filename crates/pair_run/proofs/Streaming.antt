@@ -11,9 +11,9 @@ use Rattle.detection.specs.Slots.{Signal}
 use Rattle.noise_script.specs.Script.{ScriptValue, delay_of}
 use Rattle.link_run.specs.Run.{Spoken, Turn}
 use Rattle.link_run.specs.Carried.{sent_ago}
-use Rattle.line_run.specs.Sampled.{Channel, signal_in, signals, signals_before}
-use Rattle.pair_run.specs.Beside.{first_dlci, second_dlci, signal_or_flags, slot_in, after_second, after_first, first_channel}
-use Rattle.pair_run.specs.Beside.{second_channel}
+use Rattle.line_run.specs.Sampled.{Wire, signal_in, signals, signals_before}
+use Rattle.pair_run.specs.Beside.{first_dlci, second_dlci, signal_or_flags, slot_in, after_second, after_first, first_wire}
+use Rattle.pair_run.specs.Beside.{second_wire}
 use Rattle.line_run.specs.Stream.{Carried, carried_signal, carry, AreSent, IsDue}
 use Rattle.line_run.proofs.Streaming.{one-carried, carried-signal, Back, back, none-back, sent-dropped, cut-at}
 use Rattle.pair_run.specs.Stream.{both_sent, first_sent}
@@ -79,13 +79,13 @@ newest dlci role t ts n e = go (nat_eq n (length ts)) (same n (length ts) e)
 
 -- what the first link's channel has before its next slot
 pub first-signals : (script : ScriptValue) (role : Role) (ts us : List Turn) → AreSent role ts → AreSent role us → length ts ≡ length us
-    → map (carried_signal role) (both_sent role ts us) ≡ signals_before (first_channel script us) role ts
+    → map (carried_signal role) (both_sent role ts us) ≡ signals_before (first_wire script us) role ts
 first-signals script role [] us h k e = refl
 first-signals script role (t ∷ ts) [] h k e = absurd (omega (arith, e))
 first-signals script role (t ∷ ts) (u ∷ us) h k e = go (first-signals script role ts us h.1 k.1 (omega (arith, e)))
   where
-    c : Channel
-    c = first_channel script (u ∷ us)
+    c : Wire
+    c = first_wire script (u ∷ us)
 
     same : length ts ≡ length us
     same = omega (arith, e)
@@ -103,10 +103,10 @@ first-signals script role (t ∷ ts) (u ∷ us) h k e = go (first-signals script
     below r zero l = refl
     below r (suc round) l = ap Some (sym (slot-stays second_dlci r u us round (omega (arith, l, same))))
 
-    near : signals_before (first_channel script us) role ts ≡ before
+    near : signals_before (first_wire script us) role ts ≡ before
     near = same-before script first_dlci (after_second us) (after_second (u ∷ us)) role ts below
 
-    go : map (carried_signal role) (both_sent role ts us) ≡ signals_before (first_channel script us) role ts
+    go : map (carried_signal role) (both_sent role ts us) ≡ signals_before (first_wire script us) role ts
         → map (carried_signal role) (both_sent role ts us ++ first ++ second) ≡ signals_before c role (t ∷ ts)
     go ih =
         map-append (carried_signal role) (both_sent role ts us ++ first) second
@@ -118,14 +118,14 @@ first-signals script role (t ∷ ts) (u ∷ us) h k e = go (first-signals script
 
 -- and what the second's has
 pub second-signals : (script : ScriptValue) (role : Role) (ts us : List Turn) → AreSent role ts → AreSent role us → length ts ≡ length us
-    → map (carried_signal role) (both_sent role ts us) ≡ signals (second_channel script ts) role us
+    → map (carried_signal role) (both_sent role ts us) ≡ signals (second_wire script ts) role us
 second-signals script role [] [] h k e = refl
 second-signals script role [] (u ∷ us) h k e = absurd (omega (arith, e))
 second-signals script role (t ∷ ts) [] h k e = absurd (omega (arith, e))
 second-signals script role (t ∷ ts) (u ∷ us) h k e = go (second-signals script role ts us h.1 k.1 (omega (arith, e)))
   where
-    c : Channel
-    c = second_channel script (t ∷ ts)
+    c : Wire
+    c = second_wire script (t ∷ ts)
 
     same : length us ≡ length ts
     same = omega (arith, e)
@@ -139,10 +139,10 @@ second-signals script role (t ∷ ts) (u ∷ us) h k e = go (second-signals scri
     below : SameBelow (length us) (after_first ts) (after_first (t ∷ ts))
     below r round l = ap Some (sym (slot-stays first_dlci r t ts round (omega (arith, l, same))))
 
-    near : signals (second_channel script ts) role us ≡ signals c role us
+    near : signals (second_wire script ts) role us ≡ signals c role us
     near = same-signals script second_dlci (after_first ts) (after_first (t ∷ ts)) role us below
 
-    go : map (carried_signal role) (both_sent role ts us) ≡ signals (second_channel script ts) role us
+    go : map (carried_signal role) (both_sent role ts us) ≡ signals (second_wire script ts) role us
         → map (carried_signal role) (both_sent role ts us ++ first ++ second) ≡ signals c role (u ∷ us)
     go ih =
         map-append (carried_signal role) (both_sent role ts us ++ first) second
@@ -154,7 +154,7 @@ second-signals script role (t ∷ ts) (u ∷ us) h k e = go (second-signals scri
 
 -- The first link's slot is due as a round begins,
 pub first-due : (script : ScriptValue) (role : Role) (ts us : List Turn) → 1 ≤ delay_of script role → AreSent role ts → AreSent role us
-    → length ts ≡ length us → IsDue (first_channel script us) role ts (both_sent role ts us) (2 * delay_of script role)
+    → length ts ≡ length us → IsDue (first_wire script us) role ts (both_sent role ts us) (2 * delay_of script role)
 first-due script role ts us some h k e = record {
   early = λ l. none-back (d - 1) role ts (omega (arith, l, count, some));
   late = λ l. omega (arith, l, count);
@@ -171,7 +171,7 @@ first-due script role ts us some h k e = record {
         × (drop (length (both_sent role ts us) - 2 * d) (both_sent role ts us)
         ≡ (record { dlci = first_dlci; spoken = slot }) ∷ drop (suc (length (both_sent role ts us) - 2 * d)) (both_sent role ts us))
         × (map (carried_signal role) (take (length (both_sent role ts us) - 2 * d) (both_sent role ts us))
-        ≡ signals_before (first_channel script us) role (drop d ts))
+        ≡ signals_before (first_wire script us) role (drop d ts))
     found l =
         let b : Back (d - 1) role ts = back (d - 1) role ts h l in
         let w : Back (d - 1) role us = back (d - 1) role us k (omega (arith, l, e)) in
@@ -208,7 +208,7 @@ first-due script role ts us some h k e = record {
 -- and the second's as its turn begins.
 pub second-due : (script : ScriptValue) (role : Role) (t : Turn) (ts us : List Turn) → 1 ≤ delay_of script role → AreSent role (t ∷ ts)
     → AreSent role us → length ts ≡ length us
-    → IsDue (second_channel script (t ∷ ts)) role us (first_sent role (t ∷ ts) us) (2 * delay_of script role)
+    → IsDue (second_wire script (t ∷ ts)) role us (first_sent role (t ∷ ts) us) (2 * delay_of script role)
 second-due script role t ts us some h k e = record {
   early = λ l. none-back (d - 1) role us (omega (arith, l, count, some, e));
   late = λ l. omega (arith, l, count, e);
@@ -227,8 +227,8 @@ second-due script role t ts us some h k e = record {
         let b = one-carried first_dlci (of role t).sent h.0 in
         omega (arith, a, b, length-append {A = Carried} (both_sent role ts us) (carry first_dlci (of role t).sent))
 
-    c : Channel
-    c = second_channel script (t ∷ ts)
+    c : Wire
+    c = second_wire script (t ∷ ts)
 
     found : d - 1 < length us → (slot : Spoken) × (sent_ago d role us ≡ Some slot)
         × (drop (length stream - 2 * d) stream ≡ (record { dlci = second_dlci; spoken = slot }) ∷ drop (suc (length stream - 2 * d)) stream)
@@ -284,7 +284,7 @@ second-due script role t ts us some h k e = record {
               (second-signals script role (drop d ts) (drop d us) hs ks few
               ∙ same-signals script second_dlci (after_first (drop d ts)) (after_first (b.turn ∷ drop d ts)) role (drop d us)
               (λ r round less. ap Some (sym (slot-stays first_dlci r b.turn (drop d ts) round (omega (arith, less, few))))))
-              ∙ ap (λ l. signals (second_channel script (b.turn ∷ drop d ts)) role (drop d us) ++ l)
+              ∙ ap (λ l. signals (second_wire script (b.turn ∷ drop d ts)) role (drop d us) ++ l)
               (carried-one first_dlci role (of role b.turn).sent is-one ∙ ap (λ z. z ∷ []) (sym newer))
               ∙ same-before script second_dlci (after_first (b.turn ∷ drop d ts)) (after_first (t ∷ ts)) role (drop d us) same-slots,
         )

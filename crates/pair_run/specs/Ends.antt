@@ -10,7 +10,7 @@ use Rattle.line_run.specs.Sampled.{LineEnd, EndsLine}
 use Rattle.line_run.specs.Sampled as lines
 use Rattle.line_run.specs.Ends.{RunEnd, Left, Leaves}
 use Rattle.line_run.specs.Ends as runs
-use Rattle.pair_run.specs.Beside.{first_channel, second_channel}
+use Rattle.pair_run.specs.Beside.{first_wire, second_wire}
 use Rattle.pair_run.specs.Pair.{Progress, Goes, Ended, turns_in, ends_in, turns_on_line, PairAt}
 
 -- one of the two links
@@ -63,8 +63,8 @@ firsts_at Second round = suc round
 
 -- the line ends the pair in the turn of this link
 abbrev pub EndsTurn : ScriptValue → Which → ℕ → Progress → Progress → LineEnd → Type 0
-EndsTurn script First round p q end = EndsLine (first_channel script (turns_in q)) (turns_on_line round p) (ends_in p) end
-EndsTurn script Second round p q end = EndsLine (second_channel script (turns_in p)) (turns_on_line round q) (ends_in q) end
+EndsTurn script First round p q end = EndsLine (first_wire script (turns_in q)) (turns_on_line round p) (ends_in p) end
+EndsTurn script Second round p q end = EndsLine (second_wire script (turns_in p)) (turns_on_line round q) (ends_in q) end
 
 -- what is left of a link, with this text behind its trace
 abbrev pub LeavesOf : Progress → List ℕ → Left → Type 0

@@ -22,7 +22,7 @@ use Rattle.link_run.specs.Run.{Link, Accounts, Spoken, Turn, Hears}
 use Rattle.link_run.specs.Carried.{sent_ago, has_message, Crosses, Carries}
 use Rattle.link_run.specs.Outcomes.{Outcome, Going, Done, Broken, TurnIs}
 use Rattle.line_run.specs.Sampled.{HeardIn, LineRun}
-use Rattle.line_run.specs.Scripted.{channel_of, link_of}
+use Rattle.line_run.specs.Scripted.{wire_of, link_of}
 use Rattle.line_texts.specs.FrameText.{break_in}
 use Rattle.line_texts.specs.LineText.{is_chance}
 use Rattle.trace_audit.specs.Grammar.{IsBreak, count_bound}
@@ -108,15 +108,15 @@ hears-of link ts ends t mid Done l = l.hearing
 hears-of link ts ends t mid (Broken role fault) b = b.hearing
 
 module _ (laws : SendLaws) (script : ScriptValue) (files : Both (List ℕ)) (ts : List Turn) (ends : Accounts) (h : IsInLimits script)
-    (o : AsksInOctets script) (r : LineRun (channel_of script) (link_of script files) ts ends) where
+    (o : AsksInOctets script) (r : LineRun (wire_of script) (link_of script files) ts ends) where
   both : HoldBoth (λ role. (of role (link_of script files)).user.file) ts ends
   both = holds-all laws script files ts ends h o r
 
   -- what a turn sends
-  spoken-read : (t : Turn) (mid : Accounts) (outcome : Outcome) → HeardIn (channel_of script) ts t → TurnIs (link_of script files) ts ends t mid outcome
+  spoken-read : (t : Turn) (mid : Accounts) (outcome : Outcome) → HeardIn (wire_of script) ts t → TurnIs (link_of script files) ts ends t mid outcome
       → (role : Role) → IsKnown (of role t).sent
   spoken-read t mid Going heard g role slot e =
-      let run : LineRun (channel_of script) (link_of script files) (t ∷ ts) g.0 =
+      let run : LineRun (wire_of script) (link_of script files) (t ∷ ts) g.0 =
       record { run = (ends, r.run, g.1); heard = (heard, r.heard) } in
       let k = holds-all laws script files (t ∷ ts) g.0 h o run in
       (k.sendable.0 role slot e, λ frame f. k.short.0 role slot frame e f)
@@ -127,11 +127,11 @@ module _ (laws : SendLaws) (script : ScriptValue) (files : Both (List ℕ)) (ts 
   sent-line None f = tt
   sent-line (Some slot) f = let k = f slot refl in sent-read slot.sent k.0 k.1
 
-  line-read : (t : Turn) (mid : Accounts) (outcome : Outcome) → HeardIn (channel_of script) ts t → TurnIs (link_of script files) ts ends t mid outcome
+  line-read : (t : Turn) (mid : Accounts) (outcome : Outcome) → HeardIn (wire_of script) ts t → TurnIs (link_of script files) ts ends t mid outcome
       → length ts < 2 ^ 40 → (role : Role) → IsReadable (line_of (length ts) role (of role t))
   line-read t mid outcome heard is early role =
       let hearing = hears-of (link_of script files) ts ends t mid outcome is in
-      let carries : Carries (delay_of script) ts t = laws.one (channel_of script) ts t heard in
+      let carries : Carries (delay_of script) ts t = laws.one (wire_of script) ts t heard in
       let from : Role = other role in
       let known : IsKnown (sent_ago (delay_of script from) from ts) = λ slot e.
       let s = sent-ago from (delay_of script from) ts slot (laws.delays script h from) e in

@@ -26,7 +26,7 @@ use Rattle.link_run.specs.Carried.{sent_ago, Crosses, Carries}
 use Rattle.link_run.specs.Laws.{RunsOver, SendsShort}
 use Rattle.link_run.specs.Reading.{StaysOffered, BeginsUnoffered, HearingStaysOffered, SpeakingStaysOffered}
 use Rattle.line_run.specs.Sampled.{LineRun}
-use Rattle.line_run.specs.Scripted.{channel_of, link_of, break_line, breaks_of, ScriptsMayPlay, ScriptsHaveDelays}
+use Rattle.line_run.specs.Scripted.{wire_of, link_of, break_line, breaks_of, ScriptsMayPlay, ScriptsHaveDelays}
 use Rattle.line_run.specs.LineLaws.{SamplesAreCarried, OneIsCarried}
 use Rattle.readable_runs.specs.Readable.{IsPlainSent, AllPlain, AllShort, AsksInOctets}
 use Rattle.readable_runs.proofs.Slots.{sent-ago}
@@ -132,7 +132,7 @@ mid-holds-at laws script files ts before t mid h c hearing k role =
 -- one turn more
 next-turn : SendLaws → (script : ScriptValue) (files : Both (List ℕ)) (ts : List Turn) (before : Accounts) (t : Turn) (after : Accounts)
     → IsInLimits script → AsksInOctets script
-    → LineRun (channel_of script) (link_of script files) ts before → Carries (delay_of script) ts t
+    → LineRun (wire_of script) (link_of script files) ts before → Carries (delay_of script) ts t
     → GoingTurn (link_of script files) ts before t after
     → HoldBoth (λ role. (of role (link_of script files)).user.file) ts before
     → HoldBoth (λ role. (of role (link_of script files)).user.file) (t ∷ ts) after
@@ -187,7 +187,7 @@ next-turn laws script files ts before t after h o r c g k =
     over = record {
       may_play = laws.play script files h;
       delays = laws.delays script h;
-      carried = laws.carried (channel_of script) ts r.heard;
+      carried = laws.carried (wire_of script) ts r.heard;
       run = r.run;
     }
 
@@ -208,7 +208,7 @@ next-turn laws script files ts before t after h o r c g k =
 
 pub holds-all : SendLaws → (script : ScriptValue) (files : Both (List ℕ)) (ts : List Turn) (ends : Accounts) → IsInLimits script
     → AsksInOctets script
-    → LineRun (channel_of script) (link_of script files) ts ends → HoldBoth (λ role. (of role (link_of script files)).user.file) ts ends
+    → LineRun (wire_of script) (link_of script files) ts ends → HoldBoth (λ role. (of role (link_of script files)).user.file) ts ends
 holds-all laws script files [] ends h o r =
     record {
       sendable = tt;
@@ -230,6 +230,6 @@ holds-all laws script files [] ends h o r =
       owes = (tt, All-nil (λ octet. octet < 256));
     }
 holds-all laws script files (t ∷ ts) ends h o r =
-    let before : LineRun (channel_of script) (link_of script files) ts r.run.0 = record { run = r.run.1; heard = r.heard.1 } in
-    next-turn laws script files ts r.run.0 t ends h o before (laws.one (channel_of script) ts t r.heard.0) r.run.2
+    let before : LineRun (wire_of script) (link_of script files) ts r.run.0 = record { run = r.run.1; heard = r.heard.1 } in
+    next-turn laws script files ts r.run.0 t ends h o before (laws.one (wire_of script) ts t r.heard.0) r.run.2
     (holds-all laws script files ts r.run.0 h o before)

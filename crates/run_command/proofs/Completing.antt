@@ -10,7 +10,7 @@ use Rattle.noise_script.specs.Grammar.{ScriptSpelling}
 use Rattle.noise_script.specs.Laws.{ScriptsAreOne, NoFaultInScripts, SpelledIsInLimits, BreaksAreOctets}
 use Rattle.line_run.specs.Ends.{RunEnd, Left, OneResult}
 use Rattle.line_run.specs.Ends as runs
-use Rattle.line_run.specs.Scripted.{channel_of, link_of}
+use Rattle.line_run.specs.Scripted.{wire_of, link_of}
 use Rattle.line_ends.specs.Causes.{GivesUp, LostLinksWereStarved}
 use Rattle.line_ends.specs.Completes.{ScriptRunsTo, IsQuiet, EndsDone, LineEnds, AreOfOctets, CompletesWithFewLosses, CompletesWithFewNamed, CompletesQuiet}
 use Rattle.line_ends.specs.Completes.{CompletesUndisturbed}
@@ -94,7 +94,7 @@ never-up : ScriptsAreOne → LostLinksWereStarved → (old before : FolderState)
     → (AreOfOctetsAt old n → IsCarried script (files_at old n)) → GivesUp end → RanTo LIMITS old before n end → ⊥
 never-up one starved old before n script end r c g e =
     (carried-so one old before n script end r (c (octets-told old before n script end r e)) e).not_starved end e.left e.run g
-    (starved (channel_of e.script) e.files end e.left e.takes.limits e.run g)
+    (starved (wire_of e.script) e.files end e.left e.takes.limits e.run g)
 
 -- and the line didn't end it
 never-line : ScriptsAreOne → (old before : FolderState) (n : RunNames) (script : ScriptValue) (end : RunEnd) → AreRight old n script
@@ -190,7 +190,7 @@ answered : DoneLaws → (old before new : FolderState) (n : RunNames) (s : Statu
     → OnlyOutputs before new [] → AreRight old n script → RanTo LIMITS old before n found → ScriptRunsTo script (files_at old n) end left
     → s ≡ answer_of found → Answered new n end left s
 answered laws old before new n s script found end left last r e run is =
-    let one = laws.result (channel_of script) (link_of script (files_at old n)) found end e.left left
+    let one = laws.result (wire_of script) (link_of script (files_at old n)) found end e.left left
     (inputs-run laws.one old before n script found r e) run in
     record {
       answer = is ∙ ap answer_of one.0;

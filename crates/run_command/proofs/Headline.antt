@@ -12,7 +12,7 @@ use Rattle.link_run.specs.Laws.{agreed_srej}
 use Rattle.link_run.specs.Taken.{taken_octets}
 use Rattle.line_run.specs.Ends.{RunEnd, RunsTo, turns_heard}
 use Rattle.line_run.specs.Ends as runs
-use Rattle.line_run.specs.Scripted.{channel_of, link_of}
+use Rattle.line_run.specs.Scripted.{wire_of, link_of}
 use Rattle.command_base.specs.declared.status.Status.{Status}
 use Rattle.command_base.specs.declared.status.Status.TheVariants.{Done, ReadFault, WriteFault}
 use Rattle.command_base.specs.declared.status.Status.TheVariants.{LineLost, NotDetected, LinkLost, ChanceMatch}
@@ -46,7 +46,7 @@ whole-of : RunLaws → (old before new : FolderState) (n : RunNames) (turn : ℕ
     → HoldsWhole old new n.got_o n.answ × HoldsWhole old new n.got_a n.orig
 whole-of laws old before new n turn g kept e =
     let w =
-    laws.whole (channel_of e.script) (link_of e.script e.files) turn e.left (may-run laws e.script e.files e.takes.limits) e.run in (
+    laws.whole (wire_of e.script) (link_of e.script e.files) turn e.left (may-run laws e.script e.files e.takes.limits) e.run in (
       (λ ts tg. kept n.got_o (told_later g n.got_o tg) ∙ e.holds.0 (told_later g n.got_o tg)
           ∙ ap Some (w Originator ∙ e.takes.answ ts)),
       (λ ts tg. kept n.got_a (told_later g n.got_a tg) ∙ e.holds.1.0 (told_later g n.got_a tg) ∙ ap Some (w Answerer ∙ e.takes.orig ts)),
@@ -56,7 +56,7 @@ whole-of laws old before new n turn g kept e =
 ran-of : RunLaws → (old before new : FolderState) (n : RunNames) (end : RunEnd) → OnlyOutputs before new [] → RanTo LIMITS old before n end
     → Ran old new n end
 ran-of laws old before new n end last e =
-    let c = channel_of e.script in
+    let c = wire_of e.script in
     let link = link_of e.script e.files in
     let heard = turns_heard c link e.run.turns e.run.ends end e.left e.run.ended in
     let passed = laws.passed c link end e.left (may-run laws e.script e.files e.takes.limits) e.run in record {

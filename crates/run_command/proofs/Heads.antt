@@ -7,7 +7,7 @@ use Rattle.outside_calls.proofs.Holding.{Holds-kept, Holds-more}
 use Rattle.roles.specs.declared.role.Role.{Role}
 use Rattle.roles.specs.Role.{mode_of}
 use Rattle.recordings.specs.Recording.{header_of}
-use Rattle.line_run.specs.Sampled.{Channel}
+use Rattle.line_run.specs.Sampled.{Wire}
 use Rattle.run_inputs.specs.Words.{RunNames, texts_of, outputs_of}
 use Rattle.run_world.specs.Taping.{TapeStands, KeepsTape}
 use Rattle.run_world.specs.declared.tape.Tape.{Tape}
@@ -17,7 +17,7 @@ pub heads : (a b : FolderState) (name header : List ℕ) → GoesOn a b → Hold
 heads a b name header on none put = Holds-more a b name [] header on none put
 
 -- it is the recording of no turns
-pub begins : (tape : Tape) (a b : FolderState) (c : Channel) (role : Role) (name : List ℕ) → TapeStands tape c role [] [] → tape.name.now ≡ name
+pub begins : (tape : Tape) (a b : FolderState) (c : Wire) (role : Role) (name : List ℕ) → TapeStands tape c role [] [] → tape.name.now ≡ name
     → GoesOn a b → Holds a name [] → Appended a b name (header_of (mode_of role)) → KeepsTape tape b c role []
 begins tape a b c role name stands is on none put = record {
   body = [];

@@ -20,7 +20,7 @@ use Rattle.link_run.specs.Laws.{RunsOver, TakesPrefixes, HearsPrefixes, Hearings
 use Rattle.line_run.specs.Sampled.{LineRun}
 use Rattle.line_run.specs.LineLaws.{SamplesAreCarried, OneIsCarried}
 use Rattle.line_run.specs.Ends.{RunEnd, Left, MayRun, RunsLeavePrefixes, DoneLeavesWhole, RunsLeaveWhatPassed}
-use Rattle.line_run.specs.Scripted.{channel_of, link_of, ScriptsMayPlay, ScriptsHaveDelays}
+use Rattle.line_run.specs.Scripted.{wire_of, link_of, ScriptsMayPlay, ScriptsHaveDelays}
 use Rattle.line_ends.specs.Scripts.{LineRunsEndSoon}
 use Rattle.line_ends.specs.Causes.{EndsHaveCauses}
 use Rattle.command_base.specs.declared.status.Status.{Status}
@@ -53,17 +53,17 @@ pub record RunLaws : Type 0 where
   pub least : OfEachCode ReleasedIsLeast
 
 pub may-run : RunLaws → (script : ScriptValue) (files : Both (List ℕ)) → IsInLimits script
-    → MayRun (channel_of script) (link_of script files)
+    → MayRun (wire_of script) (link_of script files)
 may-run laws script files limits = record { may_play = laws.play script files limits; delays = laws.delays script limits }
 
 runs-over : RunLaws → (script : ScriptValue) (files : Both (List ℕ)) (ts : List Turn) (ends : Accounts) → IsInLimits script
-    → LineRun (channel_of script) (link_of script files) ts ends
+    → LineRun (wire_of script) (link_of script files) ts ends
     → RunsOver (link_of script files) (delay_of script) ts ends
 runs-over laws script files ts ends limits r =
     record {
       may_play = laws.play script files limits;
       delays = laws.delays script limits;
-      carried = laws.carried (channel_of script) ts r.heard;
+      carried = laws.carried (wire_of script) ts r.heard;
       run = r.run;
     }
 
@@ -99,7 +99,7 @@ pub record BothPrefix (old before : FolderState) (n : RunNames) : Type 0 where
 both-ran : RunLaws → (old before : FolderState) (n : RunNames) (end : RunEnd) → GoesOn old before → RanTo LIMITS old before n end
     → BothPrefix old before n
 both-ran laws old before n end g e =
-    let c = channel_of e.script in
+    let c = wire_of e.script in
     let link = link_of e.script e.files in
     let may = may-run laws e.script e.files e.takes.limits in record {
       got_o = prefix-of old before n.got_o n.answ e.files.answ e.left.got.orig g e.takes.answ e.holds.0
@@ -134,7 +134,7 @@ hears-of link ts ends t mid (Broken role fault) b = b.hearing
 
 -- what is left of some turns, and what the next one adds
 stopped-prefix : RunLaws → (script : ScriptValue) (files : Both (List ℕ)) (f : FolderState) (n : RunNames) → IsInLimits script
-    → (s : StopsAfter (channel_of script) (link_of script files) f (names_written n)) → (role : Role)
+    → (s : StopsAfter (wire_of script) (link_of script files) f (names_written n)) → (role : Role)
     → IsPrefixOf (of role s.left.got ++ of role s.more.got) (of (other role) (link_of script files)).user.file
 stopped-prefix laws script files f n limits s role = by s.adds
   where
@@ -144,13 +144,13 @@ stopped-prefix laws script files f n limits s role = by s.adds
     over : RunsOver link (delay_of script) s.turns s.ends
     over = runs-over laws script files s.turns s.ends limits s.run
 
-    by : AddsTurn (channel_of script) link s.turns s.ends s.more ⊎ AddsChance (channel_of script) s.turns s.ends s.more
+    by : AddsTurn (wire_of script) link s.turns s.ends s.more ⊎ AddsChance (wire_of script) s.turns s.ends s.more
         → IsPrefixOf (of role s.left.got ++ of role s.more.got) (of (other role) link).user.file
     by (inl a) =
         let hears = hears-of link s.turns s.ends a.turn a.mid a.outcome a.is in
         let whole : HoldPrefixes link a.mid =
         laws.hears link (delay_of script) s.turns s.ends a.turn a.mid over
-        (laws.one (channel_of script) s.turns a.turn a.heard) hears in
+        (laws.one (wire_of script) s.turns a.turn a.heard) hears in
         let all : of role s.left.got ++ of role s.more.got ≡ concat (of role a.mid).incoming.taken =
         ap (λ x. x ++ of role s.more.got) (s.leaves.got_is role) ∙ ap (λ x. concat (of role s.ends).incoming.taken ++ x) (a.got_is role)
         ∙ sym (concat-append (of role s.ends).incoming.taken (deliveries (of role a.mid)))

@@ -7,7 +7,7 @@ use Rattle.roles.specs.Both.{Both}
 use Rattle.noise_script.specs.Script.{ScriptValue}
 use Rattle.line_run.specs.Ends.{RunEnd}
 use Rattle.line_run.specs.Ends as runs
-use Rattle.line_run.specs.Scripted.{channel_of}
+use Rattle.line_run.specs.Scripted.{wire_of}
 use Rattle.line_run.specs.Scripts.{LineRunsEndSoon}
 use Rattle.run_world.specs.Limits.{file_limit}
 use Rattle.run_world.specs.declared.step.RunFault.{RunFault}
@@ -120,7 +120,7 @@ stops-in soon old mid now next n script p r =
       takes = takes old mid now next n script r.files p r.knows;
       stops = r.stops;
       taped = r.taped;
-      few = soon (channel_of script) r.files r.stops.turns r.stops.ends p.begun.limits r.stops.run;
+      few = soon (wire_of script) r.files r.stops.turns r.stops.ends p.begun.limits r.stops.run;
     }
 
 stops-in-reading : LineRunsEndSoon → (old mid now next : FolderState) (n : RunNames) (script : ScriptValue) → Phases LIMITS old mid now next n script

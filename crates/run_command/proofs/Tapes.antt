@@ -13,10 +13,10 @@ use Rattle.recordings.specs.Recording.{header_of}
 use Rattle.noise_script.specs.Script.{ScriptValue}
 use Rattle.link_run.specs.Run.{Accounts, Turn}
 use Rattle.link_run.specs.Outcomes.{Going, TurnIs}
-use Rattle.line_run.specs.Sampled.{Channel, LineRun}
+use Rattle.line_run.specs.Sampled.{Wire, LineRun}
 use Rattle.line_run.specs.Ends.{RunEnd}
 use Rattle.line_run.specs.Recorded.{Tapes, tapes_of}
-use Rattle.line_run.specs.Scripted.{channel_of, link_of}
+use Rattle.line_run.specs.Scripted.{wire_of, link_of}
 use Rattle.command_base.specs.declared.status.Status.{Status}
 use Rattle.command_base.specs.declared.status.Status.TheVariants.{LineLost, NotDetected, LinkLost, ChanceMatch}
 use Rattle.command_base.specs.declared.stop.Stop.{Stop}
@@ -31,7 +31,7 @@ use Rattle.run_command.specs.Tapes.{HeadsPartly, TapeBegun, TapesBegun}
 
 -- ---- once the last line is said
 
-pub tapes-last : (before new : FolderState) (tapes : Tapes) (c : Channel) (ts : List Turn) → OnlyOutputs before new []
+pub tapes-last : (before new : FolderState) (tapes : Tapes) (c : Wire) (ts : List Turn) → OnlyOutputs before new []
     → HoldTapes before tapes c ts → HoldTapes new tapes c ts
 tapes-last before new None c ts last h = tt
 tapes-last before new (Some names) c ts last h = (one names.orig Originator h.0, one names.answ Answerer h.1)
@@ -69,8 +69,8 @@ begun-last old before new n (Some names) last g h = (one names.orig Originator h
 -- what was recorded of some turns
 module _ (old before : FolderState) (n : RunNames) (script : ScriptValue) (files : Both (List ℕ))
     (takes : Takes LIMITS old n script files) where
-  abbrev c : Channel
-  c = channel_of script
+  abbrev c : Wire
+  c = wire_of script
 
   of-turns : (name : List ℕ) (role : Role) (ts : List Turn) (ends : Accounts) → LineRun c (link_of script files) ts ends
       → HoldsTape before name c role ts → TapeBegun old before n name role
@@ -124,7 +124,7 @@ tapes-ran old before n end e =
 tapes-stopped : (old before : FolderState) (n : RunNames) → StopsInTurn LIMITS old before n → TapesBegun old before n n.tapes
 tapes-stopped old before n e = by e.taped
   where
-    by : TapesStop (channel_of e.script) (link_of e.script e.files) before (names_written n) n.tapes e.stops → TapesBegun old before n n.tapes
+    by : TapesStop (wire_of e.script) (link_of e.script e.files) before (names_written n) n.tapes e.stops → TapesBegun old before n n.tapes
     by (inl h) = both-turns old before n e.script e.files e.takes n.tapes e.stops.turns e.stops.ends e.stops.run h
     by (inr s) =
         let on : TurnIs (link_of e.script e.files) e.stops.turns e.stops.ends s.adds.turn s.adds.mid Going =

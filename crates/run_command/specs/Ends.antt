@@ -7,7 +7,7 @@ use Rattle.roles.specs.Both.{Both}
 use Rattle.noise_script.specs.Script.{ScriptValue, IsInLimits}
 use Rattle.line_run.specs.Ends.{RunEnd, Left, RunsTo}
 use Rattle.line_run.specs.Ends as runs
-use Rattle.line_run.specs.Scripted.{channel_of, link_of}
+use Rattle.line_run.specs.Scripted.{wire_of, link_of}
 use Rattle.line_run.specs.Scripts.{HasFewTurns}
 use Rattle.run_world.specs.Link.{AreWithin}
 use Rattle.run_world.specs.declared.step.RunFault.{RunFault}
@@ -51,23 +51,23 @@ pub record RanTo (l : Limits) (old new : FolderState) (n : RunNames) (end : RunE
   pub files : Both (List ℕ)
   pub takes : Takes l old n script files
   pub left : Left
-  pub run : RunsTo (channel_of script) (link_of script files) end left
+  pub run : RunsTo (wire_of script) (link_of script files) end left
   pub holds : HoldEach new (texts_of n) (held_of left)
-  pub taped : HoldTapes new n.tapes (channel_of script) run.turns
+  pub taped : HoldTapes new n.tapes (wire_of script) run.turns
 
 -- The folder failed in a turn of the run of the inputs, behind few turns.
 pub record StopsInTurn (l : Limits) (old new : FolderState) (n : RunNames) : Type 0 where
   pub script : ScriptValue
   pub files : Both (List ℕ)
   pub takes : Takes l old n script files
-  pub stops : StopsAfter (channel_of script) (link_of script files) new (names_written n)
-  pub taped : TapesStop (channel_of script) (link_of script files) new (names_written n) n.tapes stops
+  pub stops : StopsAfter (wire_of script) (link_of script files) new (names_written n)
+  pub taped : TapesStop (wire_of script) (link_of script files) new (names_written n) n.tapes stops
   pub few : HasFewTurns script files stops.turns stops.ends
 
 -- It failed to read a file that is sent.
 abbrev pub StopsInReading : Limits → FolderState → FolderState → RunNames → Type 0
 StopsInReading l old new n =
-    (s : StopsInTurn l old new n) × StopsReading (channel_of s.script) (link_of s.script s.files) new (names_written n) n.tapes s.stops
+    (s : StopsInTurn l old new n) × StopsReading (wire_of s.script) (link_of s.script s.files) new (names_written n) n.tapes s.stops
 
 -- An output was not created, once the inputs were opened.
 pub record StopsCreating (l : Limits) (old new : FolderState) (n : RunNames) : Type 0 where

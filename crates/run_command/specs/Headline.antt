@@ -10,7 +10,7 @@ use Rattle.link_run.specs.Laws.{agreed_srej}
 use Rattle.link_run.specs.Taken.{taken_octets}
 use Rattle.line_run.specs.Ends.{RunEnd, Left, RunsTo, turns_heard}
 use Rattle.line_run.specs.Ends as runs
-use Rattle.line_run.specs.Scripted.{channel_of, link_of}
+use Rattle.line_run.specs.Scripted.{wire_of, link_of}
 use Rattle.line_ends.specs.Scripts.{HasFewTurns}
 use Rattle.line_ends.specs.Causes.{HasCause}
 use Rattle.command_base.specs.declared.status.Status.{Status}
@@ -49,15 +49,15 @@ pub record Ran (old new : FolderState) (n : RunNames) (end : RunEnd) : Type 0 wh
   pub files : Both (List ℕ)
   pub are_of : AreOf old n script files
   pub left : Left
-  pub run : RunsTo (channel_of script) (link_of script files) end left
+  pub run : RunsTo (wire_of script) (link_of script files) end left
   pub heard : List Turn
-  pub heard_is : heard ≡ turns_heard (channel_of script) (link_of script files) run.turns run.ends end left run.ended
-  pub read_off : AreReadOff (channel_of script) heard
+  pub heard_is : heard ≡ turns_heard (wire_of script) (link_of script files) run.turns run.ends end left run.ended
+  pub read_off : AreReadOff (wire_of script) heard
   pub got : HoldWhatPassed new n script (link_of script files) heard
   pub trace : Holds new n.trace left.trace
-  pub taped : HoldTapes new n.tapes (channel_of script) run.turns
+  pub taped : HoldTapes new n.tapes (wire_of script) run.turns
   pub few : HasFewTurns script files run.turns run.ends
-  pub cause : HasCause (channel_of script) files end left run
+  pub cause : HasCause (wire_of script) files end left run
 
 -- the run, where the answer is one by which a run itself ends; done says its last turn
 abbrev pub RanBy : FolderState → FolderState → RunNames → Status → Type 0

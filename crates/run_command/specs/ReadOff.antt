@@ -11,20 +11,20 @@ use Rattle.lapm_frames.specs.declared.heard.Heard.{Heard}
 use Rattle.noise_script.specs.Script.{delay_of}
 use Rattle.link_run.specs.Run.{Spoken, Turn}
 use Rattle.link_run.specs.Carried.{sent_ago}
-use Rattle.line_run.specs.Sampled.{Channel, Arrives}
+use Rattle.line_run.specs.Sampled.{Wire, Arrives}
 
 -- the labels begin a code sequence that is no farther from the samples than any other
 abbrev pub BeginNearest : List Sample → List ℕ → Type 0
 BeginNearest samples labels = (rest : List ℕ) × IsLeast line_trellis samples (labels ++ rest)
 
 -- The last slot that this sender sent in these turns has arrived with this outcome, read off such labels.
-pub record IsReadOff (c : Channel) (sender : Role) (earlier upto : List Turn) (hearing : Check) (slot : Spoken)
+pub record IsReadOff (c : Wire) (sender : Role) (earlier upto : List Turn) (hearing : Check) (slot : Spoken)
     (heard : Heard) : Type 0 where
   pub arrives : Arrives c sender earlier upto hearing slot heard
   pub nearest : BeginNearest arrives.samples arrives.received.gives.labels
 
 -- each slot that an end heard in these turns
-abbrev pub AreReadOff : Channel → List Turn → Type 0
+abbrev pub AreReadOff : Wire → List Turn → Type 0
 AreReadOff c [] = Unit {0}
 AreReadOff c (t ∷ ts) =
     ((role : Role) (slot : Spoken) → sent_ago (delay_of c.script (other role)) (other role) ts ≡ Some slot

@@ -11,7 +11,7 @@ use Rattle.noise_script.specs.Script.{ScriptValue, IsInLimits}
 use Rattle.link_run.specs.Run.{Accounts, Turn}
 use Rattle.line_run.specs.Recorded.{Tapes, IsRecorded}
 use Rattle.line_run.specs.Sampled.{LineRun}
-use Rattle.line_run.specs.Scripted.{channel_of, link_of}
+use Rattle.line_run.specs.Scripted.{wire_of, link_of}
 use Rattle.run_inputs.specs.Words.{RunNames}
 use Rattle.run_command.specs.Files.{AreOf}
 
@@ -32,9 +32,9 @@ pub record HoldsTapeFront (old new : FolderState) (n : RunNames) (name : List â„
   pub are_of : AreOf old n script files
   pub turns : List Turn
   pub ends : Accounts
-  pub run : LineRun (channel_of script) (link_of script files) turns ends
+  pub run : LineRun (wire_of script) (link_of script files) turns ends
   pub body : List â„•
-  pub recorded : IsRecorded (channel_of script) role turns body
+  pub recorded : IsRecorded (wire_of script) role turns body
   pub holds : HoldsFront new name (header_of (mode_of role) ++ body)
 
 -- it is as it was, or holds no more than the beginning of its header, or that and more

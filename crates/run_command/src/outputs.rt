@@ -3,7 +3,7 @@ ghost use Rattle.std.specs.Prelude.{◌≡◌, ◌⊎◌, ◌∷◌, [], Some, N
 ghost use Rattle.outside_calls.specs.Folder.{CountsStand, OnlyWrites};
 ghost use Rattle.outside_calls.specs.Outputs.{AreApart, Creates, CreatesPart, Holds, HoldsFront, OnlyOutputs, SaysNothing};
 ghost use Rattle.line_run.specs.Recorded.{tapes_of};
-ghost use Rattle.line_run.specs.Sampled.{Channel};
+ghost use Rattle.line_run.specs.Sampled.{Wire};
 ghost use Rattle.roles.specs.Role.{mode_of};
 ghost use Rattle.recordings.specs.Recording.{header_of};
 ghost use Rattle.command_base.specs.Stops.{WriteFails};
@@ -52,7 +52,7 @@ fn begin_tape<'a, F: Folder>(
     role: Role,
 ) -> Result<Tape<'a>, FolderFault>
     requires { Holds (F.state folder.old) name.now [] }
-    ensures ok { IfOk result (λ tape. (tape.name.now ≡ name.now) × ((c : Channel) → KeepsTape tape (F.state folder.new) c role [])) }
+    ensures ok { IfOk result (λ tape. (tape.name.now ≡ name.now) × ((c : Wire) → KeepsTape tape (F.state folder.new) c role [])) }
     ensures head { OnOk result (Holds (F.state folder.new) name.now (header_of (mode_of role))) }
     ensures err { OnErr result (HoldsFront (F.state folder.new) name.now (header_of (mode_of role))) }
     ensures only { OnlyWrites (F.state folder.old) (F.state folder.new) name.now }
@@ -77,7 +77,7 @@ fn begin_both<'a, F: Folder>(
     requires apart { AreApart (names.now.orig.now ∷ names.now.answ.now ∷ []) }
     requires created { Creates (F.state folder.old) (names.now.orig.now ∷ names.now.answ.now ∷ []) }
     ensures ok { IfOk result (λ tapes. (tape_names (Some tapes) ≡ Some (record { orig = names.now.orig.now; answ = names.now.answ.now }))
-        × ((c : Channel) → KeepTapes (Some tapes) (F.state folder.new) c [])) }
+        × ((c : Wire) → KeepTapes (Some tapes) (F.state folder.new) c [])) }
     ensures err { OnErr result (HeadsPartly (F.state folder.new) (Some (record { orig = names.now.orig.now; answ = names.now.answ.now }))) }
     ensures only { OnlyOutputs (F.state folder.old) (F.state folder.new) (names.now.orig.now ∷ names.now.answ.now ∷ []) }
     ensures said { SaysNothing (F.state folder.old) (F.state folder.new) }
@@ -101,7 +101,7 @@ fn begin_tapes<'a, F: Folder>(
 ) -> Result<Option<Both<Tape<'a>>>, FolderFault>
     requires apart { AreApart (tapes_of (named words.now).tapes) }
     requires created { Creates (F.state folder.old) (tapes_of (named words.now).tapes) }
-    ensures ok { IfOk result (λ tapes. (tape_names tapes ≡ (named words.now).tapes) × ((c : Channel) → KeepTapes tapes (F.state folder.new) c [])) }
+    ensures ok { IfOk result (λ tapes. (tape_names tapes ≡ (named words.now).tapes) × ((c : Wire) → KeepTapes tapes (F.state folder.new) c [])) }
     ensures err { OnErr result (HeadsPartly (F.state folder.new) (named words.now).tapes) }
     ensures only { OnlyOutputs (F.state folder.old) (F.state folder.new) (tapes_of (named words.now).tapes) }
     ensures said { SaysNothing (F.state folder.old) (F.state folder.new) }
@@ -123,7 +123,7 @@ pub(crate) fn make_outputs<'a, F: Folder>(
     words: &RunWords<'a>,
 ) -> Result<Option<Both<Tape<'a>>>, FolderFault>
     requires { are_apart (inputs_of (named words.now)) (outputs_of (named words.now)) ≡ true }
-    ensures ok { IfOk result (λ tapes. (tape_names tapes ≡ (named words.now).tapes) × ((c : Channel) → KeepTapes tapes (F.state folder.new) c [])) }
+    ensures ok { IfOk result (λ tapes. (tape_names tapes ≡ (named words.now).tapes) × ((c : Wire) → KeepTapes tapes (F.state folder.new) c [])) }
     ensures created { OnOk result (Creates (F.state folder.new) (texts_of (named words.now))) }
     ensures err { OnErr result (CreatesPart (F.state folder.old) (F.state folder.new) (outputs_of (named words.now))
         ⊎ (Creates (F.state folder.new) (texts_of (named words.now)) × HeadsPartly (F.state folder.new) (named words.now).tapes)) }

@@ -14,8 +14,8 @@ use Rattle.link_account.specs.Hear.{hear}
 use Rattle.link_run.specs.Run.{Accounts, Spoken, Turn, arrival, start}
 use Rattle.link_run.specs.Counts.{lost_in}
 use Rattle.link_run.specs.Laws.{RunsOver, HearingsAreWell}
-use Rattle.line_run.specs.Sampled.{Channel, HeardIn, IsHeardOf, LineRun, EndsLine, EndsLineBy}
-use Rattle.line_run.specs.Scripted.{channel_at, link_of, ScriptsMayPlay, ScriptsHaveDelays}
+use Rattle.line_run.specs.Sampled.{Wire, HeardIn, IsHeardOf, LineRun, EndsLine, EndsLineBy}
+use Rattle.line_run.specs.Scripted.{wire_at, link_of, ScriptsMayPlay, ScriptsHaveDelays}
 use Rattle.line_run.specs.LineLaws.{SamplesAreCarried, OneIsCarried}
 use Rattle.line_run.specs.Scripts.{NoLineRunIsLong}
 use Rattle.turn_bound.specs.Limits.{file_limit}
@@ -32,7 +32,7 @@ use Rattle.run_world.specs.Mid.{Overhears, TalliesHeard, HasHeard, turn_in}
 
 pub few-turns : NoLineRunIsLong → (m : Modems) (script : ScriptValue) (l : Lines) → AreReady m script l → m.turn < 2 ^ 39
 few-turns law m script l h = subst (λ n. n < 2 ^ 39) (sym h.after.turn)
-    (law (channel_at script m.dlci h.beside) h.files h.turns h.ends h.limits within h.after.run)
+    (law (wire_at script m.dlci h.beside) h.files h.turns h.ends h.limits within h.after.run)
   where
     within : (role : Role) → length (of role h.files) ≤ file_limit
     within Originator = h.within.orig
@@ -50,7 +50,7 @@ pub record HearingLaws : Type 0 where
   pub well : HearingsAreWell
 
 pub runs-over : ScriptsMayPlay → ScriptsHaveDelays → SamplesAreCarried
-    → (c : Channel) (files : Both (List ℕ)) (ts : List Turn) (ends : Accounts) → IsInLimits c.script
+    → (c : Wire) (files : Both (List ℕ)) (ts : List Turn) (ends : Accounts) → IsInLimits c.script
     → LineRun c (link_of c.script files) ts ends → RunsOver (link_of c.script files) (delay_of c.script) ts ends
 runs-over play delays carried c files ts ends limits run = record {
   may_play = play c.script files limits;
@@ -59,7 +59,7 @@ runs-over play delays carried c files ts ends limits run = record {
   run = run.run;
 }
 
-pub heard-in : (c : Channel) (files : Both (List ℕ)) (ts : List Turn) (ends : Accounts) (heard : Both Heard) (mid : Accounts)
+pub heard-in : (c : Wire) (files : Both (List ℕ)) (ts : List Turn) (ends : Accounts) (heard : Both Heard) (mid : Accounts)
     (sent : Both (Option Spoken)) → Overhears c files ts ends heard mid → HeardIn c ts (turn_in heard ends mid sent)
 heard-in c files ts ends heard mid sent o Originator = record { heard_of = o.heard_of Originator; well = o.well Originator }
 heard-in c files ts ends heard mid sent o Answerer = record { heard_of = o.heard_of Answerer; well = o.well Answerer }
@@ -68,11 +68,11 @@ abbrev pub none-sent : Both (Option Spoken)
 none-sent = record { orig = None; answ = None }
 
 -- What arrives by the checks that both ends have.
-pub record IsHeardBy (c : Channel) (ts : List Turn) (ends : Accounts) (heard : Both Heard) : Type 0 where
+pub record IsHeardBy (c : Wire) (ts : List Turn) (ends : Accounts) (heard : Both Heard) : Type 0 where
   pub heard_of : (role : Role) → IsHeardOf c (other role) ts (check_of (of role ends)) (of role heard)
   pub well : (role : Role) → of role heard ≢ Chance
 
-pub heard-by : (l : Lines) (c : Channel) (links : ℕ) (streams : Both (List Carried)) (ts : List Turn) (ends : Accounts) (heard : Both Heard) (checks : Both Check)
+pub heard-by : (l : Lines) (c : Wire) (links : ℕ) (streams : Both (List Carried)) (ts : List Turn) (ends : Accounts) (heard : Both Heard) (checks : Both Check)
     → ((role : Role) → of role checks ≡ check_of (of role ends))
     → ArrivesBoth l c links ts streams checks heard → IsHeardBy c ts ends heard
 heard-by l c links streams ts ends heard checks same a = record {
@@ -81,7 +81,7 @@ heard-by l c links streams ts ends heard checks same a = record {
 }
 
 -- what arrives of own slots breaks no end
-pub hears-well : HearingLaws → (c : Channel) (files : Both (List ℕ)) (ts : List Turn) (ends : Accounts) (heard : Both Heard)
+pub hears-well : HearingLaws → (c : Wire) (files : Both (List ℕ)) (ts : List Turn) (ends : Accounts) (heard : Both Heard)
     → IsInLimits c.script → LineRun c (link_of c.script files) ts ends → IsHeardBy c ts ends heard
     → HearsWell ends (length ts) (arrival heard.orig) (arrival heard.answ)
 hears-well laws c files ts ends heard limits run h = record { orig = well Originator; answ = well Answerer }
@@ -113,7 +113,7 @@ pub record Hearing (m : Modems) (files : Both (List ℕ)) (ends : Accounts) (hea
   pub hears : HearsBoth m.link files ends turn to_orig to_answ
   pub checks : (role : Role) → of role m.heard_by ≡ check_of (of role hears.mid)
 
-pub has-heard : (old m : Modems) (l : Lines) (c : Channel) (links : ℕ) (streams : Both (List Carried)) (files : Both (List ℕ)) (ts : List Turn)
+pub has-heard : (old m : Modems) (l : Lines) (c : Wire) (links : ℕ) (streams : Both (List Carried)) (files : Both (List ℕ)) (ts : List Turn)
     (ends : Accounts) (heard : Both Heard) (to_orig to_answ : Arrived)
     → ModemsAfter old c files ts ends → m.turn ≡ old.turn → IsHeardBy c ts ends heard → HaveArrived l c links streams
     → Hearing m files ends heard old.turn to_orig to_answ → TalliesHeard m.tally ts ends heard → HasHeard m l c links streams files ts ends heard
@@ -146,7 +146,7 @@ tallies-heard old new ts ends heard h e = rw e (record {
 })
 
 -- the line ends the run
-pub lost-so : (c : Channel) (ts : List Turn) (ends : Accounts) (checks : Both Check) (end : LineEnd)
+pub lost-so : (c : Wire) (ts : List Turn) (ends : Accounts) (checks : Both Check) (end : LineEnd)
     → ((role : Role) → of role checks ≡ check_of (of role ends))
     → EndsLineBy c ts (λ role. of role checks) (end_of end) → EndsLine c ts ends (end_of end)
 lost-so c ts ends checks end same h = subst (λ f. EndsLineBy c ts f (end_of end)) (λ k role. same role k) h
@@ -156,7 +156,7 @@ lost-so c ts ends checks end same h = subst (λ f. EndsLineBy c ts f (end_of end
 abbrev pub nothing-counted : Tally
 nothing-counted = record { lost = 0; again = 0; orig = 0; answ = 0 }
 
-pub begins : (m : Modems) (c : Channel) (script : ScriptValue) (files : Both (List ℕ)) → c.script ≡ script
+pub begins : (m : Modems) (c : Wire) (script : ScriptValue) (files : Both (List ℕ)) → c.script ≡ script
     → LinkStands m.link files (start (link_of script files)) → m.turn ≡ 0 → m.tally ≡ nothing-counted → m.spoke ≡ false
     → ModemsAfter m c files [] (start (link_of script files))
 begins m c script files is link turn tally spoke = record {

@@ -12,7 +12,7 @@ use Rattle.noise_script.specs.Script.{ScriptValue, IsInLimits, delay_of}
 use Rattle.sample_line.specs.Line.{Kept, LineStands, bits_behind}
 use Rattle.link_run.specs.Run.{Accounts, Spoken, Turn, start}
 use Rattle.line_run.specs.Sampled.{LineRun}
-use Rattle.line_run.specs.Scripted.{channel_at, channel_of, link_of, ScriptsHaveDelays}
+use Rattle.line_run.specs.Scripted.{wire_at, wire_of, link_of, ScriptsHaveDelays}
 use Rattle.line_run.specs.Scripts.{NoLineRunIsLong}
 use Rattle.line_run.specs.LineLaws.{RunsSendSlots, LoneSlotsAreDue, LoneSlotsAreCounted}
 use Rattle.line_run.specs.Stream.{Carried, IsDue, carried_signal, carry, sent_by, both_sent_by}
@@ -29,7 +29,7 @@ use Rattle.run_world.specs.declared.world.World.{World}
 
 pub few-turns : NoLineRunIsLong → (w : World) → IsReady w → w.modems.turn < 2 ^ 39
 few-turns law w h = subst (λ n. n < 2 ^ 39) (sym h.after.modems.turn)
-    (law (channel_of w.script) h.files h.turns h.ends h.limits within h.after.modems.run)
+    (law (wire_of w.script) h.files h.turns h.ends h.limits within h.after.modems.run)
   where
     within : (role : Role) → length (of role h.files) ≤ file_limit
     within Originator = h.within.orig
@@ -42,16 +42,16 @@ pub record LoneLaws : Type 0 where
   pub delays : ScriptsHaveDelays
 
 due-in : LoneLaws → (script : ScriptValue) (files : Both (List ℕ)) (ts : List Turn) (ends : Accounts) → IsInLimits script
-    → LineRun (channel_of script) (link_of script files) ts ends → (role : Role)
-    → IsDue (channel_of script) role ts (sent_by 0 role ts) (1 * delay_of script role)
+    → LineRun (wire_of script) (link_of script files) ts ends → (role : Role)
+    → IsDue (wire_of script) role ts (sent_by 0 role ts) (1 * delay_of script role)
 due-in laws script files ts ends limits run role =
     let one : delay_of script role ≡ 1 * delay_of script role = omega arith in
-    subst (IsDue (channel_of script) role ts (sent_by 0 role ts)) one
-    (laws.due (channel_of script) role ts (λ r n. refl) (laws.delays script limits role)
+    subst (IsDue (wire_of script) role ts (sent_by 0 role ts)) one
+    (laws.due (wire_of script) role ts (λ r n. refl) (laws.delays script limits role)
     (laws.sent (link_of script files) ts ends run.run role))
 
 pub are-due : LoneLaws → (script : ScriptValue) (files : Both (List ℕ)) (ts : List Turn) (ends : Accounts) → IsInLimits script
-    → LineRun (channel_of script) (link_of script files) ts ends → AreDue (channel_of script) 1 ts (both_sent_by 0 ts)
+    → LineRun (wire_of script) (link_of script files) ts ends → AreDue (wire_of script) 1 ts (both_sent_by 0 ts)
 are-due laws script files ts ends limits run Originator = due-in laws script files ts ends limits run Originator
 are-due laws script files ts ends limits run Answerer = due-in laws script files ts ends limits run Answerer
 
@@ -72,9 +72,9 @@ are-few laws long w h = each
 
     each : (role : Role) → (from role w.lines).line.passed < 2 ^ 40
     each Originator =
-        at Originator _ (passed-few w.lines.from_orig (channel_of w.script) Originator 1 (sent_by 0 Originator h.turns) (h.after.lines Originator))
+        at Originator _ (passed-few w.lines.from_orig (wire_of w.script) Originator 1 (sent_by 0 Originator h.turns) (h.after.lines Originator))
     each Answerer =
-        at Answerer _ (passed-few w.lines.from_answ (channel_of w.script) Answerer 1 (sent_by 0 Answerer h.turns) (h.after.lines Answerer))
+        at Answerer _ (passed-few w.lines.from_answ (wire_of w.script) Answerer 1 (sent_by 0 Answerer h.turns) (h.after.lines Answerer))
 
 abbrev pub alone : Role → ℕ → Option Signal
 alone role turn = None
@@ -91,16 +91,16 @@ lends laws long w h = record {
   within = h.within;
   turns = h.turns;
   ends = h.ends;
-  after = subst (λ n. ModemsAfter w.modems (channel_at w.script n alone) h.files h.turns h.ends) (sym h.channel) h.after.modems;
-  waits = subst (λ n. LinesWait w.lines (channel_at w.script n alone) 1 (both_sent_by 0 h.turns)) (sym h.channel) h.after.lines;
-  due = subst (λ n. AreDue (channel_at w.script n alone) 1 h.turns (both_sent_by 0 h.turns)) (sym h.channel)
+  after = subst (λ n. ModemsAfter w.modems (wire_at w.script n alone) h.files h.turns h.ends) (sym h.channel) h.after.modems;
+  waits = subst (λ n. LinesWait w.lines (wire_at w.script n alone) 1 (both_sent_by 0 h.turns)) (sym h.channel) h.after.lines;
+  due = subst (λ n. AreDue (wire_at w.script n alone) 1 h.turns (both_sent_by 0 h.turns)) (sym h.channel)
       (are-due laws w.script h.files h.turns h.ends h.limits h.after.modems.run);
   few = are-few laws long w h;
 }
 
 -- the slots that have passed a direction
 passed-by : (d : DelayedLine) (script : ScriptValue) (role : Role) (ts : List Turn) (line : Kept) (waiting : ℕ → ℕ)
-    → IsOver d (channel_of script) role 1 (sent_by 0 role ts) (waiting d.lag) → line ≡ d.line
+    → IsOver d (wire_of script) role 1 (sent_by 0 role ts) (waiting d.lag) → line ≡ d.line
     → Carries line script role (sent_by 0 role ts) (waiting (delay_of script role))
 passed-by d script role ts line waiting h is =
     let lag : d.lag ≡ delay_of script role = omega (arith, h.lag, h.delay) in
@@ -110,12 +110,12 @@ passed-by d script role ts line waiting h is =
     (map (carried_signal r) (drop (length (sent_by 0 role ts) - waiting d.lag) (sent_by 0 role ts)))) h.sends h.stands.line))
 
 pub passed-so : (l : Lines) (script : ScriptValue) (role : Role) (ts : List Turn) (line : Kept)
-    → LinesWait l (channel_of script) 1 (both_sent_by 0 ts) → line ≡ (from role l).line → HasPassed line script role ts
+    → LinesWait l (wire_of script) 1 (both_sent_by 0 ts) → line ≡ (from role l).line → HasPassed line script role ts
 passed-so l script Originator ts line h is = passed-by l.from_orig script Originator ts line (λ k. k) (h Originator) is
 passed-so l script Answerer ts line h is = passed-by l.from_answ script Answerer ts line (λ k. k) (h Answerer) is
 
 pub passed-too : (l : Lines) (script : ScriptValue) (role : Role) (ts : List Turn) (line : Kept)
-    → HaveArrived l (channel_of script) 1 (both_sent_by 0 ts) → line ≡ (from role l).line → HasPassedToo line script role ts
+    → HaveArrived l (wire_of script) 1 (both_sent_by 0 ts) → line ≡ (from role l).line → HasPassedToo line script role ts
 passed-too l script Originator ts line h is = passed-by l.from_orig script Originator ts line (λ k. k - 1) (h Originator) is
 passed-too l script Answerer ts line h is = passed-by l.from_answ script Answerer ts line (λ k. k - 1) (h Answerer) is
 
@@ -123,7 +123,7 @@ passed-too l script Answerer ts line h is = passed-by l.from_answ script Answere
 
 pub sent-so : (script : ScriptValue) (role : Role) (ts : List Turn) (t : Turn) (o : Option BitSlot) → is_some (of role t).sent ≡ true
     → ((front : List Carried) (x : Carried) → of role (both_sent_by 0 (t ∷ ts)) ≡ front ++ x ∷ []
-    → IsNewest o (4 * (channel_of script).symbols) role front x)
+    → IsNewest o (4 * (wire_of script).symbols) role front x)
     → HasSent o script role ts t
 sent-so script role ts t o sent newest = go (of role t).sent refl
   where
@@ -138,14 +138,14 @@ sent-so script role ts t o sent newest = go (of role t).sent refl
         (stream-of role ∙ ap (λ z. sent_by 0 role ts ++ carry 0 z) e))
       where
         at : (slot : Spoken) → (of role t).sent ≡ Some slot → (o : Option BitSlot)
-            → IsNewest o (4 * (channel_of script).symbols) role (sent_by 0 role ts) (record { dlci = 0; spoken = slot })
+            → IsNewest o (4 * (wire_of script).symbols) role (sent_by 0 role ts) (record { dlci = 0; spoken = slot })
             → HasSent o script role ts t
         at slot e None h = absurd h
         at slot e (Some bits) h = (
           slot,
           e,
-          h ∙ ap (λ l. bits_behind (4 * (channel_of script).symbols) l (signal_of slot.check role 0 slot.sent))
-              (lone-signals (channel_of script) role ts (λ r n. refl)),
+          h ∙ ap (λ l. bits_behind (4 * (wire_of script).symbols) l (signal_of slot.check role 0 slot.sent))
+              (lone-signals (wire_of script) role ts (λ r n. refl)),
         )
 
 -- ---- a world before its first turn

@@ -21,7 +21,7 @@ use Rattle.link_run.specs.Trace.{trace_text, turn_text}
 use Rattle.line_run.specs.Sampled.{LineRun}
 use Rattle.line_run.specs.Ends.{RunEnd, Left, Leaves, RunsTo, EndsBy}
 use Rattle.line_run.specs.Ends as runs
-use Rattle.line_run.specs.Scripted.{channel_of, link_of}
+use Rattle.line_run.specs.Scripted.{wire_of, link_of}
 use Rattle.line_run.specs.Stream.{both_sent_by}
 use Rattle.run_world.specs.Limits.{file_limit}
 use Rattle.run_world.specs.Names.{Written, inputs_of, outputs_of}
@@ -151,7 +151,7 @@ held-turn delivers link ts ends t mid now next n run hears on h w =
 -- the run goes on
 unfoldable pub reached-going : HearingsDeliver → SpeakingTakesNothing
     → (w w' : World) (script : ScriptValue) (n : Written) (tapes : Tapes) (old now next : FolderState) (r : Reached w script n tapes old now)
-    → script_of w' ≡ script_of w → GoesOnBy w'.modems w'.lines (channel_of (script_of w')) 1 (both_sent_by 0 r.turns) now next n r.files r.turns r.ends → OnlyPuts now next (outputs_of n) → CountsStand now next
+    → script_of w' ≡ script_of w → GoesOnBy w'.modems w'.lines (wire_of (script_of w')) 1 (both_sent_by 0 r.turns) now next n r.files r.turns r.ends → OnlyPuts now next (outputs_of n) → CountsStand now next
     → Reached w' script n tapes old next
 reached-going delivers speaks w w' script n tapes old now next r same g only stand =
     let mid = g.going.mid in
@@ -176,8 +176,8 @@ reached-going delivers speaks w w' script n tapes old now next r same g only sta
 -- the run ends in a turn that is written
 ended-turn : HearingsDeliver → (w v : World) (n : Written) (tapes : Tapes) (old now next : FolderState)
     (r : Reached w (script_of v) n tapes old now) (outcome : Outcome) (number : ℕ) → OnlyPuts now next (outputs_of n)
-    → (e : EndsInTurn v.modems v.lines (channel_of (script_of v)) 1 (both_sent_by 0 r.turns) now next n r.files r.turns r.ends outcome number)
-    → runs.EndsInTurn (channel_of (script_of v)) (link_of (script_of v) e.others) r.turns r.ends outcome number
+    → (e : EndsInTurn v.modems v.lines (wire_of (script_of v)) 1 (both_sent_by 0 r.turns) now next n r.files r.turns r.ends outcome number)
+    → runs.EndsInTurn (wire_of (script_of v)) (link_of (script_of v) e.others) r.turns r.ends outcome number
     (left_of e.mid (trace_text (e.turn ∷ r.turns))) × HoldEach next (outputs_of n) (held_of (left_of e.mid (trace_text (e.turn ∷ r.turns))))
 ended-turn delivers w v n tapes old now next r outcome number only e = (
   record {
@@ -193,29 +193,29 @@ ended-turn delivers w v n tapes old now next r outcome number only e = (
 )
 
 run-ends : (script : ScriptValue) (f : FolderState) (n : Written) (tapes : Tapes) (end : RunEnd) (files : Both (List ℕ)) (left : Left) (ts : List Turn)
-    (ends : Accounts) → KnowsFiles f n files → LineRun (channel_of script) (link_of script files) ts ends
-    → EndsBy (channel_of script) (link_of script files) ts ends end left → HoldEach f (outputs_of n) (held_of left)
-    → HoldTapes f tapes (channel_of script) ts → RunEnds script f n tapes end
+    (ends : Accounts) → KnowsFiles f n files → LineRun (wire_of script) (link_of script files) ts ends
+    → EndsBy (wire_of script) (link_of script files) ts ends end left → HoldEach f (outputs_of n) (held_of left)
+    → HoldTapes f tapes (wire_of script) ts → RunEnds script f n tapes end
 run-ends script f n tapes end files left ts ends knows run ended holds t =
     record { files = files; knows = knows; left = left; run = record { turns = ts; ends = ends; run = run; ended = ended }; holds = holds; taped = t }
 
 -- the run is done
 done-so : HearingsDeliver
     → (w v : World) (n : Written) (tapes : Tapes) (old now next : FolderState) (number : ℕ) (r : Reached w (script_of v) n tapes old now)
-    → EndsInTurn v.modems v.lines (channel_of (script_of v)) 1 (both_sent_by 0 r.turns) now next n r.files r.turns r.ends Done number → OnlyPuts now next (outputs_of n)
-    → HoldTapes next tapes (channel_of (script_of v)) r.turns → RunEnds (script_of v) next n tapes (runs.IsDone number)
+    → EndsInTurn v.modems v.lines (wire_of (script_of v)) 1 (both_sent_by 0 r.turns) now next n r.files r.turns r.ends Done number → OnlyPuts now next (outputs_of n)
+    → HoldTapes next tapes (wire_of (script_of v)) r.turns → RunEnds (script_of v) next n tapes (runs.IsDone number)
 done-so delivers w v n tapes old now next number r e only t =
     let k = ended-turn delivers w v n tapes old now next r Done number only e in
     run-ends (script_of v) next n tapes (runs.IsDone number) e.others _ r.turns r.ends (e.known.known r.knows) e.makes.run k.0 k.1 t
 
 pub reached-done : HearingsDeliver
     → (w v : World) (script : ScriptValue) (n : Written) (tapes : Tapes) (old now next : FolderState) (number : ℕ) (r : Reached w script n tapes old now)
-    → script_of v ≡ script_of w → EndsInTurn v.modems v.lines (channel_of (script_of v)) 1 (both_sent_by 0 r.turns) now next n r.files r.turns r.ends Done number → OnlyPuts now next (outputs_of n)
-    → HoldTapes next tapes (channel_of script) r.turns → RunEnds script next n tapes (runs.IsDone number)
+    → script_of v ≡ script_of w → EndsInTurn v.modems v.lines (wire_of (script_of v)) 1 (both_sent_by 0 r.turns) now next n r.files r.turns r.ends Done number → OnlyPuts now next (outputs_of n)
+    → HoldTapes next tapes (wire_of script) r.turns → RunEnds script next n tapes (runs.IsDone number)
 reached-done delivers w v script n tapes old now next number r same e only t =
     subst (λ s. RunEnds s next n tapes (runs.IsDone number)) (same ∙ r.script_is)
     (done-so delivers w v n tapes old now next number (over w v script n tapes old now r same) e only
-    (subst (λ s. HoldTapes next tapes (channel_of s) r.turns) (sym (same ∙ r.script_is)) t))
+    (subst (λ s. HoldTapes next tapes (wire_of s) r.turns) (sym (same ∙ r.script_is)) t))
 
 -- nothing goes again in a turn in which nothing is sent
 none-again : (ts : List Turn) (ends : Accounts) (t : Turn) (mid : Accounts) → LastTurn ts ends t mid → sent_again (t ∷ ts) ≡ sent_again ts
@@ -226,26 +226,26 @@ none-again ts ends t mid h = λ k.
 -- with all its turns counted
 pub reached-counts : HearingsDeliver
     → (w v : World) (script : ScriptValue) (n : Written) (tapes : Tapes) (old now next : FolderState) (number : ℕ) (r : Reached w script n tapes old now)
-    → script_of v ≡ script_of w → EndsInTurn v.modems v.lines (channel_of (script_of v)) 1 (both_sent_by 0 r.turns) now next n r.files r.turns r.ends Done number → OnlyPuts now next (outputs_of n)
-    → HoldTapes next tapes (channel_of script) r.turns → RunCounts script next n tapes number (lost_of v) (again_of v)
+    → script_of v ≡ script_of w → EndsInTurn v.modems v.lines (wire_of (script_of v)) 1 (both_sent_by 0 r.turns) now next n r.files r.turns r.ends Done number → OnlyPuts now next (outputs_of n)
+    → HoldTapes next tapes (wire_of script) r.turns → RunCounts script next n tapes number (lost_of v) (again_of v)
 unfolding run-ends ended-turn done-so
 reached-counts delivers w v script n tapes old now next number r same e only t =
     subst (λ s. RunCounts s next n tapes number (lost_of v) (again_of v)) (same ∙ r.script_is) (record {
       ran = done-so delivers w v n tapes old now next number (over w v script n tapes old now r same) e only
-          (subst (λ s. HoldTapes next tapes (channel_of s) r.turns) (sym (same ∙ r.script_is)) t);
+          (subst (λ s. HoldTapes next tapes (wire_of s) r.turns) (sym (same ∙ r.script_is)) t);
       lost_is = e.halts.lost;
       again_is = e.halts.again ∙ sym (none-again r.turns r.ends e.turn e.mid e.makes.is);
     })
 
 -- the run so far, over the script
 run-so : (w : World) (script : ScriptValue) (n : Written) (tapes : Tapes) (old now : FolderState) (r : Reached w script n tapes old now)
-    → LineRun (channel_of script) (link_of script r.files) r.turns r.ends
-run-so w script n tapes old now r = subst (λ s. LineRun (channel_of s) (link_of s r.files) r.turns r.ends) r.script_is r.world.modems.run
+    → LineRun (wire_of script) (link_of script r.files) r.turns r.ends
+run-so w script n tapes old now r = subst (λ s. LineRun (wire_of s) (link_of s r.files) r.turns r.ends) r.script_is r.world.modems.run
 
 reached-line : (w v : World) (n : Written) (tapes : Tapes) (old now next : FolderState) (role : Role) (symbol : ℕ)
     (r : Reached w (script_of v) n tapes old now) → IsApart n
-    → LosesLine v.modems (channel_of (script_of v)) now next n r.turns r.ends role symbol → OnlyPuts now next (outputs_of n)
-    → HoldTapes next tapes (channel_of (script_of v)) r.turns → RunEnds (script_of v) next n tapes (runs.LineLost role symbol)
+    → LosesLine v.modems (wire_of (script_of v)) now next n r.turns r.ends role symbol → OnlyPuts now next (outputs_of n)
+    → HoldTapes next tapes (wire_of (script_of v)) r.turns → RunEnds (script_of v) next n tapes (runs.LineLost role symbol)
 reached-line w v n tapes old now next role symbol r apart e only t =
     run-ends (script_of v) next n tapes (runs.LineLost role symbol) r.files (left_of r.ends (trace_text r.turns)) r.turns r.ends
     (knows-later now next n r.files apart only r.knows) (run-so w (script_of v) n tapes old now r)
@@ -253,8 +253,8 @@ reached-line w v n tapes old now next role symbol r apart e only t =
 
 reached-chance : (w v : World) (n : Written) (tapes : Tapes) (old now next : FolderState) (role : Role) (number : ℕ)
     (r : Reached w (script_of v) n tapes old now) → IsApart n
-    → MeetsChance v.modems (channel_of (script_of v)) now next n r.turns r.ends role number → OnlyPuts now next (outputs_of n)
-    → HoldTapes next tapes (channel_of (script_of v)) r.turns → RunEnds (script_of v) next n tapes (runs.ChanceMatch role number)
+    → MeetsChance v.modems (wire_of (script_of v)) now next n r.turns r.ends role number → OnlyPuts now next (outputs_of n)
+    → HoldTapes next tapes (wire_of (script_of v)) r.turns → RunEnds (script_of v) next n tapes (runs.ChanceMatch role number)
 reached-chance w v n tapes old now next role number r apart e only t =
     let text = trace_text r.turns ++ chance_line (length r.turns) role in
     run-ends (script_of v) next n tapes (runs.ChanceMatch role number) r.files (left_of r.ends text) r.turns r.ends
@@ -282,8 +282,8 @@ more_of mid text = record { got = record { orig = concat (deliveries mid.orig); 
 
 -- the folder fails in a turn, whatever it comes to,
 adds-turn : (w v : World) (n : Written) (tapes : Tapes) (old now next : FolderState) (r : Reached w (script_of v) n tapes old now)
-    → (s : StopsInTurn v.modems v.lines (channel_of (script_of v)) 1 (both_sent_by 0 r.turns) now next n r.files r.turns r.ends)
-    → AddsTurn (channel_of (script_of v)) (link_of (script_of v) s.others) r.turns r.ends (more_of s.mid (turn_text (length r.turns) s.turn))
+    → (s : StopsInTurn v.modems v.lines (wire_of (script_of v)) 1 (both_sent_by 0 r.turns) now next n r.files r.turns r.ends)
+    → AddsTurn (wire_of (script_of v)) (link_of (script_of v) s.others) r.turns r.ends (more_of s.mid (turn_text (length r.turns) s.turn))
 adds-turn w v n tapes old now next r s = record {
   turn = s.turn;
   mid = s.mid;
@@ -300,8 +300,8 @@ adds-turn w v n tapes old now next r s = record {
     got Answerer = refl
 
 stopped-turn : (w v : World) (n : Written) (tapes : Tapes) (old now next : FolderState) (r : Reached w (script_of v) n tapes old now)
-    → StopsInTurn v.modems v.lines (channel_of (script_of v)) 1 (both_sent_by 0 r.turns) now next n r.files r.turns r.ends → OnlyPuts now next (outputs_of n)
-    → HoldTapes next tapes (channel_of (script_of v)) r.turns → RunStops (script_of v) next n tapes
+    → StopsInTurn v.modems v.lines (wire_of (script_of v)) 1 (both_sent_by 0 r.turns) now next n r.files r.turns r.ends → OnlyPuts now next (outputs_of n)
+    → HoldTapes next tapes (wire_of (script_of v)) r.turns → RunStops (script_of v) next n tapes
 stopped-turn w v n tapes old now next r s only t = record {
   files = s.others;
   knows = s.known.known r.knows;
@@ -321,8 +321,8 @@ stopped-turn w v n tapes old now next r s only t = record {
 
 -- as a file is read,
 reached-reading : (w v : World) (n : Written) (tapes : Tapes) (old now next : FolderState) (r : Reached w (script_of v) n tapes old now)
-    → StopsReading v.modems v.lines (channel_of (script_of v)) 1 (both_sent_by 0 r.turns) now next n r.files r.turns r.ends → OnlyPuts now next (outputs_of n)
-    → HoldTapes next tapes (channel_of (script_of v)) r.turns → RunStopsReading (script_of v) next n tapes
+    → StopsReading v.modems v.lines (wire_of (script_of v)) 1 (both_sent_by 0 r.turns) now next n r.files r.turns r.ends → OnlyPuts now next (outputs_of n)
+    → HoldTapes next tapes (wire_of (script_of v)) r.turns → RunStopsReading (script_of v) next n tapes
 unfolding stopped-turn
 reached-reading w v n tapes old now next r (s, delivered) only t = (
   stopped-turn w v n tapes old now next r s only t,
@@ -335,8 +335,8 @@ reached-reading w v n tapes old now next r (s, delivered) only t = (
 
 -- or at any of its steps
 reached-stops : (w v : World) (n : Written) (tapes : Tapes) (old now next : FolderState) (r : Reached w (script_of v) n tapes old now) → IsApart n
-    → Stops v.modems v.lines (channel_of (script_of v)) 1 (both_sent_by 0 r.turns) now next n r.files r.turns r.ends → OnlyPuts now next (outputs_of n)
-    → HoldTapes next tapes (channel_of (script_of v)) r.turns → RunStops (script_of v) next n tapes
+    → Stops v.modems v.lines (wire_of (script_of v)) 1 (both_sent_by 0 r.turns) now next n r.files r.turns r.ends → OnlyPuts now next (outputs_of n)
+    → HoldTapes next tapes (wire_of (script_of v)) r.turns → RunStops (script_of v) next n tapes
 reached-stops w v n tapes old now next r apart (inl s) only t = stopped-turn w v n tapes old now next r s only t
 reached-stops w v n tapes old now next r apart (inr s) only t = record {
   files = r.files;
@@ -367,8 +367,8 @@ reached-stops w v n tapes old now next r apart (inr s) only t = record {
 -- a fault ends the run
 fault-so : HearingsDeliver
     → (w v : World) (n : Written) (tapes : Tapes) (old now next : FolderState) (fault : RunFault) (r : Reached w (script_of v) n tapes old now)
-    → IsApart n → TurnEndsBy v.modems v.lines (channel_of (script_of v)) 1 (both_sent_by 0 r.turns) now next n r.files r.turns r.ends fault → OnlyPuts now next (outputs_of n)
-    → HoldTapes next tapes (channel_of (script_of v)) r.turns → FaultEnds (script_of v) next n tapes fault
+    → IsApart n → TurnEndsBy v.modems v.lines (wire_of (script_of v)) 1 (both_sent_by 0 r.turns) now next n r.files r.turns r.ends fault → OnlyPuts now next (outputs_of n)
+    → HoldTapes next tapes (wire_of (script_of v)) r.turns → FaultEnds (script_of v) next n tapes fault
 fault-so delivers w v n tapes old now next faults.ReadFault r apart e only t = reached-reading w v n tapes old now next r e only t
 fault-so delivers w v n tapes old now next faults.WriteFault r apart e only t = reached-stops w v n tapes old now next r apart e only t
 fault-so delivers w v n tapes old now next faults.NoMemory r apart e only t = reached-stops w v n tapes old now next r apart e only t
@@ -385,19 +385,19 @@ fault-so delivers w v n tapes old now next (faults.LinkLost role segment turn) r
 pub reached-fault : HearingsDeliver
     → (w v : World) (script : ScriptValue) (n : Written) (tapes : Tapes) (old now next : FolderState) (fault : RunFault) (r : Reached w script n tapes old now)
     → IsApart n
-    → script_of v ≡ script_of w → TurnEndsBy v.modems v.lines (channel_of (script_of v)) 1 (both_sent_by 0 r.turns) now next n r.files r.turns r.ends fault → OnlyPuts now next (outputs_of n)
-    → HoldTapes next tapes (channel_of script) r.turns → FaultEnds script next n tapes fault
+    → script_of v ≡ script_of w → TurnEndsBy v.modems v.lines (wire_of (script_of v)) 1 (both_sent_by 0 r.turns) now next n r.files r.turns r.ends fault → OnlyPuts now next (outputs_of n)
+    → HoldTapes next tapes (wire_of script) r.turns → FaultEnds script next n tapes fault
 reached-fault delivers w v script n tapes old now next fault r apart same e only t =
     subst (λ s. FaultEnds s next n tapes fault) (same ∙ r.script_is)
     (fault-so delivers w v n tapes old now next fault (over w v script n tapes old now r same) apart e only
-    (subst (λ s. HoldTapes next tapes (channel_of s) r.turns) (sym (same ∙ r.script_is)) t))
+    (subst (λ s. HoldTapes next tapes (wire_of s) r.turns) (sym (same ∙ r.script_is)) t))
 
 -- a turn more is nearer to the bound
 pub nearer : (turns next : ℕ) → turns < 2 ^ 40 → next ≡ turns + 1 → 2 ^ 40 - next < 2 ^ 40 - turns
 nearer turns next h e = omega (arith, h, e)
 
 pub next-turn : (w w' : World) (script : ScriptValue) (n : Written) (tapes : Tapes) (old now next : FolderState) (r : Reached w script n tapes old now)
-    → GoesOnBy w'.modems w'.lines (channel_of (script_of w')) 1 (both_sent_by 0 r.turns) now next n r.files r.turns r.ends → turn_of w' ≡ turn_of w + 1
+    → GoesOnBy w'.modems w'.lines (wire_of (script_of w')) 1 (both_sent_by 0 r.turns) now next n r.files r.turns r.ends → turn_of w' ≡ turn_of w + 1
 next-turn w w' script n tapes old now next r g = omega (arith, g.modems.turn, r.world.modems.turn)
 
 -- ---- what both ends sent is recorded
@@ -439,9 +439,9 @@ reached-put w script n tapes old now next apart r p stand = record {
 -- the folder fails as they are written
 stops-taping : (w v : World) (n : Written) (tapes : Tapes) (old now next last : FolderState) (r : Reached w (script_of v) n tapes old now)
     → AreAllApart n tapes
-    → (g : GoesOnBy v.modems v.lines (channel_of (script_of v)) 1 (both_sent_by 0 r.turns) now next n r.files r.turns r.ends)
+    → (g : GoesOnBy v.modems v.lines (wire_of (script_of v)) 1 (both_sent_by 0 r.turns) now next n r.files r.turns r.ends)
     → OnlyPuts now next (outputs_of n) → OnlyPuts next last (tapes_of tapes)
-    → HoldTapesPartly last tapes (channel_of (script_of v)) r.turns g.turn → RunStops (script_of v) last n tapes
+    → HoldTapesPartly last tapes (wire_of (script_of v)) r.turns g.turn → RunStops (script_of v) last n tapes
 stops-taping w v n tapes old now next last r apart g only p partly = record {
   files = g.others;
   knows = knows-kept next last n g.others p.goes_on (kept-by-tapes next last n tapes apart p) (g.known.known r.knows);
@@ -466,7 +466,7 @@ stops-taping w v n tapes old now next last r apart g only p partly = record {
     got Originator = refl
     got Answerer = refl
 
-    adds : AddsTurn (channel_of (script_of v)) (link_of (script_of v) g.others) r.turns r.ends (more_of g.going.mid (turn_text (length r.turns) g.turn))
+    adds : AddsTurn (wire_of (script_of v)) (link_of (script_of v) g.others) r.turns r.ends (more_of g.going.mid (turn_text (length r.turns) g.turn))
     adds = record {
       turn = g.turn;
       mid = g.going.mid;
@@ -488,9 +488,9 @@ stops-taping w v n tapes old now next last r apart g only p partly = record {
 
 pub reached-taping : (w v : World) (script : ScriptValue) (n : Written) (tapes : Tapes) (old now next last : FolderState) (fault : RunFault)
     (r : Reached w script n tapes old now) → AreAllApart n tapes → script_of v ≡ script_of w
-    → (g : GoesOnBy v.modems v.lines (channel_of (script_of v)) 1 (both_sent_by 0 r.turns) now next n r.files r.turns r.ends)
+    → (g : GoesOnBy v.modems v.lines (wire_of (script_of v)) 1 (both_sent_by 0 r.turns) now next n r.files r.turns r.ends)
     → OnlyPuts now next (outputs_of n) → OnlyPuts next last (tapes_of tapes) → IsWriting fault
-    → HoldTapesPartly last tapes (channel_of (script_of v)) r.turns g.turn → FaultEnds script last n tapes fault
+    → HoldTapesPartly last tapes (wire_of (script_of v)) r.turns g.turn → FaultEnds script last n tapes fault
 reached-taping w v script n tapes old now next last fault r apart same g only p writing partly =
     by fault writing (subst (λ s. RunStops s last n tapes) (same ∙ r.script_is)
     (stops-taping w v n tapes old now next last (over w v script n tapes old now r same) apart g only p partly))

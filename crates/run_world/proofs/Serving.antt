@@ -14,7 +14,7 @@ use Rattle.link_run.specs.End.{asked, delivered, is_busy, is_released, offered, 
 use Rattle.link_run.specs.Run.{Accounts, Spoken, Turn, Hears, served_at}
 use Rattle.link_run.specs.Reading.{RunsByWhatIsReadOn, SameSoFar}
 use Rattle.line_run.specs.Scripted.{link_of, breaks_of, busy_of}
-use Rattle.line_run.specs.Sampled.{Channel}
+use Rattle.line_run.specs.Sampled.{Wire}
 use Rattle.lapm_frames.specs.declared.heard.Heard.{Heard}
 use Rattle.run_world.specs.Names.{Written, inputs_of}
 use Rattle.outside_calls.specs.Outputs.{SomeCause}
@@ -31,7 +31,7 @@ given-delivered a = go _
     go true = refl
     go false = refl
 
-pub hears-in : (c : Channel) (files : Both (List ℕ)) (ts : List Turn) (ends mid : Accounts) (heard : Both Heard)
+pub hears-in : (c : Wire) (files : Both (List ℕ)) (ts : List Turn) (ends mid : Accounts) (heard : Both Heard)
     (sent : Both (Option Spoken))
     → Overhears c files ts ends heard mid → Hears (length ts) ends (turn_in heard ends mid sent) mid
 hears-in c files ts ends mid heard sent o Originator = record { hears = o.hears Originator; check_is = refl; given_is = refl }
@@ -39,7 +39,7 @@ hears-in c files ts ends mid heard sent o Answerer = record { hears = o.hears An
 
 -- a run is one of the files as far as they are read now
 pub over-others : RunsByWhatIsReadOn
-    → (c : Channel) (files others : Both (List ℕ)) (ts : List Turn) (ends mid : Accounts) (heard : Both Heard) (f : FolderState)
+    → (c : Wire) (files others : Both (List ℕ)) (ts : List Turn) (ends mid : Accounts) (heard : Both Heard) (f : FolderState)
     (n : Written)
     → IsInLimits c.script → Overhears c files ts ends heard mid → ReadsBoth f n files (handed mid) others
     → Overhears c others ts ends heard mid

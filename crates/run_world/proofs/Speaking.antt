@@ -25,7 +25,7 @@ use Rattle.link_run.specs.Laws.{IsNamed}
 use Rattle.link_run.specs.Outcomes.{Outcome, TurnIs}
 use Rattle.link_run.specs.End.{is_closed}
 use Rattle.link_run.specs.Trace.{side_line, turn_text}
-use Rattle.line_run.specs.Sampled.{Channel, HeardIn}
+use Rattle.line_run.specs.Sampled.{Wire, HeardIn}
 use Rattle.line_run.specs.Scripted.{link_of, longest_of, slot_symbols, ScriptsMayPlay, ScriptsHaveDelays, SlotsAreCodable}
 use Rattle.line_run.specs.LineLaws.{SamplesAreCarried, OneIsCarried}
 use Rattle.run_world.specs.declared.link.Link.{Link}
@@ -52,7 +52,7 @@ spoken_by orig answ = record { orig = Some (spoken orig); answ = Some (spoken an
 abbrev pub ends_of : Said → Said → Accounts
 ends_of orig answ = record { orig = orig.account; answ = answ.account }
 
-pub record SpokenTurn (c : Channel) (files : Both (List ℕ)) (ts : List Turn) (ends : Accounts) (heard : Both Heard) (mid : Accounts)
+pub record SpokenTurn (c : Wire) (files : Both (List ℕ)) (ts : List Turn) (ends : Accounts) (heard : Both Heard) (mid : Accounts)
     (from_orig from_answ : Sent) (l : Link) : Type 0 where
   pub orig : Said
   pub answ : Said
@@ -63,7 +63,7 @@ pub record SpokenTurn (c : Channel) (files : Both (List ℕ)) (ts : List Turn) (
   pub heard_in : HeardIn c ts (turn_in heard ends mid (spoken_by orig answ))
   pub stands : LinkStands l files (ends_of orig answ)
 
-pub spoken-turn : (c : Channel) (files : Both (List ℕ)) (ts : List Turn) (ends : Accounts) (heard : Both Heard) (mid : Accounts)
+pub spoken-turn : (c : Wire) (files : Both (List ℕ)) (ts : List Turn) (ends : Accounts) (heard : Both Heard) (mid : Accounts)
     (from_orig from_answ : Sent) (l : Link) (turn : ℕ)
     → turn ≡ length ts → Overhears c files ts ends heard mid → is_closed mid.orig.phase ≡ false
     → SaysBoth l files (link_of c.script files) turn (served c.script files (length ts) mid) from_orig from_answ
@@ -100,7 +100,7 @@ spoken-turn c files ts ends heard mid from_orig from_answ l turn number o open-s
     says Answerer = record { said = s.answ; says = answ-says; sent_is = refl; after_is = refl }
 
 -- an end that breaks does so by a run's definition
-broken-so : (c : Channel) (files : Both (List ℕ)) (number turn : ℕ) (mid : Accounts) (role : Role) (fault : LinkFault) → turn ≡ number
+broken-so : (c : Wire) (files : Both (List ℕ)) (number turn : ℕ) (mid : Accounts) (role : Role) (fault : LinkFault) → turn ≡ number
     → BreaksSo (link_of c.script files) turn (served c.script files number mid) role fault
     → IsBroken (link_of c.script files) number mid role fault
 broken-so c files number turn mid Originator fault e h =
@@ -121,7 +121,7 @@ silent : (heard : Both Heard) (ends mid : Accounts) (role : Role) → (of role (
 silent heard ends mid Originator = refl
 silent heard ends mid Answerer = refl
 
-pub broken-turn : (c : Channel) (files : Both (List ℕ)) (ts : List Turn) (ends : Accounts) (heard : Both Heard) (mid : Accounts) (turn : ℕ)
+pub broken-turn : (c : Wire) (files : Both (List ℕ)) (ts : List Turn) (ends : Accounts) (heard : Both Heard) (mid : Accounts) (turn : ℕ)
     (role : Role) (fault : LinkFault)
     → turn ≡ length ts → Overhears c files ts ends heard mid → is_closed mid.orig.phase ≡ false
     → BreaksSo (link_of c.script files) turn (served c.script files (length ts) mid) role fault
@@ -179,7 +179,7 @@ taken-back x y a b e f g = ap (λ o. unwrap_or o x) (sym e ∙ g ∙ f)
 -- ---- what is sent can be coded
 
 pub all-codable : SlotsAreCodable
-    → (c : Channel) (files : Both (List ℕ)) (ts : List Turn) (ends : Accounts) (heard : Both Heard) (mid : Accounts)
+    → (c : Wire) (files : Both (List ℕ)) (ts : List Turn) (ends : Accounts) (heard : Both Heard) (mid : Accounts)
     (from_orig from_answ : Sent) (sent : Both Sent)
     (k : Link) (l : Lines) (links : ℕ) (streams : Both (List Carried)) (dlci : ℕ) (checks : Both Check)
     → c.symbols ≡ slot_symbols (longest_of c.script) → IsInLimits c.script → Overhears c files ts ends heard mid
@@ -231,7 +231,7 @@ pub counts-what : (old new : Tally) (sent said : Both Sent) → sent.orig ≡ sa
 counts-what old new sent said o a h =
     subst (λ (x : Sent). CountsSent old new x said.answ) o (subst (λ (y : Sent). CountsSent old new sent.orig y) a h)
 
-pub tallies-on : GoingLaws → (c : Channel) (files : Both (List ℕ)) (ts : List Turn) (ends : Accounts) (heard : Both Heard) (mid : Accounts)
+pub tallies-on : GoingLaws → (c : Wire) (files : Both (List ℕ)) (ts : List Turn) (ends : Accounts) (heard : Both Heard) (mid : Accounts)
     (from_orig from_answ : Sent) (k : Link)
     (old new : Tally) → IsInLimits c.script → Overhears c files ts ends heard mid
     → (t : SpokenTurn c files ts ends heard mid from_orig from_answ k)
@@ -255,7 +255,7 @@ tallies-on laws c files ts ends heard mid from_orig from_answ k old new limits o
       answ = n.answ ∙ (λ i. next_count (sequence_in (t.answ_sent i)) (h.answ i)) ∙ sym ca.high;
     }
 
-pub goes-on : GoingLaws → (c : Channel) (old : Tally) (m : Modems) (l : Lines) (links : ℕ) (streams : Both (List Carried))
+pub goes-on : GoingLaws → (c : Wire) (old : Tally) (m : Modems) (l : Lines) (links : ℕ) (streams : Both (List Carried))
     (f new : FolderState) (n : Written) (files : Both (List ℕ))
     (ts : List Turn) (ends : Accounts) (heard : Both Heard) (mid : Accounts)
     (from_orig from_answ : Sent) → IsInLimits c.script → m.turn ≡ length ts + 1 → m.spoke ≡ true
@@ -287,7 +287,7 @@ goes-on laws c old m l links streams f new n files ts ends heard mid from_orig f
 
 -- ---- the run ends as an end breaks
 
-pub ends-so : (c : Channel) (f new : FolderState) (n : Written) (files : Both (List ℕ)) (ts : List Turn) (ends : Accounts)
+pub ends-so : (c : Wire) (f new : FolderState) (n : Written) (files : Both (List ℕ)) (ts : List Turn) (ends : Accounts)
     (heard : Both Heard) (mid : Accounts) (turn : ℕ) (role : Role)
     (fault : LinkFault) → turn ≡ length ts → IsNamed role fault → Overhears c files ts ends heard mid
     → BrokenTurn (link_of c.script files) ts ends (turn_in heard ends mid none-sent) mid role fault
@@ -335,7 +335,7 @@ counts-so f new n turn role faults.PeerRefused named stand = absurd named
 
 -- ---- the folder doesn't take the lines
 
-pub stops-so : (c : Channel) (f new : FolderState) (n : Written) (files : Both (List ℕ)) (ts : List Turn) (ends : Accounts)
+pub stops-so : (c : Wire) (f new : FolderState) (n : Written) (files : Both (List ℕ)) (ts : List Turn) (ends : Accounts)
     (heard : Both Heard) (mid : Accounts) (fault : RunFault) → IsWriting fault
     → AddsPart c f new n files ts ends heard mid → SpeaksLast c f new n files ts ends heard mid fault
 stops-so c f new n files ts ends heard mid run_faults.WriteFault w h = h
@@ -346,7 +346,7 @@ stops-so c f new n files ts ends heard mid (run_faults.ChanceMatch role turn) w 
 stops-so c f new n files ts ends heard mid (run_faults.NotDetected turn) w h = absurd w
 stops-so c f new n files ts ends heard mid (run_faults.LinkLost role segment turn) w h = absurd w
 
-pub adds-part : (c : Channel) (f new : FolderState) (n : Written) (files : Both (List ℕ)) (ts : List Turn) (ends : Accounts)
+pub adds-part : (c : Wire) (f new : FolderState) (n : Written) (files : Both (List ℕ)) (ts : List Turn) (ends : Accounts)
     (heard : Both Heard) (mid : Accounts) (sents : Both (Option Spoken))
     (outcome : Outcome) → Overhears c files ts ends heard mid
     → TurnIs (link_of c.script files) ts ends (turn_in heard ends mid sents) mid outcome
@@ -365,7 +365,7 @@ adds-part c f new n files ts ends heard mid sents outcome o is trace = record {
 
 -- ---- the run is done
 
-pub last-turn : (c : Channel) (files : Both (List ℕ)) (ts : List Turn) (ends : Accounts) (heard : Both Heard) (mid : Accounts)
+pub last-turn : (c : Wire) (files : Both (List ℕ)) (ts : List Turn) (ends : Accounts) (heard : Both Heard) (mid : Accounts)
     → Overhears c files ts ends heard mid
     → is_closed mid.orig.phase ≡ true → LastTurn ts ends (turn_in heard ends mid none-sent) mid
 last-turn c files ts ends heard mid o closed = record {

@@ -17,7 +17,7 @@ use Rattle.link_run.specs.Run.{Accounts, Turn, Hears, arrival}
 use Rattle.link_run.specs.Laws.{EachTurnIsMade, MakesTurn as MakesAny}
 use Rattle.link_run.specs.Outcomes.{Outcome, Going, Done, Broken, TurnIs}
 use Rattle.link_run.specs.Trace.{turn_text}
-use Rattle.line_run.specs.Sampled.{Channel, HeardIn, IsHeardOf}
+use Rattle.line_run.specs.Sampled.{Wire, HeardIn, IsHeardOf}
 use Rattle.line_run.specs.Scripted.{link_of, ScriptsMayPlay, ScriptsHaveDelays}
 use Rattle.line_run.specs.LineLaws.{SamplesAreCarried, OneIsCarried}
 use Rattle.run_world.specs.Names.{Written, outputs_of, received_of}
@@ -50,7 +50,7 @@ pub record MakingLaws : Type 0 where
   pub one : OneIsCarried
   pub made : EachTurnIsMade
 
-hearing-of : (c : Channel) (files : Both (List ℕ)) (ts : List Turn) (ends : Accounts) (t : Turn) (mid : Accounts) (outcome : Outcome)
+hearing-of : (c : Wire) (files : Both (List ℕ)) (ts : List Turn) (ends : Accounts) (t : Turn) (mid : Accounts) (outcome : Outcome)
     → TurnIs (link_of c.script files) ts ends t mid outcome
     → Hears (length ts) ends t mid
 hearing-of c files ts ends t mid Going h = subst (Hears (length ts) ends t) h.2 h.1.hearing
@@ -68,13 +68,13 @@ both-same : (x y : Accounts) → x.orig ≡ y.orig → x.answ ≡ y.answ → x �
 both-same x y o a = λ k. record { orig = o k; answ = a k }
 
 -- The turn that is being made.
-pub record Making (c : Channel) (files : Both (List ℕ)) (ts : List Turn) (ends : Accounts) (heard : Both Heard) (mid : Accounts) : Type 0 where
+pub record Making (c : Wire) (files : Both (List ℕ)) (ts : List Turn) (ends : Accounts) (heard : Both Heard) (mid : Accounts) : Type 0 where
   pub turn : Turn
   pub outcome : Outcome
   pub hears : HearsThese heard turn
   pub makes : MakesTurn c files ts ends turn mid outcome
 
-pub making : MakingLaws → (c : Channel) (files : Both (List ℕ)) (ts : List Turn) (ends : Accounts) (heard : Both Heard) (mid : Accounts)
+pub making : MakingLaws → (c : Wire) (files : Both (List ℕ)) (ts : List Turn) (ends : Accounts) (heard : Both Heard) (mid : Accounts)
     → IsInLimits c.script
     → Overhears c files ts ends heard mid → Making c files ts ends heard mid
 making laws c files ts ends heard mid limits o = record {
@@ -121,13 +121,13 @@ making laws c files ts ends heard mid limits o = record {
 
 -- ---- the ends after a turn in which nothing is sent
 
-abbrev pub Halts : Modems → Lines → Channel → ℕ → Both (List Carried) → List Turn → Both Heard → Type 0
+abbrev pub Halts : Modems → Lines → Wire → ℕ → Both (List Carried) → List Turn → Both Heard → Type 0
 Halts m l c links streams ts heard = (t : Turn) → HearsThese heard t → SendsNone m l c links streams ts t
 
 pub same-beside : (m : Modems) → SameBeside m m
 same-beside m = record { dlci = refl; turn = refl; tally = refl; heard_by = refl; spoke = refl }
 
-pub halts-so : (old m : Modems) (l : Lines) (c : Channel) (links : ℕ) (streams : Both (List Carried)) (files : Both (List ℕ)) (ts : List Turn)
+pub halts-so : (old m : Modems) (l : Lines) (c : Wire) (links : ℕ) (streams : Both (List Carried)) (files : Both (List ℕ)) (ts : List Turn)
     (ends : Accounts) (heard : Both Heard) (mid now : Accounts)
     → InTurn old c files ts ends heard mid now → HaveArrived l c links streams → SameBeside old m → Halts m l c links streams ts heard
 halts-so old m l c links streams files ts ends heard mid now h arrived same t hears =
@@ -143,13 +143,13 @@ halts-so old m l c links streams files ts ends heard mid now h arrived same t he
 abbrev pub Checked : Modems → Accounts → Type 0
 Checked m mid = (role : Role) → of role m.heard_by ≡ check_of (of role mid)
 
-pub checked-so : (old m : Modems) (c : Channel) (files : Both (List ℕ)) (ts : List Turn) (ends : Accounts) (heard : Both Heard) (mid now : Accounts)
+pub checked-so : (old m : Modems) (c : Wire) (files : Both (List ℕ)) (ts : List Turn) (ends : Accounts) (heard : Both Heard) (mid now : Accounts)
     → InTurn old c files ts ends heard mid now → SameBeside old m → Checked m mid
 checked-so old m c files ts ends heard mid now h same role = ap (of role) same.heard_by ∙ h.checks role
 
 -- ---- a fault of the folder
 
-pub writing-ends : (m : Modems) (l : Lines) (c : Channel) (links : ℕ) (streams : Both (List Carried)) (a b : FolderState) (n : Written) (files : Both (List ℕ)) (ts : List Turn) (ends : Accounts)
+pub writing-ends : (m : Modems) (l : Lines) (c : Wire) (links : ℕ) (streams : Both (List Carried)) (a b : FolderState) (n : Written) (files : Both (List ℕ)) (ts : List Turn) (ends : Accounts)
     (fault : RunFault) → IsWriting fault
     → Stops m l c links streams a b n files ts ends → EndsBy m l c links streams a b n files ts ends fault
 writing-ends m l c links streams a b n files ts ends run_faults.WriteFault is h = h
@@ -160,7 +160,7 @@ writing-ends m l c links streams a b n files ts ends (run_faults.ChanceMatch rol
 writing-ends m l c links streams a b n files ts ends (run_faults.NotDetected turn) is h = absurd is
 writing-ends m l c links streams a b n files ts ends (run_faults.LinkLost role segment turn) is h = absurd is
 
-pub reading-ends : (m : Modems) (l : Lines) (c : Channel) (links : ℕ) (streams : Both (List Carried)) (a b : FolderState) (n : Written) (files : Both (List ℕ)) (ts : List Turn) (ends : Accounts)
+pub reading-ends : (m : Modems) (l : Lines) (c : Wire) (links : ℕ) (streams : Both (List Carried)) (a b : FolderState) (n : Written) (files : Both (List ℕ)) (ts : List Turn) (ends : Accounts)
     (fault : RunFault) → IsReading fault
     → StopsReading m l c links streams a b n files ts ends → EndsBy m l c links streams a b n files ts ends fault
 reading-ends m l c links streams a b n files ts ends run_faults.ReadFault is h = h
@@ -173,7 +173,7 @@ reading-ends m l c links streams a b n files ts ends (run_faults.LinkLost role s
 
 -- as what both took is handed over,
 pub stops-handing : MakingLaws
-    → (m : Modems) (l : Lines) (c : Channel) (links : ℕ) (streams : Both (List Carried)) (a b : FolderState) (n : Written) (files : Both (List ℕ)) (ts : List Turn) (ends : Accounts) (heard : Both Heard)
+    → (m : Modems) (l : Lines) (c : Wire) (links : ℕ) (streams : Both (List Carried)) (a b : FolderState) (n : Written) (files : Both (List ℕ)) (ts : List Turn) (ends : Accounts) (heard : Both Heard)
     (mid : Accounts)
     → IsInLimits c.script → IsApart n → AreWithin files → OnlyPuts a b (outputs_of n) → Overhears c files ts ends heard mid
     → Halts m l c links streams ts heard → AddPart a b (outputs_of n) (octets_of mid)
@@ -193,7 +193,7 @@ stops-handing laws m l c links streams a b n files ts ends heard mid limits apar
 
 -- as the files are read,
 pub stops-reading : MakingLaws
-    → (m : Modems) (l : Lines) (c : Channel) (links : ℕ) (streams : Both (List Carried)) (a b : FolderState) (n : Written) (files : Both (List ℕ)) (ts : List Turn) (ends : Accounts) (heard : Both Heard)
+    → (m : Modems) (l : Lines) (c : Wire) (links : ℕ) (streams : Both (List Carried)) (a b : FolderState) (n : Written) (files : Both (List ℕ)) (ts : List Turn) (ends : Accounts) (heard : Both Heard)
     (mid : Accounts)
     → IsInLimits c.script → IsApart n → AreWithin files → OnlyPuts a b (outputs_of n) → Overhears c files ts ends heard mid
     → Halts m l c links streams ts heard → AddEach a b (outputs_of n) (octets_of mid) → StopsReading m l c links streams a b n files ts ends
@@ -213,7 +213,7 @@ stops-reading laws m l c links streams a b n files ts ends heard mid limits apar
     )
 
 -- and as the lines go out.
-pub stops-writing : (m : Modems) (l : Lines) (c : Channel) (links : ℕ) (streams : Both (List Carried)) (a b z : FolderState) (n : Written) (files others : Both (List ℕ)) (ts : List Turn)
+pub stops-writing : (m : Modems) (l : Lines) (c : Wire) (links : ℕ) (streams : Both (List Carried)) (a b z : FolderState) (n : Written) (files others : Both (List ℕ)) (ts : List Turn)
     (ends : Accounts) (heard : Both Heard) (mid : Accounts) → IsApart n
     → StayKnown a z n files others → OnlyPuts a b (outputs_of n) → AddEach a b (outputs_of n) (octets_of mid) → OnlyWrites b z n.trace
     → Halts m l c links streams ts heard → AddsPart c b z n others ts ends heard mid → Stops m l c links streams a z n files ts ends
@@ -231,7 +231,7 @@ stops-writing m l c links streams a b z n files others ts ends heard mid apart k
 
 -- ---- the run ends in this turn
 
-pub ends-in : (m : Modems) (l : Lines) (c : Channel) (links : ℕ) (streams : Both (List Carried)) (a b z : FolderState) (n : Written) (files others : Both (List ℕ)) (ts : List Turn) (ends : Accounts)
+pub ends-in : (m : Modems) (l : Lines) (c : Wire) (links : ℕ) (streams : Both (List Carried)) (a b z : FolderState) (n : Written) (files others : Both (List ℕ)) (ts : List Turn) (ends : Accounts)
     (heard : Both Heard) (mid : Accounts) (outcome : Outcome) (number : ℕ)
     → IsApart n → number ≡ length ts → StayKnown a z n files others → OnlyPuts a b (outputs_of n) → AddEach a b (outputs_of n) (octets_of mid)
     → OnlyWrites b z n.trace → Halts m l c links streams ts heard → Checked m mid
@@ -248,7 +248,7 @@ ends-in m l c links streams a b z n files others ts ends heard mid outcome numbe
   writes = AddEach-next a b z (received_of n) n.trace [] (octets_of mid) _ tt apart.0 only.goes_on delivered lines (inr p.trace);
 }
 
-pub speaks-last : (m : Modems) (l : Lines) (c : Channel) (links : ℕ) (streams : Both (List Carried)) (a b z : FolderState) (n : Written) (files others : Both (List ℕ)) (ts : List Turn)
+pub speaks-last : (m : Modems) (l : Lines) (c : Wire) (links : ℕ) (streams : Both (List Carried)) (a b z : FolderState) (n : Written) (files others : Both (List ℕ)) (ts : List Turn)
     (ends : Accounts) (heard : Both Heard) (mid : Accounts) (fault : RunFault)
     → IsApart n → StayKnown a z n files others → OnlyPuts a b (outputs_of n) → AddEach a b (outputs_of n) (octets_of mid)
     → OnlyWrites b z n.trace → Halts m l c links streams ts heard → Checked m mid
@@ -267,7 +267,7 @@ speaks-last m l c links streams a b z n files others ts ends heard mid (run_faul
 
 -- ---- the run goes on
 
-pub goes-on-by : (m : Modems) (l : Lines) (c : Channel) (links : ℕ) (streams : Both (List Carried)) (a b z : FolderState) (n : Written)
+pub goes-on-by : (m : Modems) (l : Lines) (c : Wire) (links : ℕ) (streams : Both (List Carried)) (a b z : FolderState) (n : Written)
     (files others : Both (List ℕ)) (ts : List Turn) (ends mid : Accounts)
     → IsApart n → StayKnown a z n files others → OnlyPuts a b (outputs_of n) → AddEach a b (outputs_of n) (octets_of mid) → OnlyWrites b z n.trace
     → HasGone m l c links streams b z n others ts ends mid → GoesOnBy m l c links streams a z n files ts ends

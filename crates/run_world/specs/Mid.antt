@@ -18,7 +18,7 @@ use Rattle.link_run.specs.Run.{Accounts, Side, Spoken, Turn, GoingTurn, arrival}
 use Rattle.link_run.specs.Outcomes.{Outcome, Broken}
 use Rattle.link_run.specs.Trace.{turn_text}
 use Rattle.link_run.specs.Counts.{lost_in, lost_slots, sent_again}
-use Rattle.line_run.specs.Sampled.{Channel, IsHeardOf, HeardIn, LineRun, EndsLine}
+use Rattle.line_run.specs.Sampled.{Wire, IsHeardOf, HeardIn, LineRun, EndsLine}
 use Rattle.line_run.specs.Scripted.{link_of}
 use Rattle.shared_line.specs.declared.lines.LineEnd.{LineEnd}
 use Rattle.turn_bound.specs.Limits.{file_limit}
@@ -36,7 +36,7 @@ use Rattle.run_world.specs.Modems.{ModemsAfter}
 use Rattle.run_world.specs.Turn.{MakesTurn, HearsNone}
 
 -- What both ends hear in the turn after these, and are once they have heard.
-pub record Overhears (c : Channel) (files : Both (List ℕ)) (ts : List Turn) (ends : Accounts) (heard : Both Heard)
+pub record Overhears (c : Wire) (files : Both (List ℕ)) (ts : List Turn) (ends : Accounts) (heard : Both Heard)
     (mid : Accounts) : Type 0 where
   pub run : LineRun c (link_of c.script files) ts ends
   pub heard_of : (role : Role) → IsHeardOf c (other role) ts (check_of (of role ends)) (of role heard)
@@ -74,7 +74,7 @@ pub record TalliesHeard (t : Tally) (ts : List Turn) (ends : Accounts) (heard : 
   pub answ : t.answ ≡ ends.answ.outgoing.high
 
 -- Ends in the turn after these, which by now are these.
-pub record InTurn (m : Modems) (c : Channel) (files : Both (List ℕ)) (ts : List Turn) (ends : Accounts) (heard : Both Heard) (mid now : Accounts) : Type 0 where
+pub record InTurn (m : Modems) (c : Wire) (files : Both (List ℕ)) (ts : List Turn) (ends : Accounts) (heard : Both Heard) (mid now : Accounts) : Type 0 where
   pub overhears : Overhears c files ts ends heard mid
   pub link : LinkStands m.link files now
   pub turn : m.turn ≡ length ts
@@ -90,19 +90,19 @@ pub record SameBeside (old new : Modems) : Type 0 where
   pub spoke : new.spoke ≡ old.spoke
 
 -- both ends have heard
-pub record HasHeard (m : Modems) (l : Lines) (c : Channel) (links : ℕ) (streams : Both (List Carried)) (files : Both (List ℕ)) (ts : List Turn)
+pub record HasHeard (m : Modems) (l : Lines) (c : Wire) (links : ℕ) (streams : Both (List Carried)) (files : Both (List ℕ)) (ts : List Turn)
     (ends : Accounts) (heard : Both Heard) : Type 0 where
   pub mid : Accounts
   pub stands : InTurn m c files ts ends heard mid mid
   pub lines : HaveArrived l c links streams
 
 -- what hearing answers
-abbrev pub HearsTurn : Modems → Lines → Channel → ℕ → Both (List Carried) → Both (List ℕ) → List Turn → Accounts → Result (Both Heard) LineEnd → Type 0
+abbrev pub HearsTurn : Modems → Lines → Wire → ℕ → Both (List Carried) → Both (List ℕ) → List Turn → Accounts → Result (Both Heard) LineEnd → Type 0
 HearsTurn m l c links streams files ts ends (Ok heard) = HasHeard m l c links streams files ts ends heard
 HearsTurn m l c links streams files ts ends (Err end) = EndsLine c ts ends (end_of end) × HearsNone m ts
 
 -- What both ends took is handed over, segments and the lengths of breaks.
-pub record HandsOver (m : Modems) (c : Channel) (old new : FolderState) (n : Written) (files : Both (List ℕ)) (ts : List Turn) (ends : Accounts)
+pub record HandsOver (m : Modems) (c : Wire) (old new : FolderState) (n : Written) (files : Both (List ℕ)) (ts : List Turn) (ends : Accounts)
     (heard : Both Heard) (mid : Accounts)
     (given : Both (Option ℕ)) : Type 0 where
   pub stands : InTurn m c files ts ends heard mid (handed mid)
@@ -116,7 +116,7 @@ pub record ReadsBoth (f : FolderState) (n : Written) (files : Both (List ℕ)) (
   pub answ : ReadsOn f n.answ file_limit files.answ ends.answ others.answ
 
 -- Both ends are served, and are to speak.
-pub record Serves (m : Modems) (c : Channel) (f : FolderState) (n : Written) (files : Both (List ℕ)) (ts : List Turn) (ends : Accounts)
+pub record Serves (m : Modems) (c : Wire) (f : FolderState) (n : Written) (files : Both (List ℕ)) (ts : List Turn) (ends : Accounts)
     (heard : Both Heard) (mid : Accounts) : Type 0 where
   pub others : Both (List ℕ)
   pub reads : ReadsBoth f n files (handed mid) others
@@ -127,7 +127,7 @@ abbrev pub HearsThese : Both Heard → Turn → Type 0
 HearsThese heard t = (role : Role) → (of role t).heard ≡ of role heard
 
 -- The turn after these is made, with that outcome, and its lines stand behind the trace.
-pub record AddsLines (c : Channel) (old new : FolderState) (n : Written) (files : Both (List ℕ)) (ts : List Turn) (ends : Accounts)
+pub record AddsLines (c : Wire) (old new : FolderState) (n : Written) (files : Both (List ℕ)) (ts : List Turn) (ends : Accounts)
     (heard : Both Heard) (mid : Accounts) (outcome : Outcome) : Type 0 where
   pub turn : Turn
   pub hears : HearsThese heard turn
@@ -135,7 +135,7 @@ pub record AddsLines (c : Channel) (old new : FolderState) (n : Written) (files 
   pub trace : Appended old new n.trace (turn_text (length ts) turn)
 
 -- A part of its lines does, whatever it comes to.
-pub record AddsPart (c : Channel) (old new : FolderState) (n : Written) (files : Both (List ℕ)) (ts : List Turn)
+pub record AddsPart (c : Wire) (old new : FolderState) (n : Written) (files : Both (List ℕ)) (ts : List Turn)
     (ends : Accounts) (heard : Both Heard) (mid : Accounts) : Type 0 where
   pub outcome : Outcome
   pub turn : Turn
@@ -144,7 +144,7 @@ pub record AddsPart (c : Channel) (old new : FolderState) (n : Written) (files :
   pub trace : PartlyAppended old new n.trace (turn_text (length ts) turn)
 
 -- The run goes on.
-pub record HasGone (m : Modems) (l : Lines) (c : Channel) (links : ℕ) (streams : Both (List Carried)) (old new : FolderState) (n : Written) (files : Both (List ℕ)) (ts : List Turn)
+pub record HasGone (m : Modems) (l : Lines) (c : Wire) (links : ℕ) (streams : Both (List Carried)) (old new : FolderState) (n : Written) (files : Both (List ℕ)) (ts : List Turn)
     (ends mid : Accounts) : Type 0 where
   pub turn : Turn
   pub after : Accounts
@@ -157,7 +157,7 @@ pub record HasGone (m : Modems) (l : Lines) (c : Channel) (links : ℕ) (streams
   pub trace : Appended old new n.trace (turn_text (length ts) turn)
 
 -- why the run ends as the ends speak
-abbrev pub SpeaksLast : Channel → FolderState → FolderState → Written → Both (List ℕ) → List Turn → Accounts → Both Heard → Accounts → RunFault → Type 0
+abbrev pub SpeaksLast : Wire → FolderState → FolderState → Written → Both (List ℕ) → List Turn → Accounts → Both Heard → Accounts → RunFault → Type 0
 SpeaksLast c old new n files ts ends heard mid run_faults.WriteFault = AddsPart c old new n files ts ends heard mid
 SpeaksLast c old new n files ts ends heard mid run_faults.NoMemory = AddsPart c old new n files ts ends heard mid
 SpeaksLast c old new n files ts ends heard mid (run_faults.LinkLost role segment turn) =
@@ -169,13 +169,13 @@ SpeaksLast c old new n files ts ends heard mid (run_faults.LineLost role symbol)
 SpeaksLast c old new n files ts ends heard mid (run_faults.ChanceMatch role turn) = ⊥
 
 -- what speaking answers
-abbrev pub SpeaksTurn : Modems → Lines → Channel → ℕ → Both (List Carried) → FolderState → FolderState → Written → Both (List ℕ) → List Turn → Accounts → Both Heard → Accounts → Result (Unit {0}) RunFault
+abbrev pub SpeaksTurn : Modems → Lines → Wire → ℕ → Both (List Carried) → FolderState → FolderState → Written → Both (List ℕ) → List Turn → Accounts → Both Heard → Accounts → Result (Unit {0}) RunFault
     → Type 0
 SpeaksTurn m l c links streams old new n files ts ends heard mid (Ok done) = HasGone m l c links streams old new n files ts ends mid
 SpeaksTurn m l c links streams old new n files ts ends heard mid (Err fault) = SpeaksLast c old new n files ts ends heard mid fault
 
 -- Both ends are to speak, in a turn in which the originator isn't closed.
-pub record IsToSpeak (m : Modems) (c : Channel) (files : Both (List ℕ)) (ts : List Turn) (ends : Accounts) (heard : Both Heard) (mid : Accounts) : Type 0 where
+pub record IsToSpeak (m : Modems) (c : Wire) (files : Both (List ℕ)) (ts : List Turn) (ends : Accounts) (heard : Both Heard) (mid : Accounts) : Type 0 where
   pub stands : InTurn m c files ts ends heard mid (served c.script files (length ts) mid)
   pub going : is_closed mid.orig.phase ≡ false
 

@@ -5,8 +5,8 @@ use Rattle.roles.specs.Both.{Both}
 use Rattle.detection.specs.Slots.{Signal}
 use Rattle.noise_script.specs.Script.{ScriptValue, IsInLimits}
 use Rattle.link_run.specs.Run.{Accounts, Turn}
-use Rattle.line_run.specs.Sampled.{Channel, LineRun}
-use Rattle.line_run.specs.Scripted.{channel_at, link_of, longest_of, slot_symbols}
+use Rattle.line_run.specs.Sampled.{Wire, LineRun}
+use Rattle.line_run.specs.Scripted.{wire_at, link_of, longest_of, slot_symbols}
 use Rattle.line_run.specs.Stream.{Carried}
 use Rattle.shared_line.specs.Lines.{LinesWait, AreDue, PassedFew}
 use Rattle.shared_line.specs.declared.lines.Lines.{Lines}
@@ -20,13 +20,13 @@ has_turns [] = false
 has_turns (t ∷ ts) = true
 
 -- a script's channel of that number, beside which anything may go
-pub record IsChannelOf (c : Channel) (script : ScriptValue) (dlci : ℕ) : Type 0 where
+pub record IsWireOf (c : Wire) (script : ScriptValue) (dlci : ℕ) : Type 0 where
   pub script_is : c.script ≡ script
   pub dlci_is : c.dlci ≡ dlci
   pub symbols_are : c.symbols ≡ slot_symbols (longest_of script)
 
 -- They made these turns of the run of the channel's script and these files, which has come to these ends, and counted what they show.
-pub record ModemsAfter (m : Modems) (c : Channel) (files : Both (List ℕ)) (ts : List Turn) (ends : Accounts) : Type 0 where
+pub record ModemsAfter (m : Modems) (c : Wire) (files : Both (List ℕ)) (ts : List Turn) (ends : Accounts) : Type 0 where
   pub run : LineRun c (link_of c.script files) ts ends
   pub link : LinkStands m.link files ends
   pub turn : m.turn ≡ length ts
@@ -51,7 +51,7 @@ pub record AreReady (m : Modems) (script : ScriptValue) (l : Lines) : Type 0 whe
   pub within : AreWithin files
   pub turns : List Turn
   pub ends : Accounts
-  pub after : ModemsAfter m (channel_at script m.dlci beside) files turns ends
-  pub waits : LinesWait l (channel_at script m.dlci beside) links streams
-  pub due : AreDue (channel_at script m.dlci beside) links turns streams
+  pub after : ModemsAfter m (wire_at script m.dlci beside) files turns ends
+  pub waits : LinesWait l (wire_at script m.dlci beside) links streams
+  pub due : AreDue (wire_at script m.dlci beside) links turns streams
   pub few : PassedFew l

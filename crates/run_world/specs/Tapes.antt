@@ -8,17 +8,17 @@ use Rattle.roles.specs.Role.{mode_of}
 use Rattle.roles.specs.Both.{Both}
 use Rattle.recordings.specs.Recording.{header_of}
 use Rattle.link_run.specs.Run.{Turn}
-use Rattle.line_run.specs.Sampled.{Channel}
+use Rattle.line_run.specs.Sampled.{Wire}
 use Rattle.line_run.specs.Recorded.{Tapes, IsRecorded}
 
 -- A recording holds its header and the samples of all that a role sent in these turns,
-pub record HoldsTape (f : FolderState) (name : List ℕ) (c : Channel) (role : Role) (ts : List Turn) : Type 0 where
+pub record HoldsTape (f : FolderState) (name : List ℕ) (c : Wire) (role : Role) (ts : List Turn) : Type 0 where
   pub body : List ℕ
   pub recorded : IsRecorded c role ts body
   pub holds : Holds f name (header_of (mode_of role) ++ body)
 
 -- and behind that a part of what it sent in one turn more.
-pub record HoldsTapePart (f : FolderState) (name : List ℕ) (c : Channel) (role : Role) (ts : List Turn) (t : Turn) : Type 0 where
+pub record HoldsTapePart (f : FolderState) (name : List ℕ) (c : Wire) (role : Role) (ts : List Turn) (t : Turn) : Type 0 where
   pub body : List ℕ
   pub recorded : IsRecorded c role ts body
   pub more : List ℕ
@@ -26,13 +26,13 @@ pub record HoldsTapePart (f : FolderState) (name : List ℕ) (c : Channel) (role
   pub holds : HoldsPart f name (header_of (mode_of role) ++ body) more
 
 -- both hold what was sent in these turns
-abbrev pub HoldTapes : FolderState → Tapes → Channel → List Turn → Type 0
+abbrev pub HoldTapes : FolderState → Tapes → Wire → List Turn → Type 0
 HoldTapes f None c ts = Unit {0}
 HoldTapes f (Some names) c ts = HoldsTape f names.orig c Originator ts × HoldsTape f names.answ c Answerer ts
 
 -- The folder failed as what was sent in one turn more was put behind that: the originator's holds a part of it and the answerer's nothing of it, or
 -- the originator's all and the answerer's a part.
-abbrev pub HoldTapesPartly : FolderState → Tapes → Channel → List Turn → Turn → Type 0
+abbrev pub HoldTapesPartly : FolderState → Tapes → Wire → List Turn → Turn → Type 0
 HoldTapesPartly f None c ts t = ⊥
 HoldTapesPartly f (Some names) c ts t =
     (HoldsTapePart f names.orig c Originator ts t × HoldsTape f names.answ c Answerer ts)

@@ -13,7 +13,7 @@ use Rattle.line_coding.specs.Modulates.{ModulatorStands}
 use Rattle.line_coding.specs.declared.modulator.Modulator.{Modulator}
 use Rattle.recordings.specs.Recording.{header_of, sample_octets}
 use Rattle.link_run.specs.Run.{Turn}
-use Rattle.line_run.specs.Sampled.{Channel, bits_of}
+use Rattle.line_run.specs.Sampled.{Wire, bits_of}
 use Rattle.line_run.specs.Recorded.{Tapes}
 use Rattle.run_world.specs.Tapes.{HoldsTapePart, HoldTapesPartly}
 use Rattle.run_world.specs.declared.step.RunFault.{RunFault}
@@ -26,17 +26,17 @@ pub record RecordsBits (mode : Mode) (m : Modulator) (bits : List Bool) (octets 
   pub octets_are : octets ≡ flat_map sample_octets samples
 
 -- a tape has recorded all that a role sent in these turns as these octets
-abbrev pub TapeStands : Tape → Channel → Role → List Turn → List ℕ → Type 0
+abbrev pub TapeStands : Tape → Wire → Role → List Turn → List ℕ → Type 0
 TapeStands tape c role ts body = RecordsBits (mode_of role) tape.modulator (bits_of c role ts) body
 
 -- A tape has recorded these turns of its role, and the folder holds that.
-pub record KeepsTape (tape : Tape) (f : FolderState) (c : Channel) (role : Role) (ts : List Turn) : Type 0 where
+pub record KeepsTape (tape : Tape) (f : FolderState) (c : Wire) (role : Role) (ts : List Turn) : Type 0 where
   pub body : List ℕ
   pub stands : TapeStands tape c role ts body
   pub holds : Holds f tape.name.now (header_of (mode_of role) ++ body)
 
 -- it takes the slot of one turn more, or the folder doesn't
-abbrev pub TakesSlot : Tape → FolderState → Channel → Role → List Turn → Turn → Result Unit RunFault → Type 0
+abbrev pub TakesSlot : Tape → FolderState → Wire → Role → List Turn → Turn → Result Unit RunFault → Type 0
 TakesSlot tape f c role ts t (Ok done) = KeepsTape tape f c role (t ∷ ts)
 TakesSlot tape f c role ts t (Err fault) = HoldsTapePart f tape.name.now c role ts t
 
@@ -46,11 +46,11 @@ tape_names None = None
 tape_names (Some tapes) = Some (record { orig = tapes.orig.name.now; answ = tapes.answ.name.now })
 
 -- both have recorded these turns, and the folder holds that
-abbrev pub KeepTapes : Option (Both Tape) → FolderState → Channel → List Turn → Type 0
+abbrev pub KeepTapes : Option (Both Tape) → FolderState → Wire → List Turn → Type 0
 KeepTapes None f c ts = Unit {0}
 KeepTapes (Some tapes) f c ts = KeepsTape tapes.orig f c Originator ts × KeepsTape tapes.answ f c Answerer ts
 
 -- they take one turn more, or the folder doesn't
-abbrev pub TakeTurn : Option (Both Tape) → FolderState → Channel → List Turn → Turn → Result Unit RunFault → Type 0
+abbrev pub TakeTurn : Option (Both Tape) → FolderState → Wire → List Turn → Turn → Result Unit RunFault → Type 0
 TakeTurn tapes f c ts t (Ok done) = KeepTapes tapes f c (t ∷ ts)
 TakeTurn tapes f c ts t (Err fault) = HoldTapesPartly f (tape_names tapes) c ts t

@@ -15,7 +15,7 @@ use Rattle.link_run.specs.Run.{Accounts, Turn, GoingTurn}
 use Rattle.link_run.specs.Outcomes.{Outcome, Done, Broken, TurnIs}
 use Rattle.link_run.specs.Trace.{turn_text}
 use Rattle.link_run.specs.Counts.{lost_slots, sent_again}
-use Rattle.line_run.specs.Sampled.{Channel, HeardIn, LineRun, EndsLine}
+use Rattle.line_run.specs.Sampled.{Wire, HeardIn, LineRun, EndsLine}
 use Rattle.line_run.specs.Sampled as lines
 use Rattle.line_run.specs.Scripted.{link_of}
 use Rattle.run_world.specs.Names.{Written, inputs_of, outputs_of, received_of}
@@ -36,14 +36,14 @@ abbrev pub added : Accounts → List ℕ → List (List ℕ)
 added mid text = octets_of mid ++ text ∷ []
 
 -- The turn after these, over a channel and files: what both ends hear in it, are once they have heard, and what it comes to.
-pub record MakesTurn (c : Channel) (files : Both (List ℕ)) (ts : List Turn) (ends : Accounts) (turn : Turn) (mid : Accounts)
+pub record MakesTurn (c : Wire) (files : Both (List ℕ)) (ts : List Turn) (ends : Accounts) (turn : Turn) (mid : Accounts)
     (outcome : Outcome) : Type 0 where
   pub run : LineRun c (link_of c.script files) ts ends
   pub heard : HeardIn c ts turn
   pub is : TurnIs (link_of c.script files) ts ends turn mid outcome
 
 -- The run goes on by one turn.
-pub record GoesOnBy (m : Modems) (l : Lines) (c : Channel) (links : ℕ) (streams : Both (List Carried)) (old new : FolderState) (n : Written) (files : Both (List ℕ)) (ts : List Turn) (ends : Accounts) : Type 0 where
+pub record GoesOnBy (m : Modems) (l : Lines) (c : Wire) (links : ℕ) (streams : Both (List Carried)) (old new : FolderState) (n : Written) (files : Both (List ℕ)) (ts : List Turn) (ends : Accounts) : Type 0 where
   pub others : Both (List ℕ)
   pub known : StayKnown old new n files others
   pub turn : Turn
@@ -56,7 +56,7 @@ pub record GoesOnBy (m : Modems) (l : Lines) (c : Channel) (links : ℕ) (stream
   pub writes : AddEach old new (outputs_of n) (added going.mid (turn_text (length ts) turn))
 
 -- Nothing is sent in this turn: the line has passed the slots that arrived in it, and those of them that were lost are counted.
-pub record SendsNone (m : Modems) (l : Lines) (c : Channel) (links : ℕ) (streams : Both (List Carried)) (ts : List Turn) (turn : Turn) : Type 0 where
+pub record SendsNone (m : Modems) (l : Lines) (c : Wire) (links : ℕ) (streams : Both (List Carried)) (ts : List Turn) (turn : Turn) : Type 0 where
   pub lines : HaveArrived l c links streams
   pub lost : m.tally.lost ≡ lost_slots (turn ∷ ts)
   pub again : m.tally.again ≡ sent_again ts
@@ -67,7 +67,7 @@ pub record HearsNone (m : Modems) (ts : List Turn) : Type 0 where
   pub again : m.tally.again ≡ sent_again ts
 
 -- The run ends in this turn, with that outcome.
-pub record EndsInTurn (m : Modems) (l : Lines) (c : Channel) (links : ℕ) (streams : Both (List Carried)) (old new : FolderState) (n : Written) (files : Both (List ℕ)) (ts : List Turn) (ends : Accounts)
+pub record EndsInTurn (m : Modems) (l : Lines) (c : Wire) (links : ℕ) (streams : Both (List Carried)) (old new : FolderState) (n : Written) (files : Both (List ℕ)) (ts : List Turn) (ends : Accounts)
     (outcome : Outcome) (number : ℕ) : Type 0 where
   pub number_is : number ≡ length ts
   pub others : Both (List ℕ)
@@ -80,14 +80,14 @@ pub record EndsInTurn (m : Modems) (l : Lines) (c : Channel) (links : ℕ) (stre
   pub writes : AddEach old new (outputs_of n) (added mid (turn_text (length ts) turn))
 
 -- The line is lost as this turn begins: nothing is written.
-pub record LosesLine (m : Modems) (c : Channel) (old new : FolderState) (n : Written) (ts : List Turn) (ends : Accounts) (role : Role)
+pub record LosesLine (m : Modems) (c : Wire) (old new : FolderState) (n : Written) (ts : List Turn) (ends : Accounts) (role : Role)
     (symbol : ℕ) : Type 0 where
   pub is : EndsLine c ts ends (lines.LineLost role symbol)
   pub halts : HearsNone m ts
   pub kept : KeepsEach old new (outputs_of n)
 
 -- A slot is a chance match: the one line of it is written.
-pub record MeetsChance (m : Modems) (c : Channel) (old new : FolderState) (n : Written) (ts : List Turn) (ends : Accounts) (role : Role)
+pub record MeetsChance (m : Modems) (c : Wire) (old new : FolderState) (n : Written) (ts : List Turn) (ends : Accounts) (role : Role)
     (number : ℕ) : Type 0 where
   pub number_is : number ≡ length ts
   pub is : EndsLine c ts ends (lines.ChanceMatch role)
@@ -96,7 +96,7 @@ pub record MeetsChance (m : Modems) (c : Channel) (old new : FolderState) (n : W
   pub trace : Appended old new n.trace (chance_line (length ts) role)
 
 -- The folder fails in this turn, and a part of what it adds is written: whatever the turn comes to,
-pub record StopsInTurn (m : Modems) (l : Lines) (c : Channel) (links : ℕ) (streams : Both (List Carried)) (old new : FolderState) (n : Written) (files : Both (List ℕ)) (ts : List Turn)
+pub record StopsInTurn (m : Modems) (l : Lines) (c : Wire) (links : ℕ) (streams : Both (List Carried)) (old new : FolderState) (n : Written) (files : Both (List ℕ)) (ts : List Turn)
     (ends : Accounts) : Type 0 where
   pub others : Both (List ℕ)
   pub known : StayKnown old new n files others
@@ -108,7 +108,7 @@ pub record StopsInTurn (m : Modems) (l : Lines) (c : Channel) (links : ℕ) (str
   pub writes : AddPart old new (outputs_of n) (added mid (turn_text (length ts) turn))
 
 -- or where a slot is a chance match.
-pub record StopsAtChance (m : Modems) (c : Channel) (old new : FolderState) (n : Written) (ts : List Turn) (ends : Accounts) : Type 0 where
+pub record StopsAtChance (m : Modems) (c : Wire) (old new : FolderState) (n : Written) (ts : List Turn) (ends : Accounts) : Type 0 where
   pub role : Role
   pub is : EndsLine c ts ends (lines.ChanceMatch role)
   pub halts : HearsNone m ts
@@ -116,19 +116,19 @@ pub record StopsAtChance (m : Modems) (c : Channel) (old new : FolderState) (n :
   pub trace : PartlyAppended old new n.trace (chance_line (length ts) role)
 
 -- A file that is sent isn't read: what both ends took is written, and nothing of the lines.
-abbrev pub StopsReading : Modems → Lines → Channel → ℕ → Both (List Carried) → FolderState → FolderState → Written → Both (List ℕ) → List Turn → Accounts → Type 0
+abbrev pub StopsReading : Modems → Lines → Wire → ℕ → Both (List Carried) → FolderState → FolderState → Written → Both (List ℕ) → List Turn → Accounts → Type 0
 StopsReading m l c links streams old new n files ts ends = (stops : StopsInTurn m l c links streams old new n files ts ends) × AddEach old new (outputs_of n) (octets_of stops.mid)
 
-abbrev pub Stops : Modems → Lines → Channel → ℕ → Both (List Carried) → FolderState → FolderState → Written → Both (List ℕ) → List Turn → Accounts → Type 0
+abbrev pub Stops : Modems → Lines → Wire → ℕ → Both (List Carried) → FolderState → FolderState → Written → Both (List ℕ) → List Turn → Accounts → Type 0
 Stops m l c links streams old new n files ts ends = StopsInTurn m l c links streams old new n files ts ends ⊎ StopsAtChance m c old new n ts ends
 
 -- an end's tries are spent, at its front
-abbrev pub LosesLink : Modems → Lines → Channel → ℕ → Both (List Carried) → FolderState → FolderState → Written → Both (List ℕ) → List Turn → Accounts → Role → ℕ → ℕ → Type 0
+abbrev pub LosesLink : Modems → Lines → Wire → ℕ → Both (List Carried) → FolderState → FolderState → Written → Both (List ℕ) → List Turn → Accounts → Role → ℕ → ℕ → Type 0
 LosesLink m l c links streams old new n files ts ends role segment number =
     (since : ℕ) × EndsInTurn m l c links streams old new n files ts ends (Broken role (faults.Spent segment since)) number
 
 -- why a run ends in this turn with less than both files
-abbrev pub EndsBy : Modems → Lines → Channel → ℕ → Both (List Carried) → FolderState → FolderState → Written → Both (List ℕ) → List Turn → Accounts → RunFault → Type 0
+abbrev pub EndsBy : Modems → Lines → Wire → ℕ → Both (List Carried) → FolderState → FolderState → Written → Both (List ℕ) → List Turn → Accounts → RunFault → Type 0
 EndsBy m l c links streams old new n files ts ends run_faults.ReadFault = StopsReading m l c links streams old new n files ts ends
 EndsBy m l c links streams old new n files ts ends run_faults.WriteFault = Stops m l c links streams old new n files ts ends
 EndsBy m l c links streams old new n files ts ends (run_faults.LineLost role symbol) = LosesLine m c old new n ts ends role symbol
@@ -139,7 +139,7 @@ EndsBy m l c links streams old new n files ts ends (run_faults.LinkLost role seg
 EndsBy m l c links streams old new n files ts ends run_faults.NoMemory = Stops m l c links streams old new n files ts ends
 
 -- what a turn answers, after these turns
-abbrev pub TurnAnswers : Modems → Lines → Channel → ℕ → Both (List Carried) → FolderState → FolderState → Written → Both (List ℕ) → List Turn → Accounts → Result Step RunFault → Type 0
+abbrev pub TurnAnswers : Modems → Lines → Wire → ℕ → Both (List Carried) → FolderState → FolderState → Written → Both (List ℕ) → List Turn → Accounts → Result Step RunFault → Type 0
 TurnAnswers m l c links streams old new n files ts ends (Ok steps.Going) = GoesOnBy m l c links streams old new n files ts ends
 TurnAnswers m l c links streams old new n files ts ends (Ok (steps.Done turn)) = EndsInTurn m l c links streams old new n files ts ends Done turn
 TurnAnswers m l c links streams old new n files ts ends (Err fault) = EndsBy m l c links streams old new n files ts ends fault

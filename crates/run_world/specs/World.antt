@@ -10,7 +10,7 @@ use Rattle.sample_line.specs.Line.{Kept, bits_behind}
 use Rattle.sample_line.specs.Signals.{signal_of}
 use Rattle.link_run.specs.Run.{Accounts, Spoken, Turn}
 use Rattle.line_run.specs.Sampled.{signals}
-use Rattle.line_run.specs.Scripted.{channel_of}
+use Rattle.line_run.specs.Scripted.{wire_of}
 use Rattle.line_run.specs.Stream.{sent_by, both_sent_by}
 use Rattle.turn_bound.specs.Limits.{file_limit}
 use Rattle.stations.specs.Station.{file_at}
@@ -61,8 +61,8 @@ pub record StayKnown (old new : FolderState) (n : Written) (files others : Both 
 -- The world made these turns of the run of its script and these files, which has come to these ends, and counted what they show. Its link is
 -- alone on its line.
 pub record WorldAfter (w : World) (files : Both (List ℕ)) (ts : List Turn) (ends : Accounts) : Type 0 where
-  pub modems : ModemsAfter w.modems (channel_of w.script) files ts ends
-  pub lines : LinesWait w.lines (channel_of w.script) 1 (both_sent_by 0 ts)
+  pub modems : ModemsAfter w.modems (wire_of w.script) files ts ends
+  pub lines : LinesWait w.lines (wire_of w.script) 1 (both_sent_by 0 ts)
 
 -- the line of this role stands for its slots of these turns: those sent as many turns ago as its delay have passed, the others wait
 abbrev pub HasPassed : Kept → ScriptValue → Role → List Turn → Type 0
@@ -76,7 +76,7 @@ HasPassedToo line script role ts = Carries line script role (sent_by 0 role ts) 
 abbrev pub HasSent : Option BitSlot → ScriptValue → Role → List Turn → Turn → Type 0
 HasSent None script role ts t = ⊥
 HasSent (Some bits) script role ts t = (slot : Spoken) × ((of role t).sent ≡ Some slot)
-    × (line_bits bits ≡ bits_behind (4 * (channel_of script).symbols) (signals (channel_of script) role ts) (signal_of slot.check role 0 slot.sent))
+    × (line_bits bits ≡ bits_behind (4 * (wire_of script).symbols) (signals (wire_of script) role ts) (signal_of slot.check role 0 slot.sent))
 
 -- A turn may be made: the world stands for a run of some files, and what its ends took is handed over.
 pub record IsReady (w : World) : Type 0 where

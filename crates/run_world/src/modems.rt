@@ -7,9 +7,9 @@ ghost use Rattle.lapm_frames.specs.declared.heard.Heard.{Heard};
 ghost use Rattle.link_run.specs.Run.{Accounts, Turn, start};
 ghost use Rattle.link_run.specs.End.{is_closed};
 ghost use Rattle.link_run.specs.Outcomes.{Done};
-ghost use Rattle.line_run.specs.Sampled.{Channel, EndsLine};
+ghost use Rattle.line_run.specs.Sampled.{Wire, EndsLine};
 ghost use Rattle.line_run.specs.Sampled as line_ends;
-ghost use Rattle.line_run.specs.Scripted.{channel_at, link_of};
+ghost use Rattle.line_run.specs.Scripted.{wire_at, link_of};
 ghost use Rattle.line_run.specs.Stream.{Carried};
 ghost use Rattle.shared_line.specs.Lines.{LinesWait, HaveArrived, AreDue};
 ghost use Rattle.shared_line.specs.declared.lines.Lines.{Lines};
@@ -72,7 +72,7 @@ impl Drop for Modems {
 impl Modems {
     ghost use Rattle.run_world.specs.declared.modems.Modems.{Modems};
     ghost use Rattle.run_world.specs.Tally.{IsFew};
-    ghost use Rattle.run_world.specs.Modems.{AreKept, AreReady, IsChannelOf, ModemsAfter};
+    ghost use Rattle.run_world.specs.Modems.{AreKept, AreReady, IsWireOf, ModemsAfter};
     ghost use Rattle.run_world.specs.Mid.{AddsLines, AddsPart, HearsTurn, InTurn, HandsOver, IsToSpeak, SameBeside, Serves, SpeaksTurn, handed};
     ghost use Rattle.run_world.specs.Turn.{EndsBy, FaultCounts, HearsNone, IsReading, IsWriting, TurnAnswers, TurnCounts, goes_on, turns_made};
 
@@ -82,7 +82,7 @@ impl Modems {
         ensures kept { IfOk result AreKept }
         ensures channel { IfOk result (λ m. m.dlci ≡ dlci) }
         ensures turn { IfOk result (λ m. m.turn ≡ 0) }
-        ensures after { IfOk result (λ m. (c : Channel) (files : Both (List ℕ)) → c.script ≡ script.now → ModemsAfter m c files [] (start (link_of script.now files))) }
+        ensures after { IfOk result (λ m. (c : Wire) (files : Both (List ℕ)) → c.script ≡ script.now → ModemsAfter m c files [] (start (link_of script.now files))) }
     {
         let link = Link::new(alloc, script)?;
         let heard_by = link.checks();
@@ -99,7 +99,7 @@ impl Modems {
     /// Both ends hear what arrives, or the line ends the run.
     fn hear(&mut self, lines: &mut Lines, script: &Script) -> Result<Both<Heard>, LineEnd>
         requires ready { AreReady self.old script.now lines.old }
-        ensures hears { (c : Channel) (links : ℕ) (streams : Both (List Carried)) (files : Both (List ℕ)) (ts : List Turn) (ends : Accounts)
+        ensures hears { (c : Wire) (links : ℕ) (streams : Both (List Carried)) (files : Both (List ℕ)) (ts : List Turn) (ends : Accounts)
             → c.script ≡ script.now → c.dlci ≡ self.old.dlci → ModemsAfter self.old c files ts ends → LinesWait lines.old c links streams
             → AreDue c links ts streams
             → HearsTurn self.new lines.new c links streams files ts ends result }
@@ -133,9 +133,9 @@ impl Modems {
         names: &Names<'_>,
     ) -> Result<Both<Option<u8>>, RunFault>
         requires apart { AreApartFrom (inputs_of (written names.now)) (outputs_of (written names.now)) }
-        ensures hands { IfOk result (λ given. (c : Channel) (files : Both (List ℕ)) (ts : List Turn) (ends : Accounts) (heard : Both Heard) (mid : Accounts) → InTurn self.old c files ts ends heard mid mid
+        ensures hands { IfOk result (λ given. (c : Wire) (files : Both (List ℕ)) (ts : List Turn) (ends : Accounts) (heard : Both Heard) (mid : Accounts) → InTurn self.old c files ts ends heard mid mid
             → HandsOver self.new c (F.state folder.old) (F.state folder.new) (written names.now) files ts ends heard mid given) }
-        ensures part { OnErr result ((c : Channel) (files : Both (List ℕ)) (ts : List Turn) (ends : Accounts) (heard : Both Heard) (mid : Accounts) → InTurn self.old c files ts ends heard mid mid
+        ensures part { OnErr result ((c : Wire) (files : Both (List ℕ)) (ts : List Turn) (ends : Accounts) (heard : Both Heard) (mid : Accounts) → InTurn self.old c files ts ends heard mid mid
             → AddPart (F.state folder.old) (F.state folder.new) (outputs_of (written names.now)) (octets_of mid)) }
         ensures idle { OnOk result (AreIdle self.new.link) }
         ensures counted { OnOk result ((heard asked : ℕ) → AreCounted self.old.link heard asked → AreCounted self.new.link heard asked) }
@@ -161,9 +161,9 @@ impl Modems {
         requires early { self.old.turn < 2 ^ 40 }
         requires counted { AreCounted self.old.link (self.old.turn + 1) self.old.turn }
         requires limits { IsInLimits script.now }
-        requires stands { (c : Channel) × (files : Both (List ℕ)) × (ts : List Turn) × (ends : Accounts) × (heard : Both Heard) × (mid : Accounts)
+        requires stands { (c : Wire) × (files : Both (List ℕ)) × (ts : List Turn) × (ends : Accounts) × (heard : Both Heard) × (mid : Accounts)
             × (c.script ≡ script.now) × InTurn self.old c files ts ends heard mid (handed mid) × AreWithin files }
-        ensures serves { OnOk result ((c : Channel) (files : Both (List ℕ)) (ts : List Turn) (ends : Accounts) (heard : Both Heard) (mid : Accounts)
+        ensures serves { OnOk result ((c : Wire) (files : Both (List ℕ)) (ts : List Turn) (ends : Accounts) (heard : Both Heard) (mid : Accounts)
             → c.script ≡ script.now → InTurn self.old c files ts ends heard mid (handed mid) → AreWithin files
             → Serves self.new c (F.state folder.old) (written names.now) files ts ends heard mid) }
         ensures idle { OnOk result (AreIdle self.old.link → AreIdle self.new.link) }
@@ -198,10 +198,10 @@ impl Modems {
         requires channel { self.old.dlci < 64 }
         requires limits { IsInLimits script.now }
         requires few { IsFew self.old.tally (self.old.turn + 1) self.old.turn }
-        requires stands { (c : Channel) × (links : ℕ) × (streams : Both (List Carried)) × (files : Both (List ℕ)) × (ts : List Turn) × (ends : Accounts) × (mid : Accounts)
-            × IsChannelOf c script.now self.old.dlci × IsToSpeak self.old c files ts ends heard mid × HaveArrived lines.old c links streams }
-        ensures speaks { (c : Channel) (links : ℕ) (streams : Both (List Carried)) (files : Both (List ℕ)) (ts : List Turn) (ends mid : Accounts)
-            → IsChannelOf c script.now self.old.dlci → IsToSpeak self.old c files ts ends heard mid → HaveArrived lines.old c links streams
+        requires stands { (c : Wire) × (links : ℕ) × (streams : Both (List Carried)) × (files : Both (List ℕ)) × (ts : List Turn) × (ends : Accounts) × (mid : Accounts)
+            × IsWireOf c script.now self.old.dlci × IsToSpeak self.old c files ts ends heard mid × HaveArrived lines.old c links streams }
+        ensures speaks { (c : Wire) (links : ℕ) (streams : Both (List Carried)) (files : Both (List ℕ)) (ts : List Turn) (ends mid : Accounts)
+            → IsWireOf c script.now self.old.dlci → IsToSpeak self.old c files ts ends heard mid → HaveArrived lines.old c links streams
             → given.now.orig ≡ given_break mid.orig → given.now.answ ≡ given_break mid.answ
             → SpeaksTurn self.new lines.new c links streams (F.state folder.old) (F.state folder.new) (written names.now) files ts ends heard mid result }
         ensures idle { OnOk result (AreIdle self.old.link → AreIdle self.new.link) }
@@ -262,10 +262,10 @@ impl Modems {
         heard: Both<Heard>,
         given: &Both<Option<u8>>,
     ) -> Result<(), RunFault>
-        ensures adds { OnOk result ((c : Channel) (files : Both (List ℕ)) (ts : List Turn) (ends mid : Accounts) → InTurn self.now c files ts ends heard mid (handed mid) → is_closed mid.orig.phase ≡ true
+        ensures adds { OnOk result ((c : Wire) (files : Both (List ℕ)) (ts : List Turn) (ends mid : Accounts) → InTurn self.now c files ts ends heard mid (handed mid) → is_closed mid.orig.phase ≡ true
             → given.now.orig ≡ given_break mid.orig → given.now.answ ≡ given_break mid.answ
             → AddsLines c (F.state folder.old) (F.state folder.new) (written names.now) files ts ends heard mid Done) }
-        ensures part { OnErr result ((c : Channel) (files : Both (List ℕ)) (ts : List Turn) (ends mid : Accounts) → InTurn self.now c files ts ends heard mid (handed mid) → is_closed mid.orig.phase ≡ true
+        ensures part { OnErr result ((c : Wire) (files : Both (List ℕ)) (ts : List Turn) (ends mid : Accounts) → InTurn self.now c files ts ends heard mid (handed mid) → is_closed mid.orig.phase ≡ true
             → given.now.orig ≡ given_break mid.orig → given.now.answ ≡ given_break mid.answ
             → AddsPart c (F.state folder.old) (F.state folder.new) (written names.now) files ts ends heard mid) }
         ensures only { OnlyWrites (F.state folder.old) (F.state folder.new) (written names.now).trace }
@@ -287,7 +287,7 @@ impl Modems {
     /// A slot is a chance match: its one line goes out.
     fn meet_chance<F: Folder>(&self, folder: &mut F, names: &Names<'_>, role: Role) -> RunFault
         requires apart { AreApartFrom (inputs_of (written names.now)) (outputs_of (written names.now)) }
-        ensures meets { (l : Lines) (c : Channel) (links : ℕ) (streams : Both (List Carried)) (ts : List Turn) (ends : Accounts) → self.now.turn ≡ length ts
+        ensures meets { (l : Lines) (c : Wire) (links : ℕ) (streams : Both (List Carried)) (ts : List Turn) (ends : Accounts) → self.now.turn ≡ length ts
             → EndsLine c ts ends (line_ends.ChanceMatch role) → HearsNone self.now ts → (files : Both (List ℕ))
             → EndsBy self.now l c links streams (F.state folder.old) (F.state folder.new) (written names.now) files ts ends result }
         ensures only { OnlyWrites (F.state folder.old) (F.state folder.new) (written names.now).trace }
@@ -319,9 +319,9 @@ impl Modems {
         // A turn is one of the run that the script and the files make over the line, whatever goes beside, and adds to each output what that
         // turn gives. What both ends send in it goes behind what was sent before.
         ensures turn { (beside : Role → ℕ → Option Signal) (links : ℕ) (streams : Both (List Carried)) (files : Both (List ℕ)) (ts : List Turn) (ends : Accounts)
-            → ModemsAfter self.old (channel_at script.now self.old.dlci beside) files ts ends → AreWithin files
-            → LinesWait lines.old (channel_at script.now self.old.dlci beside) links streams → AreDue (channel_at script.now self.old.dlci beside) links ts streams
-            → TurnAnswers self.new lines.new (channel_at script.now self.old.dlci beside) links streams (F.state folder.old) (F.state folder.new) (written names.now) files ts ends result }
+            → ModemsAfter self.old (wire_at script.now self.old.dlci beside) files ts ends → AreWithin files
+            → LinesWait lines.old (wire_at script.now self.old.dlci beside) links streams → AreDue (wire_at script.now self.old.dlci beside) links ts streams
+            → TurnAnswers self.new lines.new (wire_at script.now self.old.dlci beside) links streams (F.state folder.old) (F.state folder.new) (written names.now) files ts ends result }
         ensures kept { result ≡ Ok Step.Going → AreKept self.new }
         ensures number { self.new.turn ≡ turns_made self.old.turn result }
         ensures channel { self.new.dlci ≡ self.old.dlci }

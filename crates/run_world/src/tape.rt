@@ -8,8 +8,8 @@ ghost use Rattle.roles.specs.declared.role.Role.{Role};
 ghost use Rattle.roles.specs.Both.{Both};
 ghost use Rattle.noise_script.specs.Script.{ScriptValue};
 ghost use Rattle.link_run.specs.Run.{Accounts, Turn};
-ghost use Rattle.line_run.specs.Sampled.{Channel};
-ghost use Rattle.line_run.specs.Scripted.{channel_of};
+ghost use Rattle.line_run.specs.Sampled.{Wire};
+ghost use Rattle.line_run.specs.Scripted.{wire_of};
 ghost use Rattle.run_world.specs.World.{HasSent, WorldAfter, script_of};
 ghost use Rattle.line_run.specs.Recorded.{tapes_of};
 ghost use Rattle.run_world.specs.Taping.{RecordsBits, TapeStands, KeepsTape, TakesSlot, KeepTapes, TakeTurn, tape_names};
@@ -56,7 +56,7 @@ impl<'a> Tape<'a> {
     /// A tape of this role before the first turn, which writes behind what this name holds.
     pub fn new(name: &'a str, role: Role) -> Tape<'a>
         ensures name { result.name.now ≡ name.now }
-        ensures stands { (c : Channel) → TapeStands result c role [] [] }
+        ensures stands { (c : Wire) → TapeStands result c role [] [] }
     {
         Tape {
             name,
@@ -67,8 +67,8 @@ impl<'a> Tape<'a> {
     /// The octets of the samples of the slot of one turn more.
     fn octets_of(&mut self, slot: Option<&BitSlot>) -> Octets<SLOT_OCTETS>
         ensures stands { (script : ScriptValue) (role : Role) (ts : List Turn) (t : Turn) (body : List ℕ)
-            → HasSent (option_copied slot.entry) script role ts t → TapeStands self.old (channel_of script) role ts body
-            → TapeStands self.new (channel_of script) role (t ∷ ts) (body ++ result) }
+            → HasSent (option_copied slot.entry) script role ts t → TapeStands self.old (wire_of script) role ts body
+            → TapeStands self.new (wire_of script) role (t ∷ ts) (body ++ result) }
         ensures name { self.new.name.now ≡ self.old.name.now }
     {
         match slot {
@@ -80,8 +80,8 @@ impl<'a> Tape<'a> {
     /// The samples of a slot go behind the recording, with one append.
     fn record<F: Folder>(&mut self, slot: Option<&BitSlot>, folder: &mut F) -> Result<(), RunFault>
         ensures records { (script : ScriptValue) (role : Role) (ts : List Turn) (t : Turn)
-            → HasSent (option_copied slot.entry) script role ts t → KeepsTape self.old (F.state folder.old) (channel_of script) role ts
-            → TakesSlot self.new (F.state folder.new) (channel_of script) role ts t result }
+            → HasSent (option_copied slot.entry) script role ts t → KeepsTape self.old (F.state folder.old) (wire_of script) role ts
+            → TakesSlot self.new (F.state folder.new) (wire_of script) role ts t result }
         ensures name { self.new.name.now ≡ self.old.name.now }
         ensures only { OnlyWrites (F.state folder.old) (F.state folder.new) self.old.name.now }
         ensures came { F.came folder.old folder.new }
@@ -104,8 +104,8 @@ fn record_both<F: Folder>(
 ) -> Result<(), RunFault>
     requires apart { AreApart (tapes.old.orig.name.now ∷ tapes.old.answ.name.now ∷ []) }
     ensures records { (files : Both (List ℕ)) (ts : List Turn) (t : Turn) (ends : Accounts) → WorldAfter world.now files (t ∷ ts) ends
-        → KeepTapes (Some tapes.old) (F.state folder.old) (channel_of (script_of world.now)) ts
-        → TakeTurn (Some tapes.new) (F.state folder.new) (channel_of (script_of world.now)) ts t result }
+        → KeepTapes (Some tapes.old) (F.state folder.old) (wire_of (script_of world.now)) ts
+        → TakeTurn (Some tapes.new) (F.state folder.new) (wire_of (script_of world.now)) ts t result }
     ensures orig { tapes.new.orig.name.now ≡ tapes.old.orig.name.now }
     ensures answ { tapes.new.answ.name.now ≡ tapes.old.answ.name.now }
     ensures only { OnlyPuts (F.state folder.old) (F.state folder.new) (tapes.old.orig.name.now ∷ tapes.old.answ.name.now ∷ []) }
@@ -128,8 +128,8 @@ pub(crate) fn record_turn<F: Folder>(
 ) -> Result<(), RunFault>
     requires apart { AreApart (tapes_of (tape_names tapes.old)) }
     ensures records { (files : Both (List ℕ)) (ts : List Turn) (t : Turn) (ends : Accounts) → WorldAfter world.now files (t ∷ ts) ends
-        → KeepTapes tapes.old (F.state folder.old) (channel_of (script_of world.now)) ts
-        → TakeTurn tapes.new (F.state folder.new) (channel_of (script_of world.now)) ts t result }
+        → KeepTapes tapes.old (F.state folder.old) (wire_of (script_of world.now)) ts
+        → TakeTurn tapes.new (F.state folder.new) (wire_of (script_of world.now)) ts t result }
     ensures names { tape_names tapes.new ≡ tape_names tapes.old }
     ensures only { OnlyPuts (F.state folder.old) (F.state folder.new) (tapes_of (tape_names tapes.old)) }
     ensures came { F.came folder.old folder.new }

@@ -2,7 +2,7 @@
 ghost use Rattle.std.specs.Prelude.{◌≡◌, [], ◌++◌, List, ℕ, IfOk};
 ghost use Rattle.roles.specs.Both.{Both};
 ghost use Rattle.link_run.specs.Run.{start};
-ghost use Rattle.line_run.specs.Scripted.{channel_of, link_of};
+ghost use Rattle.line_run.specs.Scripted.{wire_of, link_of};
 ghost use Rattle.run_world.specs.Names.{inputs_of, outputs_of, written};
 ghost use Rattle.run_world.specs.World.{IsReady, WorldAfter, script_of, lost_of, again_of};
 ghost use Rattle.run_world.specs.Turn.{CountsOver};
@@ -31,7 +31,7 @@ pub fn run_turns<F: Folder>(
     requires first { (files : Both (List ℕ)) → WorldAfter world.old files [] (start (link_of (script_of world.old) files)) }
     requires apart { AreApartFrom (inputs_of (written names.now)) (outputs_of (written names.now) ++ tapes_of (tape_names tapes.old)) }
     requires created { Creates (F.state folder.old) (outputs_of (written names.now)) }
-    requires taped { KeepTapes tapes.old (F.state folder.old) (channel_of (script_of world.old)) [] }
+    requires taped { KeepTapes tapes.old (F.state folder.old) (wire_of (script_of world.old)) [] }
 
     ensures run { TurnsEnd (script_of world.old) (F.state folder.new) (written names.now) (tape_names tapes.old) result }
     ensures tally { IfOk result (λ turn. RunCounts (script_of world.old) (F.state folder.new) (written names.now) (tape_names tapes.old) turn (lost_of world.new) (again_of world.new)) }

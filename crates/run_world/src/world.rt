@@ -2,7 +2,7 @@
 ghost use Rattle.std.specs.Prelude.{◌≡◌, ℕ, [], ◌∷◌, List, Option, false, None, option_copied, IfOk};
 ghost use Rattle.roles.specs.Both.{Both};
 ghost use Rattle.link_run.specs.Run.{Accounts, Turn, start};
-ghost use Rattle.line_run.specs.Scripted.{channel_of, link_of};
+ghost use Rattle.line_run.specs.Scripted.{wire_of, link_of};
 ghost use Rattle.line_run.specs.Stream.{both_sent_by};
 ghost use Rattle.shared_line.specs.Lines.{HaveArrived};
 ghost use Rattle.run_world.specs.Names.{inputs_of, outputs_of, written};
@@ -76,7 +76,7 @@ impl World {
 
         // A turn is one of the run that the script and the files make, and adds to each output what that turn gives.
         ensures turn { (files : Both (List ℕ)) (ts : List Turn) (ends : Accounts) → WorldAfter self.old files ts ends → AreWithin files
-            → TurnAnswers (modems_of self.new) (lines_of self.new) (channel_of (script_of self.new)) 1 (both_sent_by 0 ts) (F.state folder.old) (F.state folder.new) (written names.now) files ts ends result }
+            → TurnAnswers (modems_of self.new) (lines_of self.new) (wire_of (script_of self.new)) 1 (both_sent_by 0 ts) (F.state folder.old) (F.state folder.new) (written names.now) files ts ends result }
         ensures script { script_of self.new ≡ script_of self.old }
         ensures ready { result ≡ Ok Step.Going → IsReady self.new }
         ensures number { turn_of self.new ≡ turns_made (turn_of self.old) result }
@@ -98,7 +98,7 @@ impl World {
     /// script loses, and also once the run is done.
     pub fn line(&self, role: Role) -> &Line
         ensures passed { (files : Both (List ℕ)) (ts : List Turn) (ends : Accounts) → WorldAfter self.now files ts ends → HasPassed result.now (script_of self.now) role ts }
-        ensures arrived { (ts : List Turn) → HaveArrived (lines_of self.now) (channel_of (script_of self.now)) 1 (both_sent_by 0 ts) → HasPassedToo result.now (script_of self.now) role ts }
+        ensures arrived { (ts : List Turn) → HaveArrived (lines_of self.now) (wire_of (script_of self.now)) 1 (both_sent_by 0 ts) → HasPassedToo result.now (script_of self.now) role ts }
     {
         self.lines.line(role)
     }

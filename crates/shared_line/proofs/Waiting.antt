@@ -25,7 +25,7 @@ use Rattle.sample_line.specs.Path.{LosesAt}
 use Rattle.sample_line.specs.Line.{size_of, bits_behind}
 use Rattle.link_run.specs.Run.{Spoken, Turn}
 use Rattle.link_run.specs.Carried.{sent_ago}
-use Rattle.line_run.specs.Sampled.{Channel, signal_in, signals, signals_before, Arrives, ArrivesAs as RunArrives, IsHeardOf, LosesLine}
+use Rattle.line_run.specs.Sampled.{Wire, signal_in, signals, signals_before, Arrives, ArrivesAs as RunArrives, IsHeardOf, LosesLine}
 use Rattle.line_run.proofs.Slots.{SentAgo, sent-ago}
 use Rattle.line_run.specs.Stream.{Carried, carried_signal, IsDue}
 use Rattle.shared_line.specs.declared.direction.DelayedLine.{DelayedLine}
@@ -59,7 +59,7 @@ tail-of : (x y : Carried) (xs ys : List Carried) → x ∷ xs ≡ y ∷ ys → x
 tail-of x y xs ys e = ap (drop 1) e
 
 -- the slot that arrives is heard as the channel has it
-heard-as : (c : Channel) (role : Role) (ts : List Turn) (size : ℕ) (passed : List Signal) (slot : Spoken) (x : Carried) (number : ℕ)
+heard-as : (c : Wire) (role : Role) (ts : List Turn) (size : ℕ) (passed : List Signal) (slot : Spoken) (x : Carried) (number : ℕ)
     (hearing : Check) (heard : Heard)
     → 1 ≤ delay_of c.script role → size ≡ 4 * c.symbols → number ≡ length ts - delay_of c.script role
     → sent_ago (delay_of c.script role) role ts ≡ Some slot → x ≡ record { dlci = c.dlci; spoken = slot }
@@ -97,7 +97,7 @@ heard-as c role ts size passed slot x number hearing heard some same count ago i
           (subst (λ (z : Carried). IsOutcome (loses c.script role number) role c.dlci z.spoken.sent h.octets h.patterns heard) is h.outcome);
     }
 
-lost-as : (c : Channel) (role : Role) (ts : List Turn) (size : ℕ) (passed : List Signal) (slot : Spoken) (x : Carried) (symbol : ℕ)
+lost-as : (c : Wire) (role : Role) (ts : List Turn) (size : ℕ) (passed : List Signal) (slot : Spoken) (x : Carried) (symbol : ℕ)
     → 1 ≤ delay_of c.script role → size ≡ 4 * c.symbols
     → sent_ago (delay_of c.script role) role ts ≡ Some slot → x ≡ record { dlci = c.dlci; spoken = slot }
     → passed ≡ signals_before c role (drop (delay_of c.script role) ts)
@@ -123,7 +123,7 @@ pub record Moved (d new : DelayedLine) : Type 0 where
   pub lag : new.lag ≡ d.lag
   pub symbols : new.line.writer.symbols ≡ d.line.writer.symbols
 
-still-over : (d new : DelayedLine) (c : Channel) (role : Role) (links : ℕ) (stream others : List Carried) (waiting now : ℕ)
+still-over : (d new : DelayedLine) (c : Wire) (role : Role) (links : ℕ) (stream others : List Carried) (waiting now : ℕ)
     → IsOver d c role links stream waiting → Moved d new → StandsAt new c.script others now → IsOver new c role links others now
 still-over d new c role links stream others waiting now h m stands = record {
   stands = stands;
@@ -140,12 +140,12 @@ sent-as : (d new : DelayedLine) (script : ScriptValue) (passed way : List Carrie
     → Stands new script (map (carried_signal d.sender) passed) way → Stands new script (map (carried_signal new.sender) passed) way
 sent-as d new script passed way e h = subst (λ s. Stands new script (map (carried_signal s) passed) way) (sym e) h
 
-due-lag : (d : DelayedLine) (c : Channel) (role : Role) (links : ℕ) (stream : List Carried) → WaitsFor d c role links stream
+due-lag : (d : DelayedLine) (c : Wire) (role : Role) (links : ℕ) (stream : List Carried) → WaitsFor d c role links stream
     → d.lag ≡ links * delay_of c.script role
 due-lag d c role links stream h = h.lag ∙ ap (λ n. links * n) h.delay
 
 -- So what arrives is what the link is to hear.
-pub arrives-as : (d new : DelayedLine) (c : Channel) (role : Role) (links : ℕ) (ts : List Turn) (stream : List Carried) (turn : ℕ)
+pub arrives-as : (d new : DelayedLine) (c : Wire) (role : Role) (links : ℕ) (ts : List Turn) (stream : List Carried) (turn : ℕ)
     (hearing : Check) (r : Result Heard Lost)
     → WaitsFor d c role links stream → IsDue c role ts stream (links * delay_of c.script role) → turn ≡ length ts → Moved d new
     → Arrival d new c.script (map (carried_signal d.sender) (take (length stream - d.lag) stream)) (drop (length stream - d.lag) stream) turn
@@ -240,7 +240,7 @@ drop-front zero xs ys h = refl
 drop-front (suc n) [] ys h = absurd (omega (arith, h))
 drop-front (suc n) (x ∷ xs) ys h = drop-front n xs ys (omega (arith, h))
 
-pub sends-behind : (d new : DelayedLine) (c : Channel) (role : Role) (links : ℕ) (stream : List Carried) (x : Carried)
+pub sends-behind : (d new : DelayedLine) (c : Wire) (role : Role) (links : ℕ) (stream : List Carried) (x : Carried)
     → HasRoom d c role links stream → Moved d new
     → Stands new c.script (map (carried_signal d.sender) (take (length stream - (d.lag - 1)) stream))
     (drop (length stream - (d.lag - 1)) stream ++ x ∷ [])
@@ -260,7 +260,7 @@ sends-behind d new c role links stream x h m stands =
 
 -- ---- for the two directions
 
-pub role-hears : (d new : DelayedLine) (c : Channel) (role : Role) (links : ℕ) (ts : List Turn) (stream : List Carried) (turn : ℕ)
+pub role-hears : (d new : DelayedLine) (c : Wire) (role : Role) (links : ℕ) (ts : List Turn) (stream : List Carried) (turn : ℕ)
     (hearing : Check) (script : ScriptValue) (dlci : ℕ) (r : Result Heard Lost)
     → WaitsFor d c role links stream → IsDue c role ts stream (links * delay_of c.script role) → c.script ≡ script → c.dlci ≡ dlci
     → turn ≡ length ts → Moved d new
@@ -279,7 +279,7 @@ role-hears d new c role links ts stream turn hearing script dlci r h due script-
     way = drop (length stream - d.lag) stream
 
 -- where a slot arrives, it was sent as many turns ago
-pub late-of : (d : DelayedLine) (c : Channel) (role : Role) (links : ℕ) (ts : List Turn) (stream : List Carried) (turn : ℕ)
+pub late-of : (d : DelayedLine) (c : Wire) (role : Role) (links : ℕ) (ts : List Turn) (stream : List Carried) (turn : ℕ)
     → WaitsFor d c role links stream → IsDue c role ts stream (links * delay_of c.script role) → turn ≡ length ts
     → d.lag ≤ length d.slots.items → d.delay ≤ turn
 late-of d c role links ts stream turn h due number l =
@@ -290,14 +290,14 @@ late-of d c role links ts stream turn h due number l =
     let late = due.late (subst (λ n. n ≤ length stream) (due-lag d c role links stream h) enough) in
     omega (arith, late, number, h.delay)
 
-pub room-of : (d : DelayedLine) (c : Channel) (role : Role) (links : ℕ) (stream : List Carried) → HasRoom d c role links stream
+pub room-of : (d : DelayedLine) (c : Wire) (role : Role) (links : ℕ) (stream : List Carried) → HasRoom d c role links stream
     → length d.slots.items < d.lag
 room-of d c role links stream h =
     let k = length stream - (d.lag - 1) in
     let count = same-count (size_of d.line) d.sender (map (carried_signal d.sender) (take k stream)) d.slots.items (drop k stream) h.stands.slots in
     omega (arith, count, length-drop k stream, h.lag_some)
 
-pub stands-of : (d : DelayedLine) (c : Channel) (role : Role) (links : ℕ) (stream : List Carried) (script : ScriptValue)
+pub stands-of : (d : DelayedLine) (c : Wire) (role : Role) (links : ℕ) (stream : List Carried) (script : ScriptValue)
     → WaitsFor d c role links stream → c.script ≡ script
     → (passed : List Signal) × (way : List Carried) × Stands d script passed way
 stands-of d c role links stream script h e =
@@ -306,14 +306,14 @@ stands-of d c role links stream script h e =
     (passed, way, subst (λ s. Stands d s passed way) e h.stands)
 
 -- as many slots have passed as were put on the line, at most
-pub passed-few : (d : DelayedLine) (c : Channel) (role : Role) (links : ℕ) (stream : List Carried) → WaitsFor d c role links stream
+pub passed-few : (d : DelayedLine) (c : Wire) (role : Role) (links : ℕ) (stream : List Carried) → WaitsFor d c role links stream
     → d.line.passed ≤ length stream
 passed-few d c role links stream h =
     let k = length stream - d.lag in
     omega (arith, h.stands.line.slots, length-map (take k stream) (carried_signal d.sender), length-take k stream)
 
 -- before the first slot
-pub waits-first : (d : DelayedLine) (c : Channel) (role : Role) (links : ℕ)
+pub waits-first : (d : DelayedLine) (c : Wire) (role : Role) (links : ℕ)
     → ((script : ScriptValue) → Stands d script [] []) → d.sender ≡ role → d.line.writer.symbols ≡ c.symbols
     → d.delay ≡ delay_of c.script role → d.lag ≡ links * d.delay → 1 ≤ links → 1 ≤ delay_of c.script role
     → WaitsFor d c role links []
@@ -334,7 +334,7 @@ waits-first d c role links stands sends symbols delay lag many some = record {
     none = omega arith
 
 -- what is so of each role is so of both
-pub hears-both : (orig answ : DelayedLine) (c : Channel) (links : ℕ) (ts : List Turn) (streams : Both (List Carried)) (checks : Both Check)
+pub hears-both : (orig answ : DelayedLine) (c : Wire) (links : ℕ) (ts : List Turn) (streams : Both (List Carried)) (checks : Both Check)
     (to_orig to_answ : Heard) → IsHeardOf c Answerer ts checks.orig to_orig → IsHeardOf c Originator ts checks.answ to_answ
     → to_orig ≢ Chance → to_answ ≢ Chance → HasRoom orig c Originator links streams.orig → HasRoom answ c Answerer links streams.answ
     → ArrivesBoth (record { from_orig = orig; from_answ = answ }) c links ts streams checks (record { orig = to_orig; answ = to_answ })
@@ -353,13 +353,13 @@ hears-both orig answ c links ts streams checks to_orig to_answ ho ha wo wa ro ra
     room Originator = ro
     room Answerer = ra
 
-pub waits-both : (orig answ : DelayedLine) (c : Channel) (links : ℕ) (streams : Both (List Carried)) (more : Both Carried)
+pub waits-both : (orig answ : DelayedLine) (c : Wire) (links : ℕ) (streams : Both (List Carried)) (more : Both Carried)
     → WaitsFor orig c Originator links (streams.orig ++ more.orig ∷ []) → WaitsFor answ c Answerer links (streams.answ ++ more.answ ∷ [])
     → LinesWait (record { from_orig = orig; from_answ = answ }) c links (and_more streams more)
 waits-both orig answ c links streams more ho ha Originator = ho
 waits-both orig answ c links streams more ho ha Answerer = ha
 
-pub waits-none : (orig answ : DelayedLine) (c : Channel) (links : ℕ) → WaitsFor orig c Originator links [] → WaitsFor answ c Answerer links []
+pub waits-none : (orig answ : DelayedLine) (c : Wire) (links : ℕ) → WaitsFor orig c Originator links [] → WaitsFor answ c Answerer links []
     → LinesWait (record { from_orig = orig; from_answ = answ }) c links none_sent
 waits-none orig answ c links ho ha Originator = ho
 waits-none orig answ c links ho ha Answerer = ha
@@ -397,7 +397,7 @@ last-of size role before (slot ∷ next ∷ items) (y ∷ way) x h =
       stands = subst (λ b. IsOnWay size role b l.slot x) (append_assoc before (carried_signal role y ∷ []) (map (carried_signal role) way)) l.stands;
     }
 
-newest-is : (d : DelayedLine) (c : Channel) (role : Role) (links : ℕ) (stream front : List Carried) (x : Carried) (o : Option BitSlot)
+newest-is : (d : DelayedLine) (c : Wire) (role : Role) (links : ℕ) (stream front : List Carried) (x : Carried) (o : Option BitSlot)
     → WaitsFor d c role links stream → stream ≡ front ++ x ∷ [] → o ≡ option_map (λ (slot : Slot). slot.bits) (last_item d.slots.items)
     → IsNewest o (4 * c.symbols) role front x
 newest-is d c role links stream front x o h e is = subst (λ z. IsNewest z (4 * c.symbols) role front x) (sym (is ∙ ap bits-in l.is)) bits
@@ -433,7 +433,7 @@ newest-is d c role links stream front x o h e is = subst (λ z. IsNewest z (4 * 
         ∙ ap (λ b. bits_behind (4 * c.symbols) b (carried_signal d.sender x)) whole
         ∙ ap (λ r. bits_behind (4 * c.symbols) (map (carried_signal r) front) (carried_signal r x)) h.sends
 
-pub newest-at : (l : Lines) (c : Channel) (role : Role) (links : ℕ) (streams : Both (List Carried)) (front : List Carried) (x : Carried)
+pub newest-at : (l : Lines) (c : Wire) (role : Role) (links : ℕ) (streams : Both (List Carried)) (front : List Carried) (x : Carried)
     (o : Option BitSlot) → LinesWait l c links streams → of role streams ≡ front ++ x ∷ []
     → o ≡ option_map (λ (slot : Slot). slot.bits) (last_item (from role l).slots.items) → IsNewest o (4 * c.symbols) role front x
 newest-at l c Originator links streams front x o h e is = newest-is l.from_orig c Originator links streams.orig front x o (h Originator) e is

@@ -14,7 +14,7 @@ use Rattle.lapm_frames.specs.declared.heard.Heard.TheVariants.{Chance}
 use Rattle.noise_script.specs.Script.{delay_of}
 use Rattle.sample_line.specs.Signals.{IsCodable}
 use Rattle.link_run.specs.Run.{Turn}
-use Rattle.line_run.specs.Sampled.{Channel, IsHeardOf, EndsLineBy}
+use Rattle.line_run.specs.Sampled.{Wire, IsHeardOf, EndsLineBy}
 use Rattle.line_run.specs.Sampled as line_ends
 use Rattle.line_run.specs.Stream.{Carried, carried_signal, IsDue}
 use Rattle.shared_line.specs.Way.{WaitsFor, HasRoom}
@@ -29,11 +29,11 @@ from Originator l = l.from_orig
 from Answerer l = l.from_answ
 
 -- Both directions wait for the next slot behind what each role has sent of so many links,
-abbrev pub LinesWait : Lines → Channel → ℕ → Both (List Carried) → Type 0
+abbrev pub LinesWait : Lines → Wire → ℕ → Both (List Carried) → Type 0
 LinesWait l c links streams = (role : Role) → WaitsFor (from role l) c role links (of role streams)
 
 -- or that has arrived, and both have room for one.
-abbrev pub HaveArrived : Lines → Channel → ℕ → Both (List Carried) → Type 0
+abbrev pub HaveArrived : Lines → Wire → ℕ → Both (List Carried) → Type 0
 HaveArrived l c links streams = (role : Role) → HasRoom (from role l) c role links (of role streams)
 
 -- no slot was sent
@@ -41,7 +41,7 @@ abbrev pub none_sent : Both (List Carried)
 none_sent = record { orig = []; answ = [] }
 
 -- the slots of a link are due in both
-abbrev pub AreDue : Channel → ℕ → List Turn → Both (List Carried) → Type 0
+abbrev pub AreDue : Wire → ℕ → List Turn → Both (List Carried) → Type 0
 AreDue c links ts streams = (role : Role) → IsDue c role ts (of role streams) (links * delay_of c.script role)
 
 -- fewer slots have passed than a line counts
@@ -49,7 +49,7 @@ abbrev pub PassedFew : Lines → Type 0
 PassedFew l = (role : Role) → (from role l).line.passed < 2 ^ 40
 
 -- Both ends hear these with these checks, and neither is a chance match.
-pub record ArrivesBoth (l : Lines) (c : Channel) (links : ℕ) (ts : List Turn) (streams : Both (List Carried)) (checks : Both Check)
+pub record ArrivesBoth (l : Lines) (c : Wire) (links : ℕ) (ts : List Turn) (streams : Both (List Carried)) (checks : Both Check)
     (heard : Both Heard) : Type 0 where
   pub heard_of : (role : Role) → IsHeardOf c (other role) ts (of role checks) (of role heard)
   pub well : (role : Role) → of role heard ≢ Chance
@@ -61,7 +61,7 @@ end_of (ways.Lost role symbol) = line_ends.LineLost role symbol
 end_of (ways.Chance role) = line_ends.ChanceMatch role
 
 -- what arriving answers
-abbrev pub ArrivesSo : Lines → Channel → ℕ → List Turn → Both (List Carried) → Both Check → Result (Both Heard) LineEnd → Type 0
+abbrev pub ArrivesSo : Lines → Wire → ℕ → List Turn → Both (List Carried) → Both Check → Result (Both Heard) LineEnd → Type 0
 ArrivesSo l c links ts streams checks (Ok heard) = ArrivesBoth l c links ts streams checks heard
 ArrivesSo l c links ts streams checks (Err end) = EndsLineBy c ts (λ role. of role checks) (end_of end)
 

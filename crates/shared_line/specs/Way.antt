@@ -14,7 +14,7 @@ use Rattle.lapm_frames.specs.declared.heard.Heard.{Heard}
 use Rattle.lapm_frames.specs.declared.heard.Heard.TheVariants.{Nothing}
 use Rattle.noise_script.specs.Script.{ScriptValue, delay_of, loses}
 use Rattle.link_run.specs.Run.{Turn}
-use Rattle.line_run.specs.Sampled.{Channel, IsHeardOf, LosesLine}
+use Rattle.line_run.specs.Sampled.{Wire, IsHeardOf, LosesLine}
 use Rattle.sample_line.specs.Recorded.{Records}
 use Rattle.sample_line.specs.Received.{Receives}
 use Rattle.sample_line.specs.Outcomes.{IsOutcome}
@@ -96,7 +96,7 @@ Carries line script role stream waiting =
 
 -- This direction, in which a role sends, stands for a stream of slots over a channel, of which so many are on their way. So many links send one
 -- in each turn.
-pub record IsOver (d : DelayedLine) (c : Channel) (role : Role) (links : ℕ) (stream : List Carried) (waiting : ℕ) : Type 0 where
+pub record IsOver (d : DelayedLine) (c : Wire) (role : Role) (links : ℕ) (stream : List Carried) (waiting : ℕ) : Type 0 where
   pub stands : StandsAt d c.script stream waiting
   pub sends : d.sender ≡ role
   pub symbols : d.line.writer.symbols ≡ c.symbols
@@ -106,14 +106,14 @@ pub record IsOver (d : DelayedLine) (c : Channel) (role : Role) (links : ℕ) (s
   pub lag_some : 1 ≤ d.lag
 
 -- it waits for the next slot,
-abbrev pub WaitsFor : DelayedLine → Channel → Role → ℕ → List Carried → Type 0
+abbrev pub WaitsFor : DelayedLine → Wire → Role → ℕ → List Carried → Type 0
 WaitsFor d c role links stream = IsOver d c role links stream d.lag
 
 -- or that has arrived, and there is room for one
-abbrev pub HasRoom : DelayedLine → Channel → Role → ℕ → List Carried → Type 0
+abbrev pub HasRoom : DelayedLine → Wire → Role → ℕ → List Carried → Type 0
 HasRoom d c role links stream = IsOver d c role links stream (d.lag - 1)
 
 -- what arrives for a link in the turn after these
-abbrev pub ArrivesAs : DelayedLine → Channel → Role → ℕ → List Turn → List Carried → Check → Result Heard Lost → Type 0
+abbrev pub ArrivesAs : DelayedLine → Wire → Role → ℕ → List Turn → List Carried → Check → Result Heard Lost → Type 0
 ArrivesAs d c role links ts stream hearing (Ok heard) = IsHeardOf c role ts hearing heard × HasRoom d c role links stream
 ArrivesAs d c role links ts stream hearing (Err lost) = LosesLine c role ts lost.symbol

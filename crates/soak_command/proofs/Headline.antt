@@ -29,7 +29,7 @@ use Rattle.outside_calls.proofs.OnlyOutputs.{OnlyOutputs-refl}
 use Rattle.line_ends.specs.Carried.{IsCarried}
 use Rattle.soak_command.specs.Soak.{soak_file, soak_script}
 use Rattle.soak_command.specs.declared.counts.SoakCounts.{SoakCounts}
-use Rattle.soak_command.specs.Ends.{Ends, SoakEnds, IsSoaked, soak_channel, soak_link, soak_files, soak_job}
+use Rattle.soak_command.specs.Ends.{Ends, SoakEnds, IsSoaked, soak_wire, soak_link, soak_files, soak_job}
 use Rattle.soak_command.specs.Ends as ends
 use Rattle.soak_command.specs.Headline.{Soaks, RanBy, Headline}
 use Rattle.soak_command.specs.Completes.{Completes}
@@ -86,7 +86,7 @@ pub record SoakLaws : Type 0 where
   pub soon : LineRunsEndSoon
   pub causes : EndsHaveCauses
 
-may-run : SoakLaws → (seed : ℕ) (end : RunEnd) → SoakEnds seed end → MayRun (soak_channel seed) (soak_link seed)
+may-run : SoakLaws → (seed : ℕ) (end : RunEnd) → SoakEnds seed end → MayRun (soak_wire seed) (soak_link seed)
 may-run laws seed end e = record {
   may_play = laws.play (soak_script seed) (soak_files seed) e.limits;
   delays = laws.delays (soak_script seed) e.limits;
@@ -100,10 +100,10 @@ file-of seed Answerer = refl
 soaks-of : SoakLaws → (seed : ℕ) (end : RunEnd) → SoakEnds seed end → Soaks seed end
 soaks-of laws seed end e = record {
   ends = e;
-  begins = λ role. let p = laws.prefixes (soak_channel seed) (soak_link seed) end e.left (may-run laws seed end e) e.run role in
+  begins = λ role. let p = laws.prefixes (soak_wire seed) (soak_link seed) end e.left (may-run laws seed end e) e.run role in
       (p.0, p.1 ∙ file-of seed (other role));
-  few = laws.soon (soak_channel seed) (soak_files seed) e.run.turns e.run.ends e.limits e.run.run;
-  cause = laws.causes (soak_channel seed) (soak_files seed) end e.left e.limits e.run;
+  few = laws.soon (soak_wire seed) (soak_files seed) e.run.turns e.run.ends e.limits e.run.run;
+  cause = laws.causes (soak_wire seed) (soak_files seed) end e.left e.limits e.run;
 }
 
 -- the answer is that of the run's end
@@ -130,7 +130,7 @@ ran-by laws words old new seed s Done a e =
       counts = d.done;
       said = d.said ∙ ap (λ (f : FolderState). option_map (λ x. x ++ soak_line seed d.done.turn d.done.lost d.done.again) f.said) d.ends.1;
       soaked = i;
-      whole = λ role. laws.whole (soak_channel seed) (soak_link seed) d.done.turn i.ends.left (may-run laws seed _ i.ends) i.ends.run role
+      whole = λ role. laws.whole (soak_wire seed) (soak_link seed) d.done.turn i.ends.left (may-run laws seed _ i.ends) i.ends.run role
           ∙ file-of seed (other role);
       soaks = soaks-of laws seed (runs.IsDone d.done.turn) i.ends;
     }
@@ -158,7 +158,7 @@ headline-of laws words old new seed s a =
 never-up : LostLinksWereStarved → (seed : ℕ) (end : RunEnd) → IsCarried (soak_script seed) (soak_files seed) → GivesUp end
     → SoakEnds seed end → ⊥
 never-up starved seed end c g e =
-    c.not_starved end e.left e.run g (starved (soak_channel seed) (soak_files seed) end e.left e.limits e.run g)
+    c.not_starved end e.left e.run g (starved (soak_wire seed) (soak_files seed) end e.left e.limits e.run g)
 
 never-ran : LostLinksWereStarved → (seed : ℕ) (answer : Status) → IsCarried (soak_script seed) (soak_files seed) → ends.RanBy seed answer
     → ⊥
@@ -182,7 +182,7 @@ exact-of : OneResult → (words : List (List ℕ)) (old new : FolderState) (seed
 exact-of law words old new seed s a sound end left run = by (comes-to (soak_job seed) words old new s a sound)
   where
     so : (found : RunEnd) → SoakEnds seed found → s ≡ answer_of found → (s ≡ answer_of end) ⊎ (s ≡ NoMemory)
-    so found e is = inl (is ∙ ap answer_of (law (soak_channel seed) (soak_link seed) found end e.left left e.run run).0)
+    so found e is = inl (is ∙ ap answer_of (law (soak_wire seed) (soak_link seed) found end e.left left e.run run).0)
 
     by : Comes a.end s → (s ≡ answer_of end) ⊎ (s ≡ NoMemory)
     by (is_done counts is e) =

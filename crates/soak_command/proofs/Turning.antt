@@ -21,7 +21,7 @@ use Rattle.outside_calls.specs.Outputs.{KeepsEach, OnlyOutputs, OnlyPuts}
 use Rattle.outside_calls.proofs.Putting.{inputs-kept}
 use Rattle.run_world.specs.Turns.{RunEnds, RunCounts, FaultEnds}
 use Rattle.soak_command.specs.Soak.{soak_file, soak_script}
-use Rattle.soak_command.specs.Ends.{Ends, SoakEnds, IsTurnEnd, fault_stop, soak_channel, soak_files}
+use Rattle.soak_command.specs.Ends.{Ends, SoakEnds, IsTurnEnd, fault_stop, soak_wire, soak_files}
 use Rattle.soak_command.specs.Folder.{HoldsFiles, soak_names, soak_outputs}
 use Rattle.soak_command.proofs.Filling.{apart, turn-end}
 
@@ -67,7 +67,7 @@ ends-so : (seed : ℕ) (a b d : SureState) (end : RunEnd) → Made seed a b d �
 ends-so seed a b d end m r = record {
   limits = m.limits;
   left = r.left;
-  run = subst (λ (files : Both (List ℕ)). RunsTo (soak_channel seed) (link_of (soak_script seed) files) end r.left)
+  run = subst (λ (files : Both (List ℕ)). RunsTo (soak_wire seed) (link_of (soak_script seed) files) end r.left)
       (files-are seed a b d r.files m r.knows) r.run;
 }
 
@@ -78,7 +78,7 @@ soaked : (seed : ℕ) (a b d : SureState) (turn lost again : ℕ) → Made seed 
 soaked seed a b d turn lost again m c =
     let r = c.ran in
     let counted = subst
-    (λ (files : Both (List ℕ)). (run : RunsTo (soak_channel seed) (link_of (soak_script seed) files) (runs.IsDone turn) r.left)
+    (λ (files : Both (List ℕ)). (run : RunsTo (soak_wire seed) (link_of (soak_script seed) files) (runs.IsDone turn) r.left)
     × (lost ≡ lost_slots (run.ended.last ∷ run.turns)) × (again ≡ sent_again (run.ended.last ∷ run.turns)))
     (files-are seed a b d r.files m r.knows) (r.run, c.lost_is, c.again_is) in
     record { ends = record { limits = m.limits; left = r.left; run = counted.0 }; lost_is = counted.1; again_is = counted.2 }

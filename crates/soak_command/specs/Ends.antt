@@ -5,10 +5,10 @@ use Rattle.roles.specs.Both.{Both}
 use Rattle.noise_script.specs.Script.{IsInLimits}
 use Rattle.link_run.specs.Counts.{lost_slots, sent_again}
 use Rattle.link_run.specs.Run.{Link}
-use Rattle.line_run.specs.Sampled.{Channel}
+use Rattle.line_run.specs.Sampled.{Wire}
 use Rattle.line_run.specs.Ends.{RunEnd, Left, RunsTo}
 use Rattle.line_run.specs.Ends as runs
-use Rattle.line_run.specs.Scripted.{channel_of, link_of}
+use Rattle.line_run.specs.Scripted.{wire_of, link_of}
 use Rattle.run_world.specs.declared.step.RunFault.{RunFault}
 use Rattle.run_world.specs.declared.step.RunFault.TheVariants as faults
 use Rattle.command_base.specs.declared.status.Status.{Status}
@@ -25,8 +25,8 @@ abbrev pub soak_files : ℕ → Both (List ℕ)
 soak_files seed = record { orig = soak_file seed Originator; answ = soak_file seed Answerer }
 
 -- the line and the link of a seed
-abbrev pub soak_channel : ℕ → Channel
-soak_channel seed = channel_of (soak_script seed)
+abbrev pub soak_wire : ℕ → Wire
+soak_wire seed = wire_of (soak_script seed)
 
 abbrev pub soak_link : ℕ → Link
 soak_link seed = link_of (soak_script seed) (soak_files seed)
@@ -35,7 +35,7 @@ soak_link seed = link_of (soak_script seed) (soak_files seed)
 pub record SoakEnds (seed : ℕ) (end : RunEnd) : Type 0 where
   pub limits : IsInLimits (soak_script seed)
   pub left : Left
-  pub run : RunsTo (soak_channel seed) (soak_link seed) end left
+  pub run : RunsTo (soak_wire seed) (soak_link seed) end left
 
 -- It is done in this turn, with so many slots lost and so many segments sent again in all its turns, the last one too.
 pub record IsSoaked (seed : ℕ) (counts : SoakCounts) : Type 0 where

@@ -15,7 +15,7 @@ use Rattle.command_base.specs.Job.{Shared}
 use Rattle.command_base.specs.Lines.{soak_line}
 use Rattle.soak_command.specs.Soak.{soak_file, soak_script}
 use Rattle.soak_command.specs.declared.counts.SoakCounts.{SoakCounts}
-use Rattle.soak_command.specs.Ends.{SoakEnds, IsSoaked, soak_channel, soak_files}
+use Rattle.soak_command.specs.Ends.{SoakEnds, IsSoaked, soak_wire, soak_files}
 
 -- The run of the seed ended so: each end received the beginning of the other's file, there were few turns, and its end has its cause: no link
 -- was given up but for losses that went on.
@@ -23,7 +23,7 @@ pub record Soaks (seed : ℕ) (end : RunEnd) : Type 0 where
   pub ends : SoakEnds seed end
   pub begins : (role : Role) → IsPrefixOf (of role ends.left.got) (soak_file seed (other role))
   pub few : HasFewTurns (soak_script seed) (soak_files seed) ends.run.turns ends.run.ends
-  pub cause : HasCause (soak_channel seed) (soak_files seed) end ends.left ends.run
+  pub cause : HasCause (soak_wire seed) (soak_files seed) end ends.left ends.run
 
 -- It was done, what its turns show was said, and each end received the other's file whole.
 pub record SoaksWhole (old new : FolderState) (seed : ℕ) : Type 0 where

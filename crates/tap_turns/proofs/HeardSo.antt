@@ -19,7 +19,7 @@ use Rattle.link_run.specs.Run.{Turn}
 use Rattle.link_run.specs.Laws.{given_in, given_breaks}
 use Rattle.link_run.specs.Listened.{judged_by, received, taking_in, given_to}
 use Rattle.link_run.specs.Overheard.{has_passed, is_xid, opens}
-use Rattle.line_run.specs.Sampled.{Channel, IsHeardOf, IsHeardWell, EndsLineBy, LineEnd, LineLost, ChanceMatch}
+use Rattle.line_run.specs.Sampled.{Wire, IsHeardOf, IsHeardWell, EndsLineBy, LineEnd, LineLost, ChanceMatch}
 use Rattle.line_run.specs.Scripted.{ScriptsHaveDelays}
 use Rattle.line_run.specs.LineLaws.{LoneSlotsAreDue, LoneSlotsAreCounted}
 use Rattle.line_run.specs.Stream.{AreSent, IsDue, sent_by, both_sent_by}
@@ -98,7 +98,7 @@ listens-too l terms role ts t given h =
 
 -- ---- what both ends hear
 
-pub ends-by : (c : Channel) (ts : List Turn) (f g : Role → Check) → ((role : Role) → f role ≡ g role) → (end : LineEnd)
+pub ends-by : (c : Wire) (ts : List Turn) (f g : Role → Check) → ((role : Role) → f role ≡ g role) → (end : LineEnd)
     → EndsLineBy c ts f end → EndsLineBy c ts g end
 ends-by c ts f g e (LineLost Originator symbol) h = h
 ends-by c ts f g e (ChanceMatch Originator) h = subst (λ k. IsHeardOf c Answerer ts k Chance) (e Originator) h

@@ -21,20 +21,20 @@ use Rattle.lapm_frames.specs.declared.sent.Sent.TheVariants as slots
 use Rattle.lapm_receiver.specs.Incoming.{Incoming, KeepsTaken}
 use Rattle.link_run.specs.Run.{Turn}
 use Rattle.link_run.specs.Listened.{check_by, received, taking_in}
-use Rattle.line_run.specs.Sampled.{Channel, bits_of}
+use Rattle.line_run.specs.Sampled.{Wire, bits_of}
 use Rattle.line_tap.specs.Tapping.{Tapping, tapping, line_of, terms_of, octets_of, next_bits, HoldsNext, Hears, Sends, GoesOn, Tells}
 use Rattle.line_tap.proofs.NextSlots.{samples-take}
 use Rattle.tap_turns.specs.Turn.{got_in}
 
 -- ---- one slot
 
-front-same : (c : Channel) (n : ℕ) (body more : List ℕ) → octets_of c n ≤ length body
+front-same : (c : Wire) (n : ℕ) (body more : List ℕ) → octets_of c n ≤ length body
     → take (c.symbols * n) (samples_in (body ++ more)) ≡ take (c.symbols * n) (samples_in body)
 front-same c n body more h =
     sym (samples-take (c.symbols * n) (body ++ more) (omega (arith, h, length-append {A = ℕ} body more)))
     ∙ ap samples_in (take-append-le (octets_of c n) body more h) ∙ samples-take (c.symbols * n) body h
 
-pub holds-longer : (c : Channel) (check : Check) (role : Role) (ts : List Turn) (body more : List ℕ) (s : Sent)
+pub holds-longer : (c : Wire) (check : Check) (role : Role) (ts : List Turn) (body more : List ℕ) (s : Sent)
     → HoldsNext c check role ts body s → HoldsNext c check role ts (body ++ more) s
 holds-longer c check role ts body more s h = record {
   whole = omega (arith, h.whole, length-append {A = ℕ} body more);
@@ -43,7 +43,7 @@ holds-longer c check role ts body more s h = record {
       (sym (front-same c (length ts + 1) body more h.whole)) h.modulated;
 }
 
-pub holds-shorter : (c : Channel) (check : Check) (role : Role) (ts : List Turn) (body more : List ℕ) (s : Sent)
+pub holds-shorter : (c : Wire) (check : Check) (role : Role) (ts : List Turn) (body more : List ℕ) (s : Sent)
     → octets_of c (length ts + 1) ≤ length body → HoldsNext c check role ts (body ++ more) s → HoldsNext c check role ts body s
 holds-shorter c check role ts body more s whole h = record {
   whole = whole;

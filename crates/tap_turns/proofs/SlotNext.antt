@@ -13,7 +13,7 @@ use Rattle.noise_script.specs.Script.{ScriptValue}
 use Rattle.sample_line.specs.Signals.{signal_of}
 use Rattle.sample_line.specs.Line.{Kept, LineStands, bits_behind}
 use Rattle.link_run.specs.Run.{Turn}
-use Rattle.line_run.specs.Sampled.{Channel, signals}
+use Rattle.line_run.specs.Sampled.{Wire, signals}
 use Rattle.line_tap.specs.declared.seeker.Sender.{Sender}
 use Rattle.line_tap.specs.declared.reader.SlotReader.{SlotReader}
 use Rattle.line_tap.specs.Reader.{ReadsFor, ReaderStands, ReadsSlot, IsNext, carries}
@@ -24,7 +24,7 @@ use Rattle.tap_turns.specs.End.{ReadsOn, ReadsNext}
 
 -- ---- octets and samples
 
-pub octets-next : (c : Channel) (n : ℕ) → octets_of c (n + 1) ≡ octets_of c n + 4 * c.symbols
+pub octets-next : (c : Wire) (n : ℕ) → octets_of c (n + 1) ≡ octets_of c n + 4 * c.symbols
 octets-next c n =
     let e : c.symbols * (n + 1) ≡ c.symbols * n + c.symbols = mul-one c.symbols n in
     omega (arith, e)
@@ -32,23 +32,23 @@ octets-next c n =
     mul-one : (a b : ℕ) → a * (b + 1) ≡ a * b + a
     mul-one a b = grind (arith, common_steps)
 
-pub count-next : (c : Channel) (n : ℕ) (body piece : List ℕ) → length body ≡ octets_of c n → length piece ≡ 4 * c.symbols
+pub count-next : (c : Wire) (n : ℕ) (body piece : List ℕ) → length body ≡ octets_of c n → length piece ≡ 4 * c.symbols
     → length (body ++ piece) ≡ octets_of c (n + 1)
 count-next c n body piece h k = omega (arith, octets-next c n, length-append {A = ℕ} body piece, h, k)
 
-piece-behind : (c : Channel) (n : ℕ) (body piece : List ℕ) → length body ≡ octets_of c n → length piece ≡ 4 * c.symbols
+piece-behind : (c : Wire) (n : ℕ) (body piece : List ℕ) → length body ≡ octets_of c n → length piece ≡ 4 * c.symbols
     → piece_of c n (body ++ piece) ≡ piece
 piece-behind c n body piece h k =
     ap (λ m. take (4 * c.symbols) (drop m (body ++ piece))) (sym h) ∙ ap (take (4 * c.symbols)) (drop-append_seam body piece)
     ∙ take_all (4 * c.symbols) piece (omega (arith, k))
 
-samples-before : (c : Channel) (n : ℕ) (body piece : List ℕ) → length body ≡ octets_of c n
+samples-before : (c : Wire) (n : ℕ) (body piece : List ℕ) → length body ≡ octets_of c n
     → take (c.symbols * n) (samples_in (body ++ piece)) ≡ samples_in body
 samples-before c n body piece h =
     sym (samples-take (c.symbols * n) (body ++ piece) (omega (arith, h, length-append {A = ℕ} body piece)))
     ∙ ap (λ m. samples_in (take m (body ++ piece))) (sym h) ∙ ap samples_in (take-append_seam body piece)
 
-pub samples-behind : (c : Channel) (n : ℕ) (body piece : List ℕ) → length body ≡ octets_of c n → length piece ≡ 4 * c.symbols
+pub samples-behind : (c : Wire) (n : ℕ) (body piece : List ℕ) → length body ≡ octets_of c n → length piece ≡ 4 * c.symbols
     → samples_in body ++ samples_in piece ≡ samples_in (body ++ piece)
 samples-behind c n body piece h k =
     let count = count-next c n body piece h k in
@@ -61,7 +61,7 @@ samples-behind c n body piece h k =
 
 -- ---- what a reader takes for the next slot
 
-next-of : (r : SlotReader) (c : Channel) (check : Check) (role : Role) (ts : List Turn) (body piece : List ℕ) (s : Sent)
+next-of : (r : SlotReader) (c : Wire) (check : Check) (role : Role) (ts : List Turn) (body piece : List ℕ) (s : Sent)
     → ReadsFor r c check role ts → length body ≡ octets_of c (length ts) → length piece ≡ 4 * c.symbols
     → HoldsNext c check role ts (body ++ piece) s → IsNext r (signals c role ts) (samples_in body) (samples_in piece) s
 next-of r c check role ts body piece s h count size k =
@@ -70,7 +70,7 @@ next-of r c check role ts body piece s h count size k =
     (piece-behind c (length ts) body piece count size) (held-is-next r c check role ts (body ++ piece) s h k) in
     subst (λ (l : List Sample). IsNext r (signals c role ts) l (samples_in piece) s) (samples-before c (length ts) body piece count) at-piece
 
-held-of : (r : SlotReader) (c : Channel) (check : Check) (role : Role) (ts : List Turn) (body piece : List ℕ) (s : Sent)
+held-of : (r : SlotReader) (c : Wire) (check : Check) (role : Role) (ts : List Turn) (body piece : List ℕ) (s : Sent)
     → ReadsFor r c check role ts → length body ≡ octets_of c (length ts) → length piece ≡ 4 * c.symbols
     → IsNext r (signals c role ts) (samples_in body) (samples_in piece) s → HoldsNext c check role ts (body ++ piece) s
 held-of r c check role ts body piece s h count size k =
@@ -82,14 +82,14 @@ held-of r c check role ts body piece s h count size k =
     (sym (samples-before c (length ts) body piece count)) k))
 
 -- where the reader takes none, the octets hold none
-pub none-held : (r : SlotReader) (c : Channel) (check : Check) (role : Role) (ts : List Turn) (body piece : List ℕ)
+pub none-held : (r : SlotReader) (c : Wire) (check : Check) (role : Role) (ts : List Turn) (body piece : List ℕ)
     → ReadsOn r c check role ts body → length piece ≡ 4 * c.symbols
     → ((s : Sent) → IsNext r (signals c role ts) (samples_in body) (samples_in piece) s → ⊥)
     → (s : Sent) → HoldsNext c check role ts (body ++ piece) s → ⊥
 none-held r c check role ts body piece h size none s k = none s (next-of r c check role ts body piece s h.reads h.count size k)
 
 -- what it reads is what they hold
-pub reads-next : (old new : SlotReader) (line : Kept) (c : Channel) (check : Check) (role : Role) (ts : List Turn) (script : ScriptValue)
+pub reads-next : (old new : SlotReader) (line : Kept) (c : Wire) (check : Check) (role : Role) (ts : List Turn) (script : ScriptValue)
     (passed waiting : List Signal) (body piece : List ℕ) (slot : Slot)
     → passed ++ waiting ≡ signals c role ts → ReadsOn old c check role ts body → length piece ≡ 4 * c.symbols
     → ReadsSlot old new line script passed waiting (samples_in body) (samples_in piece) slot.bits slot.sent

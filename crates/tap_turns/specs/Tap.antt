@@ -16,7 +16,7 @@ use Rattle.noise_script.specs.Script.{IsInLimits}
 use Rattle.link_run.specs.Run.{Spoken, Side, Turn}
 use Rattle.link_run.specs.Trace.{trace_text, turn_text}
 use Rattle.link_run.specs.Listened.{check_by, judged_by, given_to}
-use Rattle.line_run.specs.Sampled.{Channel, IsHeardOf}
+use Rattle.line_run.specs.Sampled.{Wire, IsHeardOf}
 use Rattle.line_run.specs.Ends.{Left}
 use Rattle.line_run.specs.Stream.{carried_signal, sent_by, both_sent_by}
 use Rattle.shared_line.specs.declared.direction.DelayedLine.{DelayedLine}
@@ -53,7 +53,7 @@ abbrev pub AreReadTo : FolderState → FolderState → TapNames → Both (List �
 AreReadTo start now n bodies = (role : Role) → IsReadTo start now n role (of role bodies)
 
 -- a recording of which less than so many slots was read is read to its end
-abbrev pub IsReadOut : FolderState → TapNames → Channel → ℕ → Role → List ℕ → Type 0
+abbrev pub IsReadOut : FolderState → TapNames → Wire → ℕ → Role → List ℕ → Type 0
 IsReadOut start n c turns role body =
     length body < octets_of c turns → IsTrue (start.tells (recording_of role n))
     → header_of (mode_of role) ++ body ≡ octets_at start (recording_of role n)
@@ -212,7 +212,7 @@ TurnAnswers tap start old now n x ts (Err stop) = TurnStops start old now n x ts
 -- ---- slots that were read
 
 -- A direction that had room, whose line has coded this slot since, with these bits.
-pub record HasRead (d : DelayedLine) (c : Channel) (role : Role) (ts : List Turn) (slot : Slot) (check : Check) : Type 0 where
+pub record HasRead (d : DelayedLine) (c : Wire) (role : Role) (ts : List Turn) (slot : Slot) (check : Check) : Type 0 where
   pub before : DelayedLine
   pub room : HasRoom before c role 1 (sent_by 0 role ts)
   pub sender : d.sender ≡ before.sender
@@ -226,7 +226,7 @@ pub record HasRead (d : DelayedLine) (c : Channel) (role : Role) (ts : List Turn
       (line_bits slot.bits)
 
 -- The reader stands behind that slot too.
-pub record ReadsToo (r : SlotReader) (c : Channel) (check : Check) (role : Role) (ts : List Turn) (body : List ℕ) (slot : Slot) : Type 0 where
+pub record ReadsToo (r : SlotReader) (c : Wire) (check : Check) (role : Role) (ts : List Turn) (body : List ℕ) (slot : Slot) : Type 0 where
   pub holds : HoldsNext c check role ts body slot.sent
   pub reads : (t : Turn) → (of role t).sent ≡ Some (told check slot.sent) → ReadsOn r c check role (t ∷ ts) body
 

@@ -13,7 +13,7 @@ ghost use Rattle.noise_script.specs.Script.{ScriptValue};
 ghost use Rattle.sample_line.specs.Line.{LineStands, sender_of};
 ghost use Rattle.line_laws.specs.Fitting.{AreFit};
 ghost use Rattle.link_run.specs.Run.{Turn};
-ghost use Rattle.line_run.specs.Sampled.{Channel, signals};
+ghost use Rattle.line_run.specs.Sampled.{Wire, signals};
 ghost use Rattle.line_tap.specs.Tapping.{HoldsNext};
 
 use crate::limits::DLCI;
@@ -88,7 +88,7 @@ impl TappedEnd {
         requires high { symbols ≤ SLOT }
         ensures listens { IfOk result (λ end. ListensFor end.listener terms.now role []) }
         ensures idle { IfOk result (λ end. IsIdle end.listener 0) }
-        ensures reads { IfOk result (λ end. (c : Channel) → c.symbols ≡ symbols → c.dlci ≡ 0 → ReadsOn end.reader c (check_by terms.now) role [] []) }
+        ensures reads { IfOk result (λ end. (c : Wire) → c.symbols ≡ symbols → c.dlci ≡ 0 → ReadsOn end.reader c (check_by terms.now) role [] []) }
         ensures room { IfOk result (λ end. length end.piece.items ≡ 4 * symbols) }
     {
         let sender = Sender {
@@ -111,10 +111,10 @@ impl TappedEnd {
         requires phase { line.old.writer.phase ≡ self.old.reader.phase }
         requires size { vec_len self.old.piece ≡ 4 * self.old.reader.symbols }
         requires count { count ≤ vec_len self.old.piece }
-        ensures some { (c : Channel) (check : CheckValue) (role : RoleValue) (ts : List Turn) (script : ScriptValue) (passed waiting : List Signal) (body : List ℕ)
+        ensures some { (c : Wire) (check : CheckValue) (role : RoleValue) (ts : List Turn) (script : ScriptValue) (passed waiting : List Signal) (body : List ℕ)
             → LineStands line.old script passed waiting → passed ++ waiting ≡ signals c role ts → ReadsOn self.old.reader c check role ts body
             → IfSome result (λ slot. ReadsNext self.new.reader line.new c check role ts script passed waiting (body ++ take count self.old.piece.items) slot) }
-        ensures none { (c : Channel) (check : CheckValue) (role : RoleValue) (ts : List Turn) (script : ScriptValue) (passed waiting : List Signal) (body : List ℕ)
+        ensures none { (c : Wire) (check : CheckValue) (role : RoleValue) (ts : List Turn) (script : ScriptValue) (passed waiting : List Signal) (body : List ℕ)
             → LineStands line.old script passed waiting → passed ++ waiting ≡ signals c role ts → ReadsOn self.old.reader c check role ts body
             → AreFit (4 * c.symbols) 0 (signals c role ts)
             → IfNone result ((s : SentValue) → HoldsNext c check role ts (body ++ take count self.old.piece.items) s → ⊥) }

@@ -4,7 +4,7 @@ use Rattle.outside_calls.proofs.Putting.{OnlyPuts-trans}
 use Rattle.outside_calls.specs.Folder.{FolderState}
 use Rattle.outside_calls.specs.Outputs.{AreApart, KeepsEach, OnlyPuts}
 use Rattle.noise_script.specs.Script.{ScriptValue}
-use Rattle.line_run.specs.Scripted.{channel_of}
+use Rattle.line_run.specs.Scripted.{wire_of}
 use Rattle.run_world.specs.Names.{Written, inputs_of, outputs_of, written}
 use Rattle.line_run.specs.Recorded.{Tapes, tapes_of}
 use Rattle.run_world.specs.Tapes.{HoldTapes, HoldTapesPartly}
@@ -62,9 +62,9 @@ loop-tapes-preserved g c =
     let going = (rw c.in-Ok-Going.field-0-is at c.in-Ok-Going.ensures.turn) r.files r.turns r.ends r.world r.knows.within in
     let puts : OnlyPuts next last (tapes_of tapes) =
     subst (λ (names : Tapes). OnlyPuts next last (tapes_of names)) c.loop-tapes.invariant.named c.in-Ok.ensures.only in
-    let kept : KeepTapes c.loop-tapes.tapes next (channel_of (script_of c.turn.new.self)) r.turns =
-    subst (λ (s : ScriptValue). KeepTapes c.loop-tapes.tapes next (channel_of s) r.turns) (sym (c.in-Ok-Going.ensures.script ∙ r.script_is))
-    (keep-later c.loop-tapes.tapes now next (channel_of script) r.turns c.in-Ok-Going.ensures.only.goes_on
+    let kept : KeepTapes c.loop-tapes.tapes next (wire_of (script_of c.turn.new.self)) r.turns =
+    subst (λ (s : ScriptValue). KeepTapes c.loop-tapes.tapes next (wire_of s) r.turns) (sym (c.in-Ok-Going.ensures.script ∙ r.script_is))
+    (keep-later c.loop-tapes.tapes now next (wire_of script) r.turns c.in-Ok-Going.ensures.only.goes_on
     (subst (λ (names : Tapes). KeepsEach now next (tapes_of names)) (sym c.loop-tapes.invariant.named)
     (tapes-kept now next n tapes c.requires.apart c.in-Ok-Going.ensures.only)) c.loop-tapes.invariant.taped) in
     record {
@@ -73,7 +73,7 @@ loop-tapes-preserved g c =
           c.turn.new.self script n tapes old now next r c.in-Ok-Going.ensures.script going c.in-Ok-Going.ensures.only
           c.in-Ok-Going.ensures.counts) puts c.in-Ok.ensures.counts;
       named = c.in-Ok.ensures.names ∙ c.loop-tapes.invariant.named;
-      taped = subst (λ (s : ScriptValue). KeepTapes c.record_turn.new.tapes last (channel_of s) (going.turn ∷ r.turns))
+      taped = subst (λ (s : ScriptValue). KeepTapes c.record_turn.new.tapes last (wire_of s) (going.turn ∷ r.turns))
           (c.in-Ok-Going.ensures.script ∙ r.script_is)
           (c.in-Ok.ensures.records going.others r.turns going.turn going.after (record { modems = going.modems; lines = going.lines }) kept);
       ready = (rw c.in-Ok-Going.field-0-is at c.in-Ok-Going.ensures.ready) refl;
@@ -94,13 +94,13 @@ returns-in-Err-record_turn-clause-run g c =
     let going = (rw c.in-Ok-Going.field-0-is at c.in-Ok-Going.ensures.turn) r.files r.turns r.ends r.world r.knows.within in
     let puts : OnlyPuts next last (tapes_of tapes) =
     subst (λ (names : Tapes). OnlyPuts next last (tapes_of names)) c.loop-tapes.invariant.named c.in-Err-record_turn.ensures.only in
-    let kept : KeepTapes c.loop-tapes.tapes next (channel_of (script_of c.turn.new.self)) r.turns =
-    subst (λ (s : ScriptValue). KeepTapes c.loop-tapes.tapes next (channel_of s) r.turns) (sym (c.in-Ok-Going.ensures.script ∙ r.script_is))
-    (keep-later c.loop-tapes.tapes now next (channel_of script) r.turns c.in-Ok-Going.ensures.only.goes_on
+    let kept : KeepTapes c.loop-tapes.tapes next (wire_of (script_of c.turn.new.self)) r.turns =
+    subst (λ (s : ScriptValue). KeepTapes c.loop-tapes.tapes next (wire_of s) r.turns) (sym (c.in-Ok-Going.ensures.script ∙ r.script_is))
+    (keep-later c.loop-tapes.tapes now next (wire_of script) r.turns c.in-Ok-Going.ensures.only.goes_on
     (subst (λ (names : Tapes). KeepsEach now next (tapes_of names)) (sym c.loop-tapes.invariant.named)
     (tapes-kept now next n tapes c.requires.apart c.in-Ok-Going.ensures.only)) c.loop-tapes.invariant.taped) in
-    let partly : HoldTapesPartly last tapes (channel_of (script_of c.turn.new.self)) r.turns going.turn =
-    subst (λ (names : Tapes). HoldTapesPartly last names (channel_of (script_of c.turn.new.self)) r.turns going.turn)
+    let partly : HoldTapesPartly last tapes (wire_of (script_of c.turn.new.self)) r.turns going.turn =
+    subst (λ (names : Tapes). HoldTapesPartly last names (wire_of (script_of c.turn.new.self)) r.turns going.turn)
     (c.in-Err-record_turn.ensures.names ∙ c.loop-tapes.invariant.named)
     (c.in-Err-record_turn.ensures.records going.others r.turns going.turn going.after
     (record { modems = going.modems; lines = going.lines }) kept) in
@@ -152,11 +152,11 @@ returns-in-Ok-Done-clause-run g c =
     let tapes : Tapes = tape_names c.args.tapes.now in
     let script : ScriptValue = script_of c.args.world.now in
     let r = c.loop-tapes.invariant.reached in
-    let held : HoldTapes next tapes (channel_of script) r.turns =
-    hold-later tapes now next (channel_of script) r.turns c.in-Ok-Done.ensures.only.goes_on
+    let held : HoldTapes next tapes (wire_of script) r.turns =
+    hold-later tapes now next (wire_of script) r.turns c.in-Ok-Done.ensures.only.goes_on
     (tapes-kept now next n tapes c.requires.apart c.in-Ok-Done.ensures.only)
-    (subst (λ (names : Tapes). HoldTapes now names (channel_of script) r.turns) c.loop-tapes.invariant.named
-    (keep-holds c.loop-tapes.tapes now (channel_of script) r.turns c.loop-tapes.invariant.taped)) in
+    (subst (λ (names : Tapes). HoldTapes now names (wire_of script) r.turns) c.loop-tapes.invariant.named
+    (keep-holds c.loop-tapes.tapes now (wire_of script) r.turns c.loop-tapes.invariant.taped)) in
     reached-done c.turns_deliver_what_came.ensures.hearing c.loop-tapes.world c.turn.new.self script n tapes old now next c.in-Ok-Done.turn r
     c.in-Ok-Done.ensures.script ((rw c.in-Ok-Done.field-0-is at c.in-Ok-Done.ensures.turn) r.files r.turns r.ends r.world r.knows.within)
     c.in-Ok-Done.ensures.only held
@@ -170,11 +170,11 @@ returns-in-Ok-Done-clause-tally g c =
     let tapes : Tapes = tape_names c.args.tapes.now in
     let script : ScriptValue = script_of c.args.world.now in
     let r = c.loop-tapes.invariant.reached in
-    let held : HoldTapes next tapes (channel_of script) r.turns =
-    hold-later tapes now next (channel_of script) r.turns c.in-Ok-Done.ensures.only.goes_on
+    let held : HoldTapes next tapes (wire_of script) r.turns =
+    hold-later tapes now next (wire_of script) r.turns c.in-Ok-Done.ensures.only.goes_on
     (tapes-kept now next n tapes c.requires.apart c.in-Ok-Done.ensures.only)
-    (subst (λ (names : Tapes). HoldTapes now names (channel_of script) r.turns) c.loop-tapes.invariant.named
-    (keep-holds c.loop-tapes.tapes now (channel_of script) r.turns c.loop-tapes.invariant.taped)) in
+    (subst (λ (names : Tapes). HoldTapes now names (wire_of script) r.turns) c.loop-tapes.invariant.named
+    (keep-holds c.loop-tapes.tapes now (wire_of script) r.turns c.loop-tapes.invariant.taped)) in
     reached-counts c.turns_deliver_what_came.ensures.hearing c.loop-tapes.world c.turn.new.self script n tapes old now next c.in-Ok-Done.turn r
     c.in-Ok-Done.ensures.script ((rw c.in-Ok-Done.field-0-is at c.in-Ok-Done.ensures.turn) r.files r.turns r.ends r.world r.knows.within)
     c.in-Ok-Done.ensures.only held
@@ -203,11 +203,11 @@ returns-in-Err-clause-run g c =
     let tapes : Tapes = tape_names c.args.tapes.now in
     let script : ScriptValue = script_of c.args.world.now in
     let r = c.loop-tapes.invariant.reached in
-    let held : HoldTapes next tapes (channel_of script) r.turns =
-    hold-later tapes now next (channel_of script) r.turns c.in-Err.ensures.only.goes_on
+    let held : HoldTapes next tapes (wire_of script) r.turns =
+    hold-later tapes now next (wire_of script) r.turns c.in-Err.ensures.only.goes_on
     (tapes-kept now next n tapes c.requires.apart c.in-Err.ensures.only)
-    (subst (λ (names : Tapes). HoldTapes now names (channel_of script) r.turns) c.loop-tapes.invariant.named
-    (keep-holds c.loop-tapes.tapes now (channel_of script) r.turns c.loop-tapes.invariant.taped)) in
+    (subst (λ (names : Tapes). HoldTapes now names (wire_of script) r.turns) c.loop-tapes.invariant.named
+    (keep-holds c.loop-tapes.tapes now (wire_of script) r.turns c.loop-tapes.invariant.taped)) in
     reached-fault c.turns_deliver_what_came.ensures.hearing c.loop-tapes.world c.turn.new.self script n tapes old now next c.in-Err.fault r
     (apart-outputs n tapes c.requires.apart) c.in-Err.ensures.script (c.in-Err.ensures.turn r.files r.turns r.ends r.world r.knows.within)
     c.in-Err.ensures.only held

@@ -1,5 +1,5 @@
 use Rattle.std.proofs.Common.{◌≡◌, ◌-◌, ◌^◌}
-use Rattle.line_run.specs.Scripted.{channel_of}
+use Rattle.line_run.specs.Scripted.{wire_of}
 use Rattle.run_world.specs.Names.{written}
 use Rattle.run_world.specs.World.{IsReady, script_of, turn_of}
 use Rattle.run_world.specs.Taping.{KeepTapes, tape_names}
@@ -11,7 +11,7 @@ invariant-loop-tapes g l = record {
   reached : Reached l.world (script_of l.fn.world) (written l.names) (tape_names l.fn.tapes) (g.F.Folder.state l.fn.folder)
       (g.F.Folder.state l.folder);
   named : tape_names l.tapes ≡ tape_names l.fn.tapes;
-  taped : KeepTapes l.tapes (g.F.Folder.state l.folder) (channel_of (script_of l.fn.world)) reached.turns;
+  taped : KeepTapes l.tapes (g.F.Folder.state l.folder) (wire_of (script_of l.fn.world)) reached.turns;
   ready : IsReady l.world;
   came : g.F.Folder.came l.fn.folder l.folder;
 }

@@ -1,5 +1,5 @@
 use Rattle.std.proofs.Common.{refl, sym, ◌∙◌, ap, Ok}
-use Rattle.line_run.specs.Scripted.{channel_at}
+use Rattle.line_run.specs.Scripted.{wire_at}
 use Rattle.run_world.specs.Names.{written}
 use Rattle.link_pair.proofs.Going.{ready-for, came-to, came-going, came-ended, came-halted}
 use Rattle.link_pair.proofs.half.Half.go_on.Goals as goal
@@ -18,7 +18,7 @@ send_flags-requires-clause-room g c =
     c.turn.new.lines script r.beside r.links r.streams (g.F.Folder.state c.args.folder.now) (g.F.Folder.state c.turn.new.folder)
     (written c.args.names.now) r.files c.requires.ready.0 r.p c.turn.result _ (sym c.in-Ok-Some.ensures ∙ ap Ok c.in-Ok-Some.field-0-is)
     c.requires.going c.requires.apart c.turn.ensures.only r.at c.turn.ensures.kept c.turn.ensures.turn in
-    (channel_at script h.dlci r.beside, r.links, r.streams, a.comes.arrived)
+    (wire_at script h.dlci r.beside, r.links, r.streams, a.comes.arrived)
 
 pub returns-in-Ok-None-clause-turn : goal.returns-in-Ok-None-clause-turn
 returns-in-Ok-None-clause-turn g c = λ beside links streams files round p at.
@@ -31,7 +31,7 @@ returns-in-Ok-None-clause-turn g c = λ beside links streams files round p at.
     (sym c.in-Ok-None.ensures ∙ ap Ok c.in-Ok-None.field-0-is) c.requires.going c.requires.apart c.turn.ensures.only at c.turn.ensures.kept
     c.turn.ensures.turn in
     came-going (record { modems = c.turn.new.self; dlci = h.dlci; ended = h.ended }) c.turn.new.lines
-    (channel_at script h.dlci beside) links
+    (wire_at script h.dlci beside) links
     streams new n files round p c.requires.going (c.turn.ensures.channel ∙ at.channel) a
 
 pub returns-in-Ok-Some-clause-turn : goal.returns-in-Ok-Some-clause-turn
@@ -40,7 +40,7 @@ returns-in-Ok-Some-clause-turn g c = λ beside links streams files round p at.
     let script = c.args.script.now in
     let new = g.F.Folder.state c.turn.new.folder in
     let n = written c.args.names.now in
-    let channel = channel_at script h.dlci beside in
+    let channel = wire_at script h.dlci beside in
     let a = came-to c.turns_deliver_what_came.ensures.hearing c.turns_deliver_what_came.ensures.speaking h c.turn.new.self c.args.lines.now
     c.turn.new.lines script beside links streams (g.F.Folder.state c.args.folder.now) new n files round p c.turn.result _
     (sym c.in-Ok-Some.ensures ∙ ap Ok c.in-Ok-Some.field-0-is) c.requires.going c.requires.apart c.turn.ensures.only at c.turn.ensures.kept
@@ -57,4 +57,4 @@ returns-in-Err-clause-turn g c = λ beside links streams files round p at.
     let a = came-to c.turns_deliver_what_came.ensures.hearing c.turns_deliver_what_came.ensures.speaking h c.turn.new.self c.args.lines.now
     c.turn.new.lines script beside links streams (g.F.Folder.state c.args.folder.now) new n files round p c.turn.result _
     (sym c.in-Err.ensures) c.requires.going c.requires.apart c.turn.ensures.only at c.turn.ensures.kept c.turn.ensures.turn in
-    came-halted c.turn.new.self c.turn.new.lines (channel_at script h.dlci beside) links streams new n files round p c.in-Err.fault a
+    came-halted c.turn.new.self c.turn.new.lines (wire_at script h.dlci beside) links streams new n files round p c.in-Err.fault a

@@ -1,7 +1,7 @@
 use Rattle.std.proofs.Common.{refl, subst}
 use Rattle.roles.specs.Both.{of}
 use Rattle.line_run.specs.Sampled.{EndsLineBy}
-use Rattle.line_run.specs.Scripted.{channel_at}
+use Rattle.line_run.specs.Scripted.{wire_at}
 use Rattle.shared_line.specs.Lines.{end_of}
 use Rattle.shared_line.specs.declared.lines.LineEnd.{LineEnd}
 use Rattle.run_world.specs.Names.{inputs_of, written}
@@ -15,7 +15,7 @@ arrive-requires-clause-due g c =
     let script = c.args.script.now in
     let r = c.requires.ready in
     let a = at-end h script r.beside r.files c.args.round r.p c.requires.ended r.at.stands r.at.lasts in (
-      channel_at script h.dlci r.beside,
+      wire_at script h.dlci r.beside,
       r.links,
       turns_on_line c.args.round r.p,
       r.streams,
@@ -31,15 +31,15 @@ send_flags-requires-clause-room g c =
     let script = c.args.script.now in
     let r = c.requires.ready in
     let a = at-end h script r.beside r.files c.args.round r.p c.requires.ended r.at.stands r.at.lasts in
-    let arrives = c.in-Ok.ensures.arrives (channel_at script h.dlci r.beside) r.links (turns_on_line c.args.round r.p) r.streams r.at.waits
+    let arrives = c.in-Ok.ensures.arrives (wire_at script h.dlci r.beside) r.links (turns_on_line c.args.round r.p) r.streams r.at.waits
     r.at.due refl refl (count-at h script r.beside r.files c.args.round r.p a) in
-    (channel_at script h.dlci r.beside, r.links, r.streams, arrives.lines)
+    (wire_at script h.dlci r.beside, r.links, r.streams, arrives.lines)
 
 pub returns-in-Ok-clause-turn : goal.returns-in-Ok-clause-turn
 returns-in-Ok-clause-turn g c = λ beside links streams files p h.
     let half = c.args.self.now in
     let script = c.args.script.now in
-    let channel = channel_at script half.dlci beside in
+    let channel = wire_at script half.dlci beside in
     let a = at-end half script beside files c.args.round p c.requires.ended h.stands h.lasts in
     let arrives = c.in-Ok.ensures.arrives channel links (turns_on_line c.args.round p) streams h.waits h.due refl refl
     (count-at half script beside files c.args.round p a) in
@@ -52,7 +52,7 @@ pub returns-in-Err-Lost-clause-turn : goal.returns-in-Err-Lost-clause-turn
 returns-in-Err-Lost-clause-turn g c = λ beside links streams files p h.
     let half = c.args.self.now in
     let script = c.args.script.now in
-    let channel = channel_at script half.dlci beside in
+    let channel = wire_at script half.dlci beside in
     let checks = c.heard_by.result.now in
     let a = at-end half script beside files c.args.round p c.requires.ended h.stands h.lasts in
     let e = c.in-Err-Lost.ensures.arrives channel links (turns_on_line c.args.round p) streams h.waits h.due refl refl
@@ -67,7 +67,7 @@ pub returns-in-Ok-write_chance-clause-turn : goal.returns-in-Ok-write_chance-cla
 returns-in-Ok-write_chance-clause-turn g c = λ beside links streams files p h.
     let half = c.args.self.now in
     let script = c.args.script.now in
-    let channel = channel_at script half.dlci beside in
+    let channel = wire_at script half.dlci beside in
     let checks = c.heard_by.result.now in
     let a = at-end half script beside files c.args.round p c.requires.ended h.stands h.lasts in
     let e = c.in-Err-Chance.ensures.arrives channel links (turns_on_line c.args.round p) streams h.waits h.due refl refl
@@ -88,7 +88,7 @@ pub returns-in-Err-clause-turn : goal.returns-in-Err-clause-turn
 returns-in-Err-clause-turn g c = λ beside links streams files p h.
     let half = c.args.self.now in
     let script = c.args.script.now in
-    let channel = channel_at script half.dlci beside in
+    let channel = wire_at script half.dlci beside in
     let checks = c.heard_by.result.now in
     let new = g.F.Folder.state c.write_chance.new.folder in
     let n = written c.args.names.now in

@@ -1,6 +1,6 @@
 use Rattle.std.proofs.Common.{arith, refl, sym, subst}
 use Rattle.noise_script.specs.Script.{IsInLimits}
-use Rattle.line_run.specs.Scripted.{channel_at}
+use Rattle.line_run.specs.Scripted.{wire_at}
 use Rattle.shared_line.specs.Lines.{ArrivesBoth}
 use Rattle.run_world.specs.Link.{HearsWell}
 use Rattle.link_run.specs.Run.{arrival}
@@ -13,7 +13,7 @@ arrive-requires c =
     record {
       channel = r.kept.channel;
       few = r.few;
-      due = (channel_at c.args.script.now c.args.self.now.dlci r.beside, r.links, r.turns, r.streams, r.waits, r.due, refl, r.after.turn);
+      due = (wire_at c.args.script.now c.args.self.now.dlci r.beside, r.links, r.turns, r.streams, r.waits, r.due, refl, r.after.turn);
     }
 
 pub returns-in-Err-clause-hears : goal.returns-in-Err-clause-hears
@@ -36,7 +36,7 @@ pub hear-requires-2-clause-well : goal.hear-requires-2-clause-well
 hear-requires-2-clause-well c =
     let r = c.requires.ready in
     let h = r.after in
-    let channel = channel_at c.args.script.now c.args.self.now.dlci r.beside in
+    let channel = wire_at c.args.script.now c.args.self.now.dlci r.beside in
     let laws : HearingLaws = record {
       play = c.scripts_make_links.ensures.ends;
       delays = c.scripts_make_links.ensures.delays;

@@ -6,7 +6,7 @@ use Rattle.run_world.specs.Names.{outputs_of, written}
 use Rattle.run_world.specs.Link.{AreCounted, octets_of}
 use Rattle.shared_line.specs.declared.lines.LineEnd.{LineEnd}
 use Rattle.line_run.specs.Sampled.{EndsLine}
-use Rattle.line_run.specs.Scripted.{channel_at}
+use Rattle.line_run.specs.Scripted.{wire_at}
 use Rattle.shared_line.specs.Lines.{HaveArrived, end_of}
 use Rattle.link_run.specs.Outcomes.{Done}
 use Rattle.run_world.specs.Mid.{handed, served}
@@ -19,7 +19,7 @@ use Rattle.run_world.proofs.modems.Modems.turn.Goals as goal
 
 pub returns-in-Err-Lost-clause-turn : goal.returns-in-Err-Lost-clause-turn
 returns-in-Err-Lost-clause-turn g c = λ beside links streams files ts ends h within waits due.
-    let channel = channel_at c.args.script.now c.args.self.now.dlci beside in
+    let channel = wire_at c.args.script.now c.args.self.now.dlci beside in
     let e = c.in-Err-Lost.ensures.hears channel links streams files ts ends refl refl h waits due in
     record {
       is = subst (λ (x : LineEnd). EndsLine channel ts ends (end_of x)) c.in-Err-Lost.field-0-is e.0;
@@ -29,14 +29,14 @@ returns-in-Err-Lost-clause-turn g c = λ beside links streams files ts ends h wi
 
 pub returns-in-Err-Chance-clause-turn : goal.returns-in-Err-Chance-clause-turn
 returns-in-Err-Chance-clause-turn g c = λ beside links streams files ts ends h within waits due.
-    let channel = channel_at c.args.script.now c.args.self.now.dlci beside in
+    let channel = wire_at c.args.script.now c.args.self.now.dlci beside in
     let e = c.in-Err-Chance.ensures.hears channel links streams files ts ends refl refl h waits due in
     c.meet_chance.ensures.meets c.hear.new.lines channel links streams ts ends (c.hear.ensures.turn ∙ h.turn)
     (subst (λ (x : LineEnd). EndsLine channel ts ends (end_of x)) c.in-Err-Chance.field-0-is e.0) e.1 files
 
 pub returns-in-Err-clause-turn : goal.returns-in-Err-clause-turn
 returns-in-Err-clause-turn g c = λ beside links streams files ts ends h within waits due.
-    let channel = channel_at c.args.script.now c.args.self.now.dlci beside in
+    let channel = wire_at c.args.script.now c.args.self.now.dlci beside in
     let a = g.F.Folder.state c.args.folder.now in
     let b = g.F.Folder.state c.hand_over.new.folder in
     let n = written c.args.names.now in
@@ -57,7 +57,7 @@ returns-in-Err-clause-turn g c = λ beside links streams files ts ends h within 
 
 pub returns-in-Ok-finish-clause-turn : goal.returns-in-Ok-finish-clause-turn
 returns-in-Ok-finish-clause-turn g c = λ beside links streams files ts ends h within waits due.
-    let channel = channel_at c.args.script.now c.args.self.now.dlci beside in
+    let channel = wire_at c.args.script.now c.args.self.now.dlci beside in
     let a = g.F.Folder.state c.args.folder.now in
     let b = g.F.Folder.state c.hand_over.new.folder in
     let d = g.F.Folder.state c.finish.new.folder in
@@ -83,7 +83,7 @@ returns-in-Ok-finish-clause-counts g c = CountsStand-trans c.in-Ok-hand_over.ens
 
 pub returns-in-Err-finish-clause-turn : goal.returns-in-Err-finish-clause-turn
 returns-in-Err-finish-clause-turn g c = λ beside links streams files ts ends h within waits due.
-    let channel = channel_at c.args.script.now c.args.self.now.dlci beside in
+    let channel = wire_at c.args.script.now c.args.self.now.dlci beside in
     let a = g.F.Folder.state c.args.folder.now in
     let b = g.F.Folder.state c.hand_over.new.folder in
     let d = g.F.Folder.state c.finish.new.folder in
@@ -123,14 +123,14 @@ serve-requires-clause-limits g c =
 pub serve-requires-clause-stands : goal.serve-requires-clause-stands
 serve-requires-clause-stands g c =
     let r = c.requires.ready in
-    let channel = channel_at c.args.script.now c.args.self.now.dlci r.beside in
+    let channel = wire_at c.args.script.now c.args.self.now.dlci r.beside in
     let has = c.in-Ok.ensures.hears channel r.links r.streams r.files r.turns r.ends refl refl r.after r.waits r.due in
     let hands = c.in-Ok-hand_over.ensures.hands channel r.files r.turns r.ends c.in-Ok.heard has.mid has.stands in
     (channel, r.files, r.turns, r.ends, c.in-Ok.heard, has.mid, refl, hands.stands, r.within)
 
 pub returns-in-Err-serve-clause-turn : goal.returns-in-Err-serve-clause-turn
 returns-in-Err-serve-clause-turn g c = λ beside links streams files ts ends h within waits due.
-    let channel = channel_at c.args.script.now c.args.self.now.dlci beside in
+    let channel = wire_at c.args.script.now c.args.self.now.dlci beside in
     let a = g.F.Folder.state c.args.folder.now in
     let b = g.F.Folder.state c.hand_over.new.folder in
     let d = g.F.Folder.state c.serve.new.folder in
@@ -185,7 +185,7 @@ speak-requires-clause-few g c =
 pub speak-requires-clause-stands : goal.speak-requires-clause-stands
 speak-requires-clause-stands g c =
     let r = c.requires.ready in
-    let channel = channel_at c.args.script.now c.args.self.now.dlci r.beside in
+    let channel = wire_at c.args.script.now c.args.self.now.dlci r.beside in
     let has = c.in-Ok.ensures.hears channel r.links r.streams r.files r.turns r.ends refl refl r.after r.waits r.due in
     let hands = c.in-Ok-hand_over.ensures.hands channel r.files r.turns r.ends c.in-Ok.heard has.mid has.stands in
     let still = sym (ap is_closed (phase-delivered has.mid.orig)) ∙ sym (c.is_closed.ensures r.files (handed has.mid) hands.stands.link)
@@ -205,7 +205,7 @@ speak-requires-clause-stands g c =
 
 pub returns-in-Ok-speak-clause-turn : goal.returns-in-Ok-speak-clause-turn
 returns-in-Ok-speak-clause-turn g c = λ beside links streams files ts ends h within waits due.
-    let channel = channel_at c.args.script.now c.args.self.now.dlci beside in
+    let channel = wire_at c.args.script.now c.args.self.now.dlci beside in
     let a = g.F.Folder.state c.args.folder.now in
     let b = g.F.Folder.state c.hand_over.new.folder in
     let d = g.F.Folder.state c.serve.new.folder in
@@ -249,7 +249,7 @@ returns-in-Ok-speak-clause-counts g c =
 
 pub returns-in-Err-speak-clause-turn : goal.returns-in-Err-speak-clause-turn
 returns-in-Err-speak-clause-turn g c = λ beside links streams files ts ends h within waits due.
-    let channel = channel_at c.args.script.now c.args.self.now.dlci beside in
+    let channel = wire_at c.args.script.now c.args.self.now.dlci beside in
     let a = g.F.Folder.state c.args.folder.now in
     let b = g.F.Folder.state c.hand_over.new.folder in
     let d = g.F.Folder.state c.serve.new.folder in

@@ -1,5 +1,5 @@
 use Rattle.std.proofs.Common.{◌∷◌, sym, ◌∙◌, subst, Result}
-use Rattle.line_run.specs.Scripted.{channel_at, channel_of}
+use Rattle.line_run.specs.Scripted.{wire_at, wire_of}
 use Rattle.line_run.specs.Stream.{both_sent_by}
 use Rattle.shared_line.specs.Lines.{AreDue, LinesWait}
 use Rattle.run_world.specs.Names.{written}
@@ -31,12 +31,12 @@ answers g c = λ files ts ends h within.
       delays = c.scripts_make_links.ensures.delays;
     } in
     let zero = c.requires.ready.channel in
-    subst (λ n. TurnAnswers c.turn.new.self c.turn.new.lines (channel_at script n alone) 1 (both_sent_by 0 ts)
+    subst (λ n. TurnAnswers c.turn.new.self c.turn.new.lines (wire_at script n alone) 1 (both_sent_by 0 ts)
     (g.F.Folder.state c.args.folder.now) (g.F.Folder.state c.turn.new.folder) (written c.args.names.now) files ts ends c.turn.result) zero
     (c.turn.ensures.turn alone 1 (both_sent_by 0 ts) files ts ends
-    (subst (λ n. ModemsAfter c.args.self.now.modems (channel_at script n alone) files ts ends) (sym zero) h.modems) within
-    (subst (λ n. LinesWait c.args.self.now.lines (channel_at script n alone) 1 (both_sent_by 0 ts)) (sym zero) h.lines)
-    (subst (λ n. AreDue (channel_at script n alone) 1 ts (both_sent_by 0 ts)) (sym zero)
+    (subst (λ n. ModemsAfter c.args.self.now.modems (wire_at script n alone) files ts ends) (sym zero) h.modems) within
+    (subst (λ n. LinesWait c.args.self.now.lines (wire_at script n alone) 1 (both_sent_by 0 ts)) (sym zero) h.lines)
+    (subst (λ n. AreDue (wire_at script n alone) 1 ts (both_sent_by 0 ts)) (sym zero)
     (are-due laws script files ts ends c.requires.ready.limits h.modems.run)))
 
 pub returns-clause-turn : goal.returns-clause-turn
@@ -47,9 +47,9 @@ unfolding answers
 returns-clause-ready g c = λ going.
     let r = c.requires.ready in
     let script = c.args.self.now.script in
-    let by : GoesOnBy c.turn.new.self c.turn.new.lines (channel_of script) 1 (both_sent_by 0 r.turns) (g.F.Folder.state c.args.folder.now)
+    let by : GoesOnBy c.turn.new.self c.turn.new.lines (wire_of script) 1 (both_sent_by 0 r.turns) (g.F.Folder.state c.args.folder.now)
     (g.F.Folder.state c.turn.new.folder) (written c.args.names.now) r.files r.turns r.ends =
-    subst (λ (x : Result Step RunFault). TurnAnswers c.turn.new.self c.turn.new.lines (channel_of script) 1 (both_sent_by 0 r.turns)
+    subst (λ (x : Result Step RunFault). TurnAnswers c.turn.new.self c.turn.new.lines (wire_of script) 1 (both_sent_by 0 r.turns)
     (g.F.Folder.state c.args.folder.now) (g.F.Folder.state c.turn.new.folder) (written c.args.names.now) r.files r.turns r.ends x) going
     (answers g c r.files r.turns r.ends r.after r.within) in
     record {

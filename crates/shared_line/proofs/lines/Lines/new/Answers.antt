@@ -1,12 +1,12 @@
 use Rattle.std.proofs.Common.{◌*◌, sym, ◌∙◌, ap}
-use Rattle.line_run.specs.Scripted.{channel_at}
+use Rattle.line_run.specs.Scripted.{wire_at}
 use Rattle.roles.specs.declared.role.Role.TheVariants.{Originator, Answerer}
 use Rattle.shared_line.proofs.Waiting.{waits-first, waits-none}
 use Rattle.shared_line.proofs.lines.Lines.new.Goals as goal
 
 pub returns : goal.returns
 returns c = λ dlci beside.
-    let channel = channel_at c.args.script.now dlci beside in
+    let channel = wire_at c.args.script.now dlci beside in
     let delays = c.scripts_make_links.ensures.delays c.args.script.now c.is_in_limits.ensures in
     waits-none c.in_ok-new.field-0 c.in_ok-new-2.field-0 channel c.args.links
     (waits-first c.in_ok-new.field-0 channel Originator c.args.links c.in_ok-new.ensures.stands c.in_ok-new.ensures.sender
