@@ -1,6 +1,6 @@
 // The line of ITU-T V.32.
-use crate::reader::SampleReader;
 use crate::demodulator::Demodulator;
+use crate::reader::SampleReader;
 use trellis_tables::V32Code;
 
 /// How many labels may be unreleased before the line is lost.

@@ -4,8 +4,8 @@ ghost use Rattle.scramblers.specs.declared.mode.Mode.{Mode};
 ghost use Rattle.symbol_map.specs.declared.sample.Sample.{Sample};
 ghost use Rattle.line_coding.specs.MiddleReading.{MiddleRead, bits_taken};
 
-use exact_decoder::Lost;
 use crate::line::LineReader;
+use exact_decoder::Lost;
 use outside_calls::NoMemory;
 use scramblers::Mode;
 use std::alloc::Global;

@@ -5,8 +5,8 @@ ghost use Rattle.scramblers.specs.declared.mode.Mode.{Mode};
 ghost use Rattle.symbol_map.specs.declared.sample.Sample.{Sample};
 ghost use Rattle.line_coding.specs.Reading.{SamplesRead, IsFinished, bits_in};
 
-use exact_decoder::{Decoder, Lost, Tail};
 use crate::demodulator::Demodulate;
+use exact_decoder::{Decoder, Lost, Tail};
 use outside_calls::NoMemory;
 use scramblers::Mode;
 use std::alloc::Global;

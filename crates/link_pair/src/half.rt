@@ -17,16 +17,15 @@ ghost use Rattle.link_pair.specs.Counts.{CountsBy, IsWriting, writing_fault};
 ghost use Rattle.link_pair.specs.Half as halves;
 
 use frame_check::Check;
-use lapm_frames::{Heard, Sent};
+use lapm_frames::Sent;
 use line_run::laws::scripts_make_links;
-use line_texts::TraceLine;
 use link_run::laws::turns_deliver_what_came;
 use noise_script::Script;
 use outside_calls::{Folder, FolderFault, NoMemory};
 use roles::{Both, Role};
 use run_world::{Modems, Names, RunFault, Step};
 use shared_line::{LineEnd, Lines};
-use stations::append_line;
+use stations::append_chance;
 use std::alloc::Global;
 
 /// How a link of a pair ended, and in which turn.
@@ -145,14 +144,7 @@ fn write_chance<F: Folder>(
     ensures write { IfErr result IsWriting }
     ensures came { F.came folder.old folder.new }
 {
-    let line = TraceLine {
-        turn,
-        role,
-        arrived: Heard::Chance,
-        sent: None,
-        given: None,
-    };
-    match append_line(folder, name, &line) {
+    match append_chance(folder, name, turn, role) {
         Ok(()) => Ok(()),
         Err(fault) => Err(writing_fault(fault)),
     }

@@ -6,9 +6,9 @@ ghost use Rattle.outside_calls.specs.Folder.{raised};
 ghost use Rattle.program_folders.specs.Audited.{audit_state, swallowed};
 ghost use Rattle.program_folders.specs.Passed.{OnlyPassed, OnlyPassed-refl, OnlyPassed-trans};
 
+use crate::transfer::copy_from;
 use frame_check::Octets;
 use outside_calls::{Folder, FolderFault};
-use crate::transfer::copy_from;
 
 /// The most octets of a turn's trace: two lines of 160 octets, each with its line feed.
 pub const HELD: usize = 322;

@@ -22,7 +22,7 @@ ghost use Rattle.noise_script.specs.Script.{IsInLimits};
 
 use crate::step::{RunFault, Step};
 use crate::tally::Tally;
-use crate::turn_text::{folder_fault, link_fault, sent_in, turn_lines, write_chance, write_turn};
+use crate::turn_text::{folder_fault, link_fault, write_chance, write_turn};
 use crate::{Link, Names, arrived};
 use frame_check::Check;
 use line_run::laws::{
@@ -37,6 +37,7 @@ use outside_calls::{Folder, NoMemory};
 use roles::{Both, Role};
 use sample_line::Heard;
 use shared_line::{LineEnd, Lines};
+use stations::{sent_in, turn_lines};
 use std::alloc::Global;
 
 /// Two ends of a link with their users, as a turn takes them.

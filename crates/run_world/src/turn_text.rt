@@ -1,9 +1,7 @@
 // The lines of a turn.
-ghost use Rattle.std.specs.Prelude.{◌≡◌, ◌++◌, is_some, true, Some, OnOk, OnErr, IfErr};
+ghost use Rattle.std.specs.Prelude.{◌≡◌, ◌++◌, OnOk, OnErr, IfErr};
 ghost use Rattle.outside_calls.specs.Folder.{Appended, OnlyWrites, PartlyAppended};
-ghost use Rattle.roles.specs.declared.role.Role.{Role};
 ghost use Rattle.line_texts.specs.LineText.{chance_line, line_text};
-ghost use Rattle.roles.specs.Both.{Both};
 ghost use Rattle.run_world.specs.Names.{written};
 ghost use Rattle.run_world.specs.Turn.{IsWriting, TurnCounts, fault_of};
 ghost use Rattle.run_world.specs.Mid.{fault_named};
@@ -11,12 +9,11 @@ ghost use Rattle.link_run.specs.Laws.{IsNamed};
 
 use crate::step::RunFault;
 use crate::{Breaking, Names};
-use lapm_frames::{Heard, Sent};
 use lapm_link::LinkFault;
 use line_texts::TraceLine;
 use outside_calls::{Folder, FolderFault};
 use roles::{Both, Role};
-use stations::{append_line, append_lines};
+use stations::{append_chance, append_lines};
 
 /// Why a run ends whose folder doesn't do a call: this, where it failed.
 pub(crate) fn folder_fault(failed: RunFault, fault: FolderFault) -> RunFault
@@ -25,36 +22,6 @@ pub(crate) fn folder_fault(failed: RunFault, fault: FolderFault) -> RunFault
     match fault {
         FolderFault::Failed => failed,
         FolderFault::NoMemory => RunFault::NoMemory,
-    }
-}
-
-/// Both lines of a turn.
-pub(crate) fn turn_lines(
-    turn: u64,
-    heard: Both<Heard>,
-    given: &Both<Option<u8>>,
-    sent: Both<Option<Sent>>,
-) -> Both<TraceLine>
-    ensures { result ≡ record {
-      orig = record { turn = turn; role = Role.Originator; arrived = heard.orig; sent = sent.orig; given = given.now.orig };
-      answ = record { turn = turn; role = Role.Answerer; arrived = heard.answ; sent = sent.answ; given = given.now.answ };
-    } }
-{
-    Both {
-        orig: TraceLine {
-            turn,
-            role: Role::Originator,
-            arrived: heard.orig,
-            sent: sent.orig,
-            given: given.orig,
-        },
-        answ: TraceLine {
-            turn,
-            role: Role::Answerer,
-            arrived: heard.answ,
-            sent: sent.answ,
-            given: given.answ,
-        },
     }
 }
 
@@ -91,29 +58,9 @@ pub(crate) fn write_chance<F: Folder>(
     ensures write { IfErr result IsWriting }
     ensures came { F.came folder.old folder.new }
 {
-    let line = TraceLine {
-        turn,
-        role,
-        arrived: Heard::Chance,
-        sent: None,
-        given: None,
-    };
-    match append_line(folder, names.trace, &line) {
+    match append_chance(folder, names.trace, turn, role) {
         Ok(()) => Ok(()),
         Err(fault) => Err(folder_fault(RunFault::WriteFault, fault)),
-    }
-}
-
-/// What both ends send in a turn, taken back from its lines.
-pub(crate) fn sent_in(lines: Both<TraceLine>) -> Both<Sent>
-    requires orig { is_some lines.orig.sent ≡ true }
-    requires answ { is_some lines.answ.sent ≡ true }
-    ensures orig { lines.orig.sent ≡ Some result.orig }
-    ensures answ { lines.answ.sent ≡ Some result.answ }
-{
-    match (lines.orig.sent, lines.answ.sent) {
-        (Some(orig), Some(answ)) => Both { orig, answ },
-        _ => unreachable!(),
     }
 }
 

@@ -20,7 +20,7 @@ use crate::end::{Slot, TappedEnd};
 use crate::limits::{DLCI, TAP_LIMIT};
 use crate::pieces::read_pieces;
 use crate::step::Step;
-use crate::texts::{sent_in, turn_lines, write_chance, write_turn};
+use crate::texts::{write_chance, write_turn};
 use crate::words::TapWords;
 use command_base::{Status, Stop};
 use lapm_frames::Heard;
@@ -32,6 +32,7 @@ use outside_calls::{Folder, FolderFault, NoMemory};
 use recordings::HEADER;
 use roles::{Both, Role};
 use shared_line::{LineEnd, Lines, slot_symbols};
+use stations::{sent_in, turn_lines};
 use std::alloc::Global;
 use xid_params::agree;
 
@@ -255,7 +256,7 @@ impl Tap {
             orig: None,
             answ: None,
         };
-        let lines = turn_lines(self.turn, hearing, silent);
+        let lines = turn_lines(self.turn, hearing.heard, &hearing.given, silent);
         match write_turn(folder, names.trace, &lines) {
             Ok(()) => Ok(()),
             Err(fault) => Err(fault),
@@ -293,7 +294,7 @@ impl Tap {
             orig: Some(orig.sent),
             answ: Some(answ.sent),
         };
-        let lines = turn_lines(self.turn, hearing, sent);
+        let lines = turn_lines(self.turn, hearing.heard, &hearing.given, sent);
         match write_turn(folder, names.trace, &lines) {
             Ok(()) => {}
             Err(fault) => return Err(fault),
