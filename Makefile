@@ -34,7 +34,7 @@ dist:
 	./modem; test $$? -eq 2
 	rm -rf out/$(NAME) && mkdir -p out/$(NAME)
 	cp -r CHANGELOG.md CONTRIBUTING.md Makefile README.md VERSION docs example out/$(NAME)
-	sed -i -E 's,\[([^]]*)\]\((\.\./)?crates/[^)]*\),\1,g' out/$(NAME)/*.md out/$(NAME)/docs/*.md # the crates stay in the repository
+	sed -i -E 's,\[([^]]*)\]\((\.\./)?crates/[^)]*\),\1,g; s,``::,::,g' out/$(NAME)/*.md out/$(NAME)/docs/*.md # the crates stay in the repository
 	install $(PROGRAM) out/$(NAME)/modem
 	mkdir out/$(NAME)/tools && cd tools && cp $(TOOLS) check pictures ../out/$(NAME)/tools
 	cd out && tar --sort=name --owner=0 --group=0 --numeric-owner --mtime="$$(git log -1 --format=%cI 2>/dev/null || date -Is)" -c $(NAME) | gzip -n >$(NAME).tar.gz
