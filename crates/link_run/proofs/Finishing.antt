@@ -21,7 +21,7 @@ use Rattle.link_account.specs.Speak.{Said}
 use Rattle.link_account.specs.Laws.{MayPlay}
 use Rattle.link_run.specs.End.{User, delivered, offered_at, offered_times, room_for, is_busy, served, is_released, is_closed, has_finished}
 use Rattle.link_run.specs.End.{is_ready, next_break}
-use Rattle.link_run.specs.Run.{Link, Accounts, Turn, arrival, Hears, RunOf, served_at, finished_at, releases, said_at}
+use Rattle.link_run.specs.Run.{Link, Accounts, Turn, arrival, Hears, RunOf, served_at, finished_at, served_ends, releases, said_at}
 use Rattle.link_run.specs.Run as run
 use Rattle.link_run.specs.Carried.{IsCarried, HasDelays}
 use Rattle.link_run.specs.Laws.{HoldWhole, DoneIsWhole}
@@ -240,7 +240,7 @@ over-going link turn mid o a going h f e (Keeps_on k) l two =
         go false = refl
 over-going link turn mid o a going h f e (Releases on role linked k stand) l two =
     let s = both_served link turn mid in
-    let both = both-true (finished_at link turn mid Originator) (finished_at link turn mid Answerer) on in
+    let both = both-true (finished_at link turn (served_ends link turn mid) Originator) (finished_at link turn (served_ends link turn mid) Answerer) on in
     let x = finished link.orig.user turn s.orig both.0 in
     let y = finished link.answ.user turn s.answ both.1 in
     still-over s.orig o.account s.answ a.account (record {

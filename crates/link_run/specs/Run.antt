@@ -73,18 +73,34 @@ Hears turn before t mid = (role : Role) → HearsAt turn (of role before) (of ro
 abbrev pub served_at : Link → ℕ → Accounts → Role → Served
 served_at link turn mid role = served (of role link).user turn (is_released mid.orig.phase) (of role mid)
 
--- whether an end needs the link no more
+-- both ends as they are to speak: each with its user, once both have heard
+abbrev pub served_ends : Link → ℕ → Accounts → Accounts
+served_ends link turn mid = record { orig = (served_at link turn mid Originator).account; answ = (served_at link turn mid Answerer).account }
+
+-- whether an end that is to speak needs the link no more
 abbrev pub finished_at : Link → ℕ → Accounts → Role → Bool
-finished_at link turn mid role = has_finished (of role link).user turn (served_at link turn mid role).account
+finished_at link turn ends role = has_finished (of role link).user turn (of role ends)
 
 -- the originator is told to release once both ends have finished: the two users hang up together
-abbrev pub releases : Link → ℕ → Accounts → Bool
-releases link turn mid = finished_at link turn mid Originator && finished_at link turn mid Answerer
+abbrev pub both_finished : Link → ℕ → Accounts → Bool
+both_finished link turn ends = finished_at link turn ends Originator && finished_at link turn ends Answerer
 
--- what an end says in this turn; the originator alone is told to release
+-- what an end says that is to speak; the originator alone is told to release
+abbrev pub says_at : Link → ℕ → Accounts → Role → Result Said LinkFault
+says_at link turn ends Originator = speak turn (both_finished link turn ends) ends.orig
+says_at link turn ends Answerer = speak turn false ends.answ
+
+-- an end breaks that is to speak; where both do, the originator counts
+abbrev pub BreaksAt : Link → ℕ → Accounts → Role → LinkFault → Type 0
+BreaksAt link turn ends Originator fault = says_at link turn ends Originator ≡ Err fault
+BreaksAt link turn ends Answerer fault = (is_ok (says_at link turn ends Originator) ≡ true) × (says_at link turn ends Answerer ≡ Err fault)
+
+-- in a turn in which both have heard: whether the originator is told to release, and what an end says
+abbrev pub releases : Link → ℕ → Accounts → Bool
+releases link turn mid = both_finished link turn (served_ends link turn mid)
+
 abbrev pub said_at : Link → ℕ → Accounts → Role → Result Said LinkFault
-said_at link turn mid Originator = speak turn (releases link turn mid) (served_at link turn mid Originator).account
-said_at link turn mid Answerer = speak turn false (served_at link turn mid Answerer).account
+said_at link turn mid role = says_at link turn (served_ends link turn mid) role
 
 -- speaking leaves the check as it is
 abbrev pub spoken : Said → Spoken
@@ -105,10 +121,9 @@ Speaks link turn mid t after = (role : Role) → SpeaksAt (said_at link turn mid
 abbrev pub IsSilent : Turn → Type 0
 IsSilent t = (role : Role) → (of role t).sent ≡ None
 
--- the end of a role breaks as it is to speak; where both ends do, the originator counts
+-- the end of a role breaks in it
 abbrev pub IsBroken : Link → ℕ → Accounts → Role → LinkFault → Type 0
-IsBroken link turn mid Originator fault = said_at link turn mid Originator ≡ Err fault
-IsBroken link turn mid Answerer fault = (is_ok (said_at link turn mid Originator) ≡ true) × (said_at link turn mid Answerer ≡ Err fault)
+IsBroken link turn mid role fault = BreaksAt link turn (served_ends link turn mid) role fault
 
 -- A turn after which the run goes on.
 pub record GoingTurn (link : Link) (ts : List Turn) (before : Accounts) (t : Turn) (after : Accounts) : Type 0 where

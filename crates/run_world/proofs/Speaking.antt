@@ -19,7 +19,7 @@ use Rattle.causes.specs.declared.fault.LinkFault.{LinkFault}
 use Rattle.causes.specs.declared.fault.LinkFault.TheVariants as faults
 use Rattle.link_account.specs.Account.{given_break, check_of}
 use Rattle.link_account.specs.Speak.{Said, speak}
-use Rattle.link_run.specs.Run.{Accounts, Side, Spoken, Turn, GoingTurn, LastTurn, BrokenTurn, IsBroken, SpeaksAt, spoken, said_at}
+use Rattle.link_run.specs.Run.{Accounts, Side, Spoken, Turn, GoingTurn, LastTurn, BrokenTurn, IsBroken, BreaksAt, SpeaksAt, spoken, says_at, said_at}
 use Rattle.link_run.specs.Counts.{CountsByNumber, CountsOn, next_count, again_in, sequence_in}
 use Rattle.link_run.specs.Laws.{IsNamed}
 use Rattle.link_run.specs.Outcomes.{Outcome, TurnIs}
@@ -31,7 +31,7 @@ use Rattle.line_run.specs.LineLaws.{SamplesAreCarried, OneIsCarried}
 use Rattle.run_world.specs.declared.link.Link.{Link}
 use Rattle.shared_line.specs.declared.lines.Lines.{Lines}
 use Rattle.run_world.specs.Names.{Written}
-use Rattle.run_world.specs.Link.{LinkStands, SaysBoth, BreaksSo, both_finished}
+use Rattle.run_world.specs.Link.{LinkStands, SaysBoth}
 use Rattle.line_run.specs.Stream.{Carried}
 use Rattle.shared_line.specs.Lines.{LinesWait, HaveArrived, AreCodable, ArePut, and_more}
 use Rattle.run_world.specs.declared.modems.Modems.{Modems}
@@ -84,38 +84,24 @@ spoken-turn c files ts ends heard mid from_orig from_answ l turn number o open-s
   stands = s.stands;
 }
   where
-    orig-says : said_at (link_of c.script files) (length ts) mid Originator ≡ Ok s.orig
-    orig-says = subst (λ (e : Accounts). speak (length ts) (both_finished (link_of c.script files) (length ts) e) e.orig ≡ Ok s.orig)
+    on-says : (role : Role) (said : Said) → says_at (link_of c.script files) turn (served c.script files (length ts) mid) role ≡ Ok said
+        → said_at (link_of c.script files) (length ts) mid role ≡ Ok said
+    on-says role said h = subst (λ (e : Accounts). says_at (link_of c.script files) (length ts) e role ≡ Ok said)
         (served-is c.script files (length ts) mid)
-        (subst (λ t. speak t (both_finished (link_of c.script files) t (served c.script files (length ts) mid))
-        (served c.script files (length ts) mid).orig ≡ Ok s.orig) number s.orig_says)
-
-    answ-says : said_at (link_of c.script files) (length ts) mid Answerer ≡ Ok s.answ
-    answ-says = subst (λ (e : Accounts). speak (length ts) false e.answ ≡ Ok s.answ) (served-is c.script files (length ts) mid)
-        (subst (λ t. speak t false (served c.script files (length ts) mid).answ ≡ Ok s.answ) number s.answ_says)
+        (subst (λ t. says_at (link_of c.script files) t (served c.script files (length ts) mid) role ≡ Ok said) number h)
 
     says : (role : Role) → SpeaksAt (said_at (link_of c.script files) (length ts) mid role)
         (of role (turn_in heard ends mid (spoken_by s.orig s.answ))) (of role (ends_of s.orig s.answ))
-    says Originator = record { said = s.orig; says = orig-says; sent_is = refl; after_is = refl }
-    says Answerer = record { said = s.answ; says = answ-says; sent_is = refl; after_is = refl }
+    says Originator = record { said = s.orig; says = on-says Originator s.orig s.orig_says; sent_is = refl; after_is = refl }
+    says Answerer = record { said = s.answ; says = on-says Answerer s.answ s.answ_says; sent_is = refl; after_is = refl }
 
 -- an end that breaks does so by a run's definition
 broken-so : (c : Wire) (files : Both (List ℕ)) (number turn : ℕ) (mid : Accounts) (role : Role) (fault : LinkFault) → turn ≡ number
-    → BreaksSo (link_of c.script files) turn (served c.script files number mid) role fault
+    → BreaksAt (link_of c.script files) turn (served c.script files number mid) role fault
     → IsBroken (link_of c.script files) number mid role fault
-broken-so c files number turn mid Originator fault e h =
-    subst (λ (x : Accounts). speak number (both_finished (link_of c.script files) number x) x.orig ≡ Err fault)
-    (served-is c.script files number mid)
-    (subst (λ t. speak t (both_finished (link_of c.script files) t (served c.script files number mid))
-    (served c.script files number mid).orig ≡ Err fault) e h)
-broken-so c files number turn mid Answerer fault e h = (
-  subst (λ (x : Accounts). is_ok (speak number (both_finished (link_of c.script files) number x) x.orig) ≡ true)
-      (served-is c.script files number mid)
-      (subst (λ t. is_ok (speak t (both_finished (link_of c.script files) t (served c.script files number mid))
-      (served c.script files number mid).orig) ≡ true) e h.0),
-  subst (λ (x : Accounts). speak number false x.answ ≡ Err fault) (served-is c.script files number mid)
-      (subst (λ t. speak t false (served c.script files number mid).answ ≡ Err fault) e h.1),
-)
+broken-so c files number turn mid role fault e h =
+    subst (λ (x : Accounts). BreaksAt (link_of c.script files) number x role fault) (served-is c.script files number mid)
+    (subst (λ t. BreaksAt (link_of c.script files) t (served c.script files number mid) role fault) e h)
 
 silent : (heard : Both Heard) (ends mid : Accounts) (role : Role) → (of role (turn_in heard ends mid none-sent)).sent ≡ None
 silent heard ends mid Originator = refl
@@ -124,7 +110,7 @@ silent heard ends mid Answerer = refl
 pub broken-turn : (c : Wire) (files : Both (List ℕ)) (ts : List Turn) (ends : Accounts) (heard : Both Heard) (mid : Accounts) (turn : ℕ)
     (role : Role) (fault : LinkFault)
     → turn ≡ length ts → Overhears c files ts ends heard mid → is_closed mid.orig.phase ≡ false
-    → BreaksSo (link_of c.script files) turn (served c.script files (length ts) mid) role fault
+    → BreaksAt (link_of c.script files) turn (served c.script files (length ts) mid) role fault
     → BrokenTurn (link_of c.script files) ts ends (turn_in heard ends mid none-sent) mid role fault
 broken-turn c files ts ends heard mid turn role fault number o open-still b = record {
   hearing = hears-in c files ts ends mid heard none-sent o;

@@ -1,5 +1,5 @@
 -- The two ends of a run, each with its user.
-use Rattle.std.specs.Prelude.{◌≡◌, ℕ, ◌≤◌, Bool, true, false, ◌&&◌, is_ok, List, [], ◌∷◌, length, Result, Ok, Err}
+use Rattle.std.specs.Prelude.{◌≡◌, ℕ, ◌≤◌, true, is_ok, List, [], ◌∷◌, length, Result, Ok, Err}
 use Rattle.std.specs.List.{concat}
 use Rattle.outside_calls.specs.Folder.{FolderState}
 use Rattle.roles.specs.declared.role.Role.{Role}
@@ -9,12 +9,11 @@ use Rattle.noise_script.specs.Script.{ScriptValue}
 use Rattle.lapm_frames.specs.declared.arrived.Arrived.{Arrived}
 use Rattle.lapm_frames.specs.declared.sent.Sent.{Sent}
 use Rattle.lapm_link.specs.Stands.{undelivered_of}
-use Rattle.causes.specs.declared.fault.LinkFault.{LinkFault}
 use Rattle.link_account.specs.Account.{Account, after_busy}
 use Rattle.link_account.specs.Hear.{hear}
-use Rattle.link_account.specs.Speak.{Said, speak}
-use Rattle.link_run.specs.End.{deliveries, offered, asked, is_busy, is_released, has_finished}
-use Rattle.link_run.specs.Run.{Link as RunLink, Accounts}
+use Rattle.link_account.specs.Speak.{Said}
+use Rattle.link_run.specs.End.{deliveries, offered, asked, is_busy, is_released}
+use Rattle.link_run.specs.Run.{Link as RunLink, Accounts, says_at, BreaksAt}
 use Rattle.line_run.specs.Scripted.{breaks_of, busy_of}
 use Rattle.turn_bound.specs.Limits.{file_limit}
 use Rattle.stations.specs.declared.station.Station.{Station}
@@ -74,10 +73,6 @@ octets_of ends = concat (deliveries ends.orig) ∷ concat (deliveries ends.answ)
 abbrev pub both_ends : (Account → Account) → Accounts → Accounts
 both_ends f ends = record { orig = f ends.orig; answ = f ends.answ }
 
--- both need the link no more
-abbrev pub both_finished : RunLink → ℕ → Accounts → Bool
-both_finished link turn ends = has_finished link.orig.user turn ends.orig && has_finished link.answ.user turn ends.answ
-
 -- what happens to both ends behind their offers
 abbrev pub served_on : ScriptValue → ℕ → Accounts → Accounts
 served_on script turn ends =
@@ -98,18 +93,13 @@ pub record SuppliesBoth (f : FolderState) (n : Written) (l : Link) (files : Both
 pub record SaysBoth (l : Link) (files : Both (List ℕ)) (link : RunLink) (turn : ℕ) (ends : Accounts) (from_orig from_answ : Sent) : Type 0 where
   pub orig : Said
   pub answ : Said
-  pub orig_says : speak turn (both_finished link turn ends) ends.orig ≡ Ok orig
-  pub answ_says : speak turn false ends.answ ≡ Ok answ
+  pub orig_says : says_at link turn ends Originator ≡ Ok orig
+  pub answ_says : says_at link turn ends Answerer ≡ Ok answ
   pub orig_sent : from_orig ≡ orig.sent
   pub answ_sent : from_answ ≡ answ.sent
   pub stands : LinkStands l files (record { orig = orig.account; answ = answ.account })
 
--- an end breaks, the originator first
-abbrev pub BreaksSo : RunLink → ℕ → Accounts → Role → LinkFault → Type 0
-BreaksSo link turn ends Originator fault = speak turn (both_finished link turn ends) ends.orig ≡ Err fault
-BreaksSo link turn ends Answerer fault = (is_ok (speak turn (both_finished link turn ends) ends.orig) ≡ true) × (speak turn false ends.answ ≡ Err fault)
-
 -- what speaking answers
 abbrev pub SpeaksBoth : Link → Both (List ℕ) → RunLink → ℕ → Accounts → Result (Both Sent) Breaking → Type 0
 SpeaksBoth l files link turn ends (Ok sent) = SaysBoth l files link turn ends sent.orig sent.answ
-SpeaksBoth l files link turn ends (Err breaking) = BreaksSo link turn ends breaking.role breaking.fault
+SpeaksBoth l files link turn ends (Err breaking) = BreaksAt link turn ends breaking.role breaking.fault

@@ -12,7 +12,7 @@ ghost use Rattle.lapm_frames.specs.Sendable.{IsSendable};
 ghost use Rattle.link_account.specs.Numbers.{IsNumbered};
 ghost use Rattle.link_account.specs.Account.{Account, fresh, after_given, after_busy, given_break, check_of};
 ghost use Rattle.link_run.specs.End.{delivered, asked, is_busy, is_closed, is_released, has_finished};
-ghost use Rattle.link_run.specs.Run.{Accounts, start};
+ghost use Rattle.link_run.specs.Run.{Accounts, both_finished, start};
 ghost use Rattle.line_run.specs.Scripted.{setup_of, breaks_of, busy_of, party_of, link_of};
 ghost use Rattle.stations.specs.Station.{Stands, IsIdle, IsCounted};
 ghost use Rattle.run_world.specs.Names.{inputs_of, outputs_of, written};
@@ -122,7 +122,7 @@ fn hear_well(station: &mut Station, turn: u64, arrived: &Arrived)
 
 impl Link {
     ghost use Rattle.run_world.specs.declared.link.Link.{Link};
-    ghost use Rattle.run_world.specs.Link.{LinkStands, AreIdle, AreCounted, HaveDelivered, AreWithin, HearsBoth, HearsWell, SuppliesBoth, SpeaksBoth, served_on, both_ends, both_finished, octets_of};
+    ghost use Rattle.run_world.specs.Link.{LinkStands, AreIdle, AreCounted, HaveDelivered, AreWithin, HearsBoth, HearsWell, SuppliesBoth, SpeaksBoth, served_on, both_ends, octets_of};
 
     /// Both ends before their first turn, set up by a script.
     pub fn new(alloc: Global, script: &Script) -> Result<Link, NoMemory>

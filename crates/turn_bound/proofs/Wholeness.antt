@@ -14,7 +14,7 @@ use Rattle.link_account.specs.Account.{Account, is_connected, is_done}
 use Rattle.link_account.specs.Hear.{hear, trying}
 use Rattle.link_account.specs.Speak.{Said, speak, speak_in, speak_linked, speak_releasing}
 use Rattle.link_run.specs.End.{User, is_busy, is_released, has_finished}
-use Rattle.link_run.specs.Run.{Link, Accounts, Turn, GoingTurn, RunOf, arrival, releases, finished_at}
+use Rattle.link_run.specs.Run.{Link, Accounts, Turn, GoingTurn, RunOf, arrival, releases, finished_at, served_ends}
 use Rattle.link_run.specs.Carried.{IsCarried}
 use Rattle.turn_bound.specs.Time.{KeepsTime}
 use Rattle.turn_bound.specs.Advance.{NeverBusy}
@@ -298,8 +298,8 @@ released-whole tries period delay link (t ∷ ts) ends k n (before, run, g) c e 
         (finished-whole (of r link).user turn (served_account (of r link).user turn (is_released g.mid.orig.phase) (of r g.mid))
         (of-both r)))
       where
-        b : (finished_at link turn g.mid Originator ≡ true) × (finished_at link turn g.mid Answerer ≡ true)
-        b = and-both (finished_at link turn g.mid Originator) (finished_at link turn g.mid Answerer) told
+        b : (finished_at link turn (served_ends link turn g.mid) Originator ≡ true) × (finished_at link turn (served_ends link turn g.mid) Answerer ≡ true)
+        b = and-both (finished_at link turn (served_ends link turn g.mid) Originator) (finished_at link turn (served_ends link turn g.mid) Answerer) told
 
         of-both : (q : Role) → has_finished (of q link).user turn
             (served_account (of q link).user turn (is_released g.mid.orig.phase) (of q g.mid)) ≡ true

@@ -27,7 +27,7 @@ use Rattle.link_account.specs.Laws.{MayPlay}
 use Rattle.link_account.specs.Play.{arrives}
 use Rattle.link_account.specs.Speak.{Said, speak, speak_in, speak_linked, speak_releasing, speak_detecting, speak_negotiating}
 use Rattle.link_run.specs.End.{is_busy, is_released, is_closed, is_ready, next_break}
-use Rattle.link_run.specs.Run.{Link, Accounts, Spoken, Turn, RunOf, Hears, BrokenTurn, SpeaksAt, arrival, served_at, said_at, finished_at}
+use Rattle.link_run.specs.Run.{Link, Accounts, Spoken, Turn, RunOf, Hears, BrokenTurn, SpeaksAt, arrival, served_at, said_at, finished_at, served_ends}
 use Rattle.link_run.specs.Run.{releases, spoken}
 use Rattle.link_run.specs.Carried.{Crosses, Carries, IsCarried, has_message, sent_in}
 use Rattle.link_run.specs.Laws.{RunsOver}
@@ -239,7 +239,7 @@ not-either false e = refl
 
 pub told-release : (link : Link) (t : ℕ) (mid : Accounts) → releases link t mid ≡ true → Released link t mid
 told-release link t mid e = go (is_connected a.phase) refl
-    (and-both (finished_at link t mid Originator) (finished_at link t mid Answerer) e).1
+    (and-both (finished_at link t (served_ends link t mid) Originator) (finished_at link t (served_ends link t mid) Answerer) e).1
   where
     a : Account
     a = (served_at link t mid Answerer).account

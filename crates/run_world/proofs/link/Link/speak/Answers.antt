@@ -1,7 +1,7 @@
 use Rattle.std.proofs.Common.{◌≡◌, Bool, false, is_ok, ap, sym, ◌∙◌}
 use Rattle.link_account.specs.Speak.{speak}
 use Rattle.line_run.specs.Scripted.{link_of}
-use Rattle.run_world.specs.Link.{both_finished}
+use Rattle.link_run.specs.Run.{both_finished}
 use Rattle.run_world.proofs.Linking.{Says, broken-so, said-so}
 use Rattle.run_world.proofs.link.Link.speak.Goals as goal
 

@@ -4,7 +4,8 @@ use Rattle.roles.specs.declared.role.Role.TheVariants.{Originator, Answerer}
 use Rattle.noise_script.specs.Script.{ScriptValue, IsInLimits}
 use Rattle.line_run.specs.Scripted.{link_of, longest_of, slot_symbols}
 use Rattle.shared_line.specs.Lines.{ArePut}
-use Rattle.run_world.specs.Link.{SaysBoth, BreaksSo}
+use Rattle.link_run.specs.Run.{BreaksAt}
+use Rattle.run_world.specs.Link.{SaysBoth}
 use Rattle.link_run.specs.Outcomes.{Going, Broken}
 use Rattle.run_world.specs.Names.{written}
 use Rattle.run_world.specs.Mid.{served, turn_in}
@@ -74,7 +75,7 @@ link_fault-requires g c =
     let o = h.stands.overhears in
     let b = broken-turn channel files ts ends c.args.heard mid c.args.self.now.turn c.in-Err.breaking.role c.in-Err.breaking.fault
     h.stands.turn o h.going
-    (subst (λ x. BreaksSo (link_of x files) c.args.self.now.turn (served v files (length ts) mid) c.in-Err.breaking.role c.in-Err.breaking.fault)
+    (subst (λ x. BreaksAt (link_of x files) c.args.self.now.turn (served v files (length ts) mid) c.in-Err.breaking.role c.in-Err.breaking.fault)
     (sym is.script_is) (c.in-Err.ensures.speaks files (served v files (length ts) mid) h.stands.link)) in
     c.each_turn_is_made.ensures.named _ ts ends (turn_in c.args.heard ends mid none-sent) mid c.in-Err.breaking.role c.in-Err.breaking.fault
     (c.scripts_make_links.ensures.ends v files (subst IsInLimits (sym is.script_is) c.requires.limits)) o.run.run b
@@ -130,7 +131,7 @@ returns-in-Ok-write_turn-2-clause-speaks g c = λ channel links streams files ts
     let role = c.in-Err.breaking.role in
     let fault = c.in-Err.breaking.fault in
     let b = broken-turn channel files ts ends c.args.heard mid c.args.self.now.turn role fault h.stands.turn o h.going
-    (subst (λ x. BreaksSo (link_of x files) c.args.self.now.turn (served v files (length ts) mid) c.in-Err.breaking.role c.in-Err.breaking.fault)
+    (subst (λ x. BreaksAt (link_of x files) c.args.self.now.turn (served v files (length ts) mid) c.in-Err.breaking.role c.in-Err.breaking.fault)
     (sym is.script_is) (c.in-Err.ensures.speaks files (served v files (length ts) mid) h.stands.link)) in
     let named = c.each_turn_is_made.ensures.named _ ts ends (turn_in c.args.heard ends mid none-sent) mid role fault
     (c.scripts_make_links.ensures.ends v files (subst IsInLimits (sym is.script_is) c.requires.limits)) o.run.run b in
@@ -154,7 +155,7 @@ returns-in-Ok-write_turn-2-clause-counts g c =
     let o = h.stands.overhears in
     let b = broken-turn channel files ts ends c.args.heard mid c.args.self.now.turn c.in-Err.breaking.role c.in-Err.breaking.fault
     h.stands.turn o h.going
-    (subst (λ x. BreaksSo (link_of x files) c.args.self.now.turn (served v files (length ts) mid) c.in-Err.breaking.role c.in-Err.breaking.fault)
+    (subst (λ x. BreaksAt (link_of x files) c.args.self.now.turn (served v files (length ts) mid) c.in-Err.breaking.role c.in-Err.breaking.fault)
     (sym is.script_is) (c.in-Err.ensures.speaks files (served v files (length ts) mid) h.stands.link)) in
     let named = c.each_turn_is_made.ensures.named _ ts ends
     (turn_in c.args.heard ends mid none-sent) mid c.in-Err.breaking.role c.in-Err.breaking.fault
@@ -173,7 +174,7 @@ returns-in-Err-write_turn-2-clause-speaks g c = λ channel links streams files t
     let role = c.in-Err.breaking.role in
     let fault = c.in-Err.breaking.fault in
     let b = broken-turn channel files ts ends c.args.heard mid c.args.self.now.turn role fault h.stands.turn o h.going
-    (subst (λ x. BreaksSo (link_of x files) c.args.self.now.turn (served v files (length ts) mid) c.in-Err.breaking.role c.in-Err.breaking.fault)
+    (subst (λ x. BreaksAt (link_of x files) c.args.self.now.turn (served v files (length ts) mid) c.in-Err.breaking.role c.in-Err.breaking.fault)
     (sym is.script_is) (c.in-Err.ensures.speaks files (served v files (length ts) mid) h.stands.link)) in
     let text = text-is c.turn_lines-texts-in-Err.result c.args.self.now.turn ts ends mid c.args.heard c.args.given.now
     (record { orig = None; answ = None }) none-sent
