@@ -6,7 +6,7 @@ use Rattle.outside_calls.proofs.Holding.{Holds-kept, Holds-more, Holds-add}
 use Rattle.roles.specs.Both.{Both}
 use Rattle.stations.specs.Station.{file_at}
 use Rattle.turn_bound.specs.Limits.{file_limit}
-use Rattle.run_world.specs.Names.{Written}
+use Rattle.line_run.specs.Names.{Written}
 use Rattle.run_world.specs.World.{KnowsFiles}
 use Rattle.run_world.proofs.Folders.{IsApart}
 use Rattle.program_folders.specs.Audited.{swallowed}

@@ -8,7 +8,7 @@ use Rattle.outside_calls.proofs.Steps.{OnlyReads-trans, octets-kept, told_later}
 use Rattle.roles.specs.Both.{Both}
 use Rattle.noise_script.specs.Script.{ScriptValue}
 use Rattle.turn_bound.specs.Limits.{file_limit}
-use Rattle.run_world.specs.Names.{Written}
+use Rattle.line_run.specs.Names.{Written}
 use Rattle.run_world.specs.World.{KnowsFiles}
 use Rattle.command_base.specs.declared.status.Status.{Status}
 use Rattle.command_base.specs.declared.status.Status.TheVariants as status

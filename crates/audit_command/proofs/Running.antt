@@ -10,7 +10,7 @@ use Rattle.roles.specs.Both.{Both}
 use Rattle.noise_script.specs.Script.{ScriptValue}
 use Rattle.link_run.specs.Run.{Turn, start}
 use Rattle.line_run.specs.Scripted.{link_of}
-use Rattle.run_world.specs.Names.{Written, outputs_of}
+use Rattle.line_run.specs.Names.{Written, outputs_of}
 use Rattle.run_world.specs.World.{KnowsFiles, WorldAfter, script_of, turn_of}
 use Rattle.run_world.specs.declared.world.World.{World}
 use Rattle.run_world.proofs.Folders.{IsApart}

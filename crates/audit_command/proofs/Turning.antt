@@ -17,7 +17,7 @@ use Rattle.line_run.specs.Ends.{RunEnd, Left, Leaves, RunsTo, EndsBy, EndsInTurn
 use Rattle.line_run.specs.Ends as runs
 use Rattle.line_run.specs.Scripted.{wire_of, link_of}
 use Rattle.line_run.specs.Stream.{both_sent_by}
-use Rattle.run_world.specs.Names.{Written, outputs_of}
+use Rattle.line_run.specs.Names.{Written, outputs_of}
 use Rattle.run_world.specs.World.{KnowsFiles, script_of, turn_of}
 use Rattle.run_world.specs.Turn.{GoesOnBy, LosesLine, MeetsChance, TurnAnswers, TurnCounts}
 use Rattle.run_world.specs.Turn as turns

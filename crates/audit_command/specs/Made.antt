@@ -1,6 +1,6 @@
 -- The names that the turns of an audit use.
 use Rattle.std.specs.Prelude.{ℕ, List, [], ◌∷◌, string_bytes}
-use Rattle.run_world.specs.Names.{Written}
+use Rattle.line_run.specs.Names.{Written}
 use Rattle.audit_command.specs.declared.names.MadeNames.{MadeNames}
 
 -- the names of the outputs

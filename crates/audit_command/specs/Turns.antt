@@ -9,7 +9,7 @@ use Rattle.link_run.specs.Run.{Accounts, Turn}
 use Rattle.line_run.specs.Ends.{RunEnd, Left, RunsTo}
 use Rattle.line_run.specs.Scripted.{wire_of, link_of}
 use Rattle.line_run.specs.Stream.{both_sent_by}
-use Rattle.run_world.specs.Names.{Written, outputs_of}
+use Rattle.line_run.specs.Names.{Written, outputs_of}
 use Rattle.run_world.specs.Link.{AreWithin}
 use Rattle.run_world.specs.World.{KnowsFiles, WorldAfter, script_of, modems_of, lines_of}
 use Rattle.run_world.specs.Turn.{TurnAnswers, TurnCounts}

@@ -1,7 +1,7 @@
 // Names for what a run writes, which is nothing that an audit keeps.
 ghost use Rattle.std.specs.Prelude.{◌≡◌, ◌+◌, ◌∷◌, [], IfOk, length, string_bytes};
 ghost use Rattle.outside_calls.specs.Outputs.{AreApartFrom};
-ghost use Rattle.run_world.specs.Names.{written};
+ghost use Rattle.line_run.specs.Names.{written};
 ghost use Rattle.audit_command.specs.Made.{names_written};
 
 use crate::AuditWords;

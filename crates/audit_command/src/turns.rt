@@ -6,7 +6,7 @@ ghost use Rattle.roles.specs.Both.{Both};
 ghost use Rattle.link_run.specs.Run.{start};
 ghost use Rattle.line_run.specs.Scripted.{link_of};
 ghost use Rattle.command_base.specs.Stops.{EndCounts};
-ghost use Rattle.run_world.specs.Names.{inputs_of, outputs_of, written};
+ghost use Rattle.line_run.specs.Names.{inputs_of, outputs_of, written};
 ghost use Rattle.run_world.specs.World.{IsReady, WorldAfter, script_of, turn_of};
 ghost use Rattle.readable_runs.specs.Readable.{AsksInOctets};
 ghost use Rattle.audit_command.specs.Turns.{AreCompared, IsReading, RunIs, audit_inputs, found_end};

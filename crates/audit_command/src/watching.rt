@@ -3,7 +3,7 @@ ghost use Rattle.std.specs.Prelude.{◌≡◌, ◌+◌, [], List, ℕ, IfOk, IfE
 ghost use Rattle.outside_calls.specs.Folder.{OnlyReads};
 ghost use Rattle.outside_calls.specs.Outputs.{AreApartFrom};
 ghost use Rattle.command_base.specs.Stops.{EndCounts};
-ghost use Rattle.run_world.specs.Names.{inputs_of, outputs_of, written};
+ghost use Rattle.line_run.specs.Names.{inputs_of, outputs_of, written};
 ghost use Rattle.run_world.specs.World.{IsReady, script_of, turn_of};
 ghost use Rattle.run_world.specs.Turn.{turns_made};
 ghost use Rattle.readable_runs.specs.Readable.{AsksInOctets};

@@ -118,7 +118,7 @@ taps-leave laws m tapes old new was then n end r is ran told of-run sound comple
     by (inr none) = inr none
     by (inl a) = inl (record {
       answer = a.answer;
-      got_o = alike new then m.got_o n.got_o _ ran.left.got.orig (sym (passed Originator)) ran.got.got_o a.holds.0;
-      got_a = alike new then m.got_a n.got_a _ ran.left.got.answ (sym (passed Answerer)) ran.got.got_a a.holds.1.0;
-      trace = alike new then m.trace n.trace ran.left.trace ran.left.trace refl ran.trace a.holds.1.1.0;
+      got_o = alike new then m.names.got_o n.got_o _ ran.left.got.orig (sym (passed Originator)) ran.got.got_o a.holds.0;
+      got_a = alike new then m.names.got_a n.got_a _ ran.left.got.answ (sym (passed Answerer)) ran.got.got_a a.holds.1.0;
+      trace = alike new then m.names.trace n.trace ran.left.trace ran.left.trace refl ran.trace a.holds.1.1.0;
     })

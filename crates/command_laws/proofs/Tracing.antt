@@ -49,18 +49,18 @@ module _ (one : ScriptsAreOne) (old mid new : FolderState) (n : RunNames) (r s :
       let spelled : ScriptSpelling (octets_at mid n.script) e.script =
       subst (λ (o : List ℕ). ScriptSpelling o e.script) (sym text) (e.are_of.script_is (was n.script right.script_told)) in
       let is : e.script ≡ script = one (octets_at mid n.script) e.script script spelled right.spelled in
-      let orig : e.files.orig ≡ octets_at mid n.orig =
-      e.are_of.orig_is (was n.orig right.orig_told) ∙ sym (kept n.orig (λ output a. a.0) right.orig_told) in
-      let answ : e.files.answ ≡ octets_at mid n.answ =
-      e.are_of.answ_is (was n.answ right.answ_told) ∙ sym (kept n.answ (λ output a. a.1.0) right.answ_told) in
+      let orig : e.files.orig ≡ octets_at mid n.names.orig =
+      e.are_of.orig_is (was n.names.orig right.orig_told) ∙ sym (kept n.names.orig (λ output a. a.0) right.orig_told) in
+      let answ : e.files.answ ≡ octets_at mid n.names.answ =
+      e.are_of.answ_is (was n.names.answ right.answ_told) ∙ sym (kept n.names.answ (λ output a. a.1.0) right.answ_told) in
       let over : RunsTo (wire_of script) (link_of script e.files) end e.left =
       subst (λ (x : ScriptValue). RunsTo (wire_of x) (link_of x e.files) end e.left) is e.run in
-      let of-orig : RunsTo (wire_of script) (link_of script (record { orig = octets_at mid n.orig; answ = e.files.answ })) end e.left =
+      let of-orig : RunsTo (wire_of script) (link_of script (record { orig = octets_at mid n.names.orig; answ = e.files.answ })) end e.left =
       subst (λ (o : List ℕ). RunsTo (wire_of script) (link_of script (record { orig = o; answ = e.files.answ })) end e.left) orig over in
       let of-both : InputsRunTo mid (audit_of n) script end e.left =
-      subst (λ (w : List ℕ). RunsTo (wire_of script) (link_of script (record { orig = octets_at mid n.orig; answ = w })) end e.left)
+      subst (λ (w : List ℕ). RunsTo (wire_of script) (link_of script (record { orig = octets_at mid n.names.orig; answ = w })) end e.left)
       answ of-orig in
-      completes.yes sound script right end e.left of-both (octets-held mid n.trace e.left.trace (e.trace right.trace_told))
+      completes.yes sound script right end e.left of-both (octets-held mid n.names.trace e.left.trace (e.trace right.trace_told))
 
 by-answer : ScriptsAreOne → ApartNames → (old mid new : FolderState) (n : RunNames) (ran s : Status) (script : ScriptValue)
     → are_apart (inputs_of n) (outputs_of n) ≡ true → ((name : List ℕ) → mid.tells name ≡ old.tells name)

@@ -17,10 +17,10 @@ use Rattle.tap_command.specs.Completes.{Completes}
 -- The files and the script of a run are told before it, and the script is short enough.
 pub record AreTold (f : FolderState) (m : RunNames) : Type 0 where
   pub script : IsTrue (f.tells m.script)
-  pub orig : IsTrue (f.tells m.orig)
-  pub orig_octets : AreOctets (octets_at f m.orig)
-  pub answ : IsTrue (f.tells m.answ)
-  pub answ_octets : AreOctets (octets_at f m.answ)
+  pub orig : IsTrue (f.tells m.names.orig)
+  pub orig_octets : AreOctets (octets_at f m.names.orig)
+  pub answ : IsTrue (f.tells m.names.answ)
+  pub answ_octets : AreOctets (octets_at f m.names.answ)
 
 -- A tap's inputs are what a run left in its recordings, and its script: `old` and `new` are the folders before and behind the run, `was` the one
 -- before the tap. All are told, and no recording is longer than a tap reads.
@@ -44,9 +44,9 @@ LeftAlike f name g other = IsTrue (f.tells name) → IsTrue (g.tells other) → 
 -- The tap answers by the run's end, and leaves what the run left.
 pub record LeavesTheSame (m : RunNames) (new then : FolderState) (n : TapNames) (end : RunEnd) (r : Status) : Type 0 where
   pub answer : r ≡ answer_of (told_end end)
-  pub got_o : LeftAlike new m.got_o then n.got_o
-  pub got_a : LeftAlike new m.got_a then n.got_a
-  pub trace : LeftAlike new m.trace then n.trace
+  pub got_o : LeftAlike new m.names.got_o then n.got_o
+  pub got_a : LeftAlike new m.names.got_a then n.got_a
+  pub trace : LeftAlike new m.names.trace then n.trace
 
 -- Of a recorded run, however it ended by itself, a tap over a sound folder tells what it left: to which names, and in which folder, is all the same.
 abbrev pub TapsLeaveWhatRunsLeft : Type 0

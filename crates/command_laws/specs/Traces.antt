@@ -14,7 +14,7 @@ use Rattle.audit_command.specs.Completes.{AreRight, Completes}
 
 -- the names of an audit of what a run of these names leaves
 abbrev pub audit_of : RunNames → AuditNames
-audit_of n = record { orig = n.orig; answ = n.answ; script = n.script; trace = n.trace }
+audit_of n = record { orig = n.names.orig; answ = n.names.answ; script = n.script; trace = n.names.trace }
 
 -- the answers by which a run itself ends
 abbrev pub IsRunEnd : Status → Type 0

@@ -1,4 +1,5 @@
 pub mod Sampled
+pub mod Names
 pub mod Recorded
 pub mod Stream
 pub mod Scripted

@@ -3,3 +3,6 @@
 #![tactic(auto)]
 
 pub mod laws;
+mod names;
+
+pub use names::Names;

@@ -7,7 +7,7 @@ use Rattle.outside_calls.proofs.Putting.{SomeRose-earlier}
 use Rattle.outside_calls.specs.Folder.{Rose}
 use Rattle.link_run.specs.Run.{start}
 use Rattle.line_run.specs.Scripted.{link_of}
-use Rattle.run_world.specs.Names.{Written}
+use Rattle.line_run.specs.Names.{Written}
 use Rattle.run_world.proofs.Reached.{files_at, knows-told}
 use Rattle.pair_run.specs.Pair.{Goes}
 use Rattle.pair_run.specs.Ends.{First}

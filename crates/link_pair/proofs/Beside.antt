@@ -8,7 +8,7 @@ use Rattle.outside_calls.proofs.Putting.{HoldEach-kept}
 use Rattle.roles.specs.Both.{Both}
 use Rattle.turn_bound.specs.Limits.{file_limit}
 use Rattle.stations.specs.Station.{file_at}
-use Rattle.run_world.specs.Names.{Written, inputs_of, outputs_of}
+use Rattle.line_run.specs.Names.{Written, inputs_of, outputs_of}
 use Rattle.run_world.specs.Turns.{held_of}
 use Rattle.run_world.specs.World.{KnowsFiles}
 use Rattle.pair_run.specs.Pair.{Progress}

@@ -31,7 +31,7 @@ use Rattle.run_world.specs.declared.step.Step.{Step}
 use Rattle.run_world.specs.declared.step.Step.TheVariants as steps
 use Rattle.run_world.specs.declared.step.RunFault.{RunFault}
 use Rattle.run_world.specs.declared.step.RunFault.TheVariants as run_faults
-use Rattle.run_world.specs.Names.{Written, outputs_of}
+use Rattle.line_run.specs.Names.{Written, outputs_of}
 use Rattle.run_world.specs.Link.{AreWithin, octets_of}
 use Rattle.run_world.specs.Modems.{AreKept, AreReady, ModemsAfter}
 use Rattle.run_world.specs.Turn.{added, GoesOnBy, LosesLine, MeetsChance, StopsInTurn, StopsAtChance, StopsReading, Stops, TurnAnswers}

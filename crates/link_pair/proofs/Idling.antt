@@ -27,7 +27,7 @@ use Rattle.line_run.specs.Scripted.{wire_at, link_of}
 use Rattle.line_run.specs.Stream.{Carried, and_sent}
 use Rattle.shared_line.specs.Lines.{LinesWait, ArrivesBoth, ArePut}
 use Rattle.shared_line.specs.declared.lines.Lines.{Lines}
-use Rattle.run_world.specs.Names.{Written, inputs_of, outputs_of, received_of}
+use Rattle.line_run.specs.Names.{Written, inputs_of, outputs_of, received_of}
 use Rattle.run_world.specs.Turns.{held_of}
 use Rattle.run_world.specs.World.{KnowsFiles}
 use Rattle.run_world.proofs.Folders.{IsApart, receives-none, lines-only}

@@ -17,7 +17,7 @@ use Rattle.shared_line.specs.Lines.{LinesWait, AreDue, PassedFew, from}
 use Rattle.shared_line.specs.declared.lines.Lines.{Lines}
 use Rattle.shared_line.proofs.Waiting.{passed-few}
 use Rattle.run_world.specs.declared.modems.Modems.{Modems}
-use Rattle.run_world.specs.Names.{Written}
+use Rattle.line_run.specs.Names.{Written}
 use Rattle.run_world.specs.Link.{AreWithin}
 use Rattle.pair_run.specs.Beside.{first_dlci, second_dlci, slot_in, after_second, after_first, first_wire, second_wire}
 use Rattle.pair_run.specs.Pair.{Progress, Goes, Ended, turns_in, turns_on_line, Lasts, PairAt}

@@ -16,7 +16,7 @@ use Rattle.line_run.specs.Sampled as lines
 use Rattle.line_run.specs.Scripted.{wire_at, link_of}
 use Rattle.shared_line.specs.Lines.{LinesWait}
 use Rattle.shared_line.specs.declared.lines.Lines.{Lines}
-use Rattle.run_world.specs.Names.{Written, outputs_of}
+use Rattle.line_run.specs.Names.{Written, outputs_of}
 use Rattle.pair_run.specs.Beside.{first_dlci, second_dlci, after_second, after_first, first_wire, second_wire}
 use Rattle.pair_run.specs.Pair.{Progress, Goes, Ended, turns_in, Lasts, PairAt}
 use Rattle.pair_run.specs.Ends.{Which, First, Second, is_going, LeavesOf, BothEnd, LineEnds, by_links, by_line}

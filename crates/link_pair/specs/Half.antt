@@ -23,7 +23,7 @@ use Rattle.run_world.specs.declared.step.Step.{Step}
 use Rattle.run_world.specs.declared.step.Step.TheVariants as steps
 use Rattle.run_world.specs.declared.step.RunFault.{RunFault}
 use Rattle.run_world.specs.declared.step.RunFault.TheVariants as run_faults
-use Rattle.run_world.specs.Names.{Written, outputs_of}
+use Rattle.line_run.specs.Names.{Written, outputs_of}
 use Rattle.run_world.specs.Link.{LinkStands}
 use Rattle.run_world.specs.Modems.{AreKept, has_turns}
 use Rattle.run_world.specs.Tally.{Tallies}

@@ -11,7 +11,7 @@ use Rattle.line_run.specs.Ends.{Left}
 use Rattle.line_run.specs.Scripted.{link_of}
 use Rattle.line_run.specs.Stream.{Carried}
 use Rattle.shared_line.specs.Lines.{LinesWait, none_sent}
-use Rattle.run_world.specs.Names.{Written, outputs_of, written}
+use Rattle.line_run.specs.Names.{Written, outputs_of, written}
 use Rattle.run_world.specs.Turns.{held_of}
 use Rattle.run_world.specs.World.{KnowsFiles}
 use Rattle.pair_run.specs.Beside.{first_dlci, second_dlci, first_wire, second_wire}

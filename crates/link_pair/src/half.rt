@@ -10,7 +10,7 @@ ghost use Rattle.line_run.specs.Stream.{Carried, and_sent};
 ghost use Rattle.outside_calls.specs.Folder.{Appended, PartlyAppended, OnlyWrites};
 ghost use Rattle.outside_calls.specs.Outputs.{AreApartFrom, OnlyPuts};
 ghost use Rattle.shared_line.specs.Lines.{LinesWait, HaveArrived};
-ghost use Rattle.run_world.specs.Names.{inputs_of, outputs_of, written};
+ghost use Rattle.line_run.specs.Names.{inputs_of, outputs_of, written};
 ghost use Rattle.pair_run.specs.Beside.{idle_turn};
 ghost use Rattle.pair_run.specs.Pair.{Progress};
 ghost use Rattle.link_pair.specs.Counts.{CountsBy, IsWriting, writing_fault};

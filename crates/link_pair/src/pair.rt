@@ -3,7 +3,7 @@ ghost use Rattle.std.specs.Prelude.{◌≡◌, ℕ, ◌+◌, Ok, Some, None, Opt
 ghost use Rattle.outside_calls.specs.Folder.{FolderState};
 ghost use Rattle.outside_calls.specs.Outputs.{AreApartFrom, Creates, OnlyPuts};
 ghost use Rattle.roles.specs.Both.{Both};
-ghost use Rattle.run_world.specs.Names.{written};
+ghost use Rattle.line_run.specs.Names.{written};
 ghost use Rattle.pair_run.specs.Beside.{first_dlci, second_dlci};
 ghost use Rattle.pair_run.specs.Ends.{First, Second};
 ghost use Rattle.link_pair.specs.Counts.{CountsBy};

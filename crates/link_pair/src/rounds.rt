@@ -1,7 +1,7 @@
 // Rounds, up to the end of a pair.
 ghost use Rattle.std.specs.Prelude.{◌≡◌, IfOk, IfErr};
 ghost use Rattle.outside_calls.specs.Outputs.{AreApartFrom, Creates, OnlyPuts};
-ghost use Rattle.run_world.specs.Names.{written};
+ghost use Rattle.line_run.specs.Names.{written};
 ghost use Rattle.link_pair.specs.Counts.{CountsBy};
 ghost use Rattle.link_pair.specs.Pair.{FaultEnds, HaveEnded, IsFirst, inputs_in, outputs_in, script_of};
 

@@ -26,8 +26,8 @@ use Rattle.command_base.proofs.Jobs.{Comes, is_done, is_own, is_memory, comes-to
 use Rattle.run_inputs.specs.declared.limits.TheConstants.{LIMITS}
 use Rattle.run_inputs.specs.Inputs.{RefusesOwn}
 use Rattle.run_inputs.specs.Lengths.{IsFirstLong}
-use Rattle.run_world.specs.Names.{Written}
-use Rattle.run_world.specs.Names as written
+use Rattle.line_run.specs.Names.{Written}
+use Rattle.line_run.specs.Names as written
 use Rattle.run_world.specs.Turns.{held_of}
 use Rattle.run_command.specs.Completes.{NamesFew, IsUndisturbed}
 use Rattle.pair_run.specs.Beside.{first_wire, second_wire}

@@ -28,8 +28,8 @@ use Rattle.command_base.proofs.Answering.{IsPlain}
 use Rattle.command_base.proofs.Jobs.{last-only, last-plain, done-of, shared-of}
 use Rattle.run_inputs.specs.declared.limits.TheConstants.{LIMITS}
 use Rattle.run_inputs.specs.Inputs.{RefusesOwn}
-use Rattle.run_world.specs.Names.{Written}
-use Rattle.run_world.specs.Names as written
+use Rattle.line_run.specs.Names.{Written}
+use Rattle.line_run.specs.Names as written
 use Rattle.run_world.specs.Turns.{held_of}
 use Rattle.run_command.specs.Headline.{HoldsWhole}
 use Rattle.run_command.specs.ReadOff.{AreReadOff}

@@ -22,8 +22,8 @@ use Rattle.command_base.proofs.Jobs.{last-only, done-of}
 use Rattle.run_inputs.specs.declared.limits.TheConstants.{LIMITS}
 use Rattle.run_inputs.specs.Words.{RunNames}
 use Rattle.run_inputs.specs.Words as alone
-use Rattle.run_world.specs.Names.{Written}
-use Rattle.run_world.specs.Names as written
+use Rattle.line_run.specs.Names.{Written}
+use Rattle.line_run.specs.Names as written
 use Rattle.run_world.specs.Turns.{held_of}
 use Rattle.run_command.specs.Ends.{run_job}
 use Rattle.run_command.specs.Ends as run_ends

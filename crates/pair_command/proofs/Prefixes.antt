@@ -21,8 +21,8 @@ use Rattle.line_run.specs.Scripted.{link_of}
 use Rattle.command_base.specs.declared.stop.Stop.{Stop}
 use Rattle.command_base.specs.declared.stop.Stop.TheVariants as stops
 use Rattle.run_inputs.specs.declared.limits.TheConstants.{LIMITS}
-use Rattle.run_world.specs.Names.{Written}
-use Rattle.run_world.specs.Names as written
+use Rattle.line_run.specs.Names.{Written}
+use Rattle.line_run.specs.Names as written
 use Rattle.run_world.specs.Turns.{AddsTurn, held_of}
 use Rattle.run_command.specs.Headline.{KeptOrPrefix}
 use Rattle.run_command.proofs.Prefixes.{RunLaws, prefix-of, part-of, empty-of}

@@ -10,7 +10,7 @@ use Rattle.link_run.specs.Run.{Link}
 use Rattle.line_run.specs.Sampled.{Wire}
 use Rattle.line_run.specs.Scripted.{link_of}
 use Rattle.line_run.specs.Scripts.{LineRunsEndSoon}
-use Rattle.run_world.specs.Names.{Written}
+use Rattle.line_run.specs.Names.{Written}
 use Rattle.run_world.specs.World.{KnowsFiles}
 use Rattle.command_base.specs.declared.stop.Stop.{Stop}
 use Rattle.command_base.specs.declared.stop.Stop.TheVariants as stops

@@ -14,8 +14,8 @@ use Rattle.line_ends.specs.Completes.{IsQuiet}
 use Rattle.command_base.specs.declared.status.Status.{Status}
 use Rattle.command_base.specs.declared.status.Status.TheVariants.{NoMemory}
 use Rattle.command_base.specs.Sound.{IsSound, DoneUnlessMemory}
-use Rattle.run_world.specs.Names.{Written}
-use Rattle.run_world.specs.Names as written
+use Rattle.line_run.specs.Names.{Written}
+use Rattle.line_run.specs.Names as written
 use Rattle.run_world.specs.Turns.{held_of}
 use Rattle.run_command.specs.Completes.{NamesFew, IsUndisturbed}
 use Rattle.pair_run.specs.Beside.{first_wire, second_wire}

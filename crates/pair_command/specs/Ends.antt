@@ -11,7 +11,7 @@ use Rattle.line_run.specs.Sampled.{Wire}
 use Rattle.line_run.specs.Scripted.{link_of}
 use Rattle.line_run.specs.Scripts.{HasFewTurns}
 use Rattle.run_world.specs.Link.{AreWithin}
-use Rattle.run_world.specs.Names.{Written}
+use Rattle.line_run.specs.Names.{Written}
 use Rattle.command_base.specs.declared.stop.Stop.{Stop}
 use Rattle.command_base.specs.declared.stop.Stop.TheVariants.{Own, Read, Write, Say, NoMemory}
 use Rattle.command_base.specs.Inputs.{IsWithin}

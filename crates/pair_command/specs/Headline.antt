@@ -17,7 +17,7 @@ use Rattle.command_base.specs.declared.status.Status.{Status}
 use Rattle.command_base.specs.declared.status.Status.TheVariants as status
 use Rattle.command_base.specs.Job.{Shared}
 use Rattle.command_base.specs.Lines.{both_done_line}
-use Rattle.run_world.specs.Names.{Written}
+use Rattle.line_run.specs.Names.{Written}
 use Rattle.run_command.specs.Headline.{KeptOrPrefix, HoldsWhole}
 use Rattle.run_command.specs.ReadOff.{AreReadOff}
 use Rattle.pair_run.specs.Beside.{first_wire, second_wire}

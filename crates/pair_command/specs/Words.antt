@@ -3,7 +3,7 @@ use Rattle.std.specs.Prelude.{ℕ, ◌&&◌, List, [], ◌∷◌, ◌++◌, Opti
 use Rattle.std.specs.Str.{bytes_eq}
 use Rattle.command_base.specs.Apart.{are_apart}
 use Rattle.run_inputs.specs.Words.{RunNames}
-use Rattle.run_world.specs.Names.{Written, written}
+use Rattle.line_run.specs.Names.{Written, written}
 use Rattle.pair_run.specs.Ends.{Which, First, Second}
 use Rattle.link_pair.specs.Pair.{all_inputs, all_outputs}
 use Rattle.pair_command.specs.declared.words.PairWords.{PairWords}
@@ -45,6 +45,4 @@ link_names Second n = n.second
 
 -- the names of a run of that link alone
 abbrev pub run_of : Which → Names → RunNames
-run_of which n =
-    let w : Written = link_names which n in
-    record { orig = w.orig; answ = w.answ; script = n.script; got_o = w.got_o; got_a = w.got_a; trace = w.trace; tapes = None }
+run_of which n = record { names = link_names which n; script = n.script; tapes = None }

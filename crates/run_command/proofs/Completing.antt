@@ -47,10 +47,10 @@ never-refused law old n script (TooLong word) r (inl s) =
     script-fits (length (octets_at old n.script)) r.script_short (s.longer r.script_told)
 never-refused law old n script (TooLong word) r (inr f) = by f.first
   where
-    by : (((word ≡ 1) × IsLonger old n.orig LIMITS.file)
-        ⊎ (IsWithin old n.orig LIMITS.file × (((word ≡ 2) × IsLonger old n.answ LIMITS.file) ⊎ (IsWithin old n.answ LIMITS.file × ⊥)))) → ⊥
-    by (inl o) = file-fits (length (octets_at old n.orig)) r.orig_short (o.1 r.orig_told)
-    by (inr (w, inl a)) = file-fits (length (octets_at old n.answ)) r.answ_short (a.1 r.answ_told)
+    by : (((word ≡ 1) × IsLonger old n.names.orig LIMITS.file)
+        ⊎ (IsWithin old n.names.orig LIMITS.file × (((word ≡ 2) × IsLonger old n.names.answ LIMITS.file) ⊎ (IsWithin old n.names.answ LIMITS.file × ⊥)))) → ⊥
+    by (inl o) = file-fits (length (octets_at old n.names.orig)) r.orig_short (o.1 r.orig_told)
+    by (inr (w, inl a)) = file-fits (length (octets_at old n.names.answ)) r.answ_short (a.1 r.answ_told)
     by (inr (w, inr a)) = a.1
 never-refused law old n script (BadScript line cause) r s = law (octets_at old n.script) script line cause r.spelled (s.first r.script_told)
 never-refused law old n script answer r never = never
@@ -73,8 +73,8 @@ carried-so : ScriptsAreOne → (old before : FolderState) (n : RunNames) (script
     → IsCarried script (files_at old n) → (e : RanTo LIMITS old before n end) → IsCarried e.script e.files
 carried-so law old before n script end r c e =
     let same : script ≡ e.script = law (octets_at old n.script) script e.script r.spelled (e.takes.opens.reads.spelled r.script_told) in
-    let at-orig : IsCarried script (record { orig = e.files.orig; answ = octets_at old n.answ }) =
-    subst (λ (o : List ℕ). IsCarried script (record { orig = o; answ = octets_at old n.answ })) (sym (e.takes.orig r.orig_told)) c in
+    let at-orig : IsCarried script (record { orig = e.files.orig; answ = octets_at old n.names.answ }) =
+    subst (λ (o : List ℕ). IsCarried script (record { orig = o; answ = octets_at old n.names.answ })) (sym (e.takes.orig r.orig_told)) c in
     let at-files : IsCarried script e.files =
     subst (λ (a : List ℕ). IsCarried script (record { orig = e.files.orig; answ = a })) (sym (e.takes.answ r.answ_told)) at-orig in
     subst (λ (s : ScriptValue). IsCarried s e.files) same at-files
@@ -179,10 +179,10 @@ inputs-run : ScriptsAreOne → (old before : FolderState) (n : RunNames) (script
     → (e : RanTo LIMITS old before n found) → ScriptRunsTo script (files_at old n) found e.left
 inputs-run law old before n script found r e =
     let same : script ≡ e.script = law (octets_at old n.script) script e.script r.spelled (e.takes.opens.reads.spelled r.script_told) in
-    let at-orig : ScriptRunsTo e.script (record { orig = octets_at old n.orig; answ = e.files.answ }) found e.left =
+    let at-orig : ScriptRunsTo e.script (record { orig = octets_at old n.names.orig; answ = e.files.answ }) found e.left =
     subst (λ (o : List ℕ). ScriptRunsTo e.script (record { orig = o; answ = e.files.answ }) found e.left) (e.takes.orig r.orig_told) e.run in
     let at-files : ScriptRunsTo e.script (files_at old n) found e.left =
-    subst (λ (a : List ℕ). ScriptRunsTo e.script (record { orig = octets_at old n.orig; answ = a }) found e.left)
+    subst (λ (a : List ℕ). ScriptRunsTo e.script (record { orig = octets_at old n.names.orig; answ = a }) found e.left)
     (e.takes.answ r.answ_told) at-orig in
     subst (λ (s : ScriptValue). ScriptRunsTo s (files_at old n) found e.left) (sym same) at-files
 

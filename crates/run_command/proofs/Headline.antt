@@ -43,13 +43,13 @@ prefix-later old before new got sent g k (inr h) = inr (λ ts tg. let p = h ts t
 -- a run that is done
 whole-of : RunLaws → (old before new : FolderState) (n : RunNames) (turn : ℕ) → GoesOn old before → KeepsAll before new
     → RanTo LIMITS old before n (runs.IsDone turn)
-    → HoldsWhole old new n.got_o n.answ × HoldsWhole old new n.got_a n.orig
+    → HoldsWhole old new n.names.got_o n.names.answ × HoldsWhole old new n.names.got_a n.names.orig
 whole-of laws old before new n turn g kept e =
     let w =
     laws.whole (wire_of e.script) (link_of e.script e.files) turn e.left (may-run laws e.script e.files e.takes.limits) e.run in (
-      (λ ts tg. kept n.got_o (told_later g n.got_o tg) ∙ e.holds.0 (told_later g n.got_o tg)
+      (λ ts tg. kept n.names.got_o (told_later g n.names.got_o tg) ∙ e.holds.0 (told_later g n.names.got_o tg)
           ∙ ap Some (w Originator ∙ e.takes.answ ts)),
-      (λ ts tg. kept n.got_a (told_later g n.got_a tg) ∙ e.holds.1.0 (told_later g n.got_a tg) ∙ ap Some (w Answerer ∙ e.takes.orig ts)),
+      (λ ts tg. kept n.names.got_a (told_later g n.names.got_a tg) ∙ e.holds.1.0 (told_later g n.names.got_a tg) ∙ ap Some (w Answerer ∙ e.takes.orig ts)),
     )
 
 -- a run that ended by itself
@@ -70,12 +70,12 @@ ran-of laws old before new n end last e =
       heard_is = refl;
       read_off = run-read laws.least c link e.run.turns e.run.ends end e.left e.run.run e.run.ended;
       got = record {
-        got_o = Holds-kept before new n.got_o (taken_octets (agreed_srej link) (delay_of e.script) Originator heard) last.goes_on
-            (subst (Holds before n.got_o) (passed Originator) e.holds.0) (last.names n.got_o tt);
-        got_a = Holds-kept before new n.got_a (taken_octets (agreed_srej link) (delay_of e.script) Answerer heard) last.goes_on
-            (subst (Holds before n.got_a) (passed Answerer) e.holds.1.0) (last.names n.got_a tt);
+        got_o = Holds-kept before new n.names.got_o (taken_octets (agreed_srej link) (delay_of e.script) Originator heard) last.goes_on
+            (subst (Holds before n.names.got_o) (passed Originator) e.holds.0) (last.names n.names.got_o tt);
+        got_a = Holds-kept before new n.names.got_a (taken_octets (agreed_srej link) (delay_of e.script) Answerer heard) last.goes_on
+            (subst (Holds before n.names.got_a) (passed Answerer) e.holds.1.0) (last.names n.names.got_a tt);
       };
-      trace = Holds-kept before new n.trace e.left.trace last.goes_on e.holds.1.1.0 (last.names n.trace tt);
+      trace = Holds-kept before new n.names.trace e.left.trace last.goes_on e.holds.1.1.0 (last.names n.names.trace tt);
       taped = tapes-last before new n.tapes c e.run.turns last e.taped;
       few = laws.soon c e.files e.run.turns e.run.ends e.takes.limits e.run.run;
       cause = laws.causes c e.files end e.left e.takes.limits e.run;
@@ -143,8 +143,8 @@ pub headline-of : RunLaws → (words : List (List ℕ)) (old new : FolderState) 
     → Answers (run_job n) words old new s → Headline old new n s
 headline-of laws words old new n s a = record {
   shared = shared-of (run_job n) words old new s a (λ e. e.0.0);
-  got_o = prefix-later old a.before new n.got_o n.answ a.only.goes_on (kept n.got_o) both.got_o;
-  got_a = prefix-later old a.before new n.got_a n.orig a.only.goes_on (kept n.got_a) both.got_a;
+  got_o = prefix-later old a.before new n.names.got_o n.names.answ a.only.goes_on (kept n.names.got_o) both.got_o;
+  got_a = prefix-later old a.before new n.names.got_a n.names.orig a.only.goes_on (kept n.names.got_a) both.got_a;
   whole_o = λ e. let d = done-of (run_job n) words old new s a e in
       (whole-of laws old a.before new n d.done a.only.goes_on kept d.ends.0).0;
   whole_a = λ e. let d = done-of (run_job n) words old new s a e in

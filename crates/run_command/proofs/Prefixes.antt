@@ -32,7 +32,6 @@ use Rattle.run_inputs.specs.declared.limits.TheConstants.{LIMITS}
 use Rattle.run_inputs.specs.Words.{RunNames, texts_of, outputs_of}
 use Rattle.run_world.specs.Turns.{AddsTurn, AddsChance, StopsAfter, held_of}
 use Rattle.outside_calls.specs.Outputs.{HoldPart}
-use Rattle.run_command.specs.Names.{names_written}
 use Rattle.run_command.specs.Ends.{RanTo, StopsInTurn, StopsHeading, RanBy, EndsBy, Ends as EndsSo}
 use Rattle.run_command.specs.Headline.{KeptOrPrefix}
 
@@ -92,8 +91,8 @@ empty-of old before got sent g (inr h) = inr (λ ts tg. ([], h (told_later g got
 
 -- both received files
 pub record BothPrefix (old before : FolderState) (n : RunNames) : Type 0 where
-  pub got_o : KeptOrPrefix old before n.got_o n.answ
-  pub got_a : KeptOrPrefix old before n.got_a n.orig
+  pub got_o : KeptOrPrefix old before n.names.got_o n.names.answ
+  pub got_a : KeptOrPrefix old before n.names.got_a n.names.orig
 
 -- the run ended by itself
 both-ran : RunLaws → (old before : FolderState) (n : RunNames) (end : RunEnd) → GoesOn old before → RanTo LIMITS old before n end
@@ -102,9 +101,9 @@ both-ran laws old before n end g e =
     let c = wire_of e.script in
     let link = link_of e.script e.files in
     let may = may-run laws e.script e.files e.takes.limits in record {
-      got_o = prefix-of old before n.got_o n.answ e.files.answ e.left.got.orig g e.takes.answ e.holds.0
+      got_o = prefix-of old before n.names.got_o n.names.answ e.files.answ e.left.got.orig g e.takes.answ e.holds.0
           (laws.prefixes c link end e.left may e.run Originator);
-      got_a = prefix-of old before n.got_a n.orig e.files.orig e.left.got.answ g e.takes.orig e.holds.1.0
+      got_a = prefix-of old before n.names.got_a n.names.orig e.files.orig e.left.got.answ g e.takes.orig e.holds.1.0
           (laws.prefixes c link end e.left may e.run Answerer);
     }
 
@@ -116,15 +115,15 @@ part-all : (f : FolderState) (name octets piece : List ℕ) → Holds f name (oc
 part-all f name octets piece holds told = (piece, ([], append-nil piece), holds told)
 
 part-o : (f : FolderState) (n : RunNames) (left more : Left) → HoldPart f (texts_of n) (held_of left) (held_of more)
-    → HoldsPart f n.got_o left.got.orig more.got.orig
+    → HoldsPart f n.names.got_o left.got.orig more.got.orig
 part-o f n left more (inl h) = h.0
-part-o f n left more (inr h) = part-all f n.got_o left.got.orig more.got.orig h.0
+part-o f n left more (inr h) = part-all f n.names.got_o left.got.orig more.got.orig h.0
 
 part-a : (f : FolderState) (n : RunNames) (left more : Left) → HoldPart f (texts_of n) (held_of left) (held_of more)
-    → HoldsPart f n.got_a left.got.answ more.got.answ
-part-a f n left more (inl h) = part-none f n.got_a left.got.answ more.got.answ h.1.0
+    → HoldsPart f n.names.got_a left.got.answ more.got.answ
+part-a f n left more (inl h) = part-none f n.names.got_a left.got.answ more.got.answ h.1.0
 part-a f n left more (inr (o, inl h)) = h.0
-part-a f n left more (inr (o, inr h)) = part-all f n.got_a left.got.answ more.got.answ h.0
+part-a f n left more (inr (o, inr h)) = part-all f n.names.got_a left.got.answ more.got.answ h.0
 
 hears-of : (link : Link) (ts : List Turn) (ends : Accounts) (t : Turn) (mid : Accounts) (o : Outcome) → TurnIs link ts ends t mid o
     → Hears (length ts) ends t mid
@@ -134,7 +133,7 @@ hears-of link ts ends t mid (Broken role fault) b = b.hearing
 
 -- what is left of some turns, and what the next one adds
 stopped-prefix : RunLaws → (script : ScriptValue) (files : Both (List ℕ)) (f : FolderState) (n : RunNames) → IsInLimits script
-    → (s : StopsAfter (wire_of script) (link_of script files) f (names_written n)) → (role : Role)
+    → (s : StopsAfter (wire_of script) (link_of script files) f n.names) → (role : Role)
     → IsPrefixOf (of role s.left.got ++ of role s.more.got) (of (other role) (link_of script files)).user.file
 stopped-prefix laws script files f n limits s role = by s.adds
   where
@@ -166,30 +165,30 @@ both-stopped : RunLaws → (old before : FolderState) (n : RunNames) → GoesOn 
     → BothPrefix old before n
 both-stopped laws old before n g e =
     let s = e.stops in record {
-      got_o = part-of old before n.got_o n.answ e.files.answ s.left.got.orig s.more.got.orig g e.takes.answ
+      got_o = part-of old before n.names.got_o n.names.answ e.files.answ s.left.got.orig s.more.got.orig g e.takes.answ
           (part-o before n s.left s.more s.holds)
           (stopped-prefix laws e.script e.files before n e.takes.limits s Originator);
-      got_a = part-of old before n.got_a n.orig e.files.orig s.left.got.answ s.more.got.answ g e.takes.orig
+      got_a = part-of old before n.names.got_a n.names.orig e.files.orig s.left.got.answ s.more.got.answ g e.takes.orig
           (part-a before n s.left s.more s.holds)
           (stopped-prefix laws e.script e.files before n e.takes.limits s Answerer);
     }
 
 both-creating : (old before : FolderState) (n : RunNames) → GoesOn old before → CreatesPart old before (outputs_of n)
     → BothPrefix old before n
-both-creating old before n g (inl (o, (a, rest))) = record { got_o = empty-of old before n.got_o n.answ g o; got_a = inl a }
+both-creating old before n g (inl (o, (a, rest))) = record { got_o = empty-of old before n.names.got_o n.names.answ g o; got_a = inl a }
 both-creating old before n g (inr (o, inl (a, rest))) =
-    record { got_o = empty-of old before n.got_o n.answ g (inr o); got_a = empty-of old before n.got_a n.orig g a }
+    record { got_o = empty-of old before n.names.got_o n.names.answ g (inr o); got_a = empty-of old before n.names.got_a n.names.orig g a }
 both-creating old before n g (inr (o, inr (a, rest))) =
-    record { got_o = empty-of old before n.got_o n.answ g (inr o); got_a = empty-of old before n.got_a n.orig g (inr a) }
+    record { got_o = empty-of old before n.names.got_o n.names.answ g (inr o); got_a = empty-of old before n.names.got_a n.names.orig g (inr a) }
 
 both-heading : (old before : FolderState) (n : RunNames) → GoesOn old before → StopsHeading LIMITS old before n → BothPrefix old before n
 both-heading old before n g h = record {
-  got_o = empty-of old before n.got_o n.answ g (inr h.creates.0);
-  got_a = empty-of old before n.got_a n.orig g (inr h.creates.1.0);
+  got_o = empty-of old before n.names.got_o n.names.answ g (inr h.creates.0);
+  got_a = empty-of old before n.names.got_a n.names.orig g (inr h.creates.1.0);
 }
 
 both-kept : (old before : FolderState) (n : RunNames) → KeepsAll old before → BothPrefix old before n
-both-kept old before n kept = record { got_o = inl (kept n.got_o); got_a = inl (kept n.got_a) }
+both-kept old before n kept = record { got_o = inl (kept n.names.got_o); got_a = inl (kept n.names.got_a) }
 
 both-own : RunLaws → (old before : FolderState) (n : RunNames) (answer : Status) → GoesOn old before → RanBy LIMITS old before n answer
     → BothPrefix old before n

@@ -27,7 +27,6 @@ use Rattle.run_inputs.specs.declared.limits.TheConstants.{LIMITS}
 use Rattle.run_inputs.specs.Words.{RunNames, files_of, texts_of, inputs_of, outputs_of}
 use Rattle.run_inputs.specs.Inputs.{Refuses}
 use Rattle.run_world.specs.Turns.{RunEnds, RunStops, RunStopsReading, FaultEnds}
-use Rattle.run_command.specs.Names.{names_written}
 use Rattle.run_command.specs.Ends.{IsBegun, Takes, RanTo, StopsInTurn, StopsInReading, StopsCreating, StopsHeading, EndsBy, fault_stop}
 use Rattle.run_command.specs.Tapes.{HeadsPartly}
 
@@ -77,14 +76,14 @@ file-is old next name file limit on kept within few known told =
     known (told_later on name told) ∙ ap (take file_limit) same ∙ take_all file_limit (octets_at old name) (omega (arith, within told, few))
 
 takes : (old mid now next : FolderState) (n : RunNames) (script : ScriptValue) (files : Both (List ℕ))
-    → Phases LIMITS old mid now next n script → KnowsFiles next (names_written n) files → Takes LIMITS old n script files
+    → Phases LIMITS old mid now next n script → KnowsFiles next n.names files → Takes LIMITS old n script files
 takes old mid now next n script files p k =
     record {
       opens = p.begun.opens;
       limits = p.begun.limits;
       within = k.within;
-      orig = file-is old next n.orig files.orig LIMITS.file on kept.0 p.begun.opens.files.0 (omega arith) k.orig;
-      answ = file-is old next n.answ files.answ LIMITS.file on kept.1.0 p.begun.opens.files.1.0 (omega arith) k.answ;
+      orig = file-is old next n.names.orig files.orig LIMITS.file on kept.0 p.begun.opens.files.0 (omega arith) k.orig;
+      answ = file-is old next n.names.answ files.answ LIMITS.file on kept.1.0 p.begun.opens.files.1.0 (omega arith) k.answ;
     }
   where
     on : GoesOn old next
@@ -98,7 +97,7 @@ takes old mid now next n script files p k =
 
 -- the run ended by itself
 pub ran-to : (old mid now next : FolderState) (n : RunNames) (script : ScriptValue) (end : RunEnd) → Phases LIMITS old mid now next n script
-    → RunEnds script next (names_written n) n.tapes end → RanTo LIMITS old next n end
+    → RunEnds script next n.names n.tapes end → RanTo LIMITS old next n end
 ran-to old mid now next n script end p r =
     record {
       script = script;
@@ -112,7 +111,7 @@ ran-to old mid now next n script end p r =
 
 -- or for the folder
 stops-in : LineRunsEndSoon → (old mid now next : FolderState) (n : RunNames) (script : ScriptValue) → Phases LIMITS old mid now next n script
-    → RunStops script next (names_written n) n.tapes → StopsInTurn LIMITS old next n
+    → RunStops script next n.names n.tapes → StopsInTurn LIMITS old next n
 stops-in soon old mid now next n script p r =
     record {
       script = script;
@@ -124,13 +123,13 @@ stops-in soon old mid now next n script p r =
     }
 
 stops-in-reading : LineRunsEndSoon → (old mid now next : FolderState) (n : RunNames) (script : ScriptValue) → Phases LIMITS old mid now next n script
-    → RunStopsReading script next (names_written n) n.tapes → StopsInReading LIMITS old next n
+    → RunStopsReading script next n.names n.tapes → StopsInReading LIMITS old next n
 unfolding stops-in
 stops-in-reading soon old mid now next n script p r = (stops-in soon old mid now next n script p r.0, r.1)
 
 -- a turn's fault ended the run
 pub ends-in-turn : LineRunsEndSoon → (old mid now next : FolderState) (n : RunNames) (script : ScriptValue) (fault : RunFault)
-    → Phases LIMITS old mid now next n script → FaultCountsOver now next (files_of n) (outputs_of n) fault → FaultEnds script next (names_written n) n.tapes fault
+    → Phases LIMITS old mid now next n script → FaultCountsOver now next (files_of n) (outputs_of n) fault → FaultEnds script next n.names n.tapes fault
     → EndsBy LIMITS old next n (fault_stop fault)
 ends-in-turn soon old mid now next n script faults.ReadFault p counts e =
     inr (

@@ -25,7 +25,6 @@ use Rattle.run_inputs.specs.declared.limits.TheConstants.{LIMITS}
 use Rattle.run_inputs.specs.Words.{RunNames, outputs_of}
 use Rattle.run_world.specs.Tapes.{HoldsTape, HoldsTapePart, HoldTapes, HoldTapesPartly}
 use Rattle.run_world.specs.Turns.{TapesStop}
-use Rattle.run_command.specs.Names.{names_written}
 use Rattle.run_command.specs.Ends.{Takes, RanTo, StopsInTurn, RanBy, EndsBy, Ends as EndsSo}
 use Rattle.run_command.specs.Tapes.{HeadsPartly, TapeBegun, TapesBegun}
 
@@ -124,7 +123,7 @@ tapes-ran old before n end e =
 tapes-stopped : (old before : FolderState) (n : RunNames) → StopsInTurn LIMITS old before n → TapesBegun old before n n.tapes
 tapes-stopped old before n e = by e.taped
   where
-    by : TapesStop (wire_of e.script) (link_of e.script e.files) before (names_written n) n.tapes e.stops → TapesBegun old before n n.tapes
+    by : TapesStop (wire_of e.script) (link_of e.script e.files) before n.names n.tapes e.stops → TapesBegun old before n n.tapes
     by (inl h) = both-turns old before n e.script e.files e.takes n.tapes e.stops.turns e.stops.ends e.stops.run h
     by (inr s) =
         let on : TurnIs (link_of e.script e.files) e.stops.turns e.stops.ends s.adds.turn s.adds.mid Going =

@@ -38,14 +38,14 @@ pub record AreRight (f : FolderState) (n : RunNames) (script : ScriptValue) : Ty
   pub script_told : IsTrue (f.tells n.script)
   pub script_short : length (octets_at f n.script) ≤ 65536
   pub spelled : ScriptSpelling (octets_at f n.script) script
-  pub orig_told : IsTrue (f.tells n.orig)
-  pub orig_short : length (octets_at f n.orig) ≤ 16777216
-  pub answ_told : IsTrue (f.tells n.answ)
-  pub answ_short : length (octets_at f n.answ) ≤ 16777216
+  pub orig_told : IsTrue (f.tells n.names.orig)
+  pub orig_short : length (octets_at f n.names.orig) ≤ 16777216
+  pub answ_told : IsTrue (f.tells n.names.answ)
+  pub answ_short : length (octets_at f n.names.answ) ≤ 16777216
 
 -- the files that the users hand over
 abbrev pub files_at : FolderState → RunNames → Both (List ℕ)
-files_at f n = record { orig = octets_at f n.orig; answ = octets_at f n.answ }
+files_at f n = record { orig = octets_at f n.names.orig; answ = octets_at f n.names.answ }
 
 -- the folder is sound, the inputs are right, and this holds of their script and files: then the run is done, but for want of memory
 abbrev pub DoneWhere : FolderState → FolderState → RunNames → Status → (ScriptValue → Both (List ℕ) → Type 0) → Type 0

@@ -27,7 +27,6 @@ use Rattle.run_inputs.specs.Inputs.{Opens, RefusesOwn, FailsToRead}
 use Rattle.outside_calls.specs.Outputs.{HoldEach, SomeRose}
 use Rattle.run_world.specs.Tapes.{HoldTapes}
 use Rattle.run_world.specs.Turns.{StopsAfter, StopsReading, TapesStop, held_of}
-use Rattle.run_command.specs.Names.{names_written}
 use Rattle.run_command.specs.Tapes.{HeadsPartly}
 
 -- The inputs were opened, nothing else was done, and no fault was counted: they are within their limits, and this is the script.
@@ -42,8 +41,8 @@ pub record Takes (l : Limits) (f : FolderState) (n : RunNames) (script : ScriptV
   pub opens : Opens l f n.script (files_of n) script
   pub limits : IsInLimits script
   pub within : AreWithin files
-  pub orig : IsTrue (f.tells n.orig) → files.orig ≡ octets_at f n.orig
-  pub answ : IsTrue (f.tells n.answ) → files.answ ≡ octets_at f n.answ
+  pub orig : IsTrue (f.tells n.names.orig) → files.orig ≡ octets_at f n.names.orig
+  pub answ : IsTrue (f.tells n.names.answ) → files.answ ≡ octets_at f n.names.answ
 
 -- The run of the inputs ends so, the outputs hold what it leaves, and the recordings what both ends sent in it.
 pub record RanTo (l : Limits) (old new : FolderState) (n : RunNames) (end : RunEnd) : Type 0 where
@@ -60,14 +59,14 @@ pub record StopsInTurn (l : Limits) (old new : FolderState) (n : RunNames) : Typ
   pub script : ScriptValue
   pub files : Both (List ℕ)
   pub takes : Takes l old n script files
-  pub stops : StopsAfter (wire_of script) (link_of script files) new (names_written n)
-  pub taped : TapesStop (wire_of script) (link_of script files) new (names_written n) n.tapes stops
+  pub stops : StopsAfter (wire_of script) (link_of script files) new n.names
+  pub taped : TapesStop (wire_of script) (link_of script files) new n.names n.tapes stops
   pub few : HasFewTurns script files stops.turns stops.ends
 
 -- It failed to read a file that is sent.
 abbrev pub StopsInReading : Limits → FolderState → FolderState → RunNames → Type 0
 StopsInReading l old new n =
-    (s : StopsInTurn l old new n) × StopsReading (wire_of s.script) (link_of s.script s.files) new (names_written n) n.tapes s.stops
+    (s : StopsInTurn l old new n) × StopsReading (wire_of s.script) (link_of s.script s.files) new n.names n.tapes s.stops
 
 -- An output was not created, once the inputs were opened.
 pub record StopsCreating (l : Limits) (old new : FolderState) (n : RunNames) : Type 0 where

@@ -9,5 +9,5 @@ use Rattle.run_inputs.specs.Words.{RunNames}
 -- The script and the files of a run are those of the folder.
 pub record AreOf (f : FolderState) (n : RunNames) (script : ScriptValue) (files : Both (List ℕ)) : Type 0 where
   pub script_is : IsTrue (f.tells n.script) → ScriptSpelling (octets_at f n.script) script
-  pub orig_is : IsTrue (f.tells n.orig) → files.orig ≡ octets_at f n.orig
-  pub answ_is : IsTrue (f.tells n.answ) → files.answ ≡ octets_at f n.answ
+  pub orig_is : IsTrue (f.tells n.names.orig) → files.orig ≡ octets_at f n.names.orig
+  pub answ_is : IsTrue (f.tells n.names.answ) → files.answ ≡ octets_at f n.names.answ

@@ -37,8 +37,8 @@ HoldsWhole old new got sent = IsTrue (old.tells sent) → IsTrue (old.tells got)
 
 -- The received files hold what passed in these turns, by the numbers that were meant.
 pub record HoldWhatPassed (f : FolderState) (n : RunNames) (script : ScriptValue) (link : Link) (ts : List Turn) : Type 0 where
-  pub got_o : Holds f n.got_o (taken_octets (agreed_srej link) (delay_of script) Originator ts)
-  pub got_a : Holds f n.got_a (taken_octets (agreed_srej link) (delay_of script) Answerer ts)
+  pub got_o : Holds f n.names.got_o (taken_octets (agreed_srej link) (delay_of script) Originator ts)
+  pub got_a : Holds f n.names.got_a (taken_octets (agreed_srej link) (delay_of script) Answerer ts)
 
 -- The run of the folder's script and files ended so: each outcome was read off the line, the received files hold what passed, the trace holds
 -- its text, where the run is recorded the recordings hold what both ends sent, there were few turns, and its end has its cause: no link was
@@ -54,7 +54,7 @@ pub record Ran (old new : FolderState) (n : RunNames) (end : RunEnd) : Type 0 wh
   pub heard_is : heard ≡ turns_heard (wire_of script) (link_of script files) run.turns run.ends end left run.ended
   pub read_off : AreReadOff (wire_of script) heard
   pub got : HoldWhatPassed new n script (link_of script files) heard
-  pub trace : Holds new n.trace left.trace
+  pub trace : Holds new n.names.trace left.trace
   pub taped : HoldTapes new n.tapes (wire_of script) run.turns
   pub few : HasFewTurns script files run.turns run.ends
   pub cause : HasCause (wire_of script) files end left run
@@ -72,9 +72,9 @@ RanBy old new n status = Unit {0}
 -- recorded, each recording holds the beginning of what its end sends.
 pub record Headline (old new : FolderState) (n : RunNames) (s : Status) : Type 0 where
   pub shared : Shared (inputs_of n) (outputs_of n) old new s
-  pub got_o : KeptOrPrefix old new n.got_o n.answ
-  pub got_a : KeptOrPrefix old new n.got_a n.orig
-  pub whole_o : s ≡ Done → HoldsWhole old new n.got_o n.answ
-  pub whole_a : s ≡ Done → HoldsWhole old new n.got_a n.orig
+  pub got_o : KeptOrPrefix old new n.names.got_o n.names.answ
+  pub got_a : KeptOrPrefix old new n.names.got_a n.names.orig
+  pub whole_o : s ≡ Done → HoldsWhole old new n.names.got_o n.names.answ
+  pub whole_a : s ≡ Done → HoldsWhole old new n.names.got_a n.names.orig
   pub taped : TapesBegun old new n n.tapes
   pub ran : RanBy old new n s

@@ -4,14 +4,12 @@ ghost use Rattle.outside_calls.specs.Folder.{FolderState};
 ghost use Rattle.roles.specs.Both.{Both};
 ghost use Rattle.link_run.specs.Run.{start};
 ghost use Rattle.line_run.specs.Scripted.{link_of};
-ghost use Rattle.run_world.specs.Names.{written};
 ghost use Rattle.run_world.specs.World.{IsReady, WorldAfter, script_of};
 ghost use Rattle.command_base.specs.Job.{Answers};
 ghost use Rattle.outside_calls.specs.Outputs.{OnlyOutputs, SaysNothing};
 ghost use Rattle.command_base.specs.Stops.{EndCounts};
 ghost use Rattle.command_base.specs.Apart.{are_apart};
 ghost use Rattle.run_inputs.specs.Words.{named, inputs_of, outputs_of};
-ghost use Rattle.run_command.specs.Names.{names_written};
 ghost use Rattle.run_command.specs.Ends.{Ends, IsBegun, fault_stop, run_job};
 ghost use Rattle.run_command.specs.Headline.{Headline};
 ghost use Rattle.run_command.specs.Completes.{Completes};
@@ -22,7 +20,7 @@ use command_base::{Status, Stop, apart_names_differ, tell, tell_stop, done_line}
 use line_run::laws::line_runs_end_soon;
 use outside_calls::{Folder, FolderFault};
 use run_inputs::{LIMITS, RunWords, open_inputs};
-use run_world::{Names, RunFault, World, run_turns};
+use run_world::{RunFault, World, run_turns};
 use std::alloc::Global;
 
 /// The place of the first file's name among the words.
@@ -30,19 +28,6 @@ const ORIG: usize = 1;
 
 /// The place of the script's name.
 const SCRIPT: usize = 3;
-
-/// The names that turns use.
-fn names_of<'a>(words: &RunWords<'a>) -> Names<'a>
-    ensures { written result ≡ names_written (named words.now) }
-{
-    Names {
-        orig: words.orig,
-        answ: words.answ,
-        got_o: words.got_o,
-        got_a: words.got_a,
-        trace: words.trace,
-    }
-}
 
 /// Why a run stops whose turns end by this fault.
 fn stop_of(fault: RunFault) -> Stop
@@ -87,7 +72,7 @@ fn run_world<F: Folder>(
         Ok(tapes) => tapes,
         Err(fault) => return Err(Stop::Write(fault)),
     };
-    match run_turns(world, folder, &names_of(words), &mut tapes) {
+    match run_turns(world, folder, &words.names, &mut tapes) {
         Ok(turn) => Ok(turn),
         Err(fault) => Err(stop_of(fault)),
     }
@@ -101,7 +86,7 @@ fn run_to_end<F: Folder>(alloc: Global, folder: &mut F, words: &RunWords<'_>) ->
     ensures said { SaysNothing (F.state folder.old) (F.state folder.new) }
     ensures counts { EndCounts (F.state folder.old) (F.state folder.new) (inputs_of (named words.now)) (outputs_of (named words.now)) result }
 {
-    let files = [words.orig, words.answ];
+    let files = [words.names.orig, words.names.answ];
     let script = match open_inputs(alloc, folder, (words.script, SCRIPT), &files, ORIG, LIMITS) {
         Ok(script) => script,
         Err(stop) => return Err(stop),

@@ -3,33 +3,31 @@ use Rattle.std.specs.Prelude.{ℕ, nat_eq, ◌&&◌, List, [], ◌∷◌, length
 use Rattle.std.specs.Str.{bytes_eq}
 use Rattle.std.specs.Option.{option_map}
 use Rattle.roles.specs.Both.{Both}
+use Rattle.line_run.specs.Names as sent
+use Rattle.line_run.specs.Names.{Written, written}
 use Rattle.line_run.specs.Recorded.{Tapes, tapes_of}
 use Rattle.command_base.specs.Apart.{are_apart}
 use Rattle.run_inputs.specs.declared.words.RunWords.{RunWords}
 
 -- the names of a run; where it is recorded, those of its recordings too
 pub record RunNames : Type 0 where
-  pub orig : List ℕ
-  pub answ : List ℕ
+  pub names : Written
   pub script : List ℕ
-  pub got_o : List ℕ
-  pub got_a : List ℕ
-  pub trace : List ℕ
   pub tapes : Tapes
 
 -- the files that are sent, the names that are read, and those that are written, in the order of the words
 abbrev pub files_of : RunNames → List (List ℕ)
-files_of n = n.orig ∷ n.answ ∷ []
+files_of n = sent.inputs_of n.names
 
 abbrev pub inputs_of : RunNames → List (List ℕ)
-inputs_of n = n.orig ∷ n.answ ∷ n.script ∷ []
+inputs_of n = n.names.orig ∷ n.names.answ ∷ n.script ∷ []
 
 -- what a run writes, recorded or not, and all that is written
 abbrev pub texts_of : RunNames → List (List ℕ)
-texts_of n = n.got_o ∷ n.got_a ∷ n.trace ∷ []
+texts_of n = sent.outputs_of n.names
 
 abbrev pub outputs_of : RunNames → List (List ℕ)
-outputs_of n = n.got_o ∷ n.got_a ∷ n.trace ∷ tapes_of n.tapes
+outputs_of n = n.names.got_o ∷ n.names.got_a ∷ n.names.trace ∷ tapes_of n.tapes
 
 -- these names, where the command is that word and no output is another one or an input
 abbrev pub asked_by : List ℕ → List ℕ → RunNames → Option RunNames
@@ -39,19 +37,19 @@ asked_by command word n = if bytes_eq command word && are_apart (inputs_of n) (o
 abbrev pub run_named : List (List ℕ) → Option RunNames
 run_named (command ∷ orig ∷ answ ∷ script ∷ got_o ∷ got_a ∷ trace ∷ []) =
     asked_by command (codes "run")
-    (record { orig = orig; answ = answ; script = script; got_o = got_o; got_a = got_a; trace = trace; tapes = None })
+    (record {
+      names = record { orig = orig; answ = answ; got_o = got_o; got_a = got_a; trace = trace };
+      script = script;
+      tapes = None;
+    })
 run_named words = None
 
 -- the words `record ORIG ANSW SCRIPT GOT_O GOT_A TRACE REC_O REC_A`, and no others
 abbrev pub record_named : List (List ℕ) → Option RunNames
 record_named (command ∷ orig ∷ answ ∷ script ∷ got_o ∷ got_a ∷ trace ∷ rec_o ∷ rec_a ∷ []) =
     asked_by command (codes "record") (record {
-      orig = orig;
-      answ = answ;
+      names = record { orig = orig; answ = answ; got_o = got_o; got_a = got_a; trace = trace };
       script = script;
-      got_o = got_o;
-      got_a = got_a;
-      trace = trace;
       tapes = Some (record { orig = rec_o; answ = rec_a });
     })
 record_named words = None
@@ -62,11 +60,7 @@ names_of words = if nat_eq (length words) 7 then run_named words else record_nam
 
 abbrev pub named : RunWords → RunNames
 named w = record {
-  orig = w.orig.now;
-  answ = w.answ.now;
+  names = written w.names;
   script = w.script.now;
-  got_o = w.got_o.now;
-  got_a = w.got_a.now;
-  trace = w.trace.now;
   tapes = option_map (λ names. record { orig = names.orig.now; answ = names.answ.now }) w.tapes;
 }

@@ -5,36 +5,29 @@ ghost use Rattle.command_base.specs.Apart.{are_apart};
 ghost use Rattle.run_inputs.specs.Words.{names_of, run_named, record_named, named, inputs_of, outputs_of};
 
 use command_base::are_apart;
+use line_run::Names;
 use roles::Both;
 
-/// The names of a run.
+/// The words of a run behind the first one.
 #[derive(Drop)]
 pub struct RunWords<'a> {
-    /// The originator's file.
-    pub orig: &'a str,
-    /// The answerer's file.
-    pub answ: &'a str,
+    /// What is sent, what is received, and what becomes of each turn.
+    pub names: Names<'a>,
     /// What the line does.
     pub script: &'a str,
-    /// What the originator receives.
-    pub got_o: &'a str,
-    /// What the answerer receives.
-    pub got_a: &'a str,
-    /// What becomes of each turn.
-    pub trace: &'a str,
     /// What each end sends, where the run is recorded.
     pub tapes: Option<Both<&'a str>>,
 }
 
 /// These names, where no output is another one or an input.
-fn apart<'a>(names: RunWords<'a>, outputs: &[&str]) -> Option<RunWords<'a>>
-    requires { map (λ name. name.now) outputs.now ≡ outputs_of (named names) }
-    ensures names { option_map named result ≡ (if are_apart (inputs_of (named names.entry)) (outputs_of (named names.entry)) then Some (named names.entry) else None) }
+fn apart<'a>(words: RunWords<'a>, outputs: &[&str]) -> Option<RunWords<'a>>
+    requires { map (λ name. name.now) outputs.now ≡ outputs_of (named words) }
+    ensures names { option_map named result ≡ (if are_apart (inputs_of (named words.entry)) (outputs_of (named words.entry)) then Some (named words.entry) else None) }
     ensures apart { IfSome result (λ it. are_apart (inputs_of (named it)) (outputs_of (named it)) ≡ true) }
 {
-    let inputs = [names.orig, names.answ, names.script];
+    let inputs = [words.names.orig, words.names.answ, words.script];
     if are_apart(&inputs, outputs) {
-        Some(names)
+        Some(words)
     } else {
         None
     }
@@ -51,17 +44,22 @@ fn read_run(words: &[String]) -> Option<RunWords<'_>>
     if command.as_str() != "run" {
         return None;
     }
-    let names = RunWords {
+    let names = Names {
         orig: orig.as_str(),
         answ: answ.as_str(),
-        script: script.as_str(),
         got_o: got_o.as_str(),
         got_a: got_a.as_str(),
         trace: trace.as_str(),
-        tapes: None,
     };
     let outputs = [names.got_o, names.got_a, names.trace];
-    apart(names, &outputs)
+    let script = script.as_str();
+    let tapes = None;
+    let words = RunWords {
+        names,
+        script,
+        tapes,
+    };
+    apart(words, &outputs)
 }
 
 /// The words of a run that is recorded.
@@ -87,20 +85,25 @@ fn read_record(words: &[String]) -> Option<RunWords<'_>>
         return None;
     }
     let (rec_o, rec_a) = (rec_o.as_str(), rec_a.as_str());
-    let names = RunWords {
+    let names = Names {
         orig: orig.as_str(),
         answ: answ.as_str(),
-        script: script.as_str(),
         got_o: got_o.as_str(),
         got_a: got_a.as_str(),
         trace: trace.as_str(),
-        tapes: Some(Both {
-            orig: rec_o,
-            answ: rec_a,
-        }),
     };
     let outputs = [names.got_o, names.got_a, names.trace, rec_o, rec_a];
-    apart(names, &outputs)
+    let script = script.as_str();
+    let tapes = Some(Both {
+        orig: rec_o,
+        answ: rec_a,
+    });
+    let words = RunWords {
+        names,
+        script,
+        tapes,
+    };
+    apart(words, &outputs)
 }
 
 /// The words of `run` and of `record`, where these are such words.

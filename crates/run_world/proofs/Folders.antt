@@ -9,7 +9,7 @@ use Rattle.roles.specs.Both.{Both}
 use Rattle.link_run.specs.Run.{Accounts}
 use Rattle.turn_bound.specs.Limits.{file_limit}
 use Rattle.stations.specs.Station.{file_at}
-use Rattle.run_world.specs.Names.{Written, inputs_of, outputs_of, received_of}
+use Rattle.line_run.specs.Names.{Written, inputs_of, outputs_of, received_of}
 use Rattle.run_world.specs.Link.{AreWithin}
 use Rattle.run_world.specs.declared.step.RunFault.{RunFault}
 use Rattle.run_world.specs.declared.step.RunFault.TheVariants as run_faults

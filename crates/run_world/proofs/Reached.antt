@@ -24,7 +24,7 @@ use Rattle.line_run.specs.Ends as runs
 use Rattle.line_run.specs.Scripted.{wire_of, link_of}
 use Rattle.line_run.specs.Stream.{both_sent_by}
 use Rattle.run_world.specs.Limits.{file_limit}
-use Rattle.run_world.specs.Names.{Written, inputs_of, outputs_of}
+use Rattle.line_run.specs.Names.{Written, inputs_of, outputs_of}
 use Rattle.run_world.specs.Link.{octets_of}
 use Rattle.run_world.specs.Station.{file_at}
 use Rattle.run_world.specs.declared.world.World.{World}

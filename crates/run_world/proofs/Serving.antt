@@ -16,7 +16,7 @@ use Rattle.link_run.specs.Reading.{RunsByWhatIsReadOn, SameSoFar}
 use Rattle.line_run.specs.Scripted.{link_of, breaks_of, busy_of}
 use Rattle.line_run.specs.Sampled.{Wire}
 use Rattle.lapm_frames.specs.declared.heard.Heard.{Heard}
-use Rattle.run_world.specs.Names.{Written, inputs_of}
+use Rattle.line_run.specs.Names.{Written, inputs_of}
 use Rattle.outside_calls.specs.Outputs.{SomeCause}
 use Rattle.run_world.specs.declared.step.RunFault.{RunFault}
 use Rattle.run_world.specs.declared.step.RunFault.TheVariants.{ReadFault}

@@ -30,7 +30,7 @@ use Rattle.line_run.specs.Scripted.{link_of, longest_of, slot_symbols, ScriptsMa
 use Rattle.line_run.specs.LineLaws.{SamplesAreCarried, OneIsCarried}
 use Rattle.run_world.specs.declared.link.Link.{Link}
 use Rattle.shared_line.specs.declared.lines.Lines.{Lines}
-use Rattle.run_world.specs.Names.{Written}
+use Rattle.line_run.specs.Names.{Written}
 use Rattle.run_world.specs.Link.{LinkStands, SaysBoth}
 use Rattle.line_run.specs.Stream.{Carried}
 use Rattle.shared_line.specs.Lines.{LinesWait, HaveArrived, AreCodable, ArePut, and_more}

@@ -20,7 +20,7 @@ use Rattle.link_run.specs.Trace.{turn_text}
 use Rattle.line_run.specs.Sampled.{Wire, HeardIn, IsHeardOf}
 use Rattle.line_run.specs.Scripted.{link_of, ScriptsMayPlay, ScriptsHaveDelays}
 use Rattle.line_run.specs.LineLaws.{SamplesAreCarried, OneIsCarried}
-use Rattle.run_world.specs.Names.{Written, outputs_of, received_of}
+use Rattle.line_run.specs.Names.{Written, outputs_of, received_of}
 use Rattle.line_run.specs.Stream.{Carried}
 use Rattle.shared_line.specs.Lines.{HaveArrived}
 use Rattle.shared_line.specs.declared.lines.Lines.{Lines}

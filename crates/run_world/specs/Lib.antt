@@ -6,7 +6,6 @@ pub mod World
 pub mod Turn
 pub mod Mid
 pub mod Turns
-pub mod Names
 pub mod Link
 pub mod Tapes
 pub mod Taping

@@ -20,7 +20,7 @@ use Rattle.stations.specs.declared.station.Station.{Station}
 use Rattle.stations.specs.Station.{Stands, ReadsOn, IsIdle, IsCounted}
 use Rattle.run_world.specs.declared.link.Link.{Link}
 use Rattle.run_world.specs.declared.link.Breaking.{Breaking}
-use Rattle.run_world.specs.Names.{Written}
+use Rattle.line_run.specs.Names.{Written}
 
 -- Both stations stand for these ends, whose users send these files.
 pub record LinkStands (l : Link) (files : Both (List ℕ)) (ends : Accounts) : Type 0 where

@@ -23,7 +23,7 @@ use Rattle.line_run.specs.Scripted.{link_of}
 use Rattle.shared_line.specs.declared.lines.LineEnd.{LineEnd}
 use Rattle.turn_bound.specs.Limits.{file_limit}
 use Rattle.stations.specs.Station.{ReadsOn}
-use Rattle.run_world.specs.Names.{Written, outputs_of}
+use Rattle.line_run.specs.Names.{Written, outputs_of}
 use Rattle.run_world.specs.Link.{LinkStands, both_ends, octets_of, served_on}
 use Rattle.line_run.specs.Stream.{Carried, and_sent}
 use Rattle.shared_line.specs.Lines.{LinesWait, HaveArrived, end_of}

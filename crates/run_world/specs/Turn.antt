@@ -18,7 +18,7 @@ use Rattle.link_run.specs.Counts.{lost_slots, sent_again}
 use Rattle.line_run.specs.Sampled.{Wire, HeardIn, LineRun, EndsLine}
 use Rattle.line_run.specs.Sampled as lines
 use Rattle.line_run.specs.Scripted.{link_of}
-use Rattle.run_world.specs.Names.{Written, inputs_of, outputs_of, received_of}
+use Rattle.line_run.specs.Names.{Written, inputs_of, outputs_of, received_of}
 use Rattle.run_world.specs.Link.{octets_of}
 use Rattle.line_run.specs.Stream.{Carried, and_sent}
 use Rattle.shared_line.specs.Lines.{LinesWait, HaveArrived}

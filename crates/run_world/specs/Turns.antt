@@ -17,7 +17,7 @@ use Rattle.line_run.specs.Ends as runs
 use Rattle.line_run.specs.Scripted.{wire_of, link_of}
 use Rattle.noise_script.specs.Script.{ScriptValue}
 use Rattle.outside_calls.specs.Outputs.{HoldEach, HoldPart, joined}
-use Rattle.run_world.specs.Names.{Written, outputs_of}
+use Rattle.line_run.specs.Names.{Written, outputs_of}
 use Rattle.line_run.specs.Recorded.{Tapes}
 use Rattle.run_world.specs.Tapes.{HoldTapes, HoldTapesPartly}
 use Rattle.run_world.specs.World.{KnowsFiles}

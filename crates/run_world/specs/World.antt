@@ -17,7 +17,7 @@ use Rattle.stations.specs.Station.{file_at}
 use Rattle.shared_line.specs.Way.{Carries}
 use Rattle.shared_line.specs.Lines.{LinesWait}
 use Rattle.shared_line.specs.declared.lines.Lines.{Lines}
-use Rattle.run_world.specs.Names.{Written}
+use Rattle.line_run.specs.Names.{Written}
 use Rattle.run_world.specs.Link.{AreWithin}
 use Rattle.run_world.specs.Modems.{AreKept, ModemsAfter}
 use Rattle.run_world.specs.declared.modems.Modems.{Modems}

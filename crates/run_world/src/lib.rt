@@ -10,9 +10,9 @@
 
 mod heard;
 pub mod laws;
+mod limit;
 mod link;
 mod modems;
-mod names;
 mod step;
 mod tally;
 mod tape;
@@ -21,9 +21,10 @@ mod turns;
 mod world;
 
 use heard::arrived;
+pub use limit::FILE_LIMIT;
+pub use line_run::Names;
 use link::{Breaking, Link};
 pub use modems::Modems;
-pub use names::{FILE_LIMIT, Names};
 pub use step::{RunFault, Step};
 pub use tape::Tape;
 pub use turns::run_turns;

@@ -15,13 +15,14 @@ ghost use Rattle.link_run.specs.End.{delivered, asked, is_busy, is_closed, is_re
 ghost use Rattle.link_run.specs.Run.{Accounts, both_finished, start};
 ghost use Rattle.line_run.specs.Scripted.{setup_of, breaks_of, busy_of, party_of, link_of};
 ghost use Rattle.stations.specs.Station.{Stands, IsIdle, IsCounted};
-ghost use Rattle.run_world.specs.Names.{inputs_of, outputs_of, written};
+ghost use Rattle.line_run.specs.Names.{inputs_of, outputs_of, written};
 ghost use Rattle.run_world.specs.Link.{HearsOn};
 ghost use Rattle.link_account.specs.Hear.{hear};
 
-use crate::names::{FILE_LIMIT, Names};
+use crate::limit::FILE_LIMIT;
 use frame_check::Check;
 use lapm_link::{Arrived, LinkFault, Phase, Sent, Setup};
+use line_run::Names;
 use line_run::laws::scripts_make_links;
 use noise_script::Script;
 use outside_calls::{Folder, FolderFault, NoMemory};

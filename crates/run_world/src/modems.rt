@@ -13,7 +13,7 @@ ghost use Rattle.line_run.specs.Scripted.{wire_at, link_of};
 ghost use Rattle.line_run.specs.Stream.{Carried};
 ghost use Rattle.shared_line.specs.Lines.{LinesWait, HaveArrived, AreDue};
 ghost use Rattle.shared_line.specs.declared.lines.Lines.{Lines};
-ghost use Rattle.run_world.specs.Names.{inputs_of, outputs_of, written};
+ghost use Rattle.line_run.specs.Names.{inputs_of, outputs_of, written};
 ghost use Rattle.run_world.specs.Link.{AreCounted, AreIdle, AreWithin, LinkStands, octets_of};
 ghost use Rattle.outside_calls.specs.Folder.{OnlyReads, OnlyWrites};
 ghost use Rattle.outside_calls.specs.Outputs.{AddPart, AreApartFrom, OnlyPuts};

@@ -2,7 +2,7 @@
 ghost use Rattle.std.specs.Prelude.{◌≡◌, ◌++◌, OnOk, OnErr, IfErr};
 ghost use Rattle.outside_calls.specs.Folder.{Appended, OnlyWrites, PartlyAppended};
 ghost use Rattle.line_texts.specs.LineText.{chance_line, line_text};
-ghost use Rattle.run_world.specs.Names.{written};
+ghost use Rattle.line_run.specs.Names.{written};
 ghost use Rattle.run_world.specs.Turn.{IsWriting, TurnCounts, fault_of};
 ghost use Rattle.run_world.specs.Mid.{fault_named};
 ghost use Rattle.link_run.specs.Laws.{IsNamed};

@@ -3,7 +3,7 @@ ghost use Rattle.std.specs.Prelude.{◌≡◌, [], ◌++◌, List, ℕ, IfOk};
 ghost use Rattle.roles.specs.Both.{Both};
 ghost use Rattle.link_run.specs.Run.{start};
 ghost use Rattle.line_run.specs.Scripted.{wire_of, link_of};
-ghost use Rattle.run_world.specs.Names.{inputs_of, outputs_of, written};
+ghost use Rattle.line_run.specs.Names.{inputs_of, outputs_of, written};
 ghost use Rattle.run_world.specs.World.{IsReady, WorldAfter, script_of, lost_of, again_of};
 ghost use Rattle.run_world.specs.Turn.{CountsOver};
 ghost use Rattle.outside_calls.specs.Outputs.{Creates};

@@ -5,7 +5,7 @@ ghost use Rattle.link_run.specs.Run.{Accounts, Turn, start};
 ghost use Rattle.line_run.specs.Scripted.{wire_of, link_of};
 ghost use Rattle.line_run.specs.Stream.{both_sent_by};
 ghost use Rattle.shared_line.specs.Lines.{HaveArrived};
-ghost use Rattle.run_world.specs.Names.{inputs_of, outputs_of, written};
+ghost use Rattle.line_run.specs.Names.{inputs_of, outputs_of, written};
 ghost use Rattle.run_world.specs.Link.{AreWithin};
 ghost use Rattle.outside_calls.specs.Outputs.{AreApartFrom, OnlyPuts};
 

@@ -8,7 +8,7 @@ use Rattle.outside_calls.specs.Folder.{Files}
 use Rattle.program_folders.specs.Sure.{SureState, sure_folder}
 use Rattle.roles.specs.declared.role.Role.TheVariants.{Originator, Answerer}
 use Rattle.outside_calls.specs.Outputs.{AreApartFrom, SomeRose}
-use Rattle.run_world.specs.Names.{inputs_of, outputs_of}
+use Rattle.line_run.specs.Names.{inputs_of, outputs_of}
 use Rattle.run_world.specs.declared.step.RunFault.{RunFault}
 use Rattle.run_world.specs.declared.step.RunFault.TheVariants as faults
 use Rattle.run_world.specs.Turn.{FaultCounts}

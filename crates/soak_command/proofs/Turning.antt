@@ -12,7 +12,7 @@ use Rattle.line_run.specs.Ends.{RunEnd, RunsTo}
 use Rattle.line_run.specs.Ends as runs
 use Rattle.line_run.specs.Scripted.{link_of}
 use Rattle.run_world.specs.Limits.{file_limit}
-use Rattle.run_world.specs.Names.{Written, inputs_of, outputs_of}
+use Rattle.line_run.specs.Names.{Written, inputs_of, outputs_of}
 use Rattle.run_world.specs.World.{KnowsFiles}
 use Rattle.run_world.specs.declared.step.RunFault.{RunFault}
 use Rattle.run_world.specs.declared.step.RunFault.TheVariants as faults

@@ -1,6 +1,6 @@
 // The folder of a soak.
 ghost use Rattle.std.specs.Prelude.{◌≡◌, IfOk, OnOk, true};
-ghost use Rattle.run_world.specs.Names.{written};
+ghost use Rattle.line_run.specs.Names.{written};
 ghost use Rattle.outside_calls.specs.Outputs.{OnlyOutputs, Creates};
 ghost use Rattle.program_folders.specs.Sure.{sure_folder};
 ghost use Rattle.soak_command.specs.Folder.{HoldsFiles, soak_names, soak_outputs};

@@ -3,7 +3,7 @@ use Rattle.outside_calls.specs.Folder.{FolderState}
 use Rattle.noise_script.specs.Script.{ScriptValue}
 use Rattle.link_run.specs.Run.{start}
 use Rattle.line_run.specs.Scripted.{link_of}
-use Rattle.run_world.specs.Names.{Written, written}
+use Rattle.line_run.specs.Names.{Written, written}
 use Rattle.run_world.specs.World.{WorldAfter}
 use Rattle.command_base.specs.Stops.{EndCounts}
 use Rattle.audit_command.specs.Words.{AuditNames, named}

@@ -1,7 +1,7 @@
 use Rattle.std.proofs.Common.{List, ℕ, [], sym, ◌∙◌, subst}
 use Rattle.outside_calls.specs.Folder.{FolderState}
 use Rattle.outside_calls.proofs.Steps.{OnlyReads-trans}
-use Rattle.run_world.specs.Names.{Written, written}
+use Rattle.line_run.specs.Names.{Written, written}
 use Rattle.trace_audit.specs.Differences.{IsCut}
 use Rattle.command_base.proofs.Jobs.{stop-earlier}
 use Rattle.audit_command.specs.Turns.{audit_inputs}

@@ -1,7 +1,7 @@
 use Rattle.std.proofs.Common.{Bool, Ok, refl, sym, ◌∙◌, ap, subst}
 use Rattle.outside_calls.specs.Folder.{FolderState}
 use Rattle.outside_calls.proofs.Steps.{OnlyReads-refl, OnlyReads-trans, CountsStand-refl, CountsStand-trans}
-use Rattle.run_world.specs.Names.{written}
+use Rattle.line_run.specs.Names.{written}
 use Rattle.run_world.specs.World.{turn_of}
 use Rattle.run_world.proofs.Reached.{nearer}
 use Rattle.readable_runs.specs.Readable.{AsksInOctets}

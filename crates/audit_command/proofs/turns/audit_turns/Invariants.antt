@@ -1,6 +1,6 @@
 use Rattle.std.proofs.Common.{◌≡◌, ◌-◌, ◌^◌, true}
 use Rattle.outside_calls.specs.Folder.{OnlyReads, CountsStand}
-use Rattle.run_world.specs.Names.{written}
+use Rattle.line_run.specs.Names.{written}
 use Rattle.run_world.specs.World.{IsReady, script_of, turn_of}
 use Rattle.audit_command.specs.Turns.{AreCompared}
 use Rattle.audit_command.proofs.turns.audit_turns.Given as goal

@@ -1,7 +1,7 @@
 use Rattle.std.proofs.Common.{Result, ℕ, sym, subst}
 use Rattle.outside_calls.specs.Folder.{FolderState}
 use Rattle.noise_script.specs.Script.{ScriptValue}
-use Rattle.run_world.specs.Names.{Written, written}
+use Rattle.line_run.specs.Names.{Written, written}
 use Rattle.run_world.specs.World.{script_of}
 use Rattle.command_base.specs.declared.stop.Stop.{Stop}
 use Rattle.audit_command.specs.Turns.{RunIs}

@@ -1,6 +1,6 @@
 use Rattle.std.proofs.Common.{sym, ◌∙◌, ap, Ok, Bool}
 use Rattle.outside_calls.specs.Folder.{FolderState}
-use Rattle.run_world.specs.Names.{written}
+use Rattle.line_run.specs.Names.{written}
 use Rattle.audit_command.proofs.Turning.{LineLaws, made, made-counts, going-step}
 use Rattle.audit_command.proofs.watching.make_turn.Goals as goal
 

@@ -3,7 +3,7 @@ use Rattle.outside_calls.specs.Folder.{FolderState}
 use Rattle.outside_calls.proofs.Steps.{CountsStand-refl, CountsStand-trans}
 use Rattle.outside_calls.proofs.Putting.{OnlyPuts-refl, OnlyPuts-trans}
 use Rattle.noise_script.specs.Script.{ScriptValue}
-use Rattle.run_world.specs.Names.{Written, written}
+use Rattle.line_run.specs.Names.{Written, written}
 use Rattle.pair_run.specs.Ends.{First}
 use Rattle.link_pair.specs.Pair.{FaultEnds, HaveEnded, all_inputs, all_outputs}
 use Rattle.link_pair.proofs.Pairing.{few-rounds}

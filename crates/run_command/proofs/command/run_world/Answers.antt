@@ -2,10 +2,9 @@ use Rattle.std.proofs.Common.{inl, inr, ◌++◌, sym, subst}
 use Rattle.outside_calls.specs.Folder.{FolderState}
 use Rattle.outside_calls.proofs.Steps.{CountsStand-trans}
 use Rattle.noise_script.specs.Script.{ScriptValue}
-use Rattle.outside_calls.specs.Outputs.{AreApartFrom, OnlyPuts, Creates}
+use Rattle.outside_calls.specs.Outputs.{AreApartFrom, OnlyPuts}
 use Rattle.line_run.specs.Recorded.{Tapes, tapes_of}
-use Rattle.run_world.specs.Names.{Written}
-use Rattle.run_world.specs.Names as written
+use Rattle.line_run.specs.Names as written
 use Rattle.run_world.specs.World.{script_of}
 use Rattle.run_world.specs.Taping.{tape_names}
 use Rattle.run_world.specs.Turn.{FaultCountsOver}
@@ -16,7 +15,6 @@ use Rattle.outside_calls.proofs.Putting.{OnlyOutputs-puts}
 use Rattle.run_inputs.specs.declared.limits.TheConstants.{LIMITS}
 use Rattle.run_inputs.specs.Words.{RunNames, named, inputs_of, outputs_of}
 use Rattle.run_world.specs.Turns.{RunEnds, FaultEnds}
-use Rattle.run_command.specs.Names.{names_written}
 use Rattle.run_command.specs.Ends.{EndsBy}
 use Rattle.line_run.specs.Ends as runs
 use Rattle.run_command.proofs.Runs.{apart-names, ends-creating, ends-heading, ran-to, ends-in-turn, turn-counts}
@@ -35,16 +33,13 @@ returns-in-Err-clause-ends g c = λ begin b.
 pub run_turns-requires-clause-apart : goal.run_turns-requires-clause-apart
 run_turns-requires-clause-apart g c =
     let n : RunNames = named c.args.words.now in
-    subst (λ (w : Written). AreApartFrom (written.inputs_of w) (written.outputs_of w ++ tapes_of (tape_names c.in-Ok.tapes))) (sym c.names_of.ensures)
-    (subst (λ (tapes : Tapes). AreApartFrom (written.inputs_of (names_written n)) (written.outputs_of (names_written n) ++ tapes_of tapes))
+    subst (λ (tapes : Tapes). AreApartFrom (written.inputs_of n.names) (written.outputs_of n.names ++ tapes_of tapes))
     (sym c.in-Ok.ensures.ok.0)
     (apart-names n (c.apart_names_differ.ensures.outputs (inputs_of n) (outputs_of n) c.requires.apart)
-    (c.apart_names_differ.ensures.inputs (inputs_of n) (outputs_of n) c.requires.apart)))
+    (c.apart_names_differ.ensures.inputs (inputs_of n) (outputs_of n) c.requires.apart))
 
 pub run_turns-requires-clause-created : goal.run_turns-requires-clause-created
-run_turns-requires-clause-created g c =
-    subst (λ (w : Written). Creates (g.F.Folder.state c.make_outputs.new.folder) (written.outputs_of w)) (sym c.names_of.ensures)
-    c.in-Ok.ensures.created
+run_turns-requires-clause-created g c = c.in-Ok.ensures.created
 
 pub returns-in-Ok-run_turns-clause-ends : goal.returns-in-Ok-run_turns-clause-ends
 returns-in-Ok-run_turns-clause-ends g c = λ begin b.
@@ -55,8 +50,8 @@ returns-in-Ok-run_turns-clause-ends g c = λ begin b.
     let script : ScriptValue = script_of c.args.world.now in
     let end = runs.IsDone c.in-Ok-run_turns.turn in
     let turns : OnlyPuts now next (outputs_of n) =
-    (subst (λ (tapes : Tapes). OnlyPuts now next (written.outputs_of (names_written n) ++ tapes_of tapes)) c.in-Ok.ensures.ok.0
-    (subst (λ (w : Written). OnlyPuts now next (written.outputs_of w ++ tapes_of (tape_names c.in-Ok.tapes))) c.names_of.ensures c.in-Ok-run_turns.ensures.only)) in
+    (subst (λ (tapes : Tapes). OnlyPuts now next (written.outputs_of n.names ++ tapes_of tapes)) c.in-Ok.ensures.ok.0
+    c.in-Ok-run_turns.ensures.only) in
     ran-to begin mid now next n script end (record {
       begun = b;
       creates = c.in-Ok.ensures.only;
@@ -65,8 +60,8 @@ returns-in-Ok-run_turns-clause-ends g c = λ begin b.
           (c.apart_names_differ.ensures.inputs (inputs_of n) (outputs_of n) c.requires.apart)).1;
       stand = c.in-Ok.ensures.stand;
     })
-    (subst (λ (tapes : Tapes). RunEnds script next (names_written n) tapes end) c.in-Ok.ensures.ok.0
-    (subst (λ (w : Written). RunEnds script next w (tape_names c.in-Ok.tapes) end) c.names_of.ensures c.in-Ok-run_turns.ensures.run))
+    (subst (λ (tapes : Tapes). RunEnds script next n.names tapes end) c.in-Ok.ensures.ok.0
+    c.in-Ok-run_turns.ensures.run)
 
 pub returns-in-Ok-run_turns-clause-only : goal.returns-in-Ok-run_turns-clause-only
 returns-in-Ok-run_turns-clause-only g c =
@@ -76,8 +71,8 @@ returns-in-Ok-run_turns-clause-only g c =
     let n : RunNames = named c.args.words.now in
     let script : ScriptValue = script_of c.args.world.now in
     let turns : OnlyPuts now next (outputs_of n) =
-    (subst (λ (tapes : Tapes). OnlyPuts now next (written.outputs_of (names_written n) ++ tapes_of tapes)) c.in-Ok.ensures.ok.0
-    (subst (λ (w : Written). OnlyPuts now next (written.outputs_of w ++ tapes_of (tape_names c.in-Ok.tapes))) c.names_of.ensures c.in-Ok-run_turns.ensures.only)) in
+    (subst (λ (tapes : Tapes). OnlyPuts now next (written.outputs_of n.names ++ tapes_of tapes)) c.in-Ok.ensures.ok.0
+    c.in-Ok-run_turns.ensures.only) in
     OnlyOutputs-trans (outputs_of n) c.in-Ok.ensures.only (OnlyOutputs-puts (outputs_of n) turns)
 
 pub returns-in-Ok-run_turns-clause-counts : goal.returns-in-Ok-run_turns-clause-counts
@@ -92,8 +87,8 @@ returns-in-Err-run_turns-clause-ends g c = λ begin b.
     let script : ScriptValue = script_of c.args.world.now in
     let fault = c.in-Err-run_turns.fault in
     let turns : OnlyPuts now next (outputs_of n) =
-    (subst (λ (tapes : Tapes). OnlyPuts now next (written.outputs_of (names_written n) ++ tapes_of tapes)) c.in-Ok.ensures.ok.0
-    (subst (λ (w : Written). OnlyPuts now next (written.outputs_of w ++ tapes_of (tape_names c.in-Ok.tapes))) c.names_of.ensures c.in-Err-run_turns.ensures.only)) in
+    (subst (λ (tapes : Tapes). OnlyPuts now next (written.outputs_of n.names ++ tapes_of tapes)) c.in-Ok.ensures.ok.0
+    c.in-Err-run_turns.ensures.only) in
     subst (EndsBy LIMITS begin next n) (sym c.stop_of.ensures)
     (ends-in-turn c.line_runs_end_soon.ensures.soon begin mid now next n script fault (record {
       begun = b;
@@ -103,10 +98,10 @@ returns-in-Err-run_turns-clause-ends g c = λ begin b.
           (c.apart_names_differ.ensures.inputs (inputs_of n) (outputs_of n) c.requires.apart)).1;
       stand = c.in-Ok.ensures.stand;
     })
-    (subst (λ (tapes : Tapes). FaultCountsOver now next (written.inputs_of (names_written n)) (written.outputs_of (names_written n) ++ tapes_of tapes) fault) c.in-Ok.ensures.ok.0
-    (subst (λ (w : Written). FaultCountsOver now next (written.inputs_of w) (written.outputs_of w ++ tapes_of (tape_names c.in-Ok.tapes)) fault) c.names_of.ensures c.in-Err-run_turns.ensures.counts))
-    (subst (λ (tapes : Tapes). FaultEnds script next (names_written n) tapes fault) c.in-Ok.ensures.ok.0
-    (subst (λ (w : Written). FaultEnds script next w (tape_names c.in-Ok.tapes) fault) c.names_of.ensures c.in-Err-run_turns.ensures.run)))
+    (subst (λ (tapes : Tapes). FaultCountsOver now next (written.inputs_of n.names) (written.outputs_of n.names ++ tapes_of tapes) fault) c.in-Ok.ensures.ok.0
+    c.in-Err-run_turns.ensures.counts)
+    (subst (λ (tapes : Tapes). FaultEnds script next n.names tapes fault) c.in-Ok.ensures.ok.0
+    c.in-Err-run_turns.ensures.run))
 
 pub returns-in-Err-run_turns-clause-only : goal.returns-in-Err-run_turns-clause-only
 returns-in-Err-run_turns-clause-only g c =
@@ -116,8 +111,8 @@ returns-in-Err-run_turns-clause-only g c =
     let n : RunNames = named c.args.words.now in
     let script : ScriptValue = script_of c.args.world.now in
     let turns : OnlyPuts now next (outputs_of n) =
-    (subst (λ (tapes : Tapes). OnlyPuts now next (written.outputs_of (names_written n) ++ tapes_of tapes)) c.in-Ok.ensures.ok.0
-    (subst (λ (w : Written). OnlyPuts now next (written.outputs_of w ++ tapes_of (tape_names c.in-Ok.tapes))) c.names_of.ensures c.in-Err-run_turns.ensures.only)) in
+    (subst (λ (tapes : Tapes). OnlyPuts now next (written.outputs_of n.names ++ tapes_of tapes)) c.in-Ok.ensures.ok.0
+    c.in-Err-run_turns.ensures.only) in
     OnlyOutputs-trans (outputs_of n) c.in-Ok.ensures.only (OnlyOutputs-puts (outputs_of n) turns)
 
 pub returns-in-Err-run_turns-clause-counts : goal.returns-in-Err-run_turns-clause-counts
@@ -131,5 +126,5 @@ returns-in-Err-run_turns-clause-counts g c =
     subst (StopCounts mid next (inputs_of n) (outputs_of n)) (sym c.stop_of.ensures)
     (stop-earlier mid now next (inputs_of n) (outputs_of n) _ c.in-Ok.ensures.stand
     (turn-counts now next n fault
-    (subst (λ (tapes : Tapes). FaultCountsOver now next (written.inputs_of (names_written n)) (written.outputs_of (names_written n) ++ tapes_of tapes) fault) c.in-Ok.ensures.ok.0
-    (subst (λ (w : Written). FaultCountsOver now next (written.inputs_of w) (written.outputs_of w ++ tapes_of (tape_names c.in-Ok.tapes)) fault) c.names_of.ensures c.in-Err-run_turns.ensures.counts))))
+    (subst (λ (tapes : Tapes). FaultCountsOver now next (written.inputs_of n.names) (written.outputs_of n.names ++ tapes_of tapes) fault) c.in-Ok.ensures.ok.0
+    c.in-Err-run_turns.ensures.counts)))

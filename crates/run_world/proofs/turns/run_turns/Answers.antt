@@ -5,7 +5,7 @@ use Rattle.outside_calls.specs.Folder.{FolderState}
 use Rattle.outside_calls.specs.Outputs.{AreApart, KeepsEach, OnlyPuts}
 use Rattle.noise_script.specs.Script.{ScriptValue}
 use Rattle.line_run.specs.Scripted.{wire_of}
-use Rattle.run_world.specs.Names.{Written, inputs_of, outputs_of, written}
+use Rattle.line_run.specs.Names.{Written, inputs_of, outputs_of, written}
 use Rattle.line_run.specs.Recorded.{Tapes, tapes_of}
 use Rattle.run_world.specs.Tapes.{HoldTapes, HoldTapesPartly}
 use Rattle.run_world.specs.Taping.{KeepTapes, tape_names}

@@ -1,6 +1,6 @@
 use Rattle.std.proofs.Common.{◌≡◌, ◌-◌, ◌^◌}
 use Rattle.line_run.specs.Scripted.{wire_of}
-use Rattle.run_world.specs.Names.{written}
+use Rattle.line_run.specs.Names.{written}
 use Rattle.run_world.specs.World.{IsReady, script_of, turn_of}
 use Rattle.run_world.specs.Taping.{KeepTapes, tape_names}
 use Rattle.run_world.proofs.Reached.{Reached}

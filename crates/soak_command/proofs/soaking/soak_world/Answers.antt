@@ -2,7 +2,7 @@ use Rattle.std.proofs.Common.{ℕ, Ok, Err, sym, subst}
 use Rattle.outside_calls.specs.Outputs.{Creates}
 use Rattle.outside_calls.specs.Outputs.{AreApartFrom}
 use Rattle.program_folders.specs.Sure.{sure_folder}
-use Rattle.run_world.specs.Names.{Written, inputs_of, outputs_of, written}
+use Rattle.line_run.specs.Names.{Written, inputs_of, outputs_of, written}
 use Rattle.run_world.specs.World.{script_of, lost_of, again_of}
 use Rattle.command_base.specs.declared.stop.Stop.{Stop}
 use Rattle.soak_command.specs.Ends.{Ends}

@@ -1,6 +1,6 @@
 use Rattle.std.proofs.Common.{sym, ◌∙◌, arith}
 use Rattle.outside_calls.specs.Folder.{FolderState}
-use Rattle.run_world.specs.Names.{Written, written}
+use Rattle.line_run.specs.Names.{Written, written}
 use Rattle.pair_run.specs.Beside.{after_first}
 use Rattle.pair_run.specs.Ends.{Second}
 use Rattle.pair_run.specs.Pair.{turns_in}

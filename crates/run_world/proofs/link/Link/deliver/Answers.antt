@@ -4,7 +4,7 @@ use Rattle.outside_calls.specs.Folder.{Rose}
 use Rattle.outside_calls.proofs.Steps.{GoesOn-refl, CountsStand-trans, FaultsStand-trans}
 use Rattle.outside_calls.proofs.Putting.{OnlyPuts-one, OnlyPuts-trans, KeepsEach-refl, AddEach-next, AddPart-longer, AddPart-next}
 use Rattle.link_run.specs.End.{deliveries}
-use Rattle.run_world.specs.Names.{outputs_of, written}
+use Rattle.line_run.specs.Names.{outputs_of, written}
 use Rattle.stations.proofs.Standing.{counted-on}
 use Rattle.run_world.proofs.link.Link.deliver.Goals as goal
 

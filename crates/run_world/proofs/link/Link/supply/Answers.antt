@@ -3,7 +3,7 @@ use Rattle.outside_calls.specs.Folder.{Rose}
 use Rattle.outside_calls.proofs.Steps.{OnlyReads-trans, CountsStand-trans, FaultsStand-trans}
 use Rattle.turn_bound.specs.Limits.{file_limit}
 use Rattle.stations.specs.Station.{Supplies}
-use Rattle.run_world.specs.Names.{written}
+use Rattle.line_run.specs.Names.{written}
 use Rattle.run_world.proofs.Linking.{reads-later}
 use Rattle.run_world.proofs.link.Link.supply.Goals as goal
 

@@ -2,7 +2,7 @@ use Rattle.std.proofs.Common.{refl, subst, None}
 use Rattle.outside_calls.specs.Folder.{Appended, PartlyAppended}
 use Rattle.roles.specs.declared.role.Role.TheVariants.{Originator, Answerer}
 use Rattle.link_run.specs.Outcomes.{Done}
-use Rattle.run_world.specs.Names.{written}
+use Rattle.line_run.specs.Names.{written}
 use Rattle.run_world.specs.Mid.{turn_in}
 use Rattle.run_world.proofs.Hearing.{heard-in, none-sent}
 use Rattle.run_world.proofs.Speaking.{hears-these, last-turn, text-is, adds-part}

@@ -1,7 +1,7 @@
 use Rattle.std.proofs.Common.{inr, subst}
 use Rattle.outside_calls.specs.Folder.{Appended, PartlyAppended}
 use Rattle.line_texts.specs.LineText.{chance_line}
-use Rattle.run_world.specs.Names.{written}
+use Rattle.line_run.specs.Names.{written}
 use Rattle.run_world.proofs.Folders.{receives-none}
 use Rattle.run_world.proofs.Turning.{writing-ends}
 use Rattle.run_world.proofs.modems.Modems.meet_chance.Goals as goal

@@ -3,7 +3,7 @@ use Rattle.noise_script.specs.Script.{IsInLimits}
 use Rattle.run_world.specs.Link.{LinkStands}
 use Rattle.run_world.specs.Mid.{ReadsBoth, served, supplied, handed}
 use Rattle.run_world.proofs.Serving.{over-others, reading-fault, reading-counts}
-use Rattle.run_world.specs.Names.{written}
+use Rattle.line_run.specs.Names.{written}
 use Rattle.run_world.proofs.modems.Modems.serve.Goals as goal
 
 pub serve-requires-clause-counted : goal.serve-requires-clause-counted

@@ -7,7 +7,7 @@ use Rattle.shared_line.specs.Lines.{ArePut}
 use Rattle.link_run.specs.Run.{BreaksAt}
 use Rattle.run_world.specs.Link.{SaysBoth}
 use Rattle.link_run.specs.Outcomes.{Going, Broken}
-use Rattle.run_world.specs.Names.{written}
+use Rattle.line_run.specs.Names.{written}
 use Rattle.run_world.specs.Mid.{served, turn_in}
 use Rattle.run_world.proofs.Hearing.{none-sent}
 use Rattle.run_world.proofs.Speaking.{SpokenTurn, GoingLaws, spoken_by, ends_of, spoken-turn, broken-turn, text-is, taken-back, all-codable, put_by, are-put, counts-what}

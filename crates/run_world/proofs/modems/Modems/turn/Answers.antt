@@ -2,7 +2,7 @@ use Rattle.std.proofs.Common.{◌≡◌, ◌+◌, ◌<◌, length, refl, sym, �
 use Rattle.outside_calls.proofs.Steps.{CountsStand-trans}
 use Rattle.link_run.specs.End.{is_closed}
 use Rattle.outside_calls.proofs.Putting.{OnlyPuts-trans, OnlyPuts-reads, KeepsEach-refl, KeepsEach-reads, AddEach-kept}
-use Rattle.run_world.specs.Names.{outputs_of, written}
+use Rattle.line_run.specs.Names.{outputs_of, written}
 use Rattle.run_world.specs.Link.{AreCounted, octets_of}
 use Rattle.shared_line.specs.declared.lines.LineEnd.{LineEnd}
 use Rattle.line_run.specs.Sampled.{EndsLine}

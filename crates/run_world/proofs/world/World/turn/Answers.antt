@@ -2,7 +2,7 @@ use Rattle.std.proofs.Common.{◌∷◌, sym, ◌∙◌, subst, Result}
 use Rattle.line_run.specs.Scripted.{wire_at, wire_of}
 use Rattle.line_run.specs.Stream.{both_sent_by}
 use Rattle.shared_line.specs.Lines.{AreDue, LinesWait}
-use Rattle.run_world.specs.Names.{written}
+use Rattle.line_run.specs.Names.{written}
 use Rattle.run_world.specs.Modems.{ModemsAfter}
 use Rattle.run_world.specs.Turn.{GoesOnBy, TurnAnswers}
 use Rattle.run_world.specs.declared.step.Step.{Step}

@@ -1,6 +1,6 @@
 -- The names of a run's files: those that both users send, those that they receive, and the trace.
 use Rattle.std.specs.Prelude.{ℕ, List, [], ◌∷◌}
-use Rattle.run_world.specs.declared.names.Names.{Names}
+use Rattle.line_run.specs.declared.names.Names.{Names}
 
 -- names as octets
 pub record Written : Type 0 where

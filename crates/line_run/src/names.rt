@@ -1,7 +1,4 @@
-// The files of both users.
-
-/// The most octets of a file that is sent: a file ends there for who reads it.
-pub const FILE_LIMIT: u64 = 16_777_216;
+// The names of a run's files.
 
 /// The names of a run's files: those that both users send, those that they receive, and the trace.
 #[derive(Clone, Copy)]
