@@ -2,9 +2,9 @@
 use super::asking::{Ran, folder_with, words_of};
 use causes::Cause;
 use command_base::{
-    LinkFault, Status, Stop, append_output, create_output, create_outputs, read_file, read_piece,
-    say_line, tell_stop, within_limit, done_line, octets_line, pieces_line, samples_line,
-    usage_line,
+    LinkFault, Status, Stop, append_output, create_output, create_outputs, done_line, octets_line,
+    pieces_line, read_file, read_piece, samples_line, say_line, tell_stop, usage_line,
+    within_limit,
 };
 use lapm_frames::FrameFault;
 use outside_calls::{FolderFault, NoMemory};

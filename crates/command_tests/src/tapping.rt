@@ -14,6 +14,7 @@ use symbol_map::Sample;
 use tap_command::{tap, tap_words};
 
 mod recorded;
+mod stuffed;
 
 /// The words of a tap.
 const WORDS: &[&str] = &["tap", "ro", "ra", "s", "go", "ga", "t"];

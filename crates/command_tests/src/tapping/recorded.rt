@@ -249,3 +249,26 @@ fn a_cut_recording_is_no_tap(rt: HostRuntime) -> Result<(), Fail> {
     says(&rt, &ran, bad, "done 12\nbad tap: orig turn 11\n");
     Ok(())
 }
+
+/// Whether what a failing tap left of an output begins what the whole tap left.
+fn begins(ran: &Ran, whole: &Ran, name: &str) -> bool {
+    whole.left(name).starts_with(ran.left(name))
+}
+
+/// Each call of a tap fails in turn: the answer is a fault of the folder, and all outputs begin those of the whole tap.
+#[test]
+fn each_call_of_a_tap_that_fails_leaves_beginnings(rt: HostRuntime) -> Result<(), Fail> {
+    let before = one_octet_each(rt.alloc())?.calls();
+    let whole = tapped(rt.alloc(), one_octet_each(rt.alloc())?)?;
+    for number in before.saturating_add(1)..=whole.calls() {
+        let mut folder = one_octet_each(rt.alloc())?;
+        folder.fail_at(&[number])?;
+        let ran = tapped(rt.alloc(), folder)?;
+        let is_fault = matches!(ran.status, Status::ReadFault | Status::WriteFault);
+        assert!(&rt; is_fault, "{number}");
+        for name in ["to", "ta", "tt"] {
+            assert!(&rt; begins(&ran, &whole, name), "{number} {name}");
+        }
+    }
+    Ok(())
+}
