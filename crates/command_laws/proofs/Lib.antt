@@ -1,1 +1,2 @@
 pub mod Tapping
+mod Tracing
