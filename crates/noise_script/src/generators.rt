@@ -48,17 +48,16 @@ impl Generator {
         }
     }
 
-    /// This generator, if it stands before that word, else one that does.
-    fn brought_to(self, seed: u64, sender: Role, place: u32) -> Generator
-        ensures seed { result.seed ≡ seed }
-        ensures sender { result.sender ≡ sender }
-        ensures place { result.place ≡ place }
+    /// Puts it before the word at a place, unless it stands there.
+    fn bring_to(&mut self, seed: u64, sender: Role, place: u32)
+        ensures seed { self.new.seed ≡ seed }
+        ensures sender { self.new.sender ≡ sender }
+        ensures place { self.new.place ≡ place }
     {
         if self.seed == seed && self.sender == sender && self.place == place {
-            self
-        } else {
-            Generator::at(seed, sender, place)
+            return;
         }
+        *self = Generator::at(seed, sender, place);
     }
 
     /// The next word.
@@ -73,12 +72,12 @@ impl Generator {
         word
     }
 
-    /// A generator's word, counted from 0: one step on, if the word before it was asked last.
+    /// A generator's word, counted from 0: one step away, if the word before it was asked last.
     pub(crate) fn word_at(&mut self, seed: u64, sender: Role, place: u32) -> u32
         requires { place < 2 ^ 32 - 1 }
         ensures { result ≡ word_at seed (stream_of sender) place }
     {
-        *self = self.brought_to(seed, sender, place);
+        self.bring_to(seed, sender, place);
         self.next_word()
     }
 }
