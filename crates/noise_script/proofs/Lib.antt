@@ -10,3 +10,4 @@ pub mod Ranges
 pub mod Unique
 pub mod Exists
 pub mod Noisy
+pub mod Generated

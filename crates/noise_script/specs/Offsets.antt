@@ -2,7 +2,7 @@
 use Rattle.std.specs.Prelude.{ℕ, ◌+◌, ◌-◌, ◌*◌, ◌/◌, ◌%◌, ◌≤◌, ◌&&◌, nat_lt, nat_le, Bool, if◌then◌else◌, ℤ, pos, neg_ℤ, ◌+ℤ◌, ◌-ℤ◌, ◌≤ℤ◌, List, [], ◌∷◌}
 use Rattle.roles.specs.declared.role.Role.{Role}
 use Rattle.roles.specs.declared.role.Role.TheVariants.{Originator, Answerer}
-use Rattle.rand_pcg.specs.Lcg.{advance, started, increment_of}
+use Rattle.rand_pcg.specs.Lcg.{Lcg, advance, started, increment_of}
 use Rattle.rand_pcg.specs.Pcg.{pcg32, multiplier_64}
 use Rattle.noise_script.specs.declared.entry.Hit.{Hit}
 use Rattle.noise_script.specs.declared.entry.Noise.{Noise}
@@ -34,9 +34,13 @@ abbrev pub stream_of : Role → ℕ
 stream_of Originator = 54
 stream_of Answerer = 55
 
--- the word, counted from 0, that a generator of this seed and stream gives: as many steps from its start
+-- the generator of this seed and stream, as many steps from its start
+abbrev pub generator_at : ℕ → ℕ → ℕ → Lcg
+generator_at seed stream place = advance 64 multiplier_64 place (started 64 multiplier_64 seed (increment_of 64 stream))
+
+-- the word, counted from 0, that a generator gives
 abbrev pub word_at : ℕ → ℕ → ℕ → ℕ
-word_at seed stream place = (pcg32 (advance 64 multiplier_64 place (started 64 multiplier_64 seed (increment_of 64 stream)))).0
+word_at seed stream place = (pcg32 (generator_at seed stream place)).0
 
 -- a part of an offset, from half a word: at most amplitude from 0
 abbrev pub drawn : ℕ → ℕ → ℤ

@@ -9,6 +9,7 @@ mod draft;
 mod entry;
 mod fault;
 mod forms;
+mod generators;
 pub mod laws;
 mod limits;
 mod lines;
@@ -22,6 +23,7 @@ mod script;
 pub use causes::Cause;
 pub use entry::{Break, Hit, Loss, Noise, Pause};
 pub use fault::ScriptFault;
+pub use generators::Generators;
 pub use limits::{
     BREAK_LINES, BUSY_LINES, HIT_LINES, LOSE_LINES, NOISE_LINES, OFFSET_MOST, SCRIPT_OCTETS,
 };

@@ -1,12 +1,11 @@
 // Offsets of samples, as the lines of a script give them.
 ghost use Rattle.std.specs.Prelude.{◌≡◌, ◌+◌, ◌<◌, ◌≤◌, ◌*◌, ◌-◌, ◌^◌, length, map};
-ghost use Rattle.noise_script.specs.Offsets.{plus, sum_of, IsWithin, stream_of, word_at, drawn, drawn_offset, covers, hit_offset, noise_offset, IsQuiet, AreQuiet};
+ghost use Rattle.noise_script.specs.Offsets.{plus, sum_of, IsWithin, drawn, drawn_offset, covers, hit_offset, noise_offset, IsQuiet, AreQuiet};
 ghost use Rattle.roles.specs.Role.{same_role};
 
+use crate::generators::{Generator, Generators};
 use crate::limits::{HIT_LINES, NOISE_LINES, OFFSET_MOST};
 use crate::{Hit, Noise};
-use rand_core::utils::NextWord;
-use rand_pcg::Lcg64Xsh32;
 use roles::Role;
 
 /// What the line adds to a sample, in the units of samples.
@@ -53,31 +52,12 @@ fn hit_offset(hit: &Hit, sender: Role, symbol: u64) -> Offset
     }
 }
 
-/// The generator's stream for the noise on what a role sends.
-fn stream_of(sender: Role) -> u64
-    ensures { result ≡ stream_of sender }
-{
-    match sender {
-        Role::Originator => 54,
-        Role::Answerer => 55,
-    }
-}
-
 /// A part of an offset from half a word, at most `amplitude` from zero.
 fn drawn(amplitude: u16, half: u32) -> i32
     requires { half < 65536 }
     ensures { result ≡ drawn amplitude half }
 {
     (half % (2 * u32::from(amplitude) + 1)) as i32 - i32::from(amplitude)
-}
-
-/// A generator's word, counted from 0, without the words before it.
-fn word_at(seed: u64, stream: u64, place: u64) -> u32
-    ensures { result ≡ word_at seed stream place }
-{
-    let mut words = Lcg64Xsh32::new(seed, stream);
-    words.advance(place);
-    words.next_word()
 }
 
 /// An offset from a word: re by its low half, im by its high half.
@@ -93,7 +73,7 @@ fn drawn_offset(amplitude: u16, word: u32) -> Offset
 }
 
 /// What one noise line adds to a symbol.
-fn noise_offset(noise: &Noise, sender: Role, symbol: u64) -> Offset
+fn noise_offset(noise: &Noise, generator: &mut Generator, sender: Role, symbol: u64) -> Offset
     requires { IsQuiet noise.now }
     ensures value { result ≡ noise_offset sender symbol noise.now }
     ensures small { IsWithin 32767 result }
@@ -101,7 +81,7 @@ fn noise_offset(noise: &Noise, sender: Role, symbol: u64) -> Offset
     if noise.role != sender || !covers(noise.from, noise.count, symbol) {
         return NOTHING;
     }
-    let word = word_at(noise.seed, stream_of(noise.role), symbol - noise.from);
+    let word = generator.word_at(noise.seed, sender, (symbol - noise.from) as u32);
     drawn_offset(noise.amplitude, word)
 }
 
@@ -119,15 +99,21 @@ pub(crate) fn offset_of_hits(hits: &[Hit], sender: Role, symbol: u64) -> Offset
 }
 
 /// What noise lines add to a symbol, together.
-pub(crate) fn offset_of_noises(noises: &[Noise], sender: Role, symbol: u64) -> Offset
+pub(crate) fn offset_of_noises(
+    noises: &[Noise],
+    generators: &mut Generators,
+    sender: Role,
+    symbol: u64,
+) -> Offset
     requires few { length noises.now ≤ NOISE_LINES }
     requires quiet { AreQuiet noises.now }
     ensures value { result ≡ sum_of (map (noise_offset sender symbol) noises.now) }
     ensures small { IsWithin (32767 * NOISE_LINES) result }
 {
     let mut sum = NOTHING;
-    for noise in noises {
-        sum = plus(sum, noise_offset(noise, sender, symbol));
+    for line in 0..noises.len() {
+        let generator = &mut generators.of_lines[line];
+        sum = plus(sum, noise_offset(&noises[line], generator, sender, symbol));
     }
     sum
 }

@@ -6,7 +6,7 @@ ghost use Rattle.noise_script.specs.Offsets.{IsWithin};
 ghost use Rattle.xid_params.specs.Offers.{IsAllowed};
 
 use crate::offset::{covers, offset_of_hits, offset_of_noises, total};
-use crate::{Break, Hit, Loss, Noise, OFFSET_MOST, Offset, Pause};
+use crate::{Break, Generators, Hit, Loss, Noise, OFFSET_MOST, Offset, Pause};
 use roles::Role;
 use std::marker::Model;
 use xid_params::Offer;
@@ -131,14 +131,15 @@ impl Script {
             && covers(u64::from(loss.from), loss.count, turn))
     }
 
-    /// What is added to a symbol that a role sends, symbols being counted from 0. It takes about as long at any symbol.
-    pub fn offset(&self, sender: Role, symbol: u64) -> Offset
+    /// What is added to a symbol that a role sends, symbols being counted from 0, whatever the generators were asked before. It is
+    /// quickest for the symbol behind the one that they were asked last, and takes about as long at any other.
+    pub fn offset(&self, generators: &mut Generators, sender: Role, symbol: u64) -> Offset
         ensures value { result ≡ offset_of self.now sender symbol }
         ensures small { IsWithin OFFSET_MOST result }
     {
         total(
             offset_of_hits(&self.hits, sender, symbol),
-            offset_of_noises(&self.noises, sender, symbol),
+            offset_of_noises(&self.noises, generators, sender, symbol),
         )
     }
 

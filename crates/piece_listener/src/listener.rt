@@ -3,11 +3,12 @@ ghost use Rattle.std.specs.Prelude.{◌≡◌, ◌≤◌, ◌<◌, ◌+◌, ◌*
 ghost use Rattle.outside_calls.specs.Folder.{FolderState, OnlySays, CountsStand};
 ghost use Rattle.plain_lists.specs.Bits.{low_bits, octet_bits, bits_of};
 ghost use Rattle.command_base.specs.Stops.{SayFails};
-ghost use Rattle.piece_listener.specs.Heard.{Heard, PartlyHeard, LeftAt};
+ghost use Rattle.bit_stuffing.specs.Found.{Found};
+ghost use Rattle.piece_listener.specs.Heard.{Heard, PartlyHeard, LeftAt, SaysPiece, PartlySaysPiece};
 
 use crate::lines::reading_line;
 use crate::reading::reading_of;
-use bit_stuffing::Deframer;
+use bit_stuffing::{Deframer, Piece};
 use command_base::say_line;
 use outside_calls::{Folder, FolderFault};
 use roles::Role;
@@ -40,6 +41,26 @@ impl Model for Listener {
     ghost Value = { Listening };
 
     ghost view = { λ l. record { deframer = l.deframer; sender = l.sender; pieces = l.pieces } };
+}
+
+/// Says the line of a piece, of these octets where it is whole. It isn't inlined, so that no bit without a piece pays for its room.
+#[inline(never)]
+fn say_piece<F: Folder>(
+    folder: &mut F,
+    piece: Piece,
+    octets: &[u8],
+    sender: Role,
+) -> Result<(), FolderFault>
+    ensures ok { (found : Found) → found.piece ≡ piece → found.octets ≡ octets.now
+        → OnOk result (SaysPiece (F.state folder.old) (F.state folder.new) sender found) }
+    ensures err { (found : Found) → found.piece ≡ piece → found.octets ≡ octets.now
+        → OnErr result (PartlySaysPiece (F.state folder.old) (F.state folder.new) sender found) }
+    ensures only { OnlySays (F.state folder.old) (F.state folder.new) }
+    ensures fails { IfErr result (SayFails (F.state folder.old) (F.state folder.new)) }
+    ensures stand { OnOk result (CountsStand (F.state folder.old) (F.state folder.new)) }
+{
+    let reading = reading_of(piece, octets, sender);
+    say_line(folder, reading_line(&reading).as_slice())
 }
 
 impl Listener {
@@ -80,8 +101,7 @@ impl Listener {
             None => Ok(()),
             Some(piece) => {
                 self.pieces += 1;
-                let reading = reading_of(piece, self.deframer.whole(), self.sender);
-                say_line(folder, reading_line(&reading).as_slice())
+                say_piece(folder, piece, self.deframer.whole(), self.sender)
             }
         }
     }

@@ -9,7 +9,7 @@ ghost use Rattle.sample_line.specs.Recorded.{saturated, displaced};
 ghost use Rattle.sample_line.specs.Transmits.{Transmits};
 
 use line_coding::Modulator;
-use noise_script::{Offset, Script};
+use noise_script::{Generators, Offset, Script};
 use roles::Role;
 use symbol_map::Sample;
 
@@ -44,6 +44,8 @@ pub(crate) struct Transmitter {
     pub sender: Role,
     /// From bits to points.
     modulator: Modulator,
+    /// Of the noise on what is sent.
+    generators: Generators,
     /// The number of the next symbol.
     pub symbol: u64,
 }
@@ -58,6 +60,7 @@ impl Transmitter {
         Transmitter {
             sender,
             modulator: Modulator::new(sender.mode()),
+            generators: Generators::new(),
             symbol: 0,
         }
     }
@@ -72,7 +75,7 @@ impl Transmitter {
         ensures symbol { self.new.symbol ≡ self.old.symbol + 1 }
     {
         let point = self.modulator.push(quad);
-        let offset = script.offset(self.sender, self.symbol);
+        let offset = script.offset(&mut self.generators, self.sender, self.symbol);
         self.symbol += 1;
         displaced(offset, point)
     }

@@ -1,6 +1,6 @@
 // Scripts: their faults, offers, offsets, breaks and pauses.
 use causes::Cause;
-use noise_script::{Offset, SCRIPT_OCTETS, Script, ScriptFault, read_script};
+use noise_script::{Generators, Offset, SCRIPT_OCTETS, Script, ScriptFault, read_script};
 use roles::Role;
 use std::alloc::Global;
 use std::process::Abort;
@@ -78,7 +78,8 @@ fn has_offers(rt: &impl Abort, script: &Script, originator: &Offer, answerer: &O
 
 /// Looks at an offset.
 fn has_offset(rt: &impl Abort, script: &Script, sender: Role, symbol: u64, re: i32, im: i32) {
-    assert!(rt; script.offset(sender, symbol) == Offset { re, im });
+    let mut generators = Generators::new();
+    assert!(rt; script.offset(&mut generators, sender, symbol) == Offset { re, im });
 }
 
 /// Looks whether a turn's slot is lost.

@@ -4,7 +4,7 @@ use bit_stuffing::{BitSlot, SlotWriter};
 use detection::{mark_slot, pattern_slot};
 use lapm_frames::Seen;
 use line_coding::Modulator;
-use noise_script::read_script;
+use noise_script::{Generators, read_script};
 use scramblers::Mode;
 use symbol_map::Sample;
 
@@ -144,7 +144,7 @@ fn octets_that_pass_the_check_are_a_chance_match(rt: HostRuntime) -> Result<(), 
 /// The originator's first sample and its noise.
 fn moved(alloc: Global) -> Result<(i32, i32), Fail> {
     let script = read_script(alloc, b"noise orig 0 2 500 42")?;
-    let offset = script.offset(Role::Originator, 0);
+    let offset = script.offset(&mut Generators::new(), Role::Originator, 0);
     let sent = points(alloc, Mode::Call, &patterns(Seen::Odp))?;
     let point = sent.first().ok_or("no points")?;
     Ok((
