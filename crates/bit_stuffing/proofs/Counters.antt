@@ -107,7 +107,7 @@ no_abort k past true h e a = each k.since refl h.since (nat_eq k.ones 6) refl
     each (Some count) g s true f = let said : true ≡ false = rw (f, g) at e in false≢true (sym said)
     each (Some count) g s false f = few-no_seven k past count h (eqb-false k.ones 6 f) s (seven_at_end past true a.seventh)
 
-no_close : (k : Counters) (past : List Bool) (b : Bool) → Counts k past → speaks k b ≡ false → Closes past (past ++ b ∷ []) → ⊥
+pub no_close : (k : Counters) (past : List Bool) (b : Bool) → Counts k past → speaks k b ≡ false → Closes past (past ++ b ∷ []) → ⊥
 no_close k past true h e c = no_flag-one past (at_end past true c.closing)
 no_close k past false h e c = each k.since refl h.since (nat_eq k.ones 6) refl
   where

@@ -16,6 +16,7 @@ pub mod Fill
 mod Counters
 mod Quiet
 mod Octets
+mod Fours
 mod Passing
 mod States
 mod Frames

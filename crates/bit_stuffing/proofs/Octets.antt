@@ -7,7 +7,7 @@ use Rattle.std.proofs.lemmas.List.Elements.{All-append, All-cons, All-nil}
 use Rattle.frame_check.proofs.BitLists.{bits_of-snoc}
 use Rattle.plain_lists.specs.Bits.{low_bits, octet_bits, bits_of}
 use Rattle.bit_stuffing.specs.Stuffing.{removed, room_after}
-use Rattle.bit_stuffing.specs.Deframer.{Gathering, KeepsBits, Gathers, is_plain, room_behind_octet}
+use Rattle.bit_stuffing.specs.Deframer.{Gathering, KeepsBits, Gathers, has_room, is_plain, room_behind_octet, room_behind_four}
 use Rattle.bit_stuffing.proofs.Latest.{below8}
 
 -- more bits behind others
@@ -24,11 +24,11 @@ room-append (suc room) (true ∷ xs) ys = room-append room xs ys
 room-append (suc room) (false ∷ xs) ys = room-append 5 xs ys
 
 -- tests of each octet behind each run of ones
-abbrev each_below : ℕ → (ℕ → Bool) → Bool
+abbrev pub each_below : ℕ → (ℕ → Bool) → Bool
 each_below zero test = true
 each_below (suc n) test = test n && each_below n test
 
-at_each : (n : ℕ) (test : ℕ → Bool) → each_below n test ≡ true → (i : ℕ) → i < n → test i ≡ true
+pub at_each : (n : ℕ) (test : ℕ → Bool) → each_below n test ≡ true → (i : ℕ) → i < n → test i ≡ true
 at_each zero test h i l = absurd (omega arith)
 at_each (suc n) test h i l =
     let b = and_parts (test n) (each_below n test) h in
@@ -73,17 +73,17 @@ plain-kept room octet low small plain =
           (room_behind_octet octet) parts.1,
     )
 
--- the bits of a part and of an octet above it
-joined-bits : (held part octet : ℕ) → part < 2 ^ held
-    → low_bits held part ++ octet_bits octet ≡ low_bits (held + 8) (part + octet * 2 ^ held)
-joined-bits zero part octet small = let e : octet ≡ part + octet * 2 ^ 0 = omega arith in ap octet_bits e
-joined-bits (suc held) part octet small =
+-- the bits of a part and of a number above it
+joined-bits : (held part k n : ℕ) → part < 2 ^ held → low_bits held part ++ low_bits k n ≡ low_bits (held + k) (part + n * 2 ^ held)
+joined-bits zero part k n small = let e : n ≡ part + n * 2 ^ 0 = omega arith in let all : 0 + k ≡ k = omega arith in
+    ap (low_bits k) e ∙ ap (λ m. low_bits m (part + n * 2 ^ 0)) (sym all)
+joined-bits (suc held) part k n small =
     let double : 2 ^ suc held ≡ 2 * 2 ^ held = twice held in
-    let product : octet * 2 ^ suc held ≡ 2 * (octet * 2 ^ held) = ap (λ n. octet * n) double ∙ turned octet (2 ^ held) in
-    let low : (part + octet * 2 ^ suc held) % 2 ≡ part % 2 = omega (arith, product) in
-    let high : (part + octet * 2 ^ suc held) / 2 ≡ part / 2 + octet * 2 ^ held = omega (arith, product) in
-    let rest = joined-bits held (part / 2) octet (omega (arith, double)) in
-    let more : suc held + 8 ≡ suc (held + 8) = omega arith in
+    let product : n * 2 ^ suc held ≡ 2 * (n * 2 ^ held) = ap (λ m. n * m) double ∙ turned n (2 ^ held) in
+    let low : (part + n * 2 ^ suc held) % 2 ≡ part % 2 = omega (arith, product) in
+    let high : (part + n * 2 ^ suc held) / 2 ≡ part / 2 + n * 2 ^ held = omega (arith, product) in
+    let rest = joined-bits held (part / 2) k n (omega (arith, double)) in
+    let more : suc held + k ≡ suc (held + k) = omega arith in
     rw (more, low, high) (ap (λ l. nat_eq (part % 2) 1 ∷ l) rest)
   where
     twice : (k : ℕ) → 2 ^ suc k ≡ 2 * 2 ^ k
@@ -114,7 +114,7 @@ keeps-eight : (octets : List ℕ) (part held octet all : ℕ) (kept : List Bool)
 keeps-eight octets part held octet all kept small e h =
     let turned : held + 8 ≡ 8 + held = omega arith in
     let bits : low_bits held part ++ octet_bits octet ≡ octet_bits (all % 256) ++ low_bits held (all / 256) =
-    joined-bits held part octet small ∙ ap (low_bits (held + 8)) (sym e) ∙ ap (λ n. low_bits n all) turned ∙ first-octet held all in (
+    joined-bits held part 8 octet small ∙ ap (low_bits (held + 8)) (sym e) ∙ ap (λ n. low_bits n all) turned ∙ first-octet held all in (
       ap (λ l. l ++ octet_bits octet) h.0 ∙ append_assoc (bits_of octets) (low_bits held part) (octet_bits octet)
           ∙ ap (λ l. bits_of octets ++ l) bits
           ∙ sym (append_assoc (bits_of octets) (octet_bits (all % 256)) (low_bits held (all / 256)))
@@ -141,37 +141,38 @@ gathers-octet g octet all line low small part plain e open_yet h =
           (keeps-eight g.octets g.part g.held octet all (removed 5 line) part e was));
     }
 
--- one more bit of an octet
-pub spelled-more : (xs : List Bool) (place rest octet : ℕ) → place < 8 → xs ++ low_bits (8 - place) rest ≡ octet_bits octet
-    → (xs ++ nat_eq (rest % 2) 1 ∷ []) ++ low_bits (8 - (place + 1)) (rest / 2) ≡ octet_bits octet
-spelled-more xs place rest octet l e =
-    let one : 8 - place ≡ suc (8 - (place + 1)) = omega arith in
-    append_assoc xs (nat_eq (rest % 2) 1 ∷ []) (low_bits (8 - (place + 1)) (rest / 2)) ∙ ap (λ n. xs ++ low_bits n rest) (sym one) ∙ e
+-- one more of so many bits
+spelled-more : (xs : List Bool) (place rest count bits : ℕ) → place < count → xs ++ low_bits (count - place) rest ≡ low_bits count bits
+    → (xs ++ nat_eq (rest % 2) 1 ∷ []) ++ low_bits (count - (place + 1)) (rest / 2) ≡ low_bits count bits
+spelled-more xs place rest count bits l e =
+    let one : count - place ≡ suc (count - (place + 1)) = omega arith in
+    append_assoc xs (nat_eq (rest % 2) 1 ∷ []) (low_bits (count - (place + 1)) (rest / 2)) ∙ ap (λ n. xs ++ low_bits n rest) (sym one) ∙ e
 
 -- what a line and the bits so far are, once all were pushed
-pub record HasPushed (g : Gathering) (line : List Bool) (place rest octet : ℕ) : Type 0 where
-  pub bits : List Bool
-  pub gathers : Gathers g (line ++ bits)
-  pub spelled : bits ++ low_bits (8 - place) rest ≡ octet_bits octet
+pub record HasPushed (g : Gathering) (line : List Bool) (place rest count bits : ℕ) : Type 0 where
+  pub front : List Bool
+  pub gathers : Gathers g (line ++ front)
+  pub spelled : front ++ low_bits (count - place) rest ≡ low_bits count bits
 
-pub pushed-none : (g : Gathering) (line : List Bool) (octet : ℕ) → Gathers g line → HasPushed g line 0 octet octet
-pushed-none g line octet h = record { bits = []; gathers = subst (Gathers g) (sym (append-nil line)) h; spelled = refl }
+pub pushed-none : (g : Gathering) (line : List Bool) (count bits : ℕ) → Gathers g line → HasPushed g line 0 bits count bits
+pushed-none g line count bits h = let all : count - 0 ≡ count = omega arith in
+    record { front = []; gathers = subst (Gathers g) (sym (append-nil line)) h; spelled = ap (λ n. low_bits n bits) all }
 
-pub pushed-more : (g h : Gathering) (line : List Bool) (place rest octet : ℕ) → place < 8
-    → ((line : List Bool) → Gathers g line → Gathers h (line ++ nat_eq (rest % 2) 1 ∷ [])) → HasPushed g line place rest octet
-    → HasPushed h line (place + 1) (rest / 2) octet
-pushed-more g h line place rest octet l push p = record {
-  bits = p.bits ++ nat_eq (rest % 2) 1 ∷ [];
-  gathers = subst (Gathers h) (append_assoc line p.bits (nat_eq (rest % 2) 1 ∷ [])) (push (line ++ p.bits) p.gathers);
-  spelled = spelled-more p.bits place rest octet l p.spelled;
+pub pushed-more : (g h : Gathering) (line : List Bool) (place rest count bits : ℕ) → place < count
+    → ((line : List Bool) → Gathers g line → Gathers h (line ++ nat_eq (rest % 2) 1 ∷ [])) → HasPushed g line place rest count bits
+    → HasPushed h line (place + 1) (rest / 2) count bits
+pushed-more g h line place rest count bits l push p = record {
+  front = p.front ++ nat_eq (rest % 2) 1 ∷ [];
+  gathers = subst (Gathers h) (append_assoc line p.front (nat_eq (rest % 2) 1 ∷ [])) (push (line ++ p.front) p.gathers);
+  spelled = spelled-more p.front place rest count bits l p.spelled;
 }
 
-pub pushed-all : (g : Gathering) (line : List Bool) (place rest octet : ℕ) → 8 ≤ place → HasPushed g line place rest octet
-    → Gathers g (line ++ octet_bits octet)
-pushed-all g line place rest octet l p =
-    let none : 8 - place ≡ 0 = omega arith in
-    let bits : p.bits ≡ octet_bits octet = sym (append-nil p.bits) ∙ ap (λ n. p.bits ++ low_bits n rest) (sym none) ∙ p.spelled in
-    subst (λ xs. Gathers g (line ++ xs)) bits p.gathers
+pub pushed-all : (g : Gathering) (line : List Bool) (place rest count bits : ℕ) → count ≤ place → HasPushed g line place rest count bits
+    → Gathers g (line ++ low_bits count bits)
+pushed-all g line place rest count bits l p =
+    let none : count - place ≡ 0 = omega arith in
+    let all : p.front ≡ low_bits count bits = sym (append-nil p.front) ∙ ap (λ n. p.front ++ low_bits n rest) (sym none) ∙ p.spelled in
+    subst (λ xs. Gathers g (line ++ xs)) all p.gathers
 
 -- an octet above a part
 pub join-bound : (part held octet : ℕ) → held < 8 → part < 2 ^ held → octet < 256
@@ -182,3 +183,101 @@ join-bound part held octet low small fits = below8 (λ k. part < 2 ^ k
     (λ s. (omega arith, omega arith, omega arith)) (λ s. (omega arith, omega arith, omega arith))
     (λ s. (omega arith, omega arith, omega arith)) (λ s. (omega arith, omega arith, omega arith))
     (λ s. (omega arith, omega arith, omega arith)) (λ s. (omega arith, omega arith, omega arith)) held low small
+
+-- the same for four bits
+
+abbrev four_test : ℕ → ℕ → Bool
+four_test room four =
+    if has_room room four then same_bits (removed room (low_bits 4 four)) (low_bits 4 four) && nat_eq
+    (room_after room (low_bits 4 four)) (room_behind_four four) else true
+
+all_fours : each_below 6 (λ room. each_below 16 (four_test room)) ≡ true
+all_fours = refl
+
+-- four bits in which no zero is due are kept whole
+four-kept : (room four : ℕ) → room < 6 → four < 16 → has_room room four ≡ true
+    → (removed room (low_bits 4 four) ≡ low_bits 4 four) × (room_after room (low_bits 4 four) ≡ room_behind_four four)
+four-kept room four low small plain =
+    let here : four_test room four ≡ true = at_each 16 (four_test room)
+    (at_each 6 (λ room. each_below 16 (four_test room)) all_fours room low) four small in
+    let both : same_bits (removed room (low_bits 4 four)) (low_bits 4 four) && nat_eq (room_after room (low_bits 4 four))
+    (room_behind_four four) ≡ true = rw plain at here in
+    let parts = and_parts (same_bits (removed room (low_bits 4 four)) (low_bits 4 four))
+    (nat_eq (room_after room (low_bits 4 four)) (room_behind_four four)) both in (
+      are_same (removed room (low_bits 4 four)) (low_bits 4 four) parts.0,
+      eqb-true (room_after room (low_bits 4 four)) (room_behind_four four) parts.1,
+    )
+
+-- four bits more, which make an octet or don't
+keeps-low : (octets : List ℕ) (part held four all : ℕ) (kept : List Bool) → part < 2 ^ held → all ≡ part + four * 2 ^ held
+    → KeepsBits false octets part held kept → kept ++ low_bits 4 four ≡ bits_of octets ++ low_bits (held + 4) all
+keeps-low octets part held four all kept small e h =
+    ap (λ l. l ++ low_bits 4 four) h.0 ∙ append_assoc (bits_of octets) (low_bits held part) (low_bits 4 four)
+    ∙ ap (λ l. bits_of octets ++ l) (joined-bits held part 4 four small ∙ ap (low_bits (held + 4)) (sym e))
+
+keeps-high : (octets : List ℕ) (part held four all : ℕ) (kept : List Bool) → part < 2 ^ held → all ≡ part + four * 2 ^ held → 4 ≤ held
+    → KeepsBits false octets part held kept
+    → KeepsBits false (octets ++ all % 256 ∷ []) (all / 256) (held - 4) (kept ++ low_bits 4 four)
+keeps-high octets part held four all kept small e many h =
+    let up : held + 4 ≡ 8 + (held - 4) = omega arith in (
+      keeps-low octets part held four all kept small e h
+          ∙ ap (λ l. bits_of octets ++ l) (ap (λ n. low_bits n all) up ∙ first-octet (held - 4) all)
+          ∙ sym (append_assoc (bits_of octets) (octet_bits (all % 256)) (low_bits (held - 4) (all / 256)))
+          ∙ ap (λ l. l ++ low_bits (held - 4) (all / 256)) (sym (bits_of-snoc octets (all % 256))),
+      All-append (λ octet. octet < 256) octets (all % 256 ∷ []) h.1
+          (All-cons (λ octet. octet < 256) (all % 256) [] (omega arith) (All-nil (λ octet. octet < 256))),
+    )
+
+-- what is gathered, once the bits without inserted ones are kept
+gathers-four : (g : Gathering) (four : ℕ) (next : Gathering) (line : List Bool) → g.room ≤ 5 → four < 16 → has_room g.room four ≡ true
+    → g.over ≡ false → next.over ≡ g.over → next.room ≡ room_behind_four four → Gathers g line
+    → (KeepsBits false g.octets g.part g.held (removed 5 line)
+    → KeepsBits false next.octets next.part next.held (removed 5 line ++ low_bits 4 four))
+    → Gathers next (line ++ low_bits 4 four)
+gathers-four g four next line low small plain open_yet same room h more =
+    let plain_here : has_room (room_after 5 line) four ≡ true = subst (λ n. has_room n four ≡ true) h.room_is plain in
+    let p = four-kept (room_after 5 line) four (omega (arith, h.room_is)) small plain_here in
+    let kept : removed 5 (line ++ low_bits 4 four) ≡ removed 5 line ++ low_bits 4 four = removed-append 5 line (low_bits 4 four)
+    ∙ ap (λ l. removed 5 line ++ l) p.0 in
+    let was = subst (λ over. KeepsBits over g.octets g.part g.held (removed 5 line)) open_yet h.keeps in
+    record {
+      room_is = room ∙ sym (room-append 5 line (low_bits 4 four) ∙ p.1);
+      keeps = subst (λ over. KeepsBits over next.octets next.part next.held (removed 5 (line ++ low_bits 4 four)))
+          (sym (same ∙ open_yet))
+          (subst (KeepsBits false next.octets next.part next.held) (sym kept) (more was));
+    }
+
+pub gathers-low : (g : Gathering) (four all : ℕ) (line : List Bool) → g.room ≤ 5 → four < 16 → g.part < 2 ^ g.held
+    → has_room g.room four ≡ true → all ≡ g.part + four * 2 ^ g.held → all < 256 → g.over ≡ false → Gathers g line
+    → Gathers (record g { room = room_behind_four four; part = all % 256; held = g.held + 4 }) (line ++ low_bits 4 four)
+gathers-low g four all line low small part plain e one open_yet h =
+    gathers-four g four (record g { room = room_behind_four four; part = all % 256; held = g.held + 4 }) line low small plain open_yet refl
+    refl h (λ k.
+    let same : all ≡ all % 256 = omega arith in
+    (keeps-low g.octets g.part g.held four all (removed 5 line) part e k ∙ ap (λ n. bits_of g.octets ++ low_bits (g.held + 4) n) same, k.1))
+
+pub gathers-high : (g : Gathering) (four all : ℕ) (line : List Bool) → g.room ≤ 5 → four < 16 → g.part < 2 ^ g.held
+    → has_room g.room four ≡ true → all ≡ g.part + four * 2 ^ g.held → 4 ≤ g.held → g.over ≡ false → Gathers g line
+    → Gathers (record g { room = room_behind_four four; octets = g.octets ++ all % 256 ∷ []; part = all / 256; held = g.held - 4 })
+    (line ++ low_bits 4 four)
+gathers-high g four all line low small part plain e many open_yet h =
+    gathers-four g four
+    (record g { room = room_behind_four four; octets = g.octets ++ all % 256 ∷ []; part = all / 256; held = g.held - 4 }) line low small
+    plain open_yet refl refl h (keeps-high g.octets g.part g.held four all (removed 5 line) part e many)
+
+-- four bits above a part
+pub four-bound : (part held four : ℕ) → held < 8 → part < 2 ^ held → four < 16
+    → (held < 4 → (part + four * 2 ^ held) % 256 < 2 ^ (held + 4)) × (held < 4 → part + four * 2 ^ held < 256)
+    × (4 ≤ held → (part + four * 2 ^ held) / 256 < 2 ^ (held - 4))
+four-bound part held four low small fits = below8 (λ k. part < 2 ^ k
+    → (k < 4 → (part + four * 2 ^ k) % 256 < 2 ^ (k + 4)) × (k < 4 → part + four * 2 ^ k < 256)
+    × (4 ≤ k → (part + four * 2 ^ k) / 256 < 2 ^ (k - 4)))
+    (λ s. (λ l. omega arith, λ l. omega arith, λ l. absurd (omega arith)))
+    (λ s. (λ l. omega arith, λ l. omega arith, λ l. absurd (omega arith)))
+    (λ s. (λ l. omega arith, λ l. omega arith, λ l. absurd (omega arith)))
+    (λ s. (λ l. omega arith, λ l. omega arith, λ l. absurd (omega arith)))
+    (λ s. (λ l. absurd (omega arith), λ l. absurd (omega arith), λ l. omega arith))
+    (λ s. (λ l. absurd (omega arith), λ l. absurd (omega arith), λ l. omega arith))
+    (λ s. (λ l. absurd (omega arith), λ l. absurd (omega arith), λ l. omega arith))
+    (λ s. (λ l. absurd (omega arith), λ l. absurd (omega arith), λ l. omega arith))
+    held low small

@@ -60,7 +60,7 @@ back-before past s k some = elim (cases_lt (length past) k) [
     past_all bits places h = grind (arith, nat_tests)
 
 -- the bits of an octet
-number-is : (n : ℕ) → number (nat_eq (n % 2) 1) ≡ n % 2
+pub number-is : (n : ℕ) → number (nat_eq (n % 2) 1) ≡ n % 2
 number-is n = elim (cases_lt (n % 2) 1) [
   | inl less ↦ let z : n % 2 ≡ 0 = omega arith in rw z refl
   | inr more ↦ let o : n % 2 ≡ 1 = omega arith in rw o refl

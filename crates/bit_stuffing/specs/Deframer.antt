@@ -6,6 +6,7 @@ use Rattle.plain_lists.specs.Bits.{number, low_bits, bits_of}
 use Rattle.bit_stuffing.specs.Flags.{bit_of, OpenedAt, FlagEndsAt, SevenOnesEndAt}
 use Rattle.bit_stuffing.specs.Stuffing.{removed, room_after}
 use Rattle.bit_stuffing.specs.Pieces.{content, EndsWhole}
+use Rattle.bit_stuffing.specs.Found.{pieces_of}
 use Rattle.plain_lists.specs.Octets.{AreOctets}
 
 -- the bit so many places back from the end, where ones stand before the first
@@ -73,13 +74,28 @@ pub record IsQuiet (past bits : List Bool) : Type 0 where
   pub no_flag : (n : ℕ) → length past < n → FlagEndsAt (past ++ bits) n → ⊥
   pub no_seven : (n : ℕ) → length past < n → SevenOnesEndAt (past ++ bits) n → ⊥
 
--- Behind so many ones fewer than five, given as how many may still follow, no zero is due within an octet's bits or behind them.
+-- A finder goes on by these bits. Nothing ends with any of them, and where eight bits or more stand behind a flag then, they did before.
+pub record PassesBits (finding : Finding) (past bits : List Bool) : Type 0 where
+  pub finds : Finds finding (past ++ bits)
+  pub pieces : pieces_of (past ++ bits) ≡ pieces_of past
+  pub closes : (octets : List ℕ) → EndsWhole (past ++ bits) octets → ⊥
+  pub far : (p : ℕ) → OpenedAt (past ++ bits) p → p + 8 ≤ length (past ++ bits) → OpenedAt past p × (p + 8 ≤ length past)
+
+-- Behind so many ones fewer than five, given as how many may still follow, no zero is due within the first ones of these bits or behind them.
+abbrev pub has_room : ℕ → ℕ → Bool
+has_room room bits = not (nat_eq (bits % 2 ^ room) (2 ^ room - 1))
+
+-- nor within an octet's bits or behind them
 abbrev pub is_plain : ℕ → ℕ → Bool
 is_plain room octet =
-    not (nat_eq (octet % 2 ^ room) (2 ^ room - 1)) &&
+    has_room room octet &&
     (not (nat_eq (octet / 2 % 32) 31) && (not (nat_eq (octet / 4 % 32) 31) && not (nat_eq (octet / 8) 31)))
 
 -- how many ones may still follow such an octet before a zero has to
 abbrev pub room_behind_octet : ℕ → ℕ
 room_behind_octet octet =
     if nat_lt octet 128 then 5 else (if nat_lt octet 192 then 4 else (if nat_lt octet 224 then 3 else (if nat_lt octet 240 then 2 else 1)))
+
+-- and four bits that have room
+abbrev pub room_behind_four : ℕ → ℕ
+room_behind_four four = room_behind_octet (16 * (four % 16))

@@ -4,6 +4,7 @@ pub mod Events
 pub mod Pieces
 pub mod Found
 pub mod Deframer
+pub mod Fours
 pub mod Slots
 pub mod BitSlot
 pub mod Pen

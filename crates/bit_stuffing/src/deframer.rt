@@ -37,8 +37,8 @@ fn is_whole(piece: Piece) -> bool
 }
 
 impl Deframer {
-    ghost use Rattle.std.specs.Prelude.{ℕ, ◌+◌, ◌≤◌, length, drop, List, Bool, true, false, [], ◌∷◌, ◌++◌};
-    ghost use Rattle.plain_lists.specs.Bits.{octet_bits};
+    ghost use Rattle.std.specs.Prelude.{ℕ, ◌+◌, ◌<◌, ◌≤◌, length, drop, List, Bool, true, false, [], ◌∷◌, ◌++◌, Some};
+    ghost use Rattle.plain_lists.specs.Bits.{low_bits, octet_bits};
     ghost use Rattle.bit_stuffing.specs.Flags.{OpenedAt};
     ghost use Rattle.bit_stuffing.specs.Pieces.{IsAnswer, IsLent, content};
     ghost use Rattle.bit_stuffing.specs.Found.{answer_of, lent_of, pieces_of};
@@ -117,6 +117,37 @@ impl Deframer {
         self.gather_octet();
         self.lent = false;
         self.finder.pass(octet);
+        true
+    }
+
+    /// Gathers the low bits of what leaves, if anything does.
+    fn gather_four(&mut self, leaving: Option<u8>)
+        ensures gathers { (octet : ℕ) → leaving ≡ Some octet → (line : List Bool) → Gathers self.old.gathering line
+            → Gathers self.new.gathering (line ++ low_bits 4 octet) }
+        ensures finding { self.new.finding ≡ self.old.finding }
+    {
+        match leaving {
+            Some(octet) => self.unstuffer.push_four(octet % 16),
+            None => {}
+        }
+    }
+
+    /// Goes on by four bits, the low one first, where it is plain that no piece ends with any of them: whether it did. Flags that
+    /// follow one another, and most bits of a frame, are plain. Then no octets are lent.
+    pub fn pass_four(&mut self, four: u8) -> bool
+        requires { four < 16 }
+        ensures stands { result ≡ true → (past : List Bool) → DeframerStands self.old past
+            → DeframerStands self.new (past ++ low_bits 4 four) }
+        ensures quiet { result ≡ true → (past : List Bool) → DeframerStands self.old past
+            → pieces_of (past ++ low_bits 4 four) ≡ pieces_of past }
+        ensures stays { result ≡ false → self.new ≡ self.old }
+    {
+        let leaving = self.finder.leaving_octet();
+        if !self.finder.pass_four(four) {
+            return false;
+        }
+        self.gather_four(leaving);
+        self.lent = false;
         true
     }
 

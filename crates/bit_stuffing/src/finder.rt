@@ -2,9 +2,10 @@
 // end the piece.
 ghost use Rattle.std.specs.Prelude.{◌≡◌, ◌⊎◌, ◌≤◌, ◌<◌, ◌+◌, ◌-◌, ◌*◌, ◌↔◌, ℕ, IsTrue, true, false, Some, None, List, Bool, [], ◌∷◌, ◌++◌, length, drop};
 ghost use Rattle.std.specs.Int.{bit_at};
-ghost use Rattle.plain_lists.specs.Bits.{octet_bits};
+ghost use Rattle.plain_lists.specs.Bits.{low_bits, octet_bits};
 ghost use Rattle.bit_stuffing.specs.Flags.{FlagEndsAt, SevenOnesEndAt};
 ghost use Rattle.bit_stuffing.specs.Deframer.{HoldsLatest};
+ghost use Rattle.bit_stuffing.specs.Fours.{six_ones, since_none, since_flag, since_four};
 
 use std::marker::Model;
 
@@ -43,20 +44,67 @@ fn ends_seven_ones(latest: u8) -> bool
     latest / 2 == 0x7f
 }
 
-/// Eight bits and those of an octet behind them, the first one lowest.
-fn window_of(latest: u8, octet: u8) -> u16
-    ensures { result ≡ 256 * octet + latest }
+/// Eight bits and those of an octet, or four, behind them, the first one lowest.
+fn window_of(latest: u8, more: u8) -> u16
+    ensures { result ≡ 256 * more + latest }
 {
-    256 * u16::from(octet) + u16::from(latest)
+    256 * u16::from(more) + u16::from(latest)
+}
+
+/// Where six of the bits are ones in a row: the first ones of each such six.
+fn six_ones(bits: u16) -> u16
+    ensures { result ≡ six_ones bits }
+{
+    let twos = bits & (bits / 2);
+    let fours = twos & (twos / 4);
+    fours & (twos / 16)
 }
 
 /// Whether six of the bits are ones in a row.
 fn has_six_ones(bits: u16) -> bool
     ensures { result ≡ false → (i : ℕ) → ((j : ℕ) → j < 6 → bit_at bits (i + j) ≡ 1) → ⊥ }
 {
-    let twos = bits & (bits / 2);
-    let fours = twos & (twos / 4);
-    fours & (twos / 16) != 0
+    six_ones(bits) != 0
+}
+
+/// The bits since the last flag behind four bits with which no flag ends. None where the first of them would leave before the last one came.
+fn since_none(since: Option<u8>) -> Option<Option<u8>>
+    ensures { result ≡ since_none since }
+{
+    match since {
+        None => Some(None),
+        Some(count) if count < 4 => Some(Some(count + 4)),
+        Some(count) if count < 8 => None,
+        Some(count) => Some(Some(count)),
+    }
+}
+
+/// The bits since the last flag where so many of four stand behind it. None where it closes something.
+fn since_flag(since: Option<u8>, behind: u8) -> Option<Option<u8>>
+    requires { behind < 4 }
+    ensures { result ≡ since_flag since behind }
+{
+    match since {
+        Some(count) if behind + 4 < count => None,
+        _ => Some(Some(behind)),
+    }
+}
+
+/// The bits since the last flag behind four bits more. None where it takes a look at each of them: something may end.
+fn since_four(latest: u8, since: Option<u8>, four: u8) -> Option<Option<u8>>
+    ensures { result ≡ since_four latest since four }
+{
+    let ones = six_ones(window_of(latest, four));
+    if ones & (ones / 2) != 0 {
+        return None;
+    }
+    match ones / 4 % 16 {
+        0 => since_none(since),
+        1 => since_flag(since, 3),
+        2 => since_flag(since, 2),
+        4 => since_flag(since, 1),
+        _ => since_flag(since, 0),
+    }
 }
 
 /// Finds flags, and ones in a row.
@@ -79,7 +127,7 @@ impl Model for FlagFinder {
 impl FlagFinder {
     ghost use Rattle.std.specs.Prelude.{IfSome, IfNone};
     ghost use Rattle.bit_stuffing.specs.Flags.{IsFar, IsNear};
-    ghost use Rattle.bit_stuffing.specs.Deframer.{Finds, IsQuiet, back};
+    ghost use Rattle.bit_stuffing.specs.Deframer.{Finds, IsQuiet, PassesBits, back};
     ghost use Rattle.bit_stuffing.specs.Events.{IsEvent};
 
     pub(crate) fn new() -> FlagFinder
@@ -170,5 +218,21 @@ impl FlagFinder {
         ensures { (past : List Bool) → IsQuiet past (octet_bits octet) → Finds self.old past → Finds self.new (past ++ octet_bits octet) }
     {
         self.latest = octet;
+    }
+
+    /// Goes on by four bits, the low one first, where it is plain that nothing ends with any of them: whether it did.
+    pub(crate) fn pass_four(&mut self, four: u8) -> bool
+        requires { four < 16 }
+        ensures passes { result ≡ true → (past : List Bool) → Finds self.old past → PassesBits self.new past (low_bits 4 four) }
+        ensures stays { result ≡ false → self.new ≡ self.old }
+    {
+        match since_four(self.latest, self.since, four) {
+            Some(since) => {
+                self.latest = (window_of(self.latest, four) / 16) as u8;
+                self.since = since;
+                true
+            }
+            None => false,
+        }
     }
 }

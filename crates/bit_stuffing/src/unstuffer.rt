@@ -1,7 +1,7 @@
 // The octets of a content, as the bits between two flags come in.
 ghost use Rattle.std.specs.Prelude.{◌≡◌, ◌≤◌, ◌<◌, ◌+◌, ◌*◌, ◌/◌, ◌^◌, true, false, List, Bool, [], ◌∷◌, ◌++◌, length};
-ghost use Rattle.plain_lists.specs.Bits.{octet_bits};
-ghost use Rattle.bit_stuffing.specs.Deframer.{is_plain, room_behind_octet};
+ghost use Rattle.plain_lists.specs.Bits.{low_bits, octet_bits};
+ghost use Rattle.bit_stuffing.specs.Deframer.{has_room, is_plain, room_behind_octet, room_behind_four};
 ghost use Rattle.frame_check.specs.declared.sizes.TheConstants.{WHOLE};
 
 use crate::bits::with_bit;
@@ -12,15 +12,20 @@ use std::marker::Model;
 /// The most ones in a row that a content's line may have. A zero stands behind them.
 pub(crate) const RUN: u8 = 5;
 
+/// Whether no zero is due within the first ones of some bits or behind them, where so many ones may still follow what was before.
+fn has_room(room: u8, bits: u8) -> bool
+    requires { room ≤ 5 }
+    ensures { result ≡ has_room room bits }
+{
+    bits % (1 << room) != (1 << room) - 1
+}
+
 /// Whether no zero is due within an octet's bits or behind them, where so many ones may still follow what was before.
 fn is_plain(room: u8, octet: u8) -> bool
     requires { room ≤ 5 }
     ensures { result ≡ is_plain room octet }
 {
-    octet % (1 << room) != (1 << room) - 1
-        && octet / 2 % 32 != 31
-        && octet / 4 % 32 != 31
-        && octet / 8 != 31
+    has_room(room, octet) && octet / 2 % 32 != 31 && octet / 4 % 32 != 31 && octet / 8 != 31
 }
 
 /// How many ones may still follow such an octet before a zero has to.
@@ -41,14 +46,22 @@ fn room_behind_octet(octet: u8) -> u8
     }
 }
 
-/// The low bits of a part, so many, and those of an octet above them.
-fn joined(part: u8, held: u8, octet: u8) -> u16
+/// How many ones may still follow four such bits, which have room, before a zero has to.
+fn room_behind_four(four: u8) -> u8
+    ensures value { result ≡ room_behind_four four }
+    ensures bound { result ≤ 5 }
+{
+    room_behind_octet(16 * (four % 16))
+}
+
+/// The low bits of a part, so many, and those of an octet, or four, above them.
+fn joined(part: u8, held: u8, more: u8) -> u16
     requires held { held < 8 }
     requires part { part < 2 ^ held }
-    ensures value { result ≡ part + octet * 2 ^ held }
+    ensures value { result ≡ part + more * 2 ^ held }
     ensures bound { result / 256 < 2 ^ held }
 {
-    u16::from(part) + (u16::from(octet) << held)
+    u16::from(part) + (u16::from(more) << held)
 }
 
 /// Takes the inserted zeros out of a content's line, and gathers its octets.
@@ -151,16 +164,29 @@ impl Unstuffer {
         if !self.over && self.octets.len() + 1 < WHOLE && is_plain(self.room, octet) {
             self.keep_octet(octet);
         } else {
-            self.push_each(octet);
+            self.push_each(octet, 8);
         }
     }
 
-    /// The next eight bits of the line, one by one.
-    fn push_each(&mut self, octet: u8)
-        ensures { (line : List Bool) → Gathers self.old line → Gathers self.new (line ++ octet_bits octet) }
+    /// The next four bits of the line, the low one first.
+    pub(crate) fn push_four(&mut self, four: u8)
+        requires { four < 16 }
+        ensures { (line : List Bool) → Gathers self.old line → Gathers self.new (line ++ low_bits 4 four) }
     {
-        let mut rest = octet;
-        for place in 0..8u32 {
+        if !self.over && self.octets.len() + 1 < WHOLE && has_room(self.room, four) {
+            self.keep_four(four);
+        } else {
+            self.push_each(four, 4);
+        }
+    }
+
+    /// The next bits of the line, so many, one by one.
+    fn push_each(&mut self, bits: u8, count: u32)
+        requires { count ≤ 8 }
+        ensures { (line : List Bool) → Gathers self.old line → Gathers self.new (line ++ low_bits count bits) }
+    {
+        let mut rest = bits;
+        for _place in 0..count {
             self.push(rest % 2 == 1);
             rest /= 2;
         }
@@ -177,6 +203,26 @@ impl Unstuffer {
         self.octets.push((bits % 256) as u8);
         self.part = (bits / 256) as u8;
         self.room = room_behind_octet(octet);
+    }
+
+    /// The next four bits of the line, none of which is an inserted zero.
+    fn keep_four(&mut self, four: u8)
+        requires four { four < 16 }
+        requires not_over { self.old.over ≡ false }
+        requires room { length self.old.octets + 1 < WHOLE }
+        requires plain { has_room self.old.room four ≡ true }
+        ensures { (line : List Bool) → Gathers self.old line → Gathers self.new (line ++ low_bits 4 four) }
+    {
+        let bits = joined(self.part, self.held, four);
+        self.room = room_behind_four(four);
+        if self.held < 4 {
+            self.part = (bits % 256) as u8;
+            self.held += 4;
+        } else {
+            self.octets.push((bits % 256) as u8);
+            self.part = (bits / 256) as u8;
+            self.held -= 4;
+        }
     }
 
     /// What the content is, once all its bits came in.

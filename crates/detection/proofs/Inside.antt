@@ -41,7 +41,7 @@ both : (a b : Bool) → (a && b) ≡ true → (a ≡ true) × (b ≡ true)
 both true b e = (refl, e)
 both false b e = absurd (false≢true e)
 
-at_each : (n : ℕ) (test : ℕ → Bool) → each_below n test ≡ true → (i : ℕ) → i < n → test i ≡ true
+pub at_each : (n : ℕ) (test : ℕ → Bool) → each_below n test ≡ true → (i : ℕ) → i < n → test i ≡ true
 at_each zero test e i l = absurd (omega arith)
 at_each (suc n) test e i l = elim (cases_lt i n) [
   | inl lower ↦ at_each n test (both (test n) (each_below n test) e).1 i lower

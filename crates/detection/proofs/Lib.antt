@@ -1,4 +1,5 @@
 mod Registers
+mod Quiet
 mod Readings
 mod Answered
 mod Written

@@ -143,7 +143,7 @@ holds-behind width skipped latest recent rest within follows room fits h = recor
     each place low = ap (λ n. n % 2) (shr-shr latest skipped place) ∙ h.each (skipped + place) (omega arith) ∙ ap number (follows place)
 
 -- the low bits of a number are those of its remainder
-bit_at-rem : (n k i : ℕ) → i < k → bit_at (n % 2 ^ k) i ≡ bit_at n i
+pub bit_at-rem : (n k i : ℕ) → i < k → bit_at (n % 2 ^ k) i ≡ bit_at n i
 bit_at-rem n k i h = let e : n ≡ n / 2 ^ k * 2 ^ k + n % 2 ^ k = sym (shr_split n k) in
     sym (ap (λ x. bit_at x i) e ∙ bit_at_cat_low (n / 2 ^ k) k (n % 2 ^ k) i h)
 

@@ -1,5 +1,6 @@
 // Patterns in a stream of bits.
-ghost use Rattle.std.specs.Prelude.{◌≡◌, ◌+◌, ◌<◌, ◌≤◌, ◌↔◌, ℕ, List, Bool, IsTrue};
+ghost use Rattle.std.specs.Prelude.{◌≡◌, ◌+◌, ◌<◌, ◌≤◌, ◌↔◌, ℕ, List, Bool, IsTrue, true, false, ◌++◌, reverse};
+ghost use Rattle.std.specs.Int.{bit_at};
 ghost use Rattle.plain_lists.specs.Bits.{low_bits};
 ghost use Rattle.detection.specs.Patterns.{EndsPattern, longest_gap};
 ghost use Rattle.detection.specs.Reader.{Holds, ReaderStands, LeftBehind, LeftBehindOnce, whole_pattern};
@@ -56,6 +57,34 @@ fn ends_pattern(latest: u128, seen: Seen) -> bool
     }
 }
 
+/// The same four bits in turned order.
+fn turned(four: u8) -> u8
+    requires { four < 16 }
+    ensures bits { low_bits 4 result ≡ reverse (low_bits 4 four) }
+    ensures small { result < 16 }
+{
+    // the answers for 15 down to 0
+    let answers: u64 = 0xf7b3_d591_e6a2_c480;
+    ((answers >> (4 * four)) % 16) as u8
+}
+
+/// The latest bits behind four bits more.
+fn behind_four(latest: u128, four: u8) -> u128
+    requires { four < 16 }
+    ensures { (past : List Bool) → ReaderStands latest past → ReaderStands result (past ++ low_bits 4 four) }
+{
+    (latest << 4) | u128::from(turned(four))
+}
+
+/// Whether eight of the bits are ones in a row.
+fn has_eight_ones(bits: u16) -> bool
+    ensures { result ≡ false → (i : ℕ) → ((j : ℕ) → j < 8 → bit_at bits (i + j) ≡ 1) → ⊥ }
+{
+    let twos = bits & (bits / 2);
+    let fours = twos & (twos / 4);
+    fours & (fours / 16) != 0
+}
+
 /// Finds patterns in a stream of bits. It keeps the latest 128 bits, which is more than two patterns have, however
 /// long the gaps in them are.
 #[derive(Drop)]
@@ -73,8 +102,9 @@ impl Model for PatternReader {
 }
 
 impl PatternReader {
-    ghost use Rattle.std.specs.Prelude.{[], ◌∷◌, ◌++◌};
+    ghost use Rattle.std.specs.Prelude.{[], ◌∷◌};
     ghost use Rattle.detection.specs.Patterns.{IsSeen, seen_at};
+    ghost use Rattle.detection.specs.Sights.{sights_of};
 
     /// A reader before the first bit.
     pub fn new() -> PatternReader
@@ -102,5 +132,23 @@ impl PatternReader {
         } else {
             None
         }
+    }
+
+    /// Goes on by four bits of the stream, the low one first, where it is plain that no pattern ends with any of them, since none stands
+    /// behind eight ones: whether it did.
+    pub fn pass_four(&mut self, four: u8) -> bool
+        requires { four < 16 }
+        ensures stands { result ≡ true → (past : List Bool) → ReaderStands self.old past
+            → ReaderStands self.new (past ++ low_bits 4 four) }
+        ensures quiet { result ≡ true → (past : List Bool) → ReaderStands self.old past
+            → sights_of (past ++ low_bits 4 four) ≡ sights_of past }
+        ensures stays { result ≡ false → self.new ≡ self.old }
+    {
+        let latest = behind_four(self.latest, four);
+        if has_eight_ones((latest % 0x1_0000) as u16) {
+            return false;
+        }
+        self.latest = latest;
+        true
     }
 }

@@ -13,7 +13,11 @@ use Rattle.bit_stuffing.specs.declared.piece.Piece.TheVariants.{Whole, Ragged, A
 use Rattle.bit_stuffing.specs.Found.{Found, found_at, listed, pieces_of}
 use Rattle.bit_stuffing.specs.Sent.{wholes, octets_if_whole}
 use Rattle.bit_stuffing.proofs.Found.{pieces-more}
+use Rattle.roles.specs.declared.role.Role.{Role}
+use Rattle.lapm_frames.specs.declared.sent.Sent.{Sent}
+use Rattle.sample_line.specs.declared.tally.Tally.{Tally}
 use Rattle.sample_line.specs.Received.{PassTheCheck, FoundBetween}
+use Rattle.sample_line.specs.Tallies.{Tallies, TalliesBetween, PatternsAreTallied, PiecesAreTallied}
 
 pub wholes-append : (a b : List Found) → wholes (a ++ b) ≡ wholes a ++ wholes b
 wholes-append [] b = refl
@@ -35,7 +39,7 @@ before-front bits more (suc n) h =
     let e : take (suc n) (bits ++ more) ≡ take (suc n) bits = take-append-le (suc n) bits more h in
     rw (before-front bits more n (omega arith)) (ap (λ t. sights_before bits n ++ sights_at (suc n) (seen_at t)) e)
 
-sights-more : (bits : List Bool) (bit : Bool)
+pub sights-more : (bits : List Bool) (bit : Bool)
     → sights_of (bits ++ bit ∷ []) ≡ sights_of bits ++ sights_at (length bits + 1) (seen_at (bits ++ bit ∷ []))
 unfolding sights_of
 sights-more bits bit =
@@ -58,31 +62,81 @@ whole-passes check (Some found) whole octets e o h =
     subst (λ (p : Piece). PassTheCheck check (octets_if_whole p found.octets ++ []) octets) (sym piece)
     (subst (λ (xs : List ℕ). PassTheCheck check (xs ∷ []) octets) o h)
 
-kinds-at : (place : ℕ) (seen : Option Seen) → map (λ (sight : Sight). sight.seen) (sights_at place seen) ≡ option_to_list seen
+pub kinds-at : (place : ℕ) (seen : Option Seen) → map (λ (sight : Sight). sight.seen) (sights_at place seen) ≡ option_to_list seen
 kinds-at place None = refl
 kinds-at place (Some seen) = refl
 
--- one bit more, with what passes of the piece that ends with it, and with the pattern
-pub found-more : (check : Check) (earlier bits : List Bool) (bit : Bool) (octets : List (List ℕ)) (patterns : List Seen)
-    (front : Option (List ℕ)) (seen : Option Seen)
-    → FoundBetween check earlier bits octets patterns
-    → PassTheCheck check (wholes (listed (found_at (bits ++ bit ∷ [])))) (option_to_list front)
-    → seen ≡ seen_at (bits ++ bit ∷ [])
-    → FoundBetween check earlier (bits ++ bit ∷ []) (octets ++ option_to_list front) (patterns ++ option_to_list seen)
-found-more check earlier bits bit octets patterns front seen h passes seen_is = record {
-  pieces = h.pieces ++ listed (found_at (bits ++ bit ∷ []));
-  pieces_are = pieces-more bits bit ∙ ap (λ xs. xs ++ listed (found_at (bits ++ bit ∷ []))) h.pieces_are
-      ∙ append_assoc (pieces_of earlier) h.pieces (listed (found_at (bits ++ bit ∷ [])));
-  octets_are = subst (λ xs. PassTheCheck check xs (octets ++ option_to_list front))
-      (sym (wholes-append h.pieces (listed (found_at (bits ++ bit ∷ [])))))
-      (passing-append check (wholes h.pieces) (wholes (listed (found_at (bits ++ bit ∷ [])))) octets (option_to_list front) h.octets_are
-      passes);
-  sights = h.sights ++ sights_at (length bits + 1) (seen_at (bits ++ bit ∷ []));
-  sights_are = sights-more bits bit ∙ ap (λ xs. xs ++ sights_at (length bits + 1) (seen_at (bits ++ bit ∷ []))) h.sights_are
-      ∙ append_assoc (sights_of earlier) h.sights (sights_at (length bits + 1) (seen_at (bits ++ bit ∷ [])));
-  patterns_are = ap (λ xs. xs ++ option_to_list seen) h.patterns_are
-      ∙ ap (λ xs. map kind h.sights ++ xs) (ap option_to_list seen_is ∙ sym (kinds-at (length bits + 1) (seen_at (bits ++ bit ∷ []))))
-      ∙ sym (map-append kind h.sights (sights_at (length bits + 1) (seen_at (bits ++ bit ∷ []))));
+-- more bits with which nothing ends
+
+pub pieces-none : (check : Check) (sender : Role) (dlci : ℕ) (s : Sent) (bits later : List Bool) (octets : List (List ℕ))
+    (patterns : List Seen) (tally : Tally) → pieces_of later ≡ pieces_of bits → Tallies sender dlci s octets patterns tally
+    → PiecesAreTallied check sender dlci s bits later octets patterns tally
+pieces-none check sender dlci s bits later octets patterns tally e h = record {
+  pieces = [];
+  pieces_are = e ∙ sym (append-nil (pieces_of bits));
+  more = [];
+  passes = refl;
+  tallies = subst (λ (xs : List (List ℕ)). Tallies sender dlci s xs patterns tally) (sym (append-nil octets)) h;
+}
+
+pub patterns-none : (sender : Role) (dlci : ℕ) (s : Sent) (bits later : List Bool) (octets : List (List ℕ))
+    (patterns : List Seen) (tally : Tally) → sights_of later ≡ sights_of bits → Tallies sender dlci s octets patterns tally
+    → PatternsAreTallied sender dlci s bits later octets patterns tally
+patterns-none sender dlci s bits later octets patterns tally e h = record {
+  sights = [];
+  sights_are = e ∙ sym (append-nil (sights_of bits));
+  tallies = subst (λ (xs : List Seen). Tallies sender dlci s octets xs tally) (sym (append-nil patterns)) h;
+}
+
+-- more bits, and more behind them
+
+pub pieces-then : (check : Check) (sender : Role) (dlci : ℕ) (s : Sent) (bits middle later : List Bool) (octets : List (List ℕ))
+    (patterns : List Seen) (one other : Tally) → (h : PiecesAreTallied check sender dlci s bits middle octets patterns one)
+    → PiecesAreTallied check sender dlci s middle later (octets ++ h.more) patterns other
+    → PiecesAreTallied check sender dlci s bits later octets patterns other
+pieces-then check sender dlci s bits middle later octets patterns one other h k = record {
+  pieces = h.pieces ++ k.pieces;
+  pieces_are = k.pieces_are ∙ ap (λ xs. xs ++ k.pieces) h.pieces_are ∙ append_assoc (pieces_of bits) h.pieces k.pieces;
+  more = h.more ++ k.more;
+  passes = subst (λ xs. PassTheCheck check xs (h.more ++ k.more)) (sym (wholes-append h.pieces k.pieces))
+      (passing-append check (wholes h.pieces) (wholes k.pieces) h.more k.more h.passes k.passes);
+  tallies = subst (λ (xs : List (List ℕ)). Tallies sender dlci s xs patterns other) (append_assoc octets h.more k.more) k.tallies;
+}
+
+pub patterns-then : (sender : Role) (dlci : ℕ) (s : Sent) (bits middle later : List Bool) (octets : List (List ℕ))
+    (patterns : List Seen) (one other : Tally) → (h : PatternsAreTallied sender dlci s bits middle octets patterns one)
+    → PatternsAreTallied sender dlci s middle later octets (patterns ++ map (λ (sight : Sight). sight.seen) h.sights) other
+    → PatternsAreTallied sender dlci s bits later octets patterns other
+patterns-then sender dlci s bits middle later octets patterns one other h k = record {
+  sights = h.sights ++ k.sights;
+  sights_are = k.sights_are ∙ ap (λ xs. xs ++ k.sights) h.sights_are ∙ append_assoc (sights_of bits) h.sights k.sights;
+  tallies = subst (λ (xs : List Seen). Tallies sender dlci s octets xs other)
+      (append_assoc patterns (map kind h.sights) (map kind k.sights)
+      ∙ ap (λ (xs : List Seen). patterns ++ xs) (sym (map-append kind h.sights k.sights))) k.tallies;
+}
+  where
+    kind : Sight → Seen
+    kind sight = sight.seen
+
+-- all that is found behind the earlier bits, with that of more bits
+pub found-both : (check : Check) (sender : Role) (dlci : ℕ) (s : Sent) (earlier bits later : List Bool) (one middle other : Tally)
+    → (h : TalliesBetween check sender dlci s earlier bits one)
+    → (p : PatternsAreTallied sender dlci s bits later h.octets h.patterns middle)
+    → PiecesAreTallied check sender dlci s bits later h.octets (h.patterns ++ map (λ (sight : Sight). sight.seen) p.sights) other
+    → TalliesBetween check sender dlci s earlier later other
+found-both check sender dlci s earlier bits later one middle other h p k = record {
+  octets = h.octets ++ k.more;
+  patterns = h.patterns ++ map kind p.sights;
+  found = record {
+    pieces = h.found.pieces ++ k.pieces;
+    pieces_are = k.pieces_are ∙ ap (λ xs. xs ++ k.pieces) h.found.pieces_are ∙ append_assoc (pieces_of earlier) h.found.pieces k.pieces;
+    octets_are = subst (λ xs. PassTheCheck check xs (h.octets ++ k.more)) (sym (wholes-append h.found.pieces k.pieces))
+        (passing-append check (wholes h.found.pieces) (wholes k.pieces) h.octets k.more h.found.octets_are k.passes);
+    sights = h.found.sights ++ p.sights;
+    sights_are = p.sights_are ∙ ap (λ xs. xs ++ p.sights) h.found.sights_are ∙ append_assoc (sights_of earlier) h.found.sights p.sights;
+    patterns_are = ap (λ xs. xs ++ map kind p.sights) h.found.patterns_are ∙ sym (map-append kind h.found.sights p.sights);
+  };
+  tallies = k.tallies;
 }
   where
     kind : Sight → Seen

@@ -1,5 +1,5 @@
 -- What was received in a slot so far, beside what was sent in it.
-use Rattle.std.specs.Prelude.{ℕ, Bool, true, false, List, [], ◌∷◌, ◌++◌, Option, option_to_list}
+use Rattle.std.specs.Prelude.{◌≡◌, ℕ, Bool, true, false, List, [], ◌∷◌, ◌++◌, Option, option_to_list, map}
 use Rattle.frame_check.specs.declared.check.Check.{Check}
 use Rattle.roles.specs.declared.role.Role.{Role}
 use Rattle.lapm_frames.specs.declared.seen.Seen.{Seen}
@@ -9,7 +9,8 @@ use Rattle.lapm_frames.specs.declared.sent.Sent.TheVariants as sent
 use Rattle.sample_line.specs.declared.tally.Tally.{Tally}
 use Rattle.sample_line.specs.declared.tally.Tally.TheVariants.{Silent, AsSent, Other}
 use Rattle.sample_line.specs.Outcomes.{IsSilent, IsWhatWasSent}
-use Rattle.bit_stuffing.specs.Found.{found_at, listed}
+use Rattle.bit_stuffing.specs.Found.{Found, pieces_of}
+use Rattle.detection.specs.Sights.{Sight, sights_of}
 use Rattle.bit_stuffing.specs.Sent.{wholes}
 use Rattle.sample_line.specs.Received.{PassTheCheck, FoundBetween}
 
@@ -51,12 +52,21 @@ pub record WholeIsTallied (check : Check) (sender : Role) (dlci : ℕ) (s : Sent
   pub passes : PassTheCheck check (whole ∷ []) (option_to_list front)
   pub tallies : Tallies sender dlci s (octets ++ option_to_list front) patterns tally
 
--- And so is what passes of the piece that ends with these bits.
-pub record BitIsTallied (check : Check) (sender : Role) (dlci : ℕ) (s : Sent) (bits : List Bool) (octets : List (List ℕ))
+-- And so is what passes of the pieces that end with more bits.
+pub record PiecesAreTallied (check : Check) (sender : Role) (dlci : ℕ) (s : Sent) (bits later : List Bool) (octets : List (List ℕ))
     (patterns : List Seen) (tally : Tally) : Type 0 where
-  pub front : Option (List ℕ)
-  pub passes : PassTheCheck check (wholes (listed (found_at bits))) (option_to_list front)
-  pub tallies : Tallies sender dlci s (octets ++ option_to_list front) patterns tally
+  pub pieces : List Found
+  pub pieces_are : pieces_of later ≡ pieces_of bits ++ pieces
+  pub more : List (List ℕ)
+  pub passes : PassTheCheck check (wholes pieces) more
+  pub tallies : Tallies sender dlci s (octets ++ more) patterns tally
+
+-- Or the patterns that end with them are.
+pub record PatternsAreTallied (sender : Role) (dlci : ℕ) (s : Sent) (bits later : List Bool) (octets : List (List ℕ))
+    (patterns : List Seen) (tally : Tally) : Type 0 where
+  pub sights : List Sight
+  pub sights_are : sights_of later ≡ sights_of bits ++ sights
+  pub tallies : Tallies sender dlci s octets (patterns ++ map (λ (sight : Sight). sight.seen) sights) tally
 
 -- What was found behind the earlier bits is tallied.
 pub record TalliesBetween (check : Check) (sender : Role) (dlci : ℕ) (s : Sent) (earlier later : List Bool) (tally : Tally) : Type 0 where

@@ -3,8 +3,10 @@ ghost use Rattle.std.specs.Prelude.{◌≡◌, ◌<◌, true, false, Some, ℕ, 
 ghost use Rattle.plain_lists.specs.Bits.{low_bits};
 ghost use Rattle.bit_stuffing.specs.Deframer.{DeframerStands};
 ghost use Rattle.bit_stuffing.specs.declared.piece.Piece.{Piece};
+ghost use Rattle.roles.specs.declared.role.Role.{Role};
 ghost use Rattle.lapm_frames.specs.declared.seen.Seen.{Seen};
-ghost use Rattle.sample_line.specs.Tallies.{BitIsTallied, Tallies, TalliesBetween, WholeIsTallied};
+ghost use Rattle.detection.specs.Reader.{ReaderStands};
+ghost use Rattle.sample_line.specs.Tallies.{PatternsAreTallied, PiecesAreTallied, Tallies, TalliesBetween, WholeIsTallied};
 ghost use Rattle.sample_line.specs.Receiver.{HasRead};
 
 use crate::tally::{Tally, carries_frame};
@@ -55,13 +57,59 @@ fn with_bit(deframer: &mut Deframer, bit: bool, slot: Slot<'_>, tally: Tally) ->
     ensures stands { (bits : List Bool) → DeframerStands deframer.old bits → DeframerStands deframer.new (bits ++ bit ∷ []) }
     ensures tallied { (bits : List Bool) (octets : List (List ℕ)) (patterns : List Seen) → DeframerStands deframer.old bits
         → Tallies slot.entry.sender slot.entry.dlci slot.entry.sent.now octets patterns tally
-        → BitIsTallied slot.entry.check slot.entry.sender slot.entry.dlci slot.entry.sent.now (bits ++ bit ∷ []) octets patterns result }
+        → PiecesAreTallied slot.entry.check slot.entry.sender slot.entry.dlci slot.entry.sent.now bits (bits ++ bit ∷ []) octets patterns result }
 {
     if is_whole(deframer.push(bit)) {
         with_whole(deframer.whole(), slot, tally)
     } else {
         tally
     }
+}
+
+/// The tally once the deframer took four bits more: with the pieces that end there.
+fn with_four(deframer: &mut Deframer, four: u8, slot: Slot<'_>, tally: Tally) -> Tally
+    requires channel { slot.dlci < 64 }
+    requires four { four < 16 }
+    ensures stands { (bits : List Bool) → DeframerStands deframer.old bits → DeframerStands deframer.new (bits ++ low_bits 4 four) }
+    ensures tallied { (bits : List Bool) (octets : List (List ℕ)) (patterns : List Seen) → DeframerStands deframer.old bits
+        → Tallies slot.entry.sender slot.entry.dlci slot.entry.sent.now octets patterns tally
+        → PiecesAreTallied slot.entry.check slot.entry.sender slot.entry.dlci slot.entry.sent.now bits (bits ++ low_bits 4 four) octets patterns result }
+{
+    if deframer.pass_four(four) {
+        return tally;
+    }
+    let tally = with_bit(deframer, four % 2 == 1, slot, tally);
+    let tally = with_bit(deframer, four / 2 % 2 == 1, slot, tally);
+    let tally = with_bit(deframer, four / 4 % 2 == 1, slot, tally);
+    with_bit(deframer, four / 8 == 1, slot, tally)
+}
+
+/// The tally once the reader took one bit more: with the pattern that ends there, if one does.
+fn with_bit_seen(reader: &mut PatternReader, bit: bool, sent: &Sent, tally: Tally) -> Tally
+    ensures stands { (bits : List Bool) → ReaderStands reader.old bits → ReaderStands reader.new (bits ++ bit ∷ []) }
+    ensures tallied { (sender : Role) (dlci : ℕ) (bits : List Bool) (octets : List (List ℕ)) (patterns : List Seen) → ReaderStands reader.old bits
+        → Tallies sender dlci sent.now octets patterns tally
+        → PatternsAreTallied sender dlci sent.now bits (bits ++ bit ∷ []) octets patterns result }
+{
+    let pattern = reader.push(bit);
+    tally.with_pattern(sent, pattern)
+}
+
+/// The tally once the reader took four bits more: with the patterns that end there.
+fn with_four_seen(reader: &mut PatternReader, four: u8, sent: &Sent, tally: Tally) -> Tally
+    requires { four < 16 }
+    ensures stands { (bits : List Bool) → ReaderStands reader.old bits → ReaderStands reader.new (bits ++ low_bits 4 four) }
+    ensures tallied { (sender : Role) (dlci : ℕ) (bits : List Bool) (octets : List (List ℕ)) (patterns : List Seen) → ReaderStands reader.old bits
+        → Tallies sender dlci sent.now octets patterns tally
+        → PatternsAreTallied sender dlci sent.now bits (bits ++ low_bits 4 four) octets patterns result }
+{
+    if reader.pass_four(four) {
+        return tally;
+    }
+    let tally = with_bit_seen(reader, four % 2 == 1, sent, tally);
+    let tally = with_bit_seen(reader, four / 2 % 2 == 1, sent, tally);
+    let tally = with_bit_seen(reader, four / 4 % 2 == 1, sent, tally);
+    with_bit_seen(reader, four / 8 == 1, sent, tally)
 }
 
 /// Finds pieces and patterns in a stream of bits.
@@ -84,19 +132,6 @@ impl Finder {
         }
     }
 
-    /// The tally once one bit more was read.
-    fn push(&mut self, bit: bool, slot: Slot<'_>, tally: Tally) -> Tally
-        requires { slot.dlci < 64 }
-        ensures stands { (bits : List Bool) → HasRead self.old bits → HasRead self.new (bits ++ bit ∷ []) }
-        ensures tallies { (earlier bits : List Bool) → HasRead self.old bits
-            → TalliesBetween slot.entry.check slot.entry.sender slot.entry.dlci slot.entry.sent.now earlier bits tally
-            → TalliesBetween slot.entry.check slot.entry.sender slot.entry.dlci slot.entry.sent.now earlier (bits ++ bit ∷ []) result }
-    {
-        let pattern = self.reader.push(bit);
-        let tally = tally.with_pattern(slot.sent, pattern);
-        with_bit(&mut self.deframer, bit, slot, tally)
-    }
-
     /// The tally once four bits more were read.
     pub fn push_four(&mut self, four: u8, slot: Slot<'_>, tally: Tally) -> Tally
         requires channel { slot.dlci < 64 }
@@ -106,9 +141,7 @@ impl Finder {
             → TalliesBetween slot.entry.check slot.entry.sender slot.entry.dlci slot.entry.sent.now earlier bits tally
             → TalliesBetween slot.entry.check slot.entry.sender slot.entry.dlci slot.entry.sent.now earlier (bits ++ low_bits 4 four) result }
     {
-        let tally = self.push(four % 2 == 1, slot, tally);
-        let tally = self.push(four / 2 % 2 == 1, slot, tally);
-        let tally = self.push(four / 4 % 2 == 1, slot, tally);
-        self.push(four / 8 == 1, slot, tally)
+        let tally = with_four_seen(&mut self.reader, four, slot.sent, tally);
+        with_four(&mut self.deframer, four, slot, tally)
     }
 }

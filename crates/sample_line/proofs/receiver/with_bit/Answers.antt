@@ -1,7 +1,8 @@
-use Rattle.std.proofs.Common.{◌≡◌, ◌∙◌, List, ℕ, [], ◌∷◌, ◌++◌, Some, None, sym, subst, append-nil}
+use Rattle.std.proofs.Common.{◌≡◌, ◌∙◌, List, ℕ, [], ◌∷◌, ◌++◌, Some, sym, subst, append-nil}
 use Rattle.std.specs.Prelude.{option_to_list}
 use Rattle.bit_stuffing.specs.declared.piece.Piece.TheVariants.{Whole}
-use Rattle.bit_stuffing.specs.Found.{found_at, answer_of}
+use Rattle.bit_stuffing.specs.Found.{found_at, listed, answer_of}
+use Rattle.bit_stuffing.proofs.Found.{pieces-more}
 use Rattle.sample_line.specs.Tallies.{Tallies}
 use Rattle.sample_line.proofs.Finding.{none-passes, whole-passes}
 use Rattle.sample_line.proofs.receiver.with_bit.Goals as goal
@@ -12,7 +13,9 @@ returns-then-is_whole-clause-tallied c = λ bits octets patterns h tallied.
     sym (c.push.ensures.value bits h) ∙ c.is_whole.ensures.yes c.if-is_whole.true in
     let w = c.with_whole.ensures octets patterns tallied in
     record {
-      front = w.front;
+      pieces = listed (found_at (bits ++ c.args.bit ∷ []));
+      pieces_are = pieces-more bits c.args.bit;
+      more = option_to_list w.front;
       passes = whole-passes c.args.slot.check (found_at (bits ++ c.args.bit ∷ [])) c.whole.result.now (option_to_list w.front) answer
           (c.whole.ensures.value _ (c.push.ensures.stands bits h)) w.passes;
       tallies = w.tallies;
@@ -21,7 +24,9 @@ returns-then-is_whole-clause-tallied c = λ bits octets patterns h tallied.
 pub returns-else-is_whole-clause-tallied : goal.returns-else-is_whole-clause-tallied
 returns-else-is_whole-clause-tallied c = λ bits octets patterns h tallied.
     record {
-      front = None;
+      pieces = listed (found_at (bits ++ c.args.bit ∷ []));
+      pieces_are = pieces-more bits c.args.bit;
+      more = [];
       passes = none-passes c.args.slot.check (found_at (bits ++ c.args.bit ∷ []))
           (λ e. c.is_whole.ensures.no c.if-is_whole.false (c.push.ensures.value bits h ∙ e));
       tallies = subst (λ (xs : List (List ℕ)). Tallies c.args.slot.sender c.args.slot.dlci c.args.slot.sent.now xs patterns c.args.tally)

@@ -4,5 +4,5 @@ use Rattle.bit_stuffing.proofs.unstuffer.Unstuffer.push_each.Goals as goal
 
 pub loop-place-preserved : goal.loop-place-preserved
 loop-place-preserved c = λ line h.
-    pushed-more c.loop-place.self c.push.new.self line c.loop-place.place c.loop-place.rest c.args.octet
+    pushed-more c.loop-place.self c.push.new.self line c.loop-place._place c.loop-place.rest c.args.count c.args.bits
     (omega (arith, c.loop-place-test.true)) c.push.ensures (c.loop-place.invariant line h)

@@ -4,4 +4,4 @@ use Rattle.bit_stuffing.proofs.Octets.{HasPushed}
 use Rattle.bit_stuffing.proofs.unstuffer.Unstuffer.push_each.Given as goal
 
 abbrev pub invariant-loop-place : goal.invariant-loop-place
-invariant-loop-place l = (line : List Bool) → Gathers l.fn.self line → HasPushed l.self line l.place l.rest l.octet
+invariant-loop-place l = (line : List Bool) → Gathers l.fn.self line → HasPushed l.self line l._place l.rest l.count l.bits

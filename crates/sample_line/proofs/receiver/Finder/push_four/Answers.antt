@@ -1,24 +1,20 @@
-use Rattle.std.proofs.Common.{◌∙◌, List, Bool, ◌++◌, ap, subst}
-use Rattle.scramblers.proofs.Streams.{four-behind}
-use Rattle.line_coding.proofs.Fours.{quad-bits}
-use Rattle.sample_line.specs.Receiver.{HasRead}
-use Rattle.sample_line.specs.Tallies.{TalliesBetween}
+use Rattle.std.proofs.Common.{◌++◌, map}
+use Rattle.plain_lists.specs.Bits.{low_bits}
+use Rattle.detection.specs.Sights.{Sight}
+use Rattle.sample_line.proofs.Finding.{found-both}
 use Rattle.sample_line.proofs.receiver.Finder.push_four.Goals as goal
 
 pub returns-clause-stands : goal.returns-clause-stands
-returns-clause-stands c = λ bits h.
-    subst (λ (xs : List Bool). HasRead c.push.new.self xs)
-    (four-behind bits _ _ _ _ ∙ ap (λ four. bits ++ four) (quad-bits c.args.four c.requires.four))
-    (c.push.ensures.stands _ (c.push-tally-3.ensures.stands _ (c.push-tally-2.ensures.stands _ (c.push-tally.ensures.stands bits h))))
+returns-clause-stands c = λ bits h. record {
+  deframer = c.with_four.ensures.stands bits h.deframer;
+  reader = c.with_four_seen-tally.ensures.stands bits h.reader;
+}
 
 pub returns-clause-tallies : goal.returns-clause-tallies
 returns-clause-tallies c = λ earlier bits has h.
-    let one = c.push-tally.ensures.stands bits has in
-    let two = c.push-tally-2.ensures.stands _ one in
-    let three = c.push-tally-3.ensures.stands _ two in
-    subst (λ (xs : List Bool). TalliesBetween c.args.slot.check c.args.slot.sender c.args.slot.dlci c.args.slot.sent.now earlier xs
-    c.push.result)
-    (four-behind bits _ _ _ _ ∙ ap (λ four. bits ++ four) (quad-bits c.args.four c.requires.four))
-    (c.push.ensures.tallies earlier _ three
-    (c.push-tally-3.ensures.tallies earlier _ two
-    (c.push-tally-2.ensures.tallies earlier _ one (c.push-tally.ensures.tallies earlier bits has h))))
+    let slot = c.args.slot in
+    let seen = c.with_four_seen-tally.ensures.tallied slot.sender slot.dlci bits h.octets h.patterns has.reader h.tallies in
+    let found = c.with_four.ensures.tallied bits h.octets (h.patterns ++ map (λ (sight : Sight). sight.seen) seen.sights) has.deframer
+    seen.tallies in
+    found-both slot.check slot.sender slot.dlci slot.sent.now earlier bits (bits ++ low_bits 4 c.args.four) c.args.tally
+    c.with_four_seen-tally.result c.with_four.result h seen found

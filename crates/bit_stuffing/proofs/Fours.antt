@@ -1,0 +1,254 @@
+-- A finder of flags at four bits with which nothing ends: each case is computed.
+use Rattle.std.proofs.Common.{◌≡◌, ℕ, zero, suc, ◌+◌, ◌-◌, ◌*◌, ◌/◌, ◌%◌, ◌<◌, ◌≤◌, min, Bool, true, false, ◌&&◌, if◌then◌else◌, nat_eq}
+use Rattle.std.proofs.Common.{nat_lt, List, [], ◌∷◌, ◌++◌, length, take, drop, Option, Some, None, arith, append_assoc, refl, sym, ◌∙◌, ap, subst}
+use Rattle.std.proofs.Common.{inl, inr}
+use Rattle.std.proofs.lemmas.Bool.{cases_lt, false≢true, eqb-true, eq-eqb, ltb-true, lt-ltb, le-ltb, and_parts}
+use Rattle.std.proofs.lemmas.List.{append-nil}
+use Rattle.std.specs.Int.{bit_at}
+use Rattle.plain_lists.specs.Bits.{number, low_bits}
+use Rattle.bit_stuffing.specs.Flags.{bit_of, OpenedAt}
+use Rattle.bit_stuffing.specs.Pieces.{EndsWhole}
+use Rattle.bit_stuffing.specs.Found.{pieces_of}
+use Rattle.bit_stuffing.specs.Deframer.{back, HoldsLatest, CountsSince, Finding, Finds, PassesBits}
+use Rattle.bit_stuffing.specs.Fours.{since_four}
+use Rattle.bit_stuffing.proofs.Latest.{back-within, back-past, latest-shifted}
+use Rattle.bit_stuffing.proofs.Quiet.{number-is}
+use Rattle.bit_stuffing.proofs.Octets.{each_below, at_each}
+use Rattle.bit_stuffing.proofs.Ones.{CountsOnes}
+use Rattle.bit_stuffing.proofs.Openings.{opened-once}
+use Rattle.bit_stuffing.proofs.Contents.{none-lent}
+use Rattle.bit_stuffing.proofs.Counters.{Counters, Counts, step, run, run-append, Still, still_test, still-of, Below6, counts-step, counts-run, open-run}
+use Rattle.bit_stuffing.proofs.Counters.{along, pieces-along, along-still, no_close}
+
+-- how many ones the latest bits end with, up to seven
+abbrev ones_of : ℕ → ℕ
+ones_of latest =
+    if nat_lt latest 128 then 0 else (if nat_lt latest 192 then 1 else (if nat_lt latest 224 then 2 else (if nat_lt latest 240 then 3
+    else (if nat_lt latest 248 then 4 else (if nat_lt latest 252 then 5 else (if nat_lt latest 254 then 6 else 7))))))
+
+abbrev ones_test : ℕ → Bool
+ones_test latest =
+    nat_lt (ones_of latest) 8 &&
+    ((if nat_lt (ones_of latest) 7 then nat_eq (bit_at latest (7 - ones_of latest)) 0 else true)
+    && each_below 8 (λ place. if nat_lt place (8 - ones_of latest) then true else nat_eq (bit_at latest place) 1))
+
+all_ones : each_below 256 ones_test ≡ true
+all_ones = refl
+
+when-true : (a b : Bool) → (if a then b else true) ≡ true → a ≡ true → b ≡ true
+when-true true b e h = e
+when-true false b e h = absurd (false≢true h)
+
+when-false : (a b : Bool) → (if a then true else b) ≡ true → a ≡ false → b ≡ true
+when-false true b e h = absurd (false≢true (sym h))
+when-false false b e h = e
+
+is_true : (b : Bool) → number b ≡ 1 → b ≡ true
+is_true true e = refl
+is_true false e = absurd (omega arith)
+
+is_false : (b : Bool) → number b ≡ 0 → b ≡ false
+is_false true e = absurd (omega arith)
+is_false false e = refl
+
+counts-ones : (latest : ℕ) (past : List Bool) → HoldsLatest latest past → CountsOnes (ones_of latest) past
+counts-ones latest past h = record { few = few; set = set; zero = below }
+  where
+    parts : (nat_lt (ones_of latest) 8 ≡ true) ×
+        ((if nat_lt (ones_of latest) 7 then nat_eq (bit_at latest (7 - ones_of latest)) 0 else true)
+        && each_below 8 (λ place. if nat_lt place (8 - ones_of latest) then true else nat_eq (bit_at latest place) 1) ≡ true)
+    parts = and_parts (nat_lt (ones_of latest) 8) _ (at_each 256 ones_test all_ones latest h.low)
+
+    rest : ((if nat_lt (ones_of latest) 7 then nat_eq (bit_at latest (7 - ones_of latest)) 0 else true) ≡ true)
+        × (each_below 8 (λ place. if nat_lt place (8 - ones_of latest) then true else nat_eq (bit_at latest place) 1) ≡ true)
+    rest = and_parts (if nat_lt (ones_of latest) 7 then nat_eq (bit_at latest (7 - ones_of latest)) 0 else true)
+        (each_below 8 (λ place. if nat_lt place (8 - ones_of latest) then true else nat_eq (bit_at latest place) 1)) parts.1
+
+    few : ones_of latest ≤ 7
+    few = let less = ltb-true (ones_of latest) 8 parts.0 in omega (arith, less)
+
+    set : (i : ℕ) → i < length past → length past ≤ i + ones_of latest → bit_of past i ≡ true
+    set i within reaches =
+        let place = 8 - (length past - i) in
+        let back_place : 8 - place ≡ length past - i = omega (arith, few) in
+        let there : length past - (length past - i) ≡ i = omega arith in
+        let one : bit_at latest place ≡ 1 = eqb-true (bit_at latest place) 1
+        (when-false (nat_lt place (8 - ones_of latest)) _
+        (at_each 8 (λ place. if nat_lt place (8 - ones_of latest) then true else nat_eq (bit_at latest place) 1) rest.1 place
+        (omega (arith, few)))
+        (le-ltb place (8 - ones_of latest) (omega (arith, few)))) in
+        let seen : back past (8 - place) ≡ bit_of past i =
+        ap (back past) back_place ∙ back-within past (length past - i) (omega arith) ∙ ap (bit_of past) there in
+        is_true (bit_of past i) (ap number (sym seen) ∙ sym (h.each place (omega (arith, few))) ∙ one)
+
+    below : ones_of latest < 7 → (ones_of latest < length past) × (bit_of past (length past - 1 - ones_of latest) ≡ false)
+    below less =
+        let low : bit_at latest (7 - ones_of latest) ≡ 0 = eqb-true (bit_at latest (7 - ones_of latest)) 0
+        (when-true (nat_lt (ones_of latest) 7) _ rest.0 (lt-ltb (ones_of latest) 7 less)) in
+        let place : 8 - (7 - ones_of latest) ≡ ones_of latest + 1 = omega arith in
+        let seen : number (back past (ones_of latest + 1)) ≡ 0 =
+        ap (λ k. number (back past k)) (sym place) ∙ sym (h.each (7 - ones_of latest) (omega arith)) ∙ low in
+        elim (cases_lt (length past) (ones_of latest + 1)) [
+          | inl short ↦
+              let one : number (back past (ones_of latest + 1)) ≡ 1 = ap number (back-past past (ones_of latest + 1) short) in
+              absurd (omega (arith, one, seen))
+          | inr long ↦
+              let there : length past - (ones_of latest + 1) ≡ length past - 1 - ones_of latest = omega arith in (
+                omega arith,
+                is_false (bit_of past (length past - 1 - ones_of latest))
+                    (ap number (sym (back-within past (ones_of latest + 1) long ∙ ap (bit_of past) there)) ∙ seen),
+              )
+        ]
+
+-- the counters where these bits came last
+abbrev counters : ℕ → Option ℕ → Counters
+counters latest since = record { ones = ones_of latest; since = since }
+
+counts-latest : (finding : Finding) (past : List Bool) → Finds finding past → Counts (counters finding.latest finding.since) past
+counts-latest finding past h = record { ones = counts-ones finding.latest past h.holds; since = h.counts }
+
+-- each case: nothing is found, and the bits since the flag are those that were said
+
+abbrev below_test : Counters → List Bool → Bool
+below_test k [] = true
+below_test k (b ∷ s) = nat_lt k.ones 6 && below_test (step k b) s
+
+abbrev same_since : Option ℕ → Option ℕ → Bool
+same_since None None = true
+same_since (Some m) (Some n) = nat_eq m n
+same_since None (Some n) = false
+same_since (Some m) None = false
+
+abbrev is_far : Option ℕ → Bool
+is_far None = false
+is_far (Some count) = nat_eq count 8
+
+-- where eight bits or more stand behind the flag, they did before, and no six ones come between
+abbrev far_test : Counters → List Bool → Bool
+far_test k s = if is_far (run k s).since then is_far k.since && below_test k s else true
+
+abbrev said_test : Counters → List Bool → Option (Option ℕ) → Bool
+said_test k s None = true
+said_test k s (Some since) = still_test k s && (same_since (run k s).since since && far_test k s)
+
+abbrev since_of : ℕ → Option ℕ
+since_of n = if nat_lt n 9 then Some n else None
+
+abbrev case_test : ℕ → ℕ → ℕ → Bool
+case_test latest n four = said_test (counters latest (since_of n)) (low_bits 4 four) (since_four latest (since_of n) four)
+
+all_cases : each_below 256 (λ latest. each_below 10 (λ n. each_below 16 (case_test latest n))) ≡ true
+all_cases = refl
+
+case-said : (latest four : ℕ) (since : Option ℕ) (past : List Bool) → latest < 256 → four < 16 → CountsSince since past
+    → said_test (counters latest since) (low_bits 4 four) (since_four latest since four) ≡ true
+case-said latest four since past low small h =
+    let n = place since h in
+    subst (λ o. said_test (counters latest o) (low_bits 4 four) (since_four latest o four) ≡ true) n.2
+    (at_each 16 (case_test latest n.0)
+    (at_each 10 (λ n. each_below 16 (case_test latest n))
+    (at_each 256 (λ latest. each_below 10 (λ n. each_below 16 (case_test latest n))) all_cases latest low) n.0 n.1) four small)
+  where
+    place : (since : Option ℕ) → CountsSince since past → (n : ℕ) × (n < 10) × (since_of n ≡ since)
+    place None h = (9, omega arith, refl)
+    place (Some count) h = let less : count < 9 = omega (arith, h.2) in let e = lt-ltb count 9 less in (count, omega arith, rw e refl)
+
+same-of : (a b : Option ℕ) → same_since a b ≡ true → a ≡ b
+same-of None None e = refl
+same-of (Some m) (Some n) e = ap Some (eqb-true m n e)
+same-of None (Some n) e = absurd (false≢true e)
+same-of (Some m) None e = absurd (false≢true e)
+
+below-of : (k : Counters) (s : List Bool) → below_test k s ≡ true → Below6 k s
+below-of k [] e = tt
+below-of k (b ∷ s) e = let p = and_parts (nat_lt k.ones 6) (below_test (step k b) s) e in (ltb-true k.ones 6 p.0, below-of (step k b) s p.1)
+
+-- no whole piece ends with the last of such bits
+still-closes : (k : Counters) (past s : List Bool) → Counts k past → Still k s → 0 < length s → (octets : List ℕ)
+    → EndsWhole (past ++ s) octets → ⊥
+still-closes k past [] h g some octets w = omega (arith, some)
+still-closes k past (b ∷ []) h g some octets w = none-lent past b (no_close k past b h g.0) octets w
+still-closes k past (b ∷ c ∷ s) h g some octets w =
+    still-closes (step k b) (past ++ b ∷ []) (c ∷ s) (counts-step k past b h) g.1 (omega arith) octets
+    (subst (λ l. EndsWhole l octets) (sym (append_assoc past (b ∷ []) (c ∷ s))) w)
+
+-- a flag that is open and far was so before
+far-before : (k : Counters) (past s : List Bool) → Counts k past → far_test k s ≡ true → (p : ℕ) → OpenedAt (past ++ s) p
+    → p + 8 ≤ length (past ++ s) → OpenedAt past p × (p + 8 ≤ length past)
+far-before k past s h e p o far = each (run k s).since (counts-run k past s h).since refl
+  where
+    before : (since : Option ℕ) → CountsSince since past → k.since ≡ since → is_far since ≡ true → Below6 k s
+        → OpenedAt past p × (p + 8 ≤ length past)
+    before None c same at_eight below = absurd (false≢true at_eight)
+    before (Some count) c same at_eight below =
+        let now = open-run k past s count c.0 h below same c.1 in
+        let place : c.0 ≡ p = opened-once (past ++ s) c.0 p now o in
+        let eight : count ≡ 8 = eqb-true count 8 at_eight in
+        (subst (OpenedAt past) place c.1, omega (arith, place, c.2, eight))
+
+    each : (since : Option ℕ) → CountsSince since (past ++ s) → (run k s).since ≡ since → OpenedAt past p × (p + 8 ≤ length past)
+    each None c same = absurd (c p o)
+    each (Some count) c same =
+        let place : c.0 ≡ p = opened-once (past ++ s) c.0 p c.1 o in
+        let eight : count ≡ 8 = omega (arith, place, c.2, far) in
+        let yes : is_far (run k s).since ≡ true = ap is_far same ∙ eq-eqb count 8 eight in
+        let parts = and_parts (is_far k.since) (below_test k s) (when-true (is_far (run k s).since) _ e yes) in
+        before k.since h.since refl parts.0 (below-of k s parts.1)
+
+-- the latest bits then
+
+abbrev one_by_one : List Bool → Bool → Bool → Bool → Bool → List Bool
+one_by_one past a b c d = (((past ++ a ∷ []) ++ b ∷ []) ++ c ∷ []) ++ d ∷ []
+
+latest-four : (latest four : ℕ) (past : List Bool) → four < 16 → HoldsLatest latest past
+    → HoldsLatest ((256 * four + latest) / 16) (past ++ low_bits 4 four)
+latest-four latest four past small h =
+    let one = latest-shifted latest (four % 2) past (nat_eq (four % 2) 1) (sym (number-is four)) h in
+    let two = latest-shifted _ (four / 2 % 2) _ (nat_eq (four / 2 % 2) 1) (sym (number-is (four / 2))) one in
+    let three = latest-shifted _ (four / 2 / 2 % 2) _ (nat_eq (four / 2 / 2 % 2) 1) (sym (number-is (four / 2 / 2))) two in
+    let all = latest-shifted _ (four / 2 / 2 / 2 % 2) _ (nat_eq (four / 2 / 2 / 2 % 2) 1) (sym (number-is (four / 2 / 2 / 2))) three in
+    let value : (((latest / 2 + 128 * (four % 2)) / 2 + 128 * (four / 2 % 2)) / 2 + 128 * (four / 2 / 2 % 2)) / 2
+    + 128 * (four / 2 / 2 / 2 % 2) ≡ (256 * four + latest) / 16 = omega (arith, h.low) in
+    subst (HoldsLatest ((256 * four + latest) / 16)) (joined _ _ _ _)
+    (subst (λ n. HoldsLatest n (one_by_one past (nat_eq (four % 2) 1) (nat_eq (four / 2 % 2) 1) (nat_eq (four / 2 / 2 % 2) 1)
+    (nat_eq (four / 2 / 2 / 2 % 2) 1))) value all)
+  where
+    joined : (a b c d : Bool) → (((past ++ a ∷ []) ++ b ∷ []) ++ c ∷ []) ++ d ∷ [] ≡ past ++ a ∷ b ∷ c ∷ d ∷ []
+    joined a b c d = simp append_assoc refl
+
+pub passes-four : (finding : Finding) (past : List Bool) (four : ℕ) (since : Option ℕ) → four < 16 → Finds finding past
+    → since_four finding.latest finding.since four ≡ Some since
+    → PassesBits (record { latest = (256 * four + finding.latest) / 16; since = since }) past (low_bits 4 four)
+passes-four finding past four since small h e = record {
+  finds = record { holds = latest-four finding.latest four past small h.holds; counts = subst (λ s. CountsSince s (past ++ bits)) same counts.since };
+  pieces = pieces-along past bits ∙ ap (λ l. pieces_of past ++ l) (along-still k past bits before still) ∙ append-nil (pieces_of past);
+  closes = still-closes k past bits before still (omega arith);
+  far = far-before k past bits before parts.2;
+}
+  where
+    bits : List Bool
+    bits = low_bits 4 four
+
+    k : Counters
+    k = counters finding.latest finding.since
+
+    before : Counts k past
+    before = counts-latest finding past h
+
+    said : still_test k bits && (same_since (run k bits).since since && far_test k bits) ≡ true
+    said = subst (λ o. said_test k bits o ≡ true) e (case-said finding.latest four finding.since past h.holds.low small h.counts)
+
+    parts : (still_test k bits ≡ true) × (same_since (run k bits).since since ≡ true) × (far_test k bits ≡ true)
+    parts =
+        let first = and_parts (still_test k bits) (same_since (run k bits).since since && far_test k bits) said in
+        let last = and_parts (same_since (run k bits).since since) (far_test k bits) first.1 in
+        (first.0, last.0, last.1)
+
+    still : Still k bits
+    still = still-of k bits parts.0
+
+    same : (run k bits).since ≡ since
+    same = same-of (run k bits).since since parts.1
+
+    counts : Counts (run k bits) (past ++ bits)
+    counts = counts-run k past bits before
