@@ -16,7 +16,7 @@ ghost use Rattle.run_command.specs.Completes.{Completes};
 
 use crate::laws::{answers_keep_the_headline, right_runs_are_done};
 use crate::outputs::make_outputs;
-use command_base::{Status, Stop, apart_names_differ, tell, tell_stop, done_line};
+use command_base::{Status, Stop, apart_names_differ, done_line, tell, tell_stop};
 use line_run::laws::line_runs_end_soon;
 use outside_calls::{Folder, FolderFault};
 use run_inputs::{LIMITS, RunWords, open_inputs};

@@ -31,7 +31,10 @@ fn create_all<F: Folder>(folder: &mut F, words: &RunWords<'_>) -> Result<(), Fol
 {
     apart_names_differ();
     match &words.tapes {
-        None => create_outputs(folder, &[words.names.got_o, words.names.got_a, words.names.trace]),
+        None => create_outputs(
+            folder,
+            &[words.names.got_o, words.names.got_a, words.names.trace],
+        ),
         Some(tapes) => create_outputs(
             folder,
             &[

@@ -11,13 +11,13 @@ use Rattle.roles.specs.declared.role.Role.{Role}
 use Rattle.lapm_frames.specs.declared.sent.Sent.{Sent}
 use Rattle.sample_line.specs.declared.hearer.Hearer.{Hearer}
 use Rattle.sample_line.specs.declared.tally.Tally.{Tally}
-use Rattle.sample_line.specs.Receiver.{HasRead}
+use Rattle.detection.specs.Ear.{HasHeard}
 use Rattle.sample_line.specs.Tallies.{TalliesBetween}
 
 -- The reader stands for the samples, and its bits were searched for pieces and patterns.
 pub record Hears (mode : Mode) (hearer : Hearer) (samples : List Sample) (read : List Bool) : Type 0 where
   pub reader : LineRead mode at_beginning line_depth hearer.reader samples read
-  pub finder : HasRead hearer.finder read
+  pub ear : HasHeard hearer.ear read
 
 -- the same, with what was found behind the earlier bits tallied
 pub record HearsBetween (mode : Mode) (hearer : Hearer) (samples : List Sample) (check : Check) (sender : Role) (dlci : ℕ) (s : Sent)

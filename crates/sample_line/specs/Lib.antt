@@ -3,7 +3,6 @@ pub mod Recorded
 pub mod Received
 pub mod Outcomes
 pub mod Tallies
-pub mod Receiver
 pub mod Transmits
 pub mod Hears
 pub mod Path

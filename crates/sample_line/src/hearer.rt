@@ -4,8 +4,9 @@ ghost use Rattle.scramblers.specs.declared.mode.Mode.{Mode};
 ghost use Rattle.symbol_map.specs.declared.sample.Sample.{Sample};
 ghost use Rattle.sample_line.specs.Hears.{Hears, HearsBetween, HearsSample};
 
-use crate::receiver::{Finder, Slot};
+use crate::receiver::{Slot, push_four};
 use crate::tally::Tally;
+use detection::Ear;
 use exact_decoder::{Decoder, Lost};
 use line_coding::{DEPTH, LineReader};
 use outside_calls::NoMemory;
@@ -23,7 +24,7 @@ pub(crate) struct Hearer {
     /// From samples to bits.
     pub reader: LineReader<DEPTH>,
     /// From bits to pieces and patterns.
-    finder: Finder,
+    ear: Ear,
 }
 
 impl Hearer {
@@ -36,7 +37,7 @@ impl Hearer {
     {
         Ok(Hearer {
             reader: LineReader::new(alloc, V32Code, 0, mode)?,
-            finder: Finder::new(),
+            ear: Ear::new(),
         })
     }
 
@@ -51,7 +52,7 @@ impl Hearer {
         ensures lost { self.new.reader.decoder.lost ≡ self.old.reader.decoder.lost }
     {
         match self.reader.take() {
-            Some(four) => self.finder.push_four(four, slot, tally),
+            Some(four) => push_four(&mut self.ear, four, slot, tally),
             None => tally,
         }
     }

@@ -7,11 +7,11 @@ ghost use Rattle.roles.specs.declared.role.Role.{Role};
 ghost use Rattle.lapm_frames.specs.declared.seen.Seen.{Seen};
 ghost use Rattle.detection.specs.Reader.{ReaderStands};
 ghost use Rattle.sample_line.specs.Tallies.{PatternsAreTallied, PiecesAreTallied, Tallies, TalliesBetween, WholeIsTallied};
-ghost use Rattle.sample_line.specs.Receiver.{HasRead};
+ghost use Rattle.detection.specs.Ear.{HasHeard};
 
 use crate::tally::{Tally, carries_frame};
 use bit_stuffing::{Deframer, Piece};
-use detection::PatternReader;
+use detection::{Ear, PatternReader};
 use frame_check::Check;
 use lapm_frames::{CheckedFault, Sent, read_checked};
 use roles::Role;
@@ -112,36 +112,15 @@ fn with_four_seen(reader: &mut PatternReader, four: u8, sent: &Sent, tally: Tall
     with_bit_seen(reader, four / 8 == 1, sent, tally)
 }
 
-/// Finds pieces and patterns in a stream of bits.
-#[derive(Drop)]
-pub(crate) struct Finder {
-    /// Finds pieces.
-    deframer: Deframer,
-    /// Finds patterns.
-    reader: PatternReader,
-}
-
-impl Finder {
-    /// A finder before its first bit.
-    pub fn new() -> Finder
-        ensures { HasRead result [] }
-    {
-        Finder {
-            deframer: Deframer::new(),
-            reader: PatternReader::new(),
-        }
-    }
-
-    /// The tally once four bits more were read.
-    pub fn push_four(&mut self, four: u8, slot: Slot<'_>, tally: Tally) -> Tally
-        requires channel { slot.dlci < 64 }
-        requires four { four < 16 }
-        ensures stands { (bits : List Bool) → HasRead self.old bits → HasRead self.new (bits ++ low_bits 4 four) }
-        ensures tallies { (earlier bits : List Bool) → HasRead self.old bits
-            → TalliesBetween slot.entry.check slot.entry.sender slot.entry.dlci slot.entry.sent.now earlier bits tally
-            → TalliesBetween slot.entry.check slot.entry.sender slot.entry.dlci slot.entry.sent.now earlier (bits ++ low_bits 4 four) result }
-    {
-        let tally = with_four_seen(&mut self.reader, four, slot.sent, tally);
-        with_four(&mut self.deframer, four, slot, tally)
-    }
+/// The tally once four bits more were read.
+pub(crate) fn push_four(ear: &mut Ear, four: u8, slot: Slot<'_>, tally: Tally) -> Tally
+    requires channel { slot.dlci < 64 }
+    requires four { four < 16 }
+    ensures stands { (bits : List Bool) → HasHeard ear.old bits → HasHeard ear.new (bits ++ low_bits 4 four) }
+    ensures tallies { (earlier bits : List Bool) → HasHeard ear.old bits
+        → TalliesBetween slot.entry.check slot.entry.sender slot.entry.dlci slot.entry.sent.now earlier bits tally
+        → TalliesBetween slot.entry.check slot.entry.sender slot.entry.dlci slot.entry.sent.now earlier (bits ++ low_bits 4 four) result }
+{
+    let tally = with_four_seen(&mut ear.reader, four, slot.sent, tally);
+    with_four(&mut ear.deframer, four, slot, tally)
 }

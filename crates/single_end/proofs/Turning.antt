@@ -29,7 +29,7 @@ use Rattle.stations.specs.declared.station.Station.{Station}
 use Rattle.stations.specs.Station.{Stands, HearsAs, SpeaksAs, Supplies, IsCounted}
 use Rattle.line_texts.specs.LineText.{trace_line}
 use Rattle.single_end.specs.Heard.{IsHeard, stream, slot_bits}
-use Rattle.single_end.specs.Ear.{HasHeard}
+use Rattle.detection.specs.Ear.{HasHeard}
 use Rattle.single_end.specs.Peer.{Past, PeerRun, PeerTurn, Outcome, Going, Closed, Broken, party_of, over, heard_as, turn_line}
 use Rattle.single_end.specs.Single.{PeerNames, StaysKnown, file_limit, outputs_of}
 use Rattle.single_end.specs.Turn.{Makes, Stops, StopsInReading, GoesOnBy, EndsBy}

@@ -1,6 +1,5 @@
 pub mod Heard
 pub mod Peer
-pub mod Ear
 pub mod Single
 pub mod Turn
 pub mod Mid

@@ -10,7 +10,7 @@ use Rattle.link_run.specs.End.{delivered, offered}
 use Rattle.link_run.specs.Alone.{LoneTurn}
 use Rattle.stations.specs.Station.{Stands, ReadsOn}
 use Rattle.single_end.specs.Heard.{IsHeard, stream, slot_bits}
-use Rattle.single_end.specs.Ear.{HasHeard}
+use Rattle.detection.specs.Ear.{HasHeard}
 use Rattle.single_end.specs.Peer.{Past, PeerRun, PeerTurn, Outcome, Going, Broken, after, over, turn_line}
 use Rattle.single_end.specs.Single.{SingleAfter, file_limit}
 use Rattle.single_end.specs.declared.single.Single.{Single}

@@ -5,7 +5,7 @@ use Rattle.roles.specs.declared.role.Role.{Role}
 use Rattle.stations.specs.Station.{Stands, IsIdle, IsCounted, file_at}
 use Rattle.single_end.specs.Heard.{stream}
 use Rattle.single_end.specs.Peer.{Past, PeerRun}
-use Rattle.single_end.specs.Ear.{HasHeard}
+use Rattle.detection.specs.Ear.{HasHeard}
 use Rattle.single_end.specs.declared.single.Single.{Single}
 
 -- the role of a single end, and how many turns it made

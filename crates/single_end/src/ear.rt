@@ -7,12 +7,11 @@ ghost use Rattle.lapm_frames.specs.Checked.{SpellsFrame};
 ghost use Rattle.link_account.specs.Numbers.{IsNumbered, HasNumbers};
 ghost use Rattle.single_end.specs.declared.limits.TheConstants.{SLOT_OCTETS};
 ghost use Rattle.single_end.specs.Heard.{EndsSo, IsHeard, filled, first, slot_bits};
-ghost use Rattle.single_end.specs.Ear.{HasHeard};
+ghost use Rattle.detection.specs.Ear.{HasHeard};
 
 use crate::limits::SLOT_OCTETS;
-use bit_stuffing::Deframer;
 use bit_stuffing::laws::one_lent;
-use detection::PatternReader;
+use detection::Ear;
 use frame_check::Check;
 use lapm_frames::{Arrived, Frame, read_checked};
 use roles::Role;
@@ -52,73 +51,50 @@ fn octet_at(slot: &[u8], place: usize) -> u8
     }
 }
 
-/// Hears a stream of bits.
-#[derive(Drop)]
-pub(crate) struct Ear {
-    /// Finds frames, across slots too.
-    deframer: Deframer,
-    /// Finds patterns.
-    reader: PatternReader,
+/// What ends with the next bit.
+fn hear_bit(ear: &mut Ear, bit: bool, peer: Role) -> Arrived
+    ensures stands { (bits : List Bool) → HasHeard ear.old bits → HasHeard ear.new (bits ++ bit ∷ []) }
+    ensures ends { (bits : List Bool) → HasHeard ear.old bits → EndsSo peer (bits ++ bit ∷ []) result }
+    ensures numbers { IsNumbered result }
+{
+    one_lent();
+    let pattern = ear.reader.push(bit);
+    ear.deframer.push(bit);
+    if let Some(seen) = pattern {
+        return Arrived::Pattern(seen);
+    }
+    match frame_in(ear.deframer.whole(), peer) {
+        Some(frame) => Arrived::Frame(frame),
+        None => Arrived::Nothing,
+    }
 }
 
-impl Ear {
-    ghost use Rattle.single_end.specs.declared.ear.Ear.{Ear};
-
-    /// An ear before the first bit.
-    pub fn new() -> Ear
-        ensures { HasHeard result [] }
-    {
-        Ear {
-            deframer: Deframer::new(),
-            reader: PatternReader::new(),
-        }
+/// What was heard first, once the bits of an octet came behind what was heard before.
+fn hear_octet(ear: &mut Ear, octet: u8, peer: Role, heard: Arrived) -> Arrived
+    requires { IsNumbered heard }
+    ensures stands { (bits : List Bool) → HasHeard ear.old bits → HasHeard ear.new (bits ++ octet_bits octet) }
+    ensures heard { (earlier bits : List Bool) → HasHeard ear.old (earlier ++ bits) → IsHeard peer earlier bits heard
+        → IsHeard peer earlier (bits ++ octet_bits octet) result }
+    ensures numbers { IsNumbered result }
+{
+    let mut heard = heard;
+    for place in 0..8u32 {
+        let next = hear_bit(ear, (octet >> place) & 1 == 1, peer);
+        heard = first(heard, next);
     }
+    heard
+}
 
-    /// What ends with the next bit.
-    fn hear_bit(&mut self, bit: bool, peer: Role) -> Arrived
-        ensures stands { (bits : List Bool) → HasHeard self.old bits → HasHeard self.new (bits ++ bit ∷ []) }
-        ensures ends { (bits : List Bool) → HasHeard self.old bits → EndsSo peer (bits ++ bit ∷ []) result }
-        ensures numbers { IsNumbered result }
-    {
-        one_lent();
-        let pattern = self.reader.push(bit);
-        self.deframer.push(bit);
-        if let Some(seen) = pattern {
-            return Arrived::Pattern(seen);
-        }
-        match frame_in(self.deframer.whole(), peer) {
-            Some(frame) => Arrived::Frame(frame),
-            None => Arrived::Nothing,
-        }
+/// What is heard in a slot of these octets, or fewer.
+pub(crate) fn hear_slot(ear: &mut Ear, slot: &[u8], peer: Role) -> Arrived
+    requires { length slot.now ≤ SLOT_OCTETS }
+    ensures stands { (bits : List Bool) → HasHeard ear.old bits → HasHeard ear.new (bits ++ slot_bits slot.now) }
+    ensures heard { (bits : List Bool) → HasHeard ear.old bits → IsHeard peer bits (slot_bits slot.now) result }
+    ensures numbers { IsNumbered result }
+{
+    let mut heard = Arrived::Nothing;
+    for place in 0..SLOT_OCTETS {
+        heard = hear_octet(ear, octet_at(slot, place), peer, heard);
     }
-
-    /// What was heard first, once the bits of an octet came behind what was heard before.
-    fn hear_octet(&mut self, octet: u8, peer: Role, heard: Arrived) -> Arrived
-        requires { IsNumbered heard }
-        ensures stands { (bits : List Bool) → HasHeard self.old bits → HasHeard self.new (bits ++ octet_bits octet) }
-        ensures heard { (earlier bits : List Bool) → HasHeard self.old (earlier ++ bits) → IsHeard peer earlier bits heard
-            → IsHeard peer earlier (bits ++ octet_bits octet) result }
-        ensures numbers { IsNumbered result }
-    {
-        let mut heard = heard;
-        for place in 0..8u32 {
-            let next = self.hear_bit((octet >> place) & 1 == 1, peer);
-            heard = first(heard, next);
-        }
-        heard
-    }
-
-    /// What is heard in a slot of these octets, or fewer.
-    pub fn hear(&mut self, slot: &[u8], peer: Role) -> Arrived
-        requires { length slot.now ≤ SLOT_OCTETS }
-        ensures stands { (bits : List Bool) → HasHeard self.old bits → HasHeard self.new (bits ++ slot_bits slot.now) }
-        ensures heard { (bits : List Bool) → HasHeard self.old bits → IsHeard peer bits (slot_bits slot.now) result }
-        ensures numbers { IsNumbered result }
-    {
-        let mut heard = Arrived::Nothing;
-        for place in 0..SLOT_OCTETS {
-            heard = self.hear_octet(octet_at(slot, place), peer, heard);
-        }
-        heard
-    }
+    heard
 }

@@ -13,7 +13,7 @@ ghost use Rattle.stations.specs.Station.{IsIdle, IsCounted};
 ghost use Rattle.single_end.specs.declared.limits.TheConstants.{SLOT_OCTETS};
 ghost use Rattle.single_end.specs.Peer.{Past, Closed, heard_as, setup_of};
 
-use crate::ear::Ear;
+use crate::ear::hear_slot;
 use crate::limits::{FILE_LIMIT, SLOT_OCTETS};
 use crate::line::{TurnWords, folder_fault, line_of};
 use crate::step::{SingleFault, SingleStep};
@@ -123,7 +123,7 @@ impl Single {
         ensures turn { self.new.turn ≡ self.old.turn }
         ensures role { self.new.role ≡ self.old.role }
     {
-        let arrived = self.ear.hear(slot, self.role.other());
+        let arrived = hear_slot(&mut self.ear, slot, self.role.other());
         match self.station.hear(self.turn, &arrived) {
             Ok(()) => Ok(arrived),
             Err(fault) => Err(Breaking { arrived, fault }),

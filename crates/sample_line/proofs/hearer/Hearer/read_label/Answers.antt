@@ -9,9 +9,9 @@ returns-in-Some-clause-stands c = λ mode samples earlier h. record {
   read = h.read ++ low_bits 4 c.in-Some.four;
   hears = record {
     reader = c.in-Some.ensures.stands mode at_beginning samples h.read h.hears.reader;
-    finder = c.push_four.ensures.stands h.read h.hears.finder;
+    ear = c.push_four.ensures.stands h.read h.hears.ear;
   };
-  tallies = c.push_four.ensures.tallies earlier h.read h.hears.finder h.tallies;
+  tallies = c.push_four.ensures.tallies earlier h.read h.hears.ear h.tallies;
 }
 
 pub returns-in-None-clause-stands : goal.returns-in-None-clause-stands
@@ -20,7 +20,7 @@ returns-in-None-clause-stands c = λ mode samples earlier h. record {
   hears = record {
     reader = subst (LineRead mode at_beginning line_depth c.take.new.self samples) (append-nil h.read)
         (c.in-None.ensures.stands mode at_beginning samples h.read h.hears.reader);
-    finder = h.hears.finder;
+    ear = h.hears.ear;
   };
   tallies = h.tallies;
 }

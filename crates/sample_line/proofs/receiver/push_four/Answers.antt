@@ -2,7 +2,7 @@ use Rattle.std.proofs.Common.{◌++◌, map}
 use Rattle.plain_lists.specs.Bits.{low_bits}
 use Rattle.detection.specs.Sights.{Sight}
 use Rattle.sample_line.proofs.Finding.{found-both}
-use Rattle.sample_line.proofs.receiver.Finder.push_four.Goals as goal
+use Rattle.sample_line.proofs.receiver.push_four.Goals as goal
 
 pub returns-clause-stands : goal.returns-clause-stands
 returns-clause-stands c = λ bits h. record {

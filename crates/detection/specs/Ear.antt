@@ -2,7 +2,7 @@
 use Rattle.std.specs.Prelude.{Bool, List}
 use Rattle.bit_stuffing.specs.Deframer.{DeframerStands}
 use Rattle.detection.specs.Reader.{ReaderStands}
-use Rattle.single_end.specs.declared.ear.Ear.{Ear}
+use Rattle.detection.specs.declared.ear.Ear.{Ear}
 
 -- both of its readers stand for these bits
 pub record HasHeard (ear : Ear) (bits : List Bool) : Type 0 where

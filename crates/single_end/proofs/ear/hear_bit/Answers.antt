@@ -1,6 +1,6 @@
 use Rattle.std.proofs.Common.{◌∷◌, [], ◌++◌}
 use Rattle.single_end.proofs.Hearing.{frame-ends, nothing-ends}
-use Rattle.single_end.proofs.ear.Ear.hear_bit.Goals as goal
+use Rattle.single_end.proofs.ear.hear_bit.Goals as goal
 
 pub returns-in-Some-frame_in-clause-ends : goal.returns-in-Some-frame_in-clause-ends
 returns-in-Some-frame_in-clause-ends c = λ bits h.

@@ -2,13 +2,13 @@ use Rattle.std.proofs.Common.{Bool, List, ◌++◌, take}
 use Rattle.plain_lists.specs.Bits.{octet_bits}
 use Rattle.link_account.specs.Numbers.{IsNumbered}
 use Rattle.single_end.specs.Heard.{IsHeard}
-use Rattle.single_end.specs.Ear.{HasHeard}
-use Rattle.single_end.proofs.ear.Ear.hear_octet.Given as goal
+use Rattle.detection.specs.Ear.{HasHeard}
+use Rattle.single_end.proofs.ear.hear_octet.Given as goal
 
 abbrev pub invariant-loop-place : goal.invariant-loop-place
 invariant-loop-place l = record {
-  stands : (bits : List Bool) → HasHeard l.fn.self bits → HasHeard l.self (bits ++ take l.place (octet_bits l.octet));
-  heard : (earlier bits : List Bool) → HasHeard l.fn.self (earlier ++ bits) → IsHeard l.peer earlier bits l.fn.heard
+  stands : (bits : List Bool) → HasHeard l.fn.ear bits → HasHeard l.ear (bits ++ take l.place (octet_bits l.octet));
+  heard : (earlier bits : List Bool) → HasHeard l.fn.ear (earlier ++ bits) → IsHeard l.peer earlier bits l.fn.heard
       → IsHeard l.peer earlier (bits ++ take l.place (octet_bits l.octet)) l.heard;
   numbers : IsNumbered l.heard;
 }

@@ -2,9 +2,9 @@ use Rattle.std.proofs.Common.{◌+◌, ◌/◌, ◌^◌, Bool, List, ◌++◌, t
 use Rattle.plain_lists.specs.Bits.{octet_bits}
 use Rattle.lapm_frames.specs.declared.arrived.Arrived.{Arrived}
 use Rattle.single_end.specs.Heard.{IsHeard, first}
-use Rattle.single_end.specs.Ear.{HasHeard}
+use Rattle.detection.specs.Ear.{HasHeard}
 use Rattle.single_end.proofs.Hearing.{bit-more, heard-more, append-again}
-use Rattle.single_end.proofs.ear.Ear.hear_octet.Goals as goal
+use Rattle.single_end.proofs.ear.hear_octet.Goals as goal
 
 pub loop-place-preserved : goal.loop-place-preserved
 loop-place-preserved c =
@@ -14,12 +14,12 @@ loop-place-preserved c =
     let i = c.loop-place.invariant in
     record {
       stands =
-          λ bits h. subst (λ (b : List Bool). HasHeard c.hear_bit-next.new.self b)
+          λ bits h. subst (λ (b : List Bool). HasHeard c.hear_bit-next.new.ear b)
           (bit-more bits c.args.octet place (omega (arith, c.loop-place-test.true)))
           (c.hear_bit-next.ensures.stands (bits ++ take place all) (i.stands bits h));
       heard = λ earlier bits h e.
-          let now : HasHeard c.loop-place.self (earlier ++ (bits ++ take place all)) =
-          subst (λ (b : List Bool). HasHeard c.loop-place.self b) (append-again earlier bits (take place all))
+          let now : HasHeard c.loop-place.ear (earlier ++ (bits ++ take place all)) =
+          subst (λ (b : List Bool). HasHeard c.loop-place.ear b) (append-again earlier bits (take place all))
           (i.stands (earlier ++ bits) h) in
           subst (λ (a : Arrived). IsHeard c.args.peer earlier (bits ++ take (place + 1) all) a) (sym c.first-heard.ensures.value)
           (subst (λ (b : List Bool). IsHeard c.args.peer earlier b (first c.loop-place.heard c.hear_bit-next.result))

@@ -1,13 +1,13 @@
 use Rattle.std.proofs.Common.{Bool, List, ◌++◌, take, ap, sym, ◌∙◌, subst, arith, append-nil}
 use Rattle.plain_lists.specs.Bits.{octet_bits, bits_of}
 use Rattle.single_end.specs.Heard.{IsHeard, filled}
-use Rattle.single_end.specs.Ear.{HasHeard}
+use Rattle.detection.specs.Ear.{HasHeard}
 use Rattle.single_end.proofs.Hearing.{append-again, slot-more}
-use Rattle.single_end.proofs.ear.Ear.hear.Goals as goal
+use Rattle.single_end.proofs.ear.hear_slot.Goals as goal
 
 pub loop-place-init : goal.loop-place-init
 loop-place-init c = record {
-  stands = λ bits h. subst (λ (b : List Bool). HasHeard c.args.self.now b) (sym (append-nil bits)) h;
+  stands = λ bits h. subst (λ (b : List Bool). HasHeard c.args.ear.now b) (sym (append-nil bits)) h;
   heard = λ bits h n low. absurd (omega (arith, low));
   numbers = tt;
 }
@@ -21,7 +21,7 @@ loop-place-preserved c =
     let more = slot-more c.args.slot.now place c.octet_at.result c.requires (omega (arith, c.loop-place-test.true)) c.octet_at.ensures in
     record {
       stands =
-          λ bits h. subst (λ (b : List Bool). HasHeard c.hear_octet-heard.new.self b)
+          λ bits h. subst (λ (b : List Bool). HasHeard c.hear_octet-heard.new.ear b)
           (append-again bits front (octet_bits c.octet_at.result) ∙ ap (λ b. bits ++ b) more)
           (c.hear_octet-heard.ensures.stands (bits ++ front) (i.stands bits h));
       heard = λ bits h. subst (λ (b : List Bool). IsHeard c.args.peer bits b c.hear_octet-heard.result) more
