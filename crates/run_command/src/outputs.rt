@@ -30,17 +30,15 @@ fn create_all<F: Folder>(folder: &mut F, words: &RunWords<'_>) -> Result<(), Fol
     ensures fails { IfErr result (WriteFails (F.state folder.old) (F.state folder.new) (outputs_of (named words.now))) }
 {
     apart_names_differ();
+    let names = words.names;
     match &words.tapes {
-        None => create_outputs(
-            folder,
-            &[words.names.got_o, words.names.got_a, words.names.trace],
-        ),
+        None => create_outputs(folder, &[names.got_o, names.got_a, names.trace]),
         Some(tapes) => create_outputs(
             folder,
             &[
-                words.names.got_o,
-                words.names.got_a,
-                words.names.trace,
+                names.got_o,
+                names.got_a,
+                names.trace,
                 tapes.orig,
                 tapes.answ,
             ],

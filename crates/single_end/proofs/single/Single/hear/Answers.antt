@@ -6,16 +6,16 @@ use Rattle.single_end.proofs.single.Single.hear.Goals as goal
 
 pub returns-in-Ok-clause-hears : goal.returns-in-Ok-clause-hears
 returns-in-Ok-clause-hears c = λ p h.
-    let w = heard-well (hear c.args.self.now.turn c.hear-arrived.result p.account) p.file c.hear.new.self _
+    let w = heard-well (hear c.args.self.now.turn c.hear_slot-arrived.result p.account) p.file c.hear.new.self _
     (c.in-Ok.ensures.hears p.file p.account h.station) in (
       w.mid,
       record {
         run = h.run;
-        heard = subst (λ r. IsHeard r (stream p.slots) (slot_bits c.args.slot.now) c.hear-arrived.result) c.other.ensures
-            (c.hear-arrived.ensures.heard (stream p.slots) h.ear);
-        hears = subst (λ n. hear n c.hear-arrived.result p.account ≡ Ok w.mid) h.turn w.hears;
+        heard = subst (λ r. IsHeard r (stream p.slots) (slot_bits c.args.slot.now) c.hear_slot-arrived.result) c.other.ensures
+            (c.hear_slot-arrived.ensures.heard (stream p.slots) h.ear);
+        hears = subst (λ n. hear n c.hear_slot-arrived.result p.account ≡ Ok w.mid) h.turn w.hears;
         station = w.stands;
-        ear = c.hear-arrived.ensures.stands (stream p.slots) h.ear;
+        ear = c.hear_slot-arrived.ensures.stands (stream p.slots) h.ear;
         turn = h.turn;
       },
     )
