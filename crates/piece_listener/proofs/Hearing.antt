@@ -184,11 +184,6 @@ octets-left bits octets i =
     append_assoc bits (bits_of (take i octets)) (bits_of (drop i octets))
     ∙ ap (λ xs. bits ++ xs) (sym (bits_of-append (take i octets) (drop i octets)) ∙ ap bits_of (take-append-drop i octets))
 
--- what follows where it went well
-pub on-ok-map : {T E : Type 0} {P Q : Type 0} (r : Result T E) → (P → Q) → OnOk r P → OnOk r Q
-on-ok-map (Ok value) f p = f p
-on-ok-map (Err fault) f p = tt
-
 pub says-trans : (a b c : FolderState) → OnlySays a b → OnlySays b c → OnlySays a c
 says-trans a b c p q = record {
   goes_on = GoesOn-trans p.goes_on q.goes_on;

@@ -1,8 +1,7 @@
 use Rattle.std.proofs.Common.{List, ℕ, sym, subst}
 use Rattle.outside_calls.specs.Folder.{FolderState, Said, PartlySaid}
-use Rattle.command_base.proofs.Saying.{on-err-map}
+use Rattle.command_base.proofs.Saying.{on-err-map, on-ok-map}
 use Rattle.piece_listener.specs.Readings.{IsLine}
-use Rattle.piece_listener.proofs.Hearing.{on-ok-map}
 use Rattle.piece_listener.proofs.listener.say_piece.Goals as goal
 
 pub returns-clause-ok : goal.returns-clause-ok

@@ -1,8 +1,8 @@
 use Rattle.std.proofs.Common.{◌≡◌, ◌∙◌, ◌+◌, Bool, List, ℕ, [], ◌∷◌, ◌++◌, refl, sym, subst}
 use Rattle.outside_calls.specs.Folder.{FolderState}
-use Rattle.command_base.proofs.Saying.{on-err-map}
+use Rattle.command_base.proofs.Saying.{on-err-map, on-ok-map}
 use Rattle.piece_listener.specs.Heard.{Listening, Heard, SaysPiece, PartlySaysPiece}
-use Rattle.piece_listener.proofs.Hearing.{FoundThere, found-there, heard-none, heard-some, left-some, on-ok-map}
+use Rattle.piece_listener.proofs.Hearing.{FoundThere, found-there, heard-none, heard-some, left-some}
 use Rattle.piece_listener.proofs.listener.Listener.hear_bit.Goals as goal
 
 pub returns-in-None-clause-ok : goal.returns-in-None-clause-ok
