@@ -15,8 +15,7 @@ use Rattle.bit_stuffing.specs.Deframer.{DeframerStands}
 use Rattle.bit_stuffing.proofs.Found.{pieces-none, pieces-more}
 use Rattle.roles.specs.declared.role.Role.{Role}
 use Rattle.command_base.proofs.Saying.{Said-Said, Said-PartlySaid}
-use Rattle.piece_listener.specs.declared.reading.Reading.{Reading}
-use Rattle.piece_listener.specs.Readings.{Reads, AreLines, reading_line}
+use Rattle.piece_listener.specs.Readings.{IsLine, AreLines}
 use Rattle.piece_listener.specs.Heard.{Listening, Heard, PartlyHeard, LeftAt}
 use Rattle.piece_listener.proofs.PieceLines.{AreLines-more}
 
@@ -98,42 +97,42 @@ piece-more : (bits : List Bool) (bit : Bool) (piece : Piece) (f : FoundThere (bi
     → pieces_of (bits ++ bit ∷ []) ≡ pieces_of bits ++ f.found ∷ []
 piece-more bits bit piece f = pieces-more bits bit ∙ ap (λ o. pieces_of bits ++ listed o) f.found_is
 
-lines-more : (start now : FolderState) (l : Listening) (bits : List Bool) (bit : Bool) (piece : Piece) (reading : Reading)
-    (h : Heard start now l bits) (f : FoundThere (bits ++ bit ∷ []) piece) → Reads l.sender f.found reading →
-    AreLines l.sender (pieces_of (bits ++ bit ∷ [])) (h.lines ++ reading_line reading)
-lines-more start now l bits bit piece reading h f r =
-    subst (λ (pieces : List Found). AreLines l.sender pieces (h.lines ++ reading_line reading)) (sym (piece-more bits bit piece f))
-    (AreLines-more l.sender (pieces_of bits) f.found reading h.lines h.are_lines r)
+lines-more : (start now : FolderState) (l : Listening) (bits : List Bool) (bit : Bool) (piece : Piece) (line : List ℕ)
+    (h : Heard start now l bits) (f : FoundThere (bits ++ bit ∷ []) piece) → IsLine l.sender f.found line →
+    AreLines l.sender (pieces_of (bits ++ bit ∷ [])) (h.lines ++ line)
+lines-more start now l bits bit piece line h f is =
+    subst (λ (pieces : List Found). AreLines l.sender pieces (h.lines ++ line)) (sym (piece-more bits bit piece f))
+    (AreLines-more l.sender (pieces_of bits) f.found h.lines line h.are_lines is)
 
 -- a bit at which a piece ends, whose line was said
-pub heard-some : (start now new : FolderState) (l next : Listening) (bits : List Bool) (bit : Bool) (piece : Piece) (reading : Reading)
+pub heard-some : (start now new : FolderState) (l next : Listening) (bits : List Bool) (bit : Bool) (piece : Piece) (line : List ℕ)
     → Heard start now l bits → (f : FoundThere (bits ++ bit ∷ []) piece) →
-    Reads l.sender f.found reading → DeframerStands next.deframer (bits ++ bit ∷ []) → next.sender ≡ l.sender → next.pieces ≡ l.pieces + 1
-    → Said now new (reading_line reading) → Heard start new next (bits ++ bit ∷ [])
-heard-some start now new l next bits bit piece reading h f r stands sender pieces said = record {
+    IsLine l.sender f.found line → DeframerStands next.deframer (bits ++ bit ∷ []) → next.sender ≡ l.sender → next.pieces ≡ l.pieces + 1
+    → Said now new line → Heard start new next (bits ++ bit ∷ [])
+heard-some start now new l next bits bit piece line h f is stands sender pieces said = record {
   stands = stands;
-  lines = h.lines ++ reading_line reading;
-  are_lines = subst (λ (role : Role). AreLines role (pieces_of (bits ++ bit ∷ [])) (h.lines ++ reading_line reading)) (sym sender)
-      (lines-more start now l bits bit piece reading h f r);
-  said = Said-Said start now new h.lines (reading_line reading) h.said said;
+  lines = h.lines ++ line;
+  are_lines = subst (λ (role : Role). AreLines role (pieces_of (bits ++ bit ∷ [])) (h.lines ++ line)) (sym sender)
+      (lines-more start now l bits bit piece line h f is);
+  said = Said-Said start now new h.lines line h.said said;
   count = pieces ∙ ap (λ n. n + 1) h.count ∙ sym (length-append (pieces_of bits) (f.found ∷ []))
       ∙ sym (ap length (piece-more bits bit piece f));
 }
 
 -- and where the say failed: the listener stands for all of these bits
-pub left-some : (start now new : FolderState) (l next : Listening) (bits : List Bool) (bit : Bool) (piece : Piece) (reading : Reading)
+pub left-some : (start now new : FolderState) (l next : Listening) (bits : List Bool) (bit : Bool) (piece : Piece) (line : List ℕ)
     → Heard start now l bits → (f : FoundThere (bits ++ bit ∷ []) piece) →
-    Reads l.sender f.found reading → DeframerStands next.deframer (bits ++ bit ∷ []) → next.sender ≡ l.sender → next.pieces ≡ l.pieces + 1
-    → PartlySaid now new (reading_line reading) → LeftAt start new next (bits ++ bit ∷ [])
-left-some start now new l next bits bit piece reading h f r stands sender pieces said = record {
+    IsLine l.sender f.found line → DeframerStands next.deframer (bits ++ bit ∷ []) → next.sender ≡ l.sender → next.pieces ≡ l.pieces + 1
+    → PartlySaid now new line → LeftAt start new next (bits ++ bit ∷ [])
+left-some start now new l next bits bit piece line h f is stands sender pieces said = record {
   part = record {
     heard = bits ++ bit ∷ [];
     rest = [];
     bits_are = sym (append-nil (bits ++ bit ∷ []));
-    lines = h.lines ++ reading_line reading;
-    are_lines = subst (λ (role : Role). AreLines role (pieces_of (bits ++ bit ∷ [])) (h.lines ++ reading_line reading)) (sym sender)
-        (lines-more start now l bits bit piece reading h f r);
-    said = Said-PartlySaid start now new h.lines (reading_line reading) h.said said;
+    lines = h.lines ++ line;
+    are_lines = subst (λ (role : Role). AreLines role (pieces_of (bits ++ bit ∷ [])) (h.lines ++ line)) (sym sender)
+        (lines-more start now l bits bit piece line h f is);
+    said = Said-PartlySaid start now new h.lines line h.said said;
   };
   stands = stands;
   count = pieces ∙ ap (λ n. n + 1) h.count ∙ sym (length-append (pieces_of bits) (f.found ∷ []))
@@ -184,11 +183,6 @@ pub octets-left : (bits : List Bool) (octets : List ℕ) (i : ℕ)
 octets-left bits octets i =
     append_assoc bits (bits_of (take i octets)) (bits_of (drop i octets))
     ∙ ap (λ xs. bits ++ xs) (sym (bits_of-append (take i octets) (drop i octets)) ∙ ap bits_of (take-append-drop i octets))
-
--- what follows where it went well
-pub on-ok-map : {T E : Type 0} {P Q : Type 0} (r : Result T E) → (P → Q) → OnOk r P → OnOk r Q
-on-ok-map (Ok value) f p = f p
-on-ok-map (Err fault) f p = tt
 
 pub says-trans : (a b c : FolderState) → OnlySays a b → OnlySays b c → OnlySays a c
 says-trans a b c p q = record {

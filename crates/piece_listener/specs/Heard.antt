@@ -4,8 +4,7 @@ use Rattle.outside_calls.specs.Folder.{FolderState, Said, PartlySaid}
 use Rattle.bit_stuffing.specs.Deframer.{Kept, DeframerStands}
 use Rattle.bit_stuffing.specs.Found.{Found, pieces_of}
 use Rattle.roles.specs.declared.role.Role.{Role}
-use Rattle.piece_listener.specs.declared.reading.Reading.{Reading}
-use Rattle.piece_listener.specs.Readings.{Reads, AreLines, reading_line}
+use Rattle.piece_listener.specs.Readings.{IsLine, AreLines}
 
 -- what a listener keeps
 pub record Listening : Type 0 where
@@ -15,15 +14,15 @@ pub record Listening : Type 0 where
 
 -- the line of a piece was said
 pub record SaysPiece (old new : FolderState) (sender : Role) (found : Found) : Type 0 where
-  pub reading : Reading
-  pub reads : Reads sender found reading
-  pub said : Said old new (reading_line reading)
+  pub line : List ℕ
+  pub is_line : IsLine sender found line
+  pub said : Said old new line
 
 -- a beginning of it was said
 pub record PartlySaysPiece (old new : FolderState) (sender : Role) (found : Found) : Type 0 where
-  pub reading : Reading
-  pub reads : Reads sender found reading
-  pub said : PartlySaid old new (reading_line reading)
+  pub line : List ℕ
+  pub is_line : IsLine sender found line
+  pub said : PartlySaid old new line
 
 -- The listener heard these bits, and the lines of their pieces were said.
 pub record Heard (start now : FolderState) (listener : Listening) (bits : List Bool) : Type 0 where

@@ -1,11 +1,13 @@
 // The lines that say what pieces are.
 ghost use Rattle.std.specs.Prelude.{◌≡◌, ◌≤◌, ◌<◌, ◌+◌, ◌++◌, [], ◌∷◌, length, decimal};
-ghost use Rattle.piece_listener.specs.Readings.{hex_digit, hex_octet, fault_words, reading_line};
+ghost use Rattle.bit_stuffing.specs.Found.{Found};
+ghost use Rattle.piece_listener.specs.Readings.{hex_digit, hex_octet, fault_words, reading_of, reading_line, IsLine};
 
-use crate::reading::Reading;
-use frame_check::Octets;
-use lapm_frames::FrameFault;
+use bit_stuffing::Piece;
+use frame_check::{Check, Octets};
+use lapm_frames::{CheckedFault, Frame, FrameFault, read_checked};
 use line_texts::{FrameText, put_decimal, write_frame_text};
+use roles::Role;
 
 /// The most octets of a piece's line.
 const PIECE_LINE: usize = 176;
@@ -58,33 +60,43 @@ fn put_fault(fault: FrameFault, line: &mut PieceLine)
     }
 }
 
-/// The line that says what a piece is.
-pub(crate) fn reading_line(reading: &Reading) -> PieceLine
-    ensures { result ≡ reading_line reading.now }
+/// Puts what was read of a whole piece of so many octets.
+fn put_read(read: &Result<Frame, CheckedFault>, octets: usize, line: &mut PieceLine)
+    requires { line.old ≡ [] }
+    ensures { line.new ≡ reading_line (reading_of read.now octets) }
 {
-    let mut line = PieceLine::new();
-    match reading {
-        Reading::Frame(frame) => {
+    match read {
+        Ok(frame) => {
             let mut text = FrameText::new();
             write_frame_text(frame, &mut text);
             line.extend(b"frame ");
             line.extend(text.as_slice());
-            line.extend(b"\n");
         }
-        Reading::Refused(fault) => {
+        Err(CheckedFault::Refused(fault)) => {
             line.extend(b"refused ");
-            put_fault(*fault, &mut line);
-            line.extend(b"\n");
+            put_fault(*fault, line);
         }
-        Reading::BadCheck { octets } => {
+        Err(CheckedFault::BadCheck) => {
             line.extend(b"bad check ");
-            put_decimal(&mut line, *octets as u64);
-            line.extend(b"\n");
+            put_decimal(line, octets as u64);
         }
-        Reading::Ragged => line.extend(b"ragged\n"),
-        Reading::Aborted => line.extend(b"aborted\n"),
-        Reading::TooLong => line.extend(b"too long\n"),
-        Reading::TooShort => line.extend(b"too short\n"),
     }
-    line
+    line.extend(b"\n");
+}
+
+/// Puts the line of a piece, of these octets where it is whole, whose frame has the check of 16 bits.
+pub(crate) fn put_piece(piece: Piece, octets: &[u8], sender: Role, line: &mut PieceLine)
+    requires { line.old ≡ [] }
+    ensures { (found : Found) → found.piece ≡ piece → found.octets ≡ octets.now → IsLine sender found line.new }
+{
+    match piece {
+        Piece::Whole => {
+            let read = read_checked(octets, Check::Sixteen, sender, 0);
+            put_read(&read, octets.len(), line);
+        }
+        Piece::Ragged => line.extend(b"ragged\n"),
+        Piece::Aborted => line.extend(b"aborted\n"),
+        Piece::TooLong => line.extend(b"too long\n"),
+        Piece::TooShort => line.extend(b"too short\n"),
+    }
 }

@@ -6,8 +6,7 @@ ghost use Rattle.command_base.specs.Stops.{SayFails};
 ghost use Rattle.bit_stuffing.specs.Found.{Found};
 ghost use Rattle.piece_listener.specs.Heard.{Heard, PartlyHeard, LeftAt, SaysPiece, PartlySaysPiece};
 
-use crate::lines::reading_line;
-use crate::reading::reading_of;
+use crate::lines::{PieceLine, put_piece};
 use bit_stuffing::{Deframer, Piece};
 use command_base::say_line;
 use outside_calls::{Folder, FolderFault};
@@ -59,8 +58,9 @@ fn say_piece<F: Folder>(
     ensures fails { IfErr result (SayFails (F.state folder.old) (F.state folder.new)) }
     ensures stand { OnOk result (CountsStand (F.state folder.old) (F.state folder.new)) }
 {
-    let reading = reading_of(piece, octets, sender);
-    say_line(folder, reading_line(&reading).as_slice())
+    let mut line = PieceLine::new();
+    put_piece(piece, octets, sender, &mut line);
+    say_line(folder, line.as_slice())
 }
 
 impl Listener {

@@ -1,8 +1,8 @@
 use Rattle.std.proofs.Common.{◌≡◌, ◌∙◌, ◌+◌, Bool, List, ℕ, [], ◌∷◌, ◌++◌, refl, sym, subst}
 use Rattle.outside_calls.specs.Folder.{FolderState}
-use Rattle.command_base.proofs.Saying.{on-err-map}
+use Rattle.command_base.proofs.Saying.{on-err-map, on-ok-map}
 use Rattle.piece_listener.specs.Heard.{Listening, Heard, SaysPiece, PartlySaysPiece}
-use Rattle.piece_listener.proofs.Hearing.{FoundThere, found-there, heard-none, heard-some, left-some, on-ok-map}
+use Rattle.piece_listener.proofs.Hearing.{FoundThere, found-there, heard-none, heard-some, left-some}
 use Rattle.piece_listener.proofs.listener.Listener.hear_bit.Goals as goal
 
 pub returns-in-None-clause-ok : goal.returns-in-None-clause-ok
@@ -24,7 +24,7 @@ returns-in-Some-clause-ok g c = λ start bits heard.
     let stands = c.in-Some.ensures.stands bits h.stands in
     let f : FoundThere all c.in-Some.piece = found-there all c.in-Some.piece (c.in-Some.ensures.value bits h.stands) in
     on-ok-map {P = SaysPiece now new old.sender f.found} c.say_piece.result
-    (λ s. heard-some start now new old next bits c.args.bit c.in-Some.piece s.reading h f s.reads stands refl refl s.said)
+    (λ s. heard-some start now new old next bits c.args.bit c.in-Some.piece s.line h f s.is_line stands refl refl s.said)
     (c.say_piece.ensures.ok f.found f.piece_is (f.octets_are ∙ sym (c.whole.ensures.value all stands)))
 
 pub returns-in-Some-clause-left : goal.returns-in-Some-clause-left
@@ -37,5 +37,5 @@ returns-in-Some-clause-left g c = λ start bits heard.
     let stands = c.in-Some.ensures.stands bits h.stands in
     let f : FoundThere all c.in-Some.piece = found-there all c.in-Some.piece (c.in-Some.ensures.value bits h.stands) in
     on-err-map {P = PartlySaysPiece now new old.sender f.found} c.say_piece.result
-    (λ s. left-some start now new old next bits c.args.bit c.in-Some.piece s.reading h f s.reads stands refl refl s.said)
+    (λ s. left-some start now new old next bits c.args.bit c.in-Some.piece s.line h f s.is_line stands refl refl s.said)
     (c.say_piece.ensures.err f.found f.piece_is (f.octets_are ∙ sym (c.whole.ensures.value all stands)))
