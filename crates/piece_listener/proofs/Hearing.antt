@@ -81,12 +81,11 @@ heard-none start now l next bits bit h none stands sender pieces = record {
     same : pieces_of (bits ++ bit ∷ []) ≡ pieces_of bits
     same = pieces-more bits bit ∙ ap (λ o. pieces_of bits ++ listed o) (nothing-there (bits ++ bit ∷ []) none) ∙ append-nil (pieces_of bits)
 
--- an octet with whose bits no piece ends
-pub heard-octet : (start now : FolderState) (l next : Listening) (bits : List Bool) (octet : ℕ) → Heard start now l bits
-    → DeframerStands next.deframer (bits ++ octet_bits octet)
-    → pieces_of (bits ++ octet_bits octet) ≡ pieces_of bits → next.sender ≡ l.sender → next.pieces ≡ l.pieces
-    → Heard start now next (bits ++ octet_bits octet)
-heard-octet start now l next bits octet h stands same sender pieces = record {
+-- more bits with which no piece ends
+pub heard-quiet : (start now : FolderState) (l next : Listening) (bits later : List Bool) → Heard start now l bits
+    → DeframerStands next.deframer later → pieces_of later ≡ pieces_of bits → next.sender ≡ l.sender → next.pieces ≡ l.pieces
+    → Heard start now next later
+heard-quiet start now l next bits later h stands same sender pieces = record {
   stands = stands;
   lines = h.lines;
   are_lines = subst (λ (p : Role × List Found). AreLines p.0 p.1 h.lines) (λ i. (sym sender i, sym same i)) h.are_lines;
