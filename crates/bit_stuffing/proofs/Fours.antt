@@ -1,6 +1,6 @@
 -- A finder of flags at four bits with which nothing ends: each case is computed.
-use Rattle.std.proofs.Common.{◌≡◌, ℕ, zero, suc, ◌+◌, ◌-◌, ◌*◌, ◌/◌, ◌%◌, ◌<◌, ◌≤◌, min, Bool, true, false, ◌&&◌, if◌then◌else◌, nat_eq}
-use Rattle.std.proofs.Common.{nat_lt, List, [], ◌∷◌, ◌++◌, length, take, drop, Option, Some, None, arith, append_assoc, refl, sym, ◌∙◌, ap, subst}
+use Rattle.std.proofs.Common.{◌≡◌, ℕ, ◌+◌, ◌-◌, ◌*◌, ◌/◌, ◌%◌, ◌<◌, ◌≤◌, Bool, true, false, ◌&&◌, if◌then◌else◌, nat_eq}
+use Rattle.std.proofs.Common.{nat_lt, List, [], ◌∷◌, ◌++◌, length, Option, Some, None, arith, append_assoc, refl, sym, ◌∙◌, ap, subst}
 use Rattle.std.proofs.Common.{inl, inr}
 use Rattle.std.proofs.lemmas.Bool.{cases_lt, false≢true, eqb-true, eq-eqb, ltb-true, lt-ltb, le-ltb, and_parts}
 use Rattle.std.proofs.lemmas.List.{append-nil}
@@ -17,8 +17,8 @@ use Rattle.bit_stuffing.proofs.Octets.{each_below, at_each}
 use Rattle.bit_stuffing.proofs.Ones.{CountsOnes}
 use Rattle.bit_stuffing.proofs.Openings.{opened-once}
 use Rattle.bit_stuffing.proofs.Contents.{none-lent}
-use Rattle.bit_stuffing.proofs.Counters.{Counters, Counts, step, run, run-append, Still, still_test, still-of, Below6, counts-step, counts-run, open-run}
-use Rattle.bit_stuffing.proofs.Counters.{along, pieces-along, along-still, no_close}
+use Rattle.bit_stuffing.proofs.Counters.{Counters, Counts, step, run, Still, still_test, still-of, Below6, counts-step, counts-run, open-run}
+use Rattle.bit_stuffing.proofs.Counters.{pieces-along, along-still, no_close}
 
 -- how many ones the latest bits end with, up to seven
 abbrev ones_of : ℕ → ℕ

@@ -6,7 +6,7 @@ use Rattle.std.proofs.lemmas.List.{append-nil}
 use Rattle.std.proofs.lemmas.List.Elements.{All-append, All-cons, All-nil}
 use Rattle.frame_check.proofs.BitLists.{bits_of-snoc}
 use Rattle.plain_lists.specs.Bits.{low_bits, octet_bits, bits_of}
-use Rattle.bit_stuffing.specs.Stuffing.{removed, room_after}
+use Rattle.bit_stuffing.specs.Stuffing.{stuffed, room_behind, removed, room_after}
 use Rattle.bit_stuffing.specs.Deframer.{Gathering, KeepsBits, Gathers, has_room, is_plain, room_behind_octet, room_behind_four}
 use Rattle.bit_stuffing.proofs.Latest.{below8}
 
@@ -58,6 +58,29 @@ plain_test room octet =
 all_plain : each_below 6 (λ room. each_below 256 (plain_test room)) ≡ true
 all_plain = refl
 
+-- an octet in which no zero is due is written as it stands
+
+abbrev written_test : ℕ → ℕ → Bool
+written_test room octet =
+    if is_plain room octet then same_bits (stuffed room (octet_bits octet)) (octet_bits octet) && nat_eq
+    (room_behind room (octet_bits octet)) (room_behind_octet octet) else true
+
+all_written : each_below 6 (λ room. each_below 256 (written_test room)) ≡ true
+all_written = refl
+
+pub plain-written : (room octet : ℕ) → room < 6 → octet < 256 → is_plain room octet ≡ true
+    → (stuffed room (octet_bits octet) ≡ octet_bits octet) × (room_behind room (octet_bits octet) ≡ room_behind_octet octet)
+plain-written room octet low small plain =
+    let here : written_test room octet ≡ true = at_each 256 (written_test room)
+    (at_each 6 (λ room. each_below 256 (written_test room)) all_written room low) octet small in
+    let both : same_bits (stuffed room (octet_bits octet)) (octet_bits octet) && nat_eq (room_behind room (octet_bits octet))
+    (room_behind_octet octet) ≡ true = rw plain at here in
+    let parts = and_parts (same_bits (stuffed room (octet_bits octet)) (octet_bits octet))
+    (nat_eq (room_behind room (octet_bits octet)) (room_behind_octet octet)) both in (
+      are_same (stuffed room (octet_bits octet)) (octet_bits octet) parts.0,
+      eqb-true (room_behind room (octet_bits octet)) (room_behind_octet octet) parts.1,
+    )
+
 -- an octet in which no zero is due is kept whole
 plain-kept : (room octet : ℕ) → room < 6 → octet < 256 → is_plain room octet ≡ true
     → (removed room (octet_bits octet) ≡ octet_bits octet) × (room_after room (octet_bits octet) ≡ room_behind_octet octet)
@@ -74,7 +97,7 @@ plain-kept room octet low small plain =
     )
 
 -- the bits of a part and of a number above it
-joined-bits : (held part k n : ℕ) → part < 2 ^ held → low_bits held part ++ low_bits k n ≡ low_bits (held + k) (part + n * 2 ^ held)
+pub joined-bits : (held part k n : ℕ) → part < 2 ^ held → low_bits held part ++ low_bits k n ≡ low_bits (held + k) (part + n * 2 ^ held)
 joined-bits zero part k n small = let e : n ≡ part + n * 2 ^ 0 = omega arith in let all : 0 + k ≡ k = omega arith in
     ap (low_bits k) e ∙ ap (λ m. low_bits m (part + n * 2 ^ 0)) (sym all)
 joined-bits (suc held) part k n small =
@@ -93,7 +116,7 @@ joined-bits (suc held) part k n small =
     turned a b = grind arith
 
 -- eight bits are an octet's
-first-octet : (k n : ℕ) → low_bits (8 + k) n ≡ octet_bits (n % 256) ++ low_bits k (n / 256)
+pub first-octet : (k n : ℕ) → low_bits (8 + k) n ≡ octet_bits (n % 256) ++ low_bits k (n / 256)
 first-octet k n =
     let e0 : n % 256 % 2 ≡ n % 2 = omega arith in
     let e1 : n % 256 / 2 % 2 ≡ n / 2 % 2 = omega arith in

@@ -1,7 +1,8 @@
 -- The bits that are written into a slot.
-use Rattle.std.proofs.Common.{◌≡◌, ℕ, zero, suc, ◌+◌, ◌-◌, ◌*◌, ◌/◌, ◌^◌, ◌<◌, ◌≤◌, Bool, true, false, nat_eq, List, [], ◌∷◌, ◌++◌, length}
+use Rattle.std.proofs.Common.{◌≡◌, ℕ, zero, suc, ◌+◌, ◌-◌, ◌*◌, ◌/◌, ◌%◌, ◌^◌, ◌<◌, ◌≤◌, Bool, true, false, nat_eq, List, [], ◌∷◌, ◌++◌, length}
 use Rattle.std.proofs.Common.{take, drop, get_or, bit_and, arith, length-append, length-drop, refl, sym, ◌∙◌, ap, append_assoc}
-use Rattle.std.proofs.lemmas.List.{take_more, take_all, take-append-drop, get_or-drop}
+use Rattle.std.proofs.lemmas.Grind.{flat_map-append}
+use Rattle.std.proofs.lemmas.List.{append-nil, take_more, take_all, take-append-drop, get_or-drop}
 use Rattle.std.proofs.lemmas.Nat.{and_mask}
 use Rattle.plain_lists.specs.Bits.{low_bits, octet_bits, bits_of}
 use Rattle.frame_check.proofs.BitLists.{length-low_bits, get_or-low_bits, bits_of-snoc, bits_of-append}
@@ -11,6 +12,7 @@ use Rattle.bit_stuffing.specs.Pen.{written}
 use Rattle.bit_stuffing.specs.Flags.{flag}
 use Rattle.bit_stuffing.specs.Stuffing.{stuffed, room_behind}
 use Rattle.bit_stuffing.proofs.Stuffed.{zero_first}
+use Rattle.bit_stuffing.proofs.Octets.{joined-bits, first-octet}
 
 pub length-line_bits : (quads : List ℕ) → length (line_bits quads) ≡ 4 * length quads
 length-line_bits [] = refl
@@ -25,6 +27,40 @@ length-written pen quads =
       length-line_bits quads,
       length-low_bits pen.held pen.part,
     )
+
+-- An octet's bits make two quads, and what is held stays as long.
+
+two-quads : (n : ℕ) → octet_bits (n % 256) ≡ low_bits 4 (n % 16) ++ low_bits 4 (n / 16 % 16)
+two-quads n =
+    let e0 : n % 256 % 2 ≡ n % 16 % 2 = omega arith in
+    let e1 : n % 256 / 2 % 2 ≡ n % 16 / 2 % 2 = omega arith in
+    let e2 : n % 256 / 2 / 2 % 2 ≡ n % 16 / 2 / 2 % 2 = omega arith in
+    let e3 : n % 256 / 2 / 2 / 2 % 2 ≡ n % 16 / 2 / 2 / 2 % 2 = omega arith in
+    let e4 : n % 256 / 2 / 2 / 2 / 2 % 2 ≡ n / 16 % 16 % 2 = omega arith in
+    let e5 : n % 256 / 2 / 2 / 2 / 2 / 2 % 2 ≡ n / 16 % 16 / 2 % 2 = omega arith in
+    let e6 : n % 256 / 2 / 2 / 2 / 2 / 2 / 2 % 2 ≡ n / 16 % 16 / 2 / 2 % 2 = omega arith in
+    let e7 : n % 256 / 2 / 2 / 2 / 2 / 2 / 2 / 2 % 2 ≡ n / 16 % 16 / 2 / 2 / 2 % 2 = omega arith in
+    rw (e0, e1, e2, e3, e4, e5, e6, e7) refl
+
+line-more : (quads : List ℕ) (quad : ℕ) → line_bits (quads ++ quad ∷ []) ≡ line_bits quads ++ low_bits 4 quad
+line-more quads quad = flat_map-append (low_bits 4) quads (quad ∷ []) ∙ ap (λ l. line_bits quads ++ l) (append-nil (low_bits 4 quad))
+
+pub octet-written : (quads : List ℕ) (held part octet all : ℕ) → part < 2 ^ held → all ≡ part + octet * 2 ^ held
+    → line_bits ((quads ++ all % 16 ∷ []) ++ all / 16 % 16 ∷ []) ++ low_bits held (all / 256)
+    ≡ (line_bits quads ++ low_bits held part) ++ octet_bits octet
+octet-written quads held part octet all small e =
+    let q = all % 16 in
+    let r = all / 16 % 16 in
+    let turned : held + 8 ≡ 8 + held = omega arith in
+    let bits : low_bits held part ++ octet_bits octet ≡ (low_bits 4 q ++ low_bits 4 r) ++ low_bits held (all / 256) =
+    joined-bits held part 8 octet small ∙ ap (low_bits (held + 8)) (sym e) ∙ ap (λ n. low_bits n all) turned ∙ first-octet held all
+    ∙ ap (λ l. l ++ low_bits held (all / 256)) (two-quads all) in
+    let quads_are : line_bits ((quads ++ q ∷ []) ++ r ∷ []) ≡ line_bits quads ++ (low_bits 4 q ++ low_bits 4 r) =
+    line-more (quads ++ q ∷ []) r ∙ ap (λ l. l ++ low_bits 4 r) (line-more quads q)
+    ∙ append_assoc (line_bits quads) (low_bits 4 q) (low_bits 4 r) in
+    ap (λ l. l ++ low_bits held (all / 256)) quads_are
+    ∙ append_assoc (line_bits quads) (low_bits 4 q ++ low_bits 4 r) (low_bits held (all / 256))
+    ∙ ap (λ l. line_bits quads ++ l) (sym bits) ∙ sym (append_assoc (line_bits quads) (low_bits held part) (octet_bits octet))
 
 -- the stuffing of one content behind another
 

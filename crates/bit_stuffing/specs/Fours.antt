@@ -1,5 +1,5 @@
 -- How a finder of flags goes on by four bits at once, as numbers.
-use Rattle.std.specs.Prelude.{ℕ, ◌+◌, ◌*◌, ◌/◌, ◌%◌, Bool, not, if◌then◌else◌, nat_eq, nat_lt, Option, Some, None}
+use Rattle.std.specs.Prelude.{ℕ, ◌+◌, ◌*◌, ◌/◌, ◌%◌, not, if◌then◌else◌, nat_eq, nat_lt, Option, Some, None}
 use Rattle.std.specs.Int.Bits.{bit_and}
 
 -- where six of the bits are ones in a row: the first ones of each such six

@@ -1,14 +1,14 @@
 // Bits that are written into a slot.
-ghost use Rattle.std.specs.Prelude.{◌≡◌, ◌+◌, ◌-◌, ◌*◌, ◌%◌, ◌<◌, ◌≤◌, ◌^◌, [], ◌∷◌, ◌++◌, length, drop};
+ghost use Rattle.std.specs.Prelude.{◌≡◌, ◌+◌, ◌-◌, ◌*◌, ◌%◌, ◌<◌, ◌≤◌, ◌^◌, [], ◌∷◌, ◌++◌, length, take, drop};
 ghost use Rattle.plain_lists.specs.Bits.{octet_bits, bits_of};
 ghost use Rattle.bit_stuffing.specs.Flags.{bit_of, flag};
 ghost use Rattle.bit_stuffing.specs.Slots.{fill, flags, framed, rest_of_flag};
 ghost use Rattle.bit_stuffing.specs.Stuffing.{stuffed, room_behind};
 
 use crate::bit_slot::BitSlot;
-use crate::bits::with_bit;
+use crate::bits::{joined, with_bit};
 use crate::finder::FLAG;
-use crate::unstuffer::RUN;
+use crate::unstuffer::{RUN, is_plain, room_behind_octet};
 use frame_check::SLOT;
 
 /// The bit of a flag at a place.
@@ -55,13 +55,25 @@ impl Pen {
         }
     }
 
-    /// Writes a flag from this place of it on.
-    pub(crate) fn flag(&mut self, from: u8, out: &mut BitSlot)
-        requires from { from ≤ 8 }
-        requires room { length (written self.old out.old) + (8 - from) ≤ 4 * SLOT }
-        ensures { written self.new out.new ≡ written self.old out.old ++ drop from flag }
+    /// Writes the bits of an octet, the low one first.
+    fn octet(&mut self, octet: u8, out: &mut BitSlot)
+        requires { length (written self.old out.old) + 8 ≤ 4 * SLOT }
+        ensures { written self.new out.new ≡ written self.old out.old ++ octet_bits octet }
     {
-        for place in from..8 {
+        let bits = joined(self.part, self.held, octet);
+        out.push((bits % 16) as u8);
+        out.push((bits / 16 % 16) as u8);
+        self.part = (bits / 256) as u8;
+    }
+
+    /// Writes a flag from this place of it on, up to that one.
+    fn flag(&mut self, from: u8, to: u8, out: &mut BitSlot)
+        requires from { from ≤ to }
+        requires to { to ≤ 8 }
+        requires room { length (written self.old out.old) + (to - from) ≤ 4 * SLOT }
+        ensures { written self.new out.new ≡ written self.old out.old ++ take (to - from) (drop from flag) }
+    {
+        for place in from..to {
             self.bit(flag_bit(place), out);
         }
     }
@@ -98,6 +110,10 @@ impl Pen {
             ≡ written self.old out.old ++ stuffed room (octet_bits octet) }
         ensures room { result ≡ room_behind room (octet_bits octet) }
     {
+        if is_plain(room, octet) {
+            self.octet(octet, out);
+            return room_behind_octet(octet);
+        }
         let mut left = room;
         for place in 0..8u32 {
             left = self.content_bit((octet >> place) & 1 == 1, left, out);
@@ -119,12 +135,12 @@ impl Pen {
     }
 
     /// Writes so many flags.
-    fn flags(&mut self, count: u8, out: &mut BitSlot)
+    fn flags(&mut self, count: usize, out: &mut BitSlot)
         requires { length (written self.old out.old) + 8 * count ≤ 4 * SLOT }
         ensures { written self.new out.new ≡ written self.old out.old ++ flags count }
     {
         for _ in 0..count {
-            self.flag(0, out);
+            self.octet(FLAG, out);
         }
     }
 
@@ -137,7 +153,7 @@ impl Pen {
             ≡ written self.old out.old ++ (rest_of_flag phase ++ flags 4) }
     {
         if phase > 0 {
-            self.flag(phase, out);
+            self.flag(phase, 8, out);
         }
         self.flags(4, out);
     }
@@ -149,7 +165,7 @@ impl Pen {
         ensures { written self.new out.new ≡ written self.old out.old ++ framed (Some octets.now) }
     {
         self.content(octets, out);
-        self.flag(0, out);
+        self.octet(FLAG, out);
     }
 
     /// Writes flags until the slot has so many symbols. It answers how many bits of an unfinished flag come last.
@@ -162,9 +178,9 @@ impl Pen {
     {
         let written = 4 * out.len() + usize::from(self.held);
         let left = 4 * usize::from(symbols) - written;
-        for place in 0..left {
-            self.bit(flag_bit((place % 8) as u8), out);
-        }
-        (left % 8) as u8
+        self.flags(left / 8, out);
+        let phase = (left % 8) as u8;
+        self.flag(0, phase, out);
+        phase
     }
 }

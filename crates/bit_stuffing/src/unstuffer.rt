@@ -4,7 +4,7 @@ ghost use Rattle.plain_lists.specs.Bits.{low_bits, octet_bits};
 ghost use Rattle.bit_stuffing.specs.Deframer.{has_room, is_plain, room_behind_octet, room_behind_four};
 ghost use Rattle.frame_check.specs.declared.sizes.TheConstants.{WHOLE};
 
-use crate::bits::with_bit;
+use crate::bits::{joined, with_bit};
 use crate::piece::{Piece, SHORTEST};
 use frame_check::{WHOLE, Whole};
 use std::marker::Model;
@@ -21,7 +21,7 @@ fn has_room(room: u8, bits: u8) -> bool
 }
 
 /// Whether no zero is due within an octet's bits or behind them, where so many ones may still follow what was before.
-fn is_plain(room: u8, octet: u8) -> bool
+pub(crate) fn is_plain(room: u8, octet: u8) -> bool
     requires { room ≤ 5 }
     ensures { result ≡ is_plain room octet }
 {
@@ -29,7 +29,7 @@ fn is_plain(room: u8, octet: u8) -> bool
 }
 
 /// How many ones may still follow such an octet before a zero has to.
-fn room_behind_octet(octet: u8) -> u8
+pub(crate) fn room_behind_octet(octet: u8) -> u8
     ensures value { result ≡ room_behind_octet octet }
     ensures bound { result ≤ 5 }
 {
@@ -52,16 +52,6 @@ fn room_behind_four(four: u8) -> u8
     ensures bound { result ≤ 5 }
 {
     room_behind_octet(16 * (four % 16))
-}
-
-/// The low bits of a part, so many, and those of an octet, or four, above them.
-fn joined(part: u8, held: u8, more: u8) -> u16
-    requires held { held < 8 }
-    requires part { part < 2 ^ held }
-    ensures value { result ≡ part + more * 2 ^ held }
-    ensures bound { result / 256 < 2 ^ held }
-{
-    u16::from(part) + (u16::from(more) << held)
 }
 
 /// Takes the inserted zeros out of a content's line, and gathers its octets.

@@ -1,26 +1,90 @@
 -- Samples that are points, one after another.
-use Rattle.std.proofs.Common.{◌≡◌, ◌∙◌, inl, inr, ℕ, zero, suc, ◌+◌, ◌*◌, ◌<◌, ◌≤◌, Bool, List, [], ◌∷◌, ◌++◌, length, take, map, slice_index, refl, sym, ap, subst, arith, length-append, append-nil}
-use Rattle.std.proofs.lemmas.Bool.{cases_lt}
+use Rattle.std.proofs.Common.{to_z, of_z, w16, ◌≡◌, ◌∙◌, inl, inr, ℕ, zero, suc, ◌+◌, ◌*◌, ◌<◌, ◌≤◌, Bool, List, [], ◌∷◌, ◌++◌, length, take, map, slice_index, refl, sym, ap, subst, arith, length-append, append-nil}
+use Rattle.std.proofs.lemmas.Bool.{cases_lt, eqb-true, ltb-true, and_parts}
+use Rattle.std.specs.Prelude.{◌-ℤ◌, unsigned_abs, slice_index_or, nat_eq, nat_lt, ◌&&◌, true}
 use Rattle.std.proofs.lemmas.List.{append_assoc, map-append}
 use Rattle.std.proofs.lemmas.List.Elements.{All-append, All-cons, All-nil, All-head, All-tail}
 use Rattle.scramblers.specs.declared.mode.Mode.{Mode}
 use Rattle.symbol_map.specs.declared.sample.Sample.{Sample}
-use Rattle.symbol_map.specs.Points.{point_of}
+use Rattle.symbol_map.specs.Points.{point_of, map_point, minus}
+use Rattle.symbol_map.specs.Distance.{distance_of}
+use Rattle.symbol_map.proofs.Distances.{equal_from_no_distance}
+use Rattle.symbol_map.specs.Finite.{each_below, at_each}
 use Rattle.plain_lists.specs.Bits.{low_bits}
 use Rattle.bit_stuffing.specs.BitSlot.{line_bits}
 use Rattle.std.proofs.lemmas.Grind.{flat_map-append}
 use Rattle.line_coding.specs.declared.demodulator.Demodulator.{Demodulator}
 use Rattle.line_coding.specs.Demodulates.{DemodulatorStands}
 use Rattle.recordings.specs.Samples.{samples_in, sample_at, sample_of}
-use Rattle.line_tap.specs.Labels.{AreLabels, ReadsLabels}
+use Rattle.line_tap.specs.Labels.{AreLabels, ReadsLabels, coordinate_at}
 
-pub none-next : (n : ℕ) (s : Sample) → ((label : ℕ) → label < n → point_of label ≡ s → ⊥) → (point_of n ≡ s → ⊥)
-    → (label : ℕ) → label < n + 1 → point_of label ≡ s → ⊥
-none-next n s h k label low e =
-    elim (cases_lt label n) [
-      | inl less ↦ h label less e
-      | inr last ↦ let same : label ≡ n = omega (arith, low, last) in k (sym (ap point_of same) ∙ e)
-    ]
+-- the labels of the map, by columns and heights
+abbrev pub label_map : List ℕ
+label_map =
+    0 ∷ 0 ∷ 0 ∷ 7 ∷ 0 ∷ 0 ∷ 0 ∷ 0 ∷ 0
+    ∷ 0 ∷ 0 ∷ 16 ∷ 0 ∷ 25 ∷ 0 ∷ 18 ∷ 0 ∷ 0
+    ∷ 0 ∷ 14 ∷ 0 ∷ 9 ∷ 0 ∷ 15 ∷ 0 ∷ 8 ∷ 0
+    ∷ 28 ∷ 0 ∷ 23 ∷ 0 ∷ 30 ∷ 0 ∷ 21 ∷ 0 ∷ 31
+    ∷ 0 ∷ 1 ∷ 0 ∷ 6 ∷ 0 ∷ 2 ∷ 0 ∷ 5 ∷ 0
+    ∷ 27 ∷ 0 ∷ 17 ∷ 0 ∷ 26 ∷ 0 ∷ 19 ∷ 0 ∷ 24
+    ∷ 0 ∷ 12 ∷ 0 ∷ 11 ∷ 0 ∷ 13 ∷ 0 ∷ 10 ∷ 0
+    ∷ 0 ∷ 0 ∷ 22 ∷ 0 ∷ 29 ∷ 0 ∷ 20 ∷ 0 ∷ 0
+    ∷ 0 ∷ 0 ∷ 0 ∷ 4 ∷ 0 ∷ 3 ∷ 0 ∷ 0 ∷ 0
+    ∷ []
+
+-- the column of a label's point, and its height
+abbrev column : ℕ → ℕ
+column label = unsigned_abs ((map_point label).0 -ℤ minus 4)
+
+abbrev height : ℕ → ℕ
+height label = unsigned_abs ((map_point label).1 -ℤ minus 4)
+
+abbrev there : ℕ → Sample
+there label = record { re = coordinate_at (column label); im = coordinate_at (height label) }
+
+abbrev label_test : ℕ → Bool
+label_test label =
+    nat_eq (slice_index_or label_map (9 * column label + height label) 0) label && (nat_eq (distance_of (point_of label) (there label)) 0
+    && (nat_lt (column label) 9 && nat_lt (height label) 9))
+
+all_labels : each_below 32 label_test ≡ true
+all_labels = refl
+
+all_small : each_below 81 (λ place. nat_lt (slice_index_or label_map place 0) 32) ≡ true
+all_small = refl
+
+pub small-label : (column height : ℕ) → column < 9 → height < 9 → slice_index_or label_map (9 * column + height) 0 < 32
+small-label column height low few =
+    ltb-true (slice_index_or label_map (9 * column + height) 0) 32
+    (at_each 81 (λ place. nat_lt (slice_index_or label_map place 0) 32) all_small (9 * column + height) (omega arith))
+
+-- a coordinate of the map as sixteen bits
+same-place : (place : ℕ) → place < 9 → to_z w16 (of_z w16 (coordinate_at place)) ≡ coordinate_at place
+same-place zero l = refl
+same-place (suc zero) l = refl
+same-place (suc (suc zero)) l = refl
+same-place (suc (suc (suc zero))) l = refl
+same-place (suc (suc (suc (suc zero)))) l = refl
+same-place (suc (suc (suc (suc (suc zero))))) l = refl
+same-place (suc (suc (suc (suc (suc (suc zero)))))) l = refl
+same-place (suc (suc (suc (suc (suc (suc (suc zero))))))) l = refl
+same-place (suc (suc (suc (suc (suc (suc (suc (suc zero)))))))) l = refl
+same-place (suc (suc (suc (suc (suc (suc (suc (suc (suc place))))))))) l = absurd (omega arith)
+
+-- where a sample has the coordinates of a label's point, its label stands there
+pub label-there : (sample : Sample) (x y label : ℕ) → label < 32 → point_of label ≡ sample
+    → ((place : ℕ) → place < 9 → to_z w16 (of_z w16 sample.re) ≡ coordinate_at place → x ≡ place)
+    → ((place : ℕ) → place < 9 → to_z w16 (of_z w16 sample.im) ≡ coordinate_at place → y ≡ place)
+    → slice_index_or label_map (9 * x + y) 0 ≡ label
+label-there sample x y label low e re im =
+    let t = and_parts (nat_eq (slice_index_or label_map (9 * column label + height label) 0) label) _ (at_each 32 label_test all_labels label low) in
+    let u = and_parts (nat_eq (distance_of (point_of label) (there label)) 0) (nat_lt (column label) 9 && nat_lt (height label) 9) t.1 in
+    let v = and_parts (nat_lt (column label) 9) (nat_lt (height label) 9) u.1 in
+    let same : point_of label ≡ there label = equal_from_no_distance (point_of label) (there label) (eqb-true (distance_of (point_of label) (there label)) 0 u.0) in
+    let is : sample ≡ there label = sym e ∙ same in
+    let x_is : x ≡ column label = re (column label) (ltb-true (column label) 9 v.0) (ap (λ s. to_z w16 (of_z w16 s.re)) is ∙ same-place (column label) (ltb-true (column label) 9 v.0)) in
+    let y_is : y ≡ height label = im (height label) (ltb-true (height label) 9 v.1) (ap (λ s. to_z w16 (of_z w16 s.im)) is ∙ same-place (height label) (ltb-true (height label) 9 v.1)) in
+    rw (x_is, y_is) (eqb-true (slice_index_or label_map (9 * column label + height label) 0) label t.0)
 
 pub reads-none : (d : Demodulator) → ReadsLabels d d [] []
 reads-none d = record {

@@ -73,3 +73,9 @@ seeks-other check sender dlci earlier bits bit found other h =
 
 pub seeks-none : (check : Check) (sender : Role) (dlci : ℕ) (bits : List Bool) → Seeks check sender dlci bits bits None
 seeks-none check sender dlci bits = record { pieces = []; pieces_are = sym (append-nil (pieces_of bits)); frame_is = refl }
+
+-- more bits with which no piece ends
+pub seeks-quiet : (check : Check) (sender : Role) (dlci : ℕ) (earlier bits later : List Bool) (found : Option Frame)
+    → pieces_of later ≡ pieces_of bits → Seeks check sender dlci earlier bits found → Seeks check sender dlci earlier later found
+seeks-quiet check sender dlci earlier bits later found e h =
+    record { pieces = h.pieces; pieces_are = e ∙ h.pieces_are; frame_is = h.frame_is }

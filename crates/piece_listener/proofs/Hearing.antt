@@ -1,5 +1,5 @@
 -- What a listener heard, one more step at a time.
-use Rattle.std.proofs.Common.{◌≡◌, ◌∙◌, ℕ, ◌+◌, ◌/◌, ◌^◌, ◌<◌, Bool, false, List, [], ◌∷◌, ◌++◌, length, take, drop, get_or, Result, Ok}
+use Rattle.std.proofs.Common.{◌≡◌, ◌∙◌, ℕ, ◌+◌, ◌/◌, ◌%◌, ◌^◌, ◌<◌, Bool, false, List, [], ◌∷◌, ◌++◌, length, take, drop, get_or, Result, Ok}
 use Rattle.std.proofs.Common.{Err, OnOk, nat_eq, bit_and, Option, Some, None, refl, sym, ap, subst, arith, append-nil, append_assoc}
 use Rattle.std.proofs.Common.{length-append}
 use Rattle.std.specs.Option.{option_map, option_map_or}
@@ -80,12 +80,20 @@ heard-none start now l next bits bit h none stands sender pieces = record {
     same : pieces_of (bits ++ bit ∷ []) ≡ pieces_of bits
     same = pieces-more bits bit ∙ ap (λ o. pieces_of bits ++ listed o) (nothing-there (bits ++ bit ∷ []) none) ∙ append-nil (pieces_of bits)
 
--- an octet with whose bits no piece ends
-pub heard-octet : (start now : FolderState) (l next : Listening) (bits : List Bool) (octet : ℕ) → Heard start now l bits
-    → DeframerStands next.deframer (bits ++ octet_bits octet)
-    → pieces_of (bits ++ octet_bits octet) ≡ pieces_of bits → next.sender ≡ l.sender → next.pieces ≡ l.pieces
-    → Heard start now next (bits ++ octet_bits octet)
-heard-octet start now l next bits octet h stands same sender pieces = record {
+-- four bits have no part in the higher ones
+pub low-four : (octet : ℕ) → low_bits 4 (octet % 16) ≡ low_bits 4 octet
+low-four octet =
+    let e0 : octet % 16 % 2 ≡ octet % 2 = omega arith in
+    let e1 : octet % 16 / 2 % 2 ≡ octet / 2 % 2 = omega arith in
+    let e2 : octet % 16 / 2 / 2 % 2 ≡ octet / 2 / 2 % 2 = omega arith in
+    let e3 : octet % 16 / 2 / 2 / 2 % 2 ≡ octet / 2 / 2 / 2 % 2 = omega arith in
+    rw (e0, e1, e2, e3) refl
+
+-- more bits with which no piece ends
+pub heard-quiet : (start now : FolderState) (l next : Listening) (bits later : List Bool) → Heard start now l bits
+    → DeframerStands next.deframer later → pieces_of later ≡ pieces_of bits → next.sender ≡ l.sender → next.pieces ≡ l.pieces
+    → Heard start now next later
+heard-quiet start now l next bits later h stands same sender pieces = record {
   stands = stands;
   lines = h.lines;
   are_lines = subst (λ (p : Role × List Found). AreLines p.0 p.1 h.lines) (λ i. (sym sender i, sym same i)) h.are_lines;

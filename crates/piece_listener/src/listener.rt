@@ -1,7 +1,7 @@
 // A listener to a stream of bits, who says what each piece is.
 ghost use Rattle.std.specs.Prelude.{◌≡◌, ◌≤◌, ◌<◌, ◌+◌, ◌*◌, ◌^◌, ℕ, Bool, true, false, List, [], ◌∷◌, ◌++◌, OnOk, OnErr, IfErr, length};
 ghost use Rattle.outside_calls.specs.Folder.{FolderState, OnlySays, CountsStand};
-ghost use Rattle.plain_lists.specs.Bits.{low_bits, octet_bits, bits_of};
+ghost use Rattle.plain_lists.specs.Bits.{low_bits, bits_of};
 ghost use Rattle.command_base.specs.Stops.{SayFails};
 ghost use Rattle.bit_stuffing.specs.Found.{Found};
 ghost use Rattle.piece_listener.specs.Heard.{Heard, PartlyHeard, LeftAt, SaysPiece, PartlySaysPiece};
@@ -127,6 +127,33 @@ impl Listener {
         ensures sender { self.new.sender ≡ self.old.sender }
         ensures pieces { self.new.pieces ≤ self.old.pieces + count }
     {
+        if self.pass_low(octet, count) {
+            return Ok(());
+        }
+        self.hear_each(folder, octet, count)
+    }
+
+    /// Hears the low bits of an octet, so many, one by one.
+    fn hear_each<F: Folder>(
+        &mut self,
+        folder: &mut F,
+        octet: u8,
+        count: u32,
+    ) -> Result<(), FolderFault>
+        requires pieces { self.old.pieces < 2 ^ 62 }
+        requires few { count ≤ 8 }
+        ensures ok { (start : FolderState) (bits : List Bool) → Heard start (F.state folder.old) self.old bits
+            → OnOk result (Heard start (F.state folder.new) self.new (bits ++ low_bits count octet)) }
+        ensures err { (start : FolderState) (bits : List Bool) → Heard start (F.state folder.old) self.old bits
+            → OnErr result (PartlyHeard start (F.state folder.new) self.old.sender (bits ++ low_bits count octet)) }
+        ensures left { (start : FolderState) (bits : List Bool) → Heard start (F.state folder.old) self.old bits
+            → OnErr result (LeftAt start (F.state folder.new) self.new (bits ++ low_bits count octet)) }
+        ensures only { OnlySays (F.state folder.old) (F.state folder.new) }
+        ensures fails { IfErr result (SayFails (F.state folder.old) (F.state folder.new)) }
+        ensures stand { OnOk result (CountsStand (F.state folder.old) (F.state folder.new)) }
+        ensures sender { self.new.sender ≡ self.old.sender }
+        ensures pieces { self.new.pieces ≤ self.old.pieces + count }
+    {
         for place in 0..count {
             match self.hear_bit(folder, (octet >> place) & 1 == 1) {
                 Ok(()) => {}
@@ -136,34 +163,19 @@ impl Listener {
         Ok(())
     }
 
-    /// Hears the eight bits of an octet, the low one first.
-    fn hear_octet<F: Folder>(&mut self, folder: &mut F, octet: u8) -> Result<(), FolderFault>
-        requires { self.old.pieces < 2 ^ 62 }
-        ensures ok { (start : FolderState) (bits : List Bool) → Heard start (F.state folder.old) self.old bits
-            → OnOk result (Heard start (F.state folder.new) self.new (bits ++ octet_bits octet)) }
-        ensures left { (start : FolderState) (bits : List Bool) → Heard start (F.state folder.old) self.old bits
-            → OnErr result (LeftAt start (F.state folder.new) self.new (bits ++ octet_bits octet)) }
-        ensures only { OnlySays (F.state folder.old) (F.state folder.new) }
-        ensures fails { IfErr result (SayFails (F.state folder.old) (F.state folder.new)) }
-        ensures stand { OnOk result (CountsStand (F.state folder.old) (F.state folder.new)) }
-        ensures sender { self.new.sender ≡ self.old.sender }
-        ensures pieces { self.new.pieces ≤ self.old.pieces + 8 }
-    {
-        if self.pass(octet) {
-            return Ok(());
-        }
-        self.hear_low(folder, octet, 8)
-    }
-
-    /// Hears the bits of an octet where it is plain that no piece ends with any of them: whether it did.
-    fn pass(&mut self, octet: u8) -> bool
+    /// Hears the low bits of an octet where it is plain that no piece ends with any of them: whether it did.
+    fn pass_low(&mut self, octet: u8, count: u32) -> bool
         ensures heard { result ≡ true → (start now : FolderState) (bits : List Bool) → Heard start now self.old bits
-            → Heard start now self.new (bits ++ octet_bits octet) }
+            → Heard start now self.new (bits ++ low_bits count octet) }
         ensures stays { result ≡ false → self.new ≡ self.old }
         ensures sender { self.new.sender ≡ self.old.sender }
         ensures pieces { self.new.pieces ≡ self.old.pieces }
     {
-        self.deframer.pass(octet)
+        match count {
+            8 => self.deframer.pass(octet),
+            4 => self.deframer.pass_four(octet % 16),
+            _ => false,
+        }
     }
 
     /// Hears the bits of octets.
@@ -183,7 +195,7 @@ impl Listener {
         ensures pieces { self.new.pieces ≤ self.old.pieces + 8 * length octets.now }
     {
         for octet in octets {
-            match self.hear_octet(folder, *octet) {
+            match self.hear_low(folder, *octet, 8) {
                 Ok(()) => {}
                 Err(fault) => return Err(fault),
             }

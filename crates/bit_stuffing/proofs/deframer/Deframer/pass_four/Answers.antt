@@ -1,4 +1,4 @@
-use Rattle.std.proofs.Common.{◌≡◌, ℕ, Some, List, Bool, ◌++◌, sym, ap, subst, ◌∙◌}
+use Rattle.std.proofs.Common.{◌≡◌, ◌++◌, sym, ap, subst, ◌∙◌}
 use Rattle.plain_lists.specs.Bits.{low_bits}
 use Rattle.bit_stuffing.specs.Deframer.{Gathers, PassesBits, DeframerStands}
 use Rattle.bit_stuffing.proofs.Passing.{leaves-four, four-stands}

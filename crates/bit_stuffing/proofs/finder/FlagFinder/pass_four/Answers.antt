@@ -1,4 +1,4 @@
-use Rattle.std.proofs.Common.{◌≡◌, ◌/◌, Some, sym, subst, ◌∙◌}
+use Rattle.std.proofs.Common.{◌/◌, sym, subst, ◌∙◌}
 use Rattle.plain_lists.specs.Bits.{low_bits}
 use Rattle.bit_stuffing.specs.Deframer.{Finds, PassesBits}
 use Rattle.bit_stuffing.proofs.Fours.{passes-four}

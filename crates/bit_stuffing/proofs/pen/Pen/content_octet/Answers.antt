@@ -1,9 +1,10 @@
-use Rattle.std.proofs.Common.{Bool, ◌+◌, ◌/◌, ◌^◌, ◌∷◌, [], nat_eq, bit_and, take, drop, length, ◌++◌, arith, ◌∙◌, ap, sym, subst, ◌≤◌, ◌*◌}
+use Rattle.std.proofs.Common.{Bool, ◌≡◌, ◌+◌, ◌/◌, ◌^◌, ◌∷◌, [], nat_eq, bit_and, take, drop, length, ◌++◌, arith, ◌∙◌, ap, sym, subst, ◌≤◌, ◌*◌}
 use Rattle.frame_check.specs.declared.sizes.TheConstants.{SLOT}
 use Rattle.plain_lists.specs.Bits.{octet_bits}
 use Rattle.bit_stuffing.specs.Pen.{written}
 use Rattle.bit_stuffing.specs.Stuffing.{stuffed, room_behind}
 use Rattle.bit_stuffing.proofs.Written.{next-written, next-left, next-fits, left-in, octet-bit, octet-part, octet-split}
+use Rattle.bit_stuffing.proofs.Octets.{plain-written}
 use Rattle.bit_stuffing.proofs.pen.Pen.content_octet.Goals as goal
 
 pub content_bit-left-requires-clause-some : goal.content_bit-left-requires-clause-some
@@ -50,3 +51,22 @@ loop-place-preserved c =
           (take place (octet_bits c.args.octet)) c.args.room c.loop-place.left c.requires.some c.loop-place.invariant.left
           c.loop-place.invariant.bits (b ∷ []) ∙ ap (room_behind c.args.room) (sym part);
     }
+
+pub octet-requires : goal.octet-requires
+octet-requires c =
+    let p = plain-written c.args.room c.args.octet (omega (arith, c.requires.few)) c.ranges.octet.fits
+    (sym c.is_plain.ensures ∙ c.if-is_plain.true) in
+    let long : length (stuffed c.args.room (octet_bits c.args.octet)) ≡ 8 = ap length p.0 in
+    omega (arith, c.requires.fits, long)
+
+pub returns-then-is_plain-clause-written : goal.returns-then-is_plain-clause-written
+returns-then-is_plain-clause-written c =
+    let p = plain-written c.args.room c.args.octet (omega (arith, c.requires.few)) c.ranges.octet.fits
+    (sym c.is_plain.ensures ∙ c.if-is_plain.true) in
+    c.octet.ensures ∙ ap (λ l. written c.args.self.now c.args.out.now ++ l) (sym p.0)
+
+pub returns-then-is_plain-clause-room : goal.returns-then-is_plain-clause-room
+returns-then-is_plain-clause-room c =
+    let p = plain-written c.args.room c.args.octet (omega (arith, c.requires.few)) c.ranges.octet.fits
+    (sym c.is_plain.ensures ∙ c.if-is_plain.true) in
+    c.room_behind_octet.ensures.value ∙ sym p.1

@@ -5,8 +5,8 @@ use Rattle.bit_stuffing.specs.Slots.{flags}
 use Rattle.bit_stuffing.proofs.Fill.{length-flags, flags-snoc}
 use Rattle.bit_stuffing.proofs.pen.Pen.flags.Goals as goal
 
-pub flag-requires-clause-room : goal.flag-requires-clause-room
-flag-requires-clause-room c =
+pub octet-requires : goal.octet-requires
+octet-requires c =
     let start : List Bool = written c.args.self.now c.args.out.now in
     omega (
       arith,
@@ -20,5 +20,5 @@ pub loop-preserved : goal.loop-preserved
 loop-preserved c =
     let start : List Bool = written c.args.self.now c.args.out.now in
     let next : suc c.loop.counter ≡ c.loop.counter + 1 = omega arith in
-    c.flag.ensures ∙ ap (λ t. t ++ flag) c.loop.invariant ∙ append_assoc start (flags c.loop.counter) flag
+    c.octet.ensures ∙ ap (λ t. t ++ flag) c.loop.invariant ∙ append_assoc start (flags c.loop.counter) flag
     ∙ ap (λ t. start ++ t) (flags-snoc c.loop.counter ∙ ap flags next)

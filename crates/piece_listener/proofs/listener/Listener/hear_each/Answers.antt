@@ -7,7 +7,7 @@ use Rattle.frame_check.proofs.BitLists.{length-low_bits}
 use Rattle.roles.specs.declared.role.Role.{Role}
 use Rattle.piece_listener.specs.Heard.{Heard, PartlyHeard, LeftAt}
 use Rattle.piece_listener.proofs.Hearing.{partly-longer, left-longer, bit-more, bits-left, says-trans}
-use Rattle.piece_listener.proofs.listener.Listener.hear_low.Goals as goal
+use Rattle.piece_listener.proofs.listener.Listener.hear_each.Goals as goal
 
 pub returns-clause-ok : goal.returns-clause-ok
 returns-clause-ok g c = λ start bits heard.

@@ -2,7 +2,7 @@ use Rattle.std.proofs.Common.{◌≡◌, ◌≤◌, ◌+◌, Bool, List, ◌++�
 use Rattle.outside_calls.specs.Folder.{FolderState, OnlySays, CountsStand}
 use Rattle.plain_lists.specs.Bits.{low_bits}
 use Rattle.piece_listener.specs.Heard.{Heard}
-use Rattle.piece_listener.proofs.listener.Listener.hear_low.Given as goal
+use Rattle.piece_listener.proofs.listener.Listener.hear_each.Given as goal
 
 abbrev pub invariant-loop-place : goal.invariant-loop-place
 invariant-loop-place g l = record {
