@@ -18,3 +18,4 @@ pub mod Narrow
 pub mod MapKeys
 pub mod Small
 pub mod Eight
+pub mod Alike

@@ -40,8 +40,11 @@ each_of_eight P a b c d e f g h (suc (suc (suc zero))) l = d
 each_of_eight P a b c d e f g h (suc (suc (suc (suc i)))) l = each_of_four (λ i. P (suc (suc (suc (suc i))))) e f g h i (omega arith)
 
 -- a list of eight
-pub lanes-are : (xs : List ℕ) → length xs ≡ 8 → xs ≡ slice_index xs 0 ∷ slice_index xs 1 ∷ slice_index xs 2 ∷ slice_index xs 3
-    ∷ slice_index xs 4 ∷ slice_index xs 5 ∷ slice_index xs 6 ∷ slice_index xs 7 ∷ []
+abbrev pub lanes : List ℕ → List ℕ
+lanes xs = slice_index xs 0 ∷ slice_index xs 1 ∷ slice_index xs 2 ∷ slice_index xs 3 ∷ slice_index xs 4 ∷ slice_index xs 5
+    ∷ slice_index xs 6 ∷ slice_index xs 7 ∷ []
+
+pub lanes-are : (xs : List ℕ) → length xs ≡ 8 → xs ≡ lanes xs
 lanes-are [] long = absurd (omega arith)
 lanes-are (a ∷ []) long = absurd (omega arith)
 lanes-are (a ∷ b ∷ []) long = absurd (omega arith)

@@ -1,7 +1,9 @@
 // The step of the eight-state code by vectors: a lane has a state's key, of 32 bits.
-ghost use Rattle.std.specs.Prelude.{◌≡◌, ℕ, ℤ, ◌<◌, ◌≤◌, ◌+◌, ◌-◌, ◌*◌, ◌/◌, ◌%◌, ◌^◌, min, true, List, [], ◌∷◌, length, slice_index};
+ghost use Rattle.std.specs.Prelude.{◌≡◌, ℕ, ℤ, ◌<◌, ◌≤◌, ◌+◌, ◌-◌, ◌*◌, ◌/◌, ◌%◌, ◌^◌, min, nat_eq, ◌&&◌, true, List, [], ◌∷◌, length, slice_index};
+ghost use Rattle.std.specs.Simd.Lanes.{Each1};
 ghost use Rattle.symbol_map.specs.Points.{point_of};
 ghost use Rattle.trellis_tables.specs.Ways.{way_before, way_subset};
+ghost use Rattle.exact_decoder.specs.Settled.{choice_at};
 ghost use Rattle.exact_decoder.specs.Traced.{choices_of};
 ghost use Rattle.exact_decoder.specs.Advances.{Advances};
 ghost use Rattle.exact_decoder.specs.Lines.{coordinate, least_four, words, IsNarrow};
@@ -166,12 +168,84 @@ fn advance_first(sample: Sample, sums: &mut [u64], column: &mut Column<8>)
     advance_plainly::<8, 32, V32Code>(&V32Code, sample, sums, column);
 }
 
+/// A column in one vector: the states before, and then the labels.
+#[inline(always)]
+fn table_of(column: &Column<8>) -> u8x16
+    ensures before { (s : ℕ) → s < 8 → slice_index result s ≡ (choice_at (choices_of column.now) s).before }
+    ensures labels { (s : ℕ) → s < 8 → slice_index result (s + 8) ≡ (choice_at (choices_of column.now) s).label }
+    ensures long { length result ≡ 16 }
+{
+    u8x8::from_slice(&column.before).shuffle(
+        u8x8::from_slice(&column.labels),
+        [0, 1, 2, 3, 4, 5, 6, 7, 8, 9, 10, 11, 12, 13, 14, 15],
+    )
+}
+
+/// The places of the states before and of the labels of these states in such a vector.
+#[inline(always)]
+fn places_of(live: u8x8) -> u8x16
+    ensures { (a b c d e f g h : ℕ) → live ≡ (a ∷ b ∷ c ∷ d ∷ e ∷ f ∷ g ∷ h ∷ [])
+        → a < 8 → b < 8 → c < 8 → d < 8 → e < 8 → f < 8 → g < 8 → h < 8
+        → result ≡ (a ∷ b ∷ c ∷ d ∷ e ∷ f ∷ g ∷ h ∷ (a + 8) ∷ (b + 8) ∷ (c + 8) ∷ (d + 8) ∷ (e + 8) ∷ (f + 8) ∷ (g + 8) ∷ (h + 8) ∷ []) }
+{
+    live.swizzle([0, 1, 2, 3, 4, 5, 6, 7, 0, 1, 2, 3, 4, 5, 6, 7])
+        + u8x16::from_array([0, 0, 0, 0, 0, 0, 0, 0, 8, 8, 8, 8, 8, 8, 8, 8])
+}
+
+/// The lanes of a vector at these places.
+#[inline(always)]
+fn looked_up(table: u8x16, places: u8x16) -> u8x16
+    requires long { length places ≡ 16 }
+    requires within { Each1 (λ place. place < 16) places }
+    ensures each { (i : ℕ) → i < 16 → slice_index result i ≡ slice_index table (slice_index places i) }
+    ensures long { length result ≡ 16 }
+{
+    table.swizzle_dyn(places)
+}
+
+/// The states before those of a list in a column, and behind them the labels there.
+#[inline(always)]
+fn taken_at(column: &Column<8>, live: &[u8]) -> u8x16
+    requires long { length live.now ≡ 8 }
+    requires within { (s : ℕ) → s < 8 → slice_index live.now s < 8 }
+    ensures before { (s : ℕ) → s < 8 → slice_index result s ≡ (choice_at (choices_of column.now) (slice_index live.now s)).before }
+    ensures labels { (s : ℕ) → s < 8 → slice_index result (s + 8) ≡ (choice_at (choices_of column.now) (slice_index live.now s)).label }
+    ensures long { length result ≡ 16 }
+{
+    looked_up(table_of(column), places_of(u8x8::from_slice(live)))
+}
+
+/// Whether all lanes have one number.
+#[inline(always)]
+fn is_one(labels: u8x8) -> bool
+    ensures { (a b c d e f g h : ℕ) → labels ≡ (a ∷ b ∷ c ∷ d ∷ e ∷ f ∷ g ∷ h ∷ [])
+        → result ≡ (nat_eq b a && (nat_eq c a && (nat_eq d a && (nat_eq e a && (nat_eq f a && (nat_eq g a && nat_eq h a)))))) }
+{
+    labels
+        .simd_eq(labels.swizzle([0, 0, 0, 0, 0, 0, 0, 0]))
+        .to_bitmask()
+        == 255
+}
+
 impl ViterbiStep<8, 32> for V32Code {
     fn advance(&self, sample: Sample, sums: &mut [u64], column: &mut Column<8>) {
         if are_narrow(sums) {
             advance_by_vectors(sample, sums, column);
         } else {
             advance_first(sample, sums, column);
+        }
+    }
+
+    fn go_back(&self, column: &Column<8>, live: &mut [u8; 8]) -> Option<u8> {
+        let taken = taken_at(column, live);
+        taken
+            .swizzle([0, 1, 2, 3, 4, 5, 6, 7])
+            .copy_to_slice(live);
+        let labels = taken.swizzle([8, 9, 10, 11, 12, 13, 14, 15]);
+        if is_one(labels) {
+            Some(labels.to_array()[0])
+        } else {
+            None
         }
     }
 }
