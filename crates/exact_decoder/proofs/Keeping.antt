@@ -17,8 +17,8 @@ use Rattle.trellis_tables.specs.Codes.{Reaches}
 use Rattle.survivors.specs.Trellises.{trellis_of}
 use Rattle.survivors.specs.Steps.{Chooses}
 use Rattle.exact_decoder.specs.declared.choice.Choice.{Choice}
-use Rattle.exact_decoder.specs.Keys.{IsNearest, AreClose, IsLeastWay}
-use Rattle.exact_decoder.specs.Settled.{IsLeastKeyOf, AreNear, AreSettled, far_key, leveled, settled, chosen, choice_in, choice_at}
+use Rattle.exact_decoder.specs.Settled.{IsLeastKeyOf, far_key, leveled, settled, chosen, choice_in, choice_at}
+use Rattle.exact_decoder.specs.Advances.{Advances}
 use Rattle.exact_decoder.specs.Columns.{Entry, branch_of, sum_of, sum_in, entry_in, sums_at, tail_at, entry_at, new_sums_at}
 use Rattle.exact_decoder.specs.Traced.{traced, IsColumn, AreColumns, Part, Splits}
 use Rattle.exact_decoder.specs.Kept.{kept_of, HoldsColumns, AreSums, AllChosen, Stepped, Covered, IsParted, Released, IsLeastSum}
@@ -52,7 +52,7 @@ parts-within table points states labels parallel subsets ways before subset samp
     (omega (arith, parts.2, q.0), omega (arith, parts.1, in_labels))
 
 -- a key, and what it is settled as
-settled-near : (key least : ℕ) → key < far_key → settled key least ≡ key
+pub settled-near : (key least : ℕ) → key < far_key → settled key least ≡ key
 settled-near key least l = let e : nat_lt key far_key ≡ true = yes_less key far_key l in rw e refl
   where
     yes_less : (a b : ℕ) → a < b → nat_lt a b ≡ true
@@ -64,7 +64,7 @@ settled-far key least l = let e : nat_lt key far_key ≡ false = no_less key far
     no_less : (a b : ℕ) → b ≤ a → nat_lt a b ≡ false
     no_less a b q = grind (arith, nat_tests)
 
-leveled-near : (key least to : ℕ) → key < far_key → leveled key least to ≡ (key / 65536 - least / 65536) * 65536 + to
+pub leveled-near : (key least to : ℕ) → key < far_key → leveled key least to ≡ (key / 65536 - least / 65536) * 65536 + to
 leveled-near key least to l = let e : nat_lt key far_key ≡ true = yes_less key far_key l in rw e refl
   where
     yes_less : (a b : ℕ) → a < b → nat_lt a b ≡ true
@@ -409,78 +409,57 @@ least_sum-of states sums least few long states_in some h =
 
 -- all that a sample does
 pub push-all : (table : ℕ → ℕ → Option ℕ) (points : ℕ → Sample) (states labels parallel subsets ways steps depth : ℕ) (before subset : ℕ → ℕ
-    → ℕ) (sample : Sample) (sums nearest entered new_sums : List ℕ) (least : ℕ) (columns newer : List (List Choice)) (unreleased : ℕ)
+    → ℕ) (sample : Sample) (was sums made now : List ℕ) (columns newer : List (List Choice)) (unreleased : ℕ)
     → IsCode table states labels parallel subsets ways before subset → 1 ≤ steps → Reaches table states labels steps
     → ((s m : ℕ) → sums_at (map sum_in sums) s ≡ Some m → m < 2 ^ 44) → unreleased ≤ depth
-    → HoldsColumns states labels depth sums columns unreleased
-    → ((q : ℕ) → q < subsets → IsNearest points parallel sample q (slice_index nearest q))
-    → ((q : ℕ) → q < subsets → AreClose points parallel sample q)
-    → ((to : ℕ) → to < states → IsLeastWay ways before subset sums nearest to (slice_index entered to)) → length entered ≡ states
-    → IsLeastKeyOf states entered least
-    → ((column : List Choice) × (newer ≡ column ∷ take (length columns - 1) columns) × AreSettled states entered least new_sums column)
-    → HoldsColumns states labels depth new_sums newer (unreleased + 1)
-    × Stepped table points sample (kept_of states sums columns unreleased) (kept_of states new_sums newer (unreleased + 1))
-    × Covered states (kept_of states new_sums newer (unreleased + 1))
-push-all table points states labels parallel subsets ways steps depth before subset sample sums nearest entered new_sums least columns newer
-    unreleased code low reach small room holds near close into long is_least (column, e, settled) = (
-      holds-next table points states labels parallel subsets ways depth before subset sample sums nearest entered new_sums least column
-          columns
-          newer unreleased code keys made far room e holds,
-      stepped-of table points states labels parallel subsets ways steps before subset sample sums nearest entered new_sums least column
-          columns
-          newer unreleased code keys made far (omega (arith, holds.columns_long)) e,
-      covered-of states entered new_sums least column columns newer unreleased code.states_few long made far
+    → HoldsColumns states labels depth sums columns unreleased → was ≡ sums → now ≡ made
+    → ((column : List Choice) × (newer ≡ column ∷ take (length columns - 1) columns)
+    × Advances points states parallel subsets ways before subset sample was made column)
+    → HoldsColumns states labels depth now newer (unreleased + 1)
+    × Stepped table points sample (kept_of states sums columns unreleased) (kept_of states now newer (unreleased + 1))
+    × Covered states (kept_of states now newer (unreleased + 1))
+push-all table points states labels parallel subsets ways steps depth before subset sample was sums made now columns newer unreleased code low
+    reach small room holds is_was is_now (column, e, advanced) = (
+      holds-next table points states labels parallel subsets ways depth before subset sample sums step.nearest step.entered now step.least
+          column columns newer unreleased code keys settles far room e holds,
+      stepped-of table points states labels parallel subsets ways steps before subset sample sums step.nearest step.entered now step.least
+          column columns newer unreleased code keys settles far (omega (arith, holds.columns_long)) e,
+      covered-of states step.entered now step.least column columns newer unreleased code.states_few step.entered_long settles far
           (omega (arith, holds.columns_long)) e,
     )
   where
-    keys : AreKeys points states parallel subsets ways before subset sample sums nearest entered
+    step : Advances points states parallel subsets ways before subset sample sums now column
+    step = subst (λ l. Advances points states parallel subsets ways before subset sample l now column) is_was
+        (subst (λ l. Advances points states parallel subsets ways before subset sample was l column) (sym is_now) advanced)
+
+    keys : AreKeys points states parallel subsets ways before subset sample sums step.nearest step.entered
     keys = record {
       sums_long = holds.sums_long;
-      entered_long = long;
+      entered_long = step.entered_long;
       states_in = holds.states_in;
-      near = near;
-      into = into;
+      near = step.is_nearest;
+      into = step.into;
       small = small;
-      close = λ q i l k. close q l i k;
+      close = λ q i l k. step.close q l i k;
     }
 
-    made : Settles states entered least new_sums column
-    made = record {
-      new_long = settled.sums_long;
-      column_long = settled.column_long;
-      is_least = is_least;
-      levels = settled.levels;
-      choices = settled.choices;
+    settles : Settles states step.entered step.least now column
+    settles = record {
+      new_long = step.settled.sums_long;
+      column_long = step.settled.column_long;
+      is_least = step.is_least;
+      levels = step.settled.levels;
+      choices = step.settled.choices;
     }
 
-    far : least < far_key
-    far = least-near states entered least long is_least
-        (reached-next table points states labels steps sample (map sum_in sums) (map entry_in entered) (λ s. true) low reach
-        (λ starts to. chosen-all table points states labels parallel subsets ways before subset sample sums nearest entered starts to code
-        keys)
+    far : step.least < far_key
+    far = least-near states step.entered step.least step.entered_long step.is_least
+        (reached-next table points states labels steps sample (map sum_in sums) (map entry_in step.entered) (λ s. true) low reach
+        (λ starts to. chosen-all table points states labels parallel subsets ways before subset sample sums step.nearest step.entered starts to
+        code keys)
         holds.reached.0 (slice_index sums holds.reached.0 / 65536) holds.reached.1
         (map-at sum_in sums holds.reached.0 (omega (arith, holds.reached.1, holds.sums_long))
         ∙ sum-near (slice_index sums holds.reached.0) holds.reached.2))
-
--- a sequence leads to each state where one led to each before
-pub near-entered : (states subsets ways : ℕ) (before subset : ℕ → ℕ → ℕ) (sums nearest entered : List ℕ)
-    → ((to place : ℕ) → to < states → place < ways → (before to place < states) × (subset to place < subsets)) → length sums ≡ states
-    → ((s m : ℕ) → sums_at (map sum_in sums) s ≡ Some m → m < 2 ^ 44) → ((q : ℕ) → q < subsets → slice_index nearest q < 2 ^ 50)
-    → ((to : ℕ) → to < states → IsLeastWay ways before subset sums nearest to (slice_index entered to)) → AreNear states sums
-    → AreNear states entered
-near-entered states subsets ways before subset sums nearest entered within long small bound into near s l =
-    let way = into s l in
-    let q = within s way.place l way.within in
-    let from = before s way.place in
-    let known : sums_at (map sum_in sums) from ≡ Some (slice_index sums from / 65536) =
-    map-at sum_in sums from (omega (arith, q.0)) ∙ sum-near (slice_index sums from) (near from q.0) in
-    omega (arith, way.key_is, small from (slice_index sums from / 65536) known, bound (subset s way.place) q.1)
-
--- and then their sums are near too
-pub near-settled : (states : ℕ) (entered new_sums : List ℕ) (least : ℕ) (column : List Choice) → states ≤ 256
-    → AreSettled states entered least new_sums column → AreNear states entered → AreNear states new_sums
-near-settled states entered new_sums least column few made near s l =
-    omega (arith, made.levels s l ∙ leveled-near (slice_index entered s) least s (near s l), near s l)
 
 -- lists that are read from the last have the same labels
 pub All-reversed : (P : ℕ → Type 0) (xs : List ℕ) → All P (reverse xs) → All P xs

@@ -1,6 +1,5 @@
 pub mod Rings
 pub mod Subsets
-pub mod Sets
 pub mod Settling
 pub mod Walking
 pub mod Stepping
@@ -11,3 +10,12 @@ pub mod Least
 pub mod Taken
 pub mod Spreading
 pub mod AnyCode
+pub mod Lessers
+pub mod Vectors
+pub mod Lanes
+pub mod Axes
+pub mod Narrow
+pub mod MapKeys
+pub mod Small
+pub mod Eight
+pub mod Alike

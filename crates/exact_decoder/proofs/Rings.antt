@@ -1,5 +1,5 @@
 -- A ring from its newest item on.
-use Rattle.std.proofs.Common.{◌≡◌, ℕ, zero, suc, ◌+◌, ◌-◌, ◌<◌, ◌≤◌, ◌⊎◌, inl, inr, List, [], ◌∷◌, ◌++◌, length, take, drop, set, Vec}
+use Rattle.std.proofs.Common.{◌≡◌, ℕ, zero, suc, ◌+◌, ◌-◌, ◌<◌, ◌≤◌, ◌⊎◌, inl, inr, List, [], ◌∷◌, ◌++◌, length, take, drop, set}
 use Rattle.std.proofs.Common.{get_or, slice_get, Some, arith, refl, sym, ◌∙◌, ap}
 use Rattle.std.proofs.lemmas.Grind.{common_steps}
 use Rattle.std.proofs.lemmas.Bool.{cases_lt, cases_eq}
@@ -7,7 +7,8 @@ use Rattle.std.proofs.lemmas.Bool.Decides.{nat_tests}
 use Rattle.std.proofs.lemmas.List.{drop-set, take-set, take-map, length-map, append-nil}
 use Rattle.std.proofs.Math.Seq.{take-append-add}
 use Rattle.exact_decoder.specs.declared.choice.Choice.{Choice}
-use Rattle.exact_decoder.specs.Traced.{columns_in, from_newest, place_of, place_before}
+use Rattle.exact_decoder.specs.declared.column.Column.{Column}
+use Rattle.exact_decoder.specs.Traced.{choices_of, columns_in, from_newest, place_of, place_before}
 
 pub ring-long : {A : Type 0} (xs : List A) (n : ℕ) → n < length xs → length (from_newest n xs) ≡ length xs
 ring-long xs n l = grind (arith, common_steps)
@@ -137,18 +138,18 @@ ring-here xs n back place v l k e h = ring-at xs n back place l k e ∙ get-some
     within (inl near) = omega (arith, e, place-near n back (length xs) near)
     within (inr past) = omega (arith, e, place-past n back (length xs) past)
 
--- the columns that vectors have, from the newest on
-pub columns-long : {A : Type 0} (vectors : List (Vec Choice A)) (n : ℕ) (columns : List (List Choice)) → n < length vectors
-    → columns_in (from_newest n vectors) ≡ columns → length columns ≡ length vectors
-columns-long vectors n columns l e = sym (ap length e) ∙ length-map (from_newest n vectors) (λ v. v.items) ∙ ring-long vectors n l
+-- the columns of a ring, from the newest on
+pub columns-long : {size : ℕ} (items : List (Column size)) (n : ℕ) (columns : List (List Choice)) → n < length items
+    → columns_in (from_newest n items) ≡ columns → length columns ≡ length items
+columns-long items n columns l e = sym (ap length e) ∙ length-map (from_newest n items) choices_of ∙ ring-long items n l
 
 -- a new column in the place of the oldest
-pub columns-more : {A : Type 0} (vectors : List (Vec Choice A)) (n place : ℕ) (v : Vec Choice A) (old : List (List Choice))
-    → n < length vectors
-    → place ≡ place_before n (length vectors) → columns_in (from_newest n vectors) ≡ old
-    → columns_in (from_newest place (set vectors place v)) ≡ v.items ∷ take (length old - 1) old
-columns-more vectors n place v old l e h =
-    ap columns_in (ring-more vectors n place v l e)
-    ∙ ap (λ t. v.items ∷ t) (sym (take-map (λ v. v.items) (length vectors - 1) (from_newest n vectors)))
-    ∙ ap (λ t. v.items ∷ take (length vectors - 1) t) h
-    ∙ ap (λ m. v.items ∷ take (m - 1) old) (sym (columns-long vectors n old l h))
+pub columns-more : {size : ℕ} (items : List (Column size)) (n place : ℕ) (v : Column size) (old : List (List Choice))
+    → n < length items
+    → place ≡ place_before n (length items) → columns_in (from_newest n items) ≡ old
+    → columns_in (from_newest place (set items place v)) ≡ choices_of v ∷ take (length old - 1) old
+columns-more items n place v old l e h =
+    ap columns_in (ring-more items n place v l e)
+    ∙ ap (λ t. choices_of v ∷ t) (sym (take-map choices_of (length items - 1) (from_newest n items)))
+    ∙ ap (λ t. choices_of v ∷ take (length items - 1) t) h
+    ∙ ap (λ m. choices_of v ∷ take (m - 1) old) (sym (columns-long items n old l h))

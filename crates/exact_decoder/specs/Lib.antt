@@ -6,9 +6,10 @@ pub use Rattle.survivors.specs.Steps
 pub use Rattle.survivors.specs.Laws as SurvivorLaws
 pub mod Keys
 pub mod Settled
-pub mod States
+pub mod Advances
 pub mod Traced
 pub mod Columns
+pub mod Lines
 pub mod Kept
 pub mod Memory
 pub mod Decoder

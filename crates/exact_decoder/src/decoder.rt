@@ -7,12 +7,12 @@ ghost use Rattle.exact_decoder.specs.Decoder.{DecoderStands};
 
 use crate::kept::Survivors;
 use crate::labels::Labels;
+use crate::step::ViterbiStep;
 use crate::tail::Tail;
 use outside_calls::NoMemory;
 use std::alloc::Global;
 use std::marker::Model;
 use symbol_map::Sample;
-use trellis_tables::TrellisCode;
 
 /// The line was lost with this symbol: more labels than the depth were unreleased after it.
 #[derive(Clone, Copy, PartialEq, Eq)]
@@ -24,7 +24,7 @@ pub struct Lost {
 /// The exact decoder of a code's sequences from one state, or from any. At most `DEPTH` labels of each survivor are unreleased
 /// while the line is not lost.
 pub struct Decoder<
-    C: TrellisCode<STATES, LABELS> + Drop,
+    C: ViterbiStep<STATES, LABELS> + Drop,
     const STATES: usize,
     const LABELS: usize,
     const DEPTH: usize,
@@ -38,7 +38,7 @@ pub struct Decoder<
 }
 
 impl<
-    C: TrellisCode<STATES, LABELS> + Drop,
+    C: ViterbiStep<STATES, LABELS> + Drop,
     const STATES: usize,
     const LABELS: usize,
     const DEPTH: usize,
@@ -56,7 +56,7 @@ impl<
 }
 
 impl<
-    C: TrellisCode<STATES, LABELS> + Drop,
+    C: ViterbiStep<STATES, LABELS> + Drop,
     const STATES: usize,
     const LABELS: usize,
     const DEPTH: usize,
@@ -71,7 +71,7 @@ impl<
 }
 
 impl<
-    C: TrellisCode<STATES, LABELS> + Drop,
+    C: ViterbiStep<STATES, LABELS> + Drop,
     const STATES: usize,
     const LABELS: usize,
     const DEPTH: usize,
@@ -132,7 +132,7 @@ impl<
             return Err(Lost { symbol });
         }
         self.survivors.push(&self.code, sample);
-        self.survivors.release(&mut self.pending);
+        self.survivors.release(&self.code, &mut self.pending);
         let symbol = self.count;
         self.count = symbol + 1;
         if self.survivors.unreleased() > DEPTH {

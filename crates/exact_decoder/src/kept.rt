@@ -5,16 +5,14 @@ ghost use Rattle.exact_decoder.specs.Kept.{Kept, AreSums, IsLeastSum, Stepped, R
 ghost use Rattle.exact_decoder.specs.declared.labels.TheConstants.{ROOM};
 
 use crate::back::{labels_back, release};
-use crate::choice::{are_near, least_of};
+use crate::choice::least_of;
 use crate::columns::Columns;
-use crate::entering::enter;
 use crate::labels::Labels;
-use crate::nearest::find_nearest;
 use crate::room::{far_sums, no_sums};
+use crate::step::ViterbiStep;
 use std::alloc::{AllocError, Global};
 use std::marker::Model;
 use symbol_map::Sample;
-use trellis_tables::TrellisCode;
 
 /// The survivor of each state: the sum of its squared distances, less a number that all have in common, and the way back
 /// through columns of choices, the newest first. As many columns as labels are unreleased count.
@@ -23,25 +21,21 @@ pub struct Survivors<const STATES: usize, const LABELS: usize, const DEPTH: usiz
     /// By state, less a number that is common to all. A state that no sequence has reached is far above all others.
     sums: Vec<u64>,
     /// The latest columns of choices, one for each sample.
-    ring: Columns,
+    ring: Columns<STATES>,
     /// How many labels of each survivor are not released.
     unreleased: usize,
-    /// Whether it is known that a sequence leads to each state.
-    near: bool,
 }
 
 impl<const STATES: usize, const LABELS: usize, const DEPTH: usize> Model
     for Survivors<STATES, LABELS, DEPTH> {
-    ghost use Rattle.std.specs.Prelude.{◌≡◌, ◌≤◌, ◌+◌, true, length};
-    ghost use Rattle.exact_decoder.specs.Settled.{AreNear};
+    ghost use Rattle.std.specs.Prelude.{◌≡◌, ◌≤◌, ◌+◌, length};
     ghost use Rattle.exact_decoder.specs.Kept.{Kept, kept_of, HoldsColumns};
 
     ghost Value = { Kept };
 
     ghost view = { λ s. kept_of STATES s.sums.items s.ring s.unreleased };
 
-    ghost invariant = { λ s. (s.near ≡ true → AreNear STATES s.sums.items)
-        × HoldsColumns STATES LABELS DEPTH s.sums.items s.ring s.unreleased };
+    ghost invariant = { λ s. HoldsColumns STATES LABELS DEPTH s.sums.items s.ring s.unreleased };
 }
 
 impl<const STATES: usize, const LABELS: usize, const DEPTH: usize> Survivors<
@@ -84,12 +78,11 @@ impl<const STATES: usize, const LABELS: usize, const DEPTH: usize> Survivors<
         requires depth { DEPTH ≤ 128 }
         ensures { IfOk result (λ s. s ≡ record { sums = map sum_in sums.items; tails = replicate STATES []; unreleased = 0 }) }
     {
-        let ring = Columns::new(alloc, DEPTH + 1, STATES)?;
+        let ring = Columns::new(alloc, DEPTH + 1)?;
         Ok(Survivors {
             sums,
             ring,
             unreleased: 0,
-            near: false,
         })
     }
 
@@ -101,35 +94,26 @@ impl<const STATES: usize, const LABELS: usize, const DEPTH: usize> Survivors<
     }
 
     /// One sample more.
-    pub fn push<C: TrellisCode<STATES, LABELS>>(&mut self, code: &C, sample: Sample)
+    pub fn push<C: ViterbiStep<STATES, LABELS>>(&mut self, code: &C, sample: Sample)
         requires depth { DEPTH ≤ 128 }
         requires room { self.old.unreleased ≤ DEPTH }
         requires small { (s m : ℕ) → sums_at self.old.sums s ≡ Some m → m < 2 ^ 44 }
         ensures stepped { Stepped C.table C.points sample self.old self.new }
         ensures covered { Covered STATES self.new }
     {
-        let mut nearest = [0; LABELS];
-        find_nearest(code, sample, &mut nearest);
-        let mut entered = [0; STATES];
-        enter(code, &self.sums, &nearest, &mut entered);
-        let least = least_of::<STATES>(&entered);
-        self.near = are_near::<STATES>(self.near, &entered);
-        self.ring
-            .advance::<STATES, LABELS>(&entered, least, self.near, &mut self.sums);
+        self.ring.advance(code, sample, &mut self.sums);
         self.unreleased += 1;
     }
 
     /// Releases the labels on which all survivors agree: they are put into the list, the oldest last.
-    pub fn release(&mut self, labels: &mut Labels)
-        requires some { 1 ≤ STATES }
-        requires few { STATES ≤ 256 }
+    pub fn release<C: ViterbiStep<STATES, LABELS>>(&mut self, code: &C, labels: &mut Labels)
         requires depth { DEPTH ≤ 128 }
         requires empty { labels.old ≡ [] }
         requires covered { Covered STATES self.old }
         ensures released { Released self.old self.new (reverse labels.new) }
         ensures below { All (λ label. label < LABELS) labels.new }
     {
-        self.unreleased = release::<STATES, LABELS>(&self.ring, self.unreleased, labels);
+        self.unreleased = release(code, &self.ring, self.unreleased, labels);
     }
 
     /// The unreleased labels of the survivor of least cost, the oldest last: of equal ones that of the smallest state.

@@ -8,6 +8,7 @@
 
 mod back;
 mod choice;
+mod column;
 mod columns;
 mod decoder;
 mod entering;
@@ -15,10 +16,14 @@ mod kept;
 mod key;
 mod labels;
 pub mod laws;
+mod lines;
 mod nearest;
 mod room;
-mod state_set;
+mod step;
 mod tail;
+mod v32;
 
+pub use column::Column;
 pub use decoder::{Decoder, Lost};
+pub use step::ViterbiStep;
 pub use tail::Tail;

@@ -6,18 +6,17 @@ ghost use Rattle.symbol_map.specs.declared.sample.Sample.{Sample};
 ghost use Rattle.line_coding.specs.Reading.{SamplesRead, IsFinished, bits_in};
 
 use crate::demodulator::Demodulate;
-use exact_decoder::{Decoder, Lost, Tail};
+use exact_decoder::{Decoder, Lost, Tail, ViterbiStep};
 use outside_calls::NoMemory;
 use scramblers::Mode;
 use std::alloc::Global;
 use std::marker::Model;
 use symbol_map::Sample;
-use trellis_tables::TrellisCode;
 
 /// Reads the bits that a line's samples carry, those of each label that the decoder releases. At most `DEPTH` labels are unreleased while
 /// the line is not lost.
 pub struct SampleReader<
-    C: TrellisCode<STATES, LABELS> + Drop,
+    C: ViterbiStep<STATES, LABELS> + Drop,
     D: Demodulate<LABELS>,
     const STATES: usize,
     const LABELS: usize,
@@ -28,7 +27,7 @@ pub struct SampleReader<
 }
 
 impl<
-    C: TrellisCode<STATES, LABELS> + Drop,
+    C: ViterbiStep<STATES, LABELS> + Drop,
     D: Demodulate<LABELS>,
     const STATES: usize,
     const LABELS: usize,
@@ -44,7 +43,7 @@ impl<
 }
 
 impl<
-    C: TrellisCode<STATES, LABELS> + Drop,
+    C: ViterbiStep<STATES, LABELS> + Drop,
     D: Demodulate<LABELS>,
     const STATES: usize,
     const LABELS: usize,
@@ -58,7 +57,7 @@ impl<
 }
 
 impl<
-    C: TrellisCode<STATES, LABELS> + Drop,
+    C: ViterbiStep<STATES, LABELS> + Drop,
     D: Demodulate<LABELS>,
     const STATES: usize,
     const LABELS: usize,

@@ -1,7 +1,7 @@
 // Ties, losses and the states of small codes.
 ghost use Rattle.std.specs.Prelude.{◌≡◌, ◌+◌, ◌≤◌, ◌<◌, [], None, IfOk, All};
 
-use exact_decoder::{Decoder, Lost};
+use exact_decoder::{Decoder, Lost, ViterbiStep};
 use outside_calls::NoMemory;
 use std::alloc::Global;
 use std::process::Abort;
@@ -17,7 +17,7 @@ fn releases<
     const STATES: usize,
     const LABELS: usize,
     const DEPTH: usize,
-    C: TrellisCode<STATES, LABELS> + Drop,
+    C: ViterbiStep<STATES, LABELS> + Drop,
 >(
     rt: &impl Abort,
     decoder: &mut Decoder<C, STATES, LABELS, DEPTH>,
@@ -43,7 +43,7 @@ fn ends_with<
     const STATES: usize,
     const LABELS: usize,
     const DEPTH: usize,
-    C: TrellisCode<STATES, LABELS> + Drop,
+    C: ViterbiStep<STATES, LABELS> + Drop,
 >(rt: &impl Abort, decoder: Decoder<C, STATES, LABELS, DEPTH>, labels: &[u8])
     requires taken { decoder.pending ≡ [] }
     requires lost { decoder.lost ≡ None }
@@ -218,6 +218,8 @@ impl TrellisCode<2, 2> for Flips {
     ghost ways_all = { flips_ways_all };
 }
 
+impl ViterbiStep<2, 2> for Flips {}
+
 // Survivors of both starts have the same labels and never meet in a state. Those of one start part with the first label.
 #[test]
 fn labels_of_two_starts_are_released(rt: HostRuntime) -> Result<(), NoMemory> {
@@ -320,6 +322,8 @@ impl TrellisCode<80, 80> for Laps {
 
     ghost ways_all = { laps_ways_all };
 }
+
+impl ViterbiStep<80, 80> for Laps {}
 
 // More states than a word has bits. Each end state but one has one label that was not sent, and of equal costs that is the last one; so all
 // labels but the last are released.

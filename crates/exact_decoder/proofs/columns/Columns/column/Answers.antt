@@ -1,5 +1,5 @@
 use Rattle.std.proofs.Common.{◌≡◌, ◌+◌, ◌∷◌, ◌++◌, [], Some, length, take, slice_get, arith, sym, ◌∙◌, ap, subst}
-use Rattle.exact_decoder.specs.Traced.{columns_in, from_newest, place_of, IsColumn, AreColumns}
+use Rattle.exact_decoder.specs.Traced.{choices_of, from_newest, place_of, AreColumns}
 use Rattle.exact_decoder.proofs.Walking.{column-here, column-fits}
 use Rattle.exact_decoder.proofs.Rings.{ring-here, columns-long}
 use Rattle.exact_decoder.proofs.columns.Columns.column.Goals as goal
@@ -15,9 +15,8 @@ returns-clause-next g c =
     let here : slice_get (from_newest newest items) c.args.back ≡ Some c.index.result.now =
     ring-here items newest c.args.back c.place_of-place.result c.index.result.now c.self.invariant.0
     (omega (arith, long, c.requires.within)) place_is c.index.ensures in
-    subst (λ l. take (c.args.back + 1) l ≡ take c.args.back l ++ c.deref.result.now ∷ []) c.self.view_is
-    (column-here (from_newest newest items) c.args.back c.index.result.now here
-    ∙ ap (λ l. take c.args.back (columns_in (from_newest newest items)) ++ l ∷ []) (sym c.deref.ensures.value))
+    subst (λ l. take (c.args.back + 1) l ≡ take c.args.back l ++ choices_of c.index.result.now ∷ []) c.self.view_is
+    (column-here (from_newest newest items) c.args.back c.index.result.now here)
 
 pub returns-clause-column : goal.returns-clause-column
 returns-clause-column g c =
@@ -30,6 +29,5 @@ returns-clause-column g c =
     let here : slice_get (from_newest newest items) c.args.back ≡ Some c.index.result.now =
     ring-here items newest c.args.back c.place_of-place.result c.index.result.now c.self.invariant.0
     (omega (arith, long, c.requires.within)) place_is c.index.ensures in
-    subst (IsColumn g.row.STATES g.row.LABELS) (sym c.deref.ensures.value)
-    (column-fits g.row.STATES g.row.LABELS (from_newest newest items) c.args.back c.index.result.now here
-    (subst (AreColumns g.row.STATES g.row.LABELS) (sym c.self.view_is) c.requires.columns))
+    column-fits g.row.STATES g.row.LABELS (from_newest newest items) c.args.back c.index.result.now here
+    (subst (AreColumns g.row.STATES g.row.LABELS) (sym c.self.view_is) c.requires.columns)

@@ -1,0 +1,207 @@
+-- Keys of 32 bits stand for those of the definition.
+use Rattle.std.proofs.Common.{◌≡◌, ℕ, ℤ, zero, suc, ◌+◌, ◌-◌, ◌*◌, ◌/◌, ◌%◌, ◌<◌, ◌≤◌, ◌^◌, min, inl, inr, refl, arith, sym, ◌∙◌, ap, subst}
+use Rattle.std.specs.Prelude.{pos}
+use Rattle.std.proofs.lemmas.Bool.{cases_lt}
+use Rattle.symbol_map.specs.Distance.{distance_of, squared_gap}
+use Rattle.symbol_map.specs.Points.{point_of}
+use Rattle.exact_decoder.specs.Keys.{IsLeastKey, IsNearest, AreClose}
+use Rattle.exact_decoder.specs.Lines.{least_four, below, above, coordinate, sample_at, nearest_000, nearest_001, nearest_010, nearest_011}
+use Rattle.exact_decoder.specs.Lines.{nearest_100, nearest_101, nearest_110, nearest_111}
+use Rattle.exact_decoder.proofs.Vectors.{each_of_four}
+use Rattle.exact_decoder.proofs.Axes.{IsLine, below-1, below-2, below-3, below-4, above-0, above-1, above-2, above-3, above-4}
+
+-- how far a sample is from the middle of the map
+abbrev pub length_of : ℕ → ℕ → ℕ
+length_of x y = squared_gap (pos 0) (coordinate x) + squared_gap (pos 0) (coordinate y)
+
+-- a key of 32 bits stands for one of 64: both have a label and a state before, and the sum of the one follows from that of the other
+pub record StandsFor (x y key word : ℕ) : Type 0 where
+  pub metric : ℕ
+  pub label : ℕ
+  pub before : ℕ
+  pub label_few : label < 32
+  pub before_few : before < 8
+  pub key_is : key ≡ 256 * metric + 8 * label + before
+  pub word_is : word + 65536 * 1073741824 ≡ 65536 * (4096 * metric + length_of x y) + 256 * label + before
+
+-- their order is the same
+pub in_order : (x y a b c d : ℕ) → StandsFor x y a c → StandsFor x y b d → a ≤ b → c ≤ d
+in_order x y a b c d s t h = omega (arith, s.key_is, t.key_is, s.word_is, t.word_is, s.label_few, t.label_few, s.before_few, t.before_few)
+
+-- one of four is the least
+pub record IsLeastOfFour (k : ℕ → ℕ) (least : ℕ) : Type 0 where
+  pub place : ℕ
+  pub within : place < 4
+  pub is : least ≡ k place
+  pub below_each : (i : ℕ) → i < 4 → k place ≤ k i
+
+taken : (k : ℕ → ℕ) (place : ℕ) → place < 4 → least_four (k 0) (k 1) (k 2) (k 3) ≡ k place
+    → IsLeastOfFour k (least_four (k 0) (k 1) (k 2) (k 3))
+taken k place within is = record {
+  place = place;
+  within = within;
+  is = is;
+  below_each = each_of_four (λ i. k place ≤ k i) (omega (arith, is)) (omega (arith, is)) (omega (arith, is)) (omega (arith, is));
+}
+
+pub least_of_four : (k : ℕ → ℕ) → IsLeastOfFour k (least_four (k 0) (k 1) (k 2) (k 3))
+least_of_four k =
+    let a = k 0 in
+    let b = k 1 in
+    let c = k 2 in
+    let d = k 3 in
+    elim (cases_lt b a) [
+      | inl ba ↦ elim (cases_lt d c) [
+        | inl dc ↦ elim (cases_lt d b) [ inl db ↦ taken k 3 (omega arith) (omega arith) | inr bd ↦ taken k 1 (omega arith) (omega arith) ]
+        | inr cd ↦ elim (cases_lt c b) [ inl cb ↦ taken k 2 (omega arith) (omega arith) | inr bc ↦ taken k 1 (omega arith) (omega arith) ]
+      ]
+      | inr ab ↦ elim (cases_lt d c) [
+        | inl dc ↦ elim (cases_lt d a) [ inl da ↦ taken k 3 (omega arith) (omega arith) | inr ad ↦ taken k 0 (omega arith) (omega arith) ]
+        | inr cd ↦ elim (cases_lt c a) [ inl ca ↦ taken k 2 (omega arith) (omega arith) | inr ac ↦ taken k 0 (omega arith) (omega arith) ]
+      ]
+    ]
+
+-- the key of a label whose point is on two lines, one each way
+pub record IsKey (x y label key distance : ℕ) : Type 0 where
+  pub stands : StandsFor x y key (65536 * distance + 256 * label)
+  pub no_state : stands.before ≡ 0
+  pub close : distance < 2 ^ 33
+
+on : (x y label : ℕ) (a b : ℤ) (k l key : ℕ) → label < 32 → IsLine x a k → IsLine y b l → key ≡ k + l + 8 * label
+    → IsKey x y label key (squared_gap a (coordinate x) + squared_gap b (coordinate y))
+on x y label a b k l key few p q is = record {
+  stands = record {
+    metric = p.metric + q.metric;
+    label = label;
+    before = 0;
+    label_few = few;
+    before_few = omega arith;
+    key_is = omega (arith, is, p.key_is, q.key_is);
+    word_is = omega (arith, p.tied, q.tied);
+  };
+  no_state = refl;
+  close = omega (arith, p.close, q.close);
+}
+
+-- the key of a subset stands for that of its nearest label
+pub record IsNearestKey (x y subset key : ℕ) : Type 0 where
+  pub word : ℕ
+  pub nearest : IsNearest point_of 4 (sample_at x y) subset word
+  pub stands : StandsFor x y key word
+  pub no_state : stands.before ≡ 0
+  pub close : AreClose point_of 4 (sample_at x y) subset
+
+nearest : (x y subset : ℕ) (k : ℕ → ℕ)
+    → ((i : ℕ) → i < 4 → IsKey x y (4 * subset + i) (k i) (distance_of (point_of (4 * subset + i)) (sample_at x y)))
+    → IsNearestKey x y subset (least_four (k 0) (k 1) (k 2) (k 3))
+nearest x y subset k keys =
+    let p = least_of_four k in
+    let word : ℕ → ℕ = λ i. 65536 * distance_of (point_of (4 * subset + i)) (sample_at x y) + 256 * (4 * subset + i) in
+    let own = keys p.place p.within in
+    let stands : (i : ℕ) → i < 4 → StandsFor x y (k i) (word i) = λ i l. (keys i l).stands in
+    record {
+      word = word p.place;
+      nearest = record {
+        place = p.place;
+        within = p.within;
+        key_is = refl;
+        least = λ i l. in_order x y (k p.place) (k i) (word p.place) (word i) own.stands (stands i l) (p.below_each i l);
+      };
+      stands = record {
+        metric = own.stands.metric;
+        label = own.stands.label;
+        before = own.stands.before;
+        label_few = own.stands.label_few;
+        before_few = own.stands.before_few;
+        key_is = p.is ∙ own.stands.key_is;
+        word_is = own.stands.word_is;
+      };
+      no_state = own.no_state;
+      close = λ i l. (keys i l).close;
+    }
+
+abbrev four_keys : ℕ → ℕ → ℕ → ℕ → ℕ → ℕ
+four_keys a b c d zero = a
+four_keys a b c d (suc zero) = b
+four_keys a b c d (suc (suc zero)) = c
+four_keys a b c d (suc (suc (suc i))) = d
+
+pub nearest-000 : (x y : ℕ) → x < 65536 → y < 65536 → IsNearestKey x y 0 (nearest_000 x y)
+nearest-000 x y lx ly =
+    let k : ℕ → ℕ = four_keys (below 4 x + above 1 y) (above 0 x + below 3 y + 8) (above 0 x + above 1 y + 16)
+    (above 4 x + above 1 y + 24) in
+    nearest x y 0 k (each_of_four (λ i. IsKey x y (4 * 0 + i) (k i) (distance_of (point_of (4 * 0 + i)) (sample_at x y)))
+    (on x y 0 _ _ _ _ _ (omega arith) (below-4 x lx) (above-1 y ly) (omega arith))
+    (on x y 1 _ _ _ _ _ (omega arith) (above-0 x lx) (below-3 y ly) (omega arith))
+    (on x y 2 _ _ _ _ _ (omega arith) (above-0 x lx) (above-1 y ly) (omega arith))
+    (on x y 3 _ _ _ _ _ (omega arith) (above-4 x lx) (above-1 y ly) (omega arith)))
+
+pub nearest-001 : (x y : ℕ) → x < 65536 → y < 65536 → IsNearestKey x y 1 (nearest_001 x y)
+nearest-001 x y lx ly =
+    let k : ℕ → ℕ = four_keys (above 4 x + below 1 y + 32) (above 0 x + above 3 y + 40) (above 0 x + below 1 y + 48)
+    (below 4 x + below 1 y + 56) in
+    nearest x y 1 k (each_of_four (λ i. IsKey x y (4 * 1 + i) (k i) (distance_of (point_of (4 * 1 + i)) (sample_at x y)))
+    (on x y 4 _ _ _ _ _ (omega arith) (above-4 x lx) (below-1 y ly) (omega arith))
+    (on x y 5 _ _ _ _ _ (omega arith) (above-0 x lx) (above-3 y ly) (omega arith))
+    (on x y 6 _ _ _ _ _ (omega arith) (above-0 x lx) (below-1 y ly) (omega arith))
+    (on x y 7 _ _ _ _ _ (omega arith) (below-4 x lx) (below-1 y ly) (omega arith)))
+
+pub nearest-010 : (x y : ℕ) → x < 65536 → y < 65536 → IsNearestKey x y 2 (nearest_010 x y)
+nearest-010 x y lx ly =
+    let k : ℕ → ℕ = four_keys (below 2 x + above 3 y + 64) (below 2 x + below 1 y + 72) (above 2 x + above 3 y + 80)
+    (above 2 x + below 1 y + 88) in
+    nearest x y 2 k (each_of_four (λ i. IsKey x y (4 * 2 + i) (k i) (distance_of (point_of (4 * 2 + i)) (sample_at x y)))
+    (on x y 8 _ _ _ _ _ (omega arith) (below-2 x lx) (above-3 y ly) (omega arith))
+    (on x y 9 _ _ _ _ _ (omega arith) (below-2 x lx) (below-1 y ly) (omega arith))
+    (on x y 10 _ _ _ _ _ (omega arith) (above-2 x lx) (above-3 y ly) (omega arith))
+    (on x y 11 _ _ _ _ _ (omega arith) (above-2 x lx) (below-1 y ly) (omega arith)))
+
+pub nearest-011 : (x y : ℕ) → x < 65536 → y < 65536 → IsNearestKey x y 3 (nearest_011 x y)
+nearest-011 x y lx ly =
+    let k : ℕ → ℕ = four_keys (above 2 x + below 3 y + 96) (above 2 x + above 1 y + 104) (below 2 x + below 3 y + 112)
+    (below 2 x + above 1 y + 120) in
+    nearest x y 3 k (each_of_four (λ i. IsKey x y (4 * 3 + i) (k i) (distance_of (point_of (4 * 3 + i)) (sample_at x y)))
+    (on x y 12 _ _ _ _ _ (omega arith) (above-2 x lx) (below-3 y ly) (omega arith))
+    (on x y 13 _ _ _ _ _ (omega arith) (above-2 x lx) (above-1 y ly) (omega arith))
+    (on x y 14 _ _ _ _ _ (omega arith) (below-2 x lx) (below-3 y ly) (omega arith))
+    (on x y 15 _ _ _ _ _ (omega arith) (below-2 x lx) (above-1 y ly) (omega arith)))
+
+pub nearest-100 : (x y : ℕ) → x < 65536 → y < 65536 → IsNearestKey x y 4 (nearest_100 x y)
+nearest-100 x y lx ly =
+    let k : ℕ → ℕ = four_keys (below 3 x + below 2 y + 128) (above 1 x + below 2 y + 136) (below 3 x + above 2 y + 144)
+    (above 1 x + above 2 y + 152) in
+    nearest x y 4 k (each_of_four (λ i. IsKey x y (4 * 4 + i) (k i) (distance_of (point_of (4 * 4 + i)) (sample_at x y)))
+    (on x y 16 _ _ _ _ _ (omega arith) (below-3 x lx) (below-2 y ly) (omega arith))
+    (on x y 17 _ _ _ _ _ (omega arith) (above-1 x lx) (below-2 y ly) (omega arith))
+    (on x y 18 _ _ _ _ _ (omega arith) (below-3 x lx) (above-2 y ly) (omega arith))
+    (on x y 19 _ _ _ _ _ (omega arith) (above-1 x lx) (above-2 y ly) (omega arith)))
+
+pub nearest-101 : (x y : ℕ) → x < 65536 → y < 65536 → IsNearestKey x y 5 (nearest_101 x y)
+nearest-101 x y lx ly =
+    let k : ℕ → ℕ = four_keys (above 3 x + above 2 y + 160) (below 1 x + above 2 y + 168) (above 3 x + below 2 y + 176)
+    (below 1 x + below 2 y + 184) in
+    nearest x y 5 k (each_of_four (λ i. IsKey x y (4 * 5 + i) (k i) (distance_of (point_of (4 * 5 + i)) (sample_at x y)))
+    (on x y 20 _ _ _ _ _ (omega arith) (above-3 x lx) (above-2 y ly) (omega arith))
+    (on x y 21 _ _ _ _ _ (omega arith) (below-1 x lx) (above-2 y ly) (omega arith))
+    (on x y 22 _ _ _ _ _ (omega arith) (above-3 x lx) (below-2 y ly) (omega arith))
+    (on x y 23 _ _ _ _ _ (omega arith) (below-1 x lx) (below-2 y ly) (omega arith)))
+
+pub nearest-110 : (x y : ℕ) → x < 65536 → y < 65536 → IsNearestKey x y 6 (nearest_110 x y)
+nearest-110 x y lx ly =
+    let k : ℕ → ℕ = four_keys (above 1 x + above 4 y + 192) (below 3 x + above 0 y + 200) (above 1 x + above 0 y + 208)
+    (above 1 x + below 4 y + 216) in
+    nearest x y 6 k (each_of_four (λ i. IsKey x y (4 * 6 + i) (k i) (distance_of (point_of (4 * 6 + i)) (sample_at x y)))
+    (on x y 24 _ _ _ _ _ (omega arith) (above-1 x lx) (above-4 y ly) (omega arith))
+    (on x y 25 _ _ _ _ _ (omega arith) (below-3 x lx) (above-0 y ly) (omega arith))
+    (on x y 26 _ _ _ _ _ (omega arith) (above-1 x lx) (above-0 y ly) (omega arith))
+    (on x y 27 _ _ _ _ _ (omega arith) (above-1 x lx) (below-4 y ly) (omega arith)))
+
+pub nearest-111 : (x y : ℕ) → x < 65536 → y < 65536 → IsNearestKey x y 7 (nearest_111 x y)
+nearest-111 x y lx ly =
+    let k : ℕ → ℕ = four_keys (below 1 x + below 4 y + 224) (above 3 x + above 0 y + 232) (below 1 x + above 0 y + 240)
+    (below 1 x + above 4 y + 248) in
+    nearest x y 7 k (each_of_four (λ i. IsKey x y (4 * 7 + i) (k i) (distance_of (point_of (4 * 7 + i)) (sample_at x y)))
+    (on x y 28 _ _ _ _ _ (omega arith) (below-1 x lx) (below-4 y ly) (omega arith))
+    (on x y 29 _ _ _ _ _ (omega arith) (above-3 x lx) (above-0 y ly) (omega arith))
+    (on x y 30 _ _ _ _ _ (omega arith) (below-1 x lx) (above-0 y ly) (omega arith))
+    (on x y 31 _ _ _ _ _ (omega arith) (below-1 x lx) (above-4 y ly) (omega arith)))

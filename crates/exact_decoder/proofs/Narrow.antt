@@ -1,0 +1,82 @@
+-- Sums that keys of 32 bits have.
+use Rattle.std.proofs.Common.{◌≡◌, ℕ, ◌+◌, ◌-◌, ◌*◌, ◌/◌, ◌%◌, ◌^◌, ◌<◌, ◌≤◌, Bool, true, false, nat_eq, List, [], ◌∷◌, arith, refl, sym, ◌∙◌, ap}
+use Rattle.std.proofs.Common.{bit_and, length, slice_index}
+use Rattle.std.specs.Simd.Lanes.{zip2, mask_l}
+use Rattle.std.proofs.Math.Bool.{cond}
+use Rattle.std.proofs.lemmas.Bool.Decides.{nat_tests}
+use Rattle.std.proofs.lemmas.Simd.{tops_compared}
+use Rattle.std.proofs.lemmas.Nat.{and_mask, and_block}
+use Rattle.exact_decoder.specs.Lines.{IsNarrow}
+
+-- a word of which no bit is in the mask
+pub narrow-word : (word state : ℕ) → word < 2 ^ 62 → word % 65536 ≡ state → bit_and word 18444492274164236288 ≡ 0 → IsNarrow word state
+narrow-word word state small is none =
+    let top = word / 2 ^ 51 in
+    let low = word % 2 ^ 51 in
+    let middle = low / 2 ^ 16 in
+    let parts : word ≡ top * 2 ^ 51 + low = omega arith in
+    let inner : low ≡ middle * 2 ^ 16 + low % 2 ^ 16 = omega arith in
+    let first = and_block 51 top (2 ^ 13 - 1) low ((2 ^ 12 - 1) * 2 ^ 16 + 0) (omega arith) (omega arith) in
+    let second = and_block 16 middle (2 ^ 12 - 1) (low % 2 ^ 16) 0 (omega arith) (omega arith) in
+    let high_bits = and_mask top 13 in
+    let middle_bits = and_mask middle 12 in
+    let whole : bit_and word 18444492274164236288 ≡ bit_and top (2 ^ 13 - 1) * 2 ^ 51 + bit_and low ((2 ^ 12 - 1) * 2 ^ 16 + 0) =
+    ap (λ n. bit_and n 18444492274164236288) parts ∙ first in
+    let rest : bit_and low ((2 ^ 12 - 1) * 2 ^ 16 + 0) ≡ bit_and middle (2 ^ 12 - 1) * 2 ^ 16 + bit_and (low % 2 ^ 16) 0 =
+    ap (λ n. bit_and n ((2 ^ 12 - 1) * 2 ^ 16 + 0)) inner ∙ second in
+    (word / 268435456, omega arith, omega arith)
+
+abbrev as_number : Bool → ℕ
+as_number b = cond b 1 0
+
+-- all bits of a mask are set
+pub record AreSet (a b c d e f g h : Bool) : Type 0 where
+  pub a_set : a ≡ true
+  pub b_set : b ≡ true
+  pub c_set : c ≡ true
+  pub d_set : d ≡ true
+  pub e_set : e ≡ true
+  pub f_set : f ≡ true
+  pub g_set : g ≡ true
+  pub h_set : h ≡ true
+
+pub are-set : (a b c d e f g h : Bool) → nat_eq (mask_l (a ∷ b ∷ c ∷ d ∷ e ∷ f ∷ g ∷ h ∷ []) % 18446744073709551616) 255 ≡ true
+    → AreSet a b c d e f g h
+are-set a b c d e f g h q =
+    let sum : mask_l (a ∷ b ∷ c ∷ d ∷ e ∷ f ∷ g ∷ h ∷ []) % 18446744073709551616 ≡ 255 = equal _ 255 q in
+    let la = one a in
+    let lb = one b in
+    let lc = one c in
+    let ld = one d in
+    let le = one e in
+    let lf = one f in
+    let lg = one g in
+    let lh = one h in
+    record {
+      a_set = set a (omega arith);
+      b_set = set b (omega arith);
+      c_set = set c (omega arith);
+      d_set = set d (omega arith);
+      e_set = set e (omega arith);
+      f_set = set f (omega arith);
+      g_set = set g (omega arith);
+      h_set = set h (omega arith);
+    }
+  where
+    equal : (a b : ℕ) → nat_eq a b ≡ true → a ≡ b
+    equal a b q = grind (arith, nat_tests)
+
+    one : (b : Bool) → as_number b ≤ 1
+    one true = omega arith
+    one false = omega arith
+
+    set : (b : Bool) → as_number b ≡ 1 → b ≡ true
+    set true e = refl
+    set false e = absurd (omega arith)
+
+pub narrow-lane : (sums : List ℕ) (state : ℕ) → slice_index sums state < 2 ^ 62 → slice_index sums state % 65536 ≡ state
+    → nat_eq (bit_and (slice_index sums state) 18444492274164236288) 0 ≡ true → IsNarrow (slice_index sums state) state
+narrow-lane sums state small is test = narrow-word (slice_index sums state) state small is (equal _ 0 test)
+  where
+    equal : (a b : ℕ) → nat_eq a b ≡ true → a ≡ b
+    equal a b q = grind (arith, nat_tests)

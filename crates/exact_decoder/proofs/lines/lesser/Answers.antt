@@ -1,0 +1,8 @@
+use Rattle.std.proofs.Common.{◌≡◌, ℕ, List, nat_lt, ap, ◌∙◌, w32}
+use Rattle.std.specs.Simd.Lanes.{sel_l}
+use Rattle.std.proofs.lemmas.Simd.{tops_compared}
+use Rattle.exact_decoder.proofs.Lessers.{lessers}
+use Rattle.exact_decoder.proofs.lines.lesser.Goals as goal
+
+pub returns : goal.returns
+returns c = ap (λ ms. sel_l ms c.args.a c.args.b) (tops_compared w32 nat_lt c.args.a c.args.b) ∙ lessers c.args.a c.args.b

@@ -1,6 +1,0 @@
-use Rattle.std.proofs.Common.{w64}
-use Rattle.std.proofs.lemmas.Nat.Bits.{bit_at-trailing_zeros}
-use Rattle.exact_decoder.proofs.state_set.lowest_bit.Goals as goal
-
-pub returns-clause-there : goal.returns-clause-there
-returns-clause-there c = (bit_at-trailing_zeros w64 c.args.word c.requires c.ranges.word.fits).1

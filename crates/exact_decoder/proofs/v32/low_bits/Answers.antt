@@ -1,0 +1,23 @@
+use Rattle.std.proofs.Common.{rules, ◌≡◌, ℕ, ◌<◌, ◌≤◌, ◌+◌, ◌-◌, ◌*◌, ◌%◌, ◌^◌, length, map, List, [], ◌∷◌, refl, ap, ◌∙◌, arith, replicate, Fits, w8}
+use lib.Bits.{bit_and, and_le_r}
+use lib.Lanes.{zip2}
+use Rattle.std.proofs.lemmas.Simd.{Each1-zip2, Each2-splat, Each1-all}
+use Rattle.std.proofs.lemmas.Nat.{and_mask}
+use Rattle.exact_decoder.proofs.Vectors.{eight}
+use Rattle.exact_decoder.proofs.v32.low_bits.Goals as goal
+
+pub overflow_cast-result : goal.overflow_cast-result
+overflow_cast-result c =
+    let m = c.args.mask in
+    Each1-zip2 bit_and (λ j. Fits w8 j) c.args.lanes (replicate 8 m)
+    (Each2-splat (λ a b. Fits w8 (bit_and a b)) c.args.lanes 8 m (Each1-all (λ a. Fits w8 (bit_and a m)) (λ a. record { fits = omega (arith, and_le_r a m, c.requires.few) }) c.args.lanes))
+
+masked : (a m k : ℕ) → m ≡ 2 ^ k - 1 → bit_and a m ≡ a % 2 ^ k
+masked a m k e = ap (bit_and a) e ∙ and_mask a k
+
+pub returns : goal.returns
+returns v k a b c d e f g h em el =
+    let m = v.args.mask in
+    ap (λ v. map (λ a. a) (zip2 bit_and v (m ∷ m ∷ m ∷ m ∷ m ∷ m ∷ m ∷ m ∷ []))) el
+    ∙ eight _ _ _ _ _ _ _ _ _ _ _ _ _ _ _ _ (masked a m k em) (masked b m k em) (masked c m k em) (masked d m k em) (masked e m k em)
+    (masked f m k em) (masked g m k em) (masked h m k em)
