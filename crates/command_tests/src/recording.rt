@@ -1,5 +1,5 @@
 // Runs that are recorded, over a folder in memory: what both ends sent stands in two recordings.
-use super::asking::{Ran, leaves, run_over, says};
+use super::asking::{Ran, ask, leaves, run_over, says};
 use modem_cli::Status;
 use std::alloc::Global;
 use std::process::Abort;
@@ -85,6 +85,29 @@ fn offsets_are_not_recorded(rt: HostRuntime) -> Result<(), Fail> {
     let noisy = record(rt.alloc(), b"a", b"b", b"noise orig 0 5000 500 42\n")?;
     leaves(&rt, &noisy, "ro", plain.left("ro"));
     leaves(&rt, &noisy, "ra", plain.left("ra"));
+    Ok(())
+}
+
+/// The words of other commands that read the originator's recording.
+const READERS: &[&[&str]] = &[
+    &["decode", "ro", "d"],
+    &["margin", "ro", "d"],
+    &["pickup", "ro"],
+];
+
+/// What they say: slots of 232 octets, which cost nothing, and the frames that the trace has behind the originator.
+const READ: &str =
+    "done 12\noctets 2784\ncost 0 sure 1\nframe xid cmd p=0 n=23\nframe sabme cmd p=1\n\
+    frame rr cmd r=0 p=1\nframe i s=0 r=0 p=0 n=1\nframe rr rsp r=1 p=0\nframe disc cmd p=1\npieces 6\n";
+
+#[test]
+fn other_commands_read_what_was_recorded(rt: HostRuntime) -> Result<(), Fail> {
+    let mut ran = record(rt.alloc(), b"a", b"b", b"")?;
+    for words in READERS {
+        ran.status = ask(rt.alloc(), words, &mut ran.folder)?;
+        assert!(&rt; ran.status == Status::Done);
+    }
+    says(&rt, &ran, Status::Done, READ);
     Ok(())
 }
 
