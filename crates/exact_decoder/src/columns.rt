@@ -1,8 +1,8 @@
-// A full ring of columns of choices.
-ghost use Rattle.std.specs.Prelude.{◌≡◌, ℕ, ◌+◌, ◌-◌, ◌%◌, ◌^◌, ◌<◌, ◌≤◌, List, [], ◌∷◌, ◌++◌, length, take, slice_index, IfOk};
+// The latest columns of choices.
+ghost use Rattle.std.specs.Prelude.{◌≡◌, ℕ, ◌+◌, ◌-◌, ◌*◌, ◌%◌, ◌^◌, ◌<◌, ◌≤◌, List, [], ◌∷◌, ◌++◌, length, take, slice_index, IfOk};
 ghost use Rattle.exact_decoder.specs.declared.choice.Choice.{Choice};
 ghost use Rattle.exact_decoder.specs.Advances.{Advances};
-ghost use Rattle.exact_decoder.specs.Traced.{choices_of, place_of, place_before, IsColumn, AreColumns};
+ghost use Rattle.exact_decoder.specs.Traced.{choices_of, from_newest, IsColumn, AreColumns};
 
 use crate::column::Column;
 use crate::step::ViterbiStep;
@@ -10,46 +10,53 @@ use std::alloc::{AllocError, Global};
 use std::marker::Model;
 use symbol_map::Sample;
 
-/// Columns of choices, the newest first, always as many: a new one takes the place of the oldest.
+/// How many times as many columns there is room for.
+const ROOMS: usize = 4;
+
+/// Columns of choices, the newest first, always as many: with a new one the oldest goes.
 #[derive(Drop)]
 pub struct Columns<const STATES: usize> {
-    /// They lie in a ring.
+    /// There is room before the newest, so that columns, which lie side by side, are seldom moved.
     items: Vec<Column<STATES>>,
-    /// The place of the newest. The others follow it, and go on at place 0 behind the last one.
+    /// The place of the newest. The others follow it.
     newest: usize,
+    /// How many there are.
+    count: usize,
 }
 
 impl<const STATES: usize> Model for Columns<STATES> {
-    ghost use Rattle.std.specs.Prelude.{List, ◌<◌, ◌≤◌, length};
+    ghost use Rattle.std.specs.Prelude.{List, ◌<◌, ◌≤◌, ◌+◌, ◌*◌, length};
     ghost use Rattle.exact_decoder.specs.declared.choice.Choice.{Choice};
     ghost use Rattle.exact_decoder.specs.Traced.{columns_in, from_newest};
 
     ghost Value = { List (List Choice) };
 
-    ghost view = { λ c. columns_in (from_newest c.newest c.items.items) };
+    ghost view = { λ c. columns_in (from_newest c.newest c.count c.items.items) };
 
-    ghost invariant = { λ c. (c.newest < length c.items.items) × (length c.items.items ≤ 129) };
+    ghost invariant = { λ c. (1 ≤ c.count) × (c.newest + c.count ≤ length c.items.items) × (2 * c.count ≤ length c.items.items)
+        × (length c.items.items ≤ 1024) };
 }
 
-/// The place of the column that this many others are newer than.
-fn place_of(newest: usize, back: usize, count: usize) -> usize
-    requires newest { newest < count }
-    requires back { back < count }
-    requires few { count ≤ 129 }
-    ensures value { result ≡ place_of newest back count }
-    ensures bound { result < count }
+/// Moves columns to the end where there is no room before them. The place of the newest.
+fn make_room<const STATES: usize>(
+    items: &mut Vec<Column<STATES>>,
+    newest: usize,
+    count: usize,
+) -> usize
+    requires some { 1 ≤ count }
+    requires within { newest + count ≤ length items.old.items }
+    requires twice { 2 * count ≤ length items.old.items }
+    ensures same { from_newest result count items.new.items ≡ from_newest newest count items.old.items }
+    ensures room { 1 ≤ result }
+    ensures within { result + count ≤ length items.new.items }
+    ensures long { length items.new.items ≡ length items.old.items }
 {
-    let place = newest + back;
-    if place < count { place } else { place - count }
-}
-
-/// The place before this one.
-fn place_before(place: usize, count: usize) -> usize
-    requires { place < count }
-    ensures value { result ≡ place_before place count }
-    ensures bound { result < count }
-{
-    if place == 0 { count - 1 } else { place - 1 }
+    if newest > 0 {
+        return newest;
+    }
+    let last = items.len() - count;
+    items.copy_within(0..count, last);
+    last
 }
 
 impl<const STATES: usize> Columns<STATES> {
@@ -60,14 +67,19 @@ impl<const STATES: usize> Columns<STATES> {
         ensures long { IfOk result (λ c. length c ≡ count) }
         ensures columns { (labels : ℕ) → 1 ≤ labels → IfOk result (λ c. AreColumns STATES labels c) }
     {
-        let mut items = Vec::with_capacity(alloc, count)?;
-        for _ in 0..count {
+        let room = ROOMS * count;
+        let mut items = Vec::with_capacity(alloc, room)?;
+        for _ in 0..room {
             items.push(Column {
                 before: [0; STATES],
                 labels: [0; STATES],
             })?;
         }
-        Ok(Columns { items, newest: 0 })
+        Ok(Columns {
+            items,
+            newest: room - count,
+            count,
+        })
     }
 
     /// The column that this many others are newer than.
@@ -77,11 +89,10 @@ impl<const STATES: usize> Columns<STATES> {
         ensures next { take (back + 1) self.now ≡ take back self.now ++ choices_of result.now ∷ [] }
         ensures column { IsColumn STATES LABELS (choices_of result.now) }
     {
-        let place = place_of(self.newest, back, self.items.len());
-        &self.items[place]
+        &self.items[self.newest + back]
     }
 
-    /// One sample more: the new sums, and a new column before the others, in the place of the oldest.
+    /// One sample more: the new sums, and a new column before the others but the oldest.
     pub fn advance<const LABELS: usize, C: ViterbiStep<STATES, LABELS>>(
         &mut self,
         code: &C,
@@ -94,8 +105,8 @@ impl<const STATES: usize> Columns<STATES> {
         ensures { (column : List Choice) × (self.new ≡ column ∷ take (length self.old - 1) self.old)
             × Advances C.points STATES C.PARALLEL C.SUBSETS C.WAYS C.way_before C.way_subset sample sums.old sums.new column }
     {
-        let oldest = place_before(self.newest, self.items.len());
-        code.advance(sample, sums, &mut self.items[oldest]);
-        self.newest = oldest;
+        let newest = make_room(&mut self.items, self.newest, self.count) - 1;
+        code.advance(sample, sums, &mut self.items[newest]);
+        self.newest = newest;
     }
 }

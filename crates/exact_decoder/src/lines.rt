@@ -1,6 +1,6 @@
 // The nearest label of each subset of the 32-point map, by vectors: the points of a subset lie on few lines, so that a distance is a sum of two of
 // a line's numbers. What all labels have in common is left out, and so keys have 32 bits.
-ghost use Rattle.std.specs.Prelude.{◌≡◌, ℕ, ◌<◌, ◌+◌, ◌*◌, ◌^◌, min, [], ◌∷◌};
+ghost use Rattle.std.specs.Prelude.{◌≡◌, ℕ, ◌<◌, ◌+◌, ◌-◌, ◌*◌, ◌^◌, min, [], ◌∷◌};
 ghost use Rattle.std.specs.Simd.Lanes.{zip2};
 ghost use Rattle.exact_decoder.specs.Lines.{nearest_000, nearest_001, nearest_010, nearest_011, nearest_100, nearest_101, nearest_110, nearest_111};
 
@@ -24,31 +24,38 @@ fn line(x: u32x4, times: u32x4, more: u32x4) -> u32x4
     x * times + more
 }
 
+/// How far a coordinate is from both ends, along the map and across it. Coordinates are counted from the least one.
+#[inline(always)]
+pub fn both_ways(x: u32, y: u32) -> u32x4
+    requires { (x < 2 ^ 16) × (y < 2 ^ 16) }
+    ensures { result ≡ x ∷ (65535 - x) ∷ y ∷ (65535 - y) ∷ [] }
+{
+    u32x4::from_array([x, 65535 - x, y, 65535 - y])
+}
+
 /// The keys of the subsets that are squares: 010, 011, 100 and 101. The least is that of the nearest line each way.
 #[inline(always)]
-pub fn nearest_squares(x: u32, y: u32) -> u32x4
-    requires { (x < 2 ^ 16) × (y < 2 ^ 16) }
-    ensures { result ≡ nearest_010 x y ∷ nearest_011 x y ∷ nearest_100 x y ∷ nearest_101 x y ∷ [] }
+pub fn nearest_squares(at: u32x4) -> u32x4
+    ensures { (x y : ℕ) → at ≡ (x ∷ (65535 - x) ∷ y ∷ (65535 - y) ∷ []) → x < 2 ^ 16 → y < 2 ^ 16
+        → result ≡ nearest_010 x y ∷ nearest_011 x y ∷ nearest_100 x y ∷ nearest_101 x y ∷ [] }
 {
-    let (u, d) = (x, 65535 - x);
-    let (v, e) = (y, 65535 - y);
     let left = line(
-        u32x4::from_array([u, d, u, d]),
+        at.swizzle([0, 1, 0, 1]),
         u32x4::from_array([512, 512, 768, 768]),
         u32x4::from_array([17_825_856, 17_826_400, 10_748_032, 10_748_832]),
     );
     let right = line(
-        u32x4::from_array([d, u, d, u]),
+        at.swizzle([1, 0, 1, 0]),
         u32x4::from_array([512, 512, 256, 256]),
         u32x4::from_array([17_826_384, 17_825_904, 25_428_360, 25_428_136]),
     );
     let above = line(
-        u32x4::from_array([e, v, v, e]),
+        at.swizzle([3, 2, 2, 3]),
         u32x4::from_array([768, 768, 512, 512]),
         u32x4::from_array([10_748_672, 10_747_904, 17_825_792, 17_826_304]),
     );
     let below = line(
-        u32x4::from_array([v, e, e, v]),
+        at.swizzle([2, 3, 3, 2]),
         u32x4::from_array([256, 256, 512, 512]),
         u32x4::from_array([25_427_976, 25_428_232, 17_826_320, 17_825_808]),
     );
@@ -57,30 +64,28 @@ pub fn nearest_squares(x: u32, y: u32) -> u32x4
 
 /// The keys of the other subsets: 000, 001, 110 and 111. Three points are on a long line, at its ends and in its middle, and one is beside it.
 #[inline(always)]
-pub fn nearest_others(x: u32, y: u32) -> u32x4
-    requires { (x < 2 ^ 16) × (y < 2 ^ 16) }
-    ensures { result ≡ nearest_000 x y ∷ nearest_001 x y ∷ nearest_110 x y ∷ nearest_111 x y ∷ [] }
+pub fn nearest_others(at: u32x4) -> u32x4
+    ensures { (x y : ℕ) → at ≡ (x ∷ (65535 - x) ∷ y ∷ (65535 - y) ∷ []) → x < 2 ^ 16 → y < 2 ^ 16
+        → result ≡ nearest_000 x y ∷ nearest_001 x y ∷ nearest_110 x y ∷ nearest_111 x y ∷ [] }
 {
-    let (u, d) = (x, 65535 - x);
-    let (v, e) = (y, 65535 - y);
     let first = line(
-        u32x4::from_array([u, d, e, v]),
+        at.swizzle([0, 1, 3, 2]),
         u32x4::from_array([1024, 1024, 1024, 1024]),
         u32x4::from_array([4_194_304, 4_195_360, 4_195_520, 4_194_528]),
     );
     let last = line(
-        u32x4::from_array([d, u, v, e]),
+        at.swizzle([1, 0, 2, 3]),
         u32x4::from_array([1024, 1024, 1024, 1024]),
         u32x4::from_array([4_195_352, 4_194_360, 4_194_520, 4_195_576]),
     );
     let middle = u32x4::from_array([33_554_448, 33_554_480, 33_554_640, 33_554_672]);
     let across = line(
-        u32x4::from_array([e, v, d, u]),
+        at.swizzle([3, 2, 1, 0]),
         u32x4::from_array([256, 256, 256, 256]),
         u32x4::from_array([25_428_224, 25_427_968, 25_428_224, 25_427_968]),
     );
     let beside = line(
-        u32x4::from_array([v, e, u, d]),
+        at.swizzle([2, 3, 0, 1]),
         u32x4::from_array([768, 768, 768, 768]),
         u32x4::from_array([44_302_344, 44_303_144, 44_302_536, 44_303_336]),
     );

@@ -9,7 +9,7 @@ ghost use Rattle.exact_decoder.specs.Advances.{Advances};
 ghost use Rattle.exact_decoder.specs.Lines.{coordinate, least_four, words, IsNarrow};
 
 use crate::column::Column;
-use crate::lines::{lesser, nearest_others, nearest_squares};
+use crate::lines::{both_ways, lesser, nearest_others, nearest_squares};
 use crate::step::{ViterbiStep, advance_plainly};
 use std::simd::prelude::*;
 use symbol_map::Sample;
@@ -143,9 +143,9 @@ fn advance_by_vectors(sample: Sample, sums: &mut [u64], column: &mut Column<8>)
     requires narrow { (s : ℕ) → s < 8 → IsNarrow (slice_index sums.old s) s }
     ensures { Advances point_of 8 4 8 4 way_before way_subset sample sums.old sums.new (choices_of column.new) }
 {
-    let (x, y) = (counted(sample.re), counted(sample.im));
-    let squares = nearest_squares(x, y);
-    let others = nearest_others(x, y);
+    let at = both_ways(counted(sample.re), counted(sample.im));
+    let squares = nearest_squares(at);
+    let others = nearest_others(at);
     let before = keys_of(sums);
     let first = enter_first(before.swizzle([0, 2, 4, 6]), squares, others);
     let second = enter_second(before.swizzle([1, 3, 5, 7]), squares, others);

@@ -2,21 +2,18 @@ use Rattle.std.proofs.Common.{rules, ◌≡◌, ℕ, ◌<◌, ◌≤◌, ◌+◌
 use Rattle.std.specs.Simd.Lanes.{zip2}
 use Rattle.exact_decoder.specs.Lines.{nearest_010, nearest_011, nearest_100, nearest_101}
 use Rattle.exact_decoder.proofs.Lanes.{lane-010, lane-011, lane-100, lane-101}
-use Rattle.exact_decoder.proofs.Vectors.{both, four}
+use Rattle.exact_decoder.proofs.Vectors.{both, turned, four}
 use Rattle.exact_decoder.proofs.lines.nearest_squares.Goals as goal
 
 abbrev plus : List ℕ → List ℕ → List ℕ
 plus = zip2 (λ a b. (a + b) % 4294967296)
 
 pub returns : goal.returns
-returns c =
-    let x = c.args.x in
-    let y = c.args.y in
-    let (lx, ly) = c.requires in
-    let xa = c.line-left.ensures x (65535 - x) x (65535 - x) 512 512 768 768 17825856 17826400 10748032 10748832 refl refl refl (omega arith) (omega arith) (omega arith) (omega arith) in
-    let xb = c.line-right.ensures (65535 - x) x (65535 - x) x 512 512 256 256 17826384 17825904 25428360 25428136 refl refl refl (omega arith) (omega arith) (omega arith) (omega arith) in
-    let ya = c.line-above.ensures (65535 - y) y y (65535 - y) 768 768 512 512 10748672 10747904 17825792 17826304 refl refl refl (omega arith) (omega arith) (omega arith) (omega arith) in
-    let yb = c.line-below.ensures y (65535 - y) (65535 - y) y 256 256 512 512 25427976 25428232 17826320 17825808 refl refl refl (omega arith) (omega arith) (omega arith) (omega arith) in
+returns c x y is lx ly =
+    let xa = c.line-left.ensures x (65535 - x) x (65535 - x) 512 512 768 768 17825856 17826400 10748032 10748832 (turned (0 ∷ 1 ∷ 0 ∷ 1 ∷ []) _ _ is) refl refl (omega arith) (omega arith) (omega arith) (omega arith) in
+    let xb = c.line-right.ensures (65535 - x) x (65535 - x) x 512 512 256 256 17826384 17825904 25428360 25428136 (turned (1 ∷ 0 ∷ 1 ∷ 0 ∷ []) _ _ is) refl refl (omega arith) (omega arith) (omega arith) (omega arith) in
+    let ya = c.line-above.ensures (65535 - y) y y (65535 - y) 768 768 512 512 10748672 10747904 17825792 17826304 (turned (3 ∷ 2 ∷ 2 ∷ 3 ∷ []) _ _ is) refl refl (omega arith) (omega arith) (omega arith) (omega arith) in
+    let yb = c.line-below.ensures y (65535 - y) (65535 - y) y 256 256 512 512 25427976 25428232 17826320 17825808 (turned (2 ∷ 3 ∷ 3 ∷ 2 ∷ []) _ _ is) refl refl (omega arith) (omega arith) (omega arith) (omega arith) in
     let l = both (zip2 min) c.line-left.result _ c.line-right.result _ xa xb in
     let m = both (zip2 min) c.line-above.result _ c.line-below.result _ ya yb in
     both plus c.lesser.result _ c.lesser-2.result _ (c.lesser.ensures ∙ l) (c.lesser-2.ensures ∙ m) ∙ four _ _ _ _ _ _ _ _ (lane-010 x y lx ly) (lane-011 x y lx ly) (lane-100 x y lx ly) (lane-101 x y lx ly)

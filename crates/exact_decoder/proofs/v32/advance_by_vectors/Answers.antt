@@ -31,11 +31,13 @@ same_step a b p q m n c d i j k l h =
 
 pub returns : goal.returns
 returns v =
-    let x = v.counted-x.result in
-    let y = v.counted-y.result in
-    let lx = v.counted-x.ensures.bound in
-    let ly = v.counted-y.ensures.bound in
+    let x = v.counted.result in
+    let y = v.counted-2.result in
+    let lx = v.counted.ensures.bound in
+    let ly = v.counted-2.ensures.bound in
     let sums = v.args.sums.now in
+    let squares = v.nearest_squares-squares.ensures x y v.both_ways-at.ensures lx ly in
+    let others = v.nearest_others-others.ensures x y v.both_ways-at.ensures lx ly in
     let (a, ma, isa) = v.requires.narrow 0 (omega arith) in
     let (b, mb, isb) = v.requires.narrow 1 (omega arith) in
     let (c, mc, isc) = v.requires.narrow 2 (omega arith) in
@@ -58,12 +60,12 @@ returns v =
     let before = v.keys_of-before.ensures a b c d e f g h was ma mb mc md me mf mg mh in
     let first = v.enter_first-first.ensures (256 * a + 0) (256 * c + 2) (256 * e + 4) (256 * g + 6)
     (nearest_010 x y) (nearest_011 x y) (nearest_100 x y) (nearest_101 x y) (nearest_000 x y) (nearest_001 x y) (nearest_110 x y) (nearest_111 x y)
-    (turned (0 ∷ 2 ∷ 4 ∷ 6 ∷ []) _ _ before) v.nearest_squares-squares.ensures v.nearest_others-others.ensures
+    (turned (0 ∷ 2 ∷ 4 ∷ 6 ∷ []) _ _ before) squares others
     (omega (arith, ma)) (omega (arith, mc)) (omega (arith, me)) (omega (arith, mg))
     (small-010 x y lx ly) (small-011 x y lx ly) (small-000 x y lx ly) (small-001 x y lx ly) in
     let second = v.enter_second-second.ensures (256 * b + 1) (256 * d + 3) (256 * f + 5) (256 * h + 7)
     (nearest_010 x y) (nearest_011 x y) (nearest_100 x y) (nearest_101 x y) (nearest_000 x y) (nearest_001 x y) (nearest_110 x y) (nearest_111 x y)
-    (turned (1 ∷ 3 ∷ 5 ∷ 7 ∷ []) _ _ before) v.nearest_squares-squares.ensures v.nearest_others-others.ensures
+    (turned (1 ∷ 3 ∷ 5 ∷ 7 ∷ []) _ _ before) squares others
     (omega (arith, mb)) (omega (arith, md)) (omega (arith, mf)) (omega (arith, mh))
     (small-100 x y lx ly) (small-101 x y lx ly) (small-110 x y lx ly) (small-111 x y lx ly) in
     let (z, z_is, least) = v.least_in-least.ensures (k 0) (k 1) (k 2) (k 3) (k 4) (k 5) (k 6) (k 7) first second in
@@ -82,8 +84,8 @@ returns v =
     let sample = v.args.sample in
     let re_read : cast_signed w16 (cast_unsigned w16 sample.re) ≡ sample.re = omega (arith, ints) in
     let im_read : cast_signed w16 (cast_unsigned w16 sample.im) ≡ sample.im = omega (arith, ints) in
-    let re_is : coordinate x ≡ sample.re = v.counted-x.ensures.value ∙ re_read in
-    let im_is : coordinate y ≡ sample.im = v.counted-y.ensures.value ∙ im_read in
+    let re_is : coordinate x ≡ sample.re = v.counted.ensures.value ∙ re_read in
+    let im_is : coordinate y ≡ sample.im = v.counted-2.ensures.value ∙ im_read in
     let sample_is : sample_at x y ≡ sample = ap (λ n. sample_of n (coordinate y)) re_is ∙ ap (sample_of sample.re) im_is in
     let made = advances x y a b c d e f g h z lx ly few p in
     same_step (sample_at x y) sample _ sums _ _ _ _ sample_is (sym was) (sym new_sums) (sym (both (zip2 choice_by) _ _ _ _ new_states new_labels))

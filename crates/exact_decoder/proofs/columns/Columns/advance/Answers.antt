@@ -1,16 +1,19 @@
-use Rattle.std.proofs.Common.{◌≡◌, length, ◌∙◌, ap}
-use Rattle.exact_decoder.specs.Traced.{choices_of, place_before}
+use Rattle.std.proofs.Common.{◌≡◌, ◌+◌, ◌-◌, arith, ◌∙◌, ap, subst}
+use Rattle.exact_decoder.specs.Traced.{choices_of, columns_in, from_newest}
 use Rattle.exact_decoder.proofs.Rings.{columns-more}
 use Rattle.exact_decoder.proofs.columns.Columns.advance.Goals as goal
 
 pub returns : goal.returns
 returns g c =
-    let items = c.self.inside.items.items in
-    let newest = c.self.inside.newest in
-    let oldest = c.place_before-oldest.result in
-    let count : c.len.result ≡ length items = c.len.ensures ∙ c.self.inside.items.ok.0 in
-    let before : oldest ≡ place_before newest (length items) = c.place_before-oldest.ensures.value ∙ ap (place_before newest) count in (
+    let items = c.make_room-newest.new.items.items in
+    let room = c.make_room-newest.result in
+    let count = c.self.inside.count in
+    let next : room ≡ room - 1 + 1 = omega (arith, c.make_room-newest.ensures.room) in
+    let old : columns_in (from_newest (room - 1 + 1) count items) ≡ c.args.self.now =
+    subst (λ n. columns_in (from_newest n count items) ≡ c.args.self.now) next
+    (ap columns_in c.make_room-newest.ensures.same ∙ c.self.view_is) in (
       choices_of c.advance.new.column,
-      columns-more items newest oldest c.advance.new.column c.args.self.now c.self.invariant.0 before c.self.view_is,
+      columns-more items (room - 1) count c.advance.new.column c.args.self.now c.self.invariant.0
+          (omega (arith, c.make_room-newest.ensures.room, c.make_room-newest.ensures.within)) old,
       c.advance.ensures,
     )

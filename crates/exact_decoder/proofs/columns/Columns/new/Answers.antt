@@ -1,8 +1,9 @@
-use Rattle.std.proofs.Common.{◌≡◌, ℕ, ◌∷◌, ◌++◌, [], List, length, length-append, map, replicate, refl, ◌∙◌, sym, ap, subst, arith}
-use Rattle.std.proofs.lemmas.List.{length-map, map-append, append-nil}
-use Rattle.std.proofs.lemmas.List.Elements.{All-push, All-same}
+use Rattle.std.proofs.Common.{◌≡◌, ℕ, ◌-◌, ◌*◌, take, drop, ◌∷◌, ◌++◌, [], List, length, length-append, map, replicate, refl, ◌∙◌, sym, ap, subst, arith}
+use Rattle.std.proofs.lemmas.List.{map-append, take-map, drop-map}
+use Rattle.std.proofs.lemmas.List.Elements.{All-push, All-same, All-take, All-drop}
 use Rattle.exact_decoder.specs.declared.column.Column.{Column}
-use Rattle.exact_decoder.specs.Traced.{choices_of, columns_in, IsColumn, AreColumns}
+use Rattle.exact_decoder.specs.Traced.{choices_of, columns_in, from_newest, IsColumn, AreColumns}
+use Rattle.exact_decoder.proofs.Rings.{columns-long}
 use Rattle.exact_decoder.proofs.Walking.{zero-column}
 use Rattle.exact_decoder.proofs.columns.Columns.new.Goals as goal
 
@@ -27,10 +28,15 @@ loop-preserved g c =
 
 pub returns-clause-long : goal.returns-clause-long
 returns-clause-long g c =
-    length-map _ _ ∙ ap length (append-nil c.loop.items.items) ∙ c.loop.invariant.0
-    ∙ omega (arith, c.loop-test.false, c.loop.auto.counter-end)
+    let items = c.loop.items.items in
+    let all : length items ≡ 4 * c.args.count = c.loop.invariant.0 ∙ omega (arith, c.loop-test.false, c.loop.auto.counter-end) in
+    columns-long items (4 * c.args.count - c.args.count) c.args.count _ (omega (arith, all)) refl
 
 pub returns-clause-columns : goal.returns-clause-columns
 returns-clause-columns g c = λ labels low.
-    subst (λ items. AreColumns g.row.STATES labels (columns_in items)) (sym (append-nil c.loop.items.items))
-    (c.loop.invariant.1 labels low)
+    let items = c.loop.items.items in
+    let newest = 4 * c.args.count - c.args.count in
+    let fit = IsColumn g.row.STATES labels in
+    All-same fit (columns_in (from_newest newest c.args.count items)) (take c.args.count (drop newest (columns_in items)))
+    (sym (ap (take c.args.count) (drop-map choices_of newest items) ∙ take-map choices_of c.args.count (drop newest items)))
+    (All-take fit c.args.count (drop newest (columns_in items)) (All-drop fit newest (columns_in items) (c.loop.invariant.1 labels low)))
