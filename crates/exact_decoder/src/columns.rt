@@ -37,7 +37,23 @@ impl<const STATES: usize> Model for Columns<STATES> {
         × (length c.items.items ≤ 1024) };
 }
 
-/// Moves columns to the end where there is no room before them. The place of the newest.
+/// Moves the columns, which are the first, to the end. The place of the newest.
+#[cold]
+#[inline(never)]
+fn move_to_end<const STATES: usize>(items: &mut Vec<Column<STATES>>, count: usize) -> usize
+    requires some { 1 ≤ count }
+    requires twice { 2 * count ≤ length items.old.items }
+    ensures same { from_newest result count items.new.items ≡ from_newest 0 count items.old.items }
+    ensures room { 1 ≤ result }
+    ensures within { result + count ≤ length items.new.items }
+    ensures long { length items.new.items ≡ length items.old.items }
+{
+    let last = items.len() - count;
+    items.copy_within(0..count, last);
+    last
+}
+
+/// Sees that there is room before the newest. Its place.
 fn make_room<const STATES: usize>(
     items: &mut Vec<Column<STATES>>,
     newest: usize,
@@ -52,11 +68,10 @@ fn make_room<const STATES: usize>(
     ensures long { length items.new.items ≡ length items.old.items }
 {
     if newest > 0 {
-        return newest;
+        newest
+    } else {
+        move_to_end(items, count)
     }
-    let last = items.len() - count;
-    items.copy_within(0..count, last);
-    last
 }
 
 impl<const STATES: usize> Columns<STATES> {

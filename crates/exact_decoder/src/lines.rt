@@ -39,25 +39,26 @@ pub fn nearest_squares(at: u32x4) -> u32x4
     ensures { (x y : ℕ) → at ≡ (x ∷ (65535 - x) ∷ y ∷ (65535 - y) ∷ []) → x < 2 ^ 16 → y < 2 ^ 16
         → result ≡ nearest_010 x y ∷ nearest_011 x y ∷ nearest_100 x y ∷ nearest_101 x y ∷ [] }
 {
+    // Each vector has a factor that is no power of two: by powers of two alone the compiler shifts each pair of lanes apart.
     let left = line(
-        at.swizzle([0, 1, 0, 1]),
-        u32x4::from_array([512, 512, 768, 768]),
-        u32x4::from_array([17_825_856, 17_826_400, 10_748_032, 10_748_832]),
+        at.swizzle([0, 1, 0, 0]),
+        u32x4::from_array([512, 512, 768, 256]),
+        u32x4::from_array([17_825_856, 17_826_400, 10_748_032, 25_428_136]),
     );
     let right = line(
-        at.swizzle([1, 0, 1, 0]),
-        u32x4::from_array([512, 512, 256, 256]),
-        u32x4::from_array([17_826_384, 17_825_904, 25_428_360, 25_428_136]),
+        at.swizzle([1, 0, 1, 1]),
+        u32x4::from_array([512, 512, 256, 768]),
+        u32x4::from_array([17_826_384, 17_825_904, 25_428_360, 10_748_832]),
     );
     let above = line(
-        at.swizzle([3, 2, 2, 3]),
-        u32x4::from_array([768, 768, 512, 512]),
-        u32x4::from_array([10_748_672, 10_747_904, 17_825_792, 17_826_304]),
+        at.swizzle([3, 3, 2, 3]),
+        u32x4::from_array([768, 256, 512, 512]),
+        u32x4::from_array([10_748_672, 25_428_232, 17_825_792, 17_826_304]),
     );
     let below = line(
-        at.swizzle([2, 3, 3, 2]),
-        u32x4::from_array([256, 256, 512, 512]),
-        u32x4::from_array([25_427_976, 25_428_232, 17_826_320, 17_825_808]),
+        at.swizzle([2, 2, 3, 2]),
+        u32x4::from_array([256, 768, 512, 512]),
+        u32x4::from_array([25_427_976, 10_747_904, 17_826_320, 17_825_808]),
     );
     lesser(left, right) + lesser(above, below)
 }

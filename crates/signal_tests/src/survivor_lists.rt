@@ -128,10 +128,21 @@ impl Stream {
             .saturating_sub((spread / 2) as i16)
     }
 
+    // A coordinate on a half unit of the map.
+    fn half_units(&mut self) -> i16 {
+        (1024 * self.draw(64) as i32 - 32768) as i16
+    }
+
+    // One of a code sequence, or without a spread one by chance, to which many labels are equally near.
     fn sample(&mut self, spread: u32) -> Sample
-        requires low { 1 ≤ spread }
-        requires high { spread < 2 ^ 12 }
+        requires { spread < 2 ^ 12 }
     {
+        if spread == 0 {
+            return Sample {
+                re: self.half_units(),
+                im: self.half_units(),
+            };
+        }
         let quad = self.draw(16) as u8;
         let point = V32Code.point(self.encoder.push(quad));
         Sample {
@@ -162,8 +173,7 @@ fn lost_with(
     spread: u32,
     middle: u32,
 ) -> Result<Option<u64>, NoMemory>
-    requires low { 1 ≤ spread }
-    requires high { spread < 2 ^ 12 }
+    requires { spread < 2 ^ 12 }
 {
     let mut decoder: Line = Decoder::new(alloc, V32Code, 0)?;
     let mut survivors = Survivors::new(alloc)?;
@@ -198,5 +208,7 @@ fn both_release_the_same(rt: HostRuntime) -> Result<(), NoMemory> {
         assert!(&rt; lost_with(&rt, rt.alloc(), spread, 400)? == None);
     }
     assert!(&rt; lost_with(&rt, rt.alloc(), 1001, 40)?.is_some());
+    assert!(&rt; lost_with(&rt, rt.alloc(), 1, 0)?.is_some());
+    lost_with(&rt, rt.alloc(), 0, 400)?;
     Ok(())
 }
