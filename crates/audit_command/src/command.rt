@@ -14,7 +14,7 @@ use crate::AuditWords;
 use crate::laws::{answers_keep_the_headline, right_traces_are_judged};
 use crate::names::{MadeNames, turn_names};
 use crate::turns::audit_world;
-use command_base::{Status, Stop, tell, tell_stop, within_limit, true_line};
+use command_base::{Status, Stop, tell, tell_stop, true_line, within_limit};
 use noise_script::Script;
 use noise_script::laws::spelled_scripts_are_in_limits;
 use outside_calls::Folder;

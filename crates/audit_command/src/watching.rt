@@ -9,10 +9,10 @@ ghost use Rattle.run_world.specs.Turn.{turns_made};
 ghost use Rattle.readable_runs.specs.Readable.{AsksInOctets};
 ghost use Rattle.audit_command.specs.Turns.{IsReading, StillRuns, TurnMade, Watched, step_end};
 
-use program_folders::{AuditFolder, HELD};
 use command_base::Stop;
 use frame_check::Octets;
 use outside_calls::{Folder, FolderFault};
+use program_folders::{AuditFolder, HELD};
 use readable_runs::laws::{traces_are_read, traces_have_lines};
 use run_world::laws::turns_are_few;
 use run_world::{Names, RunFault, Step, World};

@@ -9,7 +9,7 @@ ghost use Rattle.encode_command.specs.Headline.{Headline};
 
 use crate::recording::make_recording;
 use crate::words::EncodeWords;
-use command_base::{Status, tell, tell_stop, samples_line};
+use command_base::{Status, samples_line, tell, tell_stop};
 use outside_calls::Folder;
 
 /// Makes the recording, and says how it ended.

@@ -8,7 +8,7 @@ ghost use Rattle.frames_command.specs.Headline.{Headline};
 
 use crate::listing::list_pieces;
 use crate::words::FramesWords;
-use command_base::{Status, tell, tell_stop, pieces_line};
+use command_base::{Status, pieces_line, tell, tell_stop};
 use outside_calls::Folder;
 
 /// Lists the pieces, and says how it ended.

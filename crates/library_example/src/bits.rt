@@ -3,8 +3,7 @@ ghost use Rattle.std.specs.Prelude.{◌≡◌, ◌≤◌, ◌<◌, [], None, All
 
 use crate::Fault;
 use frame_check::Octets;
-use line_coding::{Demodulate, Demodulator};
-use line_coding::{DEPTH, LineReader};
+use line_coding::{DEPTH, Demodulate, Demodulator, LineReader};
 use outside_calls::NoMemory;
 use scramblers::Mode;
 use std::alloc::Global;

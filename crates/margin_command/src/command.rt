@@ -11,7 +11,7 @@ ghost use Rattle.margin_command.specs.Headline.{Headline};
 use crate::measuring::measure_to_end;
 use crate::opening::open_inputs;
 use crate::words::MarginWords;
-use command_base::{Status, Stop, tell, tell_stop, margin_line};
+use command_base::{Status, Stop, margin_line, tell, tell_stop};
 use noise_bound::Margin;
 use outside_calls::Folder;
 

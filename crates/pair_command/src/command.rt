@@ -17,7 +17,7 @@ ghost use Rattle.pair_command.specs.Completes.{Completes};
 use crate::PairWords;
 use crate::laws::{answers_keep_the_headline, right_pairs_are_done};
 use command_base::{
-    Status, Stop, apart_names_differ, create_outputs, tell, tell_stop, both_done_line,
+    Status, Stop, apart_names_differ, both_done_line, create_outputs, tell, tell_stop,
 };
 use line_run::laws::line_runs_end_soon;
 use link_pair::{Endings, LinkEnd, Pair, PairFault, pair_rounds};

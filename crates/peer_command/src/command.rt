@@ -19,8 +19,8 @@ use crate::laws::one_result;
 use crate::turns::run_turns;
 use crate::words::PeerWords;
 use command_base::{
-    FILE_LIMIT, Status, Stop, apart_names_differ, create_outputs, tell, tell_stop, within_limit,
-    done_line,
+    FILE_LIMIT, Status, Stop, apart_names_differ, create_outputs, done_line, tell, tell_stop,
+    within_limit,
 };
 use outside_calls::Folder;
 use single_end::Single;

@@ -12,7 +12,7 @@ ghost use Rattle.pickup_command.specs.Headline.{Headline};
 
 use crate::player::Player;
 use crate::playing::play_to_end;
-use command_base::{Status, Stop, tell, tell_stop, pieces_line};
+use command_base::{Status, Stop, pieces_line, tell, tell_stop};
 use outside_calls::Folder;
 use recording_inputs::open_recording;
 use recordings::Rate;

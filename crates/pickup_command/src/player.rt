@@ -9,8 +9,8 @@ ghost use Rattle.piece_listener.specs.Heard.{Heard, PartlyHeard};
 ghost use Rattle.pickup_command.specs.Playing.{Plays, IsReady, SaysSome, StopsPlay};
 
 use command_base::{Status, Stop};
-use outside_calls::{Folder, FolderFault, NoMemory};
 use line_coding::{DEPTH, MiddleReader, Taken};
+use outside_calls::{Folder, FolderFault, NoMemory};
 use piece_listener::Listener;
 use recording_inputs::{hearer_of, sender_of};
 use scramblers::Mode;

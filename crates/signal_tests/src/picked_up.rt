@@ -1,9 +1,8 @@
 // A line that is picked up in its middle.
 ghost use Rattle.std.specs.Prelude.{◌≡◌, [], OnOk};
 
-use line_coding::Modulator;
+use line_coding::{MiddleReader, Modulator, Taken};
 use outside_calls::NoMemory;
-use line_coding::{MiddleReader, Taken};
 use scramblers::Mode;
 use std::alloc::Global;
 use std::process::Abort;

@@ -7,7 +7,7 @@ ghost use Rattle.soak_command.specs.Headline.{Headline};
 
 use crate::laws::{answers_keep_the_headline, carried_soaks_are_done};
 use crate::soaking::soak_run;
-use command_base::{Status, tell, tell_stop, soak_line};
+use command_base::{Status, soak_line, tell, tell_stop};
 use outside_calls::Folder;
 use std::alloc::Global;
 

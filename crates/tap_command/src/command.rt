@@ -16,9 +16,7 @@ ghost use Rattle.tap_command.specs.Completes.{Completes};
 
 use crate::laws::{answers_keep_the_headline, right_taps_are_told};
 use crate::opening::open;
-use command_base::{
-    Status, Stop, apart_names_differ, create_outputs, tell, tell_stop, turns_line,
-};
+use command_base::{Status, Stop, apart_names_differ, create_outputs, tell, tell_stop, turns_line};
 use outside_calls::{Folder, FolderFault};
 use std::alloc::Global;
 use tap_turns::{Tap, TapWords, tap_turns};
