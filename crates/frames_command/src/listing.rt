@@ -17,7 +17,7 @@ use piece_listener::Listener;
 const BITS: usize = 2;
 
 /// How many octets are read at a time.
-const PIECE: usize = 1024;
+const PIECE: usize = 4096;
 
 /// Hears the next piece of the file, and answers how many octets it has: none at the file's end.
 fn hear_next<F: Folder>(

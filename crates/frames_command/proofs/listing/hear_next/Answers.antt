@@ -7,10 +7,10 @@ use Rattle.frames_command.proofs.listing.hear_next.Goals as goal
 pub returns-in-Ok-eq0-clause-end : goal.returns-in-Ok-eq0-clause-end
 returns-in-Ok-eq0-clause-end g c = λ start h zero.
     let end : (count : ℕ) → count ≡ 0
-    → (count < 1024 → IsTrue (start.tells c.args.names.now.bits.now)
+    → (count < 4096 → IsTrue (start.tells c.args.names.now.bits.now)
     → h.octets ++ take count c.read_piece.new.piece ≡ octets_at start c.args.names.now.bits.now) →
     IsTrue (start.tells c.args.names.now.bits.now) → h.octets ++ [] ≡ octets_at start c.args.names.now.bits.now =
-    λ count e f told. (subst (λ (m : ℕ). m < 1024
+    λ count e f told. (subst (λ (m : ℕ). m < 4096
     → h.octets ++ take m c.read_piece.new.piece ≡ octets_at start c.args.names.now.bits.now) e (λ few. f few told)) (omega arith) in
     heard-whole start (g.F.Folder.state c.args.folder.now) (g.F.Folder.state c.read_piece.new.folder)
     (named c.args.names.now) c.args.listener.now c.args.at h c.in-Ok-eq0.ensures.reads
