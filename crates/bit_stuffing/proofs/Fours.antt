@@ -17,7 +17,8 @@ use Rattle.bit_stuffing.proofs.Octets.{each_below, at_each}
 use Rattle.bit_stuffing.proofs.Ones.{CountsOnes}
 use Rattle.bit_stuffing.proofs.Openings.{opened-once}
 use Rattle.bit_stuffing.proofs.Contents.{none-lent}
-use Rattle.bit_stuffing.proofs.Counters.{Counters, Counts, step, run, Still, still_test, still-of, Below6, counts-step, counts-run, open-run}
+use Rattle.bit_stuffing.proofs.Counters.{Counters, Counts, step, run, Still, still_test, still-of, Below6, counts-step, counts-run}
+use Rattle.bit_stuffing.proofs.Counters.{open-run}
 use Rattle.bit_stuffing.proofs.Counters.{pieces-along, along-still, no_close}
 
 -- how many ones the latest bits end with, up to seven
@@ -220,7 +221,10 @@ pub passes-four : (finding : Finding) (past : List Bool) (four : ℕ) (since : O
     → since_four finding.latest finding.since four ≡ Some since
     → PassesBits (record { latest = (256 * four + finding.latest) / 16; since = since }) past (low_bits 4 four)
 passes-four finding past four since small h e = record {
-  finds = record { holds = latest-four finding.latest four past small h.holds; counts = subst (λ s. CountsSince s (past ++ bits)) same counts.since };
+  finds = record {
+    holds = latest-four finding.latest four past small h.holds;
+    counts = subst (λ s. CountsSince s (past ++ bits)) same counts.since;
+  };
   pieces = pieces-along past bits ∙ ap (λ l. pieces_of past ++ l) (along-still k past bits before still) ∙ append-nil (pieces_of past);
   closes = still-closes k past bits before still (omega arith);
   far = far-before k past bits before parts.2;

@@ -1,5 +1,6 @@
 -- What a deframer keeps, and the bits for which it stands.
-use Rattle.std.specs.Prelude.{◌≡◌, ℕ, ◌+◌, ◌-◌, ◌*◌, ◌/◌, ◌%◌, ◌^◌, ◌<◌, ◌≤◌, Bool, true, false, not, ◌&&◌, if◌then◌else◌, nat_eq, nat_lt, List, ◌++◌, length, min, Option, Some, None}
+use Rattle.std.specs.Prelude.{◌≡◌, ℕ, ◌+◌, ◌-◌, ◌*◌, ◌/◌, ◌%◌, ◌^◌, ◌<◌, ◌≤◌, Bool, true, false, not, ◌&&◌, if◌then◌else◌, nat_eq, nat_lt}
+use Rattle.std.specs.Prelude.{List, ◌++◌, length, min, Option, Some, None}
 use Rattle.std.specs.Int.{bit_at}
 use Rattle.frame_check.specs.declared.sizes.TheConstants.{WHOLE}
 use Rattle.plain_lists.specs.Bits.{number, low_bits, bits_of}
@@ -81,7 +82,8 @@ pub record PassesBits (finding : Finding) (past bits : List Bool) : Type 0 where
   pub closes : (octets : List ℕ) → EndsWhole (past ++ bits) octets → ⊥
   pub far : (p : ℕ) → OpenedAt (past ++ bits) p → p + 8 ≤ length (past ++ bits) → OpenedAt past p × (p + 8 ≤ length past)
 
--- Behind so many ones fewer than five, given as how many may still follow, no zero is due within the first ones of these bits or behind them.
+-- Behind so many ones fewer than five, given as how many may still follow, no zero is due within the first ones of these bits or
+-- behind them.
 abbrev pub has_room : ℕ → ℕ → Bool
 has_room room bits = not (nat_eq (bits % 2 ^ room) (2 ^ room - 1))
 

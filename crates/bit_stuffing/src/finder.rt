@@ -67,7 +67,7 @@ fn has_six_ones(bits: u16) -> bool
     six_ones(bits) != 0
 }
 
-/// The bits since the last flag behind four bits with which no flag ends. None where the first of them would leave before the last one came.
+/// The bits since the last flag behind four bits with which no flag ends. None where the first bit behind it is handed on meanwhile.
 fn since_none(since: Option<u8>) -> Option<Option<u8>>
     ensures { result ≡ since_none since }
 {
@@ -90,7 +90,8 @@ fn since_flag(since: Option<u8>, behind: u8) -> Option<Option<u8>>
     }
 }
 
-/// The bits since the last flag behind four bits more. None where it takes a look at each of them: something may end.
+/// The bits since the last flag behind four bits more. None where it is not plain from all four at once: something may end, or a content
+/// begins to be handed on.
 fn since_four(latest: u8, since: Option<u8>, four: u8) -> Option<Option<u8>>
     ensures { result ≡ since_four latest since four }
 {
@@ -220,7 +221,8 @@ impl FlagFinder {
         self.latest = octet;
     }
 
-    /// Goes on by four bits, the low one first, where it is plain that nothing ends with any of them: whether it did.
+    /// Goes on by four bits, the low one first, where it is plain that nothing ends with any of them, and that all four that stand
+    /// eight places back are handed on or none is: whether it did.
     pub(crate) fn pass_four(&mut self, four: u8) -> bool
         requires { four < 16 }
         ensures passes { result ≡ true → (past : List Bool) → Finds self.old past → PassesBits self.new past (low_bits 4 four) }

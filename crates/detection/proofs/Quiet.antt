@@ -1,12 +1,14 @@
 -- Four bits with which no pattern ends.
 use Rattle.std.proofs.Common.{◌≡◌, inl, inr, ℕ, zero, suc, ◌+◌, ◌-◌, ◌*◌, ◌/◌, ◌%◌, ◌^◌, ◌<◌, ◌≤◌, min, Bool, true}
-use Rattle.std.proofs.Common.{List, [], ◌∷◌, ◌++◌, length, get_or, take, drop, reverse, None, bit_and, bit_or, lit≤, arith, length-append, refl, sym}
+use Rattle.std.proofs.Common.{List, [], ◌∷◌, ◌++◌, length, get_or, take, drop, reverse, None, bit_and, bit_or, lit≤, arith, length-append}
+use Rattle.std.proofs.Common.{refl, sym}
 use Rattle.std.proofs.Common.{◌∙◌, ap, subst, append_assoc}
 use Rattle.std.specs.Bool.{beq}
 use Rattle.std.specs.Cmp.Lexicographic.{pointwise}
 use Rattle.std.specs.Int.{bit_at}
 use Rattle.std.proofs.lemmas.Bool.{cases_lt}
-use Rattle.std.proofs.lemmas.List.{append-nil, reverse-append, length-reverse, take-append-drop, length-drop, get_or_append_left, get_or-append_right, get_or-replicate}
+use Rattle.std.proofs.lemmas.List.{append-nil, reverse-append, length-reverse, take-append-drop, length-drop, get_or_append_left}
+use Rattle.std.proofs.lemmas.List.{get_or-append_right, get_or-replicate}
 use Rattle.std.proofs.lemmas.Nat.{shr-shr, or_shifted}
 use Rattle.std.proofs.lemmas.Nat.Bits.{bit_at_and, bit_at_cat_low, bit_at_cat_high, bit_at-zero}
 use Rattle.plain_lists.specs.Bits.{number, low_bits}
@@ -56,11 +58,13 @@ turned-is four small = same-bits (low_bits 4 (17848844570815808640 / 2 ^ (4 * fo
 
 -- eight ones in a row
 pub eight-ones : (bits : ℕ)
-    → bit_and (bit_and (bit_and bits (bits / 2)) (bit_and bits (bits / 2) / 4)) (bit_and (bit_and bits (bits / 2)) (bit_and bits (bits / 2) / 4) / 16) ≡ 0
+    → bit_and (bit_and (bit_and bits (bits / 2)) (bit_and bits (bits / 2) / 4))
+    (bit_and (bit_and bits (bits / 2)) (bit_and bits (bits / 2) / 4) / 16) ≡ 0
     → (i : ℕ) → ((j : ℕ) → j < 8 → bit_at bits (i + j) ≡ 1) → ⊥
 eight-ones bits none i set =
     let same : i + 0 ≡ i = omega arith in
-    let eights : bit_at (bit_and fours (fours / 16)) i ≡ 1 = behind fours 4 i (subst (λ n. bit_at fours n ≡ 1) same (quad 0 (lit≤ tt))) (quad 4 (lit≤ tt)) in
+    let eights : bit_at (bit_and fours (fours / 16)) i ≡ 1 =
+    behind fours 4 i (subst (λ n. bit_at fours n ≡ 1) same (quad 0 (lit≤ tt))) (quad 4 (lit≤ tt)) in
     let zero_bit : 0 ≡ 1 = sym (bit_at-zero i) ∙ ap (λ n. bit_at n i) (sym none) ∙ eights in
     omega (arith, zero_bit)
   where
@@ -88,7 +92,8 @@ eight-ones bits none i set =
         behind twos 2 (i + j) (pair j (omega arith)) (subst (λ n. bit_at twos n ≡ 1) next (pair (j + 2) (omega arith)))
 
 -- a pattern ends with eight ones
-ends-ones : (latest : ℕ) (seen : Seen) (bits more : List Bool) → ReaderStands latest (bits ++ more) → length more ≤ 4 → EndsPattern seen bits
+ends-ones : (latest : ℕ) (seen : Seen) (bits more : List Bool) → ReaderStands latest (bits ++ more) → length more ≤ 4
+    → EndsPattern seen bits
     → (j : ℕ) → j < 8 → bit_at latest (length more + j) ≡ 1
 ends-ones latest seen bits more h few p j l =
     let front = p.before ++ (before_last seen p.a p.b p.e ++ second seen) in

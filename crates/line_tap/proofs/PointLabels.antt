@@ -1,5 +1,6 @@
 -- Samples that are points, one after another.
-use Rattle.std.proofs.Common.{to_z, of_z, w16, ◌≡◌, ◌∙◌, inl, inr, ℕ, zero, suc, ◌+◌, ◌*◌, ◌<◌, ◌≤◌, Bool, List, [], ◌∷◌, ◌++◌, length, take, map, slice_index, refl, sym, ap, subst, arith, length-append, append-nil}
+use Rattle.std.proofs.Common.{to_z, of_z, w16, ◌≡◌, ◌∙◌, inl, inr, ℕ, zero, suc, ◌+◌, ◌*◌, ◌<◌, ◌≤◌, Bool, List, [], ◌∷◌, ◌++◌, length}
+use Rattle.std.proofs.Common.{take, map, slice_index, refl, sym, ap, subst, arith, length-append, append-nil}
 use Rattle.std.proofs.lemmas.Bool.{cases_lt, eqb-true, ltb-true, and_parts}
 use Rattle.std.specs.Prelude.{◌-ℤ◌, unsigned_abs, slice_index_or, nat_eq, nat_lt, ◌&&◌, true}
 use Rattle.std.proofs.lemmas.List.{append_assoc, map-append}
@@ -77,13 +78,17 @@ pub label-there : (sample : Sample) (x y label : ℕ) → label < 32 → point_o
     → ((place : ℕ) → place < 9 → to_z w16 (of_z w16 sample.im) ≡ coordinate_at place → y ≡ place)
     → slice_index_or label_map (9 * x + y) 0 ≡ label
 label-there sample x y label low e re im =
-    let t = and_parts (nat_eq (slice_index_or label_map (9 * column label + height label) 0) label) _ (at_each 32 label_test all_labels label low) in
+    let t = and_parts (nat_eq (slice_index_or label_map (9 * column label + height label) 0) label) _
+    (at_each 32 label_test all_labels label low) in
     let u = and_parts (nat_eq (distance_of (point_of label) (there label)) 0) (nat_lt (column label) 9 && nat_lt (height label) 9) t.1 in
     let v = and_parts (nat_lt (column label) 9) (nat_lt (height label) 9) u.1 in
-    let same : point_of label ≡ there label = equal_from_no_distance (point_of label) (there label) (eqb-true (distance_of (point_of label) (there label)) 0 u.0) in
+    let same : point_of label ≡ there label =
+    equal_from_no_distance (point_of label) (there label) (eqb-true (distance_of (point_of label) (there label)) 0 u.0) in
+    let left : column label < 9 = ltb-true (column label) 9 v.0 in
+    let low_one : height label < 9 = ltb-true (height label) 9 v.1 in
     let is : sample ≡ there label = sym e ∙ same in
-    let x_is : x ≡ column label = re (column label) (ltb-true (column label) 9 v.0) (ap (λ s. to_z w16 (of_z w16 s.re)) is ∙ same-place (column label) (ltb-true (column label) 9 v.0)) in
-    let y_is : y ≡ height label = im (height label) (ltb-true (height label) 9 v.1) (ap (λ s. to_z w16 (of_z w16 s.im)) is ∙ same-place (height label) (ltb-true (height label) 9 v.1)) in
+    let x_is : x ≡ column label = re (column label) left (ap (λ s. to_z w16 (of_z w16 s.re)) is ∙ same-place (column label) left) in
+    let y_is : y ≡ height label = im (height label) low_one (ap (λ s. to_z w16 (of_z w16 s.im)) is ∙ same-place (height label) low_one) in
     rw (x_is, y_is) (eqb-true (slice_index_or label_map (9 * column label + height label) 0) label t.0)
 
 pub reads-none : (d : Demodulator) → ReadsLabels d d [] []

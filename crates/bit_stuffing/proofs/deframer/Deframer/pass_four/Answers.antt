@@ -8,7 +8,8 @@ pub returns-clause-stands : goal.returns-clause-stands
 returns-clause-stands c = λ yes past h.
     let s = subst (λ v. DeframerStands v past) (sym c.self.view_is) h in
     let passes = c.pass_four.ensures.passes c.if-not-pass_four.false past s.finds in
-    let finder : c.pass_four.new.self ≡ c.self-2.inside.finder = sym (ap (λ v. v.finding) c.self-2.view_is ∙ c.gather_four.ensures.finding) in
+    let finder : c.pass_four.new.self ≡ c.self-2.inside.finder =
+    sym (ap (λ v. v.finding) c.self-2.view_is ∙ c.gather_four.ensures.finding) in
     four-stands _ c.self-2.inside.finder c.self-2.inside.unstuffer c.leaving_octet-leaving.result c.args.four past s
     (subst (λ f. PassesBits f past (low_bits 4 c.args.four)) finder passes)
     (leaves-four _ c.leaving_octet-leaving.result past s.finds c.leaving_octet-leaving.ensures.octet c.leaving_octet-leaving.ensures.near)

@@ -1,4 +1,5 @@
-use Rattle.std.proofs.Common.{Bool, ◌≡◌, ◌+◌, ◌/◌, ◌^◌, ◌∷◌, [], nat_eq, bit_and, take, drop, length, ◌++◌, arith, ◌∙◌, ap, sym, subst, ◌≤◌, ◌*◌}
+use Rattle.std.proofs.Common.{Bool, ◌≡◌, ◌+◌, ◌/◌, ◌^◌, ◌∷◌, [], nat_eq, bit_and, take, drop, length, ◌++◌, arith, ◌∙◌, ap, sym, subst, ◌≤◌}
+use Rattle.std.proofs.Common.{◌*◌}
 use Rattle.frame_check.specs.declared.sizes.TheConstants.{SLOT}
 use Rattle.plain_lists.specs.Bits.{octet_bits}
 use Rattle.bit_stuffing.specs.Pen.{written}
