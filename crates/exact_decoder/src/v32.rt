@@ -238,9 +238,7 @@ impl ViterbiStep<8, 32> for V32Code {
 
     fn go_back(&self, column: &Column<8>, live: &mut [u8; 8]) -> Option<u8> {
         let taken = taken_at(column, live);
-        taken
-            .swizzle([0, 1, 2, 3, 4, 5, 6, 7])
-            .copy_to_slice(live);
+        taken.swizzle([0, 1, 2, 3, 4, 5, 6, 7]).copy_to_slice(live);
         let labels = taken.swizzle([8, 9, 10, 11, 12, 13, 14, 15]);
         if is_one(labels) {
             Some(labels.to_array()[0])
