@@ -1,5 +1,6 @@
 -- The least keys of eight states, each of 32 bits, stand for those of the definition.
-use Rattle.std.proofs.Common.{◌≡◌, ℕ, zero, suc, ◌+◌, ◌-◌, ◌*◌, ◌/◌, ◌%◌, ◌<◌, ◌≤◌, ◌^◌, min, inl, inr, List, [], ◌∷◌, slice_index, refl, arith, sym, ◌∙◌}
+use Rattle.std.proofs.Common.{◌≡◌, ℕ, zero, suc, ◌+◌, ◌-◌, ◌*◌, ◌/◌, ◌%◌, ◌<◌, ◌≤◌, ◌^◌, min, inl, inr, List, [], ◌∷◌, slice_index, refl}
+use Rattle.std.proofs.Common.{arith, sym, ◌∙◌}
 use Rattle.std.proofs.Common.{ap, subst}
 use Rattle.std.specs.Simd.Lanes.{zip2}
 use Rattle.std.proofs.Math.Nat.{min-le_left, min-le_right}
@@ -8,14 +9,16 @@ use Rattle.trellis_tables.specs.Ways.{way_before, way_subset}
 use Rattle.exact_decoder.specs.Keys.{IsNearest, AreClose, IsLeastWay}
 use Rattle.exact_decoder.specs.Settled.{far_key, leveled, choice_in, chosen}
 use Rattle.exact_decoder.specs.Advances.{Advances}
-use Rattle.exact_decoder.specs.Lines.{least_four, words, sample_at, nearest_000, nearest_001, nearest_010, nearest_011, nearest_100, nearest_101}
+use Rattle.exact_decoder.specs.Lines.{least_four, words, sample_at, nearest_000, nearest_001, nearest_010, nearest_011, nearest_100}
+use Rattle.exact_decoder.specs.Lines.{nearest_101}
 use Rattle.exact_decoder.specs.Lines.{nearest_110, nearest_111}
 use Rattle.exact_decoder.specs.Traced.{choice_by}
 use Rattle.exact_decoder.proofs.Keeping.{leveled-near, settled-near}
 use Rattle.exact_decoder.proofs.Vectors.{each_of_four, each_of_eight}
 use Rattle.exact_decoder.proofs.Subsets.{min-one}
 use Rattle.exact_decoder.proofs.Axes.{above-0}
-use Rattle.exact_decoder.proofs.MapKeys.{StandsFor, IsNearestKey, IsLeastOfFour, length_of, in_order, least_of_four, nearest-000, nearest-001}
+use Rattle.exact_decoder.proofs.MapKeys.{StandsFor, IsNearestKey, IsLeastOfFour, length_of, in_order, least_of_four, nearest-000}
+use Rattle.exact_decoder.proofs.MapKeys.{nearest-001}
 use Rattle.exact_decoder.proofs.MapKeys.{nearest-010, nearest-011, nearest-100, nearest-101, nearest-110, nearest-111}
 
 -- the key by way of one
@@ -105,7 +108,8 @@ least_of_eight k least e = record {
 
 -- a key of 32 bits stands for one of a state to which a sequence leads
 stands-near : (x y key word : ℕ) → x < 65536 → y < 65536 → key < 2 ^ 32 → StandsFor x y key word → word < far_key
-stands-near x y key word lx ly few s = omega (arith, s.key_is, s.word_is, s.label_few, s.before_few, (above-0 x lx).close, (above-0 y ly).close)
+stands-near x y key word lx ly few s = omega
+    (arith, s.key_is, s.word_is, s.label_few, s.before_few, (above-0 x lx).close, (above-0 y ly).close)
 
 -- what is left of it without the least
 level-is : (x y key word least other to : ℕ) → x < 65536 → y < 65536 → key < 2 ^ 32 → least ≤ key → StandsFor x y key word
@@ -139,11 +143,14 @@ key_into x y a b c d e f g h (suc (suc (suc zero))) = least_four (256 * g + 6 + 
     (256 * c + 2 + nearest_010 x y) (256 * e + 4 + nearest_011 x y)
 key_into x y a b c d e f g h (suc (suc (suc (suc zero)))) = least_four (256 * b + 1 + nearest_100 x y) (256 * h + 7 + nearest_101 x y)
     (256 * d + 3 + nearest_110 x y) (256 * f + 5 + nearest_111 x y)
-key_into x y a b c d e f g h (suc (suc (suc (suc (suc zero))))) = least_four (256 * h + 7 + nearest_100 x y) (256 * b + 1 + nearest_101 x y)
+key_into x y a b c d e f g h (suc (suc (suc (suc (suc zero))))) = least_four (256 * h + 7 + nearest_100 x y)
+    (256 * b + 1 + nearest_101 x y)
     (256 * f + 5 + nearest_110 x y) (256 * d + 3 + nearest_111 x y)
-key_into x y a b c d e f g h (suc (suc (suc (suc (suc (suc zero)))))) = least_four (256 * f + 5 + nearest_100 x y) (256 * d + 3 + nearest_101 x y)
+key_into x y a b c d e f g h (suc (suc (suc (suc (suc (suc zero)))))) = least_four (256 * f + 5 + nearest_100 x y)
+    (256 * d + 3 + nearest_101 x y)
     (256 * h + 7 + nearest_110 x y) (256 * b + 1 + nearest_111 x y)
-key_into x y a b c d e f g h (suc (suc (suc (suc (suc (suc (suc n))))))) = least_four (256 * d + 3 + nearest_100 x y) (256 * f + 5 + nearest_101 x y)
+key_into x y a b c d e f g h (suc (suc (suc (suc (suc (suc (suc n))))))) = least_four (256 * d + 3 + nearest_100 x y)
+    (256 * f + 5 + nearest_101 x y)
     (256 * b + 1 + nearest_110 x y) (256 * h + 7 + nearest_111 x y)
 
 pub key-small : (metric state key b c d : ℕ) → metric < 2 ^ 23 → state < 8 → key < 2 ^ 31
@@ -165,7 +172,8 @@ advances x y a b c d e f g h z lx ly few least = record {
   least = slice_index keys least.place;
   is_nearest = each_of_eight (λ q. IsNearest point_of 4 (sample_at x y) q (slice_index labels q))
       n0.nearest n1.nearest n2.nearest n3.nearest n4.nearest n5.nearest n6.nearest n7.nearest;
-  close = each_of_eight (λ q. AreClose point_of 4 (sample_at x y) q) n0.close n1.close n2.close n3.close n4.close n5.close n6.close n7.close;
+  close = each_of_eight (λ q. AreClose point_of 4 (sample_at x y) q) n0.close n1.close n2.close n3.close n4.close n5.close n6.close
+      n7.close;
   into = each_of_eight (λ to. IsLeastWay 4 way_before way_subset sums labels to (slice_index keys to))
       e0.least e1.least e2.least e3.least e4.least e5.least e6.least e7.least;
   entered_long = refl;
@@ -173,7 +181,8 @@ advances x y a b c d e f g h z lx ly few least = record {
     state = least.place;
     within = least.within;
     least_is = refl;
-    below = λ s l. in_order x y (k least.place) (k s) (slice_index keys least.place) (slice_index keys s) (stands least.place least.within)
+    below = λ s l. in_order x y (k least.place) (k s) (slice_index keys least.place) (slice_index keys s)
+        (stands least.place least.within)
         (stands s l) (omega (arith, least.is, least.below_each s l));
   };
   settled = record {
@@ -318,7 +327,8 @@ advances x y a b c d e f g h z lx ly few least = record {
     least_stands = subst (λ n. StandsFor x y n (slice_index keys least.place)) (sym least.is) (stands least.place least.within)
 
     level : (s : ℕ) → s < 8 → 268435456 * (k s / 256 - z / 256) + s ≡ leveled (slice_index keys s) (slice_index keys least.place) s
-    level s l = level-is x y (k s) (slice_index keys s) z (slice_index keys least.place) s lx ly (few s l) (least.below_each s l) (stands s l)
+    level s l = level-is x y (k s) (slice_index keys s) z (slice_index keys least.place) s lx ly (few s l) (least.below_each s l)
+        (stands s l)
         least_stands
 
     choice : (s : ℕ) → s < 8 → choice_by (k s % 8) (k s / 8 % 32) ≡ chosen (slice_index keys s) (slice_index keys least.place)

@@ -1,6 +1,7 @@
 -- What is kept of the survivors, over sums and columns.
 use Rattle.std.proofs.Common.{◌≡◌, ◌≢◌, ℕ, zero, suc, ◌+◌, ◌-◌, ◌*◌, ◌/◌, ◌%◌, ◌^◌, ◌<◌, ◌≤◌, ◌⊎◌, inl, inr, Bool, true, false, nat_lt}
-use Rattle.std.proofs.Common.{List, [], ◌∷◌, ◌++◌, length, map, take, reverse, All, get_or, slice_index, set, replicate, Option, Some, None}
+use Rattle.std.proofs.Common.{List, [], ◌∷◌, ◌++◌, length, map, take, reverse, All, get_or, slice_index, set, replicate, Option, Some}
+use Rattle.std.proofs.Common.{None}
 use Rattle.std.proofs.Common.{option_map, arith, add-one, refl, sym, ◌∙◌, ap, subst}
 use Rattle.std.specs.List.{range_with_len}
 use Rattle.std.proofs.lemmas.Grind.{common_steps}
@@ -179,7 +180,8 @@ newest-more column columns newer n l e =
 
 -- the step that keys make
 pub stepped-of : (table : ℕ → ℕ → Option ℕ) (points : ℕ → Sample) (states labels parallel subsets ways steps : ℕ) (before subset : ℕ → ℕ
-    → ℕ) (sample : Sample) (sums nearest entered new_sums : List ℕ) (least : ℕ) (column : List Choice) (columns newer : List (List Choice))
+    → ℕ) (sample : Sample) (sums nearest entered new_sums : List ℕ) (least : ℕ) (column : List Choice)
+    (columns newer : List (List Choice))
     (unreleased : ℕ)
     → IsCode table states labels parallel subsets ways before subset
     → AreKeys points states parallel subsets ways before subset sample sums nearest entered
@@ -189,7 +191,8 @@ pub stepped-of : (table : ℕ → ℕ → Option ℕ) (points : ℕ → Sample) 
 stepped-of table points states labels parallel subsets ways steps before subset sample sums nearest entered new_sums least column columns
     newer unreleased code keys made near room e = record {
       entries = map entry_in entered;
-      chosen = λ starts to. chosen-all table points states labels parallel subsets ways before subset sample sums nearest entered starts to
+      chosen = λ starts to. chosen-all table points states labels parallel subsets ways before subset sample sums nearest entered starts
+          to
           code
           keys;
       lowered = least / 65536;
@@ -217,7 +220,8 @@ stepped-of table points states labels parallel subsets ways steps before subset 
         (map (traced (take unreleased columns)) (range_with_len 0 states)) f.before ++ f.label ∷ []
     goes s f g =
         let k = new_sum-known states entered s f.sum keys.entered_long (ap (option_map sum_of) g) in
-        let is : entry_in (slice_index entered s) ≡ Some f = sym (map-at entry_in entered s (omega (arith, k.0, keys.entered_long))) ∙ g in
+        let is : entry_in (slice_index entered s) ≡ Some f = sym (map-at entry_in entered s (omega (arith, k.0, keys.entered_long))) ∙ g
+        in
         let same : record {
           before = slice_index entered s % 256;
           label = slice_index entered s / 256 % 256;
@@ -272,7 +276,8 @@ covered-of states entered new_sums least column columns newer unreleased few lon
 
 -- what holds of sums and columns holds after a step
 pub holds-next : (table : ℕ → ℕ → Option ℕ) (points : ℕ → Sample) (states labels parallel subsets ways depth : ℕ) (before subset : ℕ → ℕ
-    → ℕ) (sample : Sample) (sums nearest entered new_sums : List ℕ) (least : ℕ) (column : List Choice) (columns newer : List (List Choice))
+    → ℕ) (sample : Sample) (sums nearest entered new_sums : List ℕ) (least : ℕ) (column : List Choice)
+    (columns newer : List (List Choice))
     (unreleased : ℕ)
     → IsCode table states labels parallel subsets ways before subset
     → AreKeys points states parallel subsets ways before subset sample sums nearest entered
@@ -328,7 +333,8 @@ holds-next table points states labels parallel subsets ways depth before subset 
     ]
 
 -- what is released is what the columns split off
-pub released-of : (states : ℕ) (sums : List ℕ) (columns : List (List Choice)) (unreleased left : ℕ) (labels : List ℕ) → length sums ≡ states
+pub released-of : (states : ℕ) (sums : List ℕ) (columns : List (List Choice)) (unreleased left : ℕ) (labels : List ℕ) → length sums ≡
+    states
     → ((s : ℕ) × (s < states) × (slice_index sums s < far_key)) → Splits states columns unreleased left labels
     → Covered states (kept_of states sums columns unreleased)
     → Released (kept_of states sums columns unreleased) (kept_of states sums columns left) (reverse labels)
@@ -355,7 +361,8 @@ released-of states sums columns unreleased left labels long some split covered =
           c.1,
           c.3,
           sym (append_cancel_left (reverse labels) (tail_at (map (traced (take left columns)) (range_with_len 0 states)) s)
-              (tail_at (map (traced (take left columns)) (range_with_len 0 states)) c.0) same) ∙ tail-at states (take left columns) s l ∙ e,
+              (tail_at (map (traced (take left columns)) (range_with_len 0 states)) c.0) same) ∙ tail-at states (take left columns) s l
+              ∙ e,
         )
 
     parts : (left ≡ 0) ⊎ Part states (take left columns)
@@ -408,7 +415,8 @@ least_sum-of states sums least few long states_in some h =
     )
 
 -- all that a sample does
-pub push-all : (table : ℕ → ℕ → Option ℕ) (points : ℕ → Sample) (states labels parallel subsets ways steps depth : ℕ) (before subset : ℕ → ℕ
+pub push-all : (table : ℕ → ℕ → Option ℕ) (points : ℕ → Sample) (states labels parallel subsets ways steps depth : ℕ)
+    (before subset : ℕ → ℕ
     → ℕ) (sample : Sample) (was sums made now : List ℕ) (columns newer : List (List Choice)) (unreleased : ℕ)
     → IsCode table states labels parallel subsets ways before subset → 1 ≤ steps → Reaches table states labels steps
     → ((s m : ℕ) → sums_at (map sum_in sums) s ≡ Some m → m < 2 ^ 44) → unreleased ≤ depth
@@ -418,7 +426,8 @@ pub push-all : (table : ℕ → ℕ → Option ℕ) (points : ℕ → Sample) (s
     → HoldsColumns states labels depth now newer (unreleased + 1)
     × Stepped table points sample (kept_of states sums columns unreleased) (kept_of states now newer (unreleased + 1))
     × Covered states (kept_of states now newer (unreleased + 1))
-push-all table points states labels parallel subsets ways steps depth before subset sample was sums made now columns newer unreleased code low
+push-all table points states labels parallel subsets ways steps depth before subset sample was sums made now columns newer unreleased
+    code low
     reach small room holds is_was is_now (column, e, advanced) = (
       holds-next table points states labels parallel subsets ways depth before subset sample sums step.nearest step.entered now step.least
           column columns newer unreleased code keys settles far room e holds,
@@ -455,7 +464,8 @@ push-all table points states labels parallel subsets ways steps depth before sub
     far : step.least < far_key
     far = least-near states step.entered step.least step.entered_long step.is_least
         (reached-next table points states labels steps sample (map sum_in sums) (map entry_in step.entered) (λ s. true) low reach
-        (λ starts to. chosen-all table points states labels parallel subsets ways before subset sample sums step.nearest step.entered starts to
+        (λ starts to. chosen-all table points states labels parallel subsets ways before subset sample sums step.nearest step.entered
+        starts to
         code keys)
         holds.reached.0 (slice_index sums holds.reached.0 / 65536) holds.reached.1
         (map-at sum_in sums holds.reached.0 (omega (arith, holds.reached.1, holds.sums_long))

@@ -1,5 +1,5 @@
 -- Lanes of the nearest labels of squares.
-use Rattle.std.proofs.Common.{◌≡◌, ℕ, min, ◌+◌, ◌-◌, ◌*◌, ◌%◌, ◌<◌, ◌^◌, arith}
+use Rattle.std.proofs.Common.{◌≡◌, ℕ, min, ◌+◌, ◌-◌, ◌*◌, ◌%◌, ◌<◌, arith}
 use Rattle.exact_decoder.specs.Lines.{nearest_010, nearest_011, nearest_100, nearest_101}
 
 pub lane-010 : (x y : ℕ) → x < 65536 → y < 65536

@@ -1,10 +1,10 @@
 -- Keys of 32 bits stand for those of the definition.
-use Rattle.std.proofs.Common.{◌≡◌, ℕ, ℤ, zero, suc, ◌+◌, ◌-◌, ◌*◌, ◌/◌, ◌%◌, ◌<◌, ◌≤◌, ◌^◌, min, inl, inr, refl, arith, sym, ◌∙◌, ap, subst}
+use Rattle.std.proofs.Common.{◌≡◌, ℕ, ℤ, zero, suc, ◌+◌, ◌*◌, ◌<◌, ◌≤◌, ◌^◌, inl, inr, refl, arith, ◌∙◌}
 use Rattle.std.specs.Prelude.{pos}
 use Rattle.std.proofs.lemmas.Bool.{cases_lt}
 use Rattle.symbol_map.specs.Distance.{distance_of, squared_gap}
 use Rattle.symbol_map.specs.Points.{point_of}
-use Rattle.exact_decoder.specs.Keys.{IsLeastKey, IsNearest, AreClose}
+use Rattle.exact_decoder.specs.Keys.{IsNearest, AreClose}
 use Rattle.exact_decoder.specs.Lines.{least_four, below, above, coordinate, sample_at, nearest_000, nearest_001, nearest_010, nearest_011}
 use Rattle.exact_decoder.specs.Lines.{nearest_100, nearest_101, nearest_110, nearest_111}
 use Rattle.exact_decoder.proofs.Vectors.{each_of_four}

@@ -1,10 +1,10 @@
 -- Sums that keys of 32 bits have.
-use Rattle.std.proofs.Common.{◌≡◌, ℕ, ◌+◌, ◌-◌, ◌*◌, ◌/◌, ◌%◌, ◌^◌, ◌<◌, ◌≤◌, Bool, true, false, nat_eq, List, [], ◌∷◌, arith, refl, sym, ◌∙◌, ap}
-use Rattle.std.proofs.Common.{bit_and, length, slice_index}
-use Rattle.std.specs.Simd.Lanes.{zip2, mask_l}
+use Rattle.std.proofs.Common.{◌≡◌, ℕ, ◌+◌, ◌-◌, ◌*◌, ◌/◌, ◌%◌, ◌^◌, ◌<◌, ◌≤◌, Bool, true, false, nat_eq, List, [], ◌∷◌, arith, refl, ◌∙◌}
+use Rattle.std.proofs.Common.{ap}
+use Rattle.std.proofs.Common.{bit_and, slice_index}
+use Rattle.std.specs.Simd.Lanes.{mask_l}
 use Rattle.std.proofs.Math.Bool.{cond}
 use Rattle.std.proofs.lemmas.Bool.Decides.{nat_tests}
-use Rattle.std.proofs.lemmas.Simd.{tops_compared}
 use Rattle.std.proofs.lemmas.Nat.{and_mask, and_block}
 use Rattle.exact_decoder.specs.Lines.{IsNarrow}
 

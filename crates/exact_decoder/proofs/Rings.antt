@@ -1,5 +1,6 @@
 -- Items from the newest one on.
-use Rattle.std.proofs.Common.{◌≡◌, ℕ, zero, suc, ◌+◌, ◌-◌, ◌<◌, ◌≤◌, List, [], ◌∷◌, ◌++◌, length, take, drop, set, get_or, slice_get, Some}
+use Rattle.std.proofs.Common.{◌≡◌, ℕ, zero, suc, ◌+◌, ◌-◌, ◌<◌, ◌≤◌, List, [], ◌∷◌, ◌++◌, length, take, drop, set, get_or, slice_get}
+use Rattle.std.proofs.Common.{Some}
 use Rattle.std.proofs.Common.{arith, refl, sym, ◌∙◌, ap}
 use Rattle.std.proofs.lemmas.Grind.{common_steps}
 use Rattle.std.proofs.lemmas.List.{drop-set, take-map, length-map}
@@ -41,11 +42,6 @@ take-one v xs n some = grind (arith, common_steps)
 newest-more : {A : Type 0} (xs : List A) (n count : ℕ) (v : A) → 1 ≤ count → n < length xs
     → from_newest n count (set xs n v) ≡ v ∷ take (count - 1) (from_newest (n + 1) count xs)
 newest-more xs n count v some l = ap (take count) (drop-set xs n v l) ∙ take-one v (drop (n + 1) xs) count some
-
--- the first ones at the end
-pub moved-same : {A : Type 0} (xs : List A) (count last : ℕ) → last + count ≡ length xs
-    → from_newest last count (take last xs ++ (take count xs ++ drop (last + count) xs)) ≡ take count xs
-moved-same xs count last e = grind (arith, common_steps)
 
 -- the columns from the newest on
 pub columns-long : {size : ℕ} (items : List (Column size)) (n count : ℕ) (columns : List (List Choice)) → n + count ≤ length items

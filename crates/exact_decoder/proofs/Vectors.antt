@@ -13,7 +13,8 @@ turned places v w e = ap (λ u. pick_l 0 (u ++ u) places) e
 
 -- four lanes that are each equal
 pub four : (a b c d p q r s : ℕ) → a ≡ p → b ≡ q → c ≡ r → d ≡ s → (a ∷ b ∷ c ∷ d ∷ []) ≡ (p ∷ q ∷ r ∷ s ∷ [])
-four a b c d p q r s e f g h = ap (λ z. z ∷ b ∷ c ∷ d ∷ []) e ∙ ap (λ z. p ∷ z ∷ c ∷ d ∷ []) f ∙ ap (λ z. p ∷ q ∷ z ∷ d ∷ []) g ∙ ap (λ z. p ∷ q ∷ r ∷ z ∷ []) h
+four a b c d p q r s e f g h = ap (λ z. z ∷ b ∷ c ∷ d ∷ []) e ∙ ap (λ z. p ∷ z ∷ c ∷ d ∷ []) f ∙ ap (λ z. p ∷ q ∷ z ∷ d ∷ []) g ∙ ap
+    (λ z. p ∷ q ∷ r ∷ z ∷ []) h
 
 -- eight lanes that are each equal
 pub eight : (a b c d e f g h p q r s t u v w : ℕ) → a ≡ p → b ≡ q → c ≡ r → d ≡ s → e ≡ t → f ≡ u → g ≡ v → h ≡ w

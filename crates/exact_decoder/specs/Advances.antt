@@ -1,4 +1,5 @@
--- A step of the survivors: from the sums of all states, by a sample, to new sums and a column of choices. This is the body's own: no public
+-- A step of the survivors: from the sums of all states, by a sample, to new sums and a column of choices. This is the body's own: no
+-- public
 -- clause names it but that of the step itself.
 use Rattle.std.specs.Prelude.{◌≡◌, ℕ, ◌<◌, List, length, slice_index}
 use Rattle.symbol_map.specs.declared.sample.Sample.{Sample}

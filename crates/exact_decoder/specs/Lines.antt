@@ -1,4 +1,5 @@
--- Keys of 32 bits: 256 times a metric, 8 times a label and the state before. A label's metric is a sum of two numbers, one of a line each way on
+-- Keys of 32 bits: 256 times a metric, 8 times a label and the state before. A label's metric is a sum of two numbers, one of a line
+-- each way on
 -- which its point lies. They are the body's own: no public clause names them.
 use Rattle.std.specs.Prelude.{◌≡◌, ℕ, ℤ, pos, ◌-ℤ◌, ◌+◌, ◌-◌, ◌*◌, ◌^◌, ◌<◌, min, List, [], ◌∷◌}
 use Rattle.symbol_map.specs.declared.sample.Sample.{Sample}
@@ -18,25 +19,32 @@ abbrev pub nearest_000 : ℕ → ℕ → ℕ
 nearest_000 x y = least_four (below 4 x + above 1 y) (above 0 x + below 3 y + 8) (above 0 x + above 1 y + 16) (above 4 x + above 1 y + 24)
 
 abbrev pub nearest_001 : ℕ → ℕ → ℕ
-nearest_001 x y = least_four (above 4 x + below 1 y + 32) (above 0 x + above 3 y + 40) (above 0 x + below 1 y + 48) (below 4 x + below 1 y + 56)
+nearest_001 x y = least_four (above 4 x + below 1 y + 32) (above 0 x + above 3 y + 40) (above 0 x + below 1 y + 48)
+    (below 4 x + below 1 y + 56)
 
 abbrev pub nearest_010 : ℕ → ℕ → ℕ
-nearest_010 x y = least_four (below 2 x + above 3 y + 64) (below 2 x + below 1 y + 72) (above 2 x + above 3 y + 80) (above 2 x + below 1 y + 88)
+nearest_010 x y = least_four (below 2 x + above 3 y + 64) (below 2 x + below 1 y + 72) (above 2 x + above 3 y + 80)
+    (above 2 x + below 1 y + 88)
 
 abbrev pub nearest_011 : ℕ → ℕ → ℕ
-nearest_011 x y = least_four (above 2 x + below 3 y + 96) (above 2 x + above 1 y + 104) (below 2 x + below 3 y + 112) (below 2 x + above 1 y + 120)
+nearest_011 x y = least_four (above 2 x + below 3 y + 96) (above 2 x + above 1 y + 104) (below 2 x + below 3 y + 112)
+    (below 2 x + above 1 y + 120)
 
 abbrev pub nearest_100 : ℕ → ℕ → ℕ
-nearest_100 x y = least_four (below 3 x + below 2 y + 128) (above 1 x + below 2 y + 136) (below 3 x + above 2 y + 144) (above 1 x + above 2 y + 152)
+nearest_100 x y = least_four (below 3 x + below 2 y + 128) (above 1 x + below 2 y + 136) (below 3 x + above 2 y + 144)
+    (above 1 x + above 2 y + 152)
 
 abbrev pub nearest_101 : ℕ → ℕ → ℕ
-nearest_101 x y = least_four (above 3 x + above 2 y + 160) (below 1 x + above 2 y + 168) (above 3 x + below 2 y + 176) (below 1 x + below 2 y + 184)
+nearest_101 x y = least_four (above 3 x + above 2 y + 160) (below 1 x + above 2 y + 168) (above 3 x + below 2 y + 176)
+    (below 1 x + below 2 y + 184)
 
 abbrev pub nearest_110 : ℕ → ℕ → ℕ
-nearest_110 x y = least_four (above 1 x + above 4 y + 192) (below 3 x + above 0 y + 200) (above 1 x + above 0 y + 208) (above 1 x + below 4 y + 216)
+nearest_110 x y = least_four (above 1 x + above 4 y + 192) (below 3 x + above 0 y + 200) (above 1 x + above 0 y + 208)
+    (above 1 x + below 4 y + 216)
 
 abbrev pub nearest_111 : ℕ → ℕ → ℕ
-nearest_111 x y = least_four (below 1 x + below 4 y + 224) (above 3 x + above 0 y + 232) (below 1 x + above 0 y + 240) (below 1 x + above 4 y + 248)
+nearest_111 x y = least_four (below 1 x + below 4 y + 224) (above 3 x + above 0 y + 232) (below 1 x + above 0 y + 240)
+    (below 1 x + above 4 y + 248)
 
 -- a coordinate of a sample that is counted from 0
 abbrev pub coordinate : ℕ → ℤ

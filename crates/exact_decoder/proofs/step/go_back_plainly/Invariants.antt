@@ -1,4 +1,3 @@
-use Rattle.std.proofs.Common.{slice_index}
 use Rattle.exact_decoder.specs.Traced.{choices_of}
 use Rattle.exact_decoder.proofs.Walking.{WentBack}
 use Rattle.exact_decoder.proofs.step.go_back_plainly.Given as goal

@@ -1,15 +1,16 @@
-use Rattle.std.proofs.Common.{◌≡◌, ℕ, ◌+◌, ◌-◌, ◌*◌, ◌/◌, ◌%◌, ◌^◌, ◌<◌, ◌≤◌, List, [], ◌∷◌, ◌++◌, length, slice_index, arith, refl, sym, ◌∙◌, ap, subst}
+use Rattle.std.proofs.Common.{◌≡◌, ℕ, ◌+◌, ◌*◌, ◌/◌, ◌^◌, ◌<◌, List, [], ◌∷◌, ◌++◌, length, arith, refl, sym, ◌∙◌, ap, subst}
 use Rattle.std.specs.Prelude.{ℤ}
 use Rattle.std.specs.Int.{w16, cast_signed, cast_unsigned}
 use Rattle.std.proofs.lemmas.Int.{ints}
-use Rattle.std.specs.Simd.Lanes.{zip2, pick_l, put_chunk}
+use Rattle.std.specs.Simd.Lanes.{zip2, pick_l}
 use Rattle.std.proofs.lemmas.Simd.{put_chunk_whole}
 use Rattle.symbol_map.specs.declared.sample.Sample.{Sample}
 use Rattle.symbol_map.specs.Points.{point_of}
 use Rattle.trellis_tables.specs.Ways.{way_before, way_subset}
 use Rattle.exact_decoder.specs.declared.choice.Choice.{Choice}
 use Rattle.exact_decoder.specs.Advances.{Advances}
-use Rattle.exact_decoder.specs.Lines.{words, coordinate, sample_at, nearest_000, nearest_001, nearest_010, nearest_011, nearest_100, nearest_101}
+use Rattle.exact_decoder.specs.Lines.{words, coordinate, sample_at, nearest_000, nearest_001, nearest_010, nearest_011, nearest_100}
+use Rattle.exact_decoder.specs.Lines.{nearest_101}
 use Rattle.exact_decoder.specs.Lines.{nearest_110, nearest_111}
 use Rattle.exact_decoder.specs.Traced.{choice_by}
 use Rattle.exact_decoder.proofs.Vectors.{both, turned, words-are, each_of_eight}
@@ -59,22 +60,26 @@ returns v =
     (key-small d 3 (nearest_100 x y) _ _ _ md (omega arith) (small-100 x y lx ly)) in
     let before = v.keys_of-before.ensures a b c d e f g h was ma mb mc md me mf mg mh in
     let first = v.enter_first-first.ensures (256 * a + 0) (256 * c + 2) (256 * e + 4) (256 * g + 6)
-    (nearest_010 x y) (nearest_011 x y) (nearest_100 x y) (nearest_101 x y) (nearest_000 x y) (nearest_001 x y) (nearest_110 x y) (nearest_111 x y)
+    (nearest_010 x y) (nearest_011 x y) (nearest_100 x y) (nearest_101 x y) (nearest_000 x y) (nearest_001 x y) (nearest_110 x y)
+    (nearest_111 x y)
     (turned (0 ∷ 2 ∷ 4 ∷ 6 ∷ []) _ _ before) squares others
     (omega (arith, ma)) (omega (arith, mc)) (omega (arith, me)) (omega (arith, mg))
     (small-010 x y lx ly) (small-011 x y lx ly) (small-000 x y lx ly) (small-001 x y lx ly) in
     let second = v.enter_second-second.ensures (256 * b + 1) (256 * d + 3) (256 * f + 5) (256 * h + 7)
-    (nearest_010 x y) (nearest_011 x y) (nearest_100 x y) (nearest_101 x y) (nearest_000 x y) (nearest_001 x y) (nearest_110 x y) (nearest_111 x y)
+    (nearest_010 x y) (nearest_011 x y) (nearest_100 x y) (nearest_101 x y) (nearest_000 x y) (nearest_001 x y) (nearest_110 x y)
+    (nearest_111 x y)
     (turned (1 ∷ 3 ∷ 5 ∷ 7 ∷ []) _ _ before) squares others
     (omega (arith, mb)) (omega (arith, md)) (omega (arith, mf)) (omega (arith, mh))
     (small-100 x y lx ly) (small-101 x y lx ly) (small-110 x y lx ly) (small-111 x y lx ly) in
     let (z, z_is, least) = v.least_in-least.ensures (k 0) (k 1) (k 2) (k 3) (k 4) (k 5) (k 6) (k 7) first second in
     let p = least_of_eight k z z_is in
     let keys = both (λ v w. pick_l 0 (v ++ w) (0 ∷ 1 ∷ 2 ∷ 3 ∷ 4 ∷ 5 ∷ 6 ∷ 7 ∷ [])) _ _ _ _ first second in
-    let lowered = v.lowered.ensures (k 0) (k 1) (k 2) (k 3) (k 4) (k 5) (k 6) (k 7) z keys (turned (0 ∷ 0 ∷ 0 ∷ 0 ∷ 0 ∷ 0 ∷ 0 ∷ 0 ∷ []) _ _ least)
+    let lowered = v.lowered.ensures (k 0) (k 1) (k 2) (k 3) (k 4) (k 5) (k 6) (k 7) z keys
+    (turned (0 ∷ 0 ∷ 0 ∷ 0 ∷ 0 ∷ 0 ∷ 0 ∷ 0 ∷ []) _ _ least)
     (p.below_each 0 (omega arith)) (p.below_each 1 (omega arith)) (p.below_each 2 (omega arith)) (p.below_each 3 (omega arith))
     (p.below_each 4 (omega arith)) (p.below_each 5 (omega arith)) (p.below_each 6 (omega arith)) (p.below_each 7 (omega arith))
-    (few 0 (omega arith)) (few 1 (omega arith)) (few 2 (omega arith)) (few 3 (omega arith)) (few 4 (omega arith)) (few 5 (omega arith)) (few 6 (omega arith)) (few 7 (omega arith)) in
+    (few 0 (omega arith)) (few 1 (omega arith)) (few 2 (omega arith)) (few 3 (omega arith)) (few 4 (omega arith)) (few 5 (omega arith))
+    (few 6 (omega arith)) (few 7 (omega arith)) in
     let states = v.low_bits.ensures 3 (k 0) (k 1) (k 2) (k 3) (k 4) (k 5) (k 6) (k 7) refl keys in
     let labels = v.low_bits-2.ensures 5 (k 0 / 8) (k 1 / 8) (k 2 / 8) (k 3 / 8) (k 4 / 8) (k 5 / 8) (k 6 / 8) (k 7 / 8) refl
     (ap (λ v. zip2 (λ a b. a / 2 ^ b) v (3 ∷ 3 ∷ 3 ∷ 3 ∷ 3 ∷ 3 ∷ 3 ∷ 3 ∷ [])) keys) in
@@ -88,5 +93,6 @@ returns v =
     let im_is : coordinate y ≡ sample.im = v.counted-2.ensures.value ∙ im_read in
     let sample_is : sample_at x y ≡ sample = ap (λ n. sample_of n (coordinate y)) re_is ∙ ap (sample_of sample.re) im_is in
     let made = advances x y a b c d e f g h z lx ly few p in
-    same_step (sample_at x y) sample _ sums _ _ _ _ sample_is (sym was) (sym new_sums) (sym (both (zip2 choice_by) _ _ _ _ new_states new_labels))
+    same_step (sample_at x y) sample _ sums _ _ _ _ sample_is (sym was) (sym new_sums)
+    (sym (both (zip2 choice_by) _ _ _ _ new_states new_labels))
     made

@@ -1,4 +1,4 @@
-use Rattle.std.proofs.Common.{◌≡◌, ◌<◌, ◌%◌, nat_eq, true, List, ℕ, [], ◌∷◌, bit_and, slice_index, take, map, arith, sym, ◌∙◌, ap, subst, w64, Fits}
+use Rattle.std.proofs.Common.{◌≡◌, ◌%◌, nat_eq, true, List, ℕ, [], ◌∷◌, bit_and, slice_index, take, arith, ◌∙◌, ap, subst, w64}
 use Rattle.std.specs.Simd.Lanes.{zip2, mask_l}
 use Rattle.std.proofs.lemmas.List.{take_all}
 use Rattle.std.proofs.lemmas.Simd.{tops_compared}

@@ -1,12 +1,12 @@
-use Rattle.std.proofs.Common.{rules, ◌≡◌, ℕ, ◌<◌, ◌≤◌, ◌+◌, ◌-◌, ◌*◌, ◌%◌, ◌^◌, length, min, List, [], ◌∷◌, refl, ap, ◌∙◌, arith}
+use Rattle.std.proofs.Common.{◌≡◌, ℕ, min, [], ◌∷◌, refl, ◌∙◌, arith}
 use Rattle.std.specs.Simd.Lanes.{zip2}
 use Rattle.exact_decoder.proofs.Vectors.{both, turned, four}
-use Rattle.exact_decoder.specs.Lines.{least_four}
 use Rattle.exact_decoder.proofs.v32.least_in.Goals as goal
 
 all : (a b c d p q r s : ℕ) → let x = min (min (min a p) (min c r)) (min (min b q) (min d s)) in
     (min (min (min a p) (min c r)) (min (min b q) (min d s)) ∷ min (min (min b q) (min d s)) (min (min a p) (min c r))
-    ∷ min (min (min c r) (min a p)) (min (min d s) (min b q)) ∷ min (min (min d s) (min b q)) (min (min c r) (min a p)) ∷ []) ≡ (x ∷ x ∷ x ∷ x ∷ [])
+    ∷ min (min (min c r) (min a p)) (min (min d s) (min b q)) ∷ min (min (min d s) (min b q)) (min (min c r) (min a p)) ∷ []) ≡
+    (x ∷ x ∷ x ∷ x ∷ [])
 all a b c d p q r s = four _ _ _ _ _ _ _ _ refl (omega arith) (omega arith) (omega arith)
 
 pub returns : goal.returns

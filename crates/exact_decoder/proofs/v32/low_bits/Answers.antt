@@ -1,4 +1,4 @@
-use Rattle.std.proofs.Common.{rules, ◌≡◌, ℕ, ◌<◌, ◌≤◌, ◌+◌, ◌-◌, ◌*◌, ◌%◌, ◌^◌, length, map, List, [], ◌∷◌, refl, ap, ◌∙◌, arith, replicate, Fits, w8}
+use Rattle.std.proofs.Common.{◌≡◌, ℕ, ◌-◌, ◌%◌, ◌^◌, map, [], ◌∷◌, ap, ◌∙◌, arith, replicate, Fits, w8}
 use lib.Bits.{bit_and, and_le_r}
 use lib.Lanes.{zip2}
 use Rattle.std.proofs.lemmas.Simd.{Each1-zip2, Each2-splat, Each1-all}
@@ -10,7 +10,8 @@ pub overflow_cast-result : goal.overflow_cast-result
 overflow_cast-result c =
     let m = c.args.mask in
     Each1-zip2 bit_and (λ j. Fits w8 j) c.args.lanes (replicate 8 m)
-    (Each2-splat (λ a b. Fits w8 (bit_and a b)) c.args.lanes 8 m (Each1-all (λ a. Fits w8 (bit_and a m)) (λ a. record { fits = omega (arith, and_le_r a m, c.requires.few) }) c.args.lanes))
+    (Each2-splat (λ a b. Fits w8 (bit_and a b)) c.args.lanes 8 m
+    (Each1-all (λ a. Fits w8 (bit_and a m)) (λ a. record { fits = omega (arith, and_le_r a m, c.requires.few) }) c.args.lanes))
 
 masked : (a m k : ℕ) → m ≡ 2 ^ k - 1 → bit_and a m ≡ a % 2 ^ k
 masked a m k e = ap (bit_and a) e ∙ and_mask a k

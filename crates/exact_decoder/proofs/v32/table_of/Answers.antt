@@ -1,4 +1,4 @@
-use Rattle.std.proofs.Common.{◌≡◌, ℕ, ◌+◌, ◌<◌, List, ◌++◌, [], ◌∷◌, take, slice_index, refl, ◌∙◌, sym, ap, subst, arith}
+use Rattle.std.proofs.Common.{◌≡◌, ℕ, ◌+◌, List, ◌++◌, [], ◌∷◌, take, slice_index, refl, sym, subst, arith}
 use Rattle.std.specs.Simd.Lanes.{zip2, pick_l}
 use Rattle.exact_decoder.specs.Settled.{choice_at}
 use Rattle.exact_decoder.specs.Traced.{choice_by}

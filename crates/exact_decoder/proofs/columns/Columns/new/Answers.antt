@@ -1,4 +1,5 @@
-use Rattle.std.proofs.Common.{◌≡◌, ℕ, ◌-◌, ◌*◌, take, drop, ◌∷◌, ◌++◌, [], List, length, length-append, map, replicate, refl, ◌∙◌, sym, ap, subst, arith}
+use Rattle.std.proofs.Common.{◌≡◌, ℕ, ◌-◌, ◌*◌, take, drop, ◌∷◌, ◌++◌, [], List, length, length-append, replicate, refl, ◌∙◌, sym, ap}
+use Rattle.std.proofs.Common.{arith}
 use Rattle.std.proofs.lemmas.List.{map-append, take-map, drop-map}
 use Rattle.std.proofs.lemmas.List.Elements.{All-push, All-same, All-take, All-drop}
 use Rattle.exact_decoder.specs.declared.column.Column.{Column}
@@ -7,7 +8,8 @@ use Rattle.exact_decoder.proofs.Rings.{columns-long}
 use Rattle.exact_decoder.proofs.Walking.{zero-column}
 use Rattle.exact_decoder.proofs.columns.Columns.new.Goals as goal
 
-columns-push : {size states : ℕ} (labels : ℕ) (items : List (Column size)) (column : Column size) → AreColumns states labels (columns_in items)
+columns-push : {size states : ℕ} (labels : ℕ) (items : List (Column size)) (column : Column size) → AreColumns states labels
+    (columns_in items)
     → IsColumn states labels (choices_of column) → AreColumns states labels (columns_in (items ++ column ∷ []))
 columns-push {size} {states} labels items column h here =
     All-same (IsColumn states labels) (columns_in (items ++ column ∷ [])) (columns_in items ++ choices_of column ∷ [])

@@ -1,9 +1,7 @@
-use Rattle.std.proofs.Common.{◌≡◌, ℕ, ◌+◌, ◌<◌, List, [], ◌∷◌, ◌++◌, length, get_or, slice_index, refl, ◌∙◌, sym, ap, subst, arith}
+use Rattle.std.proofs.Common.{◌≡◌, ℕ, ◌+◌, ◌<◌, List, [], ◌∷◌, ◌++◌, length, get_or, slice_index, refl, ◌∙◌, sym, ap, arith}
 use Rattle.std.specs.Simd.Lanes.{put_chunk}
 use Rattle.std.proofs.lemmas.List.{get_or_append_left}
 use Rattle.std.proofs.lemmas.Simd.{put_chunk_whole}
-use Rattle.exact_decoder.specs.Settled.{choice_at}
-use Rattle.exact_decoder.specs.Traced.{choices_of}
 use Rattle.exact_decoder.proofs.Vectors.{each_of_eight}
 use Rattle.exact_decoder.proofs.Alike.{all-one, one-differs}
 use Rattle.exact_decoder.proofs.v32.V32CodeViterbiStep832.go_back.Goals as goal
@@ -17,7 +15,8 @@ abbrev front : List ℕ → List ℕ
 front xs = get_or (xs ++ xs) 0 0 ∷ get_or (xs ++ xs) 1 0 ∷ get_or (xs ++ xs) 2 0 ∷ get_or (xs ++ xs) 3 0 ∷ get_or (xs ++ xs) 4 0
     ∷ get_or (xs ++ xs) 5 0 ∷ get_or (xs ++ xs) 6 0 ∷ get_or (xs ++ xs) 7 0 ∷ []
 
-fronts : (live xs : List ℕ) → length live ≡ 8 → length xs ≡ 16 → (s : ℕ) → s < 8 → slice_index (put_chunk 0 live (front xs)) s ≡ slice_index xs s
+fronts : (live xs : List ℕ) → length live ≡ 8 → length xs ≡ 16 → (s : ℕ) → s < 8 → slice_index (put_chunk 0 live (front xs)) s ≡
+    slice_index xs s
 fronts live xs long xs_long s l =
     ap (λ ys. slice_index ys s) (put_chunk_whole live (front xs) long)
     ∙ each_of_eight (λ s. slice_index (front xs) s ≡ get_or (xs ++ xs) s 0) refl refl refl refl refl refl refl refl s l
