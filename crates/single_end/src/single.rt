@@ -18,6 +18,7 @@ use crate::limits::{FILE_LIMIT, SLOT_OCTETS};
 use crate::line::{TurnWords, folder_fault, line_of};
 use crate::step::{SingleFault, SingleStep};
 use causes::LinkFault;
+use detection::Ear;
 use lapm_frames::{Arrived, Sent};
 use lapm_link::{Phase, Setup};
 use link_run::laws::{one_lone_run, the_file_of_one_counts_as_far_as_it_was_read};
