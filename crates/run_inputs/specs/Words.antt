@@ -2,7 +2,6 @@
 use Rattle.std.specs.Prelude.{ℕ, nat_eq, ◌&&◌, List, [], ◌∷◌, length, Option, Some, None, if◌then◌else◌, codes}
 use Rattle.std.specs.Str.{bytes_eq}
 use Rattle.std.specs.Option.{option_map}
-use Rattle.roles.specs.Both.{Both}
 use Rattle.line_run.specs.Names as sent
 use Rattle.line_run.specs.Names.{Written, written}
 use Rattle.line_run.specs.Recorded.{Tapes, tapes_of}
