@@ -6,7 +6,6 @@ use Rattle.outside_calls.specs.Outputs.{AreApartFrom, OnlyPuts}
 use Rattle.line_run.specs.Recorded.{Tapes, tapes_of}
 use Rattle.line_run.specs.Names as written
 use Rattle.run_world.specs.World.{script_of}
-use Rattle.run_world.specs.Taping.{tape_names}
 use Rattle.run_world.specs.Turn.{FaultCountsOver}
 use Rattle.command_base.specs.Stops.{StopCounts}
 use Rattle.command_base.proofs.Jobs.{stop-earlier}
