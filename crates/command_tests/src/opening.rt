@@ -17,9 +17,9 @@ fn open_by(
     folder: &mut MemoryFolder,
     words: &[String],
 ) -> Result<Result<Script, Stop>, Fail> {
-    let names = run_words(words).ok_or("no words of a run")?;
-    let files = [names.orig, names.answ];
-    Ok(open_inputs(alloc, folder, (names.script, 3), &files, 1, LIMITS))
+    let run = run_words(words).ok_or("no words of a run")?;
+    let files = [run.names.orig, run.names.answ];
+    Ok(open_inputs(alloc, folder, (run.script, 3), &files, 1, LIMITS))
 }
 
 /// Opens the inputs of a run over the folder.

@@ -68,7 +68,10 @@ fn slot_of(alloc: Global, frame: &[u8]) -> Result<Vec<u8>, Fail> {
 fn segment(alloc: Global, octets: usize, stuffed: usize, check: &[u8]) -> Result<Vec<u8>, Fail> {
     let mut frame = Vec::from_slice(alloc, b"\x03\x00\x00")?;
     for place in 0..octets {
-        let is_stuffed = place >= PLACE && place % 3 == PLACE % 3 && place < PLACE + 3 * stuffed;
+        let is_stuffed = match place.checked_sub(PLACE) {
+            Some(at) => at % 3 == 0 && at / 3 < stuffed,
+            None => false,
+        };
         frame.push(if is_stuffed { 0x1f } else { b'b' })?;
     }
     frame.extend_from_slice(check)?;
