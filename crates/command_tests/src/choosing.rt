@@ -1,4 +1,5 @@
 // Each command over a folder in memory, and words that are no command's.
+use super::USAGE;
 use super::asking::{Ran, leaves, run_over, says};
 use modem_cli::Status;
 use roles::Role;
@@ -18,10 +19,6 @@ const FILES: &[(&str, &[u8])] = &[
     ("r", &RECORDING),
     ("z", b"\0"),
 ];
-
-/// What other words are told.
-pub(crate) const USAGE: &str =
-    "usage: modem run, encode, decode, frames, xid, soak, peer, pickup, margin, encode4, decode4, record, tap, pair, audit\n";
 
 /// Words of each command with what is said once it is done, and words that are no command's.
 const WORDS: &[(&[&str], Status, &str)] = &[

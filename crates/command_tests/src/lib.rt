@@ -41,3 +41,8 @@ mod saying;
 mod soaking;
 #[cfg(test)]
 mod tapping;
+
+/// What words that are no command's are told.
+#[cfg(test)]
+const USAGE: &str =
+    "usage: modem run, encode, decode, frames, xid, soak, peer, pickup, margin, encode4, decode4, record, tap, pair, audit\n";

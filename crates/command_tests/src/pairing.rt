@@ -1,6 +1,6 @@
 // Two links over one line, over a folder in memory, with what each pair says and leaves.
 use super::asking::{Ran, leaves, leaves_none, run_over, says};
-use super::choosing::USAGE;
+use super::USAGE;
 use modem_cli::Status;
 use roles::Role;
 use std::alloc::Global;
