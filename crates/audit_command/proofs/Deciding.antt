@@ -1,6 +1,6 @@
 -- One thing is found of octets beside a text.
 use Rattle.std.proofs.Common.{◌≡◌, ℕ, List, length, Result, Ok, Err, refl, sym, ◌∙◌, ap, subst}
-use Rattle.causes.specs.declared.audit_cause.AuditCause.{AuditCause}
+use Rattle.shared_terms.specs.declared.audit_cause.AuditCause.{AuditCause}
 use Rattle.trace_audit.specs.Differences.{text_of, FirstDiffers, IsCut}
 use Rattle.trace_audit.specs.declared.comparison.Difference.{Difference}
 use Rattle.audit_command.specs.Verdict.{IsText, DiffersIn, IsFound, VerdictsAreOne}

@@ -3,7 +3,7 @@ use Rattle.std.proofs.Common.{◌≡◌, ◌≢◌, ℕ, List, [], Some, sym, �
 use Rattle.outside_calls.specs.Folder.{FolderState, GoesOn, KeepsName, Appended, Adds}
 use Rattle.outside_calls.specs.Outputs.{Holds}
 use Rattle.outside_calls.proofs.Holding.{Holds-kept, Holds-more, Holds-add}
-use Rattle.roles.specs.Both.{Both}
+use Rattle.shared_terms.specs.Both.{Both}
 use Rattle.stations.specs.Station.{file_at}
 use Rattle.turn_bound.specs.Limits.{file_limit}
 use Rattle.line_run.specs.Names.{Written}

@@ -3,7 +3,7 @@ use Rattle.std.proofs.Common.{◌≡◌, ◌⊎◌, inl, inr, ℕ, ◌≤◌, �
 use Rattle.std.specs.Option.{option_map}
 use Rattle.outside_calls.specs.Folder.{FolderState, octets_at}
 use Rattle.outside_calls.specs.declared.folder.FolderFault.TheVariants as folder
-use Rattle.causes.specs.declared.audit_cause.AuditCause.{AuditCause}
+use Rattle.shared_terms.specs.declared.audit_cause.AuditCause.{AuditCause}
 use Rattle.noise_script.specs.Script.{ScriptValue}
 use Rattle.noise_script.specs.Laws.{ScriptsAreOne, NoFaultInScripts}
 use Rattle.line_run.specs.Ends.{RunEnd, Left, OneResult, RunsTo}

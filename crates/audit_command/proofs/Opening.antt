@@ -5,7 +5,7 @@ use Rattle.outside_calls.specs.Folder.{FolderState, octets_at, OnlyReads, Counts
 use Rattle.outside_calls.specs.declared.folder.FolderFault.{FolderFault}
 use Rattle.outside_calls.specs.declared.folder.FolderFault.TheVariants as folder
 use Rattle.outside_calls.proofs.Steps.{OnlyReads-trans, octets-kept, told_later}
-use Rattle.roles.specs.Both.{Both}
+use Rattle.shared_terms.specs.Both.{Both}
 use Rattle.noise_script.specs.Script.{ScriptValue}
 use Rattle.turn_bound.specs.Limits.{file_limit}
 use Rattle.line_run.specs.Names.{Written}

@@ -6,7 +6,7 @@ use Rattle.outside_calls.specs.declared.folder.FolderFault.TheVariants as folder
 use Rattle.outside_calls.proofs.Steps.{octets-kept}
 use Rattle.outside_calls.proofs.OnlyOutputs.{told_earlier}
 use Rattle.outside_calls.proofs.Putting.{OnlyPuts-reads}
-use Rattle.roles.specs.Both.{Both}
+use Rattle.shared_terms.specs.Both.{Both}
 use Rattle.noise_script.specs.Script.{ScriptValue}
 use Rattle.link_run.specs.Run.{Turn, start}
 use Rattle.line_run.specs.Scripted.{link_of}
@@ -22,7 +22,7 @@ use Rattle.trace_audit.specs.Differences.{text_of, FirstDiffers, IsCut}
 use Rattle.trace_audit.specs.Compared.{Compared, HasWindow, IsFew}
 use Rattle.trace_audit.specs.declared.comparison.Comparison.{Comparison}
 use Rattle.trace_audit.specs.declared.comparison.Difference.{Difference}
-use Rattle.readable_runs.specs.Lines.{trace_lines, turn_lines}
+use Rattle.line_ends.specs.Lines.{trace_lines, turn_lines}
 use Rattle.audit_command.specs.Verdict.{IsFound}
 use Rattle.audit_command.specs.Turns.{ComesTo, TurnMade, AreCompared, HasFew, IsReading, RunFound, RunIs, found_end, audit_inputs}
 

@@ -8,7 +8,7 @@ use Rattle.trace_audit.specs.Differences.{is_no_feed, text_of, AreWhole, IsCut}
 use Rattle.trace_audit.specs.Compared.{Compared, IsFew}
 use Rattle.trace_audit.specs.declared.comparison.Comparison.{Comparison}
 use Rattle.trace_audit.proofs.Cuts.{first-front, first-rest, first-some, one-cut}
-use Rattle.readable_runs.specs.Lines.{AreLines}
+use Rattle.line_ends.specs.Lines.{AreLines}
 use Rattle.audit_command.specs.Turns.{HasFew}
 
 -- an empty text has no line

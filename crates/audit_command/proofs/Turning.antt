@@ -3,10 +3,10 @@ use Rattle.std.proofs.Common.{◌≡◌, ℕ, ◌<◌, ◌^◌, Bool, true, fals
 use Rattle.std.specs.List.{concat}
 use Rattle.outside_calls.specs.Folder.{FolderState, CountsStand}
 use Rattle.outside_calls.specs.Outputs.{OnlyPuts}
-use Rattle.roles.specs.declared.role.Role.{Role}
-use Rattle.roles.specs.declared.role.Role.TheVariants.{Originator, Answerer}
-use Rattle.roles.specs.Both.{of}
-use Rattle.causes.specs.declared.fault.LinkFault.TheVariants as causes
+use Rattle.shared_terms.specs.declared.role.Role.{Role}
+use Rattle.shared_terms.specs.declared.role.Role.TheVariants.{Originator, Answerer}
+use Rattle.shared_terms.specs.Both.{of}
+use Rattle.shared_terms.specs.declared.fault.LinkFault.TheVariants as causes
 use Rattle.noise_script.specs.Script.{ScriptValue, IsInLimits}
 use Rattle.line_texts.specs.LineText.{chance_line}
 use Rattle.link_run.specs.Run.{Accounts, Turn}
@@ -30,8 +30,8 @@ use Rattle.run_world.proofs.Folders.{IsApart}
 use Rattle.run_world.proofs.Reached.{knows-later}
 use Rattle.trace_audit.specs.Differences.{text_of, AreWhole}
 use Rattle.trace_audit.proofs.Lines.{text_of-append}
-use Rattle.readable_runs.specs.Lines.{AreLines, chance_words, turn_lines, trace_lines, TextsHaveLines, TurnsHaveLines, ChancesHaveLines}
-use Rattle.readable_runs.specs.Readable.{AsksInOctets}
+use Rattle.line_ends.specs.Lines.{AreLines, chance_words, turn_lines, trace_lines, TextsHaveLines, TurnsHaveLines, ChancesHaveLines}
+use Rattle.line_ends.specs.Readable.{AsksInOctets}
 use Rattle.program_folders.proofs.Passed.{stands-inside}
 use Rattle.audit_command.specs.Turns.{step_end, held_by, Watched, StillRuns, HasRun, TurnMade}
 use Rattle.audit_command.proofs.Inside.{knows-inside, knows-outside, text-added, text-more, text-kept}

@@ -1,8 +1,8 @@
 -- Which answer right inputs have over a sound folder.
 use Rattle.std.specs.Prelude.{◌≡◌, ◌⊎◌, ℕ, ◌≤◌, IsTrue, List, [], length}
 use Rattle.outside_calls.specs.Folder.{FolderState, octets_at}
-use Rattle.roles.specs.Both.{Both}
-use Rattle.causes.specs.declared.audit_cause.AuditCause.{AuditCause}
+use Rattle.shared_terms.specs.Both.{Both}
+use Rattle.shared_terms.specs.declared.audit_cause.AuditCause.{AuditCause}
 use Rattle.noise_script.specs.Script.{ScriptValue}
 use Rattle.noise_script.specs.Grammar.{ScriptSpelling}
 use Rattle.line_run.specs.Ends.{RunEnd, Left, RunsTo}

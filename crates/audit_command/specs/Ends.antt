@@ -2,7 +2,7 @@
 use Rattle.std.specs.Prelude.{◌≡◌, ◌⊎◌, ℕ, IsTrue, List, [], ◌∷◌, Result, Ok, Err}
 use Rattle.outside_calls.specs.Folder.{FolderState, OnlyReads, CountsStand, octets_at}
 use Rattle.outside_calls.specs.declared.folder.FolderFault.{FolderFault}
-use Rattle.roles.specs.Both.{Both}
+use Rattle.shared_terms.specs.Both.{Both}
 use Rattle.noise_script.specs.Script.{ScriptValue, IsInLimits}
 use Rattle.line_run.specs.Ends.{RunEnd, Left, RunsTo}
 use Rattle.line_run.specs.Scripted.{wire_of, link_of}

@@ -1,7 +1,7 @@
 -- What an audit promises, over the folder before and after it. What is said of a name's octets holds where the folder tells that name.
 use Rattle.std.specs.Prelude.{◌≡◌, ℕ, IsTrue, List, [], Result, Ok, Err}
 use Rattle.outside_calls.specs.Folder.{FolderState, octets_at, Said}
-use Rattle.roles.specs.Both.{Both}
+use Rattle.shared_terms.specs.Both.{Both}
 use Rattle.noise_script.specs.Script.{ScriptValue, IsInLimits}
 use Rattle.noise_script.specs.Grammar.{ScriptSpelling}
 use Rattle.line_run.specs.Ends.{RunEnd, Left, RunsTo}

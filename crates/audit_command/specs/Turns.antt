@@ -3,7 +3,7 @@ use Rattle.std.specs.Prelude.{◌≡◌, ℕ, ◌<◌, ◌≤◌, ◌^◌, IsTru
 use Rattle.outside_calls.specs.Folder.{FolderState, octets_at}
 use Rattle.outside_calls.specs.declared.folder.FolderFault.TheVariants as folder
 use Rattle.outside_calls.specs.Outputs.{OnlyPuts}
-use Rattle.roles.specs.Both.{Both}
+use Rattle.shared_terms.specs.Both.{Both}
 use Rattle.noise_script.specs.Script.{ScriptValue}
 use Rattle.link_run.specs.Run.{Accounts, Turn}
 use Rattle.line_run.specs.Ends.{RunEnd, Left, RunsTo}
@@ -26,7 +26,7 @@ use Rattle.trace_audit.specs.Compared.{Compared, IsFew}
 use Rattle.trace_audit.specs.declared.comparison.Comparison.{Comparison}
 use Rattle.trace_audit.specs.declared.comparison.Difference.{Difference}
 use Rattle.audit_command.specs.Verdict.{IsFound}
-use Rattle.readable_runs.specs.Lines.{AreLines, trace_lines}
+use Rattle.line_ends.specs.Lines.{AreLines, trace_lines}
 use Rattle.program_folders.specs.Audited.{audit_state, swallowed}
 use Rattle.program_folders.specs.Passed.{OnlyPassed}
 

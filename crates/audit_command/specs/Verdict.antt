@@ -1,6 +1,6 @@
 -- What a trace is beside the text of a run: the same, or one that differs from it first in some line.
 use Rattle.std.specs.Prelude.{◌≡◌, ℕ, List, length, Result, Ok, Err}
-use Rattle.causes.specs.declared.audit_cause.AuditCause.{AuditCause}
+use Rattle.shared_terms.specs.declared.audit_cause.AuditCause.{AuditCause}
 use Rattle.trace_audit.specs.Differences.{IsCut, FirstDiffers}
 use Rattle.trace_audit.specs.declared.comparison.Difference.{Difference}
 

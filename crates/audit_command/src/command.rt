@@ -4,7 +4,7 @@ ghost use Rattle.outside_calls.specs.Folder.{FolderState, OnlyReads};
 ghost use Rattle.command_base.specs.Job.{Answers};
 ghost use Rattle.command_base.specs.Stops.{EndCounts};
 ghost use Rattle.run_inputs.specs.Scripts.{IsSpelled};
-ghost use Rattle.readable_runs.specs.Readable.{AsksInOctets};
+ghost use Rattle.line_ends.specs.Readable.{AsksInOctets};
 ghost use Rattle.audit_command.specs.Words.{inputs_of, named};
 ghost use Rattle.audit_command.specs.Ends.{Ends, EndsBy, IsBegun, audit_job};
 ghost use Rattle.audit_command.specs.Headline.{Headline};

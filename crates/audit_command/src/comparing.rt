@@ -5,7 +5,7 @@ ghost use Rattle.command_base.specs.Stops.{EndCounts};
 ghost use Rattle.trace_audit.specs.Differences.{is_no_feed, IsCut, text_of};
 ghost use Rattle.trace_audit.specs.Compared.{Compared, HasWindow, IsFew};
 ghost use Rattle.trace_audit.specs.Cutting.{front_of, rest_of};
-ghost use Rattle.readable_runs.specs.Lines.{AreLines};
+ghost use Rattle.line_ends.specs.Lines.{AreLines};
 ghost use Rattle.audit_command.specs.Turns.{HasFew, IsReading};
 
 use command_base::Stop;

@@ -2,13 +2,13 @@
 ghost use Rattle.std.specs.Prelude.{◌≡◌, ◌+◌, [], List, ℕ, IfOk, IfErr, Ok, true, false};
 ghost use Rattle.outside_calls.specs.Folder.{OnlyReads};
 ghost use Rattle.outside_calls.specs.Outputs.{AreApartFrom};
-ghost use Rattle.roles.specs.Both.{Both};
+ghost use Rattle.shared_terms.specs.Both.{Both};
 ghost use Rattle.link_run.specs.Run.{start};
 ghost use Rattle.line_run.specs.Scripted.{link_of};
 ghost use Rattle.command_base.specs.Stops.{EndCounts};
 ghost use Rattle.line_run.specs.Names.{inputs_of, outputs_of, written};
 ghost use Rattle.run_world.specs.World.{IsReady, WorldAfter, script_of, turn_of};
-ghost use Rattle.readable_runs.specs.Readable.{AsksInOctets};
+ghost use Rattle.line_ends.specs.Readable.{AsksInOctets};
 ghost use Rattle.audit_command.specs.Turns.{AreCompared, IsReading, RunIs, audit_inputs, found_end};
 
 use crate::comparing::{compare_text, read_on};

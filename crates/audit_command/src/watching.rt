@@ -6,14 +6,14 @@ ghost use Rattle.command_base.specs.Stops.{EndCounts};
 ghost use Rattle.line_run.specs.Names.{inputs_of, outputs_of, written};
 ghost use Rattle.run_world.specs.World.{IsReady, script_of, turn_of};
 ghost use Rattle.run_world.specs.Turn.{turns_made};
-ghost use Rattle.readable_runs.specs.Readable.{AsksInOctets};
+ghost use Rattle.line_ends.specs.Readable.{AsksInOctets};
 ghost use Rattle.audit_command.specs.Turns.{IsReading, StillRuns, TurnMade, Watched, step_end};
 
 use command_base::Stop;
 use frame_check::Octets;
+use line_ends::readable::{traces_are_read, traces_have_lines};
 use outside_calls::{Folder, FolderFault};
 use program_folders::{AuditFolder, HELD};
-use readable_runs::laws::{traces_are_read, traces_have_lines};
 use run_world::laws::turns_are_few;
 use run_world::{Names, RunFault, Step, World};
 

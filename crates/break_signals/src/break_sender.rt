@@ -3,7 +3,7 @@ ghost use Rattle.std.specs.Prelude.{◌≡◌, ◌<◌, ◌^◌, ◌+◌, min, t
 ghost use Rattle.break_signals.specs.Words.{number_of};
 
 use crate::word::BreakWord;
-use causes::is_expired;
+use shared_terms::is_expired;
 use std::marker::Model;
 
 /// After a break was answered no other one is taken for so many turns.

@@ -6,3 +6,6 @@ pub mod Tells
 pub mod Stops
 pub mod Job
 pub mod Sound
+pub mod Recordings
+pub mod Readings
+pub mod Heard

@@ -1,15 +1,14 @@
 // The lines that answers say.
 ghost use Rattle.std.specs.Prelude.{◌≡◌, ◌<◌, ◌≤◌, ◌+◌, ◌*◌, [], ◌++◌, map, length, decimal, codes};
-ghost use Rattle.roles.specs.Role.{role_word};
+ghost use Rattle.shared_terms.specs.Role.{role_word};
 ghost use Rattle.command_base.specs.Lines.{xid_words, count_line, done_line, samples_line, octets_line, pieces_line, turns_line, both_done_line, true_line, soak_line, margin_line, listed_behind, usage_line, AreShort, peer_words, short_line};
-ghost use Rattle.causes.specs.Cause.{cause_word};
-ghost use Rattle.causes.specs.AuditCause.{audit_word};
+ghost use Rattle.shared_terms.specs.Cause.{cause_word};
+ghost use Rattle.shared_terms.specs.AuditCause.{audit_word};
 
 use crate::Status;
-use causes::{AuditCause, Cause, LinkFault};
 use frame_check::Octets;
 use line_texts::put_decimal;
-use roles::Role;
+use shared_terms::{AuditCause, Cause, LinkFault, Role};
 use xid_params::XidFault;
 
 /// The most octets of a line that says no word of the command line.

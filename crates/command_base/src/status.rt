@@ -1,8 +1,7 @@
 // How a command ends.
 ghost use Rattle.std.specs.Prelude.{◌≡◌};
 
-use causes::{AuditCause, Cause, LinkFault};
-use roles::Role;
+use shared_terms::{AuditCause, Cause, LinkFault, Role};
 use xid_params::XidFault;
 
 /// How a command ends. Everything but `Done` has one cause, which the contract of the command names.

@@ -6,10 +6,10 @@ use Rattle.outside_calls.specs.Outputs.{Holds}
 use Rattle.outside_calls.proofs.Steps.{octets-held}
 use Rattle.bit_stuffing.proofs.Fill.{phase-low}
 use Rattle.detection.specs.Slots.{slots_of}
-use Rattle.roles.specs.declared.role.Role.{Role}
-use Rattle.roles.specs.declared.role.Role.TheVariants.{Originator, Answerer}
-use Rattle.roles.specs.Role.{mode_of}
-use Rattle.roles.specs.Both.{Both, of}
+use Rattle.shared_terms.specs.declared.role.Role.{Role}
+use Rattle.shared_terms.specs.declared.role.Role.TheVariants.{Originator, Answerer}
+use Rattle.shared_terms.specs.Role.{mode_of}
+use Rattle.shared_terms.specs.Both.{Both, of}
 use Rattle.recordings.specs.Recording.{header_of}
 use Rattle.noise_script.specs.Script.{ScriptValue, IsInLimits, delay_of}
 use Rattle.noise_script.specs.Grammar.{ScriptSpelling}
@@ -32,7 +32,7 @@ use Rattle.command_base.specs.Sound.{IsSound}
 use Rattle.run_inputs.specs.Words.{RunNames}
 use Rattle.run_world.specs.Tapes.{HoldsTape, HoldTapes}
 use Rattle.run_command.specs.Headline.{Ran}
-use Rattle.tap_turns.specs.Words.{TapNames, inputs_of, outputs_of}
+use Rattle.tap_command.specs.Names.{TapNames, inputs_of, outputs_of}
 use Rattle.tap_command.specs.Completes.{AreRight, Answered, Completes}
 use Rattle.command_laws.specs.Taps.{AreTold, AreOfRun, LeftAlike, LeavesTheSame, TapsLeaveWhatRunsLeft}
 

@@ -2,7 +2,7 @@
 use Rattle.std.specs.Prelude.{◌≡◌, ◌⊎◌, ℕ, ◌≤◌, IsTrue, List, length, Some}
 use Rattle.plain_lists.specs.Octets.{AreOctets}
 use Rattle.outside_calls.specs.Folder.{FolderState, held_at, octets_at}
-use Rattle.roles.specs.Both.{Both}
+use Rattle.shared_terms.specs.Both.{Both}
 use Rattle.line_run.specs.Ends.{RunEnd}
 use Rattle.line_tap.specs.Laws.{told_end}
 use Rattle.command_base.specs.declared.status.Status.{Status}
@@ -10,7 +10,7 @@ use Rattle.command_base.specs.declared.status.Status.TheVariants.{NoMemory}
 use Rattle.command_base.specs.Sound.{IsSound}
 use Rattle.run_inputs.specs.Words.{RunNames}
 use Rattle.run_command.specs.Headline.{Ran}
-use Rattle.tap_turns.specs.Words.{TapNames, inputs_of, outputs_of}
+use Rattle.tap_command.specs.Names.{TapNames, inputs_of, outputs_of}
 use Rattle.tap_command.specs.Answers.{answer_of}
 use Rattle.tap_command.specs.Completes.{Completes}
 

@@ -2,7 +2,7 @@
 use super::USAGE;
 use super::asking::{Ran, leaves, run_over, says};
 use modem_cli::Status;
-use roles::Role;
+use shared_terms::Role;
 use std::alloc::Global;
 use std::test::Fail;
 

@@ -2,7 +2,7 @@
 use super::asking::{Ran, leaves, leaves_none, run_over, says};
 use command_base::LinkFault;
 use modem_cli::Status;
-use roles::Role;
+use shared_terms::Role;
 use std::alloc::Global;
 use std::process::Abort;
 use std::test::Fail;

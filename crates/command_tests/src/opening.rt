@@ -1,12 +1,11 @@
 // The inputs of a run, taken in order from a folder in memory.
 use super::asking::{folder_with, put, words_of};
-use causes::Cause;
 use command_base::{Status, Stop, are_apart};
 use noise_script::Script;
 use outside_calls::FolderFault;
 use outside_core::MemoryFolder;
-use roles::Role;
 use run_inputs::{LIMITS, open_inputs, run_words};
+use shared_terms::{Cause, Role};
 use std::alloc::Global;
 use std::process::Abort;
 use std::test::Fail;

@@ -1,8 +1,8 @@
 // Two links over one line, over a folder in memory, with what each pair says and leaves.
-use super::asking::{Ran, leaves, leaves_none, run_over, says};
 use super::USAGE;
+use super::asking::{Ran, leaves, leaves_none, run_over, says};
 use modem_cli::Status;
-use roles::Role;
+use shared_terms::Role;
 use std::alloc::Global;
 use std::process::Abort;
 use std::test::Fail;

@@ -1,6 +1,5 @@
 // The lines that answers say, and single steps over a folder in memory.
 use super::asking::{Ran, folder_with, words_of};
-use causes::Cause;
 use command_base::{
     LinkFault, Status, Stop, append_output, create_output, create_outputs, done_line, octets_line,
     pieces_line, read_file, read_piece, samples_line, say_line, tell_stop, usage_line,
@@ -9,7 +8,7 @@ use command_base::{
 use lapm_frames::FrameFault;
 use outside_calls::{FolderFault, NoMemory};
 use outside_core::MemoryFolder;
-use roles::Role;
+use shared_terms::{Cause, Role};
 use std::alloc::Global;
 use std::fmt::{Debug, Display};
 use std::process::Abort;

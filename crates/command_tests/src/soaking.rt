@@ -1,6 +1,6 @@
 // Soaks, and words that spell no seed.
-use super::asking::{run_over, says};
 use super::USAGE;
+use super::asking::{run_over, says};
 use modem_cli::Status;
 use std::test::Fail;
 

@@ -13,15 +13,14 @@ ghost use Rattle.decode_command.specs.Playing.{decoding_of, Hears, IsReady};
 ghost use Rattle.decode_command.specs.Played.{PlayedTo, PlaysPiece};
 ghost use Rattle.decode_command.specs.Ends.{EndsBy, Ends};
 ghost use Rattle.recordings.specs.declared.header.TheConstants.{HEADER};
-ghost use Rattle.recording_inputs.specs.Recordings.{IsAtEnd};
+ghost use Rattle.command_base.specs.Recordings.{IsAtEnd};
 
 use crate::playback::{Playback, ROOM};
 use crate::words::DecodeWords;
-use command_base::{Status, Stop, append_output};
+use command_base::{PIECE, Status, Stop, append_output, hearer_of, read_samples};
 use exact_decoder::Lost;
 use frame_check::Octets;
 use outside_calls::Folder;
-use recording_inputs::{PIECE, hearer_of, read_samples};
 use recordings::{HEADER, SAMPLE, sample_at};
 use scramblers::Mode;
 

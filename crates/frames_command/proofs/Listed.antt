@@ -7,7 +7,7 @@ use Rattle.plain_lists.specs.Bits.{bits_of}
 use Rattle.frame_check.proofs.BitLists.{bits_of-append}
 use Rattle.bit_stuffing.specs.Found.{Found, pieces_of}
 use Rattle.bit_stuffing.proofs.Sent.{pieces-stay}
-use Rattle.roles.specs.declared.role.Role.{Role}
+use Rattle.shared_terms.specs.declared.role.Role.{Role}
 use Rattle.command_base.specs.declared.limits.TheConstants.{FILE_LIMIT}
 use Rattle.command_base.specs.declared.stop.Stop.{Stop}
 use Rattle.command_base.specs.declared.stop.Stop.TheVariants.{Own, Read, Write, Say, NoMemory}
@@ -15,9 +15,9 @@ use Rattle.command_base.specs.Inputs.{IsNotWithin, ReadTo}
 use Rattle.outside_calls.proofs.OnlyOutputs.{OnlyOutputs-reads, OnlyOutputs-says, OnlyOutputs-trans}
 use Rattle.command_base.proofs.Reading.{ReadTo-none, ReadTo-kept, ReadTo-begins}
 use Rattle.frames_command.specs.Words.{FramesNames}
-use Rattle.piece_listener.specs.Readings.{AreLines}
-use Rattle.piece_listener.specs.Heard.{Listening, Heard, PartlyHeard}
-use Rattle.piece_listener.proofs.Hearing.{said-after, heard-after}
+use Rattle.command_base.specs.Readings.{AreLines}
+use Rattle.command_base.specs.Heard.{Listening, Heard, PartlyHeard}
+use Rattle.command_base.proofs.Hearing.{said-after, heard-after}
 use Rattle.frames_command.specs.Heard.{HeardTo, Begun}
 use Rattle.frames_command.specs.Ends.{SaysAll, AreFirst, SaysFirst, SaysPart, EndsBy}
 

@@ -11,7 +11,7 @@ use Rattle.command_base.specs.declared.status.Status.TheVariants.{TooLong}
 use Rattle.command_base.specs.declared.stop.Stop.{Stop}
 use Rattle.command_base.specs.declared.stop.Stop.TheVariants.{Own, Read, Write, Say, NoMemory}
 use Rattle.frames_command.specs.Words.{FramesNames}
-use Rattle.piece_listener.specs.Readings.{AreLines}
+use Rattle.command_base.specs.Readings.{AreLines}
 
 -- The lines of all pieces of the file's bits were said, in order, and they are so many.
 pub record SaysAll (old new : FolderState) (n : FramesNames) (count : ℕ) : Type 0 where

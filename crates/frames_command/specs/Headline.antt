@@ -9,7 +9,7 @@ use Rattle.command_base.specs.declared.status.Status.TheVariants.{Done}
 use Rattle.command_base.specs.Job.{Shared}
 use Rattle.command_base.specs.Lines.{pieces_line}
 use Rattle.frames_command.specs.Words.{FramesNames}
-use Rattle.piece_listener.specs.Readings.{AreLines}
+use Rattle.command_base.specs.Readings.{AreLines}
 
 -- A line was said for each piece of the file's bits, in order, and then their number.
 pub record ListsAll (old new : FolderState) (n : FramesNames) : Type 0 where

@@ -6,7 +6,7 @@ use Rattle.command_base.specs.declared.limits.TheConstants.{FILE_LIMIT}
 use Rattle.command_base.specs.Inputs.{IsWithin, ReadTo}
 use Rattle.outside_calls.specs.Outputs.{OnlyOutputs}
 use Rattle.frames_command.specs.Words.{FramesNames}
-use Rattle.piece_listener.specs.Heard.{Listening, Heard}
+use Rattle.command_base.specs.Heard.{Listening, Heard}
 
 -- The first octets of the file, so many, were heard.
 pub record HeardTo (start now : FolderState) (n : FramesNames) (listener : Listening) (at : ℕ) : Type 0 where

@@ -9,9 +9,8 @@ ghost use Rattle.frames_command.specs.Heard.{Begun, HeardTo};
 ghost use Rattle.frames_command.specs.Ends.{SaysAll, EndsBy, Ends};
 
 use crate::words::FramesWords;
-use command_base::{FILE_LIMIT, Stop, read_piece, within_limit};
+use command_base::{FILE_LIMIT, Listener, Stop, read_piece, within_limit};
 use outside_calls::Folder;
-use piece_listener::Listener;
 
 /// The place of the stream's name among the words.
 const BITS: usize = 2;

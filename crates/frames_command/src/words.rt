@@ -3,7 +3,7 @@ ghost use Rattle.std.specs.Prelude.{◌≡◌, string_bytes, map};
 ghost use Rattle.std.specs.Option.{option_map};
 ghost use Rattle.frames_command.specs.Words.{names_of, named};
 
-use roles::Role;
+use shared_terms::Role;
 
 /// A stream of bits that is to be listed.
 #[derive(Clone, Copy)]

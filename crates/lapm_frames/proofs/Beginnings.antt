@@ -1,7 +1,7 @@
 -- A spelling is an address, a control octet and a tail: octets that begin one.
 use Rattle.std.proofs.Common.{◌≡◌, ℕ, Bool, true, false, List, ◌∷◌, ◌++◌, arith, refl, sym}
-use Rattle.roles.specs.declared.role.Role.{Role}
-use Rattle.roles.specs.declared.role.Role.TheVariants.{Originator, Answerer}
+use Rattle.shared_terms.specs.declared.role.Role.{Role}
+use Rattle.shared_terms.specs.declared.role.Role.TheVariants.{Originator, Answerer}
 use Rattle.lapm_frames.specs.declared.frame.Frame.{Frame}
 use Rattle.lapm_frames.specs.Parts.{parts_of}
 use Rattle.lapm_frames.specs.Frame.{address_of, control_octet, tail_octets, FrameSpelling}

@@ -1,6 +1,6 @@
 -- A spelling is that of one frame: its octets give the frame back.
 use Rattle.std.proofs.Common.{◌≡◌, ℕ, List, sym, ◌∙◌, ap}
-use Rattle.roles.specs.declared.role.Role.{Role}
+use Rattle.shared_terms.specs.declared.role.Role.{Role}
 use Rattle.lapm_frames.specs.declared.frame.Frame.{Frame}
 use Rattle.lapm_frames.specs.Parts.{parts_of}
 use Rattle.lapm_frames.specs.Frame.{control_octet, tail_octets, FrameSpelling}

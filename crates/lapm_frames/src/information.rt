@@ -1,7 +1,7 @@
 // I frames: numbers and information, always commands. And the information of any frame.
 ghost use Rattle.std.specs.Prelude.{◌≡◌, ℕ, ◌<◌, ◌≤◌, ◌+◌, ◌%◌, ◌∷◌, length, IfOk, IfErr};
 ghost use Rattle.frame_check.specs.declared.sizes.TheConstants.{INFO};
-ghost use Rattle.roles.specs.declared.role.Role.{Role};
+ghost use Rattle.shared_terms.specs.declared.role.Role.{Role};
 ghost use Rattle.lapm_frames.specs.Frame.{address_of, FrameSpelling};
 ghost use Rattle.lapm_frames.specs.Fault.{FirstFault};
 

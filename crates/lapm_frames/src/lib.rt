@@ -31,7 +31,7 @@ pub use fault::{CheckedFault, FrameFault};
 pub use frame::Frame;
 pub use heard::Heard;
 pub use parts::Parts;
-pub use roles::Role;
 pub use seen::Seen;
 pub use sent::Sent;
+pub use shared_terms::Role;
 pub use spelling::{read, write};

@@ -1,6 +1,6 @@
 // U frames: no numbers, and information in some.
 ghost use Rattle.std.specs.Prelude.{◌≡◌, ℕ, ◌<◌, ◌+◌, ◌%◌, [], ◌∷◌, length, IfOk, IfErr};
-ghost use Rattle.roles.specs.declared.role.Role.{Role};
+ghost use Rattle.shared_terms.specs.declared.role.Role.{Role};
 ghost use Rattle.lapm_frames.specs.Frame.{address_of, FrameSpelling};
 ghost use Rattle.lapm_frames.specs.Fault.{FirstFault};
 

@@ -1,7 +1,7 @@
 -- A frame that goes until it is answered, and the account for which it stands.
 use Rattle.std.specs.Prelude.{◌≡◌, ◌+◌, Result, Ok, Err}
 use Rattle.lapm_frames.specs.declared.sent.Sent.{Sent}
-use Rattle.causes.specs.declared.fault.LinkFault.{LinkFault}
+use Rattle.shared_terms.specs.declared.fault.LinkFault.{LinkFault}
 use Rattle.lapm_link.specs.declared.attempt.Attempt.{Attempt}
 use Rattle.link_account.specs.Account.{Account}
 use Rattle.link_account.specs.Speak.{Said}

@@ -1,14 +1,14 @@
 -- How an end may be set up, and for which terms its parts have room.
 use Rattle.std.specs.Prelude.{◌≡◌, ◌≤◌, true}
 use Rattle.frame_check.specs.declared.sizes.TheConstants.{INFO}
-use Rattle.roles.specs.declared.role.Role.{Role}
-use Rattle.roles.specs.declared.role.Role.TheVariants.{Originator, Answerer}
+use Rattle.shared_terms.specs.declared.role.Role.{Role}
+use Rattle.shared_terms.specs.declared.role.Role.TheVariants.{Originator, Answerer}
 use Rattle.xid_params.specs.declared.offer.Offer.{Offer}
 use Rattle.xid_params.specs.declared.terms.Terms.{Terms}
 use Rattle.xid_params.specs.Offers.{IsAllowed}
 use Rattle.xid_params.specs.Terms.{agree}
 use Rattle.link_account.specs.declared.setup.Setup.{Setup}
-use Rattle.roles.specs.Role.{other}
+use Rattle.shared_terms.specs.Role.{other}
 use Rattle.link_account.specs.Account.{size_for, window_for}
 
 -- an end may be set up so

@@ -1,6 +1,6 @@
 -- For which account an end stands, and what its calls then answer. An end keeps of its account what its state can still need.
 use Rattle.std.specs.Prelude.{◌≡◌, ℕ, ◌≤◌, Bool, false, if◌then◌else◌, nat_lt, length, Option, Some, None, Result, Ok, Err, slice_index_or}
-use Rattle.roles.specs.declared.role.Role.TheVariants.{Originator, Answerer}
+use Rattle.shared_terms.specs.declared.role.Role.TheVariants.{Originator, Answerer}
 use Rattle.xid_params.specs.declared.terms.Terms.{Terms}
 use Rattle.lapm_sender.specs.Outgoing as outgoing
 use Rattle.lapm_sender.specs.Outgoing.{Outgoing}
@@ -12,7 +12,7 @@ use Rattle.break_signals.specs.Keeping.{StandsOwn, StandsTheirs}
 use Rattle.link_account.specs.declared.setup.Setup.{Setup}
 use Rattle.link_account.specs.declared.answer.Answer.{Answer}
 use Rattle.lapm_frames.specs.declared.sent.Sent.{Sent}
-use Rattle.causes.specs.declared.fault.LinkFault.{LinkFault}
+use Rattle.shared_terms.specs.declared.fault.LinkFault.{LinkFault}
 use Rattle.link_account.specs.declared.phase.Phase.{Phase}
 use Rattle.link_account.specs.declared.phase.Phase.TheVariants as phases
 use Rattle.lapm_link.specs.declared.attempt.Attempt.{Attempt}

@@ -1,7 +1,7 @@
 // An answerer that has heard an offer.
 ghost use Rattle.lapm_frames.specs.Sendable.{IsSendable};
 ghost use Rattle.std.specs.Prelude.{◌≡◌};
-ghost use Rattle.roles.specs.declared.role.Role.{Role};
+ghost use Rattle.shared_terms.specs.declared.role.Role.{Role};
 ghost use Rattle.xid_params.specs.Offers.{IsAllowed, offer_in};
 ghost use Rattle.xid_params.specs.Terms.{agree};
 

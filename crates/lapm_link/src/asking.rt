@@ -1,7 +1,7 @@
 // An originator that sends its offer.
 ghost use Rattle.lapm_frames.specs.Sendable.{IsSendable};
 ghost use Rattle.std.specs.Prelude.{◌≡◌, IfOk, OnErr};
-ghost use Rattle.roles.specs.declared.role.Role.{Role};
+ghost use Rattle.shared_terms.specs.declared.role.Role.{Role};
 ghost use Rattle.xid_params.specs.Offers.{offer_in};
 
 use crate::attempt::Attempt;

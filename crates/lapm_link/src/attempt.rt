@@ -6,8 +6,8 @@ ghost use Rattle.std.specs.Prelude.{◌≡◌, true, IfOk};
 
 use crate::timer::spent;
 use crate::{LinkFault, Sent, Setup};
-use causes::is_expired;
 use lapm_frames::Frame;
+use shared_terms::is_expired;
 
 /// A frame that goes until it is answered: an originator's XID command, SABME or DISC.
 #[derive(Clone, Copy)]

@@ -1,9 +1,9 @@
 // An end that looks for the other one.
 ghost use Rattle.lapm_frames.specs.Sendable.{IsSendable};
 ghost use Rattle.std.specs.Prelude.{◌≡◌, ◌<◌, ◌^◌, nat_le, IfOk, OnErr};
-ghost use Rattle.roles.specs.declared.role.Role.{Role};
+ghost use Rattle.shared_terms.specs.declared.role.Role.{Role};
 ghost use Rattle.xid_params.specs.Offers.{offer_in};
-ghost use Rattle.causes.specs.Timer.{wait};
+ghost use Rattle.shared_terms.specs.Timer.{wait};
 ghost use Rattle.lapm_link.specs.Fits.{IsSetUp};
 
 use crate::answering::Answering;
@@ -12,12 +12,11 @@ use crate::offers::offer_of;
 use crate::terms::first_terms;
 use crate::unlinked::Unlinked;
 use crate::{AnyEnd, Arrived, Broken, LinkFault, Sent, Setup};
-use causes::wait;
 use frame_check::Info;
 use lapm_frames::{Frame, Seen};
 use link_account::Answer;
 use outside_calls::NoMemory;
-use roles::Role;
+use shared_terms::{Role, wait};
 use std::alloc::Global;
 use xid_params::default_offer;
 

@@ -2,14 +2,14 @@
 ghost use Rattle.std.specs.Prelude.{◌≡◌, ◌≤◌, length, IfSome};
 ghost use Rattle.plain_lists.specs.Octets.{AreOctets};
 ghost use Rattle.frame_check.specs.declared.sizes.TheConstants.{INFO};
-ghost use Rattle.roles.specs.declared.role.Role.{Role};
+ghost use Rattle.shared_terms.specs.declared.role.Role.{Role};
 ghost use Rattle.xid_params.specs.Terms.{agree};
 ghost use Rattle.xid_params.specs.Offers.{offer_in, written, IsAllowed};
 ghost use Rattle.lapm_link.specs.Fits.{agreed_by};
 
 use crate::carried::carried;
 use frame_check::Info;
-use roles::Role;
+use shared_terms::Role;
 use xid_params::{Offer, Terms, agree, read_offer, write_offer};
 
 /// The offer that the information spells, where it isn't refused.

@@ -15,7 +15,7 @@ use frame_check::Info;
 use lapm_frames::Frame;
 use lapm_sender::BadAck;
 use link_account::Answer;
-use roles::Role;
+use shared_terms::Role;
 
 /// What the end breaks by, where an acknowledgement is of no number that was sent.
 fn bad_ack(bad: BadAck) -> LinkFault
@@ -243,7 +243,7 @@ impl Connected {
 impl Connected {
     ghost use Rattle.link_account.specs.Account.{Account};
     ghost use Rattle.link_account.specs.Hear.{on_connected, hear};
-    ghost use Rattle.causes.specs.declared.fault.LinkFault.{LinkFault};
+    ghost use Rattle.shared_terms.specs.declared.fault.LinkFault.{LinkFault};
     ghost use Rattle.lapm_frames.specs.declared.frame.Frame.{Frame};
     ghost use Rattle.lapm_link.specs.Stands.{Links, StandsFor, Hears, Becomes, taken_of, undelivered_of, waiting_of};
     ghost use Rattle.link_account.specs.Numbers.{HasNumbers, IsNumbered};

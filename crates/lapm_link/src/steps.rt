@@ -15,9 +15,9 @@ use crate::releasing::Releasing;
 use crate::timer::{spent, started};
 use crate::{AnyEnd, Broken, LinkFault, Sent};
 use break_signals::{BreakWord, write_break};
-use causes::is_expired;
 use frame_check::Info;
 use lapm_frames::Frame;
+use shared_terms::is_expired;
 
 /// A break's word as it is sent.
 fn word_slot(word: &BreakWord) -> Sent

@@ -2,7 +2,7 @@
 ghost use Rattle.std.specs.Prelude.{◌≡◌};
 ghost use Rattle.link_account.specs.Account.{first_terms, size_for, window_for};
 
-use roles::Role;
+use shared_terms::Role;
 use xid_params::{Terms, agree, default_offer};
 
 /// The terms before any are agreed: those of two ends that offer nothing.

@@ -1,10 +1,10 @@
 // Timers by turns.
 ghost use Rattle.std.specs.Prelude.{◌≡◌};
-ghost use Rattle.causes.specs.Timer.{waited_since};
+ghost use Rattle.shared_terms.specs.Timer.{waited_since};
 ghost use Rattle.link_account.specs.Speak.{running};
 
 use crate::{LinkFault, Setup};
-use causes::waited_since;
+use shared_terms::waited_since;
 
 /// All tries are spent in this turn. `front` is the oldest segment that isn't acknowledged.
 pub(crate) fn spent(front: u64, turn: u64, setup: &Setup) -> LinkFault

@@ -8,7 +8,7 @@ use crate::user::serve;
 use crate::{Fault, Slot, Taken};
 use lapm_link::{AnyEnd, Detecting, Sent, Setup};
 use outside_calls::NoMemory;
-use roles::Role;
+use shared_terms::Role;
 use std::alloc::Global;
 
 /// No end has more turns.

@@ -5,7 +5,7 @@ use bit_stuffing::{Deframer, Piece};
 use frame_check::{Check, Octets};
 use lapm_frames::{Frame, read_checked};
 use line_texts::{FrameText, TEXT, write_frame_text};
-use roles::Role;
+use shared_terms::Role;
 
 /// The most octets of the names that are kept.
 const ROOM: usize = 1024;

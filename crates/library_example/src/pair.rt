@@ -4,7 +4,7 @@ ghost use Rattle.lapm_link.specs.Fits.{IsSetUp};
 use crate::end::LATEST;
 use crate::{End, Fault, Slot, Taken};
 use lapm_link::Setup;
-use roles::{Both, Role};
+use shared_terms::{Both, Role};
 use std::alloc::Global;
 use xid_params::default_offer;
 

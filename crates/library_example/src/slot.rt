@@ -5,7 +5,7 @@ ghost use Rattle.link_account.specs.Numbers.{IsNumbered};
 use frame_check::{Check, Whole};
 use lapm_frames::{Seen, read_checked, write_checked};
 use lapm_link::{Arrived, Sent};
-use roles::Role;
+use shared_terms::Role;
 
 /// What a line carries in a turn.
 #[derive(Drop)]

@@ -8,7 +8,7 @@ use Rattle.frame_check.specs.declared.check.Check.{Check}
 use Rattle.frame_check.specs.FrameCheck.{IsChecked, Passes}
 use Rattle.frame_check.specs.Division.{count_of, with_check}
 use Rattle.frame_check.proofs.Checks.{front-checked, with_check-is, with_check-one}
-use Rattle.roles.specs.declared.role.Role.{Role}
+use Rattle.shared_terms.specs.declared.role.Role.{Role}
 use Rattle.lapm_frames.specs.declared.frame.Frame.{Frame}
 use Rattle.lapm_frames.specs.Frame.{IsFrame, spelled}
 use Rattle.lapm_frames.specs.Parts.{parts_of}

@@ -4,10 +4,10 @@ use Rattle.std.proofs.Common.{sym, ◌∙◌, ap, subst, Option, Some, None}
 use Rattle.std.specs.Prelude.{is_some}
 use Rattle.std.specs.List.{concat}
 use Rattle.frame_check.specs.declared.check.Check.{Check}
-use Rattle.roles.specs.declared.role.Role.{Role}
-use Rattle.roles.specs.declared.role.Role.TheVariants.{Originator, Answerer}
-use Rattle.roles.specs.Role.{other}
-use Rattle.roles.specs.Both.{Both, of}
+use Rattle.shared_terms.specs.declared.role.Role.{Role}
+use Rattle.shared_terms.specs.declared.role.Role.TheVariants.{Originator, Answerer}
+use Rattle.shared_terms.specs.Role.{other}
+use Rattle.shared_terms.specs.Both.{Both, of}
 use Rattle.symbol_map.specs.declared.sample.Sample.{Sample}
 use Rattle.survivors.specs.Survivors.{LostIs}
 use Rattle.survivors.specs.V32.{line_depth, line_trellis}
@@ -20,10 +20,10 @@ use Rattle.bit_stuffing.proofs.Fill.{bits-append}
 use Rattle.std.proofs.lemmas.List.{map-append}
 use Rattle.sample_line.specs.Signals.{signal_of}
 use Rattle.sample_line.specs.Recorded.{Records}
-use Rattle.line_laws.specs.Fitting.{AreFit}
-use Rattle.line_laws.specs.Laws.{SlotsAreRecorded}
-use Rattle.causes.specs.declared.fault.LinkFault.{LinkFault}
-use Rattle.causes.specs.declared.fault.LinkFault.TheVariants as faults
+use Rattle.line_run.specs.Fitting.{AreFit}
+use Rattle.line_run.specs.Laws.{SlotsAreRecorded}
+use Rattle.shared_terms.specs.declared.fault.LinkFault.{LinkFault}
+use Rattle.shared_terms.specs.declared.fault.LinkFault.TheVariants as faults
 use Rattle.link_account.specs.Account.{check_of}
 use Rattle.link_run.specs.Run.{Accounts, Spoken, Turn, start}
 use Rattle.link_run.specs.Carried.{sent_ago}

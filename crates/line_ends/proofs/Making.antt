@@ -1,9 +1,9 @@
 -- What is heard makes a next turn.
 use Rattle.std.proofs.Common.{◌≡◌, List, length, refl, sym, ◌∙◌, subst, None}
-use Rattle.roles.specs.declared.role.Role.{Role}
-use Rattle.roles.specs.declared.role.Role.TheVariants.{Originator, Answerer}
-use Rattle.roles.specs.Role.{other}
-use Rattle.roles.specs.Both.{of}
+use Rattle.shared_terms.specs.declared.role.Role.{Role}
+use Rattle.shared_terms.specs.declared.role.Role.TheVariants.{Originator, Answerer}
+use Rattle.shared_terms.specs.Role.{other}
+use Rattle.shared_terms.specs.Both.{of}
 use Rattle.noise_script.specs.Script.{delay_of}
 use Rattle.link_account.specs.Account.{check_of}
 use Rattle.link_run.specs.Run.{Link, Accounts, Side, Turn, Hears}

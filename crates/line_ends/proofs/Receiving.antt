@@ -15,15 +15,15 @@ use Rattle.survivors.proofs.Least.{some-released}
 use Rattle.survivors.specs.V32.{line_depth, line_trellis}
 use Rattle.survivors.proofs.V32.{line-has-laws}
 use Rattle.line_coding.specs.Demodulates.{line_of}
-use Rattle.roles.specs.declared.role.Role.{Role}
-use Rattle.roles.specs.Role.{mode_of}
+use Rattle.shared_terms.specs.declared.role.Role.{Role}
+use Rattle.shared_terms.specs.Role.{mode_of}
 use Rattle.lapm_frames.specs.declared.seen.Seen.{Seen}
 use Rattle.detection.specs.Sights.{Sight, SightsAdded}
 use Rattle.noise_script.specs.Script.{ScriptValue}
 use Rattle.sample_line.specs.Recorded.{Records}
 use Rattle.sample_line.specs.Received.{Gives, FoundBetween, Receives}
 use Rattle.sample_line.specs.Laws.{RecordingsGrow, GivenStays}
-use Rattle.line_laws.proofs.Recordings.{tap-some}
+use Rattle.line_run.proofs.Recordings.{tap-some}
 use Rattle.line_ends.proofs.Deciding.{Decided, some-pass}
 
 -- labels carry bits

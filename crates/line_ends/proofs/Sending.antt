@@ -5,10 +5,10 @@ use Rattle.std.specs.Prelude.{unwrap_or}
 use Rattle.std.proofs.lemmas.List.Elements.{All-nil, All-map, All-filter}
 use Rattle.frame_check.specs.declared.sizes.TheConstants.{INFO}
 use Rattle.plain_lists.specs.Octets.{AreOctets}
-use Rattle.roles.specs.declared.role.Role.{Role}
-use Rattle.roles.specs.declared.role.Role.TheVariants.{Originator, Answerer}
-use Rattle.roles.specs.Role.{other, same_role}
-use Rattle.roles.specs.Both.{Both, of}
+use Rattle.shared_terms.specs.declared.role.Role.{Role}
+use Rattle.shared_terms.specs.declared.role.Role.TheVariants.{Originator, Answerer}
+use Rattle.shared_terms.specs.Role.{other, same_role}
+use Rattle.shared_terms.specs.Both.{Both, of}
 use Rattle.xid_params.specs.Offers.{IsAllowed}
 use Rattle.break_signals.specs.Words.{IsSpelledBack}
 use Rattle.lapm_frames.specs.declared.frame.Frame.{Frame}

@@ -1,12 +1,12 @@
 -- A run that ends by a lost link was starved, and what else its end says.
 use Rattle.std.proofs.Common.{arith, ◌≡◌, ◌∙◌, ℕ, List, [], map, filter, ap}
-use Rattle.roles.specs.declared.role.Role.{Role}
-use Rattle.roles.specs.declared.role.Role.TheVariants.{Originator, Answerer}
-use Rattle.roles.specs.Role.{same_role}
-use Rattle.roles.specs.Both.{Both, of}
+use Rattle.shared_terms.specs.declared.role.Role.{Role}
+use Rattle.shared_terms.specs.declared.role.Role.TheVariants.{Originator, Answerer}
+use Rattle.shared_terms.specs.Role.{same_role}
+use Rattle.shared_terms.specs.Both.{Both, of}
 use Rattle.noise_script.specs.declared.entry.Break.{Break}
 use Rattle.noise_script.specs.Script.{ScriptValue, IsInLimits, delay_of}
-use Rattle.causes.specs.declared.fault.LinkFault.TheVariants as faults
+use Rattle.shared_terms.specs.declared.fault.LinkFault.TheVariants as faults
 use Rattle.link_run.specs.Run.{Accounts, Turn}
 use Rattle.link_run.specs.Laws.{RunsOver, DoneIsWhole, HearingsGiveAllBreaks}
 use Rattle.turn_losses.specs.Losses.{OriginatorWantsPattern, UndetectedOnTime, StarvedLosesMany}

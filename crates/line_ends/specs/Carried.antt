@@ -1,6 +1,6 @@
 -- Runs that neither the line nor losses keep from their end.
 use Rattle.std.specs.Prelude.{List, ℕ}
-use Rattle.roles.specs.Both.{Both}
+use Rattle.shared_terms.specs.Both.{Both}
 use Rattle.noise_script.specs.Script.{ScriptValue}
 use Rattle.line_run.specs.Ends.{RunEnd, Left, StarvedBy}
 use Rattle.line_ends.specs.Causes.{GivesUp}

@@ -1,8 +1,8 @@
 -- Why a script's run over the line of samples ends as it does.
 use Rattle.std.specs.Prelude.{◌≡◌, ℕ, ◌+◌, ◌*◌, ◌<◌, false, List, [], ◌∷◌, length}
-use Rattle.roles.specs.declared.role.Role.{Role}
-use Rattle.roles.specs.Role.{other}
-use Rattle.roles.specs.Both.{Both, of}
+use Rattle.shared_terms.specs.declared.role.Role.{Role}
+use Rattle.shared_terms.specs.Role.{other}
+use Rattle.shared_terms.specs.Both.{Both, of}
 use Rattle.noise_script.specs.Script.{IsInLimits}
 use Rattle.link_account.specs.Account.{break_waits, check_of}
 use Rattle.link_run.specs.Run.{Link, Accounts, Turn, served_at}

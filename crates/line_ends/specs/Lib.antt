@@ -3,3 +3,5 @@ pub mod Carried
 pub mod EachEnds
 pub use Rattle.line_run.specs.Scripts
 pub mod Causes
+pub mod Readable
+pub mod Lines

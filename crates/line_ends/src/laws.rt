@@ -6,7 +6,7 @@ ghost use Rattle.line_ends.specs.Completes.{OctetsAreSendable, CompletesWithFewN
 
 use break_signals::laws::is_spelled_back;
 use detection::laws::sights_stay;
-use line_laws::laws::{
+use line_run::direction::{
     each_list_of_fours_is_recorded, faint_lines_are_never_lost, heard_is_sent,
     scripts_displace_by_their_lines_alone, what_is_received_of_faint_lines_is_sent,
 };

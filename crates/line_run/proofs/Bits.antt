@@ -4,8 +4,8 @@ use Rattle.std.proofs.lemmas.List.{map-append}
 use Rattle.bit_stuffing.specs.Slots.{sent_bits}
 use Rattle.bit_stuffing.proofs.Fill.{bits-append}
 use Rattle.detection.specs.Slots.{Signal, slot_of, slots_of, signal_bits}
-use Rattle.roles.specs.declared.role.Role.{Role}
-use Rattle.roles.specs.Both.{of}
+use Rattle.shared_terms.specs.declared.role.Role.{Role}
+use Rattle.shared_terms.specs.Both.{of}
 use Rattle.sample_line.specs.Line.{bits_behind}
 use Rattle.sample_line.specs.Signals.{signal_of}
 use Rattle.link_run.specs.Run.{Spoken, Turn}

@@ -2,9 +2,9 @@
 use Rattle.std.proofs.Common.{◌≡◌, ℕ, ◌+◌, ◌-◌, ◌*◌, ◌/◌, ◌<◌, ◌≤◌, max, length, arith, refl, Some}
 use Rattle.frame_check.specs.declared.check.Check.{Check}
 use Rattle.bit_stuffing.specs.declared.slot_writer.TheConstants.{TAIL}
-use Rattle.roles.specs.declared.role.Role.{Role}
-use Rattle.roles.specs.declared.role.Role.TheVariants.{Originator, Answerer}
-use Rattle.roles.specs.Both.{of}
+use Rattle.shared_terms.specs.declared.role.Role.{Role}
+use Rattle.shared_terms.specs.declared.role.Role.TheVariants.{Originator, Answerer}
+use Rattle.shared_terms.specs.Both.{of}
 use Rattle.lapm_frames.specs.declared.frame.Frame.{Frame}
 use Rattle.lapm_frames.specs.Checked.{checked}
 use Rattle.lapm_frames.specs.Frame.{information_of}
@@ -13,7 +13,7 @@ use Rattle.lapm_frames.specs.declared.sent.Sent.TheVariants as sent
 use Rattle.lapm_frames.specs.Sendable.{IsSendable}
 use Rattle.noise_script.specs.Script.{delay_of}
 use Rattle.sample_line.specs.Signals.{IsCodable}
-use Rattle.line_laws.specs.Laws.{FewOctetsBesidesInformation, ShortIsCodable}
+use Rattle.line_run.specs.Laws.{FewOctetsBesidesInformation, ShortIsCodable}
 use Rattle.link_run.specs.Laws.{SendsShort}
 use Rattle.line_run.specs.Scripted.{link_of, slot_symbols, longest_of, SlotsHaveRoom, SlotsAreCodable}
 use Rattle.line_run.proofs.Sampling.{samples_are_carried, one_is_carried}

@@ -5,8 +5,8 @@ use Rattle.std.specs.Prelude.{slice_get, is_some}
 use Rattle.std.proofs.lemmas.Bool.{false≢true}
 use Rattle.std.proofs.lemmas.List.{map-append, length-drop}
 use Rattle.std.proofs.Math.Seq.{take-append_seam, drop-append_seam}
-use Rattle.roles.specs.declared.role.Role.{Role}
-use Rattle.roles.specs.Both.{of}
+use Rattle.shared_terms.specs.declared.role.Role.{Role}
+use Rattle.shared_terms.specs.Both.{of}
 use Rattle.noise_script.specs.Script.{delay_of}
 use Rattle.link_run.specs.Run.{Link, Accounts, Spoken, Turn, RunOf}
 use Rattle.link_run.specs.Carried.{sent_in, sent_ago}

@@ -1,13 +1,13 @@
 -- How a run over the line of samples ends, and what it then leaves: the octets of both users and the trace.
 use Rattle.std.specs.Prelude.{◌≡◌, ℕ, List, ◌++◌, ◌∷◌, length}
 use Rattle.std.specs.List.{concat}
-use Rattle.roles.specs.declared.role.Role.{Role}
-use Rattle.roles.specs.declared.role.Role.TheVariants.{Originator}
-use Rattle.roles.specs.Role.{other}
-use Rattle.roles.specs.Both.{Both, of}
+use Rattle.shared_terms.specs.declared.role.Role.{Role}
+use Rattle.shared_terms.specs.declared.role.Role.TheVariants.{Originator}
+use Rattle.shared_terms.specs.Role.{other}
+use Rattle.shared_terms.specs.Both.{Both, of}
 use Rattle.plain_lists.specs.Prefix.{IsPrefixOf}
 use Rattle.noise_script.specs.Script.{ScriptValue, delay_of}
-use Rattle.causes.specs.declared.fault.LinkFault.TheVariants as faults
+use Rattle.shared_terms.specs.declared.fault.LinkFault.TheVariants as faults
 use Rattle.link_account.specs.Laws.{MayPlay}
 use Rattle.link_run.specs.Run.{Link, Accounts, Turn}
 use Rattle.link_run.specs.Carried.{HasDelays}

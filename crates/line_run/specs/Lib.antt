@@ -6,3 +6,7 @@ pub mod Scripted
 pub mod Ends
 pub mod LineLaws
 pub mod Scripts
+pub mod Fitting
+pub mod Unhindered
+pub mod Faint
+pub mod Laws

@@ -3,10 +3,10 @@ use Rattle.std.specs.Prelude.{◌≡◌, ℕ, ◌+◌, ◌*◌, ◌/◌, ◌<◌
 use Rattle.std.specs.Option.{option_map}
 use Rattle.frame_check.specs.declared.sizes.TheConstants.{SLOT}
 use Rattle.bit_stuffing.specs.declared.slot_writer.TheConstants.{HEAD, TAIL}
-use Rattle.roles.specs.declared.role.Role.{Role}
-use Rattle.roles.specs.declared.role.Role.TheVariants.{Originator, Answerer}
-use Rattle.roles.specs.Role.{same_role}
-use Rattle.roles.specs.Both.{Both, of}
+use Rattle.shared_terms.specs.declared.role.Role.{Role}
+use Rattle.shared_terms.specs.declared.role.Role.TheVariants.{Originator, Answerer}
+use Rattle.shared_terms.specs.Role.{same_role}
+use Rattle.shared_terms.specs.Both.{Both, of}
 use Rattle.noise_script.specs.declared.entry.Break.{Break}
 use Rattle.noise_script.specs.declared.entry.Pause.{Pause}
 use Rattle.noise_script.specs.Script.{ScriptValue, IsInLimits, delay_of, offer_of, break_of}

@@ -1,8 +1,8 @@
 -- What goes over a direction of the line in order, whatever links send it.
 use Rattle.std.specs.Prelude.{◌≡◌, ℕ, suc, ◌-◌, ◌<◌, ◌≤◌, is_some, true, List, [], ◌∷◌, ◌++◌, length, map, take, drop, Option, Some, None}
-use Rattle.roles.specs.declared.role.Role.{Role}
-use Rattle.roles.specs.declared.role.Role.TheVariants.{Originator, Answerer}
-use Rattle.roles.specs.Both.{Both, of}
+use Rattle.shared_terms.specs.declared.role.Role.{Role}
+use Rattle.shared_terms.specs.declared.role.Role.TheVariants.{Originator, Answerer}
+use Rattle.shared_terms.specs.Both.{Both, of}
 use Rattle.detection.specs.Slots.{Signal}
 use Rattle.lapm_frames.specs.Sendable.{IsSendable}
 use Rattle.noise_script.specs.Script.{delay_of}

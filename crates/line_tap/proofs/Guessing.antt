@@ -6,7 +6,7 @@ use Rattle.std.proofs.lemmas.List.{map-append, drop-map}
 use Rattle.std.proofs.lemmas.List.Elements.{All-append, All-drop}
 use Rattle.frame_check.specs.declared.check.Check.{Check}
 use Rattle.scramblers.proofs.Readings.{Descrambles_once}
-use Rattle.roles.specs.declared.role.Role.{Role}
+use Rattle.shared_terms.specs.declared.role.Role.{Role}
 use Rattle.symbol_map.specs.declared.sample.Sample.{Sample}
 use Rattle.symbol_map.specs.Points.{point_of}
 use Rattle.symbol_map.specs.Laws.{PointsDiffer}
@@ -25,8 +25,8 @@ use Rattle.line_coding.specs.Modulates.{Modulates}
 use Rattle.line_coding.specs.Demodulates.{line_of, Demodulates}
 use Rattle.sample_line.specs.Signals.{signal_of, IsCodable}
 use Rattle.sample_line.specs.Line.{bits_behind}
-use Rattle.line_laws.specs.Fitting.{AreFit}
-use Rattle.line_laws.specs.Laws.{OneMoreFits, SlotsThatFitAreSlots, CodableFits, CodableIsSendable, SpelledInOctets, SlotsTellWhatWasSent}
+use Rattle.line_run.specs.Fitting.{AreFit}
+use Rattle.line_run.specs.Laws.{OneMoreFits, SlotsThatFitAreSlots, CodableFits, CodableIsSendable, SpelledInOctets, SlotsTellWhatWasSent}
 use Rattle.line_tap.specs.Labels.{AreLabels}
 use Rattle.line_tap.specs.Seeking.{IsFrameOf, Seeks}
 use Rattle.line_tap.specs.Reading.{is_plain, plain_bits, IsGuess}

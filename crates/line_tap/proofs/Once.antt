@@ -9,15 +9,15 @@ use Rattle.scramblers.specs.Mode.{tap_of}
 use Rattle.bit_stuffing.specs.declared.slot_writer.TheConstants.{HEAD, TAIL}
 use Rattle.bit_stuffing.proofs.Fill.{phase-low}
 use Rattle.detection.specs.Slots.{slots_of}
-use Rattle.roles.specs.declared.role.Role.{Role}
-use Rattle.roles.specs.declared.role.Role.TheVariants.{Originator, Answerer}
-use Rattle.roles.specs.Role.{other, mode_of}
-use Rattle.roles.specs.Both.{of}
+use Rattle.shared_terms.specs.declared.role.Role.{Role}
+use Rattle.shared_terms.specs.declared.role.Role.TheVariants.{Originator, Answerer}
+use Rattle.shared_terms.specs.Role.{other, mode_of}
+use Rattle.shared_terms.specs.Both.{of}
 use Rattle.symbol_map.specs.Laws.{PointsDiffer}
 use Rattle.lapm_frames.specs.declared.sent.Sent.{Sent}
 use Rattle.lapm_frames.specs.declared.heard.Heard.{Heard}
 use Rattle.line_texts.specs.LineText.{chance_line}
-use Rattle.line_laws.specs.Laws.{SlotsTellWhatWasSent}
+use Rattle.line_run.specs.Laws.{SlotsTellWhatWasSent}
 use Rattle.link_run.specs.Run.{Spoken, Side, Turn}
 use Rattle.link_run.specs.Trace.{trace_text}
 use Rattle.link_run.specs.Listened.{check_by, judged_by, received, given_to}

@@ -13,10 +13,10 @@ use Rattle.scramblers.specs.Mode.{tap_of}
 use Rattle.bit_stuffing.specs.declared.slot_writer.TheConstants.{HEAD, TAIL}
 use Rattle.bit_stuffing.specs.Slots.{opening, phase_after}
 use Rattle.sample_line.specs.Line.{bits_behind}
-use Rattle.roles.specs.declared.role.Role.{Role}
-use Rattle.roles.specs.declared.role.Role.TheVariants.{Originator, Answerer}
-use Rattle.roles.specs.Role.{other, mode_of}
-use Rattle.roles.specs.Both.{Both, of}
+use Rattle.shared_terms.specs.declared.role.Role.{Role}
+use Rattle.shared_terms.specs.declared.role.Role.TheVariants.{Originator, Answerer}
+use Rattle.shared_terms.specs.Role.{other, mode_of}
+use Rattle.shared_terms.specs.Both.{Both, of}
 use Rattle.symbol_map.specs.Laws.{NoDistanceIsEqual}
 use Rattle.line_coding.specs.Modulates.{Modulates}
 use Rattle.recordings.specs.Samples.{samples_in}
@@ -31,8 +31,8 @@ use Rattle.xid_params.specs.declared.terms.Terms.{Terms}
 use Rattle.noise_script.specs.Script.{ScriptValue, IsInLimits, delay_of}
 use Rattle.sample_line.specs.Signals.{signal_of, IsCodable}
 use Rattle.line_texts.specs.LineText.{chance_line}
-use Rattle.line_laws.specs.Fitting.{AreFit}
-use Rattle.line_laws.specs.Laws.{OneMoreFits, SlotsHaveSize, CodableFits, CodableIsSendable, SpelledInOctets}
+use Rattle.line_run.specs.Fitting.{AreFit}
+use Rattle.line_run.specs.Laws.{OneMoreFits, SlotsHaveSize, CodableFits, CodableIsSendable, SpelledInOctets}
 use Rattle.link_account.specs.Account.{check_of}
 use Rattle.link_run.specs.Run.{Link, Accounts, Spoken, Turn, spoken, RunOf, GoingTurn, IsSilent}
 use Rattle.link_run.specs.Run as run

@@ -4,9 +4,9 @@
 use Rattle.std.specs.Prelude.{◌≡◌, ℕ, ◌+◌, ◌*◌, ◌≤◌, Bool, List, [], ◌∷◌, ◌++◌, length, take, Some}
 use Rattle.scramblers.specs.Mode.{tap_of}
 use Rattle.frame_check.specs.declared.check.Check.{Check}
-use Rattle.roles.specs.declared.role.Role.{Role}
-use Rattle.roles.specs.Role.{mode_of}
-use Rattle.roles.specs.Both.{Both, of}
+use Rattle.shared_terms.specs.declared.role.Role.{Role}
+use Rattle.shared_terms.specs.Role.{mode_of}
+use Rattle.shared_terms.specs.Both.{Both, of}
 use Rattle.line_coding.specs.Modulates.{Modulates}
 use Rattle.recordings.specs.Samples.{samples_in}
 use Rattle.bit_stuffing.specs.Slots.{phase_after}

@@ -6,7 +6,7 @@ ghost use Rattle.line_texts.specs.declared.words.TheConstants.{TEXT};
 use crate::slots::{is_chance, put_given, put_heard, put_sent};
 use crate::{LineText, put_decimal};
 use lapm_frames::{Heard, Sent};
-use roles::Role;
+use shared_terms::Role;
 
 /// A line of a trace: what an end heard and sent in a turn.
 #[derive(Drop)]

@@ -17,9 +17,9 @@ use Rattle.break_signals.specs.Words.{word_in, spelled}
 use Rattle.break_signals.specs.Breaks.{own_due}
 use Rattle.lapm_frames.specs.declared.sent.Sent.{Sent}
 use Rattle.lapm_frames.specs.declared.sent.Sent.TheVariants as slots
-use Rattle.causes.specs.declared.fault.LinkFault.{LinkFault}
+use Rattle.shared_terms.specs.declared.fault.LinkFault.{LinkFault}
 use Rattle.link_account.specs.Account.{Account}
-use Rattle.roles.specs.Role.{is_originator}
+use Rattle.shared_terms.specs.Role.{is_originator}
 use Rattle.link_account.specs.Hear.{on_connected, on_i, on_ready, on_rej, on_srej, on_number, on_word, then_in, replying, hurrying, taking}
 use Rattle.link_account.specs.Hear.{ends_wait, timer_after, on_rnr, pausing}
 use Rattle.link_account.specs.Speak.{Said, says, says_frame, else_says, where_says, steps, step1, step2, step3, step4, step5, step6, step7}

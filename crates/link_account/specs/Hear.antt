@@ -2,9 +2,9 @@
 -- Connected end breaks where an acknowledgement is of no number that was sent, or where the other end begins anew or refuses.
 use Rattle.std.specs.Prelude.{ℕ, ◌%◌, Bool, true, false, not, if◌then◌else◌, ◌&&◌, ◌||◌, nat_lt, List, Option, Some, None, Result, Ok, Err}
 use Rattle.std.specs.Option.{option_map}
-use Rattle.roles.specs.declared.role.Role.{Role}
-use Rattle.roles.specs.declared.role.Role.TheVariants.{Originator, Answerer}
-use Rattle.roles.specs.Role.{other}
+use Rattle.shared_terms.specs.declared.role.Role.{Role}
+use Rattle.shared_terms.specs.declared.role.Role.TheVariants.{Originator, Answerer}
+use Rattle.shared_terms.specs.Role.{other}
 use Rattle.lapm_frames.specs.declared.frame.Frame.{Frame}
 use Rattle.lapm_frames.specs.declared.frame.Frame.TheVariants.{I, Rr, Rnr, Rej, Srej, Sabme, Disc, Ua, Dm, Frmr, Ui, Xid}
 use Rattle.xid_params.specs.declared.offer.Offer.{Offer}
@@ -25,12 +25,12 @@ use Rattle.lapm_frames.specs.declared.arrived.Arrived.{Arrived}
 use Rattle.lapm_frames.specs.declared.arrived.Arrived.TheVariants as arrivals
 use Rattle.link_account.specs.declared.phase.Phase.{Phase}
 use Rattle.link_account.specs.declared.phase.Phase.TheVariants.{Detecting, Negotiating, Establishing, Connected, Releasing, Closed}
-use Rattle.causes.specs.declared.fault.LinkFault.{LinkFault}
-use Rattle.causes.specs.declared.fault.LinkFault.TheVariants.{BadAck, PeerReset, PeerRefused}
+use Rattle.shared_terms.specs.declared.fault.LinkFault.{LinkFault}
+use Rattle.shared_terms.specs.declared.fault.LinkFault.TheVariants.{BadAck, PeerReset, PeerRefused}
 use Rattle.link_account.specs.declared.answer.Answer.{Answer}
 use Rattle.link_account.specs.declared.answer.Answer.TheVariants as answers
 use Rattle.link_account.specs.Account.{Account, Wait, size_for, window_for}
-use Rattle.roles.specs.Role.{is_originator}
+use Rattle.shared_terms.specs.Role.{is_originator}
 
 -- an answer becomes due in the place of any that is
 abbrev pub owing : Answer → Account → Account

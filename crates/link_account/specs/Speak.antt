@@ -1,12 +1,12 @@
 -- What an end sends and then is: one definition a rule, then one a phase. A Connected end looks at its timers first, and then
 -- sends what the first of nine steps gives that applies. An end breaks once all its tries are spent.
 use Rattle.std.specs.Prelude.{not, ℕ, ◌+◌, ◌-◌, ◌%◌, Bool, true, false, if◌then◌else◌, ◌&&◌, ◌||◌, nat_eq, nat_le, [], length, Option, Some, None, Result, Ok, Err, slice_index_or}
-use Rattle.roles.specs.declared.role.Role.{Role}
-use Rattle.roles.specs.declared.role.Role.TheVariants.{Originator, Answerer}
+use Rattle.shared_terms.specs.declared.role.Role.{Role}
+use Rattle.shared_terms.specs.declared.role.Role.TheVariants.{Originator, Answerer}
 use Rattle.lapm_frames.specs.declared.frame.Frame.{Frame}
 use Rattle.lapm_frames.specs.declared.frame.Frame.TheVariants.{I, Rr, Rnr, Rej, Srej, Sabme, Disc, Ua, Dm, Ui, Xid}
 use Rattle.xid_params.specs.Offers.{written}
-use Rattle.causes.specs.Timer.{expires, wait, waited_since}
+use Rattle.shared_terms.specs.Timer.{expires, wait, waited_since}
 use Rattle.lapm_sender.specs.Outgoing.{Outgoing, next_number, after_next, expired}
 use Rattle.lapm_receiver.specs.Incoming.{next_expected, asks, after_asked, after_told}
 use Rattle.break_signals.specs.declared.word.BreakWord.{BreakWord}
@@ -16,12 +16,12 @@ use Rattle.lapm_frames.specs.declared.sent.Sent.{Sent}
 use Rattle.lapm_frames.specs.declared.sent.Sent.TheVariants as slots
 use Rattle.link_account.specs.declared.phase.Phase.{Phase}
 use Rattle.link_account.specs.declared.phase.Phase.TheVariants.{Detecting, Negotiating, Establishing, Connected, Releasing, Closed}
-use Rattle.causes.specs.declared.fault.LinkFault.{LinkFault}
-use Rattle.causes.specs.declared.fault.LinkFault.TheVariants.{NotDetected, Spent}
+use Rattle.shared_terms.specs.declared.fault.LinkFault.{LinkFault}
+use Rattle.shared_terms.specs.declared.fault.LinkFault.TheVariants.{NotDetected, Spent}
 use Rattle.link_account.specs.declared.answer.Answer.{Answer}
 use Rattle.link_account.specs.declared.answer.Answer.TheVariants as answers
 use Rattle.link_account.specs.Account.{Account}
-use Rattle.roles.specs.Role.{is_originator}
+use Rattle.shared_terms.specs.Role.{is_originator}
 use Rattle.link_account.specs.Hear.{trying}
 
 -- What is sent, its meant number, and the account after it. The meant number is, of an I frame, that of its segment, of an SREJ the one asked for,

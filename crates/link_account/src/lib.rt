@@ -12,7 +12,7 @@ mod phase;
 mod setup;
 
 pub use answer::Answer;
-pub use causes::LinkFault;
 pub use owes::Owes;
 pub use phase::Phase;
 pub use setup::Setup;
+pub use shared_terms::LinkFault;

@@ -1,6 +1,6 @@
 // How an end is set up.
 
-use roles::Role;
+use shared_terms::Role;
 use xid_params::Offer;
 
 /// How an end is set up: what it is and offers, how often it tries, and its timer's length in turns.

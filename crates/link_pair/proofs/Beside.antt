@@ -5,7 +5,7 @@ use Rattle.outside_calls.proofs.OnlyOutputs.{told_earlier}
 use Rattle.outside_calls.proofs.Steps.{octets-kept}
 use Rattle.outside_calls.specs.Outputs.{AreApartFrom, IsNoneOf, KeepsEach, OnlyPuts, SomeRose}
 use Rattle.outside_calls.proofs.Putting.{HoldEach-kept}
-use Rattle.roles.specs.Both.{Both}
+use Rattle.shared_terms.specs.Both.{Both}
 use Rattle.turn_bound.specs.Limits.{file_limit}
 use Rattle.stations.specs.Station.{file_at}
 use Rattle.line_run.specs.Names.{Written, inputs_of, outputs_of}

@@ -6,13 +6,13 @@ use Rattle.outside_calls.specs.Folder.{FolderState, GoesOn, KeepsName}
 use Rattle.outside_calls.specs.Outputs.{OnlyPuts, Holds, HoldEach}
 use Rattle.outside_calls.proofs.Holding.{Holds-kept, Holds-more, HoldsPart-more}
 use Rattle.outside_calls.proofs.Putting.{HoldEach-kept, HoldEach-add, HoldPart-add}
-use Rattle.roles.specs.declared.role.Role.{Role}
-use Rattle.roles.specs.declared.role.Role.TheVariants.{Originator, Answerer}
-use Rattle.roles.specs.Both.{Both, of}
+use Rattle.shared_terms.specs.declared.role.Role.{Role}
+use Rattle.shared_terms.specs.declared.role.Role.TheVariants.{Originator, Answerer}
+use Rattle.shared_terms.specs.Both.{Both, of}
 use Rattle.detection.specs.Slots.{Signal}
 use Rattle.noise_script.specs.Script.{ScriptValue}
 use Rattle.line_texts.specs.LineText.{chance_line}
-use Rattle.causes.specs.declared.fault.LinkFault.TheVariants as causes
+use Rattle.shared_terms.specs.declared.fault.LinkFault.TheVariants as causes
 use Rattle.link_account.specs.Account.{check_of}
 use Rattle.link_run.specs.End.{deliveries}
 use Rattle.link_run.specs.Laws.{HearingsDeliver, SpeakingTakesNothing}

@@ -1,7 +1,7 @@
 // A link of a pair, in its part of a round.
 ghost use Rattle.std.specs.Prelude.{◌≡◌, ℕ, ◌<◌, [], ◌∷◌, is_some, true, List, Option, None, OnOk, OnErr, IfOk, IfErr};
-ghost use Rattle.roles.specs.declared.role.Role.{Role};
-ghost use Rattle.roles.specs.Both.{Both};
+ghost use Rattle.shared_terms.specs.declared.role.Role.{Role};
+ghost use Rattle.shared_terms.specs.Both.{Both};
 ghost use Rattle.detection.specs.Slots.{Signal};
 ghost use Rattle.line_texts.specs.LineText.{chance_line};
 ghost use Rattle.line_run.specs.Sampled.{Wire};
@@ -22,9 +22,9 @@ use line_run::laws::scripts_make_links;
 use link_run::laws::turns_deliver_what_came;
 use noise_script::Script;
 use outside_calls::{Folder, FolderFault, NoMemory};
-use roles::{Both, Role};
 use run_world::{Modems, Names, RunFault, Step};
 use shared_line::{LineEnd, Lines};
+use shared_terms::{Both, Role};
 use stations::append_chance;
 use std::alloc::Global;
 

@@ -2,7 +2,7 @@
 ghost use Rattle.std.specs.Prelude.{◌≡◌, ℕ, ◌+◌, Ok, Some, None, Option, Result, List, IfOk, IfErr};
 ghost use Rattle.outside_calls.specs.Folder.{FolderState};
 ghost use Rattle.outside_calls.specs.Outputs.{AreApartFrom, Creates, OnlyPuts};
-ghost use Rattle.roles.specs.Both.{Both};
+ghost use Rattle.shared_terms.specs.Both.{Both};
 ghost use Rattle.line_run.specs.Names.{written};
 ghost use Rattle.pair_run.specs.Beside.{first_dlci, second_dlci};
 ghost use Rattle.pair_run.specs.Ends.{First, Second};

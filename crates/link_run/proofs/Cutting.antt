@@ -11,8 +11,8 @@ use Rattle.std.specs.Prelude.{is_some, unwrap_or}
 use Rattle.link_account.specs.declared.setup.Setup.{Setup}
 use Rattle.xid_params.specs.declared.terms.Terms.{Terms}
 use Rattle.xid_params.specs.Offers.{IsAllowed}
-use Rattle.roles.specs.declared.role.Role.{Role}
-use Rattle.roles.specs.declared.role.Role.TheVariants.{Originator, Answerer}
+use Rattle.shared_terms.specs.declared.role.Role.{Role}
+use Rattle.shared_terms.specs.declared.role.Role.TheVariants.{Originator, Answerer}
 use Rattle.lapm_sender.specs.Outgoing.{Outgoing, wanted, with_piece}
 use Rattle.link_account.specs.declared.phase.Phase.{Phase}
 use Rattle.link_account.specs.declared.phase.Phase.TheVariants.{Detecting, Negotiating, Establishing, Connected, Releasing, Closed}

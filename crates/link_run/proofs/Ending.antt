@@ -1,8 +1,8 @@
 -- What holds once the originator was told to release, and in the end.
 use Rattle.std.proofs.Common.{◌≡◌, inl, inr, ℕ, ◌≤◌, Bool, true, false, cond, List, [], ◌∷◌, length, refl, sym, ◌∙◌, ap, subst, Option}
-use Rattle.roles.specs.declared.role.Role.{Role}
-use Rattle.roles.specs.declared.role.Role.TheVariants.{Originator, Answerer}
-use Rattle.roles.specs.Both.{of}
+use Rattle.shared_terms.specs.declared.role.Role.{Role}
+use Rattle.shared_terms.specs.declared.role.Role.TheVariants.{Originator, Answerer}
+use Rattle.shared_terms.specs.Both.{of}
 use Rattle.plain_lists.specs.Prefix.{IsPrefixOf}
 use Rattle.xid_params.specs.Offers.{IsAllowed, ReadsAllowed}
 use Rattle.lapm_receiver.specs.Incoming.{KeepsTaken}

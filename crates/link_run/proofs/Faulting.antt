@@ -4,11 +4,11 @@ use Rattle.std.proofs.Common.{Ok, Err, slice_get}
 use Rattle.std.specs.Prelude.{is_ok}
 use Rattle.std.proofs.lemmas.Bool.{false≢true}
 use Rattle.frame_check.specs.declared.check.Check.TheVariants.{Sixteen}
-use Rattle.roles.specs.declared.role.Role.{Role}
-use Rattle.roles.specs.declared.role.Role.TheVariants.{Originator, Answerer}
+use Rattle.shared_terms.specs.declared.role.Role.{Role}
+use Rattle.shared_terms.specs.declared.role.Role.TheVariants.{Originator, Answerer}
 use Rattle.xid_params.specs.Offers.{ReadsAllowed}
 use Rattle.lapm_receiver.specs.Incoming.{KeepsTaken}
-use Rattle.causes.specs.declared.fault.LinkFault.{LinkFault}
+use Rattle.shared_terms.specs.declared.fault.LinkFault.{LinkFault}
 use Rattle.link_account.specs.Account.{Account}
 use Rattle.link_account.specs.Hear.{hear}
 use Rattle.link_account.specs.Play.{Slot, Play, Passes, arrives, heard, happens}
@@ -23,7 +23,7 @@ use Rattle.link_run.proofs.Keeping.{breaks-not}
 use Rattle.link_run.proofs.Speaking.{breaks-for-want}
 use Rattle.link_run.proofs.Playing.{at, Leads, then-leads, one, made, next-first, head-of, none-is-some, told-slot}
 use Rattle.link_run.proofs.Running.{begun, Reaches, lines, run-reaches}
-use Rattle.roles.specs.Both.{of}
+use Rattle.shared_terms.specs.Both.{of}
 
 -- the other end of this role breaks
 abbrev broken : Role → Account → List Slot → Account → List Slot → LinkFault → Play

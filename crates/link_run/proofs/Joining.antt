@@ -4,8 +4,8 @@
 use Rattle.std.proofs.Common.{◌≡◌, ◌≢◌, ◌⊎◌, inl, inr, ℕ, zero, suc, ◌-◌, ◌≤◌, ◌||◌, Bool, true, false, cond, List, [], ◌∷◌, length, arith}
 use Rattle.std.proofs.Common.{refl, sym, ◌∙◌, ap, subst, Option, Some, None, slice_get}
 use Rattle.std.proofs.lemmas.Bool.{false≢true}
-use Rattle.roles.specs.declared.role.Role.{Role}
-use Rattle.roles.specs.declared.role.Role.TheVariants.{Originator, Answerer}
+use Rattle.shared_terms.specs.declared.role.Role.{Role}
+use Rattle.shared_terms.specs.declared.role.Role.TheVariants.{Originator, Answerer}
 use Rattle.lapm_frames.specs.declared.frame.Frame.{Frame}
 use Rattle.xid_params.specs.Offers.{ReadsAllowed}
 use Rattle.lapm_receiver.specs.Incoming.{KeepsTaken}
@@ -25,8 +25,8 @@ use Rattle.link_run.proofs.Running.{told, speaks-at}
 use Rattle.link_run.proofs.Ending.{HasSetup, setups-kept, kept-run}
 use Rattle.link_run.proofs.Meeting.{is_ua, is_disc, is_segment, is_counted, carries, brings, brings-carried, owes_ua, Told, is-told}
 use Rattle.link_run.proofs.Saying.{Part, part, Says, is-said}
-use Rattle.roles.specs.Role.{is_originator}
-use Rattle.roles.specs.Both.{of}
+use Rattle.shared_terms.specs.Role.{is_originator}
+use Rattle.shared_terms.specs.Both.{of}
 
 -- whether a role sent such a frame in a turn, and in any of these turns
 abbrev pub sent_is : (Frame → Bool) → Option Spoken → Bool

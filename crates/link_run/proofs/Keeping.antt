@@ -4,8 +4,8 @@ use Rattle.std.proofs.Common.{◌++◌, length, arith, lit≤, refl, sym, ◌∙
 use Rattle.std.specs.Option.{option_map}
 use Rattle.std.proofs.lemmas.Bool.{false≢true}
 use Rattle.std.proofs.lemmas.List.{append-nil}
-use Rattle.roles.specs.declared.role.Role.{Role}
-use Rattle.roles.specs.declared.role.Role.TheVariants.{Originator, Answerer}
+use Rattle.shared_terms.specs.declared.role.Role.{Role}
+use Rattle.shared_terms.specs.declared.role.Role.TheVariants.{Originator, Answerer}
 use Rattle.lapm_frames.specs.declared.frame.Frame.{Frame}
 use Rattle.lapm_frames.specs.declared.frame.Frame.TheVariants.{I, Rr, Rnr, Rej, Srej, Sabme, Disc, Ua, Dm, Frmr, Ui, Xid, Test}
 use Rattle.xid_params.specs.declared.offer.Offer.{Offer}
@@ -33,7 +33,7 @@ use Rattle.lapm_frames.specs.declared.arrived.Arrived.TheVariants as arrivals
 use Rattle.link_account.specs.declared.setup.Setup.{Setup}
 use Rattle.link_account.specs.declared.phase.Phase.{Phase}
 use Rattle.link_account.specs.declared.phase.Phase.TheVariants.{Detecting, Negotiating, Establishing, Connected, Releasing, Closed}
-use Rattle.causes.specs.declared.fault.LinkFault.{LinkFault}
+use Rattle.shared_terms.specs.declared.fault.LinkFault.{LinkFault}
 use Rattle.link_account.specs.declared.answer.Answer.TheVariants as answers
 use Rattle.link_account.specs.Account.{Account, size_for, window_for}
 use Rattle.link_account.specs.Laws.{WantsAnswers}
@@ -41,7 +41,7 @@ use Rattle.link_account.specs.Hear.{hear, on_frame, on_seen, on_pattern, on_dete
 use Rattle.link_account.specs.Hear.{on_releasing, on_closed, on_nothing, on_xid_command, on_xid_response, connected, on_number, on_sabme}
 use Rattle.link_account.specs.Hear.{on_disc, on_word, then_in, taking, replying, hurrying, ends_wait, owing, trying, timer_after}
 use Rattle.link_account.specs.Hear.{peer_reset, pausing}
-use Rattle.roles.specs.Role.{is_originator}
+use Rattle.shared_terms.specs.Role.{is_originator}
 
 -- what neither hearing nor speaking changes
 pub record Books : Type 0 where

@@ -9,7 +9,7 @@ use Rattle.link_run.specs.Alone.{LoneTurn, lone_served, LoneGoing, OneLoneRun}
 use Rattle.link_run.proofs.Only.{one-ok, one-head}
 use Rattle.xid_params.specs.Offers.{ReadsAllowed}
 use Rattle.lapm_receiver.specs.Incoming.{KeepsTaken}
-use Rattle.causes.specs.declared.fault.LinkFault.{LinkFault}
+use Rattle.shared_terms.specs.declared.fault.LinkFault.{LinkFault}
 use Rattle.link_run.specs.End.{has_finished}
 use Rattle.link_run.specs.Alone.{LoneRun, LoneNext, Goes_on, Is_last, Is_faulty, Is_broken, hangs_up, LoneHearingsDeliver}
 use Rattle.link_run.specs.Alone.{LoneSpeakingTakesNothing, EachLoneTurnIsMade}

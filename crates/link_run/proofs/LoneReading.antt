@@ -1,8 +1,8 @@
 -- A run of one end counts its user's file as far as it was read, and its end keeps its setup.
 use Rattle.std.proofs.Common.{◌≡◌, ℕ, List, [], ◌∷◌, length, sym, ◌∙◌, ap, subst, false}
-use Rattle.roles.specs.declared.role.Role.{Role}
-use Rattle.roles.specs.declared.role.Role.TheVariants.{Originator, Answerer}
-use Rattle.roles.specs.Both.{of}
+use Rattle.shared_terms.specs.declared.role.Role.{Role}
+use Rattle.shared_terms.specs.declared.role.Role.TheVariants.{Originator, Answerer}
+use Rattle.shared_terms.specs.Both.{of}
 use Rattle.xid_params.specs.Offers.{IsAllowed, ReadsAllowed}
 use Rattle.lapm_receiver.specs.Incoming.{KeepsTaken}
 use Rattle.link_account.specs.Account.{Account}

@@ -3,8 +3,8 @@ use Rattle.std.proofs.Common.{◌≡◌, ℕ, ◌+◌, ◌*◌, ◌&&◌, Bool, 
 use Rattle.std.proofs.Common.{Option, Some, None, Result, Ok, Err}
 use Rattle.std.specs.Prelude.{is_ok}
 use Rattle.std.proofs.lemmas.Bool.{false≢true}
-use Rattle.roles.specs.declared.role.Role.{Role}
-use Rattle.roles.specs.declared.role.Role.TheVariants.{Originator, Answerer}
+use Rattle.shared_terms.specs.declared.role.Role.{Role}
+use Rattle.shared_terms.specs.declared.role.Role.TheVariants.{Originator, Answerer}
 use Rattle.lapm_frames.specs.declared.frame.Frame.{Frame}
 use Rattle.lapm_frames.specs.declared.frame.Frame.TheVariants.{Sabme, Disc, Xid}
 use Rattle.xid_params.specs.Offers.{ReadsAllowed, written}
@@ -14,8 +14,8 @@ use Rattle.break_signals.specs.Breaks.{OwnBreaks, ticked}
 use Rattle.link_account.specs.declared.setup.Setup.{Setup}
 use Rattle.link_account.specs.declared.phase.Phase.{Phase}
 use Rattle.link_account.specs.declared.phase.Phase.TheVariants.{Detecting, Negotiating, Establishing, Connected, Releasing, Closed}
-use Rattle.causes.specs.declared.fault.LinkFault.{LinkFault}
-use Rattle.causes.specs.declared.fault.LinkFault.TheVariants.{NotDetected, Spent, BadAck, PeerReset, PeerRefused}
+use Rattle.shared_terms.specs.declared.fault.LinkFault.{LinkFault}
+use Rattle.shared_terms.specs.declared.fault.LinkFault.TheVariants.{NotDetected, Spent, BadAck, PeerReset, PeerRefused}
 use Rattle.link_account.specs.Account.{Account, given_break, check_of}
 use Rattle.link_account.specs.Hear.{hear, trying}
 use Rattle.link_account.specs.Speak.{Said, says, tries_frame, trying_again, spent, speak, speak_in, speak_detecting, speak_negotiating}
@@ -29,8 +29,8 @@ use Rattle.link_run.specs.Outcomes.{Going, Done, Broken}
 use Rattle.link_run.specs.Laws.{HearingsAreWell, BrokenForWant, EachEndIsNamed, MakesTurn, EachTurnIsMade}
 use Rattle.link_run.proofs.Ending.{HasSetup, setups-kept, kept-run, kept-heard}
 use Rattle.link_run.proofs.Joining.{serving}
-use Rattle.roles.specs.Role.{is_originator, other}
-use Rattle.roles.specs.Both.{of}
+use Rattle.shared_terms.specs.Role.{is_originator, other}
+use Rattle.shared_terms.specs.Both.{of}
 use Rattle.link_run.specs.Carried.{sent_ago, Crosses}
 
 abbrev is_undetected : LinkFault → Bool

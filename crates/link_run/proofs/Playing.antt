@@ -7,8 +7,8 @@ use Rattle.std.proofs.lemmas.Bool.Decides.{nat_tests}
 use Rattle.std.proofs.lemmas.List.{append_assoc}
 use Rattle.frame_check.specs.declared.check.Check.{Check}
 use Rattle.frame_check.specs.declared.check.Check.TheVariants.{Sixteen}
-use Rattle.roles.specs.declared.role.Role.{Role}
-use Rattle.roles.specs.declared.role.Role.TheVariants.{Originator, Answerer}
+use Rattle.shared_terms.specs.declared.role.Role.{Role}
+use Rattle.shared_terms.specs.declared.role.Role.TheVariants.{Originator, Answerer}
 use Rattle.lapm_receiver.specs.Incoming.{next_expected}
 use Rattle.lapm_frames.specs.declared.arrived.Arrived.TheVariants as arrivals
 use Rattle.lapm_frames.specs.declared.sent.Sent.{Sent}
@@ -27,7 +27,7 @@ use Rattle.link_run.specs.Run as run
 use Rattle.link_run.specs.Carried.{sent_in, sent_ago, Crosses, on_line}
 use Rattle.link_run.proofs.Serving.{Waiting}
 use Rattle.link_run.specs.Laws.{told_by_play, told_by_turn}
-use Rattle.roles.specs.Both.{of}
+use Rattle.shared_terms.specs.Both.{of}
 
 -- a play where neither end is broken; the first account and line are those of the role
 abbrev pub at : Role → Account → List Slot → Account → List Slot → Play

@@ -6,9 +6,9 @@ use Rattle.std.specs.Prelude.{is_some}
 use Rattle.std.proofs.lemmas.Bool.Decides.{nat_tests}
 use Rattle.std.proofs.lemmas.List.{append-nil, take_all, take-take, drop-take, take-append-drop, length-take, length-take-le}
 use Rattle.std.proofs.Math.Seq.{take-append_seam, drop-append_seam}
-use Rattle.roles.specs.declared.role.Role.{Role}
-use Rattle.roles.specs.declared.role.Role.TheVariants.{Originator, Answerer}
-use Rattle.roles.specs.Both.{of}
+use Rattle.shared_terms.specs.declared.role.Role.{Role}
+use Rattle.shared_terms.specs.declared.role.Role.TheVariants.{Originator, Answerer}
+use Rattle.shared_terms.specs.Both.{of}
 use Rattle.xid_params.specs.Offers.{IsAllowed, ReadsAllowed}
 use Rattle.lapm_receiver.specs.Incoming.{KeepsTaken}
 use Rattle.lapm_sender.specs.Outgoing.{Outgoing, with_piece}

@@ -1,10 +1,10 @@
 -- The laws of runs over any line.
 use Rattle.std.specs.Prelude.{◌≡◌, ◌≤◌, max, ℕ, ◌-◌, Bool, true, List, [], ◌∷◌, ◌++◌, length, map, is_ok, Option, Some, None}
 use Rattle.std.specs.List.{concat}
-use Rattle.roles.specs.declared.role.Role.{Role}
-use Rattle.roles.specs.declared.role.Role.TheVariants.{Originator}
-use Rattle.roles.specs.Role.{other}
-use Rattle.roles.specs.Both.{Both, of}
+use Rattle.shared_terms.specs.declared.role.Role.{Role}
+use Rattle.shared_terms.specs.declared.role.Role.TheVariants.{Originator}
+use Rattle.shared_terms.specs.Role.{other}
+use Rattle.shared_terms.specs.Both.{Both, of}
 use Rattle.plain_lists.specs.Prefix.{IsPrefixOf}
 use Rattle.xid_params.specs.Terms.{agree}
 use Rattle.lapm_frames.specs.declared.frame.Frame.{Frame}
@@ -12,8 +12,8 @@ use Rattle.lapm_frames.specs.Frame.{information_of}
 use Rattle.lapm_frames.specs.declared.sent.Sent.{Sent}
 use Rattle.lapm_frames.specs.declared.sent.Sent.TheVariants as slots
 use Rattle.lapm_frames.specs.declared.heard.Heard.{Heard}
-use Rattle.causes.specs.declared.fault.LinkFault.{LinkFault}
-use Rattle.causes.specs.declared.fault.LinkFault.TheVariants.{NotDetected, Spent, BadAck, PeerReset, PeerRefused}
+use Rattle.shared_terms.specs.declared.fault.LinkFault.{LinkFault}
+use Rattle.shared_terms.specs.declared.fault.LinkFault.TheVariants.{NotDetected, Spent, BadAck, PeerReset, PeerRefused}
 use Rattle.link_account.specs.Account.{Account, wants}
 use Rattle.link_account.specs.Hear.{hear}
 use Rattle.link_account.specs.Play.{Slot, Side, Event, seen_from}

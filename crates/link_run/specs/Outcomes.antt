@@ -1,7 +1,7 @@
 -- How a run that was made so far goes on or ends by what its ends hear and say.
 use Rattle.std.specs.Prelude.{◌≡◌, List}
-use Rattle.roles.specs.declared.role.Role.{Role}
-use Rattle.causes.specs.declared.fault.LinkFault.{LinkFault}
+use Rattle.shared_terms.specs.declared.role.Role.{Role}
+use Rattle.shared_terms.specs.declared.fault.LinkFault.{LinkFault}
 use Rattle.link_run.specs.Run.{Link, Accounts, Turn, GoingTurn, LastTurn, BrokenTurn}
 
 -- what a turn comes to

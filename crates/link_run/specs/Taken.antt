@@ -1,9 +1,9 @@
 -- What an end is given, by the frames that passed to it alone: by the numbers that their sender meant, with no window and no modulus.
 use Rattle.std.specs.Prelude.{ℕ, zero, suc, ◌+◌, max, Bool, if◌then◌else◌, false, ◌||◌, nat_eq, List, [], ◌∷◌, ◌++◌, Option, Some}
 use Rattle.std.specs.List.{concat}
-use Rattle.roles.specs.declared.role.Role.{Role}
-use Rattle.roles.specs.Role.{other}
-use Rattle.roles.specs.Both.{of}
+use Rattle.shared_terms.specs.declared.role.Role.{Role}
+use Rattle.shared_terms.specs.Role.{other}
+use Rattle.shared_terms.specs.Both.{of}
 use Rattle.lapm_frames.specs.declared.frame.Frame.{Frame}
 use Rattle.lapm_frames.specs.declared.frame.Frame.TheVariants.{I}
 use Rattle.lapm_frames.specs.declared.sent.Sent.TheVariants as slots

@@ -1,8 +1,8 @@
 -- The text of a trace: a line for each end and turn, the originator's first.
 use Rattle.std.specs.Prelude.{ℕ, List, [], ◌∷◌, ◌++◌, length}
 use Rattle.std.specs.Option.{option_map}
-use Rattle.roles.specs.declared.role.Role.{Role}
-use Rattle.roles.specs.declared.role.Role.TheVariants.{Originator, Answerer}
+use Rattle.shared_terms.specs.declared.role.Role.{Role}
+use Rattle.shared_terms.specs.declared.role.Role.TheVariants.{Originator, Answerer}
 use Rattle.line_texts.specs.LineText.{trace_line}
 use Rattle.link_run.specs.Run.{Side, Turn}
 

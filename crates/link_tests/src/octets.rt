@@ -5,7 +5,7 @@ ghost use Rattle.lapm_frames.specs.Frame.{IsFrame};
 
 use frame_check::{Check, INFO, Info, Whole, append};
 use lapm_frames::{Frame, FrameFault, read, write};
-use roles::Role;
+use shared_terms::Role;
 use std::process::Abort;
 
 const ORIGINATOR: Role = Role::Originator;

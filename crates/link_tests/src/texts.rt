@@ -2,7 +2,7 @@
 use frame_check::Octets;
 use lapm_frames::{Frame, Heard, Sent, read};
 use line_texts::{FrameText, LineText, TraceLine, put_decimal, write_frame_text, write_line};
-use roles::Role;
+use shared_terms::Role;
 use std::test::Fail;
 
 /// The octets of a frame of the originator, and its text.

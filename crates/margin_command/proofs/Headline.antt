@@ -20,7 +20,7 @@ use Rattle.recordings.specs.declared.rate.Rate.TheVariants as rates
 use Rattle.recordings.specs.Headers.{IsBadHeader}
 use Rattle.recordings.specs.Recording.{header_of}
 use Rattle.recordings.specs.Samples.{samples_in}
-use Rattle.recording_inputs.proofs.Headers.{never-longer, never-bad}
+use Rattle.command_base.proofs.Headers.{never-longer, never-bad}
 use Rattle.margin_command.specs.Words.{MarginNames}
 use Rattle.margin_command.specs.Ends.{Measures, EndsOwn, margin_job}
 use Rattle.margin_command.specs.Ends.EndsOwn.{rec_is_long, file_is_long, is_other, is_misfit}

@@ -15,8 +15,8 @@ use Rattle.recordings.specs.declared.header.TheConstants.{HEADER}
 use Rattle.recordings.specs.Recording.{header_of}
 use Rattle.recordings.specs.Samples.{sample_at, samples_in}
 use Rattle.recordings.proofs.Samples.{samples_in-more, samples_in-append}
-use Rattle.recording_inputs.specs.Recordings.{ReadBehind, IsAtEnd}
-use Rattle.recording_inputs.proofs.Behind.{behind-more, reads-all}
+use Rattle.command_base.specs.Recordings.{ReadBehind, IsAtEnd}
+use Rattle.command_base.proofs.Behind.{behind-more, reads-all}
 use Rattle.command_base.specs.declared.limits.TheConstants.{FILE_LIMIT, RECORDING_LIMIT}
 use Rattle.command_base.specs.Inputs.{IsWithin, ReadTo}
 use Rattle.command_base.proofs.Reading.{ReadTo-none, ReadTo-kept}

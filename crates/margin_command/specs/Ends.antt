@@ -4,13 +4,13 @@ use Rattle.std.specs.Prelude.{◌≡◌, ◌≢◌, ℕ, ◌+◌, ◌*◌, min, 
 use Rattle.scramblers.specs.declared.mode.Mode.{Mode}
 use Rattle.outside_calls.specs.Folder.{FolderState, octets_at}
 use Rattle.outside_calls.specs.declared.folder.FolderFault.{FolderFault}
-use Rattle.decoder_laws.specs.Near.{sure}
+use Rattle.noise_bound.specs.Near.{sure}
 use Rattle.noise_bound.specs.Margins.{IsCostOf, Measured}
 use Rattle.recordings.specs.declared.rate.Rate.TheVariants as rates
 use Rattle.recordings.specs.declared.header.TheConstants.{HEADER}
 use Rattle.recordings.specs.Recording.{header_of}
 use Rattle.recordings.specs.Samples.{samples_in}
-use Rattle.recording_inputs.specs.Recordings.{ReadsRecording, HasNoHeader}
+use Rattle.command_base.specs.Recordings.{ReadsRecording, HasNoHeader}
 use Rattle.command_base.specs.declared.limits.TheConstants.{FILE_LIMIT, RECORDING_LIMIT}
 use Rattle.command_base.specs.declared.status.Status.{Status}
 use Rattle.command_base.specs.declared.status.Status.TheVariants.{TooLong, BadRecording}

@@ -6,7 +6,7 @@ use Rattle.noise_bound.specs.Margins.{Measured, MarginStands}
 use Rattle.recordings.specs.declared.rate.Rate.TheVariants as rates
 use Rattle.recordings.specs.declared.header.TheConstants.{HEADER}
 use Rattle.recordings.specs.Samples.{samples_in}
-use Rattle.recording_inputs.specs.Recordings.{ReadBehind}
+use Rattle.command_base.specs.Recordings.{ReadBehind}
 use Rattle.command_base.specs.declared.limits.TheConstants.{FILE_LIMIT}
 use Rattle.command_base.specs.Inputs.{ReadTo}
 use Rattle.margin_command.specs.Words.{MarginNames}

@@ -8,7 +8,7 @@ ghost use Rattle.command_base.specs.declared.limits.TheConstants.{FILE_LIMIT};
 ghost use Rattle.command_base.specs.Stops.{EndCounts};
 ghost use Rattle.recordings.specs.declared.header.TheConstants.{HEADER};
 ghost use Rattle.recordings.specs.Samples.{samples_in};
-ghost use Rattle.recording_inputs.specs.Recordings.{IsAtEnd};
+ghost use Rattle.command_base.specs.Recordings.{IsAtEnd};
 ghost use Rattle.margin_command.specs.Words.{named, inputs_of};
 ghost use Rattle.margin_command.specs.Ends.{EndsBy, Ends};
 ghost use Rattle.margin_command.specs.Measuring.{Opened, MeasuredTo};

@@ -51,7 +51,7 @@ use Rattle.pair_command.specs.Words.{Names as PairNames, inputs_of as pair_input
 use Rattle.pair_command.specs.Ends.{pair_job}
 use Rattle.pair_command.specs.Headline.{Headline as PairHeadline}
 use Rattle.pair_command.specs.Completes.{Completes as PairCompletes}
-use Rattle.tap_turns.specs.Words.{TapNames, inputs_of as tap_inputs, outputs_of as tap_outputs, named as tap_named}
+use Rattle.tap_command.specs.Names.{TapNames, inputs_of as tap_inputs, outputs_of as tap_outputs, named as tap_named}
 use Rattle.tap_command.specs.Words.{names_of as tap_names}
 use Rattle.tap_command.specs.Ends.{tap_job}
 use Rattle.tap_command.specs.Headline.{Headline as TapHeadline}

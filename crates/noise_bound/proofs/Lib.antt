@@ -3,3 +3,14 @@ pub mod Turned
 pub mod Quads
 pub mod Bits
 pub mod PickedUp
+pub mod NoiselessCosts
+pub mod Meetings
+pub mod Detours
+pub mod Agreeing
+pub mod Followed
+pub mod Distances
+pub mod NoisyCosts
+pub mod Near
+pub mod Turning
+pub mod Lists
+pub mod Least

@@ -10,9 +10,9 @@ use Rattle.trellis_tables.specs.Laws.{far_from}
 use Rattle.trellis_tables.specs.Sequences.{cost}
 use Rattle.survivors.specs.Survivors.{IsReleased}
 use Rattle.survivors.specs.V32.{v32_code}
-use Rattle.decoder_laws.proofs.NoiselessCosts.{length-points}
-use Rattle.decoder_laws.specs.Near.{only}
-use Rattle.decoder_laws.proofs.Near.{releases-near, never-lost}
+use Rattle.noise_bound.proofs.NoiselessCosts.{length-points}
+use Rattle.noise_bound.specs.Near.{only}
+use Rattle.noise_bound.proofs.Near.{releases-near, never-lost}
 use Rattle.line_coding.specs.Modulates.{ModulatorStands}
 use Rattle.line_coding.specs.declared.modulator.Modulator.{Modulator}
 use Rattle.line_coding.proofs.Standing.{modulated}

@@ -17,8 +17,8 @@ use Rattle.symbol_map.specs.declared.sample.Sample.{Sample}
 use Rattle.symbol_map.specs.Distance.{quarter_turned}
 use Rattle.symbol_map.specs.Laws.{turned_label}
 use Rattle.survivors.specs.V32.{at_any}
-use Rattle.decoder_laws.proofs.Least.{all_states_turn}
-use Rattle.decoder_laws.specs.Near.{sure_of_any, IsNear}
+use Rattle.noise_bound.proofs.Least.{all_states_turn}
+use Rattle.noise_bound.specs.Near.{sure_of_any, IsNear}
 use Rattle.line_coding.specs.PickedUp.{IsPickedUp, line_behind}
 use Rattle.line_coding.specs.MiddleReading.{Middle}
 use Rattle.line_coding.specs.Laws.{ReadsMiddle}

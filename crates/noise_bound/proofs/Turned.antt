@@ -10,12 +10,12 @@ use Rattle.trellis_tables.specs.Rotation.{rotated}
 use Rattle.trellis_tables.proofs.Rotations.{rotated-lt, one_start_turns, turn_keeps_cost}
 use Rattle.survivors.specs.Survivors.{IsReleased}
 use Rattle.survivors.specs.V32.{at_any, v32_code}
-use Rattle.decoder_laws.specs.Turned.{StartsTurn}
-use Rattle.decoder_laws.proofs.Lists.{labels-small, leads-within}
-use Rattle.decoder_laws.proofs.Least.{sequences_turn, all_states_turn}
+use Rattle.noise_bound.specs.QuarterTurns.{StartsTurn}
+use Rattle.noise_bound.proofs.Lists.{labels-small, leads-within}
+use Rattle.noise_bound.proofs.Least.{sequences_turn, all_states_turn}
 use Rattle.exact_decoder.specs.Decoder.{heard}
-use Rattle.decoder_laws.specs.Near.{only, sure, sure_of_any, IsNear}
-use Rattle.decoder_laws.proofs.Near.{near-front, releases-near, releases-near_of_any}
+use Rattle.noise_bound.specs.Near.{only, sure, sure_of_any, IsNear}
+use Rattle.noise_bound.proofs.Near.{near-front, releases-near, releases-near_of_any}
 use Rattle.noise_bound.specs.Turned.{BothRelease}
 use Rattle.noise_bound.specs.Laws.{NearTurns}
 

@@ -10,8 +10,8 @@ use Rattle.trellis_tables.specs.LabelReader.{quads_of}
 use Rattle.trellis_tables.specs.Rotation.{rotated}
 use Rattle.survivors.specs.Survivors.{IsReleased, LostIs}
 use Rattle.survivors.specs.V32.{at_any, v32_code}
-use Rattle.decoder_laws.specs.Turned.{StartsTurn}
-use Rattle.decoder_laws.specs.Near.{only, sure, sure_of_any, IsNear}
+use Rattle.noise_bound.specs.QuarterTurns.{StartsTurn}
+use Rattle.noise_bound.specs.Near.{only, sure, sure_of_any, IsNear}
 use Rattle.line_coding.specs.Demodulates.{Demodulates}
 use Rattle.line_coding.specs.PickedUp.{IsPickedUp}
 use Rattle.line_coding.specs.MiddleReading.{Middle, MiddleRead}

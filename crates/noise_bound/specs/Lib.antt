@@ -1,6 +1,3 @@
-pub use Rattle.decoder_laws.specs.Near
-pub use Rattle.decoder_laws.specs.NoisyLaws as NearLaws
-pub use Rattle.decoder_laws.specs.Turned as Turns
 pub use Rattle.line_coding.specs.Demodulates
 pub use Rattle.line_coding.specs.PickedUp
 pub use Rattle.line_coding.specs.MiddleReading
@@ -8,3 +5,18 @@ pub use Rattle.bit_stuffing.specs.Found
 pub mod Turned
 pub mod Margins
 pub mod Laws
+pub use Rattle.symbol_map.specs.Points
+pub use Rattle.trellis_tables.specs.Sequences
+pub use Rattle.trellis_tables.specs.Table
+pub use Rattle.survivors.specs.Trellises
+pub use Rattle.survivors.specs.Survivors
+pub use Rattle.exact_decoder.specs.Decoder
+pub use Rattle.exact_decoder.specs.Laws as DecoderLaws
+pub mod Noiseless
+pub mod NoiselessLaws
+pub mod Distances
+pub mod Near
+pub mod DistanceLaws
+pub mod NoisyLaws
+pub mod QuarterTurns
+pub mod TurnedLaws

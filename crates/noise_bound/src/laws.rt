@@ -2,7 +2,7 @@
 //! law. Those of samples that are near what was sent are handed on from [`noisy_line`].
 ghost use Rattle.noise_bound.specs.Laws.{SureIsNear, SureIsDecoded, NearTurns, QuadsAreAlike, QuadsAreAlikeOfAny, FewBitsDiffer, FewBitsDifferOfAny, OnePickedUpBegins, OneListOfPiecesBegins, ReadersPiecesBegin};
 
-pub use decoder_laws::noisy::{
+pub use crate::noisy::{
     cost_is_distance, decoders_follow_a_line, decoders_follow_a_line_from_any_start,
     each_end_is_near, few_labels_are_unreleased, few_labels_are_unreleased_from_any_start,
     meeting_sequences_are_far, near_the_same_is_near, parted_sequences_are_far,

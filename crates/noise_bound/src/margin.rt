@@ -2,7 +2,7 @@
 ghost use Rattle.std.specs.Prelude.{◌≡◌, ◌+◌, ◌<◌, ◌^◌, ℕ, List, [], ◌∷◌, ◌++◌, nat_lt};
 ghost use Rattle.scramblers.specs.declared.mode.Mode.{Mode};
 ghost use Rattle.symbol_map.specs.declared.sample.Sample.{Sample};
-ghost use Rattle.decoder_laws.specs.Near.{sure};
+ghost use Rattle.noise_bound.specs.Near.{sure};
 ghost use Rattle.noise_bound.specs.Margins.{MarginStands, IsCostOf};
 
 use line_coding::Modulator;

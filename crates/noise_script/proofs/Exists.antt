@@ -3,10 +3,10 @@ use Rattle.std.proofs.Common.{◌≡◌, ◌≢◌, ◌⊎◌, inl, inr, ℕ, �
 use Rattle.std.proofs.Common.{ap, subst, ◌∙◌, arith, append-nil, append_assoc, length-append}
 use Rattle.std.proofs.lemmas.Bool.{cases_eq, cases_lt, cases_Bool}
 use Rattle.std.proofs.lemmas.Int.{by_lt_z}
-use Rattle.roles.specs.declared.role.Role.{Role}
-use Rattle.roles.specs.declared.role.Role.TheVariants.{Originator, Answerer}
-use Rattle.causes.specs.declared.cause.Cause.{Cause}
-use Rattle.causes.specs.declared.cause.Cause.TheVariants as causes
+use Rattle.shared_terms.specs.declared.role.Role.{Role}
+use Rattle.shared_terms.specs.declared.role.Role.TheVariants.{Originator, Answerer}
+use Rattle.shared_terms.specs.declared.cause.Cause.{Cause}
+use Rattle.shared_terms.specs.declared.cause.Cause.TheVariants as causes
 use Rattle.noise_script.specs.declared.entry.Entry.{Entry}
 use Rattle.noise_script.specs.declared.forms.Form.{Form}
 use Rattle.noise_script.specs.declared.forms.Form.TheVariants as forms
@@ -15,7 +15,7 @@ use Rattle.noise_script.specs.Numbers.{is_number, value_of, is_signed, signed_va
 use Rattle.noise_script.specs.Forms.{Argument, ARole, Number, Signed, Value, RoleIs, NumberIs, SignedIs, row, word_of, arguments_of}
 use Rattle.noise_script.specs.Forms.{form_of, kind_of, values_of, most, too_many, Spells, Fails, SpellsEach, FirstFails, SpellsLine}
 use Rattle.noise_script.specs.Forms.{Misspells}
-use Rattle.roles.specs.Role.{role_word}
+use Rattle.shared_terms.specs.Role.{role_word}
 use Rattle.noise_script.specs.Grammar.{Says, nothing, standing, AreAllowed, IsFaulty, script_of}
 use Rattle.noise_script.specs.Laws.{SomeAnswer}
 use Rattle.noise_script.proofs.Entries.{allowed-none, allowed-more}

@@ -5,7 +5,7 @@ use Rattle.std.proofs.lemmas.Int.{ints}
 use Rattle.std.proofs.lemmas.List.{take_more}
 use Rattle.noise_script.specs.declared.entry.Hit.{Hit}
 use Rattle.noise_script.specs.declared.entry.Noise.{Noise}
-use Rattle.roles.specs.declared.role.Role.TheVariants.{Originator}
+use Rattle.shared_terms.specs.declared.role.Role.TheVariants.{Originator}
 use Rattle.noise_script.specs.declared.offset.Offset.{Offset}
 use Rattle.noise_script.specs.Offsets.{plus, sum_of, nothing, IsWithin, IsQuiet, AreQuiet}
 

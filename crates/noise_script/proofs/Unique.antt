@@ -3,10 +3,10 @@ use Rattle.std.proofs.Common.{◌≡◌, ◌⊎◌, inl, inr, ℕ, suc, ◌+◌,
 use Rattle.std.proofs.Common.{length, get_or, refl, sym, ap, subst, ◌∙◌, arith}
 use Rattle.std.proofs.lemmas.Bool.{false≢true}
 use Rattle.std.proofs.lemmas.Int.{ints}
-use Rattle.roles.specs.declared.role.Role.{Role}
-use Rattle.roles.specs.declared.role.Role.TheVariants.{Originator, Answerer}
-use Rattle.causes.specs.declared.cause.Cause.{Cause}
-use Rattle.causes.specs.declared.cause.Cause.TheVariants as causes
+use Rattle.shared_terms.specs.declared.role.Role.{Role}
+use Rattle.shared_terms.specs.declared.role.Role.TheVariants.{Originator, Answerer}
+use Rattle.shared_terms.specs.declared.cause.Cause.{Cause}
+use Rattle.shared_terms.specs.declared.cause.Cause.TheVariants as causes
 use Rattle.noise_script.specs.declared.entry.Entry.{Entry}
 use Rattle.noise_script.specs.declared.entry.Entry.TheVariants as entries
 use Rattle.noise_script.specs.declared.forms.Form.{Form}
@@ -16,7 +16,7 @@ use Rattle.noise_script.specs.Numbers.{value_of, signed_value_of}
 use Rattle.noise_script.specs.Forms.{Argument, ARole, Number, Signed, Value, RoleIs, NumberIs, SignedIs, row, word_of, arguments_of}
 use Rattle.noise_script.specs.Forms.{form_of, values_of, too_many, Spells, Fails, SpellsEach, FirstFails, SpellsLine, IsUnknown}
 use Rattle.noise_script.specs.Forms.{IsMiscounted, IsMisread, Misspells}
-use Rattle.roles.specs.Role.{role_word}
+use Rattle.shared_terms.specs.Role.{role_word}
 use Rattle.noise_script.specs.Script.{ScriptValue}
 use Rattle.noise_script.specs.Grammar.{Says, nothing, passed_over, spelled, AreAllowed, IsFaulty, script_of, ScriptSpelling, FirstFault}
 use Rattle.noise_script.proofs.Entries.{allowed-full}

@@ -1,9 +1,9 @@
 -- Reading words one behind another.
 use Rattle.std.proofs.Common.{◌≡◌, ◌≢◌, ◌∙◌, ◌+◌, inl, inr, ℕ, List, ◌∷◌, [], length, refl, sym, ap, subst, arith}
 use Rattle.std.proofs.lemmas.List.{nil_from_length}
-use Rattle.causes.specs.declared.cause.Cause.{Cause}
-use Rattle.causes.specs.declared.cause.Cause.TheVariants as causes
-use Rattle.roles.specs.declared.role.Role.{Role}
+use Rattle.shared_terms.specs.declared.cause.Cause.{Cause}
+use Rattle.shared_terms.specs.declared.cause.Cause.TheVariants as causes
+use Rattle.shared_terms.specs.declared.role.Role.{Role}
 use Rattle.noise_script.specs.declared.entry.Entry.{Entry}
 use Rattle.noise_script.specs.declared.forms.Form.{Form}
 use Rattle.noise_script.specs.Forms.{Argument, ARole, Value, RoleIs, NumberIs, Reads, ReadsSpan, FailsToRead, FirstFails, SpellsEach}

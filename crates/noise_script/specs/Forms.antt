@@ -1,8 +1,8 @@
 -- The forms of a script's lines, and how a line is spelled and misspelled.
 use Rattle.std.specs.Prelude.{◌≡◌, ◌≢◌, ◌⊎◌, ℕ, ◌<◌, ◌≤◌, true, false, ℤ, pos, neg_ℤ, ◌<ℤ◌, ◌≤ℤ◌, List, [], ◌∷◌, length, codes, Option, Some, None}
-use Rattle.roles.specs.declared.role.Role.{Role}
-use Rattle.causes.specs.declared.cause.Cause.{Cause}
-use Rattle.causes.specs.declared.cause.Cause.TheVariants as causes
+use Rattle.shared_terms.specs.declared.role.Role.{Role}
+use Rattle.shared_terms.specs.declared.cause.Cause.{Cause}
+use Rattle.shared_terms.specs.declared.cause.Cause.TheVariants as causes
 use Rattle.frame_check.specs.declared.sizes.TheConstants.{INFO}
 use Rattle.noise_script.specs.declared.entry.Entry.{Entry}
 use Rattle.noise_script.specs.declared.entry.Entry.TheVariants as entries
@@ -12,7 +12,7 @@ use Rattle.noise_script.specs.declared.forms.Bound.{Bound}
 use Rattle.noise_script.specs.declared.forms.Bound.TheVariants.{Once, OnceEach, AtMost}
 use Rattle.noise_script.specs.Lines.{begins_with, is_passed_over}
 use Rattle.noise_script.specs.Numbers.{is_number, value_of, is_signed, signed_value_of}
-use Rattle.roles.specs.Role.{role_word}
+use Rattle.shared_terms.specs.Role.{role_word}
 
 -- what a word behind the first may be: a role, a number from low to high, or one that may have a minus sign
 pub data Argument : Type 0 where

@@ -1,7 +1,7 @@
 -- The texts that spell scripts, and the first fault of a text that spells none.
 use Rattle.std.specs.Prelude.{◌≡◌, ◌⊎◌, ℕ, ◌+◌, ◌≤◌, Bool, true, false, ◌&&◌, if◌then◌else◌, List, [], ◌∷◌, ◌++◌, length, filter_map, Option, Some, None}
 use Rattle.std.specs.List.{list_any}
-use Rattle.causes.specs.declared.cause.Cause.{Cause}
+use Rattle.shared_terms.specs.declared.cause.Cause.{Cause}
 use Rattle.noise_script.specs.declared.entry.Loss.{Loss}
 use Rattle.noise_script.specs.declared.entry.Hit.{Hit}
 use Rattle.noise_script.specs.declared.entry.Noise.{Noise}
@@ -19,9 +19,9 @@ use Rattle.noise_script.specs.Lines.{lines_of, words_of, is_passed_over}
 use Rattle.noise_script.specs.Forms.{Kind, row, form_of, kind_of, most, too_many, SpellsLine, Misspells}
 use Rattle.noise_script.specs.Breaks.{in_order}
 use Rattle.xid_params.specs.declared.offer.Offer.{Offer}
-use Rattle.roles.specs.declared.role.Role.{Role}
-use Rattle.roles.specs.declared.role.Role.TheVariants.{Originator, Answerer}
-use Rattle.roles.specs.Role.{same_role}
+use Rattle.shared_terms.specs.declared.role.Role.{Role}
+use Rattle.shared_terms.specs.declared.role.Role.TheVariants.{Originator, Answerer}
+use Rattle.shared_terms.specs.Role.{same_role}
 use Rattle.noise_script.specs.Script.{ScriptValue}
 
 -- the lines say this, in order; those that are passed over say nothing

@@ -2,7 +2,7 @@
 use Rattle.std.specs.Prelude.{◌≡◌, ◌≢◌, ◌⊎◌, ℕ, ◌<◌, Bool, true, not, nat_eq, List, [], ◌∷◌, ◌++◌, All}
 use Rattle.std.specs.List.{list_all}
 use Rattle.noise_script.specs.Lines.{lines_of, without_return, words_of, is_blank}
-use Rattle.causes.specs.declared.cause.Cause.{Cause}
+use Rattle.shared_terms.specs.declared.cause.Cause.{Cause}
 use Rattle.noise_script.specs.declared.entry.Break.{Break}
 use Rattle.noise_script.specs.Breaks.{in_order, IsOrder}
 use Rattle.noise_script.specs.Script.{ScriptValue, IsInLimits}

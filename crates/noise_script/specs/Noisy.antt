@@ -1,6 +1,6 @@
 -- The scripts that say delays, noise and losses alone, by the words of their lines.
 use Rattle.std.specs.Prelude.{◌≡◌, ℕ, ◌≤◌, true, List, [], ◌∷◌, ◌++◌, length, codes}
-use Rattle.roles.specs.Role.{role_word}
+use Rattle.shared_terms.specs.Role.{role_word}
 use Rattle.xid_params.specs.Terms.{default_offer}
 use Rattle.noise_script.specs.declared.entry.Loss.{Loss}
 use Rattle.noise_script.specs.declared.entry.Noise.{Noise}

@@ -1,13 +1,13 @@
 -- What the lines of a script add to the samples that an end sends.
 use Rattle.std.specs.Prelude.{ℕ, ◌+◌, ◌-◌, ◌*◌, ◌/◌, ◌%◌, ◌≤◌, ◌&&◌, nat_lt, nat_le, Bool, if◌then◌else◌, ℤ, pos, neg_ℤ, ◌+ℤ◌, ◌-ℤ◌, ◌≤ℤ◌, List, [], ◌∷◌}
-use Rattle.roles.specs.declared.role.Role.{Role}
-use Rattle.roles.specs.declared.role.Role.TheVariants.{Originator, Answerer}
+use Rattle.shared_terms.specs.declared.role.Role.{Role}
+use Rattle.shared_terms.specs.declared.role.Role.TheVariants.{Originator, Answerer}
 use Rattle.rand_pcg.specs.Lcg.{Lcg, advance, started, increment_of}
 use Rattle.rand_pcg.specs.Pcg.{pcg32, multiplier_64}
 use Rattle.noise_script.specs.declared.entry.Hit.{Hit}
 use Rattle.noise_script.specs.declared.entry.Noise.{Noise}
 use Rattle.noise_script.specs.declared.offset.Offset.{Offset}
-use Rattle.roles.specs.Role.{same_role}
+use Rattle.shared_terms.specs.Role.{same_role}
 
 -- the place is one of count places from that one on
 abbrev pub covers : ℕ → ℕ → ℕ → Bool

@@ -1,8 +1,8 @@
 -- What a script says, as plain numbers and lists, and what the line and the ends do by it.
 use Rattle.std.specs.Prelude.{ℕ, ◌≤◌, ◌&&◌, Bool, List, Option, length, map}
 use Rattle.std.specs.List.{list_any, AllByRecursion}
-use Rattle.roles.specs.declared.role.Role.{Role}
-use Rattle.roles.specs.declared.role.Role.TheVariants.{Originator, Answerer}
+use Rattle.shared_terms.specs.declared.role.Role.{Role}
+use Rattle.shared_terms.specs.declared.role.Role.TheVariants.{Originator, Answerer}
 use Rattle.noise_script.specs.declared.entry.Loss.{Loss}
 use Rattle.noise_script.specs.declared.entry.Hit.{Hit}
 use Rattle.noise_script.specs.declared.entry.Noise.{Noise}
@@ -11,7 +11,7 @@ use Rattle.noise_script.specs.declared.entry.Pause.{Pause}
 use Rattle.noise_script.specs.declared.offset.Offset.{Offset}
 use Rattle.noise_script.specs.Breaks.{break_in}
 use Rattle.noise_script.specs.Offsets.{covers, plus, sum_of, hit_offset, noise_offset, AreQuiet}
-use Rattle.roles.specs.Role.{same_role}
+use Rattle.shared_terms.specs.Role.{same_role}
 use Rattle.xid_params.specs.declared.offer.Offer.{Offer}
 use Rattle.xid_params.specs.Offers.{IsAllowed}
 

@@ -10,7 +10,7 @@ use crate::entry::{Delays, Entry, Length, Window};
 use crate::offered::{NOTHING_OFFERED, Offered};
 use crate::{Break, Hit, Loss, Noise, Pause, Script};
 use outside_calls::NoMemory;
-use roles::Role;
+use shared_terms::Role;
 use std::alloc::Global;
 
 pub(crate) struct Draft {

@@ -1,7 +1,7 @@
 // What a line of a script says.
 
 use crate::forms::Form;
-use roles::Role;
+use shared_terms::Role;
 
 /// The slots that a role sends in `count` turns from `from` on.
 #[derive(Clone, Copy, PartialEq, Eq)]

@@ -5,7 +5,7 @@ ghost use Rattle.noise_script.specs.Offsets.{stream_of, generator_at, word_at};
 use crate::limits::NOISE_LINES;
 use rand_core::utils::NextWord;
 use rand_pcg::Lcg64Xsh32;
-use roles::Role;
+use shared_terms::Role;
 
 /// The generator's stream for the noise on what a role sends.
 fn stream_of(sender: Role) -> u64

@@ -20,7 +20,6 @@ mod reader;
 mod reading;
 mod script;
 
-pub use causes::Cause;
 pub use entry::{Break, Hit, Loss, Noise, Pause};
 pub use fault::ScriptFault;
 pub use generators::Generators;
@@ -31,3 +30,4 @@ pub use numbers::read_plain_number;
 pub use offset::Offset;
 pub use reader::read_script;
 pub use script::Script;
+pub use shared_terms::Cause;

@@ -7,7 +7,7 @@ ghost use Rattle.noise_script.specs.Forms.{ARole, Number, Signed, RoleIs, Number
 
 use crate::Cause;
 use crate::forms::Range;
-use roles::Role;
+use shared_terms::Role;
 
 /// A number of 1 to 20 decimal digits.
 fn read_digits(word: &[u8]) -> Option<u128>

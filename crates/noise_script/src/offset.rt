@@ -1,12 +1,12 @@
 // Offsets of samples, as the lines of a script give them.
 ghost use Rattle.std.specs.Prelude.{◌≡◌, ◌+◌, ◌<◌, ◌≤◌, ◌*◌, ◌-◌, ◌^◌, length, map};
 ghost use Rattle.noise_script.specs.Offsets.{plus, sum_of, IsWithin, drawn, drawn_offset, covers, hit_offset, noise_offset, IsQuiet, AreQuiet};
-ghost use Rattle.roles.specs.Role.{same_role};
+ghost use Rattle.shared_terms.specs.Role.{same_role};
 
 use crate::generators::{Generator, Generators};
 use crate::limits::{HIT_LINES, NOISE_LINES, OFFSET_MOST};
 use crate::{Hit, Noise};
-use roles::Role;
+use shared_terms::Role;
 
 /// What the line adds to a sample, in the units of samples.
 #[derive(Clone, Copy, PartialEq, Eq)]

@@ -5,7 +5,7 @@ ghost use Rattle.noise_script.specs.Script.{ScriptValue};
 ghost use Rattle.noise_script.specs.Draft.{Holds, HoldsLine, IsLineFault, HoldsUpTo, draft_script};
 ghost use Rattle.noise_script.specs.Lines.{words_of};
 ghost use Rattle.noise_script.specs.declared.entry.Entry.{Entry};
-ghost use Rattle.causes.specs.declared.cause.Cause.{Cause};
+ghost use Rattle.shared_terms.specs.declared.cause.Cause.{Cause};
 
 use crate::draft::Draft;
 use crate::lines::next_line;

@@ -10,7 +10,7 @@ use crate::forms::{
 };
 use crate::lines::{count_words, first_word, next_word};
 use crate::numbers::{read_number, read_role, read_signed};
-use roles::Role;
+use shared_terms::Role;
 
 /// The role at the front of a line, and the line behind it.
 fn role(line: &[u8]) -> Result<(Role, &[u8]), Cause>

@@ -7,7 +7,7 @@ ghost use Rattle.xid_params.specs.Offers.{IsAllowed};
 
 use crate::offset::{covers, offset_of_hits, offset_of_noises, total};
 use crate::{Break, Generators, Hit, Loss, Noise, OFFSET_MOST, Offset, Pause};
-use roles::Role;
+use shared_terms::Role;
 use std::marker::Model;
 use xid_params::Offer;
 

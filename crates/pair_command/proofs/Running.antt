@@ -4,7 +4,7 @@ use Rattle.outside_calls.specs.Folder.{FolderState, GoesOn, KeepsName, OnlyReads
 use Rattle.outside_calls.proofs.Steps.{GoesOn-trans, KeepsName-trans}
 use Rattle.outside_calls.specs.Outputs.{IsNoneOf, AreApart, AreNoneOf, AreApartFrom, KeepsEach, CreatesPart, OnlyOutputs, OnlyPuts}
 use Rattle.outside_calls.proofs.Putting.{KeepsEach-reads, SomeRose-earlier, inputs-kept, none-fronts}
-use Rattle.roles.specs.Both.{Both}
+use Rattle.shared_terms.specs.Both.{Both}
 use Rattle.noise_script.specs.Script.{ScriptValue, IsInLimits}
 use Rattle.link_run.specs.Run.{Link}
 use Rattle.line_run.specs.Sampled.{Wire}

@@ -4,7 +4,7 @@ use Rattle.std.specs.Prelude.{◌≡◌, ◌⊎◌, ℕ, IsTrue, List, Result, O
 use Rattle.outside_calls.specs.Folder.{FolderState, OnlyReads, CountsStand, octets_at}
 use Rattle.outside_calls.specs.declared.folder.FolderFault.TheVariants as folder
 use Rattle.outside_calls.specs.Outputs.{KeepsAll, SaysNothing, CreatesPart, SomeRose}
-use Rattle.roles.specs.Both.{Both}
+use Rattle.shared_terms.specs.Both.{Both}
 use Rattle.noise_script.specs.Script.{ScriptValue, IsInLimits}
 use Rattle.link_run.specs.Run.{Link}
 use Rattle.line_run.specs.Sampled.{Wire}

@@ -6,8 +6,8 @@ use Rattle.bit_stuffing.specs.declared.slot_writer.TheConstants.{HEAD, TAIL}
 use Rattle.symbol_map.specs.declared.sample.Sample.{Sample}
 use Rattle.survivors.specs.Survivors.{LostIs}
 use Rattle.survivors.specs.V32.{line_depth, line_trellis}
-use Rattle.roles.specs.declared.role.Role.{Role}
-use Rattle.roles.specs.Both.{of}
+use Rattle.shared_terms.specs.declared.role.Role.{Role}
+use Rattle.shared_terms.specs.Both.{of}
 use Rattle.detection.specs.Slots.{Signal, signal_bits}
 use Rattle.lapm_frames.specs.declared.heard.Heard.{Heard}
 use Rattle.lapm_frames.specs.declared.heard.Heard.TheVariants.{Nothing, Chance}
@@ -17,10 +17,10 @@ use Rattle.sample_line.specs.Signals.{signal_of}
 use Rattle.sample_line.specs.Recorded.{Records}
 use Rattle.sample_line.specs.Outcomes.{IsOutcome}
 use Rattle.sample_line.specs.Laws.{OneOutcome}
-use Rattle.line_laws.specs.Fitting.{AreFit}
-use Rattle.line_laws.specs.Unhindered.{ChecksAgree, octets_in, patterns_in, unhindered}
-use Rattle.line_laws.specs.Laws.{FaintNeverLost, FaintReceivedIsSent, FaintSentIsReceived, NeverChance, SlotsAreRecorded}
-use Rattle.line_laws.proofs.Received.{as-expected}
+use Rattle.line_run.specs.Fitting.{AreFit}
+use Rattle.line_run.specs.Unhindered.{ChecksAgree, octets_in, patterns_in, unhindered}
+use Rattle.line_run.specs.Laws.{FaintNeverLost, FaintReceivedIsSent, FaintSentIsReceived, NeverChance, SlotsAreRecorded}
+use Rattle.line_run.proofs.Received.{as-expected}
 use Rattle.link_run.specs.Run.{Spoken, Turn}
 use Rattle.link_run.specs.Carried.{sent_ago}
 use Rattle.line_run.specs.Sampled.{Wire, signal_in, signals, signals_before, bits_of, Arrives, ArrivesAs, IsHeardOf, LosesLine}

@@ -6,17 +6,17 @@ use Rattle.std.proofs.lemmas.Bool.{false≢true}
 use Rattle.std.proofs.lemmas.List.{length-drop, length-replicate}
 use Rattle.std.proofs.lemmas.List.Elements.{All-nil, All-cons, All-replicate}
 use Rattle.plain_lists.specs.Octets.{AreOctets}
-use Rattle.roles.specs.declared.role.Role.{Role}
-use Rattle.roles.specs.declared.role.Role.TheVariants.{Originator, Answerer}
-use Rattle.roles.specs.Role.{other}
-use Rattle.roles.specs.Both.{Both, of}
+use Rattle.shared_terms.specs.declared.role.Role.{Role}
+use Rattle.shared_terms.specs.declared.role.Role.TheVariants.{Originator, Answerer}
+use Rattle.shared_terms.specs.Role.{other}
+use Rattle.shared_terms.specs.Both.{Both, of}
 use Rattle.lapm_frames.specs.declared.sent.Sent.{Sent}
 use Rattle.lapm_frames.specs.declared.sent.Sent.TheVariants as slots
 use Rattle.lapm_frames.specs.declared.heard.Heard.TheVariants.{Nothing, Passed, Lost}
-use Rattle.line_laws.specs.Unhindered.{unhindered}
+use Rattle.line_run.specs.Unhindered.{unhindered}
 use Rattle.noise_script.specs.declared.entry.Break.{Break}
 use Rattle.noise_script.specs.Script.{ScriptValue, IsInLimits, delay_of, loses}
-use Rattle.causes.specs.declared.fault.LinkFault.{LinkFault}
+use Rattle.shared_terms.specs.declared.fault.LinkFault.{LinkFault}
 use Rattle.link_account.specs.Account.{Account, check_of}
 use Rattle.link_account.specs.Hear.{hear}
 use Rattle.link_account.specs.Speak.{Said}
@@ -29,8 +29,8 @@ use Rattle.line_run.specs.Sampled.{HeardIn, IsHeardOf, LineRun}
 use Rattle.line_run.specs.Scripted.{wire_of, link_of}
 use Rattle.line_run.specs.Ends.{IsDone, Left, OneResult}
 use Rattle.line_ends.specs.Completes.{ScriptRunsTo, DisplacesNone, DisplacesNoneIsFaint, AreOfOctets}
-use Rattle.worked_traces.specs.Made.{Way, Next, Goes, Ends_run, Stops, Made, IsMade, EndsAs, turn_with, both_said, crossing, speaking, hearing, next}
-use Rattle.worked_traces.specs.Made.{heard_by, made, runs, with_last, all_turns}
+use Rattle.pair_run.specs.Made.{Way, Next, Goes, Ends_run, Stops, Made, IsMade, EndsAs, turn_with, both_said, crossing, speaking, hearing, next}
+use Rattle.pair_run.specs.Made.{heard_by, made, runs, with_last, all_turns}
 use Rattle.pair_run.specs.Ends.{BothDone, end_of, PairRunsTo}
 use Rattle.xid_params.specs.Offers.{IsAllowed}
 use Rattle.pair_run.specs.Laws.{AreShort, AreIsolated, UndisplacedPairsAreIsolated, HasPairEnd, EachPairEnds}

@@ -4,9 +4,9 @@ use Rattle.std.proofs.Common.{sym, ap, subst, Option, Some, None}
 use Rattle.std.proofs.lemmas.List.{append-nil}
 use Rattle.bit_stuffing.specs.Slots.{next_phase}
 use Rattle.bit_stuffing.proofs.Fill.{next-low}
-use Rattle.roles.specs.declared.role.Role.{Role}
-use Rattle.roles.specs.declared.role.Role.TheVariants.{Originator, Answerer}
-use Rattle.roles.specs.Both.{Both, of}
+use Rattle.shared_terms.specs.declared.role.Role.{Role}
+use Rattle.shared_terms.specs.declared.role.Role.TheVariants.{Originator, Answerer}
+use Rattle.shared_terms.specs.Both.{Both, of}
 use Rattle.detection.specs.Slots.{Signal, slot_of}
 use Rattle.detection.specs.Slots.Signal.{FlagSlot}
 use Rattle.lapm_frames.specs.declared.sent.Sent.{Sent}
@@ -14,8 +14,8 @@ use Rattle.lapm_frames.specs.declared.sent.Sent.TheVariants as slots
 use Rattle.lapm_frames.specs.Sendable.{IsSendable}
 use Rattle.noise_script.specs.Script.{IsInLimits}
 use Rattle.sample_line.specs.Signals.{signal_of}
-use Rattle.line_laws.specs.Fitting.{Fits, AreFit}
-use Rattle.line_laws.proofs.Fitting.{codable-fits, spelled-octets}
+use Rattle.line_run.specs.Fitting.{Fits, AreFit}
+use Rattle.line_run.proofs.Fits.{codable-fits, spelled-octets}
 use Rattle.link_run.specs.Run.{Accounts, Spoken, Turn}
 use Rattle.line_run.specs.Sampled.{Wire, and_then, signal_in, signals, signals_before, LineRun}
 use Rattle.line_run.specs.Scripted.{link_of, slot_symbols, longest_of, SlotsAreCodable}

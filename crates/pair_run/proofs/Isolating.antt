@@ -1,8 +1,8 @@
 -- Where noise is faint a link runs as it would whatever goes beside it.
 use Rattle.std.proofs.Common.{◌≡◌, ℕ, ◌<◌, List, [], ◌∷◌, length, sym, subst}
-use Rattle.roles.specs.declared.role.Role.{Role}
-use Rattle.roles.specs.Role.{other}
-use Rattle.roles.specs.Both.{Both, of}
+use Rattle.shared_terms.specs.declared.role.Role.{Role}
+use Rattle.shared_terms.specs.Role.{other}
+use Rattle.shared_terms.specs.Both.{Both, of}
 use Rattle.noise_script.specs.Script.{ScriptValue, IsInLimits, delay_of}
 use Rattle.link_account.specs.Account.{check_of}
 use Rattle.link_run.specs.Run.{Accounts, Turn, Hears}

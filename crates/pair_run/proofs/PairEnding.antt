@@ -2,8 +2,8 @@
 use Rattle.std.proofs.Common.{◌≡◌, ◌⊎◌, inl, inr, ℕ, zero, suc, ◌+◌, ◌^◌, ◌<◌, ◌≤◌, ◌||◌, max, Bool, true, false, List, [], ◌++◌}
 use Rattle.std.proofs.Common.{length, arith, refl, sym, ◌∙◌, ap, subst, Some}
 use Rattle.std.proofs.lemmas.Bool.{false≢true}
-use Rattle.roles.specs.declared.role.Role.{Role}
-use Rattle.roles.specs.Both.{Both}
+use Rattle.shared_terms.specs.declared.role.Role.{Role}
+use Rattle.shared_terms.specs.Both.{Both}
 use Rattle.noise_script.specs.Script.{ScriptValue, IsInLimits, delay_of}
 use Rattle.link_run.specs.Run.{start}
 use Rattle.link_run.specs.Trace.{trace_text}

@@ -1,9 +1,9 @@
 -- Pairs whose noise is faint: the line doesn't end them, and each link runs as it does alone.
 use Rattle.std.proofs.Common.{ℕ, ◌-◌, ◌<◌, List, length, arith, sym, subst, None}
-use Rattle.roles.specs.declared.role.Role.{Role}
-use Rattle.roles.specs.declared.role.Role.TheVariants.{Originator, Answerer}
-use Rattle.roles.specs.Role.{other}
-use Rattle.roles.specs.Both.{Both, of}
+use Rattle.shared_terms.specs.declared.role.Role.{Role}
+use Rattle.shared_terms.specs.declared.role.Role.TheVariants.{Originator, Answerer}
+use Rattle.shared_terms.specs.Role.{other}
+use Rattle.shared_terms.specs.Both.{Both, of}
 use Rattle.lapm_frames.specs.declared.heard.Heard.TheVariants.{Chance}
 use Rattle.noise_script.specs.Script.{ScriptValue}
 use Rattle.link_account.specs.Account.{check_of}

@@ -1,7 +1,7 @@
 -- How a pair ends, and what it leaves of each link.
 use Rattle.std.specs.Prelude.{◌≡◌, ℕ, suc, max, Bool, true, false, ◌||◌, List, [], ◌++◌, length}
-use Rattle.roles.specs.declared.role.Role.{Role}
-use Rattle.roles.specs.Both.{Both}
+use Rattle.shared_terms.specs.declared.role.Role.{Role}
+use Rattle.shared_terms.specs.Both.{Both}
 use Rattle.noise_script.specs.Script.{ScriptValue}
 use Rattle.line_texts.specs.LineText.{chance_line}
 use Rattle.link_run.specs.Run.{Accounts, Turn}

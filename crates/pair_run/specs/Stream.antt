@@ -1,7 +1,7 @@
 -- What two links send over a direction of the line, in order.
 use Rattle.std.specs.Prelude.{List, [], ◌∷◌, ◌++◌}
-use Rattle.roles.specs.declared.role.Role.{Role}
-use Rattle.roles.specs.Both.{of}
+use Rattle.shared_terms.specs.declared.role.Role.{Role}
+use Rattle.shared_terms.specs.Both.{of}
 use Rattle.link_run.specs.Run.{Turn}
 use Rattle.line_run.specs.Stream.{Carried, carry}
 use Rattle.pair_run.specs.Beside.{first_dlci, second_dlci}

@@ -9,7 +9,7 @@ use line_ends::laws::{
     heard_turns_are_made, lost_links_were_starved, octets_are_sendable,
     undisplaced_runs_have_faint_noise, undisturbed_runs_complete,
 };
-use line_laws::laws::{
+use line_run::direction::{
     each_list_of_fours_is_recorded, faint_lines_are_never_lost, heard_is_sent,
     what_is_received_of_faint_lines_is_sent,
 };

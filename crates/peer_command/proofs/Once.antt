@@ -1,8 +1,8 @@
 -- A role, a file and octets have one result at most.
 use Rattle.std.proofs.Common.{◌≡◌, ◌≢◌, ◌∙◌, inl, inr, ℕ, ◌+◌, ◌<◌, List, [], ◌∷◌, length, refl, sym, ap, subst, arith}
 use Rattle.std.proofs.lemmas.Bool.{cases_lt}
-use Rattle.roles.specs.declared.role.Role.{Role}
-use Rattle.roles.specs.Role.{other}
+use Rattle.shared_terms.specs.declared.role.Role.{Role}
+use Rattle.shared_terms.specs.Role.{other}
 use Rattle.link_account.specs.Account.{Account}
 use Rattle.link_run.specs.Alone.{LoneTurn, LoneRun}
 use Rattle.single_end.specs.Peer.{Past, PeerTurn, Outcome, Going, Closed, Broken, HearsSlots, party_of}

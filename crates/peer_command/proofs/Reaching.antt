@@ -9,7 +9,7 @@ use Rattle.outside_calls.specs.Folder.{FolderState, octets_at, GoesOn, KeepsName
 use Rattle.outside_calls.proofs.Steps.{GoesOn-trans, KeepsName-trans, octets-kept, told_later, CountsStand-trans}
 use Rattle.outside_calls.specs.declared.folder.FolderFault.{FolderFault}
 use Rattle.outside_calls.specs.declared.folder.FolderFault.TheVariants as folder
-use Rattle.roles.specs.declared.role.Role.{Role}
+use Rattle.shared_terms.specs.declared.role.Role.{Role}
 use Rattle.link_run.specs.End.{deliveries}
 use Rattle.link_run.specs.Alone.{LoneTurn, LoneHearingsDeliver, LoneSpeakingTakesNothing}
 use Rattle.single_end.specs.declared.single.Single.{Single}

@@ -1,7 +1,7 @@
 -- Which answer the inputs have over a sound folder, and when it is that the command is done.
 use Rattle.std.specs.Prelude.{◌≡◌, ◌⊎◌, ℕ, ◌<◌, ◌≤◌, IsTrue, length}
 use Rattle.outside_calls.specs.Folder.{FolderState, octets_at}
-use Rattle.causes.specs.declared.fault.LinkFault.{LinkFault}
+use Rattle.shared_terms.specs.declared.fault.LinkFault.{LinkFault}
 use Rattle.command_base.specs.declared.status.Status.{Status}
 use Rattle.command_base.specs.declared.status.Status.TheVariants.{TooLong, NoMemory}
 use Rattle.command_base.specs.Sound.{IsSound, DoneUnlessMemory}

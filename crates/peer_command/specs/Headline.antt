@@ -1,7 +1,7 @@
 -- What the command promises, over the folder before and after it. What is said of a name's octets holds where the folder tells that name.
 use Rattle.std.specs.Prelude.{◌≡◌, ℕ, IsTrue, List}
 use Rattle.outside_calls.specs.Folder.{FolderState, octets_at, Said}
-use Rattle.causes.specs.declared.fault.LinkFault.{LinkFault}
+use Rattle.shared_terms.specs.declared.fault.LinkFault.{LinkFault}
 use Rattle.command_base.specs.declared.status.Status.{Status}
 use Rattle.command_base.specs.declared.status.Status.TheVariants.{Done, NotDetected, LinkLost, PeerFault}
 use Rattle.command_base.specs.Job.{Shared}

@@ -1,6 +1,6 @@
 -- What holds of all runs of an end against a peer's octets.
 use Rattle.std.specs.Prelude.{◌≡◌, ℕ, List}
-use Rattle.roles.specs.declared.role.Role.{Role}
+use Rattle.shared_terms.specs.declared.role.Role.{Role}
 use Rattle.peer_command.specs.Runs.{Left, PeerEnd, RunsTo}
 
 -- A role, a file and octets have one result at most: how the run ends, and what it leaves.

@@ -1,8 +1,8 @@
 -- How a run of an end against a peer's octets ends, and what it leaves.
 use Rattle.std.specs.Prelude.{◌≡◌, ◌⊎◌, ℕ, zero, suc, ◌+◌, ◌*◌, ◌/◌, ◌<◌, List, [], ◌∷◌, ◌++◌, length, take, drop}
 use Rattle.std.specs.List.{concat}
-use Rattle.roles.specs.declared.role.Role.{Role}
-use Rattle.causes.specs.declared.fault.LinkFault.{LinkFault}
+use Rattle.shared_terms.specs.declared.role.Role.{Role}
+use Rattle.shared_terms.specs.declared.fault.LinkFault.{LinkFault}
 use Rattle.link_run.specs.Alone.{LoneTurn}
 use Rattle.single_end.specs.Heard.{slot_octets}
 use Rattle.single_end.specs.Peer.{Past, PeerRun, PeerTurn, Outcome, Closed, Broken, trace_of, turn_line}

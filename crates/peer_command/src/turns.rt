@@ -16,7 +16,7 @@ use crate::words::PeerWords;
 use command_base::{FILE_LIMIT, LinkFault, Status, Stop, apart_names_differ, read_piece};
 use link_run::laws::lone_turns_deliver_what_came;
 use outside_calls::{Folder, FolderFault};
-use roles::Role;
+use shared_terms::Role;
 use single_end::{SLOT_OCTETS, Single, SingleFault, SingleStep};
 
 /// The answer of an end that gives its link up in this turn.

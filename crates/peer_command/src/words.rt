@@ -5,7 +5,7 @@ ghost use Rattle.command_base.specs.Apart.{are_apart};
 ghost use Rattle.peer_command.specs.Words.{names_of, named, inputs_of, outputs_of};
 
 use command_base::are_apart;
-use roles::Role;
+use shared_terms::Role;
 
 /// An end that is to meet a peer.
 #[derive(Clone, Copy)]

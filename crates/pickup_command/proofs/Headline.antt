@@ -17,7 +17,7 @@ use Rattle.command_base.proofs.Saying.{Said-Said}
 use Rattle.recordings.specs.declared.rate.Rate.TheVariants as rates
 use Rattle.recordings.specs.Headers.{IsBadHeader}
 use Rattle.recordings.specs.Samples.{samples_in}
-use Rattle.recording_inputs.proofs.Headers.{never-longer, never-bad, content-same}
+use Rattle.command_base.proofs.Headers.{never-longer, never-bad, content-same}
 use Rattle.pickup_command.specs.Ends.{IsFollowed, EndsOwn, pickup_job}
 use Rattle.pickup_command.specs.Ends.EndsOwn.{is_long, is_other, is_cut, is_lost}
 use Rattle.pickup_command.specs.Completes.{IsRecording, Completes}

@@ -12,9 +12,9 @@ use Rattle.recordings.specs.declared.rate.Rate.TheVariants as rates
 use Rattle.recordings.specs.declared.header.TheConstants.{HEADER}
 use Rattle.recordings.specs.Samples.{samples_in}
 use Rattle.recordings.proofs.Samples.{samples_in-front}
-use Rattle.piece_listener.proofs.Hearing.{said-nothing, said-after}
-use Rattle.recording_inputs.specs.Recordings.{ReadsRecording, IsNotOpened}
-use Rattle.recording_inputs.proofs.Behind.{GoesOnBy}
+use Rattle.command_base.proofs.Hearing.{said-nothing, said-after}
+use Rattle.command_base.specs.Recordings.{ReadsRecording, IsNotOpened}
+use Rattle.command_base.proofs.Behind.{GoesOnBy}
 use Rattle.pickup_command.specs.Gives.{AreFollowed, SaysPieces}
 use Rattle.pickup_command.specs.Playing.{Playing, Plays, StopsPlay}
 use Rattle.pickup_command.specs.Ends.{PicksUpAll, SampleCut, PicksUpFront, EndsBy}

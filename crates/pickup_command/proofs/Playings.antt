@@ -5,7 +5,7 @@ use Rattle.std.proofs.lemmas.List.{take-append-drop, take-append-le, length-take
 use Rattle.scramblers.specs.declared.mode.Mode.{Mode}
 use Rattle.scramblers.specs.Mode.{tap_of}
 use Rattle.symbol_map.specs.declared.sample.Sample.{Sample}
-use Rattle.roles.specs.declared.role.Role.{Role}
+use Rattle.shared_terms.specs.declared.role.Role.{Role}
 use Rattle.outside_calls.specs.Folder.{FolderState, OnlyReads}
 use Rattle.survivors.specs.Survivors.{IsReleased, LostIs}
 use Rattle.survivors.proofs.Fronts.{lost-stays, over-before}
@@ -18,10 +18,10 @@ use Rattle.command_base.specs.declared.stop.Stop.TheVariants.{Own, Read, Write, 
 use Rattle.line_coding.specs.MiddleReading.{Middle, MiddleRead, bits_of_taken}
 use Rattle.line_coding.specs.declared.middle_reader.Taken.{Taken}
 use Rattle.line_coding.proofs.Readers.{readers_pick_up}
-use Rattle.piece_listener.specs.Readings.{AreLines}
-use Rattle.piece_listener.specs.Heard.{Listening, Heard, PartlyHeard}
-use Rattle.piece_listener.proofs.Hearing.{heard-after}
-use Rattle.recording_inputs.specs.Recordings.{sender_of, hearer_of}
+use Rattle.command_base.specs.Readings.{AreLines}
+use Rattle.command_base.specs.Heard.{Listening, Heard, PartlyHeard}
+use Rattle.command_base.proofs.Hearing.{heard-after}
+use Rattle.command_base.specs.Recordings.{sender_of, hearer_of}
 use Rattle.pickup_command.specs.Gives.{AreFollowed, SaysPieces}
 use Rattle.pickup_command.specs.Playing.{Playing, playing_of, Plays, IsReady, SaysSome, LosesLine, StopsPlay}
 use Rattle.pickup_command.proofs.Longer.{bits-longer, tap-low}

@@ -3,7 +3,7 @@
 use Rattle.std.specs.Prelude.{◌≡◌, ◌≢◌, ◌⊎◌, ℕ, ◌+◌, ◌%◌, List, [], ◌∷◌, length, take, Some, None, Result, Ok, Err}
 use Rattle.scramblers.specs.declared.mode.Mode.{Mode}
 use Rattle.symbol_map.specs.declared.sample.Sample.{Sample}
-use Rattle.roles.specs.declared.role.Role.{Role}
+use Rattle.shared_terms.specs.declared.role.Role.{Role}
 use Rattle.outside_calls.specs.Folder.{FolderState, Said}
 use Rattle.survivors.specs.Survivors.{LostIs}
 use Rattle.survivors.specs.V32.{any_trellis, line_depth}
@@ -18,7 +18,7 @@ use Rattle.command_base.specs.Lines.{pieces_line}
 use Rattle.recordings.specs.declared.rate.Rate.TheVariants as rates
 use Rattle.recordings.specs.declared.header.TheConstants.{HEADER}
 use Rattle.recordings.specs.Samples.{samples_in}
-use Rattle.recording_inputs.specs.Recordings.{hearer_of, ReadsRecording, HasNoHeader, Opened}
+use Rattle.command_base.specs.Recordings.{hearer_of, ReadsRecording, HasNoHeader, Opened}
 use Rattle.pickup_command.specs.Gives.{AreFollowed, SaysPieces, SaysPart}
 
 -- it ends with a whole sample, and is not lost

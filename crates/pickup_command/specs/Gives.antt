@@ -9,8 +9,8 @@ use Rattle.survivors.specs.V32.{any_trellis, line_depth}
 use Rattle.bit_stuffing.specs.Found.{Found, pieces_of}
 use Rattle.outside_calls.specs.Folder.{FolderState, Said, PartlySaid}
 use Rattle.line_coding.specs.PickedUp.{IsPickedUp}
-use Rattle.piece_listener.specs.Readings.{AreLines}
-use Rattle.recording_inputs.specs.Recordings.{sender_of}
+use Rattle.command_base.specs.Readings.{AreLines}
+use Rattle.command_base.specs.Recordings.{sender_of}
 
 -- These samples release labels, and the bits that are picked up of these have these pieces.
 pub record GivesPieces (mode : Mode) (samples : List Sample) (pieces : List Found) : Type 0 where

@@ -12,8 +12,8 @@ use Rattle.command_base.specs.declared.status.Status.{Status}
 use Rattle.command_base.specs.declared.status.Status.TheVariants.{Done}
 use Rattle.command_base.specs.Job.{Shared}
 use Rattle.command_base.specs.Lines.{pieces_line}
-use Rattle.piece_listener.specs.Readings.{AreLines}
-use Rattle.recording_inputs.specs.Recordings.{sender_of}
+use Rattle.command_base.specs.Readings.{AreLines}
+use Rattle.command_base.specs.Recordings.{sender_of}
 use Rattle.pickup_command.specs.Gives.{GivesPieces}
 
 -- The recording is whole samples behind a header, and is not lost. A line was said for each piece that it gives, in order, and then

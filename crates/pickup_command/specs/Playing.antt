@@ -2,7 +2,7 @@
 use Rattle.std.specs.Prelude.{◌≡◌, ℕ, ◌+◌, ◌*◌, ◌%◌, ◌≤◌, Bool, List, [], length, take, Some, None}
 use Rattle.scramblers.specs.declared.mode.Mode.{Mode}
 use Rattle.symbol_map.specs.declared.sample.Sample.{Sample}
-use Rattle.roles.specs.declared.role.Role.{Role}
+use Rattle.shared_terms.specs.declared.role.Role.{Role}
 use Rattle.outside_calls.specs.Folder.{FolderState}
 use Rattle.survivors.specs.Survivors.{LostIs}
 use Rattle.survivors.specs.V32.{any_trellis, line_depth}
@@ -11,10 +11,10 @@ use Rattle.command_base.specs.declared.stop.Stop.{Stop}
 use Rattle.command_base.specs.declared.stop.Stop.TheVariants.{Own, Say}
 use Rattle.outside_calls.specs.Outputs.{OnlyOutputs}
 use Rattle.line_coding.specs.MiddleReading.{Middle, MiddleRead}
-use Rattle.piece_listener.specs.Heard.{Listening, Heard}
+use Rattle.command_base.specs.Heard.{Listening, Heard}
 use Rattle.recordings.specs.declared.rate.Rate.TheVariants as rates
 use Rattle.recordings.specs.Samples.{samples_in}
-use Rattle.recording_inputs.specs.Recordings.{sender_of, hearer_of, ReadBehind}
+use Rattle.command_base.specs.Recordings.{sender_of, hearer_of, ReadBehind}
 use Rattle.pickup_command.specs.Gives.{AreFollowed, SaysPieces, SaysPart}
 
 -- what a player keeps

@@ -5,16 +5,15 @@ ghost use Rattle.command_base.specs.Job.{Answers};
 ghost use Rattle.outside_calls.specs.Outputs.{OnlyOutputs};
 ghost use Rattle.command_base.specs.Stops.{EndCounts};
 ghost use Rattle.recordings.specs.declared.rate.Rate.TheVariants as rates;
-ghost use Rattle.recording_inputs.specs.Recordings.{Opened};
+ghost use Rattle.command_base.specs.Recordings.{Opened};
 ghost use Rattle.pickup_command.specs.Ends.{Ends, pickup_job};
 ghost use Rattle.pickup_command.specs.Completes.{Completes};
 ghost use Rattle.pickup_command.specs.Headline.{Headline};
 
 use crate::player::Player;
 use crate::playing::play_to_end;
-use command_base::{Status, Stop, pieces_line, tell, tell_stop};
+use command_base::{Status, Stop, open_recording, pieces_line, tell, tell_stop};
 use outside_calls::Folder;
-use recording_inputs::open_recording;
 use recordings::Rate;
 use scramblers::Mode;
 use std::alloc::Global;

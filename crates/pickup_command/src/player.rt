@@ -5,14 +5,12 @@ ghost use Rattle.symbol_map.specs.declared.sample.Sample.{Sample};
 ghost use Rattle.outside_calls.specs.Folder.{FolderState, OnlySays, CountsStand};
 ghost use Rattle.command_base.specs.Stops.{SayFails, EndCounts};
 ghost use Rattle.line_coding.specs.MiddleReading.{bits_of_taken};
-ghost use Rattle.piece_listener.specs.Heard.{Heard, PartlyHeard};
+ghost use Rattle.command_base.specs.Heard.{Heard, PartlyHeard};
 ghost use Rattle.pickup_command.specs.Playing.{Plays, IsReady, SaysSome, StopsPlay};
 
-use command_base::{Status, Stop};
+use command_base::{Listener, Status, Stop, hearer_of, sender_of};
 use line_coding::{DEPTH, MiddleReader, Taken};
 use outside_calls::{Folder, FolderFault, NoMemory};
-use piece_listener::Listener;
-use recording_inputs::{hearer_of, sender_of};
 use scramblers::Mode;
 use std::alloc::Global;
 use std::marker::Model;

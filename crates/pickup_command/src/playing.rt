@@ -7,14 +7,13 @@ ghost use Rattle.outside_calls.specs.Outputs.{OnlyOutputs};
 ghost use Rattle.command_base.specs.Stops.{EndCounts};
 ghost use Rattle.recordings.specs.Samples.{samples_in};
 ghost use Rattle.recordings.specs.declared.header.TheConstants.{HEADER};
-ghost use Rattle.recording_inputs.specs.Recordings.{IsAtEnd};
+ghost use Rattle.command_base.specs.Recordings.{IsAtEnd};
 ghost use Rattle.pickup_command.specs.Playing.{Plays, IsReady, StopsPlay, PlayedTo};
 ghost use Rattle.pickup_command.specs.Ends.{EndsBy, Ends};
 
 use crate::player::Player;
-use command_base::{Status, Stop};
+use command_base::{PIECE, Status, Stop, read_samples};
 use outside_calls::Folder;
-use recording_inputs::{PIECE, read_samples};
 use recordings::{HEADER, SAMPLE, sample_at};
 use scramblers::Mode;
 

@@ -6,7 +6,7 @@ use Rattle.outside_calls.specs.Folder.{FolderState, GoesOn, KeepsName}
 use Rattle.outside_calls.proofs.Steps.{KeepsName-trans, told_later}
 use Rattle.outside_calls.specs.declared.folder.FolderFault.{FolderFault}
 use Rattle.outside_calls.specs.declared.folder.FolderFault.TheVariants as folder
-use Rattle.roles.specs.declared.role.Role.TheVariants.{Originator, Answerer}
+use Rattle.shared_terms.specs.declared.role.Role.TheVariants.{Originator, Answerer}
 use Rattle.noise_script.specs.Script.{delay_of}
 use Rattle.link_run.specs.Laws.{agreed_srej}
 use Rattle.link_run.specs.Taken.{taken_octets}

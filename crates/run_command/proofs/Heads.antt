@@ -4,8 +4,8 @@ use Rattle.std.proofs.lemmas.List.{append-nil}
 use Rattle.outside_calls.specs.Folder.{FolderState, Appended, GoesOn}
 use Rattle.outside_calls.specs.Outputs.{Holds, Creates, KeepsEach}
 use Rattle.outside_calls.proofs.Holding.{Holds-kept, Holds-more}
-use Rattle.roles.specs.declared.role.Role.{Role}
-use Rattle.roles.specs.Role.{mode_of}
+use Rattle.shared_terms.specs.declared.role.Role.{Role}
+use Rattle.shared_terms.specs.Role.{mode_of}
 use Rattle.recordings.specs.Recording.{header_of}
 use Rattle.line_run.specs.Sampled.{Wire}
 use Rattle.run_inputs.specs.Words.{RunNames, texts_of, outputs_of}

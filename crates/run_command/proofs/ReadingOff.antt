@@ -1,9 +1,9 @@
 -- What is received of a slot is read off labels that begin a nearest code sequence.
 use Rattle.std.proofs.Common.{◌≡◌, ◌-◌, List, [], ◌∷◌, drop, Some, subst}
 use Rattle.frame_check.specs.declared.check.Check.{Check}
-use Rattle.roles.specs.declared.role.Role.{Role}
-use Rattle.roles.specs.Role.{other}
-use Rattle.roles.specs.Both.{of}
+use Rattle.shared_terms.specs.declared.role.Role.{Role}
+use Rattle.shared_terms.specs.Role.{other}
+use Rattle.shared_terms.specs.Both.{of}
 use Rattle.survivors.specs.Laws.{ReleasedIsLeast, OfEachCode}
 use Rattle.survivors.proofs.V32.{line-has-laws}
 use Rattle.survivors.specs.V32.{line_trellis}

@@ -5,10 +5,10 @@ use Rattle.outside_calls.specs.Folder.{FolderState, GoesOn}
 use Rattle.outside_calls.specs.Outputs.{Holds, HoldsFront, KeptOrEmpty, KeepsAll, KeepsEach, CreatesPart, OnlyOutputs}
 use Rattle.outside_calls.proofs.Steps.{KeepsName-trans}
 use Rattle.outside_calls.proofs.Holding.{Holds-kept, HoldsFront-part, HoldsFront-all, HoldsFront-kept}
-use Rattle.roles.specs.declared.role.Role.{Role}
-use Rattle.roles.specs.declared.role.Role.TheVariants.{Originator, Answerer}
-use Rattle.roles.specs.Role.{mode_of}
-use Rattle.roles.specs.Both.{Both}
+use Rattle.shared_terms.specs.declared.role.Role.{Role}
+use Rattle.shared_terms.specs.declared.role.Role.TheVariants.{Originator, Answerer}
+use Rattle.shared_terms.specs.Role.{mode_of}
+use Rattle.shared_terms.specs.Both.{Both}
 use Rattle.recordings.specs.Recording.{header_of}
 use Rattle.noise_script.specs.Script.{ScriptValue}
 use Rattle.link_run.specs.Run.{Accounts, Turn}

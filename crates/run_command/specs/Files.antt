@@ -1,7 +1,7 @@
 -- Of which script and files a run is.
 use Rattle.std.specs.Prelude.{◌≡◌, ℕ, IsTrue, List}
 use Rattle.outside_calls.specs.Folder.{FolderState, octets_at}
-use Rattle.roles.specs.Both.{Both}
+use Rattle.shared_terms.specs.Both.{Both}
 use Rattle.noise_script.specs.Script.{ScriptValue}
 use Rattle.noise_script.specs.Grammar.{ScriptSpelling}
 use Rattle.run_inputs.specs.Words.{RunNames}

@@ -1,7 +1,7 @@
 // The command: its inputs are opened, all memory is taken, its outputs are made, turns follow to its end, and its line is said.
 ghost use Rattle.std.specs.Prelude.{◌≡◌, [], List, ℕ, true, map, string_bytes};
 ghost use Rattle.outside_calls.specs.Folder.{FolderState};
-ghost use Rattle.roles.specs.Both.{Both};
+ghost use Rattle.shared_terms.specs.Both.{Both};
 ghost use Rattle.link_run.specs.Run.{start};
 ghost use Rattle.line_run.specs.Scripted.{link_of};
 ghost use Rattle.run_world.specs.World.{IsReady, WorldAfter, script_of};

@@ -4,7 +4,7 @@ ghost use Rattle.outside_calls.specs.Folder.{CountsStand, OnlyWrites};
 ghost use Rattle.outside_calls.specs.Outputs.{AreApart, Creates, CreatesPart, Holds, HoldsFront, OnlyOutputs, SaysNothing};
 ghost use Rattle.line_run.specs.Recorded.{tapes_of};
 ghost use Rattle.line_run.specs.Sampled.{Wire};
-ghost use Rattle.roles.specs.Role.{mode_of};
+ghost use Rattle.shared_terms.specs.Role.{mode_of};
 ghost use Rattle.recordings.specs.Recording.{header_of};
 ghost use Rattle.command_base.specs.Stops.{WriteFails};
 ghost use Rattle.command_base.specs.Apart.{are_apart};
@@ -15,9 +15,9 @@ ghost use Rattle.run_command.specs.Tapes.{HeadsPartly};
 use command_base::{apart_names_differ, append_output, create_outputs};
 use outside_calls::{Folder, FolderFault};
 use recordings::{Rate, header_octets};
-use roles::{Both, Role};
 use run_inputs::RunWords;
 use run_world::Tape;
+use shared_terms::{Both, Role};
 
 /// The outputs are made, in the order of the words.
 fn create_all<F: Folder>(folder: &mut F, words: &RunWords<'_>) -> Result<(), FolderFault>

@@ -1,7 +1,7 @@
 -- Which file is a run's script, and why another one is refused. What is said of its octets holds where the folder tells its name.
 use Rattle.std.specs.Prelude.{◌≡◌, ℕ, IsTrue, List}
 use Rattle.outside_calls.specs.Folder.{FolderState, TellsOctets, octets_at}
-use Rattle.causes.specs.declared.cause.Cause.{Cause}
+use Rattle.shared_terms.specs.declared.cause.Cause.{Cause}
 use Rattle.noise_script.specs.Script.{ScriptValue}
 use Rattle.noise_script.specs.Grammar.{ScriptSpelling, FirstFault}
 use Rattle.command_base.specs.Inputs.{IsWithin, IsLonger}

@@ -6,7 +6,7 @@ ghost use Rattle.run_inputs.specs.Words.{names_of, run_named, record_named, name
 
 use command_base::are_apart;
 use line_run::Names;
-use roles::Both;
+use shared_terms::Both;
 
 /// The words of a run behind the first one.
 #[derive(Drop)]

@@ -5,7 +5,7 @@ use Rattle.outside_calls.proofs.Steps.{told_later, octets-kept, FaultsStand-tran
 use Rattle.outside_calls.specs.Outputs.{KeepsEach}
 use Rattle.outside_calls.specs.Outputs.{AreApartFrom, OnlyPuts}
 use Rattle.outside_calls.proofs.Putting.{OnlyPuts-one, SomeRose-earlier, inputs-kept}
-use Rattle.roles.specs.Both.{Both}
+use Rattle.shared_terms.specs.Both.{Both}
 use Rattle.link_run.specs.Run.{Accounts}
 use Rattle.turn_bound.specs.Limits.{file_limit}
 use Rattle.stations.specs.Station.{file_at}

@@ -5,9 +5,9 @@ use Rattle.std.proofs.lemmas.Bool.{false≢true}
 use Rattle.sample_line.specs.Signals.{signal_of}
 use Rattle.detection.specs.Slots.{Signal}
 use Rattle.bit_stuffing.specs.declared.bit_slot.BitSlot.{BitSlot}
-use Rattle.roles.specs.declared.role.Role.{Role}
-use Rattle.roles.specs.declared.role.Role.TheVariants.{Originator, Answerer}
-use Rattle.roles.specs.Both.{Both, of}
+use Rattle.shared_terms.specs.declared.role.Role.{Role}
+use Rattle.shared_terms.specs.declared.role.Role.TheVariants.{Originator, Answerer}
+use Rattle.shared_terms.specs.Both.{Both, of}
 use Rattle.noise_script.specs.Script.{ScriptValue, IsInLimits, delay_of}
 use Rattle.sample_line.specs.Line.{Kept, LineStands, bits_behind}
 use Rattle.link_run.specs.Run.{Accounts, Spoken, Turn, start}

@@ -6,11 +6,11 @@ use Rattle.std.proofs.lemmas.List.Folds.{concat-append}
 use Rattle.std.specs.List.{concat}
 use Rattle.outside_calls.specs.Folder.{FolderState, octets_at, GoesOn, KeepsName, CountsStand}
 use Rattle.outside_calls.proofs.Steps.{CountsStand-refl, CountsStand-trans}
-use Rattle.roles.specs.declared.role.Role.{Role}
-use Rattle.roles.specs.declared.role.Role.TheVariants.{Originator, Answerer}
-use Rattle.roles.specs.Both.{Both, of}
+use Rattle.shared_terms.specs.declared.role.Role.{Role}
+use Rattle.shared_terms.specs.declared.role.Role.TheVariants.{Originator, Answerer}
+use Rattle.shared_terms.specs.Both.{Both, of}
 use Rattle.noise_script.specs.Script.{ScriptValue}
-use Rattle.causes.specs.declared.fault.LinkFault.TheVariants as causes
+use Rattle.shared_terms.specs.declared.fault.LinkFault.TheVariants as causes
 use Rattle.line_texts.specs.LineText.{chance_line}
 use Rattle.link_run.specs.Counts.{numbers_sent, repeated, segment_number, sent_again}
 use Rattle.link_run.specs.End.{deliveries}

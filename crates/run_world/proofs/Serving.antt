@@ -4,9 +4,9 @@ use Rattle.std.proofs.Common.{None, Err, IsErrOf}
 use Rattle.outside_calls.specs.Folder.{FolderState, FaultsStand}
 use Rattle.outside_calls.specs.declared.folder.FolderFault.{FolderFault}
 use Rattle.outside_calls.specs.declared.folder.FolderFault.TheVariants.{Failed, NoMemory}
-use Rattle.roles.specs.declared.role.Role.{Role}
-use Rattle.roles.specs.declared.role.Role.TheVariants.{Originator, Answerer}
-use Rattle.roles.specs.Both.{Both, of}
+use Rattle.shared_terms.specs.declared.role.Role.{Role}
+use Rattle.shared_terms.specs.declared.role.Role.TheVariants.{Originator, Answerer}
+use Rattle.shared_terms.specs.Both.{Both, of}
 use Rattle.noise_script.specs.Script.{ScriptValue, IsInLimits}
 use Rattle.xid_params.specs.Offers.{IsAllowed}
 use Rattle.link_account.specs.Account.{Account, after_busy, after_given, given_break, wants}

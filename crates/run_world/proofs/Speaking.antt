@@ -4,9 +4,9 @@ use Rattle.std.proofs.Common.{refl, sym, ◌∙◌, ap, subst, Option, Some, Non
 use Rattle.std.specs.Option.{option_map}
 use Rattle.outside_calls.specs.Folder.{FolderState, Appended, PartlyAppended, CountsStand}
 use Rattle.frame_check.specs.declared.check.Check.{Check}
-use Rattle.roles.specs.declared.role.Role.{Role}
-use Rattle.roles.specs.declared.role.Role.TheVariants.{Originator, Answerer}
-use Rattle.roles.specs.Both.{Both, of}
+use Rattle.shared_terms.specs.declared.role.Role.{Role}
+use Rattle.shared_terms.specs.declared.role.Role.TheVariants.{Originator, Answerer}
+use Rattle.shared_terms.specs.Both.{Both, of}
 use Rattle.noise_script.specs.Script.{IsInLimits, delay_of}
 use Rattle.lapm_frames.specs.declared.sent.Sent.{Sent}
 use Rattle.lapm_frames.specs.declared.heard.Heard.{Heard}
@@ -15,8 +15,8 @@ use Rattle.lapm_frames.specs.Sendable.{IsSendable}
 use Rattle.line_texts.specs.LineText.{line_text, trace_line}
 use Rattle.line_texts.specs.declared.trace_line.TraceLine.{TraceLine}
 use Rattle.sample_line.specs.Signals.{IsCodable}
-use Rattle.causes.specs.declared.fault.LinkFault.{LinkFault}
-use Rattle.causes.specs.declared.fault.LinkFault.TheVariants as faults
+use Rattle.shared_terms.specs.declared.fault.LinkFault.{LinkFault}
+use Rattle.shared_terms.specs.declared.fault.LinkFault.TheVariants as faults
 use Rattle.link_account.specs.Account.{given_break, check_of}
 use Rattle.link_account.specs.Speak.{Said}
 use Rattle.link_run.specs.Run.{Accounts, Side, Spoken, Turn, GoingTurn, LastTurn, BrokenTurn, IsBroken, BreaksAt, SpeaksAt, spoken, says_at, said_at}

@@ -3,15 +3,15 @@ use Rattle.std.proofs.Common.{◌≡◌, inl, inr, ℕ, ◌+◌, ◌<◌, List, 
 use Rattle.outside_calls.specs.Folder.{FolderState, OnlyWrites}
 use Rattle.outside_calls.specs.Outputs.{OnlyPuts, AddEach, AddPart}
 use Rattle.outside_calls.proofs.Putting.{AddEach-next, AddPart-next, AddPart-none, AddPart-longer}
-use Rattle.roles.specs.declared.role.Role.{Role}
-use Rattle.roles.specs.declared.role.Role.TheVariants.{Originator, Answerer}
-use Rattle.roles.specs.Role.{other}
-use Rattle.roles.specs.Both.{Both, of}
+use Rattle.shared_terms.specs.declared.role.Role.{Role}
+use Rattle.shared_terms.specs.declared.role.Role.TheVariants.{Originator, Answerer}
+use Rattle.shared_terms.specs.Role.{other}
+use Rattle.shared_terms.specs.Both.{Both, of}
 use Rattle.noise_script.specs.Script.{IsInLimits, delay_of}
 use Rattle.lapm_frames.specs.declared.heard.Heard.{Heard}
 use Rattle.link_account.specs.Account.{Account, check_of}
-use Rattle.causes.specs.declared.fault.LinkFault.{LinkFault}
-use Rattle.causes.specs.declared.fault.LinkFault.TheVariants as faults
+use Rattle.shared_terms.specs.declared.fault.LinkFault.{LinkFault}
+use Rattle.shared_terms.specs.declared.fault.LinkFault.TheVariants as faults
 use Rattle.link_account.specs.Hear.{hear}
 use Rattle.link_run.specs.Run.{Accounts, Turn, Hears, arrival}
 use Rattle.link_run.specs.Laws.{EachTurnIsMade, MakesTurn as MakesAny}

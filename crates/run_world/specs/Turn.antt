@@ -5,12 +5,12 @@ use Rattle.outside_calls.specs.declared.folder.FolderFault.{FolderFault}
 use Rattle.outside_calls.specs.declared.folder.FolderFault.TheVariants.{Failed, NoMemory}
 use Rattle.outside_calls.specs.Outputs.{KeepsEach}
 use Rattle.outside_calls.specs.Outputs.{AddEach, AddPart, SomeRose}
-use Rattle.roles.specs.declared.role.Role.{Role}
-use Rattle.roles.specs.declared.role.Role.TheVariants.{Originator}
-use Rattle.roles.specs.Both.{Both, of}
+use Rattle.shared_terms.specs.declared.role.Role.{Role}
+use Rattle.shared_terms.specs.declared.role.Role.TheVariants.{Originator}
+use Rattle.shared_terms.specs.Both.{Both, of}
 use Rattle.link_account.specs.Account.{check_of}
 use Rattle.line_texts.specs.LineText.{chance_line}
-use Rattle.causes.specs.declared.fault.LinkFault.TheVariants as faults
+use Rattle.shared_terms.specs.declared.fault.LinkFault.TheVariants as faults
 use Rattle.link_run.specs.Run.{Accounts, Turn, GoingTurn}
 use Rattle.link_run.specs.Outcomes.{Outcome, Done, Broken, TurnIs}
 use Rattle.link_run.specs.Trace.{turn_text}

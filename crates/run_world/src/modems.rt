@@ -1,7 +1,7 @@
 // A link's turn, over a line that is lent to it.
 ghost use Rattle.std.specs.Prelude.{◌≡◌, ℕ, ◌+◌, ◌<◌, ◌^◌, ◌∷◌, [], true, false, List, length, Option, OnOk, OnErr, IfOk, IfErr};
-ghost use Rattle.roles.specs.declared.role.Role.{Role};
-ghost use Rattle.roles.specs.Both.{Both};
+ghost use Rattle.shared_terms.specs.declared.role.Role.{Role};
+ghost use Rattle.shared_terms.specs.Both.{Both};
 ghost use Rattle.detection.specs.Slots.{Signal};
 ghost use Rattle.lapm_frames.specs.declared.heard.Heard.{Heard};
 ghost use Rattle.link_run.specs.Run.{Accounts, Turn, start};
@@ -34,9 +34,9 @@ use link_run::laws::{
 };
 use noise_script::Script;
 use outside_calls::{Folder, NoMemory};
-use roles::{Both, Role};
 use sample_line::Heard;
 use shared_line::{LineEnd, Lines};
+use shared_terms::{Both, Role};
 use stations::{sent_in, turn_lines};
 use std::alloc::Global;
 

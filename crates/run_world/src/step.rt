@@ -1,6 +1,6 @@
 // What a turn answers.
 
-use roles::Role;
+use shared_terms::Role;
 
 /// What comes after a turn.
 #[derive(Clone, Copy, PartialEq, Eq)]

@@ -3,7 +3,7 @@ ghost use Rattle.std.specs.Prelude.{◌≡◌, ℕ, ◌+◌, ◌<◌, ◌≤◌,
 ghost use Rattle.link_run.specs.Counts.{again_in, lost_in, next_count, sequence_in};
 
 use lapm_frames::{Frame, Heard, Sent};
-use roles::Both;
+use shared_terms::Both;
 
 /// Counts over the turns of a run.
 #[derive(Drop)]

@@ -4,8 +4,8 @@ ghost use Rattle.outside_calls.specs.Folder.{OnlyWrites};
 ghost use Rattle.outside_calls.specs.Outputs.{AreApart, OnlyPuts};
 ghost use Rattle.scramblers.specs.declared.mode.Mode.{Mode};
 ghost use Rattle.bit_stuffing.specs.BitSlot.{line_bits};
-ghost use Rattle.roles.specs.declared.role.Role.{Role};
-ghost use Rattle.roles.specs.Both.{Both};
+ghost use Rattle.shared_terms.specs.declared.role.Role.{Role};
+ghost use Rattle.shared_terms.specs.Both.{Both};
 ghost use Rattle.noise_script.specs.Script.{ScriptValue};
 ghost use Rattle.link_run.specs.Run.{Accounts, Turn};
 ghost use Rattle.line_run.specs.Sampled.{Wire};
@@ -23,7 +23,7 @@ use frame_check::Octets;
 use line_coding::Modulator;
 use outside_calls::Folder;
 use recordings::octets_of;
-use roles::{Both, Role};
+use shared_terms::{Both, Role};
 
 /// The octets of the samples of the largest slot: four for each of its symbols.
 const SLOT_OCTETS: usize = 10_460;

@@ -12,7 +12,7 @@ use crate::{Breaking, Names};
 use lapm_link::LinkFault;
 use line_texts::TraceLine;
 use outside_calls::{Folder, FolderFault};
-use roles::{Both, Role};
+use shared_terms::{Both, Role};
 use stations::{append_chance, append_lines};
 
 /// Why a run ends whose folder doesn't do a call: this, where it failed.

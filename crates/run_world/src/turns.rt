@@ -1,6 +1,6 @@
 // Turns, up to the end of a run.
 ghost use Rattle.std.specs.Prelude.{◌≡◌, [], ◌++◌, List, ℕ, IfOk};
-ghost use Rattle.roles.specs.Both.{Both};
+ghost use Rattle.shared_terms.specs.Both.{Both};
 ghost use Rattle.link_run.specs.Run.{start};
 ghost use Rattle.line_run.specs.Scripted.{wire_of, link_of};
 ghost use Rattle.line_run.specs.Names.{inputs_of, outputs_of, written};
@@ -17,7 +17,7 @@ use crate::tape::record_turn;
 use crate::{Names, RunFault, Step, Tape, World};
 use link_run::laws::turns_deliver_what_came;
 use outside_calls::Folder;
-use roles::Both;
+use shared_terms::Both;
 
 /// Turns are made until the run ends: the number of its last turn. The world has then counted all turns. Where there are tapes, what both ends
 /// sent in a turn is recorded behind its other outputs.

@@ -1,6 +1,6 @@
 // Turns of the world.
 ghost use Rattle.std.specs.Prelude.{◌≡◌, ℕ, [], ◌∷◌, List, Option, false, None, option_copied, IfOk};
-ghost use Rattle.roles.specs.Both.{Both};
+ghost use Rattle.shared_terms.specs.Both.{Both};
 ghost use Rattle.link_run.specs.Run.{Accounts, Turn, start};
 ghost use Rattle.line_run.specs.Scripted.{wire_of, link_of};
 ghost use Rattle.line_run.specs.Stream.{both_sent_by};
@@ -15,9 +15,9 @@ use bit_stuffing::BitSlot;
 use line_run::laws::{line_runs_end_soon, scripts_make_links, slots_are_due_alone};
 use noise_script::Script;
 use outside_calls::{Folder, NoMemory};
-use roles::Role;
 use sample_line::Line;
 use shared_line::Lines;
+use shared_terms::Role;
 use std::alloc::Global;
 
 /// Two ends with their users, and the line between them.

@@ -7,7 +7,7 @@ use Rattle.plain_lists.specs.Bits.{low_bits}
 use Rattle.bit_stuffing.specs.BitSlot.{line_bits}
 use Rattle.symbol_map.specs.declared.sample.Sample.{Sample}
 use Rattle.exact_decoder.specs.declared.decoder.Lost.{Lost}
-use Rattle.roles.specs.declared.role.Role.{Role}
+use Rattle.shared_terms.specs.declared.role.Role.{Role}
 use Rattle.lapm_frames.specs.declared.sent.Sent.{Sent}
 use Rattle.noise_script.specs.Script.{ScriptValue}
 use Rattle.sample_line.specs.declared.hearer.Hearer.{Hearer}
@@ -15,7 +15,7 @@ use Rattle.sample_line.specs.declared.transmitter.Transmitter.{Transmitter}
 use Rattle.sample_line.specs.declared.path.Path.{Path}
 use Rattle.sample_line.specs.declared.tally.Tally.{Tally}
 use Rattle.sample_line.specs.declared.tally.Tally.TheVariants.{Silent}
-use Rattle.roles.specs.Role.{mode_of}
+use Rattle.shared_terms.specs.Role.{mode_of}
 use Rattle.sample_line.specs.Transmits.{Transmits}
 use Rattle.sample_line.specs.Hears.{HearsSample}
 use Rattle.sample_line.specs.Path.{Carries, CarriesBetween, LosesAt, LosesWithin, Arrives}

@@ -13,7 +13,7 @@ use Rattle.bit_stuffing.specs.declared.piece.Piece.TheVariants.{Whole, Ragged, A
 use Rattle.bit_stuffing.specs.Found.{Found, found_at, listed, pieces_of}
 use Rattle.bit_stuffing.specs.Sent.{wholes, octets_if_whole}
 use Rattle.bit_stuffing.proofs.Found.{pieces-more}
-use Rattle.roles.specs.declared.role.Role.{Role}
+use Rattle.shared_terms.specs.declared.role.Role.{Role}
 use Rattle.lapm_frames.specs.declared.sent.Sent.{Sent}
 use Rattle.sample_line.specs.declared.tally.Tally.{Tally}
 use Rattle.sample_line.specs.Received.{PassTheCheck, FoundBetween}

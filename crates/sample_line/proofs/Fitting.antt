@@ -6,7 +6,7 @@ use Rattle.frame_check.specs.declared.sizes.TheConstants.{WHOLE, SLOT}
 use Rattle.frame_check.specs.Division.{check_of, count_of}
 use Rattle.frame_check.proofs.Checks.{length-check_of}
 use Rattle.bit_stuffing.proofs.Sizes.{length-opening}
-use Rattle.roles.specs.declared.role.Role.{Role}
+use Rattle.shared_terms.specs.declared.role.Role.{Role}
 use Rattle.lapm_frames.specs.declared.frame.Frame.{Frame}
 use Rattle.lapm_frames.specs.Frame.{spelled, IsFrame}
 use Rattle.lapm_frames.specs.declared.sent.Sent.{Sent}

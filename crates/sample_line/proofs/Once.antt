@@ -24,8 +24,8 @@ use Rattle.lapm_frames.specs.declared.seen.Seen.{Seen}
 use Rattle.detection.specs.Sights.{Sight, sights_of}
 use Rattle.bit_stuffing.specs.Found.{Found, pieces_of}
 use Rattle.bit_stuffing.specs.Sent.{wholes}
-use Rattle.roles.specs.declared.role.Role.{Role}
-use Rattle.roles.specs.declared.role.Role.TheVariants.{Originator, Answerer}
+use Rattle.shared_terms.specs.declared.role.Role.{Role}
+use Rattle.shared_terms.specs.declared.role.Role.TheVariants.{Originator, Answerer}
 use Rattle.lapm_frames.specs.declared.sent.Sent.{Sent}
 use Rattle.lapm_frames.specs.declared.sent.Sent.TheVariants as sent
 use Rattle.noise_script.specs.Script.{ScriptValue, offset_of}
@@ -33,7 +33,7 @@ use Rattle.lapm_frames.specs.declared.heard.Heard.{Heard}
 use Rattle.lapm_frames.specs.declared.heard.Heard.TheVariants as heard
 use Rattle.sample_line.specs.Outcomes.{IsSilent, IsWhatWasSent, IsOutcome}
 use Rattle.sample_line.specs.Recorded.{displaced, displaced_from, Records}
-use Rattle.roles.specs.Role.{mode_of}
+use Rattle.shared_terms.specs.Role.{mode_of}
 use Rattle.lapm_frames.specs.Checked.{check_heard}
 use Rattle.sample_line.specs.Received.{PassTheCheck, FoundBetween, Gives, Receives}
 

@@ -8,13 +8,13 @@ use Rattle.symbol_map.specs.declared.sample.Sample.{Sample}
 use Rattle.survivors.specs.Survivors.{IsReleased}
 use Rattle.survivors.specs.V32.{line_trellis}
 use Rattle.exact_decoder.specs.Decoder.{heard}
-use Rattle.roles.specs.declared.role.Role.{Role}
+use Rattle.shared_terms.specs.declared.role.Role.{Role}
 use Rattle.noise_script.specs.Script.{ScriptValue, offset_of}
 use Rattle.sample_line.specs.declared.transmitter.Transmitter.{Transmitter}
 use Rattle.sample_line.specs.declared.hearer.Hearer.{Hearer}
 use Rattle.line_coding.proofs.Standing.{modulated, demodulated}
 use Rattle.sample_line.specs.Recorded.{saturated, displaced, displaced_from, Records}
-use Rattle.roles.specs.Role.{mode_of}
+use Rattle.shared_terms.specs.Role.{mode_of}
 use Rattle.sample_line.specs.Received.{Gives}
 use Rattle.sample_line.specs.Transmits.{Transmits}
 use Rattle.sample_line.specs.Hears.{Hears}

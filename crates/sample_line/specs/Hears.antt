@@ -7,7 +7,7 @@ use Rattle.survivors.specs.Survivors.{LostIs}
 use Rattle.survivors.specs.V32.{at_beginning, line_depth, line_trellis}
 use Rattle.line_coding.specs.V32.{LineRead}
 use Rattle.exact_decoder.specs.declared.decoder.Lost.{Lost}
-use Rattle.roles.specs.declared.role.Role.{Role}
+use Rattle.shared_terms.specs.declared.role.Role.{Role}
 use Rattle.lapm_frames.specs.declared.sent.Sent.{Sent}
 use Rattle.sample_line.specs.declared.hearer.Hearer.{Hearer}
 use Rattle.sample_line.specs.declared.tally.Tally.{Tally}

@@ -4,7 +4,7 @@ use Rattle.frame_check.specs.declared.check.Check.{Check}
 use Rattle.frame_check.specs.declared.sizes.TheConstants.{SLOT}
 use Rattle.symbol_map.specs.declared.sample.Sample.{Sample}
 use Rattle.lapm_frames.specs.declared.seen.Seen.{Seen}
-use Rattle.roles.specs.declared.role.Role.{Role}
+use Rattle.shared_terms.specs.declared.role.Role.{Role}
 use Rattle.lapm_frames.specs.declared.sent.Sent.{Sent}
 use Rattle.noise_script.specs.Script.{ScriptValue}
 use Rattle.lapm_frames.specs.declared.heard.Heard.{Heard}

@@ -1,6 +1,6 @@
 -- What a slot is to the end that hears it.
 use Rattle.std.specs.Prelude.{◌≡◌, ◌≢◌, ℕ, Bool, true, false, List, [], ◌∷◌, All}
-use Rattle.roles.specs.declared.role.Role.{Role}
+use Rattle.shared_terms.specs.declared.role.Role.{Role}
 use Rattle.lapm_frames.specs.declared.frame.Frame.{Frame}
 use Rattle.lapm_frames.specs.Frame.{FrameSpelling}
 use Rattle.lapm_frames.specs.declared.seen.Seen.{Seen}

@@ -3,10 +3,10 @@ use Rattle.std.specs.Prelude.{◌≡◌, ℕ, ◌+◌, ℤ, pos, neg_ℤ, ◌+�
 use Rattle.scramblers.specs.Mode.{tap_of}
 use Rattle.symbol_map.specs.declared.sample.Sample.{Sample}
 use Rattle.line_coding.specs.Modulates.{Modulates}
-use Rattle.roles.specs.declared.role.Role.{Role}
+use Rattle.shared_terms.specs.declared.role.Role.{Role}
 use Rattle.noise_script.specs.declared.offset.Offset.{Offset}
 use Rattle.noise_script.specs.Script.{ScriptValue, offset_of}
-use Rattle.roles.specs.Role.{mode_of}
+use Rattle.shared_terms.specs.Role.{mode_of}
 
 -- a coordinate is held at the ends of 16 bits
 abbrev pub saturated : ℤ → ℤ

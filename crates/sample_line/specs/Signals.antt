@@ -1,7 +1,7 @@
 -- The slot of bits in which what an end sends goes over the line.
 use Rattle.std.specs.Prelude.{ℕ, ◌-◌, ◌*◌, ◌≤◌, length, Some, None}
 use Rattle.frame_check.specs.declared.check.Check.{Check}
-use Rattle.roles.specs.declared.role.Role.{Role}
+use Rattle.shared_terms.specs.declared.role.Role.{Role}
 use Rattle.lapm_frames.specs.declared.frame.Frame.{Frame}
 use Rattle.lapm_frames.specs.Checked.{checked}
 use Rattle.bit_stuffing.specs.declared.slot_writer.TheConstants.{TAIL}

@@ -4,7 +4,7 @@ use Rattle.symbol_map.specs.declared.sample.Sample.{Sample}
 use Rattle.noise_script.specs.Script.{ScriptValue}
 use Rattle.sample_line.specs.declared.transmitter.Transmitter.{Transmitter}
 use Rattle.sample_line.specs.Recorded.{displaced_from}
-use Rattle.roles.specs.Role.{mode_of}
+use Rattle.shared_terms.specs.Role.{mode_of}
 use Rattle.line_coding.specs.Modulates.{ModulatorStands}
 
 -- The modulator has made points of the bits, and the samples are these points, displaced by the script.

@@ -13,7 +13,7 @@ use bit_stuffing::{BitSlot, SlotWriter};
 use detection::{mark_slot, pattern_slot};
 use frame_check::Check;
 use lapm_frames::{Seen, Sent, write_checked};
-use roles::Role;
+use shared_terms::Role;
 
 /// Writes a slot of ones.
 fn write_mark(writer: &mut SlotWriter, symbols: u16, out: &mut BitSlot)

@@ -26,7 +26,7 @@ use frame_check::Check;
 use lapm_frames::Sent;
 use noise_script::Script;
 use outside_calls::NoMemory;
-use roles::Role;
+use shared_terms::Role;
 use std::alloc::Global;
 use std::marker::Model;
 

@@ -14,7 +14,7 @@ use bit_stuffing::BitSlot;
 use exact_decoder::Lost;
 use noise_script::Script;
 use outside_calls::NoMemory;
-use roles::Role;
+use shared_terms::Role;
 use std::alloc::Global;
 
 /// What makes samples of bits, and what hears them.

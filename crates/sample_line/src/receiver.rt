@@ -3,7 +3,7 @@ ghost use Rattle.std.specs.Prelude.{◌≡◌, ◌<◌, true, false, Some, ℕ, 
 ghost use Rattle.plain_lists.specs.Bits.{low_bits};
 ghost use Rattle.bit_stuffing.specs.Deframer.{DeframerStands};
 ghost use Rattle.bit_stuffing.specs.declared.piece.Piece.{Piece};
-ghost use Rattle.roles.specs.declared.role.Role.{Role};
+ghost use Rattle.shared_terms.specs.declared.role.Role.{Role};
 ghost use Rattle.lapm_frames.specs.declared.seen.Seen.{Seen};
 ghost use Rattle.detection.specs.Reader.{ReaderStands};
 ghost use Rattle.sample_line.specs.Tallies.{PatternsAreTallied, PiecesAreTallied, Tallies, TalliesBetween, WholeIsTallied};
@@ -14,7 +14,7 @@ use bit_stuffing::{Deframer, Piece};
 use detection::{Ear, PatternReader};
 use frame_check::Check;
 use lapm_frames::{CheckedFault, Sent, read_checked};
-use roles::Role;
+use shared_terms::Role;
 
 /// What is known of the slot that is received: what was sent in it, and how its receiver judges frames.
 #[derive(Clone, Copy)]

@@ -1,6 +1,6 @@
 // What was received in a slot so far, beside what was sent in it.
 ghost use Rattle.std.specs.Prelude.{◌≡◌, true, false, [], ◌∷◌, ◌++◌, ℕ, List, option_to_list};
-ghost use Rattle.roles.specs.declared.role.Role.{Role};
+ghost use Rattle.shared_terms.specs.declared.role.Role.{Role};
 ghost use Rattle.lapm_frames.specs.declared.seen.Seen.{Seen};
 ghost use Rattle.lapm_frames.specs.declared.sent.Sent.{Sent};
 ghost use Rattle.sample_line.specs.Outcomes.{is_message, IsLostAs, IsOutcome};

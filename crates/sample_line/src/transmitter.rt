@@ -10,7 +10,7 @@ ghost use Rattle.sample_line.specs.Transmits.{Transmits};
 
 use line_coding::Modulator;
 use noise_script::{Generators, Offset, Script};
-use roles::Role;
+use shared_terms::Role;
 use symbol_map::Sample;
 
 /// A coordinate, held at the ends of 16 bits.

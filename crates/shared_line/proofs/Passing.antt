@@ -14,7 +14,7 @@ use Rattle.symbol_map.specs.declared.sample.Sample.{Sample}
 use Rattle.survivors.specs.Survivors.{LostIs}
 use Rattle.survivors.specs.V32.{line_depth, line_trellis}
 use Rattle.exact_decoder.specs.declared.decoder.Lost.{Lost}
-use Rattle.roles.specs.declared.role.Role.{Role}
+use Rattle.shared_terms.specs.declared.role.Role.{Role}
 use Rattle.lapm_frames.specs.declared.seen.Seen.{Seen}
 use Rattle.lapm_frames.specs.declared.sent.Sent.{Sent}
 use Rattle.lapm_frames.specs.declared.sent.Sent.TheVariants as slots
@@ -29,7 +29,7 @@ use Rattle.sample_line.specs.Path.{LosesAt, LosesWithin}
 use Rattle.sample_line.specs.Line.{Kept, LineStands, PassesSlot, Passes, sender_of, size_of, decoder_of, bits_behind}
 use Rattle.sample_line.specs.Laws.{RecordedOnce}
 use Rattle.sample_line.proofs.Passing.{line-heard}
-use Rattle.line_laws.specs.Laws.{LossStays}
+use Rattle.line_run.specs.Laws.{LossStays}
 use Rattle.link_account.specs.Numbers.{IsNumbered}
 use Rattle.link_run.specs.Run.{arrival}
 use Rattle.shared_line.specs.declared.slot.Slot.{Slot}

@@ -10,10 +10,10 @@ use Rattle.std.proofs.lemmas.List.{map-append, length-drop, length-map, length-t
 use Rattle.std.proofs.Math.Nat.{one-le-mul}
 use Rattle.frame_check.specs.declared.check.Check.{Check}
 use Rattle.exact_decoder.specs.declared.decoder.Lost.{Lost}
-use Rattle.roles.specs.declared.role.Role.{Role}
-use Rattle.roles.specs.declared.role.Role.TheVariants.{Originator, Answerer}
-use Rattle.roles.specs.Role.{other}
-use Rattle.roles.specs.Both.{Both, of}
+use Rattle.shared_terms.specs.declared.role.Role.{Role}
+use Rattle.shared_terms.specs.declared.role.Role.TheVariants.{Originator, Answerer}
+use Rattle.shared_terms.specs.Role.{other}
+use Rattle.shared_terms.specs.Both.{Both, of}
 use Rattle.detection.specs.Slots.{Signal, signal_bits}
 use Rattle.lapm_frames.specs.declared.heard.Heard.{Heard}
 use Rattle.lapm_frames.specs.declared.heard.Heard.TheVariants.{Nothing, Chance}

@@ -7,7 +7,7 @@ use Rattle.survivors.specs.Survivors.{LostIs}
 use Rattle.survivors.specs.V32.{line_depth, line_trellis}
 use Rattle.detection.specs.Slots.{Signal, signal_bits}
 use Rattle.exact_decoder.specs.declared.decoder.Lost.{Lost}
-use Rattle.roles.specs.declared.role.Role.{Role}
+use Rattle.shared_terms.specs.declared.role.Role.{Role}
 use Rattle.lapm_frames.specs.declared.seen.Seen.{Seen}
 use Rattle.lapm_frames.specs.Sendable.{IsSendable}
 use Rattle.lapm_frames.specs.declared.heard.Heard.{Heard}

@@ -9,14 +9,14 @@ use Rattle.outside_calls.specs.Folder.{FolderState, GoesOn, OnlyWrites, Adds, Ap
 use Rattle.outside_calls.proofs.Steps.{GoesOn-refl}
 use Rattle.outside_calls.specs.Outputs.{OnlyPuts, AddEach}
 use Rattle.outside_calls.proofs.Putting.{KeepsEach-refl, AddEach-next, AddPart-next, AddPart-none}
-use Rattle.roles.specs.declared.role.Role.{Role}
-use Rattle.roles.specs.declared.role.Role.TheVariants.{Originator, Answerer}
-use Rattle.roles.specs.Role.{is_originator, other}
+use Rattle.shared_terms.specs.declared.role.Role.{Role}
+use Rattle.shared_terms.specs.declared.role.Role.TheVariants.{Originator, Answerer}
+use Rattle.shared_terms.specs.Role.{is_originator, other}
 use Rattle.xid_params.specs.Offers.{IsAllowed}
 use Rattle.xid_params.specs.Terms.{default_offer}
 use Rattle.lapm_frames.specs.declared.arrived.Arrived.{Arrived}
 use Rattle.lapm_frames.specs.declared.sent.Sent.{Sent}
-use Rattle.causes.specs.declared.fault.LinkFault.{LinkFault}
+use Rattle.shared_terms.specs.declared.fault.LinkFault.{LinkFault}
 use Rattle.link_account.specs.declared.setup.Setup.{Setup}
 use Rattle.link_account.specs.Account.{Account, is_connected, is_done, break_waits, given_break, after_given}
 use Rattle.link_account.specs.Hear.{hear}

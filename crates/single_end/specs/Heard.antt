@@ -2,7 +2,7 @@
 use Rattle.std.specs.Prelude.{◌≡◌, ℕ, ◌+◌, ◌-◌, ◌<◌, Bool, List, [], ◌∷◌, ◌++◌, length, take, replicate}
 use Rattle.plain_lists.specs.Bits.{bits_of}
 use Rattle.frame_check.specs.declared.check.Check.TheVariants.{Sixteen}
-use Rattle.roles.specs.declared.role.Role.{Role}
+use Rattle.shared_terms.specs.declared.role.Role.{Role}
 use Rattle.bit_stuffing.specs.Pieces.{EndsWhole}
 use Rattle.detection.specs.Patterns.{EndsPattern}
 use Rattle.lapm_frames.specs.Checked.{SpellsFrame}

@@ -1,9 +1,9 @@
 -- What holds of all runs of one end against a peer's bits.
 use Rattle.std.specs.Prelude.{◌≡◌, ℕ, Bool, List, length, Err}
-use Rattle.roles.specs.declared.role.Role.{Role}
+use Rattle.shared_terms.specs.declared.role.Role.{Role}
 use Rattle.lapm_frames.specs.declared.arrived.Arrived.{Arrived}
-use Rattle.causes.specs.declared.fault.LinkFault.{LinkFault}
-use Rattle.causes.specs.declared.fault.LinkFault.TheVariants.{BadAck, PeerReset, PeerRefused, NotDetected, Spent}
+use Rattle.shared_terms.specs.declared.fault.LinkFault.{LinkFault}
+use Rattle.shared_terms.specs.declared.fault.LinkFault.TheVariants.{BadAck, PeerReset, PeerRefused, NotDetected, Spent}
 use Rattle.link_account.specs.Account.{Account}
 use Rattle.link_account.specs.Hear.{hear}
 use Rattle.link_run.specs.Alone.{LoneTurn, LoneBroken}

@@ -1,9 +1,9 @@
 -- A turn of a single end in its middle: the end has heard, and the rest of the turn is to come.
 use Rattle.std.specs.Prelude.{◌≡◌, ℕ, false, List, ◌∷◌, length, Result, Ok, Err}
 use Rattle.outside_calls.specs.Folder.{FolderState, Appended, PartlyAppended}
-use Rattle.roles.specs.Role.{other}
+use Rattle.shared_terms.specs.Role.{other}
 use Rattle.lapm_frames.specs.declared.arrived.Arrived.{Arrived}
-use Rattle.causes.specs.declared.fault.LinkFault.{LinkFault}
+use Rattle.shared_terms.specs.declared.fault.LinkFault.{LinkFault}
 use Rattle.link_account.specs.Account.{Account, after_given, after_busy}
 use Rattle.link_account.specs.Hear.{hear}
 use Rattle.link_run.specs.End.{delivered, offered}

@@ -1,7 +1,7 @@
 -- For which run a single end stands: its turns so far, over a file that is known as far as it was read.
 use Rattle.std.specs.Prelude.{◌≡◌, ℕ, ◌≤◌, IsTrue, List, [], ◌∷◌, length}
 use Rattle.outside_calls.specs.Folder.{FolderState}
-use Rattle.roles.specs.declared.role.Role.{Role}
+use Rattle.shared_terms.specs.declared.role.Role.{Role}
 use Rattle.stations.specs.Station.{Stands, IsIdle, IsCounted, file_at}
 use Rattle.single_end.specs.Heard.{stream}
 use Rattle.single_end.specs.Peer.{Past, PeerRun}

@@ -4,7 +4,7 @@ use Rattle.outside_calls.specs.Folder.{FolderState, Rose, FaultsStand, CountsSta
 use Rattle.outside_calls.specs.declared.folder.FolderFault.{FolderFault}
 use Rattle.outside_calls.specs.declared.folder.FolderFault.TheVariants as folder
 use Rattle.outside_calls.specs.Outputs.{AddEach, AddPart, SomeRose}
-use Rattle.roles.specs.declared.role.Role.{Role}
+use Rattle.shared_terms.specs.declared.role.Role.{Role}
 use Rattle.link_run.specs.Alone.{LoneTurn}
 use Rattle.single_end.specs.Peer.{Past, Outcome, Going, Closed, Broken, PeerTurn, after, over, turn_line}
 use Rattle.single_end.specs.Single.{PeerNames, SingleAfter, StaysKnown, outputs_of}

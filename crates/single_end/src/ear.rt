@@ -14,7 +14,7 @@ use bit_stuffing::laws::one_lent;
 use detection::Ear;
 use frame_check::Check;
 use lapm_frames::{Arrived, Frame, read_checked};
-use roles::Role;
+use shared_terms::Role;
 
 /// The frame of the peer that these octets are, where they pass the check of 16 bits.
 fn frame_in(whole: &[u8], peer: Role) -> Option<Frame>

@@ -9,7 +9,7 @@ mod line;
 mod single;
 mod step;
 
-pub use causes::LinkFault;
 pub use limits::{FILE_LIMIT, SLOT_OCTETS};
+pub use shared_terms::LinkFault;
 pub use single::Single;
 pub use step::{SingleFault, SingleStep};

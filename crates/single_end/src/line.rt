@@ -8,7 +8,7 @@ use crate::step::SingleFault;
 use lapm_frames::{Arrived, Heard, Seen, Sent};
 use line_texts::TraceLine;
 use outside_calls::FolderFault;
-use roles::Role;
+use shared_terms::Role;
 
 /// Why there is no further turn where a call of the folder is not done: `failed`, where it failed.
 pub(crate) fn folder_fault(failed: SingleFault, fault: FolderFault) -> SingleFault

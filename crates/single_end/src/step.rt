@@ -1,6 +1,6 @@
 // What a turn answers.
 
-use causes::LinkFault;
+use shared_terms::LinkFault;
 
 /// What comes after a turn.
 #[derive(Clone, Copy, PartialEq, Eq)]

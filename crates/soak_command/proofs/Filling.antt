@@ -6,7 +6,7 @@ use Rattle.std.specs.FinMap as finite
 use Rattle.std.specs.Cmp.Lexicographic.{nat_list_cmp_total}
 use Rattle.outside_calls.specs.Folder.{Files}
 use Rattle.program_folders.specs.Sure.{SureState, sure_folder}
-use Rattle.roles.specs.declared.role.Role.TheVariants.{Originator, Answerer}
+use Rattle.shared_terms.specs.declared.role.Role.TheVariants.{Originator, Answerer}
 use Rattle.outside_calls.specs.Outputs.{AreApartFrom, SomeRose}
 use Rattle.line_run.specs.Names.{inputs_of, outputs_of}
 use Rattle.run_world.specs.declared.step.RunFault.{RunFault}

@@ -4,8 +4,8 @@ use Rattle.std.proofs.lemmas.List.{take_all}
 use Rattle.outside_calls.specs.Folder.{octets_at, KeepsName}
 use Rattle.outside_calls.proofs.Steps.{octets-kept}
 use Rattle.program_folders.specs.Sure.{SureState, sure_folder}
-use Rattle.roles.specs.declared.role.Role.TheVariants.{Originator, Answerer}
-use Rattle.roles.specs.Both.{Both}
+use Rattle.shared_terms.specs.declared.role.Role.TheVariants.{Originator, Answerer}
+use Rattle.shared_terms.specs.Both.{Both}
 use Rattle.noise_script.specs.Script.{ScriptValue, IsInLimits}
 use Rattle.link_run.specs.Counts.{lost_slots, sent_again}
 use Rattle.line_run.specs.Ends.{RunEnd, RunsTo}

@@ -1,7 +1,7 @@
 -- The folder of a soak: both files of a seed, and three outputs.
 use Rattle.std.specs.Prelude.{◌≡◌, ℕ, List, [], ◌∷◌, length, codes}
 use Rattle.outside_calls.specs.Folder.{FolderState, octets_at}
-use Rattle.roles.specs.declared.role.Role.TheVariants.{Originator, Answerer}
+use Rattle.shared_terms.specs.declared.role.Role.TheVariants.{Originator, Answerer}
 use Rattle.line_run.specs.Names.{Written}
 use Rattle.soak_command.specs.Soak.{soak_file}
 

@@ -1,7 +1,7 @@
 -- The text of a soak's script: three turns there and five back, noise on every symbol, and twelve lost slots at most.
 use Rattle.std.specs.Prelude.{ℕ, zero, suc, List, [], ◌∷◌, ◌++◌, codes, decimal}
-use Rattle.roles.specs.declared.role.Role.{Role}
-use Rattle.roles.specs.declared.role.Role.TheVariants.{Originator, Answerer}
+use Rattle.shared_terms.specs.declared.role.Role.{Role}
+use Rattle.shared_terms.specs.declared.role.Role.TheVariants.{Originator, Answerer}
 use Rattle.noise_script.specs.Noisy.{text_of}
 use Rattle.soak_command.specs.Soak.{role_in_turn, turn_lost}
 

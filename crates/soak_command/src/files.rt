@@ -5,7 +5,7 @@ ghost use Rattle.soak_command.specs.Soak.{soak_file};
 
 use crate::drawing::drawn_word;
 use outside_calls::NoMemory;
-use roles::Role;
+use shared_terms::Role;
 use std::alloc::Global;
 
 /// The words of a file.

@@ -9,8 +9,8 @@ use crate::files::soak_file;
 use command_base::create_outputs;
 use outside_calls::{FolderFault, NoMemory};
 use program_folders::SureFolder;
-use roles::Role;
 use run_world::Names;
+use shared_terms::Role;
 use std::alloc::Global;
 
 /// The names that the soak's folder has.

@@ -9,7 +9,7 @@ use itoa::Buffer;
 use noise_script::laws::noisy_lines_spell;
 use noise_script::{Script, ScriptFault, read_script};
 use outside_calls::NoMemory;
-use roles::Role;
+use shared_terms::Role;
 use std::alloc::Global;
 
 /// The slots that are to be lost.

@@ -1,6 +1,6 @@
 // The run of a seed, in a folder of its own.
 ghost use Rattle.std.specs.Prelude.{◌≡◌, [], List, ℕ};
-ghost use Rattle.roles.specs.Both.{Both};
+ghost use Rattle.shared_terms.specs.Both.{Both};
 ghost use Rattle.link_run.specs.Run.{start};
 ghost use Rattle.line_run.specs.Scripted.{link_of};
 ghost use Rattle.run_world.specs.World.{IsReady, WorldAfter, script_of};

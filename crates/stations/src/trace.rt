@@ -2,13 +2,13 @@
 ghost use Rattle.std.specs.Prelude.{◌≡◌, ◌++◌, is_some, true, Some, OnOk, OnErr, IsErrOf};
 ghost use Rattle.outside_calls.specs.Folder.{OnlyWrites, HasCause, Appended, PartlyAppended, FaultsStand, CountsStand};
 ghost use Rattle.line_texts.specs.LineText.{chance_line, line_text};
-ghost use Rattle.roles.specs.declared.role.Role.{Role};
+ghost use Rattle.shared_terms.specs.declared.role.Role.{Role};
 
 use frame_check::Octets;
 use lapm_frames::{Heard, Sent};
 use line_texts::{LineText, TraceLine, write_line};
 use outside_calls::{Folder, FolderFault};
-use roles::{Both, Role};
+use shared_terms::{Both, Role};
 
 /// Appends one line to the trace of that name.
 pub fn append_line<F: Folder>(

@@ -8,8 +8,8 @@ use Rattle.scramblers.specs.declared.mode.Mode.TheVariants.{Call, Answer}
 use Rattle.outside_calls.specs.Folder.{FolderState, octets_at}
 use Rattle.outside_calls.specs.Outputs.{HoldEach, OnlyOutputs}
 use Rattle.outside_calls.proofs.Putting.{HoldEach-kept}
-use Rattle.roles.specs.declared.role.Role.TheVariants.{Originator, Answerer}
-use Rattle.roles.specs.Both.{Both}
+use Rattle.shared_terms.specs.declared.role.Role.TheVariants.{Originator, Answerer}
+use Rattle.shared_terms.specs.Both.{Both}
 use Rattle.recordings.specs.Recording.{header_of}
 use Rattle.noise_script.specs.Script.{ScriptValue, IsInLimits}
 use Rattle.noise_script.specs.Laws.{ScriptsAreOne, NoFaultInScripts}
@@ -27,8 +27,8 @@ use Rattle.command_base.specs.Job.{Answers}
 use Rattle.command_base.specs.Lines.{turns_line}
 use Rattle.command_base.proofs.Jobs.{Comes, is_done, is_own, is_memory, comes-to, last-only}
 use Rattle.run_inputs.specs.Inputs.{RefusesOwn}
-use Rattle.tap_turns.specs.Words.{TapNames, outputs_of}
-use Rattle.tap_turns.specs.Turn.{held_of}
+use Rattle.tap_command.specs.Names.{TapNames, outputs_of}
+use Rattle.tap_command.specs.Turn.{held_of}
 use Rattle.tap_command.specs.declared.limits.TheConstants.{LIMITS}
 use Rattle.tap_command.specs.Headers.{IsNotHeader, HasNoHeader}
 use Rattle.tap_command.specs.Ends.{recordings_of, IsRefused, Tapped, TappedBy, EndsBy, Ends, tap_job}

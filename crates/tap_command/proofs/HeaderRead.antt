@@ -7,7 +7,7 @@ use Rattle.scramblers.specs.declared.mode.Mode.TheVariants.{Call, Answer}
 use Rattle.outside_calls.specs.Folder.{FolderState, octets_at}
 use Rattle.outside_calls.specs.Outputs.{SomeRose}
 use Rattle.outside_calls.specs.declared.folder.FolderFault.TheVariants as folder
-use Rattle.roles.specs.declared.role.Role.TheVariants.{Originator, Answerer}
+use Rattle.shared_terms.specs.declared.role.Role.TheVariants.{Originator, Answerer}
 use Rattle.recordings.specs.Recording.{header_of}
 use Rattle.noise_script.specs.Script.{ScriptValue}
 use Rattle.command_base.specs.declared.stop.Stop.{Stop}
@@ -16,10 +16,10 @@ use Rattle.command_base.specs.Inputs.{ReadTo}
 use Rattle.command_base.specs.Stops.{StopCounts}
 use Rattle.run_inputs.specs.declared.limits.Limits.{Limits}
 use Rattle.run_inputs.specs.Inputs.{Opens}
-use Rattle.tap_turns.specs.declared.limits.TheConstants.{TAP_LIMIT}
-use Rattle.tap_turns.specs.Words.{TapNames}
-use Rattle.tap_turns.specs.Tap.{AreReadTo}
-use Rattle.tap_turns.specs.Turns.{no_octets}
+use Rattle.tap_command.specs.declared.limits.TheConstants.{TAP_LIMIT}
+use Rattle.tap_command.specs.Names.{TapNames}
+use Rattle.tap_command.specs.Tap.{AreReadTo}
+use Rattle.tap_command.specs.Turns.{no_octets}
 use Rattle.tap_command.specs.Headers.{HasHeader, NoHeader}
 use Rattle.tap_command.specs.Ends.{recordings_of, IsRefused}
 

@@ -2,3 +2,15 @@ mod Taps
 mod HeaderRead
 mod Headline
 mod Completing
+mod Listening
+mod Handing
+mod SlotNext
+mod HeardSo
+mod Looking
+mod TurnTexts
+mod Going
+mod Longer
+mod Turning
+mod Whole
+mod Reached
+mod Beginning

@@ -3,7 +3,7 @@ use Rattle.std.proofs.Common.{inl, inr, ℕ, Result, Ok, Err, subst}
 use Rattle.outside_calls.specs.Folder.{FolderState, OnlyReads}
 use Rattle.outside_calls.specs.Outputs.{AreApartFrom, CreatesPart, KeepsAll, OnlyOutputs}
 use Rattle.outside_calls.proofs.Putting.{KeepsEach-reads, inputs-kept}
-use Rattle.roles.specs.declared.role.Role.TheVariants.{Originator, Answerer}
+use Rattle.shared_terms.specs.declared.role.Role.TheVariants.{Originator, Answerer}
 use Rattle.noise_script.specs.Script.{ScriptValue, IsInLimits}
 use Rattle.command_base.specs.Status.{IsRefusal}
 use Rattle.command_base.specs.Stops.{end_status}
@@ -15,10 +15,10 @@ use Rattle.command_base.proofs.Creating.{CreatesPart-earlier}
 use Rattle.command_base.proofs.Reading.{ReadTo-kept}
 use Rattle.command_base.proofs.Jobs.{refusal-own}
 use Rattle.run_inputs.specs.declared.limits.Limits.{Limits}
-use Rattle.tap_turns.specs.declared.limits.TheConstants.{TAP_LIMIT}
-use Rattle.tap_turns.specs.Words.{TapNames, inputs_of, outputs_of}
-use Rattle.tap_turns.specs.Tap.{AreReadTo}
-use Rattle.tap_turns.specs.Turns.{TurnsEnd, no_octets}
+use Rattle.tap_command.specs.declared.limits.TheConstants.{TAP_LIMIT}
+use Rattle.tap_command.specs.Names.{TapNames, inputs_of, outputs_of}
+use Rattle.tap_command.specs.Tap.{AreReadTo}
+use Rattle.tap_command.specs.Turns.{TurnsEnd, no_octets}
 use Rattle.tap_command.specs.declared.limits.TheConstants.{LIMITS}
 use Rattle.tap_command.specs.Ends.{IsBegun, IsRefused, TappedBy, StopsCreating, EndsBy, Ends}
 

@@ -3,7 +3,7 @@ use Rattle.std.specs.Prelude.{◌≡◌, ◌⊎◌, ℕ, ◌≤◌, ◌++◌, Is
 use Rattle.scramblers.specs.declared.mode.Mode.TheVariants.{Call, Answer}
 use Rattle.outside_calls.specs.Folder.{FolderState, octets_at}
 use Rattle.outside_calls.specs.Outputs.{HoldEach}
-use Rattle.roles.specs.Both.{Both}
+use Rattle.shared_terms.specs.Both.{Both}
 use Rattle.recordings.specs.Recording.{header_of}
 use Rattle.noise_script.specs.Script.{ScriptValue}
 use Rattle.noise_script.specs.Grammar.{ScriptSpelling}
@@ -13,8 +13,8 @@ use Rattle.line_tap.specs.Ends.{TapEnd, TapOf}
 use Rattle.command_base.specs.declared.status.Status.{Status}
 use Rattle.command_base.specs.declared.status.Status.TheVariants.{NoMemory}
 use Rattle.command_base.specs.Sound.{IsSound}
-use Rattle.tap_turns.specs.Words.{TapNames, inputs_of, outputs_of}
-use Rattle.tap_turns.specs.Turn.{held_of}
+use Rattle.tap_command.specs.Names.{TapNames, inputs_of, outputs_of}
+use Rattle.tap_command.specs.Turn.{held_of}
 use Rattle.tap_command.specs.Answers.{answer_of}
 
 -- The inputs are told: a script of at most 65,536 octets, and two recordings of at most 268,435,456, which are these octets behind their headers.

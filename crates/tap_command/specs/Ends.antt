@@ -16,9 +16,9 @@ use Rattle.command_base.specs.Job.{Job}
 use Rattle.command_base.specs.Lines.{turns_line}
 use Rattle.run_inputs.specs.declared.limits.Limits.{Limits}
 use Rattle.run_inputs.specs.Inputs.{Opens, RefusesOwn, FailsToRead}
-use Rattle.tap_turns.specs.Words.{TapNames, inputs_of, outputs_of}
-use Rattle.tap_turns.specs.Tap.{AreReadTo}
-use Rattle.tap_turns.specs.Turns.{TapEnds, TapStops, TapStopsReading, no_octets}
+use Rattle.tap_command.specs.Names.{TapNames, inputs_of, outputs_of}
+use Rattle.tap_command.specs.Tap.{AreReadTo}
+use Rattle.tap_command.specs.Turns.{TapEnds, TapStops, TapStopsReading, no_octets}
 use Rattle.tap_command.specs.declared.limits.TheConstants.{LIMITS}
 use Rattle.tap_command.specs.Headers.{HasHeader, HasNoHeader}
 

@@ -1,6 +1,6 @@
 -- What a tap promises, over the folder before and after it. What is said of a name's octets holds where the folder tells that name.
 use Rattle.std.specs.Prelude.{ℕ, IsTrue, List}
-use Rattle.roles.specs.Both.{Both}
+use Rattle.shared_terms.specs.Both.{Both}
 use Rattle.outside_calls.specs.Folder.{FolderState, octets_at, Said}
 use Rattle.outside_calls.specs.Outputs.{HoldEach}
 use Rattle.noise_script.specs.Script.{ScriptValue, IsInLimits}
@@ -13,9 +13,9 @@ use Rattle.command_base.specs.declared.status.Status.{Status}
 use Rattle.command_base.specs.declared.status.Status.TheVariants.{Done, LineLost, ChanceMatch, BadTap}
 use Rattle.command_base.specs.Job.{Shared}
 use Rattle.command_base.specs.Lines.{turns_line}
-use Rattle.tap_turns.specs.Words.{TapNames, inputs_of, outputs_of}
-use Rattle.tap_turns.specs.Turn.{held_of}
-use Rattle.tap_turns.specs.Turns.{KnowsBodies}
+use Rattle.tap_command.specs.Names.{TapNames, inputs_of, outputs_of}
+use Rattle.tap_command.specs.Turn.{held_of}
+use Rattle.tap_command.specs.Turns.{KnowsBodies}
 
 -- The script and both recordings of a tap are those of the folder.
 pub record AreOf (f : FolderState) (n : TapNames) (script : ScriptValue) (bodies : Both (List ℕ)) : Type 0 where

@@ -4,3 +4,9 @@ pub mod Ends
 pub mod Headline
 pub mod Answers
 pub mod Completes
+pub mod Names
+pub mod Listener
+pub mod End
+pub mod Turn
+pub mod Tap
+pub mod Turns

@@ -2,7 +2,7 @@
 use Rattle.std.specs.Prelude.{ℕ, ◌&&◌, List, [], ◌∷◌, Option, Some, None, if◌then◌else◌, codes}
 use Rattle.std.specs.Str.{bytes_eq}
 use Rattle.command_base.specs.Apart.{are_apart}
-use Rattle.tap_turns.specs.Words.{TapNames, inputs_of, outputs_of}
+use Rattle.tap_command.specs.Names.{TapNames, inputs_of, outputs_of}
 
 -- the words `tap REC_O REC_A SCRIPT GOT_O GOT_A TRACE`, and no others
 abbrev pub names_of : List (List ℕ) → Option TapNames

@@ -6,9 +6,9 @@ ghost use Rattle.line_tap.specs.Tapping.{tapping};
 ghost use Rattle.command_base.specs.Job.{Answers};
 ghost use Rattle.command_base.specs.Stops.{EndCounts, WriteFails};
 ghost use Rattle.command_base.specs.Apart.{are_apart};
-ghost use Rattle.tap_turns.specs.Words.{named, inputs_of, outputs_of};
-ghost use Rattle.tap_turns.specs.Tap.{IsReady, TapAfter};
-ghost use Rattle.tap_turns.specs.Turns.{no_octets};
+ghost use Rattle.tap_command.specs.Names.{named, inputs_of, outputs_of};
+ghost use Rattle.tap_command.specs.Tap.{IsReady, TapAfter};
+ghost use Rattle.tap_command.specs.Turns.{no_octets};
 ghost use Rattle.tap_command.specs.declared.limits.TheConstants.{LIMITS};
 ghost use Rattle.tap_command.specs.Ends.{Ends, IsBegun, tap_job};
 ghost use Rattle.tap_command.specs.Headline.{Headline};
@@ -16,10 +16,10 @@ ghost use Rattle.tap_command.specs.Completes.{Completes};
 
 use crate::laws::{answers_keep_the_headline, right_taps_are_told};
 use crate::opening::open;
+use crate::{Tap, TapWords, tap_turns};
 use command_base::{Status, Stop, apart_names_differ, create_outputs, tell, tell_stop, turns_line};
 use outside_calls::{Folder, FolderFault};
 use std::alloc::Global;
-use tap_turns::{Tap, TapWords, tap_turns};
 
 /// The outputs are made, in the order of the words.
 fn create_all<F: Folder>(folder: &mut F, words: &TapWords<'_>) -> Result<(), FolderFault>

@@ -4,16 +4,16 @@ ghost use Rattle.scramblers.specs.declared.mode.Mode.{Mode as ModeValue};
 ghost use Rattle.outside_calls.specs.Folder.{FolderState, OnlyReads, CountsStand};
 ghost use Rattle.recordings.specs.declared.header.TheConstants.{HEADER};
 ghost use Rattle.recordings.specs.Recording.{header_of};
-ghost use Rattle.tap_turns.specs.declared.limits.TheConstants.{TAP_LIMIT};
+ghost use Rattle.tap_command.specs.declared.limits.TheConstants.{TAP_LIMIT};
 ghost use Rattle.command_base.specs.Inputs.{ReadTo};
 ghost use Rattle.command_base.specs.Stops.{StopCounts};
 ghost use Rattle.tap_command.specs.Headers.{fits, IsNotHeader, NoHeader};
 
+use crate::TAP_LIMIT;
 use command_base::{Status, Stop, read_piece};
 use outside_calls::Folder;
 use recordings::{HEADER, Rate, header_octets};
 use scramblers::Mode;
-use tap_turns::TAP_LIMIT;
 
 /// Whether the header of this mode has this octet at this place.
 fn fits(mode: Mode, place: usize, octet: u8) -> bool

@@ -4,7 +4,7 @@ ghost use Rattle.std.specs.Prelude.{◌≡◌, List, ℕ};
 ghost use Rattle.outside_calls.specs.Folder.{FolderState};
 ghost use Rattle.command_base.specs.declared.status.Status.{Status};
 ghost use Rattle.command_base.specs.Job.{Answers};
-ghost use Rattle.tap_turns.specs.Words.{TapNames};
+ghost use Rattle.tap_command.specs.Names.{TapNames};
 ghost use Rattle.tap_command.specs.declared.limits.TheConstants.{LIMITS};
 ghost use Rattle.tap_command.specs.Ends.{tap_job};
 ghost use Rattle.tap_command.specs.Headline.{Headline};

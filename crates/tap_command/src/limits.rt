@@ -2,7 +2,12 @@
 
 use noise_script::SCRIPT_OCTETS;
 use run_inputs::Limits;
-use tap_turns::TAP_LIMIT;
+
+/// The most octets of a recording that is tapped, with its header.
+pub const TAP_LIMIT: u64 = 268_435_456;
+
+/// The channel of the link.
+pub(crate) const DLCI: u8 = 0;
 
 /// The most octets of the script and of each recording.
 pub const LIMITS: Limits = Limits {

@@ -2,10 +2,11 @@
 ghost use Rattle.std.specs.Prelude.{◌≡◌, ℕ, List, [], ◌∷◌, IfOk, IfErr};
 ghost use Rattle.outside_calls.specs.Folder.{FolderState, OnlyReads};
 ghost use Rattle.command_base.specs.Stops.{EndCounts};
-ghost use Rattle.tap_turns.specs.Words.{named, inputs_of};
+ghost use Rattle.tap_command.specs.Names.{named, inputs_of};
 ghost use Rattle.tap_command.specs.declared.limits.TheConstants.{LIMITS};
 ghost use Rattle.tap_command.specs.Ends.{IsBegun, IsRefused};
 
+use crate::TapWords;
 use crate::header::open_header;
 use crate::limits::LIMITS;
 use command_base::Stop;
@@ -14,7 +15,6 @@ use outside_calls::Folder;
 use run_inputs::open_inputs;
 use scramblers::Mode;
 use std::alloc::Global;
-use tap_turns::TapWords;
 
 /// The place of the first recording's name among the words.
 const REC_O: usize = 1;

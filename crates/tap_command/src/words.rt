@@ -2,11 +2,11 @@
 ghost use Rattle.std.specs.Prelude.{◌≡◌, true, IfSome, string_bytes, map};
 ghost use Rattle.std.specs.Option.{option_map};
 ghost use Rattle.command_base.specs.Apart.{are_apart};
-ghost use Rattle.tap_turns.specs.Words.{named, inputs_of, outputs_of};
+ghost use Rattle.tap_command.specs.Names.{named, inputs_of, outputs_of};
 ghost use Rattle.tap_command.specs.Words.{names_of};
 
+use crate::TapWords;
 use command_base::are_apart;
-use tap_turns::TapWords;
 
 /// The words of `tap`, where these are such words.
 pub fn tap_words(words: &[String]) -> Option<TapWords<'_>>

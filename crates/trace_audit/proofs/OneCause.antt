@@ -4,8 +4,8 @@ use Rattle.std.proofs.lemmas.Bool.{cases_lt}
 use Rattle.trace_audit.proofs.LineParts.{one-reading}
 use Rattle.trace_audit.specs.declared.line.LineText.{LineText}
 use Rattle.trace_audit.specs.Differences.{text_of, IsRead, StopsIn, PartsDiffer, ReadsDiffer, OwnDiffers, Departs, LineDiffers, RestDiffers, FirstDiffers}
-use Rattle.causes.specs.declared.audit_cause.AuditCause.{AuditCause}
-use Rattle.causes.specs.declared.audit_cause.AuditCause.TheVariants.{End, Beyond, Spelling, Turn, Role, Arrived, Sent, Break}
+use Rattle.shared_terms.specs.declared.audit_cause.AuditCause.{AuditCause}
+use Rattle.shared_terms.specs.declared.audit_cause.AuditCause.TheVariants.{End, Beyond, Spelling, Turn, Role, Arrived, Sent, Break}
 use Rattle.trace_audit.proofs.Lines.{not-before, split-same, front-same}
 
 parts-one : (a b : LineText) (c d : AuditCause) → PartsDiffer a b c → PartsDiffer a b d → c ≡ d

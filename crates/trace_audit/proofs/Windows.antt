@@ -13,8 +13,8 @@ use Rattle.trace_audit.proofs.LineParts.{one-line}
 use Rattle.trace_audit.specs.Grammar.{HasParts}
 use Rattle.trace_audit.specs.declared.line.LineText.{LineText}
 use Rattle.trace_audit.specs.Differences.{is_no_feed, fed, own_line, StopsIn, GoesOnWith, OwnDiffers, LineDiffers}
-use Rattle.causes.specs.declared.audit_cause.AuditCause.{AuditCause}
-use Rattle.causes.specs.declared.audit_cause.AuditCause.TheVariants.{End, Beyond, Spelling, Turn, Role, Arrived, Sent, Break}
+use Rattle.shared_terms.specs.declared.audit_cause.AuditCause.{AuditCause}
+use Rattle.shared_terms.specs.declared.audit_cause.AuditCause.TheVariants.{End, Beyond, Spelling, Turn, Role, Arrived, Sent, Break}
 
 -- no line feed stands in these octets
 abbrev pub IsWhole : List ℕ → Type 0

@@ -1,7 +1,7 @@
 -- How far a text was compared with lines.
 use Rattle.std.specs.Prelude.{◌≡◌, ℕ, ◌+◌, ◌*◌, ◌≤◌, List, ◌∷◌, ◌++◌, length, take, drop, Option, Some, None}
 use Rattle.trace_audit.specs.Differences.{text_of, LineDiffers}
-use Rattle.causes.specs.declared.audit_cause.AuditCause.{AuditCause}
+use Rattle.shared_terms.specs.declared.audit_cause.AuditCause.{AuditCause}
 use Rattle.trace_audit.specs.declared.comparison.Comparison.{Comparison}
 use Rattle.trace_audit.specs.declared.comparison.Comparison.TheVariants.{Agrees, Differs}
 

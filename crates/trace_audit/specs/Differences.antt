@@ -4,8 +4,8 @@ use Rattle.std.specs.List.{list_all}
 use Rattle.trace_audit.specs.Cutting.{front_of, is_no_feed}
 use Rattle.trace_audit.specs.Grammar.{HasParts}
 use Rattle.trace_audit.specs.declared.line.LineText.{LineText}
-use Rattle.causes.specs.declared.audit_cause.AuditCause.{AuditCause}
-use Rattle.causes.specs.declared.audit_cause.AuditCause.TheVariants.{End, Beyond, Spelling, Turn, Role, Arrived, Sent, Break}
+use Rattle.shared_terms.specs.declared.audit_cause.AuditCause.{AuditCause}
+use Rattle.shared_terms.specs.declared.audit_cause.AuditCause.TheVariants.{End, Beyond, Spelling, Turn, Role, Arrived, Sent, Break}
 pub use Rattle.trace_audit.specs.Cutting.{is_no_feed}
 
 -- a line with its line feed

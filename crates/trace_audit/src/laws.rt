@@ -11,7 +11,7 @@ ghost use Rattle.line_texts.specs.FrameText.{IsInformation};
 ghost use Rattle.line_texts.specs.LineText.{line_text};
 ghost use Rattle.line_texts.specs.declared.trace_line.TraceLine.{TraceLine};
 ghost use Rattle.trace_audit.specs.Differences.{FirstDiffers, IsCut, text_of};
-ghost use Rattle.causes.specs.declared.audit_cause.AuditCause.{AuditCause};
+ghost use Rattle.shared_terms.specs.declared.audit_cause.AuditCause.{AuditCause};
 
 /// A line has one reading, and parts stand for one line.
 pub fn readings_are_one()

@@ -12,8 +12,8 @@ mod pieces;
 mod reader;
 mod shape;
 
-pub use causes::AuditCause;
 pub use comparison::{Comparison, Difference};
 pub use difference::{WINDOW, cut_line};
 pub use line::{LineText, Spelling, Words};
 pub use reader::read_text;
+pub use shared_terms::AuditCause;

@@ -8,7 +8,7 @@ ghost use Rattle.trace_audit.specs.Reading.{before, body_at, given_at, heard_at,
 use crate::cutting::{behind, number_at};
 use crate::pieces::{COUNTS, behind_heard, behind_sent};
 use crate::{LineText, Spelling, Words};
-use roles::Role;
+use shared_terms::Role;
 
 /// The most octets of a line without its line feed.
 const LINE: usize = 160;

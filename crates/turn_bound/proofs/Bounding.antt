@@ -1,8 +1,8 @@
 -- The laws of runs over lines that carry what is sent, by what holds of runs with queues.
 use Rattle.std.proofs.Common.{ℕ, ◌+◌, ◌*◌, ◌<◌, ◌≤◌, map, length, arith, sym, ◌∙◌, ap, subst, false}
-use Rattle.roles.specs.declared.role.Role.{Role}
-use Rattle.roles.specs.declared.role.Role.TheVariants.{Originator, Answerer}
-use Rattle.roles.specs.Both.{of}
+use Rattle.shared_terms.specs.declared.role.Role.{Role}
+use Rattle.shared_terms.specs.declared.role.Role.TheVariants.{Originator, Answerer}
+use Rattle.shared_terms.specs.Both.{of}
 use Rattle.link_run.specs.End.{is_released}
 use Rattle.link_run.specs.Run.{Link, Accounts, Turn, RunOf, BrokenTurn, IsBroken, served_at, releases}
 use Rattle.link_run.specs.Run as runs

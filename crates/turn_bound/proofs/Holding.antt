@@ -4,7 +4,7 @@ use Rattle.std.proofs.Common.{◌++◌, length, slice_index_or, inl, inr, arith,
 use Rattle.std.specs.Prelude.{is_some}
 use Rattle.std.specs.List.{AllByRecursion}
 use Rattle.std.proofs.lemmas.Bool.Decides.{nat_tests}
-use Rattle.roles.specs.Role.{is_originator}
+use Rattle.shared_terms.specs.Role.{is_originator}
 use Rattle.lapm_sender.specs.Outgoing.{Outgoing, is_outstanding, next_number, next_among, expired}
 use Rattle.lapm_receiver.specs.Held.{first_outside, missing_from}
 use Rattle.lapm_receiver.specs.Incoming.{Incoming, asks}

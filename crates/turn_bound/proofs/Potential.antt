@@ -1,6 +1,6 @@
 -- The potential of a run, and the bound on its turns.
 use Rattle.std.specs.Prelude.{◌≡◌, ℕ, ◌+◌, ◌*◌, ◌≤◌, Bool, cond, ◌||◌, List, [], ◌∷◌, length}
-use Rattle.roles.specs.declared.role.Role.TheVariants.{Originator, Answerer}
+use Rattle.shared_terms.specs.declared.role.Role.TheVariants.{Originator, Answerer}
 use Rattle.link_account.specs.Play.{Slot}
 use Rattle.turn_bound.proofs.Clock.{Rates, rates}
 use Rattle.turn_bound.proofs.Value.{value, lives, IsOf, dues, weight, rnrs}

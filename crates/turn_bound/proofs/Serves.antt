@@ -1,7 +1,7 @@
 use Rattle.std.proofs.Common.{◌≡◌, ℕ, ◌+◌, ◌-◌, ◌*◌, ◌<◌, ◌≤◌, ◌&&◌, ◌⊎◌, not, Bool, true, false, cond, nat_le, [], ◌∷◌, ◌++◌, length}
 use Rattle.std.proofs.Common.{length-append, inl, inr, arith, refl, sym, ◌∙◌, ap, subst}
-use Rattle.roles.specs.declared.role.Role.{Role}
-use Rattle.roles.specs.declared.role.Role.TheVariants.{Originator, Answerer}
+use Rattle.shared_terms.specs.declared.role.Role.{Role}
+use Rattle.shared_terms.specs.declared.role.Role.TheVariants.{Originator, Answerer}
 use Rattle.break_signals.specs.Breaks.{OwnBreaks, after_ask, waits}
 use Rattle.link_account.specs.declared.phase.Phase.{Phase}
 use Rattle.link_account.specs.declared.phase.Phase.TheVariants.{Detecting, Negotiating, Establishing, Connected, Releasing, Closed}

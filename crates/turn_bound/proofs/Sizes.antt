@@ -1,8 +1,8 @@
 use Rattle.std.proofs.Common.{take, drop, ◌++◌, length-take, length-drop, ◌≡◌, ℕ, ◌-◌, ◌&&◌, ◌||◌, not, Bool, true, false, cond, refl, sym}
 use Rattle.std.proofs.Common.{◌∙◌, ap, subst, Option, Some, None, Result, Ok, Err, ◌+◌, ◌*◌, nat_eq, nat_le, List, [], ◌∷◌, ◌⊎◌, inl, inr}
 use Rattle.std.proofs.Common.{length, arith, ◌<◌, ◌≤◌, zero, suc, nat_lt, length-append}
-use Rattle.roles.specs.declared.role.Role.{Role}
-use Rattle.roles.specs.declared.role.Role.TheVariants.{Originator, Answerer}
+use Rattle.shared_terms.specs.declared.role.Role.{Role}
+use Rattle.shared_terms.specs.declared.role.Role.TheVariants.{Originator, Answerer}
 use Rattle.lapm_frames.specs.declared.frame.Frame.{Frame}
 use Rattle.lapm_frames.specs.declared.frame.Frame.TheVariants.{I, Rr, Rnr, Rej, Srej, Sabme, Disc, Ua, Dm, Frmr, Ui, Xid, Test}
 use Rattle.xid_params.specs.declared.offer.Offer.{Offer}
@@ -22,7 +22,7 @@ use Rattle.lapm_frames.specs.declared.arrived.Arrived.{Arrived}
 use Rattle.lapm_frames.specs.declared.arrived.Arrived.TheVariants as arrivals
 use Rattle.link_account.specs.declared.phase.Phase.{Phase}
 use Rattle.link_account.specs.declared.phase.Phase.TheVariants.{Detecting, Negotiating, Establishing, Connected, Releasing, Closed}
-use Rattle.causes.specs.declared.fault.LinkFault.{LinkFault}
+use Rattle.shared_terms.specs.declared.fault.LinkFault.{LinkFault}
 use Rattle.lapm_frames.specs.declared.sent.Sent.{Sent}
 use Rattle.lapm_frames.specs.declared.sent.Sent.TheVariants as slots
 use Rattle.link_account.specs.Account.{Account, is_connected, wants, after_offer, after_given, after_busy, after_break_asked}
@@ -33,12 +33,12 @@ use Rattle.link_account.specs.Hear.{on_closed, on_connected, on_number, then_in,
 use Rattle.link_account.specs.Hear.{on_word, peer_reset, owing, on_xid_command, on_xid_response, trying}
 use Rattle.lapm_receiver.specs.Incoming.{asks}
 use Rattle.break_signals.specs.Breaks.{OwnBreaks, own_due, ticked, after_ask}
-use Rattle.causes.specs.declared.fault.LinkFault.TheVariants.{NotDetected}
+use Rattle.shared_terms.specs.declared.fault.LinkFault.TheVariants.{NotDetected}
 use Rattle.link_account.specs.Speak.{Said, says, says_frame, else_says, where_says, spent, answering, trying_again, tries_frame, u_try}
 use Rattle.link_account.specs.Speak.{polling, timer_expires, on_timer, breaking, may_send, says_segment, says_own, says_break, says_asking}
 use Rattle.link_account.specs.Speak.{step1, step2, step3, step4, step5, step6, step7, step8, step9, steps, tells, differs, after_timers}
 use Rattle.link_account.specs.Speak.{then_tries, speak_linked, speak, speak_in, speak_detecting, speak_negotiating, speak_releasing}
-use Rattle.roles.specs.Role.{is_originator, other}
+use Rattle.shared_terms.specs.Role.{is_originator, other}
 use Rattle.turn_bound.proofs.Run.{served_account, Link, State, Turn, RunOf, start, arrival}
 use Rattle.link_run.specs.End.{User, BreakLine, delivered, offered_at, offered_times, room_for, offered, is_busy, next_break, asked_at}
 use Rattle.link_run.specs.End.{asked, is_released}

@@ -2,7 +2,7 @@ use Rattle.std.proofs.Common.{◌≡◌, ℕ, ◌+◌, ◌%◌, ◌<◌, ◌≤�
 use Rattle.std.proofs.Common.{slice_index_or, arith, refl, sym, ◌∙◌, ap, Option, Some, None, Ok, Err}
 use Rattle.std.specs.Prelude.{is_some}
 use Rattle.std.proofs.lemmas.Bool.Decides.{nat_tests}
-use Rattle.roles.specs.declared.role.Role.{Role}
+use Rattle.shared_terms.specs.declared.role.Role.{Role}
 use Rattle.lapm_sender.specs.Outgoing.{Outgoing, next_number, next_among, is_outstanding}
 use Rattle.lapm_receiver.specs.Held.{first_outside, missing_from}
 use Rattle.lapm_receiver.specs.Incoming.{Incoming, asks}
@@ -13,7 +13,7 @@ use Rattle.break_signals.specs.Words.{spelled, word_in}
 use Rattle.link_account.specs.Account.{Account}
 use Rattle.link_account.specs.declared.answer.Answer.{Answer}
 use Rattle.link_account.specs.declared.answer.Answer.TheVariants as answers
-use Rattle.roles.specs.Role.{is_originator}
+use Rattle.shared_terms.specs.Role.{is_originator}
 use Rattle.link_account.specs.Speak.{Said, else_says, where_says, answering, frame_for, nr_of, may_send, says_segment, says_own, says_break}
 use Rattle.link_account.specs.Speak.{says_asking, step1, step2, step3, step4, step5, step6, step7, step8, step9, steps, tells, ready_frame}
 use Rattle.link_account.specs.Speak.{differs}

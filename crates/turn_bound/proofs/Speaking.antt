@@ -1,17 +1,17 @@
 use Rattle.std.proofs.Common.{◌≡◌, ℕ, ◌+◌, ◌-◌, ◌*◌, ◌≤◌, ◌&&◌, ◌||◌, Bool, true, false, cond, nat_eq, List, [], ◌∷◌, length, arith, refl}
 use Rattle.std.proofs.Common.{sym, ◌∙◌, ap, subst, Option, Some, None, Result, Ok, Err}
-use Rattle.roles.specs.declared.role.Role.{Role}
-use Rattle.roles.specs.declared.role.Role.TheVariants.{Originator, Answerer}
+use Rattle.shared_terms.specs.declared.role.Role.{Role}
+use Rattle.shared_terms.specs.declared.role.Role.TheVariants.{Originator, Answerer}
 use Rattle.lapm_sender.specs.Outgoing.{Outgoing, next_number, after_next, sent_among, expired}
 use Rattle.lapm_receiver.specs.Incoming.{asks}
 use Rattle.break_signals.specs.declared.word.BreakWord.{BreakWord}
 use Rattle.break_signals.specs.Breaks.{OwnBreaks, own_due, after_brk, ticked}
 use Rattle.link_account.specs.declared.phase.Phase.{Phase}
 use Rattle.link_account.specs.declared.phase.Phase.TheVariants.{Connected}
-use Rattle.causes.specs.declared.fault.LinkFault.{LinkFault}
+use Rattle.shared_terms.specs.declared.fault.LinkFault.{LinkFault}
 use Rattle.link_account.specs.Account.{Account, is_connected}
 use Rattle.link_account.specs.declared.answer.Answer.{Answer}
-use Rattle.roles.specs.Role.{is_originator}
+use Rattle.shared_terms.specs.Role.{is_originator}
 use Rattle.link_account.specs.Speak.{Said, else_says, where_says, answering, polling, timer_expires, on_timer, breaking, on_break_timer}
 use Rattle.link_account.specs.Speak.{may_send, running, says_segment, says_own, says_break, says_asking, step1, step2, step3, step4, step5}
 use Rattle.link_account.specs.Speak.{step6, step7, step8, step9, steps, tells, differs, after_timers, then_tries, speak_linked}

@@ -1,8 +1,8 @@
 -- How many turns a run has within the limits of the program.
 use Rattle.std.specs.Prelude.{ℕ, ◌^◌, ◌<◌, ◌≤◌, List, length}
 use Rattle.std.specs.List.{AllByRecursion}
-use Rattle.roles.specs.declared.role.Role.{Role}
-use Rattle.roles.specs.Both.{of}
+use Rattle.shared_terms.specs.declared.role.Role.{Role}
+use Rattle.shared_terms.specs.Both.{of}
 use Rattle.link_run.specs.End.{BusyLine}
 use Rattle.link_run.specs.Run.{Link, Accounts, Turn, RunOf}
 use Rattle.link_run.specs.Carried.{IsCarried}

@@ -1,7 +1,7 @@
 -- How many segments an end is offered of its user's file.
 use Rattle.std.specs.Prelude.{ℕ, ◌-◌, ◌*◌, ◌<◌, ◌≤◌, List, length}
-use Rattle.roles.specs.declared.role.Role.{Role}
-use Rattle.roles.specs.Both.{of}
+use Rattle.shared_terms.specs.declared.role.Role.{Role}
+use Rattle.shared_terms.specs.Both.{of}
 use Rattle.lapm_sender.specs.Outgoing.{Outgoing}
 use Rattle.link_run.specs.Run.{Link, Accounts, Turn, RunOf}
 use Rattle.link_run.specs.Carried.{IsCarried}

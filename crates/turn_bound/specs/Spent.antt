@@ -1,9 +1,9 @@
 -- When the tries of a clock are spent.
 use Rattle.std.specs.Prelude.{◌≡◌, ℕ, ◌+◌, ◌-◌, ◌*◌, ◌≤◌, ◌⊎◌, true, false, List, length, Some}
-use Rattle.roles.specs.declared.role.Role.{Role}
+use Rattle.shared_terms.specs.declared.role.Role.{Role}
 use Rattle.break_signals.specs.Breaks.{waits}
-use Rattle.causes.specs.declared.fault.LinkFault.{LinkFault}
-use Rattle.causes.specs.declared.fault.LinkFault.TheVariants.{NotDetected, Spent, BadAck, PeerReset, PeerRefused}
+use Rattle.shared_terms.specs.declared.fault.LinkFault.{LinkFault}
+use Rattle.shared_terms.specs.declared.fault.LinkFault.TheVariants.{NotDetected, Spent, BadAck, PeerReset, PeerRefused}
 use Rattle.link_account.specs.Account.{Account, is_connected}
 use Rattle.link_run.specs.Run.{Link, Accounts, Turn, RunOf, BrokenTurn, served_at}
 use Rattle.link_run.specs.Carried.{IsCarried}

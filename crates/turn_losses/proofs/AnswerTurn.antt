@@ -1,17 +1,17 @@
 use Rattle.std.proofs.Common.{◌⊎◌, inl, inr, ◌≡◌, ℕ, ◌+◌, ◌*◌, ◌<◌, ◌&&◌, Bool, true, false, cond, nat_eq, length, arith, refl, sym, ◌∙◌}
 use Rattle.std.proofs.Common.{ap, subst, Option, Some, None, Result, Ok, Err}
 use Rattle.std.proofs.lemmas.Bool.Decides.{nat_tests}
-use Rattle.roles.specs.declared.role.Role.{Role}
-use Rattle.roles.specs.declared.role.Role.TheVariants.{Originator, Answerer}
+use Rattle.shared_terms.specs.declared.role.Role.{Role}
+use Rattle.shared_terms.specs.declared.role.Role.TheVariants.{Originator, Answerer}
 use Rattle.lapm_frames.specs.declared.frame.Frame.TheVariants.{Disc}
 use Rattle.lapm_sender.specs.Outgoing.{is_outstanding}
 use Rattle.lapm_frames.specs.declared.arrived.Arrived.{Arrived}
 use Rattle.lapm_frames.specs.declared.arrived.Arrived.TheVariants as arrivals
 use Rattle.link_account.specs.declared.phase.Phase.{Phase}
 use Rattle.link_account.specs.declared.phase.Phase.TheVariants.{Detecting, Negotiating, Establishing, Connected, Releasing, Closed}
-use Rattle.causes.specs.declared.fault.LinkFault.{LinkFault}
+use Rattle.shared_terms.specs.declared.fault.LinkFault.{LinkFault}
 use Rattle.link_account.specs.Account.{Account, is_connected}
-use Rattle.roles.specs.Role.{is_originator}
+use Rattle.shared_terms.specs.Role.{is_originator}
 use Rattle.link_account.specs.Hear.{hear, trying}
 use Rattle.link_account.specs.Speak.{Said, spent, trying_again, tries_frame, timer_expires, speak_linked, speak, speak_in, speak_releasing}
 use Rattle.turn_bound.proofs.Clock.{Rates, AreRates}

@@ -3,7 +3,7 @@ use Rattle.std.proofs.Common.{◌⊎◌, inl, inr, ◌≡◌, ℕ, ◌+◌, ◌-
 use Rattle.std.proofs.Common.{arith, refl, sym, ◌∙◌, ap, subst, Option, Some, None, Result, Ok, Err}
 use Rattle.std.specs.Prelude.{is_some, slice_index_or}
 use Rattle.std.proofs.lemmas.Bool.Decides.{nat_tests}
-use Rattle.roles.specs.Role.{is_originator}
+use Rattle.shared_terms.specs.Role.{is_originator}
 use Rattle.lapm_sender.specs.Outgoing.{Outgoing, expired}
 use Rattle.lapm_receiver.specs.Incoming.{asks}
 use Rattle.break_signals.specs.declared.word.BreakWord.{BreakWord}
@@ -13,7 +13,7 @@ use Rattle.break_signals.specs.Breaks.{OwnBreaks, waits, after_brk, after_ack, t
 use Rattle.break_signals.specs.declared.fault.BreakFault.TheVariants.{Number}
 use Rattle.link_account.specs.declared.answer.Answer.{Answer}
 use Rattle.link_account.specs.declared.answer.Answer.TheVariants as answers
-use Rattle.causes.specs.declared.fault.LinkFault.{LinkFault}
+use Rattle.shared_terms.specs.declared.fault.LinkFault.{LinkFault}
 use Rattle.link_account.specs.Account.{Account}
 use Rattle.link_account.specs.Speak.{Said, answering, polling, timer_expires, on_timer, breaking, on_break_timer, frame_for, says_word}
 use Rattle.link_account.specs.Speak.{where_says, may_send, says_segment, says_own, says_break, says_asking, step1, step2, step3, step4}

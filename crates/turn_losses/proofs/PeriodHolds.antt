@@ -4,9 +4,9 @@ use Rattle.std.proofs.lemmas.Bool.{cases_lt}
 use Rattle.link_account.specs.Account.{Account, is_connected}
 use Rattle.link_account.specs.Speak.{Said}
 use Rattle.std.proofs.Common.{List, length}
-use Rattle.roles.specs.declared.role.Role.{Role}
-use Rattle.roles.specs.Role.{other}
-use Rattle.roles.specs.Both.{of}
+use Rattle.shared_terms.specs.declared.role.Role.{Role}
+use Rattle.shared_terms.specs.Role.{other}
+use Rattle.shared_terms.specs.Both.{of}
 use Rattle.link_run.specs.Run.{Link, Accounts, Turn, served_at}
 use Rattle.turn_bound.specs.Time.{KeepsTime}
 use Rattle.turn_losses.proofs.Trace.{past}

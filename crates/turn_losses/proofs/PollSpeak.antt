@@ -1,8 +1,8 @@
 use Rattle.std.proofs.Common.{◌⊎◌, inl, inr, ◌≡◌, ℕ, ◌+◌, ◌*◌, ◌&&◌, ◌||◌, not, Bool, true, false, cond, nat_eq, nat_le, List, [], ◌∷◌}
 use Rattle.std.proofs.Common.{arith, refl, sym, ◌∙◌, ap, Option, Some, None, Result, Ok, Err}
 use Rattle.std.proofs.lemmas.Bool.Decides.{nat_tests}
-use Rattle.roles.specs.declared.role.Role.{Role}
-use Rattle.roles.specs.declared.role.Role.TheVariants.{Originator, Answerer}
+use Rattle.shared_terms.specs.declared.role.Role.{Role}
+use Rattle.shared_terms.specs.declared.role.Role.TheVariants.{Originator, Answerer}
 use Rattle.lapm_frames.specs.declared.frame.Frame.{Frame}
 use Rattle.lapm_frames.specs.declared.frame.Frame.TheVariants.{Sabme, Disc, Xid}
 use Rattle.xid_params.specs.Offers.{written}
@@ -11,16 +11,16 @@ use Rattle.break_signals.specs.declared.word.BreakWord.{BreakWord}
 use Rattle.break_signals.specs.Breaks.{OwnBreaks, own_due, ticked}
 use Rattle.link_account.specs.declared.phase.Phase.{Phase}
 use Rattle.link_account.specs.declared.phase.Phase.TheVariants.{Detecting, Negotiating, Establishing, Connected, Releasing, Closed}
-use Rattle.causes.specs.declared.fault.LinkFault.{LinkFault}
+use Rattle.shared_terms.specs.declared.fault.LinkFault.{LinkFault}
 use Rattle.lapm_frames.specs.declared.sent.Sent.{Sent}
 use Rattle.lapm_frames.specs.declared.sent.Sent.TheVariants as slots
 use Rattle.link_account.specs.Account.{Account, is_connected}
-use Rattle.roles.specs.Role.{is_originator}
+use Rattle.shared_terms.specs.Role.{is_originator}
 use Rattle.link_account.specs.declared.answer.Answer.{Answer}
 use Rattle.link_account.specs.declared.answer.Answer.TheVariants as answers
 use Rattle.link_account.specs.Hear.{trying}
 use Rattle.lapm_receiver.specs.Incoming.{asks}
-use Rattle.causes.specs.declared.fault.LinkFault.TheVariants.{NotDetected}
+use Rattle.shared_terms.specs.declared.fault.LinkFault.TheVariants.{NotDetected}
 use Rattle.link_account.specs.Speak.{Said, says, says_frame, else_says, where_says, spent, answering, frame_for, trying_again, tries_frame}
 use Rattle.link_account.specs.Speak.{u_try, polling, timer_expires, on_timer, breaking, nr_of, may_send, running, says_segment, says_own}
 use Rattle.link_account.specs.Speak.{says_break, says_asking, step1, step2, step3, step4, step5, step6, step7, step8, step9, steps, tells}

@@ -2,8 +2,8 @@
 use Rattle.std.proofs.Common.{◌≡◌, ℕ, zero, suc, ◌+◌, ◌<◌, ◌≤◌, ◌&&◌, not, min, Bool, true, false, cond, nat_lt, nat_le, List, [], ◌∷◌}
 use Rattle.std.proofs.Common.{length, length-append, arith, refl, sym, ◌∙◌, ap, subst, Option, Some, None, Result, Ok, Err}
 use Rattle.std.proofs.lemmas.Bool.Decides.{nat_tests}
-use Rattle.roles.specs.declared.role.Role.{Role}
-use Rattle.roles.specs.declared.role.Role.TheVariants.{Originator, Answerer}
+use Rattle.shared_terms.specs.declared.role.Role.{Role}
+use Rattle.shared_terms.specs.declared.role.Role.TheVariants.{Originator, Answerer}
 use Rattle.lapm_frames.specs.declared.frame.Frame.{Frame}
 use Rattle.lapm_frames.specs.declared.frame.Frame.TheVariants.{Sabme, Disc, Ua, Dm, Xid}
 use Rattle.xid_params.specs.declared.offer.Offer.{Offer}
@@ -18,7 +18,7 @@ use Rattle.lapm_frames.specs.declared.arrived.Arrived.{Arrived}
 use Rattle.lapm_frames.specs.declared.arrived.Arrived.TheVariants as arrivals
 use Rattle.link_account.specs.declared.phase.Phase.{Phase}
 use Rattle.link_account.specs.declared.phase.Phase.TheVariants.{Detecting, Negotiating, Establishing, Connected, Releasing, Closed}
-use Rattle.causes.specs.declared.fault.LinkFault.{LinkFault}
+use Rattle.shared_terms.specs.declared.fault.LinkFault.{LinkFault}
 use Rattle.link_account.specs.Account.{Account, is_connected, window_for, wants, piece_size, after_given}
 use Rattle.link_account.specs.Hear.{hear, on_frame, on_seen, on_pattern, on_detecting, on_negotiating, on_establishing, on_xid_command}
 use Rattle.link_account.specs.Hear.{on_xid_response, on_nothing, owing}

@@ -1,7 +1,7 @@
 -- An end keeps its setup as it hears, and how both ends' phases stand together.
 use Rattle.std.proofs.Common.{◌≡◌, ℕ, ◌*◌, true, List, length, map, arith, refl, sym, ◌∙◌, ap, subst, Ok}
-use Rattle.roles.specs.declared.role.Role.{Role}
-use Rattle.roles.specs.Both.{of}
+use Rattle.shared_terms.specs.declared.role.Role.{Role}
+use Rattle.shared_terms.specs.Both.{of}
 use Rattle.lapm_frames.specs.declared.arrived.Arrived.{Arrived}
 use Rattle.link_account.specs.declared.phase.Phase.{Phase}
 use Rattle.link_account.specs.Account.{Account}

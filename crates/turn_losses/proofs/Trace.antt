@@ -1,7 +1,7 @@
 -- A run looked up by the turn.
 use Rattle.std.specs.Prelude.{◌≡◌, ℕ, ◌+◌, ◌<◌, Bool, if◌then◌else◌, false, nat_lt, List, [], ◌∷◌, length, Option, Some, None}
-use Rattle.roles.specs.declared.role.Role.{Role}
-use Rattle.roles.specs.Both.{of}
+use Rattle.shared_terms.specs.declared.role.Role.{Role}
+use Rattle.shared_terms.specs.Both.{of}
 use Rattle.lapm_frames.specs.declared.sent.Sent.{Sent}
 use Rattle.lapm_frames.specs.declared.sent.Sent.TheVariants as slots
 use Rattle.link_run.specs.End.{is_closed}

@@ -1,13 +1,13 @@
 use Rattle.std.proofs.Common.{◌⊎◌, inl, inr, ◌≡◌, ℕ, suc, ◌+◌, ◌*◌, ◌<◌, ◌≤◌, Bool, true, false, cond, nat_lt, List, [], ◌∷◌, length, arith}
 use Rattle.std.proofs.Common.{refl, sym, ◌∙◌, ap, subst, None, Result, Ok, Err}
 use Rattle.std.proofs.lemmas.Bool.Decides.{nat_tests}
-use Rattle.roles.specs.declared.role.Role.{Role}
-use Rattle.roles.specs.declared.role.Role.TheVariants.{Originator, Answerer}
-use Rattle.roles.specs.Role.{other}
+use Rattle.shared_terms.specs.declared.role.Role.{Role}
+use Rattle.shared_terms.specs.declared.role.Role.TheVariants.{Originator, Answerer}
+use Rattle.shared_terms.specs.Role.{other}
 use Rattle.lapm_frames.specs.declared.arrived.Arrived.{Arrived}
 use Rattle.link_account.specs.declared.phase.Phase.{Phase}
 use Rattle.link_account.specs.declared.phase.Phase.TheVariants.{Detecting, Negotiating, Establishing, Connected, Releasing, Closed}
-use Rattle.causes.specs.declared.fault.LinkFault.{LinkFault}
+use Rattle.shared_terms.specs.declared.fault.LinkFault.{LinkFault}
 use Rattle.link_account.specs.Account.{Account, is_connected}
 use Rattle.link_account.specs.Hear.{hear}
 use Rattle.link_account.specs.Speak.{Said, speak}
@@ -36,7 +36,7 @@ use Rattle.turn_losses.specs.Polls.{is_poll, is_final}
 use Rattle.turn_bound.proofs.MeetHear.{of_arrived}
 use Rattle.turn_losses.proofs.Polling.{is_linked, Early, PollTurn}
 use Rattle.std.proofs.Common.{map}
-use Rattle.roles.specs.Both.{of}
+use Rattle.shared_terms.specs.Both.{of}
 use Rattle.link_run.specs.Run.{Link, Accounts, Turn, RunOf, GoingTurn, start, arrival, served_at, said_at, releases}
 use Rattle.link_run.specs.Carried.{Carries, IsCarried}
 use Rattle.turn_bound.specs.Time.{KeepsTime}

@@ -2,15 +2,15 @@
 use Rattle.std.proofs.Common.{◌≡◌, ℕ, ◌+◌, ◌*◌, ◌<◌, ◌≤◌, Bool, true, false, cond, nat_le, List, [], ◌∷◌, length, arith, refl, sym, ◌∙◌, ap}
 use Rattle.std.proofs.Common.{Ok, Err}
 use Rattle.std.proofs.lemmas.Bool.Decides.{nat_tests}
-use Rattle.roles.specs.declared.role.Role.{Role}
-use Rattle.roles.specs.declared.role.Role.TheVariants.{Originator}
+use Rattle.shared_terms.specs.declared.role.Role.{Role}
+use Rattle.shared_terms.specs.declared.role.Role.TheVariants.{Originator}
 use Rattle.lapm_frames.specs.declared.heard.Heard.{Heard}
 use Rattle.lapm_frames.specs.declared.heard.Heard.TheVariants.{Passed}
 use Rattle.lapm_frames.specs.declared.seen.Seen.TheVariants as seens
 use Rattle.lapm_frames.specs.declared.sent.Sent.TheVariants as slots
 use Rattle.lapm_frames.specs.declared.arrived.Arrived.TheVariants as arrivals
 use Rattle.link_account.specs.declared.phase.Phase.TheVariants.{Detecting}
-use Rattle.causes.specs.declared.fault.LinkFault.TheVariants.{NotDetected}
+use Rattle.shared_terms.specs.declared.fault.LinkFault.TheVariants.{NotDetected}
 use Rattle.link_account.specs.Account.{Account}
 use Rattle.link_account.specs.Speak.{Said, says, speak, speak_in, speak_detecting}
 use Rattle.link_run.specs.End.{is_released}

@@ -1,7 +1,7 @@
 -- What is lost before an end gives up while a break waits, and so before any end gives up.
 use Rattle.std.specs.Prelude.{ℕ, List, ◌∷◌}
-use Rattle.roles.specs.declared.role.Role.{Role}
-use Rattle.causes.specs.declared.fault.LinkFault.{LinkFault}
+use Rattle.shared_terms.specs.declared.role.Role.{Role}
+use Rattle.shared_terms.specs.declared.fault.LinkFault.{LinkFault}
 use Rattle.link_run.specs.Run.{Link, Accounts, Turn, BrokenTurn}
 use Rattle.link_run.specs.Carried.{Carries}
 use Rattle.link_run.specs.Laws.{RunsOver}

@@ -1,11 +1,11 @@
 -- What is lost before an end gives up that waits for no break's answer, in whatever phase.
 use Rattle.std.specs.Prelude.{◌≡◌, ℕ, ◌+◌, Bool, false, List, [], ◌∷◌, length}
-use Rattle.roles.specs.declared.role.Role.{Role}
-use Rattle.roles.specs.declared.role.Role.TheVariants.{Originator, Answerer}
-use Rattle.roles.specs.Both.{of}
+use Rattle.shared_terms.specs.declared.role.Role.{Role}
+use Rattle.shared_terms.specs.declared.role.Role.TheVariants.{Originator, Answerer}
+use Rattle.shared_terms.specs.Both.{of}
 use Rattle.break_signals.specs.Breaks.{waits}
-use Rattle.causes.specs.declared.fault.LinkFault.{LinkFault}
-use Rattle.causes.specs.declared.fault.LinkFault.TheVariants.{Spent}
+use Rattle.shared_terms.specs.declared.fault.LinkFault.{LinkFault}
+use Rattle.shared_terms.specs.declared.fault.LinkFault.TheVariants.{Spent}
 use Rattle.link_account.specs.Account.{is_connected, break_waits}
 use Rattle.link_run.specs.Run.{Link, Accounts, Turn, BrokenTurn, served_at}
 use Rattle.link_run.specs.Carried.{Carries}

@@ -8,8 +8,8 @@ use lapm_frames::{FrameFault, read};
 use line_texts::{FrameText, write_frame_text};
 use noise_script::{BREAK_LINES, BUSY_LINES, HIT_LINES, LOSE_LINES, NOISE_LINES, SCRIPT_OCTETS};
 use recordings::{Rate, Recorder, header_octets};
-use roles::Role;
 use scramblers::{ANSWER_TAP, CALL_TAP, Mode, Scrambler};
+use shared_terms::Role;
 use std::process::Abort;
 use std::test::Fail;
 

@@ -10,8 +10,8 @@ use exact_decoder::Lost;
 use frame_check::{Check, SLOT};
 use lapm_frames::Sent;
 use noise_script::{Script, read_script};
-use roles::Role;
 use sample_line::{Heard, Line, laws};
+use shared_terms::Role;
 use std::alloc::Global;
 use std::test::Fail;
 

@@ -1,7 +1,6 @@
 // Scripts: their faults, offers, offsets, breaks and pauses.
-use causes::Cause;
 use noise_script::{Generators, Offset, SCRIPT_OCTETS, Script, ScriptFault, read_script};
-use roles::Role;
+use shared_terms::{Cause, Role};
 use std::alloc::Global;
 use std::process::Abort;
 use std::test::Fail;

@@ -3,8 +3,8 @@ use super::super::asking::{Ran, ask, says};
 use super::{FLAGS, HEAD, OCTETS, WORDS, points, recording};
 use modem_cli::Status;
 use outside_core::MemoryFolder;
-use roles::Role;
 use scramblers::Mode;
+use shared_terms::Role;
 use std::alloc::Global;
 use std::test::Fail;
 

@@ -1,7 +1,7 @@
 // Terms, and two ends.
 
 use crate::{exchange, terms_of};
-use roles::Both;
+use shared_terms::Both;
 use std::alloc::Global;
 use std::process::Abort;
 use std::test::Fail;

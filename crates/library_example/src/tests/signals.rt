@@ -1,8 +1,8 @@
 // Samples, bits and frames.
 
 use crate::{FrameEar, Quads, SampleEar};
-use roles::Role;
 use scramblers::Mode;
+use shared_terms::Role;
 use std::test::Fail;
 use symbol_map::Sample;
 

@@ -3,7 +3,7 @@ use super::end::Standing;
 use super::slot::{Kind, Says, Slot, Supervisory, offer};
 use frame_check::{Check, Info};
 use lapm_link::{Sent, Setup};
-use roles::Role;
+use shared_terms::Role;
 use std::alloc::Global;
 use std::test::Fail;
 

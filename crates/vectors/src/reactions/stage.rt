@@ -3,7 +3,7 @@ ghost use Rattle.lapm_link.specs.Fits.{IsSetUp};
 
 use super::slot::{Kind, Says, Slot, Supervisory, offer};
 use lapm_link::Setup;
-use roles::Role;
+use shared_terms::Role;
 
 /// A state of an end. Its file is one segment, where nothing else is said.
 #[derive(Clone, Copy)]

@@ -14,7 +14,7 @@ use frame_check::Info;
 use lapm_frames::{Frame, Seen};
 use lapm_link::{AnyEnd, Arrived, LinkFault, Phase, Sent, Setup};
 use outside_calls::NoMemory;
-use roles::Role;
+use shared_terms::Role;
 use std::alloc::Global;
 use std::test::Fail;
 

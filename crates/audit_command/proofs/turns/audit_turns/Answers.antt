@@ -4,7 +4,7 @@ use Rattle.outside_calls.proofs.Steps.{OnlyReads-refl, OnlyReads-trans, CountsSt
 use Rattle.line_run.specs.Names.{written}
 use Rattle.run_world.specs.World.{turn_of}
 use Rattle.run_world.proofs.Reached.{nearer}
-use Rattle.readable_runs.specs.Readable.{AsksInOctets}
+use Rattle.line_ends.specs.Readable.{AsksInOctets}
 use Rattle.audit_command.specs.Turns.{AreCompared}
 use Rattle.audit_command.proofs.Running.{compared-none}
 use Rattle.audit_command.proofs.turns.audit_turns.Goals as goal

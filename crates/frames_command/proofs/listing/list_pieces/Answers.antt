@@ -1,6 +1,6 @@
 use Rattle.outside_calls.specs.Folder.{FolderState}
 use Rattle.frames_command.specs.Words.{named}
-use Rattle.piece_listener.proofs.Hearing.{said-nothing}
+use Rattle.command_base.proofs.Hearing.{said-nothing}
 use Rattle.frames_command.proofs.Listed.{not-begun}
 use Rattle.frames_command.proofs.listing.list_pieces.Goals as goal
 

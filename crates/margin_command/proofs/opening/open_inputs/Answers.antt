@@ -6,7 +6,7 @@ use Rattle.command_base.specs.Inputs.{ReadTo}
 use Rattle.command_base.proofs.Reading.{ReadTo-none, within-earlier}
 use Rattle.recordings.specs.declared.rate.Rate.TheVariants as rates
 use Rattle.recordings.specs.Headers.{IsBadHeader}
-use Rattle.recording_inputs.proofs.HeaderRead.{header-octets}
+use Rattle.command_base.proofs.HeaderRead.{header-octets}
 use Rattle.margin_command.specs.Ends.EndsOwn.{is_other}
 use Rattle.margin_command.proofs.Looking.{rec-refused, file-refused}
 use Rattle.margin_command.specs.Words.{named}

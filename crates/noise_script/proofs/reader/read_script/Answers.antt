@@ -1,6 +1,6 @@
 use Rattle.std.proofs.Common.{◌≡◌, ◌⊎◌, inl, inr, ℕ, List, refl}
 use Rattle.std.proofs.lemmas.Result.{err_from_is_err_and}
-use Rattle.causes.specs.declared.cause.Cause.{Cause}
+use Rattle.shared_terms.specs.declared.cause.Cause.{Cause}
 use Rattle.noise_script.specs.declared.fault.ScriptFault.{ScriptFault}
 use Rattle.noise_script.specs.declared.fault.ScriptFault.TheVariants as faults
 use Rattle.noise_script.specs.Script.{ScriptValue}

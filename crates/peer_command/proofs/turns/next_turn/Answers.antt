@@ -2,7 +2,7 @@ use Rattle.std.proofs.Common.{◌≡◌, ◌∙◌, inl, inr, ℕ, ◌*◌, ◌<
 use Rattle.std.proofs.Common.{None, Result, Ok, Err}
 use Rattle.std.proofs.lemmas.List.{append-nil, length-take-le}
 use Rattle.outside_calls.specs.Folder.{FolderState, octets_at}
-use Rattle.roles.specs.declared.role.Role.{Role}
+use Rattle.shared_terms.specs.declared.role.Role.{Role}
 use Rattle.command_base.specs.declared.limits.TheConstants.{FILE_LIMIT}
 use Rattle.command_base.specs.Inputs.{ReadTo}
 use Rattle.command_base.specs.declared.stop.Stop.{Stop}

@@ -2,7 +2,7 @@ use Rattle.std.proofs.Common.{[], refl}
 use Rattle.outside_calls.specs.Folder.{FolderState}
 use Rattle.outside_calls.proofs.OnlyOutputs.{OnlyOutputs-reads}
 use Rattle.recordings.specs.declared.rate.Rate.TheVariants as rates
-use Rattle.recording_inputs.proofs.Behind.{behind-none}
+use Rattle.command_base.proofs.Behind.{behind-none}
 use Rattle.pickup_command.proofs.Playings.{plays-after}
 use Rattle.pickup_command.proofs.command.pick_up_samples.Goals as goal
 

@@ -9,8 +9,8 @@ use Rattle.outside_calls.proofs.OnlyOutputs.{OnlyOutputs-reads, OnlyOutputs-says
 use Rattle.recordings.specs.declared.rate.Rate.TheVariants as rates
 use Rattle.recordings.specs.Samples.{samples_in}
 use Rattle.recordings.proofs.Samples.{samples_in-append}
-use Rattle.recording_inputs.specs.Recordings.{ReadBehind}
-use Rattle.recording_inputs.proofs.Behind.{behind-kept, reads-first, reads-all}
+use Rattle.command_base.specs.Recordings.{ReadBehind}
+use Rattle.command_base.proofs.Behind.{behind-kept, reads-first, reads-all}
 use Rattle.pickup_command.specs.Ends.EndsOwn.{is_cut}
 use Rattle.pickup_command.specs.Playing.{Plays, StopsPlay}
 use Rattle.pickup_command.proofs.Playings.{plays-after, ready-later}

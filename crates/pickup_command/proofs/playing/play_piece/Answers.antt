@@ -6,7 +6,7 @@ use Rattle.command_base.specs.declared.limits.TheConstants.{RECORDING_LIMIT}
 use Rattle.command_base.proofs.Jobs.{stop-earlier}
 use Rattle.recordings.specs.Samples.{sample_at, samples_in}
 use Rattle.recordings.proofs.Samples.{samples_in-more, samples_in-all, samples_in-split}
-use Rattle.piece_listener.proofs.Hearing.{says-trans}
+use Rattle.command_base.proofs.Hearing.{says-trans}
 use Rattle.pickup_command.specs.Playing.{Plays, IsReady, StopsPlay}
 use Rattle.pickup_command.proofs.Playings.{ready-later, stops-longer}
 use Rattle.pickup_command.proofs.playing.play_piece.Goals as goal

@@ -1,7 +1,7 @@
 use Rattle.std.proofs.Common.{ℕ, ◌+◌, List, sym, subst, arith}
 use Rattle.outside_calls.specs.Folder.{FolderState}
 use Rattle.recordings.specs.declared.rate.Rate.TheVariants as rates
-use Rattle.recording_inputs.proofs.Behind.{reads-all}
+use Rattle.command_base.proofs.Behind.{reads-all}
 use Rattle.pickup_command.specs.Ends.{PicksUpAll}
 use Rattle.pickup_command.proofs.Parts.{all-by}
 use Rattle.pickup_command.proofs.playing.play_to_end.Goals as goal

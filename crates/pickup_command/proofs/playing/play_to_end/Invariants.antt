@@ -3,7 +3,7 @@ use Rattle.outside_calls.specs.Folder.{FolderState, CountsStand}
 use Rattle.command_base.specs.declared.limits.TheConstants.{RECORDING_LIMIT}
 use Rattle.outside_calls.specs.Outputs.{OnlyOutputs}
 use Rattle.recordings.specs.declared.header.TheConstants.{HEADER}
-use Rattle.recording_inputs.specs.declared.samples.TheConstants.{PIECE}
+use Rattle.command_base.specs.declared.samples.TheConstants.{PIECE}
 use Rattle.pickup_command.specs.Playing.{IsReady, PlayedTo}
 use Rattle.pickup_command.proofs.playing.play_to_end.Given as goal
 

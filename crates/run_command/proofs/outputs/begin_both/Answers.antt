@@ -1,7 +1,7 @@
 use Rattle.std.proofs.Common.{inr, ◌∙◌, [], Some, sym}
 use Rattle.outside_calls.specs.Folder.{FolderState}
 use Rattle.outside_calls.proofs.Holding.{Holds-kept}
-use Rattle.roles.specs.declared.role.Role.TheVariants.{Originator}
+use Rattle.shared_terms.specs.declared.role.Role.TheVariants.{Originator}
 use Rattle.run_world.proofs.Taping.{keeps-later}
 use Rattle.run_command.proofs.outputs.begin_both.Goals as goal
 

@@ -1,6 +1,6 @@
 use Rattle.std.proofs.Common.{List, ℕ, ◌∙◌, ap, subst}
 use Rattle.outside_calls.specs.Folder.{FolderState, Appended}
-use Rattle.roles.specs.Role.{mode_of}
+use Rattle.shared_terms.specs.Role.{mode_of}
 use Rattle.recordings.specs.Recording.{header_of}
 use Rattle.run_command.proofs.Heads.{begins, heads}
 use Rattle.run_command.proofs.outputs.begin_tape.Goals as goal

@@ -1,6 +1,6 @@
 use Rattle.std.proofs.Common.{inl, ◌∷◌, ◌∙◌, sym}
 use Rattle.outside_calls.specs.Folder.{FolderState}
-use Rattle.roles.specs.declared.role.Role.TheVariants.{Originator, Answerer}
+use Rattle.shared_terms.specs.declared.role.Role.TheVariants.{Originator, Answerer}
 use Rattle.line_run.specs.Scripted.{wire_of}
 use Rattle.run_world.specs.World.{script_of}
 use Rattle.run_world.proofs.Taping.{keeps-holds, keeps-later, both-take}

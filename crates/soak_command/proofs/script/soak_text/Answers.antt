@@ -1,6 +1,6 @@
 use Rattle.std.proofs.Common.{◌≡◌, ◌++◌, ◌∷◌, ◌∙◌, [], sym, ap, arith}
 use Rattle.std.specs.Prelude.{codes}
-use Rattle.roles.specs.declared.role.Role.TheVariants.{Originator, Answerer}
+use Rattle.shared_terms.specs.declared.role.Role.TheVariants.{Originator, Answerer}
 use Rattle.soak_command.specs.Soak.{role_in_turn}
 use Rattle.noise_script.specs.Noisy.{text_of}
 use Rattle.soak_command.specs.Text.{delay_line, noise_line, lose_line, soak_lines}

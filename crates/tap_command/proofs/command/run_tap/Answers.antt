@@ -4,7 +4,7 @@ use Rattle.outside_calls.specs.Outputs.{AreApartFrom}
 use Rattle.outside_calls.proofs.OnlyOutputs.{OnlyOutputs-trans}
 use Rattle.outside_calls.proofs.Putting.{OnlyOutputs-puts}
 use Rattle.command_base.proofs.Jobs.{stop-earlier}
-use Rattle.tap_turns.specs.Words.{TapNames, named, inputs_of, outputs_of}
+use Rattle.tap_command.specs.Names.{TapNames, named, inputs_of, outputs_of}
 use Rattle.tap_command.specs.declared.limits.TheConstants.{LIMITS}
 use Rattle.tap_command.proofs.Taps.{headers-later, ends-creating, ends-turns}
 use Rattle.tap_command.proofs.command.run_tap.Goals as goal

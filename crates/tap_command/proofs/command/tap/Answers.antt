@@ -1,5 +1,5 @@
 use Rattle.std.specs.Prelude.{map, string_bytes}
-use Rattle.tap_turns.specs.Words.{named}
+use Rattle.tap_command.specs.Names.{named}
 use Rattle.tap_command.proofs.command.tap.Goals as goal
 
 pub returns-clause-headline : goal.returns-clause-headline

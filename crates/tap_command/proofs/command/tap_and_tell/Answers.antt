@@ -2,7 +2,7 @@ use Rattle.std.proofs.Common.{◌∙◌, ℕ, List, Ok, Err, subst}
 use Rattle.outside_calls.specs.Folder.{FolderState}
 use Rattle.command_base.specs.declared.status.Status.TheVariants.{Done}
 use Rattle.command_base.specs.Tells.{Tells}
-use Rattle.tap_turns.specs.Words.{TapNames, named}
+use Rattle.tap_command.specs.Names.{TapNames, named}
 use Rattle.tap_command.proofs.Taps.{refused-by}
 use Rattle.tap_command.proofs.command.tap_and_tell.Goals as goal
 

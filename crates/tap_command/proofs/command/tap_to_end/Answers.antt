@@ -2,7 +2,7 @@ use Rattle.std.proofs.Common.{sym, subst}
 use Rattle.outside_calls.specs.Folder.{FolderState}
 use Rattle.outside_calls.proofs.OnlyOutputs.{OnlyOutputs-reads, OnlyOutputs-trans}
 use Rattle.command_base.proofs.Jobs.{end-earlier}
-use Rattle.tap_turns.specs.Words.{TapNames, named, inputs_of, outputs_of}
+use Rattle.tap_command.specs.Names.{TapNames, named, inputs_of, outputs_of}
 use Rattle.tap_command.specs.declared.limits.TheConstants.{LIMITS}
 use Rattle.tap_command.specs.Ends.{IsBegun}
 use Rattle.tap_command.proofs.Taps.{ends-refused}

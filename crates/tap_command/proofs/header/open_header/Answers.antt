@@ -2,7 +2,7 @@ use Rattle.std.proofs.Common.{◌≡◌, ℕ, ◌+◌, List, [], length, take, a
 use Rattle.outside_calls.specs.Folder.{FolderState}
 use Rattle.recordings.specs.Recording.{header_of}
 use Rattle.command_base.specs.Inputs.{ReadTo}
-use Rattle.tap_turns.specs.declared.limits.TheConstants.{TAP_LIMIT}
+use Rattle.tap_command.specs.declared.limits.TheConstants.{TAP_LIMIT}
 use Rattle.tap_command.specs.Headers.{IsNotHeader}
 use Rattle.tap_command.proofs.HeaderRead.{header-octets}
 use Rattle.tap_command.proofs.header.open_header.Goals as goal

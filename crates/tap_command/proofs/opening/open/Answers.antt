@@ -4,8 +4,8 @@ use Rattle.outside_calls.specs.Folder.{FolderState, OnlyReads}
 use Rattle.outside_calls.proofs.Steps.{OnlyReads-trans, CountsStand-trans}
 use Rattle.command_base.proofs.Jobs.{stop-earlier}
 use Rattle.command_base.proofs.Reading.{ReadTo-none, ReadTo-kept}
-use Rattle.tap_turns.specs.declared.limits.TheConstants.{TAP_LIMIT}
-use Rattle.tap_turns.specs.Words.{TapNames, named, inputs_of}
+use Rattle.tap_command.specs.declared.limits.TheConstants.{TAP_LIMIT}
+use Rattle.tap_command.specs.Names.{TapNames, named, inputs_of}
 use Rattle.tap_command.specs.declared.limits.TheConstants.{LIMITS}
 use Rattle.tap_command.proofs.HeaderRead.{both-read, header-read, orig-refused, answ-refused, stop-widened}
 use Rattle.tap_command.proofs.opening.open.Goals as goal

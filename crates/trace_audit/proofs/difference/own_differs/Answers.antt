@@ -1,6 +1,6 @@
 use Rattle.std.proofs.Common.{refl, sym, rules}
 use denote.Enum.Bare.{same_true}
-use Rattle.roles.specs.contracts.role.Role.{the_type}
+use Rattle.shared_terms.specs.contracts.role.Role.{the_type}
 use Rattle.trace_audit.proofs.Windows.{unnot, differ, same-octets, given-differs}
 use Rattle.trace_audit.proofs.difference.own_differs.Goals as goal
 

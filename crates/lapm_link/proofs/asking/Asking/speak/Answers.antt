@@ -2,7 +2,7 @@ use Rattle.std.proofs.Common.{◌≡◌, List, ℕ, true, false, Result, Ok, Err
 use Rattle.lapm_frames.specs.declared.frame.Frame.TheVariants.{Xid}
 use Rattle.xid_params.specs.Offers.{written}
 use Rattle.lapm_frames.specs.declared.sent.Sent.{Sent}
-use Rattle.causes.specs.declared.fault.LinkFault.{LinkFault}
+use Rattle.shared_terms.specs.declared.fault.LinkFault.{LinkFault}
 use Rattle.lapm_link.specs.declared.attempt.Attempt.{Attempt}
 use Rattle.lapm_link.specs.declared.asking.Asking.{Asking}
 use Rattle.lapm_link.specs.declared.any_end.AnyEnd.{AnyEnd}

@@ -1,7 +1,7 @@
 use Rattle.std.proofs.Common.{◌≡◌, sym, ap, subst, ◌∙◌, true}
 use Rattle.link_account.specs.declared.phase.Phase.TheVariants as phases
 use Rattle.link_account.specs.declared.setup.Setup.{Setup}
-use Rattle.roles.specs.Role.{is_originator}
+use Rattle.shared_terms.specs.Role.{is_originator}
 use Rattle.link_account.specs.Hear.{trying}
 use Rattle.link_account.specs.Speak.{speak_in}
 use Rattle.lapm_link.specs.Stands.{Speaks}

@@ -5,9 +5,9 @@ use Rattle.lapm_sender.specs.Outgoing as outgoing
 use Rattle.lapm_receiver.specs.Taking.{Taking, StandsIn}
 use Rattle.lapm_receiver.specs.Incoming as incoming
 use Rattle.link_account.specs.declared.setup.Setup.{Setup}
-use Rattle.roles.specs.Role.{other}
+use Rattle.shared_terms.specs.Role.{other}
 use Rattle.link_account.specs.Account.{size_for, window_for}
-use Rattle.roles.specs.Role.{is_originator}
+use Rattle.shared_terms.specs.Role.{is_originator}
 use Rattle.lapm_link.proofs.unlinked.Unlinked.connect.Goals as goal
 
 -- a sender that has begun by these terms

@@ -1,5 +1,5 @@
 use Rattle.std.proofs.Common.{refl, subst}
-use Rattle.roles.specs.Both.{of}
+use Rattle.shared_terms.specs.Both.{of}
 use Rattle.line_run.specs.Sampled.{EndsLineBy}
 use Rattle.line_run.specs.Scripted.{wire_at}
 use Rattle.shared_line.specs.Lines.{end_of}

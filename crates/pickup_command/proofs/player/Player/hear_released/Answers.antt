@@ -2,7 +2,7 @@ use Rattle.std.proofs.Common.{◌∙◌, ◌++◌, List, drop, ap, arith, ℕ}
 use Rattle.outside_calls.specs.Folder.{FolderState}
 use Rattle.outside_calls.proofs.Steps.{CountsStand-trans}
 use Rattle.line_coding.specs.MiddleReading.{bits_of_taken}
-use Rattle.piece_listener.proofs.Hearing.{says-trans}
+use Rattle.command_base.proofs.Hearing.{says-trans}
 use Rattle.pickup_command.proofs.Playings.{plays-taken, says-some}
 use Rattle.pickup_command.proofs.player.Player.hear_released.Goals as goal
 

@@ -1,5 +1,5 @@
 use Rattle.std.proofs.Common.{◌≡◌, Bool, ap, subst, ◌∙◌}
-use Rattle.roles.specs.declared.role.Role.TheVariants.{Originator, Answerer}
+use Rattle.shared_terms.specs.declared.role.Role.TheVariants.{Originator, Answerer}
 use Rattle.link_account.specs.Account.{after_busy}
 use Rattle.link_run.specs.End.{asked, is_busy, is_released}
 use Rattle.line_run.specs.Scripted.{breaks_of, busy_of}

@@ -1,6 +1,6 @@
 use Rattle.std.proofs.Common.{refl, subst, None}
 use Rattle.outside_calls.specs.Folder.{Appended, PartlyAppended}
-use Rattle.roles.specs.declared.role.Role.TheVariants.{Originator, Answerer}
+use Rattle.shared_terms.specs.declared.role.Role.TheVariants.{Originator, Answerer}
 use Rattle.link_run.specs.Outcomes.{Done}
 use Rattle.line_run.specs.Names.{written}
 use Rattle.run_world.specs.Mid.{turn_in}

@@ -1,6 +1,6 @@
 use Rattle.std.proofs.Common.{◌≡◌, ◌+◌, length, refl, sym, ◌∙◌, ap, subst, Some, None}
 use Rattle.outside_calls.specs.Folder.{Appended, PartlyAppended}
-use Rattle.roles.specs.declared.role.Role.TheVariants.{Originator, Answerer}
+use Rattle.shared_terms.specs.declared.role.Role.TheVariants.{Originator, Answerer}
 use Rattle.noise_script.specs.Script.{ScriptValue, IsInLimits}
 use Rattle.line_run.specs.Scripted.{link_of, longest_of, slot_symbols}
 use Rattle.shared_line.specs.Lines.{ArePut}

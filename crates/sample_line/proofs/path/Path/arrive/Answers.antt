@@ -1,7 +1,7 @@
 use Rattle.std.proofs.Common.{◌++◌, ◌∷◌, [], sym, subst}
 use Rattle.plain_lists.specs.Bits.{low_bits}
-use Rattle.roles.specs.declared.role.Role.{Role}
-use Rattle.roles.specs.Role.{mode_of}
+use Rattle.shared_terms.specs.declared.role.Role.{Role}
+use Rattle.shared_terms.specs.Role.{mode_of}
 use Rattle.sample_line.specs.Hears.{HearsSample}
 use Rattle.sample_line.proofs.Arriving.{arrived}
 use Rattle.sample_line.proofs.path.Path.arrive.Goals as goal

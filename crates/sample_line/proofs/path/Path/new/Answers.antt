@@ -1,6 +1,6 @@
 use Rattle.std.proofs.Common.{◌∙◌, [], subst, sym, ap}
 use Rattle.scramblers.specs.declared.mode.Mode.{Mode}
-use Rattle.roles.specs.Role.{mode_of}
+use Rattle.shared_terms.specs.Role.{mode_of}
 use Rattle.sample_line.specs.Hears.{Hears}
 use Rattle.sample_line.proofs.path.Path.new.Goals as goal
 

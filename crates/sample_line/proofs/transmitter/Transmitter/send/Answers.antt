@@ -1,6 +1,6 @@
 use Rattle.std.proofs.Common.{◌∙◌, [], ◌∷◌, ◌++◌, ap, arith, length-append}
 use Rattle.sample_line.specs.Recorded.{displaced, displaced_from}
-use Rattle.roles.specs.Role.{mode_of}
+use Rattle.shared_terms.specs.Role.{mode_of}
 use Rattle.sample_line.proofs.Standing.{displaced-behind}
 use Rattle.sample_line.proofs.transmitter.Transmitter.send.Goals as goal
 

@@ -1,5 +1,5 @@
 use Rattle.std.proofs.Common.{subst, Ok, Err}
-use Rattle.roles.specs.declared.role.Role.TheVariants.{Originator, Answerer}
+use Rattle.shared_terms.specs.declared.role.Role.TheVariants.{Originator, Answerer}
 use Rattle.lapm_frames.specs.declared.heard.Heard.{Heard}
 use Rattle.line_run.specs.Sampled.{IsHeardOf}
 use Rattle.shared_line.proofs.Waiting.{role-hears, late-of, stands-of, hears-both}

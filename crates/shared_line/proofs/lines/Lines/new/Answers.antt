@@ -1,6 +1,6 @@
 use Rattle.std.proofs.Common.{◌*◌, sym, ◌∙◌, ap}
 use Rattle.line_run.specs.Scripted.{wire_at}
-use Rattle.roles.specs.declared.role.Role.TheVariants.{Originator, Answerer}
+use Rattle.shared_terms.specs.declared.role.Role.TheVariants.{Originator, Answerer}
 use Rattle.shared_line.proofs.Waiting.{waits-first, waits-none}
 use Rattle.shared_line.proofs.lines.Lines.new.Goals as goal
 

@@ -1,7 +1,7 @@
 use Rattle.std.proofs.Common.{◌≡◌, sym, subst, option_copied}
 use Rattle.std.specs.Option.{option_map}
 use Rattle.circular_buffer.specs.Buffer.{last_item}
-use Rattle.roles.specs.declared.role.Role.{Role}
+use Rattle.shared_terms.specs.declared.role.Role.{Role}
 use Rattle.shared_line.specs.declared.slot.Slot.{Slot}
 use Rattle.shared_line.specs.Lines.{from}
 use Rattle.shared_line.proofs.Waiting.{newest-at}

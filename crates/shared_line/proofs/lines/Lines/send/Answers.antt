@@ -1,4 +1,4 @@
-use Rattle.roles.specs.declared.role.Role.TheVariants.{Originator, Answerer}
+use Rattle.shared_terms.specs.declared.role.Role.TheVariants.{Originator, Answerer}
 use Rattle.shared_line.proofs.Waiting.{room-of, sends-behind, waits-both}
 use Rattle.shared_line.proofs.lines.Lines.send.Goals as goal
 

@@ -1,3 +1,0 @@
-pub mod Timer
-pub mod Cause
-pub mod AuditCause

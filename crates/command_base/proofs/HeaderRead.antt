@@ -1,0 +1,31 @@
+-- What is read of a recording to open it.
+use Rattle.std.proofs.Common.{◌≡◌, ◌∙◌, inl, inr, ℕ, ◌+◌, ◌≤◌, ◌<◌, List, IsTrue, length, take, sym, ap, arith}
+use Rattle.std.proofs.lemmas.List.{take_all}
+use Rattle.std.proofs.lemmas.Bool.{cases_lt}
+use Rattle.outside_calls.specs.Folder.{FolderState, octets_at}
+use Rattle.recordings.specs.declared.rate.Rate.{Rate}
+use Rattle.command_base.specs.declared.limits.TheConstants.{RECORDING_LIMIT}
+use Rattle.command_base.specs.declared.stop.Stop.{Stop}
+use Rattle.command_base.specs.declared.stop.Stop.TheVariants.{Own, Read, Write, Say, NoMemory}
+use Rattle.command_base.specs.Inputs.{IsNotWithin, ReadTo}
+use Rattle.command_base.specs.Recordings.{IsNotOpened}
+
+-- the octets that a header is read from
+pub header-octets : (start new : FolderState) (name : List ℕ) (count : ℕ) (piece : List ℕ) → count ≤ 8
+    → ReadTo start new name RECORDING_LIMIT (0 + count) piece →
+    (count < 8 → IsTrue (start.tells name) → piece ≡ octets_at start name) → IsTrue (start.tells name)
+    → piece ≡ take 8 (octets_at start name)
+header-octets start new name count piece few r all told = elim (cases_lt count 8) [
+  | inl short ↦ all short told ∙ sym
+      (take_all 8 (octets_at start name) (omega (arith, short, r.count, ap (λ (xs : List ℕ). length xs) (all short told))))
+  | inr long ↦ let is : 0 + count ≡ 8 = omega (arith, few, long) in r.front told ∙ ap (λ m. take m (octets_at start name)) is
+]
+
+-- the recording is too long, or no octet was read at its limit
+pub not-within : (old new : FolderState) (name : List ℕ) (rate : Rate) (word : ℕ) (stop : Stop)
+    → IsNotWithin old new name RECORDING_LIMIT word stop → IsNotOpened old new name rate word stop
+not-within old new name rate word (Own answer) long = (inl (long.0, long.1), long.2)
+not-within old new name rate word (Read fault) fails = fails
+not-within old new name rate word (Write fault) never = never
+not-within old new name rate word (Say fault) never = never
+not-within old new name rate word NoMemory never = never

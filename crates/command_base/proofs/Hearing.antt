@@ -1,0 +1,224 @@
+-- What a listener heard, one more step at a time.
+use Rattle.std.proofs.Common.{◌≡◌, ◌∙◌, ℕ, ◌+◌, ◌/◌, ◌%◌, ◌^◌, ◌<◌, Bool, false, List, [], ◌∷◌, ◌++◌, length, take, drop, get_or, Result}
+use Rattle.std.proofs.Common.{Ok}
+use Rattle.std.proofs.Common.{Err, OnOk, nat_eq, bit_and, Option, Some, None, refl, sym, ap, subst, arith, append-nil, append_assoc}
+use Rattle.std.proofs.Common.{length-append}
+use Rattle.std.specs.Option.{option_map, option_map_or}
+use Rattle.std.proofs.lemmas.List.{take_more, take-append-drop}
+use Rattle.std.proofs.lemmas.Nat.{and_mask}
+use Rattle.outside_calls.specs.Folder.{FolderState, OnlyReads, OnlySays, Said, PartlySaid}
+use Rattle.outside_calls.proofs.Steps.{GoesOn-trans, KeepsName-trans}
+use Rattle.plain_lists.specs.Bits.{low_bits, octet_bits, bits_of}
+use Rattle.frame_check.proofs.BitLists.{length-low_bits, get_or-low_bits, bits_of-snoc, bits_of-append}
+use Rattle.bit_stuffing.specs.declared.piece.Piece.{Piece}
+use Rattle.bit_stuffing.specs.Found.{Found, found_at, pieces_of, listed, answer_of, lent_of}
+use Rattle.bit_stuffing.specs.Deframer.{DeframerStands}
+use Rattle.bit_stuffing.proofs.Found.{pieces-none, pieces-more}
+use Rattle.shared_terms.specs.declared.role.Role.{Role}
+use Rattle.command_base.proofs.Saying.{Said-Said, Said-PartlySaid}
+use Rattle.command_base.specs.Readings.{IsLine, AreLines}
+use Rattle.command_base.specs.Heard.{Listening, Heard, PartlyHeard, LeftAt}
+use Rattle.command_base.proofs.PieceLines.{AreLines-more}
+
+-- what is found at the last of the bits, where a piece is answered there
+pub record FoundThere (bits : List Bool) (piece : Piece) : Type 0 where
+  pub found : Found
+  pub found_is : found_at bits ≡ Some found
+  pub piece_is : found.piece ≡ piece
+  pub octets_are : found.octets ≡ lent_of bits
+
+pub found-there : (bits : List Bool) (piece : Piece) → Some piece ≡ answer_of bits → FoundThere bits piece
+found-there bits piece e = go (found_at bits) refl
+  where
+    go : (o : Option Found) → found_at bits ≡ o → FoundThere bits piece
+    go None q = absurd (none (e ∙ ap (option_map (λ found. found.piece)) q))
+      where
+        none : Some piece ≡ None → ⊥
+        none h = cc
+    go (Some found) q = record {
+      found = found;
+      found_is = q;
+      piece_is = same (sym (e ∙ ap (option_map (λ found. found.piece)) q));
+      octets_are = sym (ap (λ o. option_map_or (λ found. found.octets) o []) q);
+    }
+      where
+        same : Some found.piece ≡ Some piece → found.piece ≡ piece
+        same h = cc
+
+nothing-there : (bits : List Bool) → None ≡ answer_of bits → found_at bits ≡ None
+nothing-there bits e = go (found_at bits) refl
+  where
+    go : (o : Option Found) → found_at bits ≡ o → found_at bits ≡ None
+    go None q = q
+    go (Some found) q = absurd (some (e ∙ ap (option_map (λ found. found.piece)) q))
+      where
+        some : None ≡ Some found.piece → ⊥
+        some h = cc
+
+-- before the first bit
+pub heard-nothing : (start : FolderState) (l : Listening) → DeframerStands l.deframer [] → l.pieces ≡ 0 → Said start start []
+    → Heard start start l []
+heard-nothing start l stands none said = record {
+  stands = stands;
+  lines = [];
+  are_lines = subst (λ pieces. AreLines l.sender pieces []) (sym pieces-none) refl;
+  said = said;
+  count = none ∙ sym (ap length pieces-none);
+}
+
+-- a bit at which no piece ends
+pub heard-none : (start now : FolderState) (l next : Listening) (bits : List Bool) (bit : Bool) → Heard start now l bits
+    → None ≡ answer_of (bits ++ bit ∷ []) → DeframerStands next.deframer (bits ++ bit ∷ []) →
+    next.sender ≡ l.sender → next.pieces ≡ l.pieces → Heard start now next (bits ++ bit ∷ [])
+heard-none start now l next bits bit h none stands sender pieces = record {
+  stands = stands;
+  lines = h.lines;
+  are_lines = subst (λ (p : Role × List Found). AreLines p.0 p.1 h.lines) (λ i. (sym sender i, sym same i)) h.are_lines;
+  said = h.said;
+  count = pieces ∙ h.count ∙ sym (ap length same);
+}
+  where
+    same : pieces_of (bits ++ bit ∷ []) ≡ pieces_of bits
+    same = pieces-more bits bit ∙ ap (λ o. pieces_of bits ++ listed o) (nothing-there (bits ++ bit ∷ []) none) ∙ append-nil (pieces_of bits)
+
+-- four bits have no part in the higher ones
+pub low-four : (octet : ℕ) → low_bits 4 (octet % 16) ≡ low_bits 4 octet
+low-four octet =
+    let e0 : octet % 16 % 2 ≡ octet % 2 = omega arith in
+    let e1 : octet % 16 / 2 % 2 ≡ octet / 2 % 2 = omega arith in
+    let e2 : octet % 16 / 2 / 2 % 2 ≡ octet / 2 / 2 % 2 = omega arith in
+    let e3 : octet % 16 / 2 / 2 / 2 % 2 ≡ octet / 2 / 2 / 2 % 2 = omega arith in
+    rw (e0, e1, e2, e3) refl
+
+-- more bits with which no piece ends
+pub heard-quiet : (start now : FolderState) (l next : Listening) (bits later : List Bool) → Heard start now l bits
+    → DeframerStands next.deframer later → pieces_of later ≡ pieces_of bits → next.sender ≡ l.sender → next.pieces ≡ l.pieces
+    → Heard start now next later
+heard-quiet start now l next bits later h stands same sender pieces = record {
+  stands = stands;
+  lines = h.lines;
+  are_lines = subst (λ (p : Role × List Found). AreLines p.0 p.1 h.lines) (λ i. (sym sender i, sym same i)) h.are_lines;
+  said = h.said;
+  count = pieces ∙ h.count ∙ sym (ap length same);
+}
+
+piece-more : (bits : List Bool) (bit : Bool) (piece : Piece) (f : FoundThere (bits ++ bit ∷ []) piece)
+    → pieces_of (bits ++ bit ∷ []) ≡ pieces_of bits ++ f.found ∷ []
+piece-more bits bit piece f = pieces-more bits bit ∙ ap (λ o. pieces_of bits ++ listed o) f.found_is
+
+lines-more : (start now : FolderState) (l : Listening) (bits : List Bool) (bit : Bool) (piece : Piece) (line : List ℕ)
+    (h : Heard start now l bits) (f : FoundThere (bits ++ bit ∷ []) piece) → IsLine l.sender f.found line →
+    AreLines l.sender (pieces_of (bits ++ bit ∷ [])) (h.lines ++ line)
+lines-more start now l bits bit piece line h f is =
+    subst (λ (pieces : List Found). AreLines l.sender pieces (h.lines ++ line)) (sym (piece-more bits bit piece f))
+    (AreLines-more l.sender (pieces_of bits) f.found h.lines line h.are_lines is)
+
+-- a bit at which a piece ends, whose line was said
+pub heard-some : (start now new : FolderState) (l next : Listening) (bits : List Bool) (bit : Bool) (piece : Piece) (line : List ℕ)
+    → Heard start now l bits → (f : FoundThere (bits ++ bit ∷ []) piece) →
+    IsLine l.sender f.found line → DeframerStands next.deframer (bits ++ bit ∷ []) → next.sender ≡ l.sender → next.pieces ≡ l.pieces + 1
+    → Said now new line → Heard start new next (bits ++ bit ∷ [])
+heard-some start now new l next bits bit piece line h f is stands sender pieces said = record {
+  stands = stands;
+  lines = h.lines ++ line;
+  are_lines = subst (λ (role : Role). AreLines role (pieces_of (bits ++ bit ∷ [])) (h.lines ++ line)) (sym sender)
+      (lines-more start now l bits bit piece line h f is);
+  said = Said-Said start now new h.lines line h.said said;
+  count = pieces ∙ ap (λ n. n + 1) h.count ∙ sym (length-append (pieces_of bits) (f.found ∷ []))
+      ∙ sym (ap length (piece-more bits bit piece f));
+}
+
+-- and where the say failed: the listener stands for all of these bits
+pub left-some : (start now new : FolderState) (l next : Listening) (bits : List Bool) (bit : Bool) (piece : Piece) (line : List ℕ)
+    → Heard start now l bits → (f : FoundThere (bits ++ bit ∷ []) piece) →
+    IsLine l.sender f.found line → DeframerStands next.deframer (bits ++ bit ∷ []) → next.sender ≡ l.sender → next.pieces ≡ l.pieces + 1
+    → PartlySaid now new line → LeftAt start new next (bits ++ bit ∷ [])
+left-some start now new l next bits bit piece line h f is stands sender pieces said = record {
+  part = record {
+    heard = bits ++ bit ∷ [];
+    rest = [];
+    bits_are = sym (append-nil (bits ++ bit ∷ []));
+    lines = h.lines ++ line;
+    are_lines = subst (λ (role : Role). AreLines role (pieces_of (bits ++ bit ∷ [])) (h.lines ++ line)) (sym sender)
+        (lines-more start now l bits bit piece line h f is);
+    said = Said-PartlySaid start now new h.lines line h.said said;
+  };
+  stands = stands;
+  count = pieces ∙ ap (λ n. n + 1) h.count ∙ sym (length-append (pieces_of bits) (f.found ∷ []))
+      ∙ sym (ap length (piece-more bits bit piece f));
+}
+
+-- of more bits too some were heard
+pub partly-longer : (start now : FolderState) (sender : Role) (bits more all : List Bool) → bits ++ more ≡ all
+    → PartlyHeard start now sender bits → PartlyHeard start now sender all
+partly-longer start now sender bits more all e h = record {
+  heard = h.heard;
+  rest = h.rest ++ more;
+  bits_are = sym e ∙ ap (λ xs. xs ++ more) h.bits_are ∙ append_assoc h.heard h.rest more;
+  lines = h.lines;
+  are_lines = h.are_lines;
+  said = h.said;
+}
+
+-- a fault leaves the listener at some of more bits too
+pub left-longer : (start now : FolderState) (l : Listening) (bits more all : List Bool) → bits ++ more ≡ all → LeftAt start now l bits
+    → LeftAt start now l all
+unfolding partly-longer
+left-longer start now l bits more all e h =
+    record { part = partly-longer start now l.sender bits more all e h.part; stands = h.stands; count = h.count }
+
+-- the low bits of an octet up to a place, and one more
+pub bit-more : (bits : List Bool) (n count i : ℕ) → i < count
+    → (bits ++ take i (low_bits count n)) ++ nat_eq (bit_and (n / 2 ^ i) 1) 1 ∷ [] ≡ bits ++ take (i + 1) (low_bits count n)
+bit-more bits n count i h =
+    let within : i < length (low_bits count n) = omega (arith, h, length-low_bits count n) in
+    let bit : get_or (low_bits count n) i false ≡ nat_eq (bit_and (n / 2 ^ i) 1) 1 =
+    get_or-low_bits count n i false h ∙ ap (λ x. nat_eq x 1) (sym (and_mask (n / 2 ^ i) 1)) in
+    append_assoc bits (take i (low_bits count n)) (nat_eq (bit_and (n / 2 ^ i) 1) 1 ∷ [])
+    ∙ ap (λ xs. bits ++ xs) (sym (take_more (low_bits count n) i false within ∙ ap (λ b. take i (low_bits count n) ++ b ∷ []) bit))
+
+pub bits-left : (bits more : List Bool) (i : ℕ) → (bits ++ take i more) ++ drop i more ≡ bits ++ more
+bits-left bits more i = append_assoc bits (take i more) (drop i more) ∙ ap (λ xs. bits ++ xs) (take-append-drop i more)
+
+-- the octets up to a place, and one more
+pub octet-more : (bits : List Bool) (octets : List ℕ) (i : ℕ) → i < length octets
+    → (bits ++ bits_of (take i octets)) ++ octet_bits (get_or octets i 0) ≡ bits ++ bits_of (take (i + 1) octets)
+octet-more bits octets i h =
+    append_assoc bits (bits_of (take i octets)) (octet_bits (get_or octets i 0))
+    ∙ ap (λ xs. bits ++ xs) (sym (bits_of-snoc (take i octets) (get_or octets i 0)) ∙ sym (ap bits_of (take_more octets i 0 h)))
+
+pub octets-left : (bits : List Bool) (octets : List ℕ) (i : ℕ)
+    → (bits ++ bits_of (take i octets)) ++ bits_of (drop i octets) ≡ bits ++ bits_of octets
+octets-left bits octets i =
+    append_assoc bits (bits_of (take i octets)) (bits_of (drop i octets))
+    ∙ ap (λ xs. bits ++ xs) (sym (bits_of-append (take i octets) (drop i octets)) ∙ ap bits_of (take-append-drop i octets))
+
+pub says-trans : (a b c : FolderState) → OnlySays a b → OnlySays b c → OnlySays a c
+says-trans a b c p q = record {
+  goes_on = GoesOn-trans p.goes_on q.goes_on;
+  names = λ name. KeepsName-trans a b c name p.goes_on (p.names name) (q.names name);
+  read_faults = λ name. q.read_faults name ∙ p.read_faults name;
+}
+
+-- nothing more is said
+pub said-nothing : (f : FolderState) → Said f f []
+said-nothing f = go f.said
+  where
+    go : (said : Option (List ℕ)) → said ≡ option_map (λ s. s ++ []) said
+    go None = refl
+    go (Some s) = ap Some (sym (append-nil s))
+
+-- a read leaves what was said
+pub said-after : (start old mid : FolderState) (lines : List ℕ) → OnlyReads old mid → Said start old lines → Said start mid lines
+said-after start old mid lines r said = r.said ∙ said
+
+pub heard-after : (start old mid : FolderState) (l : Listening) (bits : List Bool) → OnlyReads old mid → Heard start old l bits
+    → Heard start mid l bits
+heard-after start old mid l bits reads h =
+    record {
+      stands = h.stands;
+      lines = h.lines;
+      are_lines = h.are_lines;
+      said = said-after start old mid h.lines reads h.said;
+      count = h.count;
+    }

@@ -1,0 +1,205 @@
+// A listener to a stream of bits, who says what each piece is.
+ghost use Rattle.std.specs.Prelude.{◌≡◌, ◌≤◌, ◌<◌, ◌+◌, ◌*◌, ◌^◌, ℕ, Bool, true, false, List, [], ◌∷◌, ◌++◌, OnOk, OnErr, IfErr, length};
+ghost use Rattle.outside_calls.specs.Folder.{FolderState, OnlySays, CountsStand};
+ghost use Rattle.plain_lists.specs.Bits.{low_bits, bits_of};
+ghost use Rattle.command_base.specs.Stops.{SayFails};
+ghost use Rattle.bit_stuffing.specs.Found.{Found};
+ghost use Rattle.command_base.specs.Heard.{Heard, PartlyHeard, LeftAt, SaysPiece, PartlySaysPiece};
+
+use crate::piece_lines::{PieceLine, put_piece};
+use crate::say_line;
+use bit_stuffing::{Deframer, Piece};
+use outside_calls::{Folder, FolderFault};
+use shared_terms::Role;
+use std::marker::Model;
+
+/// Hears the stream of one end, bit by bit, and says a line for each piece.
+pub struct Listener {
+    /// Holds the piece that has begun.
+    deframer: Deframer,
+    /// The end that sent the stream.
+    sender: Role,
+    /// How many were said.
+    pieces: u64,
+}
+
+impl Drop for Listener {
+    // for the prover: so it is dropped by a call, and its fields are not dropped anew wherever one is.
+    fn drop(self) {
+        let Listener {
+            deframer: _,
+            sender: _,
+            pieces: _,
+        } = self;
+    }
+}
+
+impl Model for Listener {
+    ghost use Rattle.command_base.specs.Heard.{Listening};
+
+    ghost Value = { Listening };
+
+    ghost view = { λ l. record { deframer = l.deframer; sender = l.sender; pieces = l.pieces } };
+}
+
+/// Says the line of a piece, of these octets where it is whole. It isn't inlined, so that no bit without a piece pays for its room.
+#[inline(never)]
+fn say_piece<F: Folder>(
+    folder: &mut F,
+    piece: Piece,
+    octets: &[u8],
+    sender: Role,
+) -> Result<(), FolderFault>
+    ensures ok { (found : Found) → found.piece ≡ piece → found.octets ≡ octets.now
+        → OnOk result (SaysPiece (F.state folder.old) (F.state folder.new) sender found) }
+    ensures err { (found : Found) → found.piece ≡ piece → found.octets ≡ octets.now
+        → OnErr result (PartlySaysPiece (F.state folder.old) (F.state folder.new) sender found) }
+    ensures only { OnlySays (F.state folder.old) (F.state folder.new) }
+    ensures fails { IfErr result (SayFails (F.state folder.old) (F.state folder.new)) }
+    ensures stand { OnOk result (CountsStand (F.state folder.old) (F.state folder.new)) }
+{
+    let mut line = PieceLine::new();
+    put_piece(piece, octets, sender, &mut line);
+    say_line(folder, line.as_slice())
+}
+
+impl Listener {
+    /// A listener before the first bit.
+    pub fn new(sender: Role) -> Listener
+        ensures heard { (start : FolderState) → Heard start start result [] }
+        ensures sender { result.sender ≡ sender }
+        ensures pieces { result.pieces ≡ 0 }
+    {
+        Listener {
+            deframer: Deframer::new(),
+            sender,
+            pieces: 0,
+        }
+    }
+
+    /// How many pieces were heard.
+    pub fn pieces(&self) -> u64
+        ensures { result ≡ self.now.pieces }
+    {
+        self.pieces
+    }
+
+    /// Hears a bit, and says the line of the piece that ends with it, if one does.
+    fn hear_bit<F: Folder>(&mut self, folder: &mut F, bit: bool) -> Result<(), FolderFault>
+        requires { self.old.pieces < 2 ^ 63 }
+        ensures ok { (start : FolderState) (bits : List Bool) → Heard start (F.state folder.old) self.old bits
+            → OnOk result (Heard start (F.state folder.new) self.new (bits ++ bit ∷ [])) }
+        ensures left { (start : FolderState) (bits : List Bool) → Heard start (F.state folder.old) self.old bits
+            → OnErr result (LeftAt start (F.state folder.new) self.new (bits ++ bit ∷ [])) }
+        ensures only { OnlySays (F.state folder.old) (F.state folder.new) }
+        ensures fails { IfErr result (SayFails (F.state folder.old) (F.state folder.new)) }
+        ensures stand { OnOk result (CountsStand (F.state folder.old) (F.state folder.new)) }
+        ensures sender { self.new.sender ≡ self.old.sender }
+        ensures pieces { self.new.pieces ≤ self.old.pieces + 1 }
+    {
+        match self.deframer.push(bit) {
+            None => Ok(()),
+            Some(piece) => {
+                self.pieces += 1;
+                say_piece(folder, piece, self.deframer.whole(), self.sender)
+            }
+        }
+    }
+
+    /// Hears the low bits of an octet, so many, the lowest one first.
+    pub fn hear_low<F: Folder>(
+        &mut self,
+        folder: &mut F,
+        octet: u8,
+        count: u32,
+    ) -> Result<(), FolderFault>
+        requires pieces { self.old.pieces < 2 ^ 62 }
+        requires few { count ≤ 8 }
+        ensures ok { (start : FolderState) (bits : List Bool) → Heard start (F.state folder.old) self.old bits
+            → OnOk result (Heard start (F.state folder.new) self.new (bits ++ low_bits count octet)) }
+        ensures err { (start : FolderState) (bits : List Bool) → Heard start (F.state folder.old) self.old bits
+            → OnErr result (PartlyHeard start (F.state folder.new) self.old.sender (bits ++ low_bits count octet)) }
+        ensures left { (start : FolderState) (bits : List Bool) → Heard start (F.state folder.old) self.old bits
+            → OnErr result (LeftAt start (F.state folder.new) self.new (bits ++ low_bits count octet)) }
+        ensures only { OnlySays (F.state folder.old) (F.state folder.new) }
+        ensures fails { IfErr result (SayFails (F.state folder.old) (F.state folder.new)) }
+        ensures stand { OnOk result (CountsStand (F.state folder.old) (F.state folder.new)) }
+        ensures sender { self.new.sender ≡ self.old.sender }
+        ensures pieces { self.new.pieces ≤ self.old.pieces + count }
+    {
+        if self.pass_low(octet, count) {
+            return Ok(());
+        }
+        self.hear_each(folder, octet, count)
+    }
+
+    /// Hears the low bits of an octet, so many, one by one.
+    fn hear_each<F: Folder>(
+        &mut self,
+        folder: &mut F,
+        octet: u8,
+        count: u32,
+    ) -> Result<(), FolderFault>
+        requires pieces { self.old.pieces < 2 ^ 62 }
+        requires few { count ≤ 8 }
+        ensures ok { (start : FolderState) (bits : List Bool) → Heard start (F.state folder.old) self.old bits
+            → OnOk result (Heard start (F.state folder.new) self.new (bits ++ low_bits count octet)) }
+        ensures err { (start : FolderState) (bits : List Bool) → Heard start (F.state folder.old) self.old bits
+            → OnErr result (PartlyHeard start (F.state folder.new) self.old.sender (bits ++ low_bits count octet)) }
+        ensures left { (start : FolderState) (bits : List Bool) → Heard start (F.state folder.old) self.old bits
+            → OnErr result (LeftAt start (F.state folder.new) self.new (bits ++ low_bits count octet)) }
+        ensures only { OnlySays (F.state folder.old) (F.state folder.new) }
+        ensures fails { IfErr result (SayFails (F.state folder.old) (F.state folder.new)) }
+        ensures stand { OnOk result (CountsStand (F.state folder.old) (F.state folder.new)) }
+        ensures sender { self.new.sender ≡ self.old.sender }
+        ensures pieces { self.new.pieces ≤ self.old.pieces + count }
+    {
+        for place in 0..count {
+            match self.hear_bit(folder, (octet >> place) & 1 == 1) {
+                Ok(()) => {}
+                Err(fault) => return Err(fault),
+            }
+        }
+        Ok(())
+    }
+
+    /// Hears the low bits of an octet where it is plain that no piece ends with any of them: whether it did.
+    fn pass_low(&mut self, octet: u8, count: u32) -> bool
+        ensures heard { result ≡ true → (start now : FolderState) (bits : List Bool) → Heard start now self.old bits
+            → Heard start now self.new (bits ++ low_bits count octet) }
+        ensures stays { result ≡ false → self.new ≡ self.old }
+        ensures sender { self.new.sender ≡ self.old.sender }
+        ensures pieces { self.new.pieces ≡ self.old.pieces }
+    {
+        match count {
+            8 => self.deframer.pass(octet),
+            4 => self.deframer.pass_four(octet % 16),
+            _ => false,
+        }
+    }
+
+    /// Hears the bits of octets.
+    pub fn hear<F: Folder>(&mut self, folder: &mut F, octets: &[u8]) -> Result<(), FolderFault>
+        requires pieces { self.old.pieces < 2 ^ 60 }
+        requires few { length octets.now < 2 ^ 32 }
+        ensures ok { (start : FolderState) (bits : List Bool) → Heard start (F.state folder.old) self.old bits
+            → OnOk result (Heard start (F.state folder.new) self.new (bits ++ bits_of octets.now)) }
+        ensures err { (start : FolderState) (bits : List Bool) → Heard start (F.state folder.old) self.old bits
+            → OnErr result (PartlyHeard start (F.state folder.new) self.old.sender (bits ++ bits_of octets.now)) }
+        ensures left { (start : FolderState) (bits : List Bool) → Heard start (F.state folder.old) self.old bits
+            → OnErr result (LeftAt start (F.state folder.new) self.new (bits ++ bits_of octets.now)) }
+        ensures only { OnlySays (F.state folder.old) (F.state folder.new) }
+        ensures fails { IfErr result (SayFails (F.state folder.old) (F.state folder.new)) }
+        ensures stand { OnOk result (CountsStand (F.state folder.old) (F.state folder.new)) }
+        ensures sender { self.new.sender ≡ self.old.sender }
+        ensures pieces { self.new.pieces ≤ self.old.pieces + 8 * length octets.now }
+    {
+        for octet in octets {
+            match self.hear_low(folder, *octet, 8) {
+                Ok(()) => {}
+                Err(fault) => return Err(fault),
+            }
+        }
+        Ok(())
+    }
+}

@@ -1,9 +1,0 @@
-use Rattle.std.proofs.Common.{sym, subst}
-use Rattle.exact_decoder.specs.Laws.{IsOnlyLeast}
-use Rattle.decoder_laws.specs.Noiseless.{v32_from}
-use Rattle.decoder_laws.proofs.Followed.{only-least}
-use Rattle.decoder_laws.proofs.noiseless.only_the_sent_labels_are_least.Goals as goal
-
-pub returns : goal.returns
-returns c = λ start labels samples h. subst (λ k. IsOnlyLeast (v32_from start) k labels) (sym h.exact)
-    (only-least start h.end labels h.leads)

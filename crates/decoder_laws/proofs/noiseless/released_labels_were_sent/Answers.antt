@@ -1,5 +1,0 @@
-use Rattle.decoder_laws.proofs.Followed.{released-sent_at}
-use Rattle.decoder_laws.proofs.noiseless.released_labels_were_sent.Goals as goal
-
-pub returns : goal.returns
-returns c = released-sent_at

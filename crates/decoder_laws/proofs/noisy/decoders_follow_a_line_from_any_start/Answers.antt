@@ -1,5 +1,0 @@
-use Rattle.decoder_laws.proofs.Near.{decodes-near_any}
-use Rattle.decoder_laws.proofs.noisy.decoders_follow_a_line_from_any_start.Goals as goal
-
-pub returns : goal.returns
-returns c = decodes-near_any

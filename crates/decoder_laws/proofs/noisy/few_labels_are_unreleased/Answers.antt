@@ -1,5 +1,0 @@
-use Rattle.decoder_laws.proofs.Near.{few-unreleased, never-lost}
-use Rattle.decoder_laws.proofs.noisy.few_labels_are_unreleased.Goals as goal
-
-pub returns : goal.returns
-returns c = record { few = few-unreleased; never_lost = never-lost }

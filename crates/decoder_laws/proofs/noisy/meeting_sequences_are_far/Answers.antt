@@ -1,5 +1,0 @@
-use Rattle.decoder_laws.proofs.Distances.{meeting-is-far, meeting-again_is-far}
-use Rattle.decoder_laws.proofs.noisy.meeting_sequences_are_far.Goals as goal
-
-pub returns : goal.returns
-returns c = record { from_two = meeting-is-far; from_one = meeting-again_is-far }

@@ -1,5 +1,0 @@
-use Rattle.decoder_laws.proofs.Distances.{apart-is-far, parting-is-far}
-use Rattle.decoder_laws.proofs.noisy.parted_sequences_are_far.Goals as goal
-
-pub returns : goal.returns
-returns c = record { apart = apart-is-far; parting = parting-is-far }

@@ -1,7 +1,0 @@
-use Rattle.decoder_laws.proofs.Turning.{samples_come_back}
-use Rattle.decoder_laws.proofs.Lists.{labels_come_back}
-use Rattle.decoder_laws.proofs.Least.{states_come_back}
-use Rattle.decoder_laws.proofs.quarter_turns.four_turns_give_back.Goals as goal
-
-pub returns : goal.returns
-returns c = record { samples = samples_come_back; labels = labels_come_back; states = states_come_back }

@@ -1,0 +1,147 @@
+-- What an end is handed by its user are octets, and so is what it then holds.
+use Rattle.std.proofs.Common.{◌≡◌, ℕ, zero, suc, ◌*◌, ◌<◌, ◌≤◌, Bool, true, false, cond, nat_le, List, [], ◌∷◌, ◌++◌, length, drop, All}
+use Rattle.std.proofs.Common.{slice_get, arith, refl, subst, Option, Some, None}
+use Rattle.std.proofs.lemmas.List.{length-take}
+use Rattle.std.proofs.lemmas.List.Elements.{All-head, All-tail, All-push}
+use Rattle.plain_lists.specs.Octets.{AreOctets}
+use Rattle.break_signals.specs.Breaks.{OwnBreaks, takes_break, after_ask}
+use Rattle.link_account.specs.Account.{Account, is_connected, wants, piece_size, after_given, after_busy, after_break_asked}
+use Rattle.link_run.specs.End.{User, BreakLine, delivered, piece_at, offered_at, offered_times, room_for, offered, is_busy, next_break}
+use Rattle.link_run.specs.End.{asked_at, asked, served}
+use Rattle.link_run.specs.Reading.{IsOffered, OffersWhatIsRead, OwnSegmentsStay}
+use Rattle.line_ends.proofs.ReadWords.{Owes}
+use Rattle.line_ends.proofs.ReadSaying.{IsReady}
+
+-- the length of a break is an octet
+abbrev pub IsOctetBreak : BreakLine → Type 0
+IsOctetBreak line = line.length_octet < 256
+
+-- a user's file and the breaks that it asks for
+pub record HasOctets (user : User) : Type 0 where
+  pub breaks : All IsOctetBreak user.breaks
+
+-- An end was offered its user's file up to some place, and holds octets besides.
+pub record Holds (file : List ℕ) (a : Account) : Type 0 where
+  pub offered : IsOffered file a
+  pub own : AreOctets a.own_breaks.lengths
+  pub owes : Owes a
+
+abbrev Octet : ℕ → Type 0
+Octet octet = octet < 256
+
+-- so it is ready to speak
+pub ready : (file : List ℕ) (a : Account) → Holds file a → IsReady a
+ready file a h = record {
+  own = h.own;
+  owes = h.owes;
+}
+
+pub record OfferLaws : Type 0 where
+  pub next : OffersWhatIsRead
+  pub own : OwnSegmentsStay
+
+holds-delivered : (file : List ℕ) (a : Account) → Holds file a → Holds file (after_given (delivered a))
+holds-delivered file a h = go (is_connected a.phase)
+  where
+    go : (b : Bool) → Holds file (after_given (cond b (record a { incoming = record a.incoming { given = length a.incoming.taken } }) a))
+    go true = record {
+      offered = record {
+        allowed = h.offered.allowed;
+        terms = h.offered.terms;
+        size = h.offered.size;
+        cut = h.offered.cut;
+      };
+      own = h.own;
+      owes = h.owes;
+    }
+    go false = record {
+      offered = record {
+        allowed = h.offered.allowed;
+        terms = h.offered.terms;
+        size = h.offered.size;
+        cut = h.offered.cut;
+      };
+      own = h.own;
+      owes = h.owes;
+    }
+
+offers-at : OfferLaws → (file : List ℕ) (a : Account) (w : Option ℕ) → wants a ≡ w → Holds file a → Holds file (offered_at file a w)
+offers-at laws file a None e h = h
+offers-at laws file a (Some n) e h =
+    let piece : List ℕ = piece_at (piece_size a) file n in
+    let few : length piece ≤ piece_size a = omega (arith, length-take (piece_size a) (drop (piece_size a * n) file)) in
+    let x = laws.next file a n piece h.offered e few in
+    record {
+      offered = subst (λ f. IsOffered f (offered_at file a (Some n))) (laws.own (piece_size a) n file) x.offered;
+      own = h.own;
+      owes = h.owes;
+    }
+
+offers-times : OfferLaws → (n : ℕ) (file : List ℕ) (a : Account) → Holds file a → Holds file (offered_times n file a)
+offers-times laws zero file a h = h
+offers-times laws (suc n) file a h = offers-times laws n file (offered_at file a (wants a)) (offers-at laws file a (wants a) refl h)
+
+holds-busy : (file : List ℕ) (busy : Bool) (a : Account) → Holds file a → Holds file (after_busy busy a)
+holds-busy file busy a h = go (is_connected a.phase)
+  where
+    go : (c : Bool) → Holds file (cond c (record a { owes = record a.owes { busy = busy } }) a)
+    go true = record {
+      offered = record {
+        allowed = h.offered.allowed;
+        terms = h.offered.terms;
+        size = h.offered.size;
+        cut = h.offered.cut;
+      };
+      own = h.own;
+      owes = h.owes;
+    }
+    go false = h
+
+more-breaks : (turn l : ℕ) (b : OwnBreaks) → l < 256 → AreOctets b.lengths → AreOctets (after_ask turn l b).lengths
+more-breaks turn l b s h = go (takes_break turn b)
+  where
+    go : (t : Bool) → AreOctets (cond t (record b { lengths = b.lengths ++ l ∷ []; brk = true; set = turn; count = 0 }) b).lengths
+    go true = All-push Octet b.lengths l h s
+    go false = h
+
+asks : (file : List ℕ) (turn l : ℕ) (a : Account) → l < 256 → Holds file a → Holds file (after_break_asked turn l a)
+asks file turn l a s h = go (is_connected a.phase)
+  where
+    go : (c : Bool) → Holds file (cond c (record a { own_breaks = after_ask turn l a.own_breaks }) a)
+    go true = record {
+      offered = record { allowed = h.offered.allowed; terms = h.offered.terms; size = h.offered.size; cut = h.offered.cut };
+      own = more-breaks turn l a.own_breaks s h.own;
+      owes = h.owes;
+    }
+    go false = h
+
+-- the break at an index
+abbrev IfBreak : Option BreakLine → Type 0
+IfBreak None = Unit {0}
+IfBreak (Some b) = IsOctetBreak b
+
+break-at : (breaks : List BreakLine) (n : ℕ) → All IsOctetBreak breaks → IfBreak (slice_get breaks n)
+break-at [] n h = tt
+break-at (b ∷ breaks) zero h = All-head IsOctetBreak b breaks h
+break-at (b ∷ breaks) (suc n) h = break-at breaks n (All-tail IsOctetBreak b breaks h)
+
+asks-at : (file : List ℕ) (turn : ℕ) (o : Option BreakLine) (a : Account) → IfBreak o → Holds file a → Holds file (asked_at turn o a)
+asks-at file turn None a s h = h
+asks-at file turn (Some b) a s h = go (nat_le b.turn turn)
+  where
+    go : (c : Bool) → Holds file (cond c (after_break_asked turn b.length_octet a) a)
+    go true = asks file turn b.length_octet a s h
+    go false = h
+
+holds-asked : (file : List ℕ) (turn : ℕ) (released : Bool) (breaks : List BreakLine) (a : Account) → All IsOctetBreak breaks → Holds file a
+    → Holds file (asked turn released breaks a)
+holds-asked file turn true breaks a s h = h
+holds-asked file turn false breaks a s h = asks-at file turn (next_break breaks a) a (break-at breaks (length a.own_breaks.lengths) s) h
+
+pub holds-served : OfferLaws → (user : User) (turn : ℕ) (released : Bool) (a : Account) → HasOctets user → Holds user.file a
+    → Holds user.file (served user turn released a).account
+holds-served laws user turn released a o h =
+    let given = after_given (delivered a) in
+    let pieces = offers-times laws (room_for given) user.file given (holds-delivered user.file a h) in
+    holds-asked user.file turn released user.breaks (after_busy (is_busy turn user.busy) (offered user.file given)) o.breaks
+    (holds-busy user.file (is_busy turn user.busy) (offered user.file given) pieces)

@@ -1,0 +1,224 @@
+-- What an end says consists of octets and of numbers below 128, where its segments and the breaks that it asks for consist of octets.
+use Rattle.std.proofs.Common.{◌≡◌, ℕ, zero, suc, ◌+◌, ◌*◌, ◌%◌, ◌<◌, ◌&&◌, Bool, true, false, cond, nat_eq, nat_le, List, [], ◌∷◌}
+use Rattle.std.proofs.Common.{slice_index_or, arith, subst, Option, Some, None, Result, Ok, Err}
+use Rattle.std.proofs.lemmas.List.Elements.{All-nil, All-cons, All-head, All-tail}
+use Rattle.plain_lists.specs.Octets.{AreOctets}
+use Rattle.shared_terms.specs.declared.role.Role.{Role}
+use Rattle.shared_terms.specs.declared.role.Role.TheVariants.{Originator, Answerer}
+use Rattle.shared_terms.specs.Role.{is_originator}
+use Rattle.lapm_frames.specs.declared.frame.Frame.{Frame}
+use Rattle.lapm_frames.specs.declared.frame.Frame.TheVariants.{Sabme, Disc, Xid}
+use Rattle.xid_params.specs.Offers.{written}
+use Rattle.lapm_receiver.specs.Incoming.{asks}
+use Rattle.break_signals.specs.declared.word.BreakWord.{BreakWord}
+use Rattle.break_signals.specs.declared.word.BreakWord.TheVariants.{Brk}
+use Rattle.break_signals.specs.Breaks.{OwnBreaks, waits, own_due}
+use Rattle.lapm_frames.specs.declared.sent.Sent.TheVariants as slots
+use Rattle.link_account.specs.declared.phase.Phase.{Phase}
+use Rattle.link_account.specs.declared.phase.Phase.TheVariants.{Detecting, Negotiating, Establishing, Connected, Releasing, Closed}
+use Rattle.shared_terms.specs.declared.fault.LinkFault.{LinkFault}
+use Rattle.shared_terms.specs.declared.fault.LinkFault.TheVariants.{NotDetected}
+use Rattle.link_account.specs.declared.answer.Answer.{Answer}
+use Rattle.link_account.specs.declared.answer.Answer.TheVariants as answers
+use Rattle.link_account.specs.Account.{Account}
+use Rattle.link_account.specs.Hear.{trying}
+use Rattle.link_account.specs.Speak.{Said, says, says_segment, says_own, says_break, says_asking, where_says, else_says, answering}
+use Rattle.link_account.specs.Speak.{may_send, step1, step2, step3, step4, step5, step6, step7, step8, steps, speak, speak_in}
+use Rattle.link_account.specs.Speak.{speak_detecting, speak_negotiating, speak_releasing, speak_linked, speak_answer, u_try, tries_frame}
+use Rattle.link_account.specs.Speak.{trying_again, spent, on_timer, timer_expires, polling, on_break_timer, breaking, then_tries}
+use Rattle.link_account.specs.Speak.{after_timers, tells, ready_frame, nr_of, has_news}
+use Rattle.line_ends.specs.Readable.{IsPlain, IsPlainSent}
+use Rattle.line_ends.proofs.ReadWords.{OfOctets, Owes}
+
+abbrev Octet : ℕ → Type 0
+Octet octet = octet < 256
+
+pub octet-at : (xs : List ℕ) (i : ℕ) → AreOctets xs → slice_index_or xs i 0 < 256
+octet-at [] i h = omega arith
+octet-at (x ∷ xs) zero h = All-head Octet x xs h
+octet-at (x ∷ xs) (suc i) h = octet-at xs i (All-tail Octet x xs h)
+
+pub with-octet : (x : ℕ) (xs : List ℕ) → x < 256 → AreOctets xs → AreOctets (x ∷ xs)
+with-octet x xs l h = All-cons Octet x xs l h
+
+-- what an end holds
+pub record IsReady (a : Account) : Type 0 where
+  pub own : AreOctets a.own_breaks.lengths
+  pub owes : Owes a
+
+-- what it says, and then owes
+pub record IsGood (said : Said) : Type 0 where
+  pub sent : IsPlainSent said.sent
+  pub owes : Owes said.account
+
+abbrev AllGood : Option Said → Type 0
+AllGood None = Unit {0}
+AllGood (Some said) = IsGood said
+
+else-says : (o : Option Said) (said : Said) → AllGood o → IsGood said → IsGood (else_says o said)
+else-says None said h k = k
+else-says (Some first) said h k = h
+
+where-says : (b : Bool) (said : Said) → IsGood said → AllGood (where_says b said)
+where-says true said h = h
+where-says false said h = tt
+
+-- the answer that is due
+due : (o : Option Answer) (a : Account) → IsReady a → AllGood (answering o a)
+due None a h = tt
+due (Some answers.Adp) a h = record { sent = tt; owes = h.owes }
+due (Some answers.Xid) a h = record { sent = record { ns = tt; nr = tt; octets = tt }; owes = h.owes }
+due (Some (answers.Ua pf)) a h = record { sent = record { ns = tt; nr = tt; octets = tt }; owes = h.owes }
+due (Some (answers.Dm pf)) a h = record { sent = record { ns = tt; nr = tt; octets = tt }; owes = h.owes }
+
+segment : (turn : ℕ) (o : Option ℕ) (a : Account) → IsReady a → AllGood (says_segment turn o a)
+segment turn None a h = tt
+segment turn (Some i) a h = record {
+  sent = record { ns = omega arith; nr = omega arith; octets = tt };
+  owes = h.owes;
+}
+
+own-break : (o : Option BreakWord) (a : Account) → OfOctets o → Owes a → AllGood (says_own o a)
+own-break None a w h = tt
+own-break (Some word) a w h = record { sent = record { ns = tt; nr = tt; octets = w }; owes = h }
+
+own-octets : (b : OwnBreaks) → AreOctets b.lengths → OfOctets (own_due b)
+own-octets b h = go b.brk
+  where
+    go : (brk : Bool) → OfOctets (cond brk (Some (Brk (b.answered % 2) (slice_index_or b.lengths b.answered 0))) None)
+    go true =
+        with-octet 64 (b.answered % 2 ∷ slice_index_or b.lengths b.answered 0 ∷ []) (omega arith)
+        (with-octet (b.answered % 2) (slice_index_or b.lengths b.answered 0 ∷ []) (omega arith)
+        (with-octet (slice_index_or b.lengths b.answered 0) [] (octet-at b.lengths b.answered h) (All-nil Octet)))
+    go false = tt
+
+words : (o : Option BreakWord) (a : Account) → OfOctets o → IsReady a → AllGood (says_break o a)
+words None a w h = own-break (own_due a.own_breaks) a (own-octets a.own_breaks h.own) h.owes
+words (Some word) a w h = record { sent = record { ns = tt; nr = tt; octets = w }; owes = (tt, h.owes.1) }
+
+-- RR or RNR
+told : (command pf : Bool) (a : Account) → Owes a → IsGood (tells command pf a)
+told command pf a h = record { sent = go a.owes.busy; owes = h }
+  where
+    go : (busy : Bool) → IsPlain (ready_frame busy command (nr_of a) pf)
+    go true = record { ns = tt; nr = omega arith; octets = tt }
+    go false = record { ns = tt; nr = omega arith; octets = tt }
+
+asking : (srej special : Bool) (o : Option ℕ) (a : Account) → Owes a → AllGood (says_asking srej special o a)
+asking false special None a h = tt
+asking true special None a h = tt
+asking false special (Some i) a h = record { sent = record { ns = tt; nr = omega arith; octets = tt }; owes = h }
+asking true true (Some i) a h = tt
+asking true false (Some i) a h = record { sent = record { ns = tt; nr = omega arith; octets = tt }; owes = h }
+
+sixth : (special news busy : Bool) (a : Account) → Owes a
+    → AllGood (cond news (Some (tells false false a)) (cond busy None (says_asking a.incoming.srej special (asks a.incoming) a)))
+sixth special true busy a h = told false false a h
+sixth special false true a h = tt
+sixth special false false a h = asking a.incoming.srej special (asks a.incoming) a h
+
+fifth : (special : Bool) (a : Account) → IsReady a → AllGood (step5 special a)
+fifth true a h = tt
+fifth false a h = words a.their_breaks.ack a h.owes.0 h
+
+fourth : (turn : ℕ) (urgent : Bool) (a : Account) → IsReady a → AllGood (cond urgent (says_segment turn (may_send a) a) None)
+fourth turn true a h = segment turn (may_send a) a h
+fourth turn false a h = tt
+
+all : (turn : ℕ) (special : Bool) (a : Account) → IsReady a → IsGood (steps turn special a)
+all turn special a h =
+    else-says (step1 a) _ (due a.owes.answer a h)
+    (else-says (step2 a) _ (where-says a.owes.reply _ (told false true (record a { owes = record a.owes { reply = false } }) h.owes))
+    (else-says (step3 a) _ (where-says a.wait.poll _ (told true true (record a { wait = record a.wait { poll = false } }) h.owes))
+    (else-says (step4 turn a) _ (fourth turn a.wait.urgent a h)
+    (else-says (step5 special a) _ (fifth special a h)
+    (else-says (step6 special a) _ (sixth special (has_news a) a.owes.busy a h.owes)
+    (else-says (step7 turn a) _ (segment turn (may_send a) a h)
+    (else-says (step8 a) _ (where-says a.incoming.owed _ (told false false a h.owes)) (record { sent = tt; owes = h.owes }))))))))
+
+-- timers change nothing of that
+abbrev IfReady : Result Account LinkFault → Type 0
+IfReady (Ok b) = IsReady b
+IfReady (Err fault) = Unit {0}
+
+timed : (turn : ℕ) (a : Account) → IsReady a → IfReady (on_timer turn a)
+timed turn a h = go (timer_expires turn a a.wait.timer) (nat_eq a.outgoing.count a.outgoing.tries)
+  where
+    go : (b c : Bool) → IfReady (cond b
+        (polling turn (cond c None (Some (record a.outgoing { count = a.outgoing.count + 1; awaited = true }))) a) (Ok a))
+    go true true = tt
+    go true false = record { own = h.own; owes = h.owes }
+    go false c = h
+
+broken : (turn : ℕ) (a : Account) → IsReady a → IfReady (on_break_timer turn a)
+broken turn a h = go (waits a.own_breaks && nat_eq turn (a.own_breaks.set + a.setup.period)) (nat_eq a.own_breaks.count a.setup.tries)
+  where
+    go : (b c : Bool) → IfReady (breaking turn
+        (cond b (cond c None (Some (record a.own_breaks { brk = true; set = turn; count = a.own_breaks.count + 1 }))) (Some a.own_breaks))
+        a)
+    go true true = tt
+    go true false = record { own = h.own; owes = h.owes }
+    go false c = record { own = h.own; owes = h.owes }
+
+both-timed : (turn : ℕ) (r : Result Account LinkFault) → IfReady r → IfReady (then_tries turn r)
+both-timed turn (Err fault) h = tt
+both-timed turn (Ok b) h = broken turn b h
+
+abbrev IfGood : Result Said LinkFault → Type 0
+IfGood (Ok said) = IsGood said
+IfGood (Err fault) = Unit {0}
+
+links : (turn : ℕ) (a : Account) → IsReady a → IfGood (speak_linked turn a)
+links turn a h = go (then_tries turn (on_timer turn a)) (both-timed turn (on_timer turn a) (timed turn a h))
+  where
+    go : (r : Result Account LinkFault) → IfReady r → IfGood (after_timers turn a.special r)
+    go (Ok b) k = all turn a.special (record b { special = false })
+        (record { own = k.own; owes = k.owes })
+    go (Err fault) k = tt
+
+-- a U try
+u : (turn : ℕ) (frame : Frame) (a : Account) → IsPlain frame → Owes a → IfGood (u_try turn frame a)
+u turn frame a h k = go (nat_eq turn (a.wait.try_set + a.setup.period)) (nat_eq a.wait.try_count a.setup.tries)
+  where
+    tried : (b : Account) → Owes b → IsGood (tries_frame frame b)
+    tried b o = else-says (where_says b.wait.try _) _ (where-says b.wait.try _ (record { sent = h; owes = o }))
+        (record { sent = tt; owes = o })
+
+    go : (b e : Bool) → IfGood (cond b (cond e (Err (spent turn a)) (Ok (tries_frame frame (trying_again turn a))))
+        (Ok (tries_frame frame a)))
+    go true true = tt
+    go true false = tried (trying_again turn a) k
+    go false e = tried a k
+
+detects : (role : Role) (turn : ℕ) (a : Account) → IsReady a → IfGood (speak_detecting role turn a)
+detects Originator turn a h = go (nat_le ((a.setup.tries + 1) * a.setup.period) turn)
+  where
+    go : (b : Bool) → IfGood (cond b (Err NotDetected) (Ok (says slots.Odp a)))
+    go true = tt
+    go false = record { sent = tt; owes = h.owes }
+detects Answerer turn a h = else-says (answering a.owes.answer a) (says slots.Mark a) (due a.owes.answer a h)
+    (record { sent = tt; owes = h.owes })
+
+answers-due : (a : Account) → IsReady a → IfGood (speak_answer a)
+answers-due a h = else-says (answering a.owes.answer a) (says slots.Flags a) (due a.owes.answer a h) (record { sent = tt; owes = h.owes })
+
+negotiates : (role : Role) (turn : ℕ) (a : Account) → IsReady a → IfGood (speak_negotiating role turn a)
+negotiates Originator turn a h =
+    u turn (Xid true false (written a.setup.offer)) a (record { ns = tt; nr = tt; octets = tt }) h.owes
+negotiates Answerer turn a h = answers-due a h
+
+connects : (turn : ℕ) (b : Bool) (a : Account) → IsReady a
+    → IfGood (cond b (speak_releasing turn (trying Releasing turn a)) (speak_linked turn a))
+connects turn true a h = u turn (Disc true) (trying Releasing turn a) (record { ns = tt; nr = tt; octets = tt }) h.owes
+connects turn false a h = links turn a h
+
+in-phase : (p : Phase) (turn : ℕ) (release : Bool) (a : Account) → IsReady a → IfGood (speak_in p turn release a)
+in-phase Detecting turn release a h = detects a.setup.role turn a h
+in-phase Negotiating turn release a h = negotiates a.setup.role turn a h
+in-phase Establishing turn release a h = u turn (Sabme true) a (record { ns = tt; nr = tt; octets = tt }) h.owes
+in-phase Connected turn release a h = connects turn (release && is_originator a.setup.role) a h
+in-phase Releasing turn release a h = u turn (Disc true) a (record { ns = tt; nr = tt; octets = tt }) h.owes
+in-phase Closed turn release a h = answers-due a h
+
+pub said-good : (turn : ℕ) (release : Bool) (a : Account) (said : Said) → IsReady a → speak turn release a ≡ Ok said → IsGood said
+said-good turn release a said h e = subst IfGood e (in-phase a.phase turn release a h)

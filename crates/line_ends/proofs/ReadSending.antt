@@ -1,0 +1,235 @@
+-- Ends that are handed octets send what can be sent, all through a run.
+use Rattle.std.proofs.Common.{◌≡◌, ℕ, ◌<◌, ◌≤◌, false, List, [], ◌∷◌, All, length, filter, arith, refl, sym, ◌∙◌, ap, subst, Option, Some}
+use Rattle.std.proofs.Common.{None, Ok}
+use Rattle.std.proofs.lemmas.List.Elements.{All-nil, All-map, All-filter}
+use Rattle.frame_check.specs.declared.sizes.TheConstants.{INFO}
+use Rattle.plain_lists.specs.Octets.{AreOctets}
+use Rattle.shared_terms.specs.declared.role.Role.{Role}
+use Rattle.shared_terms.specs.declared.role.Role.TheVariants.{Originator, Answerer}
+use Rattle.shared_terms.specs.Role.{other, same_role}
+use Rattle.shared_terms.specs.Both.{Both, of}
+use Rattle.xid_params.specs.Offers.{IsAllowed}
+use Rattle.break_signals.specs.Words.{IsSpelledBack}
+use Rattle.lapm_frames.specs.declared.frame.Frame.{Frame}
+use Rattle.lapm_frames.specs.Frame.{information_of}
+use Rattle.lapm_frames.specs.declared.sent.Sent.{Sent}
+use Rattle.lapm_frames.specs.declared.sent.Sent.TheVariants as slots
+use Rattle.lapm_frames.specs.declared.heard.Heard.{Heard}
+use Rattle.lapm_frames.specs.declared.heard.Heard.TheVariants.{Nothing, Passed, Lost, Chance}
+use Rattle.noise_script.specs.declared.entry.Break.{Break}
+use Rattle.noise_script.specs.Script.{ScriptValue, IsInLimits, delay_of}
+use Rattle.link_account.specs.Speak.{Said}
+use Rattle.link_account.specs.Play.{arrives}
+use Rattle.link_run.specs.End.{is_released}
+use Rattle.link_run.specs.Run.{Link, Accounts, Spoken, Turn, start, arrival, Hears, served_at, said_at, releases, GoingTurn}
+use Rattle.link_run.specs.Carried.{sent_ago, Crosses, Carries}
+use Rattle.link_run.specs.Laws.{RunsOver, SendsShort}
+use Rattle.link_run.specs.Reading.{StaysOffered, BeginsUnoffered, HearingStaysOffered, SpeakingStaysOffered}
+use Rattle.line_run.specs.Sampled.{LineRun}
+use Rattle.line_run.specs.Scripted.{wire_of, link_of, break_line, breaks_of, ScriptsMayPlay, ScriptsHaveDelays}
+use Rattle.line_run.specs.LineLaws.{SamplesAreCarried, OneIsCarried}
+use Rattle.line_ends.specs.Readable.{IsPlainSent, AllPlain, AllShort, AsksInOctets}
+use Rattle.line_ends.proofs.Slots.{sent-ago}
+use Rattle.line_ends.proofs.ReadWords.{ArrivesInOctets, heard-owes}
+use Rattle.line_ends.proofs.ReadSaying.{IsGood, said-good}
+use Rattle.line_ends.proofs.ReadHanding.{IsOctetBreak, HasOctets, Holds, OfferLaws, ready, holds-served}
+
+pub record SendLaws : Type 0 where
+  pub play : ScriptsMayPlay
+  pub delays : ScriptsHaveDelays
+  pub carried : SamplesAreCarried
+  pub one : OneIsCarried
+  pub short : SendsShort
+  pub back : IsSpelledBack
+  pub begins : BeginsUnoffered
+  pub heard : HearingStaysOffered
+  pub spoken : SpeakingStaysOffered
+  pub offers : OfferLaws
+
+-- what a user hands over
+breaks-octets : (script : ScriptValue) (role : Role) → All (λ (b : Break). b.length < 256) script.breaks
+    → All IsOctetBreak (breaks_of script role)
+breaks-octets script role h =
+    let lines : List Break = filter (λ (b : Break). same_role b.role role) script.breaks in
+    All-map IsOctetBreak break_line lines
+    (All-filter (λ (b : Break). same_role b.role role) (λ (b : Break). b.length < 256) script.breaks h)
+
+user-octets : (script : ScriptValue) (files : Both (List ℕ)) → AsksInOctets script → (role : Role)
+    → HasOctets (of role (link_of script files)).user
+user-octets script files o Originator = record { breaks = breaks-octets script Originator o }
+user-octets script files o Answerer = record { breaks = breaks-octets script Answerer o }
+
+-- the offer that an end may send
+offers-allowed : ScriptsMayPlay → (script : ScriptValue) (files : Both (List ℕ)) → IsInLimits script → (role : Role)
+    → IsAllowed (of role (link_of script files)).setup.offer
+offers-allowed play script files h Originator = (play script files h).offer_o
+offers-allowed play script files h Answerer = (play script files h).offer_a
+
+-- what passes was sent
+passes-octets : (s : Sent) → IsPlainSent s → ArrivesInOctets (arrives s)
+passes-octets slots.Mark h = tt
+passes-octets slots.Odp h = tt
+passes-octets slots.Adp h = tt
+passes-octets slots.Flags h = tt
+passes-octets (slots.Frame frame) h = h.octets
+
+crosses-octets : (o : Option Spoken) (heard : Heard) → Crosses o heard → ((slot : Spoken) → o ≡ Some slot → IsPlainSent slot.sent)
+    → ArrivesInOctets (arrival heard)
+crosses-octets o Nothing c f = tt
+crosses-octets o (Lost s) c f = tt
+crosses-octets o Chance c f = tt
+crosses-octets None (Passed s) c f = absurd c
+crosses-octets (Some slot) (Passed s) c f = subst (λ z. ArrivesInOctets (arrives z)) (sym c.0) (passes-octets slot.sent (f slot refl))
+
+-- what an end says as a turn's end of it
+says-good : (link : Link) (turn : ℕ) (mid : Accounts) (role : Role) (said : Said) → said_at link turn mid role ≡ Ok said → (file : List ℕ)
+    → Holds file (served_at link turn mid role).account → IsGood said
+says-good link turn mid Originator said e file h =
+    said-good turn (releases link turn mid) (served_at link turn mid Originator).account said
+    (ready file (served_at link turn mid Originator).account h) e
+says-good link turn mid Answerer said e file h =
+    said-good turn false (served_at link turn mid Answerer).account said (ready file (served_at link turn mid Answerer).account h) e
+
+stays-offered : SpeakingStaysOffered → (link : Link) (turn : ℕ) (mid : Accounts) (role : Role) (said : Said)
+    → said_at link turn mid role ≡ Ok said → (file : List ℕ) → Holds file (served_at link turn mid role).account
+    → StaysOffered file (served_at link turn mid role).account said.account
+stays-offered law link turn mid Originator said e file h =
+    law file turn (releases link turn mid) (served_at link turn mid Originator).account said h.offered e
+stays-offered law link turn mid Answerer said e file h = law file turn false (served_at link turn mid Answerer).account said h.offered e
+
+says-holds : SpeakingStaysOffered → (link : Link) (turn : ℕ) (mid : Accounts) (role : Role) (said : Said) → said_at link turn mid role ≡ Ok said
+    → (file : List ℕ) → Holds file (served_at link turn mid role).account → Holds file said.account
+says-holds law link turn mid role said e file h =
+    let good : IsGood said = says-good link turn mid role said e file h in
+    let stays = stays-offered law link turn mid role said e file h in
+    record { offered = stays.offered; own = subst AreOctets (sym stays.breaks) h.own; owes = good.owes }
+
+-- a run and what its ends hold
+pub record HoldBoth (files : Role → List ℕ) (ts : List Turn) (ends : Accounts) : Type 0 where
+  pub sendable : AllPlain ts
+  pub short : AllShort ts
+  pub holds : (role : Role) → Holds (files role) (of role ends)
+
+-- what ends hold once they have heard
+pub mid-holds-at : SendLaws → (script : ScriptValue) (files : Both (List ℕ)) (ts : List Turn) (before : Accounts) (t : Turn) (mid : Accounts)
+    → IsInLimits script → Carries (delay_of script) ts t → Hears (length ts) before t mid
+    → HoldBoth (λ role. (of role (link_of script files)).user.file) ts before
+    → (role : Role) → Holds (of role (link_of script files)).user.file (of role mid)
+mid-holds-at laws script files ts before t mid h c hearing k role =
+    let b = k.holds role in
+    let hears = (hearing role).hears in
+    let file = (of role (link_of script files)).user.file in
+    let arrived : ArrivesInOctets (arrival (of role t).heard) =
+    crosses-octets (sent_ago (delay_of script (other role)) (other role) ts) (of role t).heard (c role)
+    (λ slot e. (sent-ago (other role) (delay_of script (other role)) ts slot (laws.delays script h (other role)) e).sendable k.sendable) in
+    let stays = laws.heard file (length ts) (arrival (of role t).heard) (of role before) (of role mid) b.offered hears in
+    record {
+      offered = stays.offered;
+      own = subst AreOctets (sym stays.breaks) b.own;
+      owes = heard-owes laws.back (length ts) (arrival (of role t).heard) (of role before) (of role mid) arrived b.owes hears;
+    }
+
+-- one turn more
+next-turn : SendLaws → (script : ScriptValue) (files : Both (List ℕ)) (ts : List Turn) (before : Accounts) (t : Turn) (after : Accounts)
+    → IsInLimits script → AsksInOctets script
+    → LineRun (wire_of script) (link_of script files) ts before → Carries (delay_of script) ts t
+    → GoingTurn (link_of script files) ts before t after
+    → HoldBoth (λ role. (of role (link_of script files)).user.file) ts before
+    → HoldBoth (λ role. (of role (link_of script files)).user.file) (t ∷ ts) after
+next-turn laws script files ts before t after h o r c g k =
+    record {
+      sendable = ((λ role slot e. sends role slot e), k.sendable);
+      short = ((λ role slot frame e f. few role slot frame e f), k.short);
+      holds = λ role. subst (Holds (file role)) (sym (g.speaking role).after_is) (after-holds role);
+    }
+  where
+    link : Link
+    link = link_of script files
+
+    turn : ℕ
+    turn = length ts
+
+    file : Role → List ℕ
+    file role = (of role link).user.file
+
+    octets : (role : Role) → HasOctets (of role link).user
+    octets role = user-octets script files o role
+
+    arrived : (role : Role) → ArrivesInOctets (arrival (of role t).heard)
+    arrived role =
+        crosses-octets (sent_ago (delay_of script (other role)) (other role) ts) (of role t).heard (c role)
+        (λ slot e. (sent-ago (other role) (delay_of script (other role)) ts slot (laws.delays script h (other role)) e).sendable k.sendable)
+
+    mid-holds : (role : Role) → Holds (file role) (of role g.mid)
+    mid-holds role =
+        let b = k.holds role in
+        let hears = (g.hearing role).hears in
+        let stays = laws.heard (file role) turn (arrival (of role t).heard) (of role before) (of role g.mid) b.offered hears in
+        record {
+          offered = stays.offered;
+          own = subst AreOctets (sym stays.breaks) b.own;
+          owes = heard-owes laws.back turn (arrival (of role t).heard) (of role before) (of role g.mid) (arrived role) b.owes hears;
+        }
+
+    served-holds : (role : Role) → Holds (file role) (served_at link turn g.mid role).account
+    served-holds role = holds-served laws.offers (of role link).user turn (is_released g.mid.orig.phase) (of role g.mid) (octets role)
+        (mid-holds role)
+
+    after-holds : (role : Role) → Holds (file role) (g.speaking role).said.account
+    after-holds role = says-holds laws.spoken link turn g.mid role (g.speaking role).said (g.speaking role).says (file role)
+        (served-holds role)
+
+    good : (role : Role) → IsGood (g.speaking role).said
+    good role = says-good link turn g.mid role (g.speaking role).said (g.speaking role).says (file role)
+        (served-holds role)
+
+    over : RunsOver link (delay_of script) ts before
+    over = record {
+      may_play = laws.play script files h;
+      delays = laws.delays script h;
+      carried = laws.carried (wire_of script) ts r.heard;
+      run = r.run;
+    }
+
+    few : (role : Role) (slot : Spoken) (frame : Frame) → (of role t).sent ≡ Some slot → slot.sent ≡ slots.Frame frame
+        → length (information_of frame) ≤ INFO
+    few role slot frame e f =
+        let allowed = offers-allowed laws.play script files h role in
+        omega (arith, laws.short link (delay_of script) ts before t after over c g role slot frame e f, allowed.tx_len_high)
+
+    sent-of : Spoken → Option Spoken → Sent
+    sent-of slot None = slot.sent
+    sent-of slot (Some z) = z.sent
+
+    sends : (role : Role) (slot : Spoken) → (of role t).sent ≡ Some slot → IsPlainSent slot.sent
+    sends role slot e =
+        let same : (g.speaking role).said.sent ≡ slot.sent = ap (sent-of slot) (sym (g.speaking role).sent_is ∙ e) in
+        subst IsPlainSent same (good role).sent
+
+pub holds-all : SendLaws → (script : ScriptValue) (files : Both (List ℕ)) (ts : List Turn) (ends : Accounts) → IsInLimits script
+    → AsksInOctets script
+    → LineRun (wire_of script) (link_of script files) ts ends → HoldBoth (λ role. (of role (link_of script files)).user.file) ts ends
+holds-all laws script files [] ends h o r =
+    record {
+      sendable = tt;
+      short = tt;
+      holds = λ role. subst (λ (e : Accounts). Holds (of role (link_of script files)).user.file (of role e)) (sym r.run) (begins role);
+    }
+  where
+    begins : (role : Role) → Holds (of role (link_of script files)).user.file (of role (start (link_of script files)))
+    begins Originator = record {
+      offered = laws.begins (link_of script files).orig.user.file (link_of script files).orig.setup
+          (offers-allowed laws.play script files h Originator);
+      own = All-nil (λ octet. octet < 256);
+      owes = (tt, All-nil (λ octet. octet < 256));
+    }
+    begins Answerer = record {
+      offered = laws.begins (link_of script files).answ.user.file (link_of script files).answ.setup
+          (offers-allowed laws.play script files h Answerer);
+      own = All-nil (λ octet. octet < 256);
+      owes = (tt, All-nil (λ octet. octet < 256));
+    }
+holds-all laws script files (t ∷ ts) ends h o r =
+    let before : LineRun (wire_of script) (link_of script files) ts r.run.0 = record { run = r.run.1; heard = r.heard.1 } in
+    next-turn laws script files ts r.run.0 t ends h o before (laws.one (wire_of script) ts t r.heard.0) r.run.2
+    (holds-all laws script files ts r.run.0 h o before)

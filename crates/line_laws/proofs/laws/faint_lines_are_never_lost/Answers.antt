@@ -1,7 +1,0 @@
-use Rattle.line_laws.specs.Faint.{IsFaintBefore}
-use Rattle.line_laws.proofs.Faint.{faint-followed, undisplaced-is-faint}
-use Rattle.line_laws.proofs.Heard.{never-lost-where}
-use Rattle.line_laws.proofs.laws.faint_lines_are_never_lost.Goals as goal
-
-pub returns : goal.returns
-returns c = record { undisplaced = undisplaced-is-faint; never = never-lost-where IsFaintBefore 504 faint-followed }

@@ -1,4 +1,0 @@
-pub mod Fitting
-pub mod Unhindered
-pub mod Faint
-pub mod Laws

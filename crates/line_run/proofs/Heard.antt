@@ -1,0 +1,64 @@
+-- What is heard of a line that a decoder follows.
+use Rattle.std.proofs.Common.{ℕ, ◌+◌, ◌*◌, ◌<◌, length, arith}
+use Rattle.shared_terms.specs.declared.role.Role.{Role}
+use Rattle.noise_script.specs.Script.{ScriptValue}
+use Rattle.sample_line.specs.Line.{sender_of}
+use Rattle.line_run.specs.Laws.{NeverLostWhere, ReceivedIsSentWhere, SentIsReceivedWhere, HeardIsSentWhere, PassesUnhinderedWhere}
+use Rattle.line_run.specs.Unhindered.{DisplacesNoneBefore}
+use Rattle.line_run.specs.Faint.{IsFaintBefore}
+use Rattle.line_run.proofs.Patterns.{AreSeen}
+use Rattle.line_run.proofs.Settled.{LeavesTime}
+use Rattle.line_run.proofs.Following.{Follows, none-within}
+use Rattle.line_run.proofs.Undisplaced.{undisplaced-followed}
+use Rattle.line_run.proofs.Faint.{faint-followed}
+use Rattle.line_run.proofs.Received.{received-sent, sent-received, heard-sent, passes-sent}
+
+-- Where this holds a decoder follows with the lag, and slots of more symbols than so many leave the time for it.
+pub record IsFollowed (Holds : ScriptValue → Role → ℕ → Type 0) (most lag : ℕ) : Type 0 where
+  pub follows : (script : ScriptValue) (sender : Role) (count : ℕ) → Holds script sender count → Follows lag script sender count
+  pub time : (symbols : ℕ) → most < symbols → LeavesTime lag (4 * symbols)
+
+pub never-lost-where : (Holds : ScriptValue → Role → ℕ → Type 0) (lag : ℕ)
+    → ((script : ScriptValue) (sender : Role) (count : ℕ) → Holds script sender count → Follows lag script sender count)
+    → NeverLostWhere Holds
+never-lost-where Holds lag follows sender script count before bits symbol h few l =
+    none-within lag sender script count before bits symbol (follows script sender count h) few l
+
+pub received-where : (Holds : ScriptValue → Role → ℕ → Type 0) (most lag : ℕ) → IsFollowed Holds most lag → AreSeen
+    → ReceivedIsSentWhere Holds most
+received-where Holds most lag f laws script check hearing sender dlci symbols passed s before upto octets patterns h long fit is agree old
+    new r =
+    received-sent laws lag script check hearing sender dlci symbols passed s before upto octets patterns
+    (f.follows script sender (symbols * (length passed + 1)) h) (f.time symbols long) fit is agree old new r
+
+pub sent-where : (Holds : ScriptValue → Role → ℕ → Type 0) (most lag : ℕ) → IsFollowed Holds most lag → AreSeen
+    → SentIsReceivedWhere Holds most
+sent-where Holds most lag f laws script check hearing sender dlci symbols passed s before upto h long fit is agree old new =
+    sent-received laws lag script check hearing sender dlci symbols passed s before upto
+    (f.follows script sender (symbols * (length passed + 1)) h) (f.time symbols long) fit is agree old new
+
+pub heard-where : (Holds : ScriptValue → Role → ℕ → Type 0) (most lag : ℕ) → IsFollowed Holds most lag → AreSeen
+    → HeardIsSentWhere Holds most
+heard-where Holds most lag f laws line script passed waiting signal check hearing dlci loses s heard h long fit e is agree p =
+    heard-sent laws lag line script passed waiting signal check hearing dlci loses s heard
+    (f.follows script (sender_of line) (line.writer.symbols * (length passed + 1)) h) (f.time line.writer.symbols long) fit e is agree p
+
+pub passes-where : (Holds : ScriptValue → Role → ℕ → Type 0) (most lag : ℕ) → IsFollowed Holds most lag → AreSeen
+    → PassesUnhinderedWhere Holds most
+passes-where Holds most lag f laws line script passed waiting signal check hearing dlci loses s result h long fit e is agree p =
+    passes-sent laws lag line script passed waiting signal check hearing dlci loses s result
+    (f.follows script (sender_of line) (line.writer.symbols * (length passed + 1)) h) (f.time line.writer.symbols long) fit e is agree p
+
+-- where no symbol is displaced, and where noise is faint
+
+pub undisplaced : IsFollowed DisplacesNoneBefore 138 96
+undisplaced = record {
+  follows = undisplaced-followed;
+  time = λ symbols long. record { long = omega arith; frames = omega arith; patterns = omega arith };
+}
+
+pub faint : IsFollowed IsFaintBefore 215 504
+faint = record {
+  follows = faint-followed;
+  time = λ symbols long. record { long = omega arith; frames = omega arith; patterns = omega arith };
+}

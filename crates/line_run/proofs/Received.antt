@@ -1,0 +1,360 @@
+-- What is received in a slot is what was sent in it.
+use Rattle.std.proofs.Common.{◌≡◌, ◌∙◌, inr, ℕ, ◌+◌, ◌*◌, ◌<◌, ◌≤◌, Bool, true, false, List, [], ◌∷◌, ◌++◌, length, take, drop, map}
+use Rattle.std.proofs.Common.{replicate, Ok, Err, Result, refl, sym, ap, subst, arith, length-append, append-nil, append_assoc}
+use Rattle.std.proofs.Math.Nat.{mul_assoc, mul-suc}
+use Rattle.std.proofs.Math.Seq.{take-append_seam, drop-append_seam}
+use Rattle.std.proofs.lemmas.List.{map-append, take-append-drop, length-drop}
+use Rattle.std.proofs.lemmas.List.Elements.{All-replicate}
+use Rattle.frame_check.specs.declared.check.Check.{Check}
+use Rattle.scramblers.specs.Mode.{tap_of}
+use Rattle.scramblers.proofs.Readings.{Descrambles_once}
+use Rattle.symbol_map.specs.declared.sample.Sample.{Sample}
+use Rattle.survivors.specs.Survivors.{IsReleased}
+use Rattle.survivors.proofs.Least.{some-released}
+use Rattle.survivors.specs.V32.{line_trellis}
+use Rattle.exact_decoder.specs.declared.decoder.Lost.{Lost}
+use Rattle.survivors.proofs.V32.{line-has-laws}
+use Rattle.line_coding.specs.Demodulates.{Demodulates, line_of}
+use Rattle.line_coding.proofs.Readings.{first-stay, four-each}
+use Rattle.bit_stuffing.specs.Found.{Found, pieces_of}
+use Rattle.bit_stuffing.specs.Sent.{FoundIn, wholes}
+use Rattle.bit_stuffing.specs.Slots.{phase_after, sent_bits, slot_bits}
+use Rattle.bit_stuffing.proofs.Fill.{bits-append}
+use Rattle.bit_stuffing.proofs.Sent.{pieces-stay}
+use Rattle.lapm_frames.specs.declared.seen.Seen.{Seen}
+use Rattle.lapm_frames.specs.declared.seen.Seen.TheVariants as seen
+use Rattle.detection.specs.Sights.{Sight, seen_in, sights_of}
+use Rattle.detection.specs.Slots.{Signal, signal_bits, slot_of, slots_of}
+use Rattle.shared_terms.specs.declared.role.Role.{Role}
+use Rattle.lapm_frames.specs.declared.frame.Frame.{Frame}
+use Rattle.frame_check.specs.Division.{with_check}
+use Rattle.lapm_frames.specs.Frame.{spelled}
+use Rattle.lapm_frames.specs.Checked.{check_for, checked, SpellsFrame}
+use Rattle.lapm_frames.proofs.Checking.{spells}
+use Rattle.lapm_frames.specs.declared.sent.Sent.{Sent}
+use Rattle.lapm_frames.specs.declared.sent.Sent.TheVariants as sent
+use Rattle.noise_script.specs.Script.{ScriptValue}
+use Rattle.lapm_frames.specs.declared.heard.Heard.{Heard}
+use Rattle.lapm_frames.specs.declared.heard.Heard.TheVariants.{Chance}
+use Rattle.sample_line.specs.Outcomes.{IsPattern, IsOutcome}
+use Rattle.sample_line.specs.Recorded.{Records}
+use Rattle.shared_terms.specs.Role.{mode_of}
+use Rattle.sample_line.specs.Received.{PassTheCheck, FoundBetween, Gives, Receives}
+use Rattle.sample_line.specs.Signals.{signal_of}
+use Rattle.lapm_frames.specs.Sendable.{IsSendable}
+use Rattle.sample_line.specs.Line.{bits_behind, Kept, Passes, PassesSlot, sender_of, size_of}
+use Rattle.sample_line.proofs.Finding.{wholes-append}
+use Rattle.sample_line.proofs.Once.{given-stays, outcome-once, received-once, recordings-grow}
+use Rattle.line_run.specs.Fitting.{AreFit}
+use Rattle.line_run.specs.Unhindered.{ChecksAgree, octets_in, patterns_in, unhindered}
+use Rattle.line_run.proofs.Patterns.{AreSeen}
+use Rattle.line_run.proofs.Fits.{fit-front, length-fit}
+use Rattle.line_run.proofs.Recordings.{tap-some}
+use Rattle.line_run.proofs.Settled.{Lags, LeavesTime, settled-all, settled-finds, slot-adds}
+use Rattle.line_run.proofs.Following.{Follows, none-within}
+use Rattle.line_run.proofs.Undisplaced.{carried}
+
+-- the labels that the samples release carry the first of the bits
+released-carry : (lag : ℕ) (script : ScriptValue) (sender : Role) (count : ℕ) (bits : List Bool) (samples : List Sample) (labels : List ℕ)
+    → Follows lag script sender count → length bits ≤ 4 * count → Records script sender bits samples
+    → IsReleased line_trellis samples labels → Demodulates (tap_of (mode_of sender)) labels (take (4 * length labels) bits)
+released-carry lag script sender count bits samples labels follows few r released =
+    let tap : ℕ = tap_of (mode_of sender) in
+    let sent = follows.sent bits samples labels few r released in
+    let first : take (length labels) r.modulated.labels ≡ labels =
+    ap (take (length labels)) (sym sent.1) ∙ take-append_seam labels sent.0 in
+    subst (λ (xs : List ℕ). Demodulates tap xs (take (4 * length labels) bits)) first
+    (first-stay tap (length labels) r.modulated.labels bits (tap-some sender) (carried script sender bits samples r))
+
+-- all but the last bits were read
+lags : (lag : ℕ) (script : ScriptValue) (sender : Role) (count : ℕ) (bits read : List Bool) (samples : List Sample)
+    → Follows lag script sender count → length bits ≤ 4 * count → Records script sender bits samples → Gives sender samples read
+    → Lags lag bits read
+lags lag script sender count bits read samples follows within r g =
+    let tap : ℕ = tap_of (mode_of sender) in
+    let labels : List ℕ = r.modulated.labels in
+    let n : ℕ = length g.labels in
+    let few = follows.few bits samples g.labels within r g.released in
+    let same : take (4 * n) bits ≡ read =
+    Descrambles_once tap (line_of g.labels) (take (4 * n) bits) read
+    (released-carry lag script sender count bits samples g.labels follows within r g.released) g.read in
+    record {
+      rest = drop (4 * n) bits;
+      goes_on = sym (take-append-drop (4 * n) bits) ∙ ap (λ xs. xs ++ drop (4 * n) bits) same;
+      few = omega (arith, few, length-drop (4 * n) bits, four-each tap labels bits (carried script sender bits samples r));
+    }
+
+-- a frame has the same octets with either end's check, where these agree on it
+same-checked : (check hearing : Check) (sender : Role) (dlci : ℕ) (frame : Frame) → check_for check frame ≡ check_for hearing frame
+    → checked hearing sender dlci frame ≡ checked check sender dlci frame
+same-checked check hearing sender dlci frame agree = ap (λ (kind : Check). with_check kind (spelled frame sender dlci)) (sym agree)
+
+-- what a slot adds
+
+slot-octets : (size start phase : ℕ) (behind : Bool) (check hearing : Check) (sender : Role) (dlci : ℕ) (s : Sent) (added : List Found)
+    → IsSendable s → ChecksAgree check hearing s
+    → FoundIn size start phase behind (slot_of size (signal_of check sender dlci s)) added
+    → PassTheCheck hearing (wholes added) (octets_in sender dlci s)
+slot-octets size start phase true check hearing sender dlci sent.Mark added is agree h =
+    subst (λ (xs : List Found). PassTheCheck hearing (wholes xs) []) (sym h.3) refl
+slot-octets size start phase false check hearing sender dlci sent.Mark added is agree h =
+    subst (λ (xs : List Found). PassTheCheck hearing (wholes xs) []) (sym h) refl
+slot-octets size start phase true check hearing sender dlci sent.Odp added is agree h =
+    subst (λ (xs : List Found). PassTheCheck hearing (wholes xs) []) (sym h.3) refl
+slot-octets size start phase false check hearing sender dlci sent.Odp added is agree h =
+    subst (λ (xs : List Found). PassTheCheck hearing (wholes xs) []) (sym h) refl
+slot-octets size start phase true check hearing sender dlci sent.Adp added is agree h =
+    subst (λ (xs : List Found). PassTheCheck hearing (wholes xs) []) (sym h.3) refl
+slot-octets size start phase false check hearing sender dlci sent.Adp added is agree h =
+    subst (λ (xs : List Found). PassTheCheck hearing (wholes xs) []) (sym h) refl
+slot-octets size start phase behind check hearing sender dlci sent.Flags added is agree h =
+    subst (λ (xs : List Found). PassTheCheck hearing (wholes xs) []) (sym h) refl
+slot-octets size start phase behind check hearing sender dlci (sent.Frame frame) added is agree h =
+    let s : SpellsFrame hearing sender dlci (checked check sender dlci frame) frame
+    = subst (λ (whole : List ℕ). SpellsFrame hearing sender dlci whole frame) (same-checked check hearing sender dlci frame agree)
+    (spells hearing sender dlci frame is.0) in
+    subst (λ (xs : List Found). PassTheCheck hearing (wholes xs) (spelled frame sender dlci ∷ [])) (sym h)
+    (inr (s.octets, [], s.passes, ap (λ (front : List ℕ). front ∷ []) (sym s.spelling.1), refl))
+
+slot-patterns : (check : Check) (sender : Role) (dlci start : ℕ) (s : Sent)
+    → map (λ (sight : Sight). sight.seen) (seen_in start (signal_of check sender dlci s)) ≡ patterns_in s
+slot-patterns check sender dlci start sent.Mark = refl
+slot-patterns check sender dlci start sent.Odp = refl
+slot-patterns check sender dlci start sent.Adp = refl
+slot-patterns check sender dlci start sent.Flags = refl
+slot-patterns check sender dlci start (sent.Frame frame) = refl
+
+same-behind : {X : Type 0} (front a b : List X) → front ++ a ≡ front ++ b → a ≡ b
+same-behind front a b e = sym (drop-append_seam front a) ∙ ap (drop (length front)) e ∙ drop-append_seam front b
+
+-- what is found in bits once more of them were read
+pub record Grows (earlier later : List Bool) : Type 0 where
+  pub pieces : List Found
+  pub pieces_are : pieces_of later ≡ pieces_of earlier ++ pieces
+  pub sights : List Sight
+  pub sights_are : sights_of later ≡ sights_of earlier ++ sights
+
+more-grows : (laws : AreSeen) (earlier more : List Bool) → Grows earlier (earlier ++ more)
+more-grows laws earlier more =
+    let pieces = pieces-stay earlier more in
+    let sights = laws.stay earlier more in
+    record { pieces = pieces.0; pieces_are = pieces.1.all; sights = sights.0; sights_are = sights.1.all }
+
+-- what is found of a slot in the bits that were read up to its end and not before
+found-sent : (laws : AreSeen) (lag : ℕ) (check hearing : Check) (sender : Role) (dlci size : ℕ) (passed : List Signal) (s : Sent)
+    (earlier later : List Bool)
+    → LeavesTime lag size → AreFit size 0 (passed ++ signal_of check sender dlci s ∷ []) → IsSendable s → ChecksAgree check hearing s
+    → Lags lag (signal_bits size passed) earlier → Lags lag (signal_bits size (passed ++ signal_of check sender dlci s ∷ [])) later
+    → Grows earlier later → FoundBetween hearing earlier later (octets_in sender dlci s) (patterns_in s)
+found-sent laws lag check hearing sender dlci size passed s earlier later time fit is agree old new f =
+    let signal : Signal = signal_of check sender dlci s in
+    let a = slot-adds laws size passed signal time.long fit in
+    let before = settled-finds laws lag (signal_bits size passed) earlier
+    (settled-all laws lag size passed time (fit-front size 0 passed (signal ∷ []) fit)) old in
+    let upto = settled-finds laws lag (signal_bits size (passed ++ signal ∷ [])) later
+    (settled-all laws lag size (passed ++ signal ∷ []) time fit) new in
+    let start : ℕ = length (signal_bits size passed) in
+    let one_way : pieces_of (signal_bits size (passed ++ signal ∷ [])) ≡ pieces_of earlier ++ (before.added ++ a.added)
+    = a.all ∙ ap (λ xs. xs ++ a.added) before.pieces ∙ append_assoc (pieces_of earlier) before.added a.added in
+    let other_way : pieces_of (signal_bits size (passed ++ signal ∷ [])) ≡ pieces_of earlier ++ (f.pieces ++ upto.added)
+    = upto.pieces ∙ ap (λ xs. xs ++ upto.added) f.pieces_are ∙ append_assoc (pieces_of earlier) f.pieces upto.added in
+    let pieces : f.pieces ++ upto.added ≡ before.added ++ a.added =
+    same-behind (pieces_of earlier) (f.pieces ++ upto.added) (before.added ++ a.added) (sym other_way ∙ one_way) in
+    let whole : wholes f.pieces ≡ wholes a.added
+    = sym (append-nil (wholes f.pieces)) ∙ ap (λ xs. wholes f.pieces ++ xs) (sym upto.none) ∙ sym (wholes-append f.pieces upto.added)
+    ∙ ap wholes pieces
+    ∙ wholes-append before.added a.added ∙ ap (λ xs. xs ++ wholes a.added) before.none in
+    let sights : f.sights ≡ seen_in start signal
+    = same-behind (sights_of earlier) f.sights (seen_in start signal) (sym f.sights_are ∙ sym upto.sights ∙ a.sights
+    ∙ ap (λ xs. xs ++ seen_in start signal) before.sights) in
+    record {
+      pieces = f.pieces;
+      pieces_are = f.pieces_are;
+      octets_are = subst (λ (xs : List (List ℕ)). PassTheCheck hearing xs (octets_in sender dlci s)) (sym whole)
+          (slot-octets size start _ _ check hearing sender dlci s a.added is agree a.found);
+      sights = f.sights;
+      sights_are = f.sights_are;
+      patterns_are = sym (slot-patterns check sender dlci start s) ∙ ap (map (λ (sight : Sight). sight.seen)) (sym sights);
+    }
+
+-- the bits of slots, and of the slots before the last
+bounds : (laws : AreSeen) (symbols : ℕ) (passed : List Signal) (signal : Signal) → 138 < symbols
+    → AreFit (4 * symbols) 0 (passed ++ signal ∷ [])
+    → (length (signal_bits (4 * symbols) passed) ≤ 4 * (symbols * (length passed + 1)))
+    × (length (signal_bits (4 * symbols) (passed ++ signal ∷ [])) ≤ 4 * (symbols * (length passed + 1)))
+bounds laws symbols passed signal long fit =
+    let all = length-fit laws.plain (4 * symbols) 0 (passed ++ signal ∷ []) (omega arith) (omega arith) fit in
+    let some = length-fit laws.plain (4 * symbols) 0 passed (omega arith) (omega arith)
+    (fit-front (4 * symbols) 0 passed (signal ∷ []) fit) in
+    let one_more : length (passed ++ signal ∷ []) ≡ length passed + 1 = length-append {A = Signal} passed (signal ∷ []) in
+    (rw some (by-size symbols (length passed)), rw (all, one_more) (whole-size symbols (length passed)))
+  where
+    whole-size : (m n : ℕ) → 4 * m * (n + 1) ≤ 4 * (m * (n + 1))
+    whole-size m n = subst (λ k. k ≤ 4 * (m * (n + 1))) (sym (mul_assoc 4 m (n + 1))) (omega arith)
+
+    by-size : (m n : ℕ) → 4 * m * n ≤ 4 * (m * (n + 1))
+    by-size m n = subst (λ k. k ≤ 4 * (m * (n + 1))) (sym (mul_assoc 4 m n)) (let more = mul-suc m n in omega (arith, more))
+
+-- slots that leave time are long enough for patterns
+long-of : (lag symbols : ℕ) → LeavesTime lag (4 * symbols) → 138 < symbols
+long-of lag symbols time = omega (arith, time.long)
+
+pub received-sent : (laws : AreSeen) (lag : ℕ) (script : ScriptValue) (check hearing : Check) (sender : Role) (dlci symbols : ℕ)
+    (passed : List Signal) (s : Sent)
+    (before upto : List Sample) (octets : List (List ℕ)) (patterns : List Seen)
+    → Follows lag script sender (symbols * (length passed + 1)) → LeavesTime lag (4 * symbols)
+    → AreFit (4 * symbols) 0 (passed ++ signal_of check sender dlci s ∷ []) → IsSendable s → ChecksAgree check hearing s
+    → Records script sender (signal_bits (4 * symbols) passed) before
+    → Records script sender (signal_bits (4 * symbols) (passed ++ signal_of check sender dlci s ∷ [])) upto
+    → Receives hearing sender before upto octets patterns
+    → (octets ≡ octets_in sender dlci s) × (patterns ≡ patterns_in s)
+received-sent laws lag script check hearing sender dlci symbols passed s before upto octets patterns follows time fit is agree old new r =
+    let b = bounds laws symbols passed (signal_of check sender dlci s) (long-of lag symbols time) fit in
+    received-once hearing sender before upto octets (octets_in sender dlci s) patterns (patterns_in s) r (record {
+      earlier = r.earlier;
+      later = r.later;
+      gave = r.gave;
+      gives = r.gives;
+      found = found-sent laws lag check hearing sender dlci (4 * symbols) passed s r.earlier r.later time fit is agree
+          (lags lag script sender (symbols * (length passed + 1))
+          (signal_bits (4 * symbols) passed) r.earlier before follows b.0 old r.gave)
+          (lags lag script sender (symbols * (length passed + 1))
+          (signal_bits (4 * symbols) (passed ++ signal_of check sender dlci s ∷ [])) r.later upto follows b.1 new r.gives)
+          (record { pieces = r.found.pieces; pieces_are = r.found.pieces_are; sights = r.found.sights; sights_are = r.found.sights_are });
+    })
+
+-- and it is received
+
+gives-some : (lag : ℕ) (script : ScriptValue) (sender : Role) (count : ℕ) (bits : List Bool) (samples : List Sample)
+    → Follows lag script sender count → length bits ≤ 4 * count → Records script sender bits samples → (read : List Bool)
+    × Gives sender samples read
+gives-some lag script sender count bits samples follows few r =
+    let some = some-released line_trellis 8 32 2 samples line-has-laws in (
+      take (4 * length some.0) bits,
+      record {
+        labels = some.0;
+        released = some.1;
+        read = released-carry lag script sender count bits samples some.0 follows few r some.1;
+      },
+    )
+
+-- what is given goes on where the recording does
+given-grows : (laws : AreSeen) (script : ScriptValue) (sender : Role) (bits more earlier later : List Bool) (before upto : List Sample)
+    → Records script sender bits before → Records script sender (bits ++ more) upto → Gives sender before earlier → Gives sender upto later
+    → Grows earlier later
+given-grows laws script sender bits more earlier later before upto old new gave gives =
+    let grown = recordings-grow script sender bits more before upto old new in
+    let stays = given-stays sender before grown.0 earlier later gave (subst (λ (xs : List Sample). Gives sender xs later) grown.1 gives) in
+    subst (λ (xs : List Bool). Grows earlier xs) (sym stays.1) (more-grows laws earlier stays.0)
+
+given-received : (laws : AreSeen) (lag : ℕ) (script : ScriptValue) (check hearing : Check) (sender : Role) (dlci size : ℕ)
+    (passed : List Signal) (s : Sent)
+    (before upto : List Sample) (earlier later : List Bool)
+    → (count : ℕ) → Follows lag script sender count → length (signal_bits size passed) ≤ 4 * count
+    → length (signal_bits size (passed ++ signal_of check sender dlci s ∷ [])) ≤ 4 * count → LeavesTime lag size
+    → AreFit size 0 (passed ++ signal_of check sender dlci s ∷ []) → IsSendable s → ChecksAgree check hearing s
+    → Records script sender (signal_bits size passed) before
+    → Records script sender (signal_bits size (passed ++ signal_of check sender dlci s ∷ [])) upto
+    → Gives sender before earlier → Gives sender upto later
+    → Receives hearing sender before upto (octets_in sender dlci s) (patterns_in s)
+given-received laws lag script check hearing sender dlci size passed s before upto earlier later count follows few_before few_upto time fit
+    is agree old new gave gives =
+    let signal : Signal = signal_of check sender dlci s in
+    let slot : List Bool = slot_bits size (phase_after size (slots_of size passed)) (slot_of size signal) in
+    let joined : signal_bits size (passed ++ signal ∷ []) ≡ signal_bits size passed ++ slot
+    = ap (sent_bits size) (map-append (slot_of size) passed (signal ∷ []))
+    ∙ bits-append size 0 (slots_of size passed) (slot_of size signal) in
+    let added : Records script sender (signal_bits size passed ++ slot) upto =
+    subst (λ (xs : List Bool). Records script sender xs upto) joined new in
+    record {
+      earlier = earlier;
+      later = later;
+      gave = gave;
+      gives = gives;
+      found = found-sent laws lag check hearing sender dlci size passed s earlier later time fit is agree
+          (lags lag script sender count (signal_bits size passed) earlier before follows few_before old gave)
+          (lags lag script sender count (signal_bits size (passed ++ signal ∷ [])) later upto follows few_upto new gives)
+          (given-grows laws script sender (signal_bits size passed) slot earlier later before upto old added gave gives);
+    }
+
+pub sent-received : (laws : AreSeen) (lag : ℕ) (script : ScriptValue) (check hearing : Check) (sender : Role) (dlci symbols : ℕ)
+    (passed : List Signal) (s : Sent)
+    (before upto : List Sample)
+    → Follows lag script sender (symbols * (length passed + 1)) → LeavesTime lag (4 * symbols)
+    → AreFit (4 * symbols) 0 (passed ++ signal_of check sender dlci s ∷ []) → IsSendable s → ChecksAgree check hearing s
+    → Records script sender (signal_bits (4 * symbols) passed) before
+    → Records script sender (signal_bits (4 * symbols) (passed ++ signal_of check sender dlci s ∷ [])) upto
+    → Receives hearing sender before upto (octets_in sender dlci s) (patterns_in s)
+sent-received laws lag script check hearing sender dlci symbols passed s before upto follows time fit is agree old new =
+    let count : ℕ = symbols * (length passed + 1) in
+    let b = bounds laws symbols passed (signal_of check sender dlci s) (long-of lag symbols time) fit in
+    let earlier = gives-some lag script sender count (signal_bits (4 * symbols) passed) before follows b.0 old in
+    let later = gives-some lag script sender count
+    (signal_bits (4 * symbols) (passed ++ signal_of check sender dlci s ∷ [])) upto follows b.1 new in
+    given-received laws lag script check hearing sender dlci
+    (4 * symbols) passed s before upto earlier.0 later.0 count follows b.0 b.1 time fit is agree old new earlier.1 later.1
+
+-- and has one outcome
+
+all-nine : (pattern : Seen) → IsPattern pattern [] (replicate 9 pattern)
+all-nine pattern = (refl, (λ e. absurd cc), All-replicate (λ other. other ≡ pattern) 9 pattern refl)
+
+pub as-expected : (loses : Bool) (sender : Role) (dlci : ℕ) (s : Sent) → IsSendable s
+    → IsOutcome loses sender dlci s (octets_in sender dlci s) (patterns_in s) (unhindered loses s)
+as-expected true sender dlci sent.Mark is = refl
+as-expected false sender dlci sent.Mark is = (refl, (refl, refl))
+as-expected true sender dlci sent.Flags is = refl
+as-expected false sender dlci sent.Flags is = (refl, (refl, refl))
+as-expected true sender dlci sent.Odp is = (refl, refl)
+as-expected false sender dlci sent.Odp is = (refl, all-nine seen.Odp)
+as-expected true sender dlci sent.Adp is = (refl, refl)
+as-expected false sender dlci sent.Adp is = (refl, all-nine seen.Adp)
+as-expected true sender dlci (sent.Frame frame) is = (refl, refl)
+as-expected false sender dlci (sent.Frame frame) is = (refl, (spelled frame sender dlci, (is.0, refl), refl, refl))
+
+pub heard-sent : (laws : AreSeen) (lag : ℕ) (line : Kept) (script : ScriptValue) (passed waiting : List Signal) (signal : Signal)
+    (check hearing : Check) (dlci : ℕ) (loses : Bool) (s : Sent) (heard : Heard)
+    → Follows lag script (sender_of line) (line.writer.symbols * (length passed + 1)) → LeavesTime lag (4 * line.writer.symbols)
+    → AreFit (size_of line) 0 (passed ++ signal ∷ [])
+    → signal ≡ signal_of check (sender_of line) dlci s → IsSendable s → ChecksAgree check hearing s
+    → PassesSlot line script passed signal waiting hearing dlci loses s heard → heard ≡ unhindered loses s
+heard-sent laws lag line script passed waiting signal check hearing dlci loses s heard follows time fit e is agree p =
+    let sender : Role = sender_of line in
+    let fit_s : AreFit (size_of line) 0 (passed ++ signal_of check sender dlci s ∷ []) =
+    subst (λ (x : Signal). AreFit (size_of line) 0 (passed ++ x ∷ [])) e fit in
+    let recorded : Records script sender (signal_bits (size_of line) (passed ++ signal_of check sender dlci s ∷ [])) p.upto
+    = subst (λ (x : Signal). Records script sender (signal_bits (size_of line) (passed ++ x ∷ [])) p.upto) e p.recorded in
+    let same = received-sent laws lag script check hearing sender dlci line.writer.symbols passed s p.before p.upto p.octets p.patterns
+    follows time fit_s is agree p.recorded_before recorded p.received in
+    outcome-once loses sender dlci s (octets_in sender dlci s) (patterns_in s) heard (unhindered loses s)
+    (subst (λ (xs : List Seen). IsOutcome loses sender dlci s (octets_in sender dlci s) xs heard) same.1
+    (subst (λ (xs : List (List ℕ)). IsOutcome loses sender dlci s xs p.patterns heard) same.0 p.outcome)) (as-expected loses sender dlci s is)
+
+pub never-chance : (loses : Bool) (s : Sent) → unhindered loses s ≡ Chance → ⊥
+never-chance loses sent.Mark e = absurd cc
+never-chance loses sent.Flags e = absurd cc
+never-chance true sent.Odp e = absurd cc
+never-chance false sent.Odp e = absurd cc
+never-chance true sent.Adp e = absurd cc
+never-chance false sent.Adp e = absurd cc
+never-chance true (sent.Frame frame) e = absurd cc
+never-chance false (sent.Frame frame) e = absurd cc
+
+pub passes-sent : (laws : AreSeen) (lag : ℕ) (line : Kept) (script : ScriptValue) (passed waiting : List Signal) (signal : Signal)
+    (check hearing : Check) (dlci : ℕ) (loses : Bool) (s : Sent) (result : Result Heard Lost)
+    → Follows lag script (sender_of line) (line.writer.symbols * (length passed + 1)) → LeavesTime lag (4 * line.writer.symbols)
+    → AreFit (size_of line) 0 (passed ++ signal ∷ [])
+    → signal ≡ signal_of check (sender_of line) dlci s → IsSendable s → ChecksAgree check hearing s
+    → Passes line script passed signal waiting hearing dlci loses s result → result ≡ Ok (unhindered loses s)
+passes-sent laws lag line script passed waiting signal check hearing dlci loses s (Ok heard) follows time fit e is agree p =
+    ap (λ (h : Heard). let r : Result Heard Lost = Ok h in
+    r) (heard-sent laws lag line script passed waiting signal check hearing dlci loses s heard follows time fit e is agree p)
+passes-sent laws lag line script passed waiting signal check hearing dlci loses s (Err lost) follows time fit e is agree p =
+    let size : ℕ = size_of line in
+    let joined : signal_bits size (passed ++ signal ∷ []) ≡ signal_bits size passed ++ bits_behind size passed signal
+    = ap (sent_bits size) (map-append (slot_of size) passed (signal ∷ []))
+    ∙ bits-append size 0 (slots_of size passed) (slot_of size signal) in
+    let few = (bounds laws line.writer.symbols passed signal (long-of lag line.writer.symbols time) fit).1 in
+    absurd (none-within lag (sender_of line) script (line.writer.symbols * (length passed + 1)) (signal_bits size passed)
+    (bits_behind size passed signal) lost.symbol follows
+    (subst (λ (xs : List Bool). length xs ≤ 4 * (line.writer.symbols * (length passed + 1))) joined few) p)

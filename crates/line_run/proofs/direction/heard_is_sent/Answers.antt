@@ -1,0 +1,18 @@
+use Rattle.line_run.specs.Unhindered.{DisplacesNoneBefore}
+use Rattle.line_run.proofs.Patterns.{AreSeen}
+use Rattle.line_run.proofs.Received.{never-chance}
+use Rattle.line_run.proofs.Heard.{heard-where, passes-where, undisplaced}
+use Rattle.line_run.proofs.direction.heard_is_sent.Goals as goal
+
+pub returns : goal.returns
+returns c =
+    let seen : AreSeen = record {
+      plain = record { patterns = c.patterns_are_plain.ensures.patterns; marks = c.patterns_are_plain.ensures.marks };
+      stay = c.sights_stay.ensures;
+      sent = c.seen_is_sent.ensures;
+    } in
+    record {
+      heard = heard-where DisplacesNoneBefore 138 96 undisplaced seen;
+      never_chance = never-chance;
+      passes = passes-where DisplacesNoneBefore 138 96 undisplaced seen;
+    }

@@ -1,0 +1,18 @@
+use Rattle.line_run.specs.Faint.{IsFaintBefore}
+use Rattle.line_run.proofs.Patterns.{AreSeen}
+use Rattle.line_run.proofs.Heard.{received-where, sent-where, heard-where, passes-where, faint}
+use Rattle.line_run.proofs.direction.what_is_received_of_faint_lines_is_sent.Goals as goal
+
+pub returns : goal.returns
+returns c =
+    let seen : AreSeen = record {
+      plain = record { patterns = c.patterns_are_plain.ensures.patterns; marks = c.patterns_are_plain.ensures.marks };
+      stay = c.sights_stay.ensures;
+      sent = c.seen_is_sent.ensures;
+    } in
+    record {
+      nothing_else = received-where IsFaintBefore 215 504 faint seen;
+      all = sent-where IsFaintBefore 215 504 faint seen;
+      heard = heard-where IsFaintBefore 215 504 faint seen;
+      passes = passes-where IsFaintBefore 215 504 faint seen;
+    }

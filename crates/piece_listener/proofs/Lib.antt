@@ -1,2 +1,0 @@
-pub mod PieceLines
-pub mod Hearing

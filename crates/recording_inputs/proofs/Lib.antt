@@ -1,3 +1,0 @@
-pub mod HeaderRead
-pub mod Behind
-pub mod Headers

@@ -1,0 +1,5 @@
+pub mod Role
+pub mod Both
+pub mod Timer
+pub mod Cause
+pub mod AuditCause

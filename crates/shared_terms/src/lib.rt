@@ -1,0 +1,18 @@
+//! The terms that all above share: the two ends of a link ([`Role`]), with the word that names each and the mode in which its modem
+//! sends; why a run is refused or given up, as values ([`Cause`], [`LinkFault`]); in what a trace is not that of a run
+//! ([`AuditCause`]); and the timers that count an end's turns without an answer. Who finds a cause gives it, who says lines prints it.
+#![tactic(auto)]
+
+mod audit_cause;
+mod both;
+mod cause;
+mod fault;
+mod role;
+mod timer;
+
+pub use audit_cause::AuditCause;
+pub use both::Both;
+pub use cause::Cause;
+pub use fault::LinkFault;
+pub use role::Role;
+pub use timer::{is_expired, wait, waited_since};

@@ -1,8 +1,0 @@
-use Rattle.std.proofs.Common.{refl}
-use Rattle.worked_traces.proofs.runs.links_that_end.Goals as goal
-
-pub returns : goal.returns
-returns c = record {
-  lost = record { broken = refl; last = refl; orig = refl; answ = refl };
-  undetected = record { broken = refl; last = refl; orig = refl; answ = refl };
-}

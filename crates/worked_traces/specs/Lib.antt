@@ -1,7 +1,0 @@
-pub mod Runs
-pub mod Lines
-pub mod PlaySettings
-pub mod PlayTraces
-pub mod Made
-pub mod RunSettings
-pub mod RunTraces
