@@ -1,12 +1,13 @@
 -- The two generators as the code writes them, and the register at first.
-use Rattle.std.proofs.Common.{◌≡◌, ℕ, zero, suc, ◌-◌, ◌^◌, ◌<◌, inl, inr, Bool, true, false, ◌&&◌, List, nat_eq, arith, refl, lit<}
+use Rattle.std.proofs.Common.{◌≡◌, ℕ, zero, suc, ◌-◌, ◌^◌, ◌<◌, inl, inr, Bool, true, false, ◌&&◌, List, nat_eq, slice_index_or, arith, refl, lit<}
 use Rattle.std.specs.Int.{bit_at}
 use Rattle.std.proofs.lemmas.Bool.{cases_lt, false≢true}
 use borrow.Author.Tests.{eqb-true}
 use Rattle.frame_check.specs.declared.check.Check.TheVariants.{Sixteen, ThirtyTwo}
 use Rattle.plain_lists.specs.Bits.{number}
 use Rattle.frame_check.specs.FrameCheck.{coefficient, all_ones, generator_of}
-use Rattle.frame_check.specs.Register.{Mirrors, Holds, Divides}
+use Rattle.frame_check.specs.Register.{Mirrors, Holds, Divides, AreFours, after_zeros}
+use Rattle.frame_check.specs.declared.register.TheConstants.{SIXTEEN, THIRTY_TWO}
 
 -- whether each number below n passes
 abbrev each_below : ℕ → (ℕ → Bool) → Bool
@@ -36,22 +37,34 @@ mirrors width register p low h =
           λ j l. eqb-true (bit_at register (width - 1 - j)) (number (coefficient p j)) (at_each width (is_mirror width register p) h j l);
     }
 
-pub divides16 : Divides 16 0x8408 (generator_of Sixteen)
+are_fours : (reversed : ℕ) (fours : List ℕ)
+    → each_below 16 (λ low. nat_eq (slice_index_or fours low 0) (after_zeros 4 reversed low)) ≡ true → AreFours reversed fours
+are_fours reversed fours h low l =
+    eqb-true (slice_index_or fours low 0) (after_zeros 4 reversed low)
+    (at_each 16 (λ low. nat_eq (slice_index_or fours low 0) (after_zeros 4 reversed low)) h low l)
+
+pub divides16 : Divides 16 SIXTEEN (generator_of Sixteen)
+unfolding after_zeros
 divides16 = record {
   positive = lit< tt;
   small = omega arith;
   wide = refl;
   top = refl;
+  reversed = 0x8408;
   mirrors = mirrors 16 0x8408 (generator_of Sixteen) (lit< tt) refl;
+  are_fours = are_fours 0x8408 SIXTEEN refl;
 }
 
-pub divides32 : Divides 32 0xedb88320 (generator_of ThirtyTwo)
+pub divides32 : Divides 32 THIRTY_TWO (generator_of ThirtyTwo)
+unfolding after_zeros
 divides32 = record {
   positive = lit< tt;
   small = omega arith;
   wide = refl;
   top = refl;
+  reversed = 0xedb88320;
   mirrors = mirrors 32 0xedb88320 (generator_of ThirtyTwo) (lit< tt) refl;
+  are_fours = are_fours 0xedb88320 THIRTY_TWO refl;
 }
 
 pub starts16 : Holds 16 0xffff (all_ones 16)

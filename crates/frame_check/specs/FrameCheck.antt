@@ -1,6 +1,6 @@
 -- The frame check of ITU-T V.42, by division of polynomials over the field of two elements.
 -- A polynomial is the list of its coefficients, that of the lowest power first.
-use Rattle.std.specs.Prelude.{◌≡◌, ℕ, ◌<◌, Bool, true, false, not, if◌then◌else◌, List, [], ◌∷◌, ◌++◌, All, length, map, reverse, replicate, slice_index_or}
+use Rattle.std.specs.Prelude.{◌≡◌, ℕ, Bool, true, false, not, if◌then◌else◌, List, [], ◌∷◌, ◌++◌, length, map, reverse, replicate, slice_index_or}
 use Rattle.frame_check.specs.declared.check.Check.{Check}
 use Rattle.frame_check.specs.declared.check.Check.TheVariants.{Sixteen, ThirtyTwo}
 use Rattle.plain_lists.specs.Bits.{bits_of}

@@ -5,7 +5,7 @@ ghost use Rattle.frame_check.specs.Division.{check_of, with_check, count_of};
 ghost use Rattle.frame_check.specs.declared.check.Check.TheVariants.{Sixteen, ThirtyTwo};
 
 use crate::Octets;
-use crate::register::after_octets;
+use crate::register::{SIXTEEN, THIRTY_TWO, after_octets};
 
 /// One of the two checks of ITU-T V.42, by its number of bits.
 #[derive(Clone, Copy, PartialEq, Eq)]
@@ -32,7 +32,7 @@ impl Check {
 fn sixteen(octets: &[u8]) -> [u8; 2]
     ensures { result ≡ check_of Sixteen octets.now }
 {
-    let register = after_octets(0xffff, 0x8408, octets);
+    let register = after_octets(0xffff, &SIXTEEN, octets);
     (!(register as u16)).to_le_bytes()
 }
 
@@ -40,7 +40,7 @@ fn sixteen(octets: &[u8]) -> [u8; 2]
 fn thirty_two(octets: &[u8]) -> [u8; 4]
     ensures { result ≡ check_of ThirtyTwo octets.now }
 {
-    let register = after_octets(0xffff_ffff, 0xedb8_8320, octets);
+    let register = after_octets(0xffff_ffff, &THIRTY_TWO, octets);
     (!register).to_le_bytes()
 }
 

@@ -91,13 +91,12 @@ impl<const CAP: usize> Octets<CAP> {
     }
 
     /// Puts all of these octets behind the others, in their order.
+    #[inline]
     pub fn extend(&mut self, octets: &[u8])
         requires { length self.old + length octets.now ≤ CAP }
         ensures { self.new ≡ self.old ++ octets.now }
     {
-        for octet in octets {
-            self.push(*octet);
-        }
+        self.items.try_extend_from_slice(octets).unwrap();
     }
 }
 

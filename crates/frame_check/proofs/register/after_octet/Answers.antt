@@ -1,18 +1,16 @@
-use Rattle.std.proofs.Common.{◌≡◌, subst, sym, take, arith}
+use Rattle.std.proofs.Common.{◌≡◌, arith, ◌∙◌, ap, sym, subst, bit_xor}
 use Rattle.plain_lists.specs.Bits.{octet_bits}
 use Rattle.frame_check.specs.Division.{remainder_from}
-use Rattle.frame_check.specs.Register.{Holds}
-use Rattle.frame_check.proofs.Registers.{remainder_from-next_bit}
+use Rattle.frame_check.specs.Register.{Holds, after_zeros}
+use Rattle.frame_check.proofs.Registers.{Holds-bits, after_zeros-more}
 use Rattle.frame_check.proofs.register.after_octet.Goals as goal
-
-pub loop-place-preserved : goal.loop-place-preserved
-loop-place-preserved c = λ w g r d h.
-    subst (λ x. Holds w c.after_bit-after.result x) (sym (remainder_from-next_bit w g r c.args.octet c.loop-place.place (omega arith)))
-    (c.after_bit-after.ensures w g (remainder_from w g r (take c.loop-place.place (octet_bits c.args.octet))) d
-    (c.loop-place.invariant w g r d h))
 
 pub returns : goal.returns
 returns c = λ w g r d h.
-    let all : c.loop-place.place ≡ 8 = omega arith in
-    let so_far = c.loop-place.invariant w g r d h in
-    rw all at so_far
+    let eight : c.after_four-2.result ≡ after_zeros 8 d.reversed (bit_xor c.args.register c.args.octet) =
+    c.after_four-2.ensures d.reversed d.are_fours
+    ∙ ap (after_zeros 4 d.reversed) (c.after_four.ensures d.reversed d.are_fours)
+    ∙ after_zeros-more 4 4 d.reversed (bit_xor c.args.register c.from.result)
+    ∙ ap (λ n. after_zeros 8 d.reversed (bit_xor c.args.register n)) c.from.ensures in
+    subst (λ x. Holds w x (remainder_from w g r (octet_bits c.args.octet))) (sym eight)
+    (Holds-bits 8 w c.args.register c.args.octet c.args.fours.now g r d h (omega arith))
