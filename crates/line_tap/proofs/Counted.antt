@@ -1,10 +1,15 @@
 -- The bits of a stuffing, counted.
-use Rattle.std.proofs.Common.{◌≡◌, ◌∙◌, ℕ, suc, zero, ◌+◌, ◌-◌, ◌*◌, ◌<◌, ◌≤◌, Bool, List, ◌++◌, length, Some, refl, sym, ap, arith, length-append}
+use Rattle.std.proofs.Common.{◌≡◌, ◌∙◌, ℕ, suc, zero, ◌+◌, ◌-◌, ◌*◌, ◌/◌, ◌%◌, ◌<◌, ◌≤◌, Bool, true, List, ◌++◌, length, map, Some, refl, sym, ap, subst, arith, length-append}
+use Rattle.std.specs.Prelude.{nat_le, slice_index_or}
+use Rattle.std.specs.List.{range_with_len}
+use Rattle.std.proofs.lemmas.Bool.{leb-true}
+use Rattle.std.proofs.lemmas.List.FromFn.{get_or-map-range_with_len}
 use Rattle.bit_stuffing.specs.Flags.{flag}
 use Rattle.bit_stuffing.specs.Slots.{flags, framed, rest_of_flag, opening}
 use Rattle.bit_stuffing.specs.Stuffing.{stuffed, room_behind}
 use Rattle.bit_stuffing.proofs.Written.{stuffed-append, room_behind-append, room_behind-in}
-use Rattle.plain_lists.specs.Bits.{bits_of}
+use Rattle.plain_lists.specs.Bits.{low_bits, octet_bits, bits_of}
+use Rattle.symbol_map.specs.Finite.{each_below, at_each_pair}
 
 -- what is counted of the front of a content
 pub record Counts (room : ℕ) (start : ℕ) (front : List Bool) (bits left : ℕ) : Type 0 where
@@ -25,6 +30,43 @@ counts-more room start front more bits left now next some h e f = record {
       omega (arith, h.bits_are, e, split, both, here));
   left_is = f ∙ ap (λ r. room_behind r more) h.left_is ∙ sym (room_behind-append room front more some);
 }
+
+-- what four bits do, by their place in a table: sixteen for each number of ones that may follow
+abbrev four_of : ℕ → ℕ × ℕ
+four_of i = (length (stuffed (i / 16 + 1) (low_bits 4 (i % 16))), room_behind (i / 16 + 1) (low_bits 4 (i % 16)))
+
+abbrev pub fours : List (ℕ × ℕ)
+fours = map four_of (range_with_len 0 80)
+
+pub four-there : (room four : ℕ) → 0 < room → room ≤ 5 → four < 16
+    → slice_index_or fours (16 * (room - 1) + four) (0, 0) ≡ (length (stuffed room (low_bits 4 four)), room_behind room (low_bits 4 four))
+four-there room four some few low =
+    let row : (16 * (room - 1) + four) / 16 + 1 ≡ room = omega arith in
+    let column : (16 * (room - 1) + four) % 16 ≡ four = omega arith in
+    get_or-map-range_with_len four_of 0 80 (16 * (room - 1) + four) (16 * (room - 1) + four) (0, 0) (omega arith) (omega arith)
+    ∙ rw (row, column) refl
+
+abbrev is_short : ℕ → ℕ → Bool
+is_short room four = nat_le (length (stuffed (room + 1) (low_bits 4 four))) 5
+
+short_test : each_below 5 (λ room. each_below 16 (is_short room)) ≡ true
+short_test = refl
+
+pub four-short : (room four : ℕ) → 0 < room → room ≤ 5 → four < 16 → (slice_index_or fours (16 * (room - 1) + four) (0, 0)).0 ≤ 5
+four-short room four some few low =
+    let up : room - 1 + 1 ≡ room = omega arith in
+    let short = leb-true _ 5 (at_each_pair 5 16 is_short short_test (room - 1) four (omega arith) low) in
+    subst (λ e. e.0 ≤ 5) (sym (four-there room four some few low)) (subst (λ r. length (stuffed r (low_bits 4 four)) ≤ 5) up short)
+
+-- an octet is two fours
+pub two-fours : (octet : ℕ) → low_bits 4 (octet % 16) ++ low_bits 4 (octet / 16) ≡ octet_bits octet
+two-fours octet =
+    let a : octet % 16 % 2 ≡ octet % 2 = omega arith in
+    let b : octet % 16 / 2 % 2 ≡ octet / 2 % 2 = omega arith in
+    let c : octet % 16 / 2 / 2 % 2 ≡ octet / 2 / 2 % 2 = omega arith in
+    let d : octet % 16 / 2 / 2 / 2 % 2 ≡ octet / 2 / 2 / 2 % 2 = omega arith in
+    let e : octet / 16 ≡ octet / 2 / 2 / 2 / 2 = omega arith in
+    rw (a, b, c, d, e) refl
 
 rest-bits : (phase : ℕ) → phase < 8 → length (rest_of_flag phase) ≡ (8 - phase) - 8 * (1 - phase)
 rest-bits zero h = refl

@@ -1,5 +1,5 @@
 -- Quads and their bits: each tells the other.
-use Rattle.std.proofs.Common.{◌≡◌, ◌∙◌, ℕ, zero, suc, ◌<◌, Bool, true, nat_eq, List, [], ◌∷◌, ◌++◌, length, slice_index, All, refl, sym, ap, arith}
+use Rattle.std.proofs.Common.{◌≡◌, ◌∙◌, ℕ, zero, suc, ◌-◌, ◌<◌, ◌≤◌, Bool, true, nat_eq, List, [], ◌∷◌, ◌++◌, length, slice_index, All, refl, sym, ap, arith}
 use Rattle.std.proofs.lemmas.List.Elements.{All-head, All-tail}
 use Rattle.std.proofs.lemmas.Bool.{eqb-true, false≢true}
 use Rattle.plain_lists.specs.Bits.{low_bits, number_of}
@@ -57,6 +57,12 @@ pub counts-differ : (a b : List ℕ) → (length a ≡ length b → ⊥) → lin
 counts-differ a b differ e =
     let same : length (line_bits a) ≡ length (line_bits b) = ap length e in
     differ (omega (arith, same, length-line_bits a, length-line_bits b))
+
+-- eight ones and more
+pub begin-ones : (size : ℕ) → 8 ≤ size → ones size ≡ low_bits 4 15 ++ (low_bits 4 15 ++ ones (size - 8))
+begin-ones size h =
+    let all : size ≡ suc (suc (suc (suc (suc (suc (suc (suc (size - 8)))))))) = omega (arith, h) in
+    ap ones all
 
 -- three slots that it isn't
 pub none-plain : (size : ℕ) (bits : List Bool) → (bits ≡ ones size → ⊥) → (bits ≡ pattern_bits size seen.Odp → ⊥)

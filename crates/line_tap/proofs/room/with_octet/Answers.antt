@@ -1,24 +1,32 @@
-use Rattle.std.proofs.Common.{Bool, ◌/◌, ◌^◌, ◌∷◌, [], nat_eq, bit_and, take, arith, sym, subst}
-use Rattle.plain_lists.specs.Bits.{octet_bits}
-use Rattle.bit_stuffing.proofs.Written.{octet-bit, octet-part}
-use Rattle.line_tap.proofs.Counted.{Counts, counts-in, counts-more}
+use Rattle.std.proofs.Common.{◌/◌, ◌%◌, subst}
+use Rattle.plain_lists.specs.Bits.{low_bits, octet_bits}
+use Rattle.line_tap.proofs.Counted.{Counts, counts-in, counts-more, two-fours}
 use Rattle.line_tap.proofs.room.with_octet.Goals as goal
+use Rattle.line_tap.proofs.room.with_octet.Goals.{After-with_four-low, After-with_four}
 
-pub with_bit-now-requires-clause-some : goal.with_bit-now-requires-clause-some
-with_bit-now-requires-clause-some c = (counts-in c.args.count.room c.args.count.bits _ _ _ c.requires.few c.loop-place.invariant.counts).0
+-- the low four bits
+low-counts : (c : After-with_four-low)
+    → Counts c.args.count.room c.args.count.bits (low_bits 4 (c.args.octet % 16)) c.with_four-low.result.bits c.with_four-low.result.room
+low-counts c = record { bits_are = c.with_four-low.ensures.bits; left_is = c.with_four-low.ensures.room }
 
-pub with_bit-now-requires-clause-few : goal.with_bit-now-requires-clause-few
-with_bit-now-requires-clause-few c = (counts-in c.args.count.room c.args.count.bits _ _ _ c.requires.few c.loop-place.invariant.counts).1
+pub with_four-requires-clause-some : goal.with_four-requires-clause-some
+with_four-requires-clause-some c = (counts-in c.args.count.room c.args.count.bits _ _ _ c.requires.few (low-counts c)).0
 
-pub loop-place-preserved : goal.loop-place-preserved
-loop-place-preserved c =
-    let place = c.loop-place.place in
-    let b : Bool = nat_eq (bit_and (c.args.octet / 2 ^ place) 1) 1 in
-    let part = octet-part c.args.octet place b (omega arith) (octet-bit c.args.octet place (omega arith)) in
-    record {
-      counts = subst (λ xs. Counts c.args.count.room c.args.count.bits xs c.with_bit-now.result.bits c.with_bit-now.result.room) (sym part)
-          (counts-more c.args.count.room c.args.count.bits (take place (octet_bits c.args.octet)) (b ∷ []) c.loop-place.now.bits
-          c.loop-place.now.room c.with_bit-now.result.bits c.with_bit-now.result.room c.requires.some c.loop-place.invariant.counts
-          c.with_bit-now.ensures.bits c.with_bit-now.ensures.room);
-      most = omega (arith, c.with_bit-now.ensures.most, c.loop-place.invariant.most);
-    }
+pub with_four-requires-clause-few : goal.with_four-requires-clause-few
+with_four-requires-clause-few c = (counts-in c.args.count.room c.args.count.bits _ _ _ c.requires.few (low-counts c)).1
+
+-- and the high ones
+octet-counts : (c : After-with_four)
+    → Counts c.args.count.room c.args.count.bits (octet_bits c.args.octet) c.with_four.result.bits c.with_four.result.room
+octet-counts c =
+    subst (λ xs. Counts c.args.count.room c.args.count.bits xs c.with_four.result.bits c.with_four.result.room) (two-fours c.args.octet)
+    (counts-more c.args.count.room c.args.count.bits (low_bits 4 (c.args.octet % 16)) (low_bits 4 (c.args.octet / 16))
+    c.with_four-low.result.bits c.with_four-low.result.room c.with_four.result.bits c.with_four.result.room c.requires.some
+    (record { bits_are = c.with_four-low.ensures.bits; left_is = c.with_four-low.ensures.room }) c.with_four.ensures.bits
+    c.with_four.ensures.room)
+
+pub returns-clause-bits : goal.returns-clause-bits
+returns-clause-bits c = (octet-counts c).bits_are
+
+pub returns-clause-room : goal.returns-clause-room
+returns-clause-room c = (octet-counts c).left_is
