@@ -67,7 +67,7 @@ pub record IsKey (x y label key distance : ℕ) : Type 0 where
   pub no_state : stands.before ≡ 0
   pub close : distance < 2 ^ 33
 
-on : (x y label : ℕ) (a b : ℤ) (k l key : ℕ) → label < 32 → IsLine x a k → IsLine y b l → key ≡ k + l + 8 * label
+pub on : (x y label : ℕ) (a b : ℤ) (k l key : ℕ) → label < 32 → IsLine x a k → IsLine y b l → key ≡ k + l + 8 * label
     → IsKey x y label key (squared_gap a (coordinate x) + squared_gap b (coordinate y))
 on x y label a b k l key few p q is = record {
   stands = record {
@@ -120,7 +120,7 @@ nearest x y subset k keys =
       close = λ i l. (keys i l).close;
     }
 
-abbrev four_keys : ℕ → ℕ → ℕ → ℕ → ℕ → ℕ
+abbrev pub four_keys : ℕ → ℕ → ℕ → ℕ → ℕ → ℕ
 four_keys a b c d zero = a
 four_keys a b c d (suc zero) = b
 four_keys a b c d (suc (suc zero)) = c

@@ -25,5 +25,5 @@ mod v32;
 
 pub use column::Column;
 pub use decoder::{Decoder, Lost};
-pub use step::ViterbiStep;
+pub use step::{ViterbiStep, advance_plainly};
 pub use tail::Tail;

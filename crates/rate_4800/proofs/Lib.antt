@@ -1,3 +1,5 @@
 pub mod Twos
 pub mod Reading
 pub mod Standing
+pub mod Nearest
+pub mod Stepping

@@ -3,7 +3,6 @@ ghost use Rattle.std.proofs.Common.{lit≤, refl};
 ghost use Rattle.rate_4800.specs.Code.{next_state, point_of, way_before, way_subset};
 ghost use Rattle.rate_4800.specs.CodeLaws.{bounded, within, enters_once, reaches, ways_within, ways_lead, ways_all, points_differ};
 
-use exact_decoder::ViterbiStep;
 use symbol_map::Sample;
 use trellis_tables::{TrellisCode, Way};
 
@@ -101,5 +100,3 @@ impl TrellisCode<1, 4> for Rate4800 {
 
     ghost ways_all = { ways_all };
 }
-
-impl ViterbiStep<1, 4> for Rate4800 {}

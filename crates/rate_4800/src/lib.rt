@@ -7,6 +7,7 @@ mod code;
 mod demodulator;
 pub mod laws;
 mod modulator;
+mod step;
 
 pub use code::Rate4800;
 pub use demodulator::Demodulator;
