@@ -1,13 +1,6 @@
 //! Laws of a recording with little noise, and of the same after a quarter turn, as far as both are released. Each function's contract is a
-//! law. Those of samples that are near what was sent are handed on from [`noisy_line`].
+//! law. Those of samples that are near what was sent are in [`crate::noisy`].
 ghost use Rattle.noise_bound.specs.Laws.{SureIsNear, SureIsDecoded, NearTurns, QuadsAreAlike, QuadsAreAlikeOfAny, FewBitsDiffer, FewBitsDifferOfAny, OnePickedUpBegins, OneListOfPiecesBegins, ReadersPiecesBegin};
-
-pub use crate::noisy::{
-    cost_is_distance, decoders_follow_a_line, decoders_follow_a_line_from_any_start,
-    each_end_is_near, few_labels_are_unreleased, few_labels_are_unreleased_from_any_start,
-    meeting_sequences_are_far, near_the_same_is_near, parted_sequences_are_far,
-    released_labels_were_sent, released_labels_were_sent_from_any_start,
-};
 
 /// Where octets cost so little against samples that a [`crate::Margin`] is sure, the samples are near what was sent: the line isn't lost, and
 /// what is released was sent.
