@@ -180,6 +180,13 @@ bit-more bits n count i h =
 pub bits-left : (bits more : List Bool) (i : ℕ) → (bits ++ take i more) ++ drop i more ≡ bits ++ more
 bits-left bits more i = append_assoc bits (take i more) (drop i more) ∙ ap (λ xs. bits ++ xs) (take-append-drop i more)
 
+-- the low four bits of an octet, and the others
+pub four-more : (bits : List Bool) (octet : ℕ) → (bits ++ low_bits 4 octet) ++ low_bits 4 (octet / 16) ≡ bits ++ octet_bits octet
+four-more bits octet =
+    let high : octet / 16 ≡ octet / 2 / 2 / 2 / 2 = omega arith in
+    append_assoc bits (low_bits 4 octet) (low_bits 4 (octet / 16))
+    ∙ ap (λ n. bits ++ (low_bits 4 octet ++ low_bits 4 n)) high
+
 -- the octets up to a place, and one more
 pub octet-more : (bits : List Bool) (octets : List ℕ) (i : ℕ) → i < length octets
     → (bits ++ bits_of (take i octets)) ++ octet_bits (get_or octets i 0) ≡ bits ++ bits_of (take (i + 1) octets)

@@ -1,5 +1,5 @@
 // I frames: numbers and information, always commands. And the information of any frame.
-ghost use Rattle.std.specs.Prelude.{◌≡◌, ℕ, ◌<◌, ◌≤◌, ◌+◌, ◌%◌, ◌∷◌, length, IfOk, IfErr};
+ghost use Rattle.std.specs.Prelude.{◌≡◌, ℕ, ◌<◌, ◌≤◌, ◌+◌, ◌%◌, ◌∷◌, length, IfOk, IfErr, OnOk};
 ghost use Rattle.frame_check.specs.declared.sizes.TheConstants.{INFO};
 ghost use Rattle.shared_terms.specs.declared.role.Role.{Role};
 ghost use Rattle.lapm_frames.specs.Frame.{address_of, FrameSpelling};
@@ -9,10 +9,10 @@ use crate::numbers::number;
 use crate::{Frame, FrameFault};
 use frame_check::{INFO, Info};
 
-/// The information of a frame, where it isn't too long. The frame has `before` octets in front of it.
-pub(crate) fn information(octets: &[u8], before: usize) -> Result<Info, FrameFault>
+/// Whether information of these octets isn't too long. The frame has `before` octets in front of it.
+pub(crate) fn fits(octets: &[u8], before: usize) -> Result<(), FrameFault>
     requires { before ≤ 3 }
-    ensures ok { IfOk result (λ info. (info ≡ octets.now) × (length info ≤ INFO)) }
+    ensures ok { OnOk result (length octets.now ≤ INFO) }
     ensures err { IfErr result (λ fault. (fault ≡ FrameFault.Long (before + length octets.now))
         × (INFO < length octets.now)) }
 {
@@ -21,9 +21,17 @@ pub(crate) fn information(octets: &[u8], before: usize) -> Result<Info, FrameFau
             len: before + octets.len(),
         });
     }
+    Ok(())
+}
+
+/// The information of a frame. It is large, so it is made in its place, once it is known to fit.
+pub(crate) fn information(octets: &[u8]) -> Info
+    requires { length octets.now ≤ INFO }
+    ensures { result ≡ octets.now }
+{
     let mut info = Info::new();
     info.extend(octets);
-    Ok(info)
+    info
 }
 
 /// Reads what follows an even control octet.
@@ -40,12 +48,12 @@ pub(crate) fn read(control: u8, command: bool, tail: &[u8]) -> Result<Frame, Fra
     let [numbers, rest @ ..] = tail else {
         return Err(FrameFault::Short);
     };
-    let info = information(rest, 3)?;
+    fits(rest, 3)?;
     let (nr, pf) = number(*numbers);
     Ok(Frame::I {
         ns: control / 2,
         nr,
         pf,
-        info,
+        info: information(rest),
     })
 }

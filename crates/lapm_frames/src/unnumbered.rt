@@ -5,7 +5,7 @@ ghost use Rattle.lapm_frames.specs.Frame.{address_of, FrameSpelling};
 ghost use Rattle.lapm_frames.specs.Fault.{FirstFault};
 
 use crate::control::{DISC, DM, FRMR, SABME, TEST, UA, UI, XID, mark};
-use crate::information::information;
+use crate::information::{fits, information};
 use crate::{Frame, FrameFault};
 
 /// The frame, where nothing follows its control octet.
@@ -37,20 +37,35 @@ pub(crate) fn read(control: u8, command: bool, tail: &[u8]) -> Result<Frame, Fra
         UA if !command => bare(Frame::Ua { pf }, tail),
         DM if !command => bare(Frame::Dm { pf }, tail),
         FRMR if !command => {
-            let info = information(tail, 2)?;
-            Ok(Frame::Frmr { pf, info })
+            fits(tail, 2)?;
+            Ok(Frame::Frmr {
+                pf,
+                info: information(tail),
+            })
         }
         UI => {
-            let info = information(tail, 2)?;
-            Ok(Frame::Ui { command, pf, info })
+            fits(tail, 2)?;
+            Ok(Frame::Ui {
+                command,
+                pf,
+                info: information(tail),
+            })
         }
         XID => {
-            let info = information(tail, 2)?;
-            Ok(Frame::Xid { command, pf, info })
+            fits(tail, 2)?;
+            Ok(Frame::Xid {
+                command,
+                pf,
+                info: information(tail),
+            })
         }
         TEST => {
-            let info = information(tail, 2)?;
-            Ok(Frame::Test { command, pf, info })
+            fits(tail, 2)?;
+            Ok(Frame::Test {
+                command,
+                pf,
+                info: information(tail),
+            })
         }
         _ => Err(FrameFault::Control { octet: control }),
     }
