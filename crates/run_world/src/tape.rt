@@ -35,19 +35,20 @@ pub struct Tape<'a> {
     name: &'a str,
     /// It has made the samples of all slots so far.
     modulator: Modulator,
+    /// Those of the latest slot, in a room that isn't cleared for each slot anew.
+    octets: Octets<SLOT_OCTETS>,
 }
 
-/// The octets of a slot's samples, behind those of all slots before.
-fn slot_octets(modulator: &mut Modulator, slot: &BitSlot) -> Octets<SLOT_OCTETS>
+/// Writes the octets of a slot's samples, which go behind those of all slots before.
+fn write_samples(modulator: &mut Modulator, slot: &BitSlot, out: &mut Octets<SLOT_OCTETS>)
+    requires { out.old ≡ [] }
     ensures { (mode : Mode) (bits : List Bool) (octets : List ℕ) → RecordsBits mode modulator.old bits octets
-        → RecordsBits mode modulator.new (bits ++ line_bits slot.now) (octets ++ result) }
+        → RecordsBits mode modulator.new (bits ++ line_bits slot.now) (octets ++ out.new) }
 {
-    let mut octets = Octets::new();
     for place in 0..slot.len() {
         let sample = modulator.push(slot.quad(place));
-        octets.extend(&octets_of(sample));
+        out.extend(&octets_of(sample));
     }
-    octets
 }
 
 impl<'a> Tape<'a> {
@@ -61,19 +62,21 @@ impl<'a> Tape<'a> {
         Tape {
             name,
             modulator: Modulator::new(role.mode()),
+            octets: Octets::new(),
         }
     }
 
-    /// The octets of the samples of the slot of one turn more.
-    fn octets_of(&mut self, slot: Option<&BitSlot>) -> Octets<SLOT_OCTETS>
+    /// Makes the samples of the slot of one turn more.
+    fn make(&mut self, slot: Option<&BitSlot>)
         ensures stands { (script : ScriptValue) (role : Role) (ts : List Turn) (t : Turn) (body : List ℕ)
             → HasSent (option_copied slot.entry) script role ts t → TapeStands self.old (wire_of script) role ts body
-            → TapeStands self.new (wire_of script) role (t ∷ ts) (body ++ result) }
+            → TapeStands self.new (wire_of script) role (t ∷ ts) (body ++ self.new.octets) }
         ensures name { self.new.name.now ≡ self.old.name.now }
     {
+        self.octets.clear();
         match slot {
-            Some(slot) => slot_octets(&mut self.modulator, slot),
-            None => Octets::new(),
+            Some(slot) => write_samples(&mut self.modulator, slot, &mut self.octets),
+            None => {}
         }
     }
 
@@ -88,8 +91,8 @@ impl<'a> Tape<'a> {
         ensures counts { CountsOver (F.state folder.old) (F.state folder.new) [] (self.old.name.now ∷ []) result }
         ensures write { IfErr result IsWriting }
     {
-        let octets = self.octets_of(slot);
-        match folder.append(self.name, octets.as_slice()) {
+        self.make(slot);
+        match folder.append(self.name, self.octets.as_slice()) {
             Ok(()) => Ok(()),
             Err(fault) => Err(folder_fault(RunFault::WriteFault, fault)),
         }

@@ -4,9 +4,9 @@ use Rattle.line_run.specs.Sampled.{bits_of}
 use Rattle.line_run.specs.Scripted.{wire_of}
 use Rattle.run_world.specs.World.{HasSent}
 use Rattle.run_world.proofs.Taping.{slot-recorded}
-use Rattle.run_world.proofs.tape.Tape.octets_of.Goals as goal
+use Rattle.run_world.proofs.tape.Tape.make.Goals as goal
 
 pub returns-in-Some-clause-stands : goal.returns-in-Some-clause-stands
 returns-in-Some-clause-stands c = λ script role ts t body sent stands.
     slot-recorded script role ts t _ _ _ (subst (λ (o : _). HasSent (option_copied o) script role ts t) c.in-Some.is sent)
-    (c.slot_octets.ensures (mode_of role) (bits_of (wire_of script) role ts) body stands)
+    (c.write_samples.ensures (mode_of role) (bits_of (wire_of script) role ts) body stands)
