@@ -1,6 +1,7 @@
 //! The exact decoder of a trellis code, as a pure function of the samples so far: [`Decoder`] releases labels as
 //! soon as all survivors agree on them, and tells with which symbol too many were left unreleased ([`Lost`]).
-//! No label is ever decided otherwise. It works for each [`trellis_tables::TrellisCode`].
+//! No label is ever decided otherwise. It works for each [`trellis_tables::TrellisCode`] that has a [`ViterbiStep`]: an empty `impl` block
+//! gives it the plain one, which serves any code, and [`trellis_tables::V32Code`] has one by vectors.
 //!
 //! It is the Viterbi algorithm with squared distances. The survivor of each state is a sum, and a way back through columns of
 //! choices.

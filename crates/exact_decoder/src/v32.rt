@@ -15,7 +15,8 @@ use std::simd::prelude::*;
 use symbol_map::Sample;
 use trellis_tables::V32Code;
 
-/// The bits of a sum that are not in a key of 32 bits. Squared distances from one sample differ by a multiple of 4,096 between points of the map.
+/// The bits of a sum that are not in a key of 32 bits. The squared distances of one sample from points of the map differ by multiples of
+/// 4,096.
 const WIDE: u64 = 0xfff8_0000_0fff_0000;
 
 /// Whether keys of 32 bits have all of these sums. They do as soon as a sequence leads to each state.
@@ -215,14 +216,14 @@ fn taken_at(column: &Column<8>, live: &[u8]) -> u8x16
     looked_up(table_of(column), places_of(u8x8::from_slice(live)))
 }
 
-/// Whether all lanes have one number.
+/// Whether all lanes have one number: each has that of the next.
 #[inline(always)]
 fn is_one(labels: u8x8) -> bool
     ensures { (a b c d e f g h : ℕ) → labels ≡ (a ∷ b ∷ c ∷ d ∷ e ∷ f ∷ g ∷ h ∷ [])
-        → result ≡ (nat_eq b a && (nat_eq c a && (nat_eq d a && (nat_eq e a && (nat_eq f a && (nat_eq g a && nat_eq h a)))))) }
+        → result ≡ (nat_eq a b && (nat_eq b c && (nat_eq c d && (nat_eq d e && (nat_eq e f && (nat_eq f g && (nat_eq g h && nat_eq h a))))))) }
 {
     labels
-        .simd_eq(labels.swizzle([0, 0, 0, 0, 0, 0, 0, 0]))
+        .simd_eq(labels.swizzle([1, 2, 3, 4, 5, 6, 7, 0]))
         .to_bitmask()
         == 255
 }

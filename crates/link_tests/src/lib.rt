@@ -8,6 +8,8 @@ mod breaks;
 #[cfg(test)]
 mod checks;
 #[cfg(test)]
+mod fours;
+#[cfg(test)]
 mod octets;
 #[cfg(test)]
 mod offers;
