@@ -2,9 +2,9 @@ use Rattle.std.proofs.Common.{ℕ, ◌/◌, Bool, List, ◌++◌, sym, subst}
 use Rattle.outside_calls.specs.Folder.{FolderState}
 use Rattle.plain_lists.specs.Bits.{low_bits, octet_bits}
 use Rattle.command_base.proofs.Saying.{on-err-map, on-ok-map}
-use Rattle.piece_listener.specs.Heard.{Listening, Heard, LeftAt}
-use Rattle.piece_listener.proofs.Hearing.{left-longer, four-more}
-use Rattle.piece_listener.proofs.listener.Listener.hear_octet.Goals as goal
+use Rattle.command_base.specs.Heard.{Listening, Heard, LeftAt}
+use Rattle.command_base.proofs.Hearing.{left-longer, four-more}
+use Rattle.command_base.proofs.listener.Listener.hear_octet.Goals as goal
 
 pub returns-in-Ok-clause-ok : goal.returns-in-Ok-clause-ok
 returns-in-Ok-clause-ok g c = λ start bits heard.
