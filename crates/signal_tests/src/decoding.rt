@@ -3,9 +3,10 @@ ghost use Rattle.std.specs.Prelude.{◌≡◌, ◌+◌, ◌≤◌, ◌<◌, [], 
 
 use exact_decoder::{Decoder, Lost, ViterbiStep};
 use outside_calls::NoMemory;
+use rate_4800::Rate4800;
 use std::alloc::Global;
 use std::process::Abort;
-use symbol_map::Sample;
+use symbol_map::{Sample, distance};
 use trellis_tables::{LabelReader, TrellisCode, V32Code, Way};
 
 const MIDDLE: Sample = Sample { re: 0, im: 0 };
@@ -36,6 +37,42 @@ fn releases<
     }
     assert!(rt; decoder.take() == None);
     assert!(rt; decoder.pending() == 0);
+}
+
+// The label of the nearest of four points, of equally near ones the least, by all distances.
+fn nearest_of_four(sample: Sample) -> u8
+    ensures { result < 4 }
+{
+    let mut least = (u64::MAX, 0);
+    for label in 0..4u8 {
+        let far = distance(Rate4800.point(label), sample);
+        if far < least.0 {
+            least = (far, label);
+        }
+    }
+    least.1 % 4
+}
+
+// One row of samples, half a unit of the map or less apart: each is read at once as the nearest point.
+fn check_row(rt: &impl Abort, alloc: Global, im: i16) -> Result<(), NoMemory> {
+    let mut decoder: Decoder<Rate4800, 1, 4, 128> = Decoder::new(alloc, Rate4800, 0)?;
+    for place in 0..128u32 {
+        let re = (512 * place as i32 - 32768) as i16;
+        let sample = Sample { re, im };
+        releases(rt, &mut decoder, sample, Some(nearest_of_four(sample)));
+    }
+    ends_with(rt, decoder, &[]);
+    Ok(())
+}
+
+#[test]
+fn four_points_are_read_by_the_nearest(rt: HostRuntime) -> Result<(), NoMemory> {
+    for im in [
+        -32768i16, -6144, -2049, -2048, -1, 0, 1, 1024, 2048, 6145, 32767,
+    ] {
+        check_row(&rt, rt.alloc(), im)?;
+    }
+    Ok(())
 }
 
 // The labels of a nearest sequence that were not released.

@@ -1,5 +1,5 @@
 // The decoder beside survivors as whole lists, which is the definition as plainly as can be.
-ghost use Rattle.std.specs.Prelude.{◌≡◌, ◌<◌, ◌≤◌, ◌^◌, [], OnOk};
+ghost use Rattle.std.specs.Prelude.{◌≡◌, ◌<◌, ◌≤◌, ◌^◌, [], None, OnOk};
 
 use exact_decoder::Decoder;
 use outside_calls::NoMemory;
@@ -97,6 +97,23 @@ impl Survivors {
         }
         labels.split_at_checked(count).unwrap_or((labels, &[]))
     }
+
+    // The labels of the least survivor, of equal ones that of the smallest state.
+    fn least(&self) -> &[u8] {
+        let mut least: Option<&Survivor> = None;
+        for survivor in &self.of_states {
+            if let Some(survivor) = survivor {
+                match least {
+                    Some(known) if known.cost <= survivor.cost => {}
+                    _ => least = Some(survivor),
+                }
+            }
+        }
+        match least {
+            Some(survivor) => survivor.labels.as_slice(),
+            None => &[],
+        }
+    }
 }
 
 /// The points of quads that are drawn by chance, with offsets of less than half the spread.
@@ -165,6 +182,24 @@ fn take_all(rt: &impl Abort, decoder: &mut Line, taken: &mut Vec<u8>) -> Result<
     Ok(())
 }
 
+// What was taken, and the labels behind it, are the least survivor.
+fn ends_alike(
+    rt: &impl Abort,
+    decoder: Line,
+    mut taken: Vec<u8>,
+    survivors: &Survivors,
+) -> Result<(), NoMemory>
+    requires taken { decoder.pending ≡ [] }
+    requires lost { decoder.lost ≡ None }
+{
+    let tail = decoder.finish();
+    for label in tail.as_slice() {
+        taken.push(*label)?;
+    }
+    assert!(rt; taken.as_slice() == survivors.least());
+    Ok(())
+}
+
 // With which symbol the line is lost, where from the symbol `middle` on all samples lie in the middle of the map. After each sample
 // the decoder has released what all survivors begin with.
 fn lost_with(
@@ -199,6 +234,10 @@ fn lost_with(
             return Ok(Some(lost.symbol));
         }
     }
+    if let Some(lost) = decoder.lost() {
+        return Ok(Some(lost.symbol));
+    }
+    ends_alike(rt, decoder, taken, &survivors)?;
     Ok(None)
 }
 
