@@ -1,6 +1,7 @@
 -- What a listener heard, one more step at a time.
-use Rattle.std.proofs.Common.{◌≡◌, ◌∙◌, ℕ, ◌+◌, ◌/◌, ◌%◌, ◌^◌, ◌<◌, Bool, false, List, [], ◌∷◌, ◌++◌, length, take, drop, get_or}
-use Rattle.std.proofs.Common.{nat_eq, bit_and, Option, Some, None, refl, sym, ap, subst, arith, append-nil, append_assoc}
+use Rattle.std.proofs.Common.{◌≡◌, ◌∙◌, ℕ, ◌+◌, ◌/◌, ◌%◌, ◌^◌, ◌<◌, Bool, false, List, [], ◌∷◌, ◌++◌, length, take, drop, get_or, Result}
+use Rattle.std.proofs.Common.{Ok}
+use Rattle.std.proofs.Common.{Err, OnOk, nat_eq, bit_and, Option, Some, None, refl, sym, ap, subst, arith, append-nil, append_assoc}
 use Rattle.std.proofs.Common.{length-append}
 use Rattle.std.specs.Option.{option_map, option_map_or}
 use Rattle.std.proofs.lemmas.List.{take_more, take-append-drop}
@@ -178,13 +179,6 @@ bit-more bits n count i h =
 
 pub bits-left : (bits more : List Bool) (i : ℕ) → (bits ++ take i more) ++ drop i more ≡ bits ++ more
 bits-left bits more i = append_assoc bits (take i more) (drop i more) ∙ ap (λ xs. bits ++ xs) (take-append-drop i more)
-
--- the low four bits of an octet, and the others
-pub four-more : (bits : List Bool) (octet : ℕ) → (bits ++ low_bits 4 octet) ++ low_bits 4 (octet / 16) ≡ bits ++ octet_bits octet
-four-more bits octet =
-    let high : octet / 16 ≡ octet / 2 / 2 / 2 / 2 = omega arith in
-    append_assoc bits (low_bits 4 octet) (low_bits 4 (octet / 16))
-    ∙ ap (λ n. bits ++ (low_bits 4 octet ++ low_bits 4 n)) high
 
 -- the octets up to a place, and one more
 pub octet-more : (bits : List Bool) (octets : List ℕ) (i : ℕ) → i < length octets

@@ -1,7 +1,7 @@
 // A listener to a stream of bits, who says what each piece is.
 ghost use Rattle.std.specs.Prelude.{◌≡◌, ◌≤◌, ◌<◌, ◌+◌, ◌*◌, ◌^◌, ℕ, Bool, true, false, List, [], ◌∷◌, ◌++◌, OnOk, OnErr, IfErr, length};
 ghost use Rattle.outside_calls.specs.Folder.{FolderState, OnlySays, CountsStand};
-ghost use Rattle.plain_lists.specs.Bits.{low_bits, octet_bits, bits_of};
+ghost use Rattle.plain_lists.specs.Bits.{low_bits, bits_of};
 ghost use Rattle.command_base.specs.Stops.{SayFails};
 ghost use Rattle.bit_stuffing.specs.Found.{Found};
 ghost use Rattle.command_base.specs.Heard.{Heard, PartlyHeard, LeftAt, SaysPiece, PartlySaysPiece};
@@ -178,29 +178,6 @@ impl Listener {
         }
     }
 
-    /// Hears the bits of an octet. Where a piece may end with one of them, its low and its high four bits are looked at apart, so that as few
-    /// as may be are heard one by one.
-    fn hear_octet<F: Folder>(&mut self, folder: &mut F, octet: u8) -> Result<(), FolderFault>
-        requires { self.old.pieces < 2 ^ 61 }
-        ensures ok { (start : FolderState) (bits : List Bool) → Heard start (F.state folder.old) self.old bits
-            → OnOk result (Heard start (F.state folder.new) self.new (bits ++ octet_bits octet)) }
-        ensures left { (start : FolderState) (bits : List Bool) → Heard start (F.state folder.old) self.old bits
-            → OnErr result (LeftAt start (F.state folder.new) self.new (bits ++ octet_bits octet)) }
-        ensures only { OnlySays (F.state folder.old) (F.state folder.new) }
-        ensures fails { IfErr result (SayFails (F.state folder.old) (F.state folder.new)) }
-        ensures stand { OnOk result (CountsStand (F.state folder.old) (F.state folder.new)) }
-        ensures sender { self.new.sender ≡ self.old.sender }
-        ensures pieces { self.new.pieces ≤ self.old.pieces + 8 }
-    {
-        if self.pass_low(octet, 8) {
-            return Ok(());
-        }
-        match self.hear_low(folder, octet, 4) {
-            Ok(()) => self.hear_low(folder, octet >> 4, 4),
-            Err(fault) => Err(fault),
-        }
-    }
-
     /// Hears the bits of octets.
     pub fn hear<F: Folder>(&mut self, folder: &mut F, octets: &[u8]) -> Result<(), FolderFault>
         requires pieces { self.old.pieces < 2 ^ 60 }
@@ -218,7 +195,7 @@ impl Listener {
         ensures pieces { self.new.pieces ≤ self.old.pieces + 8 * length octets.now }
     {
         for octet in octets {
-            match self.hear_octet(folder, *octet) {
+            match self.hear_low(folder, *octet, 8) {
                 Ok(()) => {}
                 Err(fault) => return Err(fault),
             }

@@ -8,22 +8,22 @@ use Rattle.command_base.proofs.listener.Listener.hear.Goals as goal
 
 pub returns-in-Err-clause-left : goal.returns-in-Err-clause-left
 returns-in-Err-clause-left g c = λ start bits heard.
-    let new : FolderState = g.F.Folder.state c.hear_octet.new.folder in
+    let new : FolderState = g.F.Folder.state c.hear_low.new.folder in
     let i = c.loop-octet.octet-index in let octets = c.args.octets.now in
     let within : i < length octets = omega (arith, c.loop-octet-test.true) in
     let front : List Bool = bits ++ bits_of (take i octets) in let octet : List Bool = octet_bits (get_or octets i 0) in
-    left-longer start new c.hear_octet.new.self (front ++ octet) (bits_of (drop (i + 1) octets)) (bits ++ bits_of octets)
+    left-longer start new c.hear_low.new.self (front ++ octet) (bits_of (drop (i + 1) octets)) (bits ++ bits_of octets)
     (ap (λ xs. xs ++ bits_of (drop (i + 1) octets)) (octet-more bits octets i within) ∙ octets-left bits octets (i + 1))
     (c.in-Err.ensures.left start front (c.loop-octet.invariant.heard start bits heard))
 
 pub returns-in-Err-clause-err : goal.returns-in-Err-clause-err
 returns-in-Err-clause-err g c = λ start bits heard.
-    let new : FolderState = g.F.Folder.state c.hear_octet.new.folder in
+    let new : FolderState = g.F.Folder.state c.hear_low.new.folder in
     let i = c.loop-octet.octet-index in let octets = c.args.octets.now in
     let within : i < length octets = omega (arith, c.loop-octet-test.true) in
     let front : List Bool = bits ++ bits_of (take i octets) in let octet : List Bool = octet_bits (get_or octets i 0) in
-    let left : LeftAt start new c.hear_octet.new.self (front ++ octet) =
+    let left : LeftAt start new c.hear_low.new.self (front ++ octet) =
     c.in-Err.ensures.left start front (c.loop-octet.invariant.heard start bits heard) in
     subst (λ (role : Role). PartlyHeard start new role (bits ++ bits_of octets)) (c.in-Err.ensures.sender ∙ c.loop-octet.invariant.sender)
-    (partly-longer start new c.hear_octet.new.self.sender (front ++ octet) (bits_of (drop (i + 1) octets)) (bits ++ bits_of octets)
+    (partly-longer start new c.hear_low.new.self.sender (front ++ octet) (bits_of (drop (i + 1) octets)) (bits ++ bits_of octets)
     (ap (λ xs. xs ++ bits_of (drop (i + 1) octets)) (octet-more bits octets i within) ∙ octets-left bits octets (i + 1)) left.part)
