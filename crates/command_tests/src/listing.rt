@@ -38,7 +38,8 @@ pub(super) fn listed(alloc: Global, sender: &str, bits: &[u8], fails: &[u64]) ->
 /// Who sends, the bits, the call that fails, the answer, and what is said.
 type Listing = (&'static str, &'static [u8], u64, Status, &'static str);
 
-/// Listings, the last of them over a folder that fails. One of one piece reads an octet at the limit and the file, says a line, reads the end
+/// Listings, the last of them over a folder that fails. Refused are a frame on channel 1, an RR with one octet of control, and a SABME with
+/// information. One of one piece reads an octet at the limit and the file, says a line, reads the end
 /// and says the last line: each call that fails is named by its kind.
 const LISTINGS: &[Listing] = &[
     (
@@ -75,6 +76,34 @@ const LISTINGS: &[Listing] = &[
         0,
         Status::Done,
         "aborted\ntoo short\npieces 2\n",
+    ),
+    (
+        "orig",
+        &[0x7e, 0x07, 0xdf, 0xbe, 0x24, 0xfb, 0x01],
+        0,
+        Status::Done,
+        "refused address 07\npieces 1\n",
+    ),
+    (
+        "orig",
+        &[0x7e, 0x03, 0x01, 0xa6, 0x34, 0x7e],
+        0,
+        Status::Done,
+        "refused short\npieces 1\n",
+    ),
+    (
+        "orig",
+        &[0x7e, 0x03, 0xdf, 0x00, 0x48, 0xb5, 0xfc, 0x00],
+        0,
+        Status::Done,
+        "refused long 3\npieces 1\n",
+    ),
+    (
+        "orig",
+        &[0x7e, 0xdf, 0xf7, 0x01, 0xbf],
+        0,
+        Status::Done,
+        "ragged\npieces 1\n",
     ),
     ("orig", SABME, 1, Status::ReadFault, "read fault\n"),
     ("orig", SABME, 2, Status::ReadFault, "read fault\n"),

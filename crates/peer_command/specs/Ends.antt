@@ -45,7 +45,7 @@ pub record RanTo (old new : FolderState) (n : Names) (end : PeerEnd) : Type 0 wh
   pub run : RunsTo n.role file octets end left
   pub holds : HoldLeft new n left
 
--- It failed to read a slot of the bits: the outputs hold what the turns before left.
+-- The folder failed to read a slot of the bits: the outputs hold what the turns before left.
 pub record StopsBetween (old new : FolderState) (n : Names) : Type 0 where
   pub file : List ℕ
   pub octets : List ℕ
@@ -77,7 +77,7 @@ StopsReading new n file octets s =
 abbrev pub StopsInReading : FolderState → FolderState → Names → Type 0
 StopsInReading old new n = (s : StopsInTurn old new n) × StopsReading new n s.file s.octets s.stops
 
--- or as they were
+-- An output was not created, once both inputs were within their limits.
 pub record StopsCreating (old new : FolderState) (n : Names) : Type 0 where
   pub bits_within : IsWithin old n.bits FILE_LIMIT
   pub file_within : IsWithin old n.file FILE_LIMIT

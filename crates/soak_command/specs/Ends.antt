@@ -64,7 +64,7 @@ IsTurnEnd faults.ReadFault = ⊥
 IsTurnEnd faults.WriteFault = ⊥
 IsTurnEnd fault = Unit {0}
 
--- why a soak stops whose turns end by this fault
+-- why a soak stops whose turns end by this fault: its folder never fails, so that all that is left is want of memory
 abbrev pub fault_stop : RunFault → Stop
 fault_stop (faults.LineLost role symbol) = Own (LineLost role symbol)
 fault_stop (faults.ChanceMatch role turn) = Own (ChanceMatch role turn)
