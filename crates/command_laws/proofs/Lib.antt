@@ -1,2 +1,4 @@
 pub mod Tapping
 mod Tracing
+mod Sent
+mod Decoding

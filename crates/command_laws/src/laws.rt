@@ -1,12 +1,18 @@
 //! Laws over what several commands promise. The functions do nothing but name the laws that they rest on: each law is a contract.
+ghost use Rattle.command_laws.specs.Files.{FilesComeBack};
 ghost use Rattle.command_laws.specs.Taps.{TapsLeaveWhatRunsLeft};
 ghost use Rattle.command_laws.specs.Traces.{TracesOfRunsAreTrue};
 
 use command_base::apart_names_differ;
+use exact_decoder::laws::sent_labels_are_decoded;
 use line_ends::laws::octets_are_sendable;
 use line_run::laws::{runs_leave_prefixes, scripts_make_links, slots_have_room};
 use line_tap::laws::recordings_tell_runs;
+use noise_bound::noiseless::few_labels_are_unreleased;
 use noise_script::laws::{one_answer, spelled_scripts_are_in_limits};
+use rate_4800::Rate4800;
+use symbol_map::laws::no_distance_is_equal;
+use trellis_tables::V32Code;
 
 /// A tap of what was recorded of a run leaves what the run left, however the run ended.
 pub fn taps_leave_what_runs_left()
@@ -26,4 +32,14 @@ pub fn traces_of_runs_are_true()
 {
     apart_names_differ();
     one_answer();
+}
+
+/// A file that was encoded comes back from a decoding of its recording, at either rate.
+pub fn encoded_files_come_back()
+    ensures { FilesComeBack }
+{
+    no_distance_is_equal();
+    sent_labels_are_decoded::<8, 32, V32Code>();
+    sent_labels_are_decoded::<1, 4, Rate4800>();
+    few_labels_are_unreleased();
 }
