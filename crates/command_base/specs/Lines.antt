@@ -78,11 +78,6 @@ listed (word ∷ words) = word ++ listed_behind words
 abbrev pub usage_line : List (List ℕ) → List ℕ
 usage_line commands = codes "usage: modem " ++ listed commands ++ codes "\n"
 
--- each of these words has at most seven octets
-abbrev pub AreShort : List (List ℕ) → Type 0
-AreShort [] = Unit {0}
-AreShort (word ∷ words) = (length word ≤ 7) × AreShort words
-
 -- ---- other answers
 
 abbrev pub too_long_line : List ℕ → List ℕ

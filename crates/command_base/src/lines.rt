@@ -1,7 +1,7 @@
 // The lines that answers say.
 ghost use Rattle.std.specs.Prelude.{◌≡◌, ◌<◌, ◌≤◌, ◌+◌, ◌*◌, [], ◌++◌, map, length, decimal, codes};
 ghost use Rattle.shared_terms.specs.Role.{role_word};
-ghost use Rattle.command_base.specs.Lines.{xid_words, count_line, done_line, samples_line, octets_line, pieces_line, turns_line, both_done_line, true_line, soak_line, margin_line, listed_behind, usage_line, AreShort, peer_words, short_line};
+ghost use Rattle.command_base.specs.Lines.{xid_words, count_line, done_line, samples_line, octets_line, pieces_line, turns_line, both_done_line, true_line, soak_line, margin_line, listed_behind, usage_line, peer_words, short_line};
 ghost use Rattle.shared_terms.specs.Cause.{cause_word};
 ghost use Rattle.shared_terms.specs.AuditCause.{audit_word};
 
@@ -168,10 +168,8 @@ pub fn margin_line(cost: u64, sure: bool) -> Line
 
 /// Puts words behind the first one, each behind a comma.
 fn put_behind(line: &mut Line, words: &[&str])
-    requires room { length line.old + 9 * length words.now < LINE }
-    requires short { AreShort (map (λ word. word.now) words.now) }
-    ensures text { line.new ≡ line.old ++ listed_behind (map (λ word. word.now) words.now) }
-    ensures room { length line.new ≤ length line.old + 9 * length words.now }
+    requires { length line.old + length (listed_behind (map (λ word. word.now) words.now)) ≤ LINE }
+    ensures { line.new ≡ line.old ++ listed_behind (map (λ word. word.now) words.now) }
 {
     match words.split_first() {
         None => {}
@@ -185,8 +183,7 @@ fn put_behind(line: &mut Line, words: &[&str])
 
 /// The line that tells how the program is used: the words of its commands, in this order.
 pub fn usage_line(commands: &[&str]) -> Line
-    requires few { length commands.now ≤ 15 }
-    requires short { AreShort (map (λ word. word.now) commands.now) }
+    requires { length (usage_line (map (λ word. word.now) commands.now)) ≤ LINE }
     ensures { result ≡ usage_line (map (λ word. word.now) commands.now) }
 {
     let mut line = Line::new();

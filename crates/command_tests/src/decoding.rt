@@ -135,6 +135,37 @@ fn recordings_are_decoded_or_refused_at_their_place(rt: HostRuntime) -> Result<(
     Ok(())
 }
 
+/// A header of a rate, but for the octet at this place.
+fn with_wrong(alloc: Global, mode: u8, place: usize) -> Result<Vec<u8>, Fail> {
+    let mut header = Vec::from_slice(alloc, b"V32R")?;
+    header.extend_from_slice(&[mode, 0, 0, 0])?;
+    if let Some(octet) = header.get_mut(place) {
+        *octet ^= 0x20;
+    }
+    Ok(header)
+}
+
+/// The rates, and an octet that tells who sends at each.
+const MODES: &[(Rate, u8)] = &[
+    (Rate::Trellis, 0),
+    (Rate::Trellis, 1),
+    (Rate::Quarters, 2),
+    (Rate::Quarters, 3),
+];
+
+#[test]
+fn the_first_octet_that_is_none_of_a_header_is_named(rt: HostRuntime) -> Result<(), Fail> {
+    for (rate, mode) in MODES {
+        for place in 0..8usize {
+            let rec = with_wrong(rt.alloc(), *mode, place)?;
+            let ran = decoded(rt.alloc(), *rate, &rec, &[])?;
+            let at = place as u64;
+            assert!(&rt; ran.status == Status::BadRecording { at }, "{mode} {place}");
+        }
+    }
+    Ok(())
+}
+
 /// A recording at the second rate of as many samples at the origin as would lose a line of the trellis code.
 fn zeros(alloc: Global) -> Result<Vec<u8>, Fail> {
     let mut zeros = Vec::from_slice(alloc, b"V32R\x02\0\0\0")?;

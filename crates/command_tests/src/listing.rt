@@ -132,3 +132,28 @@ fn pieces_are_listed(rt: HostRuntime) -> Result<(), Fail> {
     }
     Ok(())
 }
+
+/// A flag, so many octets of zeros, and a flag.
+fn zeros_between_flags(alloc: Global, count: usize) -> Result<Vec<u8>, Fail> {
+    let mut bits = vec![in alloc; 0u8; count + 2]?;
+    for place in [0, count + 1] {
+        if let Some(octet) = bits.get_mut(place) {
+            *octet = 0x7e;
+        }
+    }
+    Ok(bits)
+}
+
+/// A piece of 8248 bits is whole, and one of a single octet more isn't looked at.
+#[test]
+fn a_piece_of_more_than_1031_octets_is_too_long(rt: HostRuntime) -> Result<(), Fail> {
+    for (count, said) in [
+        (1031, "bad check 1031\npieces 1\n"),
+        (1032, "too long\npieces 1\n"),
+    ] {
+        let bits = zeros_between_flags(rt.alloc(), count)?;
+        let ran = listed(rt.alloc(), "orig", &bits, &[])?;
+        says(&rt, &ran, Status::Done, said);
+    }
+    Ok(())
+}

@@ -8,7 +8,7 @@ use command_base::{
 use lapm_frames::FrameFault;
 use outside_calls::{FolderFault, NoMemory};
 use outside_core::MemoryFolder;
-use shared_terms::{Cause, Role};
+use shared_terms::{AuditCause, Cause, Role};
 use std::alloc::Global;
 use std::fmt::{Debug, Display};
 use std::process::Abort;
@@ -85,6 +85,37 @@ const LINES: &[(Status, u8, &str)] = &[
         },
         10,
         "chance match: orig turn 1\n",
+    ),
+    (
+        Status::AuditNo {
+            line: 3,
+            cause: AuditCause::Arrived,
+        },
+        13,
+        "false line 3: arrived\n",
+    ),
+    (
+        Status::BadTap {
+            role: Role::Answerer,
+            turn: 11,
+        },
+        14,
+        "bad tap: answ turn 11\n",
+    ),
+    (
+        Status::PairNotDetected { link: 2, turn: 120 },
+        8,
+        "not detected: link 2 turn 120\n",
+    ),
+    (
+        Status::PairLinkLost {
+            link: 1,
+            role: Role::Answerer,
+            segment: 31,
+            turn: 160,
+        },
+        9,
+        "link lost: link 1 answ segment 31 turn 160\n",
     ),
 ];
 

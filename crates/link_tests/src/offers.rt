@@ -101,6 +101,12 @@ fn faults_of_parameters(rt: HostRuntime) {
         b"\x82\x80\x00\x04\x07\x02\x00\x0f",
         XidFault::Length { at: 5 },
     );
+    // A parameter that is cut where a second group begins: it begins earlier.
+    refuses(
+        &rt,
+        b"\x82\x80\x00\x01\x07\x80\x00\x00",
+        XidFault::Length { at: 5 },
+    );
     refuses(
         &rt,
         b"\x82\x80\x00\x03\x05\x01\x07",

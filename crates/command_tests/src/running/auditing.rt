@@ -76,8 +76,14 @@ const ENDS: &[Change] = &[
     ),
 ];
 
+/// A line of 161 octets, one more than any line of a trace may have.
+const LONG: &str = "3 orig adp > flags\
+    0123456789012345678901234567890123456789012345678901234567890123456789\
+    0123456789012345678901234567890123456789012345678901234567890123456789012";
+
 /// Traces with a line that is none.
 const SPELLINGS: &[Change] = &[
+    ("3 orig adp > flags", LONG, 7, AuditCause::Spelling),
     (
         "3 orig adp > flags",
         "03 orig adp > flags",

@@ -127,6 +127,14 @@ const CROSSINGS: &[Crossing] = &[
             Look::Line("27 answ ui cmd p=0 brk 0 30 > ui cmd p=0 brkack 0 30"),
         ],
     },
+    // Once the link is to be released, which both ends know in turn 200, no break is asked for.
+    Crossing {
+        orig: File::Text(b"a"),
+        answ: b"b",
+        script: b"delay 20 20\nbreak answ 205 5",
+        said: "done 240\n",
+        looks: &[Look::Sent("205 answ ", " > flags")],
+    },
     // A pause holds segments back.
     Crossing {
         orig: File::Octets(1_920),

@@ -71,27 +71,43 @@ fn flags_with(alloc: Global, octets: &[u8]) -> Result<Vec<Sample>, Fail> {
     Ok(points)
 }
 
-/// The line of a script that moves a symbol of the answerer's from one point to another.
-fn write_hit(text: &mut String, symbol: usize, from: &Sample, to: &Sample) -> Result<(), Fail> {
+/// The line of a script that moves a symbol of this end's from one point to another.
+fn write_hit(
+    text: &mut String,
+    role: &str,
+    symbol: usize,
+    from: &Sample,
+    to: &Sample,
+) -> Result<(), Fail> {
     let re = i32::from(to.re) - i32::from(from.re);
     let im = i32::from(to.im) - i32::from(from.im);
-    writeln!(text, "hit answ {symbol} 1 {re} {im}")?;
+    writeln!(text, "hit {role} {symbol} 1 {re} {im}")?;
     Ok(())
 }
 
-/// A script that moves the first symbols of the answerer to these points.
-fn hits(alloc: Global, to: &[Sample]) -> Result<String, Fail> {
-    let sent = points(alloc, Mode::Answer, &marks())?;
-    let mut script = String::new(alloc);
+/// Puts into a script what moves an end's first symbols, which were sent as these, to points.
+fn write_hits(text: &mut String, role: &str, sent: &[Sample], to: &[Sample]) -> Result<(), Fail> {
     for (symbol, (from, to)) in sent.iter().zip(to).enumerate() {
-        write_hit(&mut script, symbol, from, to)?;
+        write_hit(text, role, symbol, from, to)?;
     }
-    Ok(script)
+    Ok(())
+}
+
+/// Puts into a script what moves the first symbols of the answerer to these points.
+fn hit_answerer(alloc: Global, text: &mut String, to: &[Sample]) -> Result<(), Fail> {
+    write_hits(text, "answ", &points(alloc, Mode::Answer, &marks())?, to)
+}
+
+/// Puts into a script what moves the first symbols of the originator to these points.
+fn hit_originator(alloc: Global, text: &mut String, to: &[Sample]) -> Result<(), Fail> {
+    let sent = points(alloc, Mode::Call, &patterns(Seen::Odp))?;
+    write_hits(text, "orig", &sent, to)
 }
 
 /// A run in which the first symbols of the answerer are moved to these points.
 pub(super) fn run_hit(alloc: Global, to: &[Sample]) -> Result<Ran, Fail> {
-    let script = hits(alloc, to)?;
+    let mut script = String::new(alloc);
+    hit_answerer(alloc, &mut script, to)?;
     run(alloc, b"a", b"b", script.as_bytes())
 }
 
@@ -108,6 +124,19 @@ fn samples_that_say_nothing_lose_the_line(rt: HostRuntime) -> Result<(), Fail> {
     says(&rt, &ran, lost, "line lost: orig symbol 128\n");
     receives(&rt, &ran, b"", b"");
     leaves(&rt, &ran, "t", b"0 orig - > odp\n0 answ - > mark\n");
+    Ok(())
+}
+
+#[test]
+fn of_two_lost_lines_the_originator_s_counts(rt: HostRuntime) -> Result<(), Fail> {
+    let mut script = String::new(rt.alloc());
+    hit_originator(rt.alloc(), &mut script, &ZEROS)?;
+    let lost = |role| Status::LineLost { role, symbol: 128 };
+    let alone = run(rt.alloc(), b"a", b"b", script.as_bytes())?;
+    says(&rt, &alone, lost(Role::Answerer), "line lost: answ symbol 128\n");
+    hit_answerer(rt.alloc(), &mut script, &ZEROS)?;
+    let both = run(rt.alloc(), b"a", b"b", script.as_bytes())?;
+    says(&rt, &both, lost(Role::Originator), "line lost: orig symbol 128\n");
     Ok(())
 }
 
@@ -166,6 +195,17 @@ fn noise_changes_nothing_that_is_received(rt: HostRuntime) -> Result<(), Fail> {
     let plain = run(rt.alloc(), &file, b"b", b"")?;
     let ran = run(rt.alloc(), &file, b"b", noisy)?;
     receives(&rt, &ran, b"b", &file);
+    leaves(&rt, &ran, "t", plain.left("t"));
+    Ok(())
+}
+
+/// The offsets of a thousand symbols, each of at most 50 units: 5,000,000 in all at most, less than the 10,485,760 below which nothing changes.
+#[test]
+fn faint_noise_changes_nothing_at_all(rt: HostRuntime) -> Result<(), Fail> {
+    let faint = b"noise orig 0 1000 50 1\nnoise answ 0 1000 50 2\n";
+    let plain = run(rt.alloc(), b"a", b"b", b"")?;
+    let ran = run(rt.alloc(), b"a", b"b", faint)?;
+    says(&rt, &ran, Status::Done, "done 12\n");
     leaves(&rt, &ran, "t", plain.left("t"));
     Ok(())
 }
