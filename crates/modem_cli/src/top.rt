@@ -1,5 +1,5 @@
 // The top call.
-ghost use Rattle.std.specs.Prelude.{◌≡◌, IfSome, map, string_bytes};
+ghost use Rattle.std.specs.Prelude.{◌≡◌, ◌≢◌, IfSome, map, string_bytes};
 ghost use Rattle.std.specs.Option.{option_map_or};
 ghost use Rattle.command_base.specs.Status.{PassesNoneOver};
 ghost use Rattle.modem_cli.specs.Modem.{Nothing, named, AreApart, asked, PromisesOf, AnswersBy, CompletesOf, usage};
@@ -74,6 +74,31 @@ fn usage() -> Line
     ])
 }
 
+/// Does what a command's names say, and answers how it ended. Each answer's line is said last.
+fn answer<F: Folder>(alloc: Global, folder: &mut F, words: &[String], asked: &Asked<'_>) -> Status
+    requires { AreApart (named asked.now) }
+    ensures promises { PromisesOf (named asked.now) (F.state folder.old) (F.state folder.new) result }
+    ensures answer { AnswersBy (named asked.now) (map string_bytes words.now) (F.state folder.old) (F.state folder.new) result }
+    ensures completes { CompletesOf (named asked.now) (F.state folder.old) (F.state folder.new) result }
+    ensures stand { PassesNoneOver (F.state folder.old) (F.state folder.new) result }
+    ensures usage { result ≢ Status.Usage }
+{
+    match asked {
+        Asked::Run(names) => run(alloc, folder, words, names),
+        Asked::Encode(names) => encode(folder, words, names),
+        Asked::Decode(names) => decode(alloc, folder, words, names),
+        Asked::Frames(names) => frames(folder, words, names),
+        Asked::Xid(digits) => xid(folder, words, digits),
+        Asked::Soak(seed) => soak(alloc, folder, words, *seed),
+        Asked::Peer(names) => peer(alloc, folder, words, names),
+        Asked::Pickup(rec) => pickup(alloc, folder, words, rec),
+        Asked::Margin(names) => margin(folder, words, names),
+        Asked::Tap(names) => tap(alloc, folder, words, names),
+        Asked::Pair(names) => pair(alloc, folder, words, names),
+        Asked::Audit(names) => audit(alloc, folder, words, names),
+    }
+}
+
 /// Does what the words of a command line say, and answers how it ended. Each answer's line is said last.
 pub fn modem<F: Folder>(alloc: Global, words: &[String], folder: &mut F) -> Status
     // Each end of a run receives a prefix of the other's file, and done means that both are whole. What `encode` writes is
@@ -97,18 +122,7 @@ pub fn modem<F: Folder>(alloc: Global, words: &[String], folder: &mut F) -> Stat
     ensures usage { result ≡ Status.Usage → asked (map string_bytes words.now) ≡ Nothing }
 {
     match read_words(words) {
-        Some(Asked::Run(names)) => run(alloc, folder, words, &names),
-        Some(Asked::Encode(names)) => encode(folder, words, &names),
-        Some(Asked::Decode(names)) => decode(alloc, folder, words, &names),
-        Some(Asked::Frames(names)) => frames(folder, words, &names),
-        Some(Asked::Xid(digits)) => xid(folder, words, digits),
-        Some(Asked::Soak(seed)) => soak(alloc, folder, words, seed),
-        Some(Asked::Peer(names)) => peer(alloc, folder, words, &names),
-        Some(Asked::Pickup(rec)) => pickup(alloc, folder, words, rec),
-        Some(Asked::Margin(names)) => margin(folder, words, &names),
-        Some(Asked::Tap(names)) => tap(alloc, folder, words, &names),
-        Some(Asked::Pair(names)) => pair(alloc, folder, words, &names),
-        Some(Asked::Audit(names)) => audit(alloc, folder, words, &names),
+        Some(asked) => answer(alloc, folder, words, &asked),
         None => tell(folder, usage().as_slice(), Status::Usage),
     }
 }
