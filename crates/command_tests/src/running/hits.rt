@@ -133,10 +133,20 @@ fn of_two_lost_lines_the_originator_s_counts(rt: HostRuntime) -> Result<(), Fail
     hit_originator(rt.alloc(), &mut script, &ZEROS)?;
     let lost = |role| Status::LineLost { role, symbol: 128 };
     let alone = run(rt.alloc(), b"a", b"b", script.as_bytes())?;
-    says(&rt, &alone, lost(Role::Answerer), "line lost: answ symbol 128\n");
+    says(
+        &rt,
+        &alone,
+        lost(Role::Answerer),
+        "line lost: answ symbol 128\n",
+    );
     hit_answerer(rt.alloc(), &mut script, &ZEROS)?;
     let both = run(rt.alloc(), b"a", b"b", script.as_bytes())?;
-    says(&rt, &both, lost(Role::Originator), "line lost: orig symbol 128\n");
+    says(
+        &rt,
+        &both,
+        lost(Role::Originator),
+        "line lost: orig symbol 128\n",
+    );
     Ok(())
 }
 
