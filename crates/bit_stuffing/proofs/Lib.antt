@@ -22,5 +22,6 @@ mod States
 mod Frames
 mod Plain
 pub mod Sent
+pub mod Tails
 pub mod Sizes
 pub mod OneFrame

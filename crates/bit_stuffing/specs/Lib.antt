@@ -10,3 +10,4 @@ pub mod BitSlot
 pub mod Pen
 pub mod SlotWriter
 pub mod Sent
+pub mod Tails

@@ -16,6 +16,7 @@ ghost use Rattle.bit_stuffing.specs.Slots.{AreSlots, IsPlain, IsSlot};
 ghost use Rattle.bit_stuffing.specs.Slots.Slot.{Flags};
 ghost use Rattle.bit_stuffing.specs.Slots.{next_phase, phase_after, sent_bits};
 ghost use Rattle.bit_stuffing.specs.Stuffing.{Fits, Stuffs, removed, room_after, stuffed};
+ghost use Rattle.bit_stuffing.specs.Tails.{LastPiecesAreFound};
 
 /// The numbers that the rules name: the octets of the shortest frame with its check, and the symbols that a slot has before a frame
 /// and behind it.
@@ -70,6 +71,12 @@ pub fn pieces_grow()
 /// The pieces of a stream stay, whatever follows.
 pub fn pieces_stay()
     ensures { (bits more : List Bool) → (added : List Found) × Added bits more added }
+{}
+
+/// Of a stream whose first bits aren't heard the last pieces are found: all but those that end before or with the first flag that is
+/// heard whole.
+pub fn last_pieces_are_found()
+    ensures { LastPiecesAreFound }
 {}
 
 /// What is found in a slot is what was sent in it and nothing else, whatever slots came before.

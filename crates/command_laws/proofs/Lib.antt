@@ -1,4 +1,8 @@
 pub mod Tapping
 mod Tracing
 mod Sent
+mod Cutting
+mod Told
+mod Named
+mod Picking
 mod Decoding

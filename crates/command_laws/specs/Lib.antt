@@ -1,3 +1,4 @@
 pub mod Taps
 pub mod Traces
 pub mod Files
+pub mod Pickups

@@ -1,15 +1,21 @@
 //! Laws over what several commands promise. The functions do nothing but name the laws that they rest on: each law is a contract.
 ghost use Rattle.command_laws.specs.Files.{FilesComeBack};
+ghost use Rattle.command_laws.specs.Pickups.{PickupsFindWhatIsTold, PickupsFindWhatTapsName, FramesAreNamed};
 ghost use Rattle.command_laws.specs.Taps.{TapsLeaveWhatRunsLeft};
 ghost use Rattle.command_laws.specs.Traces.{TracesOfRunsAreTrue};
 
+use bit_stuffing::laws::last_pieces_are_found;
 use command_base::apart_names_differ;
 use exact_decoder::laws::sent_labels_are_decoded;
 use line_ends::laws::octets_are_sendable;
+use line_run::direction::{codable_slots_fit, slots_that_fit_follow_one_another};
 use line_run::laws::{runs_leave_prefixes, scripts_make_links, slots_have_room};
 use line_tap::laws::recordings_tell_runs;
 use noise_bound::noiseless::few_labels_are_unreleased;
 use noise_script::laws::{one_answer, spelled_scripts_are_in_limits};
+use pickup_command::laws::{
+    later_pieces_stand_behind, middles_give_what_was_sent, samples_give_one_list,
+};
 use rate_4800::Rate4800;
 use symbol_map::laws::no_distance_is_equal;
 use trellis_tables::V32Code;
@@ -42,4 +48,20 @@ pub fn encoded_files_come_back()
     sent_labels_are_decoded::<8, 32, V32Code>();
     sent_labels_are_decoded::<1, 4, Rate4800>();
     few_labels_are_unreleased();
+}
+
+/// Of the middle of a recording that a tap told, whatever quarter turn it has, a pickup says the frames that the tap names. The line of
+/// a frame with the check of 16 bits is the text by which the trace names it.
+pub fn pickups_find_what_taps_name()
+    ensures told { PickupsFindWhatIsTold }
+    ensures done { PickupsFindWhatTapsName }
+    ensures named { FramesAreNamed }
+{
+    slots_have_room();
+    slots_that_fit_follow_one_another();
+    codable_slots_fit();
+    last_pieces_are_found();
+    samples_give_one_list();
+    later_pieces_stand_behind();
+    middles_give_what_was_sent();
 }

@@ -13,6 +13,7 @@ use std::test::Fail;
 use symbol_map::Sample;
 use tap_command::{tap, tap_words};
 
+mod picked;
 mod recorded;
 mod stuffed;
 

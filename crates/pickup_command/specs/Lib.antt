@@ -5,3 +5,4 @@ pub mod Ends
 pub mod Completes
 pub mod Headline
 pub mod Laws
+pub mod Middles

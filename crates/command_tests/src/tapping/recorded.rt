@@ -226,7 +226,7 @@ fn a_tap_leaves_what_the_run_left(rt: HostRuntime) -> Result<(), Fail> {
 }
 
 /// A run of one octet each way that was recorded.
-fn one_octet_each(alloc: Global) -> Result<MemoryFolder, Fail> {
+pub(super) fn one_octet_each(alloc: Global) -> Result<MemoryFolder, Fail> {
     recorded(
         alloc,
         &File::Text(b"a"),

@@ -1,0 +1,154 @@
+-- The slots of turns that recordings told: they fit, their frames are those that were sent, and their bits are those of the samples.
+use Rattle.std.proofs.Common.{◌≡◌, ◌∙◌, ℕ, ◌+◌, ◌*◌, ◌≤◌, List, [], ◌∷◌, ◌++◌, length, take, refl, sym, ap, subst, arith}
+use Rattle.std.proofs.Common.{length-append, ◌<◌, Option, Some, None}
+use Rattle.std.proofs.lemmas.List.Elements.{All-nil}
+use Rattle.std.proofs.lemmas.List.{append-nil, append_assoc, map-append, take_all}
+use Rattle.frame_check.specs.declared.check.Check.{Check}
+use Rattle.scramblers.specs.Mode.{tap_of}
+use Rattle.bit_stuffing.specs.Slots.{Slot}
+use Rattle.bit_stuffing.specs.Slots.Slot.{Plain, Flags}
+use Rattle.bit_stuffing.specs.Slots as slots
+use Rattle.detection.specs.Slots.{Signal, slot_of, slots_of}
+use Rattle.shared_terms.specs.declared.role.Role.{Role}
+use Rattle.shared_terms.specs.Role.{mode_of}
+use Rattle.shared_terms.specs.Both.{of}
+use Rattle.line_coding.specs.Modulates.{Modulates}
+use Rattle.recordings.specs.Samples.{samples_in}
+use Rattle.lapm_frames.specs.declared.sent.Sent.{Sent}
+use Rattle.lapm_frames.specs.declared.sent.Sent.TheVariants as sent
+use Rattle.sample_line.specs.Signals.{signal_of}
+use Rattle.link_run.specs.Run.{Spoken, Turn}
+use Rattle.link_run.specs.Listened.{check_by}
+use Rattle.line_run.specs.Fitting.{AreFit}
+use Rattle.line_run.specs.Laws.{OneMoreFits, CodableFits, CodableIsSendable, SpelledInOctets}
+use Rattle.line_run.specs.Sampled.{signal_in, signals, bits_of}
+use Rattle.line_run.proofs.Bits.{bits-more}
+use Rattle.line_tap.specs.Tapping.{Tapping, line_of, terms_of, octets_of, Tells, told, phase_behind}
+use Rattle.command_laws.specs.Pickups.{frame_in, frame_sent, frames_sent}
+
+-- ---- their frames
+
+slot-frames : (size : ℕ) (role : Role) (check : Check) (s : Sent)
+    → slots.frames_of (slot_of size (signal_of check role 0 s) ∷ []) ≡ frame_in role check s
+slot-frames size role check sent.Mark = refl
+slot-frames size role check sent.Odp = refl
+slot-frames size role check sent.Adp = refl
+slot-frames size role check sent.Flags = refl
+slot-frames size role check (sent.Frame frame) = refl
+
+frames-append : (a b : List Slot) → slots.frames_of (a ++ b) ≡ slots.frames_of a ++ slots.frames_of b
+frames-append [] b = refl
+frames-append (Plain bits ∷ a) b = frames-append a b
+frames-append (Flags None ∷ a) b = frames-append a b
+frames-append (Flags (Some octets) ∷ a) b = ap (λ t. octets ∷ t) (frames-append a b)
+
+turn-frames : (x : Tapping) (size : ℕ) (role : Role) (s : Option Spoken)
+    → slots.frames_of (slots_of size (signal_in (line_of x) role s)) ≡ frame_sent role s
+turn-frames x size role None = refl
+turn-frames x size role (Some slot) = slot-frames size role slot.check slot.sent
+
+pub frames-are : (x : Tapping) (size : ℕ) (role : Role) (ts : List Turn)
+    → slots.frames_of (slots_of size (signals (line_of x) role ts)) ≡ frames_sent role ts
+frames-are x size role [] = refl
+frames-are x size role (t ∷ ts) =
+    let before : List Signal = signals (line_of x) role ts in
+    let more : List Signal = signal_in (line_of x) role (of role t).sent in
+    ap slots.frames_of (map-append (slot_of size) before more) ∙ frames-append (slots_of size before) (slots_of size more)
+    ∙ ap (λ f. f ++ slots.frames_of (slots_of size more)) (frames-are x size role ts)
+    ∙ ap (λ f. frames_sent role ts ++ f) (turn-frames x size role (of role t).sent)
+
+-- ---- earlier turns
+
+pub signals-split : (x : Tapping) (role : Role) (later earlier : List Turn)
+    → (more : List Signal) × (signals (line_of x) role (later ++ earlier) ≡ signals (line_of x) role earlier ++ more)
+signals-split x role [] earlier = ([], sym (append-nil (signals (line_of x) role earlier)))
+signals-split x role (t ∷ later) earlier =
+    let rest = signals-split x role later earlier in
+    let more : List Signal = signal_in (line_of x) role (of role t).sent in
+    (rest.0 ++ more, ap (λ l. l ++ more) rest.1 ∙ append_assoc (signals (line_of x) role earlier) rest.0 more)
+
+pub tells-earlier : (x : Tapping) (later earlier : List Turn) → Tells x (later ++ earlier) → Tells x earlier
+tells-earlier x [] earlier h = h
+tells-earlier x (t ∷ later) earlier h = tells-earlier x later earlier h.1
+
+-- ---- they fit
+
+pub record FitLaws : Type 0 where
+  pub more : OneMoreFits
+  pub fits : CodableFits
+  pub sendable : CodableIsSendable
+  pub octets : SpelledInOctets
+
+signals-more : (x : Tapping) (role : Role) (ts : List Turn) (t : Turn) (slot : Spoken) → (of role t).sent ≡ Some slot
+    → signals (line_of x) role (t ∷ ts) ≡ signals (line_of x) role ts ++ signal_of slot.check role 0 slot.sent ∷ []
+signals-more x role ts t slot e = ap (λ (o : Option Spoken). signals (line_of x) role ts ++ signal_in (line_of x) role o) e
+
+pub told-fit : FitLaws → (x : Tapping) (ts : List Turn) → Tells x ts → (role : Role)
+    → AreFit (4 * (line_of x).symbols) 0 (signals (line_of x) role ts)
+told-fit laws x [] h role = tt
+told-fit laws x (t ∷ ts) h role =
+    let s = h.0.sends role in
+    let check : Check = check_by (terms_of x) in
+    let codable = s.holds.codable in
+    let octets = laws.octets check role 0 s.sent (omega arith)
+    (laws.sendable check role 0 (line_of x).symbols (phase_behind (line_of x) role ts) s.sent codable) in
+    subst (AreFit (4 * (line_of x).symbols) 0) (sym (signals-more x role ts t (told check s.sent) s.sent_is))
+    (laws.more (4 * (line_of x).symbols) (signals (line_of x) role ts) (signal_of check role 0 s.sent) (told-fit laws x ts h.1 role)
+    (laws.fits check role 0 (line_of x).symbols (phase_behind (line_of x) role ts) s.sent octets codable))
+
+pub one-each : (x : Tapping) (ts : List Turn) → Tells x ts → (role : Role) → length (signals (line_of x) role ts) ≡ length ts
+one-each x [] h role = refl
+one-each x (t ∷ ts) h role =
+    let s = h.0.sends role in
+    let slot : Spoken = told (check_by (terms_of x)) s.sent in
+    omega (
+      arith,
+      ap length (signals-more x role ts t slot s.sent_is),
+      length-append (signals (line_of x) role ts) (signal_of slot.check role 0 slot.sent ∷ []),
+      one-each x ts h.1 role,
+    )
+
+-- ---- they are the recording's
+
+nothing-sent : (tap : ℕ) → Modulates tap [] []
+nothing-sent tap = record {
+  line = [];
+  quads = [];
+  labels = [];
+  end = 0;
+  scrambled = record { lengths = refl; each = λ i within. absurd (omega (arith, within)) };
+  in_fours = refl;
+  are_quads = All-nil (λ quad. quad < 16);
+  encoded = record { leads = refl; turned_is = refl; uncoded_is = refl };
+  points = refl;
+}
+
+pub told-bits : (x : Tapping) (ts : List Turn) → Tells x ts → (role : Role)
+    → Modulates (tap_of (mode_of role)) (bits_of (line_of x) role ts)
+    (take ((line_of x).symbols * length ts) (samples_in (of role x.bodies)))
+told-bits x [] h role =
+    let none : (line_of x).symbols * length {A = Turn} [] ≡ 0 = omega arith in
+    subst (λ n. Modulates (tap_of (mode_of role)) [] (take n (samples_in (of role x.bodies)))) (sym none)
+    (nothing-sent (tap_of (mode_of role)))
+told-bits x (t ∷ ts) h role =
+    let s = h.0.sends role in
+    let count : (line_of x).symbols * (length ts + 1) ≡ (line_of x).symbols * length (t ∷ ts) =
+    (let n : length ts + 1 ≡ length (t ∷ ts) = omega arith in ap (λ m. (line_of x).symbols * m) n) in
+    subst (λ n. Modulates (tap_of (mode_of role)) (bits_of (line_of x) role (t ∷ ts)) (take n (samples_in (of role x.bodies)))) count
+    (subst (λ bits. Modulates (tap_of (mode_of role)) bits (take ((line_of x).symbols * (length ts + 1)) (samples_in (of role x.bodies))))
+    (sym (bits-more (line_of x) role ts (told (check_by (terms_of x)) s.sent) t (λ r n. refl) s.sent_is)) s.holds.modulated)
+
+pub few-samples : (octets : List ℕ) → 4 * length (samples_in octets) ≤ length octets
+few-samples [] = omega arith
+few-samples (a ∷ []) = omega arith
+few-samples (a ∷ b ∷ []) = omega arith
+few-samples (a ∷ b ∷ c ∷ []) = omega arith
+few-samples (a ∷ b ∷ c ∷ d ∷ octets) = omega (arith, few-samples octets)
+
+-- of a recording that ends with these turns
+pub all-told : (x : Tapping) (ts : List Turn) → Tells x ts → (role : Role) → length (of role x.bodies) ≤ octets_of (line_of x) (length ts)
+    → Modulates (tap_of (mode_of role)) (bits_of (line_of x) role ts) (samples_in (of role x.bodies))
+all-told x ts h role ended =
+    subst (Modulates (tap_of (mode_of role)) (bits_of (line_of x) role ts))
+    (take_all ((line_of x).symbols * length ts) (samples_in (of role x.bodies)) (omega (arith, ended, few-samples (of role x.bodies))))
+    (told-bits x ts h role)
