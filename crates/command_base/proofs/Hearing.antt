@@ -1,6 +1,6 @@
 -- What a listener heard, one more step at a time.
 use Rattle.std.proofs.Common.{◌≡◌, ◌∙◌, ℕ, ◌+◌, ◌/◌, ◌%◌, ◌^◌, ◌<◌, Bool, false, List, [], ◌∷◌, ◌++◌, length, take, drop, get_or, Result}
-use Rattle.std.proofs.Common.{Ok, Err, OnOk, OnErr, nat_eq, bit_and, Option, Some, None, refl, sym, ap, subst, arith, append-nil}
+use Rattle.std.proofs.Common.{Ok, Err, OnErr, nat_eq, bit_and, Option, Some, None, refl, sym, ap, subst, arith, append-nil}
 use Rattle.std.proofs.Common.{append_assoc, length-append}
 use Rattle.std.specs.Option.{option_map, option_map_or}
 use Rattle.std.proofs.lemmas.List.{take_more, take-append-drop}

@@ -1,5 +1,5 @@
 // A listener to a stream of bits, who says what each piece is.
-ghost use Rattle.std.specs.Prelude.{◌≡◌, ◌≤◌, ◌<◌, ◌+◌, ◌*◌, ◌^◌, ℕ, Bool, true, false, List, [], ◌∷◌, ◌++◌, OnOk, OnErr, IfErr, length};
+ghost use Rattle.std.specs.Prelude.{◌≡◌, ◌≤◌, ◌<◌, ◌+◌, ◌*◌, ◌^◌, Bool, List, [], ◌∷◌, ◌++◌, OnOk, OnErr, IfErr, length};
 ghost use Rattle.outside_calls.specs.Folder.{FolderState, OnlySays, CountsStand};
 ghost use Rattle.plain_lists.specs.Bits.{low_bits, octet_bits, bits_of};
 ghost use Rattle.command_base.specs.Stops.{SayFails};

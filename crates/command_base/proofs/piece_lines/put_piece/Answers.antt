@@ -1,6 +1,6 @@
-use Rattle.std.proofs.Common.{◌∙◌, ◌++◌, codes, refl, sym, ap}
+use Rattle.std.proofs.Common.{◌∙◌, ◌++◌, codes, refl, ap}
 use Rattle.bit_stuffing.specs.declared.piece.Piece.TheVariants as pieces
-use Rattle.command_base.specs.Readings.{IsRagged, IsAborted, IsTooLong, IsTooShort, reading_of}
+use Rattle.command_base.specs.Readings.{IsRagged, IsAborted, IsTooLong, IsTooShort}
 use Rattle.command_base.proofs.PieceLines.{whole-read, line-of}
 use Rattle.command_base.proofs.piece_lines.put_piece.Goals as goal
 

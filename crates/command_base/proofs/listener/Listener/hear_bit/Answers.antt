@@ -1,4 +1,4 @@
-use Rattle.std.proofs.Common.{◌≡◌, ◌∙◌, ◌+◌, Bool, List, [], ◌∷◌, ◌++◌, Ok, refl, sym, subst}
+use Rattle.std.proofs.Common.{◌∙◌, ◌+◌, Bool, List, [], ◌∷◌, ◌++◌, Ok, refl, sym, subst}
 use Rattle.outside_calls.specs.Folder.{FolderState}
 use Rattle.command_base.proofs.Saying.{on-err-map, on-ok-map}
 use Rattle.command_base.specs.Heard.{Listening, Hears, SaysPiece, PartlySaysPiece}
