@@ -210,6 +210,9 @@ heard-after start old mid l bits reads h =
 
 -- ---- what becomes of a listener and of its folder
 
+pub says-trans : (a b c : FolderState) → OnlySays a b → OnlySays b c → OnlySays a c
+says-trans a b c p q = OnlySays-trans p q
+
 says-none : (f : FolderState) → OnlySays f f
 says-none f = record { goes_on = GoesOn-refl f; names = λ name told. refl; read_faults = λ name. refl }
 
