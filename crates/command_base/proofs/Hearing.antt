@@ -232,7 +232,8 @@ hears-quiet f l next bits stands quiet sender pieces = record {
 
 -- no bits at all
 pub hears-none : (f : FolderState) (l : Listening) → Hears f f l l [] (Ok tt)
-hears-none f l = hears-quiet f l l [] (λ past stands. subst (λ (bits : List Bool). DeframerStands l.deframer bits) (sym (append-nil past)) stands)
+hears-none f l = hears-quiet f l l []
+    (λ past stands. subst (λ (bits : List Bool). DeframerStands l.deframer bits) (sym (append-nil past)) stands)
     (λ past stands. ap pieces_of (append-nil past)) refl refl
 
 -- a fault behind calls that counted none

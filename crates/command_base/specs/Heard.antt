@@ -51,7 +51,8 @@ pub record LeftAt (start now : FolderState) (listener : Listening) (bits : List 
 
 -- What becomes of a listener and of its folder where it hears these bits: they are heard behind all that was heard before, or a fault
 -- leaves it at some of them.
-pub record Hears (before after : FolderState) (old new : Listening) (bits : List Bool) (result : Result (Unit {0}) FolderFault) : Type 0 where
+pub record Hears (before after : FolderState) (old new : Listening) (bits : List Bool)
+    (result : Result (Unit {0}) FolderFault) : Type 0 where
   pub ok : (start : FolderState) (past : List Bool) → Heard start before old past → OnOk result (Heard start after new (past ++ bits))
   pub left : (start : FolderState) (past : List Bool) → Heard start before old past → OnErr result (LeftAt start after new (past ++ bits))
   pub only : OnlySays before after

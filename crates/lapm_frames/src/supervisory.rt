@@ -1,5 +1,5 @@
 // S frames: commands or responses with N(R) and nothing else.
-ghost use Rattle.std.specs.Prelude.{◌≡◌, ℕ, ◌<◌, ◌≤◌, ◌+◌, ◌%◌, [], ◌∷◌, length, IfOk, IfErr};
+ghost use Rattle.std.specs.Prelude.{◌≡◌, ℕ, ◌<◌, ◌+◌, ◌%◌, [], ◌∷◌, IfOk, IfErr};
 ghost use Rattle.shared_terms.specs.declared.role.Role.{Role};
 ghost use Rattle.lapm_frames.specs.Frame.{address_of, numbered, FrameSpelling};
 ghost use Rattle.lapm_frames.specs.Fault.{FirstFault, IsNumbersFault};

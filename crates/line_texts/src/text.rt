@@ -36,8 +36,8 @@ fn put_information(word: Option<BreakWord>, info: Option<&[u8]>, out: &mut LineT
     }
 }
 
-/// Puts the text of a frame behind the octets: its kind, whether it is a command or a response where that isn't the kind's, its numbers N(S)
-/// and N(R), its poll or final bit, and how many octets of information it has or, in a UI that carries a break or its answer, which one.
+/// Puts the text of a frame behind the octets: its kind, whether it is a command or a response where that isn't the kind's, its numbers
+/// N(S) and N(R), its poll or final bit, and how many octets of information it has or, in a UI that carries a break or its answer, which one.
 pub fn put_frame_text(frame: &LentFrame<'_>, out: &mut LineText)
     requires room { length out.old + 70 ≤ TEXT }
     ensures text { out.new ≡ out.old ++ frame_text frame.now }

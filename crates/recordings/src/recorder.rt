@@ -40,7 +40,8 @@ fn put_two<const CAP: usize>(modulator: &mut Modulator, octet: u8, out: &mut Oct
 /// Puts the octets of the four samples of an octet, whose low two bits come first.
 fn put_four<const CAP: usize>(modulator: &mut QuarterModulator, octet: u8, out: &mut Octets<CAP>)
     requires { length out.old + 16 ≤ CAP }
-    ensures stands { (mode : Mode) (octets recorded : List ℕ) → Records (QuarterModulatorStands mode modulator.old) 4 octets (recorded ++ out.old)
+    ensures stands { (mode : Mode) (octets recorded : List ℕ)
+        → Records (QuarterModulatorStands mode modulator.old) 4 octets (recorded ++ out.old)
         → Records (QuarterModulatorStands mode modulator.new) 4 (octets ++ octet ∷ []) (recorded ++ out.new) }
     ensures room { length out.new ≡ length out.old + 16 }
 {
@@ -66,7 +67,8 @@ impl Recorder {
     /// Puts the octets of the samples of the next octet, whose low bits come first, behind others.
     pub fn put<const CAP: usize>(&mut self, octet: u8, out: &mut Octets<CAP>)
         requires { length out.old + RECORDED ≤ CAP }
-        ensures stands { (rate : Rate) (mode : Mode) (octets recorded : List ℕ) → RecorderStands rate mode self.old octets (recorded ++ out.old)
+        ensures stands { (rate : Rate) (mode : Mode) (octets recorded : List ℕ)
+            → RecorderStands rate mode self.old octets (recorded ++ out.old)
             → RecorderStands rate mode self.new (octets ++ octet ∷ []) (recorded ++ out.new) }
         ensures room { length out.new ≤ length out.old + RECORDED }
     {

@@ -46,8 +46,8 @@ returns-in-135-clause-err c =
     IfErr-weaker c.informed.result _ _
     (λ fault. unnumbered-long c.args.command c.args.control c.args.tail.now c.mark-kind.result.0 0x87 c.mark-kind.result.1
     (Frmr c.mark-kind.result.1 []) fault c.in-135.is
-    (record { is_frame = (tt, tt, omega arith); command_is = sym c.if-not-command-3.true; control_is = refl }) c.requires c.mark-kind.ensures.unmarked
-    c.mark-kind.ensures.marked) c.informed.ensures.err
+    (record { is_frame = (tt, tt, omega arith); command_is = sym c.if-not-command-3.true; control_is = refl }) c.requires
+    c.mark-kind.ensures.unmarked c.mark-kind.ensures.marked) c.informed.ensures.err
 
 pub returns-in-3-clause-err : goal.returns-in-3-clause-err
 returns-in-3-clause-err c =

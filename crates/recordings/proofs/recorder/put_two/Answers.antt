@@ -16,7 +16,8 @@ returns-clause-stands g c = λ mode octets recorded s.
       samples = before ++ b ∷ [];
       made = subst (λ (bits : List Bool). ModulatorStands mode c.push-second.new.self bits (before ++ b ∷ []))
           (bits-more octets c.args.octet (omega (arith, c.ranges.octet.fits))) two;
-      recorded_is = ap (λ (xs : List ℕ). recorded ++ xs) (c.extend.ensures ∙ ap (λ (xs : List ℕ). c.args.out.now ++ xs) c.octets_of_two.ensures)
+      recorded_is = ap (λ (xs : List ℕ). recorded ++ xs)
+          (c.extend.ensures ∙ ap (λ (xs : List ℕ). c.args.out.now ++ xs) c.octets_of_two.ensures)
           ∙ two-more s.samples a b recorded c.args.out.now s.recorded_is;
       count = omega (arith, s.count, count-more s.samples a, count-more before b, length-more octets c.args.octet);
     }

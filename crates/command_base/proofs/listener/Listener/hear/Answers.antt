@@ -14,8 +14,8 @@ returns-in-Err-clause-left g c =
     let hears : Hears old new c.args.self.now c.hear_octet.new.self (bits_of octets) (Err c.in-Err.fault) =
     subst (λ (bits : List Bool). Hears old new c.args.self.now c.hear_octet.new.self bits (Err c.in-Err.fault))
     (ap (λ xs. xs ++ bits_of (drop (i + 1) octets)) (octet-more octets i within) ∙ octets-left octets (i + 1))
-    (hears-part old new c.args.self.now c.hear_octet.new.self (bits_of (take i octets) ++ octet) (bits_of (drop (i + 1) octets)) c.in-Err.fault
-    (hears-on old (g.F.Folder.state c.loop-octet.folder) new c.args.self.now c.loop-octet.self c.hear_octet.new.self
+    (hears-part old new c.args.self.now c.hear_octet.new.self (bits_of (take i octets) ++ octet) (bits_of (drop (i + 1) octets))
+    c.in-Err.fault (hears-on old (g.F.Folder.state c.loop-octet.folder) new c.args.self.now c.loop-octet.self c.hear_octet.new.self
     (bits_of (take i octets)) octet (Err c.in-Err.fault) c.loop-octet.invariant.hears c.in-Err.ensures.hears)) in
     hears.left
 
@@ -28,7 +28,7 @@ returns-in-Err-clause-err g c =
     let hears : Hears old new c.args.self.now c.hear_octet.new.self (bits_of octets) (Err c.in-Err.fault) =
     subst (λ (bits : List Bool). Hears old new c.args.self.now c.hear_octet.new.self bits (Err c.in-Err.fault))
     (ap (λ xs. xs ++ bits_of (drop (i + 1) octets)) (octet-more octets i within) ∙ octets-left octets (i + 1))
-    (hears-part old new c.args.self.now c.hear_octet.new.self (bits_of (take i octets) ++ octet) (bits_of (drop (i + 1) octets)) c.in-Err.fault
-    (hears-on old (g.F.Folder.state c.loop-octet.folder) new c.args.self.now c.loop-octet.self c.hear_octet.new.self
+    (hears-part old new c.args.self.now c.hear_octet.new.self (bits_of (take i octets) ++ octet) (bits_of (drop (i + 1) octets))
+    c.in-Err.fault (hears-on old (g.F.Folder.state c.loop-octet.folder) new c.args.self.now c.loop-octet.self c.hear_octet.new.self
     (bits_of (take i octets)) octet (Err c.in-Err.fault) c.loop-octet.invariant.hears c.in-Err.ensures.hears)) in
     hears-partly old new c.args.self.now c.hear_octet.new.self (bits_of octets) (Err c.in-Err.fault) hears

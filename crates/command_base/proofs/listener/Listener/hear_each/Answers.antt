@@ -1,4 +1,5 @@
-use Rattle.std.proofs.Common.{◌∙◌, ◌+◌, ◌≤◌, ◌/◌, ◌^◌, Bool, List, [], ◌∷◌, ◌++◌, Ok, Err, length, take, drop, nat_eq, bit_and, ap, subst, arith}
+use Rattle.std.proofs.Common.{◌∙◌, ◌+◌, ◌≤◌, ◌/◌, ◌^◌, Bool, List, [], ◌∷◌, ◌++◌, Ok, Err, length, take, drop, nat_eq}
+use Rattle.std.proofs.Common.{bit_and, ap, subst, arith}
 use Rattle.std.proofs.lemmas.List.{take_all, take-append-drop}
 use Rattle.outside_calls.specs.Folder.{FolderState}
 use Rattle.plain_lists.specs.Bits.{low_bits}
@@ -26,7 +27,8 @@ loop-place-preserved g c =
       hears = subst (λ (bits : List Bool). Hears old new c.args.self.now c.hear_bit.new.self bits (Ok tt))
           (bit-more c.args.octet c.args.count place (omega (arith, c.loop-place-test.true)))
           (hears-on old (g.F.Folder.state c.loop-place.folder) new c.args.self.now c.loop-place.self c.hear_bit.new.self
-          (take place all) (nat_eq (bit_and (c.args.octet / 2 ^ place) 1) 1 ∷ []) (Ok tt) c.loop-place.invariant.hears c.in-Ok.ensures.hears);
+          (take place all) (nat_eq (bit_and (c.args.octet / 2 ^ place) 1) 1 ∷ []) (Ok tt)
+          c.loop-place.invariant.hears c.in-Ok.ensures.hears);
       pieces = omega (arith, c.in-Ok.ensures.pieces, c.loop-place.invariant.pieces);
     }
 
