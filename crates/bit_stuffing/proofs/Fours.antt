@@ -17,8 +17,8 @@ use Rattle.bit_stuffing.proofs.Octets.{each_below, at_each}
 use Rattle.bit_stuffing.proofs.Ones.{CountsOnes}
 use Rattle.bit_stuffing.proofs.Openings.{opened-once}
 use Rattle.bit_stuffing.proofs.Contents.{none-lent}
-use Rattle.bit_stuffing.proofs.Counters.{Counters, Counts, step, run, Still, still_test, still-of, Below6, counts-step, counts-run}
-use Rattle.bit_stuffing.proofs.Counters.{open-run}
+use Rattle.bit_stuffing.proofs.Counters.{Counters, Counts, step, run, is_open, is_far, Still, still_test, still-of, Below6, counts-step}
+use Rattle.bit_stuffing.proofs.Counters.{counts-run, open-run}
 use Rattle.bit_stuffing.proofs.Counters.{pieces-along, along-still, no_close}
 
 -- how many ones the latest bits end with, up to seven
@@ -120,13 +120,9 @@ same_since (Some m) (Some n) = nat_eq m n
 same_since None (Some n) = false
 same_since (Some m) None = false
 
-abbrev is_far : Option ℕ → Bool
-is_far None = false
-is_far (Some count) = nat_eq count 8
-
--- where eight bits or more stand behind the flag, they did before, and no six ones come between
+-- where eight bits or more stand behind the flag, it was open before, and no six ones come between
 abbrev far_test : Counters → List Bool → Bool
-far_test k s = if is_far (run k s).since then is_far k.since && below_test k s else true
+far_test k s = if is_far (run k s).since then is_open k.since && below_test k s else true
 
 abbrev said_test : Counters → List Bool → Option (Option ℕ) → Bool
 said_test k s None = true
@@ -173,27 +169,24 @@ still-closes k past (b ∷ c ∷ s) h g some octets w =
     still-closes (step k b) (past ++ b ∷ []) (c ∷ s) (counts-step k past b h) g.1 (omega arith) octets
     (subst (λ l. EndsWhole l octets) (sym (append_assoc past (b ∷ []) (c ∷ s))) w)
 
--- a flag that is open and far was so before
-far-before : (k : Counters) (past s : List Bool) → Counts k past → far_test k s ≡ true → (p : ℕ) → OpenedAt (past ++ s) p
-    → p + 8 ≤ length (past ++ s) → OpenedAt past p × (p + 8 ≤ length past)
-far-before k past s h e p o far = each (run k s).since (counts-run k past s h).since refl
+-- a flag that is open and far was open before
+opened-before : (k : Counters) (past s : List Bool) → Counts k past → far_test k s ≡ true → (p : ℕ) → OpenedAt (past ++ s) p
+    → p + 8 ≤ length (past ++ s) → OpenedAt past p
+opened-before k past s h e p o far = each (run k s).since (counts-run k past s h).since refl
   where
-    before : (since : Option ℕ) → CountsSince since past → k.since ≡ since → is_far since ≡ true → Below6 k s
-        → OpenedAt past p × (p + 8 ≤ length past)
-    before None c same at_eight below = absurd (false≢true at_eight)
-    before (Some count) c same at_eight below =
+    before : (since : Option ℕ) → CountsSince since past → k.since ≡ since → is_open since ≡ true → Below6 k s → OpenedAt past p
+    before None c same some below = absurd (false≢true some)
+    before (Some count) c same some below =
         let now = open-run k past s count c.0 h below same c.1 in
-        let place : c.0 ≡ p = opened-once (past ++ s) c.0 p now o in
-        let eight : count ≡ 8 = eqb-true count 8 at_eight in
-        (subst (OpenedAt past) place c.1, omega (arith, place, c.2, eight))
+        subst (OpenedAt past) (opened-once (past ++ s) c.0 p now o) c.1
 
-    each : (since : Option ℕ) → CountsSince since (past ++ s) → (run k s).since ≡ since → OpenedAt past p × (p + 8 ≤ length past)
+    each : (since : Option ℕ) → CountsSince since (past ++ s) → (run k s).since ≡ since → OpenedAt past p
     each None c same = absurd (c p o)
     each (Some count) c same =
         let place : c.0 ≡ p = opened-once (past ++ s) c.0 p c.1 o in
         let eight : count ≡ 8 = omega (arith, place, c.2, far) in
         let yes : is_far (run k s).since ≡ true = ap is_far same ∙ eq-eqb count 8 eight in
-        let parts = and_parts (is_far k.since) (below_test k s) (when-true (is_far (run k s).since) _ e yes) in
+        let parts = and_parts (is_open k.since) (below_test k s) (when-true (is_far (run k s).since) _ e yes) in
         before k.since h.since refl parts.0 (below-of k s parts.1)
 
 -- the latest bits then
@@ -227,7 +220,7 @@ passes-four finding past four since small h e = record {
   };
   pieces = pieces-along past bits ∙ ap (λ l. pieces_of past ++ l) (along-still k past bits before still) ∙ append-nil (pieces_of past);
   closes = still-closes k past bits before still (omega arith);
-  far = far-before k past bits before parts.2;
+  opened = opened-before k past bits before parts.2;
 }
   where
     bits : List Bool

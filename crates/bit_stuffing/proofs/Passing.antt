@@ -1,15 +1,17 @@
 -- A deframer at an octet with which nothing ends.
-use Rattle.std.proofs.Common.{◌≡◌, ◌⊎◌, ℕ, zero, suc, ◌+◌, ◌-◌, ◌≤◌, Bool, false, List, [], ◌∷◌, ◌++◌, length, take, drop, Some, None}
-use Rattle.std.proofs.Common.{IfSome, IfNone, Option, length-append, arith, refl, sym, ◌∙◌, ap, subst, inl, inr}
-use Rattle.std.proofs.lemmas.List.{append_assoc, drop-append-le}
+use Rattle.std.proofs.Common.{◌≡◌, ◌⊎◌, ℕ, zero, suc, ◌+◌, ◌-◌, ◌/◌, ◌%◌, ◌^◌, ◌<◌, ◌≤◌, min, Bool, false, List, [], ◌∷◌, ◌++◌}
+use Rattle.std.proofs.Common.{length, take, drop, Option, Some, None, length-append, arith, refl, sym, ◌∙◌, ap, subst, inl, inr}
+use Rattle.std.proofs.lemmas.Bool.{cases_lt}
+use Rattle.std.proofs.lemmas.List.{drop-append-le, take-append-le}
 use Rattle.std.proofs.lemmas.Grind.{common_steps}
 use Rattle.plain_lists.specs.Bits.{low_bits, octet_bits}
-use Rattle.bit_stuffing.specs.Flags.{OpenedAt, IsFar, IsNear}
+use Rattle.bit_stuffing.specs.Flags.{OpenedAt}
 use Rattle.bit_stuffing.specs.Pieces.{content}
-use Rattle.bit_stuffing.specs.Deframer.{CountsSince, Finding, Finds, Gathering, Gathers, IsQuiet, Kept, PassesBits, DeframerStands}
+use Rattle.bit_stuffing.specs.Deframer.{CountsSince, Finding, Finds, Gathering, Gathers, HoldsLatest, IsQuiet, LeavesFour, PassesBits}
+use Rattle.bit_stuffing.specs.Deframer.{DeframerStands}
 use Rattle.bit_stuffing.proofs.Between.{take-length}
 use Rattle.bit_stuffing.proofs.Openings.{opened-once}
-use Rattle.bit_stuffing.proofs.Quiet.{quiet-rests}
+use Rattle.bit_stuffing.proofs.Quiet.{quiet-rests, latest-bits}
 
 front-and-rest : (n : ℕ) (xs : List Bool) → take n xs ++ drop n xs ≡ xs
 front-and-rest zero xs = refl
@@ -65,43 +67,114 @@ take-past [] xs n = let e : length {A = Bool} [] + n ≡ n = omega arith in ap (
 take-past (x ∷ front) xs n = let e : length (x ∷ front) + n ≡ suc (length front + n) = omega arith in
     ap (λ m. take m (x ∷ front ++ xs)) e ∙ ap (λ l. x ∷ l) (take-past front xs n)
 
-content-four : (past : List Bool) (four octet p : ℕ) → p + 8 ≤ length past → drop (length past - 8) past ≡ octet_bits octet
-    → content past p ++ low_bits 4 octet ≡ content (past ++ low_bits 4 four) p
-content-four past four octet p far e =
+drop-past : (front xs : List Bool) (n : ℕ) → drop (length front + n) (front ++ xs) ≡ drop n xs
+drop-past [] xs n = let e : length {A = Bool} [] + n ≡ n = omega arith in ap (λ m. drop m xs) e
+drop-past (x ∷ front) xs n = let e : length (x ∷ front) + n ≡ suc (length front + n) = omega arith in
+    ap (λ m. drop m (x ∷ front ++ xs)) e ∙ drop-past front xs n
+
+-- four bits have no part in the higher ones
+pub low-four : (octet : ℕ) → low_bits 4 (octet % 16) ≡ low_bits 4 octet
+low-four octet =
+    let e0 : octet % 16 % 2 ≡ octet % 2 = omega arith in
+    let e1 : octet % 16 / 2 % 2 ≡ octet / 2 % 2 = omega arith in
+    let e2 : octet % 16 / 2 / 2 % 2 ≡ octet / 2 / 2 % 2 = omega arith in
+    let e3 : octet % 16 / 2 / 2 / 2 % 2 ≡ octet / 2 / 2 / 2 % 2 = omega arith in
+    rw (e0, e1, e2, e3) refl
+
+-- the bits that are four places back or more, by the latest eight
+back-four : (past : List Bool) (octet : ℕ) → 8 ≤ length past → drop (length past - 8) past ≡ octet_bits octet
+    → take (length past - 4) past ≡ take (length past - 8) past ++ low_bits 4 octet
+back-four past octet many e =
     let front = take (length past - 8) past in
     let long : length front ≡ length past - 8 = take-length past (length past - 8) (omega arith) in
     let split : past ≡ front ++ octet_bits octet = sym (front-and-rest (length past - 8) past) ∙ ap (λ l. front ++ l) e in
-    let all : past ++ low_bits 4 four ≡ front ++ (octet_bits octet ++ low_bits 4 four) =
-    ap (λ l. l ++ low_bits 4 four) split ∙ append_assoc front (octet_bits octet) (low_bits 4 four) in
-    let n : length (past ++ low_bits 4 four) - 8 ≡ length front + 4 = omega (arith, long, length-append past (low_bits 4 four)) in
-    let taken : take (length (past ++ low_bits 4 four) - 8) (past ++ low_bits 4 four) ≡ front ++ low_bits 4 octet =
-    ap (λ m. take m (past ++ low_bits 4 four)) n ∙ ap (take (length front + 4)) all
-    ∙ take-past front (octet_bits octet ++ low_bits 4 four) 4 in
-    sym (ap (drop p) taken ∙ drop-append-le p front (low_bits 4 octet) (omega (arith, long)))
+    let n : length past - 4 ≡ length front + 4 = omega (arith, long) in
+    ap (λ m. take m past) n ∙ ap (take (length front + 4)) split ∙ take-past front (octet_bits octet) 4
 
--- the four bits that leave, where any do
-abbrev pub Leaves : Option ℕ → List Bool → Type 0
-Leaves None past = IsNear past
-Leaves (Some octet) past = IsFar past × (drop (length past - 8) past ≡ octet_bits octet)
+-- those of a content of which some were gathered
+pub gathered-four : (past : List Bool) (octet p : ℕ) → p + 8 ≤ length past → drop (length past - 8) past ≡ octet_bits octet
+    → content past p ++ low_bits 4 octet ≡ drop p (take (length past - 4) past)
+gathered-four past octet p far e =
+    let long : length (take (length past - 8) past) ≡ length past - 8 = take-length past (length past - 8) (omega arith) in
+    sym (ap (drop p) (back-four past octet (omega arith) e) ∙ drop-append-le p (take (length past - 8) past) (low_bits 4 octet)
+    (omega (arith, long)))
 
-pub leaves-four : (finding : Finding) (leaving : Option ℕ) (past : List Bool) → Finds finding past
-    → IfSome leaving (λ octet. (past : List Bool) → Finds finding past → IsFar past × (drop (length past - 8) past ≡ octet_bits octet))
-    → IfNone leaving ((past : List Bool) → Finds finding past → IsNear past) → Leaves leaving past
-leaves-four finding None past h far near = near past h
-leaves-four finding (Some octet) past h far near = far past h
+-- the first bits of a content
+few-back : (latest count : ℕ) → 4 ≤ count → count < 8
+    → drop (8 - count) (low_bits 4 latest) ≡ low_bits (count - 4) (latest / 2 ^ (8 - count))
+few-back latest count some few = elim (cases_lt count 5) [
+  | inl four ↦ let e : count ≡ 4 = omega arith in rw e refl
+  | inr five ↦ elim (cases_lt count 6) [
+    | inl less ↦
+        let e : count ≡ 5 = omega arith in
+        let a : latest / 2 / 2 / 2 % 2 ≡ latest / 8 % 2 = omega arith in
+        rw (e, a) refl
+    | inr six ↦ elim (cases_lt count 7) [
+      | inl less ↦
+          let e : count ≡ 6 = omega arith in
+          let a : latest / 2 / 2 % 2 ≡ latest / 4 % 2 = omega arith in
+          let b : latest / 2 / 2 / 2 % 2 ≡ latest / 4 / 2 % 2 = omega arith in
+          rw (e, a, b) refl
+      | inr seven ↦ let e : count ≡ 7 = omega arith in rw e refl
+    ]
+  ]
+]
 
-pub four-stands : (kept : Kept) (finding : Finding) (g : Gathering) (leaving : Option ℕ) (four : ℕ) (past : List Bool)
-    → DeframerStands kept past → PassesBits finding past (low_bits 4 four) → Leaves leaving past
-    → ((octet : ℕ) → leaving ≡ Some octet → (line : List Bool) → Gathers kept.gathering line → Gathers g (line ++ low_bits 4 octet))
+few-leaving : (latest count p : ℕ) (past : List Bool) → HoldsLatest latest past → OpenedAt past p → 4 ≤ count → count < 8
+    → count ≡ length past - p → drop p (take (length past - 4) past) ≡ low_bits (count - 4) (latest / 2 ^ (8 - count))
+few-leaving latest count p past h o some few e =
+    let front = take (length past - 8) past in
+    let many : 8 ≤ length past = omega (arith, o.flag_ends.room, o.flag_ends.within) in
+    let long : length front ≡ length past - 8 = take-length past (length past - 8) (omega arith) in
+    let place : p ≡ length front + (8 - count) = omega (arith, long, o.flag_ends.room, o.flag_ends.within) in
+    ap (drop p) (back-four past latest many (latest-bits latest past h many))
+    ∙ ap (λ m. drop m (front ++ low_bits 4 latest)) place ∙ drop-past front (low_bits 4 latest) (8 - count)
+    ∙ few-back latest count some few
+
+pub leaves-four : (finding : Finding) (past : List Bool) (count : ℕ) → Finds finding past → finding.since ≡ Some count → 4 ≤ count
+    → count ≤ 8 → (p : ℕ) → OpenedAt past p → LeavesFour (finding.latest / 2 ^ (8 - count)) (count - 4) past p
+leaves-four finding past count h since some most p o =
+    let k = subst (λ s. CountsSince s past) since h.counts in
+    let same : p ≡ k.0 = opened-once past p k.0 o k.1 in
+    let behind : count ≡ min 8 (length past - p) = k.2 ∙ ap (λ q. min 8 (length past - q)) (sym same) in
+    record {
+      most = omega (arith, most);
+      few = λ less. few-leaving finding.latest count p past h.holds o some (omega (arith, less)) (omega (arith, less, behind));
+      all = λ four.
+          let eight : count ≡ 8 = omega (arith, four, some) in
+          let far : p + 8 ≤ length past = omega (arith, behind, eight, o.flag_ends.within) in
+          let all : finding.latest / 2 ^ (8 - count) ≡ finding.latest = rw eight (whole finding.latest) in
+          (far, latest-bits finding.latest past h.holds (omega (arith, far)) ∙ ap octet_bits (sym all));
+    }
+  where
+    whole : (n : ℕ) → n / 1 ≡ n
+    whole n = omega arith
+
+-- fewer than four bits stand behind the flag that is open, if one is
+pub leaves-none : (finding : Finding) (past : List Bool) → Finds finding past
+    → ((count : ℕ) → finding.since ≡ Some count → 4 ≤ count → count ≤ 8 → ⊥)
+    → (p : ℕ) → OpenedAt past p → length past < p + 4
+leaves-none finding past h none p o = each finding.since refl h.counts
+  where
+    each : (since : Option ℕ) → finding.since ≡ since → CountsSince since past → length past < p + 4
+    each None e k = absurd (k p o)
+    each (Some count) e k =
+        let same : p ≡ k.0 = opened-once past p k.0 o k.1 in
+        elim (cases_lt count 4) [
+          | inl few ↦ omega (arith, few, k.2, same, o.flag_ends.within)
+          | inr some ↦ absurd (none count e some (omega (arith, k.2)))
+        ]
+
+pub four-stands : (finding : Finding) (g : Gathering) (four : ℕ) (past : List Bool) → PassesBits finding past (low_bits 4 four)
+    → ((p : ℕ) → OpenedAt past p → p + 4 ≤ length past → Gathers g (drop p (take (length past - 4) past)))
     → DeframerStands (record { finding = finding; gathering = g; lent = false }) (past ++ low_bits 4 four)
-four-stands kept finding g leaving four past h passes leaves more = record {
+four-stands finding g four past passes gathered = record {
   finds = passes.finds;
-  gathers = λ p o far. let b = passes.far p o far in gathered leaving leaves refl p b.0 b.1;
+  gathers = λ p o far.
+      let long : length (past ++ low_bits 4 four) ≡ length past + 4 = length-append past (low_bits 4 four) in
+      let n : length (past ++ low_bits 4 four) - 8 ≡ length past - 4 = omega (arith, long) in
+      let same : content (past ++ low_bits 4 four) p ≡ drop p (take (length past - 4) past) =
+      ap (drop p) (ap (λ m. take m (past ++ low_bits 4 four)) n ∙ take-append-le (length past - 4) past (low_bits 4 four) (omega arith)) in
+      subst (Gathers g) (sym same) (gathered p (passes.opened p o far) (omega (arith, far, long)));
   lends = passes.closes;
 }
-  where
-    gathered : (l : Option ℕ) → Leaves l past → leaving ≡ l → (p : ℕ) → OpenedAt past p → p + 8 ≤ length past
-        → Gathers g (content (past ++ low_bits 4 four) p)
-    gathered None near e p o far = absurd (omega (arith, far, near p o))
-    gathered (Some octet) leaves e p o far =
-        subst (Gathers g) (content-four past four octet p far leaves.1) (more octet e (content past p) (h.gathers p o far))

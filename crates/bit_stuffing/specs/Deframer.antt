@@ -1,9 +1,9 @@
 -- What a deframer keeps, and the bits for which it stands.
 use Rattle.std.specs.Prelude.{◌≡◌, ℕ, ◌+◌, ◌-◌, ◌*◌, ◌/◌, ◌%◌, ◌^◌, ◌<◌, ◌≤◌, Bool, true, false, not, ◌&&◌, if◌then◌else◌, nat_eq, nat_lt}
-use Rattle.std.specs.Prelude.{List, ◌++◌, length, min, Option, Some, None}
+use Rattle.std.specs.Prelude.{List, ◌++◌, length, take, drop, min, Option, Some, None}
 use Rattle.std.specs.Int.{bit_at}
 use Rattle.frame_check.specs.declared.sizes.TheConstants.{WHOLE}
-use Rattle.plain_lists.specs.Bits.{number, low_bits, bits_of}
+use Rattle.plain_lists.specs.Bits.{number, low_bits, octet_bits, bits_of}
 use Rattle.bit_stuffing.specs.Flags.{bit_of, OpenedAt, FlagEndsAt, SevenOnesEndAt}
 use Rattle.bit_stuffing.specs.Stuffing.{removed, room_after}
 use Rattle.bit_stuffing.specs.Pieces.{content, EndsWhole}
@@ -75,12 +75,19 @@ pub record IsQuiet (past bits : List Bool) : Type 0 where
   pub no_flag : (n : ℕ) → length past < n → FlagEndsAt (past ++ bits) n → ⊥
   pub no_seven : (n : ℕ) → length past < n → SevenOnesEndAt (past ++ bits) n → ⊥
 
--- A finder goes on by these bits. Nothing ends with any of them, and where eight bits or more stand behind a flag then, they did before.
+-- A finder goes on by these bits. Nothing ends with any of them, and where eight bits or more stand behind a flag then, it was open before.
 pub record PassesBits (finding : Finding) (past bits : List Bool) : Type 0 where
   pub finds : Finds finding (past ++ bits)
   pub pieces : pieces_of (past ++ bits) ≡ pieces_of past
   pub closes : (octets : List ℕ) → EndsWhole (past ++ bits) octets → ⊥
-  pub far : (p : ℕ) → OpenedAt (past ++ bits) p → p + 8 ≤ length (past ++ bits) → OpenedAt past p × (p + 8 ≤ length past)
+  pub opened : (p : ℕ) → OpenedAt (past ++ bits) p → p + 8 ≤ length (past ++ bits) → OpenedAt past p
+
+-- What is handed on as four bits more come in, of a content behind the flag that ends at this place: the low ones of these bits, so many.
+-- Fewer than four of them begin it.
+pub record LeavesFour (bits count : ℕ) (past : List Bool) (p : ℕ) : Type 0 where
+  pub most : count ≤ 4
+  pub few : count < 4 → drop p (take (length past - 4) past) ≡ low_bits count bits
+  pub all : count ≡ 4 → (p + 8 ≤ length past) × (drop (length past - 8) past ≡ octet_bits bits)
 
 -- Behind so many ones fewer than five, given as how many may still follow, no zero is due within the first ones of these bits or
 -- behind them.

@@ -37,7 +37,7 @@ fn is_whole(piece: Piece) -> bool
 }
 
 impl Deframer {
-    ghost use Rattle.std.specs.Prelude.{ℕ, ◌+◌, ◌<◌, ◌≤◌, length, drop, List, Bool, true, false, [], ◌∷◌, ◌++◌, Some};
+    ghost use Rattle.std.specs.Prelude.{ℕ, ◌+◌, ◌-◌, ◌<◌, ◌≤◌, length, take, drop, List, Bool, true, false, [], ◌∷◌, ◌++◌, Some};
     ghost use Rattle.plain_lists.specs.Bits.{low_bits, octet_bits};
     ghost use Rattle.bit_stuffing.specs.Flags.{OpenedAt};
     ghost use Rattle.bit_stuffing.specs.Pieces.{IsAnswer, IsLent, content};
@@ -120,15 +120,20 @@ impl Deframer {
         true
     }
 
-    /// Gathers the low bits of what leaves, if anything does.
-    fn gather_four(&mut self, leaving: Option<u8>)
-        ensures gathers { (octet : ℕ) → leaving ≡ Some octet → (line : List Bool) → Gathers self.old.gathering line
-            → Gathers self.new.gathering (line ++ low_bits 4 octet) }
+    /// Gathers the bits that four more hand on.
+    fn gather_four(&mut self)
+        ensures gathers { (past : List Bool) → DeframerStands self.old past
+            → (p : ℕ) → OpenedAt past p → p + 4 ≤ length past → Gathers self.new.gathering (drop p (take (length past - 4) past)) }
         ensures finding { self.new.finding ≡ self.old.finding }
     {
-        match leaving {
-            Some(octet) => self.unstuffer.push_four(octet % 16),
-            None => {}
+        let Some((bits, count)) = self.finder.leaving_four() else {
+            return;
+        };
+        if count < 4 {
+            self.unstuffer.clear();
+            self.unstuffer.push_each(bits, count);
+        } else {
+            self.unstuffer.push_four(bits % 16);
         }
     }
 
@@ -142,11 +147,11 @@ impl Deframer {
             → pieces_of (past ++ low_bits 4 four) ≡ pieces_of past }
         ensures stays { result ≡ false → self.new ≡ self.old }
     {
-        let leaving = self.finder.leaving_octet();
-        if !self.finder.pass_four(four) {
+        let Some(since) = self.finder.since_behind(four) else {
             return false;
-        }
-        self.gather_four(leaving);
+        };
+        self.gather_four();
+        self.finder.pass_four(four, since);
         self.lent = false;
         true
     }

@@ -67,15 +67,13 @@ fn has_six_ones(bits: u16) -> bool
     six_ones(bits) != 0
 }
 
-/// The bits since the last flag behind four bits with which no flag ends. None where the first bit behind it is handed on meanwhile.
-fn since_none(since: Option<u8>) -> Option<Option<u8>>
+/// The bits since the last flag behind four bits with which no flag ends, eight where they are more.
+fn since_none(since: Option<u8>) -> Option<u8>
     ensures { result ≡ since_none since }
 {
     match since {
-        None => Some(None),
-        Some(count) if count < 4 => Some(Some(count + 4)),
-        Some(count) if count < 8 => None,
-        Some(count) => Some(Some(count)),
+        None => None,
+        Some(count) => Some(count.min(4) + 4),
     }
 }
 
@@ -90,8 +88,7 @@ fn since_flag(since: Option<u8>, behind: u8) -> Option<Option<u8>>
     }
 }
 
-/// The bits since the last flag behind four bits more. None where it is not plain from all four at once: something may end, or a content
-/// begins to be handed on.
+/// The bits since the last flag behind four bits more. None where it is not plain from all four at once that nothing ends.
 fn since_four(latest: u8, since: Option<u8>, four: u8) -> Option<Option<u8>>
     ensures { result ≡ since_four latest since four }
 {
@@ -100,7 +97,7 @@ fn since_four(latest: u8, since: Option<u8>, four: u8) -> Option<Option<u8>>
         return None;
     }
     match ones / 4 % 16 {
-        0 => since_none(since),
+        0 => Some(since_none(since)),
         1 => since_flag(since, 3),
         2 => since_flag(since, 2),
         4 => since_flag(since, 1),
@@ -127,8 +124,8 @@ impl Model for FlagFinder {
 
 impl FlagFinder {
     ghost use Rattle.std.specs.Prelude.{IfSome, IfNone};
-    ghost use Rattle.bit_stuffing.specs.Flags.{IsFar, IsNear};
-    ghost use Rattle.bit_stuffing.specs.Deframer.{Finds, IsQuiet, PassesBits, back};
+    ghost use Rattle.bit_stuffing.specs.Flags.{IsFar, IsNear, OpenedAt};
+    ghost use Rattle.bit_stuffing.specs.Deframer.{Finds, IsQuiet, LeavesFour, PassesBits, back};
     ghost use Rattle.bit_stuffing.specs.Events.{IsEvent};
 
     pub(crate) fn new() -> FlagFinder
@@ -221,20 +218,35 @@ impl FlagFinder {
         self.latest = octet;
     }
 
-    /// Goes on by four bits, the low one first, where it is plain that nothing ends with any of them, and that all four that stand
-    /// eight places back are handed on or none is: whether it did.
-    pub(crate) fn pass_four(&mut self, four: u8) -> bool
-        requires { four < 16 }
-        ensures passes { result ≡ true → (past : List Bool) → Finds self.old past → PassesBits self.new past (low_bits 4 four) }
-        ensures stays { result ≡ false → self.new ≡ self.old }
+    /// The bits that are handed on as four more come in, as the low ones, and how many they are. None where no flag is open, or fewer than
+    /// four bits stand behind it.
+    pub(crate) fn leaving_four(&self) -> Option<(u8, u32)>
+        ensures some { IfSome result (λ leaving. (past : List Bool) → Finds self.now past
+            → (p : ℕ) → OpenedAt past p → LeavesFour leaving.0 leaving.1 past p) }
+        ensures none { IfNone result ((past : List Bool) → Finds self.now past → (p : ℕ) → OpenedAt past p → length past < p + 4) }
     {
-        match since_four(self.latest, self.since, four) {
-            Some(since) => {
-                self.latest = (window_of(self.latest, four) / 16) as u8;
-                self.since = since;
-                true
+        match self.since {
+            Some(count) if 4 <= count && count <= 8 => {
+                Some((self.latest >> (8 - count), u32::from(count - 4)))
             }
-            None => false,
+            _ => None,
         }
+    }
+
+    /// The bits since the last flag behind four bits more, where it is plain that nothing ends with any of them.
+    pub(crate) fn since_behind(&self, four: u8) -> Option<Option<u8>>
+        ensures { result ≡ since_four self.now.latest self.now.since four }
+    {
+        since_four(self.latest, self.since, four)
+    }
+
+    /// Goes on by four bits, the low one first, behind which the flag stands so far back.
+    pub(crate) fn pass_four(&mut self, four: u8, since: Option<u8>)
+        requires four { four < 16 }
+        requires plain { since_four self.old.latest self.old.since four ≡ Some since }
+        ensures { (past : List Bool) → Finds self.old past → PassesBits self.new past (low_bits 4 four) }
+    {
+        self.latest = (window_of(self.latest, four) / 16) as u8;
+        self.since = since;
     }
 }

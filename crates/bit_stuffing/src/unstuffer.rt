@@ -171,7 +171,7 @@ impl Unstuffer {
     }
 
     /// The next bits of the line, so many, one by one.
-    fn push_each(&mut self, bits: u8, count: u32)
+    pub(crate) fn push_each(&mut self, bits: u8, count: u32)
         requires { count ≤ 8 }
         ensures { (line : List Bool) → Gathers self.old line → Gathers self.new (line ++ low_bits count bits) }
     {

@@ -1,13 +1,14 @@
 -- What a listener heard, one more step at a time.
 use Rattle.std.proofs.Common.{◌≡◌, ◌∙◌, ℕ, ◌+◌, ◌/◌, ◌%◌, ◌^◌, ◌<◌, Bool, false, List, [], ◌∷◌, ◌++◌, length, take, drop, get_or, Result}
-use Rattle.std.proofs.Common.{Ok}
-use Rattle.std.proofs.Common.{Err, OnOk, nat_eq, bit_and, Option, Some, None, refl, sym, ap, subst, arith, append-nil, append_assoc}
-use Rattle.std.proofs.Common.{length-append}
+use Rattle.std.proofs.Common.{Ok, Err, OnErr, nat_eq, bit_and, Option, Some, None, refl, sym, ap, subst, arith, append-nil}
+use Rattle.std.proofs.Common.{append_assoc, length-append}
 use Rattle.std.specs.Option.{option_map, option_map_or}
 use Rattle.std.proofs.lemmas.List.{take_more, take-append-drop}
 use Rattle.std.proofs.lemmas.Nat.{and_mask}
-use Rattle.outside_calls.specs.Folder.{FolderState, OnlyReads, OnlySays, Said, PartlySaid}
-use Rattle.outside_calls.proofs.Steps.{GoesOn-trans, KeepsName-trans}
+use Rattle.outside_calls.specs.Folder.{FolderState, OnlyReads, OnlySays, CountsStand, Rose, Said, PartlySaid}
+use Rattle.outside_calls.specs.declared.folder.FolderFault.{FolderFault}
+use Rattle.outside_calls.specs.declared.folder.FolderFault.TheVariants as folder
+use Rattle.outside_calls.proofs.Steps.{GoesOn-refl, FaultsStand-trans, CountsStand-refl, CountsStand-trans}
 use Rattle.plain_lists.specs.Bits.{low_bits, octet_bits, bits_of}
 use Rattle.frame_check.proofs.BitLists.{length-low_bits, get_or-low_bits, bits_of-snoc, bits_of-append}
 use Rattle.bit_stuffing.specs.declared.piece.Piece.{Piece}
@@ -15,9 +16,10 @@ use Rattle.bit_stuffing.specs.Found.{Found, found_at, pieces_of, listed, answer_
 use Rattle.bit_stuffing.specs.Deframer.{DeframerStands}
 use Rattle.bit_stuffing.proofs.Found.{pieces-none, pieces-more}
 use Rattle.shared_terms.specs.declared.role.Role.{Role}
-use Rattle.command_base.proofs.Saying.{Said-Said, Said-PartlySaid}
+use Rattle.command_base.proofs.Saying.{Said-Said, Said-PartlySaid, OnlySays-trans, on-ok-map, on-err-map, if-err-map}
 use Rattle.command_base.specs.Readings.{IsLine, AreLines}
-use Rattle.command_base.specs.Heard.{Listening, Heard, PartlyHeard, LeftAt}
+use Rattle.command_base.specs.Heard.{Listening, Heard, Hears, PartlyHeard, LeftAt}
+use Rattle.command_base.specs.Stops.{SayFails}
 use Rattle.command_base.proofs.PieceLines.{AreLines-more}
 
 -- what is found at the last of the bits, where a piece is answered there
@@ -67,19 +69,9 @@ heard-nothing start l stands none said = record {
 }
 
 -- a bit at which no piece ends
-pub heard-none : (start now : FolderState) (l next : Listening) (bits : List Bool) (bit : Bool) → Heard start now l bits
-    → None ≡ answer_of (bits ++ bit ∷ []) → DeframerStands next.deframer (bits ++ bit ∷ []) →
-    next.sender ≡ l.sender → next.pieces ≡ l.pieces → Heard start now next (bits ++ bit ∷ [])
-heard-none start now l next bits bit h none stands sender pieces = record {
-  stands = stands;
-  lines = h.lines;
-  are_lines = subst (λ (p : Role × List Found). AreLines p.0 p.1 h.lines) (λ i. (sym sender i, sym same i)) h.are_lines;
-  said = h.said;
-  count = pieces ∙ h.count ∙ sym (ap length same);
-}
-  where
-    same : pieces_of (bits ++ bit ∷ []) ≡ pieces_of bits
-    same = pieces-more bits bit ∙ ap (λ o. pieces_of bits ++ listed o) (nothing-there (bits ++ bit ∷ []) none) ∙ append-nil (pieces_of bits)
+pub pieces-same : (bits : List Bool) (bit : Bool) → None ≡ answer_of (bits ++ bit ∷ []) → pieces_of (bits ++ bit ∷ []) ≡ pieces_of bits
+pieces-same bits bit none =
+    pieces-more bits bit ∙ ap (λ o. pieces_of bits ++ listed o) (nothing-there (bits ++ bit ∷ []) none) ∙ append-nil (pieces_of bits)
 
 -- four bits have no part in the higher ones
 pub low-four : (octet : ℕ) → low_bits 4 (octet % 16) ≡ low_bits 4 octet
@@ -89,6 +81,15 @@ low-four octet =
     let e2 : octet % 16 / 2 / 2 % 2 ≡ octet / 2 / 2 % 2 = omega arith in
     let e3 : octet % 16 / 2 / 2 / 2 % 2 ≡ octet / 2 / 2 / 2 % 2 = omega arith in
     rw (e0, e1, e2, e3) refl
+
+-- those of an octet are its low four and its high four
+pub octet-fours : (octet : ℕ) → low_bits 4 (octet % 16) ++ low_bits 4 (octet / 16) ≡ octet_bits octet
+octet-fours octet =
+    let e4 : octet / 16 % 2 ≡ octet / 2 / 2 / 2 / 2 % 2 = omega arith in
+    let e5 : octet / 16 / 2 % 2 ≡ octet / 2 / 2 / 2 / 2 / 2 % 2 = omega arith in
+    let e6 : octet / 16 / 2 / 2 % 2 ≡ octet / 2 / 2 / 2 / 2 / 2 / 2 % 2 = omega arith in
+    let e7 : octet / 16 / 2 / 2 / 2 % 2 ≡ octet / 2 / 2 / 2 / 2 / 2 / 2 / 2 % 2 = omega arith in
+    ap (λ front. front ++ low_bits 4 (octet / 16)) (low-four octet) ∙ rw (e4, e5, e6, e7) refl
 
 -- more bits with which no piece ends
 pub heard-quiet : (start now : FolderState) (l next : Listening) (bits later : List Bool) → Heard start now l bits
@@ -168,37 +169,21 @@ left-longer start now l bits more all e h =
     record { part = partly-longer start now l.sender bits more all e h.part; stands = h.stands; count = h.count }
 
 -- the low bits of an octet up to a place, and one more
-pub bit-more : (bits : List Bool) (n count i : ℕ) → i < count
-    → (bits ++ take i (low_bits count n)) ++ nat_eq (bit_and (n / 2 ^ i) 1) 1 ∷ [] ≡ bits ++ take (i + 1) (low_bits count n)
-bit-more bits n count i h =
+pub bit-more : (n count i : ℕ) → i < count
+    → take i (low_bits count n) ++ nat_eq (bit_and (n / 2 ^ i) 1) 1 ∷ [] ≡ take (i + 1) (low_bits count n)
+bit-more n count i h =
     let within : i < length (low_bits count n) = omega (arith, h, length-low_bits count n) in
     let bit : get_or (low_bits count n) i false ≡ nat_eq (bit_and (n / 2 ^ i) 1) 1 =
     get_or-low_bits count n i false h ∙ ap (λ x. nat_eq x 1) (sym (and_mask (n / 2 ^ i) 1)) in
-    append_assoc bits (take i (low_bits count n)) (nat_eq (bit_and (n / 2 ^ i) 1) 1 ∷ [])
-    ∙ ap (λ xs. bits ++ xs) (sym (take_more (low_bits count n) i false within ∙ ap (λ b. take i (low_bits count n) ++ b ∷ []) bit))
-
-pub bits-left : (bits more : List Bool) (i : ℕ) → (bits ++ take i more) ++ drop i more ≡ bits ++ more
-bits-left bits more i = append_assoc bits (take i more) (drop i more) ∙ ap (λ xs. bits ++ xs) (take-append-drop i more)
+    sym (take_more (low_bits count n) i false within ∙ ap (λ b. take i (low_bits count n) ++ b ∷ []) bit)
 
 -- the octets up to a place, and one more
-pub octet-more : (bits : List Bool) (octets : List ℕ) (i : ℕ) → i < length octets
-    → (bits ++ bits_of (take i octets)) ++ octet_bits (get_or octets i 0) ≡ bits ++ bits_of (take (i + 1) octets)
-octet-more bits octets i h =
-    append_assoc bits (bits_of (take i octets)) (octet_bits (get_or octets i 0))
-    ∙ ap (λ xs. bits ++ xs) (sym (bits_of-snoc (take i octets) (get_or octets i 0)) ∙ sym (ap bits_of (take_more octets i 0 h)))
+pub octet-more : (octets : List ℕ) (i : ℕ) → i < length octets
+    → bits_of (take i octets) ++ octet_bits (get_or octets i 0) ≡ bits_of (take (i + 1) octets)
+octet-more octets i h = sym (bits_of-snoc (take i octets) (get_or octets i 0)) ∙ sym (ap bits_of (take_more octets i 0 h))
 
-pub octets-left : (bits : List Bool) (octets : List ℕ) (i : ℕ)
-    → (bits ++ bits_of (take i octets)) ++ bits_of (drop i octets) ≡ bits ++ bits_of octets
-octets-left bits octets i =
-    append_assoc bits (bits_of (take i octets)) (bits_of (drop i octets))
-    ∙ ap (λ xs. bits ++ xs) (sym (bits_of-append (take i octets) (drop i octets)) ∙ ap bits_of (take-append-drop i octets))
-
-pub says-trans : (a b c : FolderState) → OnlySays a b → OnlySays b c → OnlySays a c
-says-trans a b c p q = record {
-  goes_on = GoesOn-trans p.goes_on q.goes_on;
-  names = λ name. KeepsName-trans a b c name p.goes_on (p.names name) (q.names name);
-  read_faults = λ name. q.read_faults name ∙ p.read_faults name;
-}
+pub octets-left : (octets : List ℕ) (i : ℕ) → bits_of (take i octets) ++ bits_of (drop i octets) ≡ bits_of octets
+octets-left octets i = sym (bits_of-append (take i octets) (drop i octets)) ∙ ap bits_of (take-append-drop i octets)
 
 -- nothing more is said
 pub said-nothing : (f : FolderState) → Said f f []
@@ -222,3 +207,70 @@ heard-after start old mid l bits reads h =
       said = said-after start old mid h.lines reads h.said;
       count = h.count;
     }
+
+-- ---- what becomes of a listener and of its folder
+
+pub says-trans : (a b c : FolderState) → OnlySays a b → OnlySays b c → OnlySays a c
+says-trans a b c p q = OnlySays-trans p q
+
+says-none : (f : FolderState) → OnlySays f f
+says-none f = record { goes_on = GoesOn-refl f; names = λ name told. refl; read_faults = λ name. refl }
+
+-- bits with which no piece ends
+pub hears-quiet : (f : FolderState) (l next : Listening) (bits : List Bool)
+    → ((past : List Bool) → DeframerStands l.deframer past → DeframerStands next.deframer (past ++ bits))
+    → ((past : List Bool) → DeframerStands l.deframer past → pieces_of (past ++ bits) ≡ pieces_of past)
+    → next.sender ≡ l.sender → next.pieces ≡ l.pieces → Hears f f l next bits (Ok tt)
+hears-quiet f l next bits stands quiet sender pieces = record {
+  ok = λ start past h. heard-quiet start f l next past (past ++ bits) h (stands past h.stands) (quiet past h.stands) sender pieces;
+  left = λ start past h. tt;
+  only = says-none f;
+  fails = tt;
+  stand = CountsStand-refl f;
+  sender = sender;
+}
+
+-- no bits at all
+pub hears-none : (f : FolderState) (l : Listening) → Hears f f l l [] (Ok tt)
+hears-none f l = hears-quiet f l l []
+    (λ past stands. subst (λ (bits : List Bool). DeframerStands l.deframer bits) (sym (append-nil past)) stands)
+    (λ past stands. ap pieces_of (append-nil past)) refl refl
+
+-- a fault behind calls that counted none
+fails-later : (a b c : FolderState) (fault : FolderFault) → CountsStand a b → SayFails b c fault → SayFails a c fault
+fails-later a b c folder.Failed stand fails = subst (λ (count : ℕ). Rose count c.say_faults) stand.faults.says fails
+fails-later a b c folder.NoMemory stand fails =
+    (FaultsStand-trans stand.faults fails.0, subst (λ (count : ℕ). Rose count c.refusals) stand.refusals fails.1)
+
+-- bits behind bits
+pub hears-on : (a b c : FolderState) (l m n : Listening) (front bits : List Bool) (r : Result (Unit {0}) FolderFault)
+    → Hears a b l m front (Ok tt) → Hears b c m n bits r → Hears a c l n (front ++ bits) r
+hears-on a b c l m n front bits r p q = record {
+  ok = λ start past h. on-ok-map r (subst (λ (all : List Bool). Heard start c n all) (append_assoc past front bits))
+      (q.ok start (past ++ front) (p.ok start past h));
+  left = λ start past h. on-err-map r (subst (λ (all : List Bool). LeftAt start c n all) (append_assoc past front bits))
+      (q.left start (past ++ front) (p.ok start past h));
+  only = OnlySays-trans p.only q.only;
+  fails = if-err-map r (λ fault. fails-later a b c fault p.stand) q.fails;
+  stand = on-ok-map r (CountsStand-trans p.stand) q.stand;
+  sender = q.sender ∙ p.sender;
+}
+
+-- a fault before the last bits
+pub hears-part : (a b : FolderState) (l m : Listening) (bits rest : List Bool) (fault : FolderFault)
+    → Hears a b l m bits (Err fault) → Hears a b l m (bits ++ rest) (Err fault)
+hears-part a b l m bits rest fault h = record {
+  ok = λ start past heard. tt;
+  left = λ start past heard. left-longer start b m (past ++ bits) rest (past ++ (bits ++ rest)) (append_assoc past bits rest)
+      (h.left start past heard);
+  only = h.only;
+  fails = h.fails;
+  stand = tt;
+  sender = h.sender;
+}
+
+-- of which bits a fault leaves a part, as the sender tells it that began
+pub hears-partly : (a b : FolderState) (l m : Listening) (bits : List Bool) (r : Result (Unit {0}) FolderFault) → Hears a b l m bits r
+    → (start : FolderState) (past : List Bool) → Heard start a l past → OnErr r (PartlyHeard start b l.sender (past ++ bits))
+hears-partly a b l m bits r h start past heard =
+    on-err-map r (λ left. subst (λ (role : Role). PartlyHeard start b role (past ++ bits)) h.sender left.part) (h.left start past heard)

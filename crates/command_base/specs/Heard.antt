@@ -1,10 +1,12 @@
 -- How far a stream of bits was heard, and what was said of it.
-use Rattle.std.specs.Prelude.{◌≡◌, ℕ, Bool, List, ◌++◌, length}
-use Rattle.outside_calls.specs.Folder.{FolderState, Said, PartlySaid}
+use Rattle.std.specs.Prelude.{◌≡◌, ℕ, Bool, List, ◌++◌, length, Result, OnOk, OnErr, IfErr}
+use Rattle.outside_calls.specs.Folder.{FolderState, OnlySays, CountsStand, Said, PartlySaid}
+use Rattle.outside_calls.specs.declared.folder.FolderFault.{FolderFault}
 use Rattle.bit_stuffing.specs.Deframer.{Kept, DeframerStands}
 use Rattle.bit_stuffing.specs.Found.{Found, pieces_of}
 use Rattle.shared_terms.specs.declared.role.Role.{Role}
 use Rattle.command_base.specs.Readings.{IsLine, AreLines}
+use Rattle.command_base.specs.Stops.{SayFails}
 
 -- what a listener keeps
 pub record Listening : Type 0 where
@@ -46,3 +48,14 @@ pub record LeftAt (start now : FolderState) (listener : Listening) (bits : List 
   pub part : PartlyHeard start now listener.sender bits
   pub stands : DeframerStands listener.deframer part.heard
   pub count : listener.pieces ≡ length (pieces_of part.heard)
+
+-- What becomes of a listener and of its folder where it hears these bits: they are heard behind all that was heard before, or a fault
+-- leaves it at some of them.
+pub record Hears (before after : FolderState) (old new : Listening) (bits : List Bool)
+    (result : Result (Unit {0}) FolderFault) : Type 0 where
+  pub ok : (start : FolderState) (past : List Bool) → Heard start before old past → OnOk result (Heard start after new (past ++ bits))
+  pub left : (start : FolderState) (past : List Bool) → Heard start before old past → OnErr result (LeftAt start after new (past ++ bits))
+  pub only : OnlySays before after
+  pub fails : IfErr result (SayFails before after)
+  pub stand : OnOk result (CountsStand before after)
+  pub sender : new.sender ≡ old.sender

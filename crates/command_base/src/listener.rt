@@ -1,14 +1,15 @@
 // A listener to a stream of bits, who says what each piece is.
-ghost use Rattle.std.specs.Prelude.{◌≡◌, ◌≤◌, ◌<◌, ◌+◌, ◌*◌, ◌^◌, ℕ, Bool, true, false, List, [], ◌∷◌, ◌++◌, OnOk, OnErr, IfErr, length};
+ghost use Rattle.std.specs.Prelude.{◌≡◌, ◌≤◌, ◌<◌, ◌+◌, ◌*◌, ◌^◌, Bool, List, [], ◌∷◌, ◌++◌, OnOk, OnErr, IfErr, length};
 ghost use Rattle.outside_calls.specs.Folder.{FolderState, OnlySays, CountsStand};
-ghost use Rattle.plain_lists.specs.Bits.{low_bits, bits_of};
+ghost use Rattle.plain_lists.specs.Bits.{low_bits, octet_bits, bits_of};
 ghost use Rattle.command_base.specs.Stops.{SayFails};
 ghost use Rattle.bit_stuffing.specs.Found.{Found};
-ghost use Rattle.command_base.specs.Heard.{Heard, PartlyHeard, LeftAt, SaysPiece, PartlySaysPiece};
+ghost use Rattle.command_base.specs.Heard.{Heard, Hears, PartlyHeard, LeftAt, SaysPiece, PartlySaysPiece};
 
-use crate::piece_lines::{PieceLine, put_piece};
+use crate::piece_lines::put_piece;
 use crate::say_line;
 use bit_stuffing::{Deframer, Piece};
+use line_texts::LineText;
 use outside_calls::{Folder, FolderFault};
 use shared_terms::Role;
 use std::marker::Model;
@@ -58,7 +59,7 @@ fn say_piece<F: Folder>(
     ensures fails { IfErr result (SayFails (F.state folder.old) (F.state folder.new)) }
     ensures stand { OnOk result (CountsStand (F.state folder.old) (F.state folder.new)) }
 {
-    let mut line = PieceLine::new();
+    let mut line = LineText::new();
     put_piece(piece, octets, sender, &mut line);
     say_line(folder, line.as_slice())
 }
@@ -87,14 +88,7 @@ impl Listener {
     /// Hears a bit, and says the line of the piece that ends with it, if one does.
     fn hear_bit<F: Folder>(&mut self, folder: &mut F, bit: bool) -> Result<(), FolderFault>
         requires { self.old.pieces < 2 ^ 63 }
-        ensures ok { (start : FolderState) (bits : List Bool) → Heard start (F.state folder.old) self.old bits
-            → OnOk result (Heard start (F.state folder.new) self.new (bits ++ bit ∷ [])) }
-        ensures left { (start : FolderState) (bits : List Bool) → Heard start (F.state folder.old) self.old bits
-            → OnErr result (LeftAt start (F.state folder.new) self.new (bits ++ bit ∷ [])) }
-        ensures only { OnlySays (F.state folder.old) (F.state folder.new) }
-        ensures fails { IfErr result (SayFails (F.state folder.old) (F.state folder.new)) }
-        ensures stand { OnOk result (CountsStand (F.state folder.old) (F.state folder.new)) }
-        ensures sender { self.new.sender ≡ self.old.sender }
+        ensures hears { Hears (F.state folder.old) (F.state folder.new) self.old self.new (bit ∷ []) result }
         ensures pieces { self.new.pieces ≤ self.old.pieces + 1 }
     {
         match self.deframer.push(bit) {
@@ -103,6 +97,55 @@ impl Listener {
                 self.pieces += 1;
                 say_piece(folder, piece, self.deframer.whole(), self.sender)
             }
+        }
+    }
+
+    /// Hears the low bits of an octet, so many, one by one.
+    fn hear_each<F: Folder>(
+        &mut self,
+        folder: &mut F,
+        octet: u8,
+        count: u32,
+    ) -> Result<(), FolderFault>
+        requires pieces { self.old.pieces < 2 ^ 62 }
+        requires few { count ≤ 8 }
+        ensures hears { Hears (F.state folder.old) (F.state folder.new) self.old self.new (low_bits count octet) result }
+        ensures pieces { self.new.pieces ≤ self.old.pieces + count }
+    {
+        for place in 0..count {
+            match self.hear_bit(folder, (octet >> place) & 1 == 1) {
+                Ok(()) => {}
+                Err(fault) => return Err(fault),
+            }
+        }
+        Ok(())
+    }
+
+    /// Hears four bits, the low one first: at once, where it is plain that no piece ends with any of them.
+    fn hear_four<F: Folder>(&mut self, folder: &mut F, four: u8) -> Result<(), FolderFault>
+        requires pieces { self.old.pieces < 2 ^ 62 }
+        requires four { four < 16 }
+        ensures hears { Hears (F.state folder.old) (F.state folder.new) self.old self.new (low_bits 4 four) result }
+        ensures pieces { self.new.pieces ≤ self.old.pieces + 4 }
+    {
+        if self.deframer.pass_four(four) {
+            return Ok(());
+        }
+        self.hear_each(folder, four, 4)
+    }
+
+    /// Hears the bits of an octet, the low one first: at once, where it is plain that no piece ends with any of them.
+    fn hear_octet<F: Folder>(&mut self, folder: &mut F, octet: u8) -> Result<(), FolderFault>
+        requires { self.old.pieces < 2 ^ 61 }
+        ensures hears { Hears (F.state folder.old) (F.state folder.new) self.old self.new (octet_bits octet) result }
+        ensures pieces { self.new.pieces ≤ self.old.pieces + 8 }
+    {
+        if self.deframer.pass(octet) {
+            return Ok(());
+        }
+        match self.hear_four(folder, octet % 16) {
+            Ok(()) => self.hear_four(folder, octet / 16),
+            Err(fault) => Err(fault),
         }
     }
 
@@ -127,54 +170,9 @@ impl Listener {
         ensures sender { self.new.sender ≡ self.old.sender }
         ensures pieces { self.new.pieces ≤ self.old.pieces + count }
     {
-        if self.pass_low(octet, count) {
-            return Ok(());
-        }
-        self.hear_each(folder, octet, count)
-    }
-
-    /// Hears the low bits of an octet, so many, one by one.
-    fn hear_each<F: Folder>(
-        &mut self,
-        folder: &mut F,
-        octet: u8,
-        count: u32,
-    ) -> Result<(), FolderFault>
-        requires pieces { self.old.pieces < 2 ^ 62 }
-        requires few { count ≤ 8 }
-        ensures ok { (start : FolderState) (bits : List Bool) → Heard start (F.state folder.old) self.old bits
-            → OnOk result (Heard start (F.state folder.new) self.new (bits ++ low_bits count octet)) }
-        ensures err { (start : FolderState) (bits : List Bool) → Heard start (F.state folder.old) self.old bits
-            → OnErr result (PartlyHeard start (F.state folder.new) self.old.sender (bits ++ low_bits count octet)) }
-        ensures left { (start : FolderState) (bits : List Bool) → Heard start (F.state folder.old) self.old bits
-            → OnErr result (LeftAt start (F.state folder.new) self.new (bits ++ low_bits count octet)) }
-        ensures only { OnlySays (F.state folder.old) (F.state folder.new) }
-        ensures fails { IfErr result (SayFails (F.state folder.old) (F.state folder.new)) }
-        ensures stand { OnOk result (CountsStand (F.state folder.old) (F.state folder.new)) }
-        ensures sender { self.new.sender ≡ self.old.sender }
-        ensures pieces { self.new.pieces ≤ self.old.pieces + count }
-    {
-        for place in 0..count {
-            match self.hear_bit(folder, (octet >> place) & 1 == 1) {
-                Ok(()) => {}
-                Err(fault) => return Err(fault),
-            }
-        }
-        Ok(())
-    }
-
-    /// Hears the low bits of an octet where it is plain that no piece ends with any of them: whether it did.
-    fn pass_low(&mut self, octet: u8, count: u32) -> bool
-        ensures heard { result ≡ true → (start now : FolderState) (bits : List Bool) → Heard start now self.old bits
-            → Heard start now self.new (bits ++ low_bits count octet) }
-        ensures stays { result ≡ false → self.new ≡ self.old }
-        ensures sender { self.new.sender ≡ self.old.sender }
-        ensures pieces { self.new.pieces ≡ self.old.pieces }
-    {
         match count {
-            8 => self.deframer.pass(octet),
-            4 => self.deframer.pass_four(octet % 16),
-            _ => false,
+            4 => self.hear_four(folder, octet % 16),
+            _ => self.hear_each(folder, octet, count),
         }
     }
 
@@ -195,7 +193,7 @@ impl Listener {
         ensures pieces { self.new.pieces ≤ self.old.pieces + 8 * length octets.now }
     {
         for octet in octets {
-            match self.hear_low(folder, *octet, 8) {
+            match self.hear_octet(folder, *octet) {
                 Ok(()) => {}
                 Err(fault) => return Err(fault),
             }

@@ -83,7 +83,7 @@ fn files_become_recordings_at_both_rates(rt: HostRuntime) -> Result<(), Fail> {
 }
 
 /// A file of three pieces.
-const PIECES: [u8; 300] = [7; 300];
+const PIECES: [u8; 1200] = [7; 1200];
 
 /// A file of three pieces takes an octet at its limit, the output, its header, and four reads with three appends
 /// between.

@@ -22,29 +22,29 @@ use recordings::{Recorder, header_octets};
 const FILE: usize = 2;
 
 /// How many octets are read at a time.
-const PIECE: usize = 128;
+const PIECE: usize = 512;
 
 /// How many octets of a recording a piece becomes at most, sixteen for each of its own.
-const RECORDED_PIECE: usize = 2048;
+const RECORDED_PIECE: usize = 8192;
 
-/// The octets of the samples of a piece.
-fn record_piece(recorder: &mut Recorder, piece: &[u8]) -> Octets<RECORDED_PIECE>
+/// Leaves the octets of the samples of a piece.
+fn record_piece(recorder: &mut Recorder, piece: &[u8], recorded: &mut Octets<RECORDED_PIECE>)
     requires { length piece.now ≤ PIECE }
-    ensures { (rate : Rate) (mode : Mode) (octets recorded : List ℕ) → RecorderStands rate mode recorder.old octets recorded
-        → RecorderStands rate mode recorder.new (octets ++ piece.now) (recorded ++ result) }
+    ensures { (rate : Rate) (mode : Mode) (octets before : List ℕ) → RecorderStands rate mode recorder.old octets before
+        → RecorderStands rate mode recorder.new (octets ++ piece.now) (before ++ recorded.new) }
 {
-    let mut recorded = Octets::new();
+    recorded.clear();
     for octet in piece {
-        recorded.extend(recorder.push(*octet).as_slice());
+        recorder.put(*octet, recorded);
     }
-    recorded
 }
 
-/// Records the next piece of the file, and answers how many octets it has: none at the file's end.
+/// Records the next piece of the file, and answers how many octets it has: none at the file's end. `recorded` is room for its samples.
 fn record_next<F: Folder>(
     folder: &mut F,
     names: &EncodeWords<'_>,
     recorder: &mut Recorder,
+    recorded: &mut Octets<RECORDED_PIECE>,
     at: u64,
 ) -> Result<usize, Stop>
     requires apart { are_apart (inputs_of (named names.now)) (outputs_of (named names.now)) ≡ true }
@@ -65,7 +65,7 @@ fn record_next<F: Folder>(
         Ok(count) => count,
         Err(fault) => return Err(Stop::Read(fault)),
     };
-    let recorded = record_piece(recorder, &piece[..count]);
+    record_piece(recorder, &piece[..count], recorded);
     match append_output(folder, names.rec, recorded.as_slice()) {
         Ok(()) => Ok(count),
         Err(fault) => Err(Stop::Write(fault)),
@@ -89,9 +89,10 @@ fn record_file<F: Folder>(folder: &mut F, names: &EncodeWords<'_>) -> Result<u64
         Ok(()) => {}
         Err(fault) => return Err(Stop::Write(fault)),
     }
+    let mut recorded = Octets::new();
     let mut at: u64 = 0;
     loop {
-        match record_next(folder, names, &mut recorder, at) {
+        match record_next(folder, names, &mut recorder, &mut recorded, at) {
             Ok(0) => return Ok(names.rate.samples(at)),
             Ok(count) => at += count as u64,
             Err(fault) => return Err(fault),

@@ -1,5 +1,5 @@
 // The command: the pieces are listed, and the last line is said.
-ghost use Rattle.std.specs.Prelude.{◌≡◌, map, string_bytes};
+ghost use Rattle.std.specs.Prelude.{map, string_bytes};
 ghost use Rattle.command_base.specs.Job.{Answers};
 ghost use Rattle.frames_command.specs.Words.{named};
 ghost use Rattle.frames_command.specs.Completes.{Completes};

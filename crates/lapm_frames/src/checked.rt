@@ -5,7 +5,8 @@ ghost use Rattle.lapm_frames.specs.declared.fault.CheckedFault.{CheckedFault};
 ghost use Rattle.lapm_frames.specs.Frame.{IsFrame};
 ghost use Rattle.lapm_frames.specs.Checked.{check_for, check_heard, checked, IsCheckedFault, SpellsFrame};
 
-use crate::{CheckedFault, Frame, Role, read, write};
+use crate::spelling::read_lent;
+use crate::{CheckedFault, Frame, LentFrame, Role, write};
 use frame_check::{Check, Whole, append, passes};
 
 /// The check of a frame, where the ends agreed on this one: I frames and S frames have it, U frames that of 16 bits.
@@ -41,6 +42,30 @@ pub fn write_checked(frame: &Frame, check: Check, sender: Role, dlci: u8) -> Who
     octets
 }
 
+/// The frame that these octets with their check are, sent by this end on this channel, where the ends agreed on this check. Its
+/// information is lent by the octets.
+pub fn read_checked_lent(
+    octets: &[u8],
+    check: Check,
+    sender: Role,
+    dlci: u8,
+) -> Result<LentFrame<'_>, CheckedFault>
+    requires { dlci < 64 }
+    ensures ok { IfOk result (SpellsFrame check sender dlci octets.now) }
+    ensures all { (frame : Frame) → SpellsFrame check sender dlci octets.now frame → result ≡ Ok frame }
+    ensures fault { (fault : CheckedFault) → (result ≡ Err fault) ↔ IsCheckedFault check sender dlci octets.now fault }
+{
+    let used = check_heard(octets, check);
+    if !passes(octets, used) {
+        return Err(CheckedFault::BadCheck);
+    }
+    let (front, _) = octets.split_at(octets.len() - used.len());
+    match read_lent(front, sender, dlci) {
+        Ok(frame) => Ok(frame),
+        Err(fault) => Err(CheckedFault::Refused(fault)),
+    }
+}
+
 /// The frame that these octets with their check are, sent by this end on this channel, where the ends agreed on this check.
 pub fn read_checked(
     octets: &[u8],
@@ -53,13 +78,8 @@ pub fn read_checked(
     ensures all { (frame : Frame) → SpellsFrame check sender dlci octets.now frame → result ≡ Ok frame }
     ensures fault { (fault : CheckedFault) → (result ≡ Err fault) ↔ IsCheckedFault check sender dlci octets.now fault }
 {
-    let used = check_heard(octets, check);
-    if !passes(octets, used) {
-        return Err(CheckedFault::BadCheck);
-    }
-    let (front, _) = octets.split_at(octets.len() - used.len());
-    match read(front, sender, dlci) {
-        Ok(frame) => Ok(frame),
-        Err(fault) => Err(CheckedFault::Refused(fault)),
+    match read_checked_lent(octets, check, sender, dlci) {
+        Ok(lent) => Ok(lent.to_frame()),
+        Err(fault) => Err(fault),
     }
 }

@@ -1,11 +1,11 @@
 // Frames as values.
-ghost use Rattle.std.specs.Prelude.{◌≡◌, ◌<◌, ◌≤◌, length};
+ghost use Rattle.std.specs.Prelude.{◌≡◌, ◌<◌, ◌≤◌, length, IfSome};
+ghost use Rattle.frame_check.specs.declared.sizes.TheConstants.{INFO};
 ghost use Rattle.lapm_frames.specs.Parts.{parts_of};
 ghost use Rattle.lapm_frames.specs.Seen.{seen};
 
-use crate::Parts;
-use crate::control::{DISC, DM, FRMR, REJ, RNR, RR, SABME, SREJ, TEST, UA, UI, XID};
-use crate::parts::{supervisory, unnumbered};
+use crate::kind::FrameKind;
+use crate::{LentFrame, Parts};
 use frame_check::Info;
 
 /// A frame of ITU-T V.42. `command` tells a command from a response where the kind has both, `ns` and `nr` are the numbers N(S) and
@@ -85,61 +85,72 @@ pub enum Frame {
 }
 
 impl Frame {
+    /// The frame, with its information lent.
+    pub fn lent(&self) -> LentFrame<'_>
+        ensures { result ≡ self.now }
+    {
+        match self {
+            Frame::I { ns, nr, pf, info } => LentFrame::numbered(*ns, *nr, *pf, info.as_slice()),
+            Frame::Rr { command, nr, pf } => LentFrame::supervisory(
+                FrameKind::Rr,
+                *command,
+                *nr,
+                *pf,
+            ),
+            Frame::Rnr { command, nr, pf } => LentFrame::supervisory(
+                FrameKind::Rnr,
+                *command,
+                *nr,
+                *pf,
+            ),
+            Frame::Rej { command, nr, pf } => LentFrame::supervisory(
+                FrameKind::Rej,
+                *command,
+                *nr,
+                *pf,
+            ),
+            Frame::Srej { command, nr, pf } => LentFrame::supervisory(
+                FrameKind::Srej,
+                *command,
+                *nr,
+                *pf,
+            ),
+            Frame::Sabme { pf } => LentFrame::unnumbered(FrameKind::Sabme, true, *pf, &[]),
+            Frame::Disc { pf } => LentFrame::unnumbered(FrameKind::Disc, true, *pf, &[]),
+            Frame::Ua { pf } => LentFrame::unnumbered(FrameKind::Ua, false, *pf, &[]),
+            Frame::Dm { pf } => LentFrame::unnumbered(FrameKind::Dm, false, *pf, &[]),
+            Frame::Frmr { pf, info } => LentFrame::unnumbered(
+                FrameKind::Frmr,
+                false,
+                *pf,
+                info.as_slice(),
+            ),
+            Frame::Ui { command, pf, info } => LentFrame::unnumbered(
+                FrameKind::Ui,
+                *command,
+                *pf,
+                info.as_slice(),
+            ),
+            Frame::Xid { command, pf, info } => LentFrame::unnumbered(
+                FrameKind::Xid,
+                *command,
+                *pf,
+                info.as_slice(),
+            ),
+            Frame::Test { command, pf, info } => LentFrame::unnumbered(
+                FrameKind::Test,
+                *command,
+                *pf,
+                info.as_slice(),
+            ),
+        }
+    }
+
     /// A second frame of the same content. Unlike a `clone` it can't fail.
     pub fn copy(&self) -> Frame
         ensures { result ≡ self.now }
     {
-        match self {
-            Frame::I { ns, nr, pf, info } => Frame::I {
-                ns: *ns,
-                nr: *nr,
-                pf: *pf,
-                info: info.copy(),
-            },
-            Frame::Rr { command, nr, pf } => Frame::Rr {
-                command: *command,
-                nr: *nr,
-                pf: *pf,
-            },
-            Frame::Rnr { command, nr, pf } => Frame::Rnr {
-                command: *command,
-                nr: *nr,
-                pf: *pf,
-            },
-            Frame::Rej { command, nr, pf } => Frame::Rej {
-                command: *command,
-                nr: *nr,
-                pf: *pf,
-            },
-            Frame::Srej { command, nr, pf } => Frame::Srej {
-                command: *command,
-                nr: *nr,
-                pf: *pf,
-            },
-            Frame::Sabme { pf } => Frame::Sabme { pf: *pf },
-            Frame::Disc { pf } => Frame::Disc { pf: *pf },
-            Frame::Ua { pf } => Frame::Ua { pf: *pf },
-            Frame::Dm { pf } => Frame::Dm { pf: *pf },
-            Frame::Frmr { pf, info } => Frame::Frmr {
-                pf: *pf,
-                info: info.copy(),
-            },
-            Frame::Ui { command, pf, info } => Frame::Ui {
-                command: *command,
-                pf: *pf,
-                info: info.copy(),
-            },
-            Frame::Xid { command, pf, info } => Frame::Xid {
-                command: *command,
-                pf: *pf,
-                info: info.copy(),
-            },
-            Frame::Test { command, pf, info } => Frame::Test {
-                command: *command,
-                pf: *pf,
-                info: info.copy(),
-            },
-        }
+        self.lent().to_frame()
     }
 
     /// What the frame consists of.
@@ -147,31 +158,8 @@ impl Frame {
         ensures parts { seen result ≡ parts_of self.now }
         ensures name { length result.name.now ≤ 5 }
         ensures control { result.control < 240 }
+        ensures info { IfSome result.info (λ info. length info.now ≤ INFO) }
     {
-        match self {
-            Frame::I { ns, nr, pf, info } => Parts {
-                name: b"i",
-                command: true,
-                control: 0,
-                ns: Some(*ns),
-                nr: Some(*nr),
-                pf: *pf,
-                info: Some(info),
-            },
-            Frame::Rr { command, nr, pf } => supervisory(b"rr", RR, *command, *nr, *pf),
-            Frame::Rnr { command, nr, pf } => supervisory(b"rnr", RNR, *command, *nr, *pf),
-            Frame::Rej { command, nr, pf } => supervisory(b"rej", REJ, *command, *nr, *pf),
-            Frame::Srej { command, nr, pf } => supervisory(b"srej", SREJ, *command, *nr, *pf),
-            Frame::Sabme { pf } => unnumbered(b"sabme", SABME, true, *pf, None),
-            Frame::Disc { pf } => unnumbered(b"disc", DISC, true, *pf, None),
-            Frame::Ua { pf } => unnumbered(b"ua", UA, false, *pf, None),
-            Frame::Dm { pf } => unnumbered(b"dm", DM, false, *pf, None),
-            Frame::Frmr { pf, info } => unnumbered(b"frmr", FRMR, false, *pf, Some(info)),
-            Frame::Ui { command, pf, info } => unnumbered(b"ui", UI, *command, *pf, Some(info)),
-            Frame::Xid { command, pf, info } => unnumbered(b"xid", XID, *command, *pf, Some(info)),
-            Frame::Test { command, pf, info } => {
-                unnumbered(b"test", TEST, *command, *pf, Some(info))
-            }
-        }
+        self.lent().parts()
     }
 }

@@ -6,7 +6,7 @@ ghost use Rattle.lapm_frames.specs.Frame.{address_of, FrameSpelling};
 ghost use Rattle.lapm_frames.specs.Fault.{FirstFault};
 
 use crate::numbers::number;
-use crate::{Frame, FrameFault};
+use crate::{FrameFault, LentFrame};
 use frame_check::{INFO, Info};
 
 /// Whether information of these octets isn't too long. The frame has `before` octets in front of it.
@@ -35,7 +35,7 @@ pub(crate) fn information(octets: &[u8]) -> Info
 }
 
 /// Reads what follows an even control octet.
-pub(crate) fn read(control: u8, command: bool, tail: &[u8]) -> Result<Frame, FrameFault>
+pub(crate) fn read(control: u8, command: bool, tail: &[u8]) -> Result<LentFrame<'_>, FrameFault>
     requires { control % 2 ≡ 0 }
     ensures ok { IfOk result (λ frame. (sender : Role) (dlci : ℕ)
         → FrameSpelling frame sender dlci (address_of command sender dlci ∷ control ∷ tail.now)) }
@@ -50,10 +50,5 @@ pub(crate) fn read(control: u8, command: bool, tail: &[u8]) -> Result<Frame, Fra
     };
     fits(rest, 3)?;
     let (nr, pf) = number(*numbers);
-    Ok(Frame::I {
-        ns: control / 2,
-        nr,
-        pf,
-        info: information(rest),
-    })
+    Ok(LentFrame::numbered(control / 2, nr, pf, rest))
 }

@@ -1,12 +1,14 @@
 // The parts of frames: what a frame of each kind consists of, and the octet behind its address.
-ghost use Rattle.std.specs.Prelude.{◌≡◌, ◌<◌, IfSome};
+ghost use Rattle.std.specs.Prelude.{◌≡◌, ◌<◌, ◌≤◌, length, IfSome};
+ghost use Rattle.frame_check.specs.declared.sizes.TheConstants.{INFO};
 ghost use Rattle.std.specs.Option.{option_map};
 ghost use Rattle.lapm_frames.specs.Frame.{octet_with};
+ghost use Rattle.lapm_frames.specs.Lent.{frame_of};
 ghost use Rattle.lapm_frames.specs.Parts as parts;
 ghost use Rattle.lapm_frames.specs.Seen.{seen};
 
-use crate::control::marked_octet;
-use frame_check::Info;
+use crate::control::{DISC, DM, FRMR, REJ, RNR, RR, SABME, SREJ, TEST, UA, UI, XID, marked_octet};
+use crate::kind::FrameKind;
 
 /// What a frame consists of. Lent by the frame.
 #[derive(Clone, Copy)]
@@ -24,7 +26,7 @@ pub struct Parts<'a> {
     /// The poll bit of a command, the final bit of a response.
     pub pf: bool,
     /// The information field, where the kind has one.
-    pub info: Option<&'a Info>,
+    pub info: Option<&'a [u8]>,
 }
 
 /// The parts of an S frame.
@@ -56,7 +58,7 @@ pub(crate) fn unnumbered<'a>(
     control: u8,
     command: bool,
     pf: bool,
-    info: Option<&'a Info>,
+    info: Option<&'a [u8]>,
 ) -> Parts<'a>
     ensures parts { seen result ≡ parts.unnumbered name.entry.now control command pf (option_map (λ info. info.now) info.entry) }
     ensures name { result.name.now ≡ name.entry.now }
@@ -70,6 +72,46 @@ pub(crate) fn unnumbered<'a>(
         nr: None,
         pf,
         info,
+    }
+}
+
+/// The parts of a frame of this kind, of what the kind has of these.
+pub(crate) fn parts_of<'a>(
+    kind: FrameKind,
+    command: bool,
+    ns: u8,
+    nr: u8,
+    pf: bool,
+    info: &'a [u8],
+) -> Parts<'a>
+    requires { length info.now ≤ INFO }
+    ensures parts { seen result ≡ parts.parts_of (frame_of kind command ns nr pf info.now) }
+    ensures name { length result.name.now ≤ 5 }
+    ensures control { result.control < 240 }
+    ensures info { IfSome result.info (λ info. length info.now ≤ INFO) }
+{
+    match kind {
+        FrameKind::I => Parts {
+            name: b"i",
+            command: true,
+            control: 0,
+            ns: Some(ns),
+            nr: Some(nr),
+            pf,
+            info: Some(info),
+        },
+        FrameKind::Rr => supervisory(b"rr", RR, command, nr, pf),
+        FrameKind::Rnr => supervisory(b"rnr", RNR, command, nr, pf),
+        FrameKind::Rej => supervisory(b"rej", REJ, command, nr, pf),
+        FrameKind::Srej => supervisory(b"srej", SREJ, command, nr, pf),
+        FrameKind::Sabme => unnumbered(b"sabme", SABME, true, pf, None),
+        FrameKind::Disc => unnumbered(b"disc", DISC, true, pf, None),
+        FrameKind::Ua => unnumbered(b"ua", UA, false, pf, None),
+        FrameKind::Dm => unnumbered(b"dm", DM, false, pf, None),
+        FrameKind::Frmr => unnumbered(b"frmr", FRMR, false, pf, Some(info)),
+        FrameKind::Ui => unnumbered(b"ui", UI, command, pf, Some(info)),
+        FrameKind::Xid => unnumbered(b"xid", XID, command, pf, Some(info)),
+        FrameKind::Test => unnumbered(b"test", TEST, command, pf, Some(info)),
     }
 }
 

@@ -11,11 +11,11 @@ ghost use Rattle.lapm_frames.specs.Fault.{FirstFault};
 use crate::address::{address_octet, is_command};
 use crate::numbers::number_octet;
 use crate::parts::control_octet;
-use crate::{Frame, FrameFault, Role, information, supervisory, unnumbered};
-use frame_check::{Info, Whole};
+use crate::{Frame, FrameFault, LentFrame, Role, information, supervisory, unnumbered};
+use frame_check::Whole;
 
 /// Reads what follows the address of a command or of a response.
-fn read_addressed(command: bool, rest: &[u8]) -> Result<Frame, FrameFault>
+fn read_addressed(command: bool, rest: &[u8]) -> Result<LentFrame<'_>, FrameFault>
     ensures ok { IfOk result (λ frame. (sender : Role) (dlci : ℕ)
         → FrameSpelling frame sender dlci (address_of command sender dlci ∷ rest.now)) }
     ensures err { IfErr result (λ fault. (sender : Role) (dlci : ℕ)
@@ -31,8 +31,8 @@ fn read_addressed(command: bool, rest: &[u8]) -> Result<Frame, FrameFault>
     }
 }
 
-/// The frame that these octets are, sent by this end on this channel. The octets come without their check.
-pub fn read(octets: &[u8], sender: Role, dlci: u8) -> Result<Frame, FrameFault>
+/// The frame that these octets are, sent by this end on this channel, with its information lent.
+pub(crate) fn read_lent(octets: &[u8], sender: Role, dlci: u8) -> Result<LentFrame<'_>, FrameFault>
     requires { dlci < 64 }
     ensures ok { IfOk result (λ frame. FrameSpelling frame sender dlci octets.now) }
     ensures all { (frame : Frame) → FrameSpelling frame sender dlci octets.now → result ≡ Ok frame }
@@ -44,6 +44,19 @@ pub fn read(octets: &[u8], sender: Role, dlci: u8) -> Result<Frame, FrameFault>
     match is_command(*address, sender, dlci) {
         Some(command) => read_addressed(command, rest),
         None => Err(FrameFault::Address { octet: *address }),
+    }
+}
+
+/// The frame that these octets are, sent by this end on this channel. The octets come without their check.
+pub fn read(octets: &[u8], sender: Role, dlci: u8) -> Result<Frame, FrameFault>
+    requires { dlci < 64 }
+    ensures ok { IfOk result (λ frame. FrameSpelling frame sender dlci octets.now) }
+    ensures all { (frame : Frame) → FrameSpelling frame sender dlci octets.now → result ≡ Ok frame }
+    ensures fault { (fault : FrameFault) → (result ≡ Err fault) ↔ FirstFault sender dlci octets.now fault }
+{
+    match read_lent(octets, sender, dlci) {
+        Ok(lent) => Ok(lent.to_frame()),
+        Err(fault) => Err(fault),
     }
 }
 
@@ -59,12 +72,13 @@ fn put_number(nr: Option<u8>, pf: bool, out: &mut Whole)
 }
 
 /// Puts the information, where the frame has some.
-fn put_information(info: Option<&Info>, out: &mut Whole)
+fn put_information(info: Option<&[u8]>, out: &mut Whole)
+    requires short { IfSome info (λ info. length info.now ≤ INFO) }
     requires room { length out.old + INFO ≤ WHOLE }
     ensures { out.new ≡ out.old ++ unwrap_or (option_map (λ info. info.now) info.entry) [] }
 {
     if let Some(info) = info {
-        out.extend(info.as_slice());
+        out.extend(info);
     }
 }
 

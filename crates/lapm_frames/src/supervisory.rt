@@ -1,12 +1,13 @@
 // S frames: commands or responses with N(R) and nothing else.
-ghost use Rattle.std.specs.Prelude.{◌≡◌, ℕ, ◌<◌, ◌≤◌, ◌+◌, ◌%◌, [], ◌∷◌, length, IfOk, IfErr};
+ghost use Rattle.std.specs.Prelude.{◌≡◌, ℕ, ◌<◌, ◌+◌, ◌%◌, [], ◌∷◌, IfOk, IfErr};
 ghost use Rattle.shared_terms.specs.declared.role.Role.{Role};
 ghost use Rattle.lapm_frames.specs.Frame.{address_of, numbered, FrameSpelling};
 ghost use Rattle.lapm_frames.specs.Fault.{FirstFault, IsNumbersFault};
 
 use crate::control::{REJ, RNR, RR, SREJ};
+use crate::kind::FrameKind;
 use crate::numbers::number;
-use crate::{Frame, FrameFault};
+use crate::{FrameFault, LentFrame};
 
 /// N(R) and P/F, where this octet alone follows the control octet.
 fn numbers(tail: &[u8]) -> Result<(u8, bool), FrameFault>
@@ -23,7 +24,7 @@ fn numbers(tail: &[u8]) -> Result<(u8, bool), FrameFault>
 }
 
 /// Reads what follows an odd control octet whose second bit isn't set.
-pub(crate) fn read(control: u8, command: bool, tail: &[u8]) -> Result<Frame, FrameFault>
+pub(crate) fn read(control: u8, command: bool, tail: &[u8]) -> Result<LentFrame<'_>, FrameFault>
     requires { control % 4 ≡ 1 }
     ensures ok { IfOk result (λ frame. (sender : Role) (dlci : ℕ)
         → FrameSpelling frame sender dlci (address_of command sender dlci ∷ control ∷ tail.now)) }
@@ -33,19 +34,19 @@ pub(crate) fn read(control: u8, command: bool, tail: &[u8]) -> Result<Frame, Fra
     match control {
         RR => {
             let (nr, pf) = numbers(tail)?;
-            Ok(Frame::Rr { command, nr, pf })
+            Ok(LentFrame::supervisory(FrameKind::Rr, command, nr, pf))
         }
         RNR => {
             let (nr, pf) = numbers(tail)?;
-            Ok(Frame::Rnr { command, nr, pf })
+            Ok(LentFrame::supervisory(FrameKind::Rnr, command, nr, pf))
         }
         REJ => {
             let (nr, pf) = numbers(tail)?;
-            Ok(Frame::Rej { command, nr, pf })
+            Ok(LentFrame::supervisory(FrameKind::Rej, command, nr, pf))
         }
         SREJ => {
             let (nr, pf) = numbers(tail)?;
-            Ok(Frame::Srej { command, nr, pf })
+            Ok(LentFrame::supervisory(FrameKind::Srej, command, nr, pf))
         }
         _ => Err(FrameFault::Control { octet: control }),
     }

@@ -1,19 +1,20 @@
 // The words of a frame's text.
-ghost use Rattle.std.specs.Prelude.{◌≡◌, ◌≤◌, ◌+◌, ◌++◌, length};
+ghost use Rattle.std.specs.Prelude.{◌≡◌, ◌≤◌, ◌+◌, ◌++◌, length, IfSome};
 ghost use Rattle.std.specs.Option.{option_map};
+ghost use Rattle.frame_check.specs.declared.sizes.TheConstants.{INFO};
 ghost use Rattle.line_texts.specs.FrameText.{break_words, direction_word, if_informed, if_numbered, kind_word, number_word, poll_word};
 
 use crate::put_decimal;
 use break_signals::BreakWord;
-use frame_check::{Info, Octets};
+use frame_check::Octets;
 
-/// The most octets of a frame's text, and of a trace's line.
+/// The most octets of a frame's text, and of a line of a trace or of a piece.
 pub const TEXT: usize = 160;
 
 /// The text of a frame, as ASCII characters.
 pub type FrameText = Octets<TEXT>;
 
-/// A line of a trace with its line feed, as ASCII characters.
+/// A line with its line feed, as ASCII characters.
 pub type LineText = Octets<TEXT>;
 
 /// Puts a count behind its label.
@@ -78,7 +79,8 @@ pub(crate) fn put_poll(pf: bool, out: &mut LineText)
 }
 
 /// Puts how many octets of information the frame has, where its kind has information.
-pub(crate) fn put_count(info: Option<&Info>, out: &mut LineText)
+pub(crate) fn put_count(info: Option<&[u8]>, out: &mut LineText)
+    requires info { IfSome info (λ info. length info.now ≤ INFO) }
     requires room { length out.old + 28 ≤ TEXT }
     ensures text { out.new ≡ out.old ++ if_informed (option_map (λ info. info.now) info.entry) }
     ensures short { length out.new ≤ length out.old + 7 }

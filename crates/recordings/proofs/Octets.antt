@@ -1,9 +1,11 @@
 -- The bits of an octet more, in two fours.
-use Rattle.std.proofs.Common.{◌≡◌, ◌∙◌, ℕ, ◌+◌, ◌*◌, ◌/◌, ◌%◌, ◌<◌, Bool, List, [], ◌∷◌, ◌++◌, length, refl, sym, ap, arith, append-nil}
+use Rattle.std.proofs.Common.{◌≡◌, ◌∙◌, ℕ, ◌+◌, ◌/◌, ◌%◌, ◌<◌, Bool, List, [], ◌∷◌, ◌++◌, length, refl, sym, ap, arith, append-nil}
 use Rattle.std.proofs.Common.{append_assoc, length-append}
 use Rattle.std.specs.List.{flat_map}
 use Rattle.std.proofs.lemmas.Grind.{flat_map-append}
 use Rattle.plain_lists.specs.Bits.{low_bits, octet_bits, bits_of}
+use Rattle.symbol_map.specs.declared.sample.Sample.{Sample}
+use Rattle.recordings.specs.Recording.{sample_octets}
 
 -- eight bits are the low four and the high four
 two-fours : (octet : ℕ) → octet < 256 → low_bits 4 (octet % 16) ++ low_bits 4 (octet / 16) ≡ octet_bits octet
@@ -67,7 +69,11 @@ count-more samples x = length-append samples (x ∷ [])
 pub length-more : (octets : List ℕ) (octet : ℕ) → length (octets ++ octet ∷ []) ≡ length octets + 1
 length-more octets octet = length-append octets (octet ∷ [])
 
-pub four-behind : (recorded a b c d : List ℕ) → recorded ++ (((a ++ b) ++ c) ++ d) ≡ (((recorded ++ a) ++ b) ++ c) ++ d
-four-behind recorded a b c d =
-    sym (append_assoc recorded ((a ++ b) ++ c) d)
-    ∙ ap (λ xs. xs ++ d) (sym (append_assoc recorded (a ++ b) c) ∙ ap (λ xs. xs ++ c) (sym (append_assoc recorded a b)))
+-- two samples more, behind octets that are behind others
+pub two-more : (samples : List Sample) (a b : Sample) (recorded out : List ℕ) → recorded ++ out ≡ flat_map sample_octets samples
+    → recorded ++ (out ++ (sample_octets a ++ sample_octets b)) ≡ flat_map sample_octets ((samples ++ a ∷ []) ++ b ∷ [])
+two-more samples a b recorded out r =
+    sym (append_assoc recorded out (sample_octets a ++ sample_octets b))
+    ∙ sym (append_assoc (recorded ++ out) (sample_octets a) (sample_octets b))
+    ∙ sample-more sample_octets (samples ++ a ∷ []) b ((recorded ++ out) ++ sample_octets a) (sample_octets b)
+    (sample-more sample_octets samples a (recorded ++ out) (sample_octets a) r refl) refl

@@ -1,5 +1,5 @@
 // The octets of a sample, both ways.
-ghost use Rattle.std.specs.Prelude.{◌≡◌, ◌≤◌, ◌+◌, ◌*◌, length, slice_index};
+ghost use Rattle.std.specs.Prelude.{◌≡◌, ◌≤◌, ◌+◌, ◌*◌, ◌++◌, length, slice_index};
 ghost use Rattle.recordings.specs.Recording.{sample_octets};
 ghost use Rattle.recordings.specs.Samples.{coordinate, sample_at};
 
@@ -16,6 +16,15 @@ pub fn octets_of(sample: Sample) -> [u8; 4]
     let mut octets = [0; 4];
     LittleEndian::write_i16(&mut octets, sample.re);
     LittleEndian::write_i16(&mut octets[2..], sample.im);
+    octets
+}
+
+/// The octets of two samples.
+pub(crate) fn octets_of_two(first: Sample, second: Sample) -> [u8; 8]
+    ensures { result ≡ sample_octets first ++ sample_octets second }
+{
+    let mut octets = [0; 8];
+    LittleEndian::write_i16_into(&[first.re, first.im, second.re, second.im], &mut octets);
     octets
 }
 

@@ -1,13 +1,14 @@
-use Rattle.std.proofs.Common.{◌∙◌, ◌++◌, codes, refl, sym, ap}
+use Rattle.std.proofs.Common.{◌∙◌, ◌++◌, codes, refl, ap}
 use Rattle.bit_stuffing.specs.declared.piece.Piece.TheVariants as pieces
-use Rattle.command_base.specs.Readings.{IsRagged, IsAborted, IsTooLong, IsTooShort, reading_of}
+use Rattle.command_base.specs.Readings.{IsRagged, IsAborted, IsTooLong, IsTooShort}
 use Rattle.command_base.proofs.PieceLines.{whole-read, line-of}
 use Rattle.command_base.proofs.piece_lines.put_piece.Goals as goal
 
 pub returns-in-Whole : goal.returns-in-Whole
 returns-in-Whole c = λ found piece octets.
     line-of c.args.sender found pieces.Whole c.args.octets.now _ c.put_read.new.line (piece ∙ c.in-Whole.is) octets
-    (whole-read c.args.sender c.args.octets.now c.read_checked-read.result c.read_checked-read.ensures.ok c.read_checked-read.ensures.fault)
+    (whole-read c.args.sender c.args.octets.now c.read_checked_lent-read.result c.read_checked_lent-read.ensures.ok
+    c.read_checked_lent-read.ensures.fault)
     c.put_read.ensures
 
 pub returns-in-Ragged : goal.returns-in-Ragged

@@ -1,6 +1,6 @@
 use Rattle.std.proofs.Common.{◌≡◌, false, [], refl, sym, arith}
 use Rattle.std.proofs.lemmas.Bool.Decides.{nat_tests}
-use Rattle.std.proofs.lemmas.Result.{err_from_is_err_and, IfErr-weaker}
+use Rattle.std.proofs.lemmas.Result.{IfErr-weaker}
 use Rattle.lapm_frames.specs.declared.frame.Frame.TheVariants.{Sabme, Disc, Ua, Dm, Frmr, Ui, Xid, Test}
 use Rattle.lapm_frames.proofs.Forms.{allows}
 use Rattle.lapm_frames.proofs.Faults.{unnumbered-control, unnumbered-long}
@@ -41,37 +41,37 @@ returns-in-15-clause-err c =
     (record { is_frame = (tt, tt, tt); command_is = sym c.if-not-command-2.true; control_is = refl }) c.requires
     c.mark-kind.ensures.unmarked c.mark-kind.ensures.marked) c.bare-in-15.ensures.err
 
-pub returns-in_err-fits-in-135-clause-err : goal.returns-in_err-fits-in-135-clause-err
-returns-in_err-fits-in-135-clause-err c =
-    let p = err_from_is_err_and c.from_residual.result c.from_residual.ensures.1 in
-    rw (p.1, p.2) (unnumbered-long c.args.command c.args.control c.args.tail.now c.mark-kind.result.0 0x87 c.mark-kind.result.1
-    (Frmr c.mark-kind.result.1 []) c.in_err-fits-in-135.field-0.0 c.in-135.is
+pub returns-in-135-clause-err : goal.returns-in-135-clause-err
+returns-in-135-clause-err c =
+    IfErr-weaker c.informed.result _ _
+    (λ fault. unnumbered-long c.args.command c.args.control c.args.tail.now c.mark-kind.result.0 0x87 c.mark-kind.result.1
+    (Frmr c.mark-kind.result.1 []) fault c.in-135.is
     (record { is_frame = (tt, tt, omega arith); command_is = sym c.if-not-command-3.true; control_is = refl }) c.requires
-    c.mark-kind.ensures.unmarked c.mark-kind.ensures.marked c.in_err-fits-in-135.ensures.err)
+    c.mark-kind.ensures.unmarked c.mark-kind.ensures.marked) c.informed.ensures.err
 
-pub returns-in_err-fits-in-3-clause-err : goal.returns-in_err-fits-in-3-clause-err
-returns-in_err-fits-in-3-clause-err c =
-    let p = err_from_is_err_and c.from_residual-in_err-fits-in-3.result c.from_residual-in_err-fits-in-3.ensures.1 in
-    rw (p.1, p.2) (unnumbered-long c.args.command c.args.control c.args.tail.now c.mark-kind.result.0 0x03 c.mark-kind.result.1
-    (Ui c.args.command c.mark-kind.result.1 []) c.in_err-fits-in-3.field-0.0 c.in-3.is
+pub returns-in-3-clause-err : goal.returns-in-3-clause-err
+returns-in-3-clause-err c =
+    IfErr-weaker c.informed-in-3.result _ _
+    (λ fault. unnumbered-long c.args.command c.args.control c.args.tail.now c.mark-kind.result.0 0x03 c.mark-kind.result.1
+    (Ui c.args.command c.mark-kind.result.1 []) fault c.in-3.is
     (record { is_frame = (tt, tt, omega arith); command_is = refl; control_is = refl }) c.requires c.mark-kind.ensures.unmarked
-    c.mark-kind.ensures.marked c.in_err-fits-in-3.ensures.err)
+    c.mark-kind.ensures.marked) c.informed-in-3.ensures.err
 
-pub returns-in_err-fits-in-175-clause-err : goal.returns-in_err-fits-in-175-clause-err
-returns-in_err-fits-in-175-clause-err c =
-    let p = err_from_is_err_and c.from_residual-in_err-fits-in-175.result c.from_residual-in_err-fits-in-175.ensures.1 in
-    rw (p.1, p.2) (unnumbered-long c.args.command c.args.control c.args.tail.now c.mark-kind.result.0 0xaf c.mark-kind.result.1
-    (Xid c.args.command c.mark-kind.result.1 []) c.in_err-fits-in-175.field-0.0 c.in-175.is
+pub returns-in-175-clause-err : goal.returns-in-175-clause-err
+returns-in-175-clause-err c =
+    IfErr-weaker c.informed-in-175.result _ _
+    (λ fault. unnumbered-long c.args.command c.args.control c.args.tail.now c.mark-kind.result.0 0xaf c.mark-kind.result.1
+    (Xid c.args.command c.mark-kind.result.1 []) fault c.in-175.is
     (record { is_frame = (tt, tt, omega arith); command_is = refl; control_is = refl }) c.requires c.mark-kind.ensures.unmarked
-    c.mark-kind.ensures.marked c.in_err-fits-in-175.ensures.err)
+    c.mark-kind.ensures.marked) c.informed-in-175.ensures.err
 
-pub returns-in_err-fits-in-227-clause-err : goal.returns-in_err-fits-in-227-clause-err
-returns-in_err-fits-in-227-clause-err c =
-    let p = err_from_is_err_and c.from_residual-in_err-fits-in-227.result c.from_residual-in_err-fits-in-227.ensures.1 in
-    rw (p.1, p.2) (unnumbered-long c.args.command c.args.control c.args.tail.now c.mark-kind.result.0 0xe3 c.mark-kind.result.1
-    (Test c.args.command c.mark-kind.result.1 []) c.in_err-fits-in-227.field-0.0 c.in-227.is
+pub returns-in-227-clause-err : goal.returns-in-227-clause-err
+returns-in-227-clause-err c =
+    IfErr-weaker c.informed-in-227.result _ _
+    (λ fault. unnumbered-long c.args.command c.args.control c.args.tail.now c.mark-kind.result.0 0xe3 c.mark-kind.result.1
+    (Test c.args.command c.mark-kind.result.1 []) fault c.in-227.is
     (record { is_frame = (tt, tt, omega arith); command_is = refl; control_is = refl }) c.requires c.mark-kind.ensures.unmarked
-    c.mark-kind.ensures.marked c.in_err-fits-in-227.ensures.err)
+    c.mark-kind.ensures.marked) c.informed-in-227.ensures.err
 
 pub returns-in_default-clause-err : goal.returns-in_default-clause-err
 returns-in_default-clause-err c =

@@ -1,11 +1,14 @@
-use Rattle.std.proofs.Common.{◌/◌, sym, subst, ◌∙◌}
+use Rattle.std.proofs.Common.{◌≡◌, ◌/◌, Some, sym, subst}
 use Rattle.plain_lists.specs.Bits.{low_bits}
-use Rattle.bit_stuffing.specs.Deframer.{Finds, PassesBits}
+use Rattle.bit_stuffing.specs.Deframer.{Finding, Finds, PassesBits}
+use Rattle.bit_stuffing.specs.Fours.{since_four}
 use Rattle.bit_stuffing.proofs.Fours.{passes-four}
 use Rattle.bit_stuffing.proofs.finder.FlagFinder.pass_four.Goals as goal
 
-pub returns-in-Some-clause-passes : goal.returns-in-Some-clause-passes
-returns-in-Some-clause-passes c = λ yes past h.
+pub returns : goal.returns
+returns c past h =
     let s = subst (λ v. Finds v past) (sym c.self.view_is) h in
-    subst (λ n. PassesBits (record { latest = n / 16; since = c.in-Some.since }) past (low_bits 4 c.args.four)) (sym c.window_of.ensures)
-    (passes-four _ past c.args.four c.in-Some.since c.requires s (sym c.since_four.ensures ∙ c.in-Some.is))
+    let plain = subst (λ (v : Finding). since_four v.latest v.since c.args.four ≡ Some c.args.since) (sym c.self.view_is)
+    c.requires.plain in
+    subst (λ n. PassesBits (record { latest = n / 16; since = c.args.since }) past (low_bits 4 c.args.four)) (sym c.window_of.ensures)
+    (passes-four _ past c.args.four c.args.since c.requires.four s plain)

@@ -1,56 +1,45 @@
-use Rattle.std.proofs.Common.{◌∙◌, ◌+◌, ◌≤◌, ◌/◌, ◌^◌, Bool, List, [], ◌∷◌, ◌++◌, length, take, drop, nat_eq, bit_and, ap, subst, arith}
-use Rattle.std.proofs.lemmas.List.{take_all}
+use Rattle.std.proofs.Common.{◌∙◌, ◌+◌, ◌≤◌, ◌/◌, ◌^◌, Bool, List, [], ◌∷◌, ◌++◌, Ok, Err, length, take, drop, nat_eq}
+use Rattle.std.proofs.Common.{bit_and, ap, subst, arith}
+use Rattle.std.proofs.lemmas.List.{take_all, take-append-drop}
 use Rattle.outside_calls.specs.Folder.{FolderState}
-use Rattle.outside_calls.proofs.Steps.{CountsStand-trans}
 use Rattle.plain_lists.specs.Bits.{low_bits}
 use Rattle.frame_check.proofs.BitLists.{length-low_bits}
-use Rattle.shared_terms.specs.declared.role.Role.{Role}
-use Rattle.command_base.specs.Heard.{Heard, PartlyHeard, LeftAt}
-use Rattle.command_base.proofs.Hearing.{partly-longer, left-longer, bit-more, bits-left, says-trans}
+use Rattle.command_base.specs.Heard.{Hears}
+use Rattle.command_base.proofs.Hearing.{bit-more, hears-none, hears-on, hears-part}
 use Rattle.command_base.proofs.listener.Listener.hear_each.Goals as goal
 
-pub returns-clause-ok : goal.returns-clause-ok
-returns-clause-ok g c = λ start bits heard.
+pub loop-place-init : goal.loop-place-init
+loop-place-init g c = record { hears = hears-none (g.F.Folder.state c.args.folder.now) c.args.self.now; pieces = omega arith }
+
+pub returns-clause-hears : goal.returns-clause-hears
+returns-clause-hears g c =
     let all : List Bool = low_bits c.args.count c.args.octet in
     let end : length all ≤ c.loop-place.place = omega (arith, length-low_bits c.args.count c.args.octet, c.loop-place-test.false) in
-    subst (λ (bs : List Bool). Heard start (g.F.Folder.state c.loop-place.folder) c.loop-place.self bs)
-    (ap (λ (xs : List Bool). bits ++ xs) (take_all c.loop-place.place all end)) (c.loop-place.invariant.heard start bits heard)
-
-pub returns-in-Err-clause-left : goal.returns-in-Err-clause-left
-returns-in-Err-clause-left g c = λ start bits heard.
-    let new : FolderState = g.F.Folder.state c.hear_bit.new.folder in
-    let place = c.loop-place.place in let all : List Bool = low_bits c.args.count c.args.octet in let front : List Bool =
-    bits ++ take place all in
-    let bit : Bool = nat_eq (bit_and (c.args.octet / 2 ^ place) 1) 1 in
-    left-longer start new c.hear_bit.new.self (front ++ bit ∷ []) (drop (place + 1) all) (bits ++ all)
-    (ap (λ xs. xs ++ drop (place + 1) all) (bit-more bits c.args.octet c.args.count place (omega (arith, c.loop-place-test.true)))
-    ∙ bits-left bits all (place + 1))
-    (c.in-Err.ensures.left start front (c.loop-place.invariant.heard start bits heard))
-
-pub returns-in-Err-clause-err : goal.returns-in-Err-clause-err
-returns-in-Err-clause-err g c = λ start bits heard.
-    let new : FolderState = g.F.Folder.state c.hear_bit.new.folder in
-    let place = c.loop-place.place in let all : List Bool = low_bits c.args.count c.args.octet in let front : List Bool =
-    bits ++ take place all in
-    let bit : Bool = nat_eq (bit_and (c.args.octet / 2 ^ place) 1) 1 in
-    let left : LeftAt start new c.hear_bit.new.self (front ++ bit ∷ []) =
-    c.in-Err.ensures.left start front (c.loop-place.invariant.heard start bits heard) in
-    subst (λ (role : Role). PartlyHeard start new role (bits ++ all)) (c.in-Err.ensures.sender ∙ c.loop-place.invariant.sender)
-    (partly-longer start new c.hear_bit.new.self.sender (front ++ bit ∷ []) (drop (place + 1) all) (bits ++ all)
-    (ap (λ xs. xs ++ drop (place + 1) all) (bit-more bits c.args.octet c.args.count place (omega (arith, c.loop-place-test.true)))
-    ∙ bits-left bits all (place + 1)) left.part)
+    subst (λ (bits : List Bool).
+    Hears (g.F.Folder.state c.args.folder.now) (g.F.Folder.state c.loop-place.folder) c.args.self.now c.loop-place.self bits (Ok tt))
+    (take_all c.loop-place.place all end) c.loop-place.invariant.hears
 
 pub loop-place-preserved : goal.loop-place-preserved
 loop-place-preserved g c =
-    let old : FolderState = g.F.Folder.state c.args.folder.now in let now : FolderState = g.F.Folder.state c.loop-place.folder in
-    let new : FolderState = g.F.Folder.state c.hear_bit.new.folder in
+    let old : FolderState = g.F.Folder.state c.args.folder.now in let new : FolderState = g.F.Folder.state c.hear_bit.new.folder in
     let place = c.loop-place.place in let all : List Bool = low_bits c.args.count c.args.octet in
     record {
-      heard = λ start bits heard. subst (λ (bs : List Bool). Heard start new c.hear_bit.new.self bs)
-          (bit-more bits c.args.octet c.args.count place (omega (arith, c.loop-place-test.true)))
-          (c.in-Ok.ensures.ok start (bits ++ take place all) (c.loop-place.invariant.heard start bits heard));
-      only = says-trans old now new c.loop-place.invariant.only c.in-Ok.ensures.only;
-      stand = CountsStand-trans c.loop-place.invariant.stand c.in-Ok.ensures.stand;
-      sender = c.in-Ok.ensures.sender ∙ c.loop-place.invariant.sender;
+      hears = subst (λ (bits : List Bool). Hears old new c.args.self.now c.hear_bit.new.self bits (Ok tt))
+          (bit-more c.args.octet c.args.count place (omega (arith, c.loop-place-test.true)))
+          (hears-on old (g.F.Folder.state c.loop-place.folder) new c.args.self.now c.loop-place.self c.hear_bit.new.self
+          (take place all) (nat_eq (bit_and (c.args.octet / 2 ^ place) 1) 1 ∷ []) (Ok tt)
+          c.loop-place.invariant.hears c.in-Ok.ensures.hears);
       pieces = omega (arith, c.in-Ok.ensures.pieces, c.loop-place.invariant.pieces);
     }
+
+pub returns-in-Err-clause-hears : goal.returns-in-Err-clause-hears
+returns-in-Err-clause-hears g c =
+    let old : FolderState = g.F.Folder.state c.args.folder.now in let new : FolderState = g.F.Folder.state c.hear_bit.new.folder in
+    let place = c.loop-place.place in let all : List Bool = low_bits c.args.count c.args.octet in
+    let bit : Bool = nat_eq (bit_and (c.args.octet / 2 ^ place) 1) 1 in
+    subst (λ (bits : List Bool). Hears old new c.args.self.now c.hear_bit.new.self bits (Err c.in-Err.fault))
+    (ap (λ xs. xs ++ drop (place + 1) all) (bit-more c.args.octet c.args.count place (omega (arith, c.loop-place-test.true)))
+    ∙ take-append-drop (place + 1) all)
+    (hears-part old new c.args.self.now c.hear_bit.new.self (take place all ++ bit ∷ []) (drop (place + 1) all) c.in-Err.fault
+    (hears-on old (g.F.Folder.state c.loop-place.folder) new c.args.self.now c.loop-place.self c.hear_bit.new.self
+    (take place all) (bit ∷ []) (Err c.in-Err.fault) c.loop-place.invariant.hears c.in-Err.ensures.hears))

@@ -6,8 +6,8 @@ use Rattle.lapm_frames.specs.Frame.{address_of, FrameSpelling}
 use Rattle.lapm_frames.specs.Fault.{FirstFault}
 use Rattle.lapm_frames.proofs.Faults.{nothing-short, address-fault}
 use Rattle.lapm_frames.proofs.Exact.{all-frames, all-faults}
-use Rattle.lapm_frames.proofs.spelling.read.Goals as goal
-use Rattle.lapm_frames.proofs.spelling.read.Goals.{In_default, After-read_addressed, In-None}
+use Rattle.lapm_frames.proofs.spelling.read_lent.Goals as goal
+use Rattle.lapm_frames.proofs.spelling.read_lent.Goals.{After-read_addressed, In-None}
 
 pub returns-in_default-clause-fault : goal.returns-in_default-clause-fault
 returns-in_default-clause-fault c =
