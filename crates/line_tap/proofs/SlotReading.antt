@@ -67,7 +67,7 @@ guessed laws r sigs samples more s guess d quads found fit phase k h seeks g x =
 
 -- ---- samples of one list of bits are one
 
-modulates-once : (tap : ℕ) (bits : List Bool) (a b : List Sample) → 1 ≤ tap → Modulates tap bits a → Modulates tap bits b → a ≡ b
+pub modulates-once : (tap : ℕ) (bits : List Bool) (a b : List Sample) → 1 ≤ tap → Modulates tap bits a → Modulates tap bits b → a ≡ b
 modulates-once tap bits a b low h k =
     let lines : h.line ≡ k.line = Scrambles_once tap bits h.line k.line low h.scrambled k.scrambled in
     let quads : h.quads ≡ k.quads = quads-once h.quads k.quads h.are_quads k.are_quads (sym h.in_fours ∙ lines ∙ k.in_fours) in
