@@ -13,7 +13,6 @@ use Rattle.symbol_map.specs.Laws.{PointsDiffer}
 use Rattle.trellis_tables.specs.Encoder.{Encodes}
 use Rattle.trellis_tables.proofs.Codings.{Encodes_once}
 use Rattle.bit_stuffing.specs.BitSlot.{line_bits}
-use Rattle.bit_stuffing.specs.Deframer.{DeframerStands}
 use Rattle.bit_stuffing.specs.Slots.{sent_bits, phase_after, next_phase}
 use Rattle.bit_stuffing.proofs.Fill.{bits-append, phase-append}
 use Rattle.detection.specs.Slots.{Signal, slot_of, slots_of, signal_bits}
@@ -26,13 +25,12 @@ use Rattle.lapm_frames.specs.declared.sent.Sent.{Sent}
 use Rattle.noise_script.specs.Script.{ScriptValue}
 use Rattle.sample_line.specs.Signals.{signal_of, IsCodable}
 use Rattle.sample_line.specs.Line.{Kept, LineStands, bits_behind, sender_of, size_of}
-use Rattle.line_run.specs.Fitting.{AreFit}
 use Rattle.line_tap.specs.declared.reader.SlotReader.{SlotReader}
 use Rattle.line_tap.specs.Labels.{AreLabels, ReadsLabels}
 use Rattle.line_tap.specs.Making.{Makes}
 use Rattle.line_tap.specs.Reading.{IsGuess}
 use Rattle.line_tap.specs.Reader.{ReaderStands, IsNext, carries}
-use Rattle.line_tap.specs.Seeking.{Seeks}
+use Rattle.line_tap.specs.Seeking.{FindsSent}
 use Rattle.line_tap.proofs.Guessing.{GuessLaws, same-bits, guess-right, phase_of}
 use Rattle.line_tap.proofs.Once.{behind-same}
 use Rattle.line_tap.proofs.SameQuads.{quads-once}
@@ -55,15 +53,15 @@ bits-read differ r sigs samples more s d quads k h x =
 
 -- and what is taken for what was sent is what was sent
 pub guessed : GuessLaws → (r : SlotReader) (sigs : List Signal) (samples more : List Sample) (s guess : Sent) (d : Demodulator)
-    (quads : List ℕ) (found : Option Frame) → AreFit (4 * r.symbols) 0 sigs → r.phase ≡ phase_of r.symbols sigs → ReaderStands r sigs samples
+    (quads : List ℕ) (found : Option Frame) → r.phase ≡ phase_of r.symbols sigs → ReaderStands r sigs samples
     → ReadsLabels r.demodulator d more quads
-    → ((bits : List Bool) → DeframerStands r.deframer bits
-    → Seeks r.sender.check r.sender.role r.sender.dlci bits (bits ++ line_bits quads) found)
+    → FindsSent r.sender.check r.sender.role r.sender.dlci r.symbols r.phase (line_bits quads) found
     → IsGuess (4 * r.symbols) (line_bits quads) found guess → IsNext r sigs samples more s → guess ≡ s
-guessed laws r sigs samples more s guess d quads found fit phase k h seeks g x =
-    guess-right laws r.sender.check r.sender.role r.sender.dlci r.symbols sigs s guess found (line_bits quads) r.low r.channel fit
+guessed laws r sigs samples more s guess d quads found phase k h finds g x =
+    guess-right laws r.sender.check r.sender.role r.sender.dlci r.symbols sigs s guess found (line_bits quads) r.low r.channel
     (subst (λ p. IsCodable r.sender.check r.sender.role r.sender.dlci r.symbols p s) phase x.codable)
-    (bits-read laws.points r sigs samples more s d quads k h x) (seeks (bits_before r sigs) k.framed) g
+    (bits-read laws.points r sigs samples more s d quads k h x)
+    (subst (λ p. FindsSent r.sender.check r.sender.role r.sender.dlci r.symbols p (line_bits quads) found) phase finds) g
 
 -- ---- samples of one list of bits are one
 

@@ -6,7 +6,6 @@ use Rattle.shared_terms.specs.Role.{mode_of}
 use Rattle.scramblers.specs.Mode.{tap_of}
 use Rattle.symbol_map.specs.declared.sample.Sample.{Sample}
 use Rattle.bit_stuffing.specs.BitSlot.{line_bits}
-use Rattle.bit_stuffing.specs.Deframer.{DeframerStands}
 use Rattle.detection.specs.Slots.{Signal, signal_bits}
 use Rattle.line_coding.specs.Modulates.{Modulates, ModulatorStands}
 use Rattle.line_coding.specs.Demodulates.{DemodulatorStands}
@@ -36,7 +35,6 @@ pub record ReaderStands (reader : SlotReader) (sigs : List Signal) (samples : Li
   pub labels : List ℕ
   pub are : AreLabels labels samples
   pub read : DemodulatorStands (mode_of reader.sender.role) reader.demodulator labels (signal_bits (4 * reader.symbols) sigs)
-  pub framed : DeframerStands reader.deframer (signal_bits (4 * reader.symbols) sigs)
   pub made : ModulatorStands (mode_of reader.sender.role) reader.modulator (signal_bits (4 * reader.symbols) sigs) samples
 
 -- what a reader's slot of this carries

@@ -4,7 +4,6 @@ use Rattle.scramblers.specs.declared.mode.Mode.{Mode}
 use Rattle.scramblers.specs.Mode.{tap_of}
 use Rattle.symbol_map.specs.declared.sample.Sample.{Sample}
 use Rattle.bit_stuffing.specs.BitSlot.{line_bits}
-use Rattle.bit_stuffing.specs.Deframer.{DeframerStands}
 use Rattle.detection.specs.Slots.{Signal, signal_bits}
 use Rattle.line_coding.specs.Modulates.{Modulates, ModulatorStands}
 use Rattle.line_coding.specs.Demodulates.{DemodulatorStands}
@@ -33,19 +32,13 @@ returns-in_err-phase-clause-none c = λ script passed waiting samples l k fit.
     let laws : GuessLaws = record {
       points = c.points_differ.ensures;
       tell = c.slots_tell_what_was_sent.ensures;
-      more = c.slots_that_fit_follow_one_another.ensures.more;
-      slots = c.slots_that_fit_follow_one_another.ensures.slots;
-      fits = c.codable_slots_fit.ensures.fits;
-      sendable = c.codable_slots_fit.ensures.sendable;
-      octets = c.codable_slots_fit.ensures.octets;
-      found = c.found_is_sent.ensures;
     } in
     let phase = phase-is r c.args.line.now script passed waiting c.requires.symbols c.requires.phase l in
     let refuted : (s : Sent) → IsNext r sigs samples more s → ⊥ =
     λ s x.
     let is : c.guess-sent.result ≡ s =
-    guessed laws r sigs samples more s c.guess-sent.result c.read_labels.new.demodulator c.read_labels.new.out c.frame_in-found.result fit phase k h
-    c.frame_in-found.ensures.seeks c.guess-sent.ensures.guess x in
+    guessed laws r sigs samples more s c.guess-sent.result c.read_labels.new.demodulator c.read_labels.new.out c.frame_in-found.result phase k h
+    (c.frame_in-found.ensures.found r.symbols r.low) c.guess-sent.ensures.guess x in
     c.in_err-phase.ensures.none
     (subst (λ q. IsCodable r.sender.check r.sender.role r.sender.dlci r.symbols r.phase q) (sym is) x.codable) in
     subst (λ q. IfNone q ((s : Sent) → IsNext r sigs samples more s → ⊥)) (sym c.from_residual.ensures) refuted
@@ -59,22 +52,22 @@ returns-then-not-same_quads-clause-none c = λ script passed waiting samples l k
     let laws : GuessLaws = record {
       points = c.points_differ.ensures;
       tell = c.slots_tell_what_was_sent.ensures;
-      more = c.slots_that_fit_follow_one_another.ensures.more;
-      slots = c.slots_that_fit_follow_one_another.ensures.slots;
-      fits = c.codable_slots_fit.ensures.fits;
-      sendable = c.codable_slots_fit.ensures.sendable;
-      octets = c.codable_slots_fit.ensures.octets;
-      found = c.found_is_sent.ensures;
     } in
     let phase = phase-is r c.args.line.now script passed waiting c.requires.symbols c.requires.phase l in
     let is : c.guess-sent.result ≡ s =
-    guessed laws r sigs samples more s c.guess-sent.result c.read_labels.new.demodulator c.read_labels.new.out c.frame_in-found.result fit phase k h
-    c.frame_in-found.ensures.seeks c.guess-sent.ensures.guess x in
+    guessed laws r sigs samples more s c.guess-sent.result c.read_labels.new.demodulator c.read_labels.new.out c.frame_in-found.result phase k h
+    (c.frame_in-found.ensures.found r.symbols r.low) c.guess-sent.ensures.guess x in
     let coded = coded-as r c.args.line.now sigs c.guess-sent.result (line_bits c.code.new.out) c.requires.sender c.requires.symbols
     (c.code.ensures.bits script passed waiting l) in
     c.same_quads.ensures.no c.if-not-same_quads.true
     (bits-read c.points_differ.ensures r sigs samples more s c.read_labels.new.demodulator c.read_labels.new.out k h x
     ∙ ap (λ q. bits_behind (4 * r.symbols) sigs (carries r q)) (sym is) ∙ sym coded)
+
+pub frame_in-found-requires-clause-long : goal.frame_in-found-requires-clause-long
+frame_in-found-requires-clause-long c =
+    let h = c.read_labels.ensures.yes c.if-not-read_labels.false in
+    let count = count-samples c.args.self.now.symbols c.args.octets.now c.requires.size in
+    omega (arith, c.args.self.now.low, h.count, count)
 
 pub makes-requires : goal.makes-requires
 makes-requires c =
@@ -127,7 +120,6 @@ returns-clause-some c = λ script passed waiting samples l k.
         are = labels-more k.labels h.labels samples more k.are h.are;
         read = subst (λ (xs : List Bool). DemodulatorStands mode c.read_labels.new.demodulator (k.labels ++ h.labels) xs) all
             (h.stands mode k.labels bits k.read);
-        framed = subst (λ (xs : List Bool). DeframerStands c.frame_in-found.new.deframer xs) all (c.frame_in-found.ensures.stands bits k.framed);
         made = subst (λ (xs : List Bool). ModulatorStands mode c.makes.new.modulator xs (samples ++ more)) all made;
       };
       line_stands = stands;
