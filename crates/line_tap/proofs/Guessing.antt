@@ -1,9 +1,8 @@
 -- The bits that are read of a slot's samples are its bits, and what is taken for what was sent in it is what was sent.
-use Rattle.std.proofs.Common.{◌≡◌, ◌∙◌, ◌⊎◌, inl, inr, ℕ, ◌+◌, ◌*◌, ◌<◌, Bool, true, List, ◌++◌, length, drop, map, Option, Some, None, refl, sym, ap, subst, arith}
-use Rattle.std.proofs.Math.Seq.{drop-append_seam}
+use Rattle.std.proofs.Common.{◌≡◌, ◌∙◌, ◌⊎◌, inl, inr, ℕ, ◌+◌, ◌*◌, ◌<◌, Bool, true, List, ◌++◌, map, Option, Some, None, refl, sym, ap, subst, arith}
 use Rattle.std.proofs.lemmas.Bool.{false≢true}
-use Rattle.std.proofs.lemmas.List.{map-append, drop-map}
-use Rattle.std.proofs.lemmas.List.Elements.{All-append, All-drop}
+use Rattle.std.proofs.lemmas.List.{map-append}
+use Rattle.std.proofs.lemmas.List.Elements.{All-append}
 use Rattle.frame_check.specs.declared.check.Check.{Check}
 use Rattle.scramblers.proofs.Readings.{Descrambles_once}
 use Rattle.shared_terms.specs.declared.role.Role.{Role}
@@ -32,20 +31,8 @@ pub record GuessLaws : Type 0 where
   pub points : PointsDiffer
   pub tell : SlotsTellWhatWasSent
 
--- ---- the samples of a slot are points
+-- ---- the bits that points carry are those that were sent
 
-pub labels-behind : (tap : ℕ) (bits : List Bool) (samples more : List Sample) → Modulates tap bits (samples ++ more)
-    → (labels : List ℕ) × AreLabels labels more
-labels-behind tap bits samples more h =
-    let n : ℕ = length samples in (
-      drop n h.labels,
-      (
-        All-drop (λ label. label < 32) n h.labels (small tap bits (samples ++ more) h),
-        sym (drop-map point_of n h.labels) ∙ ap (drop n) (sym h.points) ∙ drop-append_seam samples more,
-      ),
-    )
-
--- and the bits that they carry are those that were sent
 pub same-bits : PointsDiffer → (tap : ℕ) (bits next read : List Bool) (samples others : List Sample) (labels more : List ℕ)
     → AreLabels labels samples → AreLabels more others → Demodulates tap (labels ++ more) (bits ++ read)
     → Modulates tap (bits ++ next) (samples ++ others) → read ≡ next

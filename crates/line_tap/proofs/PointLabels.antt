@@ -1,10 +1,10 @@
 -- Samples that are points, one after another.
 use Rattle.std.proofs.Common.{to_z, of_z, w16, ◌≡◌, ◌∙◌, ℕ, zero, suc, ◌+◌, ◌*◌, ◌<◌, ◌≤◌, Bool, List, [], ◌∷◌, ◌++◌, length}
-use Rattle.std.proofs.Common.{take, map, slice_index, refl, sym, ap, subst, arith, length-append, append-nil}
+use Rattle.std.proofs.Common.{take, map, get_or, Some, slice_index, refl, sym, ap, subst, arith, length-append, append-nil}
 use Rattle.std.proofs.lemmas.Bool.{eqb-true, ltb-true, and_parts}
 use Rattle.std.specs.Prelude.{◌-ℤ◌, unsigned_abs, slice_index_or, nat_eq, nat_lt, ◌&&◌, true}
-use Rattle.std.proofs.lemmas.List.{append_assoc, map-append}
-use Rattle.std.proofs.lemmas.List.Elements.{All-append, All-cons, All-nil, All-head, All-tail}
+use Rattle.std.proofs.lemmas.List.{append_assoc, map-append, take-map, length-map, take_more, same_from_push}
+use Rattle.std.proofs.lemmas.List.Elements.{All-append, All-cons, All-nil, All-take}
 use Rattle.scramblers.specs.declared.mode.Mode.{Mode}
 use Rattle.symbol_map.specs.declared.sample.Sample.{Sample}
 use Rattle.symbol_map.specs.Points.{point_of, map_point, minus}
@@ -14,10 +14,15 @@ use Rattle.symbol_map.specs.Finite.{each_below, at_each}
 use Rattle.plain_lists.specs.Bits.{low_bits}
 use Rattle.bit_stuffing.specs.BitSlot.{line_bits}
 use Rattle.std.proofs.lemmas.Grind.{flat_map-append}
+use Rattle.symbol_map.specs.Laws.{PointsDiffer}
+use Rattle.trellis_tables.specs.Table.{next_state}
+use Rattle.trellis_tables.specs.Sequences.{Leads}
+use Rattle.trellis_tables.proofs.Sequences.{Leads-snoc, Leads-front, Leads-take, Leads_once}
 use Rattle.line_coding.specs.declared.demodulator.Demodulator.{Demodulator}
 use Rattle.line_coding.specs.Demodulates.{DemodulatorStands}
 use Rattle.recordings.specs.Samples.{samples_in, sample_at, sample_of}
 use Rattle.line_tap.specs.Labels.{AreLabels, ReadsLabels, coordinate_at}
+use Rattle.line_tap.proofs.Coding.{points-tell}
 
 -- the labels of the map, by columns and heights
 abbrev pub label_map : List ℕ
@@ -91,26 +96,28 @@ label-there sample x y label low e re im =
     let y_is : y ≡ height label = im (height label) low_one (ap (λ s. to_z w16 (of_z w16 s.im)) is ∙ same-place (height label) low_one) in
     rw (x_is, y_is) (eqb-true (slice_index_or label_map (9 * column label + height label) 0) label t.0)
 
-pub reads-none : (d : Demodulator) → ReadsLabels d d [] []
-reads-none d = record {
+pub reads-none : (d : Demodulator) (from : ℕ) → ReadsLabels d d from from [] []
+reads-none d from = record {
   labels = [];
   are = (All-nil (λ label. label < 32), refl);
+  leads = refl;
   count = refl;
   stands = λ mode before bits h. subst (λ xs. DemodulatorStands mode d xs (bits ++ [])) (sym (append-nil before))
       (subst (DemodulatorStands mode d before) (sym (append-nil bits)) h);
 }
 
-pub reads-more : (old mid new : Demodulator) (samples : List Sample) (quads : List ℕ) (sample : Sample) (label quad : ℕ) → label < 32
-    → point_of label ≡ sample
+pub reads-more : (old mid new : Demodulator) (from state to : ℕ) (samples : List Sample) (quads : List ℕ) (sample : Sample) (label quad : ℕ)
+    → label < 32 → point_of label ≡ sample → next_state state label ≡ Some to
     → ((mode : Mode) (before : List ℕ) (bits : List Bool) → DemodulatorStands mode mid before bits
     → DemodulatorStands mode new (before ++ label ∷ []) (bits ++ low_bits 4 quad))
-    → ReadsLabels old mid samples quads → ReadsLabels old new (samples ++ sample ∷ []) (quads ++ quad ∷ [])
-reads-more old mid new samples quads sample label quad low e step h = record {
+    → ReadsLabels old mid from state samples quads → ReadsLabels old new from to (samples ++ sample ∷ []) (quads ++ quad ∷ [])
+reads-more old mid new from state to samples quads sample label quad low e next step h = record {
   labels = h.labels ++ label ∷ [];
   are = (
     All-append (λ l. l < 32) h.labels (label ∷ []) h.are.0 (All-cons (λ l. l < 32) label [] low (All-nil (λ l. l < 32))),
     map-append point_of h.labels (label ∷ []) ∙ ap (λ xs. xs ++ point_of label ∷ []) h.are.1 ∙ ap (λ s. samples ++ s ∷ []) e,
   );
+  leads = Leads-snoc next_state from h.labels state label to h.leads next;
   count = (let a = length-append quads (quad ∷ []) in
       let b = length-append samples (sample ∷ []) in
       omega (arith, a, b, h.count));
@@ -156,20 +163,35 @@ one-more (suc n) (a ∷ b ∷ c ∷ d ∷ octets) h =
     ∙ ap (λ xs. sample_of a b c d ∷ xs) (one-more n octets (omega (arith, h)))
     ∙ ap (λ s. sample_of a b c d ∷ (take n (samples_in octets) ++ s ∷ [])) (sym (next-at a b c d n octets))
 
--- where one of the samples is no point there are no labels
-pub no-labels : (n : ℕ) (octets : List ℕ) → 4 * n + 4 ≤ length octets
-    → ((label : ℕ) → label < 32 → point_of label ≡ sample_at octets n → ⊥) → (labels : List ℕ) → AreLabels labels (samples_in octets) → ⊥
-no-labels n [] h none labels k = absurd (omega (arith, h))
-no-labels n (a ∷ []) h none labels k = absurd (omega (arith, h))
-no-labels n (a ∷ b ∷ []) h none labels k = absurd (omega (arith, h))
-no-labels n (a ∷ b ∷ c ∷ []) h none labels k = absurd (omega (arith, h))
-no-labels n (a ∷ b ∷ c ∷ d ∷ octets) h none [] k = let e : [] ≡ sample_of a b c d ∷ samples_in octets = k.1 in absurd cc
-no-labels zero (a ∷ b ∷ c ∷ d ∷ octets) h none (label ∷ labels) k =
-    let e : point_of label ∷ map point_of labels ≡ sample_of a b c d ∷ samples_in octets = k.1 in
-    let first : point_of label ≡ sample_of a b c d = cc in
-    none label (All-head (λ l. l < 32) label labels k.0) first
-no-labels (suc n) (a ∷ b ∷ c ∷ d ∷ octets) h none (label ∷ labels) k =
-    let e : point_of label ∷ map point_of labels ≡ sample_of a b c d ∷ samples_in octets = k.1 in
-    let rest : map point_of labels ≡ samples_in octets = cc in
-    no-labels n octets (omega (arith, h)) (λ l low same. none l low (same ∙ sym (next-at a b c d n octets))) labels
-    (All-tail (λ l. l < 32) label labels k.0, rest)
+-- ---- where no label of the next sample goes on from the state, the samples are none of a code sequence
+
+samples-long : (octets : List ℕ) (n : ℕ) → 4 * n ≤ length octets → n ≤ length (samples_in octets)
+samples-long octets zero h = omega arith
+samples-long [] (suc n) h = absurd (omega (arith, h))
+samples-long (a ∷ []) (suc n) h = absurd (omega (arith, h))
+samples-long (a ∷ b ∷ []) (suc n) h = absurd (omega (arith, h))
+samples-long (a ∷ b ∷ c ∷ []) (suc n) h = absurd (omega (arith, h))
+samples-long (a ∷ b ∷ c ∷ d ∷ octets) (suc n) h = omega (arith, samples-long octets n (omega (arith, h)))
+
+pub no-sequence : PointsDiffer → (n from state : ℕ) (octets done : List ℕ) → 4 * n + 4 ≤ length octets
+    → AreLabels done (take n (samples_in octets)) → Leads next_state from done state
+    → ((label to : ℕ) → label < 32 → point_of label ≡ sample_at octets n → next_state state label ≡ Some to → ⊥)
+    → (labels : List ℕ) (to : ℕ) → AreLabels labels (samples_in octets) → Leads next_state from labels to → ⊥
+no-sequence differ n from state octets done room are leads none labels to k h =
+    let samples : List Sample = samples_in octets in
+    let long : n + 1 ≤ length samples = samples-long octets (n + 1) (omega (arith, room)) in
+    let count : length labels ≡ length samples = sym (length-map labels point_of) ∙ ap length k.1 in
+    let label : ℕ = get_or labels n 0 in
+    let low : label < 32 = k.0 n 0 (omega (arith, count, long)) in
+    let split : take (n + 1) labels ≡ take n labels ++ label ∷ [] = take_more labels n 0 (omega (arith, count, long)) in
+    let points : map point_of (take n labels) ++ point_of label ∷ [] ≡ take n samples ++ sample_at octets n ∷ [] =
+    sym (map-append point_of (take n labels) (label ∷ [])) ∙ ap (map point_of) (sym split) ∙ sym (take-map point_of (n + 1) labels)
+    ∙ ap (take (n + 1)) k.1 ∙ one-more n octets room in
+    let parts = same_from_push (map point_of (take n labels)) (take n samples) (point_of label) (sample_at octets n) points in
+    let front : take n labels ≡ done =
+    points-tell differ (take n labels) done (All-take (λ l. l < 32) n labels k.0) are.0 (parts.0 ∙ sym are.1) in
+    let upto = Leads-take next_state (n + 1) from labels to h in
+    let last = Leads-front next_state from (take n labels) label upto.0 (subst (λ ls. Leads next_state from ls upto.0) split upto.1) in
+    let mid : last.0 ≡ state =
+    Leads_once next_state from done last.0 state (subst (λ ls. Leads next_state from ls last.0) front last.1) leads in
+    none label upto.0 low parts.1 (subst (λ s. next_state s label ≡ Some upto.0) mid last.2)
