@@ -1,13 +1,15 @@
 -- Samples that are points, one after another.
-use Rattle.std.proofs.Common.{to_z, of_z, w16, ◌≡◌, ◌∙◌, ℕ, zero, suc, ◌+◌, ◌*◌, ◌<◌, ◌≤◌, Bool, List, [], ◌∷◌, ◌++◌, length}
+use Rattle.std.proofs.Common.{of_z, w16, ◌≡◌, ◌∙◌, ℕ, zero, suc, ◌+◌, ◌*◌, ◌<◌, ◌≤◌, Bool, List, [], ◌∷◌, ◌++◌, length}
 use Rattle.std.proofs.Common.{take, map, get_or, Some, slice_index, refl, sym, ap, subst, arith, length-append, append-nil}
-use Rattle.std.proofs.lemmas.Bool.{eqb-true, ltb-true, and_parts}
-use Rattle.std.specs.Prelude.{◌-ℤ◌, unsigned_abs, slice_index_or, nat_eq, nat_lt, ◌&&◌, true}
+use Rattle.std.proofs.lemmas.Bool.{eqb-true, ltb-true, leb-true, and_parts, or_cases}
+use Rattle.std.proofs.lemmas.Int.{of_z-to_z}
+use Rattle.std.specs.Prelude.{slice_index_or, nat_eq, nat_lt, nat_le, ◌&&◌, ◌||◌, true}
+use Rattle.std.proofs.Common.{◌⊎◌, inl, inr}
 use Rattle.std.proofs.lemmas.List.{append_assoc, map-append, take-map, length-map, take_more, same_from_push}
 use Rattle.std.proofs.lemmas.List.Elements.{All-append, All-cons, All-nil, All-take}
 use Rattle.scramblers.specs.declared.mode.Mode.{Mode}
 use Rattle.symbol_map.specs.declared.sample.Sample.{Sample}
-use Rattle.symbol_map.specs.Points.{point_of, map_point, minus}
+use Rattle.symbol_map.specs.Points.{point_of}
 use Rattle.symbol_map.specs.Distance.{distance_of}
 use Rattle.symbol_map.proofs.Distances.{equal_from_no_distance}
 use Rattle.symbol_map.specs.Finite.{each_below, at_each}
@@ -20,81 +22,110 @@ use Rattle.trellis_tables.specs.Sequences.{Leads}
 use Rattle.trellis_tables.proofs.Sequences.{Leads-snoc, Leads-front, Leads-take, Leads_once}
 use Rattle.line_coding.specs.declared.demodulator.Demodulator.{Demodulator}
 use Rattle.line_coding.specs.Demodulates.{DemodulatorStands}
-use Rattle.recordings.specs.Samples.{samples_in, sample_at, sample_of}
-use Rattle.line_tap.specs.Labels.{AreLabels, ReadsLabels, coordinate_at}
+use Rattle.recordings.specs.Samples.{samples_in, sample_at, sample_of, coordinate}
+use Rattle.line_tap.specs.Labels.{AreLabels, ReadsLabels, column_of, height_of, high_of}
 use Rattle.line_tap.proofs.Coding.{points-tell}
 
 -- the labels of the map, by columns and heights
 abbrev pub label_map : List ℕ
 label_map =
-    0 ∷ 0 ∷ 0 ∷ 7 ∷ 0 ∷ 0 ∷ 0 ∷ 0 ∷ 0
-    ∷ 0 ∷ 0 ∷ 16 ∷ 0 ∷ 25 ∷ 0 ∷ 18 ∷ 0 ∷ 0
-    ∷ 0 ∷ 14 ∷ 0 ∷ 9 ∷ 0 ∷ 15 ∷ 0 ∷ 8 ∷ 0
-    ∷ 28 ∷ 0 ∷ 23 ∷ 0 ∷ 30 ∷ 0 ∷ 21 ∷ 0 ∷ 31
-    ∷ 0 ∷ 1 ∷ 0 ∷ 6 ∷ 0 ∷ 2 ∷ 0 ∷ 5 ∷ 0
-    ∷ 27 ∷ 0 ∷ 17 ∷ 0 ∷ 26 ∷ 0 ∷ 19 ∷ 0 ∷ 24
-    ∷ 0 ∷ 12 ∷ 0 ∷ 11 ∷ 0 ∷ 13 ∷ 0 ∷ 10 ∷ 0
-    ∷ 0 ∷ 0 ∷ 22 ∷ 0 ∷ 29 ∷ 0 ∷ 20 ∷ 0 ∷ 0
-    ∷ 0 ∷ 0 ∷ 0 ∷ 4 ∷ 0 ∷ 3 ∷ 0 ∷ 0 ∷ 0
+    32 ∷ 32 ∷ 32 ∷ 7 ∷ 32 ∷ 0 ∷ 32 ∷ 32 ∷ 32
+    ∷ 32 ∷ 32 ∷ 16 ∷ 32 ∷ 25 ∷ 32 ∷ 18 ∷ 32 ∷ 32
+    ∷ 32 ∷ 14 ∷ 32 ∷ 9 ∷ 32 ∷ 15 ∷ 32 ∷ 8 ∷ 32
+    ∷ 28 ∷ 32 ∷ 23 ∷ 32 ∷ 30 ∷ 32 ∷ 21 ∷ 32 ∷ 31
+    ∷ 32 ∷ 1 ∷ 32 ∷ 6 ∷ 32 ∷ 2 ∷ 32 ∷ 5 ∷ 32
+    ∷ 27 ∷ 32 ∷ 17 ∷ 32 ∷ 26 ∷ 32 ∷ 19 ∷ 32 ∷ 24
+    ∷ 32 ∷ 12 ∷ 32 ∷ 11 ∷ 32 ∷ 13 ∷ 32 ∷ 10 ∷ 32
+    ∷ 32 ∷ 32 ∷ 22 ∷ 32 ∷ 29 ∷ 32 ∷ 20 ∷ 32 ∷ 32
+    ∷ 32 ∷ 32 ∷ 32 ∷ 4 ∷ 32 ∷ 3 ∷ 32 ∷ 32 ∷ 32
     ∷ []
 
--- the column of a label's point, and its height
-abbrev column : ℕ → ℕ
-column label = unsigned_abs ((map_point label).0 -ℤ minus 4)
+abbrev pub label_there : ℕ → ℕ → ℕ
+label_there column height = slice_index_or label_map (9 * column + height) 0
 
-abbrev height : ℕ → ℕ
-height label = unsigned_abs ((map_point label).1 -ℤ minus 4)
-
+-- the point of a label, by its octets
 abbrev there : ℕ → Sample
-there label = record { re = coordinate_at (column label); im = coordinate_at (height label) }
+there label = sample_of 0 (high_of (column_of label)) 0 (high_of (height_of label))
 
 abbrev label_test : ℕ → Bool
 label_test label =
-    nat_eq (slice_index_or label_map (9 * column label + height label) 0) label && (nat_eq (distance_of (point_of label) (there label)) 0
-    && (nat_lt (column label) 9 && nat_lt (height label) 9))
+    nat_eq (label_there (column_of label) (height_of label)) label && (nat_eq (distance_of (point_of label) (there label)) 0
+    && (nat_lt (column_of label) 9 && nat_lt (height_of label) 9))
 
 all_labels : each_below 32 label_test ≡ true
 all_labels = refl
 
-all_small : each_below 81 (λ place. nat_lt (slice_index_or label_map place 0) 32) ≡ true
-all_small = refl
+-- and whatever stands at a place is a label of that place
+abbrev back_test : ℕ → Bool
+back_test place =
+    nat_le 32 (slice_index_or label_map place 0) ||
+    nat_eq (9 * column_of (slice_index_or label_map place 0) + height_of (slice_index_or label_map place 0)) place
 
-pub small-label : (column height : ℕ) → column < 9 → height < 9 → slice_index_or label_map (9 * column + height) 0 < 32
-small-label column height low few =
-    ltb-true (slice_index_or label_map (9 * column + height) 0) 32
-    (at_each 81 (λ place. nat_lt (slice_index_or label_map place 0) 32) all_small (9 * column + height) (omega arith))
+all_places : each_below 81 back_test ≡ true
+all_places = refl
 
--- a coordinate of the map as sixteen bits
-same-place : (place : ℕ) → place < 9 → to_z w16 (of_z w16 (coordinate_at place)) ≡ coordinate_at place
-same-place zero l = refl
-same-place (suc zero) l = refl
-same-place (suc (suc zero)) l = refl
-same-place (suc (suc (suc zero))) l = refl
-same-place (suc (suc (suc (suc zero)))) l = refl
-same-place (suc (suc (suc (suc (suc zero))))) l = refl
-same-place (suc (suc (suc (suc (suc (suc zero)))))) l = refl
-same-place (suc (suc (suc (suc (suc (suc (suc zero))))))) l = refl
-same-place (suc (suc (suc (suc (suc (suc (suc (suc zero)))))))) l = refl
-same-place (suc (suc (suc (suc (suc (suc (suc (suc (suc place))))))))) l = absurd (omega arith)
+pub record IsThere (label : ℕ) : Type 0 where
+  pub stands : label_there (column_of label) (height_of label) ≡ label
+  pub point : point_of label ≡ there label
+  pub left : column_of label < 9
+  pub low : height_of label < 9
 
--- where a sample has the coordinates of a label's point, its label stands there
-pub label-there : (sample : Sample) (x y label : ℕ) → label < 32 → point_of label ≡ sample
-    → ((place : ℕ) → place < 9 → to_z w16 (of_z w16 sample.re) ≡ coordinate_at place → x ≡ place)
-    → ((place : ℕ) → place < 9 → to_z w16 (of_z w16 sample.im) ≡ coordinate_at place → y ≡ place)
-    → slice_index_or label_map (9 * x + y) 0 ≡ label
-label-there sample x y label low e re im =
-    let t = and_parts (nat_eq (slice_index_or label_map (9 * column label + height label) 0) label) _
-    (at_each 32 label_test all_labels label low) in
-    let u = and_parts (nat_eq (distance_of (point_of label) (there label)) 0) (nat_lt (column label) 9 && nat_lt (height label) 9) t.1 in
-    let v = and_parts (nat_lt (column label) 9) (nat_lt (height label) 9) u.1 in
-    let same : point_of label ≡ there label =
-    equal_from_no_distance (point_of label) (there label) (eqb-true (distance_of (point_of label) (there label)) 0 u.0) in
-    let left : column label < 9 = ltb-true (column label) 9 v.0 in
-    let low_one : height label < 9 = ltb-true (height label) 9 v.1 in
-    let is : sample ≡ there label = sym e ∙ same in
-    let x_is : x ≡ column label = re (column label) left (ap (λ s. to_z w16 (of_z w16 s.re)) is ∙ same-place (column label) left) in
-    let y_is : y ≡ height label = im (height label) low_one (ap (λ s. to_z w16 (of_z w16 s.im)) is ∙ same-place (height label) low_one) in
-    rw (x_is, y_is) (eqb-true (slice_index_or label_map (9 * column label + height label) 0) label t.0)
+pub is-there : (label : ℕ) → label < 32 → IsThere label
+is-there label low =
+    let t = and_parts (nat_eq (label_there (column_of label) (height_of label)) label) _ (at_each 32 label_test all_labels label low) in
+    let u = and_parts (nat_eq (distance_of (point_of label) (there label)) 0) (nat_lt (column_of label) 9 && nat_lt (height_of label) 9) t.1 in
+    let v = and_parts (nat_lt (column_of label) 9) (nat_lt (height_of label) 9) u.1 in
+    record {
+      stands = eqb-true (label_there (column_of label) (height_of label)) label t.0;
+      point = equal_from_no_distance (point_of label) (there label) (eqb-true (distance_of (point_of label) (there label)) 0 u.0);
+      left = ltb-true (column_of label) 9 v.0;
+      low = ltb-true (height_of label) 9 v.1;
+    }
+
+-- a label that is found is that of the place
+pub there-back : (column height : ℕ) → column < 9 → height < 9 → label_there column height < 32
+    → (column ≡ column_of (label_there column height)) × (height ≡ height_of (label_there column height))
+there-back column height left low small =
+    let label : ℕ = label_there column height in
+    let is = is-there label small in
+    go (or_cases (nat_le 32 label) _ (at_each 81 back_test all_places (9 * column + height) (omega arith)))
+  where
+    go : (nat_le 32 (label_there column height) ≡ true)
+        ⊎ (nat_eq (9 * column_of (label_there column height) + height_of (label_there column height)) (9 * column + height) ≡ true)
+        → (column ≡ column_of (label_there column height)) × (height ≡ height_of (label_there column height))
+    go (inl e) = absurd (omega (arith, leb-true 32 (label_there column height) e, small))
+    go (inr e) =
+        let is = is-there (label_there column height) small in
+        let same = eqb-true (9 * column_of (label_there column height) + height_of (label_there column height)) (9 * column + height) e in
+        (omega (arith, same, is.left, is.low, low), omega (arith, same, is.left, is.low, low))
+
+-- the octets of a coordinate
+same-octets : (a b c d : ℕ) → a < 256 → b < 256 → c < 256 → d < 256 → coordinate a b ≡ coordinate c d → (a ≡ c) × (b ≡ d)
+same-octets a b c d la lb lc ld e =
+    let same : a + 256 * b ≡ c + 256 * d =
+    sym (of_z-to_z w16 (a + 256 * b) (omega (arith, la, lb))) ∙ ap (of_z w16) e ∙ of_z-to_z w16 (c + 256 * d) (omega (arith, lc, ld)) in
+    (omega (arith, same, la, lb, lc, ld), omega (arith, same, la, lb, lc, ld))
+
+high-small : (place : ℕ) → high_of place < 256
+high-small place = omega arith
+
+-- the octets of a point
+pub record AreOctetsOf (label a b c d : ℕ) : Type 0 where
+  pub re_low : a ≡ 0
+  pub re : b ≡ high_of (column_of label)
+  pub im_low : c ≡ 0
+  pub im : d ≡ high_of (height_of label)
+
+pub octets-of : (label a b c d : ℕ) → label < 32 → a < 256 → b < 256 → c < 256 → d < 256 → point_of label ≡ sample_of a b c d
+    → AreOctetsOf label a b c d
+octets-of label a b c d low la lb lc ld e =
+    let same : sample_of a b c d ≡ there label = sym e ∙ (is-there label low).point in
+    let re = same-octets a b 0 (high_of (column_of label)) la lb (omega arith) (high-small (column_of label)) (ap (λ (s : Sample). s.re) same) in
+    let im = same-octets c d 0 (high_of (height_of label)) lc ld (omega arith) (high-small (height_of label)) (ap (λ (s : Sample). s.im) same) in
+    record { re_low = re.0; re = re.1; im_low = im.0; im = im.1 }
+
+pub octets-back : (label a b c d : ℕ) → label < 32 → AreOctetsOf label a b c d → point_of label ≡ sample_of a b c d
+octets-back label a b c d low h = (is-there label low).point ∙ rw (h.re_low, h.re, h.im_low, h.im) refl
 
 pub reads-none : (d : Demodulator) (from : ℕ) → ReadsLabels d d from from [] []
 reads-none d from = record {

@@ -9,7 +9,7 @@ pub returns-in-None-clause-none : goal.returns-in-None-clause-none
 returns-in-None-clause-none c =
     let octets : List ℕ = c.args.octets.now in
     let n : ℕ = c.loop-place.place in
-    let here = c.sample_at.ensures ∙ ap (sample_at octets) c.from.ensures in
+    let here = ap (sample_at octets) c.from.ensures in
     no-sequence c.points_differ.ensures n c.args.from c.loop-place.state octets c.loop-place.invariant.reads.labels
     (omega (arith, c.requires.size, c.loop-place-test.true)) c.loop-place.invariant.reads.are c.loop-place.invariant.reads.leads
     (λ label to low same next. c.in-None.ensures.none label to low (same ∙ sym here) next)
@@ -28,7 +28,7 @@ loop-place-preserved c =
           (subst (λ q. ReadsLabels old new from to (take n (samples_in octets) ++ sample_at octets n ∷ []) q) (sym c.push-in-Some.ensures)
           (reads-more old c.loop-place.demodulator new from c.loop-place.state to (take n (samples_in octets)) c.loop-place.out
           (sample_at octets n) c.in-Some.step.label c.push.result c.in-Some.ensures.small
-          (c.in-Some.ensures.point ∙ c.sample_at.ensures ∙ ap (sample_at octets) c.from.ensures) c.in-Some.ensures.leads
+          (c.in-Some.ensures.point ∙ ap (sample_at octets) c.from.ensures) c.in-Some.ensures.leads
           c.push.ensures.stands c.loop-place.invariant.reads));
       within = c.in-Some.ensures.within;
       count = ap length c.push-in-Some.ensures ∙ length-append c.loop-place.out (c.push.result ∷ [])
