@@ -148,7 +148,8 @@ pub is-first : (passed quad : ℕ) → passed < 4 → quad < 16 → IsFirst pass
 is-first passed quad low small =
     let a = and_parts (same (low_bits (4 - passed) (quad / 2 ^ passed)) (removed 5 (drop passed (low_bits 4 quad)))) _
     (at_each_pair 4 16 first_test all_first passed quad low small) in
-    let b = and_parts (nat_eq (room_after 5 (low_bits 4 (quad / 2 ^ passed * 2 ^ passed))) (room_after 5 (drop passed (low_bits 4 quad)))) _ a.1 in
+    let four : ℕ = quad / 2 ^ passed * 2 ^ passed in
+    let b = and_parts (nat_eq (room_after 5 (low_bits 4 four)) (room_after 5 (drop passed (low_bits 4 quad)))) _ a.1 in
     let c = and_parts (not (has_sixth 5 (low_bits 4 (quad / 2 ^ passed * 2 ^ passed)))) _ b.1 in
     let d = and_parts (not (has_sixth 5 (drop passed (low_bits 4 quad)))) _ c.1 in
     let e = and_parts (nat_lt (quad / 2 ^ passed * 2 ^ passed) 16) (nat_lt (quad / 2 ^ passed) (2 ^ (4 - passed))) d.1 in
@@ -408,13 +409,15 @@ module _ (content tail : List Bool) where
       at (inl less) far =
           let all : length (r.front ++ r.four) ≤ length (stuffed 5 content) + 6 =
           omega (arith, less, length-append r.front r.four, r.long) in
-          absurd (false≢true (sym (sixth-take 5 (length (r.front ++ r.four)) (length (stuffed 5 content) + 6) (stuffed 5 content ++ (flag ++ tail)) all quiet-upto)
-          ∙ ap (has_sixth 5) both ∙ r.ended))
+          let quiet : has_sixth 5 (take (length (r.front ++ r.four)) (stuffed 5 content ++ (flag ++ tail))) ≡ false =
+          sixth-take 5 (length (r.front ++ r.four)) (length (stuffed 5 content) + 6) (stuffed 5 content ++ (flag ++ tail)) all quiet-upto in
+          absurd (false≢true (sym quiet ∙ ap (has_sixth 5) both ∙ r.ended))
       at (inr more) (inl far) =
           let quiet : has_sixth 5 (take (length r.front) (stuffed 5 content ++ (flag ++ tail))) ≡ false =
           ap (has_sixth 5) front ∙ r.gathered.quiet in
-          absurd (false≢true (sym (sixth-take 5 (length (stuffed 5 content) + 7) (length r.front) (stuffed 5 content ++ (flag ++ tail)) (omega (arith, far)) quiet)
-          ∙ sixth-behind))
+          let upto : has_sixth 5 (take (length (stuffed 5 content) + 7) (stuffed 5 content ++ (flag ++ tail))) ≡ false =
+          sixth-take 5 (length (stuffed 5 content) + 7) (length r.front) (stuffed 5 content ++ (flag ++ tail)) (omega (arith, far)) quiet in
+          absurd (false≢true (sym upto ∙ sixth-behind))
       at (inr more) (inr near) =
           let j : ℕ = length r.front - length (stuffed 5 content) in
           let few : j < 7 = omega (arith, more, near) in

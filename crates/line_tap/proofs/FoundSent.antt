@@ -1,5 +1,6 @@
 -- What is found in a slot of flags is what was sent in it.
-use Rattle.std.proofs.Common.{◌≡◌, ◌∙◌, ℕ, zero, suc, ◌+◌, ◌-◌, ◌*◌, ◌/◌, ◌%◌, ◌<◌, ◌≤◌, Bool, true, false, nat_eq, List, [], ◌∷◌, ◌++◌, length, take, drop}
+use Rattle.std.proofs.Common.{◌≡◌, ◌∙◌, ℕ, zero, suc, ◌+◌, ◌-◌, ◌*◌, ◌/◌, ◌%◌, ◌<◌, ◌≤◌, Bool, true, false, nat_eq, List, []}
+use Rattle.std.proofs.Common.{◌∷◌, ◌++◌, length, take, drop}
 use Rattle.std.proofs.Common.{slice_index, Option, Some, None, refl, sym, ap, subst, arith, append-nil, length-append}
 use Rattle.std.proofs.Math.Seq.{drop-append_seam}
 use Rattle.std.proofs.lemmas.Bool.{false≢true}
@@ -56,7 +57,8 @@ one-first octet octets e = record {
   is = ap (λ n. stuffed 5 (nat_eq n 1 ∷ (low_bits 7 (octet / 2) ++ bits_of octets))) e;
 }
 
-frame-first : (check : Check) (sender : Role) (dlci : ℕ) (frame : Frame) → BeginsWithOne (stuffed 5 (bits_of (checked check sender dlci frame)))
+frame-first : (check : Check) (sender : Role) (dlci : ℕ) (frame : Frame)
+    → BeginsWithOne (stuffed 5 (bits_of (checked check sender dlci frame)))
 frame-first check sender dlci frame =
     one-first (address_of (parts_of frame).command sender dlci)
     ((control_octet (parts_of frame) ∷ tail_octets (parts_of frame)) ++ check_of (check_for check frame) (spelled frame sender dlci))
@@ -139,7 +141,8 @@ pub record FindsThere (check : Check) (sender : Role) (dlci : ℕ) (line : List 
 
 pub finds-there : FoundLaws → (check : Check) (sender : Role) (dlci symbols phase : ℕ) (bits : List Bool) (found : Option Frame)
     → HEAD + TAIL < symbols → phase < 8 → bit_of bits (length (rest_of_flag phase) + 32) ≡ true
-    → FindsThere check sender dlci (drop (length (rest_of_flag phase) + 32) bits) found → FindsSent check sender dlci symbols phase bits found
+    → FindsThere check sender dlci (drop (length (rest_of_flag phase) + 32) bits) found
+    → FindsSent check sender dlci symbols phase bits found
 finds-there laws check sender dlci symbols phase bits found long low one k sent.Mark e codable is = absurd (false≢true (sym e))
 finds-there laws check sender dlci symbols phase bits found long low one k sent.Odp e codable is = absurd (false≢true (sym e))
 finds-there laws check sender dlci symbols phase bits found long low one k sent.Adp e codable is = absurd (false≢true (sym e))
@@ -151,8 +154,8 @@ finds-there laws check sender dlci symbols phase bits found long low one k (sent
     ap flagged (k.frame frame codable.sendable (record { tail = b.tail; is = ap (drop (length (rest_of_flag phase) + 32)) is ∙ b.is }))
 
 -- what octets are read there, and what is found where there are none
-pub read-there : FoundLaws → (check : Check) (sender : Role) (dlci : ℕ) (line : List Bool) (octets : List ℕ) (found : Option Frame) → dlci < 64
-    → AreOctets octets → ReadsContent line octets → ((frame : Frame) → SpellsFrame check sender dlci octets frame → found ≡ Some frame)
+pub read-there : FoundLaws → (check : Check) (sender : Role) (dlci : ℕ) (line : List Bool) (octets : List ℕ) (found : Option Frame)
+    → dlci < 64 → AreOctets octets → ReadsContent line octets → ((frame : Frame) → SpellsFrame check sender dlci octets frame → found ≡ Some frame)
     → FindsThere check sender dlci line found
 read-there laws check sender dlci line octets found few are r k = record {
   frame = λ frame sendable b.
@@ -190,7 +193,8 @@ pub next-part : (passed place quad : ℕ) (quads : List ℕ) → passed ≤ leng
 next-part passed place quad quads low e =
     sym (drop-append-le passed (line_bits (take place quads)) (low_bits 4 quad) low) ∙ ap (drop passed) e
 
-pub long-part : (passed place : ℕ) (quads : List ℕ) → passed < 4 * place → place ≤ length quads → passed ≤ length (line_bits (take place quads))
+pub long-part : (passed place : ℕ) (quads : List ℕ) → passed < 4 * place → place ≤ length quads
+    → passed ≤ length (line_bits (take place quads))
 long-part passed place quads low within =
     omega (arith, length-line_bits (take place quads), length-take-le place quads within, low)
 
@@ -199,4 +203,5 @@ pub whole-part : (passed place : ℕ) (quads : List ℕ) → passed ≤ length (
     → drop passed (line_bits (take place quads)) ++ line_bits (drop place quads) ≡ drop passed (line_bits quads)
 whole-part passed place quads low =
     sym (drop-append-le passed (line_bits (take place quads)) (line_bits (drop place quads)) low)
-    ∙ ap (drop passed) (sym (flat_map-append (low_bits 4) (take place quads) (drop place quads)) ∙ ap line_bits (take-append-drop place quads))
+    ∙ ap (drop passed) (sym (flat_map-append (low_bits 4) (take place quads) (drop place quads)))
+    ∙ ap (λ qs. drop passed (line_bits qs)) (take-append-drop place quads)

@@ -23,7 +23,7 @@ use Rattle.trellis_tables.proofs.Sequences.{Leads-snoc, Leads-front, Leads-take,
 use Rattle.line_coding.specs.declared.demodulator.Demodulator.{Demodulator}
 use Rattle.line_coding.specs.Demodulates.{DemodulatorStands}
 use Rattle.recordings.specs.Samples.{samples_in, sample_at, sample_of, coordinate}
-use Rattle.line_tap.specs.Labels.{AreLabels, ReadsLabels, column_of, height_of, high_of}
+use Rattle.line_tap.specs.Labels.{AreLabels, NoStep, NoSequence, ReadsLabels, column_of, height_of, high_of}
 use Rattle.line_tap.proofs.Coding.{points-tell}
 
 -- the labels of the map, by columns and heights
@@ -73,7 +73,7 @@ pub record IsThere (label : ℕ) : Type 0 where
 pub is-there : (label : ℕ) → label < 32 → IsThere label
 is-there label low =
     let t = and_parts (nat_eq (label_there (column_of label) (height_of label)) label) _ (at_each 32 label_test all_labels label low) in
-    let u = and_parts (nat_eq (distance_of (point_of label) (there label)) 0) (nat_lt (column_of label) 9 && nat_lt (height_of label) 9) t.1 in
+    let u = and_parts (nat_eq (distance_of (point_of label) (there label)) 0) _ t.1 in
     let v = and_parts (nat_lt (column_of label) 9) (nat_lt (height_of label) 9) u.1 in
     record {
       stands = eqb-true (label_there (column_of label) (height_of label)) label t.0;
@@ -116,13 +116,26 @@ pub record AreOctetsOf (label a b c d : ℕ) : Type 0 where
   pub im_low : c ≡ 0
   pub im : d ≡ high_of (height_of label)
 
-pub octets-of : (label a b c d : ℕ) → label < 32 → a < 256 → b < 256 → c < 256 → d < 256 → point_of label ≡ sample_of a b c d
+octets-of : (label a b c d : ℕ) → label < 32 → a < 256 → b < 256 → c < 256 → d < 256 → point_of label ≡ sample_of a b c d
     → AreOctetsOf label a b c d
 octets-of label a b c d low la lb lc ld e =
     let same : sample_of a b c d ≡ there label = sym e ∙ (is-there label low).point in
-    let re = same-octets a b 0 (high_of (column_of label)) la lb (omega arith) (high-small (column_of label)) (ap (λ (s : Sample). s.re) same) in
-    let im = same-octets c d 0 (high_of (height_of label)) lc ld (omega arith) (high-small (height_of label)) (ap (λ (s : Sample). s.im) same) in
+    let re = same-octets a b 0 (high_of (column_of label)) la lb (omega arith) (high-small (column_of label))
+    (ap (λ (s : Sample). s.re) same) in
+    let im = same-octets c d 0 (high_of (height_of label)) lc ld (omega arith) (high-small (height_of label))
+    (ap (λ (s : Sample). s.im) same) in
     record { re_low = re.0; re = re.1; im_low = im.0; im = im.1 }
+
+abbrev pub AreOctetsAt : ℕ → List ℕ → ℕ → Type 0
+AreOctetsAt label octets place =
+    AreOctetsOf label (slice_index octets (4 * place)) (slice_index octets (4 * place + 1)) (slice_index octets (4 * place + 2))
+    (slice_index octets (4 * place + 3))
+
+pub octets-at : (label place : ℕ) (octets : List ℕ) → label < 32 → ((i : ℕ) → slice_index octets i < 256)
+    → point_of label ≡ sample_at octets place → AreOctetsAt label octets place
+octets-at label place octets low small e =
+    octets-of label (slice_index octets (4 * place)) (slice_index octets (4 * place + 1)) (slice_index octets (4 * place + 2))
+    (slice_index octets (4 * place + 3)) low (small (4 * place)) (small (4 * place + 1)) (small (4 * place + 2)) (small (4 * place + 3)) e
 
 pub octets-back : (label a b c d : ℕ) → label < 32 → AreOctetsOf label a b c d → point_of label ≡ sample_of a b c d
 octets-back label a b c d low h = (is-there label low).point ∙ rw (h.re_low, h.re, h.im_low, h.im) refl
@@ -206,8 +219,7 @@ samples-long (a ∷ b ∷ c ∷ d ∷ octets) (suc n) h = omega (arith, samples-
 
 pub no-sequence : PointsDiffer → (n from state : ℕ) (octets done : List ℕ) → 4 * n + 4 ≤ length octets
     → AreLabels done (take n (samples_in octets)) → Leads next_state from done state
-    → ((label to : ℕ) → label < 32 → point_of label ≡ sample_at octets n → next_state state label ≡ Some to → ⊥)
-    → (labels : List ℕ) (to : ℕ) → AreLabels labels (samples_in octets) → Leads next_state from labels to → ⊥
+    → NoStep state (sample_at octets n) → NoSequence from (samples_in octets)
 no-sequence differ n from state octets done room are leads none labels to k h =
     let samples : List Sample = samples_in octets in
     let long : n + 1 ≤ length samples = samples-long octets (n + 1) (omega (arith, room)) in

@@ -29,8 +29,8 @@ struct Four {
     room: u8,
 }
 
-/// What four bits bring: the bits that are kept, how many they are, and how many ones may follow. A line has the fours from 0 to 15, of which
-/// the low bit comes first, by how many ones may follow before them.
+/// What four bits bring: the bits that are kept, how many they are, and how many ones may follow. Two lines have the fours from 0 to 15, of
+/// which the low bit comes first, by how many ones may follow before them.
 #[rattlefmt::skip]
 static FOURS: [(u8, u8, u8); 96] = [
     (0, 3, 5), (0, 0, 6), (1, 3, 5), (0, 0, 6), (2, 3, 5), (0, 0, 6), (3, 3, 5), (0, 0, 6),

@@ -60,8 +60,8 @@ loop-place-preserved c =
           c.joined-part.new.octets) next
           (gathers-more front (low_bits 4 quad) c.loop-place.room c.loop-place.part.bits c.loop-place.part.count c.four_of-four.result.room
           c.joined-part.result.bits c.joined-part.result.count c.loop-place.octets c.joined-part.new.octets
-          (low_bits c.four_of-four.result.kept.count c.four_of-four.result.kept.bits) inv.gathered (four.quiet low) (four.kept low) (four.room low)
-          (c.joined-part.ensures.kept (removed 5 front) inv.gathered.kept));
+          (low_bits c.four_of-four.result.kept.count c.four_of-four.result.kept.bits) inv.gathered (four.quiet low) (four.kept low)
+          (four.room low) (c.joined-part.ensures.kept (removed 5 front) inv.gathered.kept));
     }
 
 pub returns-then-four-gt5-clause-yes : goal.returns-then-four-gt5-clause-yes

@@ -39,4 +39,5 @@ pub returns-clause-some : goal.returns-clause-some
 returns-clause-some c =
     let count = count-samples c.args.symbols c.args.octets.now c.requires.size in
     subst (λ xs. ReadsLabels c.args.demodulator.now c.loop-place.demodulator c.args.from c.loop-place.state xs c.loop-place.out)
-    (take_all c.loop-place.place (samples_in c.args.octets.now) (omega (arith, count, c.loop-place-test.false))) c.loop-place.invariant.reads
+    (take_all c.loop-place.place (samples_in c.args.octets.now) (omega (arith, count, c.loop-place-test.false)))
+    c.loop-place.invariant.reads

@@ -24,7 +24,8 @@ returns-then-not-read_content-clause-found c = λ symbols long.
     finds-there laws c.args.sender.check c.args.sender.role c.args.sender.dlci symbols c.args.phase bits None long c.requires.phase
     (ap (λ n. bit_of bits (n + 32)) (sym c.rest_bits-begins.ensures.value) ∙ sym c.bit_in.ensures ∙ c.if-not-bit_in.false)
     (none-there c.args.sender.check c.args.sender.role c.args.sender.dlci (drop (length (rest_of_flag c.args.phase) + 32) bits) None
-    (ap (λ n. has_sixth 5 (drop (n + 32) bits)) (sym c.rest_bits-begins.ensures.value) ∙ c.read_content.ensures.no c.if-not-read_content.true))
+    (ap (λ n. has_sixth 5 (drop (n + 32) bits)) (sym c.rest_bits-begins.ensures.value)
+    ∙ c.read_content.ensures.no c.if-not-read_content.true))
 
 pub returns-clause-found : goal.returns-clause-found
 returns-clause-found c = λ symbols long.
@@ -34,7 +35,8 @@ returns-clause-found c = λ symbols long.
       sendable = c.codable_slots_fit.ensures.sendable;
       octets = c.codable_slots_fit.ensures.octets;
     } in
-    finds-there laws c.args.sender.check c.args.sender.role c.args.sender.dlci symbols c.args.phase bits c.frame_of.result long c.requires.phase
+    finds-there laws c.args.sender.check c.args.sender.role c.args.sender.dlci symbols c.args.phase bits c.frame_of.result long
+    c.requires.phase
     (ap (λ n. bit_of bits (n + 32)) (sym c.rest_bits-begins.ensures.value) ∙ sym c.bit_in.ensures ∙ c.if-not-bit_in.false)
     (read-there laws c.args.sender.check c.args.sender.role c.args.sender.dlci (drop (length (rest_of_flag c.args.phase) + 32) bits)
     c.as_slice.result.now c.frame_of.result c.requires.channel
