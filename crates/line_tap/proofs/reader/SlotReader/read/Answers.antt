@@ -12,6 +12,10 @@ use Rattle.trellis_tables.proofs.Sequences.{Leads-append}
 use Rattle.line_coding.specs.Demodulates.{DemodulatorStands}
 use Rattle.recordings.specs.Samples.{samples_in}
 use Rattle.lapm_frames.specs.declared.sent.Sent.{Sent}
+use Rattle.lapm_frames.specs.declared.sent.Sent.TheVariants as sent
+use Rattle.lapm_frames.specs.Checked.{checked}
+use Rattle.std.specs.Prelude.{IfSome}
+use Rattle.line_tap.specs.Reading.{IsGuess}
 use Rattle.sample_line.specs.Signals.{signal_of, IsCodable}
 use Rattle.sample_line.specs.Line.{LineStands, bits_behind}
 use Rattle.line_tap.specs.Reader.{IsNext, carries}
@@ -121,3 +125,12 @@ returns-clause-some c = λ script passed waiting samples l k.
       };
       line_stands = stands;
     }
+
+pub phase_behind-requires-clause-octets : goal.phase_behind-requires-clause-octets
+phase_behind-requires-clause-octets c = λ frame e.
+    let r = c.args.self.now in
+    let g : IsGuess (4 * r.symbols) (line_bits c.read_labels.new.out) c.frame_in-found.result (sent.Frame frame) =
+    subst (IsGuess (4 * r.symbols) (line_bits c.read_labels.new.out) c.frame_in-found.result) e c.guess-sent.ensures.guess in
+    c.as_slice.ensures.items
+    ∙ subst (λ found. IfSome found (λ f. c.frame_in-found.new.room ≡ checked r.sender.check r.sender.role r.sender.dlci f)) g.0
+    c.frame_in-found.ensures.is
