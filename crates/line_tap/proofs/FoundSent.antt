@@ -155,7 +155,8 @@ finds-there laws check sender dlci symbols phase bits found long low one k (sent
 
 -- what octets are read there, and what is found where there are none
 pub read-there : FoundLaws → (check : Check) (sender : Role) (dlci : ℕ) (line : List Bool) (octets : List ℕ) (found : Option Frame)
-    → dlci < 64 → AreOctets octets → ReadsContent line octets → ((frame : Frame) → SpellsFrame check sender dlci octets frame → found ≡ Some frame)
+    → dlci < 64 → AreOctets octets → ReadsContent line octets
+    → ((frame : Frame) → SpellsFrame check sender dlci octets frame → found ≡ Some frame)
     → FindsThere check sender dlci line found
 read-there laws check sender dlci line octets found few are r k = record {
   frame = λ frame sendable b.

@@ -7,7 +7,8 @@ use Rattle.line_tap.proofs.labels.step_by.Goals as goal
 
 pub returns-in_err-label-clause-none : goal.returns-in_err-label-clause-none
 returns-in_err-label-clause-none c =
-    let none : NoStep c.args.state (sample_at c.args.octets.now c.args.place) = λ label to low e next. c.in_err-label.ensures.none label low e in
+    let none : NoStep c.args.state (sample_at c.args.octets.now c.args.place) =
+    λ label to low e next. c.in_err-label.ensures.none label low e in
     subst (λ q. IfNone q (NoStep c.args.state (sample_at c.args.octets.now c.args.place))) (sym c.from_residual.ensures) none
 
 pub returns-in_err-to-clause-none : goal.returns-in_err-to-clause-none

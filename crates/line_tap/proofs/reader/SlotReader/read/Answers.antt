@@ -22,7 +22,8 @@ use Rattle.line_tap.specs.Reader.{IsNext, carries}
 use Rattle.line_tap.proofs.Guessing.{GuessLaws}
 use Rattle.line_tap.specs.Labels.{AreLabels}
 use Rattle.line_tap.proofs.PointLabels.{count-samples}
-use Rattle.line_tap.proofs.SlotReading.{bits-read, guessed, labels-next, sequence-modulates, phase-is, coded-as, phase-next, bits-more, labels-more}
+use Rattle.line_tap.proofs.SlotReading.{bits-read, guessed, labels-next, sequence-modulates}
+use Rattle.line_tap.proofs.SlotReading.{phase-is, coded-as, phase-next, bits-more, labels-more}
 use Rattle.line_tap.proofs.reader.SlotReader.read.Goals as goal
 
 pub returns-in_err-state-clause-none : goal.returns-in_err-state-clause-none
@@ -49,7 +50,8 @@ returns-in_err-phase-clause-none c = λ script passed waiting samples l k fit.
     let refuted : (s : Sent) → IsNext r sigs samples more s → ⊥ =
     λ s x.
     let is : c.guess-sent.result ≡ s =
-    guessed laws r sigs samples more s c.guess-sent.result c.read_labels.new.demodulator c.in_ok-state.state c.read_labels.new.out c.frame_in-found.result phase k h
+    guessed laws r sigs samples more s c.guess-sent.result c.read_labels.new.demodulator c.in_ok-state.state c.read_labels.new.out
+    c.frame_in-found.result phase k h
     (c.frame_in-found.ensures.found r.symbols r.low) c.guess-sent.ensures.guess x in
     c.in_err-phase.ensures.none
     (subst (λ q. IsCodable r.sender.check r.sender.role r.sender.dlci r.symbols r.phase q) (sym is) x.codable) in
@@ -67,7 +69,8 @@ returns-then-not-same_quads-clause-none c = λ script passed waiting samples l k
     } in
     let phase = phase-is r c.args.line.now script passed waiting c.requires.symbols c.requires.phase l in
     let is : c.guess-sent.result ≡ s =
-    guessed laws r sigs samples more s c.guess-sent.result c.read_labels.new.demodulator c.in_ok-state.state c.read_labels.new.out c.frame_in-found.result phase k h
+    guessed laws r sigs samples more s c.guess-sent.result c.read_labels.new.demodulator c.in_ok-state.state c.read_labels.new.out
+    c.frame_in-found.result phase k h
     (c.frame_in-found.ensures.found r.symbols r.low) c.guess-sent.ensures.guess x in
     let coded = coded-as r c.args.line.now sigs c.guess-sent.result (line_bits c.code.new.out) c.requires.sender c.requires.symbols
     (c.code.ensures.bits script passed waiting l) in
@@ -98,7 +101,8 @@ returns-clause-some c = λ script passed waiting samples l k.
     let all : bits ++ line_bits read ≡ signal_bits (4 * r.symbols) (sigs ++ carries r s ∷ []) = bits-more r sigs s read here in
     let labels : List ℕ = k.labels ++ h.labels in
     let are : AreLabels labels (samples ++ more) = labels-more k.labels h.labels samples more k.are h.are in
-    let demodulated : DemodulatorStands mode c.read_labels.new.demodulator labels (bits ++ line_bits read) = h.stands mode k.labels bits k.read in
+    let demodulated : DemodulatorStands mode c.read_labels.new.demodulator labels (bits ++ line_bits read) =
+    h.stands mode k.labels bits k.read in
     let leads : Leads next_state 0 labels c.in_ok-state.state =
     Leads-append next_state 0 k.labels h.labels r.state c.in_ok-state.state k.leads h.leads in
     let stands : LineStands c.code.new.self script passed (waiting ++ carries r s ∷ []) =
