@@ -68,7 +68,7 @@ two-fours octet =
     let e : octet / 16 ≡ octet / 2 / 2 / 2 / 2 = omega arith in
     rw (a, b, c, d, e) refl
 
-rest-bits : (phase : ℕ) → phase < 8 → length (rest_of_flag phase) ≡ (8 - phase) - 8 * (1 - phase)
+pub rest-bits : (phase : ℕ) → phase < 8 → length (rest_of_flag phase) ≡ (8 - phase) - 8 * (1 - phase)
 rest-bits zero h = refl
 rest-bits (suc zero) h = refl
 rest-bits (suc (suc zero)) h = refl

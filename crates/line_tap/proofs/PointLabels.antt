@@ -1,116 +1,167 @@
 -- Samples that are points, one after another.
-use Rattle.std.proofs.Common.{to_z, of_z, w16, ◌≡◌, ◌∙◌, inl, inr, ℕ, zero, suc, ◌+◌, ◌*◌, ◌<◌, ◌≤◌, Bool, List, [], ◌∷◌, ◌++◌, length}
-use Rattle.std.proofs.Common.{take, map, slice_index, refl, sym, ap, subst, arith, length-append, append-nil}
-use Rattle.std.proofs.lemmas.Bool.{cases_lt, eqb-true, ltb-true, and_parts}
-use Rattle.std.specs.Prelude.{◌-ℤ◌, unsigned_abs, slice_index_or, nat_eq, nat_lt, ◌&&◌, true}
-use Rattle.std.proofs.lemmas.List.{append_assoc, map-append}
-use Rattle.std.proofs.lemmas.List.Elements.{All-append, All-cons, All-nil, All-head, All-tail}
+use Rattle.std.proofs.Common.{of_z, w16, ◌≡◌, ◌∙◌, ℕ, zero, suc, ◌+◌, ◌*◌, ◌<◌, ◌≤◌, Bool, List, [], ◌∷◌, ◌++◌, length}
+use Rattle.std.proofs.Common.{take, map, get_or, Some, slice_index, refl, sym, ap, subst, arith, length-append, append-nil}
+use Rattle.std.proofs.lemmas.Bool.{eqb-true, ltb-true, leb-true, and_parts, or_cases}
+use Rattle.std.proofs.lemmas.Int.{of_z-to_z}
+use Rattle.std.specs.Prelude.{slice_index_or, nat_eq, nat_lt, nat_le, ◌&&◌, ◌||◌, true}
+use Rattle.std.proofs.Common.{◌⊎◌, inl, inr}
+use Rattle.std.proofs.lemmas.List.{append_assoc, map-append, take-map, length-map, take_more, same_from_push}
+use Rattle.std.proofs.lemmas.List.Elements.{All-append, All-cons, All-nil, All-take}
 use Rattle.scramblers.specs.declared.mode.Mode.{Mode}
 use Rattle.symbol_map.specs.declared.sample.Sample.{Sample}
-use Rattle.symbol_map.specs.Points.{point_of, map_point, minus}
+use Rattle.symbol_map.specs.Points.{point_of}
 use Rattle.symbol_map.specs.Distance.{distance_of}
 use Rattle.symbol_map.proofs.Distances.{equal_from_no_distance}
 use Rattle.symbol_map.specs.Finite.{each_below, at_each}
 use Rattle.plain_lists.specs.Bits.{low_bits}
 use Rattle.bit_stuffing.specs.BitSlot.{line_bits}
 use Rattle.std.proofs.lemmas.Grind.{flat_map-append}
+use Rattle.symbol_map.specs.Laws.{PointsDiffer}
+use Rattle.trellis_tables.specs.Table.{next_state}
+use Rattle.trellis_tables.specs.Sequences.{Leads}
+use Rattle.trellis_tables.proofs.Sequences.{Leads-snoc, Leads-front, Leads-take, Leads_once}
 use Rattle.line_coding.specs.declared.demodulator.Demodulator.{Demodulator}
 use Rattle.line_coding.specs.Demodulates.{DemodulatorStands}
-use Rattle.recordings.specs.Samples.{samples_in, sample_at, sample_of}
-use Rattle.line_tap.specs.Labels.{AreLabels, ReadsLabels, coordinate_at}
+use Rattle.recordings.specs.Samples.{samples_in, sample_at, sample_of, coordinate}
+use Rattle.line_tap.specs.Labels.{AreLabels, NoStep, NoSequence, ReadsLabels, column_of, height_of, high_of}
+use Rattle.line_tap.proofs.Coding.{points-tell}
 
 -- the labels of the map, by columns and heights
 abbrev pub label_map : List ℕ
 label_map =
-    0 ∷ 0 ∷ 0 ∷ 7 ∷ 0 ∷ 0 ∷ 0 ∷ 0 ∷ 0
-    ∷ 0 ∷ 0 ∷ 16 ∷ 0 ∷ 25 ∷ 0 ∷ 18 ∷ 0 ∷ 0
-    ∷ 0 ∷ 14 ∷ 0 ∷ 9 ∷ 0 ∷ 15 ∷ 0 ∷ 8 ∷ 0
-    ∷ 28 ∷ 0 ∷ 23 ∷ 0 ∷ 30 ∷ 0 ∷ 21 ∷ 0 ∷ 31
-    ∷ 0 ∷ 1 ∷ 0 ∷ 6 ∷ 0 ∷ 2 ∷ 0 ∷ 5 ∷ 0
-    ∷ 27 ∷ 0 ∷ 17 ∷ 0 ∷ 26 ∷ 0 ∷ 19 ∷ 0 ∷ 24
-    ∷ 0 ∷ 12 ∷ 0 ∷ 11 ∷ 0 ∷ 13 ∷ 0 ∷ 10 ∷ 0
-    ∷ 0 ∷ 0 ∷ 22 ∷ 0 ∷ 29 ∷ 0 ∷ 20 ∷ 0 ∷ 0
-    ∷ 0 ∷ 0 ∷ 0 ∷ 4 ∷ 0 ∷ 3 ∷ 0 ∷ 0 ∷ 0
+    32 ∷ 32 ∷ 32 ∷ 7 ∷ 32 ∷ 0 ∷ 32 ∷ 32 ∷ 32
+    ∷ 32 ∷ 32 ∷ 16 ∷ 32 ∷ 25 ∷ 32 ∷ 18 ∷ 32 ∷ 32
+    ∷ 32 ∷ 14 ∷ 32 ∷ 9 ∷ 32 ∷ 15 ∷ 32 ∷ 8 ∷ 32
+    ∷ 28 ∷ 32 ∷ 23 ∷ 32 ∷ 30 ∷ 32 ∷ 21 ∷ 32 ∷ 31
+    ∷ 32 ∷ 1 ∷ 32 ∷ 6 ∷ 32 ∷ 2 ∷ 32 ∷ 5 ∷ 32
+    ∷ 27 ∷ 32 ∷ 17 ∷ 32 ∷ 26 ∷ 32 ∷ 19 ∷ 32 ∷ 24
+    ∷ 32 ∷ 12 ∷ 32 ∷ 11 ∷ 32 ∷ 13 ∷ 32 ∷ 10 ∷ 32
+    ∷ 32 ∷ 32 ∷ 22 ∷ 32 ∷ 29 ∷ 32 ∷ 20 ∷ 32 ∷ 32
+    ∷ 32 ∷ 32 ∷ 32 ∷ 4 ∷ 32 ∷ 3 ∷ 32 ∷ 32 ∷ 32
     ∷ []
 
--- the column of a label's point, and its height
-abbrev column : ℕ → ℕ
-column label = unsigned_abs ((map_point label).0 -ℤ minus 4)
+abbrev pub label_there : ℕ → ℕ → ℕ
+label_there column height = slice_index_or label_map (9 * column + height) 0
 
-abbrev height : ℕ → ℕ
-height label = unsigned_abs ((map_point label).1 -ℤ minus 4)
-
+-- the point of a label, by its octets
 abbrev there : ℕ → Sample
-there label = record { re = coordinate_at (column label); im = coordinate_at (height label) }
+there label = sample_of 0 (high_of (column_of label)) 0 (high_of (height_of label))
 
 abbrev label_test : ℕ → Bool
 label_test label =
-    nat_eq (slice_index_or label_map (9 * column label + height label) 0) label && (nat_eq (distance_of (point_of label) (there label)) 0
-    && (nat_lt (column label) 9 && nat_lt (height label) 9))
+    nat_eq (label_there (column_of label) (height_of label)) label && (nat_eq (distance_of (point_of label) (there label)) 0
+    && (nat_lt (column_of label) 9 && nat_lt (height_of label) 9))
 
 all_labels : each_below 32 label_test ≡ true
 all_labels = refl
 
-all_small : each_below 81 (λ place. nat_lt (slice_index_or label_map place 0) 32) ≡ true
-all_small = refl
+-- and whatever stands at a place is a label of that place
+abbrev back_test : ℕ → Bool
+back_test place =
+    nat_le 32 (slice_index_or label_map place 0) ||
+    nat_eq (9 * column_of (slice_index_or label_map place 0) + height_of (slice_index_or label_map place 0)) place
 
-pub small-label : (column height : ℕ) → column < 9 → height < 9 → slice_index_or label_map (9 * column + height) 0 < 32
-small-label column height low few =
-    ltb-true (slice_index_or label_map (9 * column + height) 0) 32
-    (at_each 81 (λ place. nat_lt (slice_index_or label_map place 0) 32) all_small (9 * column + height) (omega arith))
+all_places : each_below 81 back_test ≡ true
+all_places = refl
 
--- a coordinate of the map as sixteen bits
-same-place : (place : ℕ) → place < 9 → to_z w16 (of_z w16 (coordinate_at place)) ≡ coordinate_at place
-same-place zero l = refl
-same-place (suc zero) l = refl
-same-place (suc (suc zero)) l = refl
-same-place (suc (suc (suc zero))) l = refl
-same-place (suc (suc (suc (suc zero)))) l = refl
-same-place (suc (suc (suc (suc (suc zero))))) l = refl
-same-place (suc (suc (suc (suc (suc (suc zero)))))) l = refl
-same-place (suc (suc (suc (suc (suc (suc (suc zero))))))) l = refl
-same-place (suc (suc (suc (suc (suc (suc (suc (suc zero)))))))) l = refl
-same-place (suc (suc (suc (suc (suc (suc (suc (suc (suc place))))))))) l = absurd (omega arith)
+pub record IsThere (label : ℕ) : Type 0 where
+  pub stands : label_there (column_of label) (height_of label) ≡ label
+  pub point : point_of label ≡ there label
+  pub left : column_of label < 9
+  pub low : height_of label < 9
 
--- where a sample has the coordinates of a label's point, its label stands there
-pub label-there : (sample : Sample) (x y label : ℕ) → label < 32 → point_of label ≡ sample
-    → ((place : ℕ) → place < 9 → to_z w16 (of_z w16 sample.re) ≡ coordinate_at place → x ≡ place)
-    → ((place : ℕ) → place < 9 → to_z w16 (of_z w16 sample.im) ≡ coordinate_at place → y ≡ place)
-    → slice_index_or label_map (9 * x + y) 0 ≡ label
-label-there sample x y label low e re im =
-    let t = and_parts (nat_eq (slice_index_or label_map (9 * column label + height label) 0) label) _
-    (at_each 32 label_test all_labels label low) in
-    let u = and_parts (nat_eq (distance_of (point_of label) (there label)) 0) (nat_lt (column label) 9 && nat_lt (height label) 9) t.1 in
-    let v = and_parts (nat_lt (column label) 9) (nat_lt (height label) 9) u.1 in
-    let same : point_of label ≡ there label =
-    equal_from_no_distance (point_of label) (there label) (eqb-true (distance_of (point_of label) (there label)) 0 u.0) in
-    let left : column label < 9 = ltb-true (column label) 9 v.0 in
-    let low_one : height label < 9 = ltb-true (height label) 9 v.1 in
-    let is : sample ≡ there label = sym e ∙ same in
-    let x_is : x ≡ column label = re (column label) left (ap (λ s. to_z w16 (of_z w16 s.re)) is ∙ same-place (column label) left) in
-    let y_is : y ≡ height label = im (height label) low_one (ap (λ s. to_z w16 (of_z w16 s.im)) is ∙ same-place (height label) low_one) in
-    rw (x_is, y_is) (eqb-true (slice_index_or label_map (9 * column label + height label) 0) label t.0)
+pub is-there : (label : ℕ) → label < 32 → IsThere label
+is-there label low =
+    let t = and_parts (nat_eq (label_there (column_of label) (height_of label)) label) _ (at_each 32 label_test all_labels label low) in
+    let u = and_parts (nat_eq (distance_of (point_of label) (there label)) 0) _ t.1 in
+    let v = and_parts (nat_lt (column_of label) 9) (nat_lt (height_of label) 9) u.1 in
+    record {
+      stands = eqb-true (label_there (column_of label) (height_of label)) label t.0;
+      point = equal_from_no_distance (point_of label) (there label) (eqb-true (distance_of (point_of label) (there label)) 0 u.0);
+      left = ltb-true (column_of label) 9 v.0;
+      low = ltb-true (height_of label) 9 v.1;
+    }
 
-pub reads-none : (d : Demodulator) → ReadsLabels d d [] []
-reads-none d = record {
+-- a label that is found is that of the place
+pub there-back : (column height : ℕ) → column < 9 → height < 9 → label_there column height < 32
+    → (column ≡ column_of (label_there column height)) × (height ≡ height_of (label_there column height))
+there-back column height left low small =
+    let label : ℕ = label_there column height in
+    let is = is-there label small in
+    go (or_cases (nat_le 32 label) _ (at_each 81 back_test all_places (9 * column + height) (omega arith)))
+  where
+    go : (nat_le 32 (label_there column height) ≡ true)
+        ⊎ (nat_eq (9 * column_of (label_there column height) + height_of (label_there column height)) (9 * column + height) ≡ true)
+        → (column ≡ column_of (label_there column height)) × (height ≡ height_of (label_there column height))
+    go (inl e) = absurd (omega (arith, leb-true 32 (label_there column height) e, small))
+    go (inr e) =
+        let is = is-there (label_there column height) small in
+        let same = eqb-true (9 * column_of (label_there column height) + height_of (label_there column height)) (9 * column + height) e in
+        (omega (arith, same, is.left, is.low, low), omega (arith, same, is.left, is.low, low))
+
+-- the octets of a coordinate
+same-octets : (a b c d : ℕ) → a < 256 → b < 256 → c < 256 → d < 256 → coordinate a b ≡ coordinate c d → (a ≡ c) × (b ≡ d)
+same-octets a b c d la lb lc ld e =
+    let same : a + 256 * b ≡ c + 256 * d =
+    sym (of_z-to_z w16 (a + 256 * b) (omega (arith, la, lb))) ∙ ap (of_z w16) e ∙ of_z-to_z w16 (c + 256 * d) (omega (arith, lc, ld)) in
+    (omega (arith, same, la, lb, lc, ld), omega (arith, same, la, lb, lc, ld))
+
+high-small : (place : ℕ) → high_of place < 256
+high-small place = omega arith
+
+-- the octets of a point
+pub record AreOctetsOf (label a b c d : ℕ) : Type 0 where
+  pub re_low : a ≡ 0
+  pub re : b ≡ high_of (column_of label)
+  pub im_low : c ≡ 0
+  pub im : d ≡ high_of (height_of label)
+
+octets-of : (label a b c d : ℕ) → label < 32 → a < 256 → b < 256 → c < 256 → d < 256 → point_of label ≡ sample_of a b c d
+    → AreOctetsOf label a b c d
+octets-of label a b c d low la lb lc ld e =
+    let same : sample_of a b c d ≡ there label = sym e ∙ (is-there label low).point in
+    let re = same-octets a b 0 (high_of (column_of label)) la lb (omega arith) (high-small (column_of label))
+    (ap (λ (s : Sample). s.re) same) in
+    let im = same-octets c d 0 (high_of (height_of label)) lc ld (omega arith) (high-small (height_of label))
+    (ap (λ (s : Sample). s.im) same) in
+    record { re_low = re.0; re = re.1; im_low = im.0; im = im.1 }
+
+abbrev pub AreOctetsAt : ℕ → List ℕ → ℕ → Type 0
+AreOctetsAt label octets place =
+    AreOctetsOf label (slice_index octets (4 * place)) (slice_index octets (4 * place + 1)) (slice_index octets (4 * place + 2))
+    (slice_index octets (4 * place + 3))
+
+pub octets-at : (label place : ℕ) (octets : List ℕ) → label < 32 → ((i : ℕ) → slice_index octets i < 256)
+    → point_of label ≡ sample_at octets place → AreOctetsAt label octets place
+octets-at label place octets low small e =
+    octets-of label (slice_index octets (4 * place)) (slice_index octets (4 * place + 1)) (slice_index octets (4 * place + 2))
+    (slice_index octets (4 * place + 3)) low (small (4 * place)) (small (4 * place + 1)) (small (4 * place + 2)) (small (4 * place + 3)) e
+
+pub octets-back : (label a b c d : ℕ) → label < 32 → AreOctetsOf label a b c d → point_of label ≡ sample_of a b c d
+octets-back label a b c d low h = (is-there label low).point ∙ rw (h.re_low, h.re, h.im_low, h.im) refl
+
+pub reads-none : (d : Demodulator) (from : ℕ) → ReadsLabels d d from from [] []
+reads-none d from = record {
   labels = [];
   are = (All-nil (λ label. label < 32), refl);
+  leads = refl;
   count = refl;
   stands = λ mode before bits h. subst (λ xs. DemodulatorStands mode d xs (bits ++ [])) (sym (append-nil before))
       (subst (DemodulatorStands mode d before) (sym (append-nil bits)) h);
 }
 
-pub reads-more : (old mid new : Demodulator) (samples : List Sample) (quads : List ℕ) (sample : Sample) (label quad : ℕ) → label < 32
-    → point_of label ≡ sample
+pub reads-more : (old mid new : Demodulator) (from state to : ℕ) (samples : List Sample) (quads : List ℕ) (sample : Sample) (label quad : ℕ)
+    → label < 32 → point_of label ≡ sample → next_state state label ≡ Some to
     → ((mode : Mode) (before : List ℕ) (bits : List Bool) → DemodulatorStands mode mid before bits
     → DemodulatorStands mode new (before ++ label ∷ []) (bits ++ low_bits 4 quad))
-    → ReadsLabels old mid samples quads → ReadsLabels old new (samples ++ sample ∷ []) (quads ++ quad ∷ [])
-reads-more old mid new samples quads sample label quad low e step h = record {
+    → ReadsLabels old mid from state samples quads → ReadsLabels old new from to (samples ++ sample ∷ []) (quads ++ quad ∷ [])
+reads-more old mid new from state to samples quads sample label quad low e next step h = record {
   labels = h.labels ++ label ∷ [];
   are = (
     All-append (λ l. l < 32) h.labels (label ∷ []) h.are.0 (All-cons (λ l. l < 32) label [] low (All-nil (λ l. l < 32))),
     map-append point_of h.labels (label ∷ []) ∙ ap (λ xs. xs ++ point_of label ∷ []) h.are.1 ∙ ap (λ s. samples ++ s ∷ []) e,
   );
+  leads = Leads-snoc next_state from h.labels state label to h.leads next;
   count = (let a = length-append quads (quad ∷ []) in
       let b = length-append samples (sample ∷ []) in
       omega (arith, a, b, h.count));
@@ -156,20 +207,34 @@ one-more (suc n) (a ∷ b ∷ c ∷ d ∷ octets) h =
     ∙ ap (λ xs. sample_of a b c d ∷ xs) (one-more n octets (omega (arith, h)))
     ∙ ap (λ s. sample_of a b c d ∷ (take n (samples_in octets) ++ s ∷ [])) (sym (next-at a b c d n octets))
 
--- where one of the samples is no point there are no labels
-pub no-labels : (n : ℕ) (octets : List ℕ) → 4 * n + 4 ≤ length octets
-    → ((label : ℕ) → label < 32 → point_of label ≡ sample_at octets n → ⊥) → (labels : List ℕ) → AreLabels labels (samples_in octets) → ⊥
-no-labels n [] h none labels k = absurd (omega (arith, h))
-no-labels n (a ∷ []) h none labels k = absurd (omega (arith, h))
-no-labels n (a ∷ b ∷ []) h none labels k = absurd (omega (arith, h))
-no-labels n (a ∷ b ∷ c ∷ []) h none labels k = absurd (omega (arith, h))
-no-labels n (a ∷ b ∷ c ∷ d ∷ octets) h none [] k = let e : [] ≡ sample_of a b c d ∷ samples_in octets = k.1 in absurd cc
-no-labels zero (a ∷ b ∷ c ∷ d ∷ octets) h none (label ∷ labels) k =
-    let e : point_of label ∷ map point_of labels ≡ sample_of a b c d ∷ samples_in octets = k.1 in
-    let first : point_of label ≡ sample_of a b c d = cc in
-    none label (All-head (λ l. l < 32) label labels k.0) first
-no-labels (suc n) (a ∷ b ∷ c ∷ d ∷ octets) h none (label ∷ labels) k =
-    let e : point_of label ∷ map point_of labels ≡ sample_of a b c d ∷ samples_in octets = k.1 in
-    let rest : map point_of labels ≡ samples_in octets = cc in
-    no-labels n octets (omega (arith, h)) (λ l low same. none l low (same ∙ sym (next-at a b c d n octets))) labels
-    (All-tail (λ l. l < 32) label labels k.0, rest)
+-- ---- where no label of the next sample goes on from the state, the samples are none of a code sequence
+
+samples-long : (octets : List ℕ) (n : ℕ) → 4 * n ≤ length octets → n ≤ length (samples_in octets)
+samples-long octets zero h = omega arith
+samples-long [] (suc n) h = absurd (omega (arith, h))
+samples-long (a ∷ []) (suc n) h = absurd (omega (arith, h))
+samples-long (a ∷ b ∷ []) (suc n) h = absurd (omega (arith, h))
+samples-long (a ∷ b ∷ c ∷ []) (suc n) h = absurd (omega (arith, h))
+samples-long (a ∷ b ∷ c ∷ d ∷ octets) (suc n) h = omega (arith, samples-long octets n (omega (arith, h)))
+
+pub no-sequence : PointsDiffer → (n from state : ℕ) (octets done : List ℕ) → 4 * n + 4 ≤ length octets
+    → AreLabels done (take n (samples_in octets)) → Leads next_state from done state
+    → NoStep state (sample_at octets n) → NoSequence from (samples_in octets)
+no-sequence differ n from state octets done room are leads none labels to k h =
+    let samples : List Sample = samples_in octets in
+    let long : n + 1 ≤ length samples = samples-long octets (n + 1) (omega (arith, room)) in
+    let count : length labels ≡ length samples = sym (length-map labels point_of) ∙ ap length k.1 in
+    let label : ℕ = get_or labels n 0 in
+    let low : label < 32 = k.0 n 0 (omega (arith, count, long)) in
+    let split : take (n + 1) labels ≡ take n labels ++ label ∷ [] = take_more labels n 0 (omega (arith, count, long)) in
+    let points : map point_of (take n labels) ++ point_of label ∷ [] ≡ take n samples ++ sample_at octets n ∷ [] =
+    sym (map-append point_of (take n labels) (label ∷ [])) ∙ ap (map point_of) (sym split) ∙ sym (take-map point_of (n + 1) labels)
+    ∙ ap (take (n + 1)) k.1 ∙ one-more n octets room in
+    let parts = same_from_push (map point_of (take n labels)) (take n samples) (point_of label) (sample_at octets n) points in
+    let front : take n labels ≡ done =
+    points-tell differ (take n labels) done (All-take (λ l. l < 32) n labels k.0) are.0 (parts.0 ∙ sym are.1) in
+    let upto = Leads-take next_state (n + 1) from labels to h in
+    let last = Leads-front next_state from (take n labels) label upto.0 (subst (λ ls. Leads next_state from ls upto.0) split upto.1) in
+    let mid : last.0 ≡ state =
+    Leads_once next_state from done last.0 state (subst (λ ls. Leads next_state from ls last.0) front last.1) leads in
+    none label upto.0 low parts.1 (subst (λ s. next_state s label ≡ Some upto.0) mid last.2)

@@ -1,6 +1,6 @@
 -- A frame that octets spell can be sent.
 use Rattle.std.proofs.Common.{ℕ, ◌<◌, Bool, List, ◌∷◌, ◌++◌, length, Option, Some, None, Result, Ok, Err, subst}
-use Rattle.std.specs.Prelude.{IfOk}
+use Rattle.std.specs.Prelude.{IfOk, IfSome, ◌≡◌}
 use Rattle.std.specs.Result.{result_ok}
 use Rattle.std.proofs.Math.Seq.{take-append_seam}
 use Rattle.std.proofs.lemmas.List.Elements.{All-take, All-tail}
@@ -12,7 +12,8 @@ use Rattle.lapm_frames.specs.declared.frame.Frame.{Frame}
 use Rattle.lapm_frames.specs.declared.sent.Sent.TheVariants as sent
 use Rattle.lapm_frames.specs.Parts.{parts_of}
 use Rattle.lapm_frames.specs.Frame.{address_of, control_octet, information_of, numbered, numbers_before, spelled, tail_octets}
-use Rattle.lapm_frames.specs.Checked.{SpellsFrame}
+use Rattle.lapm_frames.specs.Checked.{SpellsFrame, checked}
+use Rattle.lapm_frames.proofs.Checking.{spelled-checked}
 use Rattle.lapm_frames.specs.Sendable.{IsSendable}
 use Rattle.line_tap.specs.Seeking.{CanBeSent}
 
@@ -34,6 +35,11 @@ spells-sendable check sender dlci whole frame small h =
     let tail : AreOctets (tail_octets (parts_of frame)) =
     All-tail (λ octet. octet < 256) (control_octet (parts_of frame)) (tail_octets (parts_of frame)) behind in
     (h.spelling.0, info-octets (parts_of frame).nr (parts_of frame).pf (information_of frame) tail)
+
+pub ok-spelled : (check : Check) (sender : Role) (dlci : ℕ) (whole : List ℕ) (r : Result Frame CheckedFault)
+    → IfOk r (SpellsFrame check sender dlci whole) → IfSome (result_ok r) (λ frame. whole ≡ checked check sender dlci frame)
+ok-spelled check sender dlci whole (Ok frame) h = spelled-checked check sender dlci whole frame h
+ok-spelled check sender dlci whole (Err fault) h = tt
 
 pub ok-sendable : (check : Check) (sender : Role) (dlci : ℕ) (whole : List ℕ) (r : Result Frame CheckedFault) → AreOctets whole
     → IfOk r (SpellsFrame check sender dlci whole) → CanBeSent (result_ok r)

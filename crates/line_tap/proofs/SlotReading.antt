@@ -1,40 +1,49 @@
 -- A slot that is read: its bits, what is taken for what was sent in it, its samples, and what stands behind it.
-use Rattle.std.proofs.Common.{◌≡◌, ◌∙◌, ℕ, ◌*◌, ◌<◌, ◌≤◌, Bool, List, [], ◌∷◌, ◌++◌, map, Option, sym, ap, subst, arith}
-use Rattle.std.proofs.lemmas.List.{append_assoc, map-append}
-use Rattle.std.proofs.lemmas.List.Elements.{All-append}
+use Rattle.std.proofs.Common.{◌≡◌, ◌∙◌, ℕ, ◌*◌, ◌<◌, ◌≤◌, Bool, List, [], ◌∷◌, ◌++◌, length, map, take, drop, All}
+use Rattle.std.proofs.Common.{Option, refl, sym, ap, subst, arith}
+use Rattle.std.proofs.lemmas.List.{append_assoc, map-append, take-map, drop-map, take-append-drop}
+use Rattle.std.proofs.lemmas.List.Elements.{All-append, All-map, All-take, All-drop}
 use Rattle.scramblers.specs.declared.mode.Mode.{Mode}
 use Rattle.scramblers.specs.declared.mode.Mode.TheVariants.{Call, Answer}
 use Rattle.scramblers.specs.Mode.{tap_of}
-use Rattle.scramblers.proofs.Readings.{Scrambles_once}
+use Rattle.scramblers.proofs.Readings.{Scrambles_once, Scrambles_from_Descrambles}
 use Rattle.shared_terms.specs.Role.{mode_of}
 use Rattle.symbol_map.specs.declared.sample.Sample.{Sample}
 use Rattle.symbol_map.specs.Points.{point_of}
 use Rattle.symbol_map.specs.Laws.{PointsDiffer}
 use Rattle.trellis_tables.specs.Encoder.{Encodes}
+use Rattle.trellis_tables.specs.LabelReader.{quad_at, quads_of}
+use Rattle.trellis_tables.specs.Quads.{quad_of}
+use Rattle.trellis_tables.specs.Table.{next_state}
+use Rattle.trellis_tables.specs.Sequences.{Leads}
 use Rattle.trellis_tables.proofs.Codings.{Encodes_once}
+use Rattle.trellis_tables.proofs.Readings.{Encodes_quads_of}
+use Rattle.trellis_tables.proofs.Sequences.{Leads-split, Leads_once}
+use Rattle.line_coding.specs.Demodulates.{line_of, DemodulatorStands}
+use Rattle.differential.specs.Turned.{unturned_at}
+use Rattle.symbol_map.specs.Labels.{y_of}
+use Rattle.std.specs.List.{range_with_len}
+use Rattle.std.proofs.Math.Seq.{take-append_seam, drop-append_seam}
 use Rattle.bit_stuffing.specs.BitSlot.{line_bits}
-use Rattle.bit_stuffing.specs.Deframer.{DeframerStands}
 use Rattle.bit_stuffing.specs.Slots.{sent_bits, phase_after, next_phase}
 use Rattle.bit_stuffing.proofs.Fill.{bits-append, phase-append}
 use Rattle.detection.specs.Slots.{Signal, slot_of, slots_of, signal_bits}
-use Rattle.line_coding.specs.declared.modulator.Modulator.{Modulator}
 use Rattle.line_coding.specs.declared.demodulator.Demodulator.{Demodulator}
 use Rattle.line_coding.specs.Modulates.{Modulates}
-use Rattle.line_coding.proofs.Standing.{modulated, demodulated}
+use Rattle.line_coding.proofs.Standing.{demodulated}
 use Rattle.lapm_frames.specs.declared.frame.Frame.{Frame}
 use Rattle.lapm_frames.specs.declared.sent.Sent.{Sent}
 use Rattle.noise_script.specs.Script.{ScriptValue}
 use Rattle.sample_line.specs.Signals.{signal_of, IsCodable}
 use Rattle.sample_line.specs.Line.{Kept, LineStands, bits_behind, sender_of, size_of}
-use Rattle.line_run.specs.Fitting.{AreFit}
 use Rattle.line_tap.specs.declared.reader.SlotReader.{SlotReader}
 use Rattle.line_tap.specs.Labels.{AreLabels, ReadsLabels}
-use Rattle.line_tap.specs.Making.{Makes}
 use Rattle.line_tap.specs.Reading.{IsGuess}
 use Rattle.line_tap.specs.Reader.{ReaderStands, IsNext, carries}
-use Rattle.line_tap.specs.Seeking.{Seeks}
+use Rattle.line_tap.specs.Seeking.{FindsSent}
+use Rattle.line_tap.proofs.Coding.{points-tell}
+use Rattle.line_tap.proofs.Coding.{small as few-labels}
 use Rattle.line_tap.proofs.Guessing.{GuessLaws, same-bits, guess-right, phase_of}
-use Rattle.line_tap.proofs.Once.{behind-same}
 use Rattle.line_tap.proofs.SameQuads.{quads-once}
 
 abbrev bits_before : SlotReader → List Signal → List Bool
@@ -44,10 +53,11 @@ abbrev bits_next : SlotReader → List Signal → Sent → List Bool
 bits_next r sigs s = bits_behind (4 * r.symbols) sigs (carries r s)
 
 -- the bits that were read are those of the slot that these samples are
-pub bits-read : PointsDiffer → (r : SlotReader) (sigs : List Signal) (samples more : List Sample) (s : Sent) (d : Demodulator) (quads : List ℕ)
-    → ReaderStands r sigs samples → ReadsLabels r.demodulator d more quads → IsNext r sigs samples more s
+pub bits-read : PointsDiffer → (r : SlotReader) (sigs : List Signal) (samples more : List Sample) (s : Sent) (d : Demodulator) (to : ℕ)
+    (quads : List ℕ)
+    → ReaderStands r sigs samples → ReadsLabels r.demodulator d r.state to more quads → IsNext r sigs samples more s
     → line_bits quads ≡ bits_behind (4 * r.symbols) sigs (carries r s)
-bits-read differ r sigs samples more s d quads k h x =
+bits-read differ r sigs samples more s d to quads k h x =
     let mode : Mode = mode_of r.sender.role in
     let bits : List Bool = bits_before r sigs in
     same-bits differ (tap_of mode) bits (bits_next r sigs s) (line_bits quads) samples more k.labels h.labels k.are h.are
@@ -55,19 +65,19 @@ bits-read differ r sigs samples more s d quads k h x =
 
 -- and what is taken for what was sent is what was sent
 pub guessed : GuessLaws → (r : SlotReader) (sigs : List Signal) (samples more : List Sample) (s guess : Sent) (d : Demodulator)
-    (quads : List ℕ) (found : Option Frame) → AreFit (4 * r.symbols) 0 sigs → r.phase ≡ phase_of r.symbols sigs → ReaderStands r sigs samples
-    → ReadsLabels r.demodulator d more quads
-    → ((bits : List Bool) → DeframerStands r.deframer bits
-    → Seeks r.sender.check r.sender.role r.sender.dlci bits (bits ++ line_bits quads) found)
+    (to : ℕ) (quads : List ℕ) (found : Option Frame) → r.phase ≡ phase_of r.symbols sigs → ReaderStands r sigs samples
+    → ReadsLabels r.demodulator d r.state to more quads
+    → FindsSent r.sender.check r.sender.role r.sender.dlci r.symbols r.phase (line_bits quads) found
     → IsGuess (4 * r.symbols) (line_bits quads) found guess → IsNext r sigs samples more s → guess ≡ s
-guessed laws r sigs samples more s guess d quads found fit phase k h seeks g x =
-    guess-right laws r.sender.check r.sender.role r.sender.dlci r.symbols sigs s guess found (line_bits quads) r.low r.channel fit
+guessed laws r sigs samples more s guess d to quads found phase k h finds g x =
+    guess-right laws r.sender.check r.sender.role r.sender.dlci r.symbols sigs s guess found (line_bits quads) r.low r.channel
     (subst (λ p. IsCodable r.sender.check r.sender.role r.sender.dlci r.symbols p s) phase x.codable)
-    (bits-read laws.points r sigs samples more s d quads k h x) (seeks (bits_before r sigs) k.framed) g
+    (bits-read laws.points r sigs samples more s d to quads k h x)
+    (subst (λ p. FindsSent r.sender.check r.sender.role r.sender.dlci r.symbols p (line_bits quads) found) phase finds) g
 
 -- ---- samples of one list of bits are one
 
-modulates-once : (tap : ℕ) (bits : List Bool) (a b : List Sample) → 1 ≤ tap → Modulates tap bits a → Modulates tap bits b → a ≡ b
+pub modulates-once : (tap : ℕ) (bits : List Bool) (a b : List Sample) → 1 ≤ tap → Modulates tap bits a → Modulates tap bits b → a ≡ b
 modulates-once tap bits a b low h k =
     let lines : h.line ≡ k.line = Scrambles_once tap bits h.line k.line low h.scrambled k.scrambled in
     let quads : h.quads ≡ k.quads = quads-once h.quads k.quads h.are_quads k.are_quads (sym h.in_fours ∙ lines ∙ k.in_fours) in
@@ -79,19 +89,52 @@ tap-low : (mode : Mode) → 1 ≤ tap_of mode
 tap-low Call = omega arith
 tap-low Answer = omega arith
 
--- so the samples that were made are those of the slot that these are
-pub made-once : PointsDiffer → (r : SlotReader) (sigs : List Signal) (samples more : List Sample) (s : Sent) (d : Demodulator)
-    (m : Modulator) (quads : List ℕ) (same : Bool) → ReaderStands r sigs samples → ReadsLabels r.demodulator d more quads
-    → (made : Makes r.modulator m quads more same) → IsNext r sigs samples more s → made.made ≡ more
-made-once differ r sigs samples more s d m quads same k h made x =
-    let mode : Mode = mode_of r.sender.role in
-    let bits : List Bool = bits_before r sigs in
-    let mine : Modulates (tap_of mode) (bits ++ line_bits quads) (samples ++ made.made) =
-    modulated mode m (bits ++ line_bits quads) (samples ++ made.made) (made.stands mode bits samples k.made) in
-    let theirs : Modulates (tap_of mode) (bits ++ line_bits quads) (samples ++ more) =
-    subst (λ xs. Modulates (tap_of mode) (bits ++ xs) (samples ++ more)) (sym (bits-read differ r sigs samples more s d quads k h x)) x.modulated in
-    behind-same samples made.made more
-    (modulates-once (tap_of mode) (bits ++ line_bits quads) (samples ++ made.made) (samples ++ more) (tap-low mode) mine theirs)
+-- ---- labels of a code sequence are the coding of their bits
+
+small-quads : (labels : List ℕ) → All (λ quad. quad < 16) (quads_of labels)
+small-quads labels = All-map (λ quad. quad < 16) (quad_at labels) (range_with_len 0 (length labels))
+    (λ k d within. small (unturned_at (map y_of labels) _) _ (omega arith) (omega arith))
+  where
+    small : (turn q3q4 : ℕ) → turn < 4 → q3q4 < 4 → quad_of turn q3q4 < 16
+    small turn q3q4 l m = omega (arith, l, m)
+
+pub sequence-modulates : (mode : Mode) (d : Demodulator) (labels : List ℕ) (bits : List Bool) (samples : List Sample) (end : ℕ)
+    → DemodulatorStands mode d labels bits → AreLabels labels samples → Leads next_state 0 labels end → Modulates (tap_of mode) bits samples
+sequence-modulates mode d labels bits samples end h are leads = record {
+  line = line_of labels;
+  quads = quads_of labels;
+  labels = labels;
+  end = end;
+  scrambled = Scrambles_from_Descrambles (tap_of mode) bits (line_of labels) (demodulated mode d labels bits h);
+  in_fours = refl;
+  are_quads = small-quads labels;
+  encoded = Encodes_quads_of labels end leads;
+  points = sym are.1;
+}
+
+-- and so the samples of the next slot have labels that go on from the state
+pub labels-next : PointsDiffer → (r : SlotReader) (sigs : List Signal) (samples more : List Sample) (s : Sent) → ReaderStands r sigs samples
+    → IsNext r sigs samples more s → (labels : List ℕ) × (to : ℕ) × AreLabels labels more × Leads next_state r.state labels to
+labels-next differ r sigs samples more s k x =
+    let m = x.modulated in
+    let n : ℕ = length samples in
+    let tap : ℕ = tap_of (mode_of r.sender.role) in
+    let bits : List Bool = bits_before r sigs ++ bits_next r sigs s in
+    let low = few-labels tap bits (samples ++ more) m in
+    let points : map point_of (take n m.labels) ≡ map point_of k.labels =
+    sym (take-map point_of n m.labels) ∙ ap (take n) (sym m.points) ∙ take-append_seam samples more ∙ sym k.are.1 in
+    let front : take n m.labels ≡ k.labels =
+    points-tell differ (take n m.labels) k.labels (All-take (λ label. label < 32) n m.labels low) k.are.0 points in
+    let all : m.labels ≡ k.labels ++ drop n m.labels = sym (take-append-drop n m.labels) ∙ ap (λ ls. ls ++ drop n m.labels) front in
+    let parts = Leads-split next_state 0 k.labels (drop n m.labels) m.end (subst (λ ls. Leads next_state 0 ls m.end) all m.encoded.leads) in
+    let mid : parts.0 ≡ r.state = Leads_once next_state 0 k.labels parts.0 r.state parts.1 k.leads in
+    let behind : map point_of (drop n m.labels) ≡ more =
+    sym (drop-map point_of n m.labels) ∙ ap (drop n) (sym m.points) ∙ drop-append_seam samples more in (
+      drop n m.labels,
+      m.end,
+      (All-drop (λ label. label < 32) n m.labels low, behind),
+      subst (λ q. Leads next_state q (drop n m.labels) m.end) mid parts.2,
+    )
 
 -- ---- what a line coded, in a reader's words
 

@@ -6,9 +6,10 @@ use Rattle.shared_terms.specs.Role.{mode_of}
 use Rattle.scramblers.specs.Mode.{tap_of}
 use Rattle.symbol_map.specs.declared.sample.Sample.{Sample}
 use Rattle.bit_stuffing.specs.BitSlot.{line_bits}
-use Rattle.bit_stuffing.specs.Deframer.{DeframerStands}
 use Rattle.detection.specs.Slots.{Signal, signal_bits}
-use Rattle.line_coding.specs.Modulates.{Modulates, ModulatorStands}
+use Rattle.trellis_tables.specs.Table.{next_state}
+use Rattle.trellis_tables.specs.Sequences.{Leads}
+use Rattle.line_coding.specs.Modulates.{Modulates}
 use Rattle.line_coding.specs.Demodulates.{DemodulatorStands}
 use Rattle.lapm_frames.specs.declared.sent.Sent.{Sent}
 use Rattle.noise_script.specs.Script.{ScriptValue}
@@ -36,8 +37,7 @@ pub record ReaderStands (reader : SlotReader) (sigs : List Signal) (samples : Li
   pub labels : List ℕ
   pub are : AreLabels labels samples
   pub read : DemodulatorStands (mode_of reader.sender.role) reader.demodulator labels (signal_bits (4 * reader.symbols) sigs)
-  pub framed : DeframerStands reader.deframer (signal_bits (4 * reader.symbols) sigs)
-  pub made : ModulatorStands (mode_of reader.sender.role) reader.modulator (signal_bits (4 * reader.symbols) sigs) samples
+  pub leads : Leads next_state 0 labels reader.state
 
 -- what a reader's slot of this carries
 abbrev pub carries : SlotReader → Sent → Signal

@@ -1,49 +1,47 @@
-use Rattle.std.proofs.Common.{◌≡◌, ◌<◌, ◌++◌, ℕ, length, take, sym, subst, arith, append-nil, None}
-use Rattle.std.proofs.lemmas.List.{take_all}
+use Rattle.std.proofs.Common.{◌∙◌, ◌+◌, List, Bool, length, drop, None, sym, ap, subst}
+use Rattle.plain_lists.specs.Octets.{AreOctets}
 use Rattle.bit_stuffing.specs.BitSlot.{line_bits}
-use Rattle.bit_stuffing.specs.Deframer.{DeframerStands}
-use Rattle.sample_line.proofs.Standing.{sent-part}
-use Rattle.line_tap.specs.Seeking.{Seeks}
-use Rattle.line_tap.proofs.Seeking.{seeks-none}
+use Rattle.bit_stuffing.specs.Flags.{bit_of}
+use Rattle.bit_stuffing.specs.Slots.{rest_of_flag}
+use Rattle.line_tap.specs.Content.{has_sixth, ReadsContent}
+use Rattle.line_tap.proofs.FoundSent.{FoundLaws, finds-none, finds-there, read-there, none-there}
 use Rattle.line_tap.proofs.seeker.frame_in.Goals as goal
 
-pub loop-place-init : goal.loop-place-init
-loop-place-init c = record {
-  stands = λ bits h. subst (DeframerStands c.args.deframer.now) (sym (append-nil bits)) h;
-  seeks = λ bits h.
-      subst (λ xs. Seeks c.args.sender.check c.args.sender.role c.args.sender.dlci bits xs None) (sym (append-nil bits))
-      (seeks-none c.args.sender.check c.args.sender.role c.args.sender.dlci bits);
-  sendable = tt;
-}
+pub returns-then-not-bit_in-clause-found : goal.returns-then-not-bit_in-clause-found
+returns-then-not-bit_in-clause-found c = λ symbols long.
+    let bits : List Bool = line_bits c.args.slot.now in
+    finds-none c.args.sender.check c.args.sender.role c.args.sender.dlci symbols c.args.phase bits
+    (ap (λ n. bit_of bits (n + 32)) (sym c.rest_bits-begins.ensures.value) ∙ sym c.bit_in.ensures ∙ c.if-not-bit_in.true)
 
-pub loop-place-preserved : goal.loop-place-preserved
-loop-place-preserved c =
-    let place : ℕ = c.loop-place.place in
-    let within : place < length c.args.slot.now = omega (arith, c.loop-place-test.true, c.len-place-end.ensures.count) in
-    record {
-      stands = λ bits h.
-          subst (DeframerStands c.with_four.new.deframer)
-          (sent-part bits c.args.slot.now place c.quad.result within c.quad.ensures.value)
-          (c.with_four.ensures.stands _ (c.loop-place.invariant.stands bits h));
-      seeks = λ bits h.
-          subst (λ xs. Seeks c.args.sender.check c.args.sender.role c.args.sender.dlci bits xs c.with_four.new.found)
-          (sent-part bits c.args.slot.now place c.quad.result within c.quad.ensures.value)
-          (c.with_four.ensures.seeks bits _ (c.loop-place.invariant.stands bits h) (c.loop-place.invariant.seeks bits h));
-      sendable = c.with_four.ensures.sendable c.loop-place.invariant.sendable;
-    }
+pub returns-then-not-read_content-clause-found : goal.returns-then-not-read_content-clause-found
+returns-then-not-read_content-clause-found c = λ symbols long.
+    let bits : List Bool = line_bits c.args.slot.now in
+    let laws : FoundLaws = record {
+      fits = c.codable_slots_fit.ensures.fits;
+      sendable = c.codable_slots_fit.ensures.sendable;
+      octets = c.codable_slots_fit.ensures.octets;
+    } in
+    finds-there laws c.args.sender.check c.args.sender.role c.args.sender.dlci symbols c.args.phase bits None long c.requires.phase
+    (ap (λ n. bit_of bits (n + 32)) (sym c.rest_bits-begins.ensures.value) ∙ sym c.bit_in.ensures ∙ c.if-not-bit_in.false)
+    (none-there c.args.sender.check c.args.sender.role c.args.sender.dlci (drop (length (rest_of_flag c.args.phase) + 32) bits) None
+    (ap (λ n. has_sixth 5 (drop (n + 32) bits)) (sym c.rest_bits-begins.ensures.value)
+    ∙ c.read_content.ensures.no c.if-not-read_content.true))
 
-pub returns-clause-stands : goal.returns-clause-stands
-returns-clause-stands c = λ bits h.
-    let all : take c.loop-place.place c.args.slot.now ≡ c.args.slot.now =
-    take_all c.loop-place.place c.args.slot.now (omega (arith, c.loop-place-test.false, c.len-place-end.ensures.count)) in
-    subst (λ xs. DeframerStands c.loop-place.deframer (bits ++ line_bits xs)) all (c.loop-place.invariant.stands bits h)
-
-pub returns-clause-seeks : goal.returns-clause-seeks
-returns-clause-seeks c = λ bits h.
-    let all : take c.loop-place.place c.args.slot.now ≡ c.args.slot.now =
-    take_all c.loop-place.place c.args.slot.now (omega (arith, c.loop-place-test.false, c.len-place-end.ensures.count)) in
-    subst (λ xs. Seeks c.args.sender.check c.args.sender.role c.args.sender.dlci bits (bits ++ line_bits xs) c.loop-place.found) all
-    (c.loop-place.invariant.seeks bits h)
-
-pub returns-clause-sendable : goal.returns-clause-sendable
-returns-clause-sendable c = c.loop-place.invariant.sendable
+pub returns-clause-found : goal.returns-clause-found
+returns-clause-found c = λ symbols long.
+    let bits : List Bool = line_bits c.args.slot.now in
+    let laws : FoundLaws = record {
+      fits = c.codable_slots_fit.ensures.fits;
+      sendable = c.codable_slots_fit.ensures.sendable;
+      octets = c.codable_slots_fit.ensures.octets;
+    } in
+    finds-there laws c.args.sender.check c.args.sender.role c.args.sender.dlci symbols c.args.phase bits c.frame_of.result long
+    c.requires.phase
+    (ap (λ n. bit_of bits (n + 32)) (sym c.rest_bits-begins.ensures.value) ∙ sym c.bit_in.ensures ∙ c.if-not-bit_in.false)
+    (read-there laws c.args.sender.check c.args.sender.role c.args.sender.dlci (drop (length (rest_of_flag c.args.phase) + 32) bits)
+    c.as_slice.result.now c.frame_of.result c.requires.channel
+    (subst AreOctets (sym c.as_slice.ensures.items) c.as_slice.ensures.octets)
+    (subst (λ octets. ReadsContent (drop (length (rest_of_flag c.args.phase) + 32) bits) octets) (sym c.as_slice.ensures.items)
+    (subst (λ n. ReadsContent (drop (n + 32) bits) c.read_content.new.octets) c.rest_bits-begins.ensures.value
+    (c.read_content.ensures.yes c.if-not-read_content.false)))
+    c.frame_of.ensures.all)

@@ -2,7 +2,9 @@ use Rattle.std.proofs.Common.{◌∙◌, ◌<◌, ap, sym, subst, arith}
 use Rattle.std.proofs.lemmas.List.Elements.{All-from_get_or}
 use Rattle.std.specs.Result.{result_ok}
 use Rattle.line_tap.specs.Seeking.{CanBeSent}
-use Rattle.line_tap.proofs.SentFrames.{ok-sendable}
+use Rattle.lapm_frames.specs.Checked.{checked}
+use Rattle.std.specs.Prelude.{◌≡◌, IfSome}
+use Rattle.line_tap.proofs.SentFrames.{ok-sendable, ok-spelled}
 use Rattle.line_tap.proofs.seeker.frame_of.Goals as goal
 
 pub returns-clause-all : goal.returns-clause-all
@@ -14,3 +16,9 @@ returns-clause-sendable c =
     (ok-sendable c.args.sender.check c.args.sender.role c.args.sender.dlci c.args.octets.now c.read_checked.result
     (All-from_get_or (λ octet. octet < 256) c.args.octets.now 0 (λ i within. omega (arith, c.type_inv.octets i)))
     c.read_checked.ensures.ok)
+
+pub returns-clause-is : goal.returns-clause-is
+returns-clause-is c =
+    subst (λ found. IfSome found (λ frame. c.args.octets.now ≡ checked c.args.sender.check c.args.sender.role c.args.sender.dlci frame))
+    (sym c.ok.ensures.value)
+    (ok-spelled c.args.sender.check c.args.sender.role c.args.sender.dlci c.args.octets.now c.read_checked.result c.read_checked.ensures.ok)

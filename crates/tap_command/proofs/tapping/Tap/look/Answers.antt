@@ -4,7 +4,8 @@ use Rattle.frame_check.specs.declared.check.Check.{Check}
 use Rattle.link_run.specs.Listened.{check_by}
 use Rattle.shared_line.specs.declared.direction.DelayedLine.{DelayedLine}
 use Rattle.line_tap.specs.Tapping.{line_of, terms_of}
-use Rattle.tap_command.proofs.Looking.{FitLaws, told-fit, passed_of, waiting_of, sent-in-all, same-sender, same-symbols, same-phase, has-read, reads-too}
+use Rattle.line_tap.proofs.ToldFit.{FitLaws, told-fit}
+use Rattle.tap_command.proofs.Looking.{passed_of, waiting_of, sent-in-all, same-sender, same-symbols, same-phase, has-read, reads-too}
 use Rattle.tap_command.proofs.tapping.Tap.look.Goals as goal
 
 pub read-requires-clause-sender : goal.read-requires-clause-sender

@@ -1,0 +1,227 @@
+-- Whether a recording holds a slot of the next turn, and which, can be told.
+use Rattle.std.proofs.Common.{◌≡◌, inl, inr, ℕ, zero, suc, ◌+◌, ◌-◌, ◌*◌, ◌%◌, ◌<◌, ◌≤◌, Bool, List, [], ◌∷◌, ◌++◌, length, take}
+use Rattle.std.proofs.Common.{arith, refl, ◌∙◌, ap, subst, Option, Some, None}
+use Rattle.std.specs.Prelude.{ℤ, pos, negsuc, IfSome}
+use Rattle.std.proofs.lemmas.Bool.{cases_lt}
+use Rattle.std.proofs.lemmas.List.Elements.{All-nil, All-cons, All-head, All-tail}
+use Rattle.plain_lists.specs.Octets.{AreOctets}
+use Rattle.frame_check.specs.declared.check.Check.{Check}
+use Rattle.frame_check.specs.declared.sizes.TheConstants.{INFO}
+use Rattle.scramblers.specs.Mode.{tap_of}
+use Rattle.symbol_map.specs.declared.sample.Sample.{Sample}
+use Rattle.line_coding.specs.Modulates.{Modulates}
+use Rattle.bit_stuffing.specs.declared.slot_writer.TheConstants.{TAIL}
+use Rattle.bit_stuffing.specs.Slots.{opening}
+use Rattle.bit_stuffing.specs.BitSlot.{line_bits}
+use Rattle.bit_stuffing.proofs.Written.{length-line_bits}
+use Rattle.shared_terms.specs.declared.role.Role.{Role}
+use Rattle.shared_terms.specs.Role.{mode_of}
+use Rattle.lapm_frames.specs.declared.frame.Frame.{Frame}
+use Rattle.lapm_frames.specs.Parts.{parts_of}
+use Rattle.lapm_frames.specs.Frame.{information_of}
+use Rattle.lapm_frames.specs.Checked.{checked}
+use Rattle.lapm_frames.specs.Sendable.{IsSendable}
+use Rattle.lapm_frames.specs.declared.sent.Sent.{Sent}
+use Rattle.lapm_frames.specs.declared.sent.Sent.TheVariants as sent
+use Rattle.recordings.specs.Samples.{samples_in}
+use Rattle.sample_line.specs.Signals.{FrameFits, IsCodable}
+use Rattle.link_run.specs.Run.{Turn}
+use Rattle.line_run.specs.Sampled.{Wire, bits_of}
+use Rattle.line_run.proofs.Recordings.{tap-some, recorded-some}
+use Rattle.line_ends.proofs.Deciding.{Decided}
+use Rattle.line_tap.specs.Tapping.{phase_behind, next_bits, octets_of, HoldsNext}
+use Rattle.line_tap.proofs.AmongFrames.{any-frame}
+use Rattle.line_tap.proofs.SlotReading.{modulates-once}
+
+-- ---- numbers, lists, samples
+
+at-most : (m n : ℕ) → Decided (m ≤ n)
+at-most m n = elim (cases_lt n m) [ inl l ↦ inr (λ k. omega (arith, l, k)) | inr k ↦ inl k ]
+
+same-number : (m n : ℕ) → Decided (m ≡ n)
+same-number zero zero = inl refl
+same-number zero (suc n) = inr (λ e. omega (arith, e))
+same-number (suc m) zero = inr (λ e. omega (arith, e))
+same-number (suc m) (suc n) = go (same-number m n)
+  where
+    go : Decided (m ≡ n) → Decided (suc m ≡ suc n)
+    go (inl e) = inl (ap suc e)
+    go (inr f) = inr (λ e. f (omega (arith, e)))
+
+both-told : {P Q : Type 0} → Decided P → Decided Q → Decided (P × Q)
+both-told (inl p) (inl q) = inl (p, q)
+both-told (inl p) (inr q) = inr (λ h. q h.1)
+both-told (inr p) d = inr (λ h. p h.0)
+
+abbrev magnitude : ℤ → ℕ
+magnitude (pos n) = n
+magnitude (negsuc n) = n
+
+same-coordinate : (a b : ℤ) → Decided (a ≡ b)
+same-coordinate (pos m) (pos n) = go (same-number m n)
+  where
+    go : Decided (m ≡ n) → Decided (pos m ≡ pos n)
+    go (inl e) = inl (ap pos e)
+    go (inr f) = inr (λ e. f (back e))
+      where
+        back : pos m ≡ pos n → m ≡ n
+        back e = ap magnitude e
+same-coordinate (negsuc m) (negsuc n) = go (same-number m n)
+  where
+    go : Decided (m ≡ n) → Decided (negsuc m ≡ negsuc n)
+    go (inl e) = inl (ap negsuc e)
+    go (inr f) = inr (λ e. f (back e))
+      where
+        back : negsuc m ≡ negsuc n → m ≡ n
+        back e = ap magnitude e
+same-coordinate (pos m) (negsuc n) = inr (λ e. absurd cc)
+same-coordinate (negsuc m) (pos n) = inr (λ e. absurd cc)
+
+same-sample : (a b : Sample) → Decided (a ≡ b)
+same-sample a b = go (same-coordinate a.re b.re) (same-coordinate a.im b.im)
+  where
+    sample : ℤ → ℤ → Sample
+    sample re im = record { re = re; im = im }
+
+    joined : (p q r s : ℤ) → p ≡ q → r ≡ s → sample p r ≡ sample q s
+    joined p q r s e f = rw (e, f) refl
+
+    go : Decided (a.re ≡ b.re) → Decided (a.im ≡ b.im) → Decided (a ≡ b)
+    go (inl e) (inl f) = inl (joined a.re b.re a.im b.im e f)
+    go (inl e) (inr n) = inr (λ k. n (ap (λ (z : Sample). z.im) k))
+    go (inr n) d = inr (λ k. n (ap (λ (z : Sample). z.re) k))
+
+same-samples : (xs ys : List Sample) → Decided (xs ≡ ys)
+same-samples [] [] = inl refl
+same-samples [] (y ∷ ys) = inr (λ e. absurd cc)
+same-samples (x ∷ xs) [] = inr (λ e. absurd cc)
+same-samples (x ∷ xs) (y ∷ ys) = go (same-sample x y) (same-samples xs ys)
+  where
+    head : x ∷ xs ≡ y ∷ ys → x ≡ y
+    head e = cc
+
+    tail : x ∷ xs ≡ y ∷ ys → xs ≡ ys
+    tail e = cc
+
+    go : Decided (x ≡ y) → Decided (xs ≡ ys) → Decided (x ∷ xs ≡ y ∷ ys)
+    go (inl e) (inl f) = inl (ap (λ z. z ∷ xs) e ∙ ap (λ zs. y ∷ zs) f)
+    go (inl e) (inr n) = inr (λ k. n (tail k))
+    go (inr n) d = inr (λ k. n (head k))
+
+-- ---- what can be coded
+
+are-octets : (octets : List ℕ) → Decided (AreOctets octets)
+are-octets [] = inl (All-nil (λ octet. octet < 256))
+are-octets (x ∷ xs) = go (at-most (suc x) 256) (are-octets xs)
+  where
+    go : Decided (suc x ≤ 256) → Decided (AreOctets xs) → Decided (AreOctets (x ∷ xs))
+    go (inl l) (inl are) = inl (All-cons (λ octet. octet < 256) x xs (omega (arith, l)) are)
+    go (inl l) (inr n) = inr (λ k. n (All-tail (λ octet. octet < 256) x xs k))
+    go (inr n) d = inr (λ k. n (omega (arith, All-head (λ octet. octet < 256) x xs k)))
+
+small-number : (o : Option ℕ) → Decided (IfSome o (λ n. n < 128))
+small-number None = inl tt
+small-number (Some n) = elim (at-most (suc n) 128) [ inl l ↦ inl (omega (arith, l)) | inr f ↦ inr (λ k. f (omega (arith, k))) ]
+
+short-info : (o : Option (List ℕ)) → Decided (IfSome o (λ info. length info ≤ INFO))
+short-info None = inl tt
+short-info (Some info) = at-most (length info) INFO
+
+is-sendable : (frame : Frame) → Decided (IsSendable (sent.Frame frame))
+is-sendable frame =
+    go (small-number (parts_of frame).ns) (small-number (parts_of frame).nr) (short-info (parts_of frame).info)
+    (are-octets (information_of frame))
+  where
+    go : Decided (IfSome (parts_of frame).ns (λ ns. ns < 128)) → Decided (IfSome (parts_of frame).nr (λ nr. nr < 128))
+        → Decided (IfSome (parts_of frame).info (λ info. length info ≤ INFO)) → Decided (AreOctets (information_of frame))
+        → Decided (IsSendable (sent.Frame frame))
+    go (inl a) (inl b) (inl c) (inl d) = inl ((a, b, c), d)
+    go (inr n) b c d = inr (λ h. n h.0.0)
+    go (inl a) (inr n) c d = inr (λ h. n h.0.1)
+    go (inl a) (inl b) (inr n) d = inr (λ h. n h.0.2)
+    go (inl a) (inl b) (inl c) (inr n) = inr (λ h. n h.1)
+
+frame-fits : (check : Check) (sender : Role) (dlci symbols phase : ℕ) (frame : Frame)
+    → Decided (FrameFits check sender dlci symbols phase frame)
+frame-fits check sender dlci symbols phase frame =
+    go (is-sendable frame) (at-most (length (opening phase (Some (checked check sender dlci frame)))) _)
+  where
+    go : Decided (IsSendable (sent.Frame frame))
+        → Decided (length (opening phase (Some (checked check sender dlci frame))) ≤ 4 * (symbols - TAIL))
+        → Decided (FrameFits check sender dlci symbols phase frame)
+    go (inl s) (inl l) = inl (record { sendable = s; room = l })
+    go (inl s) (inr n) = inr (λ h. n h.room)
+    go (inr n) d = inr (λ h. n h.sendable)
+
+is-codable : (check : Check) (sender : Role) (dlci symbols phase : ℕ) (s : Sent) → Decided (IsCodable check sender dlci symbols phase s)
+is-codable check sender dlci symbols phase sent.Mark = inl tt
+is-codable check sender dlci symbols phase sent.Odp = inl tt
+is-codable check sender dlci symbols phase sent.Adp = inl tt
+is-codable check sender dlci symbols phase sent.Flags = inl tt
+is-codable check sender dlci symbols phase (sent.Frame frame) = frame-fits check sender dlci symbols phase frame
+
+-- ---- whether samples are those of some bits
+
+in-fours : (tap : ℕ) (bits : List Bool) (samples : List Sample) → Modulates tap bits samples → length bits % 4 ≡ 0
+in-fours tap bits samples h =
+    let same : length h.line ≡ length (line_bits h.quads) = ap length h.in_fours in
+    omega (arith, h.scrambled.lengths, same, length-line_bits h.quads)
+
+are-made : (c : Wire) (role : Role) (bits : List Bool) (samples : List Sample) → Decided (Modulates (tap_of (mode_of role)) bits samples)
+are-made c role bits samples = go (same-number (length bits % 4) 0)
+  where
+    by : (points : List Sample) → Modulates (tap_of (mode_of role)) bits points → Decided (points ≡ samples)
+        → Decided (Modulates (tap_of (mode_of role)) bits samples)
+    by points h (inl e) = inl (subst (Modulates (tap_of (mode_of role)) bits) e h)
+    by points h (inr n) = inr (λ k. n (modulates-once (tap_of (mode_of role)) bits points samples (tap-some role) h k))
+
+    go : Decided (length bits % 4 ≡ 0) → Decided (Modulates (tap_of (mode_of role)) bits samples)
+    go (inl e) =
+        let made = (recorded-some c.script role bits e).1 in
+        by made.points made.modulated (same-samples made.points samples)
+    go (inr n) = inr (λ k. n (in-fours (tap_of (mode_of role)) bits samples k))
+
+-- ---- so of each slot it can be told whether it is the next one,
+
+is-next : (c : Wire) (check : Check) (role : Role) (ts : List Turn) (body : List ℕ) (s : Sent) → Decided (HoldsNext c check role ts body s)
+is-next c check role ts body s =
+    go (at-most (octets_of c (length ts + 1)) (length body)) (is-codable check role c.dlci c.symbols (phase_behind c role ts) s)
+    (are-made c role (bits_of c role ts ++ next_bits c check role ts s) (take (c.symbols * (length ts + 1)) (samples_in body)))
+  where
+    go : Decided (octets_of c (length ts + 1) ≤ length body) → Decided (IsCodable check role c.dlci c.symbols (phase_behind c role ts) s)
+        → Decided (Modulates (tap_of (mode_of role)) (bits_of c role ts ++ next_bits c check role ts s)
+        (take (c.symbols * (length ts + 1)) (samples_in body)))
+        → Decided (HoldsNext c check role ts body s)
+    go (inl w) (inl k) (inl m) = inl (record { whole = w; codable = k; modulated = m })
+    go (inr n) k m = inr (λ h. n h.whole)
+    go (inl w) (inr n) m = inr (λ h. n h.codable)
+    go (inl w) (inl k) (inr n) = inr (λ h. n h.modulated)
+
+-- and whether one of all that an end may send is.
+pub next-or-none : (c : Wire) (check : Check) (role : Role) (ts : List Turn) (body : List ℕ)
+    → Decided ((s : Sent) × HoldsNext c check role ts body s)
+next-or-none c check role ts body =
+    go (is-next c check role ts body sent.Mark) (is-next c check role ts body sent.Odp) (is-next c check role ts body sent.Adp)
+    (is-next c check role ts body sent.Flags)
+    (any-frame (λ frame. HoldsNext c check role ts body (sent.Frame frame)) (λ frame h. h.codable.sendable)
+    (λ frame. is-next c check role ts body (sent.Frame frame)))
+  where
+    none : (HoldsNext c check role ts body sent.Mark → ⊥) → (HoldsNext c check role ts body sent.Odp → ⊥)
+        → (HoldsNext c check role ts body sent.Adp → ⊥) → (HoldsNext c check role ts body sent.Flags → ⊥)
+        → ((frame : Frame) × HoldsNext c check role ts body (sent.Frame frame) → ⊥) → (s : Sent) → HoldsNext c check role ts body s → ⊥
+    none m o a f g sent.Mark h = m h
+    none m o a f g sent.Odp h = o h
+    none m o a f g sent.Adp h = a h
+    none m o a f g sent.Flags h = f h
+    none m o a f g (sent.Frame frame) h = g (frame, h)
+
+    go : Decided (HoldsNext c check role ts body sent.Mark) → Decided (HoldsNext c check role ts body sent.Odp)
+        → Decided (HoldsNext c check role ts body sent.Adp) → Decided (HoldsNext c check role ts body sent.Flags)
+        → Decided ((frame : Frame) × HoldsNext c check role ts body (sent.Frame frame))
+        → Decided ((s : Sent) × HoldsNext c check role ts body s)
+    go (inl h) o a f g = inl (sent.Mark, h)
+    go (inr m) (inl h) a f g = inl (sent.Odp, h)
+    go (inr m) (inr o) (inl h) f g = inl (sent.Adp, h)
+    go (inr m) (inr o) (inr a) (inl h) g = inl (sent.Flags, h)
+    go (inr m) (inr o) (inr a) (inr f) (inl h) = inl (sent.Frame h.0, h.1)
+    go (inr m) (inr o) (inr a) (inr f) (inr g) = inr (λ h. none m o a f g h.0 h.1)
