@@ -1,5 +1,5 @@
 // The check that goes behind the octets of a frame.
-ghost use Rattle.std.specs.Prelude.{◌≡◌, ◌+◌, ◌≤◌, ◌++◌, ◌↔◌, IsTrue, length};
+ghost use Rattle.std.specs.Prelude.{◌≡◌, ◌+◌, ◌≤◌, ◌↔◌, IsTrue, length};
 ghost use Rattle.frame_check.specs.FrameCheck.{IsChecked, Passes};
 ghost use Rattle.frame_check.specs.Division.{check_of, with_check, count_of};
 ghost use Rattle.frame_check.specs.declared.check.Check.TheVariants.{Sixteen, ThirtyTwo};

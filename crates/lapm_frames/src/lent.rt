@@ -16,11 +16,17 @@ use std::marker::Model;
 /// A frame whose information is lent. A contract sees the frame.
 #[derive(Drop)]
 pub struct LentFrame<'a> {
+    /// Which of the others it has.
     kind: FrameKind,
+    /// A command, or a response, where the kind has both.
     command: bool,
+    /// N(S).
     ns: u8,
+    /// N(R).
     nr: u8,
+    /// The poll bit of a command, the final bit of a response.
     pf: bool,
+    /// The information, at most INFO octets.
     info: &'a [u8],
 }
 
