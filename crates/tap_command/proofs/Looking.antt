@@ -1,5 +1,5 @@
 -- Slots that are read in a turn, and lines that have coded them.
-use Rattle.std.proofs.Common.{◌≡◌, ℕ, suc, ◌+◌, ◌-◌, ◌*◌, List, [], ◌∷◌, ◌++◌, length, map, take, drop, arith, refl, sym, ◌∙◌, ap, subst, Option, Some}
+use Rattle.std.proofs.Common.{◌≡◌, ℕ, suc, ◌+◌, ◌-◌, ◌*◌, List, [], ◌∷◌, ◌++◌, length, map, take, drop, arith, refl, sym, ◌∙◌, ap, subst, Some}
 use Rattle.std.proofs.lemmas.List.{append_assoc, map-append, take-append-drop}
 use Rattle.frame_check.specs.declared.check.Check.{Check}
 use Rattle.bit_stuffing.specs.BitSlot.{line_bits}
@@ -11,11 +11,8 @@ use Rattle.recordings.specs.Samples.{samples_in}
 use Rattle.noise_script.specs.Script.{ScriptValue}
 use Rattle.sample_line.specs.Signals.{signal_of}
 use Rattle.sample_line.specs.Line.{Kept, LineStands, bits_behind, sender_of, size_of}
-use Rattle.line_run.specs.Fitting.{AreFit}
-use Rattle.line_run.specs.Laws.{OneMoreFits, CodableFits, CodableIsSendable, SpelledInOctets}
-use Rattle.link_run.specs.Run.{Spoken, Turn}
-use Rattle.link_run.specs.Listened.{check_by}
-use Rattle.line_run.specs.Sampled.{signal_in, signals}
+use Rattle.link_run.specs.Run.{Turn}
+use Rattle.line_run.specs.Sampled.{signals}
 use Rattle.line_run.specs.Stream.{Carried, carried_signal, sent_by}
 use Rattle.line_run.proofs.Streaming.{lone-signals}
 use Rattle.shared_line.specs.declared.direction.DelayedLine.{DelayedLine}
@@ -25,7 +22,7 @@ use Rattle.line_tap.specs.declared.seeker.Sender.{Sender}
 use Rattle.line_tap.specs.declared.reader.SlotReader.{SlotReader}
 use Rattle.line_tap.specs.Reader.{ReaderStands, ReadsFor}
 use Rattle.line_tap.proofs.ToldFit.{signals-more}
-use Rattle.line_tap.specs.Tapping.{Tapping, line_of, terms_of, octets_of, Tells, told, phase_behind}
+use Rattle.line_tap.specs.Tapping.{Tapping, line_of, octets_of, told}
 use Rattle.tap_command.specs.declared.end.Slot.{Slot}
 use Rattle.tap_command.specs.End.{ReadsOn, ReadsNext}
 use Rattle.tap_command.specs.Tap.{HasRead, ReadsToo}
