@@ -10,26 +10,18 @@ use Rattle.link_account.specs.Account.{Account, is_connected, wants, piece_size,
 use Rattle.link_run.specs.End.{User, BreakLine, delivered, piece_at, offered_at, offered_times, room_for, offered, is_busy, next_break}
 use Rattle.link_run.specs.End.{asked_at, asked, served}
 use Rattle.link_run.specs.Reading.{IsOffered, OffersWhatIsRead, OwnSegmentsStay}
-use Rattle.line_ends.proofs.Words.{Owes}
+use Rattle.line_ends.proofs.Words.{Octet, Owes}
 use Rattle.line_ends.proofs.Saying.{AllOctets, IsReady}
 
 -- the length of a break is an octet
 abbrev pub IsOctetBreak : BreakLine → Type 0
 IsOctetBreak line = line.length_octet < 256
 
--- a user's file and the breaks that it asks for
-pub record HasOctets (user : User) : Type 0 where
-  pub file : AreOctets user.file
-  pub breaks : All IsOctetBreak user.breaks
-
--- An end was offered its user's file up to some place, and holds octets besides.
+-- An end was offered its user's file up to some place, and the breaks that it holds are octets.
 pub record Holds (file : List ℕ) (a : Account) : Type 0 where
   pub offered : IsOffered file a
   pub own : AreOctets a.own_breaks.lengths
   pub owes : Owes a
-
-abbrev Octet : ℕ → Type 0
-Octet octet = octet < 256
 
 append-left : (xs ys : List ℕ) → AreOctets (xs ++ ys) → AreOctets xs
 append-left [] ys h = All-nil Octet
@@ -44,10 +36,10 @@ each-octets [] h = tt
 each-octets (p ∷ ps) h = (append-left p (concat ps) h, each-octets ps (append-right p (concat ps) h))
 
 -- so it is ready to speak
-pub ready : (file : List ℕ) (a : Account) → AreOctets file → Holds file a → IsReady a
-ready file a f h = record {
+pub ready : (file : List ℕ) (a : Account) → Holds file a → IsReady file a
+ready file a h = record {
   offer = h.offered.allowed;
-  pieces = each-octets a.outgoing.pieces (subst AreOctets (sym h.offered.cut.begins) (All-take Octet _ file f));
+  pieces = λ f. each-octets a.outgoing.pieces (subst AreOctets (sym h.offered.cut.begins) (All-take Octet _ file f));
   own = h.own;
   owes = h.owes;
 }
@@ -154,10 +146,10 @@ holds-asked : (file : List ℕ) (turn : ℕ) (released : Bool) (breaks : List Br
 holds-asked file turn true breaks a s h = h
 holds-asked file turn false breaks a s h = asks-at file turn (next_break breaks a) a (break-at breaks (length a.own_breaks.lengths) s) h
 
-pub holds-served : OfferLaws → (user : User) (turn : ℕ) (released : Bool) (a : Account) → HasOctets user → Holds user.file a
+pub holds-served : OfferLaws → (user : User) (turn : ℕ) (released : Bool) (a : Account) → All IsOctetBreak user.breaks → Holds user.file a
     → Holds user.file (served user turn released a).account
 holds-served laws user turn released a o h =
     let given = after_given (delivered a) in
     let pieces = offers-times laws (room_for given) user.file given (holds-delivered user.file a h) in
-    holds-asked user.file turn released user.breaks (after_busy (is_busy turn user.busy) (offered user.file given)) o.breaks
+    holds-asked user.file turn released user.breaks (after_busy (is_busy turn user.busy) (offered user.file given)) o
     (holds-busy user.file (is_busy turn user.busy) (offered user.file given) pieces)

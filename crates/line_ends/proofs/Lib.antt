@@ -12,11 +12,7 @@ pub mod Receiving
 mod EachEnds
 mod Starving
 mod Making
-pub mod ReadWords
-pub mod ReadSaying
-pub mod ReadHanding
 pub mod Slots
-pub mod ReadSending
 pub mod Reading
 pub mod Cutting
 pub mod Worded

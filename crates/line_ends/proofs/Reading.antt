@@ -1,6 +1,6 @@
 -- Both lines of a turn are lines that are read.
-use Rattle.std.proofs.Common.{◌≡◌, ℕ, ◌<◌, ◌≤◌, ◌^◌, Bool, true, false, cond, nat_lt, List, [], ◌∷◌, length, slice_index_or, arith, refl, sym, ◌∙◌, subst}
-use Rattle.std.proofs.Common.{Option, Some, None}
+use Rattle.std.proofs.Common.{◌≡◌, ℕ, ◌<◌, ◌≤◌, ◌^◌, Bool, true, false, cond, nat_lt, List, [], ◌∷◌, length, slice_index_or, arith, refl, sym}
+use Rattle.std.proofs.Common.{◌∙◌, subst, Option, Some, None}
 use Rattle.std.specs.Prelude.{IfSome, unwrap_or}
 use Rattle.std.specs.Option.{option_map}
 use Rattle.frame_check.specs.declared.sizes.TheConstants.{INFO}
@@ -29,10 +29,11 @@ use Rattle.trace_audit.specs.Grammar.{IsBreak, count_bound}
 use Rattle.trace_audit.specs.Written.{IsReadableFrame, IsReadableSent, IsReadableSignal, IsReadableHeard, IsReadable}
 use Rattle.trace_audit.proofs.Written.{read-break}
 use Rattle.line_ends.specs.Readable.{InOctets, IsPlain, IsPlainSent, AsksInOctets, line_of, LinesAreRead}
-use Rattle.line_ends.proofs.ReadWords.{Owes}
-use Rattle.line_ends.proofs.ReadSaying.{octet-at}
-use Rattle.line_ends.proofs.Slots.{sent-ago}
-use Rattle.line_ends.proofs.ReadSending.{SendLaws, HoldBoth, holds-all, mid-holds-at}
+use Rattle.line_run.proofs.Slots.{SentAgo, sent-ago}
+use Rattle.line_ends.proofs.Words.{Owes}
+use Rattle.line_ends.proofs.Saying.{octet-at}
+use Rattle.line_ends.proofs.Slots.{plain-sent, short-sent}
+use Rattle.line_ends.proofs.Sending.{SendLaws, HoldBoth, holds-all, mid-holds-at}
 
 -- a plain frame of few octets is read
 few : (o : Option (List ℕ)) → length (unwrap_or o []) ≤ INFO → IfSome o (λ info. length info < count_bound)
@@ -95,7 +96,8 @@ heard-read (Some slot) Chance c f = absurd c
 given-read : (a : Account) → Owes a → IfSome (given_break a) (λ units. units < 256)
 given-read a h = go (is_connected a.phase) (nat_lt a.breaks_told (length a.their_breaks.lengths))
   where
-    go : (b c : Bool) → IfSome (cond b (cond c (Some (slice_index_or a.their_breaks.lengths a.breaks_told 0)) None) None) (λ units. units < 256)
+    go : (b c : Bool)
+        → IfSome (cond b (cond c (Some (slice_index_or a.their_breaks.lengths a.breaks_told 0)) None) None) (λ units. units < 256)
     go true true = octet-at a.their_breaks.lengths a.breaks_told h.1
     go true false = tt
     go false c = tt
@@ -110,16 +112,16 @@ hears-of link ts ends t mid (Broken role fault) b = b.hearing
 module _ (laws : SendLaws) (script : ScriptValue) (files : Both (List ℕ)) (ts : List Turn) (ends : Accounts) (h : IsInLimits script)
     (o : AsksInOctets script) (r : LineRun (wire_of script) (link_of script files) ts ends) where
   both : HoldBoth (λ role. (of role (link_of script files)).user.file) ts ends
-  both = holds-all laws script files ts ends h o r
+  both = holds-all laws (wire_of script) files ts ends h o r
 
   -- what a turn sends
-  spoken-read : (t : Turn) (mid : Accounts) (outcome : Outcome) → HeardIn (wire_of script) ts t → TurnIs (link_of script files) ts ends t mid outcome
-      → (role : Role) → IsKnown (of role t).sent
+  spoken-read : (t : Turn) (mid : Accounts) (outcome : Outcome) → HeardIn (wire_of script) ts t
+      → TurnIs (link_of script files) ts ends t mid outcome → (role : Role) → IsKnown (of role t).sent
   spoken-read t mid Going heard g role slot e =
       let run : LineRun (wire_of script) (link_of script files) (t ∷ ts) g.0 =
       record { run = (ends, r.run, g.1); heard = (heard, r.heard) } in
-      let k = holds-all laws script files (t ∷ ts) g.0 h o run in
-      (k.sendable.0 role slot e, λ frame f. k.short.0 role slot frame e f)
+      let k = holds-all laws (wire_of script) files (t ∷ ts) g.0 h o run in
+      (k.plain.0 role slot e, λ frame f. k.short.0 role slot frame e f)
   spoken-read t mid Done heard l role slot e = let n : None ≡ Some slot = sym (l.silent role) ∙ e in absurd cc
   spoken-read t mid (Broken at fault) heard b role slot e = let n : None ≡ Some slot = sym (b.silent role) ∙ e in absurd cc
 
@@ -127,15 +129,15 @@ module _ (laws : SendLaws) (script : ScriptValue) (files : Both (List ℕ)) (ts 
   sent-line None f = tt
   sent-line (Some slot) f = let k = f slot refl in sent-read slot.sent k.0 k.1
 
-  line-read : (t : Turn) (mid : Accounts) (outcome : Outcome) → HeardIn (wire_of script) ts t → TurnIs (link_of script files) ts ends t mid outcome
-      → length ts < 2 ^ 40 → (role : Role) → IsReadable (line_of (length ts) role (of role t))
+  line-read : (t : Turn) (mid : Accounts) (outcome : Outcome) → HeardIn (wire_of script) ts t
+      → TurnIs (link_of script files) ts ends t mid outcome → length ts < 2 ^ 40 → (role : Role) → IsReadable (line_of (length ts) role (of role t))
   line-read t mid outcome heard is early role =
       let hearing = hears-of (link_of script files) ts ends t mid outcome is in
       let carries : Carries (delay_of script) ts t = laws.one (wire_of script) ts t heard in
       let from : Role = other role in
       let known : IsKnown (sent_ago (delay_of script from) from ts) = λ slot e.
-      let s = sent-ago from (delay_of script from) ts slot (laws.delays script h from) e in
-      (s.sendable both.sendable, s.short both.short) in
+      let s : SentAgo from (delay_of script from) ts slot = sent-ago from (delay_of script from) ts slot (laws.delays script h from) e in
+      (plain-sent from (delay_of script from) ts slot s both.plain, short-sent from (delay_of script from) ts slot s both.short) in
       let arrived = heard-read (sent_ago (delay_of script from) from ts) (of role t).heard (carries role) known in
       let holds = mid-holds-at laws script files ts ends t mid h carries hearing both role in
       record {

@@ -1,6 +1,6 @@
--- What an end says consists of octets and of numbers below 128, where its segments and the breaks that it asks for consist of octets.
+-- What an end says has numbers below 128, and its words of breaks are octets; all of it are octets where its user's file is.
 use Rattle.std.proofs.Common.{◌≡◌, ℕ, zero, suc, ◌+◌, ◌*◌, ◌/◌, ◌%◌, ◌<◌, ◌&&◌, Bool, true, false, cond, nat_eq, nat_le, List, [], ◌∷◌}
-use Rattle.std.proofs.Common.{slice_index_or, arith, subst, Option, Some, None, IfSome, Result, Ok, Err}
+use Rattle.std.proofs.Common.{slice_index_or, arith, subst, Option, Some, None, Result, Ok, Err}
 use Rattle.std.proofs.lemmas.List.Elements.{All-from_recursion, All-nil, All-cons, All-head, All-tail}
 use Rattle.plain_lists.specs.Octets.{AreOctets}
 use Rattle.shared_terms.specs.declared.role.Role.{Role}
@@ -8,7 +8,7 @@ use Rattle.shared_terms.specs.declared.role.Role.TheVariants.{Originator, Answer
 use Rattle.shared_terms.specs.Role.{is_originator}
 use Rattle.lapm_frames.specs.declared.frame.Frame.{Frame}
 use Rattle.lapm_frames.specs.declared.frame.Frame.TheVariants.{Sabme, Disc, Xid}
-use Rattle.lapm_frames.specs.Parts.{parts_of}
+use Rattle.lapm_frames.specs.Frame.{information_of}
 use Rattle.xid_params.specs.declared.offer.Offer.{Offer}
 use Rattle.xid_params.specs.Offers.{IsAllowed, written}
 use Rattle.lapm_receiver.specs.Incoming.{asks}
@@ -30,36 +30,28 @@ use Rattle.link_account.specs.Speak.{speak_detecting, speak_negotiating, speak_r
 use Rattle.link_account.specs.Speak.{trying_again, spent, on_timer, timer_expires, polling, on_break_timer, breaking, then_tries}
 use Rattle.link_account.specs.Speak.{after_timers, tells, ready_frame, nr_of, has_news}
 use Rattle.lapm_frames.specs.declared.sent.Sent.{Sent}
-use Rattle.line_ends.proofs.Words.{OfOctets, Owes, InOctets}
+use Rattle.line_ends.specs.Readable.{IsPlain, IsPlainSent}
+use Rattle.line_ends.proofs.Words.{Octet, OfOctets, Owes}
 
--- numbers below 128, and octets
-pub record IsPlain (frame : Frame) : Type 0 where
-  pub ns : IfSome (parts_of frame).ns (λ ns. ns < 128)
-  pub nr : IfSome (parts_of frame).nr (λ nr. nr < 128)
-  pub octets : InOctets frame
-
--- a frame that is sent is so
-abbrev pub IsPlainSent : Sent → Type 0
-IsPlainSent slots.Mark = Unit {0}
-IsPlainSent slots.Odp = Unit {0}
-IsPlainSent slots.Adp = Unit {0}
-IsPlainSent slots.Flags = Unit {0}
-IsPlainSent (slots.Frame frame) = IsPlain frame
+-- the information in a slot
+abbrev pub information_in : Sent → List ℕ
+information_in slots.Mark = []
+information_in slots.Odp = []
+information_in slots.Adp = []
+information_in slots.Flags = []
+information_in (slots.Frame frame) = information_of frame
 
 -- lists of octets
 abbrev pub AllOctets : List (List ℕ) → Type 0
 AllOctets [] = Unit {0}
 AllOctets (p ∷ ps) = AreOctets p × AllOctets ps
 
-abbrev Octet : ℕ → Type 0
-Octet octet = octet < 256
-
 piece-at : (ps : List (List ℕ)) (i : ℕ) → AllOctets ps → AreOctets (slice_index_or ps i [])
 piece-at [] i h = All-nil Octet
 piece-at (p ∷ ps) zero h = h.0
 piece-at (p ∷ ps) (suc i) h = piece-at ps i h.1
 
-octet-at : (xs : List ℕ) (i : ℕ) → AreOctets xs → slice_index_or xs i 0 < 256
+pub octet-at : (xs : List ℕ) (i : ℕ) → AreOctets xs → slice_index_or xs i 0 < 256
 octet-at [] i h = omega arith
 octet-at (x ∷ xs) zero h = All-head Octet x xs h
 octet-at (x ∷ xs) (suc i) h = octet-at xs i (All-tail Octet x xs h)
@@ -139,49 +131,7 @@ written-octets o h =
     (8 * o.rx_len % 256) o.tx_window o.rx_window
     (functions-octet o.srej) (check-octet o.check32) t u r v (omega (arith, h.tx_window_high)) (omega (arith, h.rx_window_high))
 
--- what an end holds
-pub record IsReady (a : Account) : Type 0 where
-  pub offer : IsAllowed a.setup.offer
-  pub pieces : AllOctets a.outgoing.pieces
-  pub own : AreOctets a.own_breaks.lengths
-  pub owes : Owes a
-
--- what it says, and then owes
-pub record IsGood (said : Said) : Type 0 where
-  pub sent : IsPlainSent said.sent
-  pub owes : Owes said.account
-
-abbrev AllGood : Option Said → Type 0
-AllGood None = Unit {0}
-AllGood (Some said) = IsGood said
-
-else-says : (o : Option Said) (said : Said) → AllGood o → IsGood said → IsGood (else_says o said)
-else-says None said h k = k
-else-says (Some first) said h k = h
-
-where-says : (b : Bool) (said : Said) → IsGood said → AllGood (where_says b said)
-where-says true said h = h
-where-says false said h = tt
-
--- the answer that is due
-due : (o : Option Answer) (a : Account) → IsReady a → AllGood (answering o a)
-due None a h = tt
-due (Some answers.Adp) a h = record { sent = tt; owes = h.owes }
-due (Some answers.Xid) a h = record { sent = record { ns = tt; nr = tt; octets = written-octets a.setup.offer h.offer }; owes = h.owes }
-due (Some (answers.Ua pf)) a h = record { sent = record { ns = tt; nr = tt; octets = All-nil Octet }; owes = h.owes }
-due (Some (answers.Dm pf)) a h = record { sent = record { ns = tt; nr = tt; octets = All-nil Octet }; owes = h.owes }
-
-segment : (turn : ℕ) (o : Option ℕ) (a : Account) → IsReady a → AllGood (says_segment turn o a)
-segment turn None a h = tt
-segment turn (Some i) a h = record {
-  sent = record { ns = omega arith; nr = omega arith; octets = piece-at a.outgoing.pieces i h.pieces };
-  owes = h.owes;
-}
-
-own-break : (o : Option BreakWord) (a : Account) → OfOctets o → Owes a → AllGood (says_own o a)
-own-break None a w h = tt
-own-break (Some word) a w h = record { sent = record { ns = tt; nr = tt; octets = w }; owes = h }
-
+-- the break that is due is a word of octets
 own-octets : (b : OwnBreaks) → AreOctets b.lengths → OfOctets (own_due b)
 own-octets b h = go b.brk
   where
@@ -192,133 +142,192 @@ own-octets b h = go b.brk
         (with-octet (slice_index_or b.lengths b.answered 0) [] (octet-at b.lengths b.answered h) (All-nil Octet)))
     go false = tt
 
-words : (o : Option BreakWord) (a : Account) → OfOctets o → IsReady a → AllGood (says_break o a)
-words None a w h = own-break (own_due a.own_breaks) a (own-octets a.own_breaks h.own) h.owes
-words (Some word) a w h = record { sent = record { ns = tt; nr = tt; octets = w }; owes = tt }
+-- what an end holds, whose user has a file
+pub record IsReady (file : List ℕ) (a : Account) : Type 0 where
+  pub offer : IsAllowed a.setup.offer
+  pub pieces : AreOctets file → AllOctets a.outgoing.pieces
+  pub own : AreOctets a.own_breaks.lengths
+  pub owes : Owes a
 
--- RR or RNR
-told : (command pf : Bool) (a : Account) → Owes a → IsGood (tells command pf a)
-told command pf a h = record { sent = go a.owes.busy; owes = h }
-  where
-    go : (busy : Bool) → IsPlain (ready_frame busy command (nr_of a) pf)
-    go true = record { ns = tt; nr = omega arith; octets = All-nil Octet }
-    go false = record { ns = tt; nr = omega arith; octets = All-nil Octet }
+-- what it says, and then owes
+pub record IsGood (file : List ℕ) (said : Said) : Type 0 where
+  pub sent : IsPlainSent said.sent
+  pub octets : AreOctets file → AreOctets (information_in said.sent)
+  pub owes : Owes said.account
 
-asking : (srej special : Bool) (o : Option ℕ) (a : Account) → Owes a → AllGood (says_asking srej special o a)
-asking false special None a h = tt
-asking true special None a h = tt
-asking false special (Some i) a h = record { sent = record { ns = tt; nr = omega arith; octets = All-nil Octet }; owes = h }
-asking true true (Some i) a h = tt
-asking true false (Some i) a h = record { sent = record { ns = tt; nr = omega arith; octets = All-nil Octet }; owes = h }
+abbrev AllGood : List ℕ → Option Said → Type 0
+AllGood file None = Unit {0}
+AllGood file (Some said) = IsGood file said
 
-sixth : (special news busy : Bool) (a : Account) → Owes a
-    → AllGood (cond news (Some (tells false false a)) (cond busy None (says_asking a.incoming.srej special (asks a.incoming) a)))
-sixth special true busy a h = told false false a h
-sixth special false true a h = tt
-sixth special false false a h = asking a.incoming.srej special (asks a.incoming) a h
+abbrev IfReady : List ℕ → Result Account LinkFault → Type 0
+IfReady file (Ok b) = IsReady file b
+IfReady file (Err fault) = Unit {0}
 
-fifth : (special : Bool) (a : Account) → IsReady a → AllGood (step5 special a)
-fifth true a h = tt
-fifth false a h = words a.their_breaks.ack a h.owes h
+abbrev IfGood : List ℕ → Result Said LinkFault → Type 0
+IfGood file (Ok said) = IsGood file said
+IfGood file (Err fault) = Unit {0}
 
-fourth : (turn : ℕ) (urgent : Bool) (a : Account) → IsReady a → AllGood (cond urgent (says_segment turn (may_send a) a) None)
-fourth turn true a h = segment turn (may_send a) a h
-fourth turn false a h = tt
+module _ (file : List ℕ) where
+  bare : AreOctets file → AreOctets []
+  bare f = All-nil Octet
 
-all : (turn : ℕ) (special : Bool) (a : Account) → IsReady a → IsGood (steps turn special a)
-all turn special a h =
-    else-says (step1 a) _ (due a.owes.answer a h)
-    (else-says (step2 a) _ (where-says a.owes.reply _ (told false true (record a { owes = record a.owes { reply = false } }) h.owes))
-    (else-says (step3 a) _ (where-says a.wait.poll _ (told true true (record a { wait = record a.wait { poll = false } }) h.owes))
-    (else-says (step4 turn a) _ (fourth turn a.wait.urgent a h)
-    (else-says (step5 special a) _ (fifth special a h)
-    (else-says (step6 special a) _ (sixth special (has_news a) a.owes.busy a h.owes)
-    (else-says (step7 turn a) _ (segment turn (may_send a) a h)
-    (else-says (step8 a) _ (where-says a.incoming.owed _ (told false false a h.owes)) (record { sent = tt; owes = h.owes }))))))))
+  else-says : (o : Option Said) (said : Said) → AllGood file o → IsGood file said → IsGood file (else_says o said)
+  else-says None said h k = k
+  else-says (Some first) said h k = h
 
--- timers change nothing of that
-abbrev IfReady : Result Account LinkFault → Type 0
-IfReady (Ok b) = IsReady b
-IfReady (Err fault) = Unit {0}
+  where-says : (b : Bool) (said : Said) → IsGood file said → AllGood file (where_says b said)
+  where-says true said h = h
+  where-says false said h = tt
 
-timed : (turn : ℕ) (a : Account) → IsReady a → IfReady (on_timer turn a)
-timed turn a h = go (timer_expires turn a a.wait.timer) (nat_eq a.outgoing.count a.outgoing.tries)
-  where
-    go : (b c : Bool) → IfReady (cond b
-        (polling turn (cond c None (Some (record a.outgoing { count = a.outgoing.count + 1; awaited = true }))) a) (Ok a))
-    go true true = tt
-    go true false = record { offer = h.offer; pieces = h.pieces; own = h.own; owes = h.owes }
-    go false c = h
+  -- the answer that is due
+  due : (o : Option Answer) (a : Account) → IsReady file a → AllGood file (answering o a)
+  due None a h = tt
+  due (Some answers.Adp) a h = record { sent = tt; octets = bare; owes = h.owes }
+  due (Some answers.Xid) a h = record {
+    sent = record { ns = tt; nr = tt; octets = tt };
+    octets = λ f. written-octets a.setup.offer h.offer;
+    owes = h.owes;
+  }
+  due (Some (answers.Ua pf)) a h = record { sent = record { ns = tt; nr = tt; octets = tt }; octets = bare; owes = h.owes }
+  due (Some (answers.Dm pf)) a h = record { sent = record { ns = tt; nr = tt; octets = tt }; octets = bare; owes = h.owes }
 
-broken : (turn : ℕ) (a : Account) → IsReady a → IfReady (on_break_timer turn a)
-broken turn a h = go (waits a.own_breaks && nat_eq turn (a.own_breaks.set + a.setup.period)) (nat_eq a.own_breaks.count a.setup.tries)
-  where
-    go : (b c : Bool) → IfReady (breaking turn
-        (cond b (cond c None (Some (record a.own_breaks { brk = true; set = turn; count = a.own_breaks.count + 1 }))) (Some a.own_breaks))
-        a)
-    go true true = tt
-    go true false = record { offer = h.offer; pieces = h.pieces; own = h.own; owes = h.owes }
-    go false c = record { offer = h.offer; pieces = h.pieces; own = h.own; owes = h.owes }
+  segment : (turn : ℕ) (o : Option ℕ) (a : Account) → IsReady file a → AllGood file (says_segment turn o a)
+  segment turn None a h = tt
+  segment turn (Some i) a h = record {
+    sent = record { ns = omega arith; nr = omega arith; octets = tt };
+    octets = λ f. piece-at a.outgoing.pieces i (h.pieces f);
+    owes = h.owes;
+  }
 
-both-timed : (turn : ℕ) (r : Result Account LinkFault) → IfReady r → IfReady (then_tries turn r)
-both-timed turn (Err fault) h = tt
-both-timed turn (Ok b) h = broken turn b h
+  own-break : (o : Option BreakWord) (a : Account) → OfOctets o → Owes a → AllGood file (says_own o a)
+  own-break None a w h = tt
+  own-break (Some word) a w h = record { sent = record { ns = tt; nr = tt; octets = w }; octets = λ f. w; owes = h }
 
-abbrev IfGood : Result Said LinkFault → Type 0
-IfGood (Ok said) = IsGood said
-IfGood (Err fault) = Unit {0}
+  words : (o : Option BreakWord) (a : Account) → OfOctets o → IsReady file a → AllGood file (says_break o a)
+  words None a w h = own-break (own_due a.own_breaks) a (own-octets a.own_breaks h.own) h.owes
+  words (Some word) a w h = record { sent = record { ns = tt; nr = tt; octets = w }; octets = λ f. w; owes = (tt, h.owes.1) }
 
-links : (turn : ℕ) (a : Account) → IsReady a → IfGood (speak_linked turn a)
-links turn a h = go (then_tries turn (on_timer turn a)) (both-timed turn (on_timer turn a) (timed turn a h))
-  where
-    go : (r : Result Account LinkFault) → IfReady r → IfGood (after_timers turn a.special r)
-    go (Ok b) k = all turn a.special (record b { special = false })
-        (record { offer = k.offer; pieces = k.pieces; own = k.own; owes = k.owes })
-    go (Err fault) k = tt
+  -- RR or RNR
+  told : (command pf : Bool) (a : Account) → Owes a → IsGood file (tells command pf a)
+  told command pf a h = let ready = go a.owes.busy in record { sent = ready.0; octets = ready.1; owes = h }
+    where
+      go : (busy : Bool) → IsPlain (ready_frame busy command (nr_of a) pf)
+          × (AreOctets file → AreOctets (information_of (ready_frame busy command (nr_of a) pf)))
+      go true = (record { ns = tt; nr = omega arith; octets = tt }, bare)
+      go false = (record { ns = tt; nr = omega arith; octets = tt }, bare)
 
--- a U try
-u : (turn : ℕ) (frame : Frame) (a : Account) → IsPlain frame → Owes a → IfGood (u_try turn frame a)
-u turn frame a h k = go (nat_eq turn (a.wait.try_set + a.setup.period)) (nat_eq a.wait.try_count a.setup.tries)
-  where
-    tried : (b : Account) → Owes b → IsGood (tries_frame frame b)
-    tried b o = else-says (where_says b.wait.try _) _ (where-says b.wait.try _ (record { sent = h; owes = o }))
-        (record { sent = tt; owes = o })
+  asking : (srej special : Bool) (o : Option ℕ) (a : Account) → Owes a → AllGood file (says_asking srej special o a)
+  asking false special None a h = tt
+  asking true special None a h = tt
+  asking false special (Some i) a h = record { sent = record { ns = tt; nr = omega arith; octets = tt }; octets = bare; owes = h }
+  asking true true (Some i) a h = tt
+  asking true false (Some i) a h = record { sent = record { ns = tt; nr = omega arith; octets = tt }; octets = bare; owes = h }
 
-    go : (b e : Bool) → IfGood (cond b (cond e (Err (spent turn a)) (Ok (tries_frame frame (trying_again turn a))))
-        (Ok (tries_frame frame a)))
-    go true true = tt
-    go true false = tried (trying_again turn a) k
-    go false e = tried a k
+  sixth : (special news busy : Bool) (a : Account) → Owes a
+      → AllGood file (cond news (Some (tells false false a)) (cond busy None (says_asking a.incoming.srej special (asks a.incoming) a)))
+  sixth special true busy a h = told false false a h
+  sixth special false true a h = tt
+  sixth special false false a h = asking a.incoming.srej special (asks a.incoming) a h
 
-detects : (role : Role) (turn : ℕ) (a : Account) → IsReady a → IfGood (speak_detecting role turn a)
-detects Originator turn a h = go (nat_le ((a.setup.tries + 1) * a.setup.period) turn)
-  where
-    go : (b : Bool) → IfGood (cond b (Err NotDetected) (Ok (says slots.Odp a)))
-    go true = tt
-    go false = record { sent = tt; owes = h.owes }
-detects Answerer turn a h = else-says (answering a.owes.answer a) (says slots.Mark a) (due a.owes.answer a h)
-    (record { sent = tt; owes = h.owes })
+  fifth : (special : Bool) (a : Account) → IsReady file a → AllGood file (step5 special a)
+  fifth true a h = tt
+  fifth false a h = words a.their_breaks.ack a h.owes.0 h
 
-answers-due : (a : Account) → IsReady a → IfGood (speak_answer a)
-answers-due a h = else-says (answering a.owes.answer a) (says slots.Flags a) (due a.owes.answer a h) (record { sent = tt; owes = h.owes })
+  fourth : (turn : ℕ) (urgent : Bool) (a : Account) → IsReady file a → AllGood file (cond urgent (says_segment turn (may_send a) a) None)
+  fourth turn true a h = segment turn (may_send a) a h
+  fourth turn false a h = tt
 
-negotiates : (role : Role) (turn : ℕ) (a : Account) → IsReady a → IfGood (speak_negotiating role turn a)
-negotiates Originator turn a h =
-    u turn (Xid true false (written a.setup.offer)) a (record { ns = tt; nr = tt; octets = written-octets a.setup.offer h.offer }) h.owes
-negotiates Answerer turn a h = answers-due a h
+  all : (turn : ℕ) (special : Bool) (a : Account) → IsReady file a → IsGood file (steps turn special a)
+  all turn special a h =
+      else-says (step1 a) _ (due a.owes.answer a h)
+      (else-says (step2 a) _ (where-says a.owes.reply _ (told false true (record a { owes = record a.owes { reply = false } }) h.owes))
+      (else-says (step3 a) _ (where-says a.wait.poll _ (told true true (record a { wait = record a.wait { poll = false } }) h.owes))
+      (else-says (step4 turn a) _ (fourth turn a.wait.urgent a h)
+      (else-says (step5 special a) _ (fifth special a h)
+      (else-says (step6 special a) _ (sixth special (has_news a) a.owes.busy a h.owes)
+      (else-says (step7 turn a) _ (segment turn (may_send a) a h)
+      (else-says (step8 a) _ (where-says a.incoming.owed _ (told false false a h.owes))
+      (record { sent = tt; octets = bare; owes = h.owes }))))))))
 
-connects : (turn : ℕ) (b : Bool) (a : Account) → IsReady a
-    → IfGood (cond b (speak_releasing turn (trying Releasing turn a)) (speak_linked turn a))
-connects turn true a h = u turn (Disc true) (trying Releasing turn a) (record { ns = tt; nr = tt; octets = All-nil Octet }) h.owes
-connects turn false a h = links turn a h
+  -- timers change nothing of that
+  timed : (turn : ℕ) (a : Account) → IsReady file a → IfReady file (on_timer turn a)
+  timed turn a h = go (timer_expires turn a a.wait.timer) (nat_eq a.outgoing.count a.outgoing.tries)
+    where
+      go : (b c : Bool) → IfReady file (cond b
+          (polling turn (cond c None (Some (record a.outgoing { count = a.outgoing.count + 1; awaited = true }))) a) (Ok a))
+      go true true = tt
+      go true false = record { offer = h.offer; pieces = h.pieces; own = h.own; owes = h.owes }
+      go false c = h
 
-in-phase : (p : Phase) (turn : ℕ) (release : Bool) (a : Account) → IsReady a → IfGood (speak_in p turn release a)
-in-phase Detecting turn release a h = detects a.setup.role turn a h
-in-phase Negotiating turn release a h = negotiates a.setup.role turn a h
-in-phase Establishing turn release a h = u turn (Sabme true) a (record { ns = tt; nr = tt; octets = All-nil Octet }) h.owes
-in-phase Connected turn release a h = connects turn (release && is_originator a.setup.role) a h
-in-phase Releasing turn release a h = u turn (Disc true) a (record { ns = tt; nr = tt; octets = All-nil Octet }) h.owes
-in-phase Closed turn release a h = answers-due a h
+  broken : (turn : ℕ) (a : Account) → IsReady file a → IfReady file (on_break_timer turn a)
+  broken turn a h = go (waits a.own_breaks && nat_eq turn (a.own_breaks.set + a.setup.period)) (nat_eq a.own_breaks.count a.setup.tries)
+    where
+      go : (b c : Bool) → IfReady file (breaking turn
+          (cond b (cond c None (Some (record a.own_breaks { brk = true; set = turn; count = a.own_breaks.count + 1 }))) (Some a.own_breaks))
+          a)
+      go true true = tt
+      go true false = record { offer = h.offer; pieces = h.pieces; own = h.own; owes = h.owes }
+      go false c = record { offer = h.offer; pieces = h.pieces; own = h.own; owes = h.owes }
 
-pub said-good : (turn : ℕ) (release : Bool) (a : Account) (said : Said) → IsReady a → speak turn release a ≡ Ok said → IsGood said
-said-good turn release a said h e = subst IfGood e (in-phase a.phase turn release a h)
+  both-timed : (turn : ℕ) (r : Result Account LinkFault) → IfReady file r → IfReady file (then_tries turn r)
+  both-timed turn (Err fault) h = tt
+  both-timed turn (Ok b) h = broken turn b h
+
+  links : (turn : ℕ) (a : Account) → IsReady file a → IfGood file (speak_linked turn a)
+  links turn a h = go (then_tries turn (on_timer turn a)) (both-timed turn (on_timer turn a) (timed turn a h))
+    where
+      go : (r : Result Account LinkFault) → IfReady file r → IfGood file (after_timers turn a.special r)
+      go (Ok b) k = all turn a.special (record b { special = false })
+          (record { offer = k.offer; pieces = k.pieces; own = k.own; owes = k.owes })
+      go (Err fault) k = tt
+
+  -- a U try
+  u : (turn : ℕ) (frame : Frame) (a : Account) → IsPlain frame → (AreOctets file → AreOctets (information_of frame)) → Owes a
+      → IfGood file (u_try turn frame a)
+  u turn frame a h o k = go (nat_eq turn (a.wait.try_set + a.setup.period)) (nat_eq a.wait.try_count a.setup.tries)
+    where
+      tried : (b : Account) → Owes b → IsGood file (tries_frame frame b)
+      tried b w = else-says (where_says b.wait.try _) _ (where-says b.wait.try _ (record { sent = h; octets = o; owes = w }))
+          (record { sent = tt; octets = bare; owes = w })
+
+      go : (b e : Bool) → IfGood file (cond b (cond e (Err (spent turn a)) (Ok (tries_frame frame (trying_again turn a))))
+          (Ok (tries_frame frame a)))
+      go true true = tt
+      go true false = tried (trying_again turn a) k
+      go false e = tried a k
+
+  detects : (role : Role) (turn : ℕ) (a : Account) → IsReady file a → IfGood file (speak_detecting role turn a)
+  detects Originator turn a h = go (nat_le ((a.setup.tries + 1) * a.setup.period) turn)
+    where
+      go : (b : Bool) → IfGood file (cond b (Err NotDetected) (Ok (says slots.Odp a)))
+      go true = tt
+      go false = record { sent = tt; octets = bare; owes = h.owes }
+  detects Answerer turn a h = else-says (answering a.owes.answer a) (says slots.Mark a) (due a.owes.answer a h)
+      (record { sent = tt; octets = bare; owes = h.owes })
+
+  answers-due : (a : Account) → IsReady file a → IfGood file (speak_answer a)
+  answers-due a h = else-says (answering a.owes.answer a) (says slots.Flags a) (due a.owes.answer a h)
+      (record { sent = tt; octets = bare; owes = h.owes })
+
+  negotiates : (role : Role) (turn : ℕ) (a : Account) → IsReady file a → IfGood file (speak_negotiating role turn a)
+  negotiates Originator turn a h =
+      u turn (Xid true false (written a.setup.offer)) a (record { ns = tt; nr = tt; octets = tt })
+      (λ f. written-octets a.setup.offer h.offer) h.owes
+  negotiates Answerer turn a h = answers-due a h
+
+  connects : (turn : ℕ) (b : Bool) (a : Account) → IsReady file a
+      → IfGood file (cond b (speak_releasing turn (trying Releasing turn a)) (speak_linked turn a))
+  connects turn true a h = u turn (Disc true) (trying Releasing turn a) (record { ns = tt; nr = tt; octets = tt }) bare h.owes
+  connects turn false a h = links turn a h
+
+  in-phase : (p : Phase) (turn : ℕ) (release : Bool) (a : Account) → IsReady file a → IfGood file (speak_in p turn release a)
+  in-phase Detecting turn release a h = detects a.setup.role turn a h
+  in-phase Negotiating turn release a h = negotiates a.setup.role turn a h
+  in-phase Establishing turn release a h = u turn (Sabme true) a (record { ns = tt; nr = tt; octets = tt }) bare h.owes
+  in-phase Connected turn release a h = connects turn (release && is_originator a.setup.role) a h
+  in-phase Releasing turn release a h = u turn (Disc true) a (record { ns = tt; nr = tt; octets = tt }) bare h.owes
+  in-phase Closed turn release a h = answers-due a h
+
+  pub said-good : (turn : ℕ) (release : Bool) (a : Account) (said : Said) → IsReady file a → speak turn release a ≡ Ok said
+      → IsGood file said
+  said-good turn release a said h e = subst (IfGood file) e (in-phase a.phase turn release a h)

@@ -1,4 +1,4 @@
--- Ends that are handed octets send what can be sent, all through a run.
+-- What the ends of a run send, all through it: what is read where it is heard, and what can be sent where their users' files are octets.
 use Rattle.std.proofs.Common.{◌≡◌, ℕ, ◌<◌, ◌≤◌, false, List, [], ◌∷◌, All, length, filter, arith, refl, sym, ◌∙◌, ap, subst, Option, Some}
 use Rattle.std.proofs.Common.{None, IfSome, Ok}
 use Rattle.std.specs.Prelude.{unwrap_or}
@@ -24,19 +24,21 @@ use Rattle.noise_script.specs.Script.{ScriptValue, IsInLimits, delay_of}
 use Rattle.link_account.specs.Speak.{Said}
 use Rattle.link_account.specs.Play.{arrives}
 use Rattle.link_run.specs.End.{is_released}
-use Rattle.link_run.specs.Run.{Link, Accounts, Spoken, Turn, start, arrival, served_at, said_at, releases, GoingTurn}
+use Rattle.link_run.specs.Run.{Link, Accounts, Spoken, Turn, start, arrival, Hears, served_at, said_at, releases, GoingTurn}
 use Rattle.link_run.specs.Carried.{sent_ago, Crosses, Carries}
 use Rattle.link_run.specs.Laws.{RunsOver, SendsShort}
 use Rattle.link_run.specs.Reading.{StaysOffered, BeginsUnoffered, HearingStaysOffered, SpeakingStaysOffered}
 use Rattle.line_run.specs.Sampled.{Wire, LineRun}
 use Rattle.line_run.specs.Scripted.{link_of, break_line, breaks_of, ScriptsMayPlay, ScriptsHaveDelays}
 use Rattle.line_run.specs.LineLaws.{SamplesAreCarried, OneIsCarried}
-use Rattle.line_ends.specs.Completes.{AreOfOctets, OctetsAreSendable}
 use Rattle.line_run.specs.Stream.{AllSendable}
 use Rattle.line_run.proofs.Slots.{sent-ago}
-use Rattle.line_ends.proofs.Words.{ArrivesInOctets, heard-owes}
-use Rattle.line_ends.proofs.Saying.{IsPlain, IsPlainSent, IsGood, said-good}
-use Rattle.line_ends.proofs.Handing.{IsOctetBreak, HasOctets, Holds, OfferLaws, ready, holds-served}
+use Rattle.line_ends.specs.Completes.{OctetsAreSendable}
+use Rattle.line_ends.specs.Readable.{IsPlainSent, AllPlain, AllShort, AsksInOctets}
+use Rattle.line_ends.proofs.Slots.{plain-sent}
+use Rattle.line_ends.proofs.Words.{Octet, ArrivesInOctets, heard-owes}
+use Rattle.line_ends.proofs.Saying.{information_in, IsGood, said-good}
+use Rattle.line_ends.proofs.Handing.{IsOctetBreak, Holds, OfferLaws, ready, holds-served}
 
 pub record SendLaws : Type 0 where
   pub play : ScriptsMayPlay
@@ -58,10 +60,10 @@ breaks-octets script role h =
     All-map IsOctetBreak break_line lines
     (All-filter (λ (b : Break). same_role b.role role) (λ (b : Break). b.length < 256) script.breaks h)
 
-user-octets : (script : ScriptValue) (files : Both (List ℕ)) → AreOfOctets script files → (role : Role)
-    → HasOctets (of role (link_of script files)).user
-user-octets script files o Originator = record { file = o.files_are Originator; breaks = breaks-octets script Originator o.breaks_are }
-user-octets script files o Answerer = record { file = o.files_are Answerer; breaks = breaks-octets script Answerer o.breaks_are }
+user-octets : (script : ScriptValue) (files : Both (List ℕ)) → AsksInOctets script → (role : Role)
+    → All IsOctetBreak (of role (link_of script files)).user.breaks
+user-octets script files o Originator = breaks-octets script Originator o
+user-octets script files o Answerer = breaks-octets script Answerer o
 
 -- the offer that an end may send
 offers-allowed : ScriptsMayPlay → (script : ScriptValue) (files : Both (List ℕ)) → IsInLimits script → (role : Role)
@@ -70,14 +72,14 @@ offers-allowed play script files h Originator = (play script files h).offer_o
 offers-allowed play script files h Answerer = (play script files h).offer_a
 
 -- what passes was sent
-passes-octets : (s : Sent) → IsSendable s → ArrivesInOctets (arrives s)
+passes-octets : (s : Sent) → IsPlainSent s → ArrivesInOctets (arrives s)
 passes-octets slots.Mark h = tt
 passes-octets slots.Odp h = tt
 passes-octets slots.Adp h = tt
 passes-octets slots.Flags h = tt
-passes-octets (slots.Frame frame) h = h.1
+passes-octets (slots.Frame frame) h = h.octets
 
-crosses-octets : (o : Option Spoken) (heard : Heard) → Crosses o heard → ((slot : Spoken) → o ≡ Some slot → IsSendable slot.sent)
+crosses-octets : (o : Option Spoken) (heard : Heard) → Crosses o heard → ((slot : Spoken) → o ≡ Some slot → IsPlainSent slot.sent)
     → ArrivesInOctets (arrival heard)
 crosses-octets o Nothing c f = tt
 crosses-octets o (Lost s) c f = tt
@@ -85,30 +87,27 @@ crosses-octets o Chance c f = tt
 crosses-octets None (Passed s) c f = absurd c
 crosses-octets (Some slot) (Passed s) c f = subst (λ z. ArrivesInOctets (arrives z)) (sym c.0) (passes-octets slot.sent (f slot refl))
 
--- a frame that is plain and short can be sent
+-- a frame that is plain and short, of octets, can be sent
 short-info : (o : Option (List ℕ)) → length (unwrap_or o []) ≤ INFO → IfSome o (λ info. length info ≤ INFO)
 short-info None h = tt
 short-info (Some info) h = h
 
-frame-sendable : (frame : Frame) → IsPlain frame → length (information_of frame) ≤ INFO → IsSendable (slots.Frame frame)
-frame-sendable frame p l = ((p.ns, p.nr, short-info (parts_of frame).info l), p.octets)
-
-plain-sendable : (s : Sent) → IsPlainSent s → ((frame : Frame) → s ≡ slots.Frame frame → length (information_of frame) ≤ INFO)
-    → IsSendable s
-plain-sendable slots.Mark p f = tt
-plain-sendable slots.Odp p f = tt
-plain-sendable slots.Adp p f = tt
-plain-sendable slots.Flags p f = tt
-plain-sendable (slots.Frame frame) p f = frame-sendable frame p (f frame refl)
+plain-sendable : (s : Sent) → IsPlainSent s → AreOctets (information_in s)
+    → ((frame : Frame) → s ≡ slots.Frame frame → length (information_of frame) ≤ INFO) → IsSendable s
+plain-sendable slots.Mark p o f = tt
+plain-sendable slots.Odp p o f = tt
+plain-sendable slots.Adp p o f = tt
+plain-sendable slots.Flags p o f = tt
+plain-sendable (slots.Frame frame) p o f = ((p.ns, p.nr, short-info (parts_of frame).info (f frame refl)), o)
 
 -- what an end says as a turn's end of it
 says-good : (link : Link) (turn : ℕ) (mid : Accounts) (role : Role) (said : Said) → said_at link turn mid role ≡ Ok said → (file : List ℕ)
-    → AreOctets file → Holds file (served_at link turn mid role).account → IsGood said
-says-good link turn mid Originator said e file f h =
-    said-good turn (releases link turn mid) (served_at link turn mid Originator).account said
-    (ready file (served_at link turn mid Originator).account f h) e
-says-good link turn mid Answerer said e file f h =
-    said-good turn false (served_at link turn mid Answerer).account said (ready file (served_at link turn mid Answerer).account f h) e
+    → Holds file (served_at link turn mid role).account → IsGood file said
+says-good link turn mid Originator said e file h =
+    said-good file turn (releases link turn mid) (served_at link turn mid Originator).account said
+    (ready file (served_at link turn mid Originator).account h) e
+says-good link turn mid Answerer said e file h =
+    said-good file turn false (served_at link turn mid Answerer).account said (ready file (served_at link turn mid Answerer).account h) e
 
 stays-offered : SpeakingStaysOffered → (link : Link) (turn : ℕ) (mid : Accounts) (role : Role) (said : Said)
     → said_at link turn mid role ≡ Ok said → (file : List ℕ) → Holds file (served_at link turn mid role).account
@@ -117,28 +116,53 @@ stays-offered law link turn mid Originator said e file h =
     law file turn (releases link turn mid) (served_at link turn mid Originator).account said h.offered e
 stays-offered law link turn mid Answerer said e file h = law file turn false (served_at link turn mid Answerer).account said h.offered e
 
-says-holds : SpeakingStaysOffered → (link : Link) (turn : ℕ) (mid : Accounts) (role : Role) (said : Said) → said_at link turn mid role ≡ Ok said
-    → (file : List ℕ) → AreOctets file → Holds file (served_at link turn mid role).account → Holds file said.account
-says-holds law link turn mid role said e file f h =
-    let good : IsGood said = says-good link turn mid role said e file f h in
+says-holds : SpeakingStaysOffered → (link : Link) (turn : ℕ) (mid : Accounts) (role : Role) (said : Said)
+    → said_at link turn mid role ≡ Ok said → (file : List ℕ) → Holds file (served_at link turn mid role).account → Holds file said.account
+says-holds law link turn mid role said e file h =
+    let good : IsGood file said = says-good link turn mid role said e file h in
     let stays = stays-offered law link turn mid role said e file h in
     record { offered = stays.offered; own = subst AreOctets (sym stays.breaks) h.own; owes = good.owes }
 
--- a run and what its ends hold
+-- a run and what its ends hold, where these are the files of their users
 pub record HoldBoth (files : Role → List ℕ) (ts : List Turn) (ends : Accounts) : Type 0 where
-  pub sendable : AllSendable ts
+  pub plain : AllPlain ts
+  pub short : AllShort ts
+  pub sendable : ((role : Role) → AreOctets (files role)) → AllSendable ts
   pub holds : (role : Role) → Holds (files role) (of role ends)
+
+abbrev file_of : ScriptValue → Both (List ℕ) → Role → List ℕ
+file_of script files role = (of role (link_of script files)).user.file
+
+-- what ends hold once they have heard
+pub mid-holds-at : SendLaws → (script : ScriptValue) (files : Both (List ℕ)) (ts : List Turn) (before : Accounts) (t : Turn)
+    (mid : Accounts) → IsInLimits script → Carries (delay_of script) ts t → Hears (length ts) before t mid → HoldBoth (file_of script files) ts before
+    → (role : Role) → Holds (file_of script files role) (of role mid)
+mid-holds-at laws script files ts before t mid h c hearing k role =
+    let b = k.holds role in
+    let hears = (hearing role).hears in
+    let arrived : ArrivesInOctets (arrival (of role t).heard) =
+    crosses-octets (sent_ago (delay_of script (other role)) (other role) ts) (of role t).heard (c role)
+    (λ slot e. plain-sent (other role) (delay_of script (other role)) ts slot
+    (sent-ago (other role) (delay_of script (other role)) ts slot (laws.delays script h (other role)) e) k.plain) in
+    let file : List ℕ = file_of script files role in
+    let stays = laws.heard file (length ts) (arrival (of role t).heard) (of role before) (of role mid) b.offered hears in
+    record {
+      offered = stays.offered;
+      own = subst AreOctets (sym stays.breaks) b.own;
+      owes = heard-owes laws.back (length ts) (arrival (of role t).heard) (of role before) (of role mid) arrived b.owes hears;
+    }
 
 -- one turn more
 next-turn : SendLaws → (c : Wire) (files : Both (List ℕ)) (ts : List Turn) (before : Accounts) (t : Turn) (after : Accounts)
-    → IsInLimits c.script → AreOfOctets c.script files
+    → IsInLimits c.script → AsksInOctets c.script
     → LineRun c (link_of c.script files) ts before → Carries (delay_of c.script) ts t
     → GoingTurn (link_of c.script files) ts before t after
-    → HoldBoth (λ role. (of role (link_of c.script files)).user.file) ts before
-    → HoldBoth (λ role. (of role (link_of c.script files)).user.file) (t ∷ ts) after
+    → HoldBoth (file_of c.script files) ts before → HoldBoth (file_of c.script files) (t ∷ ts) after
 next-turn laws c files ts before t after h o r carries g k =
     record {
-      sendable = ((λ role slot e. sends role slot e), k.sendable);
+      plain = ((λ role slot e. plain role slot e), k.plain);
+      short = ((λ role slot frame e f. few role slot frame e f), k.short);
+      sendable = λ are. ((λ role slot e. sends role slot e (are role)), k.sendable are);
       holds = λ role. subst (Holds (file role)) (sym (g.speaking role).after_is) (after-holds role);
     }
   where
@@ -149,38 +173,18 @@ next-turn laws c files ts before t after h o r carries g k =
     turn = length ts
 
     file : Role → List ℕ
-    file role = (of role link).user.file
-
-    octets : (role : Role) → HasOctets (of role link).user
-    octets role = user-octets c.script files o role
-
-    arrived : (role : Role) → ArrivesInOctets (arrival (of role t).heard)
-    arrived role =
-        crosses-octets (sent_ago (delay_of c.script (other role)) (other role) ts) (of role t).heard (carries role)
-        (λ slot e. (sent-ago (other role) (delay_of c.script (other role)) ts slot (laws.delays c.script h (other role)) e).sendable k.sendable)
-
-    mid-holds : (role : Role) → Holds (file role) (of role g.mid)
-    mid-holds role =
-        let b = k.holds role in
-        let hears = (g.hearing role).hears in
-        let stays = laws.heard (file role) turn (arrival (of role t).heard) (of role before) (of role g.mid) b.offered hears in
-        record {
-          offered = stays.offered;
-          own = subst AreOctets (sym stays.breaks) b.own;
-          owes = heard-owes laws.back turn (arrival (of role t).heard) (of role before) (of role g.mid) (arrived role) b.owes hears;
-        }
+    file role = file_of c.script files role
 
     served-holds : (role : Role) → Holds (file role) (served_at link turn g.mid role).account
-    served-holds role = holds-served laws.offers (of role link).user turn (is_released g.mid.orig.phase) (of role g.mid) (octets role)
-        (mid-holds role)
+    served-holds role = holds-served laws.offers (of role link).user turn (is_released g.mid.orig.phase) (of role g.mid)
+        (user-octets c.script files o role) (mid-holds-at laws c.script files ts before t g.mid h carries g.hearing k role)
 
     after-holds : (role : Role) → Holds (file role) (g.speaking role).said.account
     after-holds role = says-holds laws.spoken link turn g.mid role (g.speaking role).said (g.speaking role).says (file role)
-        (octets role).file (served-holds role)
-
-    good : (role : Role) → IsGood (g.speaking role).said
-    good role = says-good link turn g.mid role (g.speaking role).said (g.speaking role).says (file role) (octets role).file
         (served-holds role)
+
+    good : (role : Role) → IsGood (file role) (g.speaking role).said
+    good role = says-good link turn g.mid role (g.speaking role).said (g.speaking role).says (file role) (served-holds role)
 
     over : RunsOver link (delay_of c.script) ts before
     over = record {
@@ -200,32 +204,40 @@ next-turn laws c files ts before t after h o r carries g k =
     sent-of slot None = slot.sent
     sent-of slot (Some z) = z.sent
 
-    sends : (role : Role) (slot : Spoken) → (of role t).sent ≡ Some slot → IsSendable slot.sent
-    sends role slot e =
-        let same : (g.speaking role).said.sent ≡ slot.sent = ap (sent-of slot) (sym (g.speaking role).sent_is ∙ e) in
-        plain-sendable slot.sent (subst IsPlainSent same (good role).sent) (λ frame f. few role slot frame e f)
+    same : (role : Role) (slot : Spoken) → (of role t).sent ≡ Some slot → (g.speaking role).said.sent ≡ slot.sent
+    same role slot e = ap (sent-of slot) (sym (g.speaking role).sent_is ∙ e)
 
-holds-all : SendLaws → (c : Wire) (files : Both (List ℕ)) (ts : List Turn) (ends : Accounts) → IsInLimits c.script
-    → AreOfOctets c.script files
-    → LineRun c (link_of c.script files) ts ends → HoldBoth (λ role. (of role (link_of c.script files)).user.file) ts ends
+    plain : (role : Role) (slot : Spoken) → (of role t).sent ≡ Some slot → IsPlainSent slot.sent
+    plain role slot e = subst IsPlainSent (same role slot e) (good role).sent
+
+    sends : (role : Role) (slot : Spoken) → (of role t).sent ≡ Some slot → AreOctets (file role) → IsSendable slot.sent
+    sends role slot e are =
+        plain-sendable slot.sent (plain role slot e)
+        (subst (λ s. AreOctets (information_in s)) (same role slot e) ((good role).octets are)) (λ frame f. few role slot frame e f)
+
+pub holds-all : SendLaws → (c : Wire) (files : Both (List ℕ)) (ts : List Turn) (ends : Accounts) → IsInLimits c.script
+    → AsksInOctets c.script → LineRun c (link_of c.script files) ts ends → HoldBoth (file_of c.script files) ts ends
 holds-all laws c files [] ends h o r =
     record {
-      sendable = tt;
-      holds = λ role. subst (λ (e : Accounts). Holds (of role (link_of c.script files)).user.file (of role e)) (sym r.run) (begins role);
+      plain = tt;
+      short = tt;
+      sendable = λ are. tt;
+      holds = λ role. subst (λ (e : Accounts). Holds (file_of c.script files role) (of role e)) (sym r.run) (begins role);
     }
   where
-    begins : (role : Role) → Holds (of role (link_of c.script files)).user.file (of role (start (link_of c.script files)))
+    link : Link
+    link = link_of c.script files
+
+    begins : (role : Role) → Holds (file_of c.script files role) (of role (start link))
     begins Originator = record {
-      offered = laws.begins (link_of c.script files).orig.user.file (link_of c.script files).orig.setup
-          (offers-allowed laws.play c.script files h Originator);
-      own = All-nil (λ octet. octet < 256);
-      owes = tt;
+      offered = laws.begins link.orig.user.file link.orig.setup (offers-allowed laws.play c.script files h Originator);
+      own = All-nil Octet;
+      owes = (tt, All-nil Octet);
     }
     begins Answerer = record {
-      offered = laws.begins (link_of c.script files).answ.user.file (link_of c.script files).answ.setup
-          (offers-allowed laws.play c.script files h Answerer);
-      own = All-nil (λ octet. octet < 256);
-      owes = tt;
+      offered = laws.begins link.answ.user.file link.answ.setup (offers-allowed laws.play c.script files h Answerer);
+      own = All-nil Octet;
+      owes = (tt, All-nil Octet);
     }
 holds-all laws c files (t ∷ ts) ends h o r =
     let before : LineRun c (link_of c.script files) ts r.run.0 = record { run = r.run.1; heard = r.heard.1 } in
@@ -233,4 +245,8 @@ holds-all laws c files (t ∷ ts) ends h o r =
     (holds-all laws c files ts r.run.0 h o before)
 
 pub octets-are-sendable : SendLaws → OctetsAreSendable
-octets-are-sendable laws c files ts ends h o r = (holds-all laws c files ts ends h o r).sendable
+octets-are-sendable laws c files ts ends h o r = (holds-all laws c files ts ends h o.breaks_are r).sendable are
+  where
+    are : (role : Role) → AreOctets (file_of c.script files role)
+    are Originator = o.files_are Originator
+    are Answerer = o.files_are Answerer

@@ -1,54 +1,29 @@
--- The slot that arrives in a turn, and the turns in which those before it were sent.
-use Rattle.std.proofs.Common.{◌≡◌, ℕ, zero, suc, ◌+◌, ◌-◌, ◌≤◌, List, [], ◌∷◌, length, drop, arith, refl, subst, Some}
-use Rattle.std.specs.Prelude.{slice_get}
+-- What is said of all slots that were sent is true of the one that arrives.
+use Rattle.std.proofs.Common.{◌≡◌, ℕ, zero, suc, ◌-◌, ◌≤◌, List, [], ◌∷◌, length, drop, subst}
 use Rattle.shared_terms.specs.declared.role.Role.{Role}
-use Rattle.shared_terms.specs.Both.{of}
 use Rattle.frame_check.specs.declared.sizes.TheConstants.{INFO}
 use Rattle.lapm_frames.specs.declared.frame.Frame.{Frame}
 use Rattle.lapm_frames.specs.Frame.{information_of}
 use Rattle.lapm_frames.specs.declared.sent.Sent.TheVariants as slots
 use Rattle.link_run.specs.Run.{Spoken, Turn}
-use Rattle.link_run.specs.Carried.{sent_in, sent_ago}
+use Rattle.line_run.proofs.Slots.{SentAgo}
 use Rattle.line_ends.specs.Readable.{AllPlain, AllShort, IsPlainSent}
 
--- it was sent in this turn, behind those
-pub record SentIn (role : Role) (n : ℕ) (ts : List Turn) (slot : Spoken) : Type 0 where
-  pub turn : Turn
-  pub rest : drop n ts ≡ turn ∷ drop (suc n) ts
-  pub sent : (of role turn).sent ≡ Some slot
-  pub count : length (drop (suc n) ts) + suc n ≡ length ts
-  pub sendable : AllPlain ts → IsPlainSent slot.sent
-  pub short : AllShort ts → (frame : Frame) → slot.sent ≡ slots.Frame frame → length (information_of frame) ≤ INFO
+-- all of the turns before the last n
+plain-drop : (n : ℕ) (ts : List Turn) → AllPlain ts → AllPlain (drop n ts)
+plain-drop zero ts h = h
+plain-drop (suc n) [] h = tt
+plain-drop (suc n) (t ∷ ts) h = plain-drop n ts h.1
 
-pub sent-in : (role : Role) (n : ℕ) (ts : List Turn) (slot : Spoken) → sent_in role (slice_get ts n) ≡ Some slot → SentIn role n ts slot
-sent-in role n [] slot e = absurd cc
-sent-in role zero (t ∷ ts) slot e = record { turn = t; rest = refl; sent = e; count = omega arith; sendable = λ s. s.0 role slot e; short = λ s frame f. s.0 role slot frame e f }
-sent-in role (suc n) (t ∷ ts) slot e =
-    let s = sent-in role n ts slot e in
-    record { turn = s.turn; rest = s.rest; sent = s.sent; count = omega (arith, s.count); sendable = λ a. s.sendable a.1; short = λ a. s.short a.1 }
+short-drop : (n : ℕ) (ts : List Turn) → AllShort ts → AllShort (drop n ts)
+short-drop zero ts h = h
+short-drop (suc n) [] h = tt
+short-drop (suc n) (t ∷ ts) h = short-drop n ts h.1
 
--- the same by the turns that a slot is on its way
-pub record SentAgo (role : Role) (delay : ℕ) (ts : List Turn) (slot : Spoken) : Type 0 where
-  pub turn : Turn
-  pub rest : drop (delay - 1) ts ≡ turn ∷ drop delay ts
-  pub sent : (of role turn).sent ≡ Some slot
-  pub count : length (drop delay ts) ≡ length ts - delay
-  pub enough : delay ≤ length ts
-  pub sendable : AllPlain ts → IsPlainSent slot.sent
-  pub short : AllShort ts → (frame : Frame) → slot.sent ≡ slots.Frame frame → length (information_of frame) ≤ INFO
+-- the slot that was sent so many turns ago
+module _ (role : Role) (delay : ℕ) (ts : List Turn) (slot : Spoken) (s : SentAgo role delay ts slot) where
+  pub plain-sent : AllPlain ts → IsPlainSent slot.sent
+  plain-sent h = (subst AllPlain s.rest (plain-drop (delay - 1) ts h)).0 role slot s.sent
 
-pub sent-ago : (role : Role) (delay : ℕ) (ts : List Turn) (slot : Spoken) → 1 ≤ delay → sent_ago delay role ts ≡ Some slot
-    → SentAgo role delay ts slot
-sent-ago role delay ts slot low e =
-    let s = sent-in role (delay - 1) ts slot e in
-    let d : suc (delay - 1) ≡ delay = omega (arith, low) in
-    let c : length (drop delay ts) + delay ≡ length ts = subst (λ k. length (drop k ts) + k ≡ length ts) d s.count in
-    record {
-      turn = s.turn;
-      rest = subst (λ k. drop (delay - 1) ts ≡ s.turn ∷ drop k ts) d s.rest;
-      sent = s.sent;
-      count = omega (arith, c);
-      enough = omega (arith, c);
-      sendable = s.sendable;
-      short = s.short;
-    }
+  pub short-sent : AllShort ts → (frame : Frame) → slot.sent ≡ slots.Frame frame → length (information_of frame) ≤ INFO
+  short-sent h frame = (subst AllShort s.rest (short-drop (delay - 1) ts h)).0 role slot frame s.sent

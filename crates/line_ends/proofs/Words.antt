@@ -1,15 +1,15 @@
 -- The word of a break that an end owes consists of octets, where the frames that it hears do.
-use Rattle.std.proofs.Common.{◌≡◌, ℕ, ◌<◌, ◌&&◌, ◌||◌, Bool, true, false, cond, List, [], ◌∷◌, arith, refl, sym, subst, Option, Some, None}
-use Rattle.std.proofs.Common.{Result, Ok, Err}
+use Rattle.std.proofs.Common.{◌≡◌, ℕ, ◌<◌, ◌%◌, ◌&&◌, ◌||◌, Bool, true, false, cond, nat_eq, List, [], ◌∷◌, length, arith, refl, sym, subst}
+use Rattle.std.proofs.Common.{Option, Some, None, Result, Ok, Err}
 use Rattle.std.specs.Option.{option_map}
-use Rattle.std.proofs.lemmas.List.Elements.{All-cons, All-tail}
+use Rattle.std.proofs.lemmas.List.Elements.{All-cons, All-head, All-push, All-tail}
 use Rattle.plain_lists.specs.Octets.{AreOctets}
 use Rattle.shared_terms.specs.declared.role.Role.{Role}
 use Rattle.shared_terms.specs.declared.role.Role.TheVariants.{Originator, Answerer}
 use Rattle.shared_terms.specs.Role.{is_originator}
 use Rattle.lapm_frames.specs.declared.frame.Frame.{Frame}
 use Rattle.lapm_frames.specs.declared.frame.Frame.TheVariants.{I, Rr, Rnr, Rej, Srej, Sabme, Disc, Ua, Dm, Frmr, Ui, Xid}
-use Rattle.lapm_frames.specs.Frame.{information_of}
+use Rattle.line_ends.specs.Readable.{InOctets}
 use Rattle.xid_params.specs.declared.offer.Offer.{Offer}
 use Rattle.xid_params.specs.Offers.{offer_in}
 use Rattle.lapm_sender.specs.Outgoing.{Outgoing, acknowledged, rejected, replied, selected, paused_at, resumed}
@@ -17,6 +17,7 @@ use Rattle.break_signals.specs.declared.word.BreakWord.{BreakWord}
 use Rattle.break_signals.specs.declared.word.BreakWord.TheVariants.{Brk, Ack}
 use Rattle.break_signals.specs.declared.fault.BreakFault.{BreakFault}
 use Rattle.break_signals.specs.Words.{spelled, word_in, IsSpelledBack}
+use Rattle.break_signals.specs.Breaks.{with_given}
 use Rattle.lapm_frames.specs.declared.seen.Seen.{Seen}
 use Rattle.lapm_frames.specs.declared.seen.Seen.TheVariants.{Odp, Adp}
 use Rattle.lapm_frames.specs.declared.arrived.Arrived.{Arrived}
@@ -30,18 +31,17 @@ use Rattle.link_account.specs.Hear.{hear, on_frame, on_seen, on_pattern, on_dete
 use Rattle.link_account.specs.Hear.{on_releasing, on_closed, on_xid_command, on_xid_response, on_number, on_disc, on_word, then_in, taking}
 use Rattle.link_account.specs.Hear.{replying, hurrying, ends_wait, owing, peer_reset, pausing}
 
+abbrev pub Octet : ℕ → Type 0
+Octet octet = octet < 256
+
 -- a word of octets, if there is one
 abbrev pub OfOctets : Option BreakWord → Type 0
 OfOctets None = Unit {0}
 OfOctets (Some word) = AreOctets (spelled word)
 
--- that which an end owes
+-- that which an end owes, and those that its user is given
 abbrev pub Owes : Account → Type 0
-Owes a = OfOctets a.their_breaks.ack
-
--- a frame's information consists of octets
-abbrev pub InOctets : Frame → Type 0
-InOctets frame = AreOctets (information_of frame)
+Owes a = OfOctets a.their_breaks.ack × AreOctets a.their_breaks.lengths
 
 -- that of a frame that arrives
 abbrev pub ArrivesInOctets : Arrived → Type 0
@@ -109,8 +109,14 @@ word-owes : IsSpelledBack → (a : Account) (turn : ℕ) (info : List ℕ) (w : 
     → Owes a → Owes (on_word turn w a)
 word-owes back a turn info (Ok (Brk number length_octet)) e i h =
     let all : AreOctets (64 ∷ number ∷ length_octet ∷ []) = subst AreOctets (sym (back info (Brk number length_octet) e)) i in
-    All-cons (λ octet. octet < 256) 96 (number ∷ length_octet ∷ []) (omega arith)
-    (All-tail (λ octet. octet < 256) 64 (number ∷ length_octet ∷ []) all)
+    let behind : AreOctets (number ∷ length_octet ∷ []) = All-tail Octet 64 (number ∷ length_octet ∷ []) all in
+    let few : length_octet < 256 = All-head Octet length_octet [] (All-tail Octet number (length_octet ∷ []) behind) in
+    (All-cons Octet 96 (number ∷ length_octet ∷ []) (omega arith) behind, lengths few (nat_eq number (length a.their_breaks.lengths % 2)))
+  where
+    lengths : length_octet < 256 → (b : Bool)
+        → AreOctets (with_given (cond b (Some length_octet) None) a.their_breaks.lengths)
+    lengths few true = All-push Octet a.their_breaks.lengths length_octet h.1 few
+    lengths few false = h.1
 word-owes back a turn info (Ok (Ack number length_octet)) e i h = h
 word-owes back a turn info (Err fault) e i h = h
 

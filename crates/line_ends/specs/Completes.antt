@@ -1,14 +1,13 @@
 -- Which runs of a script over the line of samples are done.
-use Rattle.std.specs.Prelude.{◌≡◌, ℕ, ◌+◌, ◌*◌, ◌<◌, ◌≤◌, List, [], ◌∷◌, All, Some}
+use Rattle.std.specs.Prelude.{◌≡◌, ℕ, ◌+◌, ◌*◌, ◌<◌, ◌≤◌, List, [], ◌∷◌, All}
 use Rattle.plain_lists.specs.Octets.{AreOctets}
 use Rattle.shared_terms.specs.declared.role.Role.{Role}
 use Rattle.shared_terms.specs.Both.{Both, of}
-use Rattle.lapm_frames.specs.Sendable.{IsSendable}
 use Rattle.noise_script.specs.declared.entry.Break.{Break}
 use Rattle.noise_script.specs.declared.entry.Loss.{Loss}
 use Rattle.noise_script.specs.Script.{ScriptValue, IsInLimits}
 use Rattle.line_run.specs.Faint.{IsFaintBefore}
-use Rattle.link_run.specs.Run.{Accounts, Spoken, Turn}
+use Rattle.link_run.specs.Run.{Accounts, Turn}
 use Rattle.link_run.specs.Counts.{lost_slots}
 use Rattle.line_run.specs.Sampled.{Wire, LineRun, LineEnd, EndsLine}
 use Rattle.line_run.specs.Scripted.{wire_of, link_of}

@@ -1,4 +1,4 @@
-use Rattle.line_ends.proofs.ReadSending.{SendLaws}
+use Rattle.line_ends.proofs.Sending.{SendLaws}
 use Rattle.line_ends.proofs.Reading.{lines-are-read}
 use Rattle.line_ends.proofs.readable.lines_are_read.Goals as goal
 
