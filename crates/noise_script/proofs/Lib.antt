@@ -1,6 +1,7 @@
 pub mod Sums
 pub mod Cuts
 pub mod Digits
+pub mod Decimals
 pub mod FormTable
 pub mod Words
 pub mod Order

@@ -6,44 +6,11 @@ use Rattle.std.specs.List.{list_all}
 use Rattle.std.specs.Option.{option_map, option_and_then}
 use Rattle.std.proofs.lemmas.Bool.{and_parts}
 use Rattle.std.proofs.lemmas.Bool.Decides.{nat_tests}
-use Rattle.std.proofs.lemmas.Fmt.{decimal_nonempty, digits_decimal, digits_value-decimal, decimal-digits_value, length-decimal-le, first_decimal, decimal_digit}
-use Rattle.std.proofs.lemmas.Str.Parse.{IsDigitsTest, IsNumeralModel, numerals_by_weight}
+use Rattle.std.proofs.lemmas.Fmt.{digits_decimal, digits_value-decimal, decimal-digits_value, first_decimal, decimal_digit}
 use Rattle.noise_script.specs.Numbers.{is_digit, is_number, value_of, leads_well, plain_number}
+use Rattle.noise_script.proofs.Decimals.{at-most, is-most, numerals, IsSmall, is-number}
 use Rattle.trace_audit.specs.Cutting.{behind, front_of, rest_of, if_below, number_at, behind_number, behind_labelled}
 use Rattle.trace_audit.proofs.Fronts.{chained, mapped, behind-reads, behind-is, begins, front-rest, front-reads, rest-reads, join2}
-
-abbrev AllDigits : List ℕ → Type 0
-AllDigits word = list_all is_digit word ≡ true
-
-at-most : (a b : ℕ) → nat_le a b ≡ true → a ≤ b
-at-most a b e = grind (arith, nat_tests, e)
-
-is-most : (a b : ℕ) → a ≤ b → nat_le a b ≡ true
-is-most a b l = grind (arith, nat_tests, l)
-
-both : (a b : Bool) → a ≡ true → b ≡ true → (a && b) ≡ true
-both a b e f = rw (e, f) refl
-
-tells : IsDigitsTest AllDigits
-tells = record {
-  empty = refl;
-  parts = λ c cs e. let p = and_parts (is_digit c) (list_all is_digit cs) e in let q = and_parts (nat_le 48 c) (nat_le c 57) p.0 in
-      ((at-most 48 c q.0, at-most c 57 q.1), p.1);
-  more = λ c cs k e. both (is_digit c) (list_all is_digit cs) (both (nat_le 48 c) (nat_le c 57) (is-most 48 c k.0) (is-most c 57 k.1)) e;
-}
-
-numerals : IsNumeralModel AllDigits value_of
-numerals = numerals_by_weight AllDigits tells value_of (record { empty = refl; more = λ c cs k. refl })
-
-abbrev IsSmall : ℕ → Type 0
-IsSmall n = n < 2 ^ 64
-
-is-number : (n : ℕ) → IsSmall n → is_number (decimal n) ≡ true
-is-number n h =
-    both (nat_le 1 (length (decimal n))) (nat_le (length (decimal n)) 20 && list_all is_digit (decimal n))
-    (is-most 1 (length (decimal n)) (decimal_nonempty n h))
-    (both (nat_le (length (decimal n)) 20) (list_all is_digit (decimal n))
-    (is-most (length (decimal n)) 20 (length-decimal-le 20 n (omega arith) (omega (arith, h)) h)) (digits_decimal numerals n h))
 
 -- a zero leads no other digit
 no-zero : (word : List ℕ) → 48 < get_or word 0 0 → leads_well word ≡ true

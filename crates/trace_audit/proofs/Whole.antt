@@ -1,19 +1,18 @@
 -- No line feed stands in a line that is read.
-use Rattle.std.proofs.Common.{◌≡◌, ℕ, ◌<◌, ◌≤◌, Bool, true, false, ◌&&◌, List, [], ◌∷◌, ◌++◌, codes, decimal, refl, subst, sym, arith, ◌∙◌}
+use Rattle.std.proofs.Common.{◌≡◌, ℕ, ◌<◌, Bool, true, false, List, [], ◌++◌, codes, decimal, refl, subst, sym, arith, ◌∙◌}
 use Rattle.std.proofs.Common.{Option, Some, None, inl, inr}
 use Rattle.std.specs.Prelude.{IfSome, nat_le}
 use Rattle.std.specs.List.{list_all}
 use Rattle.std.proofs.lemmas.Bool.{and_parts}
 use Rattle.std.proofs.lemmas.Bool.Decides.{nat_tests}
 use Rattle.std.proofs.lemmas.List.Folds.{list_all-append}
-use Rattle.std.proofs.lemmas.Fmt.{digits_decimal}
-use Rattle.std.proofs.lemmas.Str.Parse.{IsDigitsTest, IsNumeralModel, numerals_by_weight}
 use Rattle.shared_terms.specs.declared.role.Role.{Role}
 use Rattle.shared_terms.specs.declared.role.Role.TheVariants.{Originator, Answerer}
 use Rattle.shared_terms.specs.Role.{role_word}
 use Rattle.break_signals.specs.declared.word.BreakWord.{BreakWord}
 use Rattle.break_signals.specs.declared.word.BreakWord.TheVariants.{Brk, Ack}
-use Rattle.noise_script.specs.Numbers.{is_digit, value_of}
+use Rattle.noise_script.specs.Numbers.{is_digit}
+use Rattle.noise_script.proofs.Decimals.{at-most, both, number-all}
 use Rattle.line_texts.specs.FrameText.{kind_word, poll_word, number_word}
 use Rattle.line_texts.specs.LineText.{line_begins, break_word}
 use Rattle.trace_audit.specs.declared.line.LineText.{LineText}
@@ -27,44 +26,16 @@ use Rattle.trace_audit.specs.Cutting.{is_no_feed}
 abbrev pub IsWhole : List ℕ → Type 0
 IsWhole line = list_all is_no_feed line ≡ true
 
-both : (a b : Bool) → a ≡ true → b ≡ true → (a && b) ≡ true
-both a b e f = rw (e, f) refl
-
 joined : (xs ys : List ℕ) → IsWhole xs → IsWhole ys → IsWhole (xs ++ ys)
 joined xs ys h k = list_all-append is_no_feed xs ys ∙ both (list_all is_no_feed xs) (list_all is_no_feed ys) h k
 
 -- ---- numbers
 
-abbrev AllDigits : List ℕ → Type 0
-AllDigits word = list_all is_digit word ≡ true
-
-at-most : (a b : ℕ) → nat_le a b ≡ true → a ≤ b
-at-most a b e = grind (arith, nat_tests, e)
-
-is-most : (a b : ℕ) → a ≤ b → nat_le a b ≡ true
-is-most a b l = grind (arith, nat_tests, l)
-
-tells : IsDigitsTest AllDigits
-tells = record {
-  empty = refl;
-  parts = λ c cs e. let p = and_parts (is_digit c) (list_all is_digit cs) e in let q = and_parts (nat_le 48 c) (nat_le c 57) p.0 in
-      ((at-most 48 c q.0, at-most c 57 q.1), p.1);
-  more = λ c cs k e. both (is_digit c) (list_all is_digit cs) (both (nat_le 48 c) (nat_le c 57) (is-most 48 c k.0) (is-most c 57 k.1)) e;
-}
-
-numerals : IsNumeralModel AllDigits value_of
-numerals = numerals_by_weight AllDigits tells value_of (record { empty = refl; more = λ c cs k. refl })
-
 no-feed : (x : ℕ) → is_digit x ≡ true → is_no_feed x ≡ true
 no-feed x d = let low = at-most 48 x (and_parts (nat_le 48 x) (nat_le x 57) d).0 in grind (arith, nat_tests, low)
 
-digits-whole : (xs : List ℕ) → AllDigits xs → IsWhole xs
-digits-whole [] h = refl
-digits-whole (x ∷ xs) h = let p = and_parts (is_digit x) (list_all is_digit xs) h in
-    both (is_no_feed x) (list_all is_no_feed xs) (no-feed x p.0) (digits-whole xs p.1)
-
 number : (n : ℕ) → n < count_bound → IsWhole (decimal n)
-number n h = digits-whole (decimal n) (digits_decimal numerals n (omega (arith, h)))
+number n h = number-all is_no_feed no-feed n (omega (arith, h))
 
 labelled : (label : List ℕ) (n : ℕ) → IsWhole label → n < count_bound → IsWhole (number_word label n)
 labelled label n w h = joined label (decimal n) w (number n h)

@@ -1,0 +1,51 @@
+-- The decimal digits of a number are a word that is read as a number, whose value it is.
+use Rattle.std.proofs.Common.{◌≡◌, ℕ, ◌^◌, ◌<◌, ◌≤◌, Bool, true, ◌&&◌, nat_le, List, [], ◌∷◌, length, refl, arith}
+use Rattle.std.specs.Prelude.{decimal}
+use Rattle.std.specs.List.{list_all}
+use Rattle.std.proofs.lemmas.Bool.{and_parts}
+use Rattle.std.proofs.lemmas.Bool.Decides.{nat_tests}
+use Rattle.std.proofs.lemmas.Fmt.{decimal_nonempty, digits_decimal, length-decimal-le}
+use Rattle.std.proofs.lemmas.Str.Parse.{IsDigitsTest, IsNumeralModel, numerals_by_weight}
+use Rattle.noise_script.specs.Numbers.{is_digit, is_number, value_of}
+
+abbrev pub AllDigits : List ℕ → Type 0
+AllDigits word = list_all is_digit word ≡ true
+
+pub at-most : (a b : ℕ) → nat_le a b ≡ true → a ≤ b
+at-most a b e = grind (arith, nat_tests, e)
+
+pub is-most : (a b : ℕ) → a ≤ b → nat_le a b ≡ true
+is-most a b l = grind (arith, nat_tests, l)
+
+pub both : (a b : Bool) → a ≡ true → b ≡ true → (a && b) ≡ true
+both a b e f = rw (e, f) refl
+
+tells : IsDigitsTest AllDigits
+tells = record {
+  empty = refl;
+  parts = λ c cs e. let p = and_parts (is_digit c) (list_all is_digit cs) e in let q = and_parts (nat_le 48 c) (nat_le c 57) p.0 in
+      ((at-most 48 c q.0, at-most c 57 q.1), p.1);
+  more = λ c cs k e. both (is_digit c) (list_all is_digit cs) (both (nat_le 48 c) (nat_le c 57) (is-most 48 c k.0) (is-most c 57 k.1)) e;
+}
+
+pub numerals : IsNumeralModel AllDigits value_of
+numerals = numerals_by_weight AllDigits tells value_of (record { empty = refl; more = λ c cs k. refl })
+
+abbrev pub IsSmall : ℕ → Type 0
+IsSmall n = n < 2 ^ 64
+
+pub is-number : (n : ℕ) → IsSmall n → is_number (decimal n) ≡ true
+is-number n h =
+    both (nat_le 1 (length (decimal n))) (nat_le (length (decimal n)) 20 && list_all is_digit (decimal n))
+    (is-most 1 (length (decimal n)) (decimal_nonempty n h))
+    (both (nat_le (length (decimal n)) 20) (list_all is_digit (decimal n))
+    (is-most (length (decimal n)) 20 (length-decimal-le 20 n (omega arith) (omega (arith, h)) h)) (digits_decimal numerals n h))
+
+-- what holds of each digit holds of the octets of a number
+all-weaker : (test : ℕ → Bool) → ((x : ℕ) → is_digit x ≡ true → test x ≡ true) → (xs : List ℕ) → AllDigits xs → list_all test xs ≡ true
+all-weaker test f [] h = refl
+all-weaker test f (x ∷ xs) h = let p = and_parts (is_digit x) (list_all is_digit xs) h in
+    both (test x) (list_all test xs) (f x p.0) (all-weaker test f xs p.1)
+
+pub number-all : (test : ℕ → Bool) → ((x : ℕ) → is_digit x ≡ true → test x ≡ true) → (n : ℕ) → IsSmall n → list_all test (decimal n) ≡ true
+number-all test f n h = all-weaker test f (decimal n) (digits_decimal numerals n h)
