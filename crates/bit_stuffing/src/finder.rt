@@ -244,7 +244,8 @@ impl FlagFinder {
     pub(crate) fn pass_four(&mut self, four: u8, since: Option<u8>)
         requires four { four < 16 }
         requires plain { since_four self.old.latest self.old.since four ≡ Some since }
-        ensures { (past : List Bool) → Finds self.old past → PassesBits self.new past (low_bits 4 four) }
+        ensures passes { (past : List Bool) → Finds self.old past → PassesBits self.new past (low_bits 4 four) }
+        ensures since { self.new.since ≡ since }
     {
         self.latest = (window_of(self.latest, four) / 16) as u8;
         self.since = since;
