@@ -200,7 +200,8 @@ impl FlagFinder {
 
     /// The latest eight bits, where they stand behind the flag that is open.
     pub(crate) fn leaving_octet(&self) -> Option<u8>
-        ensures octet { IfSome result (λ octet. (past : List Bool) → Finds self.now past → IsFar past × (drop (length past - 8) past ≡ octet_bits octet)) }
+        ensures octet { IfSome result (λ octet. (past : List Bool) → Finds self.now past
+            → IsFar past × (drop (length past - 8) past ≡ octet_bits octet)) }
         ensures near { IfNone result ((past : List Bool) → Finds self.now past → IsNear past) }
     {
         if self.is_far() {
