@@ -1,6 +1,6 @@
 -- A deframer at an octet with which nothing ends.
 use Rattle.std.proofs.Common.{◌≡◌, ◌⊎◌, ℕ, zero, suc, ◌+◌, ◌-◌, ◌/◌, ◌%◌, ◌^◌, ◌<◌, ◌≤◌, min, Bool, false, List, [], ◌∷◌, ◌++◌}
-use Rattle.std.proofs.Common.{length, take, drop, Option, Some, None, length-append, arith, refl, sym, ◌∙◌, ap, subst, inl, inr}
+use Rattle.std.proofs.Common.{length, take, drop, Option, Some, None, IfSome, length-append, arith, refl, sym, ◌∙◌, ap, subst, inl, inr}
 use Rattle.std.proofs.lemmas.Bool.{cases_lt}
 use Rattle.std.proofs.lemmas.List.{drop-append-le, take-append-le}
 use Rattle.std.proofs.lemmas.Grind.{common_steps}
@@ -165,8 +165,18 @@ leaves-none finding past h none p o = each finding.since refl h.counts
           | inr some ↦ absurd (none count e some (omega (arith, k.2)))
         ]
 
+-- eight bits or more behind the flag that is open are four or more
+far-since : (finding : Finding) (bits : List Bool) → Finds finding bits → (p : ℕ) → OpenedAt bits p → p + 8 ≤ length bits
+    → IfSome finding.since (λ count. 4 ≤ count)
+far-since finding bits h p o far = each finding.since h.counts
+  where
+    each : (since : Option ℕ) → CountsSince since bits → IfSome since (λ count. 4 ≤ count)
+    each None k = tt
+    each (Some count) k = let same : p ≡ k.0 = opened-once bits p k.0 o k.1 in omega (arith, k.2, same, far)
+
 pub four-stands : (finding : Finding) (g : Gathering) (four : ℕ) (past : List Bool) → PassesBits finding past (low_bits 4 four)
-    → ((p : ℕ) → OpenedAt past p → p + 4 ≤ length past → Gathers g (drop p (take (length past - 4) past)))
+    → (IfSome finding.since (λ count. 4 ≤ count)
+    → (p : ℕ) → OpenedAt past p → p + 4 ≤ length past → Gathers g (drop p (take (length past - 4) past)))
     → DeframerStands (record { finding = finding; gathering = g; lent = false }) (past ++ low_bits 4 four)
 four-stands finding g four past passes gathered = record {
   finds = passes.finds;
@@ -175,6 +185,7 @@ four-stands finding g four past passes gathered = record {
       let n : length (past ++ low_bits 4 four) - 8 ≡ length past - 4 = omega (arith, long) in
       let same : content (past ++ low_bits 4 four) p ≡ drop p (take (length past - 4) past) =
       ap (drop p) (ap (λ m. take m (past ++ low_bits 4 four)) n ∙ take-append-le (length past - 4) past (low_bits 4 four) (omega arith)) in
-      subst (Gathers g) (sym same) (gathered p (passes.opened p o far) (omega (arith, far, long)));
+      subst (Gathers g) (sym same)
+      (gathered (far-since finding (past ++ low_bits 4 four) passes.finds p o far) p (passes.opened p o far) (omega (arith, far, long)));
   lends = passes.closes;
 }

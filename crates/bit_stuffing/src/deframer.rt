@@ -37,7 +37,7 @@ fn is_whole(piece: Piece) -> bool
 }
 
 impl Deframer {
-    ghost use Rattle.std.specs.Prelude.{ℕ, ◌+◌, ◌-◌, ◌<◌, ◌≤◌, length, take, drop, List, Bool, true, false, [], ◌∷◌, ◌++◌, Some};
+    ghost use Rattle.std.specs.Prelude.{ℕ, ◌+◌, ◌-◌, ◌<◌, ◌≤◌, length, take, drop, List, Bool, true, false, [], ◌∷◌, ◌++◌, Some, IfSome};
     ghost use Rattle.plain_lists.specs.Bits.{low_bits, octet_bits};
     ghost use Rattle.bit_stuffing.specs.Flags.{OpenedAt};
     ghost use Rattle.bit_stuffing.specs.Pieces.{IsAnswer, IsLent, content};
@@ -137,6 +137,19 @@ impl Deframer {
         }
     }
 
+    /// Gathers the bits that four more hand on, behind which the flag that is open stands so far back. Where it ends with one of the
+    /// four nothing is asked of what was gathered: flags that follow one another cost little.
+    fn gather_unless_flag(&mut self, since: Option<u8>)
+        ensures gathers { IfSome since (λ count. 4 ≤ count) → (past : List Bool) → DeframerStands self.old past
+            → (p : ℕ) → OpenedAt past p → p + 4 ≤ length past → Gathers self.new.gathering (drop p (take (length past - 4) past)) }
+        ensures finding { self.new.finding ≡ self.old.finding }
+    {
+        match since {
+            Some(count) if count < 4 => {}
+            _ => self.gather_four(),
+        }
+    }
+
     /// Goes on by four bits, the low one first, where it is plain that no piece ends with any of them: whether it did. Flags that
     /// follow one another, and most bits of a frame, are plain. Then no octets are lent.
     pub fn pass_four(&mut self, four: u8) -> bool
@@ -150,7 +163,7 @@ impl Deframer {
         let Some(since) = self.finder.since_behind(four) else {
             return false;
         };
-        self.gather_four();
+        self.gather_unless_flag(since);
         self.finder.pass_four(four, since);
         self.lent = false;
         true

@@ -200,7 +200,8 @@ impl FlagFinder {
 
     /// The latest eight bits, where they stand behind the flag that is open.
     pub(crate) fn leaving_octet(&self) -> Option<u8>
-        ensures octet { IfSome result (λ octet. (past : List Bool) → Finds self.now past → IsFar past × (drop (length past - 8) past ≡ octet_bits octet)) }
+        ensures octet { IfSome result (λ octet. (past : List Bool) → Finds self.now past
+            → IsFar past × (drop (length past - 8) past ≡ octet_bits octet)) }
         ensures near { IfNone result ((past : List Bool) → Finds self.now past → IsNear past) }
     {
         if self.is_far() {
@@ -244,7 +245,8 @@ impl FlagFinder {
     pub(crate) fn pass_four(&mut self, four: u8, since: Option<u8>)
         requires four { four < 16 }
         requires plain { since_four self.old.latest self.old.since four ≡ Some since }
-        ensures { (past : List Bool) → Finds self.old past → PassesBits self.new past (low_bits 4 four) }
+        ensures passes { (past : List Bool) → Finds self.old past → PassesBits self.new past (low_bits 4 four) }
+        ensures since { self.new.since ≡ since }
     {
         self.latest = (window_of(self.latest, four) / 16) as u8;
         self.since = since;

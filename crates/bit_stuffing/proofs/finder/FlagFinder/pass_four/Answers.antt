@@ -5,8 +5,8 @@ use Rattle.bit_stuffing.specs.Fours.{since_four}
 use Rattle.bit_stuffing.proofs.Fours.{passes-four}
 use Rattle.bit_stuffing.proofs.finder.FlagFinder.pass_four.Goals as goal
 
-pub returns : goal.returns
-returns c past h =
+pub returns-clause-passes : goal.returns-clause-passes
+returns-clause-passes c past h =
     let s = subst (λ v. Finds v past) (sym c.self.view_is) h in
     let plain = subst (λ (v : Finding). since_four v.latest v.since c.args.four ≡ Some c.args.since) (sym c.self.view_is)
     c.requires.plain in
