@@ -133,14 +133,14 @@ fn pieces_are_listed(rt: HostRuntime) -> Result<(), Fail> {
     Ok(())
 }
 
+/// As many octets of zeros as make a piece too long.
+const ZEROS: [u8; 1032] = [0; 1032];
+
 /// A flag, so many octets of zeros, and a flag.
 fn zeros_between_flags(alloc: Global, count: usize) -> Result<Vec<u8>, Fail> {
-    let mut bits = vec![in alloc; 0u8; count + 2]?;
-    for place in [0, count + 1] {
-        if let Some(octet) = bits.get_mut(place) {
-            *octet = 0x7e;
-        }
-    }
+    let mut bits = Vec::from_slice(alloc, b"~")?;
+    bits.extend_from_slice(ZEROS.get(..count).ok_or("too many")?)?;
+    bits.extend_from_slice(b"~")?;
     Ok(bits)
 }
 
