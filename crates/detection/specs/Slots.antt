@@ -34,7 +34,7 @@ abbrev pub slots_of : ℕ → List Signal → List Slot
 slots_of size signals = map (slot_of size) signals
 
 -- What a slot can carry, whatever flags came before: a frame that a deframer takes, and for which there is room. Stuffing makes a content
--- longer by no more than a fifth.
+-- longer by no more than a fifth; 47 bits are the rest of an unfinished flag, seven at most, four flags and the closing one.
 abbrev pub CanCarry : ℕ → Signal → Type 0
 CanCarry size (PatternSlot seen) = Unit {0}
 CanCarry size MarkSlot = Unit {0}

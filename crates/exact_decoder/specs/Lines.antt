@@ -1,6 +1,5 @@
--- Keys of 32 bits: 256 times a metric, 8 times a label and the state before. A label's metric is a sum of two numbers, one of a line
--- each way on
--- which its point lies. They are the body's own: no public clause names them.
+-- Keys of 32 bits: 256 times a metric, 8 times a label and the state before. A label's metric is a sum of two numbers, one for each of the
+-- two lines of the map on which its point lies. They are the body's own: no public clause names them.
 use Rattle.std.specs.Prelude.{◌≡◌, ℕ, ℤ, pos, ◌-ℤ◌, ◌+◌, ◌-◌, ◌*◌, ◌^◌, ◌<◌, min, List, [], ◌∷◌}
 use Rattle.symbol_map.specs.declared.sample.Sample.{Sample}
 

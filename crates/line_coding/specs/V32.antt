@@ -1,4 +1,4 @@
--- The same for the code of the Recommendation.
+-- What a reader of any code reads (`SamplesRead`), for the eight-state code and the modes of its lines.
 use Rattle.std.specs.Prelude.{ℕ, Bool, List}
 use Rattle.scramblers.specs.declared.mode.Mode.{Mode}
 use Rattle.symbol_map.specs.declared.sample.Sample.{Sample}

@@ -178,7 +178,8 @@ HeardIsSent = HeardIsSentWhere DisplacesNoneBefore (HEAD + TAIL)
 abbrev pub PassesUnhindered : Type 0
 PassesUnhindered = PassesUnhinderedWhere DisplacesNoneBefore (HEAD + TAIL)
 
--- And where noise is faint: what was sent may be behind by 126 symbols then, and the ninth of ten patterns ends with bit 359 of its slot.
+-- And where noise is faint: what was sent may be behind by 126 symbols then, which carry 504 bits, and the last of the nine sights of a slot of
+-- patterns ends with its bit 359. A slot of more than 215 symbols has 504 bits behind that one.
 
 abbrev pub FaintNeverLost : Type 0
 FaintNeverLost = NeverLostWhere IsFaintBefore

@@ -12,7 +12,7 @@ use Rattle.exact_decoder.specs.Decoder.{Decoding}
 abbrev pub only : ℕ → ℕ → Bool
 only start state = nat_eq state start
 
--- Below this cost the sent labels are told from all that start in the same state: a quarter of 10 squares of a map unit, of 2048 each.
+-- Below this cost the sent labels are told from all that start in the same state: a quarter of 10 squares of a map unit, of 2048 squared each.
 abbrev pub sure : ℕ
 sure = 10485760
 

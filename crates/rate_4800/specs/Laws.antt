@@ -19,7 +19,8 @@ quarters = trellis_of next_state point_of (λ state. nat_eq state 0)
 abbrev pub AllAreReleased : Type 0
 AllAreReleased = (samples : List Sample) (front : List ℕ) → IsReleased quarters samples front → length front ≡ length samples
 
--- A sample that is nearer than half the way to the point that was sent is read as that point's label, whatever the others are.
+-- A sample that is nearer to the point that was sent than half the way to its next point is read as that point's label, whatever the others
+-- are. Points are 20 squares of a map unit apart at least, of 2048 squared each, so half the way is 5 of them.
 abbrev pub NearOnesAreRead : Type 0
 NearOnesAreRead = (before after : List Sample) (sample : Sample) (label : ℕ) (front : List ℕ) → label < 4
     → distance_of (point_of label) sample < 20971520

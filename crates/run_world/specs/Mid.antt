@@ -179,7 +179,7 @@ pub record IsToSpeak (m : Modems) (c : Wire) (files : Both (List ℕ)) (ts : Lis
   pub stands : InTurn m c files ts ends heard mid (served c.script files (length ts) mid)
   pub going : is_closed mid.orig.phase ≡ false
 
--- why a run ends in which an end breaks
+-- why a run ends in which an end breaks; in a run an end has no fault but these two, so the last row is for none
 abbrev pub fault_named : ℕ → Role → LinkFault → RunFault
 fault_named turn role faults.NotDetected = run_faults.NotDetected turn
 fault_named turn role (faults.Spent segment since) = run_faults.LinkLost role segment turn
