@@ -43,7 +43,7 @@ pub enum Status {
     NotDetected {
         turn: u64,
     },
-    /// That end sent a segment as often as it may, and never heard an acknowledgement.
+    /// That end asked as often as it may, and heard no answer: for a segment, its XID, SABME or DISC, a poll, or a break.
     LinkLost {
         role: Role,
         segment: u64,

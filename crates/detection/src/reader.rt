@@ -89,7 +89,7 @@ fn has_eight_ones(bits: u16) -> bool
 /// long the gaps in them are.
 #[derive(Drop)]
 pub struct PatternReader {
-    /// The latest 128 bits, the last one lowest; zeros before the first.
+    /// The latest 128 bits, the last one lowest; ones before the first.
     latest: u128,
 }
 

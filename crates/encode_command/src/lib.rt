@@ -1,4 +1,4 @@
-//! The command `encode`: a file becomes a recording of one direction of a line. A pure function of the words and of the
+//! The commands `encode` and `encode4`: a file becomes a recording of one direction of a line, by either code. A pure function of the words and of the
 //! folder that are handed in. [`encode_words`] reads the words, and [`encode`] does what they say.
 #![tactic(auto)]
 

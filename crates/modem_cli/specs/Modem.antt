@@ -1,5 +1,6 @@
 -- What the top call promises and answers, over the folder before and after it, by what the words ask for. A command has a constructor of
--- `Asked`, a row in the table `commands` for each of its words, and a row in each of `PromisesOf`, `AnswersBy` and `CompletesOf`. Words ask for
+-- `Asked`, a row in the table `commands` for each of its words, and a row in each of `PromisesOf`, `AnswersBy`, `CompletesOf` and `named`, and
+-- in `AreApart` where it makes an output. Words ask for
 -- `Nothing` exactly where their first one is in no row of that table, or where they don't give the names that its row asks for.
 use Rattle.std.specs.Prelude.{◌≡◌, true, ℕ, List, [], ◌∷◌, map, Option, if◌then◌else◌, codes}
 use Rattle.std.specs.Option.{option_map_or}

@@ -1,4 +1,5 @@
-//! The command `run`: two ends send each other a file over a line of samples that a script disturbs. A pure function of the words and of the
+//! The commands `run` and `record`: two ends send each other a file over a line of samples that a script disturbs; `record` keeps the samples
+//! that they send besides. A pure function of the words and of the
 //! folder that are handed in. [`run`] does what the words say that [`run_words`] reads.
 #![tactic(auto)]
 
