@@ -68,6 +68,8 @@ fn a_break_is_sent_again_until_it_is_answered(rt: HostRuntime) -> Result<(), Fai
         length: 20,
     };
     send(&rt, &mut sender, brk);
+    sender.answered(8, 1);
+    assert!(&rt; sender.waiting());
     tick(&rt, &mut sender, 9, Ok(()));
     assert!(rt; sender.due() == Some(brk));
     tick(&rt, &mut sender, 13, Err(Spent0));

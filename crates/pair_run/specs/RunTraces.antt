@@ -16,6 +16,7 @@ use Rattle.link_run.specs.Run.{Spoken, Turn}
 use Rattle.link_run.specs.Taken.{taken_octets}
 use Rattle.link_run.specs.Counts.{lost_slots, sent_again}
 use Rattle.link_run.specs.Trace.{trace_text, turn_text}
+use Rattle.turn_bound.specs.Bound.{most_turns}
 use Rattle.pair_run.specs.Made.{Way, Made, runs, all_turns}
 use Rattle.pair_run.specs.RunSettings.{way, checked32, loses, one_break, one_octet_each, fifteen, far, busy_for_a_while, busy_for_long, hundred_each}
 
@@ -161,3 +162,15 @@ pub record ChecksAre : Type 0 where
   pub answ : checks_of Answerer (all_turns checked_run) ≡ replicate 4 Sixteen ++ replicate 9 ThirtyTwo
   pub orig_sent : numbered_checks Originator (all_turns checked_run) ≡ replicate 3 ThirtyTwo
   pub answ_sent : numbered_checks Answerer (all_turns checked_run) ≡ replicate 3 ThirtyTwo
+
+-- so many segments of each role
+abbrev pub segments_of : ℕ → ℕ → Role → ℕ
+segments_of orig answ Originator = orig
+segments_of orig answ Answerer = answ
+
+-- How many turns runs have at most, with five tries, by hand: seven periods twice for each thing to be done. A segment each way, a break and the
+-- six phases are nine; fifteen segments, a pause of five turns twice and the phases are 31, and without the pause 21, over a longer way.
+pub record BoundsAre : Type 0 where
+  pub break : most_turns 5 20 (one_octet_each one_break) (λ role. 1) ≡ 2520
+  pub busy : most_turns 5 20 busy_for_a_while (segments_of 15 0) ≡ 8680
+  pub far : most_turns 5 96 (far false) (segments_of 15 0) ≡ 28224

@@ -3,7 +3,7 @@ ghost use Rattle.std.specs.Prelude.{ℕ};
 ghost use Rattle.link_run.specs.Run.{Link};
 ghost use Rattle.pair_run.specs.Made.{Way, IsMade, runs};
 ghost use Rattle.pair_run.specs.RunTraces.{PlainTrace, PlainEnds, UaLostEnds, BreakLine7, BreakLine8, BreakEnds, BreakAgainEnds, FarRejEnds, FarSrejEnds, FarRejCounts, FarSrejCounts};
-ghost use Rattle.pair_run.specs.RunTraces.{BusyLine10, BusyEnds, BusyForLongEnds, CheckedEnds, ChecksAre, LinkLostEnds, NotDetectedEnds};
+ghost use Rattle.pair_run.specs.RunTraces.{BusyLine10, BusyEnds, BusyForLongEnds, CheckedEnds, ChecksAre, LinkLostEnds, NotDetectedEnds, BoundsAre};
 
 /// What is computed is a run over a line by the definitions.
 pub fn computed_runs_are_runs()
@@ -54,4 +54,9 @@ pub fn links_that_end()
 pub fn longer_check()
     ensures ends { CheckedEnds }
     ensures checks { ChecksAre }
+{}
+
+/// How many turns some runs have at most.
+pub fn bounds_in_numbers()
+    ensures { BoundsAre }
 {}

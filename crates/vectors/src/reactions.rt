@@ -50,6 +50,7 @@ fn expected(stage: Stage, heard: Slot) -> Reaction {
         Stage::SegmentTaken => answerer::segment_taken(heard),
         Stage::RejSent => answerer::rej_sent(heard),
         Stage::RejHeldBack => answerer::rej_held_back(heard),
+        Stage::BreakAnswered => answerer::break_answered(heard),
         Stage::SrejAgreed => answerer::srej_agreed(heard),
         Stage::SrejSent => answerer::srej_sent(heard),
         Stage::Busy => answerer::busy(heard),

@@ -112,6 +112,27 @@ pub(super) fn rej_held_back(heard: Slot) -> Reaction {
     }
 }
 
+/// Connected: V(A) = 0, V(S) = 0, V(R) = 0. There is no segment to send. In the turn after a BRKACK no other one goes, nor a BRK, but a
+/// REJ does. A SABME may come again.
+pub(super) fn break_answered(heard: Slot) -> Reaction {
+    match heard {
+        I(_, 1, _) | S(_, _, 1, _) => bad_ack(1, 0, 0),
+        S(Srej, _, 0, _) => bad_ack(0, 0, 0),
+
+        I(0, _, pf) => Sends(Connected, S(Rr, Response, 1, pf)),
+        I(1, _, true) => Sends(Connected, S(Rr, Response, 0, true)),
+        I(127, _, _) => Sends(Connected, S(Rr, Response, 0, false)),
+        I(..) => Sends(Connected, S(Rej, Response, 0, false)),
+        S(_, Command, _, true) => Sends(Connected, S(Rr, Response, 0, true)),
+
+        Sabme(pf) => Sends(Connected, Ua(pf)),
+        Frmr(_) => reset(0, 0),
+        Dm(_) => Breaks(PeerRefused),
+        Disc(pf) => Sends(Closed, Ua(pf)),
+        _ => Sends(Connected, Flags),
+    }
+}
+
 /// Connected: V(A) = 0, V(S) = 0, V(R) = 0. There is no segment to send. A segment that comes too early is held, and the missing
 /// one is asked for.
 pub(super) fn srej_agreed(heard: Slot) -> Reaction {

@@ -39,6 +39,8 @@ pub(super) enum Stage {
     RejSent,
     /// Connected: the same, but the reply to a poll went before the REJ. The file is empty.
     RejHeldBack,
+    /// Connected: a break was heard, and the BRKACK is out; no I frame and no supervisory frame was heard. The file is empty.
+    BreakAnswered,
     /// Connected with SREJ: a poll was answered. The file is empty.
     SrejAgreed,
     /// Connected with SREJ: the second segment is held, and the first one was asked for. The file is empty.
@@ -68,6 +70,7 @@ pub(super) const STAGES: &[Stage] = &[
     Stage::SegmentTaken,
     Stage::RejSent,
     Stage::RejHeldBack,
+    Stage::BreakAnswered,
     Stage::SrejAgreed,
     Stage::SrejSent,
     Stage::Busy,
@@ -100,6 +103,8 @@ const REPLY: Slot = Slot::S(Supervisory::Rr, Kind::Response, 0, true);
 
 const BUSY_REPLY: Slot = Slot::S(Supervisory::Rnr, Kind::Response, 0, true);
 
+const BREAK: Slot = Slot::Ui(Kind::Command, false, Says::Brk(0, 20));
+
 const FIRST: Slot = Slot::I(0, 0, false);
 
 const SECOND: Slot = Slot::I(1, 0, false);
@@ -117,6 +122,7 @@ impl Stage {
             | Stage::SegmentTaken
             | Stage::RejSent
             | Stage::RejHeldBack
+            | Stage::BreakAnswered
             | Stage::SrejAgreed
             | Stage::SrejSent
             | Stage::Busy
@@ -142,6 +148,7 @@ impl Stage {
             Stage::SegmentTaken
             | Stage::RejSent
             | Stage::RejHeldBack
+            | Stage::BreakAnswered
             | Stage::SrejAgreed
             | Stage::SrejSent
             | Stage::Busy
@@ -182,6 +189,7 @@ impl Stage {
             Stage::SegmentTaken => &[NONE, OFFER, SABME, FIRST],
             Stage::RejSent => &[NONE, OFFER, SABME, SECOND],
             Stage::RejHeldBack => &[NONE, OFFER, SABME, SECOND_WITH_POLL],
+            Stage::BreakAnswered => &[NONE, OFFER, SABME, BREAK],
             Stage::SrejAgreed => &[NONE, OFFER_WITH_SREJ, SABME, POLL],
             Stage::SrejSent => &[NONE, OFFER_WITH_SREJ, SABME, POLL, SECOND],
             Stage::Busy | Stage::BusyUntold => &[NONE, OFFER, SABME, POLL],
