@@ -4,7 +4,7 @@
 #![tactic(auto)]
 
 #[cfg(test)]
-mod asking;
+mod auditing;
 #[cfg(test)]
 mod choosing;
 #[cfg(test)]
@@ -14,23 +14,37 @@ mod decoding;
 #[cfg(test)]
 mod encoding;
 #[cfg(test)]
+mod ending;
+#[cfg(test)]
 mod explaining;
+#[cfg(test)]
+mod failing;
+#[cfg(test)]
+mod hits;
+#[cfg(test)]
+mod idling;
 #[cfg(test)]
 mod limits;
 #[cfg(test)]
 mod listing;
 #[cfg(test)]
+mod losses;
+#[cfg(test)]
 mod measuring;
+#[cfg(test)]
+mod mebibytes;
 #[cfg(test)]
 mod meeting;
 #[cfg(test)]
-mod noting;
-#[cfg(test)]
 mod opening;
+#[cfg(test)]
+mod order;
 #[cfg(test)]
 mod pairing;
 #[cfg(test)]
 mod picking;
+#[cfg(test)]
+mod recorded;
 #[cfg(test)]
 mod recording;
 #[cfg(test)]
@@ -39,6 +53,8 @@ mod running;
 mod saying;
 #[cfg(test)]
 mod soaking;
+#[cfg(test)]
+mod stage;
 #[cfg(test)]
 mod tapping;
 
