@@ -47,7 +47,7 @@ ask run o a s go ga t
 keep t
 ask audit o a s t
 exit 0
-sweep t
+sweep
 
 scenario a trace that stops or goes on is false
 file o "a"

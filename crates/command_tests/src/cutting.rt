@@ -133,7 +133,7 @@ scenario listing over a failing folder
 file b "~\x03\xdf\x3e\xb9\xfa\xf9"
 ask frames orig b
 exit 0
-sweep b
+sweep
 
 scenario an output that is not made comes before what is read
 # Nothing is read behind the recording's header: where the next read fails too, it is no read fault.

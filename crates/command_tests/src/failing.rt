@@ -16,14 +16,14 @@ leaves ga o
 sweep go ga
 
 scenario a failed append leaves the turns before
-# Both ends send one file of four segments, and the answerer's third append fails.
+# Both ends send one file of four segments. The 34th call, the third append to the answerer, fails.
 ramp f 512
 file s ""
 ask run f f s go ga t
 leaves go f
 leaves ga f
 sweep go ga
-fails THIRD
+fails 34
 ask run f f s go ga t
 exit 6
 says "write fault\n"
@@ -33,7 +33,7 @@ lines t 22
 line t "10 answ i s=1 r=1 p=0 n=128 > i s=2 r=2 p=0 n=128"
 
 scenario a failed read leaves prefixes
-# Once the outputs are made a file is read segment by segment.
+# Once the outputs are made a file is read segment by segment, here in turn 6 by the calls from the fifteenth on.
 ramp o 512
 file a ""
 file s ""
@@ -41,7 +41,41 @@ ask run o a s go ga t
 leaves go a
 leaves ga o
 sweep go ga
-READS
+fails 15
+ask run o a s go ga t
+exit 5
+says "read fault\n"
+begins o ga
+begins a go
+lines t 12
+fails 16
+ask run o a s go ga t
+exit 5
+says "read fault\n"
+begins o ga
+begins a go
+lines t 12
+fails 17
+ask run o a s go ga t
+exit 5
+says "read fault\n"
+begins o ga
+begins a go
+lines t 12
+fails 18
+ask run o a s go ga t
+exit 5
+says "read fault\n"
+begins o ga
+begins a go
+lines t 12
+fails 19
+ask run o a s go ga t
+exit 5
+says "read fault\n"
+begins o ga
+begins a go
+lines t 12
 
 scenario a small run makes these calls
 # An octet at each limit, the script in pieces of 1,024 octets, the outputs, then turn by turn what comes for the users, what the ends want of their

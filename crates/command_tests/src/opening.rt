@@ -11,7 +11,7 @@ file a ""
 file s "delay 3 5\nbreak orig 5 30\n"
 ask run o a s go ga t
 exit 0
-begins calls "read s 65536 1\nread s 0 1024\nread s 25 1024\nread o 16777216 1\nread a 16777216 1\ncreate go 0 0\n"
+begins calls "read s 65536 1\nread s 0 1024\nread s 26 1024\nread o 16777216 1\nread a 16777216 1\ncreate go 0 0\n"
 
 scenario the first input that is wrong is named
 # A faulty script with two files that are too long, of which one after another is put right, and then a script that is too long.

@@ -239,9 +239,11 @@ ask run o a s go ga t
 exit 4
 says "too long: o\n"
 none go
-ask run a o s go ga t
+file a o
+file o ""
+ask run o a s go ga t
 exit 4
-says "too long: o\n"
+says "too long: a\n"
 none go
 
 scenario a script past the limit is too long

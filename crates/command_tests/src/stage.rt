@@ -21,6 +21,8 @@ pub(crate) struct Ran {
     pub(crate) code: u8,
     /// The folder.
     folder: NotingFolder,
+    /// The calls of it that were to fail.
+    fails: Vec<u64>,
 }
 
 /// A scenario as far as it was played.
@@ -53,6 +55,7 @@ impl Stage {
                     folder: MemoryFolder::new(alloc),
                     notes: String::new(alloc),
                 },
+                fails: Vec::new(alloc),
             },
             alloc,
         }

@@ -1,8 +1,8 @@
-// Recordings of both ways of a line, tapped beside its script. Octets of a slot are put on the line as they are, so those of frames have no five ones in a row.
+// Recordings of both ways of a line, tapped beside its script.
 use crate::stage::play;
 use std::test::Fail;
 
-/// Recordings and what is tapped.
+/// Recordings and what is tapped. Octets of a slot are put on the line as they are, so those of frames have no five ones in a row.
 const SCENARIOS: &str = r##"
 scenario recordings are tapped
 # The originator's first segment, one octet, with its check of 16 bits and with one of 32 bits.

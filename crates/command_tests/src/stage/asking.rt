@@ -47,7 +47,12 @@ impl Stage {
         }
         folder.folder.fail_at(fails)?;
         let code = modem(self.alloc, words, &mut folder).code();
-        Ok(Ran { code, folder })
+        let fails = Vec::from_slice(self.alloc, fails)?;
+        Ok(Ran {
+            code,
+            folder,
+            fails,
+        })
     }
 
     /// Does what the last words say over a folder that fails at this call.
@@ -113,7 +118,6 @@ impl Stage {
                     .split_whitespace()
                     .all(|name| whole.has_front(&ran, name));
             if !is_cut {
-                self.fails.push(number)?;
                 self.ran = ran;
                 return Ok(false);
             }

@@ -60,7 +60,8 @@ impl fmt::Display for Ran {
         let said = self.left("said").unwrap_or_default();
         let said = str::from_utf8(said).unwrap_or("no text");
         let code = self.code;
-        write!(f, "exit {code}, said {said:?}")
+        let fails = self.fails.as_slice();
+        write!(f, "exit {code}, said {said:?}, failing calls {fails:?}")
     }
 }
 
