@@ -1,126 +1,125 @@
-// Two links over one line, over a folder in memory, with what each pair says and leaves.
-use super::USAGE;
-use super::asking::{Ran, leaves, leaves_none, run_over, says};
-use modem_cli::Status;
-use shared_terms::Role;
-use std::alloc::Global;
-use std::process::Abort;
+// Two links over one line, with what each pair says and leaves.
+use crate::stage::play;
 use std::test::Fail;
 
-mod crossing;
-mod ending;
-mod failing;
-mod idling;
+/// Pairs of links.
+const SCENARIOS: &str = r##"
+scenario both links cross as each does alone
+# Each link leaves what its run alone leaves, whatever the other one sends. Small files have one octet, large ones fifteen segments.
+file a "a"
+file b "b"
+file empty ""
+ramp large 1920
+# Both end in one round, the second link last, and the first one last.
+file s ""
+ask pair a b a b s go1 ga1 go2 ga2 t1 t2
+exit 0
+says "done 12 12\n"
+alike run a b s go1 ga1 t1
+alike run a b s go2 ga2 t2
+file s ""
+ask pair a b large empty s go1 ga1 go2 ga2 t1 t2
+exit 0
+says "done 12 26\n"
+alike run a b s go1 ga1 t1
+alike run large empty s go2 ga2 t2
+file s ""
+ask pair large empty a b s go1 ga1 go2 ga2 t1 t2
+exit 0
+says "done 26 12\n"
+alike run large empty s go1 ga1 t1
+alike run a b s go2 ga2 t2
+ramp f512 512
+ramp f129 129
+file s ""
+ask pair f512 f512 f129 large s go1 ga1 go2 ga2 t1 t2
+exit 0
+says "done 15 26\n"
+alike run f512 f512 s go1 ga1 t1
+alike run f129 large s go2 ga2 t2
+file s ""
+ask pair empty empty a b s go1 ga1 go2 ga2 t1 t2
+exit 0
+says "done 8 12\n"
+alike run empty empty s go1 ga1 t1
+alike run a b s go2 ga2 t2
+# What both links have of the script: delays, windows, losses, checks, long segments, breaks and pauses.
+file s "delay 3 7\nk orig 3\nk answ 5\n"
+ask pair a b large empty s go1 ga1 go2 ga2 t1 t2
+exit 0
+says "done 60 102\n"
+alike run a b s go1 ga1 t1
+alike run large empty s go2 ga2 t2
+file s "lose answ 5 1"
+ask pair a b large empty s go1 ga1 go2 ga2 t1 t2
+exit 0
+says "done 32 46\n"
+alike run a b s go1 ga1 t1
+alike run large empty s go2 ga2 t2
+file s "srej orig\nsrej answ\ndelay 20 20\nlose orig 163 1\n"
+ask pair a b large empty s go1 ga1 go2 ga2 t1 t2
+exit 0
+says "done 240 284\n"
+alike run a b s go1 ga1 t1
+alike run large empty s go2 ga2 t2
+file s "check32 orig\ncheck32 answ\n"
+ask pair a b large empty s go1 ga1 go2 ga2 t1 t2
+exit 0
+says "done 12 26\n"
+alike run a b s go1 ga1 t1
+alike run large empty s go2 ga2 t2
+ramp f3000 3000
+file s "n401 orig 1024\nn401 answ 1024\ncheck32 orig\ncheck32 answ\n"
+ask pair f3000 empty a b s go1 ga1 go2 ga2 t1 t2
+exit 0
+says "done 14 12\n"
+alike run f3000 empty s go1 ga1 t1
+alike run a b s go2 ga2 t2
+file s "break orig 5 30\nlose answ 8 1"
+ask pair a b large empty s go1 ga1 go2 ga2 t1 t2
+exit 0
+says "done 30 30\n"
+alike run a b s go1 ga1 t1
+alike run large empty s go2 ga2 t2
+file s "busy answ 10 5"
+ask pair large empty a b s go1 ga1 go2 ga2 t1 t2
+exit 0
+says "done 31 12\n"
+alike run large empty s go1 ga1 t1
+alike run a b s go2 ga2 t2
+file s "busy answ 0 200"
+ask pair a b a b s go1 ga1 go2 ga2 t1 t2
+exit 0
+says "done 205 205\n"
+alike run a b s go1 ga1 t1
+alike run a b s go2 ga2 t2
 
-/// The words of a pair.
-const WORDS: [&str; 12] = [
-    "pair", "o1", "a1", "o2", "a2", "s", "go1", "ga1", "go2", "ga2", "t1", "t2",
-];
+scenario all four files are whole
+file a "a"
+file b "b"
+file empty ""
+ramp large 1920
+file s ""
+ask pair a b large empty s go1 ga1 go2 ga2 t1 t2
+leaves go1 b
+leaves ga1 a
+leaves go2 ""
+leaves ga2 large
 
-/// A file of a link.
-#[derive(Clone, Copy)]
-enum File {
-    /// These octets.
-    Text(&'static [u8]),
-    /// So many octets that differ from their neighbours.
-    Octets(usize),
-}
+scenario both links may read one file
+file o "a"
+file s ""
+ask pair o o o o s go1 ga1 go2 ga2 t1 t2
+exit 0
+says "done 12 12\n"
+leaves go1 "a"
+leaves ga1 "a"
+leaves go2 "a"
+leaves ga2 "a"
+leaves t2 t1
+"##;
 
-/// The files of both ends of a link.
-type Files = (File, File);
-
-/// Two files of one octet.
-const SMALL: Files = (File::Text(b"a"), File::Text(b"b"));
-
-/// A file of fifteen segments, and an empty one.
-const LARGE: Files = (File::Octets(1_920), File::Text(b""));
-
-/// The octets of a file.
-fn octets_of(alloc: Global, file: File) -> Result<Vec<u8>, Fail> {
-    match file {
-        File::Text(text) => Ok(Vec::from_slice(alloc, text)?),
-        File::Octets(count) => {
-            let mut octets = vec![in alloc; 0u8; count]?;
-            for (place, octet) in octets.iter_mut().enumerate() {
-                *octet = (place % 251) as u8;
-            }
-            Ok(octets)
-        }
-    }
-}
-
-/// The files of a link, as octets.
-#[derive(Drop)]
-struct Sent {
-    orig: Vec<u8>,
-    answ: Vec<u8>,
-}
-
-fn sent_by(alloc: Global, files: Files) -> Result<Sent, Fail> {
-    Ok(Sent {
-        orig: octets_of(alloc, files.0)?,
-        answ: octets_of(alloc, files.1)?,
-    })
-}
-
-/// A pair of these links, over a folder that fails at these calls.
-fn pair_failing(
-    alloc: Global,
-    first: &Sent,
-    second: &Sent,
-    script: &[u8],
-    fails: &[u64],
-) -> Result<Ran, Fail> {
-    let files: [(&str, &[u8]); 5] = [
-        ("o1", &first.orig),
-        ("a1", &first.answ),
-        ("o2", &second.orig),
-        ("a2", &second.answ),
-        ("s", script),
-    ];
-    run_over(alloc, &WORDS, &files, fails)
-}
-
-/// A pair of these links.
-fn pair(alloc: Global, first: Files, second: Files, script: &[u8]) -> Result<Ran, Fail> {
-    let first = sent_by(alloc, first)?;
-    let second = sent_by(alloc, second)?;
-    pair_failing(alloc, &first, &second, script, &[])
-}
-
-/// The words of a run.
-const RUN: [&str; 7] = ["run", "o", "a", "s", "go", "ga", "t"];
-
-/// A run of one link alone.
-fn run_sent(alloc: Global, sent: &Sent, script: &[u8]) -> Result<Ran, Fail> {
-    let files: [(&str, &[u8]); 3] = [("o", &sent.orig), ("a", &sent.answ), ("s", script)];
-    run_over(alloc, &RUN, &files, &[])
-}
-
-/// A run of a link with these files.
-fn run(alloc: Global, files: Files, script: &[u8]) -> Result<Ran, Fail> {
-    let sent = sent_by(alloc, files)?;
-    run_sent(alloc, &sent, script)
-}
-
-/// Looks whether a link of a pair left in these names what its run alone left.
-fn left_alike(rt: &impl Abort, ran: &Ran, names: [&str; 3], alone: &Ran) {
-    let [got_o, got_a, trace] = names;
-    leaves(rt, ran, got_o, alone.left("go"));
-    leaves(rt, ran, got_a, alone.left("ga"));
-    leaves(rt, ran, trace, alone.left("t"));
-}
-
-/// Looks whether both links of a pair left what their runs alone leave.
-fn are_alone(
-    rt: &impl Abort,
-    alloc: Global,
-    ran: &Ran,
-    first: Files,
-    second: Files,
-    script: &[u8],
-) -> Result<(), Fail> {
-    left_alike(rt, ran, ["go1", "ga1", "t1"], &run(alloc, first, script)?);
-    left_alike(rt, ran, ["go2", "ga2", "t2"], &run(alloc, second, script)?);
-    Ok(())
+#[test]
+fn both_links_cross_as_each_does_alone(rt: HostRuntime) -> Result<(), Fail> {
+    play(&rt, rt.alloc(), "pairing.rt", SCENARIOS)
 }

@@ -1,11 +1,11 @@
-// The lines that answers say, and single steps over a folder in memory.
-use super::asking::{Ran, folder_with, words_of};
+// What no run of a command shows alone: the lines of all answers, single steps over a folder, and the texts of faults.
 use command_base::{
-    LinkFault, Status, Stop, append_output, create_output, create_outputs, done_line, octets_line,
+    LinkFault, Status, Stop, append_output, are_apart, create_output, done_line, octets_line,
     pieces_line, read_file, read_piece, samples_line, say_line, tell_stop, usage_line,
     within_limit,
 };
 use lapm_frames::FrameFault;
+use noise_script::{Generators, read_script};
 use outside_calls::{FolderFault, NoMemory};
 use outside_core::MemoryFolder;
 use shared_terms::{AuditCause, Cause, Role};
@@ -14,28 +14,6 @@ use std::fmt::{Debug, Display};
 use std::process::Abort;
 use std::test::Fail;
 use xid_params::XidFault;
-
-/// What is said in answer to a stop, over a folder that fails at these calls.
-fn told(alloc: Global, stop: Stop, fails: &[u64]) -> Result<Ran, Fail> {
-    let words = words_of(alloc, &["run", "o"])?;
-    let mut folder = folder_with(alloc, &[], fails)?;
-    let status = tell_stop(&mut folder, &words, stop);
-    Ok(Ran { status, folder })
-}
-
-fn says(
-    rt: &impl Abort,
-    alloc: Global,
-    stop: Stop,
-    status: Status,
-    code: u8,
-    said: &str,
-) -> Result<(), Fail> {
-    let ran = told(alloc, stop, &[])?;
-    super::asking::says(rt, &ran, status, said);
-    assert!(rt; status.code() == code, "{said}");
-    Ok(())
-}
 
 /// Answers, the program's statuses, and their lines.
 const LINES: &[(Status, u8, &str)] = &[
@@ -117,41 +95,35 @@ const LINES: &[(Status, u8, &str)] = &[
         9,
         "link lost: link 1 answ segment 31 turn 160\n",
     ),
-];
-
-/// Faults of the peer in turn 7, and their lines.
-const PEER_FAULTS: &[(LinkFault, &str)] = &[
     (
-        LinkFault::BadAck {
-            nr: 5,
-            va: 0,
-            high: 127,
+        Status::PeerFault {
+            fault: LinkFault::BadAck {
+                nr: 5,
+                va: 0,
+                high: 127,
+            },
+            turn: 7,
         },
+        12,
         "peer fault: bad ack nr 5 va 0 high 127 turn 7\n",
     ),
     (
-        LinkFault::PeerReset { va: 1, vr: 200 },
+        Status::PeerFault {
+            fault: LinkFault::PeerReset { va: 1, vr: 200 },
+            turn: 7,
+        },
+        12,
         "peer fault: reset va 1 vr 200 turn 7\n",
     ),
-    (LinkFault::PeerRefused, "peer fault: refused turn 7\n"),
-];
-
-#[test]
-fn each_status_says_its_line(rt: HostRuntime) -> Result<(), Fail> {
-    for (status, code, said) in LINES {
-        says(&rt, rt.alloc(), Stop::Own(*status), *status, *code, said)?;
-    }
-    for (fault, said) in PEER_FAULTS {
-        let status = Status::PeerFault {
-            fault: *fault,
+    (
+        Status::PeerFault {
+            fault: LinkFault::PeerRefused,
             turn: 7,
-        };
-        says(&rt, rt.alloc(), Stop::Own(status), status, 12, said)?;
-    }
-    assert!(&rt; Status::Done.code() == 0);
-    assert!(&rt; Status::Usage.code() == 2);
-    Ok(())
-}
+        },
+        12,
+        "peer fault: refused turn 7\n",
+    ),
+];
 
 /// Stops by faults of the folder, the answers, the program's statuses, and their lines.
 const STOPS: &[(Stop, Status, u8, &str)] = &[
@@ -184,104 +156,109 @@ const STOPS: &[(Stop, Status, u8, &str)] = &[
     (Stop::NoMemory, Status::NoMemory, 11, "no memory\n"),
 ];
 
+/// Looks at the answer to a stop of the command whose words are `run o`, at its code and at its line.
+fn tells(
+    rt: &impl Abort,
+    alloc: Global,
+    stop: Stop,
+    status: Status,
+    code: u8,
+    line: &str,
+) -> Result<(), Fail> {
+    let words = vec![in alloc;
+        String::from_str(alloc, "run")?,
+        String::from_str(alloc, "o")?,
+    ]?;
+    let mut folder = MemoryFolder::new(alloc);
+    assert!(rt; tell_stop(&mut folder, &words, stop) == status, "{line}");
+    assert!(rt; folder.said() == line.as_bytes(), "{line}");
+    assert!(rt; status.code() == code, "{line}");
+    Ok(())
+}
+
 #[test]
-fn each_fault_of_the_folder_says_its_line(rt: HostRuntime) -> Result<(), Fail> {
-    for (stop, status, code, said) in STOPS {
-        says(&rt, rt.alloc(), *stop, *status, *code, said)?;
+fn each_answer_says_its_line(rt: HostRuntime) -> Result<(), Fail> {
+    for (status, code, line) in LINES {
+        tells(&rt, rt.alloc(), Stop::Own(*status), *status, *code, line)?;
     }
+    for (stop, status, code, line) in STOPS {
+        tells(&rt, rt.alloc(), *stop, *status, *code, line)?;
+    }
+    assert!(&rt; Status::Done.code() == 0);
+    assert!(&rt; Status::Usage.code() == 2);
     Ok(())
 }
 
 /// Looks at a line.
-fn is_line(rt: &impl Abort, line: &[u8], expected: &[u8]) {
-    assert!(rt; line == expected);
+fn is_line(rt: &impl Abort, line: &[u8], expected: &str) {
+    assert!(rt; line == expected.as_bytes(), "{expected}");
 }
 
 #[test]
 fn done_lines_have_their_numbers(rt: HostRuntime) {
-    is_line(&rt, done_line(12).as_slice(), b"done 12\n");
-    is_line(&rt, samples_line(0).as_slice(), b"samples 0\n");
-    is_line(&rt, octets_line(64).as_slice(), b"octets 64\n");
-    is_line(&rt, pieces_line(1).as_slice(), b"pieces 1\n");
-    is_line(
-        &rt,
-        usage_line(&["run", "xid"]).as_slice(),
-        b"usage: modem run, xid\n",
-    );
+    is_line(&rt, done_line(12).as_slice(), "done 12\n");
+    is_line(&rt, samples_line(0).as_slice(), "samples 0\n");
+    is_line(&rt, octets_line(64).as_slice(), "octets 64\n");
+    is_line(&rt, pieces_line(1).as_slice(), "pieces 1\n");
+    let usage = usage_line(&["run", "xid"]);
+    is_line(&rt, usage.as_slice(), "usage: modem run, xid\n");
 }
 
-#[test]
-fn a_fault_in_the_middle_of_a_line_is_the_answer(rt: HostRuntime) -> Result<(), Fail> {
-    let stop = Stop::Own(Status::TooLong { word: 1 });
-    let ran = told(rt.alloc(), stop, &[3])?;
-    super::asking::says(&rt, &ran, Status::WriteFault, "too long: o");
-    Ok(())
-}
-
-fn inputs_end_at_their_limit(rt: &impl Abort, folder: &mut MemoryFolder) {
-    assert!(rt; within_limit(folder, "f", 5, 1) == Ok(()));
-    let long = Stop::Own(Status::TooLong { word: 1 });
-    assert!(rt; within_limit(folder, "f", 4, 1) == Err(long));
-}
-
-fn pieces_are_read_at_their_place(rt: &impl Abort, folder: &mut MemoryFolder) {
-    let mut piece = [0u8; 3];
-    assert!(rt; read_piece(folder, "f", 4, 2, &mut piece) == Ok(2));
-    assert!(rt; piece == [b'c', b'd', 0]);
-    assert!(rt; read_piece(folder, "g", 4, 2, &mut piece) == Err(FolderFault::Failed));
-}
-
-fn files_are_read_to_their_limit(rt: &impl Abort, alloc: Global, folder: &mut MemoryFolder) {
-    match read_file(alloc, folder, "f", 4) {
-        Ok(file) => assert!(rt; file.as_slice() == b"abcd".as_slice()),
-        Err(_) => assert!(rt; false),
-    }
-}
-
-fn outputs_are_made_empty_and_grow(rt: &impl Abort, folder: &mut MemoryFolder) {
-    assert!(rt; create_output(folder, "f") == Ok(()));
-    assert!(rt; append_output(folder, "f", b"xy") == Ok(()));
-    assert!(rt; folder.get("f") == Some(b"xy".as_slice()));
-}
-
-fn a_line_is_said(rt: &impl Abort, folder: &mut MemoryFolder) {
-    assert!(rt; say_line(folder, b"xy") == Ok(()));
-    assert!(rt; folder.said() == b"xy".as_slice());
-}
-
+/// A file of five octets is at its limit or past it, read at its places and whole, made anew and written, and a line is said.
 #[test]
 fn a_file_of_five_octets_is_read_and_written(rt: HostRuntime) -> Result<(), Fail> {
-    let mut folder = folder_with(rt.alloc(), &[("f", b"abcde")], &[])?;
-    inputs_end_at_their_limit(&rt, &mut folder);
-    pieces_are_read_at_their_place(&rt, &mut folder);
-    files_are_read_to_their_limit(&rt, rt.alloc(), &mut folder);
-    outputs_are_made_empty_and_grow(&rt, &mut folder);
-    a_line_is_said(&rt, &mut folder);
+    let mut folder = MemoryFolder::new(rt.alloc());
+    folder.put("f", b"abcde")?;
+    let long = Stop::Own(Status::TooLong { word: 1 });
+    assert!(&rt; within_limit(&mut folder, "f", 5, 1) == Ok(()));
+    assert!(&rt; within_limit(&mut folder, "f", 4, 1) == Err(long));
+    let mut piece = [0u8; 3];
+    assert!(&rt; read_piece(&mut folder, "f", 4, 2, &mut piece) == Ok(2));
+    assert!(&rt; piece == [b'c', b'd', 0]);
+    assert!(&rt; read_piece(&mut folder, "g", 4, 2, &mut piece) == Err(FolderFault::Failed));
+    let file = read_file(rt.alloc(), &mut folder, "f", 4);
+    assert!(&rt; file.is_ok_and(|file| file.as_slice() == b"abcd".as_slice()));
+    assert!(&rt; create_output(&mut folder, "f") == Ok(()));
+    assert!(&rt; append_output(&mut folder, "f", b"xy") == Ok(()));
+    assert!(&rt; folder.get("f") == Some(b"xy".as_slice()));
+    assert!(&rt; say_line(&mut folder, b"xy") == Ok(()));
+    assert!(&rt; folder.said() == b"xy".as_slice());
     Ok(())
 }
 
-fn outputs_are_made(rt: &impl Abort, folder: &mut MemoryFolder) {
-    let made = create_outputs(folder, &["a", "b", "c"]);
-    assert!(rt; made == Err(FolderFault::Failed));
-    assert!(rt; folder.get("a") == Some(b"".as_slice()));
-    assert!(rt; folder.get("b").is_none());
-    assert!(rt; folder.get("c").is_none());
-}
+/// Names of files, names of outputs, and whether they are apart.
+const NAMES: &[([&str; 2], [&str; 2], bool)] = &[
+    (["o", "o"], ["p", "q"], true),
+    (["o", "a"], ["p", "p"], false),
+    (["o", "a"], ["p", "a"], false),
+];
 
 #[test]
-fn outputs_are_made_up_to_the_first_that_fails(rt: HostRuntime) -> Result<(), Fail> {
-    let mut folder = folder_with(rt.alloc(), &[], &[2])?;
-    outputs_are_made(&rt, &mut folder);
-    Ok(())
-}
-
-#[test]
-fn ends_have_their_words(rt: HostRuntime) {
+fn names_of_outputs_are_apart_and_ends_have_their_words(rt: HostRuntime) {
+    for (files, outputs, apart) in NAMES {
+        assert!(&rt; are_apart(files, outputs) == *apart);
+    }
     assert!(&rt; Role::of_word(b"orig") == Some(Role::Originator));
     assert!(&rt; Role::of_word(b"answ") == Some(Role::Answerer));
     assert!(&rt; Role::of_word(b"origin") == None);
 }
 
+/// A script's delays, tries and first break of the originator. The first sample that an originator sends is (8192, -2048), as its recording shows:
+/// the noise of the other script moves it to (8387, -2281).
+#[test]
+fn scripts_say_what_the_line_does(rt: HostRuntime) -> Result<(), Fail> {
+    let script = read_script(rt.alloc(), b"delay 3 5\nbreak orig 5 30\n")?;
+    assert!(&rt; script.delay(Role::Originator) == 3);
+    assert!(&rt; script.delay(Role::Answerer) == 5);
+    assert!(&rt; script.tries() == 5);
+    assert!(&rt; script.break_line(Role::Originator, 0) == Some((5, 30)));
+    let noise = read_script(rt.alloc(), b"noise orig 0 2 500 42")?;
+    let offset = noise.offset(&mut Generators::new(), Role::Originator, 0);
+    assert!(&rt; (offset.re.wrapping_add(8192), offset.im.wrapping_sub(2048)) == (8387, -2281));
+    Ok(())
+}
+
+/// Looks at both texts of a fault.
 fn shows<T: Display + Debug>(
     rt: &impl Abort,
     alloc: Global,

@@ -1,40 +1,34 @@
 // Soaks, and words that spell no seed.
-use super::USAGE;
-use super::asking::{run_over, says};
-use modem_cli::Status;
+use crate::stage::play;
 use std::test::Fail;
 
-/// Words of soaks, all but the first without a seed, the answers, and what is said.
-const SOAKS: &[(&[&str], Status, &str)] = &[
-    (
-        &["soak", "7"],
-        Status::Done,
-        "soak 7 done 614 lost 12 again 99\n",
-    ),
-    (&["soak", "07"], Status::Usage, USAGE),
-    (&["soak", "x"], Status::Usage, USAGE),
-    (&["soak", ""], Status::Usage, USAGE),
-    (&["soak", "18446744073709551616"], Status::Usage, USAGE),
-    (&["soak"], Status::Usage, USAGE),
-    (&["soak", "7", "7"], Status::Usage, USAGE),
-];
+/// Seeds and what comes of them.
+const SCENARIOS: &str = r##"
+scenario a seed is soaked
+ask soak 7
+exit 0
+says "soak 7 done 614 lost 12 again 99\n"
+
+scenario words without a seed are told the usage
+file empty ""
+usage soak 07
+usage soak x
+usage soak @empty
+usage soak 18446744073709551616
+usage soak
+usage soak 7 7
+
+scenario seeds of either parity are done
+# Their lines say so, whatever is lost.
+ask soak 8
+exit 0
+begins said "soak 8 done "
+ask soak 9
+exit 0
+begins said "soak 9 done "
+"##;
 
 #[test]
 fn seeds_are_soaked(rt: HostRuntime) -> Result<(), Fail> {
-    for (words, status, said) in SOAKS {
-        let ran = run_over(rt.alloc(), words, &[], &[])?;
-        says(&rt, &ran, *status, said);
-    }
-    Ok(())
-}
-
-/// Seeds of either parity are done: their lines say so, whatever is lost.
-#[test]
-fn seeds_of_either_parity_are_done(rt: HostRuntime) -> Result<(), Fail> {
-    for (seed, begins) in [("8", "soak 8 done "), ("9", "soak 9 done ")] {
-        let ran = run_over(rt.alloc(), &["soak", seed], &[], &[])?;
-        assert!(&rt; ran.status == Status::Done, "{seed}");
-        assert!(&rt; ran.folder.said().starts_with(begins.as_bytes()), "{seed}");
-    }
-    Ok(())
+    play(&rt, rt.alloc(), "soaking.rt", SCENARIOS)
 }

@@ -1,0 +1,149 @@
+// Pairs of which not both links are done, and words that are no pair's.
+use crate::stage::play;
+use std::test::Fail;
+
+/// How pairs end.
+const SCENARIOS: &str = r##"
+scenario the first link that is not done is the answer
+# Both links leave what their runs alone leave.
+file a "a"
+file b "b"
+file empty ""
+ramp large 1920
+# A link is lost once the other one was done, the second one and the first one.
+file s "lose orig 14 400"
+ask pair a b large empty s go1 ga1 go2 ga2 t1 t2
+exit 9
+says "link lost: link 2 orig segment 6 turn 135\n"
+alike run a b s go1 ga1 t1
+alike run large empty s go2 ga2 t2
+file s "lose orig 14 400"
+ask pair large empty a b s go1 ga1 go2 ga2 t1 t2
+exit 9
+says "link lost: link 1 orig segment 6 turn 135\n"
+alike run large empty s go1 ga1 t1
+alike run a b s go2 ga2 t2
+file s "n400 1\nlose orig 14 400"
+ask pair a b large empty s go1 ga1 go2 ga2 t1 t2
+exit 9
+says "link lost: link 2 orig segment 6 turn 55\n"
+alike run a b s go1 ga1 t1
+alike run large empty s go2 ga2 t2
+# Both are lost, the second one two rounds after the first: the first one counts.
+file s "lose orig 9 400"
+ask pair a b large empty s go1 ga1 go2 ga2 t1 t2
+exit 9
+says "link lost: link 1 answ segment 0 turn 128\n"
+alike run a b s go1 ga1 t1
+alike run large empty s go2 ga2 t2
+# Neither originator sees a pattern.
+file s "lose answ 0 1000000"
+ask pair a b a b s go1 ga1 go2 ga2 t1 t2
+exit 8
+says "not detected: link 1 turn 120\n"
+alike run a b s go1 ga1 t1
+alike run a b s go2 ga2 t2
+
+scenario the first faulty line of a script is named
+file o "a"
+file a "b"
+file s "# a comment\nspeed 3\n"
+ask pair o a o a s go1 ga1 go2 ga2 t1 t2
+exit 3
+says "bad script: line 2: word\n"
+none go1
+
+scenario files past the limit are named by their words
+file s ""
+file o1 "\x07"*16777217
+file a1 ""
+file o2 "a"
+file a2 "b"
+ask pair o1 a1 o2 a2 s go1 ga1 go2 ga2 t1 t2
+exit 4
+says "too long: o1\n"
+none go1
+file o2 o1
+file o1 "a"
+file a1 "b"
+file a2 ""
+ask pair o1 a1 o2 a2 s go1 ga1 go2 ga2 t1 t2
+exit 4
+says "too long: o2\n"
+none go1
+file a2 o2
+file o2 ""
+ask pair o1 a1 o2 a2 s go1 ga1 go2 ga2 t1 t2
+exit 4
+says "too long: a2\n"
+none go1
+
+scenario outputs differ from one another and from all inputs
+file o1 "a"
+file s ""
+usage pair o1 a1 o2 a2 s o1 ga1 go2 ga2 t1 t2
+usage pair o1 a1 o2 a2 s a1 ga1 go2 ga2 t1 t2
+usage pair o1 a1 o2 a2 s o2 ga1 go2 ga2 t1 t2
+usage pair o1 a1 o2 a2 s a2 ga1 go2 ga2 t1 t2
+usage pair o1 a1 o2 a2 s s ga1 go2 ga2 t1 t2
+usage pair o1 a1 o2 a2 s ga1 ga1 go2 ga2 t1 t2
+usage pair o1 a1 o2 a2 s go2 ga1 go2 ga2 t1 t2
+usage pair o1 a1 o2 a2 s ga2 ga1 go2 ga2 t1 t2
+usage pair o1 a1 o2 a2 s t1 ga1 go2 ga2 t1 t2
+usage pair o1 a1 o2 a2 s t2 ga1 go2 ga2 t1 t2
+usage pair o1 a1 o2 a2 s go1 o1 go2 ga2 t1 t2
+usage pair o1 a1 o2 a2 s go1 a1 go2 ga2 t1 t2
+usage pair o1 a1 o2 a2 s go1 o2 go2 ga2 t1 t2
+usage pair o1 a1 o2 a2 s go1 a2 go2 ga2 t1 t2
+usage pair o1 a1 o2 a2 s go1 s go2 ga2 t1 t2
+usage pair o1 a1 o2 a2 s go1 go1 go2 ga2 t1 t2
+usage pair o1 a1 o2 a2 s go1 go2 go2 ga2 t1 t2
+usage pair o1 a1 o2 a2 s go1 ga2 go2 ga2 t1 t2
+usage pair o1 a1 o2 a2 s go1 t1 go2 ga2 t1 t2
+usage pair o1 a1 o2 a2 s go1 t2 go2 ga2 t1 t2
+usage pair o1 a1 o2 a2 s go1 ga1 o1 ga2 t1 t2
+usage pair o1 a1 o2 a2 s go1 ga1 a1 ga2 t1 t2
+usage pair o1 a1 o2 a2 s go1 ga1 o2 ga2 t1 t2
+usage pair o1 a1 o2 a2 s go1 ga1 a2 ga2 t1 t2
+usage pair o1 a1 o2 a2 s go1 ga1 s ga2 t1 t2
+usage pair o1 a1 o2 a2 s go1 ga1 go1 ga2 t1 t2
+usage pair o1 a1 o2 a2 s go1 ga1 ga1 ga2 t1 t2
+usage pair o1 a1 o2 a2 s go1 ga1 ga2 ga2 t1 t2
+usage pair o1 a1 o2 a2 s go1 ga1 t1 ga2 t1 t2
+usage pair o1 a1 o2 a2 s go1 ga1 t2 ga2 t1 t2
+usage pair o1 a1 o2 a2 s go1 ga1 go2 o1 t1 t2
+usage pair o1 a1 o2 a2 s go1 ga1 go2 a1 t1 t2
+usage pair o1 a1 o2 a2 s go1 ga1 go2 o2 t1 t2
+usage pair o1 a1 o2 a2 s go1 ga1 go2 a2 t1 t2
+usage pair o1 a1 o2 a2 s go1 ga1 go2 s t1 t2
+usage pair o1 a1 o2 a2 s go1 ga1 go2 go1 t1 t2
+usage pair o1 a1 o2 a2 s go1 ga1 go2 ga1 t1 t2
+usage pair o1 a1 o2 a2 s go1 ga1 go2 go2 t1 t2
+usage pair o1 a1 o2 a2 s go1 ga1 go2 t1 t1 t2
+usage pair o1 a1 o2 a2 s go1 ga1 go2 t2 t1 t2
+usage pair o1 a1 o2 a2 s go1 ga1 go2 ga2 o1 t2
+usage pair o1 a1 o2 a2 s go1 ga1 go2 ga2 a1 t2
+usage pair o1 a1 o2 a2 s go1 ga1 go2 ga2 o2 t2
+usage pair o1 a1 o2 a2 s go1 ga1 go2 ga2 a2 t2
+usage pair o1 a1 o2 a2 s go1 ga1 go2 ga2 s t2
+usage pair o1 a1 o2 a2 s go1 ga1 go2 ga2 go1 t2
+usage pair o1 a1 o2 a2 s go1 ga1 go2 ga2 ga1 t2
+usage pair o1 a1 o2 a2 s go1 ga1 go2 ga2 go2 t2
+usage pair o1 a1 o2 a2 s go1 ga1 go2 ga2 ga2 t2
+usage pair o1 a1 o2 a2 s go1 ga1 go2 ga2 t2 t2
+usage pair o1 a1 o2 a2 s go1 ga1 go2 ga2 t1 o1
+usage pair o1 a1 o2 a2 s go1 ga1 go2 ga2 t1 a1
+usage pair o1 a1 o2 a2 s go1 ga1 go2 ga2 t1 o2
+usage pair o1 a1 o2 a2 s go1 ga1 go2 ga2 t1 a2
+usage pair o1 a1 o2 a2 s go1 ga1 go2 ga2 t1 s
+usage pair o1 a1 o2 a2 s go1 ga1 go2 ga2 t1 go1
+usage pair o1 a1 o2 a2 s go1 ga1 go2 ga2 t1 ga1
+usage pair o1 a1 o2 a2 s go1 ga1 go2 ga2 t1 go2
+usage pair o1 a1 o2 a2 s go1 ga1 go2 ga2 t1 ga2
+usage pair o1 a1 o2 a2 s go1 ga1 go2 ga2 t1 t1
+"##;
+
+#[test]
+fn the_first_link_that_is_not_done_is_the_answer(rt: HostRuntime) -> Result<(), Fail> {
+    play(&rt, rt.alloc(), "ending.rt", SCENARIOS)
+}

@@ -1,0 +1,21 @@
+// Files of a mebibyte, which cross in some nine thousand turns.
+use crate::stage::play;
+use std::test::Fail;
+
+/// Files and whether they cross.
+const SCENARIOS: &str = r##"
+scenario files of a mebibyte cross
+file o "\x07"*1048576
+file a "\x08"*1048576
+file s ""
+ask run o a s go ga t
+exit 0
+ends said "\n"
+leaves go a
+leaves ga o
+"##;
+
+#[test]
+fn files_of_a_mebibyte_cross(rt: HostRuntime) -> Result<(), Fail> {
+    play(&rt, rt.alloc(), "mebibytes.rt", SCENARIOS)
+}
