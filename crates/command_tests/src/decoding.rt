@@ -234,6 +234,17 @@ keep r
 ask decode4 r f
 exit 0
 leaves f g
+
+scenario what was released before a loss is written
+# The labels of all ten octets are released when the line is lost, by a program apart from this one.
+file f "abcdefghij"
+ask encode call f r
+keep r
+add r "\0"*800
+ask decode r g
+exit 7
+says "line lost: answ symbol 148\n"
+leaves g f
 "##;
 
 #[test]

@@ -138,6 +138,24 @@ ask run o a s go ga t
 exit 0
 says "done 12\n"
 leaves t plain
+
+scenario a coordinate is held to 16 bits
+# Two symbols of the originator's XID frame, four units from the middle to either side, are moved outwards by more than 16 bits hold. One that
+# came in again at the other side would be another point, and the frame lost.
+file o "a"
+file a "b"
+file s ""
+ask record o a s go ga t ro ra
+file plain t
+file right ro[3804..3806]
+leaves right "\x00\x20"
+file left ro[3828..3830]
+leaves left "\x00\xe0"
+file s "hit orig 949 1 30000 0\nhit orig 955 1 -30000 0\n"
+ask run o a s go ga t
+exit 0
+says "done 12\n"
+leaves t plain
 "##;
 
 #[test]

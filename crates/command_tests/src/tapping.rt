@@ -247,6 +247,31 @@ keep ro
 ask tap ro ra plain go ga t
 exit 14
 says "bad tap: orig turn 0\n"
+
+scenario a break counts once the link is set up
+# A UI frame that asks for a break of 300 ms in the first turn, and one behind a SABME.
+file script ""
+file flags ""
+slot flags "~"
+slot flags "~"
+ask encode answer flags ra
+keep ra
+file early ""
+frame early "\x03\x03\x40\x00\x1e\xff\x08"
+slot early "~"
+ask encode call early ro
+keep ro
+ask tap ro ra script go ga t
+exit 0
+leaves t "0 orig - > ui cmd p=0 brk 0 30\n0 answ - > flags\n1 orig - > flags\n1 answ ui cmd p=0 brk 0 30 > flags\n2 orig - > none\n2 answ - > none\n"
+file later ""
+frame later "\x03\x7f\x5f\xae"
+frame later "\x03\x03\x40\x00\x1e\xff\x08"
+ask encode call later ro
+keep ro
+ask tap ro ra script go ga t
+exit 0
+leaves t "0 orig - > sabme cmd p=1\n0 answ - > flags\n1 orig - > ui cmd p=0 brk 0 30\n1 answ sabme cmd p=1 > flags\n2 orig - > none\n2 answ ui cmd p=0 brk 0 30 > none break=30\n"
 "##;
 
 #[test]
