@@ -1,6 +1,7 @@
 // In which order outputs grow where a call of the folder fails: what a scenario can't say, since it goes by the lengths of two of them.
 use super::stage::Stage;
 use std::alloc::Global;
+use std::process::Abort;
 use std::test::Fail;
 
 /// A pair of small links, which is done.
@@ -33,6 +34,16 @@ fn stage_behind(alloc: Global, lines: &str) -> Result<Stage, Fail> {
     Ok(stage)
 }
 
+/// Looks at both traces of the pair where this call fails: whether the first one is ahead, where a trace isn't written.
+fn is_ahead(rt: &impl Abort, stage: &Stage, number: u64) -> Result<Option<bool>, Fail> {
+    let ran = stage.run_failing(number)?;
+    let one = ran.count_lines("t1");
+    let other = ran.count_lines("t2");
+    let is_ahead = one == other.saturating_add(2);
+    assert!(rt; one == other || is_ahead, "{number}");
+    Ok((ran.code == 6).then_some(is_ahead))
+}
+
 /// Where a trace isn't written in a round, the other one has the lines of the turns that were made: those of this round too, where its link is
 /// the first.
 #[test]
@@ -41,17 +52,23 @@ fn a_trace_that_is_not_written_stops_both_links(rt: HostRuntime) -> Result<(), F
     let mut first = 0u32;
     let mut second = 0u32;
     for number in 1..stage.calls() {
-        let ran = stage.run_failing(number)?;
-        let (one, other) = (ran.count_lines("t1"), ran.count_lines("t2"));
-        let is_ahead = one == other.saturating_add(2);
-        assert!(&rt; one == other || is_ahead, "{number}");
-        if ran.code == 6 && is_ahead {
-            second = second.saturating_add(1);
-        } else if ran.code == 6 {
-            first = first.saturating_add(1);
+        match is_ahead(&rt, &stage, number)? {
+            Some(false) => first = first.saturating_add(1),
+            Some(true) => second = second.saturating_add(1),
+            None => {}
         }
     }
     assert!(&rt; first > 13 && second > 13);
+    Ok(())
+}
+
+/// Looks at both recordings where this call fails.
+fn is_in_order(rt: &impl Abort, stage: &Stage, number: u64) -> Result<(), Fail> {
+    let ran = stage.run_failing(number)?;
+    let orig = ran.left("ro").unwrap_or_default().len();
+    let answ = ran.left("ra").unwrap_or_default().len();
+    assert!(rt; answ <= orig, "{number}");
+    assert!(rt; orig <= answ.saturating_add(SLOT), "{number}");
     Ok(())
 }
 
@@ -60,11 +77,7 @@ fn a_trace_that_is_not_written_stops_both_links(rt: HostRuntime) -> Result<(), F
 fn the_originator_s_recording_comes_first(rt: HostRuntime) -> Result<(), Fail> {
     let stage = stage_behind(rt.alloc(), RECORDED)?;
     for number in 1..=stage.calls() {
-        let ran = stage.run_failing(number)?;
-        let orig = ran.left("ro").unwrap_or_default().len();
-        let answ = ran.left("ra").unwrap_or_default().len();
-        assert!(&rt; answ <= orig, "{number}");
-        assert!(&rt; orig <= answ.saturating_add(SLOT), "{number}");
+        is_in_order(&rt, &stage, number)?;
     }
     Ok(())
 }

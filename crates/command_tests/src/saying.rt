@@ -204,25 +204,46 @@ fn done_lines_have_their_numbers(rt: HostRuntime) {
     is_line(&rt, usage.as_slice(), "usage: modem run, xid\n");
 }
 
-/// A file of five octets is at its limit or past it, read at its places and whole, made anew and written, and a line is said.
+fn inputs_end_at_their_limit(rt: &impl Abort, folder: &mut MemoryFolder) {
+    assert!(rt; within_limit(folder, "f", 5, 1) == Ok(()));
+    let long = Stop::Own(Status::TooLong { word: 1 });
+    assert!(rt; within_limit(folder, "f", 4, 1) == Err(long));
+}
+
+fn pieces_are_read_at_their_place(rt: &impl Abort, folder: &mut MemoryFolder) {
+    let mut piece = [0u8; 3];
+    assert!(rt; read_piece(folder, "f", 4, 2, &mut piece) == Ok(2));
+    assert!(rt; piece == [b'c', b'd', 0]);
+    assert!(rt; read_piece(folder, "g", 4, 2, &mut piece) == Err(FolderFault::Failed));
+}
+
+fn files_are_read_to_their_limit(rt: &impl Abort, alloc: Global, folder: &mut MemoryFolder) {
+    match read_file(alloc, folder, "f", 4) {
+        Ok(file) => assert!(rt; file.as_slice() == b"abcd".as_slice()),
+        Err(_) => assert!(rt; false),
+    }
+}
+
+fn outputs_are_made_empty_and_grow(rt: &impl Abort, folder: &mut MemoryFolder) {
+    assert!(rt; create_output(folder, "f") == Ok(()));
+    assert!(rt; append_output(folder, "f", b"xy") == Ok(()));
+    assert!(rt; folder.get("f") == Some(b"xy".as_slice()));
+}
+
+fn a_line_is_said(rt: &impl Abort, folder: &mut MemoryFolder) {
+    assert!(rt; say_line(folder, b"xy") == Ok(()));
+    assert!(rt; folder.said() == b"xy".as_slice());
+}
+
 #[test]
 fn a_file_of_five_octets_is_read_and_written(rt: HostRuntime) -> Result<(), Fail> {
     let mut folder = MemoryFolder::new(rt.alloc());
     folder.put("f", b"abcde")?;
-    let long = Stop::Own(Status::TooLong { word: 1 });
-    assert!(&rt; within_limit(&mut folder, "f", 5, 1) == Ok(()));
-    assert!(&rt; within_limit(&mut folder, "f", 4, 1) == Err(long));
-    let mut piece = [0u8; 3];
-    assert!(&rt; read_piece(&mut folder, "f", 4, 2, &mut piece) == Ok(2));
-    assert!(&rt; piece == [b'c', b'd', 0]);
-    assert!(&rt; read_piece(&mut folder, "g", 4, 2, &mut piece) == Err(FolderFault::Failed));
-    let file = read_file(rt.alloc(), &mut folder, "f", 4);
-    assert!(&rt; file.is_ok_and(|file| file.as_slice() == b"abcd".as_slice()));
-    assert!(&rt; create_output(&mut folder, "f") == Ok(()));
-    assert!(&rt; append_output(&mut folder, "f", b"xy") == Ok(()));
-    assert!(&rt; folder.get("f") == Some(b"xy".as_slice()));
-    assert!(&rt; say_line(&mut folder, b"xy") == Ok(()));
-    assert!(&rt; folder.said() == b"xy".as_slice());
+    inputs_end_at_their_limit(&rt, &mut folder);
+    pieces_are_read_at_their_place(&rt, &mut folder);
+    files_are_read_to_their_limit(&rt, rt.alloc(), &mut folder);
+    outputs_are_made_empty_and_grow(&rt, &mut folder);
+    a_line_is_said(&rt, &mut folder);
     Ok(())
 }
 

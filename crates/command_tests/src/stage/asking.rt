@@ -113,11 +113,7 @@ impl Stage {
         let whole = self.run_over(&self.words, &[])?;
         for number in 1..=whole.folder.folder.calls() {
             let ran = self.run_failing(number)?;
-            let is_cut = ran.blames_the_folder(&whole)
-                && names
-                    .split_whitespace()
-                    .all(|name| whole.has_front(&ran, name));
-            if !is_cut {
+            if !ran.is_cut_from(&whole, names) {
                 self.ran = ran;
                 return Ok(false);
             }

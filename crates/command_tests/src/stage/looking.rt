@@ -34,15 +34,23 @@ impl Ran {
         octets.iter().filter(|octet| **octet == b'\n').count()
     }
 
-    /// Whether what a run left that was cut off begins what this one left.
-    pub(super) fn has_front(&self, cut: &Ran, name: &str) -> bool {
-        let whole = self.left(name).unwrap_or_default();
-        whole.starts_with(cut.left(name).unwrap_or_default())
+    /// Whether what this run left, which was cut off, begins what the whole one left.
+    fn begins(&self, whole: &Ran, name: &str) -> bool {
+        let left = self.left(name).unwrap_or_default();
+        whole.left(name).unwrap_or_default().starts_with(left)
+    }
+
+    /// Whether the answer blames the folder, and what was left under these names begins what the whole run left.
+    pub(super) fn is_cut_from(&self, whole: &Ran, names: &str) -> bool {
+        self.blames_the_folder(whole)
+            && names
+                .split_whitespace()
+                .all(|name| self.begins(whole, name))
     }
 
     /// Whether a fault of the folder is the answer, with its line, unless that was what was not said. Before it stands at most what the
     /// whole run says before its last line, and no more calls are made.
-    pub(super) fn blames_the_folder(&self, whole: &Ran) -> bool {
+    fn blames_the_folder(&self, whole: &Ran) -> bool {
         let said = self.left("said").unwrap_or_default();
         let before = match self.code {
             5 => said.strip_suffix(b"read fault\n"),
@@ -77,17 +85,28 @@ impl Stage {
         match verb {
             "exit" => Ok(u64::from(self.ran.code) == rest.parse()?),
             "says" => self.compares("leaves", "said", rest),
-            "none" => Ok(
-                rest.split_whitespace()
-                    .all(|name| self.ran.left(name).is_none()),
-            ),
-            "kept" => Ok(rest.split_whitespace().all(|name| self.has_as_before(name))),
+            "none" => Ok(self.has_none(rest)),
+            "kept" => Ok(self.has_all_as_before(rest)),
             "line" => self.has_line(name, text),
             "lacks" => Ok(!self.has_line(name, text)?),
             "lines" => Ok(self.ran.count_lines(name) == text.parse()?),
             "length" => Ok(self.ran.octets(name)?.len() == text.parse()?),
             _ => self.compares(verb, name, text),
         }
+    }
+
+    /// Whether there is no file of these names.
+    fn has_none(&self, names: &str) -> bool {
+        names
+            .split_whitespace()
+            .all(|name| self.ran.left(name).is_none())
+    }
+
+    /// Whether all files of these names stand as they did before the command.
+    fn has_all_as_before(&self, names: &str) -> bool {
+        names
+            .split_whitespace()
+            .all(|name| self.has_as_before(name))
     }
 
     /// Whether one of the lines of what was left is meant by these pieces.

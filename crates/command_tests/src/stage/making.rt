@@ -1,5 +1,6 @@
 // Statements that make files: slots of a line, recordings that are turned, and scripts that move what was sent.
 use super::Stage;
+use super::octets::add_all;
 use std::test::Fail;
 
 /// The octets of a slot of 464 symbols.
@@ -23,6 +24,58 @@ fn sample(octets: &[u8]) -> (i16, i16) {
         [a, b, c, d] => (i16::from_le_bytes([*a, *b]), i16::from_le_bytes([*c, *d])),
         _ => (0, 0),
     }
+}
+
+/// The octets of a sample turned by a quarter and then moved that far.
+fn turned_sample(octets: &[u8], re: i16, im: i16) -> [u8; 4] {
+    let (old_re, old_im) = sample(octets);
+    let turned = 0i16.saturating_sub(old_re).saturating_add(im);
+    let [a, b] = old_im.saturating_add(re).to_le_bytes();
+    let [c, d] = turned.to_le_bytes();
+    [a, b, c, d]
+}
+
+/// How far it is from one sample to another.
+fn way(from: &[u8], to: &[u8]) -> (i32, i32) {
+    let (from_re, from_im) = sample(from);
+    let (to_re, to_im) = sample(to);
+    (
+        i32::from(to_re).wrapping_sub(i32::from(from_re)),
+        i32::from(to_im).wrapping_sub(i32::from(from_im)),
+    )
+}
+
+/// The way that a pair of units of the map is.
+fn way_of(pair: &str) -> Result<(i32, i32), Fail> {
+    let (re, im) = pair.split_once(',').ok_or("no pair")?;
+    Ok((
+        re.parse::<i32>()?.wrapping_mul(UNIT),
+        im.parse::<i32>()?.wrapping_mul(UNIT),
+    ))
+}
+
+/// Puts the line into a script that moves a symbol of an end's so far.
+fn write_hit(script: &mut String, role: &str, symbol: usize, way: (i32, i32)) -> Result<(), Fail> {
+    let (re, im) = way;
+    writeln!(script, "hit {role} {symbol} 1 {re} {im}")?;
+    Ok(())
+}
+
+/// Puts lines into a script that move an end's samples from those of one recording to those of another.
+fn write_hits(script: &mut String, role: &str, sent: &[u8], aimed: &[u8]) -> Result<(), Fail> {
+    let samples = sent.chunks(4).zip(aimed.chunks(4)).skip(HEADER);
+    for (symbol, (from, to)) in samples.enumerate() {
+        write_hit(script, role, symbol, way(from, to))?;
+    }
+    Ok(())
+}
+
+/// Puts lines into a script that move an end's samples from one on, each as far as a pair says.
+fn write_moves(script: &mut String, role: &str, first: usize, pairs: &str) -> Result<(), Fail> {
+    for (place, pair) in pairs.split_whitespace().enumerate() {
+        write_hit(script, role, first.saturating_add(place), way_of(pair)?)?;
+    }
+    Ok(())
 }
 
 /// Where these octets stand first.
@@ -69,9 +122,7 @@ impl Stage {
             return Err(Fail::new("nothing to fill with"));
         };
         let mut slot = Vec::new(self.alloc);
-        for piece in pieces {
-            slot.extend_from_slice(piece)?;
-        }
+        add_all(&mut slot, pieces)?;
         for _ in slot.len()..SLOT {
             slot.extend_from_slice(fill)?;
         }
@@ -124,77 +175,59 @@ impl Stage {
     /// The octets with the other pieces in the first one's place.
     fn swapped(&self, before: &[u8], text: &str) -> Result<Vec<u8>, Fail> {
         let pieces = self.pieces(text)?;
-        let [old, new @ ..] = pieces.as_slice() else {
-            return Err(Fail::new("nothing to swap"));
-        };
+        let (old, new) = pieces.split_first().ok_or("nothing to swap")?;
         let place = place_of(old, before).ok_or("it stands nowhere")?;
         let rest = place.saturating_add(old.len());
-        let mut octets = Vec::new(self.alloc);
-        octets.extend_from_slice(before.get(..place).unwrap_or_default())?;
-        for piece in new {
-            octets.extend_from_slice(piece)?;
-        }
+        let mut octets = Vec::from_slice(self.alloc, before.get(..place).unwrap_or_default())?;
+        add_all(&mut octets, new)?;
         octets.extend_from_slice(before.get(rest..).unwrap_or_default())?;
         Ok(octets)
     }
 
     /// A recording with the samples from one number to another turned by a quarter and then moved that far.
     fn turned(&self, before: &[u8], text: &str) -> Result<Vec<u8>, Fail> {
-        let numbers = self.numbers(text)?;
-        let [from, to, re, im] = numbers.as_slice() else {
-            return Err(Fail::new("no four numbers"));
-        };
-        let (re, im) = (i16::try_from(*re)?, i16::try_from(*im)?);
+        let [from, to, re, im] = self.four_numbers(text)?;
+        let (re, im) = (i16::try_from(re)?, i16::try_from(im)?);
         let mut octets = Vec::new(self.alloc);
         for (place, old) in before.chunks(4).enumerate() {
-            let is_meant = match place.checked_sub(HEADER) {
-                Some(number) => (*from..*to).contains(&(number as u64)),
-                None => false,
-            };
-            if is_meant {
-                let (old_re, old_im) = sample(old);
-                octets.extend_from_slice(&old_im.saturating_add(re).to_le_bytes())?;
-                let turned = 0i16.saturating_sub(old_re);
-                octets.extend_from_slice(&turned.saturating_add(im).to_le_bytes())?;
-            } else {
-                octets.extend_from_slice(old)?;
+            match place.checked_sub(HEADER) {
+                Some(number) if (from..to).contains(&(number as u64)) => {
+                    octets.extend_from_slice(&turned_sample(old, re, im))?;
+                }
+                _ => octets.extend_from_slice(old)?,
             }
         }
         Ok(octets)
     }
 
-    /// Lines of a script that move an end's first samples, of which the first piece is the recording, to those of the second one.
+    /// Four numbers between spaces.
+    fn four_numbers(&self, text: &str) -> Result<[u64; 4], Fail> {
+        match self.numbers(text)?.as_slice() {
+            [a, b, c, d] => Ok([*a, *b, *c, *d]),
+            _ => Err(Fail::new("no four numbers")),
+        }
+    }
+
+    /// Lines of a script more that move an end's first samples, of which the first piece is the recording, to those of the second one.
     fn hits(&self, before: &[u8], text: &str) -> Result<Vec<u8>, Fail> {
         let (role, text) = text.split_once(' ').ok_or("no recordings")?;
-        let pieces = self.pieces(text)?;
-        let [sent, aimed] = pieces.as_slice() else {
-            return Err(Fail::new("no two recordings"));
-        };
+        let (sent, aimed) = text.split_once(' ').ok_or("no two recordings")?;
         let mut script = String::new(self.alloc);
-        let samples = sent.chunks(4).zip(aimed.chunks(4)).skip(HEADER);
-        for (symbol, (from, to)) in samples.enumerate() {
-            let (from_re, from_im) = sample(from);
-            let (to_re, to_im) = sample(to);
-            let re = i32::from(to_re).wrapping_sub(i32::from(from_re));
-            let im = i32::from(to_im).wrapping_sub(i32::from(from_im));
-            writeln!(script, "hit {role} {symbol} 1 {re} {im}")?;
-        }
+        write_hits(
+            &mut script,
+            role,
+            self.ran.octets(sent)?,
+            self.ran.octets(aimed)?,
+        )?;
         self.behind(before, script.as_bytes())
     }
 
-    /// Lines of a script that move an end's samples from one on, each as many units of the map as a pair of numbers says.
+    /// Lines of a script more that move an end's samples from one on, each as many units of the map as a pair of numbers says.
     fn moves(&self, before: &[u8], text: &str) -> Result<Vec<u8>, Fail> {
-        let mut words = text.split_whitespace();
-        let role = words.next().ok_or("no role")?;
-        let first = words.next().ok_or("no symbol")?.parse::<usize>()?;
+        let (role, text) = text.split_once(' ').ok_or("no symbol")?;
+        let (first, pairs) = text.split_once(' ').ok_or("no pairs")?;
         let mut script = String::new(self.alloc);
-        for (place, word) in words.enumerate() {
-            let (re, im) = word.split_once(',').ok_or("no pair")?;
-            let symbol = first.saturating_add(place);
-            let re = re.parse::<i32>()?.wrapping_mul(UNIT);
-            let im = im.parse::<i32>()?.wrapping_mul(UNIT);
-            writeln!(script, "hit {role} {symbol} 1 {re} {im}")?;
-        }
+        write_moves(&mut script, role, first.parse()?, pairs)?;
         self.behind(before, script.as_bytes())
     }
 }

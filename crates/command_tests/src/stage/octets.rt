@@ -54,37 +54,70 @@ impl Ran {
     }
 }
 
+/// Puts the octets of all pieces behind others.
+pub(super) fn add_all(octets: &mut Vec<u8>, pieces: &[Vec<u8>]) -> Result<(), Fail> {
+    for piece in pieces {
+        octets.extend_from_slice(piece)?;
+    }
+    Ok(())
+}
+
+/// Puts the octet behind others that a part of a text names behind a backslash, and what stands behind its name.
+fn add_named(octets: &mut Vec<u8>, part: &str) -> Result<(), Fail> {
+    let (octet, rest) = named(part.as_bytes()).ok_or("no such octet")?;
+    octets.push(octet)?;
+    octets.extend_from_slice(rest)?;
+    Ok(())
+}
+
 impl Stage {
     /// The octets of a text between quotes.
     fn quoted(&self, text: &str) -> Result<Vec<u8>, Fail> {
         let mut octets = Vec::new(self.alloc);
-        let mut parts = text.split('\\');
-        octets.extend_from_slice(parts.next().unwrap_or("").as_bytes())?;
-        for part in parts {
-            let (octet, rest) = named(part.as_bytes()).ok_or("no such octet")?;
-            octets.push(octet)?;
-            octets.extend_from_slice(rest)?;
+        for (place, part) in text.split('\\').enumerate() {
+            if place == 0 {
+                octets.extend_from_slice(part.as_bytes())?;
+            } else {
+                add_named(&mut octets, part)?;
+            }
         }
         Ok(octets)
     }
 
+    /// A piece so many times.
+    fn repeated(&self, piece: &[u8], times: &str) -> Result<Vec<u8>, Fail> {
+        Ok(piece.repeat(self.alloc, times.parse()?)?)
+    }
+
+    /// The piece that a word is: what was left under this name, or the last piece so many times.
+    fn piece_of(&self, word: &str, last: Option<Vec<u8>>) -> Result<Vec<u8>, Fail> {
+        match word.strip_prefix('*') {
+            Some(times) => self.repeated(&last.ok_or("nothing to repeat")?, times),
+            None => Ok(Vec::from_slice(self.alloc, self.ran.octets(word)?)?),
+        }
+    }
+
+    /// Puts the pieces behind others that words are.
+    fn add_words(&self, pieces: &mut Vec<Vec<u8>>, text: &str) -> Result<(), Fail> {
+        for word in text.split_whitespace() {
+            let last = if word.starts_with('*') {
+                pieces.pop()
+            } else {
+                None
+            };
+            pieces.push(self.piece_of(word, last)?)?;
+        }
+        Ok(())
+    }
+
     /// Pieces of octets: texts between quotes, which may be repeated, and names of what was left.
     pub(super) fn pieces(&self, text: &str) -> Result<Vec<Vec<u8>>, Fail> {
-        let mut pieces: Vec<Vec<u8>> = Vec::new(self.alloc);
+        let mut pieces = Vec::new(self.alloc);
         for (place, part) in text.split('"').enumerate() {
             if place % 2 == 1 {
                 pieces.push(self.quoted(part)?)?;
-                continue;
-            }
-            for word in part.split_whitespace() {
-                let piece = match word.strip_prefix('*') {
-                    Some(times) => {
-                        let piece = pieces.pop().ok_or("nothing to repeat")?;
-                        piece.repeat(self.alloc, times.parse()?)?
-                    }
-                    None => Vec::from_slice(self.alloc, self.ran.octets(word)?)?,
-                };
-                pieces.push(piece)?;
+            } else {
+                self.add_words(&mut pieces, part)?;
             }
         }
         Ok(pieces)
@@ -93,9 +126,7 @@ impl Stage {
     /// The octets of all pieces.
     pub(super) fn joined(&self, text: &str) -> Result<Vec<u8>, Fail> {
         let mut octets = Vec::new(self.alloc);
-        for piece in self.pieces(text)? {
-            octets.extend_from_slice(&piece)?;
-        }
+        add_all(&mut octets, &self.pieces(text)?)?;
         Ok(octets)
     }
 }
