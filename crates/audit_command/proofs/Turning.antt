@@ -1,22 +1,21 @@
 -- From a turn over the folder of an audit to the lines that it adds.
 use Rattle.std.proofs.Common.{◌≡◌, ℕ, ◌<◌, ◌^◌, Bool, true, false, List, [], ◌∷◌, ◌++◌, length, Result, Ok, Err, refl, sym, ◌∙◌, ap, subst, arith, append-nil}
-use Rattle.std.specs.List.{concat}
 use Rattle.outside_calls.specs.Folder.{FolderState, CountsStand}
 use Rattle.outside_calls.specs.Outputs.{OnlyPuts}
 use Rattle.shared_terms.specs.declared.role.Role.{Role}
-use Rattle.shared_terms.specs.declared.role.Role.TheVariants.{Originator, Answerer}
-use Rattle.shared_terms.specs.Both.{of}
+use Rattle.shared_terms.specs.declared.role.Role.TheVariants.{Originator}
 use Rattle.shared_terms.specs.declared.fault.LinkFault.TheVariants as causes
 use Rattle.noise_script.specs.Script.{ScriptValue, IsInLimits}
 use Rattle.line_texts.specs.LineText.{chance_line}
-use Rattle.link_run.specs.Run.{Accounts, Turn}
+use Rattle.link_run.specs.Run.{Turn}
 use Rattle.link_run.specs.Outcomes.{Outcome, Going, Done, Broken}
 use Rattle.link_run.specs.Trace.{trace_text, turn_text}
 use Rattle.line_run.specs.Sampled.{Wire, LineRun}
-use Rattle.line_run.specs.Ends.{RunEnd, Left, Leaves, RunsTo, EndsBy, EndsInTurn}
+use Rattle.line_run.specs.Ends.{RunEnd, EndsBy, EndsInTurn}
 use Rattle.line_run.specs.Ends as runs
 use Rattle.line_run.specs.Scripted.{wire_of, link_of}
 use Rattle.line_run.specs.Stream.{both_sent_by}
+use Rattle.line_run.proofs.WhatIsLeft.{left_of, leaves-so}
 use Rattle.line_run.specs.Names.{Written, outputs_of}
 use Rattle.run_world.specs.World.{KnowsFiles, script_of, turn_of}
 use Rattle.run_world.specs.Turn.{GoesOnBy, LosesLine, MeetsChance, TurnAnswers, TurnCounts}
@@ -45,18 +44,6 @@ pub record LineLaws : Type 0 where
 pub whole-append : (a b : List (List ℕ)) → AreWhole a → AreWhole b → AreWhole (a ++ b)
 whole-append [] b h k = k
 whole-append (line ∷ a) b h k = (h.0, whole-append a b h.1 k)
-
--- what ends and a text leave
-left_of : Accounts → List ℕ → Left
-left_of ends text = record { got = record { orig = concat ends.orig.incoming.taken; answ = concat ends.answ.incoming.taken }; trace = text }
-
-leaves-so : (ends : Accounts) (text : List ℕ) → Leaves ends text (left_of ends text)
-unfolding left_of
-leaves-so ends text = record { got_is = by; trace_is = refl }
-  where
-    by : (role : Role) → of role (left_of ends text).got ≡ concat (of role ends).incoming.taken
-    by Originator = refl
-    by Answerer = refl
 
 module _ (laws : LineLaws) (w v : World) (old new : FolderState) (n : Written) (text : List ℕ) (r : ℕ) (apart : IsApart n)
     (only : OnlyPuts (held_by old n [] 0) (held_by new n text r) (outputs_of n)) (limits : IsInLimits (script_of v))
@@ -104,7 +91,6 @@ module _ (laws : LineLaws) (w v : World) (old new : FolderState) (n : Written) (
       → (EndsInTurn c (link_of (script_of v) e.others) s.turns s.ends outcome number (left_of e.mid (trace_text (e.turn ∷ s.turns)))
       → EndsBy c (link_of (script_of v) e.others) s.turns s.ends end (left_of e.mid (trace_text (e.turn ∷ s.turns))))
       → TurnMade false v new n before text
-  unfolding left_of
   ended end outcome number e so =
       let lines : AreLines (turn_lines (length s.turns) e.turn) =
       laws.turns (script_of v) e.others s.turns s.ends e.turn e.mid outcome limits asks e.makes.run e.makes.heard e.makes.is early in
@@ -154,7 +140,6 @@ module _ (laws : LineLaws) (w v : World) (old new : FolderState) (n : Written) (
   -- the line is lost as it begins
   loses : (role : Role) (symbol : ℕ)
       → LosesLine v.modems c (held_by old n [] 0) (held_by new n text r) n s.turns s.ends role symbol → TurnMade false v new n before text
-  unfolding left_of
   loses role symbol e = record {
     lines = [];
     text_is = text-kept old new n text r apart only.goes_on e.kept.1.1.0;
@@ -178,7 +163,6 @@ module _ (laws : LineLaws) (w v : World) (old new : FolderState) (n : Written) (
   -- a slot is a chance match
   meets : (role : Role) (number : ℕ)
       → MeetsChance v.modems c (held_by old n [] 0) (held_by new n text r) n s.turns s.ends role number → TurnMade false v new n before text
-  unfolding left_of
   meets role number e =
       let words : List (List ℕ) = chance_words (length s.turns) role ∷ [] in
       let line : List ℕ = chance_line (length s.turns) role in

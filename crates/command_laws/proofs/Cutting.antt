@@ -15,12 +15,12 @@ use Rattle.bit_stuffing.specs.Slots.{phase_after, flags_behind, AreSlots}
 use Rattle.bit_stuffing.specs.Slots.Slot.{Plain, Flags}
 use Rattle.bit_stuffing.specs.Sent.{Added, FoundIn, whole_at, aborted_at, octets_if_whole, wholes, AreWholeOrAborted}
 use Rattle.bit_stuffing.specs.Tails.{behind, Misses, LastPiecesAreFound}
-use Rattle.bit_stuffing.proofs.Fill.{bits-append}
 use Rattle.bit_stuffing.proofs.Found.{pieces-none}
 use Rattle.bit_stuffing.proofs.Sent.{found-is-sent, pieces-stay}
 use Rattle.bit_stuffing.proofs.Tails.{flag-ahead, flag-front, flag-longer}
 use Rattle.detection.specs.Slots.{Signal, slot_of, slots_of, signal_bits}
 use Rattle.detection.specs.Slots.Signal.{PatternSlot, MarkSlot, FlagSlot}
+use Rattle.sample_line.proofs.Passing.{slot-added}
 use Rattle.line_run.specs.Fitting.{Fits, AreFit}
 use Rattle.line_run.specs.Laws.{FirstOnesFit, SlotsThatFitAreSlots, SlotsHaveSize}
 
@@ -195,13 +195,6 @@ pub record SlotLaws : Type 0 where
   pub slots : SlotsThatFitAreSlots
   pub size : SlotsHaveSize
 
-one-signal : (size : ℕ) (before : List Signal) (x : Signal)
-    → signal_bits size (before ++ x ∷ [])
-    ≡ signal_bits size before ++ slot_bits size (phase_after size (slots_of size before)) (slot_of size x)
-one-signal size before x =
-    ap (λ slots. sent_bits size slots) (map-append (slot_of size) before (x ∷ []))
-    ∙ bits-append size 0 (slots_of size before) (slot_of size x)
-
 last-fits : (size phase : ℕ) (before : List Signal) (x : Signal) → AreFit size phase (before ++ x ∷ [])
     → Fits size (phase_from size phase (slots_of size before)) x
 last-fits size phase [] x h = h.0
@@ -224,7 +217,7 @@ more-stand laws size before (x ∷ more) wide fit =
     let past : List Bool = signal_bits size before in
     let phase : ℕ = phase_after size (slots_of size before) in
     let slot : List Bool = slot_bits size phase (slot_of size x) in
-    let joined : signal_bits size (before ++ x ∷ []) ≡ past ++ slot = one-signal size before x in
+    let joined : signal_bits size (before ++ x ∷ []) ≡ past ++ slot = slot-added size before x in
     let slots : AreSlots size 0 (slots_of size before ++ slot_of size x ∷ []) =
     subst (AreSlots size 0) (map-append (slot_of size) before (x ∷ [])) (laws.slots size (before ++ x ∷ []) wide fit-one) in
     let one = found-is-sent size (slots_of size before) (slot_of size x) slots in

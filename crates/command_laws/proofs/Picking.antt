@@ -51,7 +51,8 @@ use Rattle.pickup_command.specs.Completes.{IsRecording}
 use Rattle.command_laws.specs.Pickups.{frames_sent, FindsFrames, SaysFrames, IsMiddle, EndsThere, told_symbols, told_turns}
 use Rattle.command_laws.specs.Pickups.{PickupsFindWhatIsTold, PickupsFindWhatTapsName}
 use Rattle.command_laws.proofs.Cutting.{SlotLaws, CutFinds, cut-finds}
-use Rattle.command_laws.proofs.Told.{FitLaws, frames-are, signals-split, tells-earlier, told-fit, one-each, told-bits}
+use Rattle.line_tap.proofs.ToldFit.{FitLaws, told-fit}
+use Rattle.command_laws.proofs.Told.{frames-are, signals-split, tells-earlier, one-each, told-bits}
 use Rattle.command_laws.proofs.Told.{few-samples, all-told}
 
 -- the laws that it rests on

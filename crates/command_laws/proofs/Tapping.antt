@@ -1,5 +1,5 @@
 -- From a recorded run to the tap of its recordings.
-use Rattle.std.proofs.Common.{◌≡◌, ◌⊎◌, inl, inr, ◌∙◌, ℕ, ◌*◌, ◌<◌, IsTrue, List, [], ◌∷◌, ◌++◌, Some, refl, sym, ap, subst, arith}
+use Rattle.std.proofs.Common.{◌≡◌, ◌⊎◌, inl, inr, ◌∙◌, ℕ, ◌*◌, IsTrue, List, [], ◌∷◌, ◌++◌, Some, refl, sym, ap, subst, arith}
 use Rattle.plain_lists.specs.Octets.{AreOctets}
 use Rattle.outside_calls.specs.Folder.{FolderState, octets_at}
 use Rattle.outside_calls.specs.Outputs.{Holds}
@@ -18,23 +18,18 @@ use Rattle.link_run.specs.Run.{Accounts, Turn}
 use Rattle.link_run.specs.Laws.{agreed_srej}
 use Rattle.link_run.specs.Taken.{taken_octets}
 use Rattle.line_run.specs.Sampled.{LineRun, signals}
-use Rattle.line_run.specs.Ends.{RunEnd, Left, RunsLeaveWhatPassed}
+use Rattle.line_run.specs.Ends.{RunsLeaveWhatPassed}
 use Rattle.line_run.specs.Recorded.{IsRecorded, Tapes}
 use Rattle.line_run.specs.Scripted.{wire_of, link_of, ScriptsMayPlay, ScriptsHaveDelays, SlotsAreCodable}
 use Rattle.line_run.specs.Stream.{AllSendable}
-use Rattle.line_ends.specs.Completes.{AreOfOctets, OctetsAreSendable}
+use Rattle.line_ends.specs.Completes.{OctetsAreSendable}
 use Rattle.line_tap.specs.Tapping.{tapping, phase_behind}
 use Rattle.line_tap.specs.Ends.{TapOf}
 use Rattle.line_tap.specs.Laws.{AreCoded, RecordingsTellRuns, told_end}
-use Rattle.command_base.specs.declared.status.Status.{Status}
 use Rattle.command_base.specs.declared.status.Status.TheVariants.{NoMemory}
-use Rattle.command_base.specs.Sound.{IsSound}
-use Rattle.run_inputs.specs.Words.{RunNames}
-use Rattle.run_world.specs.Tapes.{HoldsTape, HoldTapes}
-use Rattle.run_command.specs.Headline.{Ran}
-use Rattle.tap_command.specs.Names.{TapNames, inputs_of, outputs_of}
-use Rattle.tap_command.specs.Completes.{AreRight, Answered, Completes}
-use Rattle.command_laws.specs.Taps.{AreTold, AreOfRun, LeftAlike, LeavesTheSame, TapsLeaveWhatRunsLeft}
+use Rattle.run_world.specs.Tapes.{HoldTapes}
+use Rattle.tap_command.specs.Completes.{AreRight, Answered}
+use Rattle.command_laws.specs.Taps.{LeftAlike, LeavesTheSame, TapsLeaveWhatRunsLeft}
 
 -- the laws that it rests on
 pub record TapLaws : Type 0 where

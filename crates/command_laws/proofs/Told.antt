@@ -19,11 +19,9 @@ use Rattle.lapm_frames.specs.declared.sent.Sent.TheVariants as sent
 use Rattle.sample_line.specs.Signals.{signal_of}
 use Rattle.link_run.specs.Run.{Spoken, Turn}
 use Rattle.link_run.specs.Listened.{check_by}
-use Rattle.line_run.specs.Fitting.{AreFit}
-use Rattle.line_run.specs.Laws.{OneMoreFits, CodableFits, CodableIsSendable, SpelledInOctets}
 use Rattle.line_run.specs.Sampled.{signal_in, signals, bits_of}
-use Rattle.line_run.proofs.Bits.{bits-more}
-use Rattle.line_tap.specs.Tapping.{Tapping, line_of, terms_of, octets_of, Tells, told, phase_behind}
+use Rattle.line_run.proofs.Bits.{signals-more, bits-more}
+use Rattle.line_tap.specs.Tapping.{Tapping, line_of, terms_of, octets_of, Tells, told}
 use Rattle.command_laws.specs.Pickups.{frame_in, frame_sent, frames_sent}
 
 -- ---- their frames
@@ -71,30 +69,7 @@ pub tells-earlier : (x : Tapping) (later earlier : List Turn) → Tells x (later
 tells-earlier x [] earlier h = h
 tells-earlier x (t ∷ later) earlier h = tells-earlier x later earlier h.1
 
--- ---- they fit
-
-pub record FitLaws : Type 0 where
-  pub more : OneMoreFits
-  pub fits : CodableFits
-  pub sendable : CodableIsSendable
-  pub octets : SpelledInOctets
-
-signals-more : (x : Tapping) (role : Role) (ts : List Turn) (t : Turn) (slot : Spoken) → (of role t).sent ≡ Some slot
-    → signals (line_of x) role (t ∷ ts) ≡ signals (line_of x) role ts ++ signal_of slot.check role 0 slot.sent ∷ []
-signals-more x role ts t slot e = ap (λ (o : Option Spoken). signals (line_of x) role ts ++ signal_in (line_of x) role o) e
-
-pub told-fit : FitLaws → (x : Tapping) (ts : List Turn) → Tells x ts → (role : Role)
-    → AreFit (4 * (line_of x).symbols) 0 (signals (line_of x) role ts)
-told-fit laws x [] h role = tt
-told-fit laws x (t ∷ ts) h role =
-    let s = h.0.sends role in
-    let check : Check = check_by (terms_of x) in
-    let codable = s.holds.codable in
-    let octets = laws.octets check role 0 s.sent (omega arith)
-    (laws.sendable check role 0 (line_of x).symbols (phase_behind (line_of x) role ts) s.sent codable) in
-    subst (AreFit (4 * (line_of x).symbols) 0) (sym (signals-more x role ts t (told check s.sent) s.sent_is))
-    (laws.more (4 * (line_of x).symbols) (signals (line_of x) role ts) (signal_of check role 0 s.sent) (told-fit laws x ts h.1 role)
-    (laws.fits check role 0 (line_of x).symbols (phase_behind (line_of x) role ts) s.sent octets codable))
+-- ---- there is one for each turn
 
 pub one-each : (x : Tapping) (ts : List Turn) → Tells x ts → (role : Role) → length (signals (line_of x) role ts) ≡ length ts
 one-each x [] h role = refl
@@ -103,7 +78,7 @@ one-each x (t ∷ ts) h role =
     let slot : Spoken = told (check_by (terms_of x)) s.sent in
     omega (
       arith,
-      ap length (signals-more x role ts t slot s.sent_is),
+      ap length (signals-more (line_of x) role ts slot t (λ r n. refl) s.sent_is),
       length-append (signals (line_of x) role ts) (signal_of slot.check role 0 slot.sent ∷ []),
       one-each x ts h.1 role,
     )

@@ -1,6 +1,6 @@
 -- Whether octets pass a check, and what a slot is to its hearer, can be told.
-use Rattle.std.proofs.Common.{◌≡◌, ◌⊎◌, inl, inr, ℕ, zero, suc, ◌-◌, ◌<◌, ◌≤◌, Bool, true, false, List, [], ◌∷◌, length, take, drop}
-use Rattle.std.proofs.Common.{slice_index_or, All, arith, refl, sym, ◌∙◌, ap, subst, Option, Some, None, IfSome}
+use Rattle.std.proofs.Common.{◌≡◌, ◌⊎◌, inl, inr, ℕ, zero, suc, ◌-◌, ◌<◌, ◌≤◌, Bool, true, false, List, [], ◌∷◌, length, take}
+use Rattle.std.proofs.Common.{All, arith, refl, sym, ◌∙◌, ap, subst, Option, Some, None, IfSome}
 use Rattle.std.proofs.lemmas.Bool.{cases_lt}
 use Rattle.std.proofs.lemmas.List.Elements.{All-nil, All-cons, All-head, All-tail}
 use Rattle.frame_check.specs.declared.sizes.TheConstants.{INFO}
@@ -26,7 +26,7 @@ use Rattle.sample_line.specs.Outcomes.{is_message, IsSilent, IsPattern, IsFrameO
 abbrev pub Decided : Type 0 → Type 0
 Decided P = P ⊎ (P → ⊥)
 
-both-decided : {P Q : Type 0} → Decided P → Decided Q → Decided (P × Q)
+pub both-decided : {P Q : Type 0} → Decided P → Decided Q → Decided (P × Q)
 both-decided (inl p) (inl q) = inl (p, q)
 both-decided (inl p) (inr q) = inr (λ h. q h.1)
 both-decided (inr p) d = inr (λ h. p h.0)
@@ -37,7 +37,7 @@ three-decided (inl p) (inl q) (inr r) = inr (λ h. r h.2)
 three-decided (inl p) (inr q) d = inr (λ h. q h.1)
 three-decided (inr p) d e = inr (λ h. p h.0)
 
-number-decided : (m n : ℕ) → Decided (m ≡ n)
+pub number-decided : (m n : ℕ) → Decided (m ≡ n)
 number-decided zero zero = inl refl
 number-decided zero (suc n) = inr (λ e. omega (arith, e))
 number-decided (suc m) zero = inr (λ e. omega (arith, e))
@@ -50,22 +50,22 @@ number-decided (suc m) (suc n) = go (number-decided m n)
 below-decided : (m n : ℕ) → Decided (m < n)
 below-decided m n = elim (cases_lt m n) [ inl l ↦ inl l | inr l ↦ inr (λ k. omega (arith, l, k)) ]
 
-head-same : (x y : ℕ) (xs ys : List ℕ) → x ∷ xs ≡ y ∷ ys → x ≡ y
-head-same x y xs ys e = ap (λ (l : List ℕ). slice_index_or l 0 0) e
-
-tail-same : (x y : ℕ) (xs ys : List ℕ) → x ∷ xs ≡ y ∷ ys → xs ≡ ys
-tail-same x y xs ys e = ap (λ (l : List ℕ). drop 1 l) e
-
-list-decided : (xs ys : List ℕ) → Decided (xs ≡ ys)
-list-decided [] [] = inl refl
-list-decided [] (y ∷ ys) = inr (λ e. absurd cc)
-list-decided (x ∷ xs) [] = inr (λ e. absurd cc)
-list-decided (x ∷ xs) (y ∷ ys) = go (number-decided x y) (list-decided xs ys)
+pub list-decided : {X : Type 0} → ((x y : X) → Decided (x ≡ y)) → (xs ys : List X) → Decided (xs ≡ ys)
+list-decided same [] [] = inl refl
+list-decided same [] (y ∷ ys) = inr (λ e. absurd cc)
+list-decided same (x ∷ xs) [] = inr (λ e. absurd cc)
+list-decided same (x ∷ xs) (y ∷ ys) = go (same x y) (list-decided same xs ys)
   where
+    head : x ∷ xs ≡ y ∷ ys → x ≡ y
+    head e = cc
+
+    tail : x ∷ xs ≡ y ∷ ys → xs ≡ ys
+    tail e = cc
+
     go : Decided (x ≡ y) → Decided (xs ≡ ys) → Decided (x ∷ xs ≡ y ∷ ys)
-    go (inl e) (inl f) = inl (ap (λ z. z ∷ xs) e ∙ ap (λ z. y ∷ z) f)
-    go (inl e) (inr f) = inr (λ g. f (tail-same x y xs ys g))
-    go (inr e) f = inr (λ g. e (head-same x y xs ys g))
+    go (inl e) (inl f) = inl (ap (λ z. z ∷ xs) e ∙ ap (λ zs. y ∷ zs) f)
+    go (inl e) (inr f) = inr (λ g. f (tail g))
+    go (inr e) f = inr (λ g. e (head g))
 
 some-below : (o : Option ℕ) (m : ℕ) → Decided (IfSome o (λ n. n < m))
 some-below None m = inl tt
@@ -75,13 +75,13 @@ some-short : (o : Option (List ℕ)) → Decided (IfSome o (λ info. length info
 some-short None = inl tt
 some-short (Some info) = elim (cases_lt INFO (length info)) [ inl l ↦ inr (λ k. omega (arith, l, k)) | inr l ↦ inl l ]
 
-is-frame-decided : (frame : Frame) → Decided (IsFrame frame)
+pub is-frame-decided : (frame : Frame) → Decided (IsFrame frame)
 is-frame-decided frame = three-decided (some-below (parts_of frame).ns 128) (some-below (parts_of frame).nr 128)
     (some-short (parts_of frame).info)
 
 -- octets pass a check, or they don't
 passes-or-not : (check : Check) (whole : List ℕ) → ((front : List ℕ) × IsChecked check front whole) ⊎ (Passes check whole → ⊥)
-passes-or-not check whole = go (list-decided whole (with_check check front))
+passes-or-not check whole = go (list-decided number-decided whole (with_check check front))
   where
     front : List ℕ
     front = take (length whole - count_of check) whole
@@ -136,7 +136,7 @@ once-decided sender dlci frame [] patterns = inr (λ h. none h.0 h.2)
     none front e = absurd cc
 once-decided sender dlci frame (x ∷ y ∷ octets) patterns = inr (λ h. omega (arith, ap (λ (l : List (List ℕ)). length l) h.2))
 once-decided sender dlci frame (x ∷ []) patterns =
-    go (three-decided (is-frame-decided frame) (list-decided x (spelled frame sender dlci)) (empty-decided patterns))
+    go (three-decided (is-frame-decided frame) (list-decided number-decided x (spelled frame sender dlci)) (empty-decided patterns))
   where
     first : List (List ℕ) → List ℕ
     first [] = []

@@ -9,6 +9,7 @@ mod Handing
 mod Sending
 pub mod Deciding
 pub mod Receiving
+pub mod Becoming
 mod EachEnds
 mod Starving
 mod Making

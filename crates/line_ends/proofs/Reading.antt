@@ -18,7 +18,7 @@ use Rattle.lapm_frames.specs.declared.heard.Heard.TheVariants.{Nothing, Passed, 
 use Rattle.break_signals.specs.Words.{word_in}
 use Rattle.noise_script.specs.Script.{ScriptValue, IsInLimits, delay_of}
 use Rattle.link_account.specs.Account.{Account, is_connected, given_break}
-use Rattle.link_run.specs.Run.{Link, Accounts, Spoken, Turn, Hears}
+use Rattle.link_run.specs.Run.{Accounts, Spoken, Turn}
 use Rattle.link_run.specs.Carried.{sent_ago, has_message, Crosses, Carries}
 use Rattle.link_run.specs.Outcomes.{Outcome, Going, Done, Broken, TurnIs}
 use Rattle.line_run.specs.Sampled.{HeardIn, LineRun}
@@ -30,6 +30,7 @@ use Rattle.trace_audit.specs.Written.{IsReadableFrame, IsReadableSent, IsReadabl
 use Rattle.trace_audit.proofs.Written.{read-break}
 use Rattle.line_ends.specs.Readable.{InOctets, IsPlain, IsPlainSent, AsksInOctets, line_of, LinesAreRead}
 use Rattle.line_run.proofs.Slots.{SentAgo, sent-ago}
+use Rattle.line_run.proofs.Leaving.{hearing-in}
 use Rattle.line_ends.proofs.Words.{Owes}
 use Rattle.line_ends.proofs.Saying.{octet-at}
 use Rattle.line_ends.proofs.Slots.{plain-sent, short-sent}
@@ -102,13 +103,6 @@ given-read a h = go (is_connected a.phase) (nat_lt a.breaks_told (length a.their
     go true false = tt
     go false c = tt
 
--- both ends hear, whatever the turn comes to
-hears-of : (link : Link) (ts : List Turn) (ends : Accounts) (t : Turn) (mid : Accounts) (o : Outcome) → TurnIs link ts ends t mid o
-    → Hears (length ts) ends t mid
-hears-of link ts ends t mid Going g = subst (Hears (length ts) ends t) g.2 g.1.hearing
-hears-of link ts ends t mid Done l = l.hearing
-hears-of link ts ends t mid (Broken role fault) b = b.hearing
-
 module _ (laws : SendLaws) (script : ScriptValue) (files : Both (List ℕ)) (ts : List Turn) (ends : Accounts) (h : IsInLimits script)
     (o : AsksInOctets script) (r : LineRun (wire_of script) (link_of script files) ts ends) where
   both : HoldBoth (λ role. (of role (link_of script files)).user.file) ts ends
@@ -132,7 +126,7 @@ module _ (laws : SendLaws) (script : ScriptValue) (files : Both (List ℕ)) (ts 
   line-read : (t : Turn) (mid : Accounts) (outcome : Outcome) → HeardIn (wire_of script) ts t
       → TurnIs (link_of script files) ts ends t mid outcome → length ts < 2 ^ 40 → (role : Role) → IsReadable (line_of (length ts) role (of role t))
   line-read t mid outcome heard is early role =
-      let hearing = hears-of (link_of script files) ts ends t mid outcome is in
+      let hearing = hearing-in (link_of script files) ts ends t mid outcome is in
       let carries : Carries (delay_of script) ts t = laws.one (wire_of script) ts t heard in
       let from : Role = other role in
       let known : IsKnown (sent_ago (delay_of script from) from ts) = λ slot e.

@@ -1,6 +1,7 @@
 mod Sampling
-mod Leaving
-mod Resulting
+pub mod Leaving
+pub mod Resulting
+pub mod WhatIsLeft
 mod Scripting
 mod Fitting
 mod Pausing

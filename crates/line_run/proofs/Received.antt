@@ -3,7 +3,7 @@ use Rattle.std.proofs.Common.{◌≡◌, ◌∙◌, inr, ℕ, ◌+◌, ◌*◌, 
 use Rattle.std.proofs.Common.{replicate, Ok, Err, Result, refl, sym, ap, subst, arith, length-append, append-nil, append_assoc}
 use Rattle.std.proofs.Math.Nat.{mul_assoc, mul-suc}
 use Rattle.std.proofs.Math.Seq.{take-append_seam, drop-append_seam}
-use Rattle.std.proofs.lemmas.List.{map-append, take-append-drop, length-drop}
+use Rattle.std.proofs.lemmas.List.{take-append-drop, length-drop}
 use Rattle.std.proofs.lemmas.List.Elements.{All-replicate}
 use Rattle.frame_check.specs.declared.check.Check.{Check}
 use Rattle.scramblers.specs.Mode.{tap_of}
@@ -18,8 +18,7 @@ use Rattle.line_coding.specs.Demodulates.{Demodulates, line_of}
 use Rattle.line_coding.proofs.Readings.{first-stay, four-each}
 use Rattle.bit_stuffing.specs.Found.{Found, pieces_of}
 use Rattle.bit_stuffing.specs.Sent.{FoundIn, wholes}
-use Rattle.bit_stuffing.specs.Slots.{phase_after, sent_bits, slot_bits}
-use Rattle.bit_stuffing.proofs.Fill.{bits-append}
+use Rattle.bit_stuffing.specs.Slots.{phase_after, slot_bits}
 use Rattle.bit_stuffing.proofs.Sent.{pieces-stay}
 use Rattle.lapm_frames.specs.declared.seen.Seen.{Seen}
 use Rattle.lapm_frames.specs.declared.seen.Seen.TheVariants as seen
@@ -44,6 +43,7 @@ use Rattle.sample_line.specs.Signals.{signal_of}
 use Rattle.lapm_frames.specs.Sendable.{IsSendable}
 use Rattle.sample_line.specs.Line.{bits_behind, Kept, Passes, PassesSlot, sender_of, size_of}
 use Rattle.sample_line.proofs.Finding.{wholes-append}
+use Rattle.sample_line.proofs.Passing.{slot-added}
 use Rattle.sample_line.proofs.Once.{given-stays, outcome-once, received-once, recordings-grow}
 use Rattle.line_run.specs.Fitting.{AreFit}
 use Rattle.line_run.specs.Unhindered.{ChecksAgree, octets_in, patterns_in, unhindered}
@@ -261,9 +261,7 @@ given-received laws lag script check hearing sender dlci size passed s before up
     is agree old new gave gives =
     let signal : Signal = signal_of check sender dlci s in
     let slot : List Bool = slot_bits size (phase_after size (slots_of size passed)) (slot_of size signal) in
-    let joined : signal_bits size (passed ++ signal ∷ []) ≡ signal_bits size passed ++ slot
-    = ap (sent_bits size) (map-append (slot_of size) passed (signal ∷ []))
-    ∙ bits-append size 0 (slots_of size passed) (slot_of size signal) in
+    let joined : signal_bits size (passed ++ signal ∷ []) ≡ signal_bits size passed ++ slot = slot-added size passed signal in
     let added : Records script sender (signal_bits size passed ++ slot) upto =
     subst (λ (xs : List Bool). Records script sender xs upto) joined new in
     record {
@@ -352,8 +350,7 @@ passes-sent laws lag line script passed waiting signal check hearing dlci loses 
 passes-sent laws lag line script passed waiting signal check hearing dlci loses s (Err lost) follows time fit e is agree p =
     let size : ℕ = size_of line in
     let joined : signal_bits size (passed ++ signal ∷ []) ≡ signal_bits size passed ++ bits_behind size passed signal
-    = ap (sent_bits size) (map-append (slot_of size) passed (signal ∷ []))
-    ∙ bits-append size 0 (slots_of size passed) (slot_of size signal) in
+    = slot-added size passed signal in
     let few = (bounds laws line.writer.symbols passed signal (long-of lag line.writer.symbols time) fit).1 in
     absurd (none-within lag (sender_of line) script (line.writer.symbols * (length passed + 1)) (signal_bits size passed)
     (bits_behind size passed signal) lost.symbol follows

@@ -1,7 +1,6 @@
 -- A script and two users have one result at most.
-use Rattle.std.proofs.Common.{◌≡◌, ◌≢◌, ◌⊎◌, inl, inr, ℕ, zero, suc, ◌<◌, ◌≤◌, List, [], ◌∷◌, ◌++◌, length, arith, refl, sym, ◌∙◌, ap}
+use Rattle.std.proofs.Common.{◌≡◌, ◌≢◌, ◌⊎◌, inl, inr, ℕ, zero, suc, ◌<◌, List, [], ◌∷◌, ◌++◌, length, arith, refl, sym, ◌∙◌, ap}
 use Rattle.std.proofs.Common.{subst}
-use Rattle.std.specs.List.{concat}
 use Rattle.shared_terms.specs.declared.role.Role.{Role}
 use Rattle.shared_terms.specs.declared.role.Role.TheVariants.{Originator, Answerer}
 use Rattle.shared_terms.specs.Role.{other}
@@ -20,6 +19,7 @@ use Rattle.line_run.specs.Ends.{RunEnd, IsDone, LinkLost, LineLost, ChanceMatch,
 use Rattle.line_run.specs.Ends as ends
 use Rattle.line_run.proofs.Sampling.{same-checks}
 use Rattle.line_run.proofs.Leaving.{hearing-in}
+use Rattle.line_run.proofs.WhatIsLeft.{left_of, left-is}
 
 pub record ResultLaws : Type 0 where
   pub heard : HeardOnce
@@ -75,10 +75,10 @@ in-turn : (c : Wire) (link : Link) (ts : List Turn) (es : Accounts) (o : Outcome
     → EndsInTurn c link ts es o turn left → TurnEnds c link ts es o left
 in-turn c link ts es o turn left n e = record { last = e.last; mid = e.mid; heard = e.heard; is = e.is; not_going = n; leaves = e.leaves }
 
-done-not : Done ≢ Going
+pub done-not : Done ≢ Going
 done-not z = omega (arith, ap number z)
 
-broken-not : (role : Role) (fault : LinkFault) → Broken role fault ≢ Going
+pub broken-not : (role : Role) (fault : LinkFault) → Broken role fault ≢ Going
 broken-not role fault z = omega (arith, ap number z)
 
 caused : (c : Wire) (link : Link) (ts : List Turn) (es : Accounts) (end : RunEnd) (left : Left) → EndsBy c link ts es end left
@@ -102,12 +102,7 @@ caused c link ts es (ChanceMatch role turn) left e =
 
 same-left : (es fs : Accounts) (text others : List ℕ) (a b : Left) → Leaves es text a → Leaves fs others b → es ≡ fs → text ≡ others → a ≡ b
 same-left es fs text others a b h k e t =
-    let got : (role : Role) → of role a.got ≡ of role b.got =
-    λ role. h.got_is role ∙ ap (λ (x : Accounts). concat (of role x).incoming.taken) e ∙ sym (k.got_is role) in
-    let both : a.got ≡ b.got =
-    ap (λ z. record { orig = z; answ = a.got.answ }) (got Originator)
-    ∙ ap (λ z. record { orig = b.got.orig; answ = z }) (got Answerer) in
-    ap (λ z. record { got = z; trace = a.trace }) both ∙ ap (λ z. record { got = b.got; trace = z }) (h.trace_is ∙ t ∙ sym k.trace_is)
+    left-is es text a h ∙ ap (λ z. left_of z text) e ∙ ap (left_of fs) t ∙ sym (left-is fs others b k)
 
 -- two turns after the same ones, which the same is heard in
 both-heard : (laws : ResultLaws) (c : Wire) (ts : List Turn) (es : Accounts) (t u : Turn) (mid later : Accounts) → Hears (length ts) es t mid
@@ -140,6 +135,16 @@ same-cause laws c link ts es (On_line e) (On_line f) a b h w =
     let s = laws.end c ts es e f h.0 w.0 in
     (ap On_line s, same-left es es (line_text ts e) (line_text ts f) a b h.1 w.1 refl (ap (line_text ts) s))
 
+pub same-or-less : (m n : ℕ) → m < suc n → (n ≡ m) ⊎ (m < n)
+same-or-less zero zero l = inl refl
+same-or-less zero (suc n) l = inr (omega arith)
+same-or-less (suc m) zero l = absurd (omega (arith, l))
+same-or-less (suc m) (suc n) l = up (same-or-less m n (omega (arith, l)))
+  where
+    up : (n ≡ m) ⊎ (m < n) → (suc n ≡ suc m) ⊎ (suc m < suc n)
+    up (inl e) = inl (ap suc e)
+    up (inr k) = inr (omega (arith, k))
+
 -- the turn of that number in a longer run
 pub record Cut (c : Wire) (link : Link) (n : ℕ) : Type 0 where
   pub turns : List Turn
@@ -151,20 +156,11 @@ pub record Cut (c : Wire) (link : Link) (n : ℕ) : Type 0 where
   pub going : GoingTurn link turns before turn after
   pub heard : HeardIn c turns turn
 
-cut : (c : Wire) (link : Link) (n : ℕ) (ts : List Turn) (es : Accounts) → RunOf link ts es → IsHeardOver c ts → n < length ts → Cut c link n
+pub cut : (c : Wire) (link : Link) (n : ℕ) (ts : List Turn) (es : Accounts) → RunOf link ts es → IsHeardOver c ts → n < length ts
+    → Cut c link n
 cut c link n [] es h k l = absurd (omega (arith, l))
-cut c link n (t ∷ ts) es h k l = go (n-or n (length ts) (omega (arith, l))) (cut c link n ts h.0 h.1 k.1)
+cut c link n (t ∷ ts) es h k l = go (same-or-less n (length ts) l) (cut c link n ts h.0 h.1 k.1)
   where
-    n-or : (x y : ℕ) → x ≤ y → (y ≡ x) ⊎ (x < y)
-    n-or zero zero z = inl refl
-    n-or zero (suc y) z = inr (omega arith)
-    n-or (suc x) zero z = absurd (omega (arith, z))
-    n-or (suc x) (suc y) z = up (n-or x y (omega (arith, z)))
-      where
-        up : (y ≡ x) ⊎ (x < y) → (suc y ≡ suc x) ⊎ (suc x < suc y)
-        up (inl e) = inl (ap suc e)
-        up (inr e) = inr (omega (arith, e))
-
     go : (length ts ≡ n) ⊎ (n < length ts) → (n < length ts → Cut c link n) → Cut c link n
     go (inl e) f = record {
       turns = ts;
@@ -199,20 +195,20 @@ ended-stays laws c link end left r ts es h less =
         e.not_going (sym s.2)
     against c link k (On_line f) left e laws = laws.either c k.turns k.before f k.turn k.going.mid e.0 k.going.hearing k.heard
 
+pub compare : (m n : ℕ) → (m ≡ n) ⊎ ((m < n) ⊎ (n < m))
+compare zero zero = inl refl
+compare zero (suc n) = inr (inl (omega arith))
+compare (suc m) zero = inr (inr (omega arith))
+compare (suc m) (suc n) = up (compare m n)
+  where
+    up : (m ≡ n) ⊎ ((m < n) ⊎ (n < m)) → (suc m ≡ suc n) ⊎ ((suc m < suc n) ⊎ (suc n < suc m))
+    up (inl e) = inl (ap suc e)
+    up (inr (inl l)) = inr (inl (omega (arith, l)))
+    up (inr (inr l)) = inr (inr (omega (arith, l)))
+
 pub one_result : ResultLaws → OneResult
 one_result laws c link a b left others r q = go (compare (length r.turns) (length q.turns))
   where
-    compare : (x y : ℕ) → (x ≡ y) ⊎ ((x < y) ⊎ (y < x))
-    compare zero zero = inl refl
-    compare zero (suc y) = inr (inl (omega arith))
-    compare (suc x) zero = inr (inr (omega arith))
-    compare (suc x) (suc y) = up (compare x y)
-      where
-        up : (x ≡ y) ⊎ ((x < y) ⊎ (y < x)) → (suc x ≡ suc y) ⊎ ((suc x < suc y) ⊎ (suc y < suc x))
-        up (inl e) = inl (ap suc e)
-        up (inr (inl e)) = inr (inl (omega (arith, e)))
-        up (inr (inr e)) = inr (inr (omega (arith, e)))
-
     go : (length r.turns ≡ length q.turns) ⊎ ((length r.turns < length q.turns) ⊎ (length q.turns < length r.turns))
         → (a ≡ b) × (left ≡ others)
     go (inl e) =

@@ -1,13 +1,12 @@
 -- Bits and the samples that they become: each tells the other, the first of one the first of the other; and samples as octets.
-use Rattle.std.proofs.Common.{◌≡◌, ◌∙◌, ◌*◌, ◌<◌, ◌≤◌, ℕ, zero, suc, Bool, true, false, ◌&&◌, nat_eq, List, [], ◌∷◌, ◌++◌, length}
+use Rattle.std.proofs.Common.{◌≡◌, ◌∙◌, ◌*◌, ◌<◌, ◌≤◌, ℕ, suc, Bool, true, false, ◌&&◌, nat_eq, List, [], ◌∷◌, ◌++◌, length}
 use Rattle.std.proofs.Common.{take, map, refl, sym, ap, subst, arith, All, length-append}
 use Rattle.std.specs.List.{flat_map}
 use Rattle.std.proofs.lemmas.Bool.{false≢true, eqb-true}
-use Rattle.std.proofs.Math.Seq.{take-nil, take-append_seam}
-use Rattle.std.proofs.lemmas.List.{take-map, length-map}
-use Rattle.std.proofs.lemmas.List.Elements.{All-take, All-head, All-tail}
-use Rattle.plain_lists.specs.Bits.{low_bits}
-use Rattle.scramblers.proofs.Readings.{Scrambles-take, Descrambles_once}
+use Rattle.std.proofs.Math.Seq.{take-append_seam}
+use Rattle.std.proofs.lemmas.List.{length-map}
+use Rattle.std.proofs.lemmas.List.Elements.{All-head, All-tail}
+use Rattle.scramblers.proofs.Readings.{Descrambles_once}
 use Rattle.symbol_map.specs.declared.sample.Sample.{Sample}
 use Rattle.symbol_map.specs.Points.{point_of}
 use Rattle.symbol_map.specs.Distance.{distance_of}
@@ -15,11 +14,11 @@ use Rattle.symbol_map.specs.Laws.{PointsDiffer, NoDistanceIsEqual}
 use Rattle.symbol_map.specs.Finite.{each_below, at_each}
 use Rattle.trellis_tables.specs.Table.{next_state}
 use Rattle.trellis_tables.specs.V32Laws.{v32_bounded}
-use Rattle.trellis_tables.proofs.Codings.{Encodes-take}
 use Rattle.trellis_tables.proofs.Sequences.{Leads-below}
 use Rattle.line_coding.specs.Modulates.{Modulates}
 use Rattle.line_coding.specs.Demodulates.{line_of, Demodulates}
 use Rattle.line_coding.proofs.Readings.{comes-back, four-each}
+use Rattle.sample_line.proofs.Once.{modulates-take}
 use Rattle.recordings.specs.Recording.{sample_octets}
 use Rattle.recordings.specs.Samples.{samples_in}
 use Rattle.recordings.proofs.Samples.{samples_in-append}
@@ -56,31 +55,6 @@ samples-tell differ tap a b samples h k =
 pub length-modulated : (tap : ℕ) (bits : List Bool) (samples : List Sample) → Modulates tap bits samples → length bits ≡ 4 * length samples
 length-modulated tap bits samples h =
     four-each tap h.labels bits (carried tap bits samples h) ∙ ap (λ n. 4 * n) (sym (ap length h.points ∙ length-map h.labels point_of))
-
-take-fours : (n : ℕ) (quads : List ℕ) → take (4 * n) (flat_map (low_bits 4) quads) ≡ flat_map (low_bits 4) (take n quads)
-take-fours zero quads = refl
-take-fours (suc n) [] = take-nil (4 * suc n)
-take-fours (suc n) (quad ∷ quads) =
-    let four : 4 * suc n ≡ suc (suc (suc (suc (4 * n)))) = omega arith in
-    let first : take (4 * suc n) (flat_map (low_bits 4) (quad ∷ quads)) ≡ low_bits 4 quad ++ take (4 * n) (flat_map (low_bits 4) quads) =
-    ap (λ m. take m (flat_map (low_bits 4) (quad ∷ quads))) four in
-    first ∙ ap (λ xs. low_bits 4 quad ++ xs) (take-fours n quads)
-
-modulates-take : (tap n : ℕ) (bits : List Bool) (samples : List Sample) → 1 ≤ tap → Modulates tap bits samples
-    → Modulates tap (take (4 * n) bits) (take n samples)
-modulates-take tap n bits samples low h =
-    let coded = Encodes-take h.quads h.labels h.end n h.encoded in
-    record {
-      line = take (4 * n) h.line;
-      quads = take n h.quads;
-      labels = take n h.labels;
-      end = coded.0;
-      scrambled = Scrambles-take tap (4 * n) bits h.line low h.scrambled;
-      in_fours = ap (take (4 * n)) h.in_fours ∙ take-fours n h.quads;
-      are_quads = All-take (λ q. q < 16) n h.quads h.are_quads;
-      encoded = coded.1;
-      points = ap (take n) h.points ∙ take-map point_of n h.labels;
-    }
 
 -- the samples of the first bits are the first samples
 pub modulates-front : (tap n : ℕ) (bits more : List Bool) (samples : List Sample) → 1 ≤ tap → length bits ≡ 4 * n

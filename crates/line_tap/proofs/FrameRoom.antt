@@ -20,6 +20,11 @@ pub record IsFrameIn (check : Check) (sender : Role) (dlci : ℕ) (s : Sent) (oc
   pub sendable : IsSendable (sent.Frame frame)
   pub octets_are : octets ≡ checked check sender dlci frame
 
+pub frame-in : (check : Check) (sender : Role) (dlci : ℕ) (s : Sent) (octets : List ℕ) (frame : Frame) → s ≡ sent.Frame frame → IsSendable s
+    → ((f : Frame) → s ≡ sent.Frame f → octets ≡ checked check sender dlci f) → IsFrameIn check sender dlci s octets
+frame-in check sender dlci s octets frame is sendable octets_are =
+    record { frame = frame; is = is; sendable = subst IsSendable is sendable; octets_are = octets_are frame is }
+
 fits-so : (check : Check) (sender : Role) (dlci symbols phase : ℕ) (s : Sent) (octets : List ℕ) → IsFrameIn check sender dlci s octets
     → length (opening phase (Some octets)) ≤ 4 * (symbols - TAIL) → IsCodable check sender dlci symbols phase s
 fits-so check sender dlci symbols phase s octets f l =

@@ -1,12 +1,11 @@
 -- Whether a recording holds a slot of the next turn, and which, can be told.
-use Rattle.std.proofs.Common.{◌≡◌, inl, inr, ℕ, zero, suc, ◌+◌, ◌-◌, ◌*◌, ◌%◌, ◌<◌, ◌≤◌, Bool, List, [], ◌∷◌, ◌++◌, length, take}
-use Rattle.std.proofs.Common.{arith, refl, ◌∙◌, ap, subst, Option, Some, None}
-use Rattle.std.specs.Prelude.{ℤ, pos, negsuc, IfSome}
+use Rattle.std.proofs.Common.{◌≡◌, inl, inr, ℕ, suc, ◌+◌, ◌-◌, ◌*◌, ◌%◌, ◌<◌, ◌≤◌, Bool, List, [], ◌∷◌, ◌++◌, length, take}
+use Rattle.std.proofs.Common.{arith, refl, ap, subst, Some}
+use Rattle.std.specs.Prelude.{ℤ, pos, negsuc}
 use Rattle.std.proofs.lemmas.Bool.{cases_lt}
 use Rattle.std.proofs.lemmas.List.Elements.{All-nil, All-cons, All-head, All-tail}
 use Rattle.plain_lists.specs.Octets.{AreOctets}
 use Rattle.frame_check.specs.declared.check.Check.{Check}
-use Rattle.frame_check.specs.declared.sizes.TheConstants.{INFO}
 use Rattle.scramblers.specs.Mode.{tap_of}
 use Rattle.symbol_map.specs.declared.sample.Sample.{Sample}
 use Rattle.line_coding.specs.Modulates.{Modulates}
@@ -17,7 +16,6 @@ use Rattle.bit_stuffing.proofs.Written.{length-line_bits}
 use Rattle.shared_terms.specs.declared.role.Role.{Role}
 use Rattle.shared_terms.specs.Role.{mode_of}
 use Rattle.lapm_frames.specs.declared.frame.Frame.{Frame}
-use Rattle.lapm_frames.specs.Parts.{parts_of}
 use Rattle.lapm_frames.specs.Frame.{information_of}
 use Rattle.lapm_frames.specs.Checked.{checked}
 use Rattle.lapm_frames.specs.Sendable.{IsSendable}
@@ -28,37 +26,22 @@ use Rattle.sample_line.specs.Signals.{FrameFits, IsCodable}
 use Rattle.link_run.specs.Run.{Turn}
 use Rattle.line_run.specs.Sampled.{Wire, bits_of}
 use Rattle.line_run.proofs.Recordings.{tap-some, recorded-some}
-use Rattle.line_ends.proofs.Deciding.{Decided}
+use Rattle.line_ends.proofs.Deciding.{Decided, both-decided, number-decided, list-decided, is-frame-decided}
 use Rattle.line_tap.specs.Tapping.{phase_behind, next_bits, octets_of, HoldsNext}
 use Rattle.line_tap.proofs.AmongFrames.{any-frame}
-use Rattle.line_tap.proofs.SlotReading.{modulates-once}
+use Rattle.sample_line.proofs.Once.{modulates-once}
 
 -- ---- numbers, lists, samples
 
 at-most : (m n : ℕ) → Decided (m ≤ n)
 at-most m n = elim (cases_lt n m) [ inl l ↦ inr (λ k. omega (arith, l, k)) | inr k ↦ inl k ]
 
-same-number : (m n : ℕ) → Decided (m ≡ n)
-same-number zero zero = inl refl
-same-number zero (suc n) = inr (λ e. omega (arith, e))
-same-number (suc m) zero = inr (λ e. omega (arith, e))
-same-number (suc m) (suc n) = go (same-number m n)
-  where
-    go : Decided (m ≡ n) → Decided (suc m ≡ suc n)
-    go (inl e) = inl (ap suc e)
-    go (inr f) = inr (λ e. f (omega (arith, e)))
-
-both-told : {P Q : Type 0} → Decided P → Decided Q → Decided (P × Q)
-both-told (inl p) (inl q) = inl (p, q)
-both-told (inl p) (inr q) = inr (λ h. q h.1)
-both-told (inr p) d = inr (λ h. p h.0)
-
 abbrev magnitude : ℤ → ℕ
 magnitude (pos n) = n
 magnitude (negsuc n) = n
 
 same-coordinate : (a b : ℤ) → Decided (a ≡ b)
-same-coordinate (pos m) (pos n) = go (same-number m n)
+same-coordinate (pos m) (pos n) = go (number-decided m n)
   where
     go : Decided (m ≡ n) → Decided (pos m ≡ pos n)
     go (inl e) = inl (ap pos e)
@@ -66,7 +49,7 @@ same-coordinate (pos m) (pos n) = go (same-number m n)
       where
         back : pos m ≡ pos n → m ≡ n
         back e = ap magnitude e
-same-coordinate (negsuc m) (negsuc n) = go (same-number m n)
+same-coordinate (negsuc m) (negsuc n) = go (number-decided m n)
   where
     go : Decided (m ≡ n) → Decided (negsuc m ≡ negsuc n)
     go (inl e) = inl (ap negsuc e)
@@ -91,23 +74,6 @@ same-sample a b = go (same-coordinate a.re b.re) (same-coordinate a.im b.im)
     go (inl e) (inr n) = inr (λ k. n (ap (λ (z : Sample). z.im) k))
     go (inr n) d = inr (λ k. n (ap (λ (z : Sample). z.re) k))
 
-same-samples : (xs ys : List Sample) → Decided (xs ≡ ys)
-same-samples [] [] = inl refl
-same-samples [] (y ∷ ys) = inr (λ e. absurd cc)
-same-samples (x ∷ xs) [] = inr (λ e. absurd cc)
-same-samples (x ∷ xs) (y ∷ ys) = go (same-sample x y) (same-samples xs ys)
-  where
-    head : x ∷ xs ≡ y ∷ ys → x ≡ y
-    head e = cc
-
-    tail : x ∷ xs ≡ y ∷ ys → xs ≡ ys
-    tail e = cc
-
-    go : Decided (x ≡ y) → Decided (xs ≡ ys) → Decided (x ∷ xs ≡ y ∷ ys)
-    go (inl e) (inl f) = inl (ap (λ z. z ∷ xs) e ∙ ap (λ zs. y ∷ zs) f)
-    go (inl e) (inr n) = inr (λ k. n (tail k))
-    go (inr n) d = inr (λ k. n (head k))
-
 -- ---- what can be coded
 
 are-octets : (octets : List ℕ) → Decided (AreOctets octets)
@@ -119,27 +85,8 @@ are-octets (x ∷ xs) = go (at-most (suc x) 256) (are-octets xs)
     go (inl l) (inr n) = inr (λ k. n (All-tail (λ octet. octet < 256) x xs k))
     go (inr n) d = inr (λ k. n (omega (arith, All-head (λ octet. octet < 256) x xs k)))
 
-small-number : (o : Option ℕ) → Decided (IfSome o (λ n. n < 128))
-small-number None = inl tt
-small-number (Some n) = elim (at-most (suc n) 128) [ inl l ↦ inl (omega (arith, l)) | inr f ↦ inr (λ k. f (omega (arith, k))) ]
-
-short-info : (o : Option (List ℕ)) → Decided (IfSome o (λ info. length info ≤ INFO))
-short-info None = inl tt
-short-info (Some info) = at-most (length info) INFO
-
 is-sendable : (frame : Frame) → Decided (IsSendable (sent.Frame frame))
-is-sendable frame =
-    go (small-number (parts_of frame).ns) (small-number (parts_of frame).nr) (short-info (parts_of frame).info)
-    (are-octets (information_of frame))
-  where
-    go : Decided (IfSome (parts_of frame).ns (λ ns. ns < 128)) → Decided (IfSome (parts_of frame).nr (λ nr. nr < 128))
-        → Decided (IfSome (parts_of frame).info (λ info. length info ≤ INFO)) → Decided (AreOctets (information_of frame))
-        → Decided (IsSendable (sent.Frame frame))
-    go (inl a) (inl b) (inl c) (inl d) = inl ((a, b, c), d)
-    go (inr n) b c d = inr (λ h. n h.0.0)
-    go (inl a) (inr n) c d = inr (λ h. n h.0.1)
-    go (inl a) (inl b) (inr n) d = inr (λ h. n h.0.2)
-    go (inl a) (inl b) (inl c) (inr n) = inr (λ h. n h.1)
+is-sendable frame = both-decided (is-frame-decided frame) (are-octets (information_of frame))
 
 frame-fits : (check : Check) (sender : Role) (dlci symbols phase : ℕ) (frame : Frame)
     → Decided (FrameFits check sender dlci symbols phase frame)
@@ -168,7 +115,7 @@ in-fours tap bits samples h =
     omega (arith, h.scrambled.lengths, same, length-line_bits h.quads)
 
 are-made : (c : Wire) (role : Role) (bits : List Bool) (samples : List Sample) → Decided (Modulates (tap_of (mode_of role)) bits samples)
-are-made c role bits samples = go (same-number (length bits % 4) 0)
+are-made c role bits samples = go (number-decided (length bits % 4) 0)
   where
     by : (points : List Sample) → Modulates (tap_of (mode_of role)) bits points → Decided (points ≡ samples)
         → Decided (Modulates (tap_of (mode_of role)) bits samples)
@@ -178,7 +125,7 @@ are-made c role bits samples = go (same-number (length bits % 4) 0)
     go : Decided (length bits % 4 ≡ 0) → Decided (Modulates (tap_of (mode_of role)) bits samples)
     go (inl e) =
         let made = (recorded-some c.script role bits e).1 in
-        by made.points made.modulated (same-samples made.points samples)
+        by made.points made.modulated (list-decided same-sample made.points samples)
     go (inr n) = inr (λ k. n (in-fours (tap_of (mode_of role)) bits samples k))
 
 -- ---- so of each slot it can be told whether it is the next one,

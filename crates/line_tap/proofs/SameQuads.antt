@@ -1,6 +1,6 @@
 -- Quads and their bits: each tells the other.
-use Rattle.std.proofs.Common.{◌≡◌, ◌∙◌, ℕ, zero, suc, ◌-◌, ◌<◌, ◌≤◌, Bool, true, nat_eq, List, [], ◌∷◌, ◌++◌, length, slice_index, All, refl, sym, ap, arith}
-use Rattle.std.proofs.lemmas.List.Elements.{All-head, All-tail}
+use Rattle.std.proofs.Common.{◌≡◌, ◌∙◌, ℕ, zero, suc, ◌-◌, ◌<◌, ◌≤◌, Bool, true, nat_eq, List, [], ◌∷◌, ◌++◌, length, slice_index}
+use Rattle.std.proofs.Common.{refl, sym, ap, arith}
 use Rattle.std.proofs.lemmas.Bool.{eqb-true, false≢true}
 use Rattle.plain_lists.specs.Bits.{low_bits, number_of}
 use Rattle.bit_stuffing.specs.BitSlot.{line_bits}
@@ -72,21 +72,3 @@ none-plain size bits a b c sent.Odp e k = b k
 none-plain size bits a b c sent.Adp e k = c k
 none-plain size bits a b c sent.Flags e k = false≢true e
 none-plain size bits a b c (sent.Frame frame) e k = false≢true e
-
--- quads of one list of bits are one
-pub quads-once : (a b : List ℕ) → All (λ quad. quad < 16) a → All (λ quad. quad < 16) b → line_bits a ≡ line_bits b → a ≡ b
-quads-once [] [] h k e = refl
-quads-once [] (y ∷ b) h k e =
-    let none : length (line_bits []) ≡ length (line_bits (y ∷ b)) = ap length e in
-    absurd (omega (arith, none, length-line_bits (y ∷ b)))
-quads-once (x ∷ a) [] h k e =
-    let none : length (line_bits (x ∷ a)) ≡ length (line_bits []) = ap length e in
-    absurd (omega (arith, none, length-line_bits (x ∷ a)))
-quads-once (x ∷ a) (y ∷ b) h k e =
-    let all : low_bits 4 x ++ line_bits a ≡ low_bits 4 y ++ line_bits b = e in
-    let parts = halves (low_bits 4 x) (low_bits 4 y) (line_bits a) (line_bits b) refl all in
-    let first : x ≡ y =
-    same-quad x y (All-head (λ quad. quad < 16) x a h) (All-head (λ quad. quad < 16) y b k) parts.0 in
-    let rest : a ≡ b =
-    quads-once a b (All-tail (λ quad. quad < 16) x a h) (All-tail (λ quad. quad < 16) y b k) parts.1 in
-    rw (first, rest) refl

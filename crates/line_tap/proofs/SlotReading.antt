@@ -6,17 +6,15 @@ use Rattle.std.proofs.lemmas.List.Elements.{All-append, All-map, All-take, All-d
 use Rattle.scramblers.specs.declared.mode.Mode.{Mode}
 use Rattle.scramblers.specs.declared.mode.Mode.TheVariants.{Call, Answer}
 use Rattle.scramblers.specs.Mode.{tap_of}
-use Rattle.scramblers.proofs.Readings.{Scrambles_once, Scrambles_from_Descrambles}
+use Rattle.scramblers.proofs.Readings.{Scrambles_from_Descrambles}
 use Rattle.shared_terms.specs.Role.{mode_of}
 use Rattle.symbol_map.specs.declared.sample.Sample.{Sample}
 use Rattle.symbol_map.specs.Points.{point_of}
 use Rattle.symbol_map.specs.Laws.{PointsDiffer}
-use Rattle.trellis_tables.specs.Encoder.{Encodes}
 use Rattle.trellis_tables.specs.LabelReader.{quad_at, quads_of}
 use Rattle.trellis_tables.specs.Quads.{quad_of}
 use Rattle.trellis_tables.specs.Table.{next_state}
 use Rattle.trellis_tables.specs.Sequences.{Leads}
-use Rattle.trellis_tables.proofs.Codings.{Encodes_once}
 use Rattle.trellis_tables.proofs.Readings.{Encodes_quads_of}
 use Rattle.trellis_tables.proofs.Sequences.{Leads-split, Leads_once}
 use Rattle.line_coding.specs.Demodulates.{line_of, DemodulatorStands}
@@ -25,8 +23,8 @@ use Rattle.symbol_map.specs.Labels.{y_of}
 use Rattle.std.specs.List.{range_with_len}
 use Rattle.std.proofs.Math.Seq.{take-append_seam, drop-append_seam}
 use Rattle.bit_stuffing.specs.BitSlot.{line_bits}
-use Rattle.bit_stuffing.specs.Slots.{sent_bits, phase_after, next_phase}
-use Rattle.bit_stuffing.proofs.Fill.{bits-append, phase-append}
+use Rattle.bit_stuffing.specs.Slots.{phase_after, next_phase}
+use Rattle.bit_stuffing.proofs.Fill.{phase-append}
 use Rattle.detection.specs.Slots.{Signal, slot_of, slots_of, signal_bits}
 use Rattle.line_coding.specs.declared.demodulator.Demodulator.{Demodulator}
 use Rattle.line_coding.specs.Modulates.{Modulates}
@@ -34,6 +32,7 @@ use Rattle.line_coding.proofs.Standing.{demodulated}
 use Rattle.lapm_frames.specs.declared.frame.Frame.{Frame}
 use Rattle.lapm_frames.specs.declared.sent.Sent.{Sent}
 use Rattle.noise_script.specs.Script.{ScriptValue}
+use Rattle.sample_line.proofs.Passing.{slot-added}
 use Rattle.sample_line.specs.Signals.{signal_of, IsCodable}
 use Rattle.sample_line.specs.Line.{Kept, LineStands, bits_behind, sender_of, size_of}
 use Rattle.line_tap.specs.declared.reader.SlotReader.{SlotReader}
@@ -44,7 +43,6 @@ use Rattle.line_tap.specs.Seeking.{FindsSent}
 use Rattle.line_tap.proofs.Coding.{points-tell}
 use Rattle.line_tap.proofs.Coding.{small as few-labels}
 use Rattle.line_tap.proofs.Guessing.{GuessLaws, same-bits, guess-right, phase_of}
-use Rattle.line_tap.proofs.SameQuads.{quads-once}
 
 abbrev bits_before : SlotReader → List Signal → List Bool
 bits_before r sigs = signal_bits (4 * r.symbols) sigs
@@ -74,16 +72,6 @@ guessed laws r sigs samples more s guess d to quads found phase k h finds g x =
     (subst (λ p. IsCodable r.sender.check r.sender.role r.sender.dlci r.symbols p s) phase x.codable)
     (bits-read laws.points r sigs samples more s d to quads k h x)
     (subst (λ p. FindsSent r.sender.check r.sender.role r.sender.dlci r.symbols p (line_bits quads) found) phase finds) g
-
--- ---- samples of one list of bits are one
-
-pub modulates-once : (tap : ℕ) (bits : List Bool) (a b : List Sample) → 1 ≤ tap → Modulates tap bits a → Modulates tap bits b → a ≡ b
-modulates-once tap bits a b low h k =
-    let lines : h.line ≡ k.line = Scrambles_once tap bits h.line k.line low h.scrambled k.scrambled in
-    let quads : h.quads ≡ k.quads = quads-once h.quads k.quads h.are_quads k.are_quads (sym h.in_fours ∙ lines ∙ k.in_fours) in
-    let labels : h.labels ≡ k.labels =
-    Encodes_once k.quads h.labels k.labels h.end k.end (subst (λ qs. Encodes qs h.labels h.end) quads h.encoded) k.encoded in
-    h.points ∙ ap (map point_of) labels ∙ sym k.points
 
 tap-low : (mode : Mode) → 1 ≤ tap_of mode
 tap-low Call = omega arith
@@ -170,8 +158,7 @@ pub bits-more : (r : SlotReader) (sigs : List Signal) (s : Sent) (quads : List �
     → signal_bits (4 * r.symbols) sigs ++ line_bits quads ≡ signal_bits (4 * r.symbols) (sigs ++ carries r s ∷ [])
 bits-more r sigs s quads e =
     let size : ℕ = 4 * r.symbols in
-    ap (λ xs. signal_bits size sigs ++ xs) e ∙ sym (bits-append size 0 (slots_of size sigs) (slot_of size (carries r s)))
-    ∙ ap (sent_bits size) (sym (map-append (slot_of size) sigs (carries r s ∷ [])))
+    ap (λ xs. signal_bits size sigs ++ xs) e ∙ sym (slot-added size sigs (carries r s))
 
 pub labels-more : (labels more : List ℕ) (samples others : List Sample) → AreLabels labels samples → AreLabels more others
     → AreLabels (labels ++ more) (samples ++ others)

@@ -18,46 +18,34 @@ use Rattle.line_run.specs.Sampled.{HeardAt, IsHeardWell, LineEnd}
 use Rattle.line_run.specs.Sampled as lines
 use Rattle.line_run.specs.Ends.{Left}
 use Rattle.line_ends.specs.EachEnds.{Becomes}
-use Rattle.line_ends.specs.EachEnds as becomes
+use Rattle.line_run.specs.Scripted.{ScriptsHaveDelays, SlotsHaveRoom}
 use Rattle.line_ends.proofs.Deciding.{Decided}
+use Rattle.line_ends.proofs.Becoming.{BecomeLaws, fit-becomes, line-or-heard}
 use Rattle.line_tap.specs.Tapping.{Tapping, line_of, terms_of, octets_of, HoldsNext, told, Hears, GoesOn, Tells}
 use Rattle.line_tap.specs.Ends.{IsDone, LineLost, ChanceMatch, BadTap, Leaves, LastHears, IsFirstRefused, EndsLine}
 use Rattle.line_tap.specs.Laws.{HasEnd, EachTapEnds}
-use Rattle.line_tap.proofs.Arriving.{ArriveLaws, slot-becomes}
 use Rattle.line_tap.proofs.NextOrNone.{next-or-none}
 use Rattle.line_tap.proofs.ToldFit.{FitLaws, told-fit}
 
 pub record EndLaws : Type 0 where
-  pub arrives : ArriveLaws
+  pub delays : ScriptsHaveDelays
+  pub room : SlotsHaveRoom
+  pub becomes : BecomeLaws
   pub fit : FitLaws
 
 -- what both ends hear in a turn, where the line doesn't end the reading
 abbrev AreHeard : Tapping → List Turn → Type 0
 AreHeard x ts = (role : Role) → IsHeardWell (line_of x) (other role) ts (judged_by (terms_of x) role ts)
 
-line-or-heard : EndLaws → (x : Tapping) (ts : List Turn) → IsInLimits x.script → Tells x ts
+ends-or-heard : EndLaws → (x : Tapping) (ts : List Turn) → IsInLimits x.script → Tells x ts
     → ((end : LineEnd) × EndsLine x ts end) ⊎ AreHeard x ts
-line-or-heard laws x ts w h = first (becoming Originator)
+ends-or-heard laws x ts w h =
+    line-or-heard (line_of x) ts (λ role. judged_by (terms_of x) role ts) (becoming Originator) (becoming Answerer)
   where
     becoming : (role : Role) → Becomes (line_of x) (other role) ts (judged_by (terms_of x) role ts)
     becoming role =
-        slot-becomes laws.arrives x.script (other role) ts (judged_by (terms_of x) role ts) w (told-fit laws.fit x ts h (other role))
-
-    both : IsHeardWell (line_of x) Answerer ts (judged_by (terms_of x) Originator ts)
-        → IsHeardWell (line_of x) Originator ts (judged_by (terms_of x) Answerer ts) → AreHeard x ts
-    both a b Originator = a
-    both a b Answerer = b
-
-    second : IsHeardWell (line_of x) Answerer ts (judged_by (terms_of x) Originator ts)
-        → Becomes (line_of x) Originator ts (judged_by (terms_of x) Answerer ts) → ((end : LineEnd) × EndsLine x ts end) ⊎ AreHeard x ts
-    second a (becomes.Lost symbol l) = inl (lines.LineLost Answerer symbol, (a, l))
-    second a (becomes.Mistaken m) = inl (lines.ChanceMatch Answerer, (a, m))
-    second a (becomes.Heard b) = inr (both a b)
-
-    first : Becomes (line_of x) Answerer ts (judged_by (terms_of x) Originator ts) → ((end : LineEnd) × EndsLine x ts end) ⊎ AreHeard x ts
-    first (becomes.Lost symbol l) = inl (lines.LineLost Originator symbol, l)
-    first (becomes.Mistaken m) = inl (lines.ChanceMatch Originator, m)
-    first (becomes.Heard a) = second a (becoming Answerer)
+        fit-becomes laws.becomes x.script (other role) ts (judged_by (terms_of x) role ts) (laws.room x.script w).0
+        (laws.delays x.script w (other role)) (told-fit laws.fit x ts h (other role))
 
 -- ---- the turn in which this is heard, and this is sent
 
@@ -236,7 +224,7 @@ each-has-one zero n low = absurd (omega (arith, low))
 few-turns : EndLaws → (x : Tapping) (ts : List Turn) → IsInLimits x.script → Tells x ts → length ts ≤ length x.bodies.orig
 few-turns laws x [] w h = omega arith
 few-turns laws x (t ∷ ts) w h =
-    let long : HEAD + TAIL < (line_of x).symbols = (laws.arrives.room x.script w).0 in
+    let long : HEAD + TAIL < (line_of x).symbols = (laws.room x.script w).0 in
     omega (arith, (h.0.sends Originator).holds.whole, each-has-one (line_of x).symbols (length ts + 1) (omega (arith, long)))
 
 -- with so many turns to go at most
@@ -244,7 +232,7 @@ ends-within : EndLaws → (x : Tapping) → IsInLimits x.script → (n : ℕ) (t
     → HasEnd x
 ends-within laws x w zero ts h l = absurd (omega (arith, l, few-turns laws x ts w h))
 ends-within laws x w (suc n) ts h l =
-    by x ts h (λ t k. ends-within laws x w n (t ∷ ts) k (omega (arith, l))) (line-or-heard laws x ts w h)
+    by x ts h (λ t k. ends-within laws x w n (t ∷ ts) k (omega (arith, l))) (ends-or-heard laws x ts w h)
   where
     by : (x : Tapping) (ts : List Turn) → Tells x ts → ((t : Turn) → Tells x (t ∷ ts) → HasEnd x)
         → ((end : LineEnd) × EndsLine x ts end) ⊎ AreHeard x ts → HasEnd x

@@ -1,14 +1,14 @@
 -- Slots that recordings tell fit one another.
-use Rattle.std.proofs.Common.{◌≡◌, ◌*◌, List, [], ◌∷◌, ◌++◌, arith, sym, ap, subst, Option, Some}
+use Rattle.std.proofs.Common.{◌*◌, List, [], ◌∷◌, arith, refl, sym, subst}
 use Rattle.frame_check.specs.declared.check.Check.{Check}
 use Rattle.shared_terms.specs.declared.role.Role.{Role}
-use Rattle.shared_terms.specs.Both.{of}
 use Rattle.sample_line.specs.Signals.{signal_of}
 use Rattle.line_run.specs.Fitting.{AreFit}
 use Rattle.line_run.specs.Laws.{OneMoreFits, CodableFits, CodableIsSendable, SpelledInOctets}
-use Rattle.link_run.specs.Run.{Spoken, Turn}
+use Rattle.link_run.specs.Run.{Turn}
 use Rattle.link_run.specs.Listened.{check_by}
-use Rattle.line_run.specs.Sampled.{signal_in, signals}
+use Rattle.line_run.specs.Sampled.{signals}
+use Rattle.line_run.proofs.Bits.{signals-more}
 use Rattle.line_tap.specs.Tapping.{Tapping, line_of, terms_of, Tells, told, phase_behind}
 
 pub record FitLaws : Type 0 where
@@ -16,10 +16,6 @@ pub record FitLaws : Type 0 where
   pub fits : CodableFits
   pub sendable : CodableIsSendable
   pub octets : SpelledInOctets
-
-pub signals-more : (x : Tapping) (role : Role) (ts : List Turn) (t : Turn) (slot : Spoken) → (of role t).sent ≡ Some slot
-    → signals (line_of x) role (t ∷ ts) ≡ signals (line_of x) role ts ++ signal_of slot.check role 0 slot.sent ∷ []
-signals-more x role ts t slot e = ap (λ (o : Option Spoken). signals (line_of x) role ts ++ signal_in (line_of x) role o) e
 
 pub told-fit : FitLaws → (x : Tapping) (ts : List Turn) → Tells x ts → (role : Role)
     → AreFit (4 * (line_of x).symbols) 0 (signals (line_of x) role ts)
@@ -30,6 +26,6 @@ told-fit laws x (t ∷ ts) h role =
     let codable = s.holds.codable in
     let octets = laws.octets check role 0 s.sent (omega arith)
     (laws.sendable check role 0 (line_of x).symbols (phase_behind (line_of x) role ts) s.sent codable) in
-    subst (AreFit (4 * (line_of x).symbols) 0) (sym (signals-more x role ts t (told check s.sent) s.sent_is))
+    subst (AreFit (4 * (line_of x).symbols) 0) (sym (signals-more (line_of x) role ts (told check s.sent) t (λ r n. refl) s.sent_is))
     (laws.more (4 * (line_of x).symbols) (signals (line_of x) role ts) (signal_of check role 0 s.sent) (told-fit laws x ts h.1 role)
     (laws.fits check role 0 (line_of x).symbols (phase_behind (line_of x) role ts) s.sent octets codable))

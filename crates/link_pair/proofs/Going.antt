@@ -16,14 +16,16 @@ use Rattle.shared_terms.specs.declared.fault.LinkFault.TheVariants as causes
 use Rattle.link_account.specs.Account.{check_of}
 use Rattle.link_run.specs.End.{deliveries}
 use Rattle.link_run.specs.Laws.{HearingsDeliver, SpeakingTakesNothing}
-use Rattle.link_run.specs.Outcomes.{Outcome, Going, Done, Broken, TurnIs}
-use Rattle.link_run.specs.Run.{Link, Accounts, Turn, Hears}
+use Rattle.link_run.specs.Outcomes.{Outcome, Done, Broken}
+use Rattle.link_run.specs.Run.{Accounts, Turn}
 use Rattle.link_run.specs.Trace.{trace_text, turn_text}
-use Rattle.line_run.specs.Sampled.{Wire, LineRun, EndsLine}
+use Rattle.line_run.specs.Sampled.{Wire, LineRun}
 use Rattle.line_run.specs.Sampled as lines
-use Rattle.line_run.specs.Ends.{Left, Leaves, RunsTo, EndsInTurn}
+use Rattle.line_run.specs.Ends.{Left, RunsTo, EndsInTurn}
 use Rattle.line_run.specs.Scripted.{wire_at, link_of}
 use Rattle.line_run.specs.Stream.{Carried, and_sent}
+use Rattle.line_run.proofs.Leaving.{hearing-in}
+use Rattle.line_run.proofs.WhatIsLeft.{left_of, leaves-so}
 use Rattle.shared_line.specs.Lines.{LinesWait, HaveArrived, AreDue}
 use Rattle.shared_line.specs.declared.lines.Lines.{Lines}
 use Rattle.run_world.specs.declared.modems.Modems.{Modems}
@@ -34,7 +36,7 @@ use Rattle.run_world.specs.declared.step.RunFault.TheVariants as run_faults
 use Rattle.line_run.specs.Names.{Written, outputs_of}
 use Rattle.run_world.specs.Link.{AreWithin, octets_of}
 use Rattle.run_world.specs.Modems.{AreKept, AreReady, ModemsAfter}
-use Rattle.run_world.specs.Turn.{added, GoesOnBy, LosesLine, MeetsChance, StopsInTurn, StopsAtChance, StopsReading, Stops, TurnAnswers}
+use Rattle.run_world.specs.Turn.{added, GoesOnBy, LosesLine, MeetsChance, StopsInTurn, StopsReading, Stops, TurnAnswers}
 use Rattle.run_world.specs.Turn as turns
 use Rattle.run_world.specs.Turns.{AddsTurn, held_of}
 use Rattle.run_world.specs.World.{KnowsFiles}
@@ -161,23 +163,6 @@ gone-on delivers speaks m l c links streams old new n files ts ends a run kept g
       );
     }
 
--- what is left of ends and of a text
-abbrev pub left_of : Accounts → List ℕ → Left
-left_of ends text = record { got = record { orig = concat ends.orig.incoming.taken; answ = concat ends.answ.incoming.taken }; trace = text }
-
-leaves-so : (ends : Accounts) (text : List ℕ) → Leaves ends text (left_of ends text)
-leaves-so ends text = record { got_is = is; trace_is = refl }
-  where
-    is : (role : Role) → of role (left_of ends text).got ≡ concat (of role ends).incoming.taken
-    is Originator = refl
-    is Answerer = refl
-
-hears-of : (link : Link) (ts : List Turn) (ends : Accounts) (t : Turn) (mid : Accounts) (o : Outcome) → TurnIs link ts ends t mid o
-    → Hears (length ts) ends t mid
-hears-of link ts ends t mid Going g = subst (Hears (length ts) ends t) g.2 g.1.hearing
-hears-of link ts ends t mid Done l = l.hearing
-hears-of link ts ends t mid (Broken role fault) b = b.hearing
-
 -- the last turn, and what the outputs hold behind it
 last-turn : HearingsDeliver
     → (m : Modems) (l : Lines) (c : Wire) (links : ℕ) (streams : Both (List Carried)) (old new : FolderState) (n : Written)
@@ -196,7 +181,7 @@ last-turn delivers m l c links streams old new n files ts ends outcome number a 
     leaves = leaves-so e.mid (trace_text (e.turn ∷ ts));
   },
   held-turn delivers (link_of c.script files) ts ends e.turn e.mid old new n run.run
-      (hears-of (link_of c.script e.others) ts ends e.turn e.mid outcome e.makes.is) a.only.goes_on a.holds e.writes,
+      (hearing-in (link_of c.script e.others) ts ends e.turn e.mid outcome e.makes.is) a.only.goes_on a.holds e.writes,
 )
 
 ended-done : HearingsDeliver

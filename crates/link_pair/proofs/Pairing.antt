@@ -40,6 +40,9 @@ pub record PairLaws : Type 0 where
   pub second : SecondSlotsAreDue
   pub few : PairsHaveFewRounds
 
+pub pair-laws : ScriptsHaveDelays → FirstSlotsAreDue → SecondSlotsAreDue → PairsHaveFewRounds → PairLaws
+pair-laws delays first second few = record { delays = delays; first = first; second = second; few = few }
+
 -- ---- how many rounds there are
 
 pub either : (x y : Bool) → (x || y) ≡ true → (x ≡ true) ⊎ ((x ≡ false) × (y ≡ true))

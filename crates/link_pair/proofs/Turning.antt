@@ -14,13 +14,15 @@ use Rattle.link_run.specs.Trace.{trace_text}
 use Rattle.line_run.specs.Sampled.{Wire, LineEnd}
 use Rattle.line_run.specs.Sampled as lines
 use Rattle.line_run.specs.Scripted.{wire_at, link_of}
+use Rattle.line_run.specs.Stream.{Carried}
 use Rattle.shared_line.specs.Lines.{LinesWait}
 use Rattle.shared_line.specs.declared.lines.Lines.{Lines}
 use Rattle.line_run.specs.Names.{Written, outputs_of}
 use Rattle.pair_run.specs.Beside.{first_dlci, second_dlci, after_second, after_first, first_wire, second_wire}
 use Rattle.pair_run.specs.Pair.{Progress, Goes, Ended, turns_in, Lasts, PairAt}
-use Rattle.pair_run.specs.Ends.{Which, First, Second, is_going, LeavesOf, BothEnd, LineEnds, by_links, by_line}
+use Rattle.pair_run.specs.Ends.{First, Second, is_going, LeavesOf, BothEnd, by_links, by_line}
 use Rattle.pair_run.specs.Ends as pairs
+use Rattle.pair_run.proofs.Clear.{Beside}
 use Rattle.pair_run.proofs.Placing.{length-on-line}
 use Rattle.link_pair.specs.declared.half.Half.{Half}
 use Rattle.link_pair.specs.declared.half.PairFault.{PairFault}
@@ -28,12 +30,11 @@ use Rattle.link_pair.specs.declared.half.PairFault.TheVariants as faults
 use Rattle.link_pair.specs.declared.pair.Pair.{Pair}
 use Rattle.link_pair.specs.declared.pair.Endings.{Endings}
 use Rattle.link_pair.specs.Half.{run_end, left_by, HoldLeft, Follows, HasCome, IsEndedByLine, LinkStops, LinkStopsReading, IsStopped}
-use Rattle.link_pair.specs.Half.{HalfEnds}
+use Rattle.link_pair.specs.Half.{HalfEnds, HalfAt, HalfAnswers}
 use Rattle.link_pair.specs.Pair.{both_ended, streams_at, Awaits, PairEnded, HaveEnded, PairStops, FaultEnds}
 use Rattle.link_pair.proofs.Beside.{AllApart, first-beside, second-beside, known-beside, held-beside}
 use Rattle.link_pair.proofs.Pairing.{PairLaws, AreOver, either, counted, waits-over, at-first, at-second, after-first-turn}
-use Rattle.link_pair.proofs.Pairing.{after-second-turn}
-use Rattle.link_pair.proofs.Pairing.{stands-going, stands-over}
+use Rattle.link_pair.proofs.Pairing.{after-second-turn, first-at, second-at, stands-going, stands-over}
 
 -- the pair with one of its links in its next round, and the line then
 abbrev pub first_moved : Pair → Half → Lines → Pair
@@ -47,22 +48,31 @@ pub record Leaves (old new : FolderState) (n m : Written) (own : Written) : Type
   pub apart : AllApart n m
   pub only : OnlyPuts old new (outputs_of own)
 
+-- what a link's turn answers, whatever goes beside it
+abbrev pub Answers : Half → Lines → ScriptValue → FolderState → FolderState → Written → ℕ → Half → Lines
+    → Result (Unit {0}) PairFault → Type 0
+Answers half lines script old new n round h l answer =
+    (beside : Beside) (links : ℕ) (streams : Both (List Carried)) (files : Both (List ℕ)) (p : Progress)
+    → HalfAt half lines old n script beside links streams files round p
+    → HalfAnswers h l (wire_at script half.dlci beside) links streams new n files round p answer
+
 -- ---- the first link has come farther
 
-first-come : (x : Pair) (h : Half) (l : Lines) (old new : FolderState) (n m : Written) (a : Awaits x old n m First)
-    → HasCome h l (wire_at x.script x.first.dlci (after_second (turns_in a.q))) 2 (streams_at First x.round a.p a.q) new n x.round a.p
+first-come : PairLaws → (x : Pair) (h : Half) (l : Lines) (old new : FolderState) (n m : Written) (a : Awaits x old n m First)
+    → Answers x.first x.lines x.script old new n x.round h l (Ok tt)
     → HasCome h l (first_wire x.script (turns_in a.q)) 2 (streams_at First x.round a.p a.q) new n x.round a.p
-first-come x h l old new n m a =
+first-come laws x h l old new n m a answers =
     subst (λ d. HasCome h l (wire_at x.script d (after_second (turns_in a.q))) 2 (streams_at First x.round a.p a.q) new n x.round a.p)
     a.first_dlci_is
+    (answers (after_second (turns_in a.q)) 2 (streams_at First x.round a.p a.q) a.files a.p (first-at laws x old n m a))
 
 pub goes-to-second : PairLaws
     → (x : Pair) (h : Half) (l : Lines) (old new : FolderState) (n m : Written) (a : Awaits x old n m First) → Leaves old new n m n
     → h.dlci ≡ x.first.dlci → both_ended h.ended x.second.ended ≡ None
-    → HasCome h l (wire_at x.script x.first.dlci (after_second (turns_in a.q))) 2 (streams_at First x.round a.p a.q) new n x.round a.p
+    → Answers x.first x.lines x.script old new n x.round h l (Ok tt)
     → Awaits (first_moved x h l) new n m Second
-goes-to-second laws x h l old new n m a around same none came =
-    let k = first-come x h l old new n m a came in
+goes-to-second laws x h l old new n m a around same none answers =
+    let k = first-come laws x h l old new n m a answers in
     let beside = second-beside n m around.apart in record {
       limits = a.limits;
       first_dlci_is = same ∙ a.first_dlci_is;
@@ -117,9 +127,8 @@ over-pair script files others firsts seconds p q endings at o e f =
 pub ends-first : PairLaws
     → (x : Pair) (h : Half) (l : Lines) (old new : FolderState) (n m : Written) (a : Awaits x old n m First) (endings : Endings)
     → Leaves old new n m n → both_ended h.ended x.second.ended ≡ Some endings
-    → HasCome h l (wire_at x.script x.first.dlci (after_second (turns_in a.q))) 2 (streams_at First x.round a.p a.q) new n x.round a.p
-    → HaveEnded x.script new n m endings
-ends-first laws x h l old new n m a endings around some came = record {
+    → Answers x.first x.lines x.script old new n x.round h l (Ok tt) → HaveEnded x.script new n m endings
+ends-first laws x h l old new n m a endings around some answers = record {
   files = k.others;
   others = a.others;
   first_known = k.knows;
@@ -135,7 +144,7 @@ ends-first laws x h l old new n m a endings around some came = record {
 }
   where
     k : HasCome h l (first_wire x.script (turns_in a.q)) 2 (streams_at First x.round a.p a.q) new n x.round a.p
-    k = first-come x h l old new n m a came
+    k = first-come laws x h l old new n m a answers
 
     o : AreOver endings k.next a.q
     o = stands-over h.ended x.second.ended h.modems x.second.modems k.others a.others k.next a.q endings k.stands a.second some
@@ -164,12 +173,13 @@ ends-first laws x h l old new n m a endings around some came = record {
 
 -- ---- the second link has
 
-second-come : (x : Pair) (h : Half) (l : Lines) (old new : FolderState) (n m : Written) (a : Awaits x old n m Second)
-    → HasCome h l (wire_at x.script x.second.dlci (after_first (turns_in a.p))) 2 (streams_at Second x.round a.p a.q) new m x.round a.q
+second-come : PairLaws → (x : Pair) (h : Half) (l : Lines) (old new : FolderState) (n m : Written) (a : Awaits x old n m Second)
+    → Answers x.second x.lines x.script old new m x.round h l (Ok tt)
     → HasCome h l (second_wire x.script (turns_in a.p)) 2 (streams_at Second x.round a.p a.q) new m x.round a.q
-second-come x h l old new n m a =
+second-come laws x h l old new n m a answers =
     subst (λ d. HasCome h l (wire_at x.script d (after_first (turns_in a.p))) 2 (streams_at Second x.round a.p a.q) new m x.round a.q)
     a.second_dlci_is
+    (answers (after_first (turns_in a.p)) 2 (streams_at Second x.round a.p a.q) a.others a.q (second-at laws x old n m a))
 
 one-more : (round : ℕ) → suc round ≡ round + 1
 one-more round = omega arith
@@ -177,10 +187,10 @@ one-more round = omega arith
 pub goes-to-first : PairLaws
     → (x : Pair) (h : Half) (l : Lines) (old new : FolderState) (n m : Written) (a : Awaits x old n m Second) → Leaves old new n m m
     → h.dlci ≡ x.second.dlci → both_ended x.first.ended h.ended ≡ None
-    → HasCome h l (wire_at x.script x.second.dlci (after_first (turns_in a.p))) 2 (streams_at Second x.round a.p a.q) new m x.round a.q
+    → Answers x.second x.lines x.script old new m x.round h l (Ok tt)
     → Awaits (second_moved x h l) new n m First
-goes-to-first laws x h l old new n m a around same none came =
-    let k = second-come x h l old new n m a came in
+goes-to-first laws x h l old new n m a around same none answers =
+    let k = second-come laws x h l old new n m a answers in
     let beside = first-beside n m around.apart in
     let long = length-on-line x.script first_dlci (after_second (turns_in a.q)) (link_of x.script a.files) (suc x.round) a.p a.at.first in
     let waits : LinesWait l (first_wire x.script (turns_in k.next)) 2 (streams_at First (suc x.round) a.p k.next) =
@@ -212,9 +222,8 @@ goes-to-first laws x h l old new n m a around same none came =
 pub ends-second : PairLaws
     → (x : Pair) (h : Half) (l : Lines) (old new : FolderState) (n m : Written) (a : Awaits x old n m Second) (endings : Endings)
     → Leaves old new n m m → both_ended x.first.ended h.ended ≡ Some endings
-    → HasCome h l (wire_at x.script x.second.dlci (after_first (turns_in a.p))) 2 (streams_at Second x.round a.p a.q) new m x.round a.q
-    → HaveEnded x.script new n m endings
-ends-second laws x h l old new n m a endings around some came = record {
+    → Answers x.second x.lines x.script old new m x.round h l (Ok tt) → HaveEnded x.script new n m endings
+ends-second laws x h l old new n m a endings around some answers = record {
   files = a.files;
   others = k.others;
   first_known = known-beside old new n m a.files (first-beside n m around.apart) around.only a.first_known;
@@ -230,7 +239,7 @@ ends-second laws x h l old new n m a endings around some came = record {
 }
   where
     k : HasCome h l (second_wire x.script (turns_in a.p)) 2 (streams_at Second x.round a.p a.q) new m x.round a.q
-    k = second-come x h l old new n m a came
+    k = second-come laws x h l old new n m a answers
 
     o : AreOver endings a.p k.next
     o = stands-over x.first.ended h.ended x.first.modems h.modems a.files k.others a.p k.next endings a.first k.stands some
@@ -359,29 +368,37 @@ stops-second S x old new n m a around e =
       stops = (held-beside old new n m a.p beside around.only a.first_holds, k.stops);
     }
 
-pub fault-first : (x : Pair) (old new : FolderState) (n m : Written) (a : Awaits x old n m First) (fault : PairFault)
-    → Leaves old new n m n
-    → HalfEnds (wire_at x.script x.first.dlci (after_second (turns_in a.q))) new n a.files x.round a.p fault
-    → FaultEnds x.script new n m fault
-fault-first x old new n m a faults.ReadFault around e = stops-first LinkStopsReading x old new n m a around e
-fault-first x old new n m a faults.WriteFault around e = stops-first LinkStops x old new n m a around e
-fault-first x old new n m a faults.NoMemory around e = stops-first LinkStops x old new n m a around e
-fault-first x old new n m a (faults.LineLost role symbol) around e = line-first x old new n m a (lines.LineLost role symbol) around e
-fault-first x old new n m a (faults.ChanceMatch role turn) around e =
-    subst (λ t. PairEnded x.script new n m (pairs.ChanceMatch role t)) (sym e.0) (line-first x old new n m a
-    (lines.ChanceMatch role) around e.1)
+pub fault-first : PairLaws
+    → (x : Pair) (h : Half) (l : Lines) (old new : FolderState) (n m : Written) (a : Awaits x old n m First) (fault : PairFault)
+    → Leaves old new n m n → Answers x.first x.lines x.script old new n x.round h l (Err fault) → FaultEnds x.script new n m fault
+fault-first laws x h l old new n m a fault around answers =
+    go fault (answers (after_second (turns_in a.q)) 2 (streams_at First x.round a.p a.q) a.files a.p (first-at laws x old n m a))
+  where
+    go : (fault : PairFault) → HalfEnds (wire_at x.script x.first.dlci (after_second (turns_in a.q))) new n a.files x.round a.p fault
+        → FaultEnds x.script new n m fault
+    go faults.ReadFault e = stops-first LinkStopsReading x old new n m a around e
+    go faults.WriteFault e = stops-first LinkStops x old new n m a around e
+    go faults.NoMemory e = stops-first LinkStops x old new n m a around e
+    go (faults.LineLost role symbol) e = line-first x old new n m a (lines.LineLost role symbol) around e
+    go (faults.ChanceMatch role turn) e =
+        subst (λ t. PairEnded x.script new n m (pairs.ChanceMatch role t)) (sym e.0)
+        (line-first x old new n m a (lines.ChanceMatch role) around e.1)
 
-pub fault-second : (x : Pair) (old new : FolderState) (n m : Written) (a : Awaits x old n m Second) (fault : PairFault)
-    → Leaves old new n m m
-    → HalfEnds (wire_at x.script x.second.dlci (after_first (turns_in a.p))) new m a.others x.round a.q fault
-    → FaultEnds x.script new n m fault
-fault-second x old new n m a faults.ReadFault around e = stops-second LinkStopsReading x old new n m a around e
-fault-second x old new n m a faults.WriteFault around e = stops-second LinkStops x old new n m a around e
-fault-second x old new n m a faults.NoMemory around e = stops-second LinkStops x old new n m a around e
-fault-second x old new n m a (faults.LineLost role symbol) around e = line-second x old new n m a (lines.LineLost role symbol) around e
-fault-second x old new n m a (faults.ChanceMatch role turn) around e =
-    subst (λ t. PairEnded x.script new n m (pairs.ChanceMatch role t)) (sym e.0) (line-second x old new n m a
-    (lines.ChanceMatch role) around e.1)
+pub fault-second : PairLaws
+    → (x : Pair) (h : Half) (l : Lines) (old new : FolderState) (n m : Written) (a : Awaits x old n m Second) (fault : PairFault)
+    → Leaves old new n m m → Answers x.second x.lines x.script old new m x.round h l (Err fault) → FaultEnds x.script new n m fault
+fault-second laws x h l old new n m a fault around answers =
+    go fault (answers (after_first (turns_in a.p)) 2 (streams_at Second x.round a.p a.q) a.others a.q (second-at laws x old n m a))
+  where
+    go : (fault : PairFault) → HalfEnds (wire_at x.script x.second.dlci (after_first (turns_in a.p))) new m a.others x.round a.q fault
+        → FaultEnds x.script new n m fault
+    go faults.ReadFault e = stops-second LinkStopsReading x old new n m a around e
+    go faults.WriteFault e = stops-second LinkStops x old new n m a around e
+    go faults.NoMemory e = stops-second LinkStops x old new n m a around e
+    go (faults.LineLost role symbol) e = line-second x old new n m a (lines.LineLost role symbol) around e
+    go (faults.ChanceMatch role turn) e =
+        subst (λ t. PairEnded x.script new n m (pairs.ChanceMatch role t)) (sym e.0)
+        (line-second x old new n m a (lines.ChanceMatch role) around e.1)
 
 -- ---- what is answered of both links
 

@@ -1,5 +1,5 @@
 -- However a pair ends, each received file is as it was, or holds the beginning of the file of the other end of its link.
-use Rattle.std.proofs.Common.{◌≡◌, inl, inr, ℕ, suc, List, [], ◌∷◌, ◌++◌, length, Some, Result, Ok, Err, refl, sym, ◌∙◌, ap, subst}
+use Rattle.std.proofs.Common.{◌≡◌, inl, inr, ℕ, suc, List, [], ◌∷◌, ◌++◌, Some, Result, Ok, Err, refl, sym, ◌∙◌, ap, subst}
 use Rattle.std.proofs.Common.{append-nil}
 use Rattle.std.proofs.lemmas.List.Folds.{concat-append}
 use Rattle.std.specs.List.{concat}
@@ -12,12 +12,12 @@ use Rattle.shared_terms.specs.Role.{other}
 use Rattle.shared_terms.specs.Both.{Both, of}
 use Rattle.noise_script.specs.Script.{ScriptValue, IsInLimits, delay_of}
 use Rattle.link_run.specs.End.{deliveries}
-use Rattle.link_run.specs.Run.{Link, Accounts, Turn, Hears}
-use Rattle.link_run.specs.Outcomes.{Outcome, Going, Done, Broken, TurnIs}
+use Rattle.link_run.specs.Run.{Link, Accounts, Turn}
 use Rattle.link_run.specs.Laws.{RunsOver, HoldPrefixes, TakesWhatPassed}
 use Rattle.line_run.specs.Sampled.{Wire, LineRun}
 use Rattle.line_run.specs.Ends.{Left, MayRun}
 use Rattle.line_run.specs.Scripted.{link_of}
+use Rattle.line_run.proofs.Leaving.{hearing-in}
 use Rattle.command_base.specs.declared.stop.Stop.{Stop}
 use Rattle.command_base.specs.declared.stop.Stop.TheVariants as stops
 use Rattle.run_inputs.specs.declared.limits.TheConstants.{LIMITS}
@@ -79,19 +79,13 @@ left-prefixes laws c files rounds (Ended ts ends end left) h l role =
     same-prefix c.script files role (of role left.got)
     (laws.runs.prefixes c (link_of c.script files) end left (may-run laws c files h) l.ran role)
 
-hears-of : (link : Link) (ts : List Turn) (ends : Accounts) (t : Turn) (mid : Accounts) (o : Outcome) → TurnIs link ts ends t mid o
-    → Hears (length ts) ends t mid
-hears-of link ts ends t mid Going g = subst (Hears (length ts) ends t) g.2 g.1.hearing
-hears-of link ts ends t mid Done l = l.hearing
-hears-of link ts ends t mid (Broken role fault) b = b.hearing
-
 -- and of it with what a turn adds
 turn-prefix : HeadLaws → (c : Wire) (files : Both (List ℕ)) (ts : List Turn) (ends : Accounts) (more : Left) → IsInLimits c.script
     → LineRun c (link_of c.script files) ts ends → AddsTurn c (link_of c.script files) ts ends more → (role : Role)
     → IsPrefixOf (of role (left_by (Goes ts ends)).got ++ of role more.got) (of (other role) files)
 turn-prefix laws c files ts ends more h run a role =
     let link : Link = link_of c.script files in
-    let hears = hears-of link ts ends a.turn a.mid a.outcome a.is in
+    let hears = hearing-in link ts ends a.turn a.mid a.outcome a.is in
     let whole : HoldPrefixes link a.mid =
     laws.runs.hears link (delay_of c.script) ts ends a.turn a.mid (runs-over laws c files ts ends h run)
     (laws.runs.one c ts a.turn a.heard) hears

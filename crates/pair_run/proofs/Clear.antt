@@ -1,6 +1,6 @@
 -- What is heard of a slot depends on that slot, its check and the script's lose lines alone, where noise is faint: whatever goes beside it.
 use Rattle.std.proofs.Common.{◌≡◌, ◌≢◌, ◌⊎◌, inl, inr, ℕ, ◌+◌, ◌-◌, ◌*◌, ◌<◌, ◌≤◌, Bool, List, [], ◌∷◌, ◌++◌, length, drop, arith}
-use Rattle.std.proofs.Common.{refl, sym, ap, subst, Option, Some, None, append-nil}
+use Rattle.std.proofs.Common.{refl, sym, subst, Option, Some, None, append-nil}
 use Rattle.frame_check.specs.declared.check.Check.{Check}
 use Rattle.bit_stuffing.specs.declared.slot_writer.TheConstants.{HEAD, TAIL}
 use Rattle.symbol_map.specs.declared.sample.Sample.{Sample}
@@ -17,17 +17,18 @@ use Rattle.sample_line.specs.Signals.{signal_of}
 use Rattle.sample_line.specs.Recorded.{Records}
 use Rattle.sample_line.specs.Outcomes.{IsOutcome}
 use Rattle.sample_line.specs.Laws.{OneOutcome}
-use Rattle.line_run.specs.Fitting.{AreFit}
 use Rattle.line_run.specs.Unhindered.{ChecksAgree, octets_in, patterns_in, unhindered}
 use Rattle.line_run.specs.Laws.{FaintNeverLost, FaintReceivedIsSent, FaintSentIsReceived, NeverChance, SlotsAreRecorded}
 use Rattle.line_run.proofs.Received.{as-expected}
 use Rattle.link_run.specs.Run.{Spoken, Turn}
 use Rattle.link_run.specs.Carried.{sent_ago}
-use Rattle.line_run.specs.Sampled.{Wire, signal_in, signals, signals_before, bits_of, Arrives, ArrivesAs, IsHeardOf, LosesLine}
+use Rattle.line_run.specs.Sampled.{Wire, signals_before, bits_of, Arrives, ArrivesAs, IsHeardOf, LosesLine}
 use Rattle.line_run.specs.Scripted.{slot_symbols, longest_of}
 use Rattle.line_ends.specs.Completes.{IsFaint}
 use Rattle.line_run.specs.Stream.{AllSendable}
 use Rattle.line_ends.proofs.Receiving.{lost-or-not}
+use Rattle.line_run.proofs.Bits.{signals-upto}
+use Rattle.line_ends.proofs.Becoming.{Sent_behind}
 use Rattle.line_run.proofs.Slots.{SentAgo, sent-ago}
 use Rattle.line_run.specs.Scripted.{wire_at}
 use Rattle.pair_run.proofs.Fitting.{AllFit, all-fit, fit-and-one, AllFitting, fitting-dropped, BesideFits, before-fit}
@@ -77,24 +78,16 @@ long script = omega arith
 low : (script : ScriptValue) → HEAD + TAIL < symbols_of script
 low script = omega arith
 
--- a slot that was sent behind these
-pub record Sent_behind (script : ScriptValue) (dlci : ℕ) (beside : Beside) (sender : Role) (earlier : List Turn) (t : Turn)
-    (slot : Spoken) : Type 0 where
-  pub signal_is : signals (wire_at script dlci beside) sender (t ∷ earlier)
-      ≡ signals_before (wire_at script dlci beside) sender earlier ++ signal_of slot.check sender dlci slot.sent ∷ []
-  pub fits : AreFit (bits_in script) 0 (signals_before (wire_at script dlci beside) sender earlier
-      ++ signal_of slot.check sender dlci slot.sent ∷ [])
-  pub fits_before : AreFit (bits_in script) 0 (signals_before (wire_at script dlci beside) sender earlier)
-
-pub sent-behind : (script : ScriptValue) (dlci : ℕ) (beside : Beside) (sender : Role) (earlier : List Turn) (t : Turn) (slot : Spoken)
+-- a slot that was sent behind these fits there
+sent-behind : (script : ScriptValue) (dlci : ℕ) (beside : Beside) (sender : Role) (earlier : List Turn) (t : Turn) (slot : Spoken)
     → AllFitting (bits_in script) dlci (t ∷ earlier) → BesideFits (bits_in script) beside → (of sender t).sent ≡ Some slot
-    → Sent_behind script dlci beside sender earlier t slot
+    → Sent_behind (wire_at script dlci beside) sender earlier t slot
 sent-behind script dlci beside sender earlier t slot h b e =
     let c : Wire = wire_at script dlci beside in
     let before : List Signal = signals_before c sender earlier in
     let fit : AllFit (bits_in script) before = before-fit c b sender earlier h.1 in
     record {
-      signal_is = ap (λ o. before ++ signal_in c sender o) e;
+      signal_is = signals-upto c sender earlier slot t e;
       fits = all-fit (bits_in script) 0 (before ++ signal_of slot.check sender dlci slot.sent ∷ []) (omega arith)
           (fit-and-one (bits_in script) before (signal_of slot.check sender dlci slot.sent) fit (h.0 sender slot e));
       fits_before = all-fit (bits_in script) 0 before (omega arith) fit;
@@ -104,7 +97,7 @@ sent-behind script dlci beside sender earlier t slot h b e =
 heard-behind : ClearLaws → (script : ScriptValue) (dlci : ℕ) (beside : Beside) (sender : Role) (earlier : List Turn) (t : Turn)
     (hearing : Check) (slot : Spoken) (heard : Heard)
     → IsFaint script → IsSendable slot.sent → ChecksAgree slot.check hearing slot.sent
-    → Sent_behind script dlci beside sender earlier t slot
+    → Sent_behind (wire_at script dlci beside) sender earlier t slot
     → Arrives (wire_at script dlci beside) sender earlier (t ∷ earlier) hearing slot heard
     → heard ≡ unhindered (loses script sender (length earlier)) slot.sent
 heard-behind laws script dlci beside sender earlier t hearing slot heard d is agree s a =
@@ -136,7 +129,7 @@ never-lost laws script sender bits samples symbol d r l =
 due-behind : ClearLaws → (script : ScriptValue) (dlci : ℕ) (beside : Beside) (sender : Role) (earlier : List Turn) (t : Turn)
     (hearing : Check) (slot : Spoken)
     → IsFaint script → IsSendable slot.sent → ChecksAgree slot.check hearing slot.sent
-    → Sent_behind script dlci beside sender earlier t slot
+    → Sent_behind (wire_at script dlci beside) sender earlier t slot
     → Arrives (wire_at script dlci beside) sender earlier (t ∷ earlier) hearing slot
     (unhindered (loses script sender (length earlier)) slot.sent)
 due-behind laws script dlci beside sender earlier t hearing slot d is agree s =
@@ -170,19 +163,24 @@ due-behind laws script dlci beside sender earlier t hearing slot d is agree s =
     kept (inl l) = absurd (never-lost laws script sender (signal_bits (bits_in script) (before ++ signal ∷ [])) upto.0 l.0 d upto.1 l.1)
     kept (inr n) = n
 
--- the slot that arrives in the turn after these
+-- a slot that arrives in the turn after these was sent so
+pub arriving-behind : (script : ScriptValue) (dlci : ℕ) (beside : Beside) (sender : Role) (ts : List Turn) (slot : Spoken)
+    → AllFitting (bits_in script) dlci ts → BesideFits (bits_in script) beside → (x : SentAgo sender (delay_of script sender) ts slot)
+    → Sent_behind (wire_at script dlci beside) sender (drop (delay_of script sender) ts) x.turn slot
+arriving-behind script dlci beside sender ts slot fits b x =
+    sent-behind script dlci beside sender (drop (delay_of script sender) ts) x.turn slot
+    (subst (AllFitting (bits_in script) dlci) x.rest (fitting-dropped (bits_in script) dlci (delay_of script sender - 1) ts fits)) b x.sent
+
+-- the turn in which it was, and that it fits
 pub record Comes (script : ScriptValue) (dlci : ℕ) (beside : Beside) (sender : Role) (ts : List Turn) (slot : Spoken) : Type 0 where
   pub x : SentAgo sender (delay_of script sender) ts slot
-  pub behind : Sent_behind script dlci beside sender (drop (delay_of script sender) ts) x.turn slot
+  pub behind : Sent_behind (wire_at script dlci beside) sender (drop (delay_of script sender) ts) x.turn slot
 
 comes : (script : ScriptValue) (dlci : ℕ) (beside : Beside) (sender : Role) (ts : List Turn) (slot : Spoken)
     → IsClear script dlci beside ts → sent_ago (delay_of script sender) sender ts ≡ Some slot → Comes script dlci beside sender ts slot
 comes script dlci beside sender ts slot h e =
-    let delay : ℕ = delay_of script sender in
-    let x : SentAgo sender delay ts slot = sent-ago sender delay ts slot (h.delays sender) e in
-    let fits : AllFitting (bits_in script) dlci (x.turn ∷ drop delay ts) =
-    subst (AllFitting (bits_in script) dlci) x.rest (fitting-dropped (bits_in script) dlci (delay - 1) ts h.fits) in
-    record { x = x; behind = sent-behind script dlci beside sender (drop delay ts) x.turn slot fits h.beside_fits x.sent }
+    let x : SentAgo sender (delay_of script sender) ts slot = sent-ago sender (delay_of script sender) ts slot (h.delays sender) e in
+    record { x = x; behind = arriving-behind script dlci beside sender ts slot h.fits h.beside_fits x }
 
 -- What is heard of a sender in the turn after these is what is due,
 pub heard-due : ClearLaws → (script : ScriptValue) (dlci : ℕ) (beside : Beside) (sender : Role) (ts : List Turn) (hearing : Check)

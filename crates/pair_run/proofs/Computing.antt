@@ -37,8 +37,7 @@ use Rattle.pair_run.specs.Laws.{AreShort, AreIsolated, UndisplacedPairsAreIsolat
 use Rattle.pair_run.proofs.Fitting.{none-beside}
 use Rattle.pair_run.proofs.Clear.{bits_in, due, due_of, due-heard, due-well}
 use Rattle.pair_run.proofs.Isolating.{IsolationLaws, MaySend, clear-on, agrees-on}
-use Rattle.pair_run.proofs.Same.{left_of}
-use Rattle.pair_run.proofs.Becoming.{leaves-so}
+use Rattle.line_run.proofs.WhatIsLeft.{left_of, leaves-so}
 use Rattle.pair_run.specs.Rows.{plain_offer, no_lines, one_octet_each, fifteen_segments, way_of, first_made, second_made, EndsSo, PairEndsSo}
 use Rattle.pair_run.specs.Rows.{RowsHold}
 

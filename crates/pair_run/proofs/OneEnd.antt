@@ -14,7 +14,9 @@ use Rattle.pair_run.specs.Pair.{Progress, Goes, Ended, turns_in, ends_in, turns_
 use Rattle.pair_run.specs.Ends.{Which, First, Second, PairEnd, end_of, line_end, is_going, EndsTurn, LeavesOf, text_for, LineEnds}
 use Rattle.pair_run.specs.Ends.{PairRunsTo, by_links, by_line}
 use Rattle.pair_run.specs.Laws.{OnePairResult}
-use Rattle.pair_run.proofs.Same.{SameLaws, left-is, compare, ends-or-hears}
+use Rattle.line_run.proofs.WhatIsLeft.{left-is}
+use Rattle.line_run.proofs.Resulting.{compare}
+use Rattle.pair_run.proofs.Same.{SameLaws, ends-or-hears}
 use Rattle.pair_run.proofs.Stepping.{HasDelays, At, one-at, HearsTurn, Earlier, turns_by, same-place, back-to}
 
 pub record ResultLaws : Type 0 where

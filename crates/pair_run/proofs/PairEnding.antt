@@ -21,14 +21,14 @@ use Rattle.pair_run.proofs.Fitting.{AllFitting, BesideFits, second-beside, first
 use Rattle.pair_run.proofs.Clear.{Beside, bits_in}
 use Rattle.pair_run.proofs.Isolating.{IsolationLaws, fitting-on}
 use Rattle.pair_run.proofs.Pairing.{has-run}
-use Rattle.pair_run.proofs.Same.{left_of}
+use Rattle.line_run.proofs.WhatIsLeft.{left_of, leaves-so}
 use Rattle.pair_run.proofs.Agreeing.{same-lasts}
 use Rattle.pair_run.proofs.Stepping.{At}
-use Rattle.pair_run.proofs.Becoming.{BecomeLaws, leaves-so, NextOf, On_line, Made, next-of}
+use Rattle.pair_run.proofs.Becoming.{NextLaws, NextOf, On_line, Made, next-of}
 
 pub record EndLaws : Type 0 where
   pub links : IsolationLaws
-  pub becomes : BecomeLaws
+  pub becomes : NextLaws
   pub few : PairsHaveFewRounds
 
 -- what a pair is over

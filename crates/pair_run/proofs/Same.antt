@@ -1,20 +1,21 @@
 -- What a link came to over a channel in so many rounds is one thing.
-use Rattle.std.proofs.Common.{◌≡◌, ◌≢◌, ◌⊎◌, inl, inr, ℕ, zero, suc, ◌<◌, List, [], ◌∷◌, length, arith, refl, sym, ◌∙◌, ap}
+use Rattle.std.proofs.Common.{◌≡◌, ◌≢◌, ◌⊎◌, inl, inr, ℕ, ◌<◌, List, ◌∷◌, length, arith, refl, sym, ◌∙◌, ap}
 use Rattle.std.proofs.Common.{subst}
-use Rattle.std.specs.List.{concat}
 use Rattle.shared_terms.specs.declared.role.Role.{Role}
 use Rattle.shared_terms.specs.declared.role.Role.TheVariants.{Originator, Answerer}
 use Rattle.shared_terms.specs.Role.{other}
 use Rattle.shared_terms.specs.Both.{of}
-use Rattle.shared_terms.specs.declared.fault.LinkFault.{LinkFault}
 use Rattle.shared_terms.specs.declared.fault.LinkFault.TheVariants as faults
 use Rattle.link_account.specs.Account.{check_of}
-use Rattle.link_run.specs.Run.{Link, Accounts, Turn, Hears, GoingTurn, RunOf}
+use Rattle.link_run.specs.Run.{Link, Accounts, Turn, Hears}
 use Rattle.link_run.specs.Outcomes.{Outcome, Going, Done, Broken, TurnIs}
 use Rattle.link_run.specs.Trace.{trace_text}
 use Rattle.link_run.specs.Laws.{heard_in, OneOutcome}
-use Rattle.line_run.specs.Sampled.{Wire, IsHeardOf, HeardIn, IsHeardOver, LineRun, LineEnd, EndsLine}
+use Rattle.line_run.specs.Sampled.{Wire, IsHeardOf, HeardIn, LineRun, LineEnd, EndsLine}
 use Rattle.line_run.specs.LineLaws.{HeardOnce, OneLineRun, EndsOrIsHeard}
+use Rattle.line_run.proofs.Leaving.{hearing-in}
+use Rattle.line_run.proofs.WhatIsLeft.{left_of, left-is}
+use Rattle.line_run.proofs.Resulting.{done-not, broken-not, Cut, cut, compare}
 use Rattle.line_run.specs.Ends.{RunEnd, IsDone, LinkLost, NotDetected, LineLost, ChanceMatch, Left, Leaves, EndsBy}
 use Rattle.pair_run.specs.Pair.{Progress, Goes, Ended, last_ends, IsByLink, HearsIdly, HasEnded, Lasts}
 
@@ -44,19 +45,13 @@ same-heard laws c ts ends t u mid later h k p q =
         (subst (λ z. IsHeardOf c (other role) ts z (of role t).heard) (h role).check_is (p role).heard_of)
         (subst (λ z. IsHeardOf c (other role) ts z (of role u).heard) (k role).check_is (q role).heard_of)
 
-pub hearing-of : (link : Link) (ts : List Turn) (ends : Accounts) (t : Turn) (mid : Accounts) (o : Outcome) → TurnIs link ts ends t mid o
-    → Hears (length ts) ends t mid
-hearing-of link ts ends t mid Going h = subst (Hears (length ts) ends t) h.2 h.1.hearing
-hearing-of link ts ends t mid Done h = h.hearing
-hearing-of link ts ends t mid (Broken role fault) h = h.hearing
-
 -- one turn is made behind these, with one outcome
 same-turn : (laws : SameLaws) (c : Wire) (link : Link) (ts : List Turn) (ends : Accounts) (t u : Turn) (mid later : Accounts) (a b : Outcome)
     → TurnIs link ts ends t mid a → TurnIs link ts ends u later b → HeardIn c ts t → HeardIn c ts u
     → (t ≡ u) × (mid ≡ later) × (a ≡ b)
 same-turn laws c link ts ends t u mid later a b h k p q =
     laws.outcome link ts ends t u mid later a b h k
-    (same-heard laws c ts ends t u mid later (hearing-of link ts ends t mid a h) (hearing-of link ts ends u later b k) p q)
+    (same-heard laws c ts ends t u mid later (hearing-in link ts ends t mid a h) (hearing-in link ts ends u later b k) p q)
 
 -- how a link ended, by its last turn
 abbrev pub named : ℕ → Outcome → RunEnd
@@ -73,19 +68,6 @@ pub record LastTurnIs (c : Wire) (link : Link) (ts : List Turn) (before mid : Ac
   pub not_going : outcome ≢ Going
   pub named_is : named (length ts) outcome ≡ end
   pub leaves : Leaves mid (trace_text (last ∷ ts)) left
-
-kind : Outcome → ℕ
-kind Going = 0
-kind Done = 1
-kind (Broken role fault) = 2
-
-done-not : Done ≢ Going
-unfolding kind
-done-not e = omega (arith, ap kind e)
-
-broken-not : (role : Role) (fault : LinkFault) → Broken role fault ≢ Going
-unfolding kind
-broken-not role fault e = omega (arith, ap kind e)
 
 last-turn : (c : Wire) (link : Link) (ts : List Turn) (before : Accounts) (end : RunEnd) (left : Left) → IsByLink end
     → (e : EndsBy c link ts before end left) → LastTurnIs c link ts before (last_ends c link ts before end left e) end left
@@ -136,56 +118,6 @@ ended-is c link rounds ts ends end left h = record {
       (last-turn c link h.ran.turns h.ran.ends end left h.by_link h.ran.ended));
 }
 
--- what is left is told by its parts
-abbrev pub left_of : Accounts → List ℕ → Left
-left_of ends text = record { got = record { orig = concat ends.orig.incoming.taken; answ = concat ends.answ.incoming.taken }; trace = text }
-
-pub left-is : (ends : Accounts) (text : List ℕ) (left : Left) → Leaves ends text left → left ≡ left_of ends text
-left-is ends text left h =
-    ap (λ (z : List ℕ). record { got = record { orig = z; answ = left.got.answ }; trace = left.trace }) (h.got_is Originator)
-    ∙ ap (λ (z : List ℕ). record { got = record { orig = concat ends.orig.incoming.taken; answ = z }; trace = left.trace }) (h.got_is Answerer)
-    ∙ ap (λ (z : List ℕ). record { got = record { orig = concat ends.orig.incoming.taken; answ = concat ends.answ.incoming.taken }; trace = z })
-    h.trace_is
-
--- the turn of that number in a longer run
-pub record Cut (c : Wire) (link : Link) (n : ℕ) : Type 0 where
-  pub turns : List Turn
-  pub before : Accounts
-  pub count : length turns ≡ n
-  pub run : LineRun c link turns before
-  pub turn : Turn
-  pub after : Accounts
-  pub going : GoingTurn link turns before turn after
-  pub heard : HeardIn c turns turn
-
-pub same-or-less : (m n : ℕ) → m < suc n → (n ≡ m) ⊎ (m < n)
-same-or-less zero zero l = inl refl
-same-or-less zero (suc n) l = inr (omega arith)
-same-or-less (suc m) zero l = absurd (omega (arith, l))
-same-or-less (suc m) (suc n) l = up (same-or-less m n (omega (arith, l)))
-  where
-    up : (n ≡ m) ⊎ (m < n) → (suc n ≡ suc m) ⊎ (suc m < suc n)
-    up (inl e) = inl (ap suc e)
-    up (inr k) = inr (omega (arith, k))
-
-cut : (c : Wire) (link : Link) (n : ℕ) (ts : List Turn) (ends : Accounts) → RunOf link ts ends → IsHeardOver c ts → n < length ts
-    → Cut c link n
-cut c link n [] ends h k l = absurd (omega (arith, l))
-cut c link n (t ∷ ts) ends h k l = go (same-or-less n (length ts) l) (cut c link n ts h.0 h.1 k.1)
-  where
-    go : (length ts ≡ n) ⊎ (n < length ts) → (n < length ts → Cut c link n) → Cut c link n
-    go (inl e) f = record {
-      turns = ts;
-      before = h.0;
-      count = e;
-      run = record { run = h.1; heard = k.1 };
-      turn = t;
-      after = ends;
-      going = h.2;
-      heard = k.0;
-    }
-    go (inr e) f = f e
-
 -- a link that ended doesn't go on
 ended-stays : (laws : SameLaws) (c : Wire) (link : Link) (ts : List Turn) (ends : Accounts) (end : RunEnd) (left : Left)
     → EndedIs c link ts ends end left → (us : List Turn) (others : Accounts) → LineRun c link us others → length ts < length us → ⊥
@@ -198,17 +130,6 @@ ended-stays laws c link ts ends end left e us others r l =
     let s = same-turn laws c link k.turns k.before there.last k.turn ends k.going.mid there.outcome Going there.is (k.after, k.going, refl)
     there.heard k.heard in
     there.not_going s.2
-
-pub compare : (m n : ℕ) → (m ≡ n) ⊎ ((m < n) ⊎ (n < m))
-compare zero zero = inl refl
-compare zero (suc n) = inr (inl (omega arith))
-compare (suc m) zero = inr (inr (omega arith))
-compare (suc m) (suc n) = up (compare m n)
-  where
-    up : (m ≡ n) ⊎ ((m < n) ⊎ (n < m)) → (suc m ≡ suc n) ⊎ ((suc m < suc n) ⊎ (suc n < suc m))
-    up (inl e) = inl (ap suc e)
-    up (inr (inl l)) = inr (inl (omega (arith, l)))
-    up (inr (inr l)) = inr (inr (omega (arith, l)))
 
 -- two ends of one link are one
 ended-once : (laws : SameLaws) (c : Wire) (link : Link) (ts us : List Turn) (ends others : Accounts) (a b : RunEnd) (left leaves : Left)

@@ -13,7 +13,9 @@ use Rattle.line_run.specs.Scripted.{wire_at}
 use Rattle.pair_run.specs.Pair.{Progress, Goes, Ended, turns_in, ends_in, turns_on_line, HearsIdly, IdlesFor, Lasts, PairAt}
 use Rattle.pair_run.specs.Ends.{Which, First, Second, is_going, firsts_at}
 use Rattle.pair_run.proofs.Clear.{Beside}
-use Rattle.pair_run.proofs.Same.{SameLaws, well-heard, hearing-of, EndedIs, ended-is, same-or-less, lasts-once}
+use Rattle.pair_run.proofs.Same.{SameLaws, well-heard, EndedIs, ended-is, lasts-once}
+use Rattle.line_run.proofs.Leaving.{hearing-in}
+use Rattle.line_run.proofs.Resulting.{same-or-less}
 use Rattle.pair_run.proofs.Agreeing.{same-lasts, slot-stays}
 
 -- what a link came to one round before: its slots stay, those that arrive in that round are heard well, and once it has ended it stays so
@@ -34,7 +36,7 @@ before-ended script dlci beside link rounds ts ends end left h (inl e) =
       lasts = record { run = k.run; count = sym e };
       same = λ at role round l. refl;
       well = well-heard (wire_at script dlci beside) ts k.before k.last.last ends
-          (hearing-of link ts k.before k.last.last ends k.last.outcome k.last.is) k.last.heard;
+          (hearing-in link ts k.before k.last.last ends k.last.outcome k.last.is) k.last.heard;
       stays = λ g. absurd (false≢true (sym g));
     }
 before-ended script dlci beside link rounds ts ends end left h (inr l) =

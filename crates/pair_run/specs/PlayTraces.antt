@@ -1,5 +1,5 @@
 -- The traces of some runs: two lines a turn, the originator's first. They were worked out apart from the account.
-use Rattle.std.specs.Prelude.{zero, suc, ◌≡◌, ℕ, ◌*◌, Bool, true, false, List, [], ◌∷◌, ◌++◌, length, take, drop}
+use Rattle.std.specs.Prelude.{zero, suc, ◌≡◌, ℕ, ◌*◌, true, false, List, [], ◌∷◌, ◌++◌, take, drop}
 use Rattle.pair_run.specs.Runs.{Row}
 use Rattle.pair_run.specs.Lines.{odp, adp, mark, flags, xid_cmd, xid_rsp, sabme, disc, ua, i, poll, reply, rr, rej, srej, brk, brkack, idle, heard, lost, giving, last, last_heard, quiet, busy_reply, rnr}
 use Rattle.pair_run.specs.PlaySettings.{lines, loses, one_octet_each, one_break, far, near_rej, near_srej, busy_for_a_while, busy_for_long}

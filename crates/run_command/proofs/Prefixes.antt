@@ -1,5 +1,5 @@
 -- However a run ends, each received file is as it was, or holds the beginning of the other end's file.
-use Rattle.std.proofs.Common.{◌≡◌, ◌⊎◌, inl, inr, ℕ, List, [], ◌++◌, length, IsTrue, Some, Result, Ok, Err, refl, sym, ◌∙◌, ap, subst}
+use Rattle.std.proofs.Common.{◌≡◌, ◌⊎◌, inl, inr, ℕ, List, [], ◌++◌, IsTrue, Some, Result, Ok, Err, refl, sym, ◌∙◌, ap, subst}
 use Rattle.std.proofs.Common.{append_assoc}
 use Rattle.std.proofs.lemmas.List.{append-nil}
 use Rattle.std.proofs.lemmas.List.Folds.{concat-append}
@@ -14,13 +14,13 @@ use Rattle.shared_terms.specs.Both.{Both, of}
 use Rattle.noise_script.specs.Script.{ScriptValue, IsInLimits, delay_of}
 use Rattle.survivors.specs.Laws.{ReleasedIsLeast, OfEachCode}
 use Rattle.link_run.specs.End.{deliveries}
-use Rattle.link_run.specs.Run.{Link, Accounts, Turn, Hears}
-use Rattle.link_run.specs.Outcomes.{Outcome, Going, Done, Broken, TurnIs}
+use Rattle.link_run.specs.Run.{Link, Accounts, Turn}
 use Rattle.link_run.specs.Laws.{RunsOver, TakesPrefixes, HearsPrefixes, HearingsDeliver, HoldPrefixes}
 use Rattle.line_run.specs.Sampled.{LineRun}
 use Rattle.line_run.specs.LineLaws.{SamplesAreCarried, OneIsCarried}
 use Rattle.line_run.specs.Ends.{RunEnd, Left, MayRun, RunsLeavePrefixes, DoneLeavesWhole, RunsLeaveWhatPassed}
 use Rattle.line_run.specs.Scripted.{wire_of, link_of, ScriptsMayPlay, ScriptsHaveDelays}
+use Rattle.line_run.proofs.Leaving.{hearing-in}
 use Rattle.line_ends.specs.Scripts.{LineRunsEndSoon}
 use Rattle.line_ends.specs.Causes.{EndsHaveCauses}
 use Rattle.command_base.specs.declared.status.Status.{Status}
@@ -125,12 +125,6 @@ part-a f n left more (inl h) = part-none f n.names.got_a left.got.answ more.got.
 part-a f n left more (inr (o, inl h)) = h.0
 part-a f n left more (inr (o, inr h)) = part-all f n.names.got_a left.got.answ more.got.answ h.0
 
-hears-of : (link : Link) (ts : List Turn) (ends : Accounts) (t : Turn) (mid : Accounts) (o : Outcome) → TurnIs link ts ends t mid o
-    → Hears (length ts) ends t mid
-hears-of link ts ends t mid Going g = subst (Hears (length ts) ends t) g.2 g.1.hearing
-hears-of link ts ends t mid Done l = l.hearing
-hears-of link ts ends t mid (Broken role fault) b = b.hearing
-
 -- what is left of some turns, and what the next one adds
 stopped-prefix : RunLaws → (script : ScriptValue) (files : Both (List ℕ)) (f : FolderState) (n : RunNames) → IsInLimits script
     → (s : StopsAfter (wire_of script) (link_of script files) f n.names) → (role : Role)
@@ -146,7 +140,7 @@ stopped-prefix laws script files f n limits s role = by s.adds
     by : AddsTurn (wire_of script) link s.turns s.ends s.more ⊎ AddsChance (wire_of script) s.turns s.ends s.more
         → IsPrefixOf (of role s.left.got ++ of role s.more.got) (of (other role) link).user.file
     by (inl a) =
-        let hears = hears-of link s.turns s.ends a.turn a.mid a.outcome a.is in
+        let hears = hearing-in link s.turns s.ends a.turn a.mid a.outcome a.is in
         let whole : HoldPrefixes link a.mid =
         laws.hears link (delay_of script) s.turns s.ends a.turn a.mid over
         (laws.one (wire_of script) s.turns a.turn a.heard) hears in

@@ -15,11 +15,11 @@ use Rattle.line_texts.specs.LineText.{chance_line}
 use Rattle.link_run.specs.Counts.{numbers_sent, repeated, segment_number, sent_again}
 use Rattle.link_run.specs.End.{deliveries}
 use Rattle.link_run.specs.Run.{Link, Accounts, Turn, LastTurn, start, Hears, RunOf}
-use Rattle.link_run.specs.Outcomes.{Outcome, Going, Done, Broken, TurnIs}
+use Rattle.link_run.specs.Outcomes.{Outcome, Going, Done, Broken}
 use Rattle.link_run.specs.Laws.{HearingsDeliver, SpeakingTakesNothing}
 use Rattle.link_run.specs.Trace.{trace_text, turn_text}
 use Rattle.line_run.specs.Sampled.{LineRun}
-use Rattle.line_run.specs.Ends.{RunEnd, Left, Leaves, RunsTo, EndsBy}
+use Rattle.line_run.specs.Ends.{RunEnd, Left, EndsBy}
 use Rattle.line_run.specs.Ends as runs
 use Rattle.line_run.specs.Scripted.{wire_of, link_of}
 use Rattle.line_run.specs.Stream.{both_sent_by}
@@ -39,22 +39,13 @@ use Rattle.outside_calls.proofs.Holding.{Holds-kept, Holds-more, HoldsPart-more}
 use Rattle.outside_calls.specs.Outputs.{OnlyPuts, AddEach, HoldEach}
 use Rattle.outside_calls.proofs.Putting.{OnlyPuts-refl, OnlyPuts-trans, inputs-kept, HoldEach-kept, HoldEach-add, HoldPart-add}
 use Rattle.line_run.specs.Recorded.{Tapes, tapes_of}
+use Rattle.line_run.proofs.Leaving.{hearing-in}
+use Rattle.line_run.proofs.WhatIsLeft.{left_of, leaves-so}
 use Rattle.run_world.specs.Tapes.{HoldTapes, HoldTapesPartly}
 use Rattle.run_world.proofs.Folders.{IsApart, stay-known, knows-kept}
 use Rattle.run_world.proofs.Several.{puts-front, puts-behind, apart-front, inputs-front, inputs-behind, keeps-front, keeps-behind}
 use Rattle.run_world.specs.Turns.{held_of, AddsTurn, RunEnds, RunCounts, RunStops, RunStopsReading}
 use Rattle.run_world.specs.Turns.{FaultEnds}
-
--- what ends and a text leave
-abbrev pub left_of : Accounts → List ℕ → Left
-left_of ends text = record { got = record { orig = concat ends.orig.incoming.taken; answ = concat ends.answ.incoming.taken }; trace = text }
-
-leaves-so : (ends : Accounts) (text : List ℕ) → Leaves ends text (left_of ends text)
-leaves-so ends text = record { got_is = by; trace_is = refl }
-  where
-    by : (role : Role) → of role (left_of ends text).got ≡ concat (of role ends).incoming.taken
-    by Originator = refl
-    by Answerer = refl
 
 -- Some turns were made over these files, and the outputs hold what they left.
 pub record Reached (w : World) (script : ScriptValue) (n : Written) (tapes : Tapes) (old now : FolderState) : Type 0 where
@@ -123,13 +114,6 @@ held-more : (next : FolderState) (name : List ℕ) (taken more all : List (List 
     → all ≡ taken ++ more → Holds next name (concat all)
 held-more next name taken more all holds e = subst (Holds next name) (sym (concat-append taken more) ∙ ap concat (sym e)) holds
 
--- a turn is heard, whatever it comes to
-hears-of : (link : Link) (ts : List Turn) (ends : Accounts) (t : Turn) (mid : Accounts) (o : Outcome) → TurnIs link ts ends t mid o
-    → Hears (length ts) ends t mid
-hears-of link ts ends t mid Going g = subst (Hears (length ts) ends t) g.2 g.1.hearing
-hears-of link ts ends t mid Done l = l.hearing
-hears-of link ts ends t mid (Broken role fault) b = b.hearing
-
 -- the outputs after a turn that is written
 pub held-turn : HearingsDeliver
     → (link : Link) (ts : List Turn) (ends : Accounts) (t : Turn) (mid : Accounts) (now next : FolderState) (n : Written) → RunOf link ts ends
@@ -189,7 +173,7 @@ ended-turn delivers w v n tapes old now next r outcome number only e = (
     leaves = leaves-so e.mid (trace_text (e.turn ∷ r.turns));
   },
   held-turn delivers (link_of (script_of w) r.files) r.turns r.ends e.turn e.mid now next n r.world.modems.run.run
-      (hears-of (link_of (script_of v) e.others) r.turns r.ends e.turn e.mid outcome e.makes.is) only.goes_on r.holds e.writes,
+      (hearing-in (link_of (script_of v) e.others) r.turns r.ends e.turn e.mid outcome e.makes.is) only.goes_on r.holds e.writes,
 )
 
 run-ends : (script : ScriptValue) (f : FolderState) (n : Written) (tapes : Tapes) (end : RunEnd) (files : Both (List ℕ)) (left : Left) (ts : List Turn)

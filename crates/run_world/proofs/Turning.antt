@@ -15,13 +15,14 @@ use Rattle.shared_terms.specs.declared.fault.LinkFault.TheVariants as faults
 use Rattle.link_account.specs.Hear.{hear}
 use Rattle.link_run.specs.Run.{Accounts, Turn, Hears, arrival}
 use Rattle.link_run.specs.Laws.{EachTurnIsMade, MakesTurn as MakesAny}
-use Rattle.link_run.specs.Outcomes.{Outcome, Going, Done, Broken, TurnIs}
+use Rattle.link_run.specs.Outcomes.{Outcome, Broken, TurnIs}
 use Rattle.link_run.specs.Trace.{turn_text}
 use Rattle.line_run.specs.Sampled.{Wire, HeardIn, IsHeardOf}
 use Rattle.line_run.specs.Scripted.{link_of, ScriptsMayPlay, ScriptsHaveDelays}
 use Rattle.line_run.specs.LineLaws.{SamplesAreCarried, OneIsCarried}
 use Rattle.line_run.specs.Names.{Written, outputs_of, received_of}
 use Rattle.line_run.specs.Stream.{Carried}
+use Rattle.line_run.proofs.Leaving.{hearing-in}
 use Rattle.shared_line.specs.Lines.{HaveArrived}
 use Rattle.shared_line.specs.declared.lines.Lines.{Lines}
 use Rattle.run_world.specs.Link.{AreCounted, AreIdle, AreWithin, octets_of}
@@ -49,13 +50,6 @@ pub record MakingLaws : Type 0 where
   pub carried : SamplesAreCarried
   pub one : OneIsCarried
   pub made : EachTurnIsMade
-
-hearing-of : (c : Wire) (files : Both (List ℕ)) (ts : List Turn) (ends : Accounts) (t : Turn) (mid : Accounts) (outcome : Outcome)
-    → TurnIs (link_of c.script files) ts ends t mid outcome
-    → Hears (length ts) ends t mid
-hearing-of c files ts ends t mid Going h = subst (Hears (length ts) ends t) h.2 h.1.hearing
-hearing-of c files ts ends t mid Done h = h.hearing
-hearing-of c files ts ends t mid (Broken role fault) h = h.hearing
 
 ok-inj : (r : Result Account LinkFault) (a b : Account) → r ≡ Ok a → r ≡ Ok b → a ≡ b
 ok-inj r a b p q = ap value (sym p ∙ q)
@@ -96,7 +90,7 @@ making laws c files ts ends heard mid limits o = record {
         (λ role. laws.one c ts first heard-first role)
 
     hears : Hears (length ts) ends m.turn m.mid
-    hears = hearing-of c files ts ends m.turn m.mid m.outcome m.is
+    hears = hearing-in (link_of c.script files) ts ends m.turn m.mid m.outcome m.is
 
     first-hears : Hears (length ts) ends first mid
     first-hears = hears-in c files ts ends mid heard none-sent o

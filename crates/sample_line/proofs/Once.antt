@@ -80,7 +80,7 @@ quads-once (q ∷ quads) (r ∷ others) h k e =
     let others-same : quads ≡ others = quads-once quads others (All-tail q quads h) (All-tail r others k) fourth.1 in
     rw (same, others-same) refl
 
-modulates-once : (tap : ℕ) (bits : List Bool) (samples other : List Sample) → 1 ≤ tap → Modulates tap bits samples
+pub modulates-once : (tap : ℕ) (bits : List Bool) (samples other : List Sample) → 1 ≤ tap → Modulates tap bits samples
     → Modulates tap bits other → samples ≡ other
 modulates-once tap bits samples other low h k =
     let line : h.line ≡ k.line = Scrambles_once tap bits h.line k.line low h.scrambled k.scrambled in
@@ -104,7 +104,7 @@ take-fours (suc n) (quad ∷ quads) =
     ap (λ m. take m (flat_map (low_bits 4) (quad ∷ quads))) four in
     first ∙ ap (λ xs. low_bits 4 quad ++ xs) (take-fours n quads)
 
-modulates-take : (tap n : ℕ) (bits : List Bool) (samples : List Sample) → 1 ≤ tap → Modulates tap bits samples
+pub modulates-take : (tap n : ℕ) (bits : List Bool) (samples : List Sample) → 1 ≤ tap → Modulates tap bits samples
     → Modulates tap (take (4 * n) bits) (take n samples)
 modulates-take tap n bits samples low h =
     let coded = Encodes-take h.quads h.labels h.end n h.encoded in

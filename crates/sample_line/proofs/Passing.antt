@@ -29,7 +29,7 @@ use Rattle.sample_line.proofs.Standing.{recorded, gives}
 abbrev pub kept : Writer → ℕ → Path → Kept
 kept writer n path = record { writer = writer; passed = n; path = path }
 
-slot-added : (size : ℕ) (before : List Signal) (signal : Signal)
+pub slot-added : (size : ℕ) (before : List Signal) (signal : Signal)
     → signal_bits size (before ++ signal ∷ []) ≡ signal_bits size before ++ bits_behind size before signal
 slot-added size before signal =
     ap (sent_bits size) (map-append (slot_of size) before (signal ∷ [])) ∙ bits-append size 0 (slots_of size before) (slot_of size signal)

@@ -7,9 +7,7 @@ use Rattle.std.specs.List.{flat_map}
 use Rattle.plain_lists.specs.Bits.{low_bits}
 use Rattle.frame_check.specs.declared.check.Check.{Check}
 use Rattle.bit_stuffing.specs.BitSlot.{line_bits}
-use Rattle.bit_stuffing.specs.Slots.{sent_bits}
-use Rattle.bit_stuffing.proofs.Fill.{bits-append}
-use Rattle.detection.specs.Slots.{Signal, slot_of, slots_of, signal_bits}
+use Rattle.detection.specs.Slots.{Signal, signal_bits}
 use Rattle.symbol_map.specs.declared.sample.Sample.{Sample}
 use Rattle.survivors.specs.Survivors.{LostIs}
 use Rattle.survivors.specs.V32.{line_depth, line_trellis}
@@ -28,7 +26,7 @@ use Rattle.sample_line.specs.Outcomes.{IsOutcome}
 use Rattle.sample_line.specs.Path.{LosesAt, LosesWithin}
 use Rattle.sample_line.specs.Line.{Kept, LineStands, PassesSlot, Passes, sender_of, size_of, decoder_of, bits_behind}
 use Rattle.sample_line.specs.Laws.{RecordedOnce}
-use Rattle.sample_line.proofs.Passing.{line-heard}
+use Rattle.sample_line.proofs.Passing.{line-heard, slot-added}
 use Rattle.line_run.specs.Laws.{LossStays}
 use Rattle.link_account.specs.Numbers.{IsNumbered}
 use Rattle.link_run.specs.Run.{arrival}
@@ -81,11 +79,6 @@ recorded-fours script role bits samples h =
     let m = h.modulated in
     let e = sym m.scrambled.lengths ∙ ap length m.in_fours ∙ fours m.quads in
     omega (arith, e)
-
-slot-added : (size : ℕ) (before : List Signal) (signal : Signal)
-    → signal_bits size (before ++ signal ∷ []) ≡ signal_bits size before ++ bits_behind size before signal
-slot-added size before signal =
-    ap (sent_bits size) (map-append (slot_of size) before (signal ∷ [])) ∙ bits-append size 0 (slots_of size before) (slot_of size signal)
 
 -- a direction that the call has moved on
 pub record MovesOn (d new : DelayedLine) (items : List Slot) : Type 0 where

@@ -1,71 +1,30 @@
 -- The text of a soak spells its script.
-use Rattle.std.proofs.Common.{◌≡◌, ◌≢◌, ◌∙◌, ℕ, zero, suc, ◌^◌, ◌<◌, ◌≤◌, Bool, true, false, not, ◌&&◌, cond, nat_eq, nat_le, List, [], ◌∷◌}
+use Rattle.std.proofs.Common.{◌≡◌, ◌≢◌, ◌∙◌, ℕ, zero, suc, ◌<◌, ◌≤◌, Bool, true, false, not, cond, nat_eq, nat_le, List, [], ◌∷◌}
 use Rattle.std.proofs.Common.{◌++◌, length, refl, sym, ap, subst, arith, append-nil}
 use Rattle.std.specs.Prelude.{codes, decimal}
 use Rattle.std.specs.List.{list_all}
 use Rattle.std.proofs.lemmas.Bool.{and_parts}
 use Rattle.std.proofs.lemmas.Bool.Decides.{nat_tests}
 use Rattle.std.proofs.lemmas.List.Folds.{list_all-append}
-use Rattle.std.proofs.lemmas.Fmt.{decimal_nonempty, digits_decimal, digits_value-decimal, length-decimal-le}
-use Rattle.std.proofs.lemmas.Str.Parse.{IsDigitsTest, IsNumeralModel, numerals_by_weight}
+use Rattle.std.proofs.lemmas.Fmt.{decimal_nonempty, digits_value-decimal}
 use Rattle.shared_terms.specs.declared.role.Role.{Role}
 use Rattle.shared_terms.specs.declared.role.Role.TheVariants.{Originator, Answerer}
 use Rattle.shared_terms.specs.Role.{role_word}
 use Rattle.noise_script.specs.Lines.{words_of, without_return, is_in_word}
-use Rattle.noise_script.specs.Numbers.{is_digit, is_number, value_of}
+use Rattle.noise_script.specs.Numbers.{is_digit}
 use Rattle.noise_script.specs.Forms.{IsNumber}
 use Rattle.noise_script.specs.Grammar.{ScriptSpelling}
 use Rattle.noise_script.specs.declared.entry.Loss.{Loss}
 use Rattle.noise_script.specs.Noisy.{SaysDelays, SaysNoise, SaysLoss, EachSays, NoisyLinesSpell}
 use Rattle.noise_script.proofs.Cuts.{is_no_blank, word-cut}
+use Rattle.noise_script.proofs.Decimals.{at-most, both, numerals, IsSmall, is-number, number-all}
 use Rattle.soak_command.specs.Soak.{role_in_turn, turn_lost, soak_noise, soak_loss, soak_losses, soak_script}
 use Rattle.soak_command.specs.Text.{delay_line, noise_head, noise_line, lose_head, lose_line, lose_lines, soak_text}
 use Rattle.soak_command.proofs.Lines.{turn-small, text-is}
 
--- numbers in decimal digits
-
-abbrev AllDigits : List ℕ → Type 0
-AllDigits word = list_all is_digit word ≡ true
-
-at-most : (a b : ℕ) → nat_le a b ≡ true → a ≤ b
-at-most a b e = grind (arith, nat_tests, e)
-
-is-most : (a b : ℕ) → a ≤ b → nat_le a b ≡ true
-is-most a b l = grind (arith, nat_tests, l)
-
-both : (a b : Bool) → a ≡ true → b ≡ true → (a && b) ≡ true
-both a b e f = rw (e, f) refl
-
-tells : IsDigitsTest AllDigits
-tells = record {
-  empty = refl;
-  parts = λ c cs e. let p = and_parts (is_digit c) (list_all is_digit cs) e in let q = and_parts (nat_le 48 c) (nat_le c 57) p.0 in
-      ((at-most 48 c q.0, at-most c 57 q.1), p.1);
-  more = λ c cs k e. both (is_digit c) (list_all is_digit cs) (both (nat_le 48 c) (nat_le c 57) (is-most 48 c k.0) (is-most c 57 k.1)) e;
-}
-
-numerals : IsNumeralModel AllDigits value_of
-numerals = numerals_by_weight AllDigits tells value_of (record { empty = refl; more = λ c cs k. refl })
-
-abbrev IsSmall : ℕ → Type 0
-IsSmall n = n < 2 ^ 64
-
-is-number : (n : ℕ) → IsSmall n → is_number (decimal n) ≡ true
-is-number n h =
-    both (nat_le 1 (length (decimal n))) (nat_le (length (decimal n)) 20 && list_all is_digit (decimal n))
-    (is-most 1 (length (decimal n)) (decimal_nonempty n h))
-    (both (nat_le (length (decimal n)) 20) (list_all is_digit (decimal n))
-    (is-most (length (decimal n)) 20 (length-decimal-le 20 n (omega arith) (omega (arith, h)) h)) (digits_decimal numerals n h))
-
 spells-number : (low high n : ℕ) → IsSmall n → low ≤ n → n ≤ high → IsNumber low high (decimal n) n
 spells-number low high n h l m =
     record { digits = is-number n h; value_is = sym (digits_value-decimal numerals n h); not_below = l; not_above = m }
-
--- what holds of each digit holds of the octets of a number
-all-weaker : (test : ℕ → Bool) → ((x : ℕ) → is_digit x ≡ true → test x ≡ true) → (xs : List ℕ) → AllDigits xs → list_all test xs ≡ true
-all-weaker test f [] h = refl
-all-weaker test f (x ∷ xs) h = let p = and_parts (is_digit x) (list_all is_digit xs) h in
-    both (test x) (list_all test xs) (f x p.0) (all-weaker test f xs p.1)
 
 abbrev is_other : ℕ → ℕ → Bool
 is_other octet x = not (nat_eq x octet)
@@ -75,9 +34,6 @@ other-digit octet x l d = let low = at-most 48 x (and_parts (nat_le 48 x) (nat_l
 
 digit-no-blank : (x : ℕ) → is_digit x ≡ true → is_no_blank x ≡ true
 digit-no-blank x d = let low = at-most 48 x (and_parts (nat_le 48 x) (nat_le x 57) d).0 in grind (arith, nat_tests, low)
-
-number-all : (test : ℕ → Bool) → ((x : ℕ) → is_digit x ≡ true → test x ≡ true) → (n : ℕ) → IsSmall n → list_all test (decimal n) ≡ true
-number-all test f n h = all-weaker test f (decimal n) (digits_decimal numerals n h)
 
 all-joined : (test : ℕ → Bool) (xs ys : List ℕ) → list_all test xs ≡ true → list_all test ys ≡ true → list_all test (xs ++ ys) ≡ true
 all-joined test xs ys h k = list_all-append test xs ys ∙ both (list_all test xs) (list_all test ys) h k

@@ -21,7 +21,7 @@ use Rattle.shared_line.proofs.Passing.{coded-so}
 use Rattle.line_tap.specs.declared.seeker.Sender.{Sender}
 use Rattle.line_tap.specs.declared.reader.SlotReader.{SlotReader}
 use Rattle.line_tap.specs.Reader.{ReaderStands, ReadsFor}
-use Rattle.line_tap.proofs.ToldFit.{signals-more}
+use Rattle.line_run.proofs.Bits.{signals-more}
 use Rattle.line_tap.specs.Tapping.{Tapping, line_of, octets_of, told}
 use Rattle.tap_command.specs.declared.end.Slot.{Slot}
 use Rattle.tap_command.specs.End.{ReadsOn, ReadsNext}
@@ -104,7 +104,7 @@ reads-too d line r x check role ts body slot h symbols k = record { holds = k.ho
 
     on : (t : Turn) → (of role t).sent ≡ Some (told check slot.sent) → ReadsOn r (line_of x) check role (t ∷ ts) body
     on t e =
-        let more = signals-more x role ts t (told check slot.sent) e in
+        let more = signals-more (line_of x) role ts (told check slot.sent) t (λ r n. refl) e in
         let all : passed_of d role ts ++ (waiting_of d role ts ++ sig ∷ []) ≡ signals (line_of x) role (t ∷ ts) =
         sym (append_assoc (passed_of d role ts) (waiting_of d role ts) (sig ∷ [])) ∙ ap (λ l. l ++ sig ∷ []) (sent-in-all d x role ts h)
         ∙ sym more in

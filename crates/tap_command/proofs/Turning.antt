@@ -1,12 +1,14 @@
 -- What a turn of a tap comes to, at each of its ways out.
-use Rattle.std.proofs.Common.{◌≡◌, ◌⊎◌, inl, inr, ℕ, ◌+◌, ◌*◌, ◌<◌, ◌≤◌, IsTrue, List, [], ◌∷◌, ◌++◌, length, take, arith, length-append, refl, sym, ◌∙◌, ap, subst, append-nil, append_assoc, None}
+use Rattle.std.proofs.Common.{◌≡◌, ◌⊎◌, inl, inr, ℕ, ◌+◌, ◌*◌, ◌<◌, ◌≤◌, IsTrue, List, [], ◌∷◌, ◌++◌, length, take, arith, length-append}
+use Rattle.std.proofs.Common.{refl, sym, ◌∙◌, ap, subst, append-nil, append_assoc, None, Ok}
 use Rattle.std.proofs.lemmas.Bool.{cases_lt}
 use Rattle.std.proofs.lemmas.List.{length-take}
 use Rattle.std.specs.List.{concat}
 use Rattle.outside_calls.specs.Folder.{FolderState, GoesOn, OnlyReads, OnlyWrites, Appended, PartlyAppended, octets_at}
 use Rattle.outside_calls.specs.Outputs.{AreApartFrom, KeepsEach, OnlyPuts, AddEach, AddPart}
 use Rattle.outside_calls.proofs.Steps.{GoesOn-trans, KeepsName-trans}
-use Rattle.outside_calls.proofs.Putting.{OnlyPuts-trans, OnlyPuts-reads, OnlyPuts-one, KeepsEach-reads, inputs-kept, AddEach-kept, AddEach-next, AddPart-next, AddPart-longer}
+use Rattle.outside_calls.proofs.Putting.{OnlyPuts-trans, OnlyPuts-reads, OnlyPuts-one, KeepsEach-reads, inputs-kept, AddEach-kept}
+use Rattle.outside_calls.proofs.Putting.{AddEach-next, AddPart-next, AddPart-longer}
 use Rattle.shared_terms.specs.declared.role.Role.{Role}
 use Rattle.shared_terms.specs.declared.role.Role.TheVariants.{Originator, Answerer}
 use Rattle.shared_terms.specs.Role.{mode_of}
@@ -34,7 +36,9 @@ use Rattle.noise_script.specs.Script.{IsInLimits}
 use Rattle.tap_command.specs.Listener.{IsIdle}
 use Rattle.tap_command.specs.Names.{TapNames, recording_of, inputs_of, outputs_of}
 use Rattle.tap_command.specs.Turn.{held_of, left_of, added, AddsGot}
-use Rattle.tap_command.specs.Tap.{AreReadTo, AreReadOut, HearsThese, HearsSo, InTurn, silent_in, got_pieces, EndsInTurn, EndsReading, StopsInTurn, StopsReadingIn, IsBehind, HasReadPieces, HaveRead, IsReady, IsToGo, TapAfter, GoesOnBy, going_in, and_pieces, read_of}
+use Rattle.tap_command.specs.Tap.{AreReadTo, AreReadOut, HearsThese, HearsTurn, HasHeard, HearsSo, InTurn, silent_in, got_pieces}
+use Rattle.tap_command.specs.Tap.{EndsInTurn, EndsReading, StopsInTurn, StopsReadingIn, IsBehind, HasReadPieces, HaveRead, IsReady, IsToGo}
+use Rattle.tap_command.specs.Tap.{TapAfter, GoesOnBy, going_in, and_pieces, read_of}
 use Rattle.tap_command.proofs.Longer.{tells-longer, got-more}
 use Rattle.tap_command.proofs.HeardSo.{SameReading, behind-on}
 use Rattle.tap_command.proofs.Going.{hears-so, goes-on}
@@ -273,6 +277,27 @@ pub record HasPieces (tap : Tap) (start a b c : FolderState) (n : TapNames) (x :
   pub put : AddEach a b (outputs_of n) (got_pieces x ts h.heard)
   pub reads : OnlyReads b c
   pub pieces : HasReadPieces tap start c n x ts h.heard counts
+
+pub so-heard : (tap : Tap) (x : Tapping) (ts : List Turn) (h : Hearing) → HearsTurn tap x ts (Ok h) → HearsSo x ts h
+so-heard tap x ts h k = record { hears = k.0.hears; orig = k.1; answ = k.2 }
+
+-- by what the calls of a turn say up to there
+pub has-pieces : (heard mid tap : Tap) (start a b c : FolderState) (n : TapNames) (x : Tapping) (ts : List Turn) (h : Hearing)
+    (counts : Both ℕ)
+    → AreApartFrom (inputs_of n) (outputs_of n) → AreReadTo start a n x.bodies → HearsTurn heard x ts (Ok h)
+    → OnlyPuts a b (outputs_of n) → OnlyReads b c
+    → (HasHeard heard x ts h.heard → AddEach a b (outputs_of n) (got_pieces x ts h.heard))
+    → (HasHeard heard x ts h.heard → InTurn mid x ts h.heard)
+    → (InTurn mid x ts h.heard → AreReadTo start b n x.bodies → HasReadPieces tap start c n x ts h.heard counts)
+    → HasPieces tap start a b c n x ts h counts
+has-pieces heard mid tap start a b c n x ts h counts apart read k only reads put stands pieces = record {
+  apart = apart;
+  hears = so-heard heard x ts h k;
+  only = only;
+  put = put k.0;
+  reads = reads;
+  pieces = pieces (stands k.0) (read-later start a b n x.bodies apart only read);
+}
 
 abbrev pub now_of : Tap → Tapping → Both ℕ → Tapping
 now_of tap x counts = tapping x.script (read_of tap x counts)
@@ -538,8 +563,10 @@ whole-orig tap mid x ts h counts slots k few go =
     )
 
 -- a piece has octets
-pub some-octets : (x : Tapping) (room : ℕ) → HEAD + TAIL < (line_of x).symbols → room ≡ 4 * (line_of x).symbols → 0 < room
-some-octets x room long e = omega (arith, long, e)
+pub some-octets : (tap new : Tap) (x : Tapping) (ts : List Turn) (heard : Both Heard) → HEAD + TAIL < (line_of x).symbols
+    → InTurn tap x ts heard → new.orig.piece ≡ tap.orig.piece → 0 < length new.orig.piece.items
+some-octets tap new x ts heard long k same =
+    let room : length new.orig.piece.items ≡ 4 * (line_of x).symbols = rw same k.behind.orig_room in omega (arith, long, room)
 
 -- the tap is ready for the next turn
 pub ready-again : (old mid new : Tap) (x : Tapping) (t : Turn) (ts : List Turn) → IsReady old → TapAfter new x (t ∷ ts) → new.script ≡ old.script
@@ -558,8 +585,11 @@ ready-again old mid new x t ts h after script io ia lo la turn more within = rec
 
 -- ---- what was touched, and counted
 
+pub only-read : (a b c : FolderState) (n : TapNames) → OnlyPuts a b (outputs_of n) → OnlyReads b c → OnlyPuts a c (outputs_of n)
+only-read a b c n p r = OnlyPuts-trans a b c (outputs_of n) p (OnlyPuts-reads b c (outputs_of n) r)
+
 pub only-written : (a b c d : FolderState) (n : TapNames) → OnlyPuts a b (outputs_of n) → OnlyReads b c → OnlyWrites c d n.trace
     → OnlyPuts a d (outputs_of n)
 only-written a b c d n p r w =
-    OnlyPuts-trans a c d (outputs_of n) (OnlyPuts-trans a b c (outputs_of n) p (OnlyPuts-reads b c (outputs_of n) r))
+    OnlyPuts-trans a c d (outputs_of n) (only-read a b c n p r)
     (OnlyPuts-one c d (n.got_o ∷ n.got_a ∷ []) n.trace [] w)

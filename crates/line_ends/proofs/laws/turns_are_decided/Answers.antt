@@ -8,8 +8,10 @@ returns c =
       delays = c.scripts_make_links.ensures.delays;
       room = c.slots_have_room.ensures.room;
       codable = c.slots_have_room.ensures.codable;
-      recorded = c.each_list_of_fours_is_recorded.ensures.slots;
-      receives = record { grow = c.recordings_grow.ensures.grow; stays = c.given_bits_stay.ensures.stay; sights = c.sights_stay.ensures };
+      becomes = record {
+        recorded = c.each_list_of_fours_is_recorded.ensures.slots;
+        receives = record { grow = c.recordings_grow.ensures.grow; stays = c.given_bits_stay.ensures.stay; sights = c.sights_stay.ensures };
+      };
       octets = c.octets_are_sendable.ensures;
     } in
     let slots : EachSlotBecomes = each-slot-becomes laws in

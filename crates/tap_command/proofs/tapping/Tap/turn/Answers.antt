@@ -2,7 +2,6 @@ use Rattle.std.proofs.Common.{◌≡◌, ◌+◌, ◌<◌, ◌≤◌, ◌∙◌,
 use Rattle.noise_script.specs.Script.{IsInLimits}
 use Rattle.outside_calls.specs.Folder.{FolderState}
 use Rattle.outside_calls.proofs.Steps.{CountsStand-trans}
-use Rattle.outside_calls.proofs.Putting.{OnlyPuts-trans, OnlyPuts-reads}
 use Rattle.shared_line.specs.declared.lines.LineEnd.{LineEnd}
 use Rattle.shared_line.specs.Lines.{end_of}
 use Rattle.line_tap.specs.Ends.{EndsLine}
@@ -10,8 +9,9 @@ use Rattle.command_base.specs.declared.stop.Stop.TheVariants.{Read, Write}
 use Rattle.command_base.proofs.Jobs.{stop-earlier}
 use Rattle.tap_command.specs.Names.{TapNames, named, inputs_of, outputs_of}
 use Rattle.tap_command.specs.declared.limits.TheConstants.{TAP_LIMIT}
-use Rattle.tap_command.specs.Tap.{AreReadTo, HearsSo, IsToGo, going_in}
-use Rattle.tap_command.proofs.Turning.{HasPieces, now_of, read-later, loses-line, stops-delivering, stops-reading, ends-whole, stops-ending, ends-badly}
+use Rattle.tap_command.specs.Tap.{IsToGo, going_in}
+use Rattle.tap_command.proofs.Turning.{HasPieces, now_of, loses-line, stops-delivering, stops-reading, ends-whole, stops-ending, ends-badly}
+use Rattle.tap_command.proofs.Turning.{so-heard, has-pieces, only-read}
 use Rattle.tap_command.proofs.Turning.{to-go, goes-on-by, stops-going, only-written, whole-orig, some-octets, ready-again}
 use Rattle.tap_command.proofs.tapping.Tap.turn.Goals as goal
 
@@ -48,18 +48,11 @@ returns-in-Err-look-clause-turn g c = λ start x ts h read.
     let b : FolderState = g.F.Folder.state c.deliver.new.folder in
     let r : FolderState = g.F.Folder.state c.read.new.folder in
     let n : TapNames = named c.args.names.now in
-    let heard = c.in-Ok.ensures.hears x ts h in
-    let so : HearsSo x ts c.in-Ok.hearing = record { hears = heard.0.hears; orig = heard.1; answ = heard.2 } in
-    let turn = c.in-Ok-deliver.ensures.stands x ts c.in-Ok.hearing.heard heard.0 in
-    let later : AreReadTo start b n x.bodies = read-later start a b n x.bodies c.requires.apart c.in-Ok-deliver.ensures.only read in
-    let k : HasPieces c.read.new.self start a b r n x ts c.in-Ok.hearing c.in-Ok-read.counts = record {
-      apart = c.requires.apart;
-      hears = so;
-      only = c.in-Ok-deliver.ensures.only;
-      put = c.in-Ok-deliver.ensures.ok x ts c.in-Ok.hearing.heard heard.0;
-      reads = c.in-Ok-read.ensures.reads;
-      pieces = c.in-Ok-read.ensures.pieces start x ts c.in-Ok.hearing.heard turn later;
-    } in
+    let k : HasPieces c.read.new.self start a b r n x ts c.in-Ok.hearing c.in-Ok-read.counts =
+    has-pieces c.hear.new.self c.deliver.new.self c.read.new.self start a b r n x ts c.in-Ok.hearing c.in-Ok-read.counts c.requires.apart
+    read (c.in-Ok.ensures.hears x ts h) c.in-Ok-deliver.ensures.only c.in-Ok-read.ensures.reads
+    (c.in-Ok-deliver.ensures.ok x ts c.in-Ok.hearing.heard) (c.in-Ok-deliver.ensures.stands x ts c.in-Ok.hearing.heard)
+    (c.in-Ok-read.ensures.pieces start x ts c.in-Ok.hearing.heard) in
     ends-badly c.keeps_taken.ensures c.read.new.self start a b r n x ts c.in-Ok.hearing c.in-Ok-read.counts c.in-Err-look.role c.look.new.self.turn k
     (c.if-are_none.ensures.some refl) (c.in-Err-look.ensures.turn ∙ k.pieces.turn.behind.turn)
     (c.in-Err-look.ensures.looks x ts c.in-Ok.hearing.heard k.pieces.turn)
@@ -71,20 +64,13 @@ returns-in-Ok-go_on-clause-turn g c = λ start x ts h read.
     let r : FolderState = g.F.Folder.state c.read.new.folder in
     let n : TapNames = named c.args.names.now in
     let d : FolderState = g.F.Folder.state c.go_on.new.folder in
-    let heard = c.in-Ok.ensures.hears x ts h in
-    let so : HearsSo x ts c.in-Ok.hearing = record { hears = heard.0.hears; orig = heard.1; answ = heard.2 } in
-    let turn = c.in-Ok-deliver.ensures.stands x ts c.in-Ok.hearing.heard heard.0 in
-    let later : AreReadTo start b n x.bodies = read-later start a b n x.bodies c.requires.apart c.in-Ok-deliver.ensures.only read in
-    let k : HasPieces c.read.new.self start a b r n x ts c.in-Ok.hearing c.in-Ok-read.counts = record {
-      apart = c.requires.apart;
-      hears = so;
-      only = c.in-Ok-deliver.ensures.only;
-      put = c.in-Ok-deliver.ensures.ok x ts c.in-Ok.hearing.heard heard.0;
-      reads = c.in-Ok-read.ensures.reads;
-      pieces = c.in-Ok-read.ensures.pieces start x ts c.in-Ok.hearing.heard turn later;
-    } in
+    let k : HasPieces c.read.new.self start a b r n x ts c.in-Ok.hearing c.in-Ok-read.counts =
+    has-pieces c.hear.new.self c.deliver.new.self c.read.new.self start a b r n x ts c.in-Ok.hearing c.in-Ok-read.counts c.requires.apart
+    read (c.in-Ok.ensures.hears x ts h) c.in-Ok-deliver.ensures.only c.in-Ok-read.ensures.reads
+    (c.in-Ok-deliver.ensures.ok x ts c.in-Ok.hearing.heard) (c.in-Ok-deliver.ensures.stands x ts c.in-Ok.hearing.heard)
+    (c.in-Ok-read.ensures.pieces start x ts c.in-Ok.hearing.heard) in
     let go : IsToGo c.look.new.self (now_of c.read.new.self x c.in-Ok-read.counts) ts c.in-Ok.hearing c.in-Ok-look.slots =
-    to-go c.read.new.self c.look.new.self x ts c.in-Ok.hearing c.in-Ok-read.counts c.in-Ok-look.slots k.pieces.turn so
+    to-go c.read.new.self c.look.new.self x ts c.in-Ok.hearing c.in-Ok-read.counts c.in-Ok-look.slots k.pieces.turn k.hears
     (c.in-Ok-look.ensures.looks x ts c.in-Ok.hearing.heard k.pieces.turn) c.in-Ok-look.ensures.script c.in-Ok-look.ensures.turn
     c.in-Ok-look.ensures.at c.in-Ok-look.ensures.orig c.in-Ok-look.ensures.answ c.in-Ok-look.ensures.orig_piece c.in-Ok-look.ensures.answ_piece in
     let after = c.in-Ok-go_on.ensures.ok (now_of c.read.new.self x c.in-Ok-read.counts) ts go in
@@ -98,20 +84,13 @@ returns-in-Err-go_on-clause-turn g c = λ start x ts h read.
     let r : FolderState = g.F.Folder.state c.read.new.folder in
     let n : TapNames = named c.args.names.now in
     let d : FolderState = g.F.Folder.state c.go_on.new.folder in
-    let heard = c.in-Ok.ensures.hears x ts h in
-    let so : HearsSo x ts c.in-Ok.hearing = record { hears = heard.0.hears; orig = heard.1; answ = heard.2 } in
-    let turn = c.in-Ok-deliver.ensures.stands x ts c.in-Ok.hearing.heard heard.0 in
-    let later : AreReadTo start b n x.bodies = read-later start a b n x.bodies c.requires.apart c.in-Ok-deliver.ensures.only read in
-    let k : HasPieces c.read.new.self start a b r n x ts c.in-Ok.hearing c.in-Ok-read.counts = record {
-      apart = c.requires.apart;
-      hears = so;
-      only = c.in-Ok-deliver.ensures.only;
-      put = c.in-Ok-deliver.ensures.ok x ts c.in-Ok.hearing.heard heard.0;
-      reads = c.in-Ok-read.ensures.reads;
-      pieces = c.in-Ok-read.ensures.pieces start x ts c.in-Ok.hearing.heard turn later;
-    } in
+    let k : HasPieces c.read.new.self start a b r n x ts c.in-Ok.hearing c.in-Ok-read.counts =
+    has-pieces c.hear.new.self c.deliver.new.self c.read.new.self start a b r n x ts c.in-Ok.hearing c.in-Ok-read.counts c.requires.apart
+    read (c.in-Ok.ensures.hears x ts h) c.in-Ok-deliver.ensures.only c.in-Ok-read.ensures.reads
+    (c.in-Ok-deliver.ensures.ok x ts c.in-Ok.hearing.heard) (c.in-Ok-deliver.ensures.stands x ts c.in-Ok.hearing.heard)
+    (c.in-Ok-read.ensures.pieces start x ts c.in-Ok.hearing.heard) in
     let go : IsToGo c.look.new.self (now_of c.read.new.self x c.in-Ok-read.counts) ts c.in-Ok.hearing c.in-Ok-look.slots =
-    to-go c.read.new.self c.look.new.self x ts c.in-Ok.hearing c.in-Ok-read.counts c.in-Ok-look.slots k.pieces.turn so
+    to-go c.read.new.self c.look.new.self x ts c.in-Ok.hearing c.in-Ok-read.counts c.in-Ok-look.slots k.pieces.turn k.hears
     (c.in-Ok-look.ensures.looks x ts c.in-Ok.hearing.heard k.pieces.turn) c.in-Ok-look.ensures.script c.in-Ok-look.ensures.turn
     c.in-Ok-look.ensures.at c.in-Ok-look.ensures.orig c.in-Ok-look.ensures.answ c.in-Ok-look.ensures.orig_piece c.in-Ok-look.ensures.answ_piece in
     stops-going c.read.new.self c.look.new.self start a b r d n x ts c.in-Ok.hearing c.in-Ok-read.counts c.in-Ok-look.slots k go
@@ -124,21 +103,14 @@ returns-in-Ok-finish-clause-turn g c = λ start x ts h read.
     let r : FolderState = g.F.Folder.state c.read.new.folder in
     let n : TapNames = named c.args.names.now in
     let d : FolderState = g.F.Folder.state c.finish.new.folder in
-    let heard = c.in-Ok.ensures.hears x ts h in
-    let so : HearsSo x ts c.in-Ok.hearing = record { hears = heard.0.hears; orig = heard.1; answ = heard.2 } in
-    let turn = c.in-Ok-deliver.ensures.stands x ts c.in-Ok.hearing.heard heard.0 in
-    let later : AreReadTo start b n x.bodies = read-later start a b n x.bodies c.requires.apart c.in-Ok-deliver.ensures.only read in
-    let k : HasPieces c.read.new.self start a b r n x ts c.in-Ok.hearing c.in-Ok-read.counts = record {
-      apart = c.requires.apart;
-      hears = so;
-      only = c.in-Ok-deliver.ensures.only;
-      put = c.in-Ok-deliver.ensures.ok x ts c.in-Ok.hearing.heard heard.0;
-      reads = c.in-Ok-read.ensures.reads;
-      pieces = c.in-Ok-read.ensures.pieces start x ts c.in-Ok.hearing.heard turn later;
-    } in
+    let k : HasPieces c.read.new.self start a b r n x ts c.in-Ok.hearing c.in-Ok-read.counts =
+    has-pieces c.hear.new.self c.deliver.new.self c.read.new.self start a b r n x ts c.in-Ok.hearing c.in-Ok-read.counts c.requires.apart
+    read (c.in-Ok.ensures.hears x ts h) c.in-Ok-deliver.ensures.only c.in-Ok-read.ensures.reads
+    (c.in-Ok-deliver.ensures.ok x ts c.in-Ok.hearing.heard) (c.in-Ok-deliver.ensures.stands x ts c.in-Ok.hearing.heard)
+    (c.in-Ok-read.ensures.pieces start x ts c.in-Ok.hearing.heard) in
     ends-whole c.keeps_taken.ensures c.read.new.self start a b r d n x ts c.in-Ok.hearing c.in-Ok-read.counts (c.read.new.self.turn + 1) k
     (c.if-are_none.ensures.orig refl) (c.if-are_none.ensures.answ refl) (ap (λ m. m + 1) k.pieces.turn.behind.turn) c.in-Ok-finish.ensures.only
-    (c.in-Ok-finish.ensures.ok x ts k.pieces.turn.behind.turn so)
+    (c.in-Ok-finish.ensures.ok x ts k.pieces.turn.behind.turn k.hears)
 
 pub returns-in-Err-finish-clause-turn : goal.returns-in-Err-finish-clause-turn
 returns-in-Err-finish-clause-turn g c = λ start x ts h read.
@@ -147,21 +119,14 @@ returns-in-Err-finish-clause-turn g c = λ start x ts h read.
     let r : FolderState = g.F.Folder.state c.read.new.folder in
     let n : TapNames = named c.args.names.now in
     let d : FolderState = g.F.Folder.state c.finish.new.folder in
-    let heard = c.in-Ok.ensures.hears x ts h in
-    let so : HearsSo x ts c.in-Ok.hearing = record { hears = heard.0.hears; orig = heard.1; answ = heard.2 } in
-    let turn = c.in-Ok-deliver.ensures.stands x ts c.in-Ok.hearing.heard heard.0 in
-    let later : AreReadTo start b n x.bodies = read-later start a b n x.bodies c.requires.apart c.in-Ok-deliver.ensures.only read in
-    let k : HasPieces c.read.new.self start a b r n x ts c.in-Ok.hearing c.in-Ok-read.counts = record {
-      apart = c.requires.apart;
-      hears = so;
-      only = c.in-Ok-deliver.ensures.only;
-      put = c.in-Ok-deliver.ensures.ok x ts c.in-Ok.hearing.heard heard.0;
-      reads = c.in-Ok-read.ensures.reads;
-      pieces = c.in-Ok-read.ensures.pieces start x ts c.in-Ok.hearing.heard turn later;
-    } in
+    let k : HasPieces c.read.new.self start a b r n x ts c.in-Ok.hearing c.in-Ok-read.counts =
+    has-pieces c.hear.new.self c.deliver.new.self c.read.new.self start a b r n x ts c.in-Ok.hearing c.in-Ok-read.counts c.requires.apart
+    read (c.in-Ok.ensures.hears x ts h) c.in-Ok-deliver.ensures.only c.in-Ok-read.ensures.reads
+    (c.in-Ok-deliver.ensures.ok x ts c.in-Ok.hearing.heard) (c.in-Ok-deliver.ensures.stands x ts c.in-Ok.hearing.heard)
+    (c.in-Ok-read.ensures.pieces start x ts c.in-Ok.hearing.heard) in
     stops-ending c.read.new.self start a b r d n x ts c.in-Ok.hearing c.in-Ok-read.counts k
     (c.if-are_none.ensures.orig refl) (c.if-are_none.ensures.answ refl) c.in-Err-finish.ensures.only
-    (c.in-Err-finish.ensures.err x ts k.pieces.turn.behind.turn so)
+    (c.in-Err-finish.ensures.err x ts k.pieces.turn.behind.turn k.hears)
 
 pub look-requires-clause-stands : goal.look-requires-clause-stands
 look-requires-clause-stands g c =
@@ -173,27 +138,17 @@ look-requires-clause-stands g c =
 
 pub returns-in-Err-read-clause-only : goal.returns-in-Err-read-clause-only
 returns-in-Err-read-clause-only g c =
-    let a : FolderState = g.F.Folder.state c.args.folder.now in
-    let b : FolderState = g.F.Folder.state c.deliver.new.folder in
-    let r : FolderState = g.F.Folder.state c.read.new.folder in
-    let n : TapNames = named c.args.names.now in
-    OnlyPuts-trans a b r (outputs_of n) c.in-Ok-deliver.ensures.only (OnlyPuts-reads b r (outputs_of n) c.in-Err-read.ensures.reads)
+    only-read _ _ _ (named c.args.names.now) c.in-Ok-deliver.ensures.only c.in-Err-read.ensures.reads
 
 pub returns-in-Err-look-clause-only : goal.returns-in-Err-look-clause-only
 returns-in-Err-look-clause-only g c =
-    let a : FolderState = g.F.Folder.state c.args.folder.now in
-    let b : FolderState = g.F.Folder.state c.deliver.new.folder in
-    let r : FolderState = g.F.Folder.state c.read.new.folder in
-    let n : TapNames = named c.args.names.now in
-    OnlyPuts-trans a b r (outputs_of n) c.in-Ok-deliver.ensures.only (OnlyPuts-reads b r (outputs_of n) c.in-Ok-read.ensures.reads)
+    only-read _ _ _ (named c.args.names.now) c.in-Ok-deliver.ensures.only c.in-Ok-read.ensures.reads
 
 pub returns-in-Err-read-clause-counts : goal.returns-in-Err-read-clause-counts
 returns-in-Err-read-clause-counts g c =
-    let a : FolderState = g.F.Folder.state c.args.folder.now in
-    let b : FolderState = g.F.Folder.state c.deliver.new.folder in
-    let r : FolderState = g.F.Folder.state c.read.new.folder in
-    let n : TapNames = named c.args.names.now in
-    stop-earlier a b r (inputs_of n) (outputs_of n) (Read c.in-Err-read.fault) c.in-Ok-deliver.ensures.stand c.in-Err-read.ensures.fails
+    stop-earlier (g.F.Folder.state c.args.folder.now) (g.F.Folder.state c.deliver.new.folder) (g.F.Folder.state c.read.new.folder)
+    (inputs_of (named c.args.names.now)) (outputs_of (named c.args.names.now)) (Read c.in-Err-read.fault) c.in-Ok-deliver.ensures.stand
+    c.in-Err-read.ensures.fails
 
 pub returns-in-Err-look-clause-counts : goal.returns-in-Err-look-clause-counts
 returns-in-Err-look-clause-counts g c =
@@ -201,12 +156,7 @@ returns-in-Err-look-clause-counts g c =
 
 pub returns-in-Ok-go_on-clause-only : goal.returns-in-Ok-go_on-clause-only
 returns-in-Ok-go_on-clause-only g c =
-    let a : FolderState = g.F.Folder.state c.args.folder.now in
-    let b : FolderState = g.F.Folder.state c.deliver.new.folder in
-    let r : FolderState = g.F.Folder.state c.read.new.folder in
-    let n : TapNames = named c.args.names.now in
-    let d : FolderState = g.F.Folder.state c.go_on.new.folder in
-    only-written a b r d n c.in-Ok-deliver.ensures.only c.in-Ok-read.ensures.reads c.in-Ok-go_on.ensures.only
+    only-written _ _ _ _ (named c.args.names.now) c.in-Ok-deliver.ensures.only c.in-Ok-read.ensures.reads c.in-Ok-go_on.ensures.only
 
 pub returns-in-Ok-go_on-clause-counts : goal.returns-in-Ok-go_on-clause-counts
 returns-in-Ok-go_on-clause-counts g c =
@@ -214,31 +164,17 @@ returns-in-Ok-go_on-clause-counts g c =
 
 pub returns-in-Err-go_on-clause-only : goal.returns-in-Err-go_on-clause-only
 returns-in-Err-go_on-clause-only g c =
-    let a : FolderState = g.F.Folder.state c.args.folder.now in
-    let b : FolderState = g.F.Folder.state c.deliver.new.folder in
-    let r : FolderState = g.F.Folder.state c.read.new.folder in
-    let n : TapNames = named c.args.names.now in
-    let d : FolderState = g.F.Folder.state c.go_on.new.folder in
-    only-written a b r d n c.in-Ok-deliver.ensures.only c.in-Ok-read.ensures.reads c.in-Err-go_on.ensures.only
+    only-written _ _ _ _ (named c.args.names.now) c.in-Ok-deliver.ensures.only c.in-Ok-read.ensures.reads c.in-Err-go_on.ensures.only
 
 pub returns-in-Err-go_on-clause-counts : goal.returns-in-Err-go_on-clause-counts
 returns-in-Err-go_on-clause-counts g c =
-    let a : FolderState = g.F.Folder.state c.args.folder.now in
-    let b : FolderState = g.F.Folder.state c.deliver.new.folder in
-    let r : FolderState = g.F.Folder.state c.read.new.folder in
-    let n : TapNames = named c.args.names.now in
-    let d : FolderState = g.F.Folder.state c.go_on.new.folder in
-    stop-earlier a r d (inputs_of n) (outputs_of n) (Write c.in-Err-go_on.fault)
+    stop-earlier (g.F.Folder.state c.args.folder.now) (g.F.Folder.state c.read.new.folder) (g.F.Folder.state c.go_on.new.folder)
+    (inputs_of (named c.args.names.now)) (outputs_of (named c.args.names.now)) (Write c.in-Err-go_on.fault)
     (CountsStand-trans c.in-Ok-deliver.ensures.stand c.in-Ok-read.ensures.stand) c.in-Err-go_on.ensures.fails
 
 pub returns-in-Ok-finish-clause-only : goal.returns-in-Ok-finish-clause-only
 returns-in-Ok-finish-clause-only g c =
-    let a : FolderState = g.F.Folder.state c.args.folder.now in
-    let b : FolderState = g.F.Folder.state c.deliver.new.folder in
-    let r : FolderState = g.F.Folder.state c.read.new.folder in
-    let n : TapNames = named c.args.names.now in
-    let d : FolderState = g.F.Folder.state c.finish.new.folder in
-    only-written a b r d n c.in-Ok-deliver.ensures.only c.in-Ok-read.ensures.reads c.in-Ok-finish.ensures.only
+    only-written _ _ _ _ (named c.args.names.now) c.in-Ok-deliver.ensures.only c.in-Ok-read.ensures.reads c.in-Ok-finish.ensures.only
 
 pub returns-in-Ok-finish-clause-counts : goal.returns-in-Ok-finish-clause-counts
 returns-in-Ok-finish-clause-counts g c =
@@ -246,21 +182,12 @@ returns-in-Ok-finish-clause-counts g c =
 
 pub returns-in-Err-finish-clause-only : goal.returns-in-Err-finish-clause-only
 returns-in-Err-finish-clause-only g c =
-    let a : FolderState = g.F.Folder.state c.args.folder.now in
-    let b : FolderState = g.F.Folder.state c.deliver.new.folder in
-    let r : FolderState = g.F.Folder.state c.read.new.folder in
-    let n : TapNames = named c.args.names.now in
-    let d : FolderState = g.F.Folder.state c.finish.new.folder in
-    only-written a b r d n c.in-Ok-deliver.ensures.only c.in-Ok-read.ensures.reads c.in-Err-finish.ensures.only
+    only-written _ _ _ _ (named c.args.names.now) c.in-Ok-deliver.ensures.only c.in-Ok-read.ensures.reads c.in-Err-finish.ensures.only
 
 pub returns-in-Err-finish-clause-counts : goal.returns-in-Err-finish-clause-counts
 returns-in-Err-finish-clause-counts g c =
-    let a : FolderState = g.F.Folder.state c.args.folder.now in
-    let b : FolderState = g.F.Folder.state c.deliver.new.folder in
-    let r : FolderState = g.F.Folder.state c.read.new.folder in
-    let n : TapNames = named c.args.names.now in
-    let d : FolderState = g.F.Folder.state c.finish.new.folder in
-    stop-earlier a r d (inputs_of n) (outputs_of n) (Write c.in-Err-finish.fault)
+    stop-earlier (g.F.Folder.state c.args.folder.now) (g.F.Folder.state c.read.new.folder) (g.F.Folder.state c.finish.new.folder)
+    (inputs_of (named c.args.names.now)) (outputs_of (named c.args.names.now)) (Write c.in-Err-finish.fault)
     (CountsStand-trans c.in-Ok-deliver.ensures.stand c.in-Ok-read.ensures.stand) c.in-Err-finish.ensures.fails
 
 pub go_on-requires-clause-stands : goal.go_on-requires-clause-stands
@@ -269,12 +196,12 @@ go_on-requires-clause-stands g c =
     let x = r0.what in
     let ts = r0.turns in
     let heard = c.in-Ok.ensures.hears x ts r0.after in
-    let so : HearsSo x ts c.in-Ok.hearing = record { hears = heard.0.hears; orig = heard.1; answ = heard.2 } in
     let turn = c.in-Ok-read.ensures.stands x ts c.in-Ok.hearing.heard (c.in-Ok-deliver.ensures.stands x ts c.in-Ok.hearing.heard heard.0) in
     let go : IsToGo c.look.new.self (now_of c.read.new.self x c.in-Ok-read.counts) ts c.in-Ok.hearing c.in-Ok-look.slots =
-    to-go c.read.new.self c.look.new.self x ts c.in-Ok.hearing c.in-Ok-read.counts c.in-Ok-look.slots turn so
-    (c.in-Ok-look.ensures.looks x ts c.in-Ok.hearing.heard turn) c.in-Ok-look.ensures.script c.in-Ok-look.ensures.turn
-    c.in-Ok-look.ensures.at c.in-Ok-look.ensures.orig c.in-Ok-look.ensures.answ c.in-Ok-look.ensures.orig_piece c.in-Ok-look.ensures.answ_piece in
+    to-go c.read.new.self c.look.new.self x ts c.in-Ok.hearing c.in-Ok-read.counts c.in-Ok-look.slots turn
+    (so-heard c.hear.new.self x ts c.in-Ok.hearing heard) (c.in-Ok-look.ensures.looks x ts c.in-Ok.hearing.heard turn)
+    c.in-Ok-look.ensures.script c.in-Ok-look.ensures.turn c.in-Ok-look.ensures.at
+    c.in-Ok-look.ensures.orig c.in-Ok-look.ensures.answ c.in-Ok-look.ensures.orig_piece c.in-Ok-look.ensures.answ_piece in
     (now_of c.read.new.self x c.in-Ok-read.counts, ts, go)
 
 pub returns-in-Ok-go_on-clause-ready : goal.returns-in-Ok-go_on-clause-ready
@@ -283,14 +210,15 @@ returns-in-Ok-go_on-clause-ready g c = λ same.
     let x = r0.what in
     let ts = r0.turns in
     let heard = c.in-Ok.ensures.hears x ts r0.after in
-    let so : HearsSo x ts c.in-Ok.hearing = record { hears = heard.0.hears; orig = heard.1; answ = heard.2 } in
     let turn = c.in-Ok-read.ensures.stands x ts c.in-Ok.hearing.heard (c.in-Ok-deliver.ensures.stands x ts c.in-Ok.hearing.heard heard.0) in
     let go : IsToGo c.look.new.self (now_of c.read.new.self x c.in-Ok-read.counts) ts c.in-Ok.hearing c.in-Ok-look.slots =
-    to-go c.read.new.self c.look.new.self x ts c.in-Ok.hearing c.in-Ok-read.counts c.in-Ok-look.slots turn so
-    (c.in-Ok-look.ensures.looks x ts c.in-Ok.hearing.heard turn) c.in-Ok-look.ensures.script c.in-Ok-look.ensures.turn
-    c.in-Ok-look.ensures.at c.in-Ok-look.ensures.orig c.in-Ok-look.ensures.answ c.in-Ok-look.ensures.orig_piece c.in-Ok-look.ensures.answ_piece in
-    let room = some-octets x (length c.look.new.self.orig.piece.items)
-    (c.slots_have_room.ensures.room x.script (subst IsInLimits r0.after.behind.script_is r0.limits)).0 go.orig_room in
+    to-go c.read.new.self c.look.new.self x ts c.in-Ok.hearing c.in-Ok-read.counts c.in-Ok-look.slots turn
+    (so-heard c.hear.new.self x ts c.in-Ok.hearing heard) (c.in-Ok-look.ensures.looks x ts c.in-Ok.hearing.heard turn)
+    c.in-Ok-look.ensures.script c.in-Ok-look.ensures.turn c.in-Ok-look.ensures.at
+    c.in-Ok-look.ensures.orig c.in-Ok-look.ensures.answ c.in-Ok-look.ensures.orig_piece c.in-Ok-look.ensures.answ_piece in
+    let room = some-octets c.read.new.self c.look.new.self x ts c.in-Ok.hearing.heard
+    (c.slots_have_room.ensures.room x.script (subst IsInLimits r0.after.behind.script_is r0.limits)).0 turn
+    c.in-Ok-look.ensures.orig_piece in
     let more : c.args.self.now.at < c.go_on.new.self.at =
     omega (arith, room, c.in-Ok-go_on.ensures.at, c.in-Ok-look.ensures.at, c.in-Ok-read.ensures.at, c.in-Ok-deliver.ensures.at, c.in-Ok.ensures.at) in
     let whole = whole-orig c.read.new.self c.look.new.self x ts c.in-Ok.hearing c.in-Ok-read.counts c.in-Ok-look.slots turn
@@ -316,14 +244,16 @@ returns-in-Ok-go_on-clause-nearer g c = λ same.
     let x = r0.what in
     let ts = r0.turns in
     let heard = c.in-Ok.ensures.hears x ts r0.after in
-    let so : HearsSo x ts c.in-Ok.hearing = record { hears = heard.0.hears; orig = heard.1; answ = heard.2 } in
     let turn = c.in-Ok-read.ensures.stands x ts c.in-Ok.hearing.heard (c.in-Ok-deliver.ensures.stands x ts c.in-Ok.hearing.heard heard.0) in
-    let go : IsToGo c.look.new.self (now_of c.read.new.self x c.in-Ok-read.counts) ts c.in-Ok.hearing c.in-Ok-look.slots =
-    to-go c.read.new.self c.look.new.self x ts c.in-Ok.hearing c.in-Ok-read.counts c.in-Ok-look.slots turn so
-    (c.in-Ok-look.ensures.looks x ts c.in-Ok.hearing.heard turn) c.in-Ok-look.ensures.script c.in-Ok-look.ensures.turn
-    c.in-Ok-look.ensures.at c.in-Ok-look.ensures.orig c.in-Ok-look.ensures.answ c.in-Ok-look.ensures.orig_piece c.in-Ok-look.ensures.answ_piece in
-    let room = some-octets x (length c.look.new.self.orig.piece.items)
-    (c.slots_have_room.ensures.room x.script (subst IsInLimits r0.after.behind.script_is r0.limits)).0 go.orig_room in
-    let more : c.args.self.now.at < c.go_on.new.self.at =
-    omega (arith, room, c.in-Ok-go_on.ensures.at, c.in-Ok-look.ensures.at, c.in-Ok-read.ensures.at, c.in-Ok-deliver.ensures.at, c.in-Ok.ensures.at) in
-    more
+    let room = some-octets c.read.new.self c.look.new.self x ts c.in-Ok.hearing.heard
+    (c.slots_have_room.ensures.room x.script (subst IsInLimits r0.after.behind.script_is r0.limits)).0 turn
+    c.in-Ok-look.ensures.orig_piece in
+    omega (
+      arith,
+      room,
+      c.in-Ok-go_on.ensures.at,
+      c.in-Ok-look.ensures.at,
+      c.in-Ok-read.ensures.at,
+      c.in-Ok-deliver.ensures.at,
+      c.in-Ok.ensures.at,
+    )
