@@ -249,29 +249,37 @@ exit 14
 says "bad tap: orig turn 0\n"
 
 scenario a break counts once the link is set up
-# A UI frame that asks for a break of 300 ms in the first turn, and one behind a SABME.
+# A UI frame that asks for a break of 300 ms in the first turn, and one behind the UA.
+file brk "\x01\x03\x40\x00\x1e\x77\x1e"
+file ua "\x03\x73\x33\x64"
 file script ""
 file flags ""
 slot flags "~"
 slot flags "~"
-ask encode answer flags ra
-keep ra
+ask encode call flags ro
+keep ro
 file early ""
-frame early "\x03\x03\x40\x00\x1e\xff\x08"
+slot early "~" "~~~~" brk
 slot early "~"
-ask encode call early ro
-keep ro
+ask encode answer early ra
+keep ra
 ask tap ro ra script go ga t
 exit 0
-leaves t "0 orig - > ui cmd p=0 brk 0 30\n0 answ - > flags\n1 orig - > flags\n1 answ ui cmd p=0 brk 0 30 > flags\n2 orig - > none\n2 answ - > none\n"
+file trace "0 orig - > flags\n0 answ - > ui cmd p=0 brk 0 30\n"
+add trace "1 orig ui cmd p=0 brk 0 30 > flags\n1 answ - > flags\n"
+add trace "2 orig - > none\n2 answ - > none\n"
+leaves t trace
 file later ""
-frame later "\x03\x7f\x5f\xae"
-frame later "\x03\x03\x40\x00\x1e\xff\x08"
-ask encode call later ro
-keep ro
+slot later "~" "~~~~" ua
+slot later "~" "~~~~" brk
+ask encode answer later ra
+keep ra
 ask tap ro ra script go ga t
 exit 0
-leaves t "0 orig - > sabme cmd p=1\n0 answ - > flags\n1 orig - > ui cmd p=0 brk 0 30\n1 answ sabme cmd p=1 > flags\n2 orig - > none\n2 answ ui cmd p=0 brk 0 30 > none break=30\n"
+file trace "0 orig - > flags\n0 answ - > ua rsp p=1\n"
+add trace "1 orig ua rsp p=1 > flags\n1 answ - > ui cmd p=0 brk 0 30\n"
+add trace "2 orig ui cmd p=0 brk 0 30 > none break=30\n2 answ - > none\n"
+leaves t trace
 "##;
 
 #[test]
