@@ -1,9 +1,9 @@
 // Lines of a run, compared with the octets of a name.
-ghost use Rattle.std.specs.Prelude.{◌≡◌, ◌≤◌, ◌<◌, ◌+◌, ◌++◌, ◌∷◌, [], List, ℕ, IsTrue, IfOk, IfErr, OnOk, drop, length, take};
+ghost use Rattle.std.specs.Prelude.{◌≡◌, ◌≤◌, ◌<◌, ◌+◌, ◌++◌, ◌∷◌, [], List, ℕ, IsTrue, None, Ok, IfOk, IfErr, OnOk, drop, length, take};
 ghost use Rattle.outside_calls.specs.Folder.{OnlyReads, octets_at};
 ghost use Rattle.command_base.specs.Stops.{EndCounts};
 ghost use Rattle.trace_audit.specs.Differences.{is_no_feed, IsCut, text_of};
-ghost use Rattle.trace_audit.specs.Compared.{Compared, HasWindow, IsFew};
+ghost use Rattle.trace_audit.specs.Compared.{Compared, HasWindow, IsFew, place_of};
 ghost use Rattle.trace_audit.specs.Cutting.{front_of, rest_of};
 ghost use Rattle.line_ends.specs.Lines.{AreLines};
 ghost use Rattle.audit_command.specs.Turns.{HasFew, IsReading};
@@ -23,6 +23,8 @@ pub(crate) fn read_on<F: Folder>(
     ensures window { IfOk result (λ count. IsTrue ((F.state folder.old).tells trace.now)
         → HasWindow (octets_at (F.state folder.old) trace.now) comparison.now (length window.old) (take count window.new)) }
     ensures bound { IfOk result (λ count. count ≤ length window.new) }
+    ensures unread { place_of comparison.now ≡ None → F.state folder.new ≡ F.state folder.old }
+    ensures none { place_of comparison.now ≡ None → result ≡ Ok 0 }
     ensures stops { IfErr result IsReading }
     ensures reads { OnlyReads (F.state folder.old) (F.state folder.new) }
     ensures counts { EndCounts (F.state folder.old) (F.state folder.new) (trace.now ∷ []) [] result }
@@ -48,6 +50,7 @@ fn compare_line<F: Folder>(
     ensures compared { (lines : List (List ℕ)) → IsTrue ((F.state folder.old).tells trace.now) → Compared (octets_at (F.state folder.old) trace.now) lines comparison.old
         → OnOk result (Compared (octets_at (F.state folder.old) trace.now) (lines ++ line.now ∷ []) comparison.new) }
     ensures few { (n : ℕ) → IsFew n comparison.old → OnOk result (IsFew (n + 1) comparison.new) }
+    ensures unread { place_of comparison.old ≡ None → F.state folder.new ≡ F.state folder.old }
     ensures stops { IfErr result IsReading }
     ensures reads { OnlyReads (F.state folder.old) (F.state folder.new) }
     ensures counts { EndCounts (F.state folder.old) (F.state folder.new) (trace.now ∷ []) [] result }

@@ -1,5 +1,5 @@
 -- What is read of a recording to look at its header.
-use Rattle.std.proofs.Common.{◌≡◌, ◌∙◌, inl, inr, ℕ, ◌+◌, ◌≤◌, ◌<◌, List, IsTrue, length, take, sym, ap, arith}
+use Rattle.std.proofs.Common.{◌≡◌, ◌∙◌, inl, inr, ℕ, ◌+◌, ◌≤◌, ◌<◌, List, [], ◌∷◌, IsTrue, length, take, sym, ap, arith}
 use Rattle.std.proofs.lemmas.List.{take_all}
 use Rattle.std.proofs.lemmas.Bool.{cases_lt}
 use Rattle.scramblers.specs.declared.mode.Mode.{Mode}
@@ -41,12 +41,13 @@ both-read start now n orig answ Answerer = answ
 
 -- a recording has no header: the originator's,
 pub orig-refused : (l : Limits) (old new : FolderState) (n : TapNames) (script : ScriptValue) (stop : Stop)
-    → Opens l old n.script (recordings_of n) script → NoHeader old n.rec_o Call stop → IsRefused l old new n stop
-orig-refused l old new n script (Own answer) opens bad = inr (record { script = script; opens = opens; bad = inl bad })
-orig-refused l old new n script (Read fault) opens bad = inr (record { script = script; opens = opens })
-orig-refused l old new n script (Write fault) opens bad = bad
-orig-refused l old new n script (Say fault) opens bad = bad
-orig-refused l old new n script NoMemory opens bad = absurd bad
+    → Opens l old n.script (recordings_of n) script → NoHeader old n.rec_o Call stop → StopCounts old new (n.rec_o ∷ []) [] stop
+    → IsRefused l old new n stop
+orig-refused l old new n script (Own answer) opens bad counts = inr (record { script = script; opens = opens; bad = inl bad })
+orig-refused l old new n script (Read fault) opens bad counts = inr (record { script = script; opens = opens; fails = inl counts })
+orig-refused l old new n script (Write fault) opens bad counts = bad
+orig-refused l old new n script (Say fault) opens bad counts = bad
+orig-refused l old new n script NoMemory opens bad counts = absurd bad
 
 -- what was read of a recording is its header
 pub header-read : (start now : FolderState) (name : List ℕ) (mode : Mode) → ReadTo start now name TAP_LIMIT 8 (header_of mode)
@@ -55,12 +56,15 @@ header-read start now name mode r told = sym (r.front told)
 
 -- or the answerer's alone
 pub answ-refused : (l : Limits) (old new : FolderState) (n : TapNames) (script : ScriptValue) (stop : Stop)
-    → Opens l old n.script (recordings_of n) script → HasHeader old n.rec_o Call → NoHeader old n.rec_a Answer stop → IsRefused l old new n stop
-answ-refused l old new n script (Own answer) opens good bad = inr (record { script = script; opens = opens; bad = inr (good, bad) })
-answ-refused l old new n script (Read fault) opens good bad = inr (record { script = script; opens = opens })
-answ-refused l old new n script (Write fault) opens good bad = bad
-answ-refused l old new n script (Say fault) opens good bad = bad
-answ-refused l old new n script NoMemory opens good bad = absurd bad
+    → Opens l old n.script (recordings_of n) script → HasHeader old n.rec_o Call → NoHeader old n.rec_a Answer stop
+    → StopCounts old new (n.rec_a ∷ []) [] stop → IsRefused l old new n stop
+answ-refused l old new n script (Own answer) opens good bad counts =
+    inr (record { script = script; opens = opens; bad = inr (good, bad) })
+answ-refused l old new n script (Read fault) opens good bad counts =
+    inr (record { script = script; opens = opens; fails = inr (good, counts) })
+answ-refused l old new n script (Write fault) opens good bad counts = bad
+answ-refused l old new n script (Say fault) opens good bad counts = bad
+answ-refused l old new n script NoMemory opens good bad counts = absurd bad
 
 -- a fault of some inputs is one of all
 pub stop-widened : (old new : FolderState) (some all outputs : List (List ℕ)) (stop : Stop)

@@ -3,6 +3,7 @@
 use Rattle.std.specs.Prelude.{◌⊎◌, ℕ, List, [], ◌∷◌, Result, Ok, Err}
 use Rattle.scramblers.specs.declared.mode.Mode.TheVariants.{Call, Answer}
 use Rattle.outside_calls.specs.Folder.{FolderState, OnlyReads, CountsStand}
+use Rattle.outside_calls.specs.declared.folder.FolderFault.{FolderFault}
 use Rattle.outside_calls.specs.Outputs.{KeepsAll, SaysNothing, CreatesPart}
 use Rattle.noise_script.specs.Script.{ScriptValue, IsInLimits}
 use Rattle.line_tap.specs.Ends.{TapEnd}
@@ -14,6 +15,7 @@ use Rattle.command_base.specs.declared.stop.Stop.TheVariants.{Own, Read, Write, 
 use Rattle.command_base.specs.Inputs.{IsWithin}
 use Rattle.command_base.specs.Job.{Job}
 use Rattle.command_base.specs.Lines.{turns_line}
+use Rattle.command_base.specs.Stops.{ReadFails}
 use Rattle.run_inputs.specs.declared.limits.Limits.{Limits}
 use Rattle.run_inputs.specs.Inputs.{Opens, RefusesOwn, FailsToRead}
 use Rattle.tap_command.specs.Names.{TapNames, inputs_of, outputs_of}
@@ -40,15 +42,16 @@ pub record HeaderRefused (l : Limits) (f : FolderState) (n : TapNames) (answer :
   pub opens : Opens l f n.script (recordings_of n) script
   pub bad : HasNoHeader f n.rec_o Call answer ⊎ (HasHeader f n.rec_o Call × HasNoHeader f n.rec_a Answer answer)
 
--- They are right, and a header wasn't read.
-pub record HeaderFails (l : Limits) (f : FolderState) (n : TapNames) : Type 0 where
+-- They are right, and a header wasn't read: the originator's, or, once that is right, the answerer's.
+pub record HeaderFails (l : Limits) (old new : FolderState) (n : TapNames) (fault : FolderFault) : Type 0 where
   pub script : ScriptValue
-  pub opens : Opens l f n.script (recordings_of n) script
+  pub opens : Opens l old n.script (recordings_of n) script
+  pub fails : ReadFails old new (n.rec_o ∷ []) fault ⊎ (HasHeader old n.rec_o Call × ReadFails old new (n.rec_a ∷ []) fault)
 
 -- why the inputs are not taken
 abbrev pub IsRefused : Limits → FolderState → FolderState → TapNames → Stop → Type 0
 IsRefused l old new n (Own answer) = RefusesOwn l old n.script 3 (recordings_of n) 1 answer ⊎ HeaderRefused l old n answer
-IsRefused l old new n (Read fault) = FailsToRead l old new n.script (recordings_of n) fault ⊎ HeaderFails l old n
+IsRefused l old new n (Read fault) = FailsToRead l old new n.script (recordings_of n) fault ⊎ HeaderFails l old new n fault
 IsRefused l old new n NoMemory = IsWithin old n.script l.script
 IsRefused l old new n stop = ⊥
 

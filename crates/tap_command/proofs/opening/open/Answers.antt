@@ -14,11 +14,14 @@ pub returns-in-Err-open_header-clause-refused : goal.returns-in-Err-open_header-
 returns-in-Err-open_header-clause-refused g c =
     let n : TapNames = named c.args.words.now in
     let old : FolderState = g.F.Folder.state c.args.folder.now in
+    let n1 : FolderState = g.F.Folder.state c.open_inputs.new.folder in
+    let n2 : FolderState = g.F.Folder.state c.open_header.new.folder in
     let first = c.in-Ok.ensures.reads in
-    orig-refused LIMITS old (g.F.Folder.state c.open_header.new.folder) n c.in-Ok.script c.in-Err-open_header.stop c.in-Ok.ensures.opened
+    orig-refused LIMITS old n2 n c.in-Ok.script c.in-Err-open_header.stop c.in-Ok.ensures.opened
     (c.in-Err-open_header.ensures.err old
-    (ReadTo-none old (g.F.Folder.state c.open_inputs.new.folder) n.rec_o TAP_LIMIT c.in-Ok.ensures.opened.files.0 first.goes_on
-    (first.names n.rec_o)))
+    (ReadTo-none old n1 n.rec_o TAP_LIMIT c.in-Ok.ensures.opened.files.0 first.goes_on (first.names n.rec_o)))
+    (stop-earlier old n1 n2 (n.rec_o ∷ []) [] c.in-Err-open_header.stop (c.in-Ok.ensures.counts [])
+    (c.in-Err-open_header.ensures.counts []))
 
 pub returns-in-Err-open_header-clause-counts : goal.returns-in-Err-open_header-clause-counts
 returns-in-Err-open_header-clause-counts g c = λ outputs.
@@ -67,10 +70,13 @@ returns-in-Err-open_header-2-clause-refused g c =
     let orig = c.in-Ok-open_header.ensures.ok old
     (ReadTo-none old (g.F.Folder.state c.open_inputs.new.folder) n.rec_o TAP_LIMIT c.in-Ok.ensures.opened.files.0 first.goes_on
     (first.names n.rec_o)) in
-    answ-refused LIMITS old (g.F.Folder.state c.open_header-2.new.folder) n c.in-Ok.script c.in-Err-open_header-2.stop c.in-Ok.ensures.opened
+    let n3 : FolderState = g.F.Folder.state c.open_header-2.new.folder in
+    answ-refused LIMITS old n3 n c.in-Ok.script c.in-Err-open_header-2.stop c.in-Ok.ensures.opened
     (header-read old n2 n.rec_o Call orig)
     (c.in-Err-open_header-2.ensures.err old
     (ReadTo-none old n2 n.rec_a TAP_LIMIT c.in-Ok.ensures.opened.files.1.0 second.goes_on (second.names n.rec_a)))
+    (stop-earlier old n2 n3 (n.rec_a ∷ []) [] c.in-Err-open_header-2.stop
+    (CountsStand-trans (c.in-Ok.ensures.counts []) c.in-Ok-open_header.ensures.stand) (c.in-Err-open_header-2.ensures.counts []))
 
 pub returns-in-Err-open_header-2-clause-counts : goal.returns-in-Err-open_header-2-clause-counts
 returns-in-Err-open_header-2-clause-counts g c = λ outputs.
