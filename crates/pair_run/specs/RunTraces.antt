@@ -13,6 +13,7 @@ use Rattle.lapm_frames.specs.Frame.{has_number}
 use Rattle.lapm_frames.specs.declared.sent.Sent.{Sent}
 use Rattle.lapm_frames.specs.declared.sent.Sent.TheVariants as slots
 use Rattle.link_run.specs.Run.{Spoken, Turn}
+use Rattle.link_run.specs.Starved.{IsStarved}
 use Rattle.link_run.specs.Taken.{taken_octets}
 use Rattle.link_run.specs.Counts.{lost_slots, sent_again}
 use Rattle.link_run.specs.Trace.{trace_text, turn_text}
@@ -174,3 +175,11 @@ pub record BoundsAre : Type 0 where
   pub break : most_turns 5 20 (one_octet_each one_break) (λ role. 1) ≡ 2520
   pub busy : most_turns 5 20 busy_for_a_while (segments_of 15 0) ≡ 8680
   pub far : most_turns 5 96 (far false) (segments_of 15 0) ≡ 28224
+
+-- The run whose answerer gives up is starved, by five tries of 20 turns: something was lost in turns 142, 122, 102, 82, 62 and 42.
+abbrev pub GivesUpStarved : Type 0
+GivesUpStarved = IsStarved 5 20 (λ role. 1) (all_turns (runs 200 hundred_each (way 1 (loses 100000 40) [])))
+
+-- A run that loses one slot isn't: of its 30 turns two spans alone have any.
+abbrev pub OneLossStarvesNone : Type 0
+OneLossStarvesNone = IsStarved 5 20 (λ role. 1) (all_turns (runs 100 (one_octet_each one_break) (way 1 [] (loses 1 8)))) → ⊥

@@ -3,7 +3,7 @@ ghost use Rattle.std.specs.Prelude.{ℕ};
 ghost use Rattle.link_run.specs.Run.{Link};
 ghost use Rattle.pair_run.specs.Made.{Way, IsMade, runs};
 ghost use Rattle.pair_run.specs.RunTraces.{PlainTrace, PlainEnds, UaLostEnds, BreakLine7, BreakLine8, BreakEnds, BreakAgainEnds, FarRejEnds, FarSrejEnds, FarRejCounts, FarSrejCounts};
-ghost use Rattle.pair_run.specs.RunTraces.{BusyLine10, BusyEnds, BusyForLongEnds, CheckedEnds, ChecksAre, LinkLostEnds, NotDetectedEnds, BoundsAre};
+ghost use Rattle.pair_run.specs.RunTraces.{BusyLine10, BusyEnds, BusyForLongEnds, CheckedEnds, ChecksAre, LinkLostEnds, NotDetectedEnds, BoundsAre, GivesUpStarved, OneLossStarvesNone};
 
 /// What is computed is a run over a line by the definitions.
 pub fn computed_runs_are_runs()
@@ -59,4 +59,10 @@ pub fn longer_check()
 /// How many turns some runs have at most.
 pub fn bounds_in_numbers()
     ensures { BoundsAre }
+{}
+
+/// A run that is starved, and one that isn't.
+pub fn starved_runs()
+    ensures yes { GivesUpStarved }
+    ensures no { OneLossStarvesNone }
 {}
