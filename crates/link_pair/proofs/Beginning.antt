@@ -5,6 +5,7 @@ use Rattle.outside_calls.specs.Outputs.{Creates}
 use Rattle.outside_calls.proofs.Steps.{CountsStand-trans, FaultsStand-trans}
 use Rattle.outside_calls.proofs.Putting.{SomeRose-earlier}
 use Rattle.outside_calls.specs.Folder.{Rose}
+use Rattle.noise_script.specs.Script.{ScriptValue}
 use Rattle.link_run.specs.Run.{start}
 use Rattle.line_run.specs.Scripted.{link_of}
 use Rattle.line_run.specs.Names.{Written}
@@ -15,7 +16,7 @@ use Rattle.link_pair.specs.declared.half.PairFault.{PairFault}
 use Rattle.link_pair.specs.declared.half.PairFault.TheVariants as faults
 use Rattle.link_pair.specs.declared.pair.Pair.{Pair}
 use Rattle.link_pair.specs.Counts.{FaultCounts}
-use Rattle.link_pair.specs.Pair.{all_outputs, IsFirst, Awaits}
+use Rattle.link_pair.specs.Pair.{all_outputs, IsFirst, Awaits, FaultEnds, FaultEndsIn}
 
 pub begins : (x : Pair) (f : FolderState) (n m : Written) → IsFirst x → Creates f (all_outputs n m) → Awaits x f n m First
 begins x f n m is created =
@@ -47,6 +48,15 @@ begins x f n m is created =
 -- a round more is nearer to the bound
 pub nearer : (round next : ℕ) → round < 2 ^ 39 → next ≡ round + 1 → 2 ^ 39 - next < 2 ^ 39 - round
 nearer round next h e = omega (arith, h, e)
+
+-- why it ended, whatever the round
+pub fault-ends : (script : ScriptValue) (f : FolderState) (n m : Written) (round : ℕ) (fault : PairFault)
+    → FaultEndsIn script f n m round fault → FaultEnds script f n m fault
+fault-ends script f n m round faults.ReadFault e = e.stops
+fault-ends script f n m round faults.WriteFault e = e.stops
+fault-ends script f n m round faults.NoMemory e = e.stops
+fault-ends script f n m round (faults.LineLost role symbol) e = e.ended
+fault-ends script f n m round (faults.ChanceMatch role turn) e = e.ended
 
 -- a fault behind rounds that counted nothing
 pub counts-later : (a b c : FolderState) (inputs outputs : List (List ℕ)) (fault : PairFault) → CountsStand a b

@@ -9,29 +9,32 @@ use Rattle.shared_terms.specs.declared.role.Role.{Role}
 use Rattle.shared_terms.specs.declared.role.Role.TheVariants.{Originator, Answerer}
 use Rattle.shared_terms.specs.Both.{Both, of}
 use Rattle.noise_script.specs.Script.{ScriptValue}
-use Rattle.link_run.specs.Run.{Link}
+use Rattle.link_run.specs.Run.{Link, Accounts, Turn}
 use Rattle.link_run.specs.Trace.{trace_text}
 use Rattle.line_run.specs.Sampled.{Wire, LineEnd}
 use Rattle.line_run.specs.Sampled as lines
+use Rattle.line_run.specs.Ends.{Left}
 use Rattle.line_run.specs.Scripted.{wire_at, link_of}
 use Rattle.line_run.specs.Stream.{Carried}
 use Rattle.shared_line.specs.Lines.{LinesWait}
 use Rattle.shared_line.specs.declared.lines.Lines.{Lines}
 use Rattle.line_run.specs.Names.{Written, outputs_of}
 use Rattle.pair_run.specs.Beside.{first_dlci, second_dlci, after_second, after_first, first_wire, second_wire}
-use Rattle.pair_run.specs.Pair.{Progress, Goes, Ended, turns_in, Lasts, PairAt}
+use Rattle.pair_run.specs.Pair.{Progress, Goes, Ended, turns_in, HasEnded, Lasts, PairAt}
 use Rattle.pair_run.specs.Ends.{First, Second, is_going, LeavesOf, BothEnd, by_links, by_line}
 use Rattle.pair_run.specs.Ends as pairs
 use Rattle.pair_run.proofs.Clear.{Beside}
 use Rattle.pair_run.proofs.Placing.{length-on-line}
 use Rattle.link_pair.specs.declared.half.Half.{Half}
+use Rattle.link_pair.specs.declared.half.LinkEnd.{LinkEnd}
+use Rattle.link_pair.specs.declared.half.LinkEnd.TheVariants as link_ends
 use Rattle.link_pair.specs.declared.half.PairFault.{PairFault}
 use Rattle.link_pair.specs.declared.half.PairFault.TheVariants as faults
 use Rattle.link_pair.specs.declared.pair.Pair.{Pair}
 use Rattle.link_pair.specs.declared.pair.Endings.{Endings}
-use Rattle.link_pair.specs.Half.{run_end, left_by, HoldLeft, Follows, HasCome, IsEndedByLine, LinkStops, LinkStopsReading, IsStopped}
+use Rattle.link_pair.specs.Half.{run_end, last_turn, left_by, HoldLeft, Follows, HasCome, IsEndedByLine, LinkStops, LinkStopsReading, IsStopped}
 use Rattle.link_pair.specs.Half.{HalfEnds, HalfAt, HalfAnswers}
-use Rattle.link_pair.specs.Pair.{both_ended, streams_at, Awaits, PairEnded, HaveEnded, PairStops, FaultEnds}
+use Rattle.link_pair.specs.Pair.{both_ended, streams_at, Awaits, HaveEnded, last_round, EndedIn, StopsIn, FaultEndsIn}
 use Rattle.link_pair.proofs.Beside.{AllApart, first-beside, second-beside, known-beside, held-beside}
 use Rattle.link_pair.proofs.Pairing.{PairLaws, AreOver, either, counted, waits-over, at-first, at-second, after-first-turn}
 use Rattle.link_pair.proofs.Pairing.{after-second-turn, first-at, second-at, stands-going, stands-over}
@@ -107,6 +110,16 @@ ended-now (Goes ts ends) (Goes us after) rounds f g e count = absurd (false≢tr
 ended-now (Goes ts ends) (Ended us mid end left) rounds f g e count = ap length f ∙ count
 ended-now (Ended ts ends end left) next rounds f g e count = absurd (false≢true g)
 
+-- its last turn is numbered by those before
+last-turn-is : (c : Wire) (link : Link) (rounds : ℕ) (p : Progress) (ts : List Turn) (ends : Accounts) (found : LinkEnd) (left : Left)
+    → p ≡ Ended ts ends (run_end found) left → Lasts c link rounds p → last_turn found ≡ length ts
+last-turn-is c link rounds p ts ends found left e l = by found (subst (Lasts c link rounds) e l)
+  where
+    by : (found : LinkEnd) → HasEnded c link rounds ts ends (run_end found) left → last_turn found ≡ length ts
+    by (link_ends.Done turn) h = h.ran.ended.number ∙ ap length h.turns_are
+    by (link_ends.LinkLost role segment turn) h = h.ran.ended.1.number ∙ ap length h.turns_are
+    by (link_ends.NotDetected turn) h = h.ran.ended.number ∙ ap length h.turns_are
+
 over-pair : (script : ScriptValue) (files others : Both (List ℕ)) (firsts seconds : ℕ) (p q : Progress) (endings : Endings)
     → PairAt script files others firsts seconds p q → (o : AreOver endings p q)
     → firsts ≡ suc (max (length o.ts) (length o.us)) → seconds ≡ max (length o.ts) (suc (length o.us))
@@ -127,21 +140,24 @@ over-pair script files others firsts seconds p q endings at o e f =
 pub ends-first : PairLaws
     → (x : Pair) (h : Half) (l : Lines) (old new : FolderState) (n m : Written) (a : Awaits x old n m First) (endings : Endings)
     → Leaves old new n m n → both_ended h.ended x.second.ended ≡ Some endings
-    → Answers x.first x.lines x.script old new n x.round h l (Ok tt) → HaveEnded x.script new n m endings
-ends-first laws x h l old new n m a endings around some answers = record {
-  files = k.others;
-  others = a.others;
-  first_known = k.knows;
-  second_known = known-beside old new m n a.others (second-beside n m around.apart) around.only a.second_known;
-  left = o.left;
-  leaves = o.leaves;
-  runs = by_links (run_end endings.first) (run_end endings.second)
-      (over-pair x.script k.others a.others (suc x.round) x.round k.next a.q endings at o (omega (arith, first-long, second-short))
-      (omega (arith, first-long, second-short))) refl;
-  first_holds = subst (HoldLeft new n) o.first_is k.holds;
-  second_holds = subst (HoldLeft new m) o.second_is
-      (held-beside old new m n a.q (second-beside n m around.apart) around.only a.second_holds);
-}
+    → Answers x.first x.lines x.script old new n x.round h l (Ok tt) → HaveEnded x.script new n m endings × (last_round endings ≡ x.round)
+ends-first laws x h l old new n m a endings around some answers = (
+  record {
+    files = k.others;
+    others = a.others;
+    first_known = k.knows;
+    second_known = known-beside old new m n a.others (second-beside n m around.apart) around.only a.second_known;
+    left = o.left;
+    leaves = o.leaves;
+    runs = by_links (run_end endings.first) (run_end endings.second)
+        (over-pair x.script k.others a.others (suc x.round) x.round k.next a.q endings at o (omega (arith, first-long, second-short))
+        (omega (arith, first-long, second-short))) refl;
+    first_holds = subst (HoldLeft new n) o.first_is k.holds;
+    second_holds = subst (HoldLeft new m) o.second_is
+        (held-beside old new m n a.q (second-beside n m around.apart) around.only a.second_holds);
+  },
+  omega (arith, first-turn, second-turn, first-long, second-short),
+)
   where
     k : HasCome h l (first_wire x.script (turns_in a.q)) 2 (streams_at First x.round a.p a.q) new n x.round a.p
     k = first-come laws x h l old new n m a answers
@@ -170,6 +186,14 @@ ends-first laws x h l old new n m a endings around some answers = record {
     second-short : length o.us < x.round
     second-short = subst (λ z. length (turns_in z) < x.round) o.second_is
         (ended-before (second_wire x.script (turns_in a.p)) a.others x.round a.q a.at.second second-over)
+
+    first-turn : last_turn endings.first ≡ length o.ts
+    first-turn = last-turn-is (first_wire x.script (turns_in a.q)) (link_of x.script k.others) (suc x.round) k.next o.ts o.ends endings.first
+        o.left o.first_is k.lasts
+
+    second-turn : last_turn endings.second ≡ length o.us
+    second-turn = last-turn-is (second_wire x.script (turns_in a.p)) (link_of x.script a.others) x.round a.q o.us o.mids endings.second
+        o.leaves o.second_is a.at.second
 
 -- ---- the second link has
 
@@ -222,21 +246,24 @@ goes-to-first laws x h l old new n m a around same none answers =
 pub ends-second : PairLaws
     → (x : Pair) (h : Half) (l : Lines) (old new : FolderState) (n m : Written) (a : Awaits x old n m Second) (endings : Endings)
     → Leaves old new n m m → both_ended x.first.ended h.ended ≡ Some endings
-    → Answers x.second x.lines x.script old new m x.round h l (Ok tt) → HaveEnded x.script new n m endings
-ends-second laws x h l old new n m a endings around some answers = record {
-  files = a.files;
-  others = k.others;
-  first_known = known-beside old new n m a.files (first-beside n m around.apart) around.only a.first_known;
-  second_known = k.knows;
-  left = o.left;
-  leaves = o.leaves;
-  runs = by_links (run_end endings.first) (run_end endings.second)
-      (over-pair x.script a.files k.others (suc x.round) (suc x.round) a.p k.next endings at o (omega (arith, first-short, second-long))
-      (omega (arith, first-short, second-long))) refl;
-  first_holds = subst (HoldLeft new n) o.first_is
-      (held-beside old new n m a.p (first-beside n m around.apart) around.only a.first_holds);
-  second_holds = subst (HoldLeft new m) o.second_is k.holds;
-}
+    → Answers x.second x.lines x.script old new m x.round h l (Ok tt) → HaveEnded x.script new n m endings × (last_round endings ≡ x.round)
+ends-second laws x h l old new n m a endings around some answers = (
+  record {
+    files = a.files;
+    others = k.others;
+    first_known = known-beside old new n m a.files (first-beside n m around.apart) around.only a.first_known;
+    second_known = k.knows;
+    left = o.left;
+    leaves = o.leaves;
+    runs = by_links (run_end endings.first) (run_end endings.second)
+        (over-pair x.script a.files k.others (suc x.round) (suc x.round) a.p k.next endings at o (omega (arith, first-short, second-long))
+        (omega (arith, first-short, second-long))) refl;
+    first_holds = subst (HoldLeft new n) o.first_is
+        (held-beside old new n m a.p (first-beside n m around.apart) around.only a.first_holds);
+    second_holds = subst (HoldLeft new m) o.second_is k.holds;
+  },
+  omega (arith, first-turn, second-turn, first-short, second-long),
+)
   where
     k : HasCome h l (second_wire x.script (turns_in a.p)) 2 (streams_at Second x.round a.p a.q) new m x.round a.q
     k = second-come laws x h l old new n m a answers
@@ -266,6 +293,14 @@ ends-second laws x h l old new n m a endings around some answers = record {
     first-short = subst (λ z. length (turns_in z) < suc x.round) o.first_is
         (ended-before (first_wire x.script (turns_in a.q)) a.files (suc x.round) a.p a.at.first first-over)
 
+    first-turn : last_turn endings.first ≡ length o.ts
+    first-turn = last-turn-is (first_wire x.script (turns_in a.q)) (link_of x.script a.files) (suc x.round) a.p o.ts o.ends endings.first
+        o.left o.first_is a.at.first
+
+    second-turn : last_turn endings.second ≡ length o.us
+    second-turn = last-turn-is (second_wire x.script (turns_in a.p)) (link_of x.script k.others) (suc x.round) k.next o.us o.mids
+        endings.second o.leaves o.second_is k.lasts
+
 -- ---- the pair ends in the turn of a link
 
 -- what is left of the other one, with nothing behind its trace
@@ -279,125 +314,137 @@ leaves-none (Ended ts ends end left) = (refl, sym (append-nil left.trace))
 
 line-first : (x : Pair) (old new : FolderState) (n m : Written) (a : Awaits x old n m First) (cause : LineEnd) → Leaves old new n m n
     → IsEndedByLine (wire_at x.script x.first.dlci (after_second (turns_in a.q))) new n a.files x.round a.p cause
-    → PairEnded x.script new n m (pairs.line_end x.round cause)
+    → EndedIn x.script new n m x.round (pairs.line_end x.round cause)
 line-first x old new n m a cause around e =
     let k = subst (λ d. IsEndedByLine (wire_at x.script d (after_second
     (turns_in a.q))) new n a.files x.round a.p cause) a.first_dlci_is e in
     let beside = second-beside n m around.apart in record {
-      files = a.files;
-      others = a.others;
-      first_known = k.knows;
-      second_known = known-beside old new m n a.others beside around.only a.second_known;
-      left = k.left;
-      leaves = left_by a.q;
-      runs = by_line First x.round cause (record {
-        p = a.p;
-        q = a.q;
-        at = a.at;
-        going = a.going;
-        is = k.is;
-        first_leaves = k.leaves;
-        second_leaves = leaves-none a.q;
-      }) refl;
-      first_holds = k.holds;
-      second_holds = held-beside old new m n a.q beside around.only a.second_holds;
+      ended = record {
+        files = a.files;
+        others = a.others;
+        first_known = k.knows;
+        second_known = known-beside old new m n a.others beside around.only a.second_known;
+        left = k.left;
+        leaves = left_by a.q;
+        runs = by_line First x.round cause (record {
+          p = a.p;
+          q = a.q;
+          at = a.at;
+          going = a.going;
+          is = k.is;
+          first_leaves = k.leaves;
+          second_leaves = leaves-none a.q;
+        }) refl;
+        first_holds = k.holds;
+        second_holds = held-beside old new m n a.q beside around.only a.second_holds;
+      };
+      in_round = refl;
     }
 
 line-second : (x : Pair) (old new : FolderState) (n m : Written) (a : Awaits x old n m Second) (cause : LineEnd) → Leaves old new n m m
     → IsEndedByLine (wire_at x.script x.second.dlci (after_first (turns_in a.p))) new m a.others x.round a.q cause
-    → PairEnded x.script new n m (pairs.line_end x.round cause)
+    → EndedIn x.script new n m x.round (pairs.line_end x.round cause)
 line-second x old new n m a cause around e =
     let k = subst (λ d. IsEndedByLine (wire_at x.script d (after_first
     (turns_in a.p))) new m a.others x.round a.q cause) a.second_dlci_is e in
     let beside = first-beside n m around.apart in record {
-      files = a.files;
-      others = a.others;
-      first_known = known-beside old new n m a.files beside around.only a.first_known;
-      second_known = k.knows;
-      left = left_by a.p;
-      leaves = k.left;
-      runs = by_line Second x.round cause (record {
-        p = a.p;
-        q = a.q;
-        at = a.at;
-        going = a.going;
-        is = k.is;
-        first_leaves = leaves-none a.p;
-        second_leaves = k.leaves;
-      }) refl;
-      first_holds = held-beside old new n m a.p beside around.only a.first_holds;
-      second_holds = k.holds;
+      ended = record {
+        files = a.files;
+        others = a.others;
+        first_known = known-beside old new n m a.files beside around.only a.first_known;
+        second_known = k.knows;
+        left = left_by a.p;
+        leaves = k.left;
+        runs = by_line Second x.round cause (record {
+          p = a.p;
+          q = a.q;
+          at = a.at;
+          going = a.going;
+          is = k.is;
+          first_leaves = leaves-none a.p;
+          second_leaves = k.leaves;
+        }) refl;
+        first_holds = held-beside old new n m a.p beside around.only a.first_holds;
+        second_holds = k.holds;
+      };
+      in_round = refl;
     }
 
 abbrev Stopping : Type 1
 Stopping = Wire → Link → FolderState → Written → ℕ → Progress → Type 0
 
 stops-first : (S : Stopping) (x : Pair) (old new : FolderState) (n m : Written) (a : Awaits x old n m First) → Leaves old new n m n
-    → IsStopped S (wire_at x.script x.first.dlci (after_second (turns_in a.q))) new n x.round a.p → PairStops S x.script new n m
+    → IsStopped S (wire_at x.script x.first.dlci (after_second (turns_in a.q))) new n x.round a.p → StopsIn S x.script new n m x.round
 stops-first S x old new n m a around e =
     let k = subst (λ d. IsStopped S (wire_at x.script d (after_second (turns_in a.q))) new n x.round a.p) a.first_dlci_is e in
     let beside = second-beside n m around.apart in record {
-      link = First;
-      round = x.round;
-      files = k.others;
-      others = a.others;
-      first_known = k.knows;
-      second_known = known-beside old new m n a.others beside around.only a.second_known;
-      p = a.p;
-      q = a.q;
-      at = record { first = k.lasts; second = a.at.second };
-      going = a.going;
-      stops = (k.stops, held-beside old new m n a.q beside around.only a.second_holds);
+      stops = record {
+        link = First;
+        round = x.round;
+        files = k.others;
+        others = a.others;
+        first_known = k.knows;
+        second_known = known-beside old new m n a.others beside around.only a.second_known;
+        p = a.p;
+        q = a.q;
+        at = record { first = k.lasts; second = a.at.second };
+        going = a.going;
+        stops = (k.stops, held-beside old new m n a.q beside around.only a.second_holds);
+      };
+      in_round = refl;
     }
 
 stops-second : (S : Stopping) (x : Pair) (old new : FolderState) (n m : Written) (a : Awaits x old n m Second) → Leaves old new n m m
-    → IsStopped S (wire_at x.script x.second.dlci (after_first (turns_in a.p))) new m x.round a.q → PairStops S x.script new n m
+    → IsStopped S (wire_at x.script x.second.dlci (after_first (turns_in a.p))) new m x.round a.q → StopsIn S x.script new n m x.round
 stops-second S x old new n m a around e =
     let k = subst (λ d. IsStopped S (wire_at x.script d (after_first (turns_in a.p))) new m x.round a.q) a.second_dlci_is e in
     let beside = first-beside n m around.apart in record {
-      link = Second;
-      round = x.round;
-      files = a.files;
-      others = k.others;
-      first_known = known-beside old new n m a.files beside around.only a.first_known;
-      second_known = k.knows;
-      p = a.p;
-      q = a.q;
-      at = record { first = a.at.first; second = k.lasts };
-      going = a.going;
-      stops = (held-beside old new n m a.p beside around.only a.first_holds, k.stops);
+      stops = record {
+        link = Second;
+        round = x.round;
+        files = a.files;
+        others = k.others;
+        first_known = known-beside old new n m a.files beside around.only a.first_known;
+        second_known = k.knows;
+        p = a.p;
+        q = a.q;
+        at = record { first = a.at.first; second = k.lasts };
+        going = a.going;
+        stops = (held-beside old new n m a.p beside around.only a.first_holds, k.stops);
+      };
+      in_round = refl;
     }
 
 pub fault-first : PairLaws
     → (x : Pair) (h : Half) (l : Lines) (old new : FolderState) (n m : Written) (a : Awaits x old n m First) (fault : PairFault)
-    → Leaves old new n m n → Answers x.first x.lines x.script old new n x.round h l (Err fault) → FaultEnds x.script new n m fault
+    → Leaves old new n m n → Answers x.first x.lines x.script old new n x.round h l (Err fault) → FaultEndsIn x.script new n m x.round fault
 fault-first laws x h l old new n m a fault around answers =
     go fault (answers (after_second (turns_in a.q)) 2 (streams_at First x.round a.p a.q) a.files a.p (first-at laws x old n m a))
   where
     go : (fault : PairFault) → HalfEnds (wire_at x.script x.first.dlci (after_second (turns_in a.q))) new n a.files x.round a.p fault
-        → FaultEnds x.script new n m fault
+        → FaultEndsIn x.script new n m x.round fault
     go faults.ReadFault e = stops-first LinkStopsReading x old new n m a around e
     go faults.WriteFault e = stops-first LinkStops x old new n m a around e
     go faults.NoMemory e = stops-first LinkStops x old new n m a around e
     go (faults.LineLost role symbol) e = line-first x old new n m a (lines.LineLost role symbol) around e
     go (faults.ChanceMatch role turn) e =
-        subst (λ t. PairEnded x.script new n m (pairs.ChanceMatch role t)) (sym e.0)
+        subst (λ t. EndedIn x.script new n m x.round (pairs.ChanceMatch role t)) (sym e.0)
         (line-first x old new n m a (lines.ChanceMatch role) around e.1)
 
 pub fault-second : PairLaws
     → (x : Pair) (h : Half) (l : Lines) (old new : FolderState) (n m : Written) (a : Awaits x old n m Second) (fault : PairFault)
-    → Leaves old new n m m → Answers x.second x.lines x.script old new m x.round h l (Err fault) → FaultEnds x.script new n m fault
+    → Leaves old new n m m → Answers x.second x.lines x.script old new m x.round h l (Err fault) → FaultEndsIn x.script new n m x.round fault
 fault-second laws x h l old new n m a fault around answers =
     go fault (answers (after_first (turns_in a.p)) 2 (streams_at Second x.round a.p a.q) a.others a.q (second-at laws x old n m a))
   where
     go : (fault : PairFault) → HalfEnds (wire_at x.script x.second.dlci (after_first (turns_in a.p))) new m a.others x.round a.q fault
-        → FaultEnds x.script new n m fault
+        → FaultEndsIn x.script new n m x.round fault
     go faults.ReadFault e = stops-second LinkStopsReading x old new n m a around e
     go faults.WriteFault e = stops-second LinkStops x old new n m a around e
     go faults.NoMemory e = stops-second LinkStops x old new n m a around e
     go (faults.LineLost role symbol) e = line-second x old new n m a (lines.LineLost role symbol) around e
     go (faults.ChanceMatch role turn) e =
-        subst (λ t. PairEnded x.script new n m (pairs.ChanceMatch role t)) (sym e.0)
+        subst (λ t. EndedIn x.script new n m x.round (pairs.ChanceMatch role t)) (sym e.0)
         (line-second x old new n m a (lines.ChanceMatch role) around e.1)
 
 -- ---- what is answered of both links

@@ -43,6 +43,12 @@ run_end (link_ends.Done turn) = runs.IsDone turn
 run_end (link_ends.LinkLost role segment turn) = runs.LinkLost role segment turn
 run_end (link_ends.NotDetected turn) = runs.NotDetected turn
 
+-- and in which turn
+abbrev pub last_turn : LinkEnd → ℕ
+last_turn (link_ends.Done turn) = turn
+last_turn (link_ends.LinkLost role segment turn) = turn
+last_turn (link_ends.NotDetected turn) = turn
+
 -- what a turn comes to for a pair
 abbrev pub sorted : Result Step RunFault → Result (Option LinkEnd) PairFault
 sorted (Ok steps.Going) = Ok None

@@ -1,5 +1,5 @@
 -- How far a pair has come, and how it ends.
-use Rattle.std.specs.Prelude.{◌≡◌, ℕ, true, ◌||◌, List, [], ◌∷◌, Option, Some, None}
+use Rattle.std.specs.Prelude.{◌≡◌, ℕ, max, true, ◌||◌, List, [], ◌∷◌, length, Option, Some, None}
 use Rattle.outside_calls.specs.Folder.{FolderState}
 use Rattle.outside_calls.specs.Outputs.{HoldEach}
 use Rattle.shared_terms.specs.declared.role.Role.TheVariants.{Originator, Answerer}
@@ -16,7 +16,7 @@ use Rattle.run_world.specs.Turns.{held_of}
 use Rattle.run_world.specs.World.{KnowsFiles}
 use Rattle.pair_run.specs.Beside.{first_dlci, second_dlci, first_wire, second_wire}
 use Rattle.pair_run.specs.Pair.{Progress, turns_in, turns_on_line, PairAt}
-use Rattle.pair_run.specs.Ends.{Which, First, Second, PairEnd, LineLost, ChanceMatch, end_of, is_going, firsts_at, PairRunsTo}
+use Rattle.pair_run.specs.Ends.{Which, First, Second, PairEnd, LineLost, ChanceMatch, end_of, is_going, firsts_at, PairRunsTo, by_links, by_line}
 use Rattle.pair_run.specs.Stream.{both_sent, first_sent}
 use Rattle.link_pair.specs.declared.half.LinkEnd.{LinkEnd}
 use Rattle.link_pair.specs.declared.half.PairFault.{PairFault}
@@ -24,7 +24,7 @@ use Rattle.link_pair.specs.declared.half.PairFault.TheVariants as faults
 use Rattle.link_pair.specs.declared.pair.Pair.{Pair}
 use Rattle.link_pair.specs.declared.pair.Endings.{Endings}
 use Rattle.link_pair.specs.declared.pair.PairNames.{PairNames}
-use Rattle.link_pair.specs.Half.{run_end, StandsFor, StandsFirst, HoldLeft, LinkStops, LinkStopsReading}
+use Rattle.link_pair.specs.Half.{run_end, last_turn, StandsFor, StandsFirst, HoldLeft, LinkStops, LinkStopsReading}
 
 -- the files that are sent over both links, and all that is written, in the order of a pair's words
 abbrev pub all_inputs : Written → Written → List (List ℕ)
@@ -116,6 +116,21 @@ pub record PairEnded (script : ScriptValue) (f : FolderState) (n m : Written) (e
 abbrev pub HaveEnded : ScriptValue → FolderState → Written → Written → Endings → Type 0
 HaveEnded script f n m endings = PairEnded script f n m (end_of (run_end endings.first) (run_end endings.second))
 
+-- in this round, the last turn of the later one
+abbrev pub last_round : Endings → ℕ
+last_round endings = max (last_turn endings.first) (last_turn endings.second)
+
+-- the round in which a pair ends: the last turn of the link that ends later, or that in which the line ends it
+abbrev pub end_round : {script : ScriptValue} → {files others : Both (List ℕ)} → {end : PairEnd} → {left leaves : Left}
+    → PairRunsTo script files others end left leaves → ℕ
+end_round (by_links first second both is) = max (length both.ts) (length both.us)
+end_round (by_line link round cause ends is) = round
+
+-- It ended so in this round.
+pub record EndedIn (script : ScriptValue) (f : FolderState) (n m : Written) (round : ℕ) (end : PairEnd) : Type 0 where
+  pub ended : PairEnded script f n m end
+  pub in_round : end_round ended.runs ≡ round
+
 -- the folder failed in the turn of one link, and the outputs of the other hold what its turns left
 abbrev pub StopsTurn : (Wire → Link → FolderState → Written → ℕ → Progress → Type 0) → Which → ScriptValue → FolderState → Written
     → Written → Both (List ℕ) → Both (List ℕ) → ℕ → Progress → Progress → Type 0
@@ -139,6 +154,12 @@ pub record PairStops (Stops : Wire → Link → FolderState → Written → ℕ 
   pub going : (is_going p || is_going q) ≡ true
   pub stops : StopsTurn Stops link script f n m files others round p q
 
+-- It failed in this round.
+pub record StopsIn (Stops : Wire → Link → FolderState → Written → ℕ → Progress → Type 0) (script : ScriptValue) (f : FolderState)
+    (n m : Written) (round : ℕ) : Type 0 where
+  pub stops : PairStops Stops script f n m
+  pub in_round : stops.round ≡ round
+
 -- why a pair ends before both links have ended
 abbrev pub FaultEnds : ScriptValue → FolderState → Written → Written → PairFault → Type 0
 FaultEnds script f n m faults.ReadFault = PairStops LinkStopsReading script f n m
@@ -146,3 +167,11 @@ FaultEnds script f n m faults.WriteFault = PairStops LinkStops script f n m
 FaultEnds script f n m faults.NoMemory = PairStops LinkStops script f n m
 FaultEnds script f n m (faults.LineLost role symbol) = PairEnded script f n m (LineLost role symbol)
 FaultEnds script f n m (faults.ChanceMatch role turn) = PairEnded script f n m (ChanceMatch role turn)
+
+-- and in which round
+abbrev pub FaultEndsIn : ScriptValue → FolderState → Written → Written → ℕ → PairFault → Type 0
+FaultEndsIn script f n m round faults.ReadFault = StopsIn LinkStopsReading script f n m round
+FaultEndsIn script f n m round faults.WriteFault = StopsIn LinkStops script f n m round
+FaultEndsIn script f n m round faults.NoMemory = StopsIn LinkStops script f n m round
+FaultEndsIn script f n m round (faults.LineLost role symbol) = EndedIn script f n m round (LineLost role symbol)
+FaultEndsIn script f n m round (faults.ChanceMatch role turn) = EndedIn script f n m round (ChanceMatch role turn)

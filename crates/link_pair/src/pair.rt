@@ -64,7 +64,7 @@ impl Drop for Pair {
 
 impl Pair {
     ghost use Rattle.link_pair.specs.declared.pair.Pair.{Pair};
-    ghost use Rattle.link_pair.specs.Pair.{Awaits, FaultEnds, HaveEnded, IsFirst, inputs_in, outputs_in, ended_of, script_of, round_of};
+    ghost use Rattle.link_pair.specs.Pair.{Awaits, FaultEndsIn, HaveEnded, IsFirst, inputs_in, outputs_in, ended_of, last_round, script_of, round_of};
 
     /// A pair before its first round. It takes all memory of its ends and its lines.
     pub fn new(alloc: Global, script: Script) -> Result<Pair, NoMemory>
@@ -103,7 +103,8 @@ impl Pair {
         ensures going { result ≡ Ok None → Awaits self.new (F.state folder.new) (written names.now.first) (written names.now.second) Second }
         ensures ended { (endings : Endings) → result ≡ Ok (Some endings)
             → HaveEnded (script_of self.old) (F.state folder.new) (written names.now.first) (written names.now.second) endings }
-        ensures fault { IfErr result (FaultEnds (script_of self.old) (F.state folder.new) (written names.now.first) (written names.now.second)) }
+        ensures ended_round { (endings : Endings) → result ≡ Ok (Some endings) → last_round endings ≡ round_of self.old }
+        ensures fault { IfErr result (FaultEndsIn (script_of self.old) (F.state folder.new) (written names.now.first) (written names.now.second) (round_of self.old)) }
         ensures script { script_of self.new ≡ script_of self.old }
         ensures round { round_of self.new ≡ round_of self.old }
         ensures only { OnlyPuts (F.state folder.old) (F.state folder.new) (outputs_in names.now) }
@@ -136,7 +137,8 @@ impl Pair {
         ensures going { result ≡ Ok None → Awaits self.new (F.state folder.new) (written names.now.first) (written names.now.second) First }
         ensures ended { (endings : Endings) → result ≡ Ok (Some endings)
             → HaveEnded (script_of self.old) (F.state folder.new) (written names.now.first) (written names.now.second) endings }
-        ensures fault { IfErr result (FaultEnds (script_of self.old) (F.state folder.new) (written names.now.first) (written names.now.second)) }
+        ensures ended_round { (endings : Endings) → result ≡ Ok (Some endings) → last_round endings ≡ round_of self.old }
+        ensures fault { IfErr result (FaultEndsIn (script_of self.old) (F.state folder.new) (written names.now.first) (written names.now.second) (round_of self.old)) }
         ensures script { script_of self.new ≡ script_of self.old }
         ensures round { result ≡ Ok None → round_of self.new ≡ round_of self.old + 1 }
         ensures only { OnlyPuts (F.state folder.old) (F.state folder.new) (outputs_in names.now) }
@@ -175,7 +177,8 @@ impl Pair {
         ensures going { result ≡ Ok None → Awaits self.new (F.state folder.new) (written names.now.first) (written names.now.second) First }
         ensures ended { (endings : Endings) → result ≡ Ok (Some endings)
             → HaveEnded (script_of self.old) (F.state folder.new) (written names.now.first) (written names.now.second) endings }
-        ensures fault { IfErr result (FaultEnds (script_of self.old) (F.state folder.new) (written names.now.first) (written names.now.second)) }
+        ensures ended_round { (endings : Endings) → result ≡ Ok (Some endings) → last_round endings ≡ round_of self.old }
+        ensures fault { IfErr result (FaultEndsIn (script_of self.old) (F.state folder.new) (written names.now.first) (written names.now.second) (round_of self.old)) }
         ensures script { script_of self.new ≡ script_of self.old }
         ensures round { result ≡ Ok None → round_of self.new ≡ round_of self.old + 1 }
 

@@ -7,7 +7,7 @@ use Rattle.line_run.specs.Names.{Written, written}
 use Rattle.pair_run.specs.Ends.{First}
 use Rattle.link_pair.specs.Pair.{FaultEnds, HaveEnded, all_inputs, all_outputs}
 use Rattle.link_pair.proofs.Pairing.{few-rounds}
-use Rattle.link_pair.proofs.Beginning.{begins, nearer, counts-later}
+use Rattle.link_pair.proofs.Beginning.{begins, nearer, fault-ends, counts-later}
 use Rattle.link_pair.proofs.rounds.pair_rounds.Goals as goal
 
 pub loop-endings-init : goal.loop-endings-init
@@ -72,7 +72,8 @@ returns-in-Err-clause-fault g c =
     let next : FolderState = g.F.Folder.state c.round.new.folder in
     let n : Written = written c.args.names.now.first in
     let m : Written = written c.args.names.now.second in
-    subst (λ (s : ScriptValue). FaultEnds s next n m c.in-Err.fault) c.loop-endings.invariant.script_is c.in-Err.ensures.fault
+    subst (λ (s : ScriptValue). FaultEnds s next n m c.in-Err.fault) c.loop-endings.invariant.script_is
+    (fault-ends _ next n m _ c.in-Err.fault c.in-Err.ensures.fault)
 
 pub returns-in-Err-clause-only : goal.returns-in-Err-clause-only
 returns-in-Err-clause-only g c =

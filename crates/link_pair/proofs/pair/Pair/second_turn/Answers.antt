@@ -40,8 +40,21 @@ returns-in-Ok-clause-ended g c = λ endings some.
     let m : Written = written c.args.names.now.second in
     let new : FolderState = g.F.Folder.state c.turn.new.folder in
     let around : Leaves old new n m m = record { apart = c.requires.apart; only = c.turn.ensures.only } in
-    ends-second laws c.args.self.now c.turn.new.self c.turn.new.lines old new n m c.requires.ready endings around
-    (sym c.endings.ensures ∙ some-of _ endings some) c.in-Ok.ensures.turn
+    (ends-second laws c.args.self.now c.turn.new.self c.turn.new.lines old new n m c.requires.ready endings around
+    (sym c.endings.ensures ∙ some-of _ endings some) c.in-Ok.ensures.turn).0
+
+pub returns-in-Ok-clause-ended_round : goal.returns-in-Ok-clause-ended_round
+returns-in-Ok-clause-ended_round g c = λ endings some.
+    let laws : PairLaws =
+    pair-laws c.scripts_make_links.ensures.delays c.slots_are_due.ensures.first c.slots_are_due.ensures.second
+    c.pairs_have_few_rounds.ensures in
+    let old : FolderState = g.F.Folder.state c.args.folder.now in
+    let n : Written = written c.args.names.now.first in
+    let m : Written = written c.args.names.now.second in
+    let new : FolderState = g.F.Folder.state c.turn.new.folder in
+    let around : Leaves old new n m m = record { apart = c.requires.apart; only = c.turn.ensures.only } in
+    (ends-second laws c.args.self.now c.turn.new.self c.turn.new.lines old new n m c.requires.ready endings around
+    (sym c.endings.ensures ∙ some-of _ endings some) c.in-Ok.ensures.turn).1
 
 pub returns-in-Err-clause-fault : goal.returns-in-Err-clause-fault
 returns-in-Err-clause-fault g c =
