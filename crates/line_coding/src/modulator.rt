@@ -3,6 +3,7 @@ ghost use Rattle.std.specs.Prelude.{◌≡◌, ◌<◌, Bool, List, [], ◌∷�
 ghost use Rattle.plain_lists.specs.Bits.{low_bits};
 ghost use Rattle.scramblers.specs.declared.mode.Mode.{Mode};
 ghost use Rattle.symbol_map.specs.declared.sample.Sample.{Sample};
+ghost use Rattle.symbol_map.specs.Points.{point_of};
 ghost use Rattle.line_coding.specs.Modulates.{ModulatorStands};
 
 use crate::scrambling::ModeScrambler;
@@ -30,14 +31,23 @@ impl Modulator {
         }
     }
 
-    /// The next sample, for the next four bits: a quad has the first one lowest.
+    /// The label of the next sample, for the next four bits: a quad has the first one lowest.
+    pub fn label(&mut self, quad: u8) -> u8
+        requires { quad < 16 }
+        ensures stands { (mode : Mode) (bits : List Bool) (samples : List Sample) → ModulatorStands mode self.old bits samples
+            → ModulatorStands mode self.new (bits ++ low_bits 4 quad) (samples ++ point_of result ∷ []) }
+        ensures bound { result < 32 }
+    {
+        let scrambled = self.scrambler.push_four(quad);
+        self.encoder.push(scrambled)
+    }
+
+    /// The next sample, for the next four bits.
     pub fn push(&mut self, quad: u8) -> Sample
         requires { quad < 16 }
         ensures { (mode : Mode) (bits : List Bool) (samples : List Sample) → ModulatorStands mode self.old bits samples
             → ModulatorStands mode self.new (bits ++ low_bits 4 quad) (samples ++ result ∷ []) }
     {
-        let scrambled = self.scrambler.push_four(quad);
-        let label = self.encoder.push(scrambled);
-        point(label)
+        point(self.label(quad))
     }
 }

@@ -39,15 +39,15 @@ sent-where Holds most lag f laws script check hearing sender dlci symbols passed
 
 pub heard-where : (Holds : ScriptValue → Role → ℕ → Type 0) (most lag : ℕ) → IsFollowed Holds most lag → AreSeen
     → HeardIsSentWhere Holds most
-heard-where Holds most lag f laws line script passed waiting signal check hearing dlci loses s heard h long fit e is agree p =
-    heard-sent laws lag line script passed waiting signal check hearing dlci loses s heard
-    (f.follows script (sender_of line) (line.writer.symbols * (length passed + 1)) h) (f.time line.writer.symbols long) fit e is agree p
+heard-where Holds most lag f laws line script passed signal check hearing dlci loses s heard h long fit e is agree p =
+    heard-sent laws lag line script passed signal check hearing dlci loses s heard
+    (f.follows script (sender_of line) (line.symbols * (length passed + 1)) h) (f.time line.symbols long) fit e is agree p
 
 pub passes-where : (Holds : ScriptValue → Role → ℕ → Type 0) (most lag : ℕ) → IsFollowed Holds most lag → AreSeen
     → PassesUnhinderedWhere Holds most
-passes-where Holds most lag f laws line script passed waiting signal check hearing dlci loses s result h long fit e is agree p =
-    passes-sent laws lag line script passed waiting signal check hearing dlci loses s result
-    (f.follows script (sender_of line) (line.writer.symbols * (length passed + 1)) h) (f.time line.writer.symbols long) fit e is agree p
+passes-where Holds most lag f laws line script passed signal check hearing dlci loses s result h long fit e is agree p =
+    passes-sent laws lag line script passed signal check hearing dlci loses s result
+    (f.follows script (sender_of line) (line.symbols * (length passed + 1)) h) (f.time line.symbols long) fit e is agree p
 
 -- where no symbol is displaced, and where noise is faint
 

@@ -310,19 +310,19 @@ as-expected false sender dlci sent.Adp is = (refl, all-nine seen.Adp)
 as-expected true sender dlci (sent.Frame frame) is = (refl, refl)
 as-expected false sender dlci (sent.Frame frame) is = (refl, (spelled frame sender dlci, (is.0, refl), refl, refl))
 
-pub heard-sent : (laws : AreSeen) (lag : ℕ) (line : Kept) (script : ScriptValue) (passed waiting : List Signal) (signal : Signal)
+pub heard-sent : (laws : AreSeen) (lag : ℕ) (line : Kept) (script : ScriptValue) (passed : List Signal) (signal : Signal)
     (check hearing : Check) (dlci : ℕ) (loses : Bool) (s : Sent) (heard : Heard)
-    → Follows lag script (sender_of line) (line.writer.symbols * (length passed + 1)) → LeavesTime lag (4 * line.writer.symbols)
+    → Follows lag script (sender_of line) (line.symbols * (length passed + 1)) → LeavesTime lag (4 * line.symbols)
     → AreFit (size_of line) 0 (passed ++ signal ∷ [])
     → signal ≡ signal_of check (sender_of line) dlci s → IsSendable s → ChecksAgree check hearing s
-    → PassesSlot line script passed signal waiting hearing dlci loses s heard → heard ≡ unhindered loses s
-heard-sent laws lag line script passed waiting signal check hearing dlci loses s heard follows time fit e is agree p =
+    → PassesSlot line script passed signal hearing dlci loses s heard → heard ≡ unhindered loses s
+heard-sent laws lag line script passed signal check hearing dlci loses s heard follows time fit e is agree p =
     let sender : Role = sender_of line in
     let fit_s : AreFit (size_of line) 0 (passed ++ signal_of check sender dlci s ∷ []) =
     subst (λ (x : Signal). AreFit (size_of line) 0 (passed ++ x ∷ [])) e fit in
     let recorded : Records script sender (signal_bits (size_of line) (passed ++ signal_of check sender dlci s ∷ [])) p.upto
     = subst (λ (x : Signal). Records script sender (signal_bits (size_of line) (passed ++ x ∷ [])) p.upto) e p.recorded in
-    let same = received-sent laws lag script check hearing sender dlci line.writer.symbols passed s p.before p.upto p.octets p.patterns
+    let same = received-sent laws lag script check hearing sender dlci line.symbols passed s p.before p.upto p.octets p.patterns
     follows time fit_s is agree p.recorded_before recorded p.received in
     outcome-once loses sender dlci s (octets_in sender dlci s) (patterns_in s) heard (unhindered loses s)
     (subst (λ (xs : List Seen). IsOutcome loses sender dlci s (octets_in sender dlci s) xs heard) same.1
@@ -338,20 +338,20 @@ never-chance false sent.Adp e = absurd cc
 never-chance true (sent.Frame frame) e = absurd cc
 never-chance false (sent.Frame frame) e = absurd cc
 
-pub passes-sent : (laws : AreSeen) (lag : ℕ) (line : Kept) (script : ScriptValue) (passed waiting : List Signal) (signal : Signal)
+pub passes-sent : (laws : AreSeen) (lag : ℕ) (line : Kept) (script : ScriptValue) (passed : List Signal) (signal : Signal)
     (check hearing : Check) (dlci : ℕ) (loses : Bool) (s : Sent) (result : Result Heard Lost)
-    → Follows lag script (sender_of line) (line.writer.symbols * (length passed + 1)) → LeavesTime lag (4 * line.writer.symbols)
+    → Follows lag script (sender_of line) (line.symbols * (length passed + 1)) → LeavesTime lag (4 * line.symbols)
     → AreFit (size_of line) 0 (passed ++ signal ∷ [])
     → signal ≡ signal_of check (sender_of line) dlci s → IsSendable s → ChecksAgree check hearing s
-    → Passes line script passed signal waiting hearing dlci loses s result → result ≡ Ok (unhindered loses s)
-passes-sent laws lag line script passed waiting signal check hearing dlci loses s (Ok heard) follows time fit e is agree p =
+    → Passes line script passed signal hearing dlci loses s result → result ≡ Ok (unhindered loses s)
+passes-sent laws lag line script passed signal check hearing dlci loses s (Ok heard) follows time fit e is agree p =
     ap (λ (h : Heard). let r : Result Heard Lost = Ok h in
-    r) (heard-sent laws lag line script passed waiting signal check hearing dlci loses s heard follows time fit e is agree p)
-passes-sent laws lag line script passed waiting signal check hearing dlci loses s (Err lost) follows time fit e is agree p =
+    r) (heard-sent laws lag line script passed signal check hearing dlci loses s heard follows time fit e is agree p)
+passes-sent laws lag line script passed signal check hearing dlci loses s (Err lost) follows time fit e is agree p =
     let size : ℕ = size_of line in
     let joined : signal_bits size (passed ++ signal ∷ []) ≡ signal_bits size passed ++ bits_behind size passed signal
     = slot-added size passed signal in
-    let few = (bounds laws line.writer.symbols passed signal (long-of lag line.writer.symbols time) fit).1 in
-    absurd (none-within lag (sender_of line) script (line.writer.symbols * (length passed + 1)) (signal_bits size passed)
+    let few = (bounds laws line.symbols passed signal (long-of lag line.symbols time) fit).1 in
+    absurd (none-within lag (sender_of line) script (line.symbols * (length passed + 1)) (signal_bits size passed)
     (bits_behind size passed signal) lost.symbol follows
-    (subst (λ (xs : List Bool). length xs ≤ 4 * (line.writer.symbols * (length passed + 1))) joined few) p)
+    (subst (λ (xs : List Bool). length xs ≤ 4 * (line.symbols * (length passed + 1))) joined few) p)

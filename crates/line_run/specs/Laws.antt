@@ -140,12 +140,12 @@ SentIsReceivedWhere Holds most =
 
 -- so it is what is heard
 abbrev pub HeardIsSentWhere : (ScriptValue → Role → ℕ → Type 0) → ℕ → Type 0
-HeardIsSentWhere Holds most = (line : Kept) (script : ScriptValue) (passed waiting : List Signal) (signal : Signal) (check hearing : Check)
+HeardIsSentWhere Holds most = (line : Kept) (script : ScriptValue) (passed : List Signal) (signal : Signal) (check hearing : Check)
     (dlci : ℕ) (loses : Bool) (s : Sent) (h : Heard)
-    → Holds script (sender_of line) (line.writer.symbols * (length passed + 1)) → most < line.writer.symbols
+    → Holds script (sender_of line) (line.symbols * (length passed + 1)) → most < line.symbols
     → AreFit (size_of line) 0 (passed ++ signal ∷ [])
     → signal ≡ signal_of check (sender_of line) dlci s → IsSendable s → ChecksAgree check hearing s
-    → PassesSlot line script passed signal waiting hearing dlci loses s h → h ≡ unhindered loses s
+    → PassesSlot line script passed signal hearing dlci loses s h → h ≡ unhindered loses s
 
 -- which is never a chance match
 abbrev pub NeverChance : Type 0
@@ -154,12 +154,12 @@ NeverChance = (loses : Bool) (s : Sent) → unhindered loses s ≡ heard.Chance 
 -- and the slot does pass
 abbrev pub PassesUnhinderedWhere : (ScriptValue → Role → ℕ → Type 0) → ℕ → Type 0
 PassesUnhinderedWhere Holds most =
-    (line : Kept) (script : ScriptValue) (passed waiting : List Signal) (signal : Signal) (check hearing : Check) (dlci : ℕ) (loses : Bool)
+    (line : Kept) (script : ScriptValue) (passed : List Signal) (signal : Signal) (check hearing : Check) (dlci : ℕ) (loses : Bool)
     (s : Sent) (result : Result Heard Lost)
-    → Holds script (sender_of line) (line.writer.symbols * (length passed + 1)) → most < line.writer.symbols
+    → Holds script (sender_of line) (line.symbols * (length passed + 1)) → most < line.symbols
     → AreFit (size_of line) 0 (passed ++ signal ∷ [])
     → signal ≡ signal_of check (sender_of line) dlci s → IsSendable s → ChecksAgree check hearing s
-    → Passes line script passed signal waiting hearing dlci loses s result → result ≡ Ok (unhindered loses s)
+    → Passes line script passed signal hearing dlci loses s result → result ≡ Ok (unhindered loses s)
 
 -- where no symbol is displaced
 

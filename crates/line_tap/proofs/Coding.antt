@@ -4,7 +4,6 @@ use Rattle.std.proofs.Common.{take, map, refl, sym, ap, subst, arith, All, lengt
 use Rattle.std.specs.List.{flat_map}
 use Rattle.std.proofs.lemmas.Bool.{false≢true, eqb-true}
 use Rattle.std.proofs.Math.Seq.{take-append_seam}
-use Rattle.std.proofs.lemmas.List.{length-map}
 use Rattle.std.proofs.lemmas.List.Elements.{All-head, All-tail}
 use Rattle.scramblers.proofs.Readings.{Descrambles_once}
 use Rattle.symbol_map.specs.declared.sample.Sample.{Sample}
@@ -17,14 +16,10 @@ use Rattle.trellis_tables.specs.V32Laws.{v32_bounded}
 use Rattle.trellis_tables.proofs.Sequences.{Leads-below}
 use Rattle.line_coding.specs.Modulates.{Modulates}
 use Rattle.line_coding.specs.Demodulates.{line_of, Demodulates}
-use Rattle.line_coding.proofs.Readings.{comes-back, four-each}
-use Rattle.sample_line.proofs.Once.{modulates-take}
+use Rattle.sample_line.proofs.Once.{carried, modulates-take}
 use Rattle.recordings.specs.Recording.{sample_octets}
 use Rattle.recordings.specs.Samples.{samples_in}
 use Rattle.recordings.proofs.Samples.{samples_in-append}
-
-pub carried : (tap : ℕ) (bits : List Bool) (samples : List Sample) → (h : Modulates tap bits samples) → Demodulates tap h.labels bits
-carried tap bits samples h = comes-back tap bits h.line h.quads h.labels h.end h.scrambled h.in_fours h.are_quads h.encoded
 
 pub small : (tap : ℕ) (bits : List Bool) (samples : List Sample) → (h : Modulates tap bits samples) → All (λ label. label < 32) h.labels
 small tap bits samples h = Leads-below next_state 8 32 0 h.labels h.end v32_bounded h.encoded.leads
@@ -50,11 +45,6 @@ samples-tell differ tap a b samples h k =
     points-tell differ h.labels k.labels (small tap a samples h) (small tap b samples k) (sym h.points ∙ k.points) in
     Descrambles_once tap (line_of k.labels) a b (subst (λ (xs : List ℕ). Demodulates tap xs a) labels (carried tap a samples h))
     (carried tap b samples k)
-
--- four bits each
-pub length-modulated : (tap : ℕ) (bits : List Bool) (samples : List Sample) → Modulates tap bits samples → length bits ≡ 4 * length samples
-length-modulated tap bits samples h =
-    four-each tap h.labels bits (carried tap bits samples h) ∙ ap (λ n. 4 * n) (sym (ap length h.points ∙ length-map h.labels point_of))
 
 -- the samples of the first bits are the first samples
 pub modulates-front : (tap n : ℕ) (bits more : List Bool) (samples : List Sample) → 1 ≤ tap → length bits ≡ 4 * n

@@ -25,7 +25,8 @@ use Rattle.line_run.specs.Laws.{SlotsTellWhatWasSent}
 use Rattle.line_tap.specs.Labels.{AreLabels}
 use Rattle.line_tap.specs.Seeking.{FindsSent}
 use Rattle.line_tap.specs.Reading.{is_plain, plain_bits, flagged, IsGuess}
-use Rattle.line_tap.proofs.Coding.{carried, small, points-tell}
+use Rattle.sample_line.proofs.Once.{carried}
+use Rattle.line_tap.proofs.Coding.{small, points-tell}
 use Rattle.line_tap.proofs.Once.{behind-same}
 
 pub record GuessLaws : Type 0 where

@@ -140,9 +140,8 @@ octets-at label place octets low small e =
 pub octets-back : (label a b c d : ℕ) → label < 32 → AreOctetsOf label a b c d → point_of label ≡ sample_of a b c d
 octets-back label a b c d low h = (is-there label low).point ∙ rw (h.re_low, h.re, h.im_low, h.im) refl
 
-pub reads-none : (d : Demodulator) (from : ℕ) → ReadsLabels d d from from [] []
+pub reads-none : (d : Demodulator) (from : ℕ) → ReadsLabels d d from from [] [] []
 reads-none d from = record {
-  labels = [];
   are = (All-nil (λ label. label < 32), refl);
   leads = refl;
   count = refl;
@@ -150,26 +149,26 @@ reads-none d from = record {
       (subst (DemodulatorStands mode d before) (sym (append-nil bits)) h);
 }
 
-pub reads-more : (old mid new : Demodulator) (from state to : ℕ) (samples : List Sample) (quads : List ℕ) (sample : Sample) (label quad : ℕ)
-    → label < 32 → point_of label ≡ sample → next_state state label ≡ Some to
+pub reads-more : (old mid new : Demodulator) (from state to : ℕ) (samples : List Sample) (quads labels : List ℕ) (sample : Sample)
+    (label quad : ℕ) → label < 32 → point_of label ≡ sample → next_state state label ≡ Some to
     → ((mode : Mode) (before : List ℕ) (bits : List Bool) → DemodulatorStands mode mid before bits
     → DemodulatorStands mode new (before ++ label ∷ []) (bits ++ low_bits 4 quad))
-    → ReadsLabels old mid from state samples quads → ReadsLabels old new from to (samples ++ sample ∷ []) (quads ++ quad ∷ [])
-reads-more old mid new from state to samples quads sample label quad low e next step h = record {
-  labels = h.labels ++ label ∷ [];
+    → ReadsLabels old mid from state samples quads labels
+    → ReadsLabels old new from to (samples ++ sample ∷ []) (quads ++ quad ∷ []) (labels ++ label ∷ [])
+reads-more old mid new from state to samples quads labels sample label quad low e next step h = record {
   are = (
-    All-append (λ l. l < 32) h.labels (label ∷ []) h.are.0 (All-cons (λ l. l < 32) label [] low (All-nil (λ l. l < 32))),
-    map-append point_of h.labels (label ∷ []) ∙ ap (λ xs. xs ++ point_of label ∷ []) h.are.1 ∙ ap (λ s. samples ++ s ∷ []) e,
+    All-append (λ l. l < 32) labels (label ∷ []) h.are.0 (All-cons (λ l. l < 32) label [] low (All-nil (λ l. l < 32))),
+    map-append point_of labels (label ∷ []) ∙ ap (λ xs. xs ++ point_of label ∷ []) h.are.1 ∙ ap (λ s. samples ++ s ∷ []) e,
   );
-  leads = Leads-snoc next_state from h.labels state label to h.leads next;
+  leads = Leads-snoc next_state from labels state label to h.leads next;
   count = (let a = length-append quads (quad ∷ []) in
       let b = length-append samples (sample ∷ []) in
       omega (arith, a, b, h.count));
   stands = λ mode before bits k.
-      let here = step mode (before ++ h.labels) (bits ++ line_bits quads) (h.stands mode before bits k) in
+      let here = step mode (before ++ labels) (bits ++ line_bits quads) (h.stands mode before bits k) in
       let tail : line_bits (quad ∷ []) ≡ low_bits 4 quad = append-nil (low_bits 4 quad) in
-      subst (λ xs. DemodulatorStands mode new xs (bits ++ line_bits (quads ++ quad ∷ []))) (append_assoc before h.labels (label ∷ []))
-      (subst (DemodulatorStands mode new ((before ++ h.labels) ++ label ∷ []))
+      subst (λ xs. DemodulatorStands mode new xs (bits ++ line_bits (quads ++ quad ∷ []))) (append_assoc before labels (label ∷ []))
+      (subst (DemodulatorStands mode new ((before ++ labels) ++ label ∷ []))
       (append_assoc bits (line_bits quads) (low_bits 4 quad)
       ∙ ap (λ xs. bits ++ (line_bits quads ++ xs)) (sym tail)
       ∙ ap (λ xs. bits ++ xs) (sym (flat_map-append (low_bits 4) quads (quad ∷ [])))) here);

@@ -23,7 +23,8 @@ use Rattle.symbol_map.specs.Labels.{y_of}
 use Rattle.std.specs.List.{range_with_len}
 use Rattle.std.proofs.Math.Seq.{take-append_seam, drop-append_seam}
 use Rattle.bit_stuffing.specs.BitSlot.{line_bits}
-use Rattle.bit_stuffing.specs.Slots.{phase_after, next_phase}
+use Rattle.bit_stuffing.specs.Slots.{Slot, phase_after, next_phase, slot_bits}
+use Rattle.bit_stuffing.specs.SlotWriter.{Writer, WriterStands}
 use Rattle.bit_stuffing.proofs.Fill.{phase-append}
 use Rattle.detection.specs.Slots.{Signal, slot_of, slots_of, signal_bits}
 use Rattle.line_coding.specs.declared.demodulator.Demodulator.{Demodulator}
@@ -31,10 +32,10 @@ use Rattle.line_coding.specs.Modulates.{Modulates}
 use Rattle.line_coding.proofs.Standing.{demodulated}
 use Rattle.lapm_frames.specs.declared.frame.Frame.{Frame}
 use Rattle.lapm_frames.specs.declared.sent.Sent.{Sent}
-use Rattle.noise_script.specs.Script.{ScriptValue}
 use Rattle.sample_line.proofs.Passing.{slot-added}
-use Rattle.sample_line.specs.Signals.{signal_of, IsCodable}
-use Rattle.sample_line.specs.Line.{Kept, LineStands, bits_behind, sender_of, size_of}
+use Rattle.sample_line.specs.Signals.{IsCodable}
+use Rattle.sample_line.specs.Line.{bits_behind}
+use Rattle.sample_line.specs.Coder.{IsCodedAs}
 use Rattle.line_tap.specs.declared.reader.SlotReader.{SlotReader}
 use Rattle.line_tap.specs.Labels.{AreLabels, ReadsLabels}
 use Rattle.line_tap.specs.Reading.{IsGuess}
@@ -52,25 +53,25 @@ bits_next r sigs s = bits_behind (4 * r.symbols) sigs (carries r s)
 
 -- the bits that were read are those of the slot that these samples are
 pub bits-read : PointsDiffer → (r : SlotReader) (sigs : List Signal) (samples more : List Sample) (s : Sent) (d : Demodulator) (to : ℕ)
-    (quads : List ℕ)
-    → ReaderStands r sigs samples → ReadsLabels r.demodulator d r.state to more quads → IsNext r sigs samples more s
+    (quads labels : List ℕ)
+    → ReaderStands r sigs samples → ReadsLabels r.demodulator d r.state to more quads labels → IsNext r sigs samples more s
     → line_bits quads ≡ bits_behind (4 * r.symbols) sigs (carries r s)
-bits-read differ r sigs samples more s d to quads k h x =
+bits-read differ r sigs samples more s d to quads labels k h x =
     let mode : Mode = mode_of r.sender.role in
     let bits : List Bool = bits_before r sigs in
-    same-bits differ (tap_of mode) bits (bits_next r sigs s) (line_bits quads) samples more k.labels h.labels k.are h.are
-    (demodulated mode d (k.labels ++ h.labels) (bits ++ line_bits quads) (h.stands mode k.labels bits k.read)) x.modulated
+    same-bits differ (tap_of mode) bits (bits_next r sigs s) (line_bits quads) samples more k.labels labels k.are h.are
+    (demodulated mode d (k.labels ++ labels) (bits ++ line_bits quads) (h.stands mode k.labels bits k.read)) x.modulated
 
 -- and what is taken for what was sent is what was sent
 pub guessed : GuessLaws → (r : SlotReader) (sigs : List Signal) (samples more : List Sample) (s guess : Sent) (d : Demodulator)
-    (to : ℕ) (quads : List ℕ) (found : Option Frame) → r.phase ≡ phase_of r.symbols sigs → ReaderStands r sigs samples
-    → ReadsLabels r.demodulator d r.state to more quads
+    (to : ℕ) (quads labels : List ℕ) (found : Option Frame) → r.phase ≡ phase_of r.symbols sigs → ReaderStands r sigs samples
+    → ReadsLabels r.demodulator d r.state to more quads labels
     → FindsSent r.sender.check r.sender.role r.sender.dlci r.symbols r.phase (line_bits quads) found
     → IsGuess (4 * r.symbols) (line_bits quads) found guess → IsNext r sigs samples more s → guess ≡ s
-guessed laws r sigs samples more s guess d to quads found phase k h finds g x =
+guessed laws r sigs samples more s guess d to quads labels found phase k h finds g x =
     guess-right laws r.sender.check r.sender.role r.sender.dlci r.symbols sigs s guess found (line_bits quads) r.low r.channel
     (subst (λ p. IsCodable r.sender.check r.sender.role r.sender.dlci r.symbols p s) phase x.codable)
-    (bits-read laws.points r sigs samples more s d to quads k h x)
+    (bits-read laws.points r sigs samples more s d to quads labels k h x)
     (subst (λ p. FindsSent r.sender.check r.sender.role r.sender.dlci r.symbols p (line_bits quads) found) phase finds) g
 
 tap-low : (mode : Mode) → 1 ≤ tap_of mode
@@ -124,34 +125,36 @@ labels-next differ r sigs samples more s k x =
       subst (λ q. Leads next_state q (drop n m.labels) m.end) mid parts.2,
     )
 
--- ---- what a line coded, in a reader's words
+-- ---- what a writer wrote, in a reader's words
 
-pub phase-is : (r : SlotReader) (line : Kept) (script : ScriptValue) (passed waiting : List Signal) → line.writer.symbols ≡ r.symbols
-    → line.writer.phase ≡ r.phase → LineStands line script passed waiting → r.phase ≡ phase_of r.symbols (passed ++ waiting)
-phase-is r line script passed waiting e f h =
-    sym f ∙ h.writer.phase_is ∙ ap (λ n. phase_after (4 * n) (slots_of (4 * n) (passed ++ waiting))) e
+pub phase-is : (r : SlotReader) (sigs : List Signal) (samples : List Sample) → ReaderStands r sigs samples → r.phase ≡ phase_of r.symbols sigs
+phase-is r sigs samples k =
+    sym k.in_step.phase ∙ k.writer.phase_is ∙ ap (λ n. phase_after (4 * n) (slots_of (4 * r.symbols) sigs)) k.in_step.symbols
 
-pub coded-as : (r : SlotReader) (line : Kept) (sigs : List Signal) (s : Sent) (bits : List Bool) → sender_of line ≡ r.sender.role
-    → line.writer.symbols ≡ r.symbols
-    → bits ≡ bits_behind (size_of line) sigs (signal_of r.sender.check (sender_of line) r.sender.dlci s)
+pub written-as : (r : SlotReader) (sigs : List Signal) (samples : List Sample) (s : Sent) (bits : List Bool) → ReaderStands r sigs samples
+    → bits ≡ slot_bits (4 * r.writer.symbols) r.writer.phase (slot_of (4 * r.writer.symbols) (carries r s))
     → bits ≡ bits_behind (4 * r.symbols) sigs (carries r s)
-coded-as r line sigs s bits e f h =
-    h ∙ ap (λ n. bits_behind (4 * n) sigs (signal_of r.sender.check (sender_of line) r.sender.dlci s)) f
-    ∙ ap (λ role. bits_behind (4 * r.symbols) sigs (signal_of r.sender.check role r.sender.dlci s)) e
+written-as r sigs samples s bits k e =
+    e ∙ ap (λ p. slot_bits (4 * r.writer.symbols) p (slot_of (4 * r.writer.symbols) (carries r s))) (k.in_step.phase ∙ phase-is r sigs samples k)
+    ∙ ap (λ n. slot_bits (4 * n) (phase_of r.symbols sigs) (slot_of (4 * n) (carries r s))) k.in_step.symbols
 
-pub phase-next : (r : SlotReader) (line : Kept) (script : ScriptValue) (passed waiting : List Signal) (s : Sent) (next : ℕ)
-    → line.writer.symbols ≡ r.symbols → LineStands line script passed (waiting ++ carries r s ∷ [])
-    → r.phase ≡ phase_of r.symbols (passed ++ waiting)
-    → next ≡ next_phase (4 * r.symbols) r.phase (slot_of (4 * r.symbols) (carries r s)) → next ≡ line.writer.phase
-phase-next r line script passed waiting s next e h p q =
+pub writer-on : (r : SlotReader) (writer : Writer) (sigs : List Signal) (samples : List Sample) (s : Sent) → ReaderStands r sigs samples
+    → ((slots : List Slot) → WriterStands r.writer slots → WriterStands writer (slots ++ slot_of (4 * r.writer.symbols) (carries r s) ∷ []))
+    → WriterStands writer (slots_of (4 * r.symbols) (sigs ++ carries r s ∷ []))
+writer-on r writer sigs samples s k on =
     let size : ℕ = 4 * r.symbols in
-    let sigs : List Signal = passed ++ waiting in
-    let more : List Signal = carries r s ∷ [] in
-    q ∙ ap (λ phase. next_phase size phase (slot_of size (carries r s))) p
-    ∙ sym (phase-append size 0 (slots_of size sigs) (slot_of size (carries r s)))
-    ∙ ap (phase_after size) (sym (map-append (slot_of size) sigs more))
-    ∙ ap (λ xs. phase_after size (slots_of size xs)) (append_assoc passed waiting more)
-    ∙ ap (λ n. phase_after (4 * n) (slots_of (4 * n) (passed ++ (waiting ++ more)))) (sym e) ∙ sym h.writer.phase_is
+    subst (WriterStands writer) (sym (map-append (slot_of size) sigs (carries r s ∷ [])))
+    (subst (λ n. WriterStands writer (slots_of size sigs ++ slot_of (4 * n) (carries r s) ∷ [])) k.in_step.symbols (on (slots_of size sigs) k.writer))
+
+pub phase-next : (r : SlotReader) (writer : Writer) (sigs : List Signal) (s : Sent) (next : ℕ) → writer.symbols ≡ r.symbols
+    → WriterStands writer (slots_of (4 * r.symbols) (sigs ++ carries r s ∷ [])) → r.phase ≡ phase_of r.symbols sigs
+    → next ≡ next_phase (4 * r.symbols) r.phase (slot_of (4 * r.symbols) (carries r s)) → writer.phase ≡ next
+phase-next r writer sigs s next e h p q =
+    let size : ℕ = 4 * r.symbols in
+    h.phase_is ∙ ap (λ n. phase_after (4 * n) (slots_of size (sigs ++ carries r s ∷ []))) e
+    ∙ ap (phase_after size) (map-append (slot_of size) sigs (carries r s ∷ []))
+    ∙ phase-append size 0 (slots_of size sigs) (slot_of size (carries r s))
+    ∙ ap (λ phase. next_phase size phase (slot_of size (carries r s))) (sym p) ∙ sym q
 
 -- one slot more
 pub bits-more : (r : SlotReader) (sigs : List Signal) (s : Sent) (quads : List ℕ) → line_bits quads ≡ bits_behind (4 * r.symbols) sigs (carries r s)
@@ -166,3 +169,14 @@ labels-more labels more samples others h k = (
   All-append (λ label. label < 32) labels more h.0 k.0,
   map-append point_of labels more ∙ ap (λ xs. xs ++ map point_of more) h.1 ∙ ap (λ xs. samples ++ xs) k.1,
 )
+
+-- the labels of the next slot code it
+pub labels-code : (r : SlotReader) (sigs : List Signal) (samples more : List Sample) (s : Sent) (labels : List ℕ) → ReaderStands r sigs samples
+    → AreLabels labels more → IsNext r sigs samples more s → IsCodedAs r.sender.role (4 * r.symbols) sigs (carries r s) labels
+labels-code r sigs samples more s labels k are next =
+    let mode : Mode = mode_of r.sender.role in
+    record {
+      points = samples;
+      earlier = sequence-modulates mode r.demodulator k.labels (bits_before r sigs) samples r.state k.read k.are k.leads;
+      modulated = subst (λ xs. Modulates (tap_of mode) (bits_before r sigs ++ bits_next r sigs s) (samples ++ xs)) (sym are.1) next.modulated;
+    }

@@ -54,7 +54,8 @@ use Rattle.line_tap.specs.Laws.{AreCoded, told_end, RecordingsTellRuns}
 use Rattle.line_tap.proofs.Plain.{plain_slot, plain, plains, plain-heard, plain-check, plain-given, plain-sent, plain-judged}
 use Rattle.line_tap.proofs.Plain.{plain-received, plain-given_to, plain-text, AllChecked, plain-signal, plain-signals}
 use Rattle.line_tap.proofs.Plain.{heard_of-plain, well-plain, heard_in-plain, loses-plain}
-use Rattle.line_tap.proofs.Coding.{length-modulated, modulates-front, recorded-back}
+use Rattle.sample_line.proofs.Once.{length-modulated}
+use Rattle.line_tap.proofs.Coding.{modulates-front, recorded-back}
 
 pub record TellingLaws : Type 0 where
   pub play : ScriptsMayPlay

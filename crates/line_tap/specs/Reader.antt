@@ -5,16 +5,16 @@ use Rattle.shared_terms.specs.declared.role.Role.{Role}
 use Rattle.shared_terms.specs.Role.{mode_of}
 use Rattle.scramblers.specs.Mode.{tap_of}
 use Rattle.symbol_map.specs.declared.sample.Sample.{Sample}
-use Rattle.bit_stuffing.specs.BitSlot.{line_bits}
-use Rattle.detection.specs.Slots.{Signal, signal_bits}
+use Rattle.bit_stuffing.specs.SlotWriter.{WriterStands}
+use Rattle.detection.specs.Slots.{Signal, signal_bits, slots_of}
 use Rattle.trellis_tables.specs.Table.{next_state}
 use Rattle.trellis_tables.specs.Sequences.{Leads}
 use Rattle.line_coding.specs.Modulates.{Modulates}
 use Rattle.line_coding.specs.Demodulates.{DemodulatorStands}
 use Rattle.lapm_frames.specs.declared.sent.Sent.{Sent}
-use Rattle.noise_script.specs.Script.{ScriptValue}
 use Rattle.sample_line.specs.Signals.{signal_of, IsCodable}
-use Rattle.sample_line.specs.Line.{Kept, LineStands, bits_behind}
+use Rattle.sample_line.specs.Line.{bits_behind}
+use Rattle.sample_line.specs.Coder.{IsCodedAs}
 use Rattle.link_run.specs.Run.{Turn}
 use Rattle.line_run.specs.Sampled.{Wire}
 use Rattle.line_tap.specs.declared.seeker.Sender.{Sender}
@@ -32,12 +32,19 @@ pub record ReadsFor (r : SlotReader) (c : Wire) (check : Check) (role : Role) (t
   pub sender : r.sender ≡ sender_for check role c.dlci
   pub phase : r.phase ≡ phase_behind c role ts
 
+-- Its writer is where the reader is.
+pub record IsInStep (r : SlotReader) : Type 0 where
+  pub symbols : r.writer.symbols ≡ r.symbols
+  pub phase : r.writer.phase ≡ r.phase
+
 -- A reader has read these samples, which are those of these slots.
 pub record ReaderStands (reader : SlotReader) (sigs : List Signal) (samples : List Sample) : Type 0 where
   pub labels : List ℕ
   pub are : AreLabels labels samples
   pub read : DemodulatorStands (mode_of reader.sender.role) reader.demodulator labels (signal_bits (4 * reader.symbols) sigs)
   pub leads : Leads next_state 0 labels reader.state
+  pub in_step : IsInStep reader
+  pub writer : WriterStands reader.writer (slots_of (4 * reader.symbols) sigs)
 
 -- what a reader's slot of this carries
 abbrev pub carries : SlotReader → Sent → Signal
@@ -49,13 +56,10 @@ pub record IsNext (reader : SlotReader) (sigs : List Signal) (samples more : Lis
   pub modulated : Modulates (tap_of (mode_of reader.sender.role))
       (signal_bits (4 * reader.symbols) sigs ++ bits_behind (4 * reader.symbols) sigs (carries reader s)) (samples ++ more)
 
--- The slot was read, and the line has coded it: reader and line stand for it too.
-pub record ReadsSlot (old new : SlotReader) (line : Kept) (script : ScriptValue) (passed waiting : List Signal)
-    (samples more : List Sample) (quads : List ℕ) (s : Sent) : Type 0 where
-  pub next : IsNext old (passed ++ waiting) samples more s
-  pub coded : line_bits quads ≡ bits_behind (4 * old.symbols) (passed ++ waiting) (carries old s)
+-- The slot was read, as these labels, and the reader stands for it too.
+pub record ReadsSlot (old new : SlotReader) (sigs : List Signal) (samples more : List Sample) (labels : List ℕ) (s : Sent) : Type 0 where
+  pub next : IsNext old sigs samples more s
+  pub coded : IsCodedAs old.sender.role (4 * old.symbols) sigs (carries old s) labels
   pub sender : new.sender ≡ old.sender
   pub symbols : new.symbols ≡ old.symbols
-  pub phase : new.phase ≡ line.writer.phase
-  pub stands : ReaderStands new ((passed ++ waiting) ++ carries old s ∷ []) (samples ++ more)
-  pub line_stands : LineStands line script passed (waiting ++ carries old s ∷ [])
+  pub stands : ReaderStands new (sigs ++ carries old s ∷ []) (samples ++ more)

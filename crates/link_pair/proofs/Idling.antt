@@ -25,7 +25,7 @@ use Rattle.line_run.specs.Sampled as lines
 use Rattle.line_run.specs.Ends.{RunEnd, Left}
 use Rattle.line_run.specs.Scripted.{wire_at, link_of}
 use Rattle.line_run.specs.Stream.{Carried, and_sent}
-use Rattle.shared_line.specs.Lines.{LinesWait, ArrivesBoth, ArePut}
+use Rattle.shared_line.specs.Lines.{LinesWait, HaveArrived, ArrivesBoth, ArePut}
 use Rattle.shared_line.specs.declared.lines.Lines.{Lines}
 use Rattle.line_run.specs.Names.{Written, inputs_of, outputs_of, received_of}
 use Rattle.run_world.specs.Turns.{held_of}
@@ -109,7 +109,7 @@ pub has-idled : (h : Half) (l m : Lines) (script : ScriptValue) (beside : Role �
     (streams : Both (List Carried)) (f : FolderState) (n : Written) (files : Both (List ℕ)) (round : ℕ) (p : Progress) (checks : Both Check)
     (heard : Both Heard) (a : AtEnd h script beside files round p) → h.modems.dlci ≡ h.dlci → KnowsFiles f n files → HoldLeft f n p
     → checks ≡ h.modems.heard_by
-    → ArrivesBoth m (wire_at script h.dlci beside) links (turns_on_line round p) streams checks heard
+    → ArrivesBoth (HaveArrived m (wire_at script h.dlci beside) links streams) (wire_at script h.dlci beside) (turns_on_line round p) checks heard
     → LinesWait l (wire_at script h.dlci beside) links (and_sent streams h.dlci idle_turn)
     → HasCome h l (wire_at script h.dlci beside) links streams f n round p
 has-idled h l m script beside links streams f n files round p checks heard a channel knows holds same arrives waits =
@@ -146,8 +146,8 @@ has-idled h l m script beside links streams f n files round p checks heard a cha
     behind : round - length a.ts ≡ suc (round - suc (length a.ts))
     behind = omega (arith, a.ended.before)
 
-    at : ArrivesBoth m c links (lasting (round - length a.ts) a.ts) streams checks heard
-    at = subst (λ x. ArrivesBoth m c links (turns_on_line round x) streams checks heard) a.is arrives
+    at : ArrivesBoth (HaveArrived m c links streams) c (lasting (round - length a.ts) a.ts) checks heard
+    at = subst (λ x. ArrivesBoth (HaveArrived m c links streams) c (turns_on_line round x) checks heard) a.is arrives
 
     idly : HearsIdly c (lasting (suc (round - suc (length a.ts))) a.ts) a.ends
     idly role = record {

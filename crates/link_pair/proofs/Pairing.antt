@@ -173,7 +173,7 @@ stream-short script files others Second round p q at role = by role
     by Originator = count Originator
     by Answerer = count Answerer
 
-passed : PairLaws → (x : Pair) (f : FolderState) (n m : Written) (link : Which) → Awaits x f n m link → PassedFew x.lines
+passed : PairLaws → (x : Pair) (f : FolderState) (n m : Written) (link : Which) → Awaits x f n m link → PassedFew x.lines.directions
 passed laws x f n m link a = each
   where
     short : x.round < 2 ^ 39
@@ -182,23 +182,23 @@ passed laws x f n m link a = each
     long : (role : Role) → length (of role (streams_at link x.round a.p a.q)) ≤ 2 * x.round + 1
     long = stream-short x.script a.files a.others link x.round a.p a.q a.at
 
-    each : (role : Role) → (from role x.lines).line.passed < 2 ^ 40
+    each : (role : Role) → (from role x.lines.directions).line.passed < 2 ^ 40
     each Originator =
         omega (
           arith,
           short,
           long Originator,
-          passed-few x.lines.from_orig (first_wire x.script (turns_in a.q)) Originator 2 (of Originator
+          passed-few x.lines.directions.from_orig (first_wire x.script (turns_in a.q)) Originator 2 (of Originator
               (streams_at link x.round a.p a.q))
-              (a.lines Originator),
+              (a.lines.directions Originator),
         )
     each Answerer =
         omega (
           arith,
           short,
           long Answerer,
-          passed-few x.lines.from_answ (first_wire x.script (turns_in a.q)) Answerer 2 (of Answerer (streams_at link x.round a.p a.q))
-              (a.lines Answerer),
+          passed-few x.lines.directions.from_answ (first_wire x.script (turns_in a.q)) Answerer 2 (of Answerer (streams_at link x.round a.p a.q))
+              (a.lines.directions Answerer),
         )
 
 -- ---- so each link's part of a round may be made

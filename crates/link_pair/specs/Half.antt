@@ -110,7 +110,7 @@ pub record HalfAt (h : Half) (l : Lines) (f : FolderState) (n : Written) (script
 pub record HalfIsReady (h : Half) (l : Lines) (script : ScriptValue) (f : FolderState) (n : Written) (round : ℕ) : Type 0 where
   pub limits : IsInLimits script
   pub low : h.dlci < 64
-  pub few : PassedFew l
+  pub few : PassedFew l.directions
   pub beside : Role → ℕ → Option Signal
   pub links : ℕ
   pub streams : Both (List Carried)

@@ -23,7 +23,7 @@ use Rattle.shared_line.specs.declared.lines.Lines.{Lines}
 use Rattle.run_world.specs.Link.{LinkStands, AreIdle, AreCounted, HearsBoth, HearsWell}
 use Rattle.line_run.specs.Stream.{Carried}
 use Rattle.shared_line.specs.Lines.{ArrivesBoth, HaveArrived, end_of}
-use Rattle.shared_line.specs.declared.lines.LineEnd.{LineEnd}
+use Rattle.shared_line.specs.declared.directions.LineEnd.{LineEnd}
 use Rattle.run_world.specs.declared.modems.Modems.{Modems}
 use Rattle.run_world.specs.declared.tally.Tally.{Tally}
 use Rattle.run_world.specs.Modems.{AreKept, AreReady, ModemsAfter}
@@ -74,7 +74,7 @@ pub record IsHeardBy (c : Wire) (ts : List Turn) (ends : Accounts) (heard : Both
 
 pub heard-by : (l : Lines) (c : Wire) (links : ℕ) (streams : Both (List Carried)) (ts : List Turn) (ends : Accounts) (heard : Both Heard) (checks : Both Check)
     → ((role : Role) → of role checks ≡ check_of (of role ends))
-    → ArrivesBoth l c links ts streams checks heard → IsHeardBy c ts ends heard
+    → ArrivesBoth (HaveArrived l c links streams) c ts checks heard → IsHeardBy c ts ends heard
 heard-by l c links streams ts ends heard checks same a = record {
   heard_of = λ role. subst (λ k. IsHeardOf c (other role) ts k (of role heard)) (same role) (a.heard_of role);
   well = a.well;

@@ -55,7 +55,7 @@ pub are-due : LoneLaws → (script : ScriptValue) (files : Both (List ℕ)) (ts 
 are-due laws script files ts ends limits run Originator = due-in laws script files ts ends limits run Originator
 are-due laws script files ts ends limits run Answerer = due-in laws script files ts ends limits run Answerer
 
-pub are-few : LoneLaws → NoLineRunIsLong → (w : World) → IsReady w → PassedFew w.lines
+pub are-few : LoneLaws → NoLineRunIsLong → (w : World) → IsReady w → PassedFew w.lines.directions
 are-few laws long w h = each
   where
     short : length h.turns < 2 ^ 39
@@ -70,11 +70,13 @@ are-few laws long w h = each
           laws.counted 0 role h.turns (laws.sent (link_of w.script h.files) h.turns h.ends h.after.modems.run.run role),
         )
 
-    each : (role : Role) → (from role w.lines).line.passed < 2 ^ 40
+    each : (role : Role) → (from role w.lines.directions).line.passed < 2 ^ 40
     each Originator =
-        at Originator _ (passed-few w.lines.from_orig (wire_of w.script) Originator 1 (sent_by 0 Originator h.turns) (h.after.lines Originator))
+        at Originator _ (passed-few w.lines.directions.from_orig (wire_of w.script) Originator 1 (sent_by 0 Originator h.turns)
+        (h.after.lines.directions Originator))
     each Answerer =
-        at Answerer _ (passed-few w.lines.from_answ (wire_of w.script) Answerer 1 (sent_by 0 Answerer h.turns) (h.after.lines Answerer))
+        at Answerer _ (passed-few w.lines.directions.from_answ (wire_of w.script) Answerer 1 (sent_by 0 Answerer h.turns)
+        (h.after.lines.directions Answerer))
 
 abbrev pub alone : Role → ℕ → Option Signal
 alone role turn = None
@@ -106,18 +108,18 @@ passed-by d script role ts line waiting h is =
     let lag : d.lag ≡ delay_of script role = omega (arith, h.lag, h.delay) in
     subst (λ l. Carries l script role (sent_by 0 role ts) (waiting (delay_of script role))) (sym is)
     (subst (λ n. Carries d.line script role (sent_by 0 role ts) (waiting n)) lag
-    (subst (λ r. LineStands d.line script (map (carried_signal r) (take (length (sent_by 0 role ts) - waiting d.lag) (sent_by 0 role ts)))
-    (map (carried_signal r) (drop (length (sent_by 0 role ts) - waiting d.lag) (sent_by 0 role ts)))) h.sends h.stands.line))
+    (subst (λ r. LineStands d.line script (map (carried_signal r) (take (length (sent_by 0 role ts) - waiting d.lag) (sent_by 0 role ts))))
+    h.sends h.stands.line))
 
 pub passed-so : (l : Lines) (script : ScriptValue) (role : Role) (ts : List Turn) (line : Kept)
-    → LinesWait l (wire_of script) 1 (both_sent_by 0 ts) → line ≡ (from role l).line → HasPassed line script role ts
-passed-so l script Originator ts line h is = passed-by l.from_orig script Originator ts line (λ k. k) (h Originator) is
-passed-so l script Answerer ts line h is = passed-by l.from_answ script Answerer ts line (λ k. k) (h Answerer) is
+    → LinesWait l (wire_of script) 1 (both_sent_by 0 ts) → line ≡ (from role l.directions).line → HasPassed line script role ts
+passed-so l script Originator ts line h is = passed-by l.directions.from_orig script Originator ts line (λ k. k) (h.directions Originator) is
+passed-so l script Answerer ts line h is = passed-by l.directions.from_answ script Answerer ts line (λ k. k) (h.directions Answerer) is
 
 pub passed-too : (l : Lines) (script : ScriptValue) (role : Role) (ts : List Turn) (line : Kept)
-    → HaveArrived l (wire_of script) 1 (both_sent_by 0 ts) → line ≡ (from role l).line → HasPassedToo line script role ts
-passed-too l script Originator ts line h is = passed-by l.from_orig script Originator ts line (λ k. k - 1) (h Originator) is
-passed-too l script Answerer ts line h is = passed-by l.from_answ script Answerer ts line (λ k. k - 1) (h Answerer) is
+    → HaveArrived l (wire_of script) 1 (both_sent_by 0 ts) → line ≡ (from role l.directions).line → HasPassedToo line script role ts
+passed-too l script Originator ts line h is = passed-by l.directions.from_orig script Originator ts line (λ k. k - 1) (h.directions Originator) is
+passed-too l script Answerer ts line h is = passed-by l.directions.from_answ script Answerer ts line (λ k. k - 1) (h.directions Answerer) is
 
 -- ---- the slots of the last turn
 

@@ -173,18 +173,18 @@ pub all-codable : SlotsAreCodable
     → IsSendable from_orig → IsSendable from_answ → sent.orig ≡ from_orig → sent.answ ≡ from_answ
     → checks.orig ≡ check_of t.orig.account → checks.answ ≡ check_of t.answ.account → AreCodable l sent checks dlci
 all-codable law c files ts ends heard mid from_orig from_answ sent k l links streams dlci checks size limits o t h sendo senda eo ea co ca Originator =
-    let d = h Originator in
-    let is : IsCodable (check_of t.orig.account) Originator dlci (slot_symbols (longest_of c.script)) l.from_orig.line.writer.phase t.orig.sent =
+    let d = h.coders Originator in
+    let is : IsCodable (check_of t.orig.account) Originator dlci (slot_symbols (longest_of c.script)) l.orig.coder.writer.phase t.orig.sent =
     law c files ts ends (turn_in heard ends mid (spoken_by t.orig t.answ))
     (ends_of t.orig t.answ) limits o.run t.heard_in t.going Originator (spoken t.orig) dlci
-    l.from_orig.line.writer.phase d.stands.line.writer.low refl (subst IsSendable t.orig_sent sendo) in
+    l.orig.coder.writer.phase d.stands.writer.low refl (subst IsSendable t.orig_sent sendo) in
     rw (co, d.symbols, size, eo, t.orig_sent) is
 all-codable law c files ts ends heard mid from_orig from_answ sent k l links streams dlci checks size limits o t h sendo senda eo ea co ca Answerer =
-    let d = h Answerer in
-    let is : IsCodable (check_of t.answ.account) Answerer dlci (slot_symbols (longest_of c.script)) l.from_answ.line.writer.phase t.answ.sent =
+    let d = h.coders Answerer in
+    let is : IsCodable (check_of t.answ.account) Answerer dlci (slot_symbols (longest_of c.script)) l.answ.coder.writer.phase t.answ.sent =
     law c files ts ends (turn_in heard ends mid (spoken_by t.orig t.answ))
     (ends_of t.orig t.answ) limits o.run t.heard_in t.going Answerer (spoken t.answ) dlci
-    l.from_answ.line.writer.phase d.stands.line.writer.low refl (subst IsSendable t.answ_sent senda) in
+    l.answ.coder.writer.phase d.stands.writer.low refl (subst IsSendable t.answ_sent senda) in
     rw (ca, d.symbols, size, ea, t.answ_sent) is
 
 -- as one slot more behind each

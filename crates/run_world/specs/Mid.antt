@@ -20,7 +20,7 @@ use Rattle.link_run.specs.Trace.{turn_text}
 use Rattle.link_run.specs.Counts.{lost_in, lost_slots, sent_again}
 use Rattle.line_run.specs.Sampled.{Wire, IsHeardOf, HeardIn, LineRun, EndsLine}
 use Rattle.line_run.specs.Scripted.{link_of}
-use Rattle.shared_line.specs.declared.lines.LineEnd.{LineEnd}
+use Rattle.shared_line.specs.declared.directions.LineEnd.{LineEnd}
 use Rattle.turn_bound.specs.Limits.{file_limit}
 use Rattle.stations.specs.Station.{ReadsOn}
 use Rattle.line_run.specs.Names.{Written, outputs_of}

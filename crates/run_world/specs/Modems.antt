@@ -54,4 +54,4 @@ pub record AreReady (m : Modems) (script : ScriptValue) (l : Lines) : Type 0 whe
   pub after : ModemsAfter m (wire_at script m.dlci beside) files turns ends
   pub waits : LinesWait l (wire_at script m.dlci beside) links streams
   pub due : AreDue (wire_at script m.dlci beside) links turns streams
-  pub few : PassedFew l
+  pub few : PassedFew l.directions

@@ -64,7 +64,7 @@ pub record WorldAfter (w : World) (files : Both (List ℕ)) (ts : List Turn) (en
   pub modems : ModemsAfter w.modems (wire_of w.script) files ts ends
   pub lines : LinesWait w.lines (wire_of w.script) 1 (both_sent_by 0 ts)
 
--- the line of this role stands for its slots of these turns: those sent as many turns ago as its delay have passed, the others wait
+-- the line of this role stands for its slots of these turns that have passed: those sent as many turns ago as its delay
 abbrev pub HasPassed : Kept → ScriptValue → Role → List Turn → Type 0
 HasPassed line script role ts = Carries line script role (sent_by 0 role ts) (delay_of script role)
 

@@ -10,9 +10,8 @@ use Rattle.detection.specs.Sights.{Sight, sights_at, sights_before, sights_of}
 use Rattle.std.specs.Option.{option_map, option_map_or}
 use Rattle.bit_stuffing.specs.declared.piece.Piece.{Piece}
 use Rattle.bit_stuffing.specs.declared.piece.Piece.TheVariants.{Whole, Ragged, Aborted, TooLong, TooShort}
-use Rattle.bit_stuffing.specs.Found.{Found, found_at, listed, pieces_of}
+use Rattle.bit_stuffing.specs.Found.{Found, listed, pieces_of}
 use Rattle.bit_stuffing.specs.Sent.{wholes, octets_if_whole}
-use Rattle.bit_stuffing.proofs.Found.{pieces-more}
 use Rattle.shared_terms.specs.declared.role.Role.{Role}
 use Rattle.lapm_frames.specs.declared.sent.Sent.{Sent}
 use Rattle.sample_line.specs.declared.tally.Tally.{Tally}

@@ -2,6 +2,7 @@ pub mod Tallying
 pub mod Finding
 pub mod Standing
 pub mod Passing
+pub mod SlotCoding
 pub mod Once
 pub mod Arriving
 pub mod Fitting

@@ -4,8 +4,8 @@ use Rattle.std.proofs.Common.{◌++◌, length, take, drop, map, refl, sym, ap, 
 use Rattle.std.specs.List.{flat_map}
 use Rattle.std.proofs.lemmas.Bool.{false≢true, cases_eq, eqb-true}
 use Rattle.std.proofs.Math.Seq.{take-nil, take-append_seam}
-use Rattle.std.proofs.lemmas.List.{take-append-drop, take-map}
-use Rattle.std.proofs.lemmas.List.Elements.{All-take}
+use Rattle.std.proofs.lemmas.List.{length-map, take-append-drop, take-map}
+use Rattle.std.proofs.lemmas.List.Elements.{All-nil, All-take}
 use Rattle.frame_check.specs.declared.check.Check.{Check}
 use Rattle.frame_check.proofs.Checks.{fronts-one}
 use Rattle.plain_lists.specs.Bits.{low_bits}
@@ -19,7 +19,7 @@ use Rattle.survivors.proofs.Fronts.{released-once, stays-prefix}
 use Rattle.survivors.specs.V32.{line_trellis}
 use Rattle.line_coding.specs.Modulates.{Modulates}
 use Rattle.line_coding.specs.Demodulates.{line_of, Demodulates}
-use Rattle.line_coding.proofs.Readings.{length-fours, first-stay}
+use Rattle.line_coding.proofs.Readings.{comes-back, first-stay, four-each}
 use Rattle.lapm_frames.specs.declared.seen.Seen.{Seen}
 use Rattle.detection.specs.Sights.{Sight, sights_of}
 use Rattle.bit_stuffing.specs.Found.{Found, pieces_of}
@@ -37,7 +37,7 @@ use Rattle.shared_terms.specs.Role.{mode_of}
 use Rattle.lapm_frames.specs.Checked.{check_heard}
 use Rattle.sample_line.specs.Received.{PassTheCheck, FoundBetween, Gives, Receives}
 
-tap-some : (sender : Role) → 1 ≤ tap_of (mode_of sender)
+pub tap-some : (sender : Role) → 1 ≤ tap_of (mode_of sender)
 tap-some Originator = omega arith
 tap-some Answerer = omega arith
 
@@ -120,6 +120,20 @@ modulates-take tap n bits samples low h =
       points = ap (take n) h.points ∙ take-map point_of n h.labels;
     }
 
+-- no bits have no samples
+pub none-modulated : (tap : ℕ) → Modulates tap [] []
+none-modulated tap = record {
+  line = [];
+  quads = [];
+  labels = [];
+  end = 0;
+  scrambled = record { lengths = refl; each = λ i within. absurd (omega (arith, within)) };
+  in_fours = refl;
+  are_quads = All-nil (λ quad. quad < 16);
+  encoded = record { leads = refl; turned_is = refl; uncoded_is = refl };
+  points = refl;
+}
+
 displaced-take : (script : ScriptValue) (sender : Role) (symbol n : ℕ) (points : List Sample)
     → take n (displaced_from script sender symbol points) ≡ displaced_from script sender symbol (take n points)
 displaced-take script sender symbol zero points = refl
@@ -135,14 +149,18 @@ recorded-take script sender n bits samples h = record {
   samples_are = ap (take n) h.samples_are ∙ displaced-take script sender 0 n h.points;
 }
 
-length-modulated : (tap : ℕ) (bits : List Bool) (samples : List Sample) → (h : Modulates tap bits samples)
-    → length bits ≡ 4 * length h.quads
-length-modulated tap bits samples h = sym h.scrambled.lengths ∙ ap length h.in_fours ∙ length-fours h.quads
+pub carried : (tap : ℕ) (bits : List Bool) (samples : List Sample) → (h : Modulates tap bits samples) → Demodulates tap h.labels bits
+carried tap bits samples h = comes-back tap bits h.line h.quads h.labels h.end h.scrambled h.in_fours h.are_quads h.encoded
+
+-- four bits each
+pub length-modulated : (tap : ℕ) (bits : List Bool) (samples : List Sample) → Modulates tap bits samples → length bits ≡ 4 * length samples
+length-modulated tap bits samples h =
+    four-each tap h.labels bits (carried tap bits samples h) ∙ ap (λ n. 4 * n) (sym (ap length h.points ∙ length-map h.labels point_of))
 
 pub recordings-grow : (script : ScriptValue) (sender : Role) (bits more : List Bool) (before samples : List Sample)
     → Records script sender bits before → Records script sender (bits ++ more) samples → (rest : List Sample) × (samples ≡ before ++ rest)
 recordings-grow script sender bits more before samples h k =
-    let n : ℕ = length h.modulated.quads in
+    let n : ℕ = length h.points in
     let first : take (4 * n) (bits ++ more) ≡ bits =
     ap (λ m. take m (bits ++ more)) (sym (length-modulated (tap_of (mode_of sender)) bits h.points h.modulated))
     ∙ take-append_seam bits more in

@@ -1,10 +1,13 @@
 -- What the relations of the parts say of samples and bits.
-use Rattle.std.proofs.Common.{◌≡◌, ◌∙◌, ◌+◌, ◌<◌, ℕ, ℤ, Bool, List, [], ◌∷◌, ◌++◌, length, take, None, refl, sym, ap, subst, arith, get_or}
-use Rattle.std.proofs.lemmas.List.{append-nil, take_more, append_assoc}
+use Rattle.std.proofs.Common.{◌≡◌, ◌∙◌, ◌+◌, ◌<◌, ℕ, ℤ, Bool, List, [], ◌∷◌, ◌++◌, length, map, take, None, refl, sym, ap, subst, arith, get_or}
+use Rattle.std.proofs.lemmas.List.{append-nil, take_more, append_assoc, map-append}
 use Rattle.std.proofs.lemmas.Grind.{flat_map-append}
 use Rattle.plain_lists.specs.Bits.{low_bits}
 use Rattle.bit_stuffing.specs.BitSlot.{line_bits}
+use Rattle.scramblers.specs.Mode.{tap_of}
 use Rattle.symbol_map.specs.declared.sample.Sample.{Sample}
+use Rattle.symbol_map.specs.Points.{point_of}
+use Rattle.line_coding.specs.Modulates.{Modulates}
 use Rattle.survivors.specs.Survivors.{IsReleased}
 use Rattle.survivors.specs.V32.{line_trellis}
 use Rattle.exact_decoder.specs.Decoder.{heard}
@@ -12,7 +15,7 @@ use Rattle.shared_terms.specs.declared.role.Role.{Role}
 use Rattle.noise_script.specs.Script.{ScriptValue, offset_of}
 use Rattle.sample_line.specs.declared.transmitter.Transmitter.{Transmitter}
 use Rattle.sample_line.specs.declared.hearer.Hearer.{Hearer}
-use Rattle.line_coding.proofs.Standing.{modulated, demodulated}
+use Rattle.line_coding.proofs.Standing.{demodulated}
 use Rattle.sample_line.specs.Recorded.{saturated, displaced, displaced_from, Records}
 use Rattle.shared_terms.specs.Role.{mode_of}
 use Rattle.sample_line.specs.Received.{Gives}
@@ -45,14 +48,11 @@ same-saturated result a b e same = e ∙ ap saturated same
 pub same-sample : (a b : Sample) → a.re ≡ b.re → a.im ≡ b.im → a ≡ b
 same-sample a b r i = rw (r, i) refl
 
--- a transmitter's samples are what is recorded of its bits
-pub recorded : (transmitter : Transmitter) (script : ScriptValue) (bits : List Bool) (samples : List Sample)
-    → Transmits transmitter script bits samples → Records script transmitter.sender bits samples
-recorded transmitter script bits samples h = record {
-  points = h.points;
-  modulated = modulated (mode_of transmitter.sender) transmitter.modulator bits h.points h.modulator;
-  samples_are = h.samples_are;
-}
+-- a transmitter's samples are what is recorded of the bits whose points they were
+pub recorded : (transmitter : Transmitter) (script : ScriptValue) (bits : List Bool) (points samples : List Sample)
+    → Modulates (tap_of (mode_of transmitter.sender)) bits points → Transmits transmitter script points samples
+    → Records script transmitter.sender bits samples
+recorded transmitter script bits points samples m h = record { points = points; modulated = m; samples_are = h.samples_are }
 
 -- where each released label was taken, what was read is what the samples give
 pub gives : (sender : Role) (hearer : Hearer) (samples : List Sample) (read : List Bool) → Hears (mode_of sender) hearer samples read
@@ -79,3 +79,12 @@ pub sent-part : (before : List Bool) (quads : List ℕ) (i quad : ℕ) → i < l
 sent-part before quads i quad h e =
     append_assoc before (line_bits (take i quads)) (low_bits 4 quad) ∙ ap (λ q. before ++ (line_bits (take i quads) ++ low_bits 4 q)) e
     ∙ ap (λ xs. before ++ xs) (slot-part quads i h)
+
+-- one more label of a slot
+pub points-part : (before : List Sample) (labels : List ℕ) (i label : ℕ) → i < length labels → label ≡ get_or labels i 0
+    → (before ++ map point_of (take i labels)) ++ point_of label ∷ [] ≡ before ++ map point_of (take (i + 1) labels)
+points-part before labels i label h e =
+    append_assoc before (map point_of (take i labels)) (point_of label ∷ [])
+    ∙ ap (λ l. before ++ (map point_of (take i labels) ++ point_of l ∷ [])) e
+    ∙ ap (λ xs. before ++ xs) (sym (map-append point_of (take i labels) (get_or labels i 0 ∷ [])))
+    ∙ ap (λ xs. before ++ map point_of xs) (sym (take_more labels i 0 h))

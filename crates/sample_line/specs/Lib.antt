@@ -7,4 +7,5 @@ pub mod Transmits
 pub mod Hears
 pub mod Path
 pub mod Line
+pub mod Coder
 pub mod Laws

@@ -46,7 +46,7 @@ fn write_patterns(writer: &mut SlotWriter, symbols: u16, seen: Seen, out: &mut B
 }
 
 /// Writes the slot of what is sent. A frame has the check that its kind has where the ends use `check`.
-pub(crate) fn write_sent(
+pub fn write_sent(
     writer: &mut SlotWriter,
     symbols: u16,
     sent: &Sent,

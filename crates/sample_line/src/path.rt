@@ -1,33 +1,33 @@
-// The way of bits from the end that sends to the end that hears.
-ghost use Rattle.std.specs.Prelude.{◌≡◌, ◌+◌, ◌<◌, ◌≤◌, ◌^◌, Bool, List, [], ◌++◌, IfOk, None, OnOk};
-ghost use Rattle.plain_lists.specs.Bits.{low_bits};
+// The way of labels from the end that sends to the end that hears.
+ghost use Rattle.std.specs.Prelude.{◌≡◌, ◌+◌, ◌<◌, ◌≤◌, ◌^◌, Bool, List, [], ◌∷◌, ◌++◌, map, IfOk, None, OnOk};
 ghost use Rattle.frame_check.specs.declared.sizes.TheConstants.{SLOT};
-ghost use Rattle.bit_stuffing.specs.BitSlot.{line_bits};
+ghost use Rattle.symbol_map.specs.declared.sample.Sample.{Sample};
+ghost use Rattle.symbol_map.specs.Points.{point_of};
 ghost use Rattle.noise_script.specs.Script.{ScriptValue};
-ghost use Rattle.sample_line.specs.Path.{Carries, CarriesBetween, Arrives, PassesBits};
+ghost use Rattle.sample_line.specs.Path.{Carries, CarriesBetween, Arrives, PassesPoints};
 
+use crate::LabelSlot;
 use crate::hearer::Hearer;
 use crate::receiver::Slot;
 use crate::tally::Tally;
 use crate::transmitter::Transmitter;
-use bit_stuffing::BitSlot;
 use exact_decoder::Lost;
 use noise_script::Script;
 use outside_calls::NoMemory;
 use shared_terms::Role;
 use std::alloc::Global;
 
-/// What makes samples of bits, and what hears them.
+/// What makes samples of labels, and what hears them.
 #[derive(Drop)]
 pub(crate) struct Path {
-    /// From bits to samples.
+    /// From labels to samples.
     pub transmitter: Transmitter,
     /// From samples to pieces and patterns.
     pub hearer: Hearer,
 }
 
 impl Path {
-    /// A path before its first bit. All its memory is taken here.
+    /// A path before its first label. All its memory is taken here.
     pub fn new(alloc: Global, sender: Role) -> Result<Path, NoMemory>
         ensures sender { IfOk result (λ path. path.transmitter.sender ≡ sender) }
         ensures symbol { IfOk result (λ path. path.transmitter.symbol ≡ 0) }
@@ -42,22 +42,22 @@ impl Path {
         })
     }
 
-    /// The tally once four bits more have come to the hearer.
+    /// The tally once one label more has come to the hearer, as a sample.
     fn arrive(
         &mut self,
         script: &Script,
-        quad: u8,
+        label: u8,
         slot: Slot<'_>,
         tally: Tally,
     ) -> Result<Tally, Lost>
         requires channel { slot.dlci < 64 }
-        requires quad { quad < 16 }
+        requires label { label < 32 }
         requires symbol { self.old.transmitter.symbol < 2 ^ 55 }
         requires count { self.old.hearer.reader.decoder.count < 2 ^ 55 }
         requires pending { self.old.hearer.reader.decoder.pending ≡ [] }
-        ensures arrives { (bits earlier : List Bool)
-            → CarriesBetween self.old script.now bits slot.entry.check slot.entry.sender slot.entry.dlci slot.entry.sent.now earlier tally
-            → Arrives self.new script.now (bits ++ low_bits 4 quad) slot.entry.check slot.entry.sender slot.entry.dlci slot.entry.sent.now earlier result }
+        ensures arrives { (points : List Sample) (earlier : List Bool)
+            → CarriesBetween self.old script.now points slot.entry.check slot.entry.sender slot.entry.dlci slot.entry.sent.now earlier tally
+            → Arrives self.new script.now (points ++ point_of label ∷ []) slot.entry.check slot.entry.sender slot.entry.dlci slot.entry.sent.now earlier result }
         ensures sender { self.new.transmitter.sender ≡ self.old.transmitter.sender }
         ensures symbol { self.new.transmitter.symbol ≡ self.old.transmitter.symbol + 1 }
         ensures count { self.new.hearer.reader.decoder.count ≤ self.old.hearer.reader.decoder.count + 1 }
@@ -65,19 +65,24 @@ impl Path {
         ensures lost { OnOk result (self.new.hearer.reader.decoder.lost ≡ None) }
         ensures taken { self.new.hearer.reader.decoder.lost ≡ None → self.new.hearer.reader.decoder.pending ≡ [] }
     {
-        let sample = self.transmitter.send(script, quad);
+        let sample = self.transmitter.send(script, label);
         self.hearer.hear(sample, slot, tally)
     }
 
-    /// What is received of a slot of bits.
-    pub fn pass(&mut self, script: &Script, bits: &BitSlot, slot: Slot<'_>) -> Result<Tally, Lost>
+    /// What is received of a slot of labels.
+    pub fn pass(
+        &mut self,
+        script: &Script,
+        labels: &LabelSlot,
+        slot: Slot<'_>,
+    ) -> Result<Tally, Lost>
         requires channel { slot.dlci < 64 }
         requires symbol { self.old.transmitter.symbol < 2 ^ 54 }
         requires count { self.old.hearer.reader.decoder.count < 2 ^ 54 }
         requires pending { self.old.hearer.reader.decoder.pending ≡ [] }
         requires lost { self.old.hearer.reader.decoder.lost ≡ None }
-        ensures passes { (before earlier : List Bool) → Carries self.old script.now before earlier
-            → PassesBits self.new script.now before (line_bits bits.now) slot.entry.check slot.entry.sender slot.entry.dlci slot.entry.sent.now earlier result }
+        ensures passes { (before : List Sample) (earlier : List Bool) → Carries self.old script.now before earlier
+            → PassesPoints self.new script.now before (map point_of labels.now) slot.entry.check slot.entry.sender slot.entry.dlci slot.entry.sent.now earlier result }
         ensures sender { self.new.transmitter.sender ≡ self.old.transmitter.sender }
         ensures symbol { self.new.transmitter.symbol ≤ self.old.transmitter.symbol + SLOT }
         ensures count { self.new.hearer.reader.decoder.count ≤ self.old.hearer.reader.decoder.count + SLOT }
@@ -86,8 +91,8 @@ impl Path {
         ensures taken { self.new.hearer.reader.decoder.lost ≡ None → self.new.hearer.reader.decoder.pending ≡ [] }
     {
         let mut tally = Tally::Silent;
-        for place in 0..bits.len() {
-            tally = self.arrive(script, bits.quad(place), slot, tally)?;
+        for place in 0..labels.len() {
+            tally = self.arrive(script, labels.label(place), slot, tally)?;
         }
         Ok(tally)
     }

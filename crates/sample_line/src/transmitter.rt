@@ -1,17 +1,16 @@
-// Bits become samples, and the script displaces them on their way.
-ghost use Rattle.std.specs.Prelude.{◌≡◌, ◌+◌, ◌<◌, ◌^◌, Bool, List, [], ◌∷◌, ◌++◌};
-ghost use Rattle.plain_lists.specs.Bits.{low_bits};
+// Labels become samples, and the script displaces them on their way.
+ghost use Rattle.std.specs.Prelude.{◌≡◌, ◌+◌, ◌<◌, ◌^◌, List, [], ◌∷◌, ◌++◌};
 ghost use Rattle.symbol_map.specs.declared.sample.Sample.{Sample};
+ghost use Rattle.symbol_map.specs.Points.{point_of};
 ghost use Rattle.noise_script.specs.Script.{ScriptValue};
 ghost use Rattle.noise_script.specs.Offsets.{IsWithin};
 ghost use Rattle.noise_script.specs.declared.limits.TheConstants.{OFFSET_MOST};
 ghost use Rattle.sample_line.specs.Recorded.{saturated, displaced};
 ghost use Rattle.sample_line.specs.Transmits.{Transmits};
 
-use line_coding::Modulator;
 use noise_script::{Generators, Offset, Script};
 use shared_terms::Role;
-use symbol_map::Sample;
+use symbol_map::{Sample, point};
 
 /// A coordinate, held at the ends of 16 bits.
 fn saturated(coordinate: i32) -> i16
@@ -37,13 +36,11 @@ fn displaced(offset: Offset, point: Sample) -> Sample
     }
 }
 
-/// What makes samples of an end's bits. Symbols are counted from 0 over all slots.
+/// What makes samples of an end's labels. Symbols are counted from 0 over all slots.
 #[derive(Drop)]
 pub(crate) struct Transmitter {
     /// The end that sends.
     pub sender: Role,
-    /// From bits to points.
-    modulator: Modulator,
     /// Of the noise on what is sent.
     generators: Generators,
     /// The number of the next symbol.
@@ -51,7 +48,7 @@ pub(crate) struct Transmitter {
 }
 
 impl Transmitter {
-    /// A transmitter before its first bit.
+    /// A transmitter before its first label.
     pub fn new(sender: Role) -> Transmitter
         ensures sender { result.sender ≡ sender }
         ensures symbol { result.symbol ≡ 0 }
@@ -59,24 +56,22 @@ impl Transmitter {
     {
         Transmitter {
             sender,
-            modulator: Modulator::new(sender.mode()),
             generators: Generators::new(),
             symbol: 0,
         }
     }
 
-    /// The next sample as it arrives, for the next four bits.
-    pub fn send(&mut self, script: &Script, quad: u8) -> Sample
-        requires quad { quad < 16 }
+    /// The next sample as it arrives, for the next label.
+    pub fn send(&mut self, script: &Script, label: u8) -> Sample
+        requires label { label < 32 }
         requires symbol { self.old.symbol < 2 ^ 60 }
-        ensures stands { (bits : List Bool) (samples : List Sample) → Transmits self.old script.now bits samples
-            → Transmits self.new script.now (bits ++ low_bits 4 quad) (samples ++ result ∷ []) }
+        ensures stands { (points samples : List Sample) → Transmits self.old script.now points samples
+            → Transmits self.new script.now (points ++ point_of label ∷ []) (samples ++ result ∷ []) }
         ensures sender { self.new.sender ≡ self.old.sender }
         ensures symbol { self.new.symbol ≡ self.old.symbol + 1 }
     {
-        let point = self.modulator.push(quad);
         let offset = script.offset(&mut self.generators, self.sender, self.symbol);
         self.symbol += 1;
-        displaced(offset, point)
+        displaced(offset, point(label))
     }
 }

@@ -3,10 +3,7 @@ use Rattle.std.proofs.Common.{◌≡◌, ℕ, suc, ◌-◌, ◌*◌, ◌%◌, �
 use Rattle.std.proofs.Common.{length-append, refl, sym, ◌∙◌, ap, subst, Option, Some, None, Ok, Err, append-nil, append_assoc}
 use Rattle.std.proofs.lemmas.List.{map-append}
 use Rattle.std.specs.Prelude.{slice_get, Result, IfOk}
-use Rattle.std.specs.List.{flat_map}
-use Rattle.plain_lists.specs.Bits.{low_bits}
 use Rattle.frame_check.specs.declared.check.Check.{Check}
-use Rattle.bit_stuffing.specs.BitSlot.{line_bits}
 use Rattle.detection.specs.Slots.{Signal, signal_bits}
 use Rattle.symbol_map.specs.declared.sample.Sample.{Sample}
 use Rattle.survivors.specs.Survivors.{LostIs}
@@ -25,7 +22,9 @@ use Rattle.sample_line.specs.Received.{Receives}
 use Rattle.sample_line.specs.Outcomes.{IsOutcome}
 use Rattle.sample_line.specs.Path.{LosesAt, LosesWithin}
 use Rattle.sample_line.specs.Line.{Kept, LineStands, PassesSlot, Passes, sender_of, size_of, decoder_of, bits_behind}
+use Rattle.sample_line.specs.Coder.{IsCodedAs}
 use Rattle.sample_line.specs.Laws.{RecordedOnce}
+use Rattle.sample_line.proofs.Once.{length-modulated}
 use Rattle.sample_line.proofs.Passing.{line-heard, slot-added}
 use Rattle.line_run.specs.Laws.{LossStays}
 use Rattle.link_account.specs.Numbers.{IsNumbered}
@@ -33,7 +32,7 @@ use Rattle.link_run.specs.Run.{arrival}
 use Rattle.shared_line.specs.declared.slot.Slot.{Slot}
 use Rattle.shared_line.specs.declared.direction.DelayedLine.{DelayedLine}
 use Rattle.line_run.specs.Stream.{Carried, carried_signal}
-use Rattle.shared_line.specs.Way.{IsOnWay, AreOnWay, Stands, HasCoded, HeardBehind, PassesOldest}
+use Rattle.shared_line.specs.Way.{IsOnWay, AreOnWay, Stands, CodesNext, HeardBehind, PassesOldest}
 
 -- as many slots as are said
 pub same-count : (size : ℕ) (role : Role) (before : List Signal) (items : List Slot) (way : List Carried) → AreOnWay size role before items way
@@ -68,18 +67,6 @@ first-of (x ∷ slots) slot e = go e
     go : Some slot ≡ Some x → x ∷ slots ≡ slot ∷ slots
     go z = ap (λ y. y ∷ slots) (sym (ap value z))
 
--- the number of bits of what is recorded
-fours : (quads : List ℕ) → length (flat_map (low_bits 4) quads) ≡ 4 * length quads
-fours [] = refl
-fours (q ∷ quads) = length-append (low_bits 4 q) (flat_map (low_bits 4) quads) ∙ (let e = fours quads in omega (arith, e))
-
-recorded-fours : (script : ScriptValue) (role : Role) (bits : List Bool) (samples : List Sample) → Records script role bits samples
-    → length bits % 4 ≡ 0
-recorded-fours script role bits samples h =
-    let m = h.modulated in
-    let e = sym m.scrambled.lengths ∙ ap length m.in_fours ∙ fours m.quads in
-    omega (arith, e)
-
 -- a direction that the call has moved on
 pub record MovesOn (d new : DelayedLine) (items : List Slot) : Type 0 where
   pub sender : new.sender ≡ d.sender
@@ -87,15 +74,14 @@ pub record MovesOn (d new : DelayedLine) (items : List Slot) : Type 0 where
   pub items_are : new.slots.items ≡ items
   pub capacity : new.slots.capacity ≡ d.slots.capacity
   pub from : sender_of new.line ≡ sender_of d.line
-  pub writer : new.line.writer ≡ d.line.writer
+  pub symbols : new.line.symbols ≡ d.line.symbols
 
 -- what the line makes of the oldest slot
 heard-so : (once : RecordedOnce) (d new : DelayedLine) (script : ScriptValue) (passed : List Signal) (x : Carried) (slot : Slot)
     (items : List Slot) (rest : List Carried) (number : ℕ) (check : Check) (dlci : ℕ) (heard : Heard)
     → sender_of d.line ≡ d.sender → d.slots.capacity ≡ d.lag → IsOnWay (size_of d.line) d.sender passed slot x
     → AreOnWay (size_of d.line) d.sender (passed ++ carried_signal d.sender x ∷ []) items rest → MovesOn d new items
-    → PassesSlot new.line script passed (carried_signal d.sender x) (map (carried_signal d.sender) rest) check dlci
-    (loses script d.sender number) slot.sent heard
+    → PassesSlot new.line script passed (carried_signal d.sender x) check dlci (loses script d.sender number) slot.sent heard
     → HeardBehind script d.sender (size_of d.line) dlci passed number check x heard
     × Stands new script (passed ++ carried_signal d.sender x ∷ []) rest
 heard-so once d new script passed x slot items rest number check dlci heard own room is others m p = (behind, stands)
@@ -107,7 +93,7 @@ heard-so once d new script passed x slot items rest number check dlci heard own 
     upto = passed ++ carried_signal role x ∷ []
 
     size : size_of new.line ≡ size_of d.line
-    size = ap (λ w. 4 * w.symbols) m.writer
+    size = ap (λ n. 4 * n) m.symbols
 
     from : sender_of new.line ≡ role
     from = m.from ∙ own
@@ -119,7 +105,7 @@ heard-so once d new script passed x slot items rest number check dlci heard own 
 
     not-lost : LostIs line_trellis line_depth p.upto None
     not-lost =
-        let l = line-heard script new.line upto (map (carried_signal role) rest) p.stands in
+        let l = line-heard script new.line upto p.stands in
         let same : l.0 ≡ p.upto = once script (sender_of new.line) (signal_bits (size_of new.line) upto) l.0 p.upto l.2 p.recorded in
         subst (λ (o : Option ℕ). LostIs line_trellis line_depth p.upto o) p.stands.not_lost
         (subst (λ xs. LostIs line_trellis line_depth xs (decoder_of new.line).lost) same l.3.lost)
@@ -140,7 +126,7 @@ heard-so once d new script passed x slot items rest number check dlci heard own 
 
     stands : Stands new script upto rest
     stands = record {
-      line = subst (λ s. LineStands new.line script upto (map (carried_signal s) rest)) (sym m.sender) p.stands;
+      line = p.stands;
       slots = subst (λ s. AreOnWay (size_of new.line) s upto new.slots.items rest) (sym m.sender)
           (subst (λ n. AreOnWay n role upto new.slots.items rest) (sym size)
           (subst (λ xs. AreOnWay (size_of d.line) role upto xs rest) (sym m.items_are) others));
@@ -163,11 +149,7 @@ loses-so stay d script passed way x slot symbol line h is same size l = at
     bits = bits_behind (size_of d.line) passed (carried_signal d.sender x)
 
     whole : length (before ++ bits) % 4 ≡ 0
-    whole =
-        let heard = line-heard script d.line passed (map (carried_signal d.sender) way) h.line in
-        let first = recorded-fours script (sender_of d.line) before heard.0 heard.2 in
-        let second = ap length (sym is.bits) ∙ fours slot.bits in
-        omega (arith, first, second, length-append before bits)
+    whole = let e = length-modulated _ (before ++ bits) _ is.coded.modulated in omega (arith, e)
 
     within : LosesWithin (sender_of line) script before bits symbol
     within = subst (λ n. LosesWithin (sender_of line) script (signal_bits n passed) (bits_behind n passed (carried_signal d.sender x)) symbol) size l
@@ -181,18 +163,16 @@ loses-so stay d script passed way x slot symbol line h is same size l = at
 -- what the line's call says, whatever passed before
 abbrev pub PassesAll : DelayedLine → DelayedLine → Slot → Check → ScriptValue → ℕ → Bool → Result Heard Lost → Type 0
 PassesAll d new slot check script dlci lost r =
-    (passed waiting : List Signal) (signal : Signal) → LineStands d.line script passed (signal ∷ waiting)
-    → line_bits slot.bits ≡ bits_behind (size_of d.line) passed signal
-    → Passes new.line script passed signal waiting check dlci lost slot.sent r
+    (passed : List Signal) (signal : Signal) → LineStands d.line script passed
+    → IsCodedAs (sender_of d.line) (size_of d.line) passed signal slot.labels → Passes new.line script passed signal check dlci lost slot.sent r
 
 passes-front : (d new : DelayedLine) (script : ScriptValue) (passed : List Signal) (way : List Carried) (slot : Slot) (items : List Slot)
     (number : ℕ) (check : Check) (dlci : ℕ) (r : Result Heard Lost) (o : Oldest (size_of d.line) d.sender passed slot items way)
     → Stands d script passed way → PassesAll d new slot check script dlci (loses script d.sender number) r
-    → Passes new.line script passed (carried_signal d.sender o.x) (map (carried_signal d.sender) o.rest) check dlci (loses script d.sender number)
-    slot.sent r
+    → Passes new.line script passed (carried_signal d.sender o.x) check dlci (loses script d.sender number) slot.sent r
 passes-front d new script passed way slot items number check dlci r o h p =
-    p passed (map (carried_signal d.sender) o.rest) (carried_signal d.sender o.x)
-    (subst (λ w. LineStands d.line script passed (map (carried_signal d.sender) w)) o.way_is h.line) o.is.bits
+    p passed (carried_signal d.sender o.x) h.line
+    (subst (λ s. IsCodedAs s (size_of d.line) passed (carried_signal d.sender o.x) slot.labels) (sym h.sender) o.is.coded)
 
 pub passes-oldest : (once : RecordedOnce) (stay : LossStays) (d new : DelayedLine) (script : ScriptValue) (passed : List Signal)
     (way : List Carried) (slot : Slot) (items : List Slot) (number : ℕ) (check : Check) (dlci : ℕ) (r : Result Heard Lost)
@@ -203,10 +183,10 @@ passes-oldest once stay d new script passed way slot items number check dlci r o
     go r (passes-front d new script passed way slot items number check dlci r o h p)
   where
     go : (r : Result Heard Lost)
-        → Passes new.line script passed (carried_signal d.sender o.x) (map (carried_signal d.sender) o.rest) check dlci (loses script d.sender number)
-        slot.sent r → PassesOldest d new script passed o.x o.rest number check dlci r
+        → Passes new.line script passed (carried_signal d.sender o.x) check dlci (loses script d.sender number) slot.sent r
+        → PassesOldest d new script passed o.x o.rest number check dlci r
     go (Ok heard) q = heard-so once d new script passed o.x slot items o.rest number check dlci heard h.sender h.room o.is o.others m q
-    go (Err lost) q = loses-so stay d script passed way o.x slot lost.symbol new.line h o.is m.from (ap (λ w. 4 * w.symbols) m.writer) q
+    go (Err lost) q = loses-so stay d script passed way o.x slot lost.symbol new.line h o.is m.from (ap (λ n. 4 * n) m.symbols) q
 
 -- what is heard has numbers that an end may hear
 numbered-sent : (s : Sent) → IsSendable s → IsNumbered (arrival (Passed s))
@@ -232,8 +212,8 @@ numbered-by d new script passed way slot items number check dlci r o h p =
     go r (passes-front d new script passed way slot items number check dlci r o h p)
   where
     go : (r : Result Heard Lost)
-        → Passes new.line script passed (carried_signal d.sender o.x) (map (carried_signal d.sender) o.rest) check dlci (loses script d.sender number)
-        slot.sent r → IfOk r (λ heard. IsNumbered (arrival heard))
+        → Passes new.line script passed (carried_signal d.sender o.x) check dlci (loses script d.sender number) slot.sent r
+        → IfOk r (λ heard. IsNumbered (arrival heard))
     go (Ok heard) q = as-heard (loses script d.sender number) (sender_of new.line) dlci slot.sent q.octets q.patterns heard
         (subst IsSendable (sym o.is.sent) o.is.sendable) q.outcome
     go (Err lost) q = tt
@@ -268,38 +248,20 @@ pub record IsPutOn (d new : DelayedLine) (items : List Slot) : Type 0 where
   pub line : new.line ≡ d.line
 
 pub puts-so : (d new : DelayedLine) (script : ScriptValue) (passed : List Signal) (way : List Carried) (slot : Slot) (x : Carried)
-    → HasCoded d script passed way x (line_bits slot.bits) → IsPutOn d new (d.slots.items ++ slot ∷ []) → slot.sent ≡ x.spoken.sent
+    → Stands d script passed way → CodesNext d passed way x slot.labels → IsPutOn d new (d.slots.items ++ slot ∷ []) → slot.sent ≡ x.spoken.sent
     → IsSendable x.spoken.sent → Stands new script passed (way ++ x ∷ [])
-puts-so d new script passed way slot x h m sent sendable = record {
-  line = subst (λ s. LineStands new.line script passed (map (carried_signal s) (way ++ x ∷ []))) (sym m.sender)
-      (subst (λ l. LineStands l script passed (map (carried_signal d.sender) (way ++ x ∷ []))) (sym m.line)
-      (subst (LineStands d.line script passed) (sym (map-append (carried_signal d.sender) way (x ∷ []))) h.line));
+puts-so d new script passed way slot x h coded m sent sendable = record {
+  line = subst (λ l. LineStands l script passed) (sym m.line) h.line;
   slots = subst (λ s. AreOnWay (size_of new.line) s passed new.slots.items (way ++ x ∷ [])) (sym m.sender)
       (subst (λ n. AreOnWay n d.sender passed new.slots.items (way ++ x ∷ [])) (sym (ap size_of m.line))
       (subst (λ xs. AreOnWay (size_of d.line) d.sender passed xs (way ++ x ∷ [])) (sym m.items_are)
-      (behind (size_of d.line) d.sender passed d.slots.items way slot x h.slots (record { sent = sent; sendable = sendable; bits = h.bits_are }))));
+      (behind (size_of d.line) d.sender passed d.slots.items way slot x h.slots (record { sent = sent; sendable = sendable; coded = coded }))));
   sender = ap sender_of m.line ∙ h.sender ∙ sym m.sender;
   room = m.capacity ∙ h.room ∙ sym m.lag;
 }
 
--- a direction whose line has coded a slot behind what is on its way
-pub coded-so : (d : DelayedLine) (line : Kept) (script : ScriptValue) (passed : List Signal) (way : List Carried) (x : Carried) (bits : List Bool)
-    → Stands d script passed way → line.writer.symbols ≡ d.line.writer.symbols → sender_of line ≡ sender_of d.line
-    → LineStands line script passed (map (carried_signal d.sender) way ++ carried_signal d.sender x ∷ [])
-    → bits ≡ bits_behind (size_of d.line) (passed ++ map (carried_signal d.sender) way) (carried_signal d.sender x)
-    → HasCoded (record d { line = line }) script passed way x bits
-coded-so d line script passed way x bits h symbols from stands bits-are =
-    let size : size_of d.line ≡ size_of line = ap (λ n. 4 * n) (sym symbols) in
-    record {
-      line = stands;
-      slots = subst (λ n. AreOnWay n d.sender passed d.slots.items way) size h.slots;
-      bits_are = bits-are ∙ ap (λ n. bits_behind n (passed ++ map (carried_signal d.sender) way) (carried_signal d.sender x)) size;
-      sender = from ∙ h.sender;
-      room = h.room;
-    }
-
 -- before the first slot
-pub starts : (d : DelayedLine) (script : ScriptValue) → LineStands d.line script [] [] → d.slots.items ≡ [] → sender_of d.line ≡ d.sender
+pub starts : (d : DelayedLine) (script : ScriptValue) → LineStands d.line script [] → d.slots.items ≡ [] → sender_of d.line ≡ d.sender
     → d.slots.capacity ≡ d.lag → Stands d script [] []
 starts d script stands items sender room = record {
   line = stands;

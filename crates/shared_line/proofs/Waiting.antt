@@ -1,11 +1,7 @@
 -- What arrives of a stream is what a link's channel has.
 use Rattle.std.proofs.Common.{◌≡◌, ◌≢◌, ℕ, zero, suc, ◌-◌, ◌*◌, ◌<◌, ◌≤◌, List, [], ◌∷◌, ◌++◌, length, map, take, drop}
-use Rattle.std.proofs.Common.{arith, length-append, refl, sym, ◌∙◌, ap, subst, Some, Ok, Err, append-nil, append_assoc}
-use Rattle.std.specs.Prelude.{is_some, slice_get, Option, Result}
-use Rattle.circular_buffer.specs.Buffer.{last_item}
-use Rattle.std.specs.Option.{option_map}
-use Rattle.bit_stuffing.specs.BitSlot.{line_bits}
-use Rattle.bit_stuffing.specs.declared.bit_slot.BitSlot.{BitSlot}
+use Rattle.std.proofs.Common.{arith, length-append, refl, sym, ◌∙◌, ap, subst, Some, Ok, Err}
+use Rattle.std.specs.Prelude.{is_some, Result}
 use Rattle.std.proofs.lemmas.List.{map-append, length-drop, length-map, length-take, take-append-drop}
 use Rattle.std.proofs.Math.Nat.{one-le-mul}
 use Rattle.frame_check.specs.declared.check.Check.{Check}
@@ -17,12 +13,14 @@ use Rattle.shared_terms.specs.Both.{Both, of}
 use Rattle.detection.specs.Slots.{Signal, signal_bits}
 use Rattle.lapm_frames.specs.declared.heard.Heard.{Heard}
 use Rattle.lapm_frames.specs.declared.heard.Heard.TheVariants.{Nothing, Chance}
-use Rattle.shared_line.specs.Lines.{ArrivesBoth, HaveArrived, LinesWait, IsNewest, from, and_more, none_sent}
+use Rattle.shared_line.specs.Lines.{ArrivesBoth, ArrivesSo, AreWaiting, HaveRoom, and_more, none_sent}
+use Rattle.shared_line.specs.declared.directions.LineEnd.{LineEnd}
 use Rattle.noise_script.specs.Script.{ScriptValue, delay_of, loses}
 use Rattle.sample_line.specs.Recorded.{Records}
 use Rattle.sample_line.specs.Outcomes.{IsOutcome}
 use Rattle.sample_line.specs.Path.{LosesAt}
-use Rattle.sample_line.specs.Line.{size_of, bits_behind}
+use Rattle.sample_line.specs.Line.{size_of}
+use Rattle.sample_line.specs.Coder.{IsCodedAs}
 use Rattle.link_run.specs.Run.{Spoken, Turn}
 use Rattle.link_run.specs.Carried.{sent_ago}
 use Rattle.line_run.specs.Sampled.{Wire, signal_in, signals, signals_before, Arrives, ArrivesAs as RunArrives, IsHeardOf, LosesLine}
@@ -30,9 +28,7 @@ use Rattle.line_run.proofs.Slots.{SentAgo, sent-ago}
 use Rattle.line_run.specs.Stream.{Carried, carried_signal, IsDue}
 use Rattle.shared_line.specs.declared.direction.DelayedLine.{DelayedLine}
 use Rattle.shared_line.proofs.Passing.{same-count}
-use Rattle.shared_line.specs.declared.lines.Lines.{Lines}
-use Rattle.shared_line.specs.declared.slot.Slot.{Slot}
-use Rattle.shared_line.specs.Way.{IsOnWay, AreOnWay, Stands, HeardBehind, PassesOldest, Arrival, Early, Due, StandsAt, IsOver, WaitsFor, HasRoom, ArrivesAs}
+use Rattle.shared_line.specs.Way.{Stands, CodesNext, HeardBehind, PassesOldest, Arrival, Early, Due, StandsAt, IsOver, WaitsFor, HasRoom, ArrivesAs}
 
 -- one more of a list
 take-one : (n : ℕ) (xs : List Carried) (x : Carried) → drop n xs ≡ x ∷ drop (suc n) xs → take (suc n) xs ≡ take n xs ++ x ∷ []
@@ -121,7 +117,7 @@ pub record Moved (d new : DelayedLine) : Type 0 where
   pub sender : new.sender ≡ d.sender
   pub delay : new.delay ≡ d.delay
   pub lag : new.lag ≡ d.lag
-  pub symbols : new.line.writer.symbols ≡ d.line.writer.symbols
+  pub symbols : new.line.symbols ≡ d.line.symbols
 
 still-over : (d new : DelayedLine) (c : Wire) (role : Role) (links : ℕ) (stream others : List Carried) (waiting now : ℕ)
     → IsOver d c role links stream waiting → Moved d new → StandsAt new c.script others now → IsOver new c role links others now
@@ -314,7 +310,7 @@ passed-few d c role links stream h =
 
 -- before the first slot
 pub waits-first : (d : DelayedLine) (c : Wire) (role : Role) (links : ℕ)
-    → ((script : ScriptValue) → Stands d script [] []) → d.sender ≡ role → d.line.writer.symbols ≡ c.symbols
+    → ((script : ScriptValue) → Stands d script [] []) → d.sender ≡ role → d.line.symbols ≡ c.symbols
     → d.delay ≡ delay_of c.script role → d.lag ≡ links * d.delay → 1 ≤ links → 1 ≤ delay_of c.script role
     → WaitsFor d c role links []
 waits-first d c role links stands sends symbols delay lag many some = record {
@@ -333,13 +329,25 @@ waits-first d c role links stands sends symbols delay lag many some = record {
     none : 0 ≡ 0 - d.lag
     none = omega arith
 
+-- labels that a slot is coded as behind all that was sent are one slot more behind those on their way
+pub codes-next : (d : DelayedLine) (c : Wire) (role : Role) (links : ℕ) (stream : List Carried) (waiting : ℕ) (x : Carried) (labels : List ℕ)
+    → IsOver d c role links stream waiting → IsCodedAs role (4 * c.symbols) (map (carried_signal role) stream) (carried_signal role x) labels
+    → CodesNext d (map (carried_signal d.sender) (take (length stream - waiting) stream)) (drop (length stream - waiting) stream) x labels
+codes-next d c role links stream waiting x labels h coded =
+    let k : ℕ = length stream - waiting in
+    let all : map (carried_signal d.sender) stream
+        ≡ map (carried_signal d.sender) (take k stream) ++ map (carried_signal d.sender) (drop k stream) =
+    ap (map (carried_signal d.sender)) (sym (take-append-drop k stream))
+    ∙ map-append (carried_signal d.sender) (take k stream) (drop k stream) in
+    subst (λ l. IsCodedAs d.sender (size_of d.line) l (carried_signal d.sender x) labels) all
+    (subst (λ n. IsCodedAs d.sender (4 * n) (map (carried_signal d.sender) stream) (carried_signal d.sender x) labels) (sym h.symbols)
+    (subst (λ r. IsCodedAs r (4 * c.symbols) (map (carried_signal r) stream) (carried_signal r x) labels) (sym h.sends) coded))
+
 -- what is so of each role is so of both
-pub hears-both : (orig answ : DelayedLine) (c : Wire) (links : ℕ) (ts : List Turn) (streams : Both (List Carried)) (checks : Both Check)
-    (to_orig to_answ : Heard) → IsHeardOf c Answerer ts checks.orig to_orig → IsHeardOf c Originator ts checks.answ to_answ
-    → to_orig ≢ Chance → to_answ ≢ Chance → HasRoom orig c Originator links streams.orig → HasRoom answ c Answerer links streams.answ
-    → ArrivesBoth (record { from_orig = orig; from_answ = answ }) c links ts streams checks (record { orig = to_orig; answ = to_answ })
-hears-both orig answ c links ts streams checks to_orig to_answ ho ha wo wa ro ra =
-    record { heard_of = each; well = well; lines = room }
+pub hears-both : (left : Type 0) (c : Wire) (ts : List Turn) (checks : Both Check) (to_orig to_answ : Heard)
+    → IsHeardOf c Answerer ts checks.orig to_orig → IsHeardOf c Originator ts checks.answ to_answ → to_orig ≢ Chance → to_answ ≢ Chance
+    → left → ArrivesBoth left c ts checks (record { orig = to_orig; answ = to_answ })
+hears-both left c ts checks to_orig to_answ ho ha wo wa lines = record { heard_of = each; well = well; lines = lines }
   where
     each : (role : Role) → IsHeardOf c (other role) ts (of role checks) (of role (record { orig = to_orig; answ = to_answ }))
     each Originator = ho
@@ -349,92 +357,24 @@ hears-both orig answ c links ts streams checks to_orig to_answ ho ha wo wa ro ra
     well Originator = wo
     well Answerer = wa
 
-    room : HaveArrived (record { from_orig = orig; from_answ = answ }) c links streams
-    room Originator = ro
-    room Answerer = ra
+pub room-both : (orig answ : DelayedLine) (c : Wire) (links : ℕ) (streams : Both (List Carried)) → HasRoom orig c Originator links streams.orig
+    → HasRoom answ c Answerer links streams.answ → HaveRoom (record { from_orig = orig; from_answ = answ }) c links streams
+room-both orig answ c links streams ho ha Originator = ho
+room-both orig answ c links streams ho ha Answerer = ha
 
 pub waits-both : (orig answ : DelayedLine) (c : Wire) (links : ℕ) (streams : Both (List Carried)) (more : Both Carried)
     → WaitsFor orig c Originator links (streams.orig ++ more.orig ∷ []) → WaitsFor answ c Answerer links (streams.answ ++ more.answ ∷ [])
-    → LinesWait (record { from_orig = orig; from_answ = answ }) c links (and_more streams more)
+    → AreWaiting (record { from_orig = orig; from_answ = answ }) c links (and_more streams more)
 waits-both orig answ c links streams more ho ha Originator = ho
 waits-both orig answ c links streams more ho ha Answerer = ha
 
 pub waits-none : (orig answ : DelayedLine) (c : Wire) (links : ℕ) → WaitsFor orig c Originator links [] → WaitsFor answ c Answerer links []
-    → LinesWait (record { from_orig = orig; from_answ = answ }) c links none_sent
+    → AreWaiting (record { from_orig = orig; from_answ = answ }) c links none_sent
 waits-none orig answ c links ho ha Originator = ho
 waits-none orig answ c links ho ha Answerer = ha
 
--- ---- the slot that was sent last
-
-record Last (size : ℕ) (role : Role) (before : List Signal) (items : List Slot) (x : Carried) : Type 0 where
-  pub slot : Slot
-  pub is : last_item items ≡ Some slot
-  pub stands : IsOnWay size role before slot x
-
-last-cons : (a b : Slot) (items : List Slot) → last_item (a ∷ b ∷ items) ≡ last_item (b ∷ items)
-last-cons a b items =
-    let n : length (a ∷ b ∷ items) - 1 ≡ suc (length items) = omega arith in
-    let m : length (b ∷ items) - 1 ≡ length items = omega arith in
-    ap (slice_get (a ∷ b ∷ items)) n ∙ ap (slice_get (b ∷ items)) (sym m)
-
-last-of : (size : ℕ) (role : Role) (before : List Signal) (items : List Slot) (way : List Carried) (x : Carried)
-    → AreOnWay size role before items (way ++ x ∷ []) → Last size role (before ++ map (carried_signal role) way) items x
-last-of size role before [] [] x h = absurd h
-last-of size role before (slot ∷ []) [] x h =
-    record { slot = slot; is = refl; stands = subst (λ l. IsOnWay size role l slot x) (sym (append-nil before)) h.0 }
-last-of size role before (slot ∷ next ∷ items) [] x h = absurd h.1
-last-of size role before [] (y ∷ way) x h = absurd h
-last-of size role before (slot ∷ []) (y ∷ way) x h = absurd (none way h.1)
-  where
-    none : (way : List Carried) → AreOnWay size role (before ++ carried_signal role y ∷ []) [] (way ++ x ∷ []) → ⊥
-    none [] k = k
-    none (z ∷ zs) k = k
-last-of size role before (slot ∷ next ∷ items) (y ∷ way) x h =
-    let l = last-of size role (before ++ carried_signal role y ∷ []) (next ∷ items) way x h.1 in
-    record {
-      slot = l.slot;
-      is = last-cons slot next items ∙ l.is;
-      stands = subst (λ b. IsOnWay size role b l.slot x) (append_assoc before (carried_signal role y ∷ []) (map (carried_signal role) way)) l.stands;
-    }
-
-newest-is : (d : DelayedLine) (c : Wire) (role : Role) (links : ℕ) (stream front : List Carried) (x : Carried) (o : Option BitSlot)
-    → WaitsFor d c role links stream → stream ≡ front ++ x ∷ [] → o ≡ option_map (λ (slot : Slot). slot.bits) (last_item d.slots.items)
-    → IsNewest o (4 * c.symbols) role front x
-newest-is d c role links stream front x o h e is = subst (λ z. IsNewest z (4 * c.symbols) role front x) (sym (is ∙ ap bits-in l.is)) bits
-  where
-    bits-in : Option Slot → Option BitSlot
-    bits-in s = option_map (λ (slot : Slot). slot.bits) s
-
-    k : ℕ
-    k = length (front ++ x ∷ []) - d.lag
-
-    few : k ≤ length front
-    few = omega (arith, h.lag_some, length-append {A = Carried} front (x ∷ []))
-
-    at : StandsAt d c.script (front ++ x ∷ []) d.lag
-    at = subst (λ s. StandsAt d c.script s d.lag) e h.stands
-
-    stands : Stands d c.script (map (carried_signal d.sender) (take k front)) (drop k front ++ x ∷ [])
-    stands = subst (λ l. Stands d c.script (map (carried_signal d.sender) l) (drop k front ++ x ∷ [])) (take-front k front (x ∷ []) few)
-        (subst (Stands d c.script (map (carried_signal d.sender) (take k (front ++ x ∷ [])))) (drop-front k front (x ∷ []) few) at)
-
-    before : List Signal
-    before = map (carried_signal d.sender) (take k front) ++ map (carried_signal d.sender) (drop k front)
-
-    l : Last (size_of d.line) d.sender before d.slots.items x
-    l = last-of (size_of d.line) d.sender (map (carried_signal d.sender) (take k front)) d.slots.items (drop k front) x stands.slots
-
-    whole : before ≡ map (carried_signal d.sender) front
-    whole = sym (map-append (carried_signal d.sender) (take k front) (drop k front)) ∙ ap (map (carried_signal d.sender)) (take-append-drop k front)
-
-    bits : line_bits l.slot.bits ≡ bits_behind (4 * c.symbols) (map (carried_signal role) front) (carried_signal role x)
-    bits =
-        l.stands.bits ∙ ap (λ n. bits_behind n before (carried_signal d.sender x)) (ap (λ n. 4 * n) h.symbols)
-        ∙ ap (λ b. bits_behind (4 * c.symbols) b (carried_signal d.sender x)) whole
-        ∙ ap (λ r. bits_behind (4 * c.symbols) (map (carried_signal r) front) (carried_signal r x)) h.sends
-
-pub newest-at : (l : Lines) (c : Wire) (role : Role) (links : ℕ) (streams : Both (List Carried)) (front : List Carried) (x : Carried)
-    (o : Option BitSlot) → LinesWait l c links streams → of role streams ≡ front ++ x ∷ []
-    → o ≡ option_map (λ (slot : Slot). slot.bits) (last_item (from role l).slots.items) → IsNewest o (4 * c.symbols) role front x
-newest-at l c Originator links streams front x o h e is = newest-is l.from_orig c Originator links streams.orig front x o (h Originator) e is
-newest-at l c Answerer links streams front x o h e is = newest-is l.from_answ c Answerer links streams.answ front x o (h Answerer) e is
+-- what arrives leaves the line so, and then otherwise
+pub arrives-left : (old new : Type 0) (c : Wire) (ts : List Turn) (checks : Both Check) (r : Result (Both Heard) LineEnd) → (old → new)
+    → ArrivesSo old c ts checks r → ArrivesSo new c ts checks r
+arrives-left old new c ts checks (Ok heard) f h = record { heard_of = h.heard_of; well = h.well; lines = f h.lines }
+arrives-left old new c ts checks (Err end) f h = h

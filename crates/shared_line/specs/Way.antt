@@ -1,7 +1,6 @@
 -- For which slots a direction stands: those that have passed, and those that are on their way.
 use Rattle.std.specs.Prelude.{◌≡◌, ℕ, ◌-◌, ◌*◌, ◌<◌, ◌≤◌, Bool, List, [], ◌∷◌, ◌++◌, length, map, take, drop, None, Result, Ok, Err}
 use Rattle.frame_check.specs.declared.check.Check.{Check}
-use Rattle.bit_stuffing.specs.BitSlot.{line_bits}
 use Rattle.symbol_map.specs.declared.sample.Sample.{Sample}
 use Rattle.survivors.specs.Survivors.{LostIs}
 use Rattle.survivors.specs.V32.{line_depth, line_trellis}
@@ -19,16 +18,17 @@ use Rattle.sample_line.specs.Recorded.{Records}
 use Rattle.sample_line.specs.Received.{Receives}
 use Rattle.sample_line.specs.Outcomes.{IsOutcome}
 use Rattle.sample_line.specs.Path.{LosesAt}
-use Rattle.sample_line.specs.Line.{Kept, LineStands, bits_behind, sender_of, size_of}
+use Rattle.sample_line.specs.Line.{Kept, LineStands, sender_of, size_of}
+use Rattle.sample_line.specs.Coder.{IsCodedAs}
 use Rattle.line_run.specs.Stream.{Carried, carried_signal}
 use Rattle.shared_line.specs.declared.slot.Slot.{Slot}
 use Rattle.shared_line.specs.declared.direction.DelayedLine.{DelayedLine}
 
--- A slot is what was sent, which an end may send, and its bits stand behind those of all slots before.
+-- A slot is what was sent, which an end may send, coded behind all slots before.
 pub record IsOnWay (size : ℕ) (role : Role) (before : List Signal) (slot : Slot) (x : Carried) : Type 0 where
   pub sent : slot.sent ≡ x.spoken.sent
   pub sendable : IsSendable x.spoken.sent
-  pub bits : line_bits slot.bits ≡ bits_behind size before (carried_signal role x)
+  pub coded : IsCodedAs role size before (carried_signal role x) slot.labels
 
 -- so are these, the oldest first
 abbrev pub AreOnWay : ℕ → Role → List Signal → List Slot → List Carried → Type 0
@@ -39,19 +39,15 @@ AreOnWay size role before [] (x ∷ way) = ⊥
 
 -- These slots have passed, and those are on their way.
 pub record Stands (d : DelayedLine) (script : ScriptValue) (passed : List Signal) (way : List Carried) : Type 0 where
-  pub line : LineStands d.line script passed (map (carried_signal d.sender) way)
+  pub line : LineStands d.line script passed
   pub slots : AreOnWay (size_of d.line) d.sender passed d.slots.items way
   pub sender : sender_of d.line ≡ d.sender
   pub room : d.slots.capacity ≡ d.lag
 
--- The line of a direction has coded one slot behind those that are on their way, and these are its bits. It is to be put on its way next.
-pub record HasCoded (d : DelayedLine) (script : ScriptValue) (passed : List Signal) (way : List Carried) (x : Carried)
-    (bits : List Bool) : Type 0 where
-  pub line : LineStands d.line script passed (map (carried_signal d.sender) way ++ carried_signal d.sender x ∷ [])
-  pub slots : AreOnWay (size_of d.line) d.sender passed d.slots.items way
-  pub bits_are : bits ≡ bits_behind (size_of d.line) (passed ++ map (carried_signal d.sender) way) (carried_signal d.sender x)
-  pub sender : sender_of d.line ≡ d.sender
-  pub room : d.slots.capacity ≡ d.lag
+-- These labels are one slot more behind those that are on their way.
+abbrev pub CodesNext : DelayedLine → List Signal → List Carried → Carried → List ℕ → Type 0
+CodesNext d passed way x labels =
+    IsCodedAs d.sender (size_of d.line) (passed ++ map (carried_signal d.sender) way) (carried_signal d.sender x) labels
 
 -- What is heard of a slot behind those that passed, by a hearer with this check on this channel: that of this number of its sender.
 pub record HeardBehind (script : ScriptValue) (sender : Role) (size dlci : ℕ) (passed : List Signal) (number : ℕ) (hearing : Check)
@@ -90,16 +86,14 @@ StandsAt d script stream waiting =
 
 -- so it is of the line that a role's direction has
 abbrev pub Carries : Kept → ScriptValue → Role → List Carried → ℕ → Type 0
-Carries line script role stream waiting =
-    LineStands line script (map (carried_signal role) (take (length stream - waiting) stream))
-    (map (carried_signal role) (drop (length stream - waiting) stream))
+Carries line script role stream waiting = LineStands line script (map (carried_signal role) (take (length stream - waiting) stream))
 
 -- This direction, in which a role sends, stands for a stream of slots over a channel, of which so many are on their way. So many links send one
 -- in each turn.
 pub record IsOver (d : DelayedLine) (c : Wire) (role : Role) (links : ℕ) (stream : List Carried) (waiting : ℕ) : Type 0 where
   pub stands : StandsAt d c.script stream waiting
   pub sends : d.sender ≡ role
-  pub symbols : d.line.writer.symbols ≡ c.symbols
+  pub symbols : d.line.symbols ≡ c.symbols
   pub delay : d.delay ≡ delay_of c.script role
   pub lag : d.lag ≡ links * d.delay
   pub some : 1 ≤ d.delay

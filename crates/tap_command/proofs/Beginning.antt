@@ -6,7 +6,7 @@ use Rattle.xid_params.specs.declared.terms.Terms.{Terms}
 use Rattle.xid_params.specs.Offers.{IsAllowed}
 use Rattle.xid_params.specs.Terms.{lowered, agree}
 use Rattle.line_run.specs.Stream.{both_sent_by}
-use Rattle.shared_line.specs.Lines.{LinesWait}
+use Rattle.shared_line.specs.Lines.{AreWaiting}
 use Rattle.link_run.specs.Listened.{check_by}
 use Rattle.line_tap.specs.Tapping.{Tapping, tapping, line_of, terms_of}
 use Rattle.tap_command.specs.declared.tapping.Tap.{Tap}
@@ -34,7 +34,7 @@ pub after-none : (tap : Tap) (terms : Terms) (x : Tapping) (symbols : ℕ) → x
     → ListensFor tap.orig.listener terms Originator [] → ListensFor tap.answ.listener terms Answerer []
     → ReadsOn tap.orig.reader (line_of x) (check_by terms) Originator [] [] → ReadsOn tap.answ.reader (line_of x) (check_by terms) Answerer [] []
     → length tap.orig.piece.items ≡ 4 * symbols → length tap.answ.piece.items ≡ 4 * symbols
-    → LinesWait tap.lines (line_of x) 1 (both_sent_by 0 []) → TapAfter tap x []
+    → AreWaiting tap.lines (line_of x) 1 (both_sent_by 0 []) → TapAfter tap x []
 after-none tap terms x symbols e same size at turn lo la ro ra po pa lines =
     subst (λ (y : Tapping). TapAfter tap y []) (sym e) there
   where
@@ -60,5 +60,5 @@ after-none tap terms x symbols e same size at turn lo la ro ra po pa lines =
       };
       orig = subst (λ k. ListensFor tap.orig.listener k Originator []) same-z lo;
       answ = subst (λ k. ListensFor tap.answ.listener k Answerer []) same-z la;
-      lines = subst (λ (y : Tapping). LinesWait tap.lines (line_of y) 1 (both_sent_by 0 [])) e lines;
+      lines = subst (λ (y : Tapping). AreWaiting tap.lines (line_of y) 1 (both_sent_by 0 [])) e lines;
     }

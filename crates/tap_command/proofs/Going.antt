@@ -1,6 +1,5 @@
 -- Slots that were read go on the line, and the reading goes on.
-use Rattle.std.proofs.Common.{◌≡◌, ℕ, suc, ◌+◌, ◌<◌, Bool, Option, List, [], ◌∷◌, ◌++◌, length, arith, refl, ◌∙◌, ap}
-use Rattle.bit_stuffing.specs.BitSlot.{line_bits}
+use Rattle.std.proofs.Common.{◌≡◌, ℕ, suc, ◌+◌, ◌-◌, ◌*◌, Option, List, [], ◌∷◌, ◌++◌, length, map, arith, refl, sym, ◌∙◌, ap, subst}
 use Rattle.frame_check.specs.declared.check.Check.{Check}
 use Rattle.shared_terms.specs.declared.role.Role.{Role}
 use Rattle.shared_terms.specs.declared.role.Role.TheVariants.{Originator, Answerer}
@@ -10,21 +9,25 @@ use Rattle.detection.specs.Slots.{Signal}
 use Rattle.lapm_frames.specs.declared.heard.Heard.{Heard}
 use Rattle.lapm_frames.specs.declared.sent.Sent.{Sent}
 use Rattle.noise_script.specs.Script.{ScriptValue}
+use Rattle.sample_line.specs.Signals.{signal_of}
 use Rattle.sample_line.specs.Line.{Kept}
+use Rattle.sample_line.specs.Coder.{IsCodedAs}
 use Rattle.link_run.specs.Run.{Spoken, Turn}
 use Rattle.link_run.specs.Listened.{check_by, judged_by, given_to}
 use Rattle.line_run.specs.Sampled.{HeardAt}
-use Rattle.line_run.specs.Stream.{Carried, sent_by, both_sent_by}
+use Rattle.line_run.specs.Stream.{Carried, carried_signal, sent_by, both_sent_by}
+use Rattle.line_run.proofs.Streaming.{lone-signals}
 use Rattle.shared_line.specs.declared.direction.DelayedLine.{DelayedLine}
-use Rattle.shared_line.specs.Way.{HasCoded, Stands, WaitsFor}
-use Rattle.shared_line.specs.Lines.{LinesWait}
-use Rattle.shared_line.proofs.Waiting.{room-of, sends-behind}
+use Rattle.shared_line.specs.Way.{CodesNext, HasRoom, Stands, WaitsFor}
+use Rattle.shared_line.specs.Lines.{AreWaiting}
+use Rattle.shared_line.proofs.Waiting.{codes-next, sends-behind}
+use Rattle.line_tap.specs.declared.reader.SlotReader.{SlotReader}
 use Rattle.line_tap.specs.Tapping.{Tapping, line_of, terms_of, octets_of, Hears, Sends, GoesOn, told}
 use Rattle.tap_command.specs.declared.end.Slot.{Slot}
 use Rattle.tap_command.specs.declared.end.TappedEnd.{TappedEnd}
 use Rattle.tap_command.specs.declared.tapping.Tap.{Tap}
 use Rattle.tap_command.specs.declared.tapping.Hearing.{Hearing}
-use Rattle.tap_command.specs.Tap.{TapAfter, HasRead, HearsThese, IsToGo, turn_in, going_in}
+use Rattle.tap_command.specs.Tap.{TapAfter, ReadsToo, HearsThese, IsToGo, turn_in, going_in}
 use Rattle.tap_command.proofs.SlotNext.{octets-next}
 
 -- ---- the turn that was heard
@@ -50,31 +53,28 @@ hears-so x ts heard sent h = record { heard = at; checks = checks; given = given
 
 -- ---- a slot is put on its way
 
-pub room-in : (d : DelayedLine) (x : Tapping) (role : Role) (ts : List Turn) (slot : Slot) (check : Check)
-    → HasRead d (line_of x) role ts slot check → length d.slots.items < d.lag
-room-in d x role ts slot check h =
-    rw (h.slots, h.lag) (room-of h.before (line_of x) role 1 (sent_by 0 role ts) h.room)
-
 -- what a call that puts a slot leaves of a direction
-pub record Puts (d new : DelayedLine) (sent : Sent) (bits : List Bool) : Type 0 where
-  pub stands : (script : ScriptValue) (passed : List Signal) (way : List Carried) (x : Carried) → HasCoded d script passed way x bits
-      → x.spoken.sent ≡ sent → Stands new script passed (way ++ x ∷ [])
+pub record Puts (d new : DelayedLine) (sent : Sent) (labels : List ℕ) : Type 0 where
+  pub stands : (script : ScriptValue) (passed : List Signal) (way : List Carried) (x : Carried) → Stands d script passed way
+      → CodesNext d passed way x labels → x.spoken.sent ≡ sent → Stands new script passed (way ++ x ∷ [])
   pub sender : new.sender ≡ d.sender
   pub delay : new.delay ≡ d.delay
   pub lag : new.lag ≡ d.lag
   pub line : new.line ≡ d.line
 
-pub waits-again : (d new : DelayedLine) (x : Tapping) (role : Role) (ts : List Turn) (slot : Slot) (check : Check) (sent : Sent)
-    → HasRead d (line_of x) role ts slot check → slot.sent ≡ sent → Puts d new sent (line_bits slot.bits)
+pub waits-again : (d new : DelayedLine) (r : SlotReader) (x : Tapping) (role : Role) (ts : List Turn) (body : List ℕ) (slot : Slot) (check : Check)
+    (sent : Sent) → HasRoom d (line_of x) role 1 (sent_by 0 role ts) → ReadsToo r (line_of x) check role ts body slot → slot.sent ≡ sent
+    → Puts d new sent slot.labels
     → WaitsFor new (line_of x) role 1 (sent_by 0 role ts ++ (record { dlci = 0; spoken = told check slot.sent }) ∷ [])
-waits-again d new x role ts slot check sent h same p =
-    sends-behind h.before new (line_of x) role 1 (sent_by 0 role ts) (record { dlci = 0; spoken = told check slot.sent }) h.room
-    (record {
-      sender = p.sender ∙ h.sender;
-      delay = p.delay ∙ h.delay;
-      lag = p.lag ∙ h.lag;
-      symbols = ap (λ (l : Kept). l.writer.symbols) p.line ∙ h.symbols;
-    }) (p.stands x.script _ _ (record { dlci = 0; spoken = told check slot.sent }) h.coded same)
+waits-again d new r x role ts body slot check sent h k same p =
+    let item : Carried = record { dlci = 0; spoken = told check slot.sent } in
+    let coded : IsCodedAs role (4 * (line_of x).symbols) (map (carried_signal role) (sent_by 0 role ts)) (carried_signal role item) slot.labels =
+    subst (λ l. IsCodedAs role (4 * (line_of x).symbols) l (signal_of check role 0 slot.sent) slot.labels)
+    (sym (lone-signals (line_of x) role ts (λ r n. refl))) k.coded in
+    sends-behind d new (line_of x) role 1 (sent_by 0 role ts) item h
+    (record { sender = p.sender; delay = p.delay; lag = p.lag; symbols = ap (λ (l : Kept). l.symbols) p.line })
+    (p.stands x.script _ _ item h.stands
+    (codes-next d (line_of x) role 1 (sent_by 0 role ts) (d.lag - 1) item slot.labels h coded) same)
 
 -- ---- the reading goes on
 
@@ -96,8 +96,8 @@ pub record Goes (tap new : Tap) (slots : Both Slot) (sent : Both Sent) : Type 0 
   pub answ : new.answ ≡ tap.answ
   pub at : new.at ≡ tap.at + length tap.orig.piece.items
   pub turn : new.turn ≡ tap.turn + 1
-  pub from_orig : Puts tap.lines.from_orig new.lines.from_orig sent.orig (line_bits slots.orig.bits)
-  pub from_answ : Puts tap.lines.from_answ new.lines.from_answ sent.answ (line_bits slots.answ.bits)
+  pub from_orig : Puts tap.lines.from_orig new.lines.from_orig sent.orig slots.orig.labels
+  pub from_answ : Puts tap.lines.from_answ new.lines.from_answ sent.answ slots.answ.labels
   pub orig_sent : slots.orig.sent ≡ sent.orig
   pub answ_sent : slots.answ.sent ≡ sent.answ
 
@@ -122,8 +122,10 @@ after-going x ts tap new h slots sent k g = record {
     check : Check
     check = check_by (terms_of x)
 
-    wait : LinesWait new.lines (line_of x) 1 (both_sent_by 0 (going_in x ts h.heard slots ∷ ts))
+    wait : AreWaiting new.lines (line_of x) 1 (both_sent_by 0 (going_in x ts h.heard slots ∷ ts))
     wait Originator =
-        waits-again tap.lines.from_orig new.lines.from_orig x Originator ts slots.orig check sent.orig k.read.from_orig g.orig_sent g.from_orig
+        waits-again tap.lines.from_orig new.lines.from_orig tap.orig.reader x Originator ts x.bodies.orig slots.orig check sent.orig
+        (k.read.lines Originator) k.read.orig g.orig_sent g.from_orig
     wait Answerer =
-        waits-again tap.lines.from_answ new.lines.from_answ x Answerer ts slots.answ check sent.answ k.read.from_answ g.answ_sent g.from_answ
+        waits-again tap.lines.from_answ new.lines.from_answ tap.answ.reader x Answerer ts x.bodies.answ slots.answ check sent.answ
+        (k.read.lines Answerer) k.read.answ g.answ_sent g.from_answ

@@ -23,7 +23,7 @@ use Rattle.line_run.specs.Sampled.{Wire, IsHeardOf, IsHeardWell, EndsLineBy, Lin
 use Rattle.line_run.specs.Scripted.{ScriptsHaveDelays}
 use Rattle.line_run.specs.LineLaws.{LoneSlotsAreDue, LoneSlotsAreCounted}
 use Rattle.line_run.specs.Stream.{AreSent, IsDue, sent_by, both_sent_by}
-use Rattle.shared_line.specs.Lines.{AreDue, ArrivesBoth, PassedFew, from}
+use Rattle.shared_line.specs.Lines.{AreDue, ArrivesBoth, HaveRoom, PassedFew, from}
 use Rattle.shared_line.proofs.Waiting.{passed-few}
 use Rattle.line_tap.specs.Tapping.{Tapping, line_of, terms_of, Tells}
 use Rattle.tap_command.specs.declared.listener.Listener.{Listener}
@@ -115,7 +115,7 @@ checks-so tap x ts checks h o a Answerer = a ∙ h.answ.check_is
 
 pub hears-these : (tap new : Tap) (x : Tapping) (ts : List Turn) (checks : Both Check) (heard : Both Heard) → TapAfter tap x ts
     → checks.orig ≡ tap.orig.listener.check → checks.answ ≡ tap.answ.listener.check
-    → ArrivesBoth new.lines (line_of x) 1 ts (both_sent_by 0 ts) checks heard → HearsThese x ts heard
+    → ArrivesBoth (HaveRoom new.lines (line_of x) 1 (both_sent_by 0 ts)) (line_of x) ts checks heard → HearsThese x ts heard
 hears-these tap new x ts checks heard h o a arrives = record {
   heard_of = λ role. subst (λ k. IsHeardOf (line_of x) (other role) ts k (of role heard)) (checks-so tap x ts checks h o a role) (arrives.heard_of role);
   well = arrives.well;

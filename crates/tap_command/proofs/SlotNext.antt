@@ -6,12 +6,10 @@ use Rattle.std.proofs.lemmas.Grind.{common_steps}
 use Rattle.frame_check.specs.declared.check.Check.{Check}
 use Rattle.shared_terms.specs.declared.role.Role.{Role}
 use Rattle.symbol_map.specs.declared.sample.Sample.{Sample}
-use Rattle.detection.specs.Slots.{Signal}
 use Rattle.recordings.specs.Samples.{samples_in}
 use Rattle.lapm_frames.specs.declared.sent.Sent.{Sent}
-use Rattle.noise_script.specs.Script.{ScriptValue}
 use Rattle.sample_line.specs.Signals.{signal_of}
-use Rattle.sample_line.specs.Line.{Kept, LineStands, bits_behind}
+use Rattle.sample_line.specs.Coder.{IsCodedAs}
 use Rattle.link_run.specs.Run.{Turn}
 use Rattle.line_run.specs.Sampled.{Wire, signals}
 use Rattle.line_tap.specs.declared.seeker.Sender.{Sender}
@@ -89,25 +87,22 @@ pub none-held : (r : SlotReader) (c : Wire) (check : Check) (role : Role) (ts : 
 none-held r c check role ts body piece h size none s k = none s (next-of r c check role ts body piece s h.reads h.count size k)
 
 -- what it reads is what they hold
-pub reads-next : (old new : SlotReader) (line : Kept) (c : Wire) (check : Check) (role : Role) (ts : List Turn) (script : ScriptValue)
-    (passed waiting : List Signal) (body piece : List ℕ) (slot : Slot)
-    → passed ++ waiting ≡ signals c role ts → ReadsOn old c check role ts body → length piece ≡ 4 * c.symbols
-    → ReadsSlot old new line script passed waiting (samples_in body) (samples_in piece) slot.bits slot.sent
-    → ReadsNext new line c check role ts script passed waiting (body ++ piece) slot
-reads-next old new line c check role ts script passed waiting body piece slot sigs h size k = record {
-  holds = held-of old c check role ts body piece slot.sent h.reads h.count size
-      (subst (λ l. IsNext old l (samples_in body) (samples_in piece) slot.sent) sigs k.next);
+pub reads-next : (old new : SlotReader) (c : Wire) (check : Check) (role : Role) (ts : List Turn) (body piece : List ℕ) (slot : Slot)
+    → ReadsOn old c check role ts body → length piece ≡ 4 * c.symbols
+    → ReadsSlot old new (signals c role ts) (samples_in body) (samples_in piece) slot.labels slot.sent
+    → ReadsNext new c check role ts (body ++ piece) slot
+reads-next old new c check role ts body piece slot h size k = record {
+  holds = held-of old c check role ts body piece slot.sent h.reads h.count size k.next;
   count = count-next c (length ts) body piece h.count size;
   symbols = k.symbols ∙ h.reads.symbols;
   sender = k.sender ∙ h.reads.sender;
-  phase = k.phase;
-  stands = subst (λ l. ReaderStands new (l ++ signal_of check role c.dlci slot.sent ∷ []) (samples_in (body ++ piece))) sigs
-      (subst (λ x. ReaderStands new ((passed ++ waiting) ++ x ∷ []) (samples_in (body ++ piece))) carried
-      (subst (λ (l : List Sample). ReaderStands new ((passed ++ waiting) ++ carries old slot.sent ∷ []) l)
-      (samples-behind c (length ts) body piece h.count size) k.stands));
-  line_stands = subst (λ x. LineStands line script passed (waiting ++ x ∷ [])) carried k.line_stands;
-  bits = k.coded ∙ ap (λ n. bits_behind (4 * n) (passed ++ waiting) (carries old slot.sent)) h.reads.symbols
-      ∙ ap (bits_behind (4 * c.symbols) (passed ++ waiting)) carried;
+  stands = subst (λ x. ReaderStands new (signals c role ts ++ x ∷ []) (samples_in (body ++ piece))) carried
+      (subst (λ (l : List Sample). ReaderStands new (signals c role ts ++ carries old slot.sent ∷ []) l)
+      (samples-behind c (length ts) body piece h.count size) k.stands);
+  coded = subst (λ x. IsCodedAs role (4 * c.symbols) (signals c role ts) x slot.labels) carried
+      (subst (λ n. IsCodedAs role (4 * n) (signals c role ts) (carries old slot.sent) slot.labels) h.reads.symbols
+      (subst (λ r. IsCodedAs r (4 * old.symbols) (signals c role ts) (carries old slot.sent) slot.labels)
+      (ap (λ (w : Sender). w.role) h.reads.sender) k.coded));
 }
   where
     carried : carries old slot.sent ≡ signal_of check role c.dlci slot.sent

@@ -1,13 +1,10 @@
 -- For what the reader of an end's slots stands, and what it reads.
 use Rattle.std.specs.Prelude.{◌≡◌, ℕ, ◌+◌, ◌*◌, List, [], ◌∷◌, ◌++◌, length}
 use Rattle.frame_check.specs.declared.check.Check.{Check}
-use Rattle.bit_stuffing.specs.BitSlot.{line_bits}
-use Rattle.detection.specs.Slots.{Signal}
 use Rattle.shared_terms.specs.declared.role.Role.{Role}
 use Rattle.recordings.specs.Samples.{samples_in}
-use Rattle.noise_script.specs.Script.{ScriptValue}
 use Rattle.sample_line.specs.Signals.{signal_of}
-use Rattle.sample_line.specs.Line.{Kept, LineStands, bits_behind}
+use Rattle.sample_line.specs.Coder.{IsCodedAs}
 use Rattle.link_run.specs.Run.{Turn}
 use Rattle.line_run.specs.Sampled.{Wire, signals}
 use Rattle.line_tap.specs.declared.reader.SlotReader.{SlotReader}
@@ -21,14 +18,11 @@ pub record ReadsOn (r : SlotReader) (c : Wire) (check : Check) (role : Role) (ts
   pub stands : ReaderStands r (signals c role ts) (samples_in body)
   pub count : length body ≡ octets_of c (length ts)
 
--- A slot was read behind those of these turns, of which these octets are all, and this line has coded it.
-pub record ReadsNext (r : SlotReader) (line : Kept) (c : Wire) (check : Check) (role : Role) (ts : List Turn) (script : ScriptValue)
-    (passed waiting : List Signal) (body : List ℕ) (slot : Slot) : Type 0 where
+-- A slot was read behind those of these turns, of which these octets are all.
+pub record ReadsNext (r : SlotReader) (c : Wire) (check : Check) (role : Role) (ts : List Turn) (body : List ℕ) (slot : Slot) : Type 0 where
   pub holds : HoldsNext c check role ts body slot.sent
   pub count : length body ≡ octets_of c (length ts + 1)
   pub symbols : r.symbols ≡ c.symbols
   pub sender : r.sender ≡ sender_for check role c.dlci
-  pub phase : r.phase ≡ line.writer.phase
   pub stands : ReaderStands r (signals c role ts ++ signal_of check role c.dlci slot.sent ∷ []) (samples_in body)
-  pub line_stands : LineStands line script passed (waiting ++ signal_of check role c.dlci slot.sent ∷ [])
-  pub bits : line_bits slot.bits ≡ bits_behind (4 * c.symbols) (passed ++ waiting) (signal_of check role c.dlci slot.sent)
+  pub coded : IsCodedAs role (4 * c.symbols) (signals c role ts) (signal_of check role c.dlci slot.sent) slot.labels

@@ -1,9 +1,8 @@
 -- For which turns a tap stands, and what a turn of it answers.
-use Rattle.std.specs.Prelude.{◌≡◌, ◌≢◌, ◌⊎◌, ℕ, ◌+◌, ◌-◌, ◌*◌, ◌<◌, ◌≤◌, IsTrue, List, [], ◌∷◌, ◌++◌, length, take, drop, map, Option, Some, None, Result, Ok, Err}
+use Rattle.std.specs.Prelude.{◌≡◌, ◌≢◌, ◌⊎◌, ℕ, ◌+◌, ◌*◌, ◌<◌, ◌≤◌, IsTrue, List, [], ◌∷◌, ◌++◌, length, take, Option, Some, None, Result, Ok, Err}
 use Rattle.outside_calls.specs.Folder.{FolderState, octets_at}
 use Rattle.outside_calls.specs.Outputs.{AddEach, AddPart}
 use Rattle.frame_check.specs.declared.check.Check.{Check}
-use Rattle.bit_stuffing.specs.BitSlot.{line_bits}
 use Rattle.shared_terms.specs.declared.role.Role.{Role}
 use Rattle.shared_terms.specs.declared.role.Role.TheVariants.{Originator, Answerer}
 use Rattle.shared_terms.specs.Role.{other, mode_of}
@@ -16,13 +15,13 @@ use Rattle.noise_script.specs.Script.{IsInLimits}
 use Rattle.link_run.specs.Run.{Spoken, Side, Turn}
 use Rattle.link_run.specs.Trace.{trace_text, turn_text}
 use Rattle.link_run.specs.Listened.{check_by, judged_by, given_to}
-use Rattle.line_run.specs.Sampled.{Wire, IsHeardOf}
+use Rattle.sample_line.specs.Signals.{signal_of}
+use Rattle.sample_line.specs.Coder.{IsCodedAs}
+use Rattle.line_run.specs.Sampled.{Wire, signals, IsHeardOf}
 use Rattle.line_run.specs.Ends.{Left}
-use Rattle.line_run.specs.Stream.{carried_signal, sent_by, both_sent_by}
-use Rattle.shared_line.specs.declared.direction.DelayedLine.{DelayedLine}
-use Rattle.shared_line.specs.declared.lines.LineEnd.{LineEnd}
-use Rattle.shared_line.specs.Way.{HasCoded, HasRoom}
-use Rattle.shared_line.specs.Lines.{LinesWait, HaveArrived, end_of}
+use Rattle.line_run.specs.Stream.{both_sent_by}
+use Rattle.shared_line.specs.declared.directions.LineEnd.{LineEnd}
+use Rattle.shared_line.specs.Lines.{AreWaiting, HaveRoom, end_of}
 use Rattle.line_tap.specs.declared.reader.SlotReader.{SlotReader}
 use Rattle.line_tap.specs.Tapping.{Tapping, tapping, line_of, terms_of, octets_of, HoldsNext, Tells, told}
 use Rattle.line_tap.specs.Ends.{TapEnd, EndsBy, EndsLine, HoldsNone, IsFirstRefused}
@@ -79,7 +78,7 @@ pub record TapAfter (tap : Tap) (x : Tapping) (ts : List Turn) : Type 0 where
   pub behind : IsBehind tap x ts
   pub orig : ListensFor tap.orig.listener (terms_of x) Originator ts
   pub answ : ListensFor tap.answ.listener (terms_of x) Answerer ts
-  pub lines : LinesWait tap.lines (line_of x) 1 (both_sent_by 0 ts)
+  pub lines : AreWaiting tap.lines (line_of x) 1 (both_sent_by 0 ts)
 
 -- A turn may be made.
 pub record IsReady (tap : Tap) : Type 0 where
@@ -119,7 +118,7 @@ pub record HasHeard (tap : Tap) (x : Tapping) (ts : List Turn) (heard : Both Hea
   pub hears : HearsThese x ts heard
   pub orig : ListensToo tap.orig.listener (terms_of x) Originator ts (silent_in x ts heard)
   pub answ : ListensToo tap.answ.listener (terms_of x) Answerer ts (silent_in x ts heard)
-  pub lines : HaveArrived tap.lines (line_of x) 1 (both_sent_by 0 ts)
+  pub lines : HaveRoom tap.lines (line_of x) 1 (both_sent_by 0 ts)
 
 -- or it is.
 pub record InTurn (tap : Tap) (x : Tapping) (ts : List Turn) (heard : Both Heard) : Type 0 where
@@ -127,7 +126,7 @@ pub record InTurn (tap : Tap) (x : Tapping) (ts : List Turn) (heard : Both Heard
   pub hears : HearsThese x ts heard
   pub orig : ListensFor tap.orig.listener (terms_of x) Originator (silent_in x ts heard ∷ ts)
   pub answ : ListensFor tap.answ.listener (terms_of x) Answerer (silent_in x ts heard ∷ ts)
-  pub lines : HaveArrived tap.lines (line_of x) 1 (both_sent_by 0 ts)
+  pub lines : HaveRoom tap.lines (line_of x) 1 (both_sent_by 0 ts)
 
 -- what hearing answers
 abbrev pub HearsTurn : Tap → Tapping → List Turn → Result Hearing LineEnd → Type 0
@@ -211,31 +210,17 @@ TurnAnswers tap start old now n x ts (Err stop) = TurnStops start old now n x ts
 
 -- ---- slots that were read
 
--- A direction that had room, whose line has coded this slot since, with these bits.
-pub record HasRead (d : DelayedLine) (c : Wire) (role : Role) (ts : List Turn) (slot : Slot) (check : Check) : Type 0 where
-  pub before : DelayedLine
-  pub room : HasRoom before c role 1 (sent_by 0 role ts)
-  pub sender : d.sender ≡ before.sender
-  pub delay : d.delay ≡ before.delay
-  pub lag : d.lag ≡ before.lag
-  pub slots : d.slots ≡ before.slots
-  pub symbols : d.line.writer.symbols ≡ before.line.writer.symbols
-  pub coded : HasCoded d c.script
-      (map (carried_signal before.sender) (take (length (sent_by 0 role ts) - (before.lag - 1)) (sent_by 0 role ts)))
-      (drop (length (sent_by 0 role ts) - (before.lag - 1)) (sent_by 0 role ts)) (record { dlci = 0; spoken = told check slot.sent })
-      (line_bits slot.bits)
-
--- The reader stands behind that slot too.
+-- The reader stands behind this slot too, which it read as the labels that it is coded as.
 pub record ReadsToo (r : SlotReader) (c : Wire) (check : Check) (role : Role) (ts : List Turn) (body : List ℕ) (slot : Slot) : Type 0 where
   pub holds : HoldsNext c check role ts body slot.sent
   pub reads : (t : Turn) → (of role t).sent ≡ Some (told check slot.sent) → ReadsOn r c check role (t ∷ ts) body
+  pub coded : IsCodedAs role (4 * c.symbols) (signals c role ts) (signal_of check role c.dlci slot.sent) slot.labels
 
--- Both slots were read behind these turns, of these octets and of those that were read before.
+-- Both slots were read behind these turns, of these octets and of those that were read before, and both directions have room for them.
 pub record HaveRead (tap : Tap) (x : Tapping) (ts : List Turn) (slots : Both Slot) : Type 0 where
   pub orig : ReadsToo tap.orig.reader (line_of x) (check_by (terms_of x)) Originator ts x.bodies.orig slots.orig
   pub answ : ReadsToo tap.answ.reader (line_of x) (check_by (terms_of x)) Answerer ts x.bodies.answ slots.answ
-  pub from_orig : HasRead tap.lines.from_orig (line_of x) Originator ts slots.orig (check_by (terms_of x))
-  pub from_answ : HasRead tap.lines.from_answ (line_of x) Answerer ts slots.answ (check_by (terms_of x))
+  pub lines : HaveRoom tap.lines (line_of x) 1 (both_sent_by 0 ts)
 
 -- what looking at both slots answers
 abbrev pub LooksAt : Tap → Tapping → List Turn → Result (Both Slot) Role → Type 0

@@ -7,23 +7,21 @@ ghost use Rattle.frame_check.specs.declared.sizes.TheConstants.{SLOT};
 ghost use Rattle.bit_stuffing.specs.declared.slot_writer.TheConstants.{HEAD, TAIL};
 ghost use Rattle.frame_check.specs.declared.check.Check.{Check as CheckValue};
 ghost use Rattle.shared_terms.specs.declared.role.Role.{Role as RoleValue};
-ghost use Rattle.detection.specs.Slots.{Signal};
 ghost use Rattle.lapm_frames.specs.declared.sent.Sent.{Sent as SentValue};
-ghost use Rattle.noise_script.specs.Script.{ScriptValue};
-ghost use Rattle.sample_line.specs.Line.{LineStands, sender_of};
 ghost use Rattle.line_run.specs.Fitting.{AreFit};
 ghost use Rattle.link_run.specs.Run.{Turn};
 ghost use Rattle.line_run.specs.Sampled.{Wire, signals};
+ghost use Rattle.line_tap.specs.Reader.{IsInStep};
 ghost use Rattle.line_tap.specs.Tapping.{HoldsNext};
 
 use crate::limits::DLCI;
 use crate::listener::{Listener, agreed_check};
-use bit_stuffing::{BitSlot, HEAD, TAIL};
+use bit_stuffing::{HEAD, TAIL};
 use frame_check::SLOT;
 use lapm_frames::Sent;
 use line_tap::{Sender, SlotReader};
 use outside_calls::NoMemory;
-use sample_line::Line;
+use sample_line::LabelSlot;
 use shared_terms::Role;
 use std::alloc::Global;
 use xid_params::Terms;
@@ -33,8 +31,8 @@ use xid_params::Terms;
 pub struct Slot {
     /// What was sent in it.
     pub sent: Sent,
-    /// Its bits, as the line has coded them.
-    pub bits: BitSlot,
+    /// The labels of its samples.
+    pub labels: LabelSlot,
 }
 
 /// What there is of an end.
@@ -103,32 +101,25 @@ impl TappedEnd {
         })
     }
 
-    /// The slot that the first so many octets of the piece are, coded by the line on which it goes. None where they are fewer than a slot has, or no
-    /// slot's.
-    pub fn read(&mut self, line: &mut Line, count: usize) -> Option<Slot>
-        requires sender { sender_of line.old ≡ self.old.reader.sender.role }
-        requires symbols { line.old.writer.symbols ≡ self.old.reader.symbols }
-        requires phase { line.old.writer.phase ≡ self.old.reader.phase }
+    /// The slot that the first so many octets of the piece are. None where they are fewer than a slot has, or no slot's.
+    pub fn read(&mut self, count: usize) -> Option<Slot>
+        requires writer { IsInStep self.old.reader }
         requires size { vec_len self.old.piece ≡ 4 * self.old.reader.symbols }
         requires count { count ≤ vec_len self.old.piece }
-        ensures some { (c : Wire) (check : CheckValue) (role : RoleValue) (ts : List Turn) (script : ScriptValue) (passed waiting : List Signal) (body : List ℕ)
-            → LineStands line.old script passed waiting → passed ++ waiting ≡ signals c role ts → ReadsOn self.old.reader c check role ts body
-            → IfSome result (λ slot. ReadsNext self.new.reader line.new c check role ts script passed waiting (body ++ take count self.old.piece.items) slot) }
-        ensures none { (c : Wire) (check : CheckValue) (role : RoleValue) (ts : List Turn) (script : ScriptValue) (passed waiting : List Signal) (body : List ℕ)
-            → LineStands line.old script passed waiting → passed ++ waiting ≡ signals c role ts → ReadsOn self.old.reader c check role ts body
+        ensures some { (c : Wire) (check : CheckValue) (role : RoleValue) (ts : List Turn) (body : List ℕ) → ReadsOn self.old.reader c check role ts body
+            → IfSome result (λ slot. ReadsNext self.new.reader c check role ts (body ++ take count self.old.piece.items) slot) }
+        ensures none { (c : Wire) (check : CheckValue) (role : RoleValue) (ts : List Turn) (body : List ℕ) → ReadsOn self.old.reader c check role ts body
             → AreFit (4 * c.symbols) 0 (signals c role ts)
             → IfNone result ((s : SentValue) → HoldsNext c check role ts (body ++ take count self.old.piece.items) s → ⊥) }
         ensures listener { self.new.listener ≡ self.old.listener }
         ensures piece { self.new.piece ≡ self.old.piece }
-        ensures symbols { line.new.writer.symbols ≡ line.old.writer.symbols }
-        ensures path { line.new.path ≡ line.old.path }
     {
         if count < self.piece.len() {
             return None;
         }
-        let mut bits = BitSlot::new();
-        match self.reader.read(line, &self.piece, &mut bits) {
-            Some(sent) => Some(Slot { sent, bits }),
+        let mut labels = LabelSlot::new();
+        match self.reader.read(&self.piece, &mut labels) {
+            Some(sent) => Some(Slot { sent, labels }),
             None => None,
         }
     }

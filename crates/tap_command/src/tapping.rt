@@ -30,7 +30,7 @@ use line_run::laws::{scripts_make_links, slots_are_due_alone, slots_have_room};
 use noise_script::Script;
 use outside_calls::{Folder, FolderFault, NoMemory};
 use recordings::HEADER;
-use shared_line::{LineEnd, Lines, slot_symbols};
+use shared_line::{Directions, LineEnd, slot_symbols};
 use shared_terms::{Both, Role};
 use stations::{sent_in, turn_lines};
 use std::alloc::Global;
@@ -59,7 +59,7 @@ pub struct Tap {
     /// What the line does.
     script: Script,
     /// Both directions of the line.
-    lines: Lines,
+    lines: Directions,
     /// The originator.
     orig: TappedEnd,
     /// The answerer.
@@ -102,7 +102,7 @@ impl Tap {
             &script.offer(Role::Answerer),
         );
         let symbols = slot_symbols(&script);
-        let lines = Lines::new(alloc, &script, 1)?;
+        let lines = Directions::new(alloc, &script, 1)?;
         let orig = TappedEnd::new(alloc, Role::Originator, &terms, symbols)?;
         let answ = TappedEnd::new(alloc, Role::Answerer, &terms, symbols)?;
         Ok(Tap {
@@ -227,11 +227,11 @@ impl Tap {
     {
         codable_slots_fit();
         slots_that_fit_follow_one_another();
-        let orig = match self.orig.read(&mut self.lines.from_orig.line, counts.orig) {
+        let orig = match self.orig.read(counts.orig) {
             Some(slot) => slot,
             None => return Err(Role::Originator),
         };
-        match self.answ.read(&mut self.lines.from_answ.line, counts.answ) {
+        match self.answ.read(counts.answ) {
             Some(answ) => Ok(Both { orig, answ }),
             None => Err(Role::Answerer),
         }
@@ -300,8 +300,8 @@ impl Tap {
             Err(fault) => return Err(fault),
         }
         let sent = sent_in(lines);
-        self.lines.from_orig.put(sent.orig, orig.bits);
-        self.lines.from_answ.put(sent.answ, answ.bits);
+        self.lines.from_orig.put(sent.orig, orig.labels);
+        self.lines.from_answ.put(sent.answ, answ.labels);
         self.turn += 1;
         self.at += self.orig.piece.len() as u64;
         Ok(())

@@ -3,14 +3,15 @@ ghost use Rattle.std.specs.Prelude.{◌≡◌, ◌+◌, ◌<◌, ◌≤◌, ◌^
 ghost use Rattle.frame_check.specs.declared.sizes.TheConstants.{SLOT};
 ghost use Rattle.detection.specs.Slots.{Signal};
 ghost use Rattle.lapm_frames.specs.Sendable.{IsSendable};
-ghost use Rattle.sample_line.specs.Line.{LineStands};
+ghost use Rattle.sample_line.specs.Line.{LineStands, sender_of};
+ghost use Rattle.sample_line.specs.Coder.{CoderStands};
 
 use bit_stuffing::BitSlot;
 use exact_decoder::Lost;
 use frame_check::{Check, SLOT};
 use lapm_frames::Sent;
 use noise_script::{Script, read_script};
-use sample_line::{Heard, Line, laws};
+use sample_line::{Coder, Heard, LabelSlot, Line, laws};
 use shared_terms::Role;
 use std::alloc::Global;
 use std::test::Fail;
@@ -24,24 +25,30 @@ mod zero;
 
 /// Codes the next slot by one check, passes it, and judges it by the other check.
 fn through(
+    coder: &mut Coder,
     line: &mut Line,
     script: &Script,
     sent: &Sent,
     coded: Check,
     judged: Check,
 ) -> Result<Heard, Lost>
-    requires symbols { line.old.writer.symbols ≡ SLOT }
+    requires symbols { line.old.symbols ≡ SLOT }
+    requires coded { coder.old.writer.symbols ≡ SLOT }
+    requires sender { sender_of line.old ≡ coder.old.sender }
     requires few { line.old.passed < 2 ^ 40 }
     requires sendable { IsSendable sent.now }
-    requires stands { (passed : List Signal) × LineStands line.old script.now passed [] }
-    ensures symbols { line.new.writer.symbols ≡ SLOT }
+    requires stands { (passed : List Signal) × LineStands line.old script.now passed × CoderStands coder.old passed }
+    ensures symbols { line.new.symbols ≡ SLOT }
+    ensures coded { coder.new.writer.symbols ≡ SLOT }
+    ensures sender { sender_of line.new ≡ coder.new.sender }
     ensures passed { line.new.passed ≡ line.old.passed + 1 }
-    ensures stands { OnOk result ((passed : List Signal) × LineStands line.new script.now passed []) }
+    ensures stands { OnOk result ((passed : List Signal) × LineStands line.new script.now passed × CoderStands coder.new passed) }
 {
     laws::all_fits();
-    let mut slot = BitSlot::new();
-    line.code(sent, coded, 0, &mut slot);
-    line.pass(script, &slot, sent, false, judged, 0)
+    let mut bits = BitSlot::new();
+    let mut labels = LabelSlot::new();
+    coder.code(sent, coded, 0, &mut bits, &mut labels);
+    line.pass(script, &labels, sent, false, judged, 0)
 }
 
 /// What is heard of a line's first slot of so many symbols, where flags are sent and may be lost.
@@ -56,9 +63,10 @@ fn flags_heard(
     requires few { symbols ≤ SLOT }
 {
     let mut line = Line::new(alloc, sender, symbols)?;
-    let mut slot = BitSlot::new();
-    line.code(&Sent::Flags, Check::Sixteen, 0, &mut slot);
-    Ok(line.pass(script, &slot, &Sent::Flags, loses, Check::Sixteen, 0))
+    let mut bits = BitSlot::new();
+    let mut labels = LabelSlot::new();
+    Coder::new(sender, symbols).code(&Sent::Flags, Check::Sixteen, 0, &mut bits, &mut labels);
+    Ok(line.pass(script, &labels, &Sent::Flags, loses, Check::Sixteen, 0))
 }
 
 /// Whether a slot is heard as it was sent.
@@ -86,6 +94,7 @@ fn first_slot(
 ) -> Result<Heard, Fail>
     requires { IsSendable sent.now }
 {
+    let mut coder = Coder::new(sender, SLOT as u16);
     let mut line = Line::new(alloc, sender, SLOT as u16)?;
-    kept(through(&mut line, script, sent, coded, judged))
+    kept(through(&mut coder, &mut line, script, sent, coded, judged))
 }

@@ -2,6 +2,8 @@
 use super::*;
 use frame_check::{INFO, Info};
 use lapm_frames::Frame;
+use line_coding::Modulator;
+use scramblers::Mode;
 use std::process::Abort;
 
 /// A ready frame of the originator's, a response, with its check.
@@ -29,11 +31,22 @@ fn slot_of(octets: &[u8]) -> BitSlot {
     slot
 }
 
+/// The labels of a first slot's bits.
+fn labels_of(slot: &BitSlot) -> LabelSlot {
+    let mut modulator = Modulator::new(Mode::Call);
+    let mut labels = LabelSlot::new();
+    for place in 0..slot.len() {
+        labels.push(modulator.label(slot.quad(place)));
+    }
+    labels
+}
+
 /// What is heard of a slot of these octets, where that was sent.
 fn heard_of(alloc: Global, octets: &[u8], sent: &Sent) -> Result<Heard, Fail> {
     let script = read_script(alloc, b"")?;
     let mut line = Line::new(alloc, Role::Originator, SLOT as u16)?;
-    kept(line.pass(&script, &slot_of(octets), sent, false, Check::Sixteen, 0))
+    let labels = labels_of(&slot_of(octets));
+    kept(line.pass(&script, &labels, sent, false, Check::Sixteen, 0))
 }
 
 fn ready() -> Sent {

@@ -34,10 +34,12 @@ fn sent_in(turn: u32) -> Sent
 
 /// Whether twelve slots are heard as they were sent.
 fn are_heard(alloc: Global, script: &Script, sender: Role) -> Result<bool, Fail> {
+    let mut coder = Coder::new(sender, SLOT as u16);
     let mut line = Line::new(alloc, sender, SLOT as u16)?;
     for turn in 0..12u32 {
         let sent = sent_in(turn);
-        let Ok(heard) = through(&mut line, script, &sent, Check::ThirtyTwo, Check::ThirtyTwo) else {
+        let check = Check::ThirtyTwo;
+        let Ok(heard) = through(&mut coder, &mut line, script, &sent, check, check) else {
             return Ok(false);
         };
         if !is_as_sent(&heard, &sent) {

@@ -1,4 +1,4 @@
-use Rattle.std.proofs.Common.{◌∙◌, ℕ, ◌/◌, ◌%◌, nat_eq, List, Bool, [], ◌∷◌, ◌++◌, ap, subst, sym, refl}
+use Rattle.std.proofs.Common.{◌∙◌, ◌/◌, ◌%◌, nat_eq, List, Bool, [], ◌∷◌, ◌++◌, ap, subst, sym, refl}
 use Rattle.scramblers.proofs.Streams.{four-behind}
 use Rattle.line_coding.proofs.Fours.{quad-bits}
 use Rattle.plain_lists.specs.Bits.{low_bits}

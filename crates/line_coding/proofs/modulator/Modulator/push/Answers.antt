@@ -1,22 +1,10 @@
-use Rattle.std.proofs.Common.{◌∙◌, ℕ, ◌<◌, [], ◌∷◌, ◌++◌, refl, sym, ap, map}
-use Rattle.std.proofs.lemmas.List.Elements.{All-push}
-use Rattle.std.proofs.lemmas.List.{map-append}
+use Rattle.std.proofs.Common.{[], ◌∷◌, ◌++◌, sym, subst}
 use Rattle.plain_lists.specs.Bits.{low_bits}
-use Rattle.symbol_map.specs.Points.{point_of}
-use Rattle.line_coding.proofs.Fours.{fours-more}
+use Rattle.symbol_map.specs.declared.sample.Sample.{Sample}
+use Rattle.line_coding.specs.Modulates.{ModulatorStands}
 use Rattle.line_coding.proofs.modulator.Modulator.push.Goals as goal
 
 pub returns : goal.returns
 returns c mode bits samples s =
-    let quad : ℕ = c.push_four-scrambled.result in
-    record {
-      line = s.line ++ low_bits 4 quad;
-      quads = s.quads ++ quad ∷ [];
-      labels = s.labels ++ c.push-label.result ∷ [];
-      scrambler = c.push_four-scrambled.ensures.stands mode bits s.line s.scrambler;
-      in_fours = fours-more s.line s.quads quad _ s.in_fours refl;
-      are_quads = All-push (λ quad. quad < 16) s.quads quad s.are_quads c.push_four-scrambled.ensures.bound;
-      encoder = c.push-label.ensures.stands s.quads s.labels s.encoder;
-      points = ap (λ xs. xs ++ c.point.result ∷ []) s.points ∙ ap (λ p. map point_of s.labels ++ p ∷ []) c.point.ensures
-          ∙ sym (map-append point_of s.labels (c.push-label.result ∷ []));
-    }
+    subst (λ (p : Sample). ModulatorStands mode c.label.new.self (bits ++ low_bits 4 c.args.quad) (samples ++ p ∷ [])) (sym c.point.ensures)
+    (c.label.ensures.stands mode bits samples s)

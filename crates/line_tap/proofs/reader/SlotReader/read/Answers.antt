@@ -16,66 +16,62 @@ use Rattle.lapm_frames.specs.declared.sent.Sent.TheVariants as sent
 use Rattle.lapm_frames.specs.Checked.{checked}
 use Rattle.std.specs.Prelude.{IfSome}
 use Rattle.line_tap.specs.Reading.{IsGuess}
-use Rattle.sample_line.specs.Signals.{signal_of, IsCodable}
-use Rattle.sample_line.specs.Line.{LineStands, bits_behind}
+use Rattle.sample_line.specs.Signals.{IsCodable}
+use Rattle.sample_line.specs.Line.{bits_behind}
 use Rattle.line_tap.specs.Reader.{IsNext, carries}
 use Rattle.line_tap.proofs.Guessing.{GuessLaws}
 use Rattle.line_tap.specs.Labels.{AreLabels}
 use Rattle.line_tap.proofs.PointLabels.{count-samples}
 use Rattle.line_tap.proofs.SlotReading.{bits-read, guessed, labels-next, sequence-modulates}
-use Rattle.line_tap.proofs.SlotReading.{phase-is, coded-as, phase-next, bits-more, labels-more}
+use Rattle.line_tap.proofs.SlotReading.{phase-is, written-as, writer-on, phase-next, bits-more, labels-more, labels-code}
 use Rattle.line_tap.proofs.reader.SlotReader.read.Goals as goal
 
 pub returns-in_err-state-clause-none : goal.returns-in_err-state-clause-none
-returns-in_err-state-clause-none c = λ script passed waiting samples l k fit.
+returns-in_err-state-clause-none c = λ sigs samples k fit.
     let r = c.args.self.now in
     let more : List Sample = samples_in c.args.octets.now in
-    let sigs : List Signal = passed ++ waiting in
     let refuted : (s : Sent) → IsNext r sigs samples more s → ⊥ =
     λ s x. let labels = labels-next c.points_differ.ensures r sigs samples more s k x in
     c.in_err-state.ensures.none labels.0 labels.1 labels.2 labels.3 in
     subst (λ q. IfNone q ((s : Sent) → IsNext r sigs samples more s → ⊥)) (sym c.from_residual.ensures) refuted
 
 pub returns-in_err-phase-clause-none : goal.returns-in_err-phase-clause-none
-returns-in_err-phase-clause-none c = λ script passed waiting samples l k fit.
+returns-in_err-phase-clause-none c = λ sigs samples k fit.
     let r = c.args.self.now in
     let more : List Sample = samples_in c.args.octets.now in
-    let sigs : List Signal = passed ++ waiting in
     let h = c.in_ok-state.ensures.some in
     let laws : GuessLaws = record {
       points = c.points_differ.ensures;
       tell = c.slots_tell_what_was_sent.ensures;
     } in
-    let phase = phase-is r c.args.line.now script passed waiting c.requires.symbols c.requires.phase l in
+    let phase = phase-is r sigs samples k in
     let refuted : (s : Sent) → IsNext r sigs samples more s → ⊥ =
     λ s x.
     let is : c.guess-sent.result ≡ s =
-    guessed laws r sigs samples more s c.guess-sent.result c.read_labels.new.demodulator c.in_ok-state.state c.read_labels.new.out
-    c.frame_in-found.result phase k h
+    guessed laws r sigs samples more s c.guess-sent.result c.read_labels.new.demodulator c.in_ok-state.state c.read_labels.new.bits
+    c.read_labels.new.labels c.frame_in-found.result phase k h
     (c.frame_in-found.ensures.found r.symbols r.low) c.guess-sent.ensures.guess x in
     c.in_err-phase.ensures.none
     (subst (λ q. IsCodable r.sender.check r.sender.role r.sender.dlci r.symbols r.phase q) (sym is) x.codable) in
     subst (λ q. IfNone q ((s : Sent) → IsNext r sigs samples more s → ⊥)) (sym c.from_residual-in_err-phase.ensures) refuted
 
 pub returns-then-not-same_quads-clause-none : goal.returns-then-not-same_quads-clause-none
-returns-then-not-same_quads-clause-none c = λ script passed waiting samples l k fit s x.
+returns-then-not-same_quads-clause-none c = λ sigs samples k fit s x.
     let r = c.args.self.now in
     let more : List Sample = samples_in c.args.octets.now in
-    let sigs : List Signal = passed ++ waiting in
     let h = c.in_ok-state.ensures.some in
     let laws : GuessLaws = record {
       points = c.points_differ.ensures;
       tell = c.slots_tell_what_was_sent.ensures;
     } in
-    let phase = phase-is r c.args.line.now script passed waiting c.requires.symbols c.requires.phase l in
+    let phase = phase-is r sigs samples k in
     let is : c.guess-sent.result ≡ s =
-    guessed laws r sigs samples more s c.guess-sent.result c.read_labels.new.demodulator c.in_ok-state.state c.read_labels.new.out
-    c.frame_in-found.result phase k h
+    guessed laws r sigs samples more s c.guess-sent.result c.read_labels.new.demodulator c.in_ok-state.state c.read_labels.new.bits
+    c.read_labels.new.labels c.frame_in-found.result phase k h
     (c.frame_in-found.ensures.found r.symbols r.low) c.guess-sent.ensures.guess x in
-    let coded = coded-as r c.args.line.now sigs c.guess-sent.result (line_bits c.code.new.out) c.requires.sender c.requires.symbols
-    (c.code.ensures.bits script passed waiting l) in
+    let coded = written-as r sigs samples c.guess-sent.result (line_bits c.write_sent.new.out) k c.write_sent.ensures.bits in
     c.same_quads.ensures.no c.if-not-same_quads.true
-    (bits-read c.points_differ.ensures r sigs samples more s c.read_labels.new.demodulator c.in_ok-state.state c.read_labels.new.out k h x
+    (bits-read c.points_differ.ensures r sigs samples more s c.read_labels.new.demodulator c.in_ok-state.state c.read_labels.new.bits c.read_labels.new.labels k h x
     ∙ ap (λ q. bits_behind (4 * r.symbols) sigs (carries r q)) (sym is) ∙ sym coded)
 
 pub frame_in-found-requires-clause-long : goal.frame_in-found-requires-clause-long
@@ -84,57 +80,65 @@ frame_in-found-requires-clause-long c =
     let count = count-samples c.args.self.now.symbols c.args.octets.now c.requires.size in
     omega (arith, c.args.self.now.low, h.count, count)
 
+pub write_sent-requires-clause-codable : goal.write_sent-requires-clause-codable
+write_sent-requires-clause-codable c =
+    let r = c.args.self.now in
+    subst (λ n. IsCodable r.sender.check r.sender.role r.sender.dlci n r.writer.phase c.guess-sent.result) (sym c.requires.writer.symbols)
+    (subst (λ p. IsCodable r.sender.check r.sender.role r.sender.dlci r.symbols p c.guess-sent.result) (sym c.requires.writer.phase)
+    c.in_ok-phase.ensures.codable)
+
 pub returns-clause-some : goal.returns-clause-some
-returns-clause-some c = λ script passed waiting samples l k.
+returns-clause-some c = λ sigs samples k.
     let r = c.args.self.now in
     let s : Sent = c.guess-sent.result in
     let mode : Mode = mode_of r.sender.role in
     let more : List Sample = samples_in c.args.octets.now in
-    let sigs : List Signal = passed ++ waiting in
     let bits : List Bool = signal_bits (4 * r.symbols) sigs in
-    let read : List ℕ = c.read_labels.new.out in
+    let read : List ℕ = c.read_labels.new.bits in
     let h = c.in_ok-state.ensures.some in
-    let coded : line_bits c.code.new.out ≡ bits_behind (4 * r.symbols) sigs (carries r s) =
-    coded-as r c.args.line.now sigs s (line_bits c.code.new.out) c.requires.sender c.requires.symbols (c.code.ensures.bits script passed waiting l) in
+    let coded : line_bits c.write_sent.new.out ≡ bits_behind (4 * r.symbols) sigs (carries r s) =
+    written-as r sigs samples s (line_bits c.write_sent.new.out) k c.write_sent.ensures.bits in
     let here : line_bits read ≡ bits_behind (4 * r.symbols) sigs (carries r s) =
     ap line_bits (c.same_quads.ensures.yes c.if-not-same_quads.false) ∙ coded in
     let all : bits ++ line_bits read ≡ signal_bits (4 * r.symbols) (sigs ++ carries r s ∷ []) = bits-more r sigs s read here in
-    let labels : List ℕ = k.labels ++ h.labels in
-    let are : AreLabels labels (samples ++ more) = labels-more k.labels h.labels samples more k.are h.are in
+    let labels : List ℕ = k.labels ++ c.read_labels.new.labels in
+    let are : AreLabels labels (samples ++ more) = labels-more k.labels c.read_labels.new.labels samples more k.are h.are in
     let demodulated : DemodulatorStands mode c.read_labels.new.demodulator labels (bits ++ line_bits read) =
     h.stands mode k.labels bits k.read in
     let leads : Leads next_state 0 labels c.in_ok-state.state =
-    Leads-append next_state 0 k.labels h.labels r.state c.in_ok-state.state k.leads h.leads in
-    let stands : LineStands c.code.new.self script passed (waiting ++ carries r s ∷ []) =
-    subst (λ role. LineStands c.code.new.self script passed (waiting ++ signal_of r.sender.check role r.sender.dlci s ∷ [])) c.requires.sender
-    (c.code.ensures.stands script passed waiting l) in
-    let phase = phase-is r c.args.line.now script passed waiting c.requires.symbols c.requires.phase l in
+    Leads-append next_state 0 k.labels c.read_labels.new.labels r.state c.in_ok-state.state k.leads h.leads in
+    let next : IsNext r sigs samples more s = record {
+      codable = c.in_ok-phase.ensures.codable;
+      modulated = subst (λ xs. Modulates (tap_of mode) (bits ++ xs) (samples ++ more)) here
+          (sequence-modulates mode c.read_labels.new.demodulator labels (bits ++ line_bits read) (samples ++ more) c.in_ok-state.state
+          demodulated are leads);
+    } in
+    let writer = writer-on r c.write_sent.new.writer sigs samples s k c.write_sent.ensures.stands in
+    let symbols = c.write_sent.ensures.symbols ∙ c.requires.writer.symbols in
     record {
-      next = record {
-        codable = c.in_ok-phase.ensures.codable;
-        modulated = subst (λ xs. Modulates (tap_of mode) (bits ++ xs) (samples ++ more)) here
-            (sequence-modulates mode c.read_labels.new.demodulator labels (bits ++ line_bits read) (samples ++ more) c.in_ok-state.state
-            demodulated are leads);
-      };
-      coded = coded;
+      next = next;
+      coded = labels-code r sigs samples more s c.read_labels.new.labels k h.are next;
       sender = refl;
       symbols = refl;
-      phase = phase-next r c.code.new.self script passed waiting s c.in_ok-phase.phase (c.code.ensures.symbols ∙ c.requires.symbols) stands phase
-          c.in_ok-phase.ensures.next;
       stands = record {
         labels = labels;
         are = are;
         read = subst (λ (xs : List Bool). DemodulatorStands mode c.read_labels.new.demodulator labels xs) all demodulated;
         leads = leads;
+        in_step = record {
+          symbols = symbols;
+          phase = phase-next r c.write_sent.new.writer sigs s c.in_ok-phase.phase symbols writer (phase-is r sigs samples k)
+              c.in_ok-phase.ensures.next;
+        };
+        writer = writer;
       };
-      line_stands = stands;
     }
 
 pub phase_behind-requires-clause-octets : goal.phase_behind-requires-clause-octets
 phase_behind-requires-clause-octets c = λ frame e.
     let r = c.args.self.now in
-    let g : IsGuess (4 * r.symbols) (line_bits c.read_labels.new.out) c.frame_in-found.result (sent.Frame frame) =
-    subst (IsGuess (4 * r.symbols) (line_bits c.read_labels.new.out) c.frame_in-found.result) e c.guess-sent.ensures.guess in
+    let g : IsGuess (4 * r.symbols) (line_bits c.read_labels.new.bits) c.frame_in-found.result (sent.Frame frame) =
+    subst (IsGuess (4 * r.symbols) (line_bits c.read_labels.new.bits) c.frame_in-found.result) e c.guess-sent.ensures.guess in
     c.as_slice.ensures.items
     ∙ subst (λ found. IfSome found (λ f. c.frame_in-found.new.room ≡ checked r.sender.check r.sender.role r.sender.dlci f)) g.0
     c.frame_in-found.ensures.is

@@ -1,7 +1,7 @@
 use Rattle.std.proofs.Common.{arith, refl, sym, subst}
 use Rattle.noise_script.specs.Script.{IsInLimits}
 use Rattle.line_run.specs.Scripted.{wire_at}
-use Rattle.shared_line.specs.Lines.{ArrivesBoth}
+use Rattle.shared_line.specs.Lines.{ArrivesBoth, HaveArrived}
 use Rattle.run_world.specs.Link.{HearsWell}
 use Rattle.link_run.specs.Run.{arrival}
 use Rattle.run_world.proofs.Hearing.{HearingLaws, IsHeardBy, few-turns, early-turns, heard-by, hears-well, has-heard, tallies-heard, lost-so}
@@ -44,7 +44,7 @@ hear-requires-2-clause-well c =
       one = c.samples_are_carried.ensures.turn;
       well = c.ends_break_for_want_alone.ensures.hearing;
     } in
-    let a : ArrivesBoth c.arrive.new.self channel r.links r.turns r.streams c.checks-checks.result c.in-Ok.heard =
+    let a : ArrivesBoth (HaveArrived c.arrive.new.self channel r.links r.streams) channel r.turns c.checks-checks.result c.in-Ok.heard =
     c.in-Ok.ensures.arrives channel r.links r.turns r.streams r.waits r.due refl refl h.turn in
     let by : IsHeardBy channel r.turns r.ends c.in-Ok.heard =
     heard-by c.arrive.new.self channel r.links r.streams r.turns r.ends c.in-Ok.heard c.checks-checks.result
@@ -63,7 +63,7 @@ returns-clause-hears c = λ channel links streams files ts ends script dlci h wa
       one = c.samples_are_carried.ensures.turn;
       well = c.ends_break_for_want_alone.ensures.hearing;
     } in
-    let a : ArrivesBoth c.arrive.new.self channel links ts streams c.checks-checks.result c.in-Ok.heard =
+    let a : ArrivesBoth (HaveArrived c.arrive.new.self channel links streams) channel ts c.checks-checks.result c.in-Ok.heard =
     c.in-Ok.ensures.arrives channel links ts streams waits due script dlci h.turn in
     let by : IsHeardBy channel ts ends c.in-Ok.heard =
     heard-by c.arrive.new.self channel links streams ts ends c.in-Ok.heard c.checks-checks.result (c.checks-checks.ensures files ends h.link) a in

@@ -4,7 +4,7 @@ use Rattle.link_run.specs.End.{is_closed}
 use Rattle.outside_calls.proofs.Putting.{OnlyPuts-trans, OnlyPuts-reads, KeepsEach-refl, KeepsEach-reads, AddEach-kept}
 use Rattle.line_run.specs.Names.{outputs_of, written}
 use Rattle.run_world.specs.Link.{AreCounted, octets_of}
-use Rattle.shared_line.specs.declared.lines.LineEnd.{LineEnd}
+use Rattle.shared_line.specs.declared.directions.LineEnd.{LineEnd}
 use Rattle.line_run.specs.Sampled.{EndsLine}
 use Rattle.line_run.specs.Scripted.{wire_at}
 use Rattle.shared_line.specs.Lines.{HaveArrived, end_of}

@@ -11,9 +11,9 @@ use Rattle.sample_line.proofs.Passing.{line-heard}
 use Rattle.sample_line.proofs.line.Line.decoder.Goals as goal
 
 pub returns-clause-heard : goal.returns-clause-heard
-returns-clause-heard c = λ script passed waiting h.
+returns-clause-heard c = λ script passed h.
     let line : Kept = c.args.self.now in
     subst (λ (d : Decoding). (samples : List Sample) × (taken : List ℕ)
     × Records script (sender_of line) (signal_bits (size_of line) passed) samples
     × DecoderStands next_state point_of (λ state. nat_eq state 0) line_depth d samples taken × (d.pending ≡ []))
-    (ap decoder_of (sym c.self.view_is) ∙ sym c.decoder.ensures) (line-heard script line passed waiting h)
+    (ap decoder_of (sym c.self.view_is) ∙ sym c.decoder.ensures) (line-heard script line passed h)

@@ -1,5 +1,5 @@
 use Rattle.std.proofs.Common.{◌++◌, ◌∷◌, [], sym, subst}
-use Rattle.plain_lists.specs.Bits.{low_bits}
+use Rattle.symbol_map.specs.Points.{point_of}
 use Rattle.shared_terms.specs.declared.role.Role.{Role}
 use Rattle.shared_terms.specs.Role.{mode_of}
 use Rattle.sample_line.specs.Hears.{HearsSample}
@@ -7,14 +7,14 @@ use Rattle.sample_line.proofs.Arriving.{arrived}
 use Rattle.sample_line.proofs.path.Path.arrive.Goals as goal
 
 pub returns-clause-arrives : goal.returns-clause-arrives
-returns-clause-arrives c = λ bits earlier h.
+returns-clause-arrives c = λ points earlier h.
     let slot = c.args.slot in
     let samples = h.carries.samples ++ c.send-sample.result ∷ [] in
-    let sent = c.send-sample.ensures.stands bits h.carries.samples h.carries.transmits in
+    let sent = c.send-sample.ensures.stands points h.carries.samples h.carries.transmits in
     let heard = c.hear.ensures.stands (mode_of c.args.self.now.transmitter.sender) h.carries.samples earlier
     (record { read = h.read; hears = h.carries.hears; tallies = h.tallies }) in
     arrived c.send-sample.new.self c.hear.new.self c.args.script.now
-    (bits ++ low_bits 4 c.args.quad) samples slot.check slot.sender slot.dlci slot.sent.now earlier c.hear.result sent
+    (points ++ point_of c.args.label ∷ []) samples slot.check slot.sender slot.dlci slot.sent.now earlier c.hear.result sent
     (subst (λ (r : Role). HearsSample
     (mode_of r) c.hear.new.self samples slot.check slot.sender slot.dlci slot.sent.now earlier c.hear.result)
     (sym c.send-sample.ensures.sender) heard)

@@ -1,13 +1,14 @@
-use Rattle.std.proofs.Common.{◌≡◌, ◌+◌, ◌≤◌, ◌++◌, [], None, take, List, Bool}
-use Rattle.bit_stuffing.specs.BitSlot.{line_bits}
+use Rattle.std.proofs.Common.{◌≡◌, ◌+◌, ◌≤◌, ◌++◌, [], None, map, take, List, Bool}
+use Rattle.symbol_map.specs.declared.sample.Sample.{Sample}
+use Rattle.symbol_map.specs.Points.{point_of}
 use Rattle.sample_line.specs.Path.{Carries, CarriesBetween}
 use Rattle.sample_line.proofs.path.Path.pass.Given as goal
 
 abbrev pub invariant-loop-place : goal.invariant-loop-place
 invariant-loop-place l = record {
-  carries : (before earlier : List Bool) → Carries l.fn.self l.script before earlier
+  carries : (before : List Sample) (earlier : List Bool) → Carries l.fn.self l.script before earlier
       → CarriesBetween l.self l.script
-      (before ++ line_bits (take l.place l.bits)) l.slot.check l.slot.sender l.slot.dlci l.slot.sent.now earlier l.tally;
+      (before ++ map point_of (take l.place l.labels)) l.slot.check l.slot.sender l.slot.dlci l.slot.sent.now earlier l.tally;
   sender : l.self.transmitter.sender ≡ l.fn.self.transmitter.sender;
   symbol : l.self.transmitter.symbol ≡ l.fn.self.transmitter.symbol + l.place;
   count : l.self.hearer.reader.decoder.count ≤ l.fn.self.hearer.reader.decoder.count + l.place;

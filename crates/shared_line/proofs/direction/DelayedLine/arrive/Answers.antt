@@ -39,10 +39,10 @@ returns-in-Some-clause-arrives c = λ passed way h.
       items_are = ap (λ b. b.items) c.in-Some.ensures.items;
       capacity = ap (λ b. b.capacity) c.in-Some.ensures.items;
       from = c.pass.ensures.sender;
-      writer = c.pass.ensures.symbols;
+      symbols = c.pass.ensures.symbols;
     })
     (subst (λ b. PassesAll d new c.in-Some.slot c.args.check c.args.script.now c.args.dlci b c.pass.result) lost
-    (λ passed waiting signal. c.pass.ensures.passes passed waiting signal)))
+    (λ passed signal. c.pass.ensures.passes passed signal)))
 
 pub returns-in-Some-clause-numbered : goal.returns-in-Some-clause-numbered
 returns-in-Some-clause-numbered c =
@@ -57,4 +57,4 @@ returns-in-Some-clause-numbered c =
     numbered-by d new c.args.script.now w.0 w.1 c.in-Some.slot (drop 1 d.slots.items) (c.args.turn - d.delay) c.args.check c.args.dlci
     c.pass.result o w.2
     (subst (λ b. PassesAll d new c.in-Some.slot c.args.check c.args.script.now c.args.dlci b c.pass.result) lost
-    (λ passed waiting signal. c.pass.ensures.passes passed waiting signal))
+    (λ passed signal. c.pass.ensures.passes passed signal))

@@ -6,13 +6,13 @@ use Rattle.shared_line.proofs.Passing.{puts-so, all-kept}
 use Rattle.shared_line.proofs.direction.DelayedLine.put.Goals as goal
 
 pub returns-clause-stands : goal.returns-clause-stands
-returns-clause-stands c = λ script passed way x h sent.
+returns-clause-stands c = λ script passed way x h coded sent.
     let d : DelayedLine = c.args.self.now in
     let new : DelayedLine = record d { slots = c.push_back.new.self } in
-    let slot : Slot = record { bits = c.args.bits; sent = c.args.sent } in
+    let slot : Slot = record { labels = c.args.labels; sent = c.args.sent } in
     let room : length d.slots.items < d.slots.capacity = omega (arith, c.requires.room, h.room) in
     let kept = all-kept d.slots.items slot d.slots.capacity room in
-    puts-so d new script passed way slot x h
+    puts-so d new script passed way slot x h coded
     (record {
       sender = refl;
       lag = refl;

@@ -1,51 +1,68 @@
+use Rattle.std.proofs.Common.{◌-◌, ap}
+use Rattle.sample_line.specs.Line.{Kept}
 use Rattle.shared_terms.specs.declared.role.Role.TheVariants.{Originator, Answerer}
-use Rattle.shared_line.proofs.Waiting.{room-of, sends-behind, waits-both}
+use Rattle.shared_line.specs.declared.lines.Lines.{Lines}
+use Rattle.shared_line.specs.Lines.{and_more}
+use Rattle.shared_line.proofs.Waiting.{room-of, sends-behind, waits-both, codes-next}
+use Rattle.shared_line.proofs.Coded.{both-coded}
 use Rattle.shared_line.proofs.lines.Lines.send.Goals as goal
 
-pub send-requires-clause-codable : goal.send-requires-clause-codable
-send-requires-clause-codable c =
+pub code-labels-requires-clause-codable : goal.code-labels-requires-clause-codable
+code-labels-requires-clause-codable c =
     let w = c.requires.room in
-    rw (w.3 Originator).sends (c.requires.codable Originator)
+    rw (w.3.coders Originator).sends (c.requires.codable Originator)
 
-pub send-requires-clause-stands : goal.send-requires-clause-stands
-send-requires-clause-stands c = let w = c.requires.room in (w.0.script, _, _, (w.3 Originator).stands)
-
-pub send-requires-2-clause-codable : goal.send-requires-2-clause-codable
-send-requires-2-clause-codable c =
+pub code-labels-requires-2-clause-codable : goal.code-labels-requires-2-clause-codable
+code-labels-requires-2-clause-codable c =
     let w = c.requires.room in
-    rw (w.3 Answerer).sends (c.requires.codable Answerer)
+    rw (w.3.coders Answerer).sends (c.requires.codable Answerer)
 
-pub send-requires-2-clause-stands : goal.send-requires-2-clause-stands
-send-requires-2-clause-stands c = let w = c.requires.room in (w.0.script, _, _, (w.3 Answerer).stands)
-
-pub send-requires-clause-room : goal.send-requires-clause-room
-send-requires-clause-room c =
+pub put-requires-clause-room : goal.put-requires-clause-room
+put-requires-clause-room c =
     let w = c.requires.room in
-    room-of c.args.self.now.from_orig w.0 Originator w.1 w.2.orig (w.3 Originator)
+    room-of c.args.self.now.directions.from_orig w.0 Originator w.1 w.2.orig (w.3.directions Originator)
 
-pub send-requires-2-clause-room : goal.send-requires-2-clause-room
-send-requires-2-clause-room c =
+pub put-requires-2-clause-room : goal.put-requires-2-clause-room
+put-requires-2-clause-room c =
     let w = c.requires.room in
-    room-of c.args.self.now.from_answ w.0 Answerer w.1 w.2.answ (w.3 Answerer)
+    room-of c.args.self.now.directions.from_answ w.0 Answerer w.1 w.2.answ (w.3.directions Answerer)
 
 pub returns : goal.returns
 returns c = record {
   waits = λ channel links streams more h p.
       let o = p Originator in
       let a = p Answerer in
-      waits-both c.send.new.self c.send-2.new.self channel links streams more
-      (sends-behind c.args.self.now.from_orig c.send.new.self channel Originator links streams.orig more.orig (h Originator)
-      (record {
-        sender = c.send.ensures.sender;
-        delay = c.send.ensures.delay;
-        lag = c.send.ensures.lag;
-        symbols = c.send.ensures.symbols;
-      }) (c.send.ensures.stands channel.script _ _ more.orig (h Originator).stands o.dlci_is o.sent_is o.check_is))
-      (sends-behind c.args.self.now.from_answ c.send-2.new.self channel Answerer links streams.answ more.answ (h Answerer)
-      (record {
-        sender = c.send-2.ensures.sender;
-        delay = c.send-2.ensures.delay;
-        lag = c.send-2.ensures.lag;
-        symbols = c.send-2.ensures.symbols;
-      }) (c.send-2.ensures.stands channel.script _ _ more.answ (h Answerer).stands a.dlci_is a.sent_is a.check_is));
+      let from_orig = c.args.self.now.directions.from_orig in
+      let from_answ = c.args.self.now.directions.from_answ in
+      let lines : Lines = record {
+        directions = record { from_orig = c.put.new.self; from_answ = c.put-2.new.self };
+        orig = c.code-labels.new.self;
+        answ = c.code-labels-2.new.self;
+      } in
+      record {
+        directions = waits-both c.put.new.self c.put-2.new.self channel links streams more
+            (sends-behind from_orig c.put.new.self channel Originator links streams.orig more.orig (h.directions Originator)
+            (record {
+              sender = c.put.ensures.sender;
+              delay = c.put.ensures.delay;
+              lag = c.put.ensures.lag;
+              symbols = ap (λ (l : Kept). l.symbols) c.put.ensures.line;
+            })
+            (c.put.ensures.stands channel.script _ _ more.orig (h.directions Originator).stands
+            (codes-next from_orig channel Originator links streams.orig (from_orig.lag - 1) more.orig c.code-labels.result (h.directions Originator)
+            (c.code-labels.ensures.labels channel Originator streams.orig more.orig (h.coders Originator) o)) o.sent_is))
+            (sends-behind from_answ c.put-2.new.self channel Answerer links streams.answ more.answ (h.directions Answerer)
+            (record {
+              sender = c.put-2.ensures.sender;
+              delay = c.put-2.ensures.delay;
+              lag = c.put-2.ensures.lag;
+              symbols = ap (λ (l : Kept). l.symbols) c.put-2.ensures.line;
+            })
+            (c.put-2.ensures.stands channel.script _ _ more.answ (h.directions Answerer).stands
+            (codes-next from_answ channel Answerer links streams.answ (from_answ.lag - 1) more.answ c.code-labels-2.result (h.directions Answerer)
+            (c.code-labels-2.ensures.labels channel Answerer streams.answ more.answ (h.coders Answerer) a)) a.sent_is));
+        coders = both-coded lines channel (and_more streams more)
+            (c.code-labels.ensures.stands channel Originator streams.orig more.orig (h.coders Originator) o)
+            (c.code-labels-2.ensures.stands channel Answerer streams.answ more.answ (h.coders Answerer) a);
+      };
 }

@@ -4,12 +4,14 @@ use Rattle.shared_terms.specs.Both.{Both}
 use Rattle.shared_terms.specs.declared.role.Role.TheVariants.{Originator, Answerer}
 use Rattle.lapm_frames.specs.declared.sent.Sent.{Sent}
 use Rattle.link_run.specs.Listened.{check_by}
-use Rattle.line_tap.specs.Tapping.{terms_of, told}
+use Rattle.line_run.specs.Stream.{sent_by}
+use Rattle.shared_line.proofs.Waiting.{room-of}
+use Rattle.line_tap.specs.Tapping.{line_of, terms_of, told}
 use Rattle.tap_command.specs.declared.end.Slot.{Slot}
 use Rattle.tap_command.specs.declared.tapping.Tap.{Tap}
 use Rattle.tap_command.specs.Names.{named}
 use Rattle.tap_command.proofs.TurnTexts.{text-is, taken-back}
-use Rattle.tap_command.proofs.Going.{room-in, after-going}
+use Rattle.tap_command.proofs.Going.{after-going}
 use Rattle.tap_command.proofs.tapping.Tap.go_on.Goals as goal
 
 pub returns-in-Err-clause-err : goal.returns-in-Err-clause-err
@@ -23,12 +25,12 @@ returns-in-Err-clause-err g c = λ x ts k.
 pub put-requires-clause-room : goal.put-requires-clause-room
 put-requires-clause-room g c =
     let h = c.requires.stands in
-    room-in c.args.self.now.lines.from_orig h.0 Originator h.1 c.args.slots.orig (check_by (terms_of h.0)) h.2.read.from_orig
+    room-of c.args.self.now.lines.from_orig (line_of h.0) Originator 1 (sent_by 0 Originator h.1) (h.2.read.lines Originator)
 
 pub put-requires-2-clause-room : goal.put-requires-2-clause-room
 put-requires-2-clause-room g c =
     let h = c.requires.stands in
-    room-in c.args.self.now.lines.from_answ h.0 Answerer h.1 c.args.slots.answ (check_by (terms_of h.0)) h.2.read.from_answ
+    room-of c.args.self.now.lines.from_answ (line_of h.0) Answerer 1 (sent_by 0 Answerer h.1) (h.2.read.lines Answerer)
 
 pub returns-clause-ok : goal.returns-clause-ok
 returns-clause-ok g c = λ x ts k.

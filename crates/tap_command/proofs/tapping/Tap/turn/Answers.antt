@@ -2,7 +2,7 @@ use Rattle.std.proofs.Common.{◌≡◌, ◌+◌, ◌<◌, ◌≤◌, ◌∙◌,
 use Rattle.noise_script.specs.Script.{IsInLimits}
 use Rattle.outside_calls.specs.Folder.{FolderState}
 use Rattle.outside_calls.proofs.Steps.{CountsStand-trans}
-use Rattle.shared_line.specs.declared.lines.LineEnd.{LineEnd}
+use Rattle.shared_line.specs.declared.directions.LineEnd.{LineEnd}
 use Rattle.shared_line.specs.Lines.{end_of}
 use Rattle.line_tap.specs.Ends.{EndsLine}
 use Rattle.command_base.specs.declared.stop.Stop.TheVariants.{Read, Write}

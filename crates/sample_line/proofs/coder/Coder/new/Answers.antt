@@ -1,0 +1,11 @@
+use Rattle.std.proofs.Common.{[], subst}
+use Rattle.scramblers.specs.declared.mode.Mode.{Mode}
+use Rattle.line_coding.specs.Modulates.{ModulatorStands}
+use Rattle.sample_line.proofs.coder.Coder.new.Goals as goal
+
+pub returns-clause-stands : goal.returns-clause-stands
+returns-clause-stands c = record {
+  writer = c.new.ensures.stands;
+  points = [];
+  modulator = subst (λ (mode : Mode). ModulatorStands mode c.new-2.result [] []) c.mode.ensures c.new-2.ensures;
+}
