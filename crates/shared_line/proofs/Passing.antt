@@ -1,7 +1,6 @@
 -- Slots that pass, and slots that are put on the line.
 use Rattle.std.proofs.Common.{◌≡◌, ℕ, suc, ◌-◌, ◌*◌, ◌%◌, ◌<◌, Bool, true, false, List, [], ◌∷◌, ◌++◌, length, map, drop, arith}
 use Rattle.std.proofs.Common.{length-append, refl, sym, ◌∙◌, ap, subst, Option, Some, None, Ok, Err, append-nil, append_assoc}
-use Rattle.std.proofs.lemmas.List.{map-append}
 use Rattle.std.specs.Prelude.{slice_get, Result, IfOk}
 use Rattle.frame_check.specs.declared.check.Check.{Check}
 use Rattle.detection.specs.Slots.{Signal, signal_bits}

@@ -336,7 +336,7 @@ pub codes-next : (d : DelayedLine) (c : Wire) (role : Role) (links : ℕ) (strea
 codes-next d c role links stream waiting x labels h coded =
     let k : ℕ = length stream - waiting in
     let all : map (carried_signal d.sender) stream
-        ≡ map (carried_signal d.sender) (take k stream) ++ map (carried_signal d.sender) (drop k stream) =
+    ≡ map (carried_signal d.sender) (take k stream) ++ map (carried_signal d.sender) (drop k stream) =
     ap (map (carried_signal d.sender)) (sym (take-append-drop k stream))
     ∙ map-append (carried_signal d.sender) (take k stream) (drop k stream) in
     subst (λ l. IsCodedAs d.sender (size_of d.line) l (carried_signal d.sender x) labels) all

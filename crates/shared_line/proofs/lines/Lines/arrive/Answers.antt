@@ -1,5 +1,8 @@
+use Rattle.shared_terms.specs.declared.role.Role.TheVariants.{Originator, Answerer}
+use Rattle.shared_line.specs.declared.lines.Lines.{Lines}
 use Rattle.shared_line.specs.Lines.{HaveArrived, HaveRoom}
 use Rattle.shared_line.proofs.Waiting.{arrives-left}
+use Rattle.shared_line.proofs.Coded.{both-coded}
 use Rattle.shared_line.proofs.lines.Lines.arrive.Goals as goal
 
 pub arrive-requires-clause-due : goal.arrive-requires-clause-due
@@ -7,6 +10,8 @@ arrive-requires-clause-due c = let w = c.requires.due in (w.0, w.1, w.2, w.3, w.
 
 pub returns-clause-arrives : goal.returns-clause-arrives
 returns-clause-arrives c = λ channel links ts streams h due script dlci number.
-    arrives-left (HaveRoom c.arrive.new.self channel links streams) (HaveArrived _ channel links streams) channel ts c.args.checks.now
-    c.arrive.result (λ room. record { directions = room; coders = h.coders })
+    let new : Lines = record { directions = c.arrive.new.self; orig = c.args.self.now.orig; answ = c.args.self.now.answ } in
+    arrives-left (HaveRoom c.arrive.new.self channel links streams) (HaveArrived new channel links streams) channel ts c.args.checks.now
+    c.arrive.result
+    (λ room. record { directions = room; coders = both-coded new channel streams (h.coders Originator) (h.coders Answerer) })
     (c.arrive.ensures.arrives channel links ts streams h.directions due script dlci number)
