@@ -1,7 +1,7 @@
 -- A slot that is read: its bits, what is taken for what was sent in it, its samples, and what stands behind it.
 use Rattle.std.proofs.Common.{◌≡◌, ◌∙◌, ℕ, ◌*◌, ◌<◌, ◌≤◌, Bool, List, [], ◌∷◌, ◌++◌, length, map, take, drop, All}
 use Rattle.std.proofs.Common.{Option, refl, sym, ap, subst, arith}
-use Rattle.std.proofs.lemmas.List.{append_assoc, map-append, take-map, drop-map, take-append-drop}
+use Rattle.std.proofs.lemmas.List.{map-append, take-map, drop-map, take-append-drop}
 use Rattle.std.proofs.lemmas.List.Elements.{All-append, All-map, All-take, All-drop}
 use Rattle.scramblers.specs.declared.mode.Mode.{Mode}
 use Rattle.scramblers.specs.declared.mode.Mode.TheVariants.{Call, Answer}

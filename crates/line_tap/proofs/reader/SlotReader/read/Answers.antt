@@ -4,7 +4,7 @@ use Rattle.scramblers.specs.declared.mode.Mode.{Mode}
 use Rattle.scramblers.specs.Mode.{tap_of}
 use Rattle.symbol_map.specs.declared.sample.Sample.{Sample}
 use Rattle.bit_stuffing.specs.BitSlot.{line_bits}
-use Rattle.detection.specs.Slots.{Signal, signal_bits}
+use Rattle.detection.specs.Slots.{signal_bits}
 use Rattle.line_coding.specs.Modulates.{Modulates}
 use Rattle.trellis_tables.specs.Table.{next_state}
 use Rattle.trellis_tables.specs.Sequences.{Leads}
