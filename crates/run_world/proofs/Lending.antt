@@ -1,9 +1,10 @@
 -- The line that a world lends its link's turns, on which that is alone.
-use Rattle.std.proofs.Common.{◌≡◌, ℕ, ◌-◌, ◌*◌, ◌<◌, ◌≤◌, ◌^◌, List, [], ◌∷◌, ◌++◌, length, map, take, drop, arith, refl, sym, ◌∙◌, ap, subst, Option, Some, None}
+use Rattle.std.proofs.Common.{◌≡◌, ℕ, ◌-◌, ◌*◌, ◌<◌, ◌≤◌, ◌^◌, List, [], ◌∷◌, ◌++◌, length, map, take, arith, refl, sym, ◌∙◌, ap, subst, Option, Some, None}
 use Rattle.std.specs.Prelude.{is_some, true}
 use Rattle.std.proofs.lemmas.Bool.{false≢true}
 use Rattle.sample_line.specs.Signals.{signal_of}
 use Rattle.detection.specs.Slots.{Signal}
+use Rattle.bit_stuffing.specs.BitSlot.{line_bits}
 use Rattle.bit_stuffing.specs.declared.bit_slot.BitSlot.{BitSlot}
 use Rattle.shared_terms.specs.declared.role.Role.{Role}
 use Rattle.shared_terms.specs.declared.role.Role.TheVariants.{Originator, Answerer}
@@ -19,7 +20,7 @@ use Rattle.line_run.specs.Stream.{Carried, IsDue, carried_signal, carry, sent_by
 use Rattle.line_run.proofs.Streaming.{lone-signals}
 use Rattle.shared_line.specs.declared.direction.DelayedLine.{DelayedLine}
 use Rattle.shared_line.specs.Way.{IsOver, Carries}
-use Rattle.shared_line.specs.Lines.{AreDue, LinesWait, HaveArrived, IsNewest, PassedFew, from}
+use Rattle.shared_line.specs.Lines.{AreDue, LinesWait, HaveArrived, PassedFew, from}
 use Rattle.shared_line.specs.declared.lines.Lines.{Lines}
 use Rattle.shared_line.proofs.Waiting.{passed-few}
 use Rattle.turn_bound.specs.Limits.{file_limit}
@@ -123,32 +124,25 @@ passed-too l script Answerer ts line h is = passed-by l.directions.from_answ scr
 
 -- ---- the slots of the last turn
 
-pub sent-so : (script : ScriptValue) (role : Role) (ts : List Turn) (t : Turn) (o : Option BitSlot) → is_some (of role t).sent ≡ true
+pub sent-so : (script : ScriptValue) (role : Role) (ts : List Turn) (t : Turn) (bits : BitSlot) → is_some (of role t).sent ≡ true
     → ((front : List Carried) (x : Carried) → of role (both_sent_by 0 (t ∷ ts)) ≡ front ++ x ∷ []
-    → IsNewest o (4 * (wire_of script).symbols) role front x)
-    → HasSent o script role ts t
-sent-so script role ts t o sent newest = go (of role t).sent refl
+    → line_bits bits ≡ bits_behind (4 * (wire_of script).symbols) (map (carried_signal role) front) (carried_signal role x))
+    → HasSent (Some bits) script role ts t
+sent-so script role ts t bits sent newest = go (of role t).sent refl
   where
     stream-of : (role : Role) → of role (both_sent_by 0 (t ∷ ts)) ≡ sent_by 0 role ts ++ carry 0 (of role t).sent
     stream-of Originator = refl
     stream-of Answerer = refl
 
-    go : (s : Option Spoken) → (of role t).sent ≡ s → HasSent o script role ts t
+    go : (s : Option Spoken) → (of role t).sent ≡ s → HasSent (Some bits) script role ts t
     go None e = absurd (false≢true (sym (ap is_some e) ∙ sent))
-    go (Some slot) e =
-        at slot e o (newest (sent_by 0 role ts) (record { dlci = 0; spoken = slot })
-        (stream-of role ∙ ap (λ z. sent_by 0 role ts ++ carry 0 z) e))
-      where
-        at : (slot : Spoken) → (of role t).sent ≡ Some slot → (o : Option BitSlot)
-            → IsNewest o (4 * (wire_of script).symbols) role (sent_by 0 role ts) (record { dlci = 0; spoken = slot })
-            → HasSent o script role ts t
-        at slot e None h = absurd h
-        at slot e (Some bits) h = (
-          slot,
-          e,
-          h ∙ ap (λ l. bits_behind (4 * (wire_of script).symbols) l (signal_of slot.check role 0 slot.sent))
-              (lone-signals (wire_of script) role ts (λ r n. refl)),
-        )
+    go (Some slot) e = (
+      slot,
+      e,
+      newest (sent_by 0 role ts) (record { dlci = 0; spoken = slot }) (stream-of role ∙ ap (λ z. sent_by 0 role ts ++ carry 0 z) e)
+      ∙ ap (λ l. bits_behind (4 * (wire_of script).symbols) l (signal_of slot.check role 0 slot.sent))
+          (lone-signals (wire_of script) role ts (λ r n. refl)),
+    )
 
 -- ---- a world before its first turn
 

@@ -112,7 +112,7 @@ impl World {
     {
         slots_are_due_alone();
         if self.modems.spoke() {
-            self.lines.newest(role)
+            Some(self.lines.newest(role))
         } else {
             None
         }

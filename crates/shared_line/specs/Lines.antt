@@ -1,8 +1,7 @@
 -- The two directions of the line, between the turns of links and within one.
-use Rattle.std.specs.Prelude.{◌≡◌, ◌≢◌, ◌*◌, ◌<◌, ◌^◌, ℕ, List, [], ◌∷◌, ◌++◌, map, Option, Some, None, Result, Ok, Err}
+use Rattle.std.specs.Prelude.{◌≡◌, ◌≢◌, ◌*◌, ◌<◌, ◌^◌, ℕ, List, [], ◌∷◌, ◌++◌, map, Result, Ok, Err}
 use Rattle.frame_check.specs.declared.check.Check.{Check}
 use Rattle.bit_stuffing.specs.BitSlot.{line_bits}
-use Rattle.bit_stuffing.specs.declared.bit_slot.BitSlot.{BitSlot}
 use Rattle.sample_line.specs.Line.{bits_behind}
 use Rattle.sample_line.specs.Coder.{CoderStands}
 use Rattle.shared_terms.specs.declared.role.Role.{Role}
@@ -108,8 +107,3 @@ ArePut more sent checks dlci = (role : Role) → IsPut (of role more) (of role s
 -- one more behind each
 abbrev pub and_more : Both (List Carried) → Both Carried → Both (List Carried)
 and_more streams more = record { orig = streams.orig ++ more.orig ∷ []; answ = streams.answ ++ more.answ ∷ [] }
-
--- The bits of a slot that was sent behind these.
-abbrev pub IsNewest : Option BitSlot → ℕ → Role → List Carried → Carried → Type 0
-IsNewest None size role front x = ⊥
-IsNewest (Some bits) size role front x = line_bits bits ≡ bits_behind size (map (carried_signal role) front) (carried_signal role x)

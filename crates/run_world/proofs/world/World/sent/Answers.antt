@@ -1,4 +1,4 @@
-use Rattle.std.proofs.Common.{◌∷◌, option_copied}
+use Rattle.std.proofs.Common.{◌∷◌}
 use Rattle.line_run.specs.Scripted.{wire_of, link_of}
 use Rattle.line_run.specs.Stream.{both_sent_by}
 use Rattle.run_world.proofs.Lending.{sent-so}
@@ -7,6 +7,6 @@ use Rattle.run_world.proofs.world.World.sent.Goals as goal
 pub returns-then-spoke-clause-sent : goal.returns-then-spoke-clause-sent
 returns-then-spoke-clause-sent c = λ files ts t ends h.
     let script = c.args.self.now.script in
-    sent-so script c.args.role ts t (option_copied c.newest.result)
+    sent-so script c.args.role ts t c.newest.result.now
     (c.slots_are_due_alone.ensures.sent (link_of script files) (t ∷ ts) ends h.modems.run.run c.args.role).0
     (λ front x e. c.newest.ensures (wire_of script) 1 (both_sent_by 0 (t ∷ ts)) front x h.lines e)
