@@ -1,86 +1,147 @@
 // Published values of both checks.
-use frame_check::{Check, Info, Octets, Whole, append, passes};
+use frame_check::{Check, Info, Whole, append, passes};
 use std::test::Fail;
 
-/// The text for which the value of a check is published.
-const DIGITS: &[u8] = b"123456789";
-
-fn with_check(check: Check) -> Octets<13> {
-    let mut octets = Octets::new();
-    octets.extend(DIGITS);
-    append(&mut octets, check);
-    octets
-}
+/// Octets, a check, and whether they pass it.
+const OCTETS: &[(&str, &[u8], Check, bool)] = &[
+    (
+        "nine digits and 16 bits",
+        b"123456789\x6e\x90",
+        Check::Sixteen,
+        true,
+    ),
+    (
+        "nine digits and 16 bits for 32",
+        b"123456789\x6e\x90",
+        Check::ThirtyTwo,
+        false,
+    ),
+    (
+        "nine digits and 32 bits",
+        b"123456789\x26\x39\xf4\xcb",
+        Check::ThirtyTwo,
+        true,
+    ),
+    (
+        "nine digits and 32 bits for 16",
+        b"123456789\x26\x39\xf4\xcb",
+        Check::Sixteen,
+        false,
+    ),
+    (
+        "a changed bit before 16 bits",
+        b"023456789\x6e\x90",
+        Check::Sixteen,
+        false,
+    ),
+    (
+        "a changed bit before 32 bits",
+        b"023456789\x26\x39\xf4\xcb",
+        Check::ThirtyTwo,
+        false,
+    ),
+    (
+        "without the first octet before 16 bits",
+        b"23456789\x6e\x90",
+        Check::Sixteen,
+        false,
+    ),
+    (
+        "without the first octet before 32 bits",
+        b"23456789\x26\x39\xf4\xcb",
+        Check::ThirtyTwo,
+        false,
+    ),
+    (
+        "a SABME and 16 bits",
+        b"\x03\x7f\x5f\xae",
+        Check::Sixteen,
+        true,
+    ),
+    (
+        "a SABME with another address",
+        b"\x02\x7f\x5f\xae",
+        Check::Sixteen,
+        false,
+    ),
+    ("no octets", b"", Check::Sixteen, false),
+    ("fewer octets than 16 bits", b"\x00", Check::Sixteen, false),
+    (
+        "fewer octets than 32 bits",
+        b"\x00\x00\x00",
+        Check::ThirtyTwo,
+        false,
+    ),
+];
 
 #[test]
-fn both_checks_of_nine_digits(rt: HostRuntime) -> Result<(), Fail> {
-    for (check, other, octets) in [
-        (
-            Check::Sixteen,
-            Check::ThirtyTwo,
-            b"123456789\x6e\x90".as_slice(),
-        ),
-        (
-            Check::ThirtyTwo,
-            Check::Sixteen,
-            b"123456789\x26\x39\xf4\xcb".as_slice(),
-        ),
-    ] {
-        assert!(rt; with_check(check).as_slice() == octets);
-        assert!(rt; passes(octets, check));
-        assert!(rt; !passes(octets, other));
+fn octets_pass_their_own_check(rt: HostRuntime) -> Result<(), Fail> {
+    for &(name, octets, check, passing) in OCTETS {
+        assert!(&rt; passes(octets, check) == passing, "{name}");
     }
     Ok(())
 }
 
-#[test]
-fn a_changed_bit_does_not_pass(rt: HostRuntime) -> Result<(), Fail> {
-    assert!(rt; !passes(b"023456789\x6e\x90", Check::Sixteen));
-    assert!(rt; !passes(b"023456789\x26\x39\xf4\xcb", Check::ThirtyTwo));
-    Ok(())
+/// Octets, the same with their check, and the check of the whole, which is the complement of the residue that ITU-T V.42 names for a
+/// frame received without an error (F0B8, and DEBB20E3 with 32 bits, mirrored, as octets stand on the line).
+const CHECKED: &[(&str, &[u8], Check, &[u8], &[u8])] = &[
+    (
+        "16 bits behind nine digits",
+        b"123456789",
+        Check::Sixteen,
+        b"123456789\x6e\x90",
+        b"\x47\x0f",
+    ),
+    (
+        "32 bits behind nine digits",
+        b"123456789",
+        Check::ThirtyTwo,
+        b"123456789\x26\x39\xf4\xcb",
+        b"\x1c\xdf\x44\x21",
+    ),
+    (
+        "16 bits behind a SABME",
+        b"\x03\x7f",
+        Check::Sixteen,
+        b"\x03\x7f\x5f\xae",
+        b"\x47\x0f",
+    ),
+];
+
+/// Whether octets get this check, and the whole that one.
+fn are_checked(octets: &[u8], check: Check, checked: &[u8], residue: &[u8]) -> bool {
+    if octets.len() > 16 || checked.len() > 16 {
+        return false;
+    }
+    let mut whole = Whole::new();
+    whole.extend(octets);
+    append(&mut whole, check);
+    let is_checked = whole.as_slice() == checked;
+    whole.clear();
+    whole.extend(checked);
+    append(&mut whole, check);
+    is_checked && whole.as_slice().ends_with(residue)
 }
 
 #[test]
-fn fewer_octets_than_a_check_do_not_pass(rt: HostRuntime) -> Result<(), Fail> {
-    assert!(rt; !passes(b"", Check::Sixteen));
-    assert!(rt; !passes(b"\x00", Check::Sixteen));
-    assert!(rt; !passes(b"\x00\x00\x00", Check::ThirtyTwo));
-    Ok(())
-}
-
-/// The check of a frame with its check, which is the complement of the residue that ITU-T V.42 names for a frame received without
-/// an error (mirrored, as octets stand on the line).
-#[test]
-fn a_correct_frame_leaves_the_residue(rt: HostRuntime) -> Result<(), Fail> {
-    for (check, residue) in [
-        (Check::Sixteen, (!0xf0b8u16).to_le_bytes().as_slice()),
-        (Check::ThirtyTwo, (!0xdebb_20e3u32).to_le_bytes().as_slice()),
-    ] {
-        let mut whole = Whole::new();
-        whole.extend(with_check(check).as_slice());
-        append(&mut whole, check);
-        assert!(rt; whole.as_slice().ends_with(residue));
+fn octets_get_their_check(rt: HostRuntime) -> Result<(), Fail> {
+    for &(name, octets, check, checked, residue) in CHECKED {
+        assert!(&rt; are_checked(octets, check, checked, residue), "{name}");
     }
     Ok(())
-}
-
-/// A list of three octets.
-fn three() -> Info {
-    let mut octets = Info::new();
-    octets.push(1);
-    octets.extend(&[2, 3]);
-    octets
 }
 
 #[test]
 fn lists_of_octets(rt: HostRuntime) -> Result<(), Fail> {
-    assert!(rt; Info::new().is_empty());
-    let mut octets = three();
-    assert!(rt; octets.len() == 3);
+    let mut octets = Info::new();
+    assert!(&rt; octets.is_empty());
+    octets.push(1);
+    octets.extend(&[2, 3]);
+    assert!(&rt; octets.len() == 3);
     let copy = octets.copy();
     octets.clear();
-    assert!(rt; octets.is_empty());
-    assert!(rt; copy.as_slice() == [1, 2, 3].as_slice());
-    assert!(rt; Whole::new().len() == 0);
+    assert!(&rt; octets.is_empty());
+    assert!(&rt; copy.as_slice() == [1, 2, 3].as_slice());
+    assert!(&rt; Whole::new().len() == 0);
     Ok(())
 }

@@ -16,12 +16,6 @@ struct Beside {
     patterns_by_bits: PatternReader,
 }
 
-fn bit_at(four: u8, place: u32) -> bool
-    requires { place < 4 }
-{
-    (four >> place) & 1 == 1
-}
-
 impl Beside {
     fn new() -> Beside {
         Beside {
@@ -39,45 +33,28 @@ impl Beside {
         assert!(rt; self.patterns_by_fours.push(bit) == self.patterns_by_bits.push(bit));
     }
 
-    /// Four bits: where they are passed over, no piece ends with any of them.
-    fn push_pieces(&mut self, rt: &impl Abort, four: u8)
+    /// Four bits: where they are passed over, no piece and no pattern ends with any of them.
+    fn push_four(&mut self, rt: &impl Abort, four: u8)
         requires { four < 16 }
     {
-        let passed = self.by_fours.pass_four(four);
+        let pieces_passed = self.by_fours.pass_four(four);
+        let patterns_passed = self.patterns_by_fours.pass_four(four);
         for place in 0..4u32 {
-            let bit = bit_at(four, place);
+            let bit = (four >> place) & 1 == 1;
             let piece = self.by_bits.push(bit);
-            if passed {
+            let seen = self.patterns_by_bits.push(bit);
+            if pieces_passed {
                 assert!(rt; piece == None);
             } else {
                 assert!(rt; self.by_fours.push(bit) == piece);
             }
-        }
-        assert!(rt; self.by_fours.whole() == self.by_bits.whole());
-    }
-
-    /// The same of patterns.
-    fn push_patterns(&mut self, rt: &impl Abort, four: u8)
-        requires { four < 16 }
-    {
-        let passed = self.patterns_by_fours.pass_four(four);
-        for place in 0..4u32 {
-            let bit = bit_at(four, place);
-            let seen = self.patterns_by_bits.push(bit);
-            if passed {
+            if patterns_passed {
                 assert!(rt; seen == None);
             } else {
                 assert!(rt; self.patterns_by_fours.push(bit) == seen);
             }
         }
-    }
-
-    fn push_slot(&mut self, rt: &impl Abort, slot: &BitSlot) {
-        for place in 0..slot.len() {
-            let four = slot.quad(place) % 16;
-            self.push_pieces(rt, four);
-            self.push_patterns(rt, four);
-        }
+        assert!(rt; self.by_fours.whole() == self.by_bits.whole());
     }
 }
 
@@ -115,7 +92,9 @@ fn fours_are_four_bits(rt: HostRuntime) -> Result<(), Fail> {
     let mut word = 1;
     for turn in 0..20u32 {
         fill(turn, &mut word, &mut slot);
-        beside.push_slot(&rt, &slot);
+        for place in 0..slot.len() {
+            beside.push_four(&rt, slot.quad(place) % 16);
+        }
         beside.push(&rt, turn % 2 == 0);
     }
     Ok(())

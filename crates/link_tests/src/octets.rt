@@ -1,200 +1,270 @@
 // Each kind of frame, read and written, and each fault at its first place.
-ghost use Rattle.std.specs.Prelude.{◌≡◌, ◌≤◌, length};
-ghost use Rattle.frame_check.specs.declared.sizes.TheConstants.{INFO};
-ghost use Rattle.lapm_frames.specs.Frame.{IsFrame};
-
-use frame_check::{Check, INFO, Info, Whole, append};
+use frame_check::{INFO, Info, Whole};
 use lapm_frames::{Frame, FrameFault, read, write};
 use shared_terms::Role;
-use std::process::Abort;
+use std::test::Fail;
 
 const ORIGINATOR: Role = Role::Originator;
 
 const ANSWERER: Role = Role::Answerer;
 
-fn info(octets: &[u8]) -> Info
-    requires { length octets.now ≤ INFO }
-    ensures { result ≡ octets.now }
-{
+/// The fields of a frame, in the order of `Frame`.
+enum Fields {
+    I(u8, u8, bool, &'static [u8]),
+    Rr(bool, u8, bool),
+    Rnr(bool, u8, bool),
+    Rej(bool, u8, bool),
+    Srej(bool, u8, bool),
+    Sabme(bool),
+    Disc(bool),
+    Ua(bool),
+    Dm(bool),
+    Frmr(bool, &'static [u8]),
+    Ui(bool, bool, &'static [u8]),
+    Xid(bool, bool, &'static [u8]),
+    Test(bool, bool, &'static [u8]),
+}
+
+/// The information of these octets.
+fn info_of(octets: &[u8]) -> Info {
     let mut info = Info::new();
-    info.extend(octets);
+    if octets.len() <= INFO {
+        info.extend(octets);
+    }
     info
 }
 
-/// Reads the octets as this frame, and writes it as these octets.
-fn spells(rt: &impl Abort, frame: &Frame, sender: Role, octets: &[u8])
-    requires { IsFrame frame.now }
-{
-    assert!(rt; read(octets, sender, 0) == Ok(frame.copy()));
-    let mut written = Whole::new();
-    write(frame, sender, 0, &mut written);
-    assert!(rt; written.as_slice() == octets);
+/// The frame of these fields.
+fn frame_of(fields: &Fields) -> Frame {
+    match *fields {
+        Fields::I(ns, nr, pf, octets) => Frame::I {
+            ns,
+            nr,
+            pf,
+            info: info_of(octets),
+        },
+        Fields::Rr(command, nr, pf) => Frame::Rr { command, nr, pf },
+        Fields::Rnr(command, nr, pf) => Frame::Rnr { command, nr, pf },
+        Fields::Rej(command, nr, pf) => Frame::Rej { command, nr, pf },
+        Fields::Srej(command, nr, pf) => Frame::Srej { command, nr, pf },
+        Fields::Sabme(pf) => Frame::Sabme { pf },
+        Fields::Disc(pf) => Frame::Disc { pf },
+        Fields::Ua(pf) => Frame::Ua { pf },
+        Fields::Dm(pf) => Frame::Dm { pf },
+        Fields::Frmr(pf, octets) => Frame::Frmr {
+            pf,
+            info: info_of(octets),
+        },
+        Fields::Ui(command, pf, octets) => Frame::Ui {
+            command,
+            pf,
+            info: info_of(octets),
+        },
+        Fields::Xid(command, pf, octets) => Frame::Xid {
+            command,
+            pf,
+            info: info_of(octets),
+        },
+        Fields::Test(command, pf, octets) => Frame::Test {
+            command,
+            pf,
+            info: info_of(octets),
+        },
+    }
 }
 
-fn refuses(rt: &impl Abort, octets: &[u8], sender: Role, fault: FrameFault) {
-    assert!(rt; read(octets, sender, 0) == Err(fault));
-}
-
-#[test]
-fn information_has_both_numbers(rt: HostRuntime) {
-    let frame = Frame::I {
-        ns: 5,
-        nr: 9,
-        pf: true,
-        info: info(b"ab"),
-    };
-    spells(&rt, &frame, ORIGINATOR, b"\x03\x0a\x13ab");
-    spells(&rt, &frame, ANSWERER, b"\x01\x0a\x13ab");
-}
-
-#[test]
-fn supervisory_frames_are_commands_or_responses(rt: HostRuntime) {
-    let (command, nr, pf) = (true, 127, false);
-    spells(
-        &rt,
-        &Frame::Rr { command, nr, pf },
+/// Frames, who sends them on which channel, and their octets.
+const FRAMES: &[(&str, Fields, Role, u8, &[u8])] = &[
+    (
+        "information of the originator",
+        Fields::I(5, 9, true, b"ab"),
         ORIGINATOR,
+        0,
+        b"\x03\x0a\x13ab",
+    ),
+    (
+        "information of the answerer",
+        Fields::I(5, 9, true, b"ab"),
+        ANSWERER,
+        0,
+        b"\x01\x0a\x13ab",
+    ),
+    (
+        "a command RR",
+        Fields::Rr(true, 127, false),
+        ORIGINATOR,
+        0,
         b"\x03\x01\xfe",
-    );
-    spells(
-        &rt,
-        &Frame::Rnr { command, nr, pf },
+    ),
+    (
+        "a command RNR",
+        Fields::Rnr(true, 127, false),
         ANSWERER,
+        0,
         b"\x01\x05\xfe",
-    );
-    let (command, nr, pf) = (false, 1, true);
-    spells(
-        &rt,
-        &Frame::Rej { command, nr, pf },
+    ),
+    (
+        "a response REJ",
+        Fields::Rej(false, 1, true),
         ORIGINATOR,
+        0,
         b"\x01\x09\x03",
-    );
-    spells(
-        &rt,
-        &Frame::Srej { command, nr, pf },
+    ),
+    (
+        "a response SREJ",
+        Fields::Srej(false, 1, true),
         ANSWERER,
+        0,
         b"\x03\x0d\x03",
-    );
-}
+    ),
+    ("SABME", Fields::Sabme(true), ORIGINATOR, 0, b"\x03\x7f"),
+    (
+        "SABME on another channel",
+        Fields::Sabme(true),
+        ORIGINATOR,
+        63,
+        b"\xff\x7f",
+    ),
+    ("DISC", Fields::Disc(true), ANSWERER, 0, b"\x01\x53"),
+    ("UA", Fields::Ua(true), ANSWERER, 0, b"\x03\x73"),
+    ("DM", Fields::Dm(false), ORIGINATOR, 0, b"\x01\x0f"),
+    (
+        "FRMR",
+        Fields::Frmr(false, b"\x00"),
+        ANSWERER,
+        0,
+        b"\x03\x87\x00",
+    ),
+    (
+        "a command UI",
+        Fields::Ui(true, false, b"\x40\x00\x1e"),
+        ORIGINATOR,
+        0,
+        b"\x03\x03\x40\x00\x1e",
+    ),
+    (
+        "a command XID",
+        Fields::Xid(true, false, b"\x82"),
+        ORIGINATOR,
+        0,
+        b"\x03\xaf\x82",
+    ),
+    (
+        "a response TEST",
+        Fields::Test(false, true, b""),
+        ORIGINATOR,
+        0,
+        b"\x01\xf3",
+    ),
+];
 
-#[test]
-fn unnumbered_frames_without_information(rt: HostRuntime) {
-    spells(&rt, &Frame::Sabme { pf: true }, ORIGINATOR, b"\x03\x7f");
-    spells(&rt, &Frame::Disc { pf: true }, ANSWERER, b"\x01\x53");
-    spells(&rt, &Frame::Ua { pf: true }, ANSWERER, b"\x03\x73");
-    spells(&rt, &Frame::Dm { pf: false }, ORIGINATOR, b"\x01\x0f");
-}
-
-#[test]
-fn unnumbered_frames_with_information(rt: HostRuntime) {
-    let (command, pf) = (true, false);
-    let frmr = Frame::Frmr {
-        pf,
-        info: info(b"\x00"),
+/// Whether octets are read as the frame of these fields, and it is written as these octets.
+fn spells(fields: &Fields, sender: Role, channel: u8, octets: &[u8]) -> bool {
+    let channel = channel % 64;
+    let Ok(frame) = read(octets, sender, channel) else {
+        return false;
     };
-    spells(&rt, &frmr, ANSWERER, b"\x03\x87\x00");
-    let ui = Frame::Ui {
-        command,
-        pf,
-        info: info(b"\x40\x00\x1e"),
-    };
-    spells(&rt, &ui, ORIGINATOR, b"\x03\x03\x40\x00\x1e");
-    let xid = Frame::Xid {
-        command,
-        pf,
-        info: info(b"\x82"),
-    };
-    spells(&rt, &xid, ORIGINATOR, b"\x03\xaf\x82");
-    let test = Frame::Test {
-        command: false,
-        pf: true,
-        info: info(b""),
-    };
-    spells(&rt, &test, ORIGINATOR, b"\x01\xf3");
+    let mut written = Whole::new();
+    write(&frame, sender, channel, &mut written);
+    frame == frame_of(fields) && written.as_slice() == octets
 }
 
 #[test]
-fn sabme_with_its_check(rt: HostRuntime) {
-    let mut whole = Whole::new();
-    write(&Frame::Sabme { pf: true }, ORIGINATOR, 0, &mut whole);
-    append(&mut whole, Check::Sixteen);
-    assert!(rt; whole.as_slice() == b"\x03\x7f\x5f\xae".as_slice());
+fn frames_by_their_octets(rt: HostRuntime) -> Result<(), Fail> {
+    for (name, fields, sender, channel, octets) in FRAMES {
+        assert!(&rt; spells(fields, *sender, *channel, octets), "{name}");
+    }
+    Ok(())
 }
 
-#[test]
-fn another_channel(rt: HostRuntime) {
-    assert!(rt; read(b"\xff\x7f", ORIGINATOR, 63) == Ok(Frame::Sabme { pf: true }));
-    assert!(rt; read(b"\x03\x7f", ORIGINATOR, 63) == Err(FrameFault::Address { octet: 0x03 }));
-}
-
-#[test]
-fn short_without_octets(rt: HostRuntime) {
-    refuses(&rt, b"", ORIGINATOR, FrameFault::Short);
-}
-
-#[test]
-fn address_before_control(rt: HostRuntime) {
-    refuses(
-        &rt,
+/// Octets that are no frame of this sender on this channel, and their first fault.
+const FAULTS: &[(&str, &[u8], Role, u8, FrameFault)] = &[
+    ("no octets", b"", ORIGINATOR, 0, FrameFault::Short),
+    (
+        "the address before the control octet",
         b"\x02\x0b",
         ORIGINATOR,
+        0,
         FrameFault::Address { octet: 0x02 },
-    );
-    refuses(
-        &rt,
+    ),
+    (
+        "the address before the length",
         b"\x07",
         ORIGINATOR,
+        0,
         FrameFault::Address { octet: 0x07 },
-    );
-}
-
-#[test]
-fn short_with_an_address_alone(rt: HostRuntime) {
-    refuses(&rt, b"\x03", ORIGINATOR, FrameFault::Short);
-}
-
-#[test]
-fn control_of_no_kind_or_the_wrong_direction(rt: HostRuntime) {
-    refuses(
-        &rt,
+    ),
+    (
+        "another channel's address",
+        b"\x03\x7f",
+        ORIGINATOR,
+        63,
+        FrameFault::Address { octet: 0x03 },
+    ),
+    (
+        "an address alone",
+        b"\x03",
+        ORIGINATOR,
+        0,
+        FrameFault::Short,
+    ),
+    (
+        "a control octet of no kind",
         b"\x03\x0b\x00",
         ORIGINATOR,
+        0,
         FrameFault::Control { octet: 0x0b },
-    );
-    refuses(
-        &rt,
+    ),
+    (
+        "a SABME as a response",
         b"\x03\x7f",
         ANSWERER,
+        0,
         FrameFault::Control { octet: 0x7f },
-    );
-    refuses(
-        &rt,
+    ),
+    (
+        "information as a response",
         b"\x01\x00\x00",
         ORIGINATOR,
+        0,
         FrameFault::Control { octet: 0x00 },
-    );
-}
-
-#[test]
-fn short_without_a_number(rt: HostRuntime) {
-    refuses(&rt, b"\x03\x00", ORIGINATOR, FrameFault::Short);
-    refuses(&rt, b"\x03\x01", ORIGINATOR, FrameFault::Short);
-}
-
-#[test]
-fn long_with_the_number_of_octets(rt: HostRuntime) {
-    refuses(
-        &rt,
+    ),
+    (
+        "information without a number",
+        b"\x03\x00",
+        ORIGINATOR,
+        0,
+        FrameFault::Short,
+    ),
+    (
+        "an RR without a number",
+        b"\x03\x01",
+        ORIGINATOR,
+        0,
+        FrameFault::Short,
+    ),
+    (
+        "a SABME with an octet more",
         b"\x03\x7f\x00",
         ORIGINATOR,
+        0,
         FrameFault::Long { len: 3 },
-    );
-    refuses(
-        &rt,
+    ),
+    (
+        "an RR with an octet more",
         b"\x03\x01\x00\x00",
         ORIGINATOR,
+        0,
         FrameFault::Long { len: 4 },
-    );
+    ),
+];
+
+#[test]
+fn first_faults_of_octets(rt: HostRuntime) -> Result<(), Fail> {
+    for &(name, octets, sender, channel, fault) in FAULTS {
+        assert!(&rt; read(octets, sender, channel % 64) == Err(fault), "{name}");
+    }
+    Ok(())
 }
 
 /// The octets of an I frame with the most information, and with one octet more.
@@ -202,20 +272,18 @@ const MOST: usize = INFO + 3;
 
 const MORE: usize = INFO + 4;
 
+const LONGEST: &Fields = &Fields::I(0, 0, false, &[0; INFO]);
+
 #[test]
-fn information_has_a_most(rt: HostRuntime) {
+fn information_has_a_most(rt: HostRuntime) -> Result<(), Fail> {
     let mut most = [0; MOST];
     most[0] = 0x03;
-    let frame = Frame::I {
-        ns: 0,
-        nr: 0,
-        pf: false,
-        info: info(&[0; INFO]),
-    };
-    spells(&rt, &frame, ORIGINATOR, &most);
+    assert!(&rt; spells(LONGEST, ORIGINATOR, 0, &most));
     let mut more = [0; MORE];
     more[0] = 0x03;
-    refuses(&rt, &more, ORIGINATOR, FrameFault::Long { len: MORE });
+    let fault = FrameFault::Long { len: MORE };
+    assert!(&rt; read(&more, ORIGINATOR, 0) == Err(fault));
     more[1] = 0xaf;
-    refuses(&rt, &more, ORIGINATOR, FrameFault::Long { len: MORE });
+    assert!(&rt; read(&more, ORIGINATOR, 0) == Err(fault));
+    Ok(())
 }

@@ -6,53 +6,64 @@ use frame_check::SLOT;
 use std::process::Abort;
 use std::test::Fail;
 
-const ODP: [&[u8]; 2] = [b"010001000", b"010001001"];
+/// The digits of two characters.
+type Pair = (&'static [u8], &'static [u8]);
 
-const ADP: [&[u8]; 2] = [b"010100010", b"011000010"];
+const ODP: Pair = (b"010001000", b"010001001");
 
-/// Pushes a character and so many ones. No pattern ends at any of these bits.
-fn push_character(rt: &impl Abort, reader: &mut PatternReader, digits: &[u8], ones: usize) {
+const TURNED_ROUND: Pair = (b"010001001", b"010001000");
+
+const ADP: Pair = (b"010100010", b"011000010");
+
+/// Two pairs of characters, the ones behind each of them but the last, and the pattern that ends with the eighth one behind that.
+const PAIRS: &[(&str, Pair, Pair, usize, Option<Seen>)] = &[
+    ("ODP with gaps of 8", ODP, ODP, 8, Some(Seen::Odp)),
+    ("ODP with gaps of 9", ODP, ODP, 9, Some(Seen::Odp)),
+    ("ODP with gaps of 16", ODP, ODP, 16, Some(Seen::Odp)),
+    ("ODP with gaps of 17", ODP, ODP, 17, Some(Seen::Odp)),
+    ("ADP with gaps of 8", ADP, ADP, 8, Some(Seen::Adp)),
+    ("ADP with gaps of 9", ADP, ADP, 9, Some(Seen::Adp)),
+    ("ADP with gaps of 16", ADP, ADP, 16, Some(Seen::Adp)),
+    ("ADP with gaps of 17", ADP, ADP, 17, Some(Seen::Adp)),
+    ("ODP with gaps of 7", ODP, ODP, 7, None),
+    ("ODP with gaps of 18", ODP, ODP, 18, None),
+    ("ADP with gaps of 7", ADP, ADP, 7, None),
+    ("ADP with gaps of 18", ADP, ADP, 18, None),
+    ("ODP and ADP", ODP, ADP, 9, None),
+    ("ADP and ODP", ADP, ODP, 9, None),
+    ("ODP turned round and ODP", TURNED_ROUND, ODP, 9, None),
+];
+
+/// Whether no pattern ends with any bit of a character and so many ones behind it.
+fn is_quiet(reader: &mut PatternReader, digits: &[u8], ones: usize) -> bool {
     for digit in digits {
-        assert!(rt; reader.push(*digit == b'1') == None);
+        if reader.push(*digit == b'1').is_some() {
+            return false;
+        }
     }
     for _ in 0..ones {
-        assert!(rt; reader.push(true) == None);
+        if reader.push(true).is_some() {
+            return false;
+        }
     }
+    true
 }
 
-/// Pushes two characters, each with so many ones.
-fn push_pattern(rt: &impl Abort, reader: &mut PatternReader, characters: [&[u8]; 2], ones: usize) {
-    push_character(rt, reader, characters[0], ones);
-    push_character(rt, reader, characters[1], ones);
-}
-
-/// The answer at the eighth one behind the last character of the two patterns.
-fn seen_behind(rt: &impl Abort, one: [&[u8]; 2], other: [&[u8]; 2], ones: usize) -> Option<Seen> {
+/// Whether two pairs of characters end so.
+fn end_with(one: Pair, other: Pair, ones: usize, seen: Option<Seen>) -> bool {
     let mut reader = PatternReader::new();
-    push_pattern(rt, &mut reader, one, ones);
-    push_character(rt, &mut reader, other[0], ones);
-    push_character(rt, &mut reader, other[1], 7);
-    reader.push(true)
+    is_quiet(&mut reader, one.0, ones)
+        && is_quiet(&mut reader, one.1, ones)
+        && is_quiet(&mut reader, other.0, ones)
+        && is_quiet(&mut reader, other.1, 7)
+        && reader.push(true) == seen
 }
 
 #[test]
-fn gaps_of_eight_to_seventeen_ones(rt: HostRuntime) -> Result<(), Fail> {
-    for ones in [8usize, 9, 16, 17] {
-        assert!(rt; seen_behind(&rt, ODP, ODP, ones) == Some(Seen::Odp));
-        assert!(rt; seen_behind(&rt, ADP, ADP, ones) == Some(Seen::Adp));
+fn two_patterns_of_a_kind_are_seen(rt: HostRuntime) -> Result<(), Fail> {
+    for &(name, one, other, ones, seen) in PAIRS {
+        assert!(&rt; end_with(one, other, ones, seen), "{name}");
     }
-    for ones in [7usize, 18] {
-        assert!(rt; seen_behind(&rt, ODP, ODP, ones) == None);
-        assert!(rt; seen_behind(&rt, ADP, ADP, ones) == None);
-    }
-    Ok(())
-}
-
-#[test]
-fn two_of_one_kind(rt: HostRuntime) -> Result<(), Fail> {
-    assert!(rt; seen_behind(&rt, ODP, ADP, 9) == None);
-    assert!(rt; seen_behind(&rt, ADP, ODP, 9) == None);
-    assert!(rt; seen_behind(&rt, [ODP[1], ODP[0]], ODP, 9) == None);
     Ok(())
 }
 

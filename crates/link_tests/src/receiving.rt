@@ -1,85 +1,115 @@
 // Segments in and out of order.
-ghost use Rattle.std.specs.Prelude.{◌≡◌, ◌≤◌, ◌<◌, IfOk};
+ghost use Rattle.std.specs.Prelude.{◌≡◌, ◌≤◌};
 
 use frame_check::Info;
 use lapm_receiver::{Receiver, Took};
-use std::alloc::Global;
-use std::process::Abort;
 use std::test::Fail;
 
-/// A receiver that has room for so many segments, with a window of four.
-fn begun(alloc: Global, room: u8, srej: bool) -> Result<Receiver, Fail>
-    requires some { 4 ≤ room }
-    requires few { room ≤ 127 }
-    ensures { IfOk result (λ receiver. 1 ≤ receiver.window) }
-{
-    let mut receiver = Receiver::new(alloc, room)?;
-    receiver.begin(4, srej);
-    Ok(receiver)
+/// What a receiver does with a window of four, and what it then says.
+enum Step {
+    /// A segment of this number and octet comes, before any was taken in its turn.
+    Take(u8, u8, Took),
+    /// The segment of this number is asked for, or none is.
+    Ask(Option<u8>),
+    /// So many segments aren't delivered yet.
+    Undelivered(usize),
+    /// The next segment that is delivered has this octet.
+    Deliver(u8),
+    /// The next one that is expected has this number.
+    Number(u8),
+    /// Whether an acknowledgement is owed.
+    Owed(bool),
+    /// The other end is told.
+    Tell,
 }
 
-/// Where no segment was taken in its turn yet, a segment of this octet is taken so.
-fn assert_takes(rt: &impl Abort, receiver: &mut Receiver, ns: u8, octet: u8, took: Took)
-    requires begun { 1 ≤ receiver.old.window }
-    requires number { ns < 128 }
+/// Whether a step goes as it says.
+fn holds(receiver: &mut Receiver, step: &Step) -> bool
+    requires { 1 ≤ receiver.old.window }
     ensures { receiver.new.window ≡ receiver.old.window }
 {
     let mut segment = Info::new();
-    segment.push(octet);
-    assert!(rt; receiver.undelivered() == 0);
-    assert!(rt; receiver.taken() == 0);
-    assert!(rt; receiver.take(ns, &segment) == took);
+    match *step {
+        Step::Take(ns, octet, took) => {
+            segment.push(octet);
+            receiver.undelivered() == 0
+                && receiver.taken() == 0
+                && receiver.take(ns % 128, &segment) == took
+        }
+        Step::Ask(number) => {
+            let asked = receiver.ask();
+            if asked.is_some() {
+                receiver.asked();
+            }
+            asked == number
+        }
+        Step::Undelivered(count) => receiver.undelivered() == count,
+        Step::Deliver(octet) => {
+            receiver.deliver(&mut segment) && segment.as_slice() == [octet].as_slice()
+        }
+        Step::Number(nr) => receiver.nr() == nr,
+        Step::Owed(owed) => receiver.owed() == owed,
+        Step::Tell => {
+            receiver.told();
+            true
+        }
+    }
 }
 
-/// The segment of this number is asked for.
-fn assert_asks(rt: &impl Abort, receiver: &mut Receiver, number: u8)
-    ensures { receiver.new.window ≡ receiver.old.window }
-{
-    assert!(rt; receiver.ask() == Some(number));
-    receiver.asked();
-}
-
-/// The next segment that is delivered has this octet.
-fn assert_delivers(rt: &impl Abort, receiver: &mut Receiver, octet: u8) {
-    let mut out = Info::new();
-    assert!(rt; receiver.deliver(&mut out));
-    assert!(rt; out.as_slice() == [octet].as_slice());
-}
+/// Receivers, each with room for so many segments and with SREJ or without it.
+const RECEIVERS: &[(&str, u8, bool, &[Step])] = &[
+    (
+        "segments are taken in order",
+        127,
+        false,
+        &[
+            Step::Take(0, b'a', Took::InOrder),
+            Step::Undelivered(1),
+            Step::Deliver(b'a'),
+            Step::Number(1),
+            Step::Owed(true),
+            Step::Tell,
+            Step::Owed(false),
+        ],
+    ),
+    (
+        "a gap asks once",
+        4,
+        false,
+        &[
+            Step::Take(1, b'b', Took::Gap),
+            Step::Ask(Some(0)),
+            Step::Take(2, b'c', Took::Gap),
+            Step::Ask(None),
+            Step::Take(127, b'z', Took::Repeat),
+        ],
+    ),
+    (
+        "held segments follow",
+        4,
+        true,
+        &[
+            Step::Take(1, b'b', Took::Kept),
+            Step::Ask(Some(0)),
+            Step::Ask(None),
+            Step::Take(1, b'b', Took::Repeat),
+            Step::Take(0, b'a', Took::InOrder),
+            Step::Deliver(b'a'),
+            Step::Deliver(b'b'),
+            Step::Number(2),
+        ],
+    ),
+];
 
 #[test]
-fn segments_are_taken_in_order(rt: HostRuntime) -> Result<(), Fail> {
-    let mut receiver = begun(rt.alloc(), 127, false)?;
-    assert_takes(&rt, &mut receiver, 0, b'a', Took::InOrder);
-    assert!(rt; receiver.undelivered() == 1);
-    assert_delivers(&rt, &mut receiver, b'a');
-    assert!(rt; receiver.nr() == 1);
-    assert!(rt; receiver.owed());
-    receiver.told();
-    assert!(rt; !receiver.owed());
-    Ok(())
-}
-
-#[test]
-fn a_gap_asks_once(rt: HostRuntime) -> Result<(), Fail> {
-    let mut receiver = begun(rt.alloc(), 4, false)?;
-    assert_takes(&rt, &mut receiver, 1, b'b', Took::Gap);
-    assert_asks(&rt, &mut receiver, 0);
-    assert_takes(&rt, &mut receiver, 2, b'c', Took::Gap);
-    assert!(rt; receiver.ask() == None);
-    assert_takes(&rt, &mut receiver, 127, b'z', Took::Repeat);
-    Ok(())
-}
-
-#[test]
-fn held_segments_follow(rt: HostRuntime) -> Result<(), Fail> {
-    let mut receiver = begun(rt.alloc(), 4, true)?;
-    assert_takes(&rt, &mut receiver, 1, b'b', Took::Kept);
-    assert_asks(&rt, &mut receiver, 0);
-    assert!(rt; receiver.ask() == None);
-    assert_takes(&rt, &mut receiver, 1, b'b', Took::Repeat);
-    assert_takes(&rt, &mut receiver, 0, b'a', Took::InOrder);
-    assert_delivers(&rt, &mut receiver, b'a');
-    assert_delivers(&rt, &mut receiver, b'b');
-    assert!(rt; receiver.nr() == 2);
+fn segments_in_and_out_of_order(rt: HostRuntime) -> Result<(), Fail> {
+    for (name, room, srej, steps) in RECEIVERS {
+        assert!(&rt; 4 <= *room && *room <= 127, "{name}");
+        let mut receiver = Receiver::new(rt.alloc(), *room)?;
+        receiver.begin(4, *srej);
+        for step in *steps {
+            assert!(&rt; holds(&mut receiver, step), "{name}");
+        }
+    }
     Ok(())
 }

@@ -6,20 +6,127 @@ use std::test::Fail;
 
 const FLAG: &[u8] = b"01111110";
 
-/// Pushes bits of which the last one has this answer, and no other has any.
-fn push(rt: &impl Abort, deframer: &mut Deframer, digits: &[u8], last: Option<Piece>) {
-    for i in 0..digits.len() {
-        let answer = deframer.push(digits[i] == b'1');
-        let expected = if i + 1 == digits.len() { last } else { None };
-        assert!(rt; answer == expected);
+/// Bits, so many times, with the answer at the last of them and the octets that are lent behind it. No other bit has any.
+type Push = (&'static [u8], usize, Option<Piece>, &'static [u8]);
+
+/// Streams of bits.
+const STREAMS: &[(&str, &[Push])] = &[
+    (
+        "without the last bit it is ragged",
+        &[
+            (FLAG, 1, None, b""),
+            (b"111110111110111110", 1, None, b""),
+            (FLAG, 1, Some(Piece::Ragged), b""),
+        ],
+    ),
+    (
+        "with a bit more it is too short",
+        &[
+            (FLAG, 1, None, b""),
+            (b"1111101111101111101", 1, None, b""),
+            (FLAG, 1, Some(Piece::TooShort), b""),
+        ],
+    ),
+    (
+        "five ones at the end want a zero",
+        &[
+            (FLAG, 1, None, b""),
+            (b"10000000010000001100000000011111", 1, None, b""),
+            (FLAG, 1, Some(Piece::Ragged), b""),
+            (b"100000000100000011000000000111110", 1, None, b""),
+            (FLAG, 1, Some(Piece::Whole), b"\x01\x02\x03\xf8"),
+        ],
+    ),
+    (
+        "a frame in octets",
+        &[
+            (
+                b"01111110110000001111101101111100100111010101111110",
+                1,
+                Some(Piece::Whole),
+                b"\x03\x7f\x5f\xae",
+            ),
+            (b"011111", 1, None, b""),
+        ],
+    ),
+    // Its check isn't looked at.
+    (
+        "a frame with another address",
+        &[(
+            b"01111110010000001111101101111100100111010101111110",
+            1,
+            Some(Piece::Whole),
+            b"\x02\x7f\x5f\xae",
+        )],
+    ),
+    (
+        "flags with nothing between them give no piece",
+        &[
+            (b"0111111001111110", 1, None, b""),
+            (b"1111110", 1, None, b""),
+            (b"1", 1, None, b""),
+            (FLAG, 1, Some(Piece::Ragged), b""),
+        ],
+    ),
+    (
+        "pieces too short and too long",
+        &[
+            (FLAG, 1, None, b""),
+            (b"0", 24, None, b""),
+            (FLAG, 1, Some(Piece::TooShort), b""),
+            (b"0", 32, None, b""),
+            (FLAG, 1, Some(Piece::Whole), &[0; 4]),
+            (b"0", 8 * WHOLE, None, b""),
+            (FLAG, 1, Some(Piece::Whole), &[0; WHOLE]),
+            (b"0", 8 * WHOLE + 1, None, b""),
+            (FLAG, 1, Some(Piece::TooLong), b""),
+        ],
+    ),
+    (
+        "seven ones abort once",
+        &[
+            (b"11111111", 1, None, b""),
+            (FLAG, 1, None, b""),
+            (b"001111111", 1, Some(Piece::Aborted), b""),
+            (b"1111111", 1, None, b""),
+            (b"0", 32, None, b""),
+            (FLAG, 1, None, b""),
+            (b"0", 32, None, b""),
+            (FLAG, 1, Some(Piece::Whole), &[0; 4]),
+        ],
+    ),
+];
+
+/// Whether the bits of a push are answered so.
+fn is_answered(deframer: &mut Deframer, push: &Push) -> bool {
+    let (digits, times, answer, whole) = *push;
+    let mut left = digits.len().saturating_mul(times);
+    for _ in 0..times {
+        for digit in digits {
+            left = left.saturating_sub(1);
+            let found = deframer.push(*digit == b'1');
+            let (piece, octets) = if left == 0 {
+                (answer, whole)
+            } else {
+                (None, b"".as_slice())
+            };
+            if found != piece || deframer.whole() != octets {
+                return false;
+            }
+        }
     }
+    true
 }
 
-/// Pushes so many zeros.
-fn push_zeros(rt: &impl Abort, deframer: &mut Deframer, count: usize) {
-    for _ in 0..count {
-        assert!(rt; deframer.push(false) == None);
+#[test]
+fn pieces_in_streams(rt: HostRuntime) -> Result<(), Fail> {
+    for (name, pushes) in STREAMS {
+        let mut deframer = Deframer::new();
+        for push in *pushes {
+            assert!(&rt; is_answered(&mut deframer, push), "{name}");
+        }
     }
+    Ok(())
 }
 
 /// A slot of these quads.
@@ -57,115 +164,6 @@ fn a_zero_goes_behind_five_ones(rt: HostRuntime) -> Result<(), Fail> {
     Ok(())
 }
 
-#[test]
-fn without_the_last_bit_it_is_ragged(rt: HostRuntime) -> Result<(), Fail> {
-    let mut deframer = Deframer::new();
-    push(&rt, &mut deframer, FLAG, None);
-    push(&rt, &mut deframer, b"111110111110111110", None);
-    push(&rt, &mut deframer, FLAG, Some(Piece::Ragged));
-    assert!(rt; deframer.whole().is_empty());
-    Ok(())
-}
-
-#[test]
-fn five_ones_at_the_end_want_a_zero(rt: HostRuntime) -> Result<(), Fail> {
-    let mut deframer = Deframer::new();
-    push(&rt, &mut deframer, FLAG, None);
-    push(
-        &rt,
-        &mut deframer,
-        b"10000000010000001100000000011111",
-        None,
-    );
-    push(&rt, &mut deframer, FLAG, Some(Piece::Ragged));
-    push(
-        &rt,
-        &mut deframer,
-        b"100000000100000011000000000111110",
-        None,
-    );
-    push(&rt, &mut deframer, FLAG, Some(Piece::Whole));
-    assert!(rt; deframer.whole() == [0x01, 0x02, 0x03, 0xf8].as_slice());
-    Ok(())
-}
-
-/// Pushes a bit that has this answer, behind which these octets are lent.
-fn push_bit(
-    rt: &impl Abort,
-    deframer: &mut Deframer,
-    bit: bool,
-    answer: Option<Piece>,
-    whole: &[u8],
-) {
-    assert!(rt; deframer.push(bit) == answer);
-    assert!(rt; deframer.whole() == whole);
-}
-
-#[test]
-fn a_frame_in_octets(rt: HostRuntime) -> Result<(), Fail> {
-    let mut deframer = Deframer::new();
-    let mut place = 0usize;
-    for octet in [0x7eu8, 0x03, 0xdf, 0x3e, 0xb9, 0xfa, 0xf9] {
-        for shift in 0..8u32 {
-            place = place.wrapping_add(1);
-            let bit = (octet >> shift) & 1 == 1;
-            if place == 50 {
-                push_bit(
-                    &rt,
-                    &mut deframer,
-                    bit,
-                    Some(Piece::Whole),
-                    b"\x03\x7f\x5f\xae",
-                );
-            } else {
-                push_bit(&rt, &mut deframer, bit, None, b"");
-            }
-        }
-    }
-    Ok(())
-}
-
-#[test]
-fn flags_with_nothing_between_give_no_piece(rt: HostRuntime) -> Result<(), Fail> {
-    let mut deframer = Deframer::new();
-    push(&rt, &mut deframer, b"0111111001111110", None);
-    push(&rt, &mut deframer, b"1111110", None);
-    push(&rt, &mut deframer, b"1", None);
-    push(&rt, &mut deframer, FLAG, Some(Piece::Ragged));
-    Ok(())
-}
-
-#[test]
-fn pieces_too_short_and_too_long(rt: HostRuntime) -> Result<(), Fail> {
-    let mut deframer = Deframer::new();
-    push(&rt, &mut deframer, FLAG, None);
-    push_zeros(&rt, &mut deframer, 24);
-    push(&rt, &mut deframer, FLAG, Some(Piece::TooShort));
-    push_zeros(&rt, &mut deframer, 32);
-    push(&rt, &mut deframer, FLAG, Some(Piece::Whole));
-    assert!(rt; deframer.whole() == [0, 0, 0, 0].as_slice());
-    push_zeros(&rt, &mut deframer, 8 * WHOLE);
-    push(&rt, &mut deframer, FLAG, Some(Piece::Whole));
-    assert!(rt; deframer.whole().len() == WHOLE);
-    push_zeros(&rt, &mut deframer, 8 * WHOLE + 1);
-    push(&rt, &mut deframer, FLAG, Some(Piece::TooLong));
-    Ok(())
-}
-
-#[test]
-fn seven_ones_abort_once(rt: HostRuntime) -> Result<(), Fail> {
-    let mut deframer = Deframer::new();
-    push(&rt, &mut deframer, b"11111111", None);
-    push(&rt, &mut deframer, FLAG, None);
-    push(&rt, &mut deframer, b"001111111", Some(Piece::Aborted));
-    push(&rt, &mut deframer, b"1111111", None);
-    push_zeros(&rt, &mut deframer, 32);
-    push(&rt, &mut deframer, FLAG, None);
-    push_zeros(&rt, &mut deframer, 32);
-    push(&rt, &mut deframer, FLAG, Some(Piece::Whole));
-    Ok(())
-}
-
 /// The symbols of a slot in which the last flag of such a frame's slot is cut.
 const SYMBOLS: usize = 464;
 
@@ -186,18 +184,12 @@ fn a_flag_that_is_cut_goes_on_in_the_next_slot(rt: HostRuntime) -> Result<(), Fa
     Ok(())
 }
 
-/// The quad at this place.
-fn assert_quad(rt: &impl Abort, slot: &BitSlot, place: usize, quad: u8) {
-    assert!(rt; place < slot.len());
-    assert!(rt; slot.quad(place) == quad);
-}
-
 #[test]
 fn quads_of_a_slot(rt: HostRuntime) -> Result<(), Fail> {
     assert!(rt; BitSlot::new().is_empty());
     let mut slot = slot_of(&[6, 15]);
     assert!(rt; slot.len() == 2);
-    assert_quad(&rt, &slot, 1, 15);
+    assert!(rt; slot.quad(1) == 15);
     assert_digits(&rt, &slot, 0, b"01101111");
     slot.clear();
     assert!(rt; slot.len() == 0);

@@ -6,41 +6,45 @@ use shared_terms::Role;
 use std::test::Fail;
 
 /// The octets of a frame of the originator, and its text.
-const FRAMES: [(&[u8], &[u8]); 20] = [
-    (b"\x03\xfe\x01ab", b"i s=127 r=0 p=1 n=2"),
-    (b"\x03\x02\x14", b"i s=1 r=10 p=0 n=0"),
-    (b"\x03\x01\x01", b"rr cmd r=0 p=1"),
-    (b"\x01\x05\x14", b"rnr rsp r=10 p=0"),
-    (b"\x01\x09\x06", b"rej rsp r=3 p=0"),
-    (b"\x03\x0d\xff", b"srej cmd r=127 p=1"),
-    (b"\x03\x7f", b"sabme cmd p=1"),
-    (b"\x03\x43", b"disc cmd p=0"),
-    (b"\x01\x73", b"ua rsp p=1"),
-    (b"\x01\x0f", b"dm rsp p=0"),
-    (b"\x01\x87a", b"frmr rsp p=0 n=1"),
-    (b"\x03\x03abc", b"ui cmd p=0 n=3"),
-    (b"\x03\x03@\x00\x1e", b"ui cmd p=0 brk 0 30"),
-    (b"\x01\x13`\x01\xff", b"ui rsp p=1 brkack 1 255"),
-    (b"\x03\x03@\x02\x1e", b"ui cmd p=0 n=3"),
-    (b"\x01\x13", b"ui rsp p=1 n=0"),
-    (b"\x03\xe3@\x00\x1e", b"test cmd p=0 n=3"),
-    (b"\x03\xafabcdefghijkl", b"xid cmd p=0 n=12"),
-    (b"\x01\xaf", b"xid rsp p=0 n=0"),
-    (b"\x03\xf3ab", b"test cmd p=1 n=2"),
+const FRAMES: &[(&[u8], &str)] = &[
+    (b"\x03\xfe\x01ab", "i s=127 r=0 p=1 n=2"),
+    (b"\x03\x02\x14", "i s=1 r=10 p=0 n=0"),
+    (b"\x03\x01\x01", "rr cmd r=0 p=1"),
+    (b"\x01\x01\x0a", "rr rsp r=5 p=0"),
+    (b"\x01\x05\x14", "rnr rsp r=10 p=0"),
+    (b"\x01\x09\x06", "rej rsp r=3 p=0"),
+    (b"\x03\x0d\xff", "srej cmd r=127 p=1"),
+    (b"\x03\x7f", "sabme cmd p=1"),
+    (b"\x03\x43", "disc cmd p=0"),
+    (b"\x01\x73", "ua rsp p=1"),
+    (b"\x01\x0f", "dm rsp p=0"),
+    (b"\x01\x87a", "frmr rsp p=0 n=1"),
+    (b"\x03\x03abc", "ui cmd p=0 n=3"),
+    (b"\x03\x03@\x00\x1e", "ui cmd p=0 brk 0 30"),
+    (b"\x01\x13`\x01\xff", "ui rsp p=1 brkack 1 255"),
+    (b"\x03\x03@\x02\x1e", "ui cmd p=0 n=3"),
+    (b"\x01\x13", "ui rsp p=1 n=0"),
+    (b"\x03\xe3@\x00\x1e", "test cmd p=0 n=3"),
+    (b"\x03\xafabcdefghijkl", "xid cmd p=0 n=12"),
+    (b"\x03\xaf\x82", "xid cmd p=0 n=1"),
+    (b"\x01\xaf", "xid rsp p=0 n=0"),
+    (b"\x03\xf3ab", "test cmd p=1 n=2"),
 ];
 
-/// The frame of these octets of the originator.
-fn frame_of(octets: &[u8]) -> Result<Frame, Fail> {
-    Ok(read(octets, Role::Originator, 0).map_err(|_| "refused")?)
+/// Whether these octets of the originator are a frame of that text.
+fn has_text(octets: &[u8], text: &str) -> bool {
+    let Ok(frame) = read(octets, Role::Originator, 0) else {
+        return false;
+    };
+    let mut out = FrameText::new();
+    write_frame_text(&frame, &mut out);
+    out.as_slice() == text.as_bytes()
 }
 
 #[test]
 fn each_kind_has_its_text(rt: HostRuntime) -> Result<(), Fail> {
-    for (octets, text) in FRAMES {
-        let frame = frame_of(octets)?;
-        let mut out = FrameText::new();
-        write_frame_text(&frame, &mut out);
-        assert!(rt; out.as_slice() == text);
+    for &(octets, text) in FRAMES {
+        assert!(&rt; has_text(octets, text), "{text}");
     }
     Ok(())
 }
@@ -65,8 +69,8 @@ fn lines_of_a_trace_have_their_texts(rt: HostRuntime) -> Result<(), Fail> {
     let broken = TraceLine {
         turn: 8,
         role: Role::Answerer,
-        arrived: Heard::Passed(Sent::Frame(frame_of(b"\x03\x03@\x00\x1e")?)),
-        sent: Some(Sent::Frame(frame_of(b"\x03\x03`\x00\x1e")?)),
+        arrived: Heard::Passed(Sent::Frame(read(b"\x03\x03@\x00\x1e", Role::Originator, 0)?)),
+        sent: Some(Sent::Frame(read(b"\x03\x03`\x00\x1e", Role::Originator, 0)?)),
         given: Some(30),
     };
     assert!(&rt;

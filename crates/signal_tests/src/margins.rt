@@ -3,8 +3,15 @@ use noise_bound::Margin;
 use scramblers::Mode;
 use symbol_map::Sample;
 
-// A margin behind the octet 0 in call mode, of which the first sample was heard with this re.
-fn margin_at(re: i16) -> Margin {
+/// The re of the first sample of the octet 0 in call mode, what the noise on it costs, and whether the octet is sure.
+const MARGINS: &[(&str, i16, u64, bool)] = &[
+    ("as it was sent", -8192, 0, true),
+    ("as far as is sure", -8192 + 3238, 10_484_644, true),
+    ("a unit farther", -8192 + 3239, 10_491_121, false),
+];
+
+/// Whether noise of the first sample costs so much, and the octet is sure or not.
+fn costs(re: i16, cost: u64, sure: bool) -> bool {
     let mut margin = Margin::new(Mode::Call);
     let first = Sample { re, im: 2048 };
     let second = Sample {
@@ -12,22 +19,12 @@ fn margin_at(re: i16) -> Margin {
         im: 2048,
     };
     margin.push(0x00, first, second);
-    margin
-}
-
-#[test]
-fn samples_as_they_were_sent_cost_nothing(rt: HostRuntime) {
-    let margin = margin_at(-8192);
-    assert!(&rt; margin.cost() == 0);
-    assert!(&rt; margin.sure());
+    margin.cost() == cost && margin.sure() == sure
 }
 
 #[test]
 fn a_sample_a_unit_farther_is_not_sure(rt: HostRuntime) {
-    let near = margin_at(-8192 + 3238);
-    assert!(&rt; near.cost() == 10484644);
-    assert!(&rt; near.sure());
-    let far = margin_at(-8192 + 3239);
-    assert!(&rt; far.cost() == 10491121);
-    assert!(&rt; !far.sure());
+    for &(name, re, cost, sure) in MARGINS {
+        assert!(&rt; costs(re, cost, sure), "{name}");
+    }
 }

@@ -1,27 +1,51 @@
 // The samples of some octets, whose low four bits come first.
+ghost use Rattle.std.specs.Prelude.{◌<◌};
+
 use line_coding::Modulator;
 use scramblers::Mode;
 use symbol_map::Sample;
 
-fn samples_of(modulator: &mut Modulator, octet: u8) -> [Sample; 2] {
-    [modulator.push(octet % 16), modulator.push(octet / 16)]
-}
+/// An octet, and the points of its two symbols.
+const OCTETS: &[(&str, Mode, u8, (i16, i16), (i16, i16))] = &[
+    (
+        "00 in call mode",
+        Mode::Call,
+        0x00,
+        (-8192, 2048),
+        (-8192, 2048),
+    ),
+    (
+        "01 in call mode",
+        Mode::Call,
+        0x01,
+        (-4096, 6144),
+        (-4096, 6144),
+    ),
+    (
+        "01 in answer mode",
+        Mode::Answer,
+        0x01,
+        (-4096, 6144),
+        (4096, -6144),
+    ),
+];
 
-fn sample(re: i16, im: i16) -> Sample {
-    Sample { re, im }
+/// Whether the next four bits are sent as this point.
+fn is_sent(modulator: &mut Modulator, quad: u8, point: (i16, i16)) -> bool
+    requires { quad < 16 }
+{
+    let (re, im) = point;
+    modulator.push(quad) == Sample { re, im }
 }
 
 #[test]
-fn an_octet_of_zeros_in_call_mode(rt: HostRuntime) {
-    let mut modulator = Modulator::new(Mode::Call);
-    let samples = samples_of(&mut modulator, 0x00);
-    assert!(&rt; samples == [sample(-8192, 2048), sample(-8192, 2048)]);
-}
-
-#[test]
-fn the_octet_one_in_both_modes(rt: HostRuntime) {
-    let mut call = Modulator::new(Mode::Call);
-    assert!(&rt; samples_of(&mut call, 0x01) == [sample(-4096, 6144), sample(-4096, 6144)]);
-    let mut answer = Modulator::new(Mode::Answer);
-    assert!(&rt; samples_of(&mut answer, 0x01) == [sample(-4096, 6144), sample(4096, -6144)]);
+fn octets_in_both_modes(rt: HostRuntime) {
+    for &(name, mode, octet, first, second) in OCTETS {
+        let mut modulator = Modulator::new(mode);
+        let is_first = is_sent(&mut modulator, octet % 16, first);
+        assert!(&rt;
+            is_first && is_sent(&mut modulator, octet / 16, second),
+            "{name}"
+        );
+    }
 }

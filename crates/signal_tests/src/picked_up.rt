@@ -67,20 +67,24 @@ fn fours_from_the_middle(
     Ok(fours)
 }
 
-// They are those that were sent, from the thirteenth on. After a turn a few more or fewer are released: ties are settled otherwise.
-fn check_fours(rt: &impl Abort, fours: &[u8]) {
-    assert!(rt; fours.len() > 50);
-    for place in 0..fours.len() {
-        assert!(rt; usize::from(fours[place]) == (place + 12) % 16);
+// Whether more than 50 quads are these first ones, and all others count on, modulo 16, from this number at the first place.
+fn count_on(quads: &[u8], first: &[u8], from: u8) -> bool {
+    for place in 0..quads.len() {
+        let sent = ((place % 16) as u8 + from % 16) % 16;
+        if quads[place] != *first.get(place).unwrap_or(&sent) {
+            return false;
+        }
     }
+    quads.len() > 50
 }
 
+// They are those that were sent, from the thirteenth on. After a turn a few more or fewer are released: ties are settled otherwise.
 #[test]
 fn bits_of_the_middle_are_read_whatever_the_turn(rt: HostRuntime) -> Result<(), NoMemory> {
-    let plain = fours_from_the_middle(&rt, rt.alloc(), 0)?;
-    check_fours(&rt, plain.as_slice());
-    let by_a_quarter = fours_from_the_middle(&rt, rt.alloc(), 1)?;
-    check_fours(&rt, by_a_quarter.as_slice());
+    for quarters in 0..2u8 {
+        let fours = fours_from_the_middle(&rt, rt.alloc(), quarters)?;
+        assert!(&rt; count_on(&fours, &[], 12), "{quarters} turns");
+    }
     Ok(())
 }
 
@@ -116,21 +120,18 @@ fn quads_from_any(rt: &impl Abort, alloc: Global, quarters: u8) -> Result<Vec<u8
 }
 
 // The first quads of the line turned by so many quarters: bits 0, 18 and 23 are others, or 1, 19 and 24, or these six. By a program apart.
-const TURNED: [(u8, [u8; 7]); 4] = [
-    (0, [0, 1, 2, 3, 4, 5, 6]),
-    (1, [1, 1, 2, 3, 0, 13, 6]),
-    (2, [2, 1, 2, 3, 12, 5, 7]),
-    (3, [3, 1, 2, 3, 8, 13, 7]),
+const TURNED: &[(u8, &[u8])] = &[
+    (0, &[0, 1, 2, 3, 4, 5, 6]),
+    (1, &[1, 1, 2, 3, 0, 13, 6]),
+    (2, &[2, 1, 2, 3, 12, 5, 7]),
+    (3, &[3, 1, 2, 3, 8, 13, 7]),
 ];
 
 #[test]
 fn six_bits_of_a_turned_line_are_others(rt: HostRuntime) -> Result<(), NoMemory> {
-    for (quarters, first) in TURNED {
+    for &(quarters, first) in TURNED {
         let quads = quads_from_any(&rt, rt.alloc(), quarters)?;
-        assert!(rt; quads.len() > 50);
-        for (place, quad) in quads.iter().enumerate() {
-            assert!(rt; *quad == *first.get(place).unwrap_or(&((place % 16) as u8)));
-        }
+        assert!(&rt; count_on(&quads, first, 0), "{quarters} turns");
     }
     Ok(())
 }

@@ -11,20 +11,15 @@ const SECOND: Sample = Sample {
 };
 
 #[test]
-fn an_octet_becomes_four_samples(rt: HostRuntime) {
+fn an_octet_becomes_four_samples_and_labels_carry_turns(rt: HostRuntime) {
     let mut modulator = Modulator::new(Mode::Call);
-    assert!(&rt; modulator.push(1) == SECOND);
-    assert!(&rt; modulator.push(0) == SECOND);
-    assert!(&rt; modulator.push(0) == SECOND);
-    assert!(&rt; modulator.push(0) == SECOND);
-}
-
-#[test]
-fn labels_carry_turns(rt: HostRuntime) {
+    for two in [1u8, 0, 0, 0] {
+        assert!(&rt; modulator.push(two % 4) == SECOND);
+    }
     let mut demodulator = Demodulator::new(Mode::Call);
-    assert!(&rt; demodulator.push(1) == 1);
-    assert!(&rt; demodulator.push(1) == 0);
-    assert!(&rt; demodulator.push(0) == 3);
+    for (label, bits) in [(1u8, 1), (1, 0), (0, 3)] {
+        assert!(&rt; demodulator.push(label % 4) == bits);
+    }
 }
 
 /// Samples up to 4579 units from their point, half the way to the next one, give their bits at once.
@@ -35,11 +30,7 @@ fn near_samples_are_read_at_once(rt: HostRuntime) -> Result<(), NoMemory> {
         re: 2048 + 3238,
         im: -6144 + 3238,
     };
-    assert!(&rt; reader.push(far).is_ok());
-    assert!(&rt; reader.take() == Some(1));
-    assert!(&rt; reader.take() == None);
-    assert!(&rt; reader.push(SECOND).is_ok());
-    assert!(&rt; reader.take() == Some(0));
-    assert!(&rt; reader.pending() == 0);
+    assert!(&rt; reader.push(far).is_ok() && reader.take() == Some(1) && reader.take() == None);
+    assert!(&rt; reader.push(SECOND).is_ok() && reader.take() == Some(0) && reader.pending() == 0);
     Ok(())
 }

@@ -1,43 +1,68 @@
-// Recordings of an octet in both modes.
+// Recordings of an octet in both modes, at both rates.
 use recordings::{Rate, Recorder, header_octets};
 use scramblers::Mode;
 
-#[test]
-fn headers_name_the_mode(rt: HostRuntime) {
-    let call = header_octets(Rate::Trellis, Mode::Call);
-    assert!(&rt; call.as_slice() == [0x56, 0x33, 0x32, 0x52, 0, 0, 0, 0].as_slice());
-    let answer = header_octets(Rate::Trellis, Mode::Answer);
-    assert!(&rt; answer.as_slice() == [0x56, 0x33, 0x32, 0x52, 1, 0, 0, 0].as_slice());
-}
+/// The headers of recordings.
+const HEADERS: &[(&str, Rate, Mode, &[u8])] = &[
+    ("call", Rate::Trellis, Mode::Call, b"V32R\0\0\0\0"),
+    ("answer", Rate::Trellis, Mode::Answer, b"V32R\x01\0\0\0"),
+    (
+        "call at 4800",
+        Rate::Quarters,
+        Mode::Call,
+        b"V32R\x02\0\0\0",
+    ),
+    (
+        "answer at 4800",
+        Rate::Quarters,
+        Mode::Answer,
+        b"V32R\x03\0\0\0",
+    ),
+];
 
 #[test]
-fn headers_name_the_rate(rt: HostRuntime) {
-    let call = header_octets(Rate::Quarters, Mode::Call);
-    assert!(&rt; call.as_slice() == [0x56, 0x33, 0x32, 0x52, 2, 0, 0, 0].as_slice());
-    let answer = header_octets(Rate::Quarters, Mode::Answer);
-    assert!(&rt; answer.as_slice() == [0x56, 0x33, 0x32, 0x52, 3, 0, 0, 0].as_slice());
+fn headers_name_the_mode_and_the_rate(rt: HostRuntime) {
+    for &(name, rate, mode, header) in HEADERS {
+        assert!(&rt; header_octets(rate, mode).as_slice() == header, "{name}");
+    }
 }
 
-#[test]
-fn an_octet_becomes_two_samples(rt: HostRuntime) {
-    let mut call = Recorder::new(Rate::Trellis, Mode::Call);
-    let zero = call.push(0x00);
-    assert!(&rt; zero.as_slice() == [0x00, 0xe0, 0x00, 0x08, 0x00, 0xe0, 0x00, 0x08].as_slice());
-    let mut call = Recorder::new(Rate::Trellis, Mode::Call);
-    let one = call.push(0x01);
-    assert!(&rt; one.as_slice() == [0x00, 0xf0, 0x00, 0x18, 0x00, 0xf0, 0x00, 0x18].as_slice());
-    let mut answer = Recorder::new(Rate::Trellis, Mode::Answer);
-    let one = answer.push(0x01);
-    assert!(&rt; one.as_slice() == [0x00, 0xf0, 0x00, 0x18, 0x00, 0x10, 0x00, 0xe8].as_slice());
-}
+/// What an octet becomes: two samples, or four at the second rate.
+const RECORDED: &[(&str, Rate, Mode, u8, &[u8])] = &[
+    (
+        "00 in call mode",
+        Rate::Trellis,
+        Mode::Call,
+        0x00,
+        b"\x00\xe0\x00\x08\x00\xe0\x00\x08",
+    ),
+    (
+        "01 in call mode",
+        Rate::Trellis,
+        Mode::Call,
+        0x01,
+        b"\x00\xf0\x00\x18\x00\xf0\x00\x18",
+    ),
+    (
+        "01 in answer mode",
+        Rate::Trellis,
+        Mode::Answer,
+        0x01,
+        b"\x00\xf0\x00\x18\x00\x10\x00\xe8",
+    ),
+    (
+        "01 in call mode at 4800",
+        Rate::Quarters,
+        Mode::Call,
+        0x01,
+        b"\x00\x08\x00\xe8\x00\x08\x00\xe8\x00\x08\x00\xe8\x00\x08\x00\xe8",
+    ),
+];
 
 #[test]
-fn an_octet_becomes_four_samples_at_the_second_rate(rt: HostRuntime) {
-    let mut call = Recorder::new(Rate::Quarters, Mode::Call);
-    let one = call.push(0x01);
-    let four = [
-        0x00, 0x08, 0x00, 0xe8, 0x00, 0x08, 0x00, 0xe8, 0x00, 0x08, 0x00, 0xe8, 0x00, 0x08, 0x00,
-        0xe8,
-    ];
-    assert!(&rt; one.as_slice() == four.as_slice());
+fn octets_become_samples(rt: HostRuntime) {
+    for &(name, rate, mode, octet, samples) in RECORDED {
+        let mut recorder = Recorder::new(rate, mode);
+        assert!(&rt; recorder.push(octet).as_slice() == samples, "{name}");
+    }
 }

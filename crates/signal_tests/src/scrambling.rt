@@ -21,15 +21,11 @@ fn check_line<const TAP: usize>(rt: &impl std::process::Abort, octets: &[u8], li
 }
 
 #[test]
-fn call_mode_spreads_a_single_one(rt: HostRuntime) {
+fn both_modes_spread_a_single_one(rt: HostRuntime) {
     check_line::<CALL_TAP>(
         &rt,
         &[0x01, 0, 0, 0, 0, 0],
         &[0x01, 0x00, 0x84, 0x00, 0x10, 0x40],
     );
-}
-
-#[test]
-fn answer_mode_spreads_a_single_one(rt: HostRuntime) {
     check_line::<ANSWER_TAP>(&rt, &[0x01, 0, 0], &[0x21, 0x84, 0x90]);
 }

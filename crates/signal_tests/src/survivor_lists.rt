@@ -241,13 +241,21 @@ fn lost_with(
     Ok(None)
 }
 
+/// Spreads, the symbol from which on all samples lie in the middle, and whether the line is lost, where that is known beforehand.
+const STREAMS: &[(&str, u32, u32, Option<bool>)] = &[
+    ("points themselves", 1, 400, Some(false)),
+    ("a spread of 1001", 1001, 400, Some(false)),
+    ("a spread of 3001", 3001, 400, Some(false)),
+    ("a spread of 1001, and the middle", 1001, 40, Some(true)),
+    ("the middle", 1, 0, Some(true)),
+    ("half units", 0, 400, None),
+];
+
 #[test]
 fn both_release_the_same(rt: HostRuntime) -> Result<(), NoMemory> {
-    for spread in [1, 1001, 3001] {
-        assert!(&rt; lost_with(&rt, rt.alloc(), spread, 400)? == None);
+    for &(name, spread, middle, lost) in STREAMS {
+        let symbol = lost_with(&rt, rt.alloc(), spread % 4096, middle)?;
+        assert!(&rt; lost.is_none() || lost == Some(symbol.is_some()), "{name}");
     }
-    assert!(&rt; lost_with(&rt, rt.alloc(), 1001, 40)?.is_some());
-    assert!(&rt; lost_with(&rt, rt.alloc(), 1, 0)?.is_some());
-    lost_with(&rt, rt.alloc(), 0, 400)?;
     Ok(())
 }

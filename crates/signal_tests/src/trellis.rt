@@ -5,31 +5,49 @@ use std::process::Abort;
 use symbol_map::Sample;
 use trellis_tables::{Encoder, LabelReader, TrellisCode, V32Code, rotate_state};
 
-// Codes quads, compares the points, and reads the quads back.
-fn check_coding(rt: &impl Abort, quads: &[u8], points: &[(i16, i16)]) {
+/// Quads, and the points that they are coded as.
+const CODED: &[(&str, &[u8], &[(i16, i16)])] = &[
+    (
+        "the octet 00 in call mode",
+        &[0x0, 0x0],
+        &[(-8192, 2048), (-8192, 2048)],
+    ),
+    (
+        "the octet 01 in call mode",
+        &[0x1, 0x0],
+        &[(-4096, 6144), (-4096, 6144)],
+    ),
+    (
+        "the octet 01 in answer mode, scrambled",
+        &[0x1, 0x2],
+        &[(-4096, 6144), (4096, -6144)],
+    ),
+    (
+        "the first symbol of a detection pattern",
+        &[0x2],
+        &[(8192, -2048)],
+    ),
+];
+
+// Whether quads become these points, and are read back from their labels.
+fn are_coded(quads: &[u8], points: &[(i16, i16)]) -> bool {
     let mut encoder = Encoder::new();
     let mut reader = LabelReader::new();
     for (quad, (re, im)) in quads.iter().zip(points) {
         let label = encoder.push(*quad % 16);
-        assert!(rt; V32Code.point(label) == Sample { re: *re, im: *im });
-        assert!(rt; reader.push(label) == *quad);
+        let point = Sample { re: *re, im: *im };
+        if V32Code.point(label) != point || reader.push(label) != *quad {
+            return false;
+        }
     }
+    true
 }
 
 #[test]
-fn octets_in_call_mode(rt: HostRuntime) {
-    check_coding(&rt, &[0x0, 0x0], &[(-8192, 2048), (-8192, 2048)]);
-    check_coding(&rt, &[0x1, 0x0], &[(-4096, 6144), (-4096, 6144)]);
-}
-
-#[test]
-fn scrambled_octet_in_answer_mode(rt: HostRuntime) {
-    check_coding(&rt, &[0x1, 0x2], &[(-4096, 6144), (4096, -6144)]);
-}
-
-#[test]
-fn first_symbol_of_a_detection_pattern(rt: HostRuntime) {
-    check_coding(&rt, &[0x2], &[(8192, -2048)]);
+fn quads_become_points(rt: HostRuntime) {
+    for &(name, quads, points) in CODED {
+        assert!(&rt; are_coded(quads, points), "{name}");
+    }
 }
 
 #[test]
@@ -37,30 +55,6 @@ fn uncoded_bits_are_read(rt: HostRuntime) {
     let mut reader = LabelReader::new();
     assert!(rt; reader.push(0) == 0x0);
     assert!(rt; reader.push(2) == 0x4);
-}
-
-#[test]
-fn states_of_two_equal_symbols(rt: HostRuntime) {
-    assert!(rt; V32Code.next(0, 8) == Some(2));
-    assert!(rt; V32Code.next(2, 8) == Some(3));
-    assert!(rt; V32Code.before(3, 8) == Some(2));
-    assert!(rt; V32Code.next(3, 8) == None);
-}
-
-#[test]
-fn states_after_a_quarter_turn(rt: HostRuntime) {
-    for (state, rotated) in [
-        (0u8, 5u8),
-        (1, 6),
-        (2, 7),
-        (3, 4),
-        (4, 1),
-        (5, 2),
-        (6, 3),
-        (7, 0),
-    ] {
-        assert!(rt; rotate_state(state % 8) == rotated);
-    }
 }
 
 // Each branch is found again from its end, whatever the code.
@@ -77,8 +71,28 @@ fn check_branches<const STATES: usize, const LABELS: usize, C: TrellisCode<STATE
     }
 }
 
+/// States, and what they are after a clockwise quarter turn of all points.
+const ROTATED: &[(u8, u8)] = &[
+    (0, 5),
+    (1, 6),
+    (2, 7),
+    (3, 4),
+    (4, 1),
+    (5, 2),
+    (6, 3),
+    (7, 0),
+];
+
 #[test]
-fn branches_are_found_from_both_ends(rt: HostRuntime) {
+fn states_and_branches(rt: HostRuntime) {
+    // two equal symbols, and a label that leads nowhere
+    assert!(rt; V32Code.next(0, 8) == Some(2));
+    assert!(rt; V32Code.next(2, 8) == Some(3));
+    assert!(rt; V32Code.before(3, 8) == Some(2));
+    assert!(rt; V32Code.next(3, 8) == None);
+    for &(state, rotated) in ROTATED {
+        assert!(rt; rotate_state(state % 8) == rotated, "{state}");
+    }
     check_branches(&rt, &V32Code);
     assert!(rt; <V32Code as TrellisCode<8, 32>>::REACH == 2);
 }

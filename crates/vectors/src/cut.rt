@@ -16,7 +16,7 @@ fn information_fields(rt: HostRuntime) {
             1 | 23 => None,
             _ => Some(XidFault::Length { at: 2 }),
         };
-        assert!(rt; read_offer(&FIELD[..count]).err() == fault);
+        assert!(rt; read_offer(&FIELD[..count]).err() == fault, "{count}");
     }
 }
 

@@ -6,4 +6,4 @@ mod cut;
 #[cfg(test)]
 mod reactions;
 #[cfg(test)]
-mod tests;
+mod sizes;

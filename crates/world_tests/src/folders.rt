@@ -8,20 +8,20 @@ use std::io::{self, ErrorKind, Read, Write};
 use std::process::Abort;
 use std::test::Fail;
 
-fn makes_a_file<F: Folder>(folder: &mut F) -> Result<(), FolderFault> {
+/// The octets that stand in the file from these places on, as far as five: its front, its last ones, none at its end and past it.
+const PARTS: &[(u64, &[u8])] = &[(0, b"one t"), (5, b"wo"), (7, b""), (8, b"")];
+
+/// Makes a file and reads it back.
+fn keeps_a_file<F: Folder>(rt: &impl Abort, folder: &mut F) -> Result<(), Fail> {
     folder.append("f", b"old")?;
     folder.create("f")?;
     folder.append("f", b"one ")?;
     folder.append("f", b"two")?;
-    folder.say(b"said\n")
-}
-
-/// Reads the file back: its front, its last octets, at its end and past it.
-fn reads_it_back<F: Folder>(rt: &impl Abort, folder: &mut F) -> Result<(), Fail> {
+    folder.say(b"said\n")?;
     let mut buf = [0u8; 5];
-    for (at, octets) in [(0, "one t"), (5, "wo"), (7, ""), (8, "")] {
+    for &(at, octets) in PARTS {
         let count = folder.read_at("f", at, &mut buf)?;
-        assert!(rt; &buf[..count] == octets.as_bytes(), "at {at}");
+        assert!(rt; &buf[..count] == octets, "at {at}");
     }
     Ok(())
 }
@@ -30,16 +30,16 @@ fn reads_it_back<F: Folder>(rt: &impl Abort, folder: &mut F) -> Result<(), Fail>
 fn a_folder_in_memory_keeps_files(rt: HostRuntime) -> Result<(), Fail> {
     let mut folder = MemoryFolder::new(rt.alloc());
     folder.put("f", b"put")?;
-    makes_a_file(&mut folder)?;
-    reads_it_back(&rt, &mut folder)?;
+    keeps_a_file(&rt, &mut folder)?;
     assert!(rt; folder.get("f") == Some(b"one two".as_slice()));
     assert!(rt; folder.said() == b"said\n".as_slice());
     assert!(rt; folder.calls() == 9);
     Ok(())
 }
 
+/// A failed append leaves the file, and a missing name is a read fault.
 #[test]
-fn a_failed_append_leaves_the_file(rt: HostRuntime) -> Result<(), Fail> {
+fn a_folder_in_memory_fails_when_it_is_told(rt: HostRuntime) -> Result<(), Fail> {
     let mut folder = MemoryFolder::new(rt.alloc());
     folder.put("f", b"kept")?;
     folder.fail_at(&[2])?;
@@ -47,14 +47,8 @@ fn a_failed_append_leaves_the_file(rt: HostRuntime) -> Result<(), Fail> {
     assert!(rt; folder.append("f", b"lost") == Err(FolderFault::Failed));
     assert!(rt; folder.get("f") == Some(b"kept, longer".as_slice()));
     assert!(rt; folder.write_faults() == 1);
-    Ok(())
-}
-
-#[test]
-fn a_missing_name_is_a_read_fault(rt: HostRuntime) -> Result<(), Fail> {
-    let mut folder = MemoryFolder::new(rt.alloc());
-    assert!(rt; folder.get("f").is_none());
-    assert!(rt; folder.read_at("f", 0, &mut [0u8; 4]) == Err(FolderFault::Failed));
+    assert!(rt; folder.get("g").is_none());
+    assert!(rt; folder.read_at("g", 0, &mut [0u8; 4]) == Err(FolderFault::Failed));
     assert!(rt; folder.read_faults() == 1);
     Ok(())
 }
@@ -63,8 +57,7 @@ fn a_missing_name_is_a_read_fault(rt: HostRuntime) -> Result<(), Fail> {
 fn a_sure_folder_keeps_files_and_reads_a_missing_one(rt: HostRuntime) -> Result<(), Fail> {
     let mut folder = SureFolder::new(rt.alloc());
     folder.put("f", b"put")?;
-    makes_a_file(&mut folder)?;
-    reads_it_back(&rt, &mut folder)?;
+    keeps_a_file(&rt, &mut folder)?;
     assert!(rt; folder.get("f") == Some(b"one two".as_slice()));
     assert!(rt; folder.said() == b"said\n".as_slice());
     assert!(rt; folder.read_at("g", 0, &mut [0u8; 4]) == Ok(0));
@@ -72,37 +65,31 @@ fn a_sure_folder_keeps_files_and_reads_a_missing_one(rt: HostRuntime) -> Result<
     Ok(())
 }
 
+/// Names of which no file can be made or grow.
+const UNWRITABLE: &[&str] = &["missing/f", "/dev/full", "."];
+
+/// Names of which nothing can be read. The last one has no places to go to, as a pipe has none.
+const UNREADABLE: &[&str] = &["missing", ".", "/dev/ptmx"];
+
+/// It keeps long pieces too.
 #[test]
 fn the_disk_keeps_files_and_fails_at_bad_names(rt: HostRuntime) -> Result<(), Fail> {
     let mut folder = DiskFolder::new(rt);
-    makes_a_file(&mut folder)?;
-    reads_it_back(&rt, &mut folder)?;
+    keeps_a_file(&rt, &mut folder)?;
     let failed = Err(FolderFault::Failed);
     assert!(rt; folder.create("missing/f") == failed);
-    for name in ["missing/f", "/dev/full", "."] {
+    for name in UNWRITABLE {
         assert!(rt; folder.append(name, b"piece") == failed, "{name}");
     }
-    // The last one has no places to go to, as a pipe has none.
-    for name in ["missing", ".", "/dev/ptmx"] {
+    for name in UNREADABLE {
         let read = folder.read_at(name, 0, &mut [0u8; 4]);
         assert!(rt; read == Err(FolderFault::Failed), "{name}");
     }
-    Ok(())
-}
-
-/// Octets that differ from their neighbours.
-fn long_piece() -> [u8; 1500] {
+    // Octets that differ from their neighbours.
     let mut piece = [0u8; 1500];
     for (place, octet) in piece.iter_mut().enumerate() {
         *octet = (place % 251) as u8;
     }
-    piece
-}
-
-#[test]
-fn the_disk_keeps_long_pieces(rt: HostRuntime) -> Result<(), Fail> {
-    let mut folder = DiskFolder::new(rt);
-    let piece = long_piece();
     folder.append("long", &piece)?;
     let mut buf = [0u8; 1600];
     let count = folder.read_at("long", 0, &mut buf)?;
@@ -149,69 +136,99 @@ impl Write for Slow {
     }
 }
 
-/// A transfer, 700 octets at a time, where so many are there and then this end comes.
-fn transfer_of(left: usize, end: Option<ErrorKind>) -> Slow {
-    Slow {
+const FAULT: Option<ErrorKind> = Some(ErrorKind::BrokenPipe);
+
+/// How many octets are asked for (a fixed number, a piece of a recording, and what a script may have at most and more), how many are
+/// there, what comes behind them, and how many are read, where that is no fault.
+const READS: &[(usize, usize, Option<ErrorKind>, Option<usize>)] = &[
+    (1500, 2000, None, Some(1500)),
+    (1500, 1500, FAULT, Some(1500)),
+    (1500, 750, None, Some(750)),
+    (1500, 750, FAULT, None),
+    (4096, 4596, None, Some(4096)),
+    (4096, 4096, FAULT, Some(4096)),
+    (4096, 2048, None, Some(2048)),
+    (4096, 2048, FAULT, None),
+    (66_560, 67_060, None, Some(66_560)),
+    (66_560, 66_560, FAULT, Some(66_560)),
+    (66_560, 33_280, None, Some(33_280)),
+    (66_560, 33_280, FAULT, None),
+];
+
+/// Whether so many octets are read, 700 at a time, or the fault comes.
+fn are_read(
+    alloc: Global,
+    size: usize,
+    left: usize,
+    end: Option<ErrorKind>,
+    found: Option<usize>,
+) -> Result<bool, Fail> {
+    let mut buf = vec![in alloc; 0u8; size]?;
+    let mut reader = Slow {
         step: 700,
         left,
         end,
+    };
+    match fill(&mut reader, &mut buf) {
+        Ok(count) => Ok(found == Some(count) && buf[..count].iter().all(|octet| *octet == b'r')),
+        Err(error) => Ok(found.is_none() && error.kind() == ErrorKind::BrokenPipe),
     }
-}
-
-/// So many octets as are read or written at once: a fixed number, a piece of a recording, and what a script may have at most and more.
-const SIZES: [usize; 3] = [1500, 4096, 66_560];
-
-/// Looks at reads of so many octets: more are there, then as many and a fault behind them, then fewer.
-fn reads(rt: &impl Abort, alloc: Global, size: usize) -> Result<(), Fail> {
-    let fault = Some(ErrorKind::BrokenPipe);
-    let mut buf = vec![in alloc; 0u8; size]?;
-    let few = size / 2;
-    for (left, end, count) in [
-        (size + 500, None, size),
-        (size, fault, size),
-        (few, None, few),
-    ] {
-        let read = fill(&mut transfer_of(left, end), &mut buf)?;
-        assert!(rt; read == count, "{left}");
-        assert!(rt; buf[..read].iter().all(|octet| *octet == b'r'), "{left}");
-    }
-    match fill(&mut transfer_of(few, fault), &mut buf) {
-        Ok(_) => panic!(rt; "read over a fault"),
-        Err(error) => assert!(rt; error.kind() == ErrorKind::BrokenPipe),
-    }
-    Ok(())
 }
 
 #[test]
 fn long_reads_end_with_the_reader_alone(rt: HostRuntime) -> Result<(), Fail> {
-    for size in SIZES {
-        reads(&rt, rt.alloc(), size)?;
+    for &(size, left, end, found) in READS {
+        assert!(&rt;
+            are_read(rt.alloc(), size, left, end, found)?,
+            "{left} of {size}"
+        );
     }
     Ok(())
 }
 
-/// Looks at writes of so many octets: where there is room for more, for as many, and for fewer.
-fn writes(rt: &impl Abort, alloc: Global, size: usize) -> Result<(), Fail> {
+/// How many octets are written, how many there is room for, what comes behind them, and the fault, or how much room is left.
+const WRITES: &[(usize, usize, Option<ErrorKind>, Result<usize, ErrorKind>)] = &[
+    (1500, 2000, None, Ok(500)),
+    (1500, 1500, FAULT, Ok(0)),
+    (1500, 750, FAULT, Err(ErrorKind::BrokenPipe)),
+    (1500, 750, None, Err(ErrorKind::WriteZero)),
+    (4096, 4596, None, Ok(500)),
+    (4096, 4096, FAULT, Ok(0)),
+    (4096, 2048, FAULT, Err(ErrorKind::BrokenPipe)),
+    (4096, 2048, None, Err(ErrorKind::WriteZero)),
+    (66_560, 67_060, None, Ok(500)),
+    (66_560, 66_560, FAULT, Ok(0)),
+    (66_560, 33_280, FAULT, Err(ErrorKind::BrokenPipe)),
+    (66_560, 33_280, None, Err(ErrorKind::WriteZero)),
+];
+
+/// Whether octets are written so, 700 at a time.
+fn are_written(
+    alloc: Global,
+    size: usize,
+    left: usize,
+    end: Option<ErrorKind>,
+    answer: Result<usize, ErrorKind>,
+) -> Result<bool, Fail> {
     let piece = vec![in alloc; b'w'; size]?;
-    let fault = Some(ErrorKind::BrokenPipe);
-    for (left, end, rest) in [(size + 500, None, 500), (size, fault, 0)] {
-        let mut writer = transfer_of(left, end);
-        write_all(&mut writer, &piece)?;
-        assert!(rt; writer.left == rest, "{left}");
+    let mut writer = Slow {
+        step: 700,
+        left,
+        end,
+    };
+    match write_all(&mut writer, &piece) {
+        Ok(()) => Ok(answer == Ok(writer.left)),
+        Err(error) => Ok(answer == Err(error.kind())),
     }
-    for (end, kind) in [(fault, ErrorKind::BrokenPipe), (None, ErrorKind::WriteZero)] {
-        match write_all(&mut transfer_of(size / 2, end), &piece) {
-            Ok(()) => panic!(rt; "wrote over a fault"),
-            Err(error) => assert!(rt; error.kind() == kind),
-        }
-    }
-    Ok(())
 }
 
 #[test]
 fn long_writes_end_with_the_writer_alone(rt: HostRuntime) -> Result<(), Fail> {
-    for size in SIZES {
-        writes(&rt, rt.alloc(), size)?;
+    for &(size, left, end, answer) in WRITES {
+        assert!(&rt;
+            are_written(rt.alloc(), size, left, end, answer)?,
+            "{left} of {size}"
+        );
     }
     Ok(())
 }

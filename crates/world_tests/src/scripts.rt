@@ -2,7 +2,6 @@
 use noise_script::{Generators, Offset, SCRIPT_OCTETS, Script, ScriptFault, read_script};
 use shared_terms::{Cause, Role};
 use std::alloc::Global;
-use std::process::Abort;
 use std::test::Fail;
 use xid_params::Offer;
 
@@ -10,201 +9,209 @@ const ORIGINATOR: Role = Role::Originator;
 
 const ANSWERER: Role = Role::Answerer;
 
-/// Reads the text, which is refused at that line for that cause.
-fn refuses(rt: &impl Abort, alloc: Global, text: &[u8], line: u32, cause: Cause) {
-    assert!(rt; text.len() <= SCRIPT_OCTETS);
-    match read_script(alloc, text) {
-        Ok(_) => panic!(rt; "a script"),
-        Err(fault) => assert!(rt; fault == ScriptFault::Line { line, cause }),
-    }
-}
-
-/// An offer of one length and one window for both ways.
-fn offer(srej: bool, check32: bool, length: u16, window: u8) -> Offer {
-    Offer {
-        srej,
-        check32,
-        tx_len: length,
-        rx_len: length,
-        tx_window: window,
-        rx_window: window,
-    }
-}
-
-/// Texts that are no scripts, their first faulty lines, and why these are faulty.
-const FAULTS: [(&[u8], u32, Cause); 12] = [
-    (b"# a comment\nspeed 3\n", 2, Cause::Word),
-    (b"delay 1", 1, Cause::Count),
-    (b"n400 x", 1, Cause::Number),
-    (b"n400 5\nn400 5\n", 2, Cause::Repeated),
-    (b"k orig 0", 1, Cause::Range),
-    (b"k call 0", 1, Cause::Word),
-    (b"n401 answ 1025", 1, Cause::Range),
-    (b"srej answ\nsrej orig\nsrej orig", 3, Cause::Repeated),
-    (b"break orig 5 0", 1, Cause::Range),
-    (b"busy answ 10 10001", 1, Cause::Range),
-    (b"n400 5\r", 1, Cause::Number),
-    (b"\n\ndelay 61 x\n", 3, Cause::Range),
-];
-
-#[test]
-fn first_faults(rt: HostRuntime) {
-    for (text, line, cause) in FAULTS {
-        refuses(&rt, rt.alloc(), text, line, cause);
-    }
-}
-
-/// The script of a text.
-fn script_of(alloc: Global, text: &[u8]) -> Result<Script, Fail> {
+/// The script of a text, or its first faulty line and why that is faulty.
+fn read(alloc: Global, text: &[u8]) -> Result<Result<Script, (u32, Cause)>, Fail> {
     if text.len() > SCRIPT_OCTETS {
         return Err(Fail::new("the text is too long"));
     }
-    Ok(read_script(alloc, text)?)
-}
-
-/// Looks at the delay of each end, and at the tries.
-fn has_delays(rt: &impl Abort, script: &Script, originator: u8, answerer: u8, tries: u8) {
-    assert!(rt; script.delay(ORIGINATOR) == originator);
-    assert!(rt; script.delay(ANSWERER) == answerer);
-    assert!(rt; script.tries() == tries);
-}
-
-/// Looks at what each end offers.
-fn has_offers(rt: &impl Abort, script: &Script, originator: &Offer, answerer: &Offer) {
-    assert!(rt; script.offer(ORIGINATOR) == *originator);
-    assert!(rt; script.offer(ANSWERER) == *answerer);
-}
-
-/// Looks at an offset.
-fn has_offset(rt: &impl Abort, script: &Script, sender: Role, symbol: u64, re: i32, im: i32) {
-    let mut generators = Generators::new();
-    assert!(rt; script.offset(&mut generators, sender, symbol) == Offset { re, im });
-}
-
-/// Looks whether a turn's slot is lost.
-fn has_loss(rt: &impl Abort, script: &Script, sender: Role, turn: u64, lost: bool) {
-    assert!(rt; script.loses(sender, turn) == lost);
-}
-
-/// Looks at an end's break.
-fn has_break(rt: &impl Abort, script: &Script, role: Role, index: usize, asked: Option<(u64, u8)>) {
-    assert!(rt; script.break_line(role, index) == asked);
-}
-
-/// Looks whether an end is busy in a turn.
-fn has_pause(rt: &impl Abort, script: &Script, role: Role, turn: u64, busy: bool) {
-    assert!(rt; script.busy(role, turn) == busy);
-}
-
-#[test]
-fn an_empty_script_has_defaults(rt: HostRuntime) -> Result<(), Fail> {
-    let script = script_of(rt.alloc(), b"")?;
-    has_delays(&rt, &script, 1, 1, 5);
-    has_loss(&rt, &script, ORIGINATOR, 0, false);
-    has_offset(&rt, &script, ORIGINATOR, 0, 0, 0);
-    let default = offer(false, false, 128, 15);
-    has_offers(&rt, &script, &default, &default);
-    has_break(&rt, &script, ORIGINATOR, 0, None);
-    has_pause(&rt, &script, ORIGINATOR, 0, false);
-    Ok(())
-}
-
-#[test]
-fn each_end_offers_what_its_lines_say(rt: HostRuntime) -> Result<(), Fail> {
-    let text = b"k answ 127\nn401 answ 128\nsrej orig\nsrej answ\nk orig 1\ncheck32 answ";
-    let script = script_of(rt.alloc(), text)?;
-    let originator = offer(true, false, 128, 1);
-    has_offers(&rt, &script, &originator, &offer(true, true, 128, 127));
-    let shorter = script_of(rt.alloc(), b"n401 orig 5")?;
-    let originator = offer(false, false, 5, 15);
-    has_offers(&rt, &shorter, &originator, &offer(false, false, 128, 15));
-    Ok(())
-}
-
-#[test]
-fn breaks_of_each_end(rt: HostRuntime) -> Result<(), Fail> {
-    let text = b"break orig 9 1\nbreak answ 5 2\nbreak orig 4 3\nbreak orig 9 4\nbusy answ 10 5";
-    let script = script_of(rt.alloc(), text)?;
-    for (index, asked) in [
-        (0, Some((4, 3))),
-        (1, Some((9, 1))),
-        (2, Some((9, 4))),
-        (3, None),
-    ] {
-        has_break(&rt, &script, ORIGINATOR, index, asked);
+    match read_script(alloc, text) {
+        Ok(script) => Ok(Ok(script)),
+        Err(ScriptFault::Line { line, cause }) => Ok(Err((line, cause))),
+        Err(ScriptFault::NoMemory) => Err(Fail::new("no memory")),
     }
-    has_break(&rt, &script, ANSWERER, 0, Some((5, 2)));
-    Ok(())
 }
 
+/// Texts, each so many times, and of those that are no scripts the first faulty line and why it is faulty.
+const TEXTS: &[(&str, usize, Option<(u32, Cause)>)] = &[
+    ("# a comment\nspeed 3\n", 1, Some((2, Cause::Word))),
+    ("delay 1", 1, Some((1, Cause::Count))),
+    ("n400 x", 1, Some((1, Cause::Number))),
+    ("n400 5\nn400 5\n", 1, Some((2, Cause::Repeated))),
+    ("k orig 0", 1, Some((1, Cause::Range))),
+    ("k call 0", 1, Some((1, Cause::Word))),
+    ("n401 answ 1025", 1, Some((1, Cause::Range))),
+    (
+        "srej answ\nsrej orig\nsrej orig",
+        1,
+        Some((3, Cause::Repeated)),
+    ),
+    ("break orig 5 0", 1, Some((1, Cause::Range))),
+    ("busy answ 10 10001", 1, Some((1, Cause::Range))),
+    ("n400 5\r", 1, Some((1, Cause::Number))),
+    ("\n\ndelay 61 x\n", 1, Some((3, Cause::Range))),
+    // So many such lines are a script, and one more of them is a line too many.
+    ("lose answ 7 1\n", 1024, None),
+    ("lose answ 7 1\n", 1025, Some((1025, Cause::Limit))),
+    ("hit orig 7 1 2 3\n", 1024, None),
+    ("hit orig 7 1 2 3\n", 1025, Some((1025, Cause::Limit))),
+    ("noise answ 0 2 500 42\n", 64, None),
+    ("noise answ 0 2 500 42\n", 65, Some((65, Cause::Limit))),
+    ("break orig 1 1\n", 64, None),
+    ("break orig 1 1\n", 65, Some((65, Cause::Limit))),
+    ("busy answ 1 1\n", 64, None),
+    ("busy answ 1 1\n", 65, Some((65, Cause::Limit))),
+];
+
 #[test]
-fn pauses_of_each_end(rt: HostRuntime) -> Result<(), Fail> {
-    let text = b"break orig 9 1\nbreak answ 5 2\nbreak orig 4 3\nbreak orig 9 4\nbusy answ 10 5";
-    let script = script_of(rt.alloc(), text)?;
-    for (turn, busy) in [(9, false), (10, true), (14, true), (15, false)] {
-        has_pause(&rt, &script, ANSWERER, turn, busy);
-        has_pause(&rt, &script, ORIGINATOR, turn, false);
+fn first_faults_and_limits(rt: HostRuntime) -> Result<(), Fail> {
+    for &(lines, times, fault) in TEXTS {
+        let text = lines.as_bytes().repeat(rt.alloc(), times)?;
+        let found = read(rt.alloc(), &text)?.err();
+        assert!(&rt; found == fault, "{times} times {lines}");
     }
     Ok(())
 }
 
-#[test]
-fn each_kind_of_line(rt: HostRuntime) -> Result<(), Fail> {
-    let text =
-        b" delay\t2 060\r\nn400 20\n\nlose answ 5 2\nhit orig 7 1 -32768 -0\nhit orig 7 2 1 1";
-    let script = script_of(rt.alloc(), text)?;
-    has_delays(&rt, &script, 2, 60, 20);
-    has_loss(&rt, &script, ANSWERER, 6, true);
-    has_loss(&rt, &script, ANSWERER, 7, false);
-    has_loss(&rt, &script, ORIGINATOR, 6, false);
-    has_offset(&rt, &script, ORIGINATOR, 7, -32767, 1);
-    has_offset(&rt, &script, ORIGINATOR, 8, 1, 1);
-    Ok(())
+/// What a script says of a run.
+enum Says {
+    /// How many turns the slots of each end are on the line, and how often both try.
+    Delays(u8, u8, u8),
+    /// What each end offers.
+    Offers(Offer, Offer),
+    /// What is added to a symbol that a role sends.
+    Offset(Role, u64, i32, i32),
+    /// Whether the slot of a role's turn is lost.
+    Loses(Role, u64, bool),
+    /// A role's break of an index.
+    Break(Role, usize, Option<(u64, u8)>),
+    /// Whether a role's user asks for a pause in a turn.
+    Busy(Role, u64, bool),
 }
 
-#[test]
-fn noise_on_two_symbols(rt: HostRuntime) -> Result<(), Fail> {
-    let script = script_of(rt.alloc(), b"noise orig 0 2 500 42")?;
-    has_offset(&rt, &script, ORIGINATOR, 0, 195, -233);
-    has_offset(&rt, &script, ORIGINATOR, 1, -89, 28);
-    has_offset(&rt, &script, ORIGINATOR, 2, 0, 0);
-    has_offset(&rt, &script, ANSWERER, 0, 0, 0);
-    Ok(())
-}
-
-/// A text of so many such lines.
-fn repeated(alloc: Global, line: &[u8], count: usize) -> Result<Vec<u8>, Fail> {
-    let mut text = Vec::new(alloc);
-    for _ in 0..count {
-        text.extend_from_slice(line)?;
+/// Whether a script says this.
+fn is_said(script: &Script, says: &Says) -> bool {
+    match *says {
+        Says::Delays(originator, answerer, tries) => {
+            script.delay(ORIGINATOR) == originator
+                && script.delay(ANSWERER) == answerer
+                && script.tries() == tries
+        }
+        Says::Offers(originator, answerer) => {
+            script.offer(ORIGINATOR) == originator && script.offer(ANSWERER) == answerer
+        }
+        Says::Offset(sender, symbol, re, im) => {
+            script.offset(&mut Generators::new(), sender, symbol) == Offset { re, im }
+        }
+        Says::Loses(sender, turn, lost) => script.loses(sender, turn) == lost,
+        Says::Break(role, index, asked) => script.break_line(role, index) == asked,
+        Says::Busy(role, turn, busy) => script.busy(role, turn) == busy,
     }
-    Ok(text)
 }
 
-/// So many such lines are a script, and one more of them is a line too many.
-fn is_limit(rt: &impl Abort, alloc: Global, line: &[u8], count: u16) -> Result<(), Fail> {
-    let mut text = repeated(alloc, line, usize::from(count))?;
-    script_of(alloc, &text)?;
-    text.extend_from_slice(line)?;
-    refuses(rt, alloc, &text, u32::from(count) + 1, Cause::Limit);
-    Ok(())
-}
+/// What an end offers without a line of its own.
+const DEFAULT: Offer = Offer {
+    srej: false,
+    check32: false,
+    tx_len: 128,
+    rx_len: 128,
+    tx_window: 15,
+    rx_window: 15,
+};
+
+/// Texts of scripts, and what they say.
+const SCRIPTS: &[(&str, &[u8], &[Says])] = &[
+    (
+        "an empty script has defaults",
+        b"",
+        &[
+            Says::Delays(1, 1, 5),
+            Says::Loses(ORIGINATOR, 0, false),
+            Says::Offset(ORIGINATOR, 0, 0, 0),
+            Says::Offers(DEFAULT, DEFAULT),
+            Says::Break(ORIGINATOR, 0, None),
+            Says::Busy(ORIGINATOR, 0, false),
+        ],
+    ),
+    (
+        "each end offers what its lines say",
+        b"k answ 127\nn401 answ 128\nsrej orig\nsrej answ\nk orig 1\ncheck32 answ",
+        &[Says::Offers(
+            Offer {
+                srej: true,
+                tx_window: 1,
+                rx_window: 1,
+                ..DEFAULT
+            },
+            Offer {
+                srej: true,
+                check32: true,
+                tx_window: 127,
+                rx_window: 127,
+                ..DEFAULT
+            },
+        )],
+    ),
+    (
+        "one end offers a length",
+        b"n401 orig 5",
+        &[Says::Offers(
+            Offer {
+                tx_len: 5,
+                rx_len: 5,
+                ..DEFAULT
+            },
+            DEFAULT,
+        )],
+    ),
+    (
+        "breaks and pauses of each end",
+        b"break orig 9 1\nbreak answ 5 2\nbreak orig 4 3\nbreak orig 9 4\nbusy answ 10 5",
+        &[
+            Says::Break(ORIGINATOR, 0, Some((4, 3))),
+            Says::Break(ORIGINATOR, 1, Some((9, 1))),
+            Says::Break(ORIGINATOR, 2, Some((9, 4))),
+            Says::Break(ORIGINATOR, 3, None),
+            Says::Break(ANSWERER, 0, Some((5, 2))),
+            Says::Busy(ANSWERER, 9, false),
+            Says::Busy(ANSWERER, 10, true),
+            Says::Busy(ANSWERER, 14, true),
+            Says::Busy(ANSWERER, 15, false),
+            Says::Busy(ORIGINATOR, 9, false),
+            Says::Busy(ORIGINATOR, 10, false),
+            Says::Busy(ORIGINATOR, 14, false),
+            Says::Busy(ORIGINATOR, 15, false),
+        ],
+    ),
+    (
+        "each kind of line",
+        b" delay\t2 060\r\nn400 20\n\nlose answ 5 2\nhit orig 7 1 -32768 -0\nhit orig 7 2 1 1",
+        &[
+            Says::Delays(2, 60, 20),
+            Says::Loses(ANSWERER, 6, true),
+            Says::Loses(ANSWERER, 7, false),
+            Says::Loses(ORIGINATOR, 6, false),
+            Says::Offset(ORIGINATOR, 7, -32767, 1),
+            Says::Offset(ORIGINATOR, 8, 1, 1),
+        ],
+    ),
+    (
+        "noise on two symbols",
+        b"noise orig 0 2 500 42",
+        &[
+            Says::Offset(ORIGINATOR, 0, 195, -233),
+            Says::Offset(ORIGINATOR, 1, -89, 28),
+            Says::Offset(ORIGINATOR, 2, 0, 0),
+            Says::Offset(ANSWERER, 0, 0, 0),
+        ],
+    ),
+];
 
 #[test]
-fn lines_have_their_limits(rt: HostRuntime) -> Result<(), Fail> {
-    is_limit(&rt, rt.alloc(), b"lose answ 7 1\n", 1024)?;
-    is_limit(&rt, rt.alloc(), b"hit orig 7 1 2 3\n", 1024)?;
-    is_limit(&rt, rt.alloc(), b"noise answ 0 2 500 42\n", 64)?;
-    is_limit(&rt, rt.alloc(), b"break orig 1 1\n", 64)?;
-    is_limit(&rt, rt.alloc(), b"busy answ 1 1\n", 64)?;
+fn scripts_say_what_their_lines_do(rt: HostRuntime) -> Result<(), Fail> {
+    for (name, text, sayings) in SCRIPTS {
+        let script = read(rt.alloc(), text)?.map_err(|_| *name)?;
+        for says in *sayings {
+            assert!(&rt; is_said(&script, says), "{name}");
+        }
+    }
     Ok(())
 }
 
 #[test]
 fn a_script_of_the_longest_text(rt: HostRuntime) -> Result<(), Fail> {
-    let text = repeated(rt.alloc(), b"# empty\n", 8192)?;
-    assert!(rt; text.len() == 65_536);
-    let script = script_of(rt.alloc(), &text)?;
-    assert!(rt; script.tries() == 5);
+    let text = b"# empty\n".repeat(rt.alloc(), 8192)?;
+    assert!(&rt; text.len() == 65_536);
+    let script = read(rt.alloc(), &text)?.map_err(|_| "no script")?;
+    assert!(&rt; script.tries() == 5);
     Ok(())
 }

@@ -9,6 +9,7 @@ use std::test::Fail;
 
 /// An end that offers the check of 32 bits or not, and in each turn what it hears and the check that it then has.
 struct Agreement {
+    name: &'static str,
     role: Role,
     offers: bool,
     turns: &'static [(Slot, Check)],
@@ -28,8 +29,8 @@ const REPLY: Slot = Slot::S(Supervisory::Rr, Kind::Response, 0, true);
 
 /// What the rules ask for: the check changes as the end hears on what it agrees, and then stays.
 const AGREEMENTS: &[Agreement] = &[
-    // The originator agrees as it hears the XID response.
     Agreement {
+        name: "the originator agrees as it hears the XID response",
         role: Role::Originator,
         offers: true,
         turns: &[
@@ -43,8 +44,8 @@ const AGREEMENTS: &[Agreement] = &[
             (REPLY, Check::ThirtyTwo),
         ],
     },
-    // The other end offers no such check.
     Agreement {
+        name: "the other end offers no such check",
         role: Role::Originator,
         offers: true,
         turns: &[
@@ -55,8 +56,8 @@ const AGREEMENTS: &[Agreement] = &[
             (REPLY, Check::Sixteen),
         ],
     },
-    // This one offers none.
     Agreement {
+        name: "this one offers none",
         role: Role::Originator,
         offers: false,
         turns: &[
@@ -69,8 +70,8 @@ const AGREEMENTS: &[Agreement] = &[
             (UA, Check::Sixteen),
         ],
     },
-    // The answerer agrees as it hears an XID command, and keeps its check when the link is over.
     Agreement {
+        name: "the answerer agrees as it hears an XID command, and keeps its check when the link is over",
         role: Role::Answerer,
         offers: true,
         turns: &[
@@ -84,8 +85,8 @@ const AGREEMENTS: &[Agreement] = &[
             (DISC, Check::ThirtyTwo),
         ],
     },
-    // The last offer that isn't refused counts.
     Agreement {
+        name: "the last offer that isn't refused counts",
         role: Role::Answerer,
         offers: true,
         turns: &[
@@ -99,13 +100,14 @@ const AGREEMENTS: &[Agreement] = &[
             (SABME, Check::Sixteen),
         ],
     },
-    // A SABME that comes without an offer counts as the default one.
     Agreement {
+        name: "a SABME that comes without an offer counts as the default one",
         role: Role::Answerer,
         offers: true,
         turns: &[(SABME, Check::Sixteen), (POLL, Check::Sixteen)],
     },
     Agreement {
+        name: "an answerer that offers none",
         role: Role::Answerer,
         offers: false,
         turns: &[
@@ -118,7 +120,8 @@ const AGREEMENTS: &[Agreement] = &[
     },
 ];
 
-fn compare(alloc: Global, agreement: &Agreement) -> Result<(), Fail> {
+/// Whether an end has these checks.
+fn has_checks(alloc: Global, agreement: &Agreement) -> Result<bool, Fail> {
     let setup = Setup {
         role: agreement.role,
         offer: offer(false, agreement.offers),
@@ -132,16 +135,17 @@ fn compare(alloc: Global, agreement: &Agreement) -> Result<(), Fail> {
         let arrived = heard.arrived();
         standing = standing.turn(&arrived, b"", false, false, &mut got, &mut sent)?;
         if standing.check() != *check {
-            return Err(Fail::from("another check"));
+            return Ok(false);
         }
     }
-    Ok(())
+    Ok(true)
 }
 
 #[test]
 fn the_check_changes_with_the_agreement(rt: HostRuntime) -> Result<(), Fail> {
     for agreement in AGREEMENTS {
-        compare(rt.alloc(), agreement)?;
+        let holds = has_checks(rt.alloc(), agreement)?;
+        assert!(&rt; holds, "{}", agreement.name);
     }
     Ok(())
 }

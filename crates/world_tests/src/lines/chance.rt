@@ -15,21 +15,15 @@ fn points(alloc: Global, slot: &BitSlot) -> Result<Vec<Sample>, Fail> {
     Ok(points)
 }
 
-/// The line of a script that moves a symbol from one point to another.
-fn write_hit(text: &mut String, symbol: usize, from: &Sample, to: &Sample) -> Result<(), Fail> {
-    let re = i32::from(to.re) - i32::from(from.re);
-    let im = i32::from(to.im) - i32::from(from.im);
-    writeln!(text, "hit orig {symbol} 1 {re} {im}")?;
-    Ok(())
-}
-
-/// The script that turns an originator's first slot into another.
+/// The script that turns an originator's first slot into another: a line moves each symbol from one point to another.
 fn script_between(alloc: Global, from: &BitSlot, to: &BitSlot) -> Result<Script, Fail> {
     let mut text = String::new(alloc);
     let before = points(alloc, from)?;
     let after = points(alloc, to)?;
     for (symbol, (point, other)) in before.iter().zip(&after).enumerate() {
-        write_hit(&mut text, symbol, point, other)?;
+        let re = i32::from(other.re) - i32::from(point.re);
+        let im = i32::from(other.im) - i32::from(point.im);
+        writeln!(text, "hit orig {symbol} 1 {re} {im}")?;
     }
     if text.len() > SCRIPT_OCTETS {
         return Err(Fail::new("the script is too long"));
@@ -43,24 +37,14 @@ const SYMBOLS: u16 = 464;
 /// A ready frame of the originator's, a response, with its check.
 const READY: &[u8] = b"\x01\x01\x00\xc8\x85";
 
-/// The bits of a first slot of flags alone.
-fn flags() -> BitSlot {
-    let mut slot = BitSlot::new();
-    SlotWriter::new(SYMBOLS).slot(None, &mut slot);
-    slot
-}
-
-/// The bits of a first slot with the frame.
-fn ready() -> BitSlot {
-    let mut slot = BitSlot::new();
-    SlotWriter::new(SYMBOLS).slot(Some(READY), &mut slot);
-    slot
-}
-
 #[test]
 fn a_frame_that_was_not_sent_is_chance(rt: HostRuntime) -> Result<(), Fail> {
     let alloc = rt.alloc();
-    let script = script_between(alloc, &flags(), &ready())?;
+    let mut flags = BitSlot::new();
+    SlotWriter::new(SYMBOLS).slot(None, &mut flags);
+    let mut ready = BitSlot::new();
+    SlotWriter::new(SYMBOLS).slot(Some(READY), &mut ready);
+    let script = script_between(alloc, &flags, &ready)?;
     let heard = kept(flags_heard(alloc, Role::Originator, SYMBOLS, &script, false)?)?;
     assert!(&rt; matches!(heard, Heard::Chance));
     Ok(())

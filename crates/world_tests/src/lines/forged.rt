@@ -1,16 +1,18 @@
 // Slots that aren't what was sent, put on the line as they are.
+use super::frames::{Message, sent};
 use super::*;
-use frame_check::{INFO, Info};
-use lapm_frames::Frame;
+use frame_check::INFO;
 use line_coding::Modulator;
 use scramblers::Mode;
-use std::process::Abort;
 
 /// A ready frame of the originator's, a response, with its check.
 const READY: &[u8] = b"\x01\x01\x00\xc8\x85";
 
-/// Octets that pass the check and are no frame: a response as a command, and a frame of another channel's.
-const REFUSED: [&[u8]; 2] = [b"\x03\x63\xb2\x74", b"\x43\x63\xd4\x32"];
+/// Octets that pass the check and are no frame: a response as a command.
+const AS_COMMAND: &[u8] = b"\x03\x63\xb2\x74";
+
+/// The same: a frame of another channel's.
+const OF_ANOTHER: &[u8] = b"\x43\x63\xd4\x32";
 
 /// The octets of a slot; a symbol is left.
 const OCTETS: usize = 1307;
@@ -49,83 +51,77 @@ fn heard_of(alloc: Global, octets: &[u8], sent: &Sent) -> Result<Heard, Fail> {
     kept(line.pass(&script, &labels, sent, false, Check::Sixteen, 0))
 }
 
-fn ready() -> Sent {
-    Sent::Frame(Frame::Rr {
-        command: false,
-        nr: 0,
-        pf: false,
-    })
-}
+/// Pieces of a slot in which the ready frame was sent, and whether it passes; else there is a chance match.
+const PIECES: &[(&str, &[&[u8]], bool)] = &[
+    ("a frame alone", &[READY], true),
+    ("the frame twice", &[READY, READY], false),
+    (
+        "a response as a command before it",
+        &[AS_COMMAND, READY],
+        false,
+    ),
+    (
+        "a response as a command behind it",
+        &[READY, AS_COMMAND],
+        false,
+    ),
+    ("a response as a command alone", &[AS_COMMAND], false),
+    (
+        "a frame of another channel before it",
+        &[OF_ANOTHER, READY],
+        false,
+    ),
+    (
+        "a frame of another channel behind it",
+        &[READY, OF_ANOTHER],
+        false,
+    ),
+    ("a frame of another channel alone", &[OF_ANOTHER], false),
+];
 
-/// Pieces one behind the other, with a flag between them.
-fn joined(alloc: Global, pieces: &[&[u8]]) -> Result<Vec<u8>, Fail> {
-    let mut octets = Vec::new(alloc);
-    for piece in pieces {
-        octets.extend_from_slice(piece)?;
-        octets.push(0x7e)?;
+/// I frames of so many zeros with their check, where the longest one was sent, and whether it passes.
+const ZEROS: &[(&str, usize, &[u8], bool)] = &[
+    ("the longest information field", INFO, b"\x1d\x55", true),
+    (
+        "an information field that is too long",
+        INFO + 1,
+        b"\x49\x3b",
+        false,
+    ),
+];
+
+/// Whether what was sent is heard, or else a chance match.
+fn is_heard(heard: &Heard, sent: &Sent, passes: bool) -> bool {
+    match heard {
+        Heard::Chance => !passes,
+        _ => passes && is_as_sent(heard, sent),
     }
-    Ok(octets)
 }
 
 #[test]
-fn a_frame_passes_alone(rt: HostRuntime) -> Result<(), Fail> {
-    let alone = joined(rt.alloc(), &[READY])?;
-    let heard = heard_of(rt.alloc(), &alone, &ready())?;
-    assert!(&rt; is_as_sent(&heard, &ready()));
-    Ok(())
-}
-
-/// Whether these pieces make a chance match of a slot in which the ready frame was sent.
-fn is_chance(rt: &impl Abort, alloc: Global, pieces: &[&[u8]]) -> Result<(), Fail> {
-    let octets = joined(alloc, pieces)?;
-    let heard = heard_of(alloc, &octets, &ready())?;
-    assert!(rt; matches!(heard, Heard::Chance));
-    Ok(())
-}
-
-#[test]
-fn a_piece_that_is_no_frame_is_chance_beside_the_right_one(rt: HostRuntime) -> Result<(), Fail> {
-    for refused in REFUSED {
-        is_chance(&rt, rt.alloc(), &[refused, READY])?;
-        is_chance(&rt, rt.alloc(), &[READY, refused])?;
-        is_chance(&rt, rt.alloc(), &[refused])?;
+fn pieces_beside_the_right_frame_are_chance(rt: HostRuntime) -> Result<(), Fail> {
+    let sent = sent(&Message::Ready(0));
+    for (name, pieces, passes) in PIECES {
+        let mut octets = Vec::new(rt.alloc());
+        for piece in *pieces {
+            octets.extend_from_slice(piece)?;
+            octets.push(0x7e)?;
+        }
+        let heard = heard_of(rt.alloc(), &octets, &sent)?;
+        assert!(&rt; is_heard(&heard, &sent, *passes), "{name}");
     }
     Ok(())
-}
-
-#[test]
-fn the_right_frame_twice_is_chance(rt: HostRuntime) -> Result<(), Fail> {
-    is_chance(&rt, rt.alloc(), &[READY, READY])
-}
-
-/// An I frame with so many zeros as its information, and this check.
-fn zeros(alloc: Global, count: usize, check: &[u8]) -> Result<Vec<u8>, Fail> {
-    let mut octets = vec![in alloc; 0u8; count]?;
-    let mut piece = Vec::new(alloc);
-    piece.extend_from_slice(b"\x03\x00\x00")?;
-    piece.append(&mut octets)?;
-    piece.extend_from_slice(check)?;
-    Ok(piece)
-}
-
-/// The longest I frame, of zeros.
-fn longest() -> Sent {
-    let mut info = Info::new();
-    info.extend(&[0; INFO]);
-    Sent::Frame(Frame::I {
-        ns: 0,
-        nr: 0,
-        pf: false,
-        info,
-    })
 }
 
 #[test]
 fn an_information_field_that_is_too_long_is_chance(rt: HostRuntime) -> Result<(), Fail> {
-    let sent = longest();
-    let right = zeros(rt.alloc(), INFO, b"\x1d\x55")?;
-    assert!(&rt; is_as_sent(&heard_of(rt.alloc(), &right, &sent)?, &sent));
-    let longer = zeros(rt.alloc(), INFO + 1, b"\x49\x3b")?;
-    assert!(&rt; matches!(heard_of(rt.alloc(), &longer, &sent)?, Heard::Chance));
+    let sent = sent(&Message::Longest(0, 0, 0, false));
+    for (name, count, check, passes) in ZEROS {
+        let mut octets = Vec::from_slice(rt.alloc(), b"\x03\x00\x00")?;
+        octets.append(&mut vec![in rt.alloc(); 0u8; *count]?)?;
+        octets.extend_from_slice(check)?;
+        let heard = heard_of(rt.alloc(), &octets, &sent)?;
+        assert!(&rt; is_heard(&heard, &sent, *passes), "{name}");
+    }
     Ok(())
 }
