@@ -1,7 +1,8 @@
 -- Slots that are read in a turn.
 use Rattle.std.proofs.Common.{◌≡◌, ℕ, suc, ◌+◌, ◌*◌, List, [], ◌∷◌, ◌++◌, length, arith, refl, sym, ◌∙◌, ap, subst, Some}
 use Rattle.frame_check.specs.declared.check.Check.{Check}
-use Rattle.detection.specs.Slots.{Signal}
+use Rattle.bit_stuffing.specs.Slots.{phase_after}
+use Rattle.detection.specs.Slots.{Signal, slots_of}
 use Rattle.shared_terms.specs.declared.role.Role.{Role}
 use Rattle.shared_terms.specs.Both.{of}
 use Rattle.recordings.specs.Samples.{samples_in}
@@ -12,8 +13,6 @@ use Rattle.line_run.proofs.Bits.{signals-more}
 use Rattle.line_tap.specs.declared.reader.SlotReader.{SlotReader}
 use Rattle.line_tap.specs.Reader.{ReaderStands}
 use Rattle.line_tap.specs.Tapping.{Tapping, line_of, octets_of, told}
-use Rattle.line_tap.proofs.Guessing.{phase_of}
-use Rattle.line_tap.proofs.SlotReading.{phase-is}
 use Rattle.tap_command.specs.declared.end.Slot.{Slot}
 use Rattle.tap_command.specs.End.{ReadsOn, ReadsNext}
 use Rattle.tap_command.specs.Tap.{ReadsToo}
@@ -32,8 +31,10 @@ reads-too r x check role ts body slot k = record { holds = k.holds; reads = on; 
           reads = record {
             symbols = k.symbols;
             sender = k.sender;
-            phase = phase-is r all (samples_in body) k.stands ∙ ap (λ n. phase_of n all) k.symbols
-                ∙ ap (phase_of (line_of x).symbols) (sym more);
+            phase = sym k.stands.in_step.phase ∙ k.stands.writer.phase_is
+                ∙ ap (λ n. phase_after (4 * n) (slots_of (4 * r.symbols) all)) (k.stands.in_step.symbols ∙ k.symbols)
+                ∙ ap (λ n. phase_after (4 * (line_of x).symbols) (slots_of (4 * n) all)) k.symbols
+                ∙ ap (λ l. phase_after (4 * (line_of x).symbols) (slots_of (4 * (line_of x).symbols) l)) (sym more);
           };
           stands = subst (λ l. ReaderStands r l (samples_in body)) (sym more) k.stands;
           count = k.count ∙ ap (octets_of (line_of x)) (plus-one (length ts));
