@@ -49,6 +49,75 @@ ask audit o a s t
 exit 0
 sweep
 
+scenario an audit makes these calls
+# An octet at each limit, the script, and then turn by turn what the ends want of their files, what the trace has where each of both lines is to
+# stand, 162 octets at most, and an octet behind the last line. Once a line differs the trace is read no further, and the run goes on.
+file o "a"
+file a "b"
+file s ""
+ask run o a s go ga t
+keep t
+file asked ""
+add asked "read s 65536 1\n"
+add asked "read s 0 1024\n"
+add asked "read o 16777216 1\n"
+add asked "read a 16777216 1\n"
+add asked "read t 16777216 1\n"
+add asked "read t 0 162\n"
+add asked "read t 15 162\n"
+add asked "read t 31 162\n"
+add asked "read t 46 162\n"
+add asked "read t 63 162\n"
+add asked "read t 93 162\n"
+add asked "read t 110 162\n"
+add asked "read t 129 162\n"
+add asked "read t 172 162\n"
+add asked "read t 212 162\n"
+add asked "read a 0 128\n"
+add asked "read t 229 162\n"
+add asked "read t 246 162\n"
+add asked "read o 0 128\n"
+add asked "read t 280 162\n"
+add asked "read t 315 162\n"
+add asked "read t 332 162\n"
+add asked "read t 349 162\n"
+add asked "read t 388 162\n"
+add asked "read t 430 162\n"
+add asked "read t 459 162\n"
+add asked "read t 501 162\n"
+add asked "read t 543 162\n"
+add asked "read t 581 162\n"
+add asked "read t 612 162\n"
+add asked "read t 630 162\n"
+add asked "read t 664 162\n"
+add asked "read t 690 162\n"
+add asked "read t 707 1\n"
+add asked "say - 0 14\n"
+ask audit o a s t
+exit 0
+leaves calls asked
+swap t "3 orig adp > flags" "3 orig odp > flags"
+file asked ""
+add asked "read s 65536 1\n"
+add asked "read s 0 1024\n"
+add asked "read o 16777216 1\n"
+add asked "read a 16777216 1\n"
+add asked "read t 16777216 1\n"
+add asked "read t 0 162\n"
+add asked "read t 15 162\n"
+add asked "read t 31 162\n"
+add asked "read t 46 162\n"
+add asked "read t 63 162\n"
+add asked "read t 93 162\n"
+add asked "read t 110 162\n"
+add asked "read a 0 128\n"
+add asked "read o 0 128\n"
+add asked "say - 0 22\n"
+ask audit o a s t
+exit 13
+says "false line 7: arrived\n"
+leaves calls asked
+
 scenario a trace that stops or goes on is false
 file o "a"
 file a "b"

@@ -245,6 +245,25 @@ ask decode r g
 exit 7
 says "line lost: answ symbol 148\n"
 leaves g f
+scenario labels wait until all survivors begin with them
+# Of these octets no label is released with the fourth sample, as one that is cut behind it shows, and two are with the fifth. No octets leave more
+# than four labels unreleased without noise: by a program apart, which went over all sequences.
+file f "\x00\x0c\x00"
+ask encode call f sent
+keep sent
+file r sent[..24] "\0"
+ask decode r g
+exit 3
+says "bad recording: at 24\n"
+leaves g ""
+file r sent[..28] "\0"
+ask decode r g
+exit 3
+says "bad recording: at 28\n"
+leaves g "\0"
+ask decode sent g
+exit 0
+leaves g f
 "##;
 
 #[test]

@@ -44,6 +44,29 @@ says "not detected: link 1 turn 120\n"
 alike run a b s go1 ga1 t1
 alike run a b s go2 ga2 t2
 
+scenario the second link alone is undetected
+# In each round up to 39 the patterns in its originator's slot are moved by two units of the map, and none is heard: twice a period of 20 turns.
+file a "a"
+file b "b"
+file plain "n400 1"
+file lost "n400 1\nlose orig 0 1000\n"
+file s "n400 1\n"
+add s "hit orig 464 200 4096 0\nhit orig 1392 200 4096 0\nhit orig 2320 200 4096 0\nhit orig 3248 200 4096 0\n"
+add s "hit orig 4176 200 4096 0\nhit orig 5104 200 4096 0\nhit orig 6032 200 4096 0\nhit orig 6960 200 4096 0\n"
+add s "hit orig 7888 200 4096 0\nhit orig 8816 200 4096 0\nhit orig 9744 200 4096 0\nhit orig 10672 200 4096 0\n"
+add s "hit orig 11600 200 4096 0\nhit orig 12528 200 4096 0\nhit orig 13456 200 4096 0\nhit orig 14384 200 4096 0\n"
+add s "hit orig 15312 200 4096 0\nhit orig 16240 200 4096 0\nhit orig 17168 200 4096 0\nhit orig 18096 200 4096 0\n"
+add s "hit orig 19024 200 4096 0\nhit orig 19952 200 4096 0\nhit orig 20880 200 4096 0\nhit orig 21808 200 4096 0\n"
+add s "hit orig 22736 200 4096 0\nhit orig 23664 200 4096 0\nhit orig 24592 200 4096 0\nhit orig 25520 200 4096 0\n"
+add s "hit orig 26448 200 4096 0\nhit orig 27376 200 4096 0\nhit orig 28304 200 4096 0\nhit orig 29232 200 4096 0\n"
+add s "hit orig 30160 200 4096 0\nhit orig 31088 200 4096 0\nhit orig 32016 200 4096 0\nhit orig 32944 200 4096 0\n"
+add s "hit orig 33872 200 4096 0\nhit orig 34800 200 4096 0\nhit orig 35728 200 4096 0\nhit orig 36656 200 4096 0\n"
+ask pair a b a b s go1 ga1 go2 ga2 t1 t2
+exit 8
+says "not detected: link 2 turn 40\n"
+alike run a b plain go1 ga1 t1
+alike run a b lost go2 ga2 t2
+
 scenario the first faulty line of a script is named
 file o "a"
 file a "b"

@@ -134,6 +134,39 @@ ask margin r f
 exit 3
 says "bad recording: at 4808\n"
 kept r f
+scenario what costs less than the bound is read
+# The second to the fourth sample are moved toward those of other octets: half the way less a unit, half the way, and a unit more. By a program apart.
+file f "abcdefgh" "\0"*64
+ask encode call f sent
+keep sent
+file r sent[..12] "\xff\xf7\x00\xe8\x00\xec\x00\x14\x00\xf0\x00\xf0" sent[24..]
+ask margin r f
+exit 0
+says "cost 10481665 sure 1\n"
+ask decode r g
+exit 0
+says "octets 72\n"
+leaves g f
+# And released: all but three labels are, as a sample that is cut shows.
+file r r "\0"
+ask decode r g
+exit 3
+says "bad recording: at 584\n"
+leaves g f[..70]
+file r sent[..12] "\x00\xf8\x00\xe8\x00\xec\x00\x14\x00\xf0\x00\xf0" sent[24..]
+ask margin r f
+exit 0
+says "cost 10485760 sure 0\n"
+ask decode r g
+exit 0
+leaves g "\xb1\x94\x21\xd7\x15ggh" f[8..]
+file r sent[..12] "\x01\xf8\x00\xe8\x00\xec\x00\x14\x00\xf0\x00\xf0" sent[24..]
+ask margin r f
+exit 0
+says "cost 10489857 sure 0\n"
+ask decode r g
+exit 0
+leaves g "\xb1\x94\x21\xd7\x15ggh" f[8..]
 "##;
 
 #[test]

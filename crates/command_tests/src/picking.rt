@@ -84,6 +84,29 @@ file r whole[..8] whole[28..] "\0\0\0\0"*129
 ask pickup r
 exit 7
 says "frame sabme cmd p=1\nline lost: answ symbol 1051\n"
+scenario what costs less than the bound is picked up
+# The first sample of a middle is moved toward a point of another state, four squares of a unit away: half the way less a unit, half the way, where
+# the smaller label counts, and a unit more. The only flag before a frame goes with it. By a program apart.
+file f "\x02"*4 "~\x03\xdf\x3e\xb9\xfa\xf9" "\0"*64
+ask encode call f sent
+keep sent
+file r sent[..8] "\x01\x10\x00\x10" sent[16..]
+ask pickup r
+exit 0
+says "frame sabme cmd p=1\npieces 1\n"
+# And released, as a sample that is cut shows.
+file r r "\0"
+ask pickup r
+exit 3
+says "frame sabme cmd p=1\nbad recording: at 604\n"
+file r sent[..8] "\x00\x10\x00\x10" sent[16..]
+ask pickup r
+exit 0
+says "pieces 0\n"
+file r sent[..8] "\xff\x0f\x00\x10" sent[16..]
+ask pickup r
+exit 0
+says "pieces 0\n"
 "##;
 
 #[test]

@@ -4,3 +4,4 @@ pub mod Sure
 pub mod Disk
 pub mod Audited
 pub mod Passed
+pub mod Counts

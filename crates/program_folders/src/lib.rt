@@ -10,6 +10,7 @@
 
 mod audit;
 mod disk;
+pub mod laws;
 mod store;
 mod sure;
 mod transfer;
