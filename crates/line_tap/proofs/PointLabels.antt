@@ -1,6 +1,6 @@
 -- Samples that are points, one after another.
 use Rattle.std.proofs.Common.{of_z, w16, ◌≡◌, ◌∙◌, ℕ, zero, suc, ◌+◌, ◌*◌, ◌<◌, ◌≤◌, Bool, List, [], ◌∷◌, ◌++◌, length}
-use Rattle.std.proofs.Common.{take, map, get_or, Some, slice_index, refl, sym, ap, subst, arith, length-append, append-nil}
+use Rattle.std.proofs.Common.{take, map, get_or, Option, Some, None, slice_index, refl, sym, ap, subst, arith, length-append, append-nil}
 use Rattle.std.proofs.lemmas.Bool.{eqb-true, ltb-true, leb-true, and_parts, or_cases}
 use Rattle.std.proofs.lemmas.Int.{of_z-to_z}
 use Rattle.std.specs.Prelude.{slice_index_or, nat_eq, nat_lt, nat_le, ◌&&◌, ◌||◌, true}
@@ -29,19 +29,148 @@ use Rattle.line_tap.proofs.Coding.{points-tell}
 -- the labels of the map, by columns and heights
 abbrev pub label_map : List ℕ
 label_map =
-    32 ∷ 32 ∷ 32 ∷ 7 ∷ 32 ∷ 0 ∷ 32 ∷ 32 ∷ 32
-    ∷ 32 ∷ 32 ∷ 16 ∷ 32 ∷ 25 ∷ 32 ∷ 18 ∷ 32 ∷ 32
-    ∷ 32 ∷ 14 ∷ 32 ∷ 9 ∷ 32 ∷ 15 ∷ 32 ∷ 8 ∷ 32
-    ∷ 28 ∷ 32 ∷ 23 ∷ 32 ∷ 30 ∷ 32 ∷ 21 ∷ 32 ∷ 31
-    ∷ 32 ∷ 1 ∷ 32 ∷ 6 ∷ 32 ∷ 2 ∷ 32 ∷ 5 ∷ 32
-    ∷ 27 ∷ 32 ∷ 17 ∷ 32 ∷ 26 ∷ 32 ∷ 19 ∷ 32 ∷ 24
-    ∷ 32 ∷ 12 ∷ 32 ∷ 11 ∷ 32 ∷ 13 ∷ 32 ∷ 10 ∷ 32
-    ∷ 32 ∷ 32 ∷ 22 ∷ 32 ∷ 29 ∷ 32 ∷ 20 ∷ 32 ∷ 32
-    ∷ 32 ∷ 32 ∷ 32 ∷ 4 ∷ 32 ∷ 3 ∷ 32 ∷ 32 ∷ 32
+    32 ∷ 32 ∷ 32 ∷ 7 ∷ 32 ∷ 0 ∷ 32 ∷ 32 ∷ 32 ∷ 32
+    ∷ 32 ∷ 32 ∷ 16 ∷ 32 ∷ 25 ∷ 32 ∷ 18 ∷ 32 ∷ 32 ∷ 32
+    ∷ 32 ∷ 14 ∷ 32 ∷ 9 ∷ 32 ∷ 15 ∷ 32 ∷ 8 ∷ 32 ∷ 32
+    ∷ 28 ∷ 32 ∷ 23 ∷ 32 ∷ 30 ∷ 32 ∷ 21 ∷ 32 ∷ 31 ∷ 32
+    ∷ 32 ∷ 1 ∷ 32 ∷ 6 ∷ 32 ∷ 2 ∷ 32 ∷ 5 ∷ 32 ∷ 32
+    ∷ 27 ∷ 32 ∷ 17 ∷ 32 ∷ 26 ∷ 32 ∷ 19 ∷ 32 ∷ 24 ∷ 32
+    ∷ 32 ∷ 12 ∷ 32 ∷ 11 ∷ 32 ∷ 13 ∷ 32 ∷ 10 ∷ 32 ∷ 32
+    ∷ 32 ∷ 32 ∷ 22 ∷ 32 ∷ 29 ∷ 32 ∷ 20 ∷ 32 ∷ 32 ∷ 32
+    ∷ 32 ∷ 32 ∷ 32 ∷ 4 ∷ 32 ∷ 3 ∷ 32 ∷ 32 ∷ 32 ∷ 32
+    ∷ 32 ∷ 32 ∷ 32 ∷ 32 ∷ 32 ∷ 32 ∷ 32 ∷ 32 ∷ 32 ∷ 32
     ∷ []
 
 abbrev pub label_there : ℕ → ℕ → ℕ
-label_there column height = slice_index_or label_map (9 * column + height) 0
+label_there column height = slice_index_or label_map (10 * column + height) 0
+
+-- and columns and heights by octets
+abbrev pub place_map : List ℕ
+place_map =
+    4 ∷ 9 ∷ 9 ∷ 9 ∷ 9 ∷ 9 ∷ 9 ∷ 9 ∷ 5 ∷ 9 ∷ 9 ∷ 9 ∷ 9 ∷ 9 ∷ 9 ∷ 9
+    ∷ 6 ∷ 9 ∷ 9 ∷ 9 ∷ 9 ∷ 9 ∷ 9 ∷ 9 ∷ 7 ∷ 9 ∷ 9 ∷ 9 ∷ 9 ∷ 9 ∷ 9 ∷ 9
+    ∷ 8 ∷ 9 ∷ 9 ∷ 9 ∷ 9 ∷ 9 ∷ 9 ∷ 9 ∷ 9 ∷ 9 ∷ 9 ∷ 9 ∷ 9 ∷ 9 ∷ 9 ∷ 9
+    ∷ 9 ∷ 9 ∷ 9 ∷ 9 ∷ 9 ∷ 9 ∷ 9 ∷ 9 ∷ 9 ∷ 9 ∷ 9 ∷ 9 ∷ 9 ∷ 9 ∷ 9 ∷ 9
+    ∷ 9 ∷ 9 ∷ 9 ∷ 9 ∷ 9 ∷ 9 ∷ 9 ∷ 9 ∷ 9 ∷ 9 ∷ 9 ∷ 9 ∷ 9 ∷ 9 ∷ 9 ∷ 9
+    ∷ 9 ∷ 9 ∷ 9 ∷ 9 ∷ 9 ∷ 9 ∷ 9 ∷ 9 ∷ 9 ∷ 9 ∷ 9 ∷ 9 ∷ 9 ∷ 9 ∷ 9 ∷ 9
+    ∷ 9 ∷ 9 ∷ 9 ∷ 9 ∷ 9 ∷ 9 ∷ 9 ∷ 9 ∷ 9 ∷ 9 ∷ 9 ∷ 9 ∷ 9 ∷ 9 ∷ 9 ∷ 9
+    ∷ 9 ∷ 9 ∷ 9 ∷ 9 ∷ 9 ∷ 9 ∷ 9 ∷ 9 ∷ 9 ∷ 9 ∷ 9 ∷ 9 ∷ 9 ∷ 9 ∷ 9 ∷ 9
+    ∷ 9 ∷ 9 ∷ 9 ∷ 9 ∷ 9 ∷ 9 ∷ 9 ∷ 9 ∷ 9 ∷ 9 ∷ 9 ∷ 9 ∷ 9 ∷ 9 ∷ 9 ∷ 9
+    ∷ 9 ∷ 9 ∷ 9 ∷ 9 ∷ 9 ∷ 9 ∷ 9 ∷ 9 ∷ 9 ∷ 9 ∷ 9 ∷ 9 ∷ 9 ∷ 9 ∷ 9 ∷ 9
+    ∷ 9 ∷ 9 ∷ 9 ∷ 9 ∷ 9 ∷ 9 ∷ 9 ∷ 9 ∷ 9 ∷ 9 ∷ 9 ∷ 9 ∷ 9 ∷ 9 ∷ 9 ∷ 9
+    ∷ 9 ∷ 9 ∷ 9 ∷ 9 ∷ 9 ∷ 9 ∷ 9 ∷ 9 ∷ 9 ∷ 9 ∷ 9 ∷ 9 ∷ 9 ∷ 9 ∷ 9 ∷ 9
+    ∷ 9 ∷ 9 ∷ 9 ∷ 9 ∷ 9 ∷ 9 ∷ 9 ∷ 9 ∷ 9 ∷ 9 ∷ 9 ∷ 9 ∷ 9 ∷ 9 ∷ 9 ∷ 9
+    ∷ 9 ∷ 9 ∷ 9 ∷ 9 ∷ 9 ∷ 9 ∷ 9 ∷ 9 ∷ 9 ∷ 9 ∷ 9 ∷ 9 ∷ 9 ∷ 9 ∷ 9 ∷ 9
+    ∷ 0 ∷ 9 ∷ 9 ∷ 9 ∷ 9 ∷ 9 ∷ 9 ∷ 9 ∷ 1 ∷ 9 ∷ 9 ∷ 9 ∷ 9 ∷ 9 ∷ 9 ∷ 9
+    ∷ 2 ∷ 9 ∷ 9 ∷ 9 ∷ 9 ∷ 9 ∷ 9 ∷ 9 ∷ 3 ∷ 9 ∷ 9 ∷ 9 ∷ 9 ∷ 9 ∷ 9 ∷ 9
+    ∷ []
+
+abbrev pub place_at : ℕ → ℕ
+place_at octet = slice_index_or place_map octet 0
+
+abbrev place_test : ℕ → Bool
+place_test place = nat_eq (place_at (high_of place)) place
+
+all_there : each_below 9 place_test ≡ true
+all_there = refl
+
+abbrev octet_test : ℕ → Bool
+octet_test octet = nat_le (place_at octet) 9 && (nat_le 9 (place_at octet) || nat_eq (high_of (place_at octet)) octet)
+
+all_octets : each_below 256 octet_test ≡ true
+all_octets = refl
+
+pub place-is : (place : ℕ) → place < 9 → place_at (high_of place) ≡ place
+place-is place low = eqb-true (place_at (high_of place)) place (at_each 9 place_test all_there place low)
+
+pub place-few : (octet : ℕ) → octet < 256 → place_at octet ≤ 9
+place-few octet low = leb-true (place_at octet) 9 (and_parts (nat_le (place_at octet) 9) _ (at_each 256 octet_test all_octets octet low)).0
+
+pub place-back : (octet : ℕ) → octet < 256 → place_at octet < 9 → octet ≡ high_of (place_at octet)
+place-back octet low small = go (or_cases (nat_le 9 (place_at octet)) _ (and_parts (nat_le (place_at octet) 9) _ (at_each 256 octet_test all_octets octet low)).1)
+  where
+    go : (nat_le 9 (place_at octet) ≡ true) ⊎ (nat_eq (high_of (place_at octet)) octet ≡ true) → octet ≡ high_of (place_at octet)
+    go (inl e) = absurd (omega (arith, leb-true 9 (place_at octet) e, small))
+    go (inr e) = sym (eqb-true (high_of (place_at octet)) octet e)
+
+-- the states behind labels
+abbrev pub state_map : List ℕ
+state_map =
+    0 ∷ 8 ∷ 1 ∷ 8 ∷ 2 ∷ 8 ∷ 3 ∷ 8
+    ∷ 0 ∷ 8 ∷ 1 ∷ 8 ∷ 2 ∷ 8 ∷ 3 ∷ 8
+    ∷ 0 ∷ 8 ∷ 1 ∷ 8 ∷ 2 ∷ 8 ∷ 3 ∷ 8
+    ∷ 0 ∷ 8 ∷ 1 ∷ 8 ∷ 2 ∷ 8 ∷ 3 ∷ 8
+    ∷ 3 ∷ 8 ∷ 2 ∷ 8 ∷ 1 ∷ 8 ∷ 0 ∷ 8
+    ∷ 3 ∷ 8 ∷ 2 ∷ 8 ∷ 1 ∷ 8 ∷ 0 ∷ 8
+    ∷ 3 ∷ 8 ∷ 2 ∷ 8 ∷ 1 ∷ 8 ∷ 0 ∷ 8
+    ∷ 3 ∷ 8 ∷ 2 ∷ 8 ∷ 1 ∷ 8 ∷ 0 ∷ 8
+    ∷ 2 ∷ 8 ∷ 3 ∷ 8 ∷ 0 ∷ 8 ∷ 1 ∷ 8
+    ∷ 2 ∷ 8 ∷ 3 ∷ 8 ∷ 0 ∷ 8 ∷ 1 ∷ 8
+    ∷ 2 ∷ 8 ∷ 3 ∷ 8 ∷ 0 ∷ 8 ∷ 1 ∷ 8
+    ∷ 2 ∷ 8 ∷ 3 ∷ 8 ∷ 0 ∷ 8 ∷ 1 ∷ 8
+    ∷ 1 ∷ 8 ∷ 0 ∷ 8 ∷ 3 ∷ 8 ∷ 2 ∷ 8
+    ∷ 1 ∷ 8 ∷ 0 ∷ 8 ∷ 3 ∷ 8 ∷ 2 ∷ 8
+    ∷ 1 ∷ 8 ∷ 0 ∷ 8 ∷ 3 ∷ 8 ∷ 2 ∷ 8
+    ∷ 1 ∷ 8 ∷ 0 ∷ 8 ∷ 3 ∷ 8 ∷ 2 ∷ 8
+    ∷ 8 ∷ 4 ∷ 8 ∷ 7 ∷ 8 ∷ 6 ∷ 8 ∷ 5
+    ∷ 8 ∷ 4 ∷ 8 ∷ 7 ∷ 8 ∷ 6 ∷ 8 ∷ 5
+    ∷ 8 ∷ 4 ∷ 8 ∷ 7 ∷ 8 ∷ 6 ∷ 8 ∷ 5
+    ∷ 8 ∷ 4 ∷ 8 ∷ 7 ∷ 8 ∷ 6 ∷ 8 ∷ 5
+    ∷ 8 ∷ 5 ∷ 8 ∷ 6 ∷ 8 ∷ 7 ∷ 8 ∷ 4
+    ∷ 8 ∷ 5 ∷ 8 ∷ 6 ∷ 8 ∷ 7 ∷ 8 ∷ 4
+    ∷ 8 ∷ 5 ∷ 8 ∷ 6 ∷ 8 ∷ 7 ∷ 8 ∷ 4
+    ∷ 8 ∷ 5 ∷ 8 ∷ 6 ∷ 8 ∷ 7 ∷ 8 ∷ 4
+    ∷ 8 ∷ 7 ∷ 8 ∷ 4 ∷ 8 ∷ 5 ∷ 8 ∷ 6
+    ∷ 8 ∷ 7 ∷ 8 ∷ 4 ∷ 8 ∷ 5 ∷ 8 ∷ 6
+    ∷ 8 ∷ 7 ∷ 8 ∷ 4 ∷ 8 ∷ 5 ∷ 8 ∷ 6
+    ∷ 8 ∷ 7 ∷ 8 ∷ 4 ∷ 8 ∷ 5 ∷ 8 ∷ 6
+    ∷ 8 ∷ 6 ∷ 8 ∷ 5 ∷ 8 ∷ 4 ∷ 8 ∷ 7
+    ∷ 8 ∷ 6 ∷ 8 ∷ 5 ∷ 8 ∷ 4 ∷ 8 ∷ 7
+    ∷ 8 ∷ 6 ∷ 8 ∷ 5 ∷ 8 ∷ 4 ∷ 8 ∷ 7
+    ∷ 8 ∷ 6 ∷ 8 ∷ 5 ∷ 8 ∷ 4 ∷ 8 ∷ 7
+    ∷ 8 ∷ 8 ∷ 8 ∷ 8 ∷ 8 ∷ 8 ∷ 8 ∷ 8
+    ∷ []
+
+abbrev pub state_at : ℕ → ℕ → ℕ
+state_at label state = slice_index_or state_map (8 * label + state) 0
+
+abbrev pub is_next : Option ℕ → ℕ → Bool
+is_next None found = nat_le 8 found
+is_next (Some to) found = nat_lt found 8 && nat_eq to found
+
+abbrev state_test : ℕ → ℕ → Bool
+state_test label state = is_next (next_state state label) (state_at label state) && (nat_lt label 32 || nat_le 8 (state_at label state))
+
+all_states : each_below 33 (λ label. each_below 8 (state_test label)) ≡ true
+all_states = refl
+
+state-tested : (label state : ℕ) → label ≤ 32 → state < 8 → state_test label state ≡ true
+state-tested label state few low =
+    at_each 8 (state_test label) (at_each 33 (λ l. each_below 8 (state_test l)) all_states label (omega (arith, few))) state low
+
+pub state-some : (label state : ℕ) → label ≤ 32 → state < 8 → state_at label state < 8 → next_state state label ≡ Some (state_at label state)
+state-some label state few low small =
+    go (next_state state label) refl (and_parts (is_next (next_state state label) (state_at label state)) _ (state-tested label state few low)).0
+  where
+    go : (o : Option ℕ) → next_state state label ≡ o → is_next o (state_at label state) ≡ true → next_state state label ≡ Some (state_at label state)
+    go None e k = absurd (omega (arith, leb-true 8 (state_at label state) k, small))
+    go (Some to) e k = e ∙ ap Some (eqb-true to (state_at label state) (and_parts (nat_lt (state_at label state) 8) _ k).1)
+
+pub state-none : (label state : ℕ) → label ≤ 32 → state < 8 → 8 ≤ state_at label state → next_state state label ≡ None
+state-none label state few low large =
+    go (next_state state label) refl (and_parts (is_next (next_state state label) (state_at label state)) _ (state-tested label state few low)).0
+  where
+    go : (o : Option ℕ) → next_state state label ≡ o → is_next o (state_at label state) ≡ true → next_state state label ≡ None
+    go None e k = e
+    go (Some to) e k = absurd (omega (arith, ltb-true (state_at label state) 8 (and_parts (nat_lt (state_at label state) 8) _ k).0, large))
+
+pub state-small : (label state : ℕ) → label ≤ 32 → state < 8 → state_at label state < 8 → label < 32
+state-small label state few low small =
+    go (or_cases (nat_lt label 32) _ (and_parts (is_next (next_state state label) (state_at label state)) _ (state-tested label state few low)).1)
+  where
+    go : (nat_lt label 32 ≡ true) ⊎ (nat_le 8 (state_at label state) ≡ true) → label < 32
+    go (inl e) = ltb-true label 32 e
+    go (inr e) = absurd (omega (arith, leb-true 8 (state_at label state) e, small))
 
 -- the point of a label, by its octets
 abbrev there : ℕ → Sample
@@ -59,9 +188,9 @@ all_labels = refl
 abbrev back_test : ℕ → Bool
 back_test place =
     nat_le 32 (slice_index_or label_map place 0) ||
-    nat_eq (9 * column_of (slice_index_or label_map place 0) + height_of (slice_index_or label_map place 0)) place
+    nat_eq (10 * column_of (slice_index_or label_map place 0) + height_of (slice_index_or label_map place 0)) place
 
-all_places : each_below 81 back_test ≡ true
+all_places : each_below 100 back_test ≡ true
 all_places = refl
 
 pub record IsThere (label : ℕ) : Type 0 where
@@ -83,21 +212,31 @@ is-there label low =
     }
 
 -- a label that is found is that of the place
-pub there-back : (column height : ℕ) → column < 9 → height < 9 → label_there column height < 32
+pub there-back : (column height : ℕ) → column ≤ 9 → height ≤ 9 → label_there column height < 32
     → (column ≡ column_of (label_there column height)) × (height ≡ height_of (label_there column height))
 there-back column height left low small =
     let label : ℕ = label_there column height in
     let is = is-there label small in
-    go (or_cases (nat_le 32 label) _ (at_each 81 back_test all_places (9 * column + height) (omega arith)))
+    go (or_cases (nat_le 32 label) _ (at_each 100 back_test all_places (10 * column + height) (omega (arith, left, low))))
   where
     go : (nat_le 32 (label_there column height) ≡ true)
-        ⊎ (nat_eq (9 * column_of (label_there column height) + height_of (label_there column height)) (9 * column + height) ≡ true)
+        ⊎ (nat_eq (10 * column_of (label_there column height) + height_of (label_there column height)) (10 * column + height) ≡ true)
         → (column ≡ column_of (label_there column height)) × (height ≡ height_of (label_there column height))
     go (inl e) = absurd (omega (arith, leb-true 32 (label_there column height) e, small))
     go (inr e) =
         let is = is-there (label_there column height) small in
-        let same = eqb-true (9 * column_of (label_there column height) + height_of (label_there column height)) (9 * column + height) e in
-        (omega (arith, same, is.left, is.low, low), omega (arith, same, is.left, is.low, low))
+        let same = eqb-true (10 * column_of (label_there column height) + height_of (label_there column height)) (10 * column + height) e in
+        (omega (arith, same, is.left, is.low, left, low), omega (arith, same, is.left, is.low, left, low))
+
+abbrev few_test : ℕ → Bool
+few_test place = nat_le (slice_index_or label_map place 0) 32
+
+all_few : each_below 100 few_test ≡ true
+all_few = refl
+
+pub there-few : (column height : ℕ) → column ≤ 9 → height ≤ 9 → label_there column height ≤ 32
+there-few column height left low =
+    leb-true (label_there column height) 32 (at_each 100 few_test all_few (10 * column + height) (omega (arith, left, low)))
 
 -- the octets of a coordinate
 same-octets : (a b c d : ℕ) → a < 256 → b < 256 → c < 256 → d < 256 → coordinate a b ≡ coordinate c d → (a ≡ c) × (b ≡ d)

@@ -75,9 +75,14 @@ few-rounds law x f n m link a = go (either (is_going a.p) (is_going a.q) a.going
 -- it waits for the same whatever goes beside, on every channel
 pub waits-over : (l : Lines) (script : ScriptValue) (dlci at : ℕ) (b d : Beside) (links : ℕ) (streams : Both (List Carried))
     → LinesWait l (wire_at script dlci b) links streams → LinesWait l (wire_at script at d) links streams
-waits-over l script dlci at b d links streams h role =
-    let k = h role in
-    record { stands = k.stands; sends = k.sends; symbols = k.symbols; delay = k.delay; lag = k.lag; some = k.some; lag_some = k.lag_some }
+waits-over l script dlci at b d links streams h = record {
+  directions = λ role.
+      let k = h.directions role in
+      record { stands = k.stands; sends = k.sends; symbols = k.symbols; delay = k.delay; lag = k.lag; some = k.some; lag_some = k.lag_some };
+  coders = λ role.
+      let k = h.coders role in
+      record { stands = k.stands; sends = k.sends; symbols = k.symbols; newest = k.newest };
+}
 
 pub first-due : PairLaws → (script : ScriptValue) (files others : Both (List ℕ)) (round : ℕ) (p q : Progress) → IsInLimits script
     → PairAt script files others round round p q

@@ -1,25 +1,10 @@
-use Rattle.std.proofs.Common.{◌≡◌, ◌∙◌, Some, None, IfNone, sym, ap, subst}
-use Rattle.recordings.specs.Samples.{sample_at}
+use Rattle.std.proofs.Common.{◌≡◌, ◌∙◌, Some, None, sym, ap, arith}
 use Rattle.trellis_tables.specs.Table.{next_state}
-use Rattle.trellis_tables.specs.V32Laws.{v32_within}
-use Rattle.line_tap.specs.Labels.{NoStep}
 use Rattle.line_tap.proofs.labels.step_by.Goals as goal
 
-pub returns-in_err-label-clause-none : goal.returns-in_err-label-clause-none
-returns-in_err-label-clause-none c =
-    let none : NoStep c.args.state (sample_at c.args.octets.now c.args.place) =
-    λ label to low e next. c.in_err-label.ensures.none label low e in
-    subst (λ q. IfNone q (NoStep c.args.state (sample_at c.args.octets.now c.args.place))) (sym c.from_residual.ensures) none
-
-pub returns-in_err-to-clause-none : goal.returns-in_err-to-clause-none
-returns-in_err-to-clause-none c =
-    let none : NoStep c.args.state (sample_at c.args.octets.now c.args.place) =
-    λ label to low e next.
+pub returns-then-to-gt7-clause-none : goal.returns-then-to-gt7-clause-none
+returns-then-to-gt7-clause-none c = λ label to low e next.
     let never : None ≡ Some to =
-    c.in_err-to.ensures ∙ ap (next_state c.args.state) (c.in_ok-label.ensures.only label low e) ∙ next in
-    absurd cc in
-    subst (λ q. IfNone q (NoStep c.args.state (sample_at c.args.octets.now c.args.place))) (sym c.from_residual-in_err-to.ensures) none
-
-pub returns-clause-within : goal.returns-clause-within
-returns-clause-within c =
-    v32_within c.args.state c.in_ok-label.label c.in_ok-to.to c.requires.state c.in_ok-label.ensures.small (sym c.in_ok-to.ensures)
+    sym (c.state_by-to.ensures.none (omega (arith, c.if-to-gt7.true)))
+    ∙ ap (next_state c.args.state) (c.label_at-label.ensures.only label low e) ∙ next in
+    absurd cc
