@@ -279,6 +279,7 @@ impl Connected {
                 self.on_ready(turn, *command, *nr, *pf, Meaning::Acknowledges)
             }
             Frame::Rnr { command, nr, pf } => self.on_rnr(turn, *command, *nr, *pf),
+            // As RR, and sending goes on from its number.
             Frame::Rej { command, nr, pf } => {
                 self.on_ready(turn, *command, *nr, *pf, Meaning::Rejects)
             }

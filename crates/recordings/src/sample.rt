@@ -1,4 +1,4 @@
-// The octets of a sample, both ways.
+// The octets of a sample, both ways. In a coordinate 2048 is a unit of the map.
 ghost use Rattle.std.specs.Prelude.{◌≡◌, ◌≤◌, ◌+◌, ◌*◌, ◌++◌, length, slice_index};
 ghost use Rattle.recordings.specs.Recording.{sample_octets};
 ghost use Rattle.recordings.specs.Samples.{coordinate, sample_at};
