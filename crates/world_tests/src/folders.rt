@@ -43,13 +43,12 @@ fn a_folder_in_memory_fails_when_it_is_told(rt: HostRuntime) -> Result<(), Fail>
     let mut folder = MemoryFolder::new(rt.alloc());
     folder.put("f", b"kept")?;
     folder.fail_at(&[2])?;
-    folder.append("f", b", longer")?;
-    assert!(rt; folder.append("f", b"lost") == Err(FolderFault::Failed));
-    assert!(rt; folder.get("f") == Some(b"kept, longer".as_slice()));
-    assert!(rt; folder.write_faults() == 1);
-    assert!(rt; folder.get("g").is_none());
-    assert!(rt; folder.read_at("g", 0, &mut [0u8; 4]) == Err(FolderFault::Failed));
-    assert!(rt; folder.read_faults() == 1);
+    let failed = Err(FolderFault::Failed);
+    assert!(rt; folder.append("f", b", longer").is_ok() && folder.append("f", b"lost") == failed);
+    assert!(rt; folder.get("f") == Some(b"kept, longer".as_slice()) && folder.write_faults() == 1);
+    assert!(rt; folder.get("g").is_none() && folder.read_faults() == 0);
+    let read = folder.read_at("g", 0, &mut [0u8; 4]);
+    assert!(rt; read == Err(FolderFault::Failed) && folder.read_faults() == 1);
     Ok(())
 }
 
@@ -139,19 +138,19 @@ impl Write for Slow {
 const FAULT: Option<ErrorKind> = Some(ErrorKind::BrokenPipe);
 
 /// How many octets are asked for (a fixed number, a piece of a recording, and what a script may have at most and more), how many are
-/// there, what comes behind them, and how many are read, where that is no fault.
+/// there, what comes behind them, and how many are read, where that is no fault. The first two numbers name a row.
 const READS: &[(usize, usize, Option<ErrorKind>, Option<usize>)] = &[
     (1500, 2000, None, Some(1500)),
     (1500, 1500, FAULT, Some(1500)),
-    (1500, 750, None, Some(750)),
+    (1500, 751, None, Some(751)),
     (1500, 750, FAULT, None),
     (4096, 4596, None, Some(4096)),
     (4096, 4096, FAULT, Some(4096)),
-    (4096, 2048, None, Some(2048)),
+    (4096, 2049, None, Some(2049)),
     (4096, 2048, FAULT, None),
     (66_560, 67_060, None, Some(66_560)),
     (66_560, 66_560, FAULT, Some(66_560)),
-    (66_560, 33_280, None, Some(33_280)),
+    (66_560, 33_281, None, Some(33_281)),
     (66_560, 33_280, FAULT, None),
 ];
 
@@ -191,15 +190,15 @@ const WRITES: &[(usize, usize, Option<ErrorKind>, Result<usize, ErrorKind>)] = &
     (1500, 2000, None, Ok(500)),
     (1500, 1500, FAULT, Ok(0)),
     (1500, 750, FAULT, Err(ErrorKind::BrokenPipe)),
-    (1500, 750, None, Err(ErrorKind::WriteZero)),
+    (1500, 751, None, Err(ErrorKind::WriteZero)),
     (4096, 4596, None, Ok(500)),
     (4096, 4096, FAULT, Ok(0)),
     (4096, 2048, FAULT, Err(ErrorKind::BrokenPipe)),
-    (4096, 2048, None, Err(ErrorKind::WriteZero)),
+    (4096, 2049, None, Err(ErrorKind::WriteZero)),
     (66_560, 67_060, None, Ok(500)),
     (66_560, 66_560, FAULT, Ok(0)),
     (66_560, 33_280, FAULT, Err(ErrorKind::BrokenPipe)),
-    (66_560, 33_280, None, Err(ErrorKind::WriteZero)),
+    (66_560, 33_281, None, Err(ErrorKind::WriteZero)),
 ];
 
 /// Whether octets are written so, 700 at a time.

@@ -90,8 +90,8 @@ const ZEROS: &[(&str, usize, &[u8], bool)] = &[
     ),
 ];
 
-/// Whether what was sent is heard, or else a chance match.
-fn is_heard(heard: &Heard, sent: &Sent, passes: bool) -> bool {
+/// Whether what was sent passes, or else whether there is a chance match.
+fn passes_or_is_chance(heard: &Heard, sent: &Sent, passes: bool) -> bool {
     match heard {
         Heard::Chance => !passes,
         _ => passes && is_as_sent(heard, sent),
@@ -108,7 +108,7 @@ fn pieces_beside_the_right_frame_are_chance(rt: HostRuntime) -> Result<(), Fail>
             octets.push(0x7e)?;
         }
         let heard = heard_of(rt.alloc(), &octets, &sent)?;
-        assert!(&rt; is_heard(&heard, &sent, *passes), "{name}");
+        assert!(&rt; passes_or_is_chance(&heard, &sent, *passes), "{name}");
     }
     Ok(())
 }
@@ -121,7 +121,7 @@ fn an_information_field_that_is_too_long_is_chance(rt: HostRuntime) -> Result<()
         octets.append(&mut vec![in rt.alloc(); 0u8; *count]?)?;
         octets.extend_from_slice(check)?;
         let heard = heard_of(rt.alloc(), &octets, &sent)?;
-        assert!(&rt; is_heard(&heard, &sent, *passes), "{name}");
+        assert!(&rt; passes_or_is_chance(&heard, &sent, *passes), "{name}");
     }
     Ok(())
 }

@@ -125,8 +125,8 @@ const FRAMES: &[(&str, Message, Check, Check, bool)] = &[
     ),
 ];
 
-/// Whether a frame that was sent passes, or else whether it is lost.
-fn passes(heard: &Heard, sent: &Sent, passes: bool) -> bool {
+/// Whether what was sent passes, or else whether it is lost.
+fn passes_or_is_lost(heard: &Heard, sent: &Sent, passes: bool) -> bool {
     match heard {
         Heard::Lost(lost) => !passes && lost == sent,
         _ => passes && is_as_sent(heard, sent),
@@ -136,11 +136,11 @@ fn passes(heard: &Heard, sent: &Sent, passes: bool) -> bool {
 #[test]
 fn frames_pass_by_their_checks(rt: HostRuntime) -> Result<(), Fail> {
     let script = read_script(rt.alloc(), b"")?;
-    for (name, message, coded, judged, passing) in FRAMES {
+    for (name, message, coded, judged, passes) in FRAMES {
         let sent = sent(message);
         for role in [Role::Originator, Role::Answerer] {
             let heard = first_slot(rt.alloc(), role, &script, &sent, *coded, *judged)?;
-            assert!(&rt; passes(&heard, &sent, *passing), "{name}");
+            assert!(&rt; passes_or_is_lost(&heard, &sent, *passes), "{name}");
         }
     }
     Ok(())
