@@ -27,11 +27,11 @@ use Rattle.command_base.specs.Job.{Answers}
 use Rattle.command_base.specs.Lines.{turns_line}
 use Rattle.command_base.proofs.Jobs.{Comes, is_done, is_own, is_memory, comes-to, last-only}
 use Rattle.run_inputs.specs.Inputs.{RefusesOwn}
-use Rattle.tap_command.specs.Names.{TapNames, outputs_of}
+use Rattle.tap_command.specs.Names.{TapNames, outputs_of, recordings_of}
 use Rattle.tap_command.specs.Turn.{held_of}
 use Rattle.tap_command.specs.declared.limits.TheConstants.{LIMITS}
 use Rattle.tap_command.specs.Headers.{IsNotHeader, HasNoHeader}
-use Rattle.tap_command.specs.Ends.{recordings_of, IsRefused, Tapped, TappedBy, EndsBy, Ends, tap_job}
+use Rattle.tap_command.specs.Ends.{IsRefused, Tapped, TappedBy, EndsBy, Ends, tap_job}
 use Rattle.tap_command.specs.Answers.{answer_of}
 use Rattle.tap_command.specs.Completes.{AreRight, Answered, Completes}
 use Rattle.tap_command.proofs.Headline.{keeps-each}

@@ -17,11 +17,11 @@ use Rattle.command_base.specs.Stops.{StopCounts}
 use Rattle.run_inputs.specs.declared.limits.Limits.{Limits}
 use Rattle.run_inputs.specs.Inputs.{Opens}
 use Rattle.tap_command.specs.declared.limits.TheConstants.{TAP_LIMIT}
-use Rattle.tap_command.specs.Names.{TapNames}
+use Rattle.tap_command.specs.Names.{TapNames, recordings_of}
 use Rattle.tap_command.specs.Tap.{AreReadTo}
 use Rattle.tap_command.specs.Turns.{no_octets}
 use Rattle.tap_command.specs.Headers.{HasHeader, NoHeader}
-use Rattle.tap_command.specs.Ends.{recordings_of, IsRefused}
+use Rattle.tap_command.specs.Ends.{IsRefused}
 
 -- the octets that a header is looked for in
 pub header-octets : (start new : FolderState) (name : List ℕ) (count : ℕ) (piece : List ℕ) → count ≤ 8

@@ -21,11 +21,11 @@ use Rattle.command_base.specs.Lines.{turns_line}
 use Rattle.command_base.proofs.Answering.{IsPlain}
 use Rattle.command_base.proofs.Jobs.{last-only, last-plain, done-of, shared-of}
 use Rattle.run_inputs.specs.Inputs.{RefusesOwn}
-use Rattle.tap_command.specs.Names.{TapNames, outputs_of}
+use Rattle.tap_command.specs.Names.{TapNames, outputs_of, recordings_of}
 use Rattle.tap_command.specs.Turn.{held_of}
 use Rattle.tap_command.specs.declared.limits.TheConstants.{LIMITS}
 use Rattle.tap_command.specs.Headers.{HasNoHeader}
-use Rattle.tap_command.specs.Ends.{recordings_of, IsRefused, Tapped, EndsBy, Ends, tap_job}
+use Rattle.tap_command.specs.Ends.{IsRefused, Tapped, EndsBy, Ends, tap_job}
 use Rattle.tap_command.specs.Headline.{Told, ToldBy, Headline}
 
 pub keeps-each : (a b : FolderState) → OnlyOutputs a b [] → (names : List (List ℕ)) → KeepsEach a b names

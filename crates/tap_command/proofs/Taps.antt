@@ -1,12 +1,12 @@
 -- From the phases of a tap to how it ends.
-use Rattle.std.proofs.Common.{inl, inr, ℕ, Result, Ok, Err, subst}
+use Rattle.std.proofs.Common.{inl, inr, ℕ, List, Result, Ok, Err, subst}
 use Rattle.outside_calls.specs.Folder.{FolderState, OnlyReads}
-use Rattle.outside_calls.specs.Outputs.{AreApartFrom, CreatesPart, KeepsAll, OnlyOutputs}
+use Rattle.outside_calls.specs.Outputs.{AreApartFrom, CreatesPart, KeepsAll, OnlyOutputs, SomeRose}
 use Rattle.outside_calls.proofs.Putting.{KeepsEach-reads, inputs-kept}
 use Rattle.shared_terms.specs.declared.role.Role.TheVariants.{Originator, Answerer}
 use Rattle.noise_script.specs.Script.{ScriptValue, IsInLimits}
 use Rattle.command_base.specs.Status.{IsRefusal}
-use Rattle.command_base.specs.Stops.{end_status}
+use Rattle.command_base.specs.Stops.{EndCounts, end_status}
 use Rattle.command_base.specs.declared.status.Status.{Status}
 use Rattle.command_base.specs.declared.status.Status.TheVariants.{LineLost, ChanceMatch, BadTap, Usage, BadScript, BadHex, BadXid, TooLong}
 use Rattle.command_base.specs.declared.stop.Stop.{Stop}
@@ -16,10 +16,11 @@ use Rattle.command_base.proofs.Reading.{ReadTo-kept}
 use Rattle.command_base.proofs.Jobs.{refusal-own}
 use Rattle.run_inputs.specs.declared.limits.Limits.{Limits}
 use Rattle.tap_command.specs.declared.limits.TheConstants.{TAP_LIMIT}
-use Rattle.tap_command.specs.Names.{TapNames, inputs_of, outputs_of}
+use Rattle.tap_command.specs.Names.{TapNames, inputs_of, outputs_of, recordings_of}
 use Rattle.tap_command.specs.Tap.{AreReadTo}
 use Rattle.tap_command.specs.Turns.{TurnsEnd, no_octets}
 use Rattle.tap_command.specs.declared.limits.TheConstants.{LIMITS}
+use Rattle.tap_command.proofs.HeaderRead.{stop-widened}
 use Rattle.tap_command.specs.Ends.{IsBegun, IsRefused, TappedBy, StopsCreating, EndsBy, Ends}
 
 -- ---- what was read stays read as the outputs are made
@@ -53,19 +54,32 @@ ends-creating l old mid new n script b c = record {
 
 -- turns came to their end
 pub ends-turns : (l : Limits) (old mid next : FolderState) (n : TapNames) (script : ScriptValue) (result : Result ℕ Stop) → IsBegun l old mid n script
-    → IsInLimits script → TurnsEnd script old next n result → Ends l old next n result
-ends-turns l old mid next n script (Ok turns) b limits e = record { script = script; opens = b.opens; limits = limits; ends = e }
-ends-turns l old mid next n script (Err (Own (LineLost role symbol))) b limits e =
+    → IsInLimits script → TurnsEnd script old next n result → EndCounts old next (recordings_of n) (outputs_of n) result → Ends l old next n result
+ends-turns l old mid next n script (Ok turns) b limits e counts = record { script = script; opens = b.opens; limits = limits; ends = e }
+ends-turns l old mid next n script (Err (Own (LineLost role symbol))) b limits e counts =
     inr (record { script = script; opens = b.opens; limits = limits; ends = e })
-ends-turns l old mid next n script (Err (Own (ChanceMatch role turn))) b limits e =
+ends-turns l old mid next n script (Err (Own (ChanceMatch role turn))) b limits e counts =
     inr (record { script = script; opens = b.opens; limits = limits; ends = e })
-ends-turns l old mid next n script (Err (Own (BadTap role turn))) b limits e =
+ends-turns l old mid next n script (Err (Own (BadTap role turn))) b limits e counts =
     inr (record { script = script; opens = b.opens; limits = limits; ends = e })
-ends-turns l old mid next n script (Err (Own answer)) b limits e = absurd e
-ends-turns l old mid next n script (Err (Read fault)) b limits e = inr (record { script = script; opens = b.opens; stops = e })
-ends-turns l old mid next n script (Err (Write fault)) b limits e = inr (record { script = script; opens = b.opens; stops = e })
-ends-turns l old mid next n script (Err (Say fault)) b limits e = e
-ends-turns l old mid next n script (Err NoMemory) b limits e = absurd e
+ends-turns l old mid next n script (Err (Own answer)) b limits e counts = absurd e
+ends-turns l old mid next n script (Err (Read fault)) b limits e counts =
+    inr (record { script = script; opens = b.opens; stops = e; fails = counts })
+ends-turns l old mid next n script (Err (Write fault)) b limits e counts = inr (record { script = script; opens = b.opens; stops = e })
+ends-turns l old mid next n script (Err (Say fault)) b limits e counts = e
+ends-turns l old mid next n script (Err NoMemory) b limits e counts = absurd e
+
+rose-widened : (before now : List ℕ → ℕ) (n : TapNames) → SomeRose before now (recordings_of n) → SomeRose before now (inputs_of n)
+rose-widened before now n (inl rose) = inl rose
+rose-widened before now n (inr (inl rose)) = inr (inl rose)
+rose-widened before now n (inr (inr never)) = absurd never
+
+-- a fault of a recording is one of an input
+pub end-widened : (old new : FolderState) (n : TapNames) (end : Result ℕ Stop) → EndCounts old new (recordings_of n) (outputs_of n) end
+    → EndCounts old new (inputs_of n) (outputs_of n) end
+end-widened old new n (Ok turns) counts = counts
+end-widened old new n (Err stop) counts =
+    stop-widened old new (recordings_of n) (inputs_of n) (outputs_of n) stop (rose-widened old.read_faults new.read_faults n) counts
 
 -- ---- what is refused is refused before the outputs are created
 

@@ -1,6 +1,6 @@
 -- How a tap ends, before its line is said: by its answer, which tap it was, and what the outputs then hold. What is said of a name's octets
 -- holds where the folder tells that name.
-use Rattle.std.specs.Prelude.{◌⊎◌, ℕ, List, [], ◌∷◌, Result, Ok, Err}
+use Rattle.std.specs.Prelude.{◌⊎◌, ℕ, [], ◌∷◌, Result, Ok, Err}
 use Rattle.scramblers.specs.declared.mode.Mode.TheVariants.{Call, Answer}
 use Rattle.outside_calls.specs.Folder.{FolderState, OnlyReads, CountsStand}
 use Rattle.outside_calls.specs.declared.folder.FolderFault.{FolderFault}
@@ -18,15 +18,11 @@ use Rattle.command_base.specs.Lines.{turns_line}
 use Rattle.command_base.specs.Stops.{ReadFails}
 use Rattle.run_inputs.specs.declared.limits.Limits.{Limits}
 use Rattle.run_inputs.specs.Inputs.{Opens, RefusesOwn, FailsToRead}
-use Rattle.tap_command.specs.Names.{TapNames, inputs_of, outputs_of}
+use Rattle.tap_command.specs.Names.{TapNames, inputs_of, outputs_of, recordings_of}
 use Rattle.tap_command.specs.Tap.{AreReadTo}
 use Rattle.tap_command.specs.Turns.{TapEnds, TapStops, TapStopsReading, no_octets}
 use Rattle.tap_command.specs.declared.limits.TheConstants.{LIMITS}
 use Rattle.tap_command.specs.Headers.{HasHeader, HasNoHeader}
-
--- both recordings
-abbrev pub recordings_of : TapNames → List (List ℕ)
-recordings_of n = n.rec_o ∷ n.rec_a ∷ []
 
 -- The inputs were opened, nothing else was done, and no fault was counted: they are within their limits, this is the script, and the recordings
 -- begin with their headers.
@@ -69,10 +65,11 @@ pub record StopsInTurn (l : Limits) (old new : FolderState) (n : TapNames) : Typ
   pub stops : TapStops script old new n
 
 -- It failed to read a recording there.
-pub record StopsInReading (l : Limits) (old new : FolderState) (n : TapNames) : Type 0 where
+pub record StopsInReading (l : Limits) (old new : FolderState) (n : TapNames) (fault : FolderFault) : Type 0 where
   pub script : ScriptValue
   pub opens : Opens l old n.script (recordings_of n) script
   pub stops : TapStopsReading script old new n
+  pub fails : ReadFails old new (recordings_of n) fault
 
 -- An output was not created, once the inputs were opened.
 pub record StopsCreating (l : Limits) (old new : FolderState) (n : TapNames) : Type 0 where
@@ -90,7 +87,7 @@ TappedBy l old new n answer = ⊥
 -- why a tap stops: for its inputs, before any output is created, for what they tell, or for the folder
 abbrev pub EndsBy : Limits → FolderState → FolderState → TapNames → Stop → Type 0
 EndsBy l old new n (Own answer) = (KeepsAll old new × IsRefused l old new n (Own answer)) ⊎ TappedBy l old new n answer
-EndsBy l old new n (Read fault) = (KeepsAll old new × IsRefused l old new n (Read fault)) ⊎ StopsInReading l old new n
+EndsBy l old new n (Read fault) = (KeepsAll old new × IsRefused l old new n (Read fault)) ⊎ StopsInReading l old new n fault
 EndsBy l old new n (Write fault) = StopsCreating l old new n ⊎ StopsInTurn l old new n
 EndsBy l old new n (Say fault) = ⊥
 EndsBy l old new n NoMemory = KeepsAll old new × IsWithin old n.script l.script

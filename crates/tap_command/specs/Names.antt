@@ -24,6 +24,10 @@ inputs_of n = n.rec_o ∷ n.rec_a ∷ n.script ∷ []
 abbrev pub outputs_of : TapNames → List (List ℕ)
 outputs_of n = n.got_o ∷ n.got_a ∷ n.trace ∷ []
 
+-- both recordings: the inputs that turns read
+abbrev pub recordings_of : TapNames → List (List ℕ)
+recordings_of n = n.rec_o ∷ n.rec_a ∷ []
+
 abbrev pub named : TapWords → TapNames
 named w = record {
   rec_o = w.rec_o.now;

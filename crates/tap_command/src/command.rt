@@ -6,7 +6,7 @@ ghost use Rattle.line_tap.specs.Tapping.{tapping};
 ghost use Rattle.command_base.specs.Job.{Answers};
 ghost use Rattle.command_base.specs.Stops.{EndCounts, WriteFails};
 ghost use Rattle.command_base.specs.Apart.{are_apart};
-ghost use Rattle.tap_command.specs.Names.{named, inputs_of, outputs_of};
+ghost use Rattle.tap_command.specs.Names.{named, inputs_of, outputs_of, recordings_of};
 ghost use Rattle.tap_command.specs.Tap.{IsReady, TapAfter};
 ghost use Rattle.tap_command.specs.Turns.{no_octets};
 ghost use Rattle.tap_command.specs.declared.limits.TheConstants.{LIMITS};
@@ -43,7 +43,7 @@ fn run_tap<F: Folder>(tap: &mut Tap, folder: &mut F, words: &TapWords<'_>) -> Re
     ensures ends { (begin : FolderState) → IsBegun LIMITS begin (F.state folder.old) (named words.now) tap.old.script → Ends LIMITS begin (F.state folder.new) (named words.now) result }
     ensures only { OnlyOutputs (F.state folder.old) (F.state folder.new) (outputs_of (named words.now)) }
     ensures said { SaysNothing (F.state folder.old) (F.state folder.new) }
-    ensures counts { EndCounts (F.state folder.old) (F.state folder.new) (inputs_of (named words.now)) (outputs_of (named words.now)) result }
+    ensures counts { EndCounts (F.state folder.old) (F.state folder.new) (recordings_of (named words.now)) (outputs_of (named words.now)) result }
 {
     apart_names_differ();
     match create_all(folder, words) {

@@ -3,7 +3,7 @@ ghost use Rattle.std.specs.Prelude.{◌≡◌, ℕ, ◌+◌, ◌<◌, ◌≤◌,
 ghost use Rattle.outside_calls.specs.Folder.{FolderState, OnlyReads, CountsStand, octets_at};
 ghost use Rattle.command_base.specs.Inputs.{ReadTo};
 ghost use Rattle.command_base.specs.Stops.{ReadFails};
-ghost use Rattle.tap_command.specs.Names.{named, inputs_of};
+ghost use Rattle.tap_command.specs.Names.{named, recordings_of};
 
 use crate::limits::TAP_LIMIT;
 use crate::names::TapWords;
@@ -62,7 +62,7 @@ pub(crate) fn read_pieces<F: Folder>(
     ensures answ_kept { vec_len answ.new ≡ vec_len answ.old }
     ensures reads { OnlyReads (F.state folder.old) (F.state folder.new) }
     ensures stand { OnOk result (CountsStand (F.state folder.old) (F.state folder.new)) }
-    ensures fails { IfErr result (ReadFails (F.state folder.old) (F.state folder.new) (inputs_of (named names.now))) }
+    ensures fails { IfErr result (ReadFails (F.state folder.old) (F.state folder.new) (recordings_of (named names.now))) }
 {
     let of_orig = match read_into(folder, names.rec_o, at, orig) {
         Ok(count) => count,

@@ -12,7 +12,7 @@ ghost use Rattle.noise_script.specs.Script.{IsInLimits};
 ghost use Rattle.shared_terms.specs.Both.{Both as BothValue};
 ghost use Rattle.line_tap.specs.Tapping.{Tapping, Tells, tapping};
 ghost use Rattle.line_tap.specs.Ends.{EndsLine};
-ghost use Rattle.tap_command.specs.Names.{named, inputs_of, outputs_of};
+ghost use Rattle.tap_command.specs.Names.{named, inputs_of, outputs_of, recordings_of};
 ghost use Rattle.tap_command.specs.Listener.{IsIdle, HasTaken};
 ghost use Rattle.tap_command.specs.Turns.{no_octets};
 
@@ -195,7 +195,7 @@ impl Tap {
         ensures script { self.new.script ≡ self.old.script }
         ensures reads { OnlyReads (F.state folder.old) (F.state folder.new) }
         ensures stand { OnOk result (CountsStand (F.state folder.old) (F.state folder.new)) }
-        ensures fails { IfErr result (ReadFails (F.state folder.old) (F.state folder.new) (inputs_of (named names.now))) }
+        ensures fails { IfErr result (ReadFails (F.state folder.old) (F.state folder.new) (recordings_of (named names.now))) }
     {
         match read_pieces(
             folder,
@@ -314,7 +314,7 @@ impl Tap {
             → EndsLine x ts (line_ends.ChanceMatch role) → AreReadTo start (F.state folder.old) (named names.now) x.bodies
             → TurnStops start (F.state folder.old) (F.state folder.new) (named names.now) x ts result }
         ensures only { OnlyPuts (F.state folder.old) (F.state folder.new) (outputs_of (named names.now)) }
-        ensures counts { StopCounts (F.state folder.old) (F.state folder.new) (inputs_of (named names.now)) (outputs_of (named names.now)) result }
+        ensures counts { StopCounts (F.state folder.old) (F.state folder.new) (recordings_of (named names.now)) (outputs_of (named names.now)) result }
     {
         match write_chance(folder, names.trace, self.turn, role) {
             Ok(()) => Stop::Own(Status::ChanceMatch {
@@ -339,7 +339,7 @@ impl Tap {
 
         // It touches the outputs alone, and a fault has its cause.
         ensures only { OnlyPuts (F.state folder.old) (F.state folder.new) (outputs_of (named names.now)) }
-        ensures counts { EndCounts (F.state folder.old) (F.state folder.new) (inputs_of (named names.now)) (outputs_of (named names.now)) result }
+        ensures counts { EndCounts (F.state folder.old) (F.state folder.new) (recordings_of (named names.now)) (outputs_of (named names.now)) result }
     {
         keeps_taken();
         slots_have_room();

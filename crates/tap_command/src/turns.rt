@@ -4,7 +4,7 @@ ghost use Rattle.outside_calls.specs.Folder.{FolderState};
 ghost use Rattle.outside_calls.specs.Outputs.{AreApartFrom, Creates, OnlyPuts};
 ghost use Rattle.command_base.specs.Stops.{EndCounts};
 ghost use Rattle.line_tap.specs.Tapping.{tapping};
-ghost use Rattle.tap_command.specs.Names.{named, inputs_of, outputs_of};
+ghost use Rattle.tap_command.specs.Names.{named, inputs_of, outputs_of, recordings_of};
 ghost use Rattle.tap_command.specs.Tap.{IsReady, TapAfter, AreReadTo};
 ghost use Rattle.tap_command.specs.Turns.{TurnsEnd, no_octets};
 
@@ -29,7 +29,7 @@ pub fn tap_turns<F: Folder>(
     ensures ends { (start : FolderState) → AreReadTo start (F.state folder.old) (named names.now) no_octets
         → TurnsEnd tap.old.script start (F.state folder.new) (named names.now) result }
     ensures only { OnlyPuts (F.state folder.old) (F.state folder.new) (outputs_of (named names.now)) }
-    ensures counts { EndCounts (F.state folder.old) (F.state folder.new) (inputs_of (named names.now)) (outputs_of (named names.now)) result }
+    ensures counts { EndCounts (F.state folder.old) (F.state folder.new) (recordings_of (named names.now)) (outputs_of (named names.now)) result }
 {
     keeps_taken();
     slots_have_room();

@@ -1,10 +1,11 @@
-use Rattle.std.proofs.Common.{inl, Ok, Err}
+use Rattle.std.proofs.Common.{inl, ℕ, Ok, Err}
 use Rattle.outside_calls.specs.Folder.{FolderState}
 use Rattle.outside_calls.specs.Outputs.{AreApartFrom}
 use Rattle.outside_calls.proofs.OnlyOutputs.{OnlyOutputs-trans}
+use Rattle.outside_calls.proofs.Steps.{CountsStand-trans}
 use Rattle.outside_calls.proofs.Putting.{OnlyOutputs-puts}
-use Rattle.command_base.proofs.Jobs.{stop-earlier}
-use Rattle.tap_command.specs.Names.{TapNames, named, inputs_of, outputs_of}
+use Rattle.command_base.proofs.Jobs.{stop-earlier, end-earlier}
+use Rattle.tap_command.specs.Names.{TapNames, named, inputs_of, outputs_of, recordings_of}
 use Rattle.tap_command.specs.declared.limits.TheConstants.{LIMITS}
 use Rattle.tap_command.proofs.Taps.{headers-later, ends-creating, ends-turns}
 use Rattle.tap_command.proofs.command.run_tap.Goals as goal
@@ -33,6 +34,8 @@ returns-in-Ok-tap_turns-clause-ends g c = λ begin b.
     ) in
     ends-turns LIMITS begin mid next n c.args.tap.now.script (Ok c.in-Ok-tap_turns.turns) b c.requires.ready.limits
     (c.in-Ok-tap_turns.ensures.ends begin (headers-later begin mid now n apart c.in-Ok.ensures.only b.headers))
+    (end-earlier {D = ℕ} begin now next (recordings_of n) (outputs_of n) (Ok c.in-Ok-tap_turns.turns) (CountsStand-trans b.stand c.in-Ok.ensures.stand)
+    c.in-Ok-tap_turns.ensures.counts)
 
 pub returns-in-Ok-tap_turns-clause-only : goal.returns-in-Ok-tap_turns-clause-only
 returns-in-Ok-tap_turns-clause-only g c =
@@ -51,6 +54,8 @@ returns-in-Err-tap_turns-clause-ends g c = λ begin b.
     ) in
     ends-turns LIMITS begin mid next n c.args.tap.now.script (Err c.in-Err-tap_turns.stop) b c.requires.ready.limits
     (c.in-Err-tap_turns.ensures.ends begin (headers-later begin mid now n apart c.in-Ok.ensures.only b.headers))
+    (end-earlier {D = ℕ} begin now next (recordings_of n) (outputs_of n) (Err c.in-Err-tap_turns.stop) (CountsStand-trans b.stand c.in-Ok.ensures.stand)
+    c.in-Err-tap_turns.ensures.counts)
 
 pub returns-in-Err-tap_turns-clause-only : goal.returns-in-Err-tap_turns-clause-only
 returns-in-Err-tap_turns-clause-only g c =
@@ -60,5 +65,5 @@ returns-in-Err-tap_turns-clause-only g c =
 pub returns-in-Err-tap_turns-clause-counts : goal.returns-in-Err-tap_turns-clause-counts
 returns-in-Err-tap_turns-clause-counts g c =
     stop-earlier (g.F.Folder.state c.args.folder.now) (g.F.Folder.state c.create_all.new.folder) (g.F.Folder.state c.tap_turns.new.folder)
-    (inputs_of (named c.args.words.now)) (outputs_of (named c.args.words.now)) c.in-Err-tap_turns.stop c.in-Ok.ensures.stand
+    (recordings_of (named c.args.words.now)) (outputs_of (named c.args.words.now)) c.in-Err-tap_turns.stop c.in-Ok.ensures.stand
     c.in-Err-tap_turns.ensures.counts

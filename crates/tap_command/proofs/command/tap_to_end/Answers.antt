@@ -5,7 +5,7 @@ use Rattle.command_base.proofs.Jobs.{end-earlier}
 use Rattle.tap_command.specs.Names.{TapNames, named, inputs_of, outputs_of}
 use Rattle.tap_command.specs.declared.limits.TheConstants.{LIMITS}
 use Rattle.tap_command.specs.Ends.{IsBegun}
-use Rattle.tap_command.proofs.Taps.{ends-refused}
+use Rattle.tap_command.proofs.Taps.{ends-refused, end-widened}
 use Rattle.tap_command.proofs.command.tap_to_end.Goals as goal
 
 pub returns-in-Err-clause-ends : goal.returns-in-Err-clause-ends
@@ -37,4 +37,5 @@ returns-clause-counts g c =
     let mid : FolderState = g.F.Folder.state c.open.new.folder in
     let next : FolderState = g.F.Folder.state c.run_tap.new.folder in
     let n : TapNames = named c.args.words.now in
-    end-earlier old mid next (inputs_of n) (outputs_of n) c.run_tap.result (c.in-Ok.ensures.counts (outputs_of n)) c.run_tap.ensures.counts
+    end-earlier old mid next (inputs_of n) (outputs_of n) c.run_tap.result (c.in-Ok.ensures.counts (outputs_of n))
+    (end-widened mid next n c.run_tap.result c.run_tap.ensures.counts)

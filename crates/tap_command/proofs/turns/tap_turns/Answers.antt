@@ -5,7 +5,7 @@ use Rattle.outside_calls.proofs.Putting.{OnlyPuts-trans}
 use Rattle.noise_script.specs.Script.{ScriptValue, IsInLimits}
 use Rattle.line_tap.specs.Tapping.{tapping}
 use Rattle.command_base.proofs.Jobs.{stop-earlier}
-use Rattle.tap_command.specs.Names.{TapNames, named, inputs_of, outputs_of}
+use Rattle.tap_command.specs.Names.{TapNames, named, outputs_of, recordings_of}
 use Rattle.tap_command.proofs.Reached.{reached-going, reached-done, reached-stop}
 use Rattle.tap_command.proofs.turns.tap_turns.Goals as goal
 
@@ -67,4 +67,4 @@ returns-in-Err-clause-only g c =
 pub returns-in-Err-clause-counts : goal.returns-in-Err-clause-counts
 returns-in-Err-clause-counts g c =
     stop-earlier (g.F.Folder.state c.args.folder.now) (g.F.Folder.state c.loop-turns.folder) (g.F.Folder.state c.turn.new.folder)
-    (inputs_of (named c.args.names.now)) (outputs_of (named c.args.names.now)) c.in-Err.stop c.loop-turns.invariant.stand c.in-Err.ensures.counts
+    (recordings_of (named c.args.names.now)) (outputs_of (named c.args.names.now)) c.in-Err.stop c.loop-turns.invariant.stand c.in-Err.ensures.counts

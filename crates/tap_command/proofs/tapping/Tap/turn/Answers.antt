@@ -7,7 +7,7 @@ use Rattle.shared_line.specs.Lines.{end_of}
 use Rattle.line_tap.specs.Ends.{EndsLine}
 use Rattle.command_base.specs.declared.stop.Stop.TheVariants.{Read, Write}
 use Rattle.command_base.proofs.Jobs.{stop-earlier}
-use Rattle.tap_command.specs.Names.{TapNames, named, inputs_of, outputs_of}
+use Rattle.tap_command.specs.Names.{TapNames, named, outputs_of, recordings_of}
 use Rattle.tap_command.specs.declared.limits.TheConstants.{TAP_LIMIT}
 use Rattle.tap_command.specs.Tap.{IsToGo, going_in}
 use Rattle.tap_command.proofs.Turning.{HasPieces, now_of, loses-line, stops-delivering, stops-reading, ends-whole, stops-ending, ends-badly}
@@ -147,7 +147,7 @@ returns-in-Err-look-clause-only g c =
 pub returns-in-Err-read-clause-counts : goal.returns-in-Err-read-clause-counts
 returns-in-Err-read-clause-counts g c =
     stop-earlier (g.F.Folder.state c.args.folder.now) (g.F.Folder.state c.deliver.new.folder) (g.F.Folder.state c.read.new.folder)
-    (inputs_of (named c.args.names.now)) (outputs_of (named c.args.names.now)) (Read c.in-Err-read.fault) c.in-Ok-deliver.ensures.stand
+    (recordings_of (named c.args.names.now)) (outputs_of (named c.args.names.now)) (Read c.in-Err-read.fault) c.in-Ok-deliver.ensures.stand
     c.in-Err-read.ensures.fails
 
 pub returns-in-Err-look-clause-counts : goal.returns-in-Err-look-clause-counts
@@ -169,7 +169,7 @@ returns-in-Err-go_on-clause-only g c =
 pub returns-in-Err-go_on-clause-counts : goal.returns-in-Err-go_on-clause-counts
 returns-in-Err-go_on-clause-counts g c =
     stop-earlier (g.F.Folder.state c.args.folder.now) (g.F.Folder.state c.read.new.folder) (g.F.Folder.state c.go_on.new.folder)
-    (inputs_of (named c.args.names.now)) (outputs_of (named c.args.names.now)) (Write c.in-Err-go_on.fault)
+    (recordings_of (named c.args.names.now)) (outputs_of (named c.args.names.now)) (Write c.in-Err-go_on.fault)
     (CountsStand-trans c.in-Ok-deliver.ensures.stand c.in-Ok-read.ensures.stand) c.in-Err-go_on.ensures.fails
 
 pub returns-in-Ok-finish-clause-only : goal.returns-in-Ok-finish-clause-only
@@ -187,7 +187,7 @@ returns-in-Err-finish-clause-only g c =
 pub returns-in-Err-finish-clause-counts : goal.returns-in-Err-finish-clause-counts
 returns-in-Err-finish-clause-counts g c =
     stop-earlier (g.F.Folder.state c.args.folder.now) (g.F.Folder.state c.read.new.folder) (g.F.Folder.state c.finish.new.folder)
-    (inputs_of (named c.args.names.now)) (outputs_of (named c.args.names.now)) (Write c.in-Err-finish.fault)
+    (recordings_of (named c.args.names.now)) (outputs_of (named c.args.names.now)) (Write c.in-Err-finish.fault)
     (CountsStand-trans c.in-Ok-deliver.ensures.stand c.in-Ok-read.ensures.stand) c.in-Err-finish.ensures.fails
 
 pub go_on-requires-clause-stands : goal.go_on-requires-clause-stands
