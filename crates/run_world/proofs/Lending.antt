@@ -140,7 +140,7 @@ sent-so script role ts t bits sent newest = go (of role t).sent refl
       slot,
       e,
       newest (sent_by 0 role ts) (record { dlci = 0; spoken = slot }) (stream-of role ∙ ap (λ z. sent_by 0 role ts ++ carry 0 z) e)
-      ∙ ap (λ l. bits_behind (4 * (wire_of script).symbols) l (signal_of slot.check role 0 slot.sent))
+          ∙ ap (λ l. bits_behind (4 * (wire_of script).symbols) l (signal_of slot.check role 0 slot.sent))
           (lone-signals (wire_of script) role ts (λ r n. refl)),
     )
 
