@@ -240,6 +240,63 @@ fn put_audit_no(line: &mut Line, number: u64, cause: AuditCause)
     line.extend(b"\n");
 }
 
+/// Puts the line of a fault of an XID field.
+fn put_bad_xid(line: &mut Line, fault: XidFault)
+    requires { line.old ≡ [] }
+    ensures { line.new ≡ codes "bad xid: " ++ xid_words fault ++ codes "\n" }
+{
+    line.extend(b"bad xid: ");
+    put_xid_fault(line, fault);
+    line.extend(b"\n");
+}
+
+/// Puts words, the name of an end, words behind it, a number, and the line's end.
+fn put_role_at(line: &mut Line, words: &[u8], role: Role, behind: &[u8], number: u64)
+    requires { length line.old + length words.now + length behind.now + 31 ≤ LINE }
+    ensures { line.new ≡ line.old ++ words.now ++ role_word role ++ behind.now ++ decimal number ++ codes "\n" }
+{
+    put_role(line, words, role);
+    put_last_number(line, behind, number);
+}
+
+/// Puts which end lost its link, with which segment, and when.
+fn put_lost_link(line: &mut Line, words: &[u8], role: Role, segment: u64, turn: u64)
+    requires { length line.old + length words.now + 66 ≤ LINE }
+    ensures { line.new ≡ line.old ++ words.now ++ role_word role ++ codes " segment " ++ decimal segment ++ codes " turn " ++ decimal turn ++ codes "\n" }
+{
+    put_role(line, words, role);
+    put_number(line, b" segment ", segment);
+    put_last_number(line, b" turn ", turn);
+}
+
+/// Puts the line of a peer that broke the link.
+fn put_peer_turn(line: &mut Line, fault: LinkFault, turn: u64)
+    requires { line.old ≡ [] }
+    ensures { line.new ≡ codes "peer fault: " ++ peer_words fault ++ codes " turn " ++ decimal turn ++ codes "\n" }
+{
+    line.extend(b"peer fault: ");
+    put_peer_fault(line, fault);
+    put_last_number(line, b" turn ", turn);
+}
+
+/// Puts the line of a link of a pair that is lost.
+fn put_pair_lost_link(line: &mut Line, link: u8, role: Role, segment: u64, turn: u64)
+    requires { line.old ≡ [] }
+    ensures { line.new ≡ codes "link lost: link " ++ decimal link ++ codes " " ++ role_word role ++ codes " segment " ++ decimal segment ++ codes " turn " ++ decimal turn ++ codes "\n" }
+{
+    put_number(line, b"link lost: link ", u64::from(link));
+    put_lost_link(line, b" ", role, segment, turn);
+}
+
+/// Puts the line of a link of a pair whose originator saw no pattern.
+fn put_pair_undetected(line: &mut Line, link: u8, turn: u64)
+    requires { line.old ≡ [] }
+    ensures { line.new ≡ codes "not detected: link " ++ decimal link ++ codes " turn " ++ decimal turn ++ codes "\n" }
+{
+    put_number(line, b"not detected: link ", u64::from(link));
+    put_last_number(line, b" turn ", turn);
+}
+
 /// Puts the line of a status that says no word of the command line.
 fn put_short(line: &mut Line, status: Status)
     requires { line.old ≡ [] }
@@ -253,60 +310,35 @@ fn put_short(line: &mut Line, status: Status)
         } => put_script_fault(line, number, cause),
         Status::BadRecording { at } => put_last_number(line, b"bad recording: at ", at),
         Status::BadHex { at } => put_last_number(line, b"bad hex: at ", at),
-        Status::BadXid(fault) => {
-            line.extend(b"bad xid: ");
-            put_xid_fault(line, fault);
-            line.extend(b"\n");
-        }
+        Status::BadXid(fault) => put_bad_xid(line, fault),
         Status::ReadFault => line.extend(b"read fault\n"),
         Status::WriteFault => line.extend(b"write fault\n"),
         Status::LineLost { role, symbol } => {
-            put_role(line, b"line lost: ", role);
-            put_last_number(line, b" symbol ", symbol);
+            put_role_at(line, b"line lost: ", role, b" symbol ", symbol)
         }
         Status::NotDetected { turn } => put_last_number(line, b"not detected: turn ", turn),
         Status::LinkLost {
             role,
             segment,
             turn,
-        } => {
-            put_role(line, b"link lost: ", role);
-            put_number(line, b" segment ", segment);
-            put_last_number(line, b" turn ", turn);
-        }
+        } => put_lost_link(line, b"link lost: ", role, segment, turn),
         Status::ChanceMatch { role, turn } => {
-            put_role(line, b"chance match: ", role);
-            put_last_number(line, b" turn ", turn);
+            put_role_at(line, b"chance match: ", role, b" turn ", turn)
         }
         Status::NoMemory => line.extend(b"no memory\n"),
-        Status::PeerFault { fault, turn } => {
-            line.extend(b"peer fault: ");
-            put_peer_fault(line, fault);
-            put_last_number(line, b" turn ", turn);
-        }
+        Status::PeerFault { fault, turn } => put_peer_turn(line, fault, turn),
         Status::AuditNo {
             line: number,
             cause,
         } => put_audit_no(line, number, cause),
-        Status::BadTap { role, turn } => {
-            put_role(line, b"bad tap: ", role);
-            put_last_number(line, b" turn ", turn);
-        }
+        Status::BadTap { role, turn } => put_role_at(line, b"bad tap: ", role, b" turn ", turn),
         Status::PairLinkLost {
             link,
             role,
             segment,
             turn,
-        } => {
-            put_number(line, b"link lost: link ", u64::from(link));
-            put_role(line, b" ", role);
-            put_number(line, b" segment ", segment);
-            put_last_number(line, b" turn ", turn);
-        }
-        Status::PairNotDetected { link, turn } => {
-            put_number(line, b"not detected: link ", u64::from(link));
-            put_last_number(line, b" turn ", turn);
-        }
+        } => put_pair_lost_link(line, link, role, segment, turn),
+        Status::PairNotDetected { link, turn } => put_pair_undetected(line, link, turn),
     }
 }
 

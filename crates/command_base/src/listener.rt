@@ -149,6 +149,24 @@ impl Listener {
         }
     }
 
+    /// Hears the low bits of an octet, so many: four at once.
+    fn hear_some<F: Folder>(
+        &mut self,
+        folder: &mut F,
+        octet: u8,
+        count: u32,
+    ) -> Result<(), FolderFault>
+        requires pieces { self.old.pieces < 2 ^ 62 }
+        requires few { count ≤ 8 }
+        ensures hears { Hears (F.state folder.old) (F.state folder.new) self.old self.new (low_bits count octet) result }
+        ensures pieces { self.new.pieces ≤ self.old.pieces + count }
+    {
+        match count {
+            4 => self.hear_four(folder, octet % 16),
+            _ => self.hear_each(folder, octet, count),
+        }
+    }
+
     /// Hears the low bits of an octet, so many, the lowest one first.
     pub fn hear_low<F: Folder>(
         &mut self,
@@ -170,10 +188,23 @@ impl Listener {
         ensures sender { self.new.sender ≡ self.old.sender }
         ensures pieces { self.new.pieces ≤ self.old.pieces + count }
     {
-        match count {
-            4 => self.hear_four(folder, octet % 16),
-            _ => self.hear_each(folder, octet, count),
+        self.hear_some(folder, octet, count)
+    }
+
+    /// Hears the bits of octets, one octet after another.
+    fn hear_octets<F: Folder>(&mut self, folder: &mut F, octets: &[u8]) -> Result<(), FolderFault>
+        requires pieces { self.old.pieces < 2 ^ 60 }
+        requires few { length octets.now < 2 ^ 32 }
+        ensures hears { Hears (F.state folder.old) (F.state folder.new) self.old self.new (bits_of octets.now) result }
+        ensures pieces { self.new.pieces ≤ self.old.pieces + 8 * length octets.now }
+    {
+        for octet in octets {
+            match self.hear_octet(folder, *octet) {
+                Ok(()) => {}
+                Err(fault) => return Err(fault),
+            }
         }
+        Ok(())
     }
 
     /// Hears the bits of octets.
@@ -192,12 +223,6 @@ impl Listener {
         ensures sender { self.new.sender ≡ self.old.sender }
         ensures pieces { self.new.pieces ≤ self.old.pieces + 8 * length octets.now }
     {
-        for octet in octets {
-            match self.hear_octet(folder, *octet) {
-                Ok(()) => {}
-                Err(fault) => return Err(fault),
-            }
-        }
-        Ok(())
+        self.hear_octets(folder, octets)
     }
 }

@@ -207,13 +207,11 @@ pub record IsSum (m n a b value : ℕ) : Type 0 where
   pub is : value ≡ a + b * 2 ^ m
   pub small : value < 2 ^ (m + n)
 
-pub sum-of : (m n a b first second : ℕ) → m < 8 → n ≤ 4 → a < 2 ^ m → b < 2 ^ n → first ≡ a → second ≡ b
-    → IsSum m n a b (first + second * 2 ^ m % 65536)
-sum-of m n a b first second few some h k e f =
+pub sum-of : (m n a b : ℕ) → m < 8 → n ≤ 4 → a < 2 ^ m → b < 2 ^ n → IsSum m n a b (a + b * 2 ^ m % 65536)
+sum-of m n a b few some h k =
     let most : 2 ^ (m + n) ≤ 2048 = pow_mono {i = m + n} {j = 11} (omega (arith, few, some)) in
     let low : a + b * 2 ^ m < 2 ^ (m + n) = sum-small m n a b h k in
-    let is : first + second * 2 ^ m % 65536 ≡ a + b * 2 ^ m =
-    ap (λ x. x + second * 2 ^ m % 65536) e ∙ ap (λ x. a + x * 2 ^ m % 65536) f ∙ omega (arith, most, low) in
+    let is : a + b * 2 ^ m % 65536 ≡ a + b * 2 ^ m = omega (arith, most, low) in
     record { is = is; small = subst (λ x. x < 2 ^ (m + n)) (sym is) low }
 
 pub eight-fewer : (n value : ℕ) → 8 ≤ n → value < 2 ^ n → value / 256 < 2 ^ (n - 8)

@@ -1,8 +1,8 @@
 -- The bits of a stuffing, counted.
-use Rattle.std.proofs.Common.{◌≡◌, ◌∙◌, ℕ, suc, zero, ◌+◌, ◌-◌, ◌*◌, ◌/◌, ◌%◌, ◌<◌, ◌≤◌, Bool, true, List, ◌++◌, length, map, Some, refl, sym, ap, subst, arith, length-append}
-use Rattle.std.specs.Prelude.{nat_le, slice_index_or}
+use Rattle.std.proofs.Common.{◌≡◌, ◌∙◌, ℕ, suc, zero, ◌+◌, ◌-◌, ◌*◌, ◌/◌, ◌%◌, ◌<◌, ◌≤◌, Bool, true, false, not, cond, ◌⊎◌, inl, inr, List, ◌++◌, length, map, Some, refl, sym, ap, subst, arith, length-append}
+use Rattle.std.specs.Prelude.{nat_le, nat_eq, ◌&&◌, ◌||◌, slice_index_or}
 use Rattle.std.specs.List.{range_with_len}
-use Rattle.std.proofs.lemmas.Bool.{leb-true}
+use Rattle.std.proofs.lemmas.Bool.{leb-true, le-leb, eqb-true, and_parts, or_cases, false≢true}
 use Rattle.std.proofs.lemmas.List.FromFn.{get_or-map-range_with_len}
 use Rattle.bit_stuffing.specs.Flags.{flag}
 use Rattle.bit_stuffing.specs.Slots.{flags, framed, rest_of_flag, opening}
@@ -90,3 +90,56 @@ opening-bits phase octets h =
     let four : length (flags 4) ≡ 32 = refl in
     let one : length flag ≡ 8 = refl in
     omega (arith, a, b, e, whole, frame, four, one, rest-bits phase h)
+
+-- ---- octets in which nothing is inserted
+
+abbrev is_plain : ℕ → ℕ → Bool
+is_plain room octet = nat_eq (length (stuffed room (octet_bits octet))) 8
+
+abbrev pub need_of : ℕ → ℕ
+need_of octet =
+    cond (is_plain 1 octet) 1 (cond (is_plain 2 octet) 2 (cond (is_plain 3 octet) 3 (cond (is_plain 4 octet) 4 (cond (is_plain 5 octet) 5 6))))
+
+abbrev pub left_of : ℕ → ℕ
+left_of octet = cond (is_plain 5 octet) (room_behind 5 (octet_bits octet)) 5
+
+abbrev octet_in : ℕ → ℕ × ℕ
+octet_in octet = (need_of octet, left_of octet)
+
+abbrev pub octets : List (ℕ × ℕ)
+octets = map octet_in (range_with_len 0 256)
+
+octet-there : (octet : ℕ) → octet < 256 → slice_index_or octets octet (0, 0) ≡ octet_in octet
+octet-there octet low = get_or-map-range_with_len octet_in 0 256 octet octet (0, 0) low (omega arith)
+
+abbrev plain_test : ℕ → ℕ → Bool
+plain_test room octet =
+    not (nat_le (need_of octet) (room + 1))
+    || (is_plain (room + 1) octet && nat_eq (room_behind (room + 1) (octet_bits octet)) (left_of octet))
+
+all_plain : each_below 5 (λ room. each_below 256 (plain_test room)) ≡ true
+all_plain = refl
+
+never : (b : Bool) → not b ≡ true → b ≡ true → ⊥
+never true e f = false≢true e
+never false e f = false≢true f
+
+pub plain-octet : (room octet : ℕ) → 0 < room → room ≤ 5 → octet < 256 → (slice_index_or octets octet (0, 0)).0 ≤ room
+    → (length (stuffed room (octet_bits octet)) ≡ 8) × (room_behind room (octet_bits octet) ≡ (slice_index_or octets octet (0, 0)).1)
+plain-octet room octet some few low need =
+    let up : room - 1 + 1 ≡ room = omega arith in
+    let here : need_of octet ≤ room = subst (λ e. e.0 ≤ room) (octet-there octet low) need in
+    let test : not (nat_le (need_of octet) room) || (is_plain room octet && nat_eq (room_behind room (octet_bits octet)) (left_of octet)) ≡ true =
+    subst (λ r. not (nat_le (need_of octet) r) || (is_plain r octet && nat_eq (room_behind r (octet_bits octet)) (left_of octet)) ≡ true) up
+    (at_each_pair 5 256 plain_test all_plain (room - 1) octet (omega arith) low) in
+    go (or_cases (not (nat_le (need_of octet) room)) _ test) here
+  where
+    go : (not (nat_le (need_of octet) room) ≡ true) ⊎ (is_plain room octet && nat_eq (room_behind room (octet_bits octet)) (left_of octet) ≡ true)
+        → need_of octet ≤ room
+        → (length (stuffed room (octet_bits octet)) ≡ 8) × (room_behind room (octet_bits octet) ≡ (slice_index_or octets octet (0, 0)).1)
+    go (inl e) here = absurd (never (nat_le (need_of octet) room) e (le-leb (need_of octet) room here))
+    go (inr e) here =
+        let parts = and_parts (is_plain room octet) (nat_eq (room_behind room (octet_bits octet)) (left_of octet)) e in (
+          eqb-true (length (stuffed room (octet_bits octet))) 8 parts.0,
+          eqb-true (room_behind room (octet_bits octet)) (left_of octet) parts.1 ∙ ap (λ e. e.1) (sym (octet-there octet low)),
+        )

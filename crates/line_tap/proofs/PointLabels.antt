@@ -1,29 +1,23 @@
 -- Samples that are points, one after another.
 use Rattle.std.proofs.Common.{of_z, w16, ◌≡◌, ◌∙◌, ℕ, zero, suc, ◌+◌, ◌*◌, ◌<◌, ◌≤◌, Bool, List, [], ◌∷◌, ◌++◌, length}
-use Rattle.std.proofs.Common.{take, map, get_or, Option, Some, None, slice_index, refl, sym, ap, subst, arith, length-append, append-nil}
+use Rattle.std.proofs.Common.{take, map, get_or, Option, Some, None, slice_index, refl, sym, ap, subst, arith}
 use Rattle.std.proofs.lemmas.Bool.{eqb-true, ltb-true, leb-true, and_parts, or_cases}
 use Rattle.std.proofs.lemmas.Int.{of_z-to_z}
 use Rattle.std.specs.Prelude.{slice_index_or, nat_eq, nat_lt, nat_le, ◌&&◌, ◌||◌, true}
 use Rattle.std.proofs.Common.{◌⊎◌, inl, inr}
-use Rattle.std.proofs.lemmas.List.{append_assoc, map-append, take-map, length-map, take_more, same_from_push}
+use Rattle.std.proofs.lemmas.List.{map-append, take-map, length-map, take_more, same_from_push}
 use Rattle.std.proofs.lemmas.List.Elements.{All-append, All-cons, All-nil, All-take}
-use Rattle.scramblers.specs.declared.mode.Mode.{Mode}
 use Rattle.symbol_map.specs.declared.sample.Sample.{Sample}
 use Rattle.symbol_map.specs.Points.{point_of}
 use Rattle.symbol_map.specs.Distance.{distance_of}
 use Rattle.symbol_map.proofs.Distances.{equal_from_no_distance}
 use Rattle.symbol_map.specs.Finite.{each_below, at_each}
-use Rattle.plain_lists.specs.Bits.{low_bits}
-use Rattle.bit_stuffing.specs.BitSlot.{line_bits}
-use Rattle.std.proofs.lemmas.Grind.{flat_map-append}
 use Rattle.symbol_map.specs.Laws.{PointsDiffer}
 use Rattle.trellis_tables.specs.Table.{next_state}
 use Rattle.trellis_tables.specs.Sequences.{Leads}
-use Rattle.trellis_tables.proofs.Sequences.{Leads-snoc, Leads-front, Leads-take, Leads_once}
-use Rattle.line_coding.specs.declared.demodulator.Demodulator.{Demodulator}
-use Rattle.line_coding.specs.Demodulates.{DemodulatorStands}
+use Rattle.trellis_tables.proofs.Sequences.{Leads-front, Leads-take, Leads_once}
 use Rattle.recordings.specs.Samples.{samples_in, sample_at, sample_of, coordinate}
-use Rattle.line_tap.specs.Labels.{AreLabels, NoStep, NoSequence, ReadsLabels, column_of, height_of, high_of}
+use Rattle.line_tap.specs.Labels.{AreLabels, NoStep, NoSequence, column_of, height_of, high_of}
 use Rattle.line_tap.proofs.Coding.{points-tell}
 
 -- the labels of the map, by columns and heights
@@ -279,39 +273,13 @@ octets-at label place octets low small e =
 pub octets-back : (label a b c d : ℕ) → label < 32 → AreOctetsOf label a b c d → point_of label ≡ sample_of a b c d
 octets-back label a b c d low h = (is-there label low).point ∙ rw (h.re_low, h.re, h.im_low, h.im) refl
 
-pub reads-none : (d : Demodulator) (from : ℕ) → ReadsLabels d d from from [] [] []
-reads-none d from = record {
-  are = (All-nil (λ label. label < 32), refl);
-  leads = refl;
-  count = refl;
-  stands = λ mode before bits h. subst (λ xs. DemodulatorStands mode d xs (bits ++ [])) (sym (append-nil before))
-      (subst (DemodulatorStands mode d before) (sym (append-nil bits)) h);
-}
-
-pub reads-more : (old mid new : Demodulator) (from state to : ℕ) (samples : List Sample) (quads labels : List ℕ) (sample : Sample)
-    (label quad : ℕ) → label < 32 → point_of label ≡ sample → next_state state label ≡ Some to
-    → ((mode : Mode) (before : List ℕ) (bits : List Bool) → DemodulatorStands mode mid before bits
-    → DemodulatorStands mode new (before ++ label ∷ []) (bits ++ low_bits 4 quad))
-    → ReadsLabels old mid from state samples quads labels
-    → ReadsLabels old new from to (samples ++ sample ∷ []) (quads ++ quad ∷ []) (labels ++ label ∷ [])
-reads-more old mid new from state to samples quads labels sample label quad low e next step h = record {
-  are = (
-    All-append (λ l. l < 32) labels (label ∷ []) h.are.0 (All-cons (λ l. l < 32) label [] low (All-nil (λ l. l < 32))),
-    map-append point_of labels (label ∷ []) ∙ ap (λ xs. xs ++ point_of label ∷ []) h.are.1 ∙ ap (λ s. samples ++ s ∷ []) e,
-  );
-  leads = Leads-snoc next_state from labels state label to h.leads next;
-  count = (let a = length-append quads (quad ∷ []) in
-      let b = length-append samples (sample ∷ []) in
-      omega (arith, a, b, h.count));
-  stands = λ mode before bits k.
-      let here = step mode (before ++ labels) (bits ++ line_bits quads) (h.stands mode before bits k) in
-      let tail : line_bits (quad ∷ []) ≡ low_bits 4 quad = append-nil (low_bits 4 quad) in
-      subst (λ xs. DemodulatorStands mode new xs (bits ++ line_bits (quads ++ quad ∷ []))) (append_assoc before labels (label ∷ []))
-      (subst (DemodulatorStands mode new ((before ++ labels) ++ label ∷ []))
-      (append_assoc bits (line_bits quads) (low_bits 4 quad)
-      ∙ ap (λ xs. bits ++ (line_bits quads ++ xs)) (sym tail)
-      ∙ ap (λ xs. bits ++ xs) (sym (flat_map-append (low_bits 4) quads (quad ∷ [])))) here);
-}
+-- one label more
+pub labels-on : (labels : List ℕ) (samples : List Sample) (label : ℕ) (sample : Sample) → label < 32 → point_of label ≡ sample
+    → AreLabels labels samples → AreLabels (labels ++ label ∷ []) (samples ++ sample ∷ [])
+labels-on labels samples label sample low e are = (
+  All-append (λ l. l < 32) labels (label ∷ []) are.0 (All-cons (λ l. l < 32) label [] low (All-nil (λ l. l < 32))),
+  map-append point_of labels (label ∷ []) ∙ ap (λ xs. xs ++ point_of label ∷ []) are.1 ∙ ap (λ s. samples ++ s ∷ []) e,
+)
 
 -- the samples of whole octets, and each of them
 pub count-samples : (n : ℕ) (octets : List ℕ) → length octets ≡ 4 * n → length (samples_in octets) ≡ n

@@ -1,7 +1,8 @@
 -- Quads and their bits: each tells the other.
-use Rattle.std.proofs.Common.{◌≡◌, ◌∙◌, ℕ, zero, suc, ◌-◌, ◌<◌, ◌≤◌, Bool, true, nat_eq, List, [], ◌∷◌, ◌++◌, length, slice_index}
-use Rattle.std.proofs.Common.{refl, sym, ap, arith}
-use Rattle.std.proofs.lemmas.Bool.{eqb-true, false≢true}
+use Rattle.std.proofs.Common.{◌≡◌, ◌∙◌, ℕ, zero, suc, ◌-◌, ◌<◌, ◌≤◌, Bool, true, false, nat_eq, List, [], ◌∷◌, ◌++◌, length, slice_index}
+use Rattle.std.proofs.Common.{◌⊎◌, inl, inr, ◌+◌, refl, sym, ap, subst, arith}
+use Rattle.std.specs.Prelude.{◌&&◌}
+use Rattle.std.proofs.lemmas.Bool.{eqb-true, eqb-false, and_parts, cases_lt, false≢true}
 use Rattle.plain_lists.specs.Bits.{low_bits, number_of}
 use Rattle.bit_stuffing.specs.BitSlot.{line_bits}
 use Rattle.bit_stuffing.proofs.Written.{length-line_bits}
@@ -51,6 +52,31 @@ four-at (suc n) (x ∷ a) (y ∷ b) h k e =
 pub quads-differ : (n : ℕ) (a b : List ℕ) → n < length a → n < length b → slice_index a n < 16 → slice_index b n < 16
     → (slice_index a n ≡ slice_index b n → ⊥) → line_bits a ≡ line_bits b → ⊥
 quads-differ n a b h k low few differ e = differ (same-quad (slice_index a n) (slice_index b n) low few (four-at n a b h k e))
+
+-- Whether the quads are the same up to a place, as far as they were compared.
+pub record AreCompared (same : Bool) (n : ℕ) (a b : List ℕ) : Type 0 where
+  pub yes : same ≡ true → (i : ℕ) → i < n → slice_index a i ≡ slice_index b i
+  pub no : same ≡ false → line_bits a ≡ line_bits b → ⊥
+
+pub one-compared : (same : Bool) (n : ℕ) (a b : List ℕ) → n < length a → n < length b → slice_index a n < 16 → slice_index b n < 16
+    → AreCompared same n a b → AreCompared (same && nat_eq (slice_index a n) (slice_index b n)) (n + 1) a b
+one-compared same n a b h k low few so = record {
+  yes = λ e i within. yes (and_parts same (nat_eq (slice_index a n) (slice_index b n)) e) i (cases_lt i n) within;
+  no = no same (nat_eq (slice_index a n) (slice_index b n)) so.no
+      (λ e. quads-differ n a b h k low few (eqb-false (slice_index a n) (slice_index b n) e));
+}
+  where
+    yes : (same ≡ true) × (nat_eq (slice_index a n) (slice_index b n) ≡ true) → (i : ℕ) → (i < n) ⊎ (n ≤ i) → i < n + 1
+        → slice_index a i ≡ slice_index b i
+    yes e i (inl under) within = so.yes e.0 i under
+    yes e i (inr over) within =
+        let at : n ≡ i = omega (arith, over, within) in
+        subst (λ m. slice_index a m ≡ slice_index b m) at (eqb-true (slice_index a n) (slice_index b n) e.1)
+
+    no : (x y : Bool) → (x ≡ false → line_bits a ≡ line_bits b → ⊥) → (y ≡ false → line_bits a ≡ line_bits b → ⊥) → x && y ≡ false
+        → line_bits a ≡ line_bits b → ⊥
+    no false y f g e = f refl
+    no true y f g e = g e
 
 -- or another count
 pub counts-differ : (a b : List ℕ) → (length a ≡ length b → ⊥) → line_bits a ≡ line_bits b → ⊥

@@ -15,7 +15,7 @@ pub const ROOM: usize = 1308;
 #[derive(Clone, Copy)]
 struct Part {
     /// The first one lowest.
-    bits: u8,
+    bits: u16,
     /// How many they are.
     count: u8,
 }
@@ -32,7 +32,7 @@ struct Four {
 /// What four bits bring: the bits that are kept, how many they are, and how many ones may follow. Two lines have the fours from 0 to 15, of
 /// which the low bit comes first, by how many ones may follow before them.
 #[rattlefmt::skip]
-static FOURS: [(u8, u8, u8); 96] = [
+static FOURS: [(u16, u8, u8); 96] = [
     (0, 3, 5), (0, 0, 6), (1, 3, 5), (0, 0, 6), (2, 3, 5), (0, 0, 6), (3, 3, 5), (0, 0, 6),
     (4, 3, 4), (0, 0, 6), (5, 3, 4), (0, 0, 6), (6, 3, 3), (0, 0, 6), (7, 3, 2), (0, 0, 6), // 0
     (0, 4, 5), (1, 3, 5), (2, 4, 5), (0, 0, 6), (4, 4, 5), (3, 3, 5), (6, 4, 5), (0, 0, 6),
@@ -79,7 +79,7 @@ fn first_of(quad: u8, passed: u8) -> Four
     let bits = quad >> passed;
     Four {
         kept: Part {
-            bits,
+            bits: u16::from(bits),
             count: 4 - passed,
         },
         room: four_of(5, bits << passed).room,
@@ -99,17 +99,14 @@ fn joined(octets: &mut Octets<ROOM>, part: Part, more: Part) -> Part
         → kept ++ low_bits more.count more.bits ≡ bits_of octets.new ++ low_bits result.count result.bits }
     ensures count { 8 * length octets.new + result.count ≡ 8 * length octets.old + part.count + more.count }
 {
-    let bits = u16::from(part.bits) + (u16::from(more.bits) << part.count);
+    let bits = part.bits + (more.bits << part.count);
     let count = part.count + more.count;
     if count < 8 {
-        return Part {
-            bits: bits as u8,
-            count,
-        };
+        return Part { bits, count };
     }
     octets.push((bits % 256) as u8);
     Part {
-        bits: (bits / 256) as u8,
+        bits: bits / 256,
         count: count - 8,
     }
 }

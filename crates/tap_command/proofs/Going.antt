@@ -23,7 +23,7 @@ use Rattle.shared_line.specs.Lines.{AreWaiting}
 use Rattle.shared_line.proofs.Waiting.{codes-next, sends-behind}
 use Rattle.line_tap.specs.declared.reader.SlotReader.{SlotReader}
 use Rattle.line_tap.specs.Tapping.{Tapping, line_of, terms_of, octets_of, Hears, Sends, GoesOn, told}
-use Rattle.tap_command.specs.declared.end.Slot.{Slot}
+use Rattle.tap_command.specs.End.{Slot}
 use Rattle.tap_command.specs.declared.end.TappedEnd.{TappedEnd}
 use Rattle.tap_command.specs.declared.tapping.Tap.{Tap}
 use Rattle.tap_command.specs.declared.tapping.Hearing.{Hearing}

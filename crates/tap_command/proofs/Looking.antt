@@ -13,8 +13,7 @@ use Rattle.line_run.proofs.Bits.{signals-more}
 use Rattle.line_tap.specs.declared.reader.SlotReader.{SlotReader}
 use Rattle.line_tap.specs.Reader.{ReaderStands}
 use Rattle.line_tap.specs.Tapping.{Tapping, line_of, octets_of, told}
-use Rattle.tap_command.specs.declared.end.Slot.{Slot}
-use Rattle.tap_command.specs.End.{ReadsOn, ReadsNext}
+use Rattle.tap_command.specs.End.{ReadsOn, ReadsNext, Slot}
 use Rattle.tap_command.specs.Tap.{ReadsToo}
 
 pub reads-too : (r : SlotReader) (x : Tapping) (check : Check) (role : Role) (ts : List Turn) (body : List ℕ) (slot : Slot)

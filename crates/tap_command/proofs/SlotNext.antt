@@ -17,8 +17,7 @@ use Rattle.line_tap.specs.declared.reader.SlotReader.{SlotReader}
 use Rattle.line_tap.specs.Reader.{ReadsFor, ReaderStands, ReadsSlot, IsNext, carries}
 use Rattle.line_tap.specs.Tapping.{octets_of, HoldsNext}
 use Rattle.line_tap.proofs.NextSlots.{samples-take, one-slot-more, piece_of, held-is-next, next-is-held}
-use Rattle.tap_command.specs.declared.end.Slot.{Slot}
-use Rattle.tap_command.specs.End.{ReadsOn, ReadsNext}
+use Rattle.tap_command.specs.End.{ReadsOn, ReadsNext, Slot}
 
 -- ---- octets and samples
 

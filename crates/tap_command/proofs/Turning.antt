@@ -30,7 +30,7 @@ use Rattle.command_base.specs.Inputs.{ReadTo}
 use Rattle.tap_command.specs.declared.limits.TheConstants.{TAP_LIMIT}
 use Rattle.tap_command.specs.declared.tapping.Tap.{Tap}
 use Rattle.tap_command.specs.declared.tapping.Hearing.{Hearing}
-use Rattle.tap_command.specs.declared.end.Slot.{Slot}
+use Rattle.tap_command.specs.End.{Slot}
 use Rattle.bit_stuffing.specs.declared.slot_writer.TheConstants.{HEAD, TAIL}
 use Rattle.noise_script.specs.Script.{IsInLimits}
 use Rattle.tap_command.specs.Listener.{IsIdle}

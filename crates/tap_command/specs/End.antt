@@ -10,7 +10,15 @@ use Rattle.line_run.specs.Sampled.{Wire, signals}
 use Rattle.line_tap.specs.declared.reader.SlotReader.{SlotReader}
 use Rattle.line_tap.specs.Reader.{ReadsFor, ReaderStands, sender_for}
 use Rattle.line_tap.specs.Tapping.{octets_of, HoldsNext}
-use Rattle.tap_command.specs.declared.end.Slot.{Slot}
+use Rattle.lapm_frames.specs.declared.sent.Sent.{Sent}
+
+-- A slot as it was read: what was sent in it, and the labels of its samples.
+pub record Slot : Type 0 where
+  pub sent : Sent
+  pub labels : List ℕ
+
+abbrev pub slot_as : Sent → List ℕ → Slot
+slot_as sent labels = record { sent = sent; labels = labels }
 
 -- The reader of a role's slots has read these octets, and they are all its slots of these turns.
 pub record ReadsOn (r : SlotReader) (c : Wire) (check : Check) (role : Role) (ts : List Turn) (body : List ℕ) : Type 0 where

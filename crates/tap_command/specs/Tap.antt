@@ -8,6 +8,7 @@ use Rattle.shared_terms.specs.declared.role.Role.TheVariants.{Originator, Answer
 use Rattle.shared_terms.specs.Role.{other, mode_of}
 use Rattle.shared_terms.specs.Both.{Both, of}
 use Rattle.lapm_frames.specs.declared.heard.Heard.{Heard}
+use Rattle.lapm_frames.specs.declared.sent.Sent.{Sent}
 use Rattle.lapm_frames.specs.declared.heard.Heard.TheVariants.{Chance}
 use Rattle.recordings.specs.declared.header.TheConstants.{HEADER}
 use Rattle.recordings.specs.Recording.{header_of}
@@ -31,12 +32,11 @@ use Rattle.command_base.specs.declared.stop.Stop.{Stop}
 use Rattle.command_base.specs.declared.stop.Stop.TheVariants.{Own, Read, Write, Say, NoMemory}
 use Rattle.command_base.specs.Inputs.{ReadTo}
 use Rattle.tap_command.specs.declared.limits.TheConstants.{TAP_LIMIT}
-use Rattle.tap_command.specs.declared.end.Slot.{Slot}
 use Rattle.tap_command.specs.declared.step.Step.{Step}
 use Rattle.tap_command.specs.declared.step.Step.TheVariants as steps
 use Rattle.tap_command.specs.declared.tapping.Tap.{Tap}
 use Rattle.tap_command.specs.declared.tapping.Hearing.{Hearing}
-use Rattle.tap_command.specs.End.{ReadsOn}
+use Rattle.tap_command.specs.End.{ReadsOn, Slot, slot_as}
 use Rattle.tap_command.specs.Listener.{IsIdle, ListensFor, ListensToo}
 use Rattle.tap_command.specs.Names.{TapNames, recording_of, outputs_of}
 use Rattle.tap_command.specs.Turn.{held_of, left_of, added, AddsGot, AddsTurn, AddsChance}
@@ -216,6 +216,10 @@ pub record ReadsToo (r : SlotReader) (c : Wire) (check : Check) (role : Role) (t
   pub reads : (t : Turn) → (of role t).sent ≡ Some (told check slot.sent) → ReadsOn r c check role (t ∷ ts) body
   pub coded : IsCodedAs role (4 * c.symbols) (signals c role ts) (signal_of check role c.dlci slot.sent) slot.labels
 
+-- both slots of a turn, by what was sent in them and by their labels
+abbrev pub slots_as : Both Sent → Both (List ℕ) → Both Slot
+slots_as sent labels = record { orig = slot_as sent.orig labels.orig; answ = slot_as sent.answ labels.answ }
+
 -- Both slots were read behind these turns, of these octets and of those that were read before, and both directions have room for them.
 pub record HaveRead (tap : Tap) (x : Tapping) (ts : List Turn) (slots : Both Slot) : Type 0 where
   pub orig : ReadsToo tap.orig.reader (line_of x) (check_by (terms_of x)) Originator ts x.bodies.orig slots.orig
@@ -223,9 +227,9 @@ pub record HaveRead (tap : Tap) (x : Tapping) (ts : List Turn) (slots : Both Slo
   pub lines : HaveRoom tap.lines (line_of x) 1 (both_sent_by 0 ts)
 
 -- what looking at both slots answers
-abbrev pub LooksAt : Tap → Tapping → List Turn → Result (Both Slot) Role → Type 0
-LooksAt tap x ts (Ok slots) = HaveRead tap x ts slots
-LooksAt tap x ts (Err role) = IsFirstRefused x ts role
+abbrev pub LooksAt : Tap → Tapping → List Turn → Both (List ℕ) → Result (Both Sent) Role → Type 0
+LooksAt tap x ts labels (Ok sent) = HaveRead tap x ts (slots_as sent labels)
+LooksAt tap x ts labels (Err role) = IsFirstRefused x ts role
 
 -- what was read and the octets of these pieces behind it
 abbrev pub and_pieces : Both (List ℕ) → List ℕ → List ℕ → Both (List ℕ)

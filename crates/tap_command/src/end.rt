@@ -26,15 +26,6 @@ use shared_terms::Role;
 use std::alloc::Global;
 use xid_params::Terms;
 
-/// A slot as it was read.
-#[derive(Drop)]
-pub struct Slot {
-    /// What was sent in it.
-    pub sent: Sent,
-    /// The labels of its samples.
-    pub labels: LabelSlot,
-}
-
 /// What there is of an end.
 pub struct TappedEnd {
     /// Who hears what passes to it.
@@ -69,7 +60,7 @@ fn zeros(alloc: Global, count: usize) -> Result<Vec<u8>, NoMemory>
 
 impl TappedEnd {
     ghost use Rattle.tap_command.specs.declared.end.TappedEnd.{TappedEnd};
-    ghost use Rattle.tap_command.specs.End.{ReadsOn, ReadsNext};
+    ghost use Rattle.tap_command.specs.End.{ReadsOn, ReadsNext, slot_as};
     ghost use Rattle.tap_command.specs.Listener.{IsIdle, ListensFor};
 
     /// An end before the first turn, by these terms, whose slots have so many symbols. It takes all its memory.
@@ -101,13 +92,14 @@ impl TappedEnd {
         })
     }
 
-    /// The slot that the first so many octets of the piece are. None where they are fewer than a slot has, or no slot's.
-    pub fn read(&mut self, count: usize) -> Option<Slot>
+    /// What is sent in the slot that the first so many octets of the piece are, whose labels take the place of what is in these. None where they
+    /// are fewer than a slot has, or no slot's.
+    pub fn read(&mut self, count: usize, labels: &mut LabelSlot) -> Option<Sent>
         requires writer { IsInStep self.old.reader }
         requires size { vec_len self.old.piece ≡ 4 * self.old.reader.symbols }
         requires count { count ≤ vec_len self.old.piece }
         ensures some { (c : Wire) (check : CheckValue) (role : RoleValue) (ts : List Turn) (body : List ℕ) → ReadsOn self.old.reader c check role ts body
-            → IfSome result (λ slot. ReadsNext self.new.reader c check role ts (body ++ take count self.old.piece.items) slot) }
+            → IfSome result (λ sent. ReadsNext self.new.reader c check role ts (body ++ take count self.old.piece.items) (slot_as sent labels.new)) }
         ensures none { (c : Wire) (check : CheckValue) (role : RoleValue) (ts : List Turn) (body : List ℕ) → ReadsOn self.old.reader c check role ts body
             → AreFit (4 * c.symbols) 0 (signals c role ts)
             → IfNone result ((s : SentValue) → HoldsNext c check role ts (body ++ take count self.old.piece.items) s → ⊥) }
@@ -117,10 +109,6 @@ impl TappedEnd {
         if count < self.piece.len() {
             return None;
         }
-        let mut labels = LabelSlot::new();
-        match self.reader.read(&self.piece, &mut labels) {
-            Some(sent) => Some(Slot { sent, labels }),
-            None => None,
-        }
+        self.reader.read(&self.piece, labels)
     }
 }

@@ -22,7 +22,7 @@ mod turns;
 mod words;
 
 pub use command::tap;
-pub use end::{Slot, TappedEnd};
+pub use end::TappedEnd;
 pub use laws::limits_of_a_tap;
 pub use limits::TAP_LIMIT;
 pub use listener::Listener;

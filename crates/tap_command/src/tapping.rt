@@ -16,20 +16,21 @@ ghost use Rattle.tap_command.specs.Names.{named, inputs_of, outputs_of, recordin
 ghost use Rattle.tap_command.specs.Listener.{IsIdle, HasTaken};
 ghost use Rattle.tap_command.specs.Turns.{no_octets};
 
-use crate::end::{Slot, TappedEnd};
+use crate::end::TappedEnd;
 use crate::limits::{DLCI, TAP_LIMIT};
 use crate::names::TapWords;
 use crate::pieces::read_pieces;
 use crate::step::Step;
 use crate::texts::{write_chance, write_turn};
 use command_base::{Status, Stop};
-use lapm_frames::Heard;
+use lapm_frames::{Heard, Sent};
 use lapm_receiver::laws::keeps_taken;
 use line_run::direction::{codable_slots_fit, slots_that_fit_follow_one_another};
 use line_run::laws::{scripts_make_links, slots_are_due_alone, slots_have_room};
 use noise_script::Script;
 use outside_calls::{Folder, FolderFault, NoMemory};
 use recordings::HEADER;
+use sample_line::LabelSlot;
 use shared_line::{Directions, LineEnd, slot_symbols};
 use shared_terms::{Both, Role};
 use stations::{sent_in, turn_lines};
@@ -86,7 +87,7 @@ impl Drop for Tap {
 
 impl Tap {
     ghost use Rattle.tap_command.specs.declared.tapping.Tap.{Tap};
-    ghost use Rattle.tap_command.specs.Tap.{IsReady, IsBehind, TapAfter, HasHeard, InTurn, HearsTurn, LooksAt, AreReadTo, HasReadPieces, TurnAnswers, TurnStops, HearsSo, IsToGo, going_in, got_pieces, read_of, silent_in};
+    ghost use Rattle.tap_command.specs.Tap.{IsReady, IsBehind, TapAfter, HasHeard, InTurn, HearsTurn, LooksAt, AreReadTo, HasReadPieces, TurnAnswers, TurnStops, HearsSo, IsToGo, slots_as, going_in, got_pieces, read_of, silent_in};
 
     /// A tap before the first turn: both recordings are read up to behind their headers. It takes all its memory.
     pub fn new(alloc: Global, script: Script) -> Result<Tap, NoMemory>
@@ -209,14 +210,19 @@ impl Tap {
         }
     }
 
-    /// Both slots of the turn, of which so many octets were read, the originator's first; or the first role whose slot is refused.
-    fn look(&mut self, counts: &Both<usize>) -> Result<Both<Slot>, Role>
+    /// What is sent in both slots of the turn, of which so many octets were read, and their labels, the originator's first; or the first role whose
+    /// slot is refused.
+    fn look(
+        &mut self,
+        counts: &Both<usize>,
+        labels: &mut Both<LabelSlot>,
+    ) -> Result<Both<Sent>, Role>
         requires limits { IsInLimits self.old.script }
         requires orig { counts.now.orig ≤ length self.old.orig.piece.items }
         requires answ { counts.now.answ ≤ length self.old.answ.piece.items }
         requires stands { (x : Tapping) × (ts : List Turn) × (heard : BothValue Heard) × InTurn self.old x ts heard }
         ensures looks { (x : Tapping) (ts : List Turn) (heard : BothValue Heard) → InTurn self.old x ts heard
-            → LooksAt self.new (tapping x.script (read_of self.old x counts.now)) ts result }
+            → LooksAt self.new (tapping x.script (read_of self.old x counts.now)) ts labels.new result }
         ensures orig { self.new.orig.listener ≡ self.old.orig.listener }
         ensures answ { self.new.answ.listener ≡ self.old.answ.listener }
         ensures orig_piece { self.new.orig.piece ≡ self.old.orig.piece }
@@ -227,11 +233,11 @@ impl Tap {
     {
         codable_slots_fit();
         slots_that_fit_follow_one_another();
-        let orig = match self.orig.read(counts.orig) {
-            Some(slot) => slot,
+        let orig = match self.orig.read(counts.orig, &mut labels.orig) {
+            Some(sent) => sent,
             None => return Err(Role::Originator),
         };
-        match self.answ.read(counts.answ) {
+        match self.answ.read(counts.answ, &mut labels.answ) {
             Some(answ) => Ok(Both { orig, answ }),
             None => Err(Role::Answerer),
         }
@@ -269,16 +275,17 @@ impl Tap {
         folder: &mut F,
         names: &TapWords<'_>,
         hearing: Hearing,
-        slots: Both<Slot>,
+        sent: Both<Sent>,
+        labels: Both<LabelSlot>,
     ) -> Result<(), FolderFault>
         requires early { self.old.turn < 2 ^ 40 }
         requires within { self.old.at ≤ TAP_LIMIT }
-        requires stands { (x : Tapping) × (ts : List Turn) × IsToGo self.old x ts hearing slots }
-        ensures ok { OnOk result ((x : Tapping) (ts : List Turn) → IsToGo self.old x ts hearing slots
-            → TapAfter self.new x (going_in x ts hearing.heard slots ∷ ts)
-            × Appended (F.state folder.old) (F.state folder.new) (named names.now).trace (turn_text (length ts) (going_in x ts hearing.heard slots))) }
-        ensures err { OnErr result ((x : Tapping) (ts : List Turn) → IsToGo self.old x ts hearing slots
-            → PartlyAppended (F.state folder.old) (F.state folder.new) (named names.now).trace (turn_text (length ts) (going_in x ts hearing.heard slots))) }
+        requires stands { (x : Tapping) × (ts : List Turn) × IsToGo self.old x ts hearing (slots_as sent labels) }
+        ensures ok { OnOk result ((x : Tapping) (ts : List Turn) → IsToGo self.old x ts hearing (slots_as sent labels)
+            → TapAfter self.new x (going_in x ts hearing.heard (slots_as sent labels) ∷ ts)
+            × Appended (F.state folder.old) (F.state folder.new) (named names.now).trace (turn_text (length ts) (going_in x ts hearing.heard (slots_as sent labels)))) }
+        ensures err { OnErr result ((x : Tapping) (ts : List Turn) → IsToGo self.old x ts hearing (slots_as sent labels)
+            → PartlyAppended (F.state folder.old) (F.state folder.new) (named names.now).trace (turn_text (length ts) (going_in x ts hearing.heard (slots_as sent labels)))) }
         ensures orig { self.new.orig.listener ≡ self.old.orig.listener }
         ensures answ { self.new.answ.listener ≡ self.old.answ.listener }
         ensures turn { OnOk result (self.new.turn ≡ self.old.turn + 1) }
@@ -289,10 +296,9 @@ impl Tap {
         ensures fails { IfErr result (WriteFails (F.state folder.old) (F.state folder.new) (outputs_of (named names.now))) }
     {
         codable_slots_fit();
-        let Both { orig, answ } = slots;
         let sent = Both {
-            orig: Some(orig.sent),
-            answ: Some(answ.sent),
+            orig: Some(sent.orig),
+            answ: Some(sent.answ),
         };
         let lines = turn_lines(self.turn, hearing.heard, &hearing.given, sent);
         match write_turn(folder, names.trace, &lines) {
@@ -300,8 +306,8 @@ impl Tap {
             Err(fault) => return Err(fault),
         }
         let sent = sent_in(lines);
-        self.lines.from_orig.put(sent.orig, orig.labels);
-        self.lines.from_answ.put(sent.answ, answ.labels);
+        self.lines.from_orig.put(sent.orig, labels.orig);
+        self.lines.from_answ.put(sent.answ, labels.answ);
         self.turn += 1;
         self.at += self.orig.piece.len() as u64;
         Ok(())
@@ -343,6 +349,10 @@ impl Tap {
     {
         keeps_taken();
         slots_have_room();
+        let mut labels = Both {
+            orig: LabelSlot::new(),
+            answ: LabelSlot::new(),
+        };
         let hearing = match self.hear() {
             Ok(hearing) => hearing,
             Err(LineEnd::Lost { role, symbol }) => {
@@ -366,8 +376,8 @@ impl Tap {
                 Err(fault) => Err(Stop::Write(fault)),
             };
         }
-        let slots = match self.look(&counts) {
-            Ok(slots) => slots,
+        let sent = match self.look(&counts, &mut labels) {
+            Ok(sent) => sent,
             Err(role) => {
                 return Err(Stop::Own(Status::BadTap {
                     role,
@@ -375,7 +385,7 @@ impl Tap {
                 }));
             }
         };
-        match self.go_on(folder, names, hearing, slots) {
+        match self.go_on(folder, names, hearing, sent, labels) {
             Ok(()) => Ok(Step::Going),
             Err(fault) => Err(Stop::Write(fault)),
         }

@@ -19,15 +19,10 @@ number_bound = 128
 abbrev pub count_bound : ℕ
 count_bound = 2 ^ 40
 
--- the names of each shape
-abbrev pub shape_named : List ℕ → Option Shape
-shape_named name =
-    if bytes_eq name (codes "i") then Some Numbered
-    else if bytes_eq name (codes "rr") then Some Supervisory
-    else if bytes_eq name (codes "rnr") then Some Supervisory
-    else if bytes_eq name (codes "rej") then Some Supervisory
-    else if bytes_eq name (codes "srej") then Some Supervisory
-    else if bytes_eq name (codes "sabme") then Some Commanding
+-- the names of each shape: of unnumbered frames,
+abbrev pub unnumbered_named : List ℕ → Option Shape
+unnumbered_named name =
+    if bytes_eq name (codes "sabme") then Some Commanding
     else if bytes_eq name (codes "disc") then Some Commanding
     else if bytes_eq name (codes "ua") then Some Responding
     else if bytes_eq name (codes "dm") then Some Responding
@@ -36,6 +31,16 @@ shape_named name =
     else if bytes_eq name (codes "test") then Some Exchanging
     else if bytes_eq name (codes "ui") then Some Unnumbered
     else None
+
+-- and of all
+abbrev pub shape_named : List ℕ → Option Shape
+shape_named name =
+    if bytes_eq name (codes "i") then Some Numbered
+    else if bytes_eq name (codes "rr") then Some Supervisory
+    else if bytes_eq name (codes "rnr") then Some Supervisory
+    else if bytes_eq name (codes "rej") then Some Supervisory
+    else if bytes_eq name (codes "srej") then Some Supervisory
+    else unnumbered_named name
 
 -- The words of a frame's text. What a shape doesn't have counts for nothing.
 pub record FrameWords : Type 0 where

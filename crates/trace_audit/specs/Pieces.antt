@@ -29,6 +29,13 @@ behind_information text =
     first_of (behind_labelled_break (codes " brk ") text)
     (first_of (behind_labelled_break (codes " brkack ") text) (behind_count text))
 
+-- one direction, or either, and the poll
+abbrev pub behind_one_way : List ℕ → List ℕ → Option (List ℕ)
+behind_one_way direction text = option_and_then behind_poll (behind direction text)
+
+abbrev pub behind_either_way : List ℕ → Option (List ℕ)
+behind_either_way text = option_and_then behind_poll (behind_direction text)
+
 -- what each shape has behind its name
 abbrev pub behind_shape : Shape → List ℕ → Option (List ℕ)
 behind_shape Numbered text =
@@ -36,11 +43,11 @@ behind_shape Numbered text =
     (option_and_then (behind_labelled (codes " r=") number_bound) (behind_labelled (codes " s=") number_bound text)))
 behind_shape Supervisory text =
     option_and_then behind_poll (option_and_then (behind_labelled (codes " r=") number_bound) (behind_direction text))
-behind_shape Commanding text = option_and_then behind_poll (behind (codes " cmd") text)
-behind_shape Responding text = option_and_then behind_poll (behind (codes " rsp") text)
-behind_shape Rejecting text = option_and_then behind_count (option_and_then behind_poll (behind (codes " rsp") text))
-behind_shape Exchanging text = option_and_then behind_count (option_and_then behind_poll (behind_direction text))
-behind_shape Unnumbered text = option_and_then behind_information (option_and_then behind_poll (behind_direction text))
+behind_shape Commanding text = behind_one_way (codes " cmd") text
+behind_shape Responding text = behind_one_way (codes " rsp") text
+behind_shape Rejecting text = option_and_then behind_count (behind_one_way (codes " rsp") text)
+behind_shape Exchanging text = option_and_then behind_count (behind_either_way text)
+behind_shape Unnumbered text = option_and_then behind_information (behind_either_way text)
 
 -- a frame
 abbrev pub behind_frame : List ℕ → Option (List ℕ)

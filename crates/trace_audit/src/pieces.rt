@@ -1,7 +1,8 @@
 // The pieces of a line, from its front.
 ghost use Rattle.std.specs.Prelude.{◌≡◌};
 ghost use Rattle.std.specs.Option.{option_map};
-ghost use Rattle.trace_audit.specs.Pieces.{behind_break, behind_count, behind_direction, behind_frame, behind_heard, behind_information, behind_labelled_break, behind_lost, behind_poll, behind_sent, behind_shape, behind_signal};
+ghost use Rattle.trace_audit.specs.Grammar.{Numbered, Supervisory};
+ghost use Rattle.trace_audit.specs.Pieces.{behind_break, behind_count, behind_direction, behind_either_way, behind_frame, behind_heard, behind_information, behind_labelled_break, behind_lost, behind_one_way, behind_poll, behind_sent, behind_shape, behind_signal};
 
 use crate::cutting::{behind, behind_labelled, behind_number, cut_word};
 use crate::shape::{Shape, shape_named};
@@ -62,25 +63,49 @@ fn behind_information(text: &[u8]) -> Option<&[u8]>
     behind_count(text)
 }
 
+/// Behind both numbers, the poll and a count.
+fn behind_numbered(text: &[u8]) -> Option<&[u8]>
+    ensures { option_map (λ rest. rest.now) result ≡ behind_shape Numbered text.now }
+{
+    let text = behind_labelled(text, b" s=", NUMBERS)?;
+    let text = behind_labelled(text, b" r=", NUMBERS)?;
+    behind_count(behind_poll(text)?)
+}
+
+/// Behind the direction, N(R) and the poll.
+fn behind_supervisory(text: &[u8]) -> Option<&[u8]>
+    ensures { option_map (λ rest. rest.now) result ≡ behind_shape Supervisory text.now }
+{
+    let text = behind_direction(text)?;
+    behind_poll(behind_labelled(text, b" r=", NUMBERS)?)
+}
+
+/// Behind one direction, and the poll.
+fn behind_one_way<'a>(text: &'a [u8], direction: &[u8]) -> Option<&'a [u8]>
+    ensures { option_map (λ rest. rest.now) result ≡ behind_one_way direction.now text.now }
+{
+    behind_poll(behind(text, direction)?)
+}
+
+/// Behind either direction, and the poll.
+fn behind_either_way(text: &[u8]) -> Option<&[u8]>
+    ensures { option_map (λ rest. rest.now) result ≡ behind_either_way text.now }
+{
+    behind_poll(behind_direction(text)?)
+}
+
 /// What stands behind a frame's text whose name stands before this.
 fn behind_shape(shape: Shape, text: &[u8]) -> Option<&[u8]>
     ensures { option_map (λ rest. rest.now) result ≡ behind_shape shape text.now }
 {
     match shape {
-        Shape::Numbered => {
-            let text = behind_labelled(text, b" s=", NUMBERS)?;
-            let text = behind_labelled(text, b" r=", NUMBERS)?;
-            behind_count(behind_poll(text)?)
-        }
-        Shape::Supervisory => {
-            let text = behind_direction(text)?;
-            behind_poll(behind_labelled(text, b" r=", NUMBERS)?)
-        }
-        Shape::Commanding => behind_poll(behind(text, b" cmd")?),
-        Shape::Responding => behind_poll(behind(text, b" rsp")?),
-        Shape::Rejecting => behind_count(behind_poll(behind(text, b" rsp")?)?),
-        Shape::Exchanging => behind_count(behind_poll(behind_direction(text)?)?),
-        Shape::Unnumbered => behind_information(behind_poll(behind_direction(text)?)?),
+        Shape::Numbered => behind_numbered(text),
+        Shape::Supervisory => behind_supervisory(text),
+        Shape::Commanding => behind_one_way(text, b" cmd"),
+        Shape::Responding => behind_one_way(text, b" rsp"),
+        Shape::Rejecting => behind_count(behind_one_way(text, b" rsp")?),
+        Shape::Exchanging => behind_count(behind_either_way(text)?),
+        Shape::Unnumbered => behind_information(behind_either_way(text)?),
     }
 }
 

@@ -1,6 +1,6 @@
 // Which words the texts of frames have.
 ghost use Rattle.std.specs.Prelude.{◌≡◌};
-ghost use Rattle.trace_audit.specs.Grammar.{shape_named};
+ghost use Rattle.trace_audit.specs.Grammar.{shape_named, unnumbered_named};
 
 /// The shape of a kind of frame's texts.
 #[derive(Clone, Copy)]
@@ -21,25 +21,10 @@ pub enum Shape {
     Unnumbered,
 }
 
-/// The shape of the texts that begin with this name.
-pub(crate) fn shape_named(name: &[u8]) -> Option<Shape>
-    ensures { result ≡ shape_named name.now }
+/// The shape of the texts of unnumbered frames that begin with this name.
+fn unnumbered_named(name: &[u8]) -> Option<Shape>
+    ensures { result ≡ unnumbered_named name.now }
 {
-    if name == b"i".as_slice() {
-        return Some(Shape::Numbered);
-    }
-    if name == b"rr".as_slice() {
-        return Some(Shape::Supervisory);
-    }
-    if name == b"rnr".as_slice() {
-        return Some(Shape::Supervisory);
-    }
-    if name == b"rej".as_slice() {
-        return Some(Shape::Supervisory);
-    }
-    if name == b"srej".as_slice() {
-        return Some(Shape::Supervisory);
-    }
     if name == b"sabme".as_slice() {
         return Some(Shape::Commanding);
     }
@@ -65,4 +50,26 @@ pub(crate) fn shape_named(name: &[u8]) -> Option<Shape>
         return Some(Shape::Unnumbered);
     }
     None
+}
+
+/// The shape of the texts that begin with this name.
+pub(crate) fn shape_named(name: &[u8]) -> Option<Shape>
+    ensures { result ≡ shape_named name.now }
+{
+    if name == b"i".as_slice() {
+        return Some(Shape::Numbered);
+    }
+    if name == b"rr".as_slice() {
+        return Some(Shape::Supervisory);
+    }
+    if name == b"rnr".as_slice() {
+        return Some(Shape::Supervisory);
+    }
+    if name == b"rej".as_slice() {
+        return Some(Shape::Supervisory);
+    }
+    if name == b"srej".as_slice() {
+        return Some(Shape::Supervisory);
+    }
+    unnumbered_named(name)
 }

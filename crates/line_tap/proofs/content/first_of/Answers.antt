@@ -1,4 +1,4 @@
-use Rattle.std.proofs.Common.{◌≡◌, ◌∙◌, ◌*◌, ◌/◌, ◌%◌, ◌^◌, ℕ, inl, inr, sym, ap, arith}
+use Rattle.std.proofs.Common.{◌≡◌, ◌∙◌, ◌-◌, ◌*◌, ◌/◌, ◌%◌, ◌^◌, ◌<◌, ℕ, inl, inr, sym, ap, subst, arith}
 use Rattle.std.proofs.lemmas.Bool.{cases_lt, false≢true}
 use Rattle.plain_lists.specs.Bits.{low_bits}
 use Rattle.bit_stuffing.specs.Stuffing.{room_after}
@@ -7,13 +7,16 @@ use Rattle.line_tap.proofs.ContentRead.{is-first}
 use Rattle.line_tap.proofs.content.first_of.Goals as goal
 
 pub returns-clause-small : goal.returns-clause-small
-returns-clause-small c = (is-first c.args.passed c.args.quad c.requires.passed c.requires.quad).small
+returns-clause-small c =
+    subst (λ bits. bits < 2 ^ (4 - c.args.passed)) (sym c.from.ensures)
+    (is-first c.args.passed c.args.quad c.requires.passed c.requires.quad).small
 
 pub returns-clause-quiet : goal.returns-clause-quiet
 returns-clause-quiet c = (is-first c.args.passed c.args.quad c.requires.passed c.requires.quad).quiet
 
 pub returns-clause-kept : goal.returns-clause-kept
-returns-clause-kept c = (is-first c.args.passed c.args.quad c.requires.passed c.requires.quad).kept
+returns-clause-kept c =
+    ap (low_bits (4 - c.args.passed)) c.from.ensures ∙ (is-first c.args.passed c.args.quad c.requires.passed c.requires.quad).kept
 
 pub returns-clause-low : goal.returns-clause-low
 returns-clause-low c =

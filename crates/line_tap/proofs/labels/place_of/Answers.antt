@@ -1,4 +1,4 @@
-use Rattle.std.proofs.Common.{◌∙◌, ◌<◌, ap, arith}
+use Rattle.std.proofs.Common.{◌∙◌, ap, arith}
 use Rattle.line_tap.proofs.PointLabels.{place_at, place-is, place-few, place-back}
 use Rattle.line_tap.proofs.labels.place_of.Goals as goal
 

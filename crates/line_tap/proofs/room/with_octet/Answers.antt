@@ -1,6 +1,6 @@
-use Rattle.std.proofs.Common.{◌/◌, ◌%◌, subst}
+use Rattle.std.proofs.Common.{◌/◌, ◌%◌, sym, subst, arith}
 use Rattle.plain_lists.specs.Bits.{low_bits, octet_bits}
-use Rattle.line_tap.proofs.Counted.{Counts, counts-in, counts-more, two-fours}
+use Rattle.line_tap.proofs.Counted.{plain-octet, Counts, counts-in, counts-more, two-fours}
 use Rattle.line_tap.proofs.room.with_octet.Goals as goal
 use Rattle.line_tap.proofs.room.with_octet.Goals.{After-with_four-low, After-with_four}
 
@@ -30,3 +30,13 @@ returns-clause-bits c = (octet-counts c).bits_are
 
 pub returns-clause-room : goal.returns-clause-room
 returns-clause-room c = (octet-counts c).left_is
+
+pub returns-then-need-count-clause-bits : goal.returns-then-need-count-clause-bits
+returns-then-need-count-clause-bits c =
+    let plain = plain-octet c.args.count.room c.args.octet c.requires.some c.requires.few (omega arith) c.if-need-count.true in
+    omega (arith, plain.0)
+
+pub returns-then-need-count-clause-room : goal.returns-then-need-count-clause-room
+returns-then-need-count-clause-room c =
+    let plain = plain-octet c.args.count.room c.args.octet c.requires.some c.requires.few (omega arith) c.if-need-count.true in
+    sym plain.1

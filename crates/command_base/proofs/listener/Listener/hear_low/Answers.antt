@@ -1,19 +1,8 @@
-use Rattle.std.proofs.Common.{Bool, List, ℕ, sym, subst}
-use Rattle.outside_calls.specs.Folder.{FolderState}
 use Rattle.plain_lists.specs.Bits.{low_bits}
-use Rattle.command_base.specs.Heard.{Hears}
-use Rattle.command_base.proofs.Hearing.{low-four, hears-partly}
+use Rattle.command_base.proofs.Hearing.{hears-partly}
 use Rattle.command_base.proofs.listener.Listener.hear_low.Goals as goal
 
-pub returns-in-4-clause-err : goal.returns-in-4-clause-err
-returns-in-4-clause-err g c =
-    let old : FolderState = g.F.Folder.state c.args.folder.now in let new : FolderState = g.F.Folder.state c.hear_four.new.folder in
-    hears-partly old new c.args.self.now c.hear_four.new.self (low_bits c.args.count c.args.octet) c.hear_four.result
-    (subst (λ (n : ℕ). Hears old new c.args.self.now c.hear_four.new.self (low_bits n c.args.octet) c.hear_four.result) (sym c.in-4.is)
-    (subst (λ (bits : List Bool). Hears old new c.args.self.now c.hear_four.new.self bits c.hear_four.result) (low-four c.args.octet)
-    c.hear_four.ensures.hears))
-
-pub returns-in_default-clause-err : goal.returns-in_default-clause-err
-returns-in_default-clause-err g c =
-    hears-partly (g.F.Folder.state c.args.folder.now) (g.F.Folder.state c.hear_each.new.folder) c.args.self.now c.hear_each.new.self
-    (low_bits c.args.count c.args.octet) c.hear_each.result c.hear_each.ensures.hears
+pub returns-clause-err : goal.returns-clause-err
+returns-clause-err g c =
+    hears-partly (g.F.Folder.state c.args.folder.now) (g.F.Folder.state c.hear_some.new.folder) c.args.self.now c.hear_some.new.self
+    (low_bits c.args.count c.args.octet) c.hear_some.result c.hear_some.ensures.hears

@@ -9,7 +9,6 @@ use Rattle.line_coding.specs.Modulates.{Modulates}
 use Rattle.trellis_tables.specs.Table.{next_state}
 use Rattle.trellis_tables.specs.Sequences.{Leads}
 use Rattle.trellis_tables.proofs.Sequences.{Leads-append}
-use Rattle.line_coding.specs.Demodulates.{DemodulatorStands}
 use Rattle.recordings.specs.Samples.{samples_in}
 use Rattle.lapm_frames.specs.declared.sent.Sent.{Sent}
 use Rattle.lapm_frames.specs.declared.sent.Sent.TheVariants as sent
@@ -20,7 +19,7 @@ use Rattle.sample_line.specs.Signals.{IsCodable}
 use Rattle.sample_line.specs.Line.{bits_behind}
 use Rattle.line_tap.specs.Reader.{IsNext, carries}
 use Rattle.line_tap.proofs.Guessing.{GuessLaws}
-use Rattle.line_tap.specs.Labels.{AreLabels}
+use Rattle.line_tap.specs.Labels.{AreLabels, BitsStand}
 use Rattle.line_tap.proofs.PointLabels.{count-samples}
 use Rattle.line_tap.proofs.SlotReading.{bits-read, guessed, labels-next, sequence-modulates}
 use Rattle.line_tap.proofs.SlotReading.{phase-is, written-as, writer-on, phase-next, bits-more, labels-more, labels-code}
@@ -48,7 +47,7 @@ returns-in_err-phase-clause-none c = λ sigs samples k fit.
     let refuted : (s : Sent) → IsNext r sigs samples more s → ⊥ =
     λ s x.
     let is : c.guess-sent.result ≡ s =
-    guessed laws r sigs samples more s c.guess-sent.result c.read_labels.new.demodulator c.in_ok-state.state c.read_labels.new.bits
+    guessed laws r sigs samples more s c.guess-sent.result c.read_labels.new.bit_reader c.in_ok-state.state c.read_labels.new.bits
     c.read_labels.new.labels c.frame_in-found.result phase k h
     (c.frame_in-found.ensures.found r.symbols r.low) c.guess-sent.ensures.guess x in
     c.in_err-phase.ensures.none
@@ -66,12 +65,12 @@ returns-then-not-same_quads-clause-none c = λ sigs samples k fit s x.
     } in
     let phase = phase-is r sigs samples k in
     let is : c.guess-sent.result ≡ s =
-    guessed laws r sigs samples more s c.guess-sent.result c.read_labels.new.demodulator c.in_ok-state.state c.read_labels.new.bits
+    guessed laws r sigs samples more s c.guess-sent.result c.read_labels.new.bit_reader c.in_ok-state.state c.read_labels.new.bits
     c.read_labels.new.labels c.frame_in-found.result phase k h
     (c.frame_in-found.ensures.found r.symbols r.low) c.guess-sent.ensures.guess x in
-    let coded = written-as r sigs samples c.guess-sent.result (line_bits c.write_sent.new.out) k c.write_sent.ensures.bits in
+    let coded = written-as r sigs samples c.guess-sent.result (line_bits c.write_again.new.out) k c.write_again.ensures.bits in
     c.same_quads.ensures.no c.if-not-same_quads.true
-    (bits-read c.points_differ.ensures r sigs samples more s c.read_labels.new.demodulator c.in_ok-state.state c.read_labels.new.bits c.read_labels.new.labels k h x
+    (bits-read c.points_differ.ensures r sigs samples more s c.read_labels.new.bit_reader c.in_ok-state.state c.read_labels.new.bits c.read_labels.new.labels k h x
     ∙ ap (λ q. bits_behind (4 * r.symbols) sigs (carries r q)) (sym is) ∙ sym coded)
 
 pub frame_in-found-requires-clause-long : goal.frame_in-found-requires-clause-long
@@ -80,8 +79,8 @@ frame_in-found-requires-clause-long c =
     let count = count-samples c.args.self.now.symbols c.args.octets.now c.requires.size in
     omega (arith, c.args.self.now.low, h.count, count)
 
-pub write_sent-requires-clause-codable : goal.write_sent-requires-clause-codable
-write_sent-requires-clause-codable c =
+pub write_again-requires-clause-codable : goal.write_again-requires-clause-codable
+write_again-requires-clause-codable c =
     let r = c.args.self.now in
     subst (λ n. IsCodable r.sender.check r.sender.role r.sender.dlci n r.writer.phase c.guess-sent.result) (sym c.requires.writer.symbols)
     (subst (λ p. IsCodable r.sender.check r.sender.role r.sender.dlci r.symbols p c.guess-sent.result) (sym c.requires.writer.phase)
@@ -96,25 +95,25 @@ returns-clause-some c = λ sigs samples k.
     let bits : List Bool = signal_bits (4 * r.symbols) sigs in
     let read : List ℕ = c.read_labels.new.bits in
     let h = c.in_ok-state.ensures.some in
-    let coded : line_bits c.write_sent.new.out ≡ bits_behind (4 * r.symbols) sigs (carries r s) =
-    written-as r sigs samples s (line_bits c.write_sent.new.out) k c.write_sent.ensures.bits in
+    let coded : line_bits c.write_again.new.out ≡ bits_behind (4 * r.symbols) sigs (carries r s) =
+    written-as r sigs samples s (line_bits c.write_again.new.out) k c.write_again.ensures.bits in
     let here : line_bits read ≡ bits_behind (4 * r.symbols) sigs (carries r s) =
     ap line_bits (c.same_quads.ensures.yes c.if-not-same_quads.false) ∙ coded in
     let all : bits ++ line_bits read ≡ signal_bits (4 * r.symbols) (sigs ++ carries r s ∷ []) = bits-more r sigs s read here in
     let labels : List ℕ = k.labels ++ c.read_labels.new.labels in
     let are : AreLabels labels (samples ++ more) = labels-more k.labels c.read_labels.new.labels samples more k.are h.are in
-    let demodulated : DemodulatorStands mode c.read_labels.new.demodulator labels (bits ++ line_bits read) =
+    let demodulated : BitsStand mode c.read_labels.new.bit_reader labels (bits ++ line_bits read) =
     h.stands mode k.labels bits k.read in
     let leads : Leads next_state 0 labels c.in_ok-state.state =
     Leads-append next_state 0 k.labels c.read_labels.new.labels r.state c.in_ok-state.state k.leads h.leads in
     let next : IsNext r sigs samples more s = record {
       codable = c.in_ok-phase.ensures.codable;
       modulated = subst (λ xs. Modulates (tap_of mode) (bits ++ xs) (samples ++ more)) here
-          (sequence-modulates mode c.read_labels.new.demodulator labels (bits ++ line_bits read) (samples ++ more) c.in_ok-state.state
+          (sequence-modulates mode c.read_labels.new.bit_reader labels (bits ++ line_bits read) (samples ++ more) c.in_ok-state.state
           demodulated are leads);
     } in
-    let writer = writer-on r c.write_sent.new.writer sigs samples s k c.write_sent.ensures.stands in
-    let symbols = c.write_sent.ensures.symbols ∙ c.requires.writer.symbols in
+    let writer = writer-on r c.write_again.new.writer sigs samples s k c.write_again.ensures.stands in
+    let symbols = c.write_again.ensures.symbols ∙ c.requires.writer.symbols in
     record {
       next = next;
       coded = labels-code r sigs samples more s c.read_labels.new.labels k h.are next;
@@ -123,11 +122,11 @@ returns-clause-some c = λ sigs samples k.
       stands = record {
         labels = labels;
         are = are;
-        read = subst (λ (xs : List Bool). DemodulatorStands mode c.read_labels.new.demodulator labels xs) all demodulated;
+        read = subst (λ (xs : List Bool). BitsStand mode c.read_labels.new.bit_reader labels xs) all demodulated;
         leads = leads;
         in_step = record {
           symbols = symbols;
-          phase = phase-next r c.write_sent.new.writer sigs s c.in_ok-phase.phase symbols writer (phase-is r sigs samples k)
+          phase = phase-next r c.write_again.new.writer sigs s c.in_ok-phase.phase symbols writer (phase-is r sigs samples k)
               c.in_ok-phase.ensures.next;
         };
         writer = writer;
@@ -140,5 +139,14 @@ phase_behind-requires-clause-octets c = λ frame e.
     let g : IsGuess (4 * r.symbols) (line_bits c.read_labels.new.bits) c.frame_in-found.result (sent.Frame frame) =
     subst (IsGuess (4 * r.symbols) (line_bits c.read_labels.new.bits) c.frame_in-found.result) e c.guess-sent.ensures.guess in
     c.as_slice.ensures.items
+    ∙ subst (λ found. IfSome found (λ f. c.frame_in-found.new.room ≡ checked r.sender.check r.sender.role r.sender.dlci f)) g.0
+    c.frame_in-found.ensures.is
+
+pub write_again-requires-clause-octets : goal.write_again-requires-clause-octets
+write_again-requires-clause-octets c = λ frame e.
+    let r = c.args.self.now in
+    let g : IsGuess (4 * r.symbols) (line_bits c.read_labels.new.bits) c.frame_in-found.result (sent.Frame frame) =
+    subst (IsGuess (4 * r.symbols) (line_bits c.read_labels.new.bits) c.frame_in-found.result) e c.guess-sent.ensures.guess in
+    c.as_slice-2.ensures.items
     ∙ subst (λ found. IfSome found (λ f. c.frame_in-found.new.room ≡ checked r.sender.check r.sender.role r.sender.dlci f)) g.0
     c.frame_in-found.ensures.is

@@ -7,8 +7,9 @@ use Rattle.link_run.specs.Listened.{check_by}
 use Rattle.line_run.specs.Stream.{sent_by}
 use Rattle.shared_line.proofs.Waiting.{room-of}
 use Rattle.line_tap.specs.Tapping.{line_of, terms_of, told}
-use Rattle.tap_command.specs.declared.end.Slot.{Slot}
+use Rattle.tap_command.specs.End.{Slot}
 use Rattle.tap_command.specs.declared.tapping.Tap.{Tap}
+use Rattle.tap_command.specs.Tap.{slots_as}
 use Rattle.tap_command.specs.Names.{named}
 use Rattle.tap_command.proofs.TurnTexts.{text-is, taken-back}
 use Rattle.tap_command.proofs.Going.{after-going}
@@ -18,8 +19,8 @@ pub returns-in-Err-clause-err : goal.returns-in-Err-clause-err
 returns-in-Err-clause-err g c = λ x ts k.
     subst (PartlyAppended (g.F.Folder.state c.args.folder.now) (g.F.Folder.state c.write_turn.new.folder) (named c.args.names.now).trace)
     (text-is c.turn_lines-lines.result c.args.self.now.turn x ts c.args.hearing
-    (record { orig = Some c.args.slots.orig.sent; answ = Some c.args.slots.answ.sent })
-    (record { orig = Some (told (check_by (terms_of x)) c.args.slots.orig.sent); answ = Some (told (check_by (terms_of x)) c.args.slots.answ.sent) })
+    (record { orig = Some c.args.sent.orig; answ = Some c.args.sent.answ })
+    (record { orig = Some (told (check_by (terms_of x)) c.args.sent.orig); answ = Some (told (check_by (terms_of x)) c.args.sent.answ) })
     c.turn_lines-lines.ensures k.turn k.hears refl refl) c.in-Err.ensures.err
 
 pub put-requires-clause-room : goal.put-requires-clause-room
@@ -34,7 +35,7 @@ put-requires-2-clause-room g c =
 
 pub returns-clause-ok : goal.returns-clause-ok
 returns-clause-ok g c = λ x ts k.
-    let slots : Both Slot = c.args.slots in
+    let slots : Both Slot = slots_as c.args.sent c.args.labels in
     let sent : Both Sent = c.sent_in-sent.result in
     let tap : Tap = c.args.self.now in
     let new : Tap = record tap {

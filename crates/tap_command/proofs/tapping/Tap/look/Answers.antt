@@ -4,6 +4,7 @@ use Rattle.frame_check.specs.declared.check.Check.{Check}
 use Rattle.link_run.specs.Listened.{check_by}
 use Rattle.line_tap.specs.Tapping.{line_of, terms_of}
 use Rattle.line_tap.proofs.ToldFit.{FitLaws, told-fit}
+use Rattle.tap_command.specs.End.{slot_as}
 use Rattle.tap_command.proofs.Looking.{reads-too}
 use Rattle.tap_command.proofs.tapping.Tap.look.Goals as goal
 
@@ -29,9 +30,9 @@ returns-in-Some-read-clause-looks c = λ x ts heard h.
     let orig : List ℕ = x.bodies.orig ++ take c.args.counts.now.orig c.args.self.now.orig.piece.items in
     let answ : List ℕ = x.bodies.answ ++ take c.args.counts.now.answ c.args.self.now.answ.piece.items in
     record {
-      orig = reads-too c.read.new.self.reader x check Originator ts orig c.in-Some.slot
+      orig = reads-too c.read.new.self.reader x check Originator ts orig (slot_as c.in-Some.sent c.read.new.labels)
           (c.in-Some.ensures.some (line_of x) check Originator ts x.bodies.orig h.behind.orig);
-      answ = reads-too c.read-2.new.self.reader x check Answerer ts answ c.in-Some-read.answ
+      answ = reads-too c.read-2.new.self.reader x check Answerer ts answ (slot_as c.in-Some-read.answ c.read-2.new.labels)
           (c.in-Some-read.ensures.some (line_of x) check Answerer ts x.bodies.answ h.behind.answ);
       lines = h.lines;
     }
@@ -46,6 +47,6 @@ returns-in-None-read-clause-looks c = λ x ts heard h.
     } in
     let check : Check = check_by (terms_of x) in
     let first = c.in-Some.ensures.some (line_of x) check Originator ts x.bodies.orig h.behind.orig in (
-      (c.in-Some.slot.sent, first.holds),
+      (c.in-Some.sent, first.holds),
       c.in-None-read.ensures.none (line_of x) check Answerer ts x.bodies.answ h.behind.answ (told-fit laws x ts h.behind.tells Answerer),
     )

@@ -9,7 +9,7 @@ use Rattle.command_base.specs.declared.stop.Stop.TheVariants.{Read, Write}
 use Rattle.command_base.proofs.Jobs.{stop-earlier}
 use Rattle.tap_command.specs.Names.{TapNames, named, outputs_of, recordings_of}
 use Rattle.tap_command.specs.declared.limits.TheConstants.{TAP_LIMIT}
-use Rattle.tap_command.specs.Tap.{IsToGo, going_in}
+use Rattle.tap_command.specs.Tap.{IsToGo, going_in, slots_as}
 use Rattle.tap_command.proofs.Turning.{HasPieces, now_of, loses-line, stops-delivering, stops-reading, ends-whole, stops-ending, ends-badly}
 use Rattle.tap_command.proofs.Turning.{so-heard, has-pieces, only-read}
 use Rattle.tap_command.proofs.Turning.{to-go, goes-on-by, stops-going, only-written, whole-orig, some-octets, ready-again}
@@ -17,13 +17,15 @@ use Rattle.tap_command.proofs.tapping.Tap.turn.Goals as goal
 
 pub returns-in-Err-Lost-clause-turn : goal.returns-in-Err-Lost-clause-turn
 returns-in-Err-Lost-clause-turn g c = λ start x ts h read.
-    loses-line start (g.F.Folder.state c.args.folder.now) (named c.args.names.now) x ts c.in-Err-Lost.role c.in-Err-Lost.symbol h.behind.tells read
-    (subst (λ (e : LineEnd). EndsLine x ts (end_of e)) c.in-Err-Lost.field-0-is (c.in-Err-Lost.ensures.hears x ts h))
+    rw (c.in-Err-Lost.field-0-is)
+    (loses-line start (g.F.Folder.state c.args.folder.now) (named c.args.names.now) x ts c.in-Err-Lost.role c.in-Err-Lost.symbol h.behind.tells read
+    (subst (λ (e : LineEnd). EndsLine x ts (end_of e)) c.in-Err-Lost.field-0-is (c.in-Err-Lost.ensures.hears x ts h)))
 
 pub returns-in-Err-Chance-clause-turn : goal.returns-in-Err-Chance-clause-turn
 returns-in-Err-Chance-clause-turn g c = λ start x ts h read.
     c.meet_chance.ensures.meets start x ts (c.in-Err-Chance.ensures.turn ∙ h.behind.turn) h.behind.tells
-    (subst (λ (e : LineEnd). EndsLine x ts (end_of e)) c.in-Err-Chance.field-0-is (c.in-Err-Chance.ensures.hears x ts h)) read
+    (rw (c.in-Err-Chance.field-0-is)
+    (subst (λ (e : LineEnd). EndsLine x ts (end_of e)) c.in-Err-Chance.field-0-is (c.in-Err-Chance.ensures.hears x ts h))) read
 
 pub returns-in-Err-clause-turn : goal.returns-in-Err-clause-turn
 returns-in-Err-clause-turn g c = λ start x ts h read.
@@ -69,12 +71,12 @@ returns-in-Ok-go_on-clause-turn g c = λ start x ts h read.
     read (c.in-Ok.ensures.hears x ts h) c.in-Ok-deliver.ensures.only c.in-Ok-read.ensures.reads
     (c.in-Ok-deliver.ensures.ok x ts c.in-Ok.hearing.heard) (c.in-Ok-deliver.ensures.stands x ts c.in-Ok.hearing.heard)
     (c.in-Ok-read.ensures.pieces start x ts c.in-Ok.hearing.heard) in
-    let go : IsToGo c.look.new.self (now_of c.read.new.self x c.in-Ok-read.counts) ts c.in-Ok.hearing c.in-Ok-look.slots =
-    to-go c.read.new.self c.look.new.self x ts c.in-Ok.hearing c.in-Ok-read.counts c.in-Ok-look.slots k.pieces.turn k.hears
+    let go : IsToGo c.look.new.self (now_of c.read.new.self x c.in-Ok-read.counts) ts c.in-Ok.hearing (slots_as c.in-Ok-look.sent c.look.new.labels) =
+    to-go c.read.new.self c.look.new.self x ts c.in-Ok.hearing c.in-Ok-read.counts (slots_as c.in-Ok-look.sent c.look.new.labels) k.pieces.turn k.hears
     (c.in-Ok-look.ensures.looks x ts c.in-Ok.hearing.heard k.pieces.turn) c.in-Ok-look.ensures.script c.in-Ok-look.ensures.turn
     c.in-Ok-look.ensures.at c.in-Ok-look.ensures.orig c.in-Ok-look.ensures.answ c.in-Ok-look.ensures.orig_piece c.in-Ok-look.ensures.answ_piece in
     let after = c.in-Ok-go_on.ensures.ok (now_of c.read.new.self x c.in-Ok-read.counts) ts go in
-    goes-on-by c.read.new.self c.go_on.new.self start a b r d n x ts c.in-Ok.hearing c.in-Ok-read.counts c.in-Ok-look.slots k after.0
+    goes-on-by c.read.new.self c.go_on.new.self start a b r d n x ts c.in-Ok.hearing c.in-Ok-read.counts (slots_as c.in-Ok-look.sent c.look.new.labels) k after.0
     c.in-Ok-go_on.ensures.only after.1
 
 pub returns-in-Err-go_on-clause-turn : goal.returns-in-Err-go_on-clause-turn
@@ -89,11 +91,11 @@ returns-in-Err-go_on-clause-turn g c = λ start x ts h read.
     read (c.in-Ok.ensures.hears x ts h) c.in-Ok-deliver.ensures.only c.in-Ok-read.ensures.reads
     (c.in-Ok-deliver.ensures.ok x ts c.in-Ok.hearing.heard) (c.in-Ok-deliver.ensures.stands x ts c.in-Ok.hearing.heard)
     (c.in-Ok-read.ensures.pieces start x ts c.in-Ok.hearing.heard) in
-    let go : IsToGo c.look.new.self (now_of c.read.new.self x c.in-Ok-read.counts) ts c.in-Ok.hearing c.in-Ok-look.slots =
-    to-go c.read.new.self c.look.new.self x ts c.in-Ok.hearing c.in-Ok-read.counts c.in-Ok-look.slots k.pieces.turn k.hears
+    let go : IsToGo c.look.new.self (now_of c.read.new.self x c.in-Ok-read.counts) ts c.in-Ok.hearing (slots_as c.in-Ok-look.sent c.look.new.labels) =
+    to-go c.read.new.self c.look.new.self x ts c.in-Ok.hearing c.in-Ok-read.counts (slots_as c.in-Ok-look.sent c.look.new.labels) k.pieces.turn k.hears
     (c.in-Ok-look.ensures.looks x ts c.in-Ok.hearing.heard k.pieces.turn) c.in-Ok-look.ensures.script c.in-Ok-look.ensures.turn
     c.in-Ok-look.ensures.at c.in-Ok-look.ensures.orig c.in-Ok-look.ensures.answ c.in-Ok-look.ensures.orig_piece c.in-Ok-look.ensures.answ_piece in
-    stops-going c.read.new.self c.look.new.self start a b r d n x ts c.in-Ok.hearing c.in-Ok-read.counts c.in-Ok-look.slots k go
+    stops-going c.read.new.self c.look.new.self start a b r d n x ts c.in-Ok.hearing c.in-Ok-read.counts (slots_as c.in-Ok-look.sent c.look.new.labels) k go
     c.in-Err-go_on.ensures.only (c.in-Err-go_on.ensures.err (now_of c.read.new.self x c.in-Ok-read.counts) ts go)
 
 pub returns-in-Ok-finish-clause-turn : goal.returns-in-Ok-finish-clause-turn
@@ -197,8 +199,8 @@ go_on-requires-clause-stands g c =
     let ts = r0.turns in
     let heard = c.in-Ok.ensures.hears x ts r0.after in
     let turn = c.in-Ok-read.ensures.stands x ts c.in-Ok.hearing.heard (c.in-Ok-deliver.ensures.stands x ts c.in-Ok.hearing.heard heard.0) in
-    let go : IsToGo c.look.new.self (now_of c.read.new.self x c.in-Ok-read.counts) ts c.in-Ok.hearing c.in-Ok-look.slots =
-    to-go c.read.new.self c.look.new.self x ts c.in-Ok.hearing c.in-Ok-read.counts c.in-Ok-look.slots turn
+    let go : IsToGo c.look.new.self (now_of c.read.new.self x c.in-Ok-read.counts) ts c.in-Ok.hearing (slots_as c.in-Ok-look.sent c.look.new.labels) =
+    to-go c.read.new.self c.look.new.self x ts c.in-Ok.hearing c.in-Ok-read.counts (slots_as c.in-Ok-look.sent c.look.new.labels) turn
     (so-heard c.hear.new.self x ts c.in-Ok.hearing heard) (c.in-Ok-look.ensures.looks x ts c.in-Ok.hearing.heard turn)
     c.in-Ok-look.ensures.script c.in-Ok-look.ensures.turn c.in-Ok-look.ensures.at
     c.in-Ok-look.ensures.orig c.in-Ok-look.ensures.answ c.in-Ok-look.ensures.orig_piece c.in-Ok-look.ensures.answ_piece in
@@ -211,8 +213,8 @@ returns-in-Ok-go_on-clause-ready g c = λ same.
     let ts = r0.turns in
     let heard = c.in-Ok.ensures.hears x ts r0.after in
     let turn = c.in-Ok-read.ensures.stands x ts c.in-Ok.hearing.heard (c.in-Ok-deliver.ensures.stands x ts c.in-Ok.hearing.heard heard.0) in
-    let go : IsToGo c.look.new.self (now_of c.read.new.self x c.in-Ok-read.counts) ts c.in-Ok.hearing c.in-Ok-look.slots =
-    to-go c.read.new.self c.look.new.self x ts c.in-Ok.hearing c.in-Ok-read.counts c.in-Ok-look.slots turn
+    let go : IsToGo c.look.new.self (now_of c.read.new.self x c.in-Ok-read.counts) ts c.in-Ok.hearing (slots_as c.in-Ok-look.sent c.look.new.labels) =
+    to-go c.read.new.self c.look.new.self x ts c.in-Ok.hearing c.in-Ok-read.counts (slots_as c.in-Ok-look.sent c.look.new.labels) turn
     (so-heard c.hear.new.self x ts c.in-Ok.hearing heard) (c.in-Ok-look.ensures.looks x ts c.in-Ok.hearing.heard turn)
     c.in-Ok-look.ensures.script c.in-Ok-look.ensures.turn c.in-Ok-look.ensures.at
     c.in-Ok-look.ensures.orig c.in-Ok-look.ensures.answ c.in-Ok-look.ensures.orig_piece c.in-Ok-look.ensures.answ_piece in
@@ -221,14 +223,14 @@ returns-in-Ok-go_on-clause-ready g c = λ same.
     c.in-Ok-look.ensures.orig_piece in
     let more : c.args.self.now.at < c.go_on.new.self.at =
     omega (arith, room, c.in-Ok-go_on.ensures.at, c.in-Ok-look.ensures.at, c.in-Ok-read.ensures.at, c.in-Ok-deliver.ensures.at, c.in-Ok.ensures.at) in
-    let whole = whole-orig c.read.new.self c.look.new.self x ts c.in-Ok.hearing c.in-Ok-read.counts c.in-Ok-look.slots turn
+    let whole = whole-orig c.read.new.self c.look.new.self x ts c.in-Ok.hearing c.in-Ok-read.counts (slots_as c.in-Ok-look.sent c.look.new.labels) turn
     (omega (arith, c.in-Ok-read.ensures.orig_few)) go in
     let piece : length c.look.new.self.orig.piece.items ≡ length c.read.new.self.orig.piece.items =
     omega (arith, c.in-Ok-look.ensures.orig_piece) in
     let within : c.go_on.new.self.at ≤ TAP_LIMIT =
     omega (arith, whole, piece, c.in-Ok-read.ensures.within, c.in-Ok-go_on.ensures.at, c.in-Ok-look.ensures.at, c.in-Ok-read.ensures.at) in
     ready-again c.args.self.now c.deliver.new.self c.go_on.new.self (now_of c.read.new.self x c.in-Ok-read.counts)
-    (going_in (now_of c.read.new.self x c.in-Ok-read.counts) ts c.in-Ok.hearing.heard c.in-Ok-look.slots) ts r0
+    (going_in (now_of c.read.new.self x c.in-Ok-read.counts) ts c.in-Ok.hearing.heard (slots_as c.in-Ok-look.sent c.look.new.labels)) ts r0
     (c.in-Ok-go_on.ensures.ok (now_of c.read.new.self x c.in-Ok-read.counts) ts go).0
     (c.in-Ok-go_on.ensures.script ∙ c.in-Ok-look.ensures.script ∙ c.in-Ok-read.ensures.script ∙ c.in-Ok-deliver.ensures.script
     ∙ c.in-Ok.ensures.script) (c.in-Ok-deliver.ensures.orig (c.args.self.now.turn + 1) c.in-Ok.ensures.orig)
