@@ -21,12 +21,12 @@ use Rattle.command_base.specs.declared.status.Status.{Status}
 use Rattle.command_base.specs.declared.status.Status.TheVariants.{Done, NoMemory}
 use Rattle.command_base.specs.Sound.{IsSound}
 use Rattle.command_base.proofs.Headers.{content-same}
-use Rattle.encode_command.specs.Words.{EncodeNames}
-use Rattle.encode_command.specs.Headline as encode
-use Rattle.decode_command.specs.Words.{DecodeNames, inputs_of, outputs_of}
-use Rattle.decode_command.specs.Rates.{trellis_at, line_at, DemodulatesAt}
-use Rattle.decode_command.specs.Headline as decode
-use Rattle.decode_command.specs.Completes.{IsRecording, Completes}
+use Rattle.signal_commands.specs.Encoding.Words.{EncodeNames}
+use Rattle.signal_commands.specs.Encoding.Headline as encode
+use Rattle.signal_commands.specs.Decoding.Words.{DecodeNames, inputs_of, outputs_of}
+use Rattle.signal_commands.specs.Decoding.Rates.{trellis_at, line_at, DemodulatesAt}
+use Rattle.signal_commands.specs.Decoding.Headline as decode
+use Rattle.signal_commands.specs.Decoding.Completes.{IsRecording, Completes}
 use Rattle.command_laws.specs.Files.{AreOfFile, FilesComeBack}
 use Rattle.command_laws.proofs.Sent.{SentLaws, IsSent, is-sent}
 

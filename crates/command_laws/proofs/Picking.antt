@@ -40,14 +40,14 @@ use Rattle.command_base.specs.Lines.{pieces_line}
 use Rattle.command_base.specs.Readings.{AreLines}
 use Rattle.command_base.specs.Recordings.{sender_of}
 use Rattle.command_base.proofs.Headers.{content-same}
-use Rattle.tap_command.specs.Names.{TapNames}
-use Rattle.tap_command.specs.Headline as tap
-use Rattle.pickup_command.specs.Gives.{GivesPieces}
-use Rattle.pickup_command.specs.Laws.{SomePiecesAreGiven, PiecesAreGivenOnce, LaterPiecesStandBehind}
-use Rattle.pickup_command.specs.Middles.{turned_by, middle_of, AreNear, AreHeardOf, MiddlesGiveWhatWasSent, MiddlesAreNeverLost}
-use Rattle.pickup_command.proofs.Middles.{near-front}
-use Rattle.pickup_command.specs.Headline as pickup
-use Rattle.pickup_command.specs.Completes.{IsRecording}
+use Rattle.line_tap.specs.Names.{TapNames}
+use Rattle.line_tap.specs.Headline as tap
+use Rattle.signal_commands.specs.PickingUp.Gives.{GivesPieces}
+use Rattle.signal_commands.specs.PickingUp.Laws.{SomePiecesAreGiven, PiecesAreGivenOnce, LaterPiecesStandBehind}
+use Rattle.signal_commands.specs.PickingUp.Middles.{turned_by, middle_of, AreNear, AreHeardOf, MiddlesGiveWhatWasSent, MiddlesAreNeverLost}
+use Rattle.signal_commands.proofs.PickingUp.Middles.{near-front}
+use Rattle.signal_commands.specs.PickingUp.Headline as pickup
+use Rattle.signal_commands.specs.PickingUp.Completes.{IsRecording}
 use Rattle.command_laws.specs.Pickups.{frames_sent, FindsFrames, SaysFrames, IsMiddle, EndsThere, told_symbols, told_turns}
 use Rattle.command_laws.specs.Pickups.{PickupsFindWhatIsTold, PickupsFindWhatTapsName}
 use Rattle.command_laws.proofs.Cutting.{SlotLaws, CutFinds, cut-finds}

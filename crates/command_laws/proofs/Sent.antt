@@ -26,7 +26,7 @@ use Rattle.recordings.specs.declared.rate.Rate.TheVariants.{Trellis, Quarters}
 use Rattle.recordings.specs.Recording.{sample_octets, ModulatesAt}
 use Rattle.recordings.specs.Samples.{samples_in}
 use Rattle.recordings.proofs.Samples.{samples_in-append}
-use Rattle.decode_command.specs.Rates.{trellis_at, DemodulatesAt}
+use Rattle.signal_commands.specs.Decoding.Rates.{trellis_at, DemodulatesAt}
 
 -- the laws that this rests on
 pub record SentLaws : Type 0 where

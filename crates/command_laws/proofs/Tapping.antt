@@ -27,8 +27,8 @@ use Rattle.line_tap.specs.Tapping.{tapping, phase_behind}
 use Rattle.line_tap.specs.Ends.{TapOf}
 use Rattle.line_tap.specs.Laws.{AreCoded, RecordingsTellRuns, told_end}
 use Rattle.command_base.specs.declared.status.Status.TheVariants.{NoMemory}
-use Rattle.run_world.specs.Tapes.{HoldTapes}
-use Rattle.tap_command.specs.Completes.{AreRight, Answered}
+use Rattle.line_world.specs.Tapes.{HoldTapes}
+use Rattle.line_tap.specs.Completes.{AreRight, Answered}
 use Rattle.command_laws.specs.Taps.{LeftAlike, LeavesTheSame, TapsLeaveWhatRunsLeft}
 
 -- the laws that it rests on

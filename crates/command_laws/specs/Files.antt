@@ -5,11 +5,11 @@ use Rattle.outside_calls.specs.Folder.{FolderState, held_at, octets_at}
 use Rattle.command_base.specs.declared.status.Status.{Status}
 use Rattle.command_base.specs.declared.status.Status.TheVariants.{Done, NoMemory}
 use Rattle.command_base.specs.Sound.{IsSound}
-use Rattle.encode_command.specs.Words.{EncodeNames}
-use Rattle.encode_command.specs.Headline as encode
-use Rattle.decode_command.specs.Words.{DecodeNames, inputs_of, outputs_of}
-use Rattle.decode_command.specs.Headline as decode
-use Rattle.decode_command.specs.Completes.{Completes}
+use Rattle.signal_commands.specs.Encoding.Words.{EncodeNames}
+use Rattle.signal_commands.specs.Encoding.Headline as encode
+use Rattle.signal_commands.specs.Decoding.Words.{DecodeNames, inputs_of, outputs_of}
+use Rattle.signal_commands.specs.Decoding.Headline as decode
+use Rattle.signal_commands.specs.Decoding.Completes.{Completes}
 
 -- What is decoded is what was encoded at this rate: `old` and `mid` are the folders before and behind the encoding, `was` the one before the
 -- decoding. All is told, and the recording is no longer than one that is decoded.

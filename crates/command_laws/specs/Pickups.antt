@@ -28,11 +28,11 @@ use Rattle.command_base.specs.Readings.{AreLines, IsLine}
 use Rattle.command_base.specs.Sound.{IsSound}
 use Rattle.line_tap.specs.Tapping.{octets_of}
 use Rattle.line_tap.specs.Ends.{TapEnd}
-use Rattle.tap_command.specs.Names.{TapNames, recording_of}
-use Rattle.tap_command.specs.Headline as tap
-use Rattle.pickup_command.specs.Middles.{middle_of, AreNear}
-use Rattle.pickup_command.specs.Headline as pickup
-use Rattle.pickup_command.specs.Completes.{Completes}
+use Rattle.line_tap.specs.Names.{TapNames, recording_of}
+use Rattle.line_tap.specs.Headline as tap
+use Rattle.signal_commands.specs.PickingUp.Middles.{middle_of, AreNear}
+use Rattle.signal_commands.specs.PickingUp.Headline as pickup
+use Rattle.signal_commands.specs.PickingUp.Completes.{Completes}
 
 -- ---- the frames of turns
 

@@ -9,10 +9,10 @@ use Rattle.command_base.specs.declared.status.Status.{Status}
 use Rattle.command_base.specs.declared.status.Status.TheVariants.{NoMemory}
 use Rattle.command_base.specs.Sound.{IsSound}
 use Rattle.run_inputs.specs.Words.{RunNames}
-use Rattle.run_command.specs.Headline.{Ran}
-use Rattle.tap_command.specs.Names.{TapNames, inputs_of, outputs_of}
-use Rattle.tap_command.specs.Answers.{answer_of}
-use Rattle.tap_command.specs.Completes.{Completes}
+use Rattle.run_commands.specs.Running.Headline.{Ran}
+use Rattle.line_tap.specs.Names.{TapNames, inputs_of, outputs_of}
+use Rattle.line_tap.specs.Answers.{answer_of}
+use Rattle.line_tap.specs.Completes.{Completes}
 
 -- The files and the script of a run are told before it, and the script is short enough.
 pub record AreTold (f : FolderState) (m : RunNames) : Type 0 where

@@ -7,10 +7,10 @@ use Rattle.command_base.specs.declared.status.Status.TheVariants.{Done, LinkLost
 use Rattle.command_base.specs.Apart.{are_apart}
 use Rattle.command_base.specs.Sound.{IsSound, DoneUnlessMemory}
 use Rattle.run_inputs.specs.Words.{RunNames, inputs_of, outputs_of}
-use Rattle.run_command.specs.Headline as run
-use Rattle.audit_command.specs.Words.{AuditNames}
-use Rattle.audit_command.specs.Words as audit
-use Rattle.audit_command.specs.Completes.{AreRight, Completes}
+use Rattle.run_commands.specs.Running.Headline as run
+use Rattle.trace_audit.specs.Words.{AuditNames}
+use Rattle.trace_audit.specs.Words as audit
+use Rattle.trace_audit.specs.Completes.{AreRight, Completes}
 
 -- the names of an audit of what a run of these names leaves
 abbrev pub audit_of : RunNames → AuditNames

@@ -13,10 +13,10 @@ use line_run::laws::{runs_leave_prefixes, scripts_make_links, slots_have_room};
 use line_tap::laws::recordings_tell_runs;
 use noise_bound::noiseless::few_labels_are_unreleased;
 use noise_script::laws::{one_answer, spelled_scripts_are_in_limits};
-use pickup_command::laws::{
+use rate_4800::Rate4800;
+use signal_commands::pickup::laws::{
     later_pieces_stand_behind, middles_give_what_was_sent, samples_give_one_list,
 };
-use rate_4800::Rate4800;
 use symbol_map::laws::no_distance_is_equal;
 use trellis_tables::V32Code;
 

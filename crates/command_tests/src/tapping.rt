@@ -218,6 +218,20 @@ exit 6
 says "write fault\n"
 none go ga t
 
+scenario the originator's recording comes first in a turn
+# A slot of flags of each end: no clause can tell in which order both are read, as long as both can be.
+file plain ""
+slot flags "~"
+ask encode call flags flags.o
+keep flags.o
+ask encode answer flags flags.a
+keep flags.a
+ask tap flags.o flags.a plain go ga t
+exit 0
+says "turns 2\n"
+holds calls "read flags.o 8 1856\nread flags.a 8 1856\nappend t 0 "
+holds calls "read flags.o 1864 1856\nread flags.a 1864 1856\nappend t "
+
 scenario enough symbols are left behind a frame
 # Segments of b, of which octets of five ones and three zeros have a zero put in.
 file plain ""

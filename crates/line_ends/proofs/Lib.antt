@@ -3,10 +3,10 @@ pub mod Fitting
 pub mod Hearing
 mod Counting
 mod Undisturbed
-mod Words
-mod Saying
+pub mod Words
+pub mod Saying
 mod Handing
-mod Sending
+pub mod Sending
 pub mod Deciding
 pub mod Receiving
 pub mod Becoming
@@ -14,6 +14,3 @@ mod EachEnds
 mod Starving
 mod Making
 pub mod Slots
-pub mod Reading
-pub mod Cutting
-pub mod Worded

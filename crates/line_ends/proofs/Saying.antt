@@ -30,7 +30,7 @@ use Rattle.link_account.specs.Speak.{speak_detecting, speak_negotiating, speak_r
 use Rattle.link_account.specs.Speak.{trying_again, spent, on_timer, timer_expires, polling, on_break_timer, breaking, then_tries}
 use Rattle.link_account.specs.Speak.{after_timers, tells, ready_frame, nr_of, has_news}
 use Rattle.lapm_frames.specs.declared.sent.Sent.{Sent}
-use Rattle.line_ends.specs.Readable.{IsPlain, IsPlainSent}
+use Rattle.line_ends.specs.Plain.{IsPlain, IsPlainSent}
 use Rattle.line_ends.proofs.Words.{Octet, OfOctets, Owes}
 
 -- the information in a slot

@@ -34,7 +34,7 @@ use Rattle.line_run.specs.LineLaws.{SamplesAreCarried, OneIsCarried}
 use Rattle.line_run.specs.Stream.{AllSendable}
 use Rattle.line_run.proofs.Slots.{sent-ago}
 use Rattle.line_ends.specs.Completes.{OctetsAreSendable}
-use Rattle.line_ends.specs.Readable.{IsPlainSent, AllPlain, AllShort, AsksInOctets}
+use Rattle.line_ends.specs.Plain.{IsPlainSent, AllPlain, AllShort, AsksInOctets}
 use Rattle.line_ends.proofs.Slots.{plain-sent}
 use Rattle.line_ends.proofs.Words.{Octet, ArrivesInOctets, heard-owes}
 use Rattle.line_ends.proofs.Saying.{information_in, IsGood, said-good}

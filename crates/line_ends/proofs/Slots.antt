@@ -7,7 +7,7 @@ use Rattle.lapm_frames.specs.Frame.{information_of}
 use Rattle.lapm_frames.specs.declared.sent.Sent.TheVariants as slots
 use Rattle.link_run.specs.Run.{Spoken, Turn}
 use Rattle.line_run.proofs.Slots.{SentAgo}
-use Rattle.line_ends.specs.Readable.{AllPlain, AllShort, IsPlainSent}
+use Rattle.line_ends.specs.Plain.{AllPlain, AllShort, IsPlainSent}
 
 -- all of the turns before the last n
 plain-drop : (n : ℕ) (ts : List Turn) → AllPlain ts → AllPlain (drop n ts)

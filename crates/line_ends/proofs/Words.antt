@@ -29,7 +29,7 @@ use Rattle.link_account.specs.Account.{Account}
 use Rattle.link_account.specs.Hear.{hear, on_frame, on_seen, on_pattern, on_detecting, on_negotiating, on_establishing, on_connected}
 use Rattle.link_account.specs.Hear.{on_releasing, on_closed, on_xid_command, on_xid_response, on_number, on_disc, on_word, then_in, taking}
 use Rattle.link_account.specs.Hear.{replying, hurrying, ends_wait, owing, peer_reset, pausing}
-use Rattle.line_ends.specs.Readable.{InOctets}
+use Rattle.line_ends.specs.Plain.{InOctets}
 
 abbrev pub Octet : ℕ → Type 0
 Octet octet = octet < 256

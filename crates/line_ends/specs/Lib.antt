@@ -3,5 +3,4 @@ pub mod Carried
 pub mod EachEnds
 pub use Rattle.line_run.specs.Scripts
 pub mod Causes
-pub mod Readable
-pub mod Lines
+pub mod Plain

@@ -1,10 +1,53 @@
-//! All that makes a run, by one name: two ends of the link over two directions of the line of samples, in turns ([`World`]); one end alone,
-//! against recorded bits of any peer ([`Single`]); one direction of the line ([`Line`]); and the lines of a trace.
+//! A line of samples and the ends on it. A [`World`] is two ends of the link, each with its user, over two directions of the line, in turns: a
+//! run, as its script and its files determine it. [`run_turns`] makes its turns up to the end of the run. [`Single`] is one end alone, against
+//! recorded bits of any peer. Both are pure functions of what they are made from and of the folder that is lent to each turn.
 //!
-//! There is no code here. What is handed on stands in crates of their own, so that they are proved side by side.
+//! A world is what there is twice: both ends ([`Modems`]), and both directions of the line ([`Lines`]), the originator's first where the order
+//! counts. An end with its user is a [`Station`]: the user's file is read segment by segment, what the end takes is appended to another, and
+//! the user's breaks and pauses are handed on. The line and the script are lent to each turn of the ends, so that links can share a line.
+//!
+//! A direction ([`DelayedLine`]) has one coder, one line of samples and one decoder, through which the slots of all links pass in the order in
+//! which they are sent: what an end sends is on its way for as many slots as the direction is told when it is made. [`Directions`] are both, for
+//! slots that were coded elsewhere; [`Lines`] have the coders too.
+//!
+//! The lines of a trace ([`write_line`], [`append_lines`]) and one direction of the line without delay ([`Line`]) are handed on.
 #![tactic(auto)]
 
+mod direction;
+mod directions;
+mod end_coder;
+mod heard;
+pub mod laws;
+mod limit;
+mod lines;
+mod link;
+mod modems;
+pub mod one_end;
+mod segment;
+mod slot;
+mod station;
+mod step;
+mod tally;
+mod tape;
+mod trace;
+mod turn_text;
+mod turns;
+mod world;
+
+pub use direction::DelayedLine;
+pub use directions::{Directions, LineEnd, slot_symbols};
+use heard::arrived;
+pub use limit::FILE_LIMIT;
+pub use line_run::Names;
 pub use line_texts::{TraceLine, write_frame_text, write_line};
-pub use run_world::{Names, RunFault, Step, World};
+pub use lines::Lines;
+use link::{Breaking, Link};
+pub use modems::Modems;
+pub use one_end::{SLOT_OCTETS, Single, SingleFault, SingleStep};
 pub use sample_line::{Heard, Line};
-pub use single_end::{SLOT_OCTETS, Single, SingleFault, SingleStep};
+pub use station::Station;
+pub use step::{RunFault, Step};
+pub use tape::Tape;
+pub use trace::{append_chance, append_line, append_lines, sent_in, turn_lines};
+pub use turns::run_turns;
+pub use world::World;

@@ -9,12 +9,12 @@ use Rattle.noise_script.specs.Script.{ScriptValue}
 use Rattle.link_run.specs.Run.{start}
 use Rattle.line_run.specs.Scripted.{link_of}
 use Rattle.line_run.specs.Names.{Written}
-use Rattle.run_world.proofs.Reached.{files_at, knows-told}
+use Rattle.line_world.proofs.Reached.{files_at, knows-told}
 use Rattle.pair_run.specs.Pair.{Goes}
 use Rattle.pair_run.specs.Ends.{First}
 use Rattle.link_pair.specs.declared.half.PairFault.{PairFault}
 use Rattle.link_pair.specs.declared.half.PairFault.TheVariants as faults
-use Rattle.link_pair.specs.declared.pair.Pair.{Pair}
+use Rattle.link_pair.specs.declared.two_links.Pair.{Pair}
 use Rattle.link_pair.specs.Counts.{FaultCounts}
 use Rattle.link_pair.specs.Pair.{all_outputs, IsFirst, Awaits, FaultEnds, FaultEndsIn}
 

@@ -7,10 +7,10 @@ use Rattle.outside_calls.specs.Outputs.{AreApartFrom, IsNoneOf, KeepsEach, OnlyP
 use Rattle.outside_calls.proofs.Putting.{HoldEach-kept}
 use Rattle.shared_terms.specs.Both.{Both}
 use Rattle.turn_bound.specs.Limits.{file_limit}
-use Rattle.stations.specs.Station.{file_at}
+use Rattle.line_world.specs.Station.{file_at}
 use Rattle.line_run.specs.Names.{Written, inputs_of, outputs_of}
-use Rattle.run_world.specs.Turns.{held_of}
-use Rattle.run_world.specs.World.{KnowsFiles}
+use Rattle.line_world.specs.Turns.{held_of}
+use Rattle.line_world.specs.World.{KnowsFiles}
 use Rattle.pair_run.specs.Pair.{Progress}
 use Rattle.link_pair.specs.declared.half.PairFault.{PairFault}
 use Rattle.link_pair.specs.declared.half.PairFault.TheVariants as faults

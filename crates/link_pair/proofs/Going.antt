@@ -26,22 +26,22 @@ use Rattle.line_run.specs.Scripted.{wire_at, link_of}
 use Rattle.line_run.specs.Stream.{Carried, and_sent}
 use Rattle.line_run.proofs.Leaving.{hearing-in}
 use Rattle.line_run.proofs.WhatIsLeft.{left_of, leaves-so}
-use Rattle.shared_line.specs.Lines.{LinesWait, HaveArrived, AreDue}
-use Rattle.shared_line.specs.declared.lines.Lines.{Lines}
-use Rattle.run_world.specs.declared.modems.Modems.{Modems}
-use Rattle.run_world.specs.declared.step.Step.{Step}
-use Rattle.run_world.specs.declared.step.Step.TheVariants as steps
-use Rattle.run_world.specs.declared.step.RunFault.{RunFault}
-use Rattle.run_world.specs.declared.step.RunFault.TheVariants as run_faults
+use Rattle.line_world.specs.Lines.{LinesWait, HaveArrived, AreDue}
+use Rattle.line_world.specs.declared.lines.Lines.{Lines}
+use Rattle.line_world.specs.declared.modems.Modems.{Modems}
+use Rattle.line_world.specs.declared.step.Step.{Step}
+use Rattle.line_world.specs.declared.step.Step.TheVariants as steps
+use Rattle.line_world.specs.declared.step.RunFault.{RunFault}
+use Rattle.line_world.specs.declared.step.RunFault.TheVariants as run_faults
 use Rattle.line_run.specs.Names.{Written, outputs_of}
-use Rattle.run_world.specs.Link.{AreWithin, octets_of}
-use Rattle.run_world.specs.Modems.{AreKept, AreReady, ModemsAfter}
-use Rattle.run_world.specs.Turn.{added, GoesOnBy, LosesLine, MeetsChance, StopsInTurn, StopsReading, Stops, TurnAnswers}
-use Rattle.run_world.specs.Turn as turns
-use Rattle.run_world.specs.Turns.{AddsTurn, held_of}
-use Rattle.run_world.specs.World.{KnowsFiles}
-use Rattle.run_world.proofs.Folders.{IsApart}
-use Rattle.run_world.proofs.Reached.{held-turn, knows-later, none_got}
+use Rattle.line_world.specs.Link.{AreWithin, octets_of}
+use Rattle.line_world.specs.Modems.{AreKept, AreReady, ModemsAfter}
+use Rattle.line_world.specs.Turn.{added, GoesOnBy, LosesLine, MeetsChance, StopsInTurn, StopsReading, Stops, TurnAnswers}
+use Rattle.line_world.specs.Turn as turns
+use Rattle.line_world.specs.Turns.{AddsTurn, held_of}
+use Rattle.line_world.specs.World.{KnowsFiles}
+use Rattle.line_world.proofs.Folders.{IsApart}
+use Rattle.line_world.proofs.Reached.{held-turn, knows-later, none_got}
 use Rattle.pair_run.specs.Beside.{idle_turn, lasting}
 use Rattle.pair_run.specs.Pair.{Progress, Goes, Ended, turns_on_line, last_ends, IsByLink, IdlesFor, GoesFor, Lasts}
 use Rattle.link_pair.specs.declared.half.Half.{Half}

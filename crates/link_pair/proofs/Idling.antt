@@ -25,13 +25,13 @@ use Rattle.line_run.specs.Sampled as lines
 use Rattle.line_run.specs.Ends.{RunEnd, Left}
 use Rattle.line_run.specs.Scripted.{wire_at, link_of}
 use Rattle.line_run.specs.Stream.{Carried, and_sent}
-use Rattle.shared_line.specs.Lines.{LinesWait, HaveArrived, ArrivesBoth, ArePut}
-use Rattle.shared_line.specs.declared.lines.Lines.{Lines}
+use Rattle.line_world.specs.Lines.{LinesWait, HaveArrived, ArrivesBoth, ArePut}
+use Rattle.line_world.specs.declared.lines.Lines.{Lines}
 use Rattle.line_run.specs.Names.{Written, inputs_of, outputs_of, received_of}
-use Rattle.run_world.specs.Turns.{held_of}
-use Rattle.run_world.specs.World.{KnowsFiles}
-use Rattle.run_world.proofs.Folders.{IsApart, receives-none, lines-only}
-use Rattle.run_world.proofs.Reached.{knows-later, none_got}
+use Rattle.line_world.specs.Turns.{held_of}
+use Rattle.line_world.specs.World.{KnowsFiles}
+use Rattle.line_world.proofs.Folders.{IsApart, receives-none, lines-only}
+use Rattle.line_world.proofs.Reached.{knows-later, none_got}
 use Rattle.pair_run.specs.Beside.{idle_turn, lasting}
 use Rattle.pair_run.specs.Pair.{Progress, Goes, Ended, turns_on_line, HearsIdly, IdlesFor, HasEnded, Lasts}
 use Rattle.pair_run.proofs.Agreeing.{length-lasting}

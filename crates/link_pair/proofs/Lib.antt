@@ -1,3 +1,10 @@
+mod Reading
+mod Running
+mod Refusing
+mod Prefixes
+mod Headline
+mod Completing
+mod Isolating
 mod Going
 mod Idling
 mod Beside

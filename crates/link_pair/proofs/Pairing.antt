@@ -13,12 +13,12 @@ use Rattle.line_run.specs.Sampled.{Wire}
 use Rattle.line_run.specs.Ends.{Left}
 use Rattle.line_run.specs.Scripted.{wire_at, link_of, ScriptsHaveDelays}
 use Rattle.line_run.specs.Stream.{Carried, carry, and_sent, AreSent}
-use Rattle.shared_line.specs.Lines.{LinesWait, AreDue, PassedFew, from}
-use Rattle.shared_line.specs.declared.lines.Lines.{Lines}
-use Rattle.shared_line.proofs.Waiting.{passed-few}
-use Rattle.run_world.specs.declared.modems.Modems.{Modems}
+use Rattle.line_world.specs.Lines.{LinesWait, AreDue, PassedFew, from}
+use Rattle.line_world.specs.declared.lines.Lines.{Lines}
+use Rattle.line_world.proofs.Waiting.{passed-few}
+use Rattle.line_world.specs.declared.modems.Modems.{Modems}
 use Rattle.line_run.specs.Names.{Written}
-use Rattle.run_world.specs.Link.{AreWithin}
+use Rattle.line_world.specs.Link.{AreWithin}
 use Rattle.pair_run.specs.Beside.{first_dlci, second_dlci, slot_in, after_second, after_first, first_wire, second_wire}
 use Rattle.pair_run.specs.Pair.{Progress, Goes, Ended, turns_in, turns_on_line, Lasts, PairAt}
 use Rattle.pair_run.specs.Ends.{Which, First, Second, is_going, firsts_at}
@@ -29,8 +29,8 @@ use Rattle.pair_run.proofs.Agreeing.{same-lasts, slot-stays}
 use Rattle.pair_run.proofs.Streaming.{both-length}
 use Rattle.pair_run.proofs.Placing.{sent-on-line, length-on-line}
 use Rattle.link_pair.specs.declared.half.LinkEnd.{LinkEnd}
-use Rattle.link_pair.specs.declared.pair.Pair.{Pair}
-use Rattle.link_pair.specs.declared.pair.Endings.{Endings}
+use Rattle.link_pair.specs.declared.two_links.Pair.{Pair}
+use Rattle.link_pair.specs.declared.two_links.Endings.{Endings}
 use Rattle.link_pair.specs.Half.{run_end, StandsFor, HalfAt, HalfIsReady, Follows}
 use Rattle.link_pair.specs.Pair.{both_ended, streams_at, Awaits}
 

@@ -16,8 +16,8 @@ use Rattle.line_run.specs.Sampled as lines
 use Rattle.line_run.specs.Ends.{Left}
 use Rattle.line_run.specs.Scripted.{wire_at, link_of}
 use Rattle.line_run.specs.Stream.{Carried}
-use Rattle.shared_line.specs.Lines.{LinesWait}
-use Rattle.shared_line.specs.declared.lines.Lines.{Lines}
+use Rattle.line_world.specs.Lines.{LinesWait}
+use Rattle.line_world.specs.declared.lines.Lines.{Lines}
 use Rattle.line_run.specs.Names.{Written, outputs_of}
 use Rattle.pair_run.specs.Beside.{first_dlci, second_dlci, after_second, after_first, first_wire, second_wire}
 use Rattle.pair_run.specs.Pair.{Progress, Goes, Ended, turns_in, HasEnded, Lasts, PairAt}
@@ -30,8 +30,8 @@ use Rattle.link_pair.specs.declared.half.LinkEnd.{LinkEnd}
 use Rattle.link_pair.specs.declared.half.LinkEnd.TheVariants as link_ends
 use Rattle.link_pair.specs.declared.half.PairFault.{PairFault}
 use Rattle.link_pair.specs.declared.half.PairFault.TheVariants as faults
-use Rattle.link_pair.specs.declared.pair.Pair.{Pair}
-use Rattle.link_pair.specs.declared.pair.Endings.{Endings}
+use Rattle.link_pair.specs.declared.two_links.Pair.{Pair}
+use Rattle.link_pair.specs.declared.two_links.Endings.{Endings}
 use Rattle.link_pair.specs.Half.{run_end, last_turn, left_by, HoldLeft, Follows, HasCome, IsEndedByLine, LinkStops, LinkStopsReading, IsStopped}
 use Rattle.link_pair.specs.Half.{HalfEnds, HalfAt, HalfAnswers}
 use Rattle.link_pair.specs.Pair.{both_ended, streams_at, Awaits, HaveEnded, last_round, EndedIn, StopsIn, FaultEndsIn}

@@ -16,19 +16,19 @@ use Rattle.line_run.specs.Ends.{RunEnd, Left}
 use Rattle.line_run.specs.Ends as runs
 use Rattle.line_run.specs.Scripted.{wire_at, link_of}
 use Rattle.line_run.specs.Stream.{Carried, and_sent}
-use Rattle.shared_line.specs.Lines.{LinesWait, AreDue, PassedFew}
-use Rattle.shared_line.specs.declared.lines.Lines.{Lines}
-use Rattle.run_world.specs.declared.modems.Modems.{Modems}
-use Rattle.run_world.specs.declared.step.Step.{Step}
-use Rattle.run_world.specs.declared.step.Step.TheVariants as steps
-use Rattle.run_world.specs.declared.step.RunFault.{RunFault}
-use Rattle.run_world.specs.declared.step.RunFault.TheVariants as run_faults
+use Rattle.line_world.specs.Lines.{LinesWait, AreDue, PassedFew}
+use Rattle.line_world.specs.declared.lines.Lines.{Lines}
+use Rattle.line_world.specs.declared.modems.Modems.{Modems}
+use Rattle.line_world.specs.declared.step.Step.{Step}
+use Rattle.line_world.specs.declared.step.Step.TheVariants as steps
+use Rattle.line_world.specs.declared.step.RunFault.{RunFault}
+use Rattle.line_world.specs.declared.step.RunFault.TheVariants as run_faults
 use Rattle.line_run.specs.Names.{Written, outputs_of}
-use Rattle.run_world.specs.Link.{LinkStands}
-use Rattle.run_world.specs.Modems.{AreKept, has_turns}
-use Rattle.run_world.specs.Tally.{Tallies}
-use Rattle.run_world.specs.Turns.{AddsTurn, AddsChance, held_of}
-use Rattle.run_world.specs.World.{KnowsFiles}
+use Rattle.line_world.specs.Link.{LinkStands}
+use Rattle.line_world.specs.Modems.{AreKept, has_turns}
+use Rattle.line_world.specs.Tally.{Tallies}
+use Rattle.line_world.specs.Turns.{AddsTurn, AddsChance, held_of}
+use Rattle.line_world.specs.World.{KnowsFiles}
 use Rattle.pair_run.specs.Pair.{Progress, Goes, Ended, turns_in, ends_in, turns_on_line, Lasts}
 use Rattle.pair_run.specs.Ends.{LeavesOf, text_of}
 use Rattle.link_pair.specs.declared.half.Half.{Half}

@@ -1,3 +1,9 @@
+pub mod Words
+pub mod Answers
+pub mod Ends
+pub mod Headline
+pub mod Completes
+pub mod Isolates
 pub mod Counts
 pub mod Half
 pub mod Pair

@@ -10,10 +10,10 @@ use Rattle.line_run.specs.Sampled.{Wire}
 use Rattle.line_run.specs.Ends.{Left}
 use Rattle.line_run.specs.Scripted.{link_of}
 use Rattle.line_run.specs.Stream.{Carried}
-use Rattle.shared_line.specs.Lines.{LinesWait, none_sent}
+use Rattle.line_world.specs.Lines.{LinesWait, none_sent}
 use Rattle.line_run.specs.Names.{Written, outputs_of, written}
-use Rattle.run_world.specs.Turns.{held_of}
-use Rattle.run_world.specs.World.{KnowsFiles}
+use Rattle.line_world.specs.Turns.{held_of}
+use Rattle.line_world.specs.World.{KnowsFiles}
 use Rattle.pair_run.specs.Beside.{first_dlci, second_dlci, first_wire, second_wire}
 use Rattle.pair_run.specs.Pair.{Progress, turns_in, turns_on_line, PairAt}
 use Rattle.pair_run.specs.Ends.{Which, First, Second, PairEnd, LineLost, ChanceMatch, end_of, is_going, firsts_at, PairRunsTo, by_links, by_line}
@@ -21,9 +21,9 @@ use Rattle.pair_run.specs.Stream.{both_sent, first_sent}
 use Rattle.link_pair.specs.declared.half.LinkEnd.{LinkEnd}
 use Rattle.link_pair.specs.declared.half.PairFault.{PairFault}
 use Rattle.link_pair.specs.declared.half.PairFault.TheVariants as faults
-use Rattle.link_pair.specs.declared.pair.Pair.{Pair}
-use Rattle.link_pair.specs.declared.pair.Endings.{Endings}
-use Rattle.link_pair.specs.declared.pair.PairNames.{PairNames}
+use Rattle.link_pair.specs.declared.two_links.Pair.{Pair}
+use Rattle.link_pair.specs.declared.two_links.Endings.{Endings}
+use Rattle.link_pair.specs.declared.two_links.PairNames.{PairNames}
 use Rattle.link_pair.specs.Half.{run_end, last_turn, StandsFor, StandsFirst, HoldLeft, LinkStops, LinkStopsReading}
 
 -- the files that are sent over both links, and all that is written, in the order of a pair's words

@@ -9,7 +9,7 @@ ghost use Rattle.line_run.specs.Scripted.{wire_at};
 ghost use Rattle.line_run.specs.Stream.{Carried, and_sent};
 ghost use Rattle.outside_calls.specs.Folder.{Appended, PartlyAppended, OnlyWrites};
 ghost use Rattle.outside_calls.specs.Outputs.{AreApartFrom, OnlyPuts};
-ghost use Rattle.shared_line.specs.Lines.{LinesWait, HaveArrived};
+ghost use Rattle.line_world.specs.Lines.{LinesWait, HaveArrived};
 ghost use Rattle.line_run.specs.Names.{inputs_of, outputs_of, written};
 ghost use Rattle.pair_run.specs.Beside.{idle_turn};
 ghost use Rattle.pair_run.specs.Pair.{Progress};
@@ -19,13 +19,11 @@ ghost use Rattle.link_pair.specs.Half as halves;
 use frame_check::Check;
 use lapm_frames::Sent;
 use line_run::laws::scripts_make_links;
+use line_world::{LineEnd, Lines, Modems, Names, RunFault, Step, append_chance};
 use link_run::laws::turns_deliver_what_came;
 use noise_script::Script;
 use outside_calls::{Folder, FolderFault, NoMemory};
-use run_world::{Modems, Names, RunFault, Step};
-use shared_line::{LineEnd, Lines};
 use shared_terms::{Both, Role};
-use stations::append_chance;
 use std::alloc::Global;
 
 /// How a link of a pair ended, and in which turn.

@@ -14,53 +14,53 @@ use Rattle.outside_calls.specs.Outputs.{KeepsAll}
 use Rattle.command_base.specs.Tells.{Tells}
 use Rattle.command_base.specs.Apart.{are_apart}
 use Rattle.run_inputs.specs.Words.{RunNames, inputs_of as run_inputs, outputs_of as run_outputs, named as run_named, names_of as run_names}
-use Rattle.run_command.specs.Ends.{run_job}
-use Rattle.run_command.specs.Headline.{Headline as RunHeadline}
-use Rattle.run_command.specs.Completes.{Completes as RunCompletes}
-use Rattle.encode_command.specs.Words.{EncodeNames, inputs_of as encode_inputs, outputs_of as encode_outputs, named as encode_named, names_of as encode_names}
-use Rattle.encode_command.specs.Ends.{encode_job}
-use Rattle.encode_command.specs.Headline.{Headline as EncodeHeadline}
-use Rattle.encode_command.specs.Completes.{Completes as EncodeCompletes}
-use Rattle.decode_command.specs.Words.{DecodeNames, inputs_of as decode_inputs, outputs_of as decode_outputs, named as decode_named, names_of as decode_names}
-use Rattle.decode_command.specs.Ends.{decode_job}
-use Rattle.decode_command.specs.Headline.{Headline as DecodeHeadline}
-use Rattle.decode_command.specs.Completes.{Completes as DecodeCompletes}
-use Rattle.frames_command.specs.Words.{FramesNames, named as frames_named, names_of as frames_names}
-use Rattle.frames_command.specs.Ends.{frames_job}
-use Rattle.frames_command.specs.Headline.{Headline as FramesHeadline}
-use Rattle.frames_command.specs.Completes.{Completes as FramesCompletes}
-use Rattle.xid_command.specs.Words.{digits_named}
-use Rattle.xid_command.specs.Ends.{xid_job}
-use Rattle.xid_command.specs.Completes.{Completes as XidCompletes}
-use Rattle.soak_command.specs.Words.{seed_named}
-use Rattle.soak_command.specs.Ends.{soak_job}
-use Rattle.soak_command.specs.Headline.{Headline as SoakHeadline}
-use Rattle.soak_command.specs.Completes.{Completes as SoakCompletes}
-use Rattle.peer_command.specs.Words.{Names as PeerNames, inputs_of as peer_inputs, outputs_of as peer_outputs, named as peer_named, names_of as peer_names}
-use Rattle.peer_command.specs.Ends.{peer_job}
-use Rattle.peer_command.specs.Headline.{Headline as PeerHeadline}
-use Rattle.peer_command.specs.Completes.{Completes as PeerCompletes}
-use Rattle.pickup_command.specs.Words.{recording_named}
-use Rattle.pickup_command.specs.Ends.{pickup_job}
-use Rattle.pickup_command.specs.Headline.{Headline as PickupHeadline}
-use Rattle.pickup_command.specs.Completes.{Completes as PickupCompletes}
-use Rattle.margin_command.specs.Words.{MarginNames, named as margin_named, names_of as margin_names}
-use Rattle.margin_command.specs.Ends.{margin_job}
-use Rattle.margin_command.specs.Headline.{Headline as MarginHeadline}
-use Rattle.margin_command.specs.Completes.{Completes as MarginCompletes}
-use Rattle.pair_command.specs.Words.{Names as PairNames, inputs_of as pair_inputs, outputs_of as pair_outputs, named as pair_named, names_of as pair_names}
-use Rattle.pair_command.specs.Ends.{pair_job}
-use Rattle.pair_command.specs.Headline.{Headline as PairHeadline}
-use Rattle.pair_command.specs.Completes.{Completes as PairCompletes}
-use Rattle.tap_command.specs.Names.{TapNames, inputs_of as tap_inputs, outputs_of as tap_outputs, named as tap_named}
-use Rattle.tap_command.specs.Words.{names_of as tap_names}
-use Rattle.tap_command.specs.Ends.{tap_job}
-use Rattle.tap_command.specs.Headline.{Headline as TapHeadline}
-use Rattle.tap_command.specs.Completes.{Completes as TapCompletes}
-use Rattle.audit_command.specs.Words.{AuditNames, named as audit_named, names_of as audit_names}
-use Rattle.audit_command.specs.Ends.{audit_job}
-use Rattle.audit_command.specs.Headline.{Headline as AuditHeadline}
-use Rattle.audit_command.specs.Completes.{Completes as AuditCompletes}
+use Rattle.run_commands.specs.Running.Ends.{run_job}
+use Rattle.run_commands.specs.Running.Headline.{Headline as RunHeadline}
+use Rattle.run_commands.specs.Running.Completes.{Completes as RunCompletes}
+use Rattle.signal_commands.specs.Encoding.Words.{EncodeNames, inputs_of as encode_inputs, outputs_of as encode_outputs, named as encode_named, names_of as encode_names}
+use Rattle.signal_commands.specs.Encoding.Ends.{encode_job}
+use Rattle.signal_commands.specs.Encoding.Headline.{Headline as EncodeHeadline}
+use Rattle.signal_commands.specs.Encoding.Completes.{Completes as EncodeCompletes}
+use Rattle.signal_commands.specs.Decoding.Words.{DecodeNames, inputs_of as decode_inputs, outputs_of as decode_outputs, named as decode_named, names_of as decode_names}
+use Rattle.signal_commands.specs.Decoding.Ends.{decode_job}
+use Rattle.signal_commands.specs.Decoding.Headline.{Headline as DecodeHeadline}
+use Rattle.signal_commands.specs.Decoding.Completes.{Completes as DecodeCompletes}
+use Rattle.frame_commands.specs.Listing.Words.{FramesNames, named as frames_named, names_of as frames_names}
+use Rattle.frame_commands.specs.Listing.Ends.{frames_job}
+use Rattle.frame_commands.specs.Listing.Headline.{Headline as FramesHeadline}
+use Rattle.frame_commands.specs.Listing.Completes.{Completes as FramesCompletes}
+use Rattle.frame_commands.specs.Explaining.Words.{digits_named}
+use Rattle.frame_commands.specs.Explaining.Ends.{xid_job}
+use Rattle.frame_commands.specs.Explaining.Completes.{Completes as XidCompletes}
+use Rattle.run_commands.specs.Soaking.Words.{seed_named}
+use Rattle.run_commands.specs.Soaking.Ends.{soak_job}
+use Rattle.run_commands.specs.Soaking.Headline.{Headline as SoakHeadline}
+use Rattle.run_commands.specs.Soaking.Completes.{Completes as SoakCompletes}
+use Rattle.run_commands.specs.Peering.Words.{Names as PeerNames, inputs_of as peer_inputs, outputs_of as peer_outputs, named as peer_named, names_of as peer_names}
+use Rattle.run_commands.specs.Peering.Ends.{peer_job}
+use Rattle.run_commands.specs.Peering.Headline.{Headline as PeerHeadline}
+use Rattle.run_commands.specs.Peering.Completes.{Completes as PeerCompletes}
+use Rattle.signal_commands.specs.PickingUp.Words.{recording_named}
+use Rattle.signal_commands.specs.PickingUp.Ends.{pickup_job}
+use Rattle.signal_commands.specs.PickingUp.Headline.{Headline as PickupHeadline}
+use Rattle.signal_commands.specs.PickingUp.Completes.{Completes as PickupCompletes}
+use Rattle.signal_commands.specs.Margins.Words.{MarginNames, named as margin_named, names_of as margin_names}
+use Rattle.signal_commands.specs.Margins.Ends.{margin_job}
+use Rattle.signal_commands.specs.Margins.Headline.{Headline as MarginHeadline}
+use Rattle.signal_commands.specs.Margins.Completes.{Completes as MarginCompletes}
+use Rattle.link_pair.specs.Words.{Names as PairNames, inputs_of as pair_inputs, outputs_of as pair_outputs, named as pair_named, names_of as pair_names}
+use Rattle.link_pair.specs.Ends.{pair_job}
+use Rattle.link_pair.specs.Headline.{Headline as PairHeadline}
+use Rattle.link_pair.specs.Completes.{Completes as PairCompletes}
+use Rattle.line_tap.specs.Names.{TapNames, inputs_of as tap_inputs, outputs_of as tap_outputs, named as tap_named}
+use Rattle.line_tap.specs.Words.{names_of as tap_names}
+use Rattle.line_tap.specs.Outcomes.{tap_job}
+use Rattle.line_tap.specs.Headline.{Headline as TapHeadline}
+use Rattle.line_tap.specs.Completes.{Completes as TapCompletes}
+use Rattle.trace_audit.specs.Words.{AuditNames, named as audit_named, names_of as audit_names}
+use Rattle.trace_audit.specs.Ends.{audit_job}
+use Rattle.trace_audit.specs.Headline.{Headline as AuditHeadline}
+use Rattle.trace_audit.specs.Completes.{Completes as AuditCompletes}
 use Rattle.modem_cli.specs.declared.top.Asked.{Asked as AskedInCode}
 use Rattle.modem_cli.specs.declared.top.Asked.TheVariants as code
 

@@ -4,21 +4,21 @@ ghost use Rattle.std.specs.Option.{option_map_or};
 ghost use Rattle.command_base.specs.Status.{PassesNoneOver};
 ghost use Rattle.modem_cli.specs.Modem.{Nothing, named, AreApart, asked, PromisesOf, AnswersBy, CompletesOf, usage};
 
-use audit_command::{AuditWords, audit, audit_words};
 use command_base::{Line, Status, tell, usage_line};
-use decode_command::{DecodeWords, decode, decode_words};
-use encode_command::{EncodeWords, encode, encode_words};
-use frames_command::{FramesWords, frames, frames_words};
-use margin_command::{MarginWords, margin, margin_words};
+use frame_commands::frames::{FramesWords, frames, frames_words};
+use frame_commands::xid::{xid, xid_words};
+use line_tap::{TapWords, tap, tap_words};
+use link_pair::{PairWords, pair, pair_words};
 use outside_calls::Folder;
-use pair_command::{PairWords, pair, pair_words};
-use peer_command::{PeerWords, peer, peer_words};
-use pickup_command::{pickup, pickup_words};
-use run_command::{RunWords, run, run_words};
-use soak_command::{soak, soak_words};
+use run_commands::peer::{PeerWords, peer, peer_words};
+use run_commands::run::{RunWords, run, run_words};
+use run_commands::soak::{soak, soak_words};
+use signal_commands::decode::{DecodeWords, decode, decode_words};
+use signal_commands::encode::{EncodeWords, encode, encode_words};
+use signal_commands::margin::{MarginWords, margin, margin_words};
+use signal_commands::pickup::{pickup, pickup_words};
 use std::alloc::Global;
-use tap_command::{TapWords, tap, tap_words};
-use xid_command::{xid, xid_words};
+use trace_audit::{AuditWords, audit, audit_words};
 
 /// A command, with the names that words give it.
 #[derive(Drop)]

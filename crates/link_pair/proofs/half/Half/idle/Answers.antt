@@ -2,8 +2,8 @@ use Rattle.std.proofs.Common.{refl, subst}
 use Rattle.shared_terms.specs.Both.{of}
 use Rattle.line_run.specs.Sampled.{EndsLineBy}
 use Rattle.line_run.specs.Scripted.{wire_at}
-use Rattle.shared_line.specs.Lines.{end_of}
-use Rattle.shared_line.specs.declared.directions.LineEnd.{LineEnd}
+use Rattle.line_world.specs.Lines.{end_of}
+use Rattle.line_world.specs.declared.directions.LineEnd.{LineEnd}
 use Rattle.line_run.specs.Names.{inputs_of, written}
 use Rattle.pair_run.specs.Pair.{turns_on_line}
 use Rattle.link_pair.proofs.Idling.{at-end, count-at, has-idled, lost-idly, met-idly, stopped-idly, writes-ends, writes-counts}

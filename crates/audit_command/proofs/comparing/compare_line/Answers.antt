@@ -1,6 +1,0 @@
-use Rattle.outside_calls.specs.Folder.{octets_at}
-use Rattle.audit_command.proofs.comparing.compare_line.Goals as goal
-
-pub returns-in-Ok-clause-compared : goal.returns-in-Ok-clause-compared
-returns-in-Ok-clause-compared g c = λ lines told h.
-    c.compare.ensures.compared (octets_at (g.F.Folder.state c.args.folder.now) c.args.trace.now) lines h (c.in-Ok.ensures.window told)

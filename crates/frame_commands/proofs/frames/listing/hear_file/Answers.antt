@@ -1,0 +1,19 @@
+use Rattle.std.proofs.Common.{[], arith}
+use Rattle.outside_calls.specs.Folder.{FolderState}
+use Rattle.outside_calls.proofs.Steps.{CountsStand-refl}
+use Rattle.outside_calls.proofs.OnlyOutputs.{OnlyOutputs-refl}
+use Rattle.frame_commands.specs.Listing.Words.{named}
+use Rattle.frame_commands.proofs.Listing.Listed.{heard-none-yet}
+use Rattle.frame_commands.proofs.frames.listing.hear_file.Goals as goal
+
+pub loop-listener-init : goal.loop-listener-init
+loop-listener-init g c =
+    let old : FolderState = g.F.Folder.state c.args.folder.now in
+    record {
+      within = omega arith;
+      pieces = omega (arith, c.new-listener.ensures.pieces);
+      heard = λ start b. heard-none-yet start old
+          (named c.args.names.now) c.new-listener.result b c.new-listener.ensures.sender c.new-listener.ensures.heard;
+      only = OnlyOutputs-refl old [];
+      stand = CountsStand-refl old;
+    }

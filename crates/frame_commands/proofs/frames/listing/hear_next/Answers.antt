@@ -1,0 +1,41 @@
+use Rattle.std.proofs.Common.{◌≡◌, inr, ℕ, ◌<◌, [], ◌++◌, IsTrue, take, subst, arith}
+use Rattle.outside_calls.specs.Folder.{octets_at}
+use Rattle.frame_commands.specs.Listing.Words.{named}
+use Rattle.frame_commands.proofs.Listing.Listed.{heard-part, heard-more, heard-whole, say-part}
+use Rattle.frame_commands.proofs.frames.listing.hear_next.Goals as goal
+
+pub returns-in-Ok-eq0-clause-end : goal.returns-in-Ok-eq0-clause-end
+returns-in-Ok-eq0-clause-end g c = λ start h zero.
+    let end : (count : ℕ) → count ≡ 0
+    → (count < 4096 → IsTrue (start.tells c.args.names.now.bits.now)
+    → h.octets ++ take count c.read_piece.new.piece ≡ octets_at start c.args.names.now.bits.now) →
+    IsTrue (start.tells c.args.names.now.bits.now) → h.octets ++ [] ≡ octets_at start c.args.names.now.bits.now =
+    λ count e f told. (subst (λ (m : ℕ). m < 4096
+    → h.octets ++ take m c.read_piece.new.piece ≡ octets_at start c.args.names.now.bits.now) e (λ few. f few told)) (omega arith) in
+    heard-whole start (g.F.Folder.state c.args.folder.now) (g.F.Folder.state c.read_piece.new.folder)
+    (named c.args.names.now) c.args.listener.now c.args.at h c.in-Ok-eq0.ensures.reads
+    (end c.in-Ok-eq0.field-0 c.in-Ok-eq0.field-0-test (c.in-Ok-eq0.ensures.end start h.octets h.read))
+
+pub returns-in-Err-clause-err : goal.returns-in-Err-clause-err
+returns-in-Err-clause-err g c = λ start h. inr (
+  h.read.within,
+  heard-part start (g.F.Folder.state c.args.folder.now) (g.F.Folder.state c.read_piece.new.folder)
+      (named c.args.names.now) c.args.listener.now c.args.at h c.in-Err.ensures.reads,
+)
+
+pub returns-in-Ok-hear-clause-ok : goal.returns-in-Ok-hear-clause-ok
+returns-in-Ok-hear-clause-ok g c = λ start h.
+    heard-more start (g.F.Folder.state c.args.folder.now) (g.F.Folder.state c.read_piece.new.folder) (g.F.Folder.state c.hear.new.folder)
+    (named c.args.names.now) c.args.listener.now c.hear.new.self c.args.at c.in-Ok.count
+    (take c.in-Ok.count c.read_piece.new.piece) h
+    (c.in-Ok.ensures.more start h.octets h.read) c.in-Ok.ensures.reads c.in-Ok-hear.ensures.only c.in-Ok-hear.ensures.sender
+    c.in-Ok-hear.ensures.ok
+
+pub returns-in-Err-hear-clause-err : goal.returns-in-Err-hear-clause-err
+returns-in-Err-hear-clause-err g c = λ start h. (
+  h.read.within,
+  say-part start (g.F.Folder.state c.args.folder.now) (g.F.Folder.state c.read_piece.new.folder) (g.F.Folder.state c.hear.new.folder)
+      (named c.args.names.now) c.args.listener.now c.args.at c.in-Ok.count
+      (take c.in-Ok.count c.read_piece.new.piece) h
+      (c.in-Ok.ensures.more start h.octets h.read) c.in-Ok.ensures.reads c.in-Err-hear.ensures.err,
+)

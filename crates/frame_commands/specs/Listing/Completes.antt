@@ -1,0 +1,11 @@
+-- When nothing but want of memory keeps the command from being done.
+use Rattle.std.specs.Prelude.{◌≤◌, IsTrue, [], ◌∷◌, length}
+use Rattle.outside_calls.specs.Folder.{FolderState, octets_at}
+use Rattle.command_base.specs.declared.status.Status.{Status}
+use Rattle.command_base.specs.Sound.{IsSound, DoneUnlessMemory}
+use Rattle.frame_commands.specs.Listing.Words.{FramesNames}
+
+-- the file is told and has at most 1,048,576 octets, and the folder is sound
+abbrev pub Completes : FolderState → FolderState → FramesNames → Status → Type 0
+Completes old new n s = IsSound old new (n.bits ∷ []) [] → IsTrue (old.tells n.bits) → length (octets_at old n.bits) ≤ 1048576
+    → DoneUnlessMemory s

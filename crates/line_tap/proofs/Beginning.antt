@@ -1,0 +1,64 @@
+-- A tap before its first turn.
+use Rattle.std.proofs.Common.{◌≡◌, ℕ, ◌*◌, ◌≤◌, Bool, true, false, [], length, arith, refl, sym, ◌∙◌, ap, subst, min}
+use Rattle.shared_terms.specs.declared.role.Role.TheVariants.{Originator, Answerer}
+use Rattle.xid_params.specs.declared.offer.Offer.{Offer}
+use Rattle.xid_params.specs.declared.terms.Terms.{Terms}
+use Rattle.xid_params.specs.Offers.{IsAllowed}
+use Rattle.xid_params.specs.Terms.{lowered, agree}
+use Rattle.line_run.specs.Stream.{both_sent_by}
+use Rattle.line_world.specs.Lines.{AreWaiting}
+use Rattle.link_run.specs.Listened.{check_by}
+use Rattle.line_tap.specs.Tapping.{Tapping, tapping, line_of, terms_of}
+use Rattle.line_tap.specs.declared.tapping.Tap.{Tap}
+use Rattle.line_tap.specs.End.{ReadsOn}
+use Rattle.line_tap.specs.Listener.{ListensFor}
+use Rattle.line_tap.specs.Tap.{TapAfter}
+use Rattle.line_tap.specs.Turns.{no_octets}
+
+lowered-low : (b : Bool) (n : ℕ) → 1 ≤ n → 1 ≤ lowered b n
+lowered-low true n h = omega (arith, h)
+lowered-low false n h = h
+
+lowered-high : (b : Bool) (n : ℕ) → n ≤ 127 → lowered b n ≤ 127
+lowered-high true n h = omega (arith, h)
+lowered-high false n h = h
+
+pub window-low : (o a : Offer) → IsAllowed o → IsAllowed a → 1 ≤ (agree o a).window_o
+window-low o a h k = lowered-low _ (min o.tx_window a.rx_window) (omega (arith, h.tx_window_low, k.rx_window_low))
+
+pub window-high : (o a : Offer) → IsAllowed o → IsAllowed a → (agree o a).window_o ≤ 127
+window-high o a h k = lowered-high _ (min o.tx_window a.rx_window) (omega (arith, h.tx_window_high, k.rx_window_high))
+
+pub after-none : (tap : Tap) (terms : Terms) (x : Tapping) (symbols : ℕ) → x ≡ tapping tap.script no_octets → terms ≡ terms_of x
+    → symbols ≡ (line_of x).symbols → tap.at ≡ 8 → tap.turn ≡ 0
+    → ListensFor tap.orig.listener terms Originator [] → ListensFor tap.answ.listener terms Answerer []
+    → ReadsOn tap.orig.reader (line_of x) (check_by terms) Originator [] [] → ReadsOn tap.answ.reader (line_of x) (check_by terms) Answerer [] []
+    → length tap.orig.piece.items ≡ 4 * symbols → length tap.answ.piece.items ≡ 4 * symbols
+    → AreWaiting tap.lines (line_of x) 1 (both_sent_by 0 []) → TapAfter tap x []
+after-none tap terms x symbols e same size at turn lo la ro ra po pa lines =
+    subst (λ (y : Tapping). TapAfter tap y []) (sym e) there
+  where
+    z : Tapping
+    z = tapping tap.script no_octets
+
+    same-z : terms ≡ terms_of z
+    same-z = same ∙ ap terms_of e
+
+    there : TapAfter tap z []
+    there = record {
+      behind = record {
+        script_is = refl;
+        tells = tt;
+        turn = turn;
+        at = omega (arith, at);
+        orig = subst (λ k. ReadsOn tap.orig.reader (line_of z) (check_by k) Originator [] []) same-z
+            (subst (λ (y : Tapping). ReadsOn tap.orig.reader (line_of y) (check_by terms) Originator [] []) e ro);
+        answ = subst (λ k. ReadsOn tap.answ.reader (line_of z) (check_by k) Answerer [] []) same-z
+            (subst (λ (y : Tapping). ReadsOn tap.answ.reader (line_of y) (check_by terms) Answerer [] []) e ra);
+        orig_room = po ∙ ap (λ n. 4 * n) (size ∙ ap (λ (y : Tapping). (line_of y).symbols) e);
+        answ_room = pa ∙ ap (λ n. 4 * n) (size ∙ ap (λ (y : Tapping). (line_of y).symbols) e);
+      };
+      orig = subst (λ k. ListensFor tap.orig.listener k Originator []) same-z lo;
+      answ = subst (λ k. ListensFor tap.answ.listener k Answerer []) same-z la;
+      lines = subst (λ (y : Tapping). AreWaiting tap.lines (line_of y) 1 (both_sent_by 0 [])) e lines;
+    }

@@ -1,0 +1,148 @@
+-- From every answer to that which right inputs have.
+use Rattle.std.proofs.Common.{◌≡◌, ◌⊎◌, inl, inr, ℕ, ◌≤◌, ◌<◌, true, nat_eq, List, [], ◌++◌, length, take, drop, IsTrue, Result, refl, sym, ◌∙◌, ap, subst, arith}
+use Rattle.std.specs.Prelude.{slice_index}
+use Rattle.std.proofs.lemmas.Bool.Decides.{nat_tests}
+use Rattle.std.proofs.lemmas.Bool.{false≢true}
+use Rattle.scramblers.specs.declared.mode.Mode.{Mode}
+use Rattle.scramblers.specs.declared.mode.Mode.TheVariants.{Call, Answer}
+use Rattle.outside_calls.specs.Folder.{FolderState, octets_at}
+use Rattle.outside_calls.specs.Outputs.{HoldEach, OnlyOutputs}
+use Rattle.outside_calls.proofs.Putting.{HoldEach-kept}
+use Rattle.shared_terms.specs.declared.role.Role.TheVariants.{Originator, Answerer}
+use Rattle.shared_terms.specs.Both.{Both}
+use Rattle.recordings.specs.Recording.{header_of}
+use Rattle.noise_script.specs.Script.{ScriptValue, IsInLimits}
+use Rattle.noise_script.specs.Laws.{ScriptsAreOne, NoFaultInScripts}
+use Rattle.line_run.specs.Ends.{Left}
+use Rattle.line_tap.specs.Tapping.{tapping}
+use Rattle.line_tap.specs.Ends.{TapEnd, TapOf}
+use Rattle.line_tap.specs.Ends as ends
+use Rattle.line_tap.specs.Laws.{TellsOnce}
+use Rattle.command_base.specs.declared.status.Status.{Status}
+use Rattle.command_base.specs.declared.status.Status.TheVariants.{BadScript, BadRecording, TooLong, LineLost, ChanceMatch, BadTap, NoMemory}
+use Rattle.command_base.specs.declared.stop.Stop.{Stop}
+use Rattle.command_base.specs.declared.stop.Stop.TheVariants as stops
+use Rattle.command_base.specs.Inputs.{IsWithin, IsLonger}
+use Rattle.command_base.specs.Job.{Answers}
+use Rattle.command_base.specs.Lines.{turns_line}
+use Rattle.command_base.proofs.Jobs.{Comes, is_done, is_own, is_memory, comes-to, last-only}
+use Rattle.run_inputs.specs.Inputs.{RefusesOwn}
+use Rattle.line_tap.specs.Names.{TapNames, outputs_of, recordings_of}
+use Rattle.line_tap.specs.Turn.{held_of}
+use Rattle.line_tap.specs.declared.limits.TheConstants.{LIMITS}
+use Rattle.line_tap.specs.Headers.{IsNotHeader, HasNoHeader}
+use Rattle.line_tap.specs.Outcomes.{IsRefused, Tapped, TappedBy, EndsBy, Ends, tap_job}
+use Rattle.line_tap.specs.Answers.{answer_of}
+use Rattle.line_tap.specs.Completes.{AreRight, Answered, Completes}
+use Rattle.line_tap.proofs.Headline.{keeps-each}
+
+-- ---- right inputs are not refused
+
+script-fits : (count : ℕ) → count ≤ 65536 → LIMITS.script < count → ⊥
+script-fits count within longer = omega (arith, within, longer)
+
+file-fits : (count : ℕ) → count ≤ 268435456 → LIMITS.file < count → ⊥
+file-fits count within longer = omega (arith, within, longer)
+
+-- for their lengths, or for the script,
+never-own : NoFaultInScripts → (old : FolderState) (n : TapNames) (script : ScriptValue) (bodies : Both (List ℕ)) (answer : Status)
+    → AreRight old n script bodies → RefusesOwn LIMITS old n.script 3 (recordings_of n) 1 answer → ⊥
+never-own law old n script bodies (TooLong word) r (inl s) =
+    script-fits (length (octets_at old n.script)) r.script_short (s.longer r.script_told)
+never-own law old n script bodies (TooLong word) r (inr f) = by f.first
+  where
+    by : (((word ≡ 1) × IsLonger old n.rec_o LIMITS.file)
+        ⊎ (IsWithin old n.rec_o LIMITS.file × (((word ≡ 2) × IsLonger old n.rec_a LIMITS.file) ⊎ (IsWithin old n.rec_a LIMITS.file × ⊥)))) → ⊥
+    by (inl o) = file-fits (length (octets_at old n.rec_o)) r.orig_short (o.1 r.orig_told)
+    by (inr (w, inl a)) = file-fits (length (octets_at old n.rec_a)) r.answ_short (a.1 r.answ_told)
+    by (inr (w, inr a)) = a.1
+never-own law old n script bodies (BadScript line cause) r s = law (octets_at old n.script) script line cause r.spelled (s.first r.script_told)
+never-own law old n script bodies answer r never = never
+
+-- or for a header
+same-number : (n : ℕ) → nat_eq n n ≡ true
+same-number n = grind (arith, nat_tests)
+
+header-fits : (mode : Mode) (at : ℕ) → IsNotHeader mode (header_of mode) at → ⊥
+header-fits mode at h = elim h.here [
+  | inl end ↦ omega (arith, h.within, end)
+  | inr other ↦ false≢true (sym other.1 ∙ same-number (slice_index (header_of mode) at))
+]
+
+never-header : (old : FolderState) (name : List ℕ) (mode : Mode) (body : List ℕ) (answer : Status) → IsTrue (old.tells name)
+    → octets_at old name ≡ header_of mode ++ body → HasNoHeader old name mode answer → ⊥
+never-header old name mode body (BadRecording at) told is h =
+    header-fits mode at (subst (λ (xs : List ℕ). IsNotHeader mode (take 8 xs) at) is (h told))
+never-header old name mode body answer told is h = h
+
+never-refused : NoFaultInScripts → (old before : FolderState) (n : TapNames) (script : ScriptValue) (bodies : Both (List ℕ)) (answer : Status)
+    → AreRight old n script bodies → IsRefused LIMITS old before n (stops.Own answer) → ⊥
+never-refused law old before n script bodies answer r (inl own) = never-own law old n script bodies answer r own
+never-refused law old before n script bodies answer r (inr refused) = elim refused.bad [
+  | inl orig ↦ never-header old n.rec_o Call bodies.orig answer r.orig_told r.orig_is orig
+  | inr answ ↦ never-header old n.rec_a Answer bodies.answ answer r.answ_told r.answ_is answ.1
+]
+
+-- ---- the tap that was made is the one of these inputs
+
+same-script : ScriptsAreOne → (old before : FolderState) (n : TapNames) (script : ScriptValue) (bodies : Both (List ℕ)) (found : TapEnd)
+    → AreRight old n script bodies → (e : Tapped LIMITS old before n found) → script ≡ e.script
+same-script law old before n script bodies found r e =
+    law (octets_at old n.script) script e.script r.spelled (e.opens.reads.spelled r.script_told)
+
+-- octets behind one header are one
+behind-one : (mode : Mode) (octets a b : List ℕ) → octets ≡ header_of mode ++ a → octets ≡ header_of mode ++ b → a ≡ b
+behind-one mode octets a b is other = ap (λ (xs : List ℕ). drop 8 xs) (sym is ∙ other)
+
+inputs-tap : ScriptsAreOne → (old before : FolderState) (n : TapNames) (script : ScriptValue) (bodies : Both (List ℕ)) (found : TapEnd)
+    → AreRight old n script bodies → (e : Tapped LIMITS old before n found) → TapOf (tapping script bodies) found e.ends.left
+inputs-tap law old before n script bodies found r e =
+    let orig : bodies.orig ≡ e.ends.bodies.orig =
+    behind-one Call (octets_at old n.rec_o) bodies.orig e.ends.bodies.orig r.orig_is (e.ends.knows Originator r.orig_told) in
+    let answ : bodies.answ ≡ e.ends.bodies.answ =
+    behind-one Answer (octets_at old n.rec_a) bodies.answ e.ends.bodies.answ r.answ_is (e.ends.knows Answerer r.answ_told) in
+    let at-orig : TapOf (tapping e.script (record { orig = bodies.orig; answ = e.ends.bodies.answ })) found e.ends.left =
+    subst (λ (o : List ℕ). TapOf (tapping e.script (record { orig = o; answ = e.ends.bodies.answ })) found e.ends.left) (sym orig) e.ends.tap in
+    let at-both : TapOf (tapping e.script bodies) found e.ends.left =
+    subst (λ (a : List ℕ). TapOf (tapping e.script (record { orig = bodies.orig; answ = a })) found e.ends.left) (sym answ) at-orig in
+    subst (λ (s : ScriptValue). TapOf (tapping s bodies) found e.ends.left) (sym (same-script law old before n script bodies found r e)) at-both
+
+answered : TellsOnce → ScriptsAreOne → (old before new : FolderState) (n : TapNames) (s : Status) (script : ScriptValue) (bodies : Both (List ℕ))
+    (found end : TapEnd) (left : Left) → OnlyOutputs before new [] → AreRight old n script bodies → Tapped LIMITS old before n found
+    → TapOf (tapping script bodies) end left → s ≡ answer_of found → Answered new n end left s
+answered once scripts old before new n s script bodies found end left last r e tap is =
+    let limits : IsInLimits script = subst IsInLimits (sym (same-script scripts old before n script bodies found r e)) e.limits in
+    let one = once (tapping script bodies) found end e.ends.left left limits (inputs-tap scripts old before n script bodies found r e) tap in
+    record {
+      answer = is ∙ ap answer_of one.0;
+      holds = subst (λ (l : Left). HoldEach new (outputs_of n) (held_of l)) one.1
+          (HoldEach-kept before new (outputs_of n) (held_of e.ends.left) last.goes_on e.ends.holds (keeps-each before new last (outputs_of n)));
+    }
+
+-- the end that an answer names
+own-tapped : (old before : FolderState) (n : TapNames) (answer : Status) → TappedBy LIMITS old before n answer
+    → (found : TapEnd) × (answer ≡ answer_of found) × Tapped LIMITS old before n found
+own-tapped old before n (LineLost role symbol) e = (ends.LineLost role symbol, refl, e)
+own-tapped old before n (ChanceMatch role turn) e = (ends.ChanceMatch role turn, refl, e)
+own-tapped old before n (BadTap role turn) e = (ends.BadTap role turn, refl, e)
+own-tapped old before n answer e = absurd e
+
+pub completes-of : TellsOnce → ScriptsAreOne → NoFaultInScripts → (words : List (List ℕ)) (old new : FolderState) (n : TapNames) (s : Status)
+    → Answers (tap_job n) words old new s → Completes old new n s
+completes-of once scripts apart words old new n s a sound script bodies r end left tap = by (comes-to (tap_job n) words old new s a sound)
+  where
+    last : OnlyOutputs a.before new []
+    last = last-only turns_line words a.before new a.end s a.says
+
+    own : (answer : Status) → s ≡ answer → EndsBy LIMITS old a.before n (stops.Own answer) → Answered new n end left s ⊎ (s ≡ NoMemory)
+    own answer e (inl refused) = absurd (never-refused apart old a.before n script bodies answer r refused.1)
+    own answer e (inr tapped) =
+        let by-end = own-tapped old a.before n answer tapped in
+        inl (answered once scripts old a.before new n s script bodies by-end.0 end left last r by-end.2 tap (e ∙ by-end.1))
+
+    by : Comes a.end s → Answered new n end left s ⊎ (s ≡ NoMemory)
+    by (is_done turns is e) =
+        inl (answered once scripts old a.before new n s script bodies (ends.IsDone turns) end left last r
+        (subst (λ (x : Result ℕ Stop). Ends LIMITS old a.before n x) is a.ends.0) tap e)
+    by (is_own answer is e) = own answer e (subst (λ (x : Result ℕ Stop). Ends LIMITS old a.before n x) is a.ends.0)
+    by (is_memory e) = inr e

@@ -1,0 +1,78 @@
+-- What is read of a recording to look at its header.
+use Rattle.std.proofs.Common.{◌≡◌, ◌∙◌, inl, inr, ℕ, ◌+◌, ◌≤◌, ◌<◌, List, [], ◌∷◌, IsTrue, length, take, sym, ap, arith}
+use Rattle.std.proofs.lemmas.List.{take_all}
+use Rattle.std.proofs.lemmas.Bool.{cases_lt}
+use Rattle.scramblers.specs.declared.mode.Mode.{Mode}
+use Rattle.scramblers.specs.declared.mode.Mode.TheVariants.{Call, Answer}
+use Rattle.outside_calls.specs.Folder.{FolderState, octets_at}
+use Rattle.outside_calls.specs.Outputs.{SomeRose}
+use Rattle.outside_calls.specs.declared.folder.FolderFault.TheVariants as folder
+use Rattle.shared_terms.specs.declared.role.Role.TheVariants.{Originator, Answerer}
+use Rattle.recordings.specs.Recording.{header_of}
+use Rattle.noise_script.specs.Script.{ScriptValue}
+use Rattle.command_base.specs.declared.stop.Stop.{Stop}
+use Rattle.command_base.specs.declared.stop.Stop.TheVariants.{Own, Read, Write, Say, NoMemory}
+use Rattle.command_base.specs.Inputs.{ReadTo}
+use Rattle.command_base.specs.Stops.{StopCounts}
+use Rattle.run_inputs.specs.declared.limits.Limits.{Limits}
+use Rattle.run_inputs.specs.Inputs.{Opens}
+use Rattle.line_tap.specs.declared.limits.TheConstants.{TAP_LIMIT}
+use Rattle.line_tap.specs.Names.{TapNames, recordings_of}
+use Rattle.line_tap.specs.Tap.{AreReadTo}
+use Rattle.line_tap.specs.Turns.{no_octets}
+use Rattle.line_tap.specs.Headers.{HasHeader, NoHeader}
+use Rattle.line_tap.specs.Outcomes.{IsRefused}
+
+-- the octets that a header is looked for in
+pub header-octets : (start new : FolderState) (name : List ℕ) (count : ℕ) (piece : List ℕ) → count ≤ 8
+    → ReadTo start new name TAP_LIMIT (0 + count) piece → (count < 8 → IsTrue (start.tells name) → piece ≡ octets_at start name)
+    → IsTrue (start.tells name) → piece ≡ take 8 (octets_at start name)
+header-octets start new name count piece few r all told = elim (cases_lt count 8) [
+  | inl short ↦ all short told ∙ sym
+      (take_all 8 (octets_at start name) (omega (arith, short, r.count, ap (λ (xs : List ℕ). length xs) (all short told))))
+  | inr long ↦ let is : 0 + count ≡ 8 = omega (arith, few, long) in r.front told ∙ ap (λ m. take m (octets_at start name)) is
+]
+
+-- both recordings were read up to the octets behind their headers
+pub both-read : (start now : FolderState) (n : TapNames) → ReadTo start now n.rec_o TAP_LIMIT 8 (header_of Call)
+    → ReadTo start now n.rec_a TAP_LIMIT 8 (header_of Answer) → AreReadTo start now n no_octets
+both-read start now n orig answ Originator = orig
+both-read start now n orig answ Answerer = answ
+
+-- a recording has no header: the originator's,
+pub orig-refused : (l : Limits) (old new : FolderState) (n : TapNames) (script : ScriptValue) (stop : Stop)
+    → Opens l old n.script (recordings_of n) script → NoHeader old n.rec_o Call stop → StopCounts old new (n.rec_o ∷ []) [] stop
+    → IsRefused l old new n stop
+orig-refused l old new n script (Own answer) opens bad counts = inr (record { script = script; opens = opens; bad = inl bad })
+orig-refused l old new n script (Read fault) opens bad counts = inr (record { script = script; opens = opens; fails = inl counts })
+orig-refused l old new n script (Write fault) opens bad counts = bad
+orig-refused l old new n script (Say fault) opens bad counts = bad
+orig-refused l old new n script NoMemory opens bad counts = absurd bad
+
+-- what was read of a recording is its header
+pub header-read : (start now : FolderState) (name : List ℕ) (mode : Mode) → ReadTo start now name TAP_LIMIT 8 (header_of mode)
+    → HasHeader start name mode
+header-read start now name mode r told = sym (r.front told)
+
+-- or the answerer's alone
+pub answ-refused : (l : Limits) (old new : FolderState) (n : TapNames) (script : ScriptValue) (stop : Stop)
+    → Opens l old n.script (recordings_of n) script → HasHeader old n.rec_o Call → NoHeader old n.rec_a Answer stop
+    → StopCounts old new (n.rec_a ∷ []) [] stop → IsRefused l old new n stop
+answ-refused l old new n script (Own answer) opens good bad counts =
+    inr (record { script = script; opens = opens; bad = inr (good, bad) })
+answ-refused l old new n script (Read fault) opens good bad counts =
+    inr (record { script = script; opens = opens; fails = inr (good, counts) })
+answ-refused l old new n script (Write fault) opens good bad counts = bad
+answ-refused l old new n script (Say fault) opens good bad counts = bad
+answ-refused l old new n script NoMemory opens good bad counts = absurd bad
+
+-- a fault of some inputs is one of all
+pub stop-widened : (old new : FolderState) (some all outputs : List (List ℕ)) (stop : Stop)
+    → (SomeRose old.read_faults new.read_faults some → SomeRose old.read_faults new.read_faults all) → StopCounts old new some outputs stop
+    → StopCounts old new all outputs stop
+stop-widened old new some all outputs (Own answer) wide counts = counts
+stop-widened old new some all outputs (Read folder.Failed) wide counts = wide counts
+stop-widened old new some all outputs (Read folder.NoMemory) wide counts = counts
+stop-widened old new some all outputs (Write fault) wide counts = counts
+stop-widened old new some all outputs (Say fault) wide counts = counts
+stop-widened old new some all outputs NoMemory wide counts = counts

@@ -1,0 +1,111 @@
+-- From every answer to the headline, and to the answer that right inputs have.
+use Rattle.std.proofs.Common.{◌≡◌, ◌⊎◌, inl, inr, ℕ, Bool, true, false, List, [], ◌∷◌, ◌++◌, Result, Ok, Err, refl, sym, ◌∙◌, ap, subst}
+use Rattle.std.specs.Option.{option_map}
+use Rattle.std.proofs.lemmas.Bool.{false≢true}
+use Rattle.scramblers.specs.declared.mode.Mode.{Mode}
+use Rattle.scramblers.specs.declared.mode.Mode.TheVariants.{Call, Answer}
+use Rattle.outside_calls.specs.Folder.{FolderState}
+use Rattle.outside_calls.specs.declared.folder.FolderFault.{FolderFault}
+use Rattle.outside_calls.specs.declared.folder.FolderFault.TheVariants as folder
+use Rattle.outside_calls.specs.Outputs.{KeepsAll, KeepsEach, OnlyOutputs}
+use Rattle.outside_calls.proofs.Putting.{HoldEach-kept}
+use Rattle.line_tap.specs.Ends.{TapEnd, TapOf}
+use Rattle.line_tap.specs.Ends as ends
+use Rattle.command_base.specs.declared.status.Status.{Status}
+use Rattle.command_base.specs.declared.status.Status.TheVariants.{Done, ReadFault, WriteFault, LineLost, ChanceMatch, BadTap}
+use Rattle.command_base.specs.declared.stop.Stop.{Stop}
+use Rattle.command_base.specs.declared.stop.Stop.TheVariants as stops
+use Rattle.command_base.specs.Stops.{fault_status, end_status}
+use Rattle.command_base.specs.Job.{Answers}
+use Rattle.command_base.specs.Lines.{turns_line}
+use Rattle.command_base.proofs.Answering.{IsPlain}
+use Rattle.command_base.proofs.Jobs.{last-only, last-plain, done-of, shared-of}
+use Rattle.run_inputs.specs.Inputs.{RefusesOwn}
+use Rattle.line_tap.specs.Names.{TapNames, outputs_of, recordings_of}
+use Rattle.line_tap.specs.Turn.{held_of}
+use Rattle.line_tap.specs.declared.limits.TheConstants.{LIMITS}
+use Rattle.line_tap.specs.Headers.{HasNoHeader}
+use Rattle.line_tap.specs.Outcomes.{IsRefused, Tapped, EndsBy, Ends, tap_job}
+use Rattle.line_tap.specs.Headline.{Told, ToldBy, Headline}
+
+pub keeps-each : (a b : FolderState) → OnlyOutputs a b [] → (names : List (List ℕ)) → KeepsEach a b names
+keeps-each a b last [] = tt
+keeps-each a b last (name ∷ names) = (last.names name tt, keeps-each a b last names)
+
+-- ---- the headline
+
+told-of : (old before new : FolderState) (n : TapNames) (end : TapEnd) → OnlyOutputs before new [] → Tapped LIMITS old before n end
+    → Told old new n end
+told-of old before new n end last e = record {
+  script = e.script;
+  limits = e.limits;
+  bodies = e.ends.bodies;
+  are_of = record { script_is = e.opens.reads.spelled; bodies_are = e.ends.knows };
+  left = e.ends.left;
+  tap = e.ends.tap;
+  holds = HoldEach-kept before new (outputs_of n) (held_of e.ends.left) last.goes_on e.ends.holds (keeps-each before new last (outputs_of n));
+}
+
+-- answers by which a tap itself ends
+abbrev is_tap_end : Status → Bool
+is_tap_end (LineLost role symbol) = true
+is_tap_end (ChanceMatch role turn) = true
+is_tap_end (BadTap role turn) = true
+is_tap_end answer = false
+
+plain-end : (s : Status) → is_tap_end s ≡ true → IsPlain s
+plain-end s e = record { write = λ f. false≢true (ap is_tap_end (sym f) ∙ e); memory = λ f. false≢true (ap is_tap_end (sym f) ∙ e) }
+
+no-fault : (failed : Status) (fault : FolderFault) → is_tap_end failed ≡ false → is_tap_end (fault_status failed fault) ≡ true → ⊥
+no-fault failed folder.Failed f e = false≢true (sym f ∙ e)
+no-fault failed folder.NoMemory f e = false≢true e
+
+own-end : (end : Result ℕ Stop) (s : Status) → is_tap_end s ≡ true → end_status end ≡ s → end ≡ Err (stops.Own s)
+own-end (Ok turns) s e f = absurd (false≢true (ap is_tap_end f ∙ e))
+own-end (Err (stops.Own answer)) s e f = ap (λ x. Err (stops.Own x)) f
+own-end (Err (stops.Read fault)) s e f = absurd (no-fault ReadFault fault refl (ap is_tap_end f ∙ e))
+own-end (Err (stops.Write fault)) s e f = absurd (no-fault WriteFault fault refl (ap is_tap_end f ∙ e))
+own-end (Err (stops.Say fault)) s e f = absurd (no-fault WriteFault fault refl (ap is_tap_end f ∙ e))
+own-end (Err stops.NoMemory) s e f = absurd (false≢true (ap is_tap_end f ∙ e))
+
+-- the answer is that of the reading's end
+own-ends : (words : List (List ℕ)) (old new : FolderState) (n : TapNames) (s t : Status) (a : Answers (tap_job n) words old new s)
+    → is_tap_end t ≡ true → s ≡ t → EndsBy LIMITS old a.before n (stops.Own t)
+own-ends words old new n s t a e f =
+    let is = own-end a.end t e (last-plain turns_line words a.before new a.end s t a.says f (plain-end t e)) in
+    subst (Ends LIMITS old a.before n) is a.ends.0
+
+-- inputs aren't refused by these answers
+not-refused : {P : Type 0} → (old before : FolderState) (n : TapNames) (answer : Status)
+    → (RefusesOwn LIMITS old n.script 3 (recordings_of n) 1 answer → ⊥) → ((mode : Mode) (name : List ℕ) → HasNoHeader old name mode answer → ⊥)
+    → (KeepsAll old before × IsRefused LIMITS old before n (stops.Own answer)) ⊎ P → P
+not-refused old before n answer never none (inl (kept, inl r)) = absurd (never r)
+not-refused old before n answer never none (inl (kept, inr r)) =
+    absurd (elim r.bad [ inl o ↦ none Call n.rec_o o | inr a ↦ none Answer n.rec_a a.1 ])
+not-refused old before n answer never none (inr p) = p
+
+told-by : (words : List (List ℕ)) (old new : FolderState) (n : TapNames) (s t : Status) (a : Answers (tap_job n) words old new s)
+    → OnlyOutputs a.before new [] → s ≡ t → ToldBy old new n t
+told-by words old new n s Done a last e = let d = done-of (tap_job n) words old new s a e in (
+  d.done,
+  d.said ∙ ap (option_map (λ x. x ++ turns_line d.done)) d.ends.1,
+  told-of old a.before new n (ends.IsDone d.done) last d.ends.0,
+)
+told-by words old new n s (LineLost role symbol) a last e =
+    told-of old a.before new n _ last
+    (not-refused old a.before n (LineLost role symbol) (λ x. x) (λ mode name x. x) (own-ends words old new n s (LineLost role symbol) a refl e))
+told-by words old new n s (ChanceMatch role turn) a last e =
+    told-of old a.before new n _ last
+    (not-refused old a.before n (ChanceMatch role turn) (λ x. x) (λ mode name x. x) (own-ends words old new n s (ChanceMatch role turn) a refl e))
+told-by words old new n s (BadTap role turn) a last e =
+    told-of old a.before new n _ last
+    (not-refused old a.before n (BadTap role turn) (λ x. x) (λ mode name x. x) (own-ends words old new n s (BadTap role turn) a refl e))
+told-by words old new n s t a last e = tt
+
+-- the headline holds of every answer
+pub headline-of : (words : List (List ℕ)) (old new : FolderState) (n : TapNames) (s : Status) → Answers (tap_job n) words old new s
+    → Headline old new n s
+headline-of words old new n s a = record {
+  shared = shared-of (tap_job n) words old new s a (λ e. e.0.0);
+  told = told-by words old new n s s a (last-only turns_line words a.before new a.end s a.says) refl;
+}

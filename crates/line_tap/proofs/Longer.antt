@@ -1,0 +1,103 @@
+-- What more octets of the recordings leave as it was.
+use Rattle.std.proofs.Common.{◌≡◌, ℕ, ◌+◌, ◌*◌, ◌≤◌, List, [], ◌∷◌, ◌++◌, length, take, arith, length-append, sym, ◌∙◌, ap, subst, append-nil}
+use Rattle.std.proofs.lemmas.List.{take-append-le}
+use Rattle.std.specs.Prelude.{drop}
+use Rattle.std.specs.List.{concat}
+use Rattle.std.proofs.Math.Seq.{drop-append_seam}
+use Rattle.std.proofs.lemmas.List.Folds.{concat-append}
+use Rattle.scramblers.specs.Mode.{tap_of}
+use Rattle.frame_check.specs.declared.check.Check.{Check}
+use Rattle.shared_terms.specs.declared.role.Role.{Role}
+use Rattle.shared_terms.specs.declared.role.Role.TheVariants.{Originator, Answerer}
+use Rattle.shared_terms.specs.Role.{mode_of}
+use Rattle.shared_terms.specs.Both.{Both, of}
+use Rattle.line_coding.specs.Modulates.{Modulates}
+use Rattle.recordings.specs.Samples.{samples_in}
+use Rattle.lapm_frames.specs.declared.frame.Frame.TheVariants.{I}
+use Rattle.lapm_frames.specs.declared.heard.Heard.{Heard}
+use Rattle.lapm_frames.specs.declared.heard.Heard.TheVariants.{Passed}
+use Rattle.lapm_frames.specs.declared.sent.Sent.{Sent}
+use Rattle.lapm_frames.specs.declared.sent.Sent.TheVariants as slots
+use Rattle.lapm_receiver.specs.Incoming.{Incoming, KeepsTaken}
+use Rattle.link_run.specs.Run.{Turn}
+use Rattle.link_run.specs.Listened.{check_by, received, taking_in}
+use Rattle.line_run.specs.Sampled.{Wire, bits_of}
+use Rattle.line_tap.specs.Tapping.{Tapping, tapping, line_of, terms_of, octets_of, next_bits, HoldsNext, Hears, Sends, GoesOn, Tells}
+use Rattle.line_tap.proofs.NextSlots.{samples-take}
+use Rattle.line_tap.specs.Turn.{got_in}
+
+-- ---- one slot
+
+front-same : (c : Wire) (n : ℕ) (body more : List ℕ) → octets_of c n ≤ length body
+    → take (c.symbols * n) (samples_in (body ++ more)) ≡ take (c.symbols * n) (samples_in body)
+front-same c n body more h =
+    sym (samples-take (c.symbols * n) (body ++ more) (omega (arith, h, length-append {A = ℕ} body more)))
+    ∙ ap samples_in (take-append-le (octets_of c n) body more h) ∙ samples-take (c.symbols * n) body h
+
+pub holds-longer : (c : Wire) (check : Check) (role : Role) (ts : List Turn) (body more : List ℕ) (s : Sent)
+    → HoldsNext c check role ts body s → HoldsNext c check role ts (body ++ more) s
+holds-longer c check role ts body more s h = record {
+  whole = omega (arith, h.whole, length-append {A = ℕ} body more);
+  codable = h.codable;
+  modulated = subst (Modulates (tap_of (mode_of role)) (bits_of c role ts ++ next_bits c check role ts s))
+      (sym (front-same c (length ts + 1) body more h.whole)) h.modulated;
+}
+
+pub holds-shorter : (c : Wire) (check : Check) (role : Role) (ts : List Turn) (body more : List ℕ) (s : Sent)
+    → octets_of c (length ts + 1) ≤ length body → HoldsNext c check role ts (body ++ more) s → HoldsNext c check role ts body s
+holds-shorter c check role ts body more s whole h = record {
+  whole = whole;
+  codable = h.codable;
+  modulated = subst (Modulates (tap_of (mode_of role)) (bits_of c role ts ++ next_bits c check role ts s))
+      (front-same c (length ts + 1) body more whole) h.modulated;
+}
+
+-- ---- turns
+
+-- what was read, and more behind it
+abbrev pub and_more : Both (List ℕ) → Both (List ℕ) → Both (List ℕ)
+and_more bodies more = record { orig = bodies.orig ++ more.orig; answ = bodies.answ ++ more.answ }
+
+abbrev pub longer : Tapping → Both (List ℕ) → Tapping
+longer x more = tapping x.script (and_more x.bodies more)
+
+pub hears-longer : (x : Tapping) (bodies : Both (List ℕ)) (ts : List Turn) (t : Turn) → Hears x ts t → Hears (tapping x.script bodies) ts t
+hears-longer x bodies ts t h = record { heard = h.heard; checks = h.checks; given = h.given }
+
+sends-longer : (x : Tapping) (more : Both (List ℕ)) (ts : List Turn) (t : Turn) (role : Role) → Sends x ts t role
+    → Sends (longer x more) ts t role
+sends-longer x more ts t Originator h = record {
+  sent = h.sent;
+  holds = holds-longer (line_of x) (check_by (terms_of x)) Originator ts x.bodies.orig more.orig h.sent h.holds;
+  sent_is = h.sent_is;
+}
+sends-longer x more ts t Answerer h = record {
+  sent = h.sent;
+  holds = holds-longer (line_of x) (check_by (terms_of x)) Answerer ts x.bodies.answ more.answ h.sent h.holds;
+  sent_is = h.sent_is;
+}
+
+pub goes-longer : (x : Tapping) (more : Both (List ℕ)) (ts : List Turn) (t : Turn) → GoesOn x ts t → GoesOn (longer x more) ts t
+goes-longer x more ts t h = record {
+  hears = hears-longer x (and_more x.bodies more) ts t h.hears;
+  sends = λ role. sends-longer x more ts t role (h.sends role);
+}
+
+pub tells-longer : (x : Tapping) (more : Both (List ℕ)) (ts : List Turn) → Tells x ts → Tells (longer x more) ts
+tells-longer x more [] h = tt
+tells-longer x more (t ∷ ts) h = (goes-longer x more ts t h.0, tells-longer x more ts h.1)
+
+-- ---- the octets that are given
+
+taken-on : KeepsTaken → (heard : Heard) (i : Incoming) → (more : List (List ℕ)) × ((taking_in heard i).taken ≡ i.taken ++ more)
+taken-on law (Passed (slots.Frame (I ns nr pf info))) i = law ns info i
+taken-on law heard i = ([], sym (append-nil i.taken))
+
+pub got-more : KeepsTaken → (x : Tapping) (role : Role) (ts : List Turn) (t : Turn)
+    → concat (received (terms_of x) role (t ∷ ts)).taken ≡ concat (received (terms_of x) role ts).taken ++ got_in x role ts t
+got-more law x role ts t =
+    let before : List (List ℕ) = (received (terms_of x) role ts).taken in
+    let k = taken-on law (of role t).heard (received (terms_of x) role ts) in
+    let rest : drop (length before) (received (terms_of x) role (t ∷ ts)).taken ≡ k.0 =
+    ap (drop (length before)) k.1 ∙ drop-append_seam before k.0 in
+    ap concat k.1 ∙ concat-append before k.0 ∙ ap (λ l. concat before ++ concat l) (sym rest)

@@ -1,0 +1,102 @@
+-- From the phases of a tap to how it ends.
+use Rattle.std.proofs.Common.{inl, inr, ℕ, List, Result, Ok, Err, subst}
+use Rattle.outside_calls.specs.Folder.{FolderState, OnlyReads}
+use Rattle.outside_calls.specs.Outputs.{AreApartFrom, CreatesPart, KeepsAll, OnlyOutputs, SomeRose}
+use Rattle.outside_calls.proofs.Putting.{KeepsEach-reads, inputs-kept}
+use Rattle.shared_terms.specs.declared.role.Role.TheVariants.{Originator, Answerer}
+use Rattle.noise_script.specs.Script.{ScriptValue, IsInLimits}
+use Rattle.command_base.specs.Status.{IsRefusal}
+use Rattle.command_base.specs.Stops.{EndCounts, end_status}
+use Rattle.command_base.specs.declared.status.Status.{Status}
+use Rattle.command_base.specs.declared.status.Status.TheVariants.{LineLost, ChanceMatch, BadTap, Usage, BadScript, BadHex, BadXid, TooLong}
+use Rattle.command_base.specs.declared.stop.Stop.{Stop}
+use Rattle.command_base.specs.declared.stop.Stop.TheVariants.{Own, Read, Write, Say, NoMemory}
+use Rattle.command_base.proofs.Creating.{CreatesPart-earlier}
+use Rattle.command_base.proofs.Reading.{ReadTo-kept}
+use Rattle.command_base.proofs.Jobs.{refusal-own}
+use Rattle.run_inputs.specs.declared.limits.Limits.{Limits}
+use Rattle.line_tap.specs.declared.limits.TheConstants.{TAP_LIMIT}
+use Rattle.line_tap.specs.Names.{TapNames, inputs_of, outputs_of, recordings_of}
+use Rattle.line_tap.specs.Tap.{AreReadTo}
+use Rattle.line_tap.specs.Turns.{TurnsEnd, no_octets}
+use Rattle.line_tap.specs.declared.limits.TheConstants.{LIMITS}
+use Rattle.line_tap.proofs.HeaderRead.{stop-widened}
+use Rattle.line_tap.specs.Outcomes.{IsBegun, IsRefused, TappedBy, StopsCreating, EndsBy, Ends}
+
+-- ---- what was read stays read as the outputs are made
+
+pub headers-later : (start a b : FolderState) (n : TapNames) → AreApartFrom (inputs_of n) (outputs_of n) → OnlyOutputs a b (outputs_of n)
+    → AreReadTo start a n no_octets → AreReadTo start b n no_octets
+headers-later start a b n apart only h Originator =
+    let k = inputs-kept a b (inputs_of n) (outputs_of n) apart.1 only.names in ReadTo-kept start a b n.rec_o TAP_LIMIT _ _ (h Originator) only.goes_on k.0
+headers-later start a b n apart only h Answerer =
+    let k = inputs-kept a b (inputs_of n) (outputs_of n) apart.1 only.names in ReadTo-kept start a b n.rec_a TAP_LIMIT _ _ (h Answerer) only.goes_on k.1.0
+
+-- ---- how it ends
+
+-- the inputs were not taken
+pub ends-refused : (l : Limits) (old new : FolderState) (n : TapNames) (stop : Stop) → OnlyReads old new → IsRefused l old new n stop
+    → EndsBy l old new n stop
+ends-refused l old new n (Own answer) reads r = inl (reads.names, r)
+ends-refused l old new n (Read fault) reads r = inl (reads.names, r)
+ends-refused l old new n NoMemory reads r = (reads.names, r)
+ends-refused l old new n (Write fault) reads never = absurd never
+ends-refused l old new n (Say fault) reads never = never
+
+-- an output was not created
+pub ends-creating : (l : Limits) (old mid new : FolderState) (n : TapNames) (script : ScriptValue) → IsBegun l old mid n script
+    → CreatesPart mid new (outputs_of n) → StopsCreating l old new n
+ends-creating l old mid new n script b c = record {
+  script = script;
+  opens = b.opens;
+  creates = CreatesPart-earlier old mid new (outputs_of n) b.reads.goes_on (KeepsEach-reads old mid (outputs_of n) b.reads) c;
+}
+
+-- turns came to their end
+pub ends-turns : (l : Limits) (old mid next : FolderState) (n : TapNames) (script : ScriptValue) (result : Result ℕ Stop) → IsBegun l old mid n script
+    → IsInLimits script → TurnsEnd script old next n result → EndCounts old next (recordings_of n) (outputs_of n) result → Ends l old next n result
+ends-turns l old mid next n script (Ok turns) b limits e counts = record { script = script; opens = b.opens; limits = limits; ends = e }
+ends-turns l old mid next n script (Err (Own (LineLost role symbol))) b limits e counts =
+    inr (record { script = script; opens = b.opens; limits = limits; ends = e })
+ends-turns l old mid next n script (Err (Own (ChanceMatch role turn))) b limits e counts =
+    inr (record { script = script; opens = b.opens; limits = limits; ends = e })
+ends-turns l old mid next n script (Err (Own (BadTap role turn))) b limits e counts =
+    inr (record { script = script; opens = b.opens; limits = limits; ends = e })
+ends-turns l old mid next n script (Err (Own answer)) b limits e counts = absurd e
+ends-turns l old mid next n script (Err (Read fault)) b limits e counts =
+    inr (record { script = script; opens = b.opens; stops = e; fails = counts })
+ends-turns l old mid next n script (Err (Write fault)) b limits e counts = inr (record { script = script; opens = b.opens; stops = e })
+ends-turns l old mid next n script (Err (Say fault)) b limits e counts = e
+ends-turns l old mid next n script (Err NoMemory) b limits e counts = absurd e
+
+rose-widened : (before now : List ℕ → ℕ) (n : TapNames) → SomeRose before now (recordings_of n) → SomeRose before now (inputs_of n)
+rose-widened before now n (inl rose) = inl rose
+rose-widened before now n (inr (inl rose)) = inr (inl rose)
+rose-widened before now n (inr (inr never)) = absurd never
+
+-- a fault of a recording is one of an input
+pub end-widened : (old new : FolderState) (n : TapNames) (end : Result ℕ Stop) → EndCounts old new (recordings_of n) (outputs_of n) end
+    → EndCounts old new (inputs_of n) (outputs_of n) end
+end-widened old new n (Ok turns) counts = counts
+end-widened old new n (Err stop) counts =
+    stop-widened old new (recordings_of n) (inputs_of n) (outputs_of n) stop (rose-widened old.read_faults new.read_faults n) counts
+
+-- ---- what is refused is refused before the outputs are created
+
+no-refusal : (old new : FolderState) (n : TapNames) (answer : Status) → TappedBy LIMITS old new n answer → IsRefusal answer → ⊥
+no-refusal old new n Usage e r = e
+no-refusal old new n (BadScript line cause) e r = e
+no-refusal old new n (BadHex at) e r = e
+no-refusal old new n (BadXid fault) e r = e
+no-refusal old new n (TooLong word) e r = e
+no-refusal old new n answer e r = r
+
+own-refused : (old before : FolderState) (n : TapNames) (answer : Status) → IsRefusal answer → EndsBy LIMITS old before n (Own answer)
+    → KeepsAll old before
+own-refused old before n answer r (inl refused) = refused.0
+own-refused old before n answer r (inr e) = absurd (no-refusal old before n answer e r)
+
+pub refused-by : (old before : FolderState) (n : TapNames) (end : Result ℕ Stop) → Ends LIMITS old before n end → IsRefusal (end_status end)
+    → KeepsAll old before
+refused-by old before n end ends =
+    refusal-own end (KeepsAll old before) (λ answer e r. own-refused old before n answer r (subst (Ends LIMITS old before n) e ends))

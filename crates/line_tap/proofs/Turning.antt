@@ -1,0 +1,595 @@
+-- What a turn of a tap comes to, at each of its ways out.
+use Rattle.std.proofs.Common.{◌≡◌, ◌⊎◌, inl, inr, ℕ, ◌+◌, ◌*◌, ◌<◌, ◌≤◌, IsTrue, List, [], ◌∷◌, ◌++◌, length, take, arith, length-append}
+use Rattle.std.proofs.Common.{refl, sym, ◌∙◌, ap, subst, append-nil, append_assoc, None, Ok}
+use Rattle.std.proofs.lemmas.Bool.{cases_lt}
+use Rattle.std.proofs.lemmas.List.{length-take}
+use Rattle.std.specs.List.{concat}
+use Rattle.outside_calls.specs.Folder.{FolderState, GoesOn, OnlyReads, OnlyWrites, Appended, PartlyAppended, octets_at}
+use Rattle.outside_calls.specs.Outputs.{AreApartFrom, KeepsEach, OnlyPuts, AddEach, AddPart}
+use Rattle.outside_calls.proofs.Steps.{GoesOn-trans, KeepsName-trans}
+use Rattle.outside_calls.proofs.Putting.{OnlyPuts-trans, OnlyPuts-reads, OnlyPuts-one, KeepsEach-reads, inputs-kept, AddEach-kept}
+use Rattle.outside_calls.proofs.Putting.{AddEach-next, AddPart-next, AddPart-longer}
+use Rattle.shared_terms.specs.declared.role.Role.{Role}
+use Rattle.shared_terms.specs.declared.role.Role.TheVariants.{Originator, Answerer}
+use Rattle.shared_terms.specs.Role.{mode_of}
+use Rattle.shared_terms.specs.Both.{Both, of}
+use Rattle.recordings.specs.declared.header.TheConstants.{HEADER}
+use Rattle.recordings.specs.Recording.{header_of}
+use Rattle.lapm_frames.specs.declared.heard.Heard.{Heard}
+use Rattle.lapm_receiver.specs.Incoming.{KeepsTaken}
+use Rattle.line_texts.specs.LineText.{chance_line}
+use Rattle.link_run.specs.Run.{Turn, IsSilent}
+use Rattle.link_run.specs.Trace.{trace_text, turn_text}
+use Rattle.link_run.specs.Listened.{received}
+use Rattle.line_run.specs.Sampled as lines
+use Rattle.line_run.specs.Ends.{Left}
+use Rattle.line_tap.specs.Tapping.{Tapping, tapping, line_of, terms_of, octets_of, Tells}
+use Rattle.line_tap.specs.Ends.{EndsLine, Leaves, LastHears, IsFirstRefused}
+use Rattle.line_tap.specs.Ends as ends
+use Rattle.command_base.specs.Inputs.{ReadTo}
+use Rattle.line_tap.specs.declared.limits.TheConstants.{TAP_LIMIT}
+use Rattle.line_tap.specs.declared.tapping.Tap.{Tap}
+use Rattle.line_tap.specs.declared.tapping.Hearing.{Hearing}
+use Rattle.line_tap.specs.End.{Slot}
+use Rattle.bit_stuffing.specs.declared.slot_writer.TheConstants.{HEAD, TAIL}
+use Rattle.noise_script.specs.Script.{IsInLimits}
+use Rattle.line_tap.specs.Listener.{IsIdle}
+use Rattle.line_tap.specs.Names.{TapNames, recording_of, inputs_of, outputs_of}
+use Rattle.line_tap.specs.Turn.{held_of, left_of, added, AddsGot}
+use Rattle.line_tap.specs.Tap.{AreReadTo, AreReadOut, HearsThese, HearsTurn, HasHeard, HearsSo, InTurn, silent_in, got_pieces}
+use Rattle.line_tap.specs.Tap.{EndsInTurn, EndsReading, StopsInTurn, StopsReadingIn, IsBehind, HasReadPieces, HaveRead, IsReady, IsToGo}
+use Rattle.line_tap.specs.Tap.{TapAfter, GoesOnBy, going_in, and_pieces, read_of}
+use Rattle.line_tap.proofs.Longer.{tells-longer, got-more}
+use Rattle.line_tap.proofs.HeardSo.{SameReading, behind-on}
+use Rattle.line_tap.proofs.Going.{hears-so, goes-on}
+use Rattle.line_tap.proofs.SlotNext.{octets-next}
+
+-- ---- what was read stays read
+
+kept-to : (start a b : FolderState) (name : List ℕ) (at : ℕ) (octets : List ℕ) → ReadTo start a name TAP_LIMIT at octets → GoesOn a b
+    → KeepsEach a b (name ∷ []) → ReadTo start b name TAP_LIMIT at octets
+kept-to start a b name at octets h on k = record {
+  within = h.within;
+  count = h.count;
+  front = h.front;
+  goes_on = GoesOn-trans h.goes_on on;
+  kept = KeepsName-trans start a b name h.goes_on h.kept k.0;
+}
+
+kept-of : (a b : FolderState) (n : TapNames) → KeepsEach a b (inputs_of n) → (role : Role) → KeepsEach a b (recording_of role n ∷ [])
+kept-of a b n k Originator = (k.0, tt)
+kept-of a b n k Answerer = (k.1.0, tt)
+
+pub read-later : (start a b : FolderState) (n : TapNames) (bodies : Both (List ℕ)) → AreApartFrom (inputs_of n) (outputs_of n)
+    → OnlyPuts a b (outputs_of n) → AreReadTo start a n bodies → AreReadTo start b n bodies
+read-later start a b n bodies apart only h role =
+    kept-to start a b (recording_of role n) _ _ (h role) only.goes_on
+    (kept-of a b n (inputs-kept a b (inputs_of n) (outputs_of n) apart.1 only.names) role)
+
+pub read-still : (start a b : FolderState) (n : TapNames) (bodies : Both (List ℕ)) → OnlyReads a b → AreReadTo start a n bodies
+    → AreReadTo start b n bodies
+read-still start a b n bodies reads h role =
+    kept-to start a b (recording_of role n) _ _ (h role) reads.goes_on (kept-of a b n (KeepsEach-reads a b (inputs_of n) reads) role)
+
+-- ---- pieces that were read
+
+-- so much was read of each recording in a call
+pub record ReadsPieces (start a b : FolderState) (n : TapNames) (at : ℕ) (orig answ : ℕ) (of_orig of_answ : List ℕ) : Type 0 where
+  pub reads_orig : (octets : List ℕ) → ReadTo start a n.rec_o TAP_LIMIT at octets → ReadTo start b n.rec_o TAP_LIMIT (at + orig) (octets ++ take orig of_orig)
+  pub reads_answ : (octets : List ℕ) → ReadTo start a n.rec_a TAP_LIMIT at octets → ReadTo start b n.rec_a TAP_LIMIT (at + answ) (octets ++ take answ of_answ)
+  pub end_orig : (octets : List ℕ) → ReadTo start a n.rec_o TAP_LIMIT at octets → orig < length of_orig → IsTrue (start.tells n.rec_o)
+      → octets ++ take orig of_orig ≡ octets_at start n.rec_o
+  pub end_answ : (octets : List ℕ) → ReadTo start a n.rec_a TAP_LIMIT at octets → answ < length of_answ → IsTrue (start.tells n.rec_a)
+      → octets ++ take answ of_answ ≡ octets_at start n.rec_a
+  pub few_orig : orig ≤ length of_orig
+  pub few_answ : answ ≤ length of_answ
+
+abbrev read_pieces_of : Both (List ℕ) → ℕ → ℕ → List ℕ → List ℕ → Both (List ℕ)
+read_pieces_of bodies orig answ of_orig of_answ = and_pieces bodies (take orig of_orig) (take answ of_answ)
+
+read-so : (start b : FolderState) (name header body piece : List ℕ) (at count : ℕ) → at ≡ HEADER + length body → count ≤ length piece
+    → ReadTo start b name TAP_LIMIT (at + count) ((header ++ body) ++ take count piece)
+    → ReadTo start b name TAP_LIMIT (HEADER + length (body ++ take count piece)) (header ++ (body ++ take count piece))
+read-so start b name header body piece at count e few h =
+    let n : at + count ≡ HEADER + length (body ++ take count piece) =
+    omega (arith, e, few, length-append {A = ℕ} body (take count piece), length-take count piece) in
+    subst (λ m. ReadTo start b name TAP_LIMIT m (header ++ (body ++ take count piece))) n
+    (subst (ReadTo start b name TAP_LIMIT (at + count)) (append_assoc header body (take count piece)) h)
+
+pub read-on : (start a b : FolderState) (n : TapNames) (bodies : Both (List ℕ)) (at orig answ : ℕ) (of_orig of_answ : List ℕ)
+    → at ≡ HEADER + length bodies.orig → at ≡ HEADER + length bodies.answ → AreReadTo start a n bodies
+    → ReadsPieces start a b n at orig answ of_orig of_answ
+    → AreReadTo start b n (read_pieces_of bodies orig answ of_orig of_answ)
+read-on start a b n bodies at orig answ of_orig of_answ eo ea h r Originator =
+    read-so start b n.rec_o (header_of (mode_of Originator)) bodies.orig of_orig at orig eo r.few_orig
+    (r.reads_orig _ (subst (λ m. ReadTo start a n.rec_o TAP_LIMIT m (header_of (mode_of Originator) ++ bodies.orig)) (sym eo) (h Originator)))
+read-on start a b n bodies at orig answ of_orig of_answ eo ea h r Answerer =
+    read-so start b n.rec_a (header_of (mode_of Answerer)) bodies.answ of_answ at answ ea r.few_answ
+    (r.reads_answ _ (subst (λ m. ReadTo start a n.rec_a TAP_LIMIT m (header_of (mode_of Answerer) ++ bodies.answ)) (sym ea) (h Answerer)))
+
+out-so : (start a : FolderState) (name header body piece : List ℕ) (at count : ℕ) → at ≡ HEADER + length body
+    → ((l : List ℕ) → ReadTo start a name TAP_LIMIT at l → count < length piece → IsTrue (start.tells name) → l ++ take count piece ≡ octets_at start name)
+    → ReadTo start a name TAP_LIMIT (HEADER + length body) (header ++ body) → count < length piece → IsTrue (start.tells name)
+    → header ++ (body ++ take count piece) ≡ octets_at start name
+out-so start a name header body piece at count e ends h less told =
+    sym (append_assoc header body (take count piece))
+    ∙ ends (header ++ body) (subst (λ m. ReadTo start a name TAP_LIMIT m (header ++ body)) (sym e) h) less told
+
+-- where less than a slot was read the recording was read to its end
+pub read-out : (start a b : FolderState) (n : TapNames) (x : Tapping) (ts : List Turn) (at orig answ : ℕ) (of_orig of_answ : List ℕ)
+    → at ≡ HEADER + length x.bodies.orig → at ≡ HEADER + length x.bodies.answ → AreReadTo start a n x.bodies
+    → ReadsPieces start a b n at orig answ of_orig of_answ
+    → ((role : Role) → length (of role x.bodies) ≡ octets_of (line_of x) (length ts))
+    → length of_orig ≡ 4 * (line_of x).symbols → length of_answ ≡ 4 * (line_of x).symbols
+    → AreReadOut start n (tapping x.script (read_pieces_of x.bodies orig answ of_orig of_answ)) ts
+read-out start a b n x ts at orig answ of_orig of_answ eo ea h r count ro ra Originator less told =
+    out-so start a n.rec_o (header_of (mode_of Originator)) x.bodies.orig of_orig at orig eo r.end_orig (h Originator)
+    (omega (
+      arith,
+      less,
+      r.few_orig,
+      count Originator,
+      ro,
+      octets-next (line_of x) (length ts),
+      length-append {A = ℕ} x.bodies.orig (take orig of_orig),
+      length-take orig of_orig,
+    )) told
+read-out start a b n x ts at orig answ of_orig of_answ eo ea h r count ro ra Answerer less told =
+    out-so start a n.rec_a (header_of (mode_of Answerer)) x.bodies.answ of_answ at answ ea r.end_answ (h Answerer)
+    (omega (
+      arith,
+      less,
+      r.few_answ,
+      count Answerer,
+      ra,
+      octets-next (line_of x) (length ts),
+      length-append {A = ℕ} x.bodies.answ (take answ of_answ),
+      length-take answ of_answ,
+    )) told
+
+-- ---- what is left
+
+-- what the turns left, and what this turn adds behind it
+abbrev pub joined_left : Tapping → List Turn → Left → Left
+joined_left x ts more = record {
+  got = record {
+    orig = (left_of x ts []).got.orig ++ more.got.orig;
+    answ = (left_of x ts []).got.answ ++ more.got.answ;
+  };
+  trace = trace_text ts ++ more.trace;
+}
+
+-- nothing is added
+abbrev pub nothing : List ℕ → Left
+nothing text = record { got = record { orig = []; answ = [] }; trace = text }
+
+pub leaves-none : (x : Tapping) (ts : List Turn) (text : List ℕ) → Leaves x ts (trace_text ts ++ text) (joined_left x ts (nothing text))
+leaves-none x ts text = record { got_is = got; trace_is = refl }
+  where
+    got : (role : Role) → of role (joined_left x ts (nothing text)).got ≡ concat (received (terms_of x) role ts).taken
+    got Originator = append-nil _
+    got Answerer = append-nil _
+
+pub leaves-turn : KeepsTaken → (x : Tapping) (ts : List Turn) (t : Turn) (text : List ℕ)
+    → Leaves x (t ∷ ts) (trace_text ts ++ text) (joined_left x ts (added x ts t text))
+leaves-turn law x ts t text = record { got_is = got; trace_is = refl }
+  where
+    got : (role : Role) → of role (joined_left x ts (added x ts t text)).got ≡ concat (received (terms_of x) role (t ∷ ts)).taken
+    got Originator = sym (got-more law x Originator ts t)
+    got Answerer = sym (got-more law x Answerer ts t)
+
+-- a text by another name
+with-text : (x : Tapping) (ts : List Turn) (text others : List ℕ) (left : Left) → text ≡ others → Leaves x ts text left → Leaves x ts others left
+with-text x ts text others left e h = record { got_is = h.got_is; trace_is = h.trace_is ∙ e }
+
+-- ---- the line ends the reading
+
+pub add-nothing : (a : FolderState) (n : TapNames) → AddEach a a (outputs_of n) (held_of (nothing []))
+add-nothing a n = (inl (refl, λ told. refl), (inl (refl, λ told. refl), (inl (refl, λ told. refl), tt)))
+
+pub loses-line : (start a : FolderState) (n : TapNames) (x : Tapping) (ts : List Turn) (role : Role) (symbol : ℕ) → Tells x ts
+    → AreReadTo start a n x.bodies → EndsLine x ts (lines.LineLost role symbol)
+    → EndsInTurn start a a n x ts (ends.LineLost role symbol)
+loses-line start a n x ts role symbol tells read e = record {
+  others = x.bodies;
+  read = read;
+  tells = tells;
+  more = nothing [];
+  ended = record {
+    is = e;
+    leaves = with-text x ts (trace_text ts ++ []) (trace_text ts) (joined_left x ts (nothing [])) (append-nil (trace_text ts)) (leaves-none x ts []);
+  };
+  writes = add-nothing a n;
+}
+
+pub meets-chance : (start a b : FolderState) (n : TapNames) (x : Tapping) (ts : List Turn) (role : Role) (number : ℕ)
+    → AreApartFrom (inputs_of n) (outputs_of n) → Tells x ts → AreReadTo start a n x.bodies → EndsLine x ts (lines.ChanceMatch role)
+    → number ≡ length ts → OnlyWrites a b n.trace → Appended a b n.trace (chance_line number role)
+    → EndsInTurn start a b n x ts (ends.ChanceMatch role number)
+meets-chance start a b n x ts role number apart tells read e same w put = record {
+  others = x.bodies;
+  read = read-later start a b n x.bodies apart (OnlyPuts-one a b (n.got_o ∷ n.got_a ∷ []) n.trace [] w) read;
+  tells = tells;
+  more = nothing (chance_line (length ts) role);
+  ended = (same, record { is = e; leaves = leaves-none x ts (chance_line (length ts) role) });
+  writes = (
+    inl (refl, w.names n.got_o (apart.0.0.1.0)),
+    (inl (refl, w.names n.got_a (apart.0.1.0.0)), (inr (subst (λ m. Appended a b n.trace (chance_line m role)) same put), tt)),
+  );
+}
+
+pub stops-at-chance : (start a b : FolderState) (n : TapNames) (x : Tapping) (ts : List Turn) (role : Role) (number : ℕ)
+    → AreApartFrom (inputs_of n) (outputs_of n) → Tells x ts → AreReadTo start a n x.bodies → EndsLine x ts (lines.ChanceMatch role)
+    → number ≡ length ts → OnlyWrites a b n.trace → PartlyAppended a b n.trace (chance_line number role)
+    → StopsInTurn start a b n x ts
+stops-at-chance start a b n x ts role number apart tells read e same w part = record {
+  others = x.bodies;
+  read = read-later start a b n x.bodies apart (OnlyPuts-one a b (n.got_o ∷ n.got_a ∷ []) n.trace [] w) read;
+  tells = tells;
+  more = nothing (chance_line (length ts) role);
+  adds = inr (inr (record { role = role; ends = e; is = refl }));
+  writes = inr (
+    inl (refl, w.names n.got_o (apart.0.0.1.0)),
+    inr (
+      inl (refl, w.names n.got_a (apart.0.1.0.0)),
+      inl (subst (λ m. PartlyAppended a b n.trace (chance_line m role)) same part, tt),
+    ),
+  );
+}
+
+-- ---- what both ends took isn't delivered, or a recording isn't read
+
+pub adds-got : (x : Tapping) (ts : List Turn) (heard : Both Heard) → HearsThese x ts heard
+    → AddsGot x ts (added x ts (silent_in x ts heard) [])
+adds-got x ts heard h = record { turn = silent_in x ts heard; hears = hears-so x ts heard (record { orig = None; answ = None }) h; is = refl }
+
+pub stops-delivering : (start a b : FolderState) (n : TapNames) (x : Tapping) (ts : List Turn) (heard : Both Heard)
+    → AreApartFrom (inputs_of n) (outputs_of n) → Tells x ts → AreReadTo start a n x.bodies → HearsThese x ts heard
+    → OnlyPuts a b (outputs_of n) → AddPart a b (outputs_of n) (got_pieces x ts heard) → StopsInTurn start a b n x ts
+stops-delivering start a b n x ts heard apart tells read h only part = record {
+  others = x.bodies;
+  read = read-later start a b n x.bodies apart only read;
+  tells = tells;
+  more = added x ts (silent_in x ts heard) [];
+  adds = inl (adds-got x ts heard h);
+  writes = AddPart-longer a b (outputs_of n) (got_pieces x ts heard) ([] ∷ []) part;
+}
+
+pub stops-reading : (start a b c : FolderState) (n : TapNames) (x : Tapping) (ts : List Turn) (heard : Both Heard)
+    → AreApartFrom (inputs_of n) (outputs_of n) → Tells x ts → AreReadTo start a n x.bodies → HearsThese x ts heard
+    → OnlyPuts a b (outputs_of n) → AddEach a b (outputs_of n) (got_pieces x ts heard) → OnlyReads b c → StopsReadingIn start a c n x ts
+stops-reading start a b c n x ts heard apart tells read h only put reads = record {
+  others = x.bodies;
+  read = read-still start b c n x.bodies reads (read-later start a b n x.bodies apart only read);
+  tells = tells;
+  more = added x ts (silent_in x ts heard) [];
+  adds = adds-got x ts heard h;
+  writes = AddEach-kept a b c (outputs_of n) (got_pieces x ts heard) only.goes_on put (KeepsEach-reads b c (outputs_of n) reads);
+}
+
+-- ---- both pieces were read
+
+-- The turn was heard, what both ends took is delivered, and both pieces were read.
+pub record HasPieces (tap : Tap) (start a b c : FolderState) (n : TapNames) (x : Tapping) (ts : List Turn) (h : Hearing) (counts : Both ℕ) : Type 0 where
+  pub apart : AreApartFrom (inputs_of n) (outputs_of n)
+  pub hears : HearsSo x ts h
+  pub only : OnlyPuts a b (outputs_of n)
+  pub put : AddEach a b (outputs_of n) (got_pieces x ts h.heard)
+  pub reads : OnlyReads b c
+  pub pieces : HasReadPieces tap start c n x ts h.heard counts
+
+pub so-heard : (tap : Tap) (x : Tapping) (ts : List Turn) (h : Hearing) → HearsTurn tap x ts (Ok h) → HearsSo x ts h
+so-heard tap x ts h k = record { hears = k.0.hears; orig = k.1; answ = k.2 }
+
+-- by what the calls of a turn say up to there
+pub has-pieces : (heard mid tap : Tap) (start a b c : FolderState) (n : TapNames) (x : Tapping) (ts : List Turn) (h : Hearing)
+    (counts : Both ℕ)
+    → AreApartFrom (inputs_of n) (outputs_of n) → AreReadTo start a n x.bodies → HearsTurn heard x ts (Ok h)
+    → OnlyPuts a b (outputs_of n) → OnlyReads b c
+    → (HasHeard heard x ts h.heard → AddEach a b (outputs_of n) (got_pieces x ts h.heard))
+    → (HasHeard heard x ts h.heard → InTurn mid x ts h.heard)
+    → (InTurn mid x ts h.heard → AreReadTo start b n x.bodies → HasReadPieces tap start c n x ts h.heard counts)
+    → HasPieces tap start a b c n x ts h counts
+has-pieces heard mid tap start a b c n x ts h counts apart read k only reads put stands pieces = record {
+  apart = apart;
+  hears = so-heard heard x ts h k;
+  only = only;
+  put = put k.0;
+  reads = reads;
+  pieces = pieces (stands k.0) (read-later start a b n x.bodies apart only read);
+}
+
+abbrev pub now_of : Tap → Tapping → Both ℕ → Tapping
+now_of tap x counts = tapping x.script (read_of tap x counts)
+
+has-count : (tap : Tap) (x : Tapping) (ts : List Turn) → IsBehind tap x ts → (role : Role)
+    → length (of role x.bodies) ≡ octets_of (line_of x) (length ts)
+has-count tap x ts h Originator = h.orig.count
+has-count tap x ts h Answerer = h.answ.count
+
+at-count : (tap : Tap) (x : Tapping) (ts : List Turn) → IsBehind tap x ts → (body : List ℕ) → length body ≡ octets_of (line_of x) (length ts)
+    → tap.at ≡ HEADER + length body
+at-count tap x ts h body count = h.at ∙ ap (λ n. HEADER + n) (sym count)
+
+pub read-turn : (old new : Tap) (x : Tapping) (ts : List Turn) (heard : Both Heard) → SameReading old new
+    → new.orig.listener ≡ old.orig.listener → new.answ.listener ≡ old.answ.listener → new.lines ≡ old.lines → InTurn old x ts heard
+    → InTurn new x ts heard
+read-turn old new x ts heard same o a l h =
+    record { behind = behind-on old new x ts same h.behind; hears = h.hears; orig = rw o h.orig; answ = rw a h.answ; lines = rw l h.lines }
+
+pub has-read-pieces : (old new : Tap) (start b c : FolderState) (n : TapNames) (x : Tapping) (ts : List Turn) (heard : Both Heard) (counts : Both ℕ)
+    → InTurn old x ts heard → InTurn new x ts heard → new.at ≡ old.at → AreReadTo start b n x.bodies
+    → ReadsPieces start b c n old.at counts.orig counts.answ new.orig.piece.items new.answ.piece.items
+    → HasReadPieces new start c n x ts heard counts
+has-read-pieces old new start b c n x ts heard counts h k same read p =
+    let eo = at-count old x ts h.behind x.bodies.orig h.behind.orig.count in
+    let ea = at-count old x ts h.behind x.bodies.answ h.behind.answ.count in
+    record {
+      turn = k;
+      read = read-on start b c n x.bodies old.at counts.orig counts.answ new.orig.piece.items new.answ.piece.items eo ea read p;
+      out = read-out start b c n x ts old.at counts.orig counts.answ new.orig.piece.items new.answ.piece.items eo ea read p
+          (has-count old x ts h.behind) k.behind.orig_room k.behind.answ_room;
+      few_orig = p.few_orig;
+      few_answ = p.few_answ;
+    }
+
+hears-now : (tap : Tap) (x : Tapping) (ts : List Turn) (h : Hearing) (counts : Both ℕ) → HearsSo x ts h → HearsSo (now_of tap x counts) ts h
+hears-now tap x ts h counts k =
+    record { hears = record { heard_of = k.hears.heard_of; well = k.hears.well }; orig = k.orig; answ = k.answ }
+
+tells-now : (tap : Tap) (x : Tapping) (ts : List Turn) (counts : Both ℕ) → Tells x ts → Tells (now_of tap x counts) ts
+tells-now tap x ts counts h =
+    tells-longer x (record { orig = take counts.orig tap.orig.piece.items; answ = take counts.answ tap.answ.piece.items }) ts h
+
+goes-on-to : (a b c : FolderState) (n : TapNames) → OnlyPuts a b (outputs_of n) → OnlyReads b c → GoesOn a c
+goes-on-to a b c n p r = GoesOn-trans p.goes_on r.goes_on
+
+put-still : (tap : Tap) (start a b c : FolderState) (n : TapNames) (x : Tapping) (ts : List Turn) (h : Hearing) (counts : Both ℕ)
+    → HasPieces tap start a b c n x ts h counts → AddEach a c (outputs_of n) (got_pieces x ts h.heard)
+put-still tap start a b c n x ts h counts k =
+    AddEach-kept a b c (outputs_of n) (got_pieces x ts h.heard) k.only.goes_on k.put (KeepsEach-reads b c (outputs_of n) k.reads)
+
+-- and the lines are written, or a part of them
+put-lines : (tap : Tap) (start a b c d : FolderState) (n : TapNames) (x : Tapping) (ts : List Turn) (h : Hearing) (counts : Both ℕ)
+    (text : List ℕ) → HasPieces tap start a b c n x ts h counts → OnlyWrites c d n.trace → Appended c d n.trace text
+    → AddEach a d (outputs_of n) (held_of (added x ts (silent_in x ts h.heard) text))
+put-lines tap start a b c d n x ts h counts text k w put =
+    AddEach-next a c d (n.got_o ∷ n.got_a ∷ []) n.trace [] (got_pieces x ts h.heard) text tt k.apart.0 (goes-on-to a b c n k.only k.reads)
+    (put-still tap start a b c n x ts h counts k) w (inr put)
+
+part-lines : (tap : Tap) (start a b c d : FolderState) (n : TapNames) (x : Tapping) (ts : List Turn) (h : Hearing) (counts : Both ℕ)
+    (text : List ℕ) → HasPieces tap start a b c n x ts h counts → OnlyWrites c d n.trace → PartlyAppended c d n.trace text
+    → AddPart a d (outputs_of n) (held_of (added x ts (silent_in x ts h.heard) text))
+part-lines tap start a b c d n x ts h counts text k w part =
+    AddPart-next a c d (n.got_o ∷ n.got_a ∷ []) n.trace [] (got_pieces x ts h.heard) text tt k.apart.0 (goes-on-to a b c n k.only k.reads)
+    (put-still tap start a b c n x ts h counts k) w part
+
+-- ---- nothing was read
+
+silent : (x : Tapping) (ts : List Turn) (heard : Both Heard) → IsSilent (silent_in x ts heard)
+silent x ts heard Originator = refl
+silent x ts heard Answerer = refl
+
+last-hears : (x : Tapping) (ts : List Turn) (h : Hearing) → HearsSo x ts h → LastHears x ts
+last-hears x ts h k = record {
+  last = silent_in x ts h.heard;
+  hears = hears-so x ts h.heard (record { orig = None; answ = None }) k.hears;
+  silent = silent x ts h.heard;
+}
+
+none-more : (tap : Tap) (x : Tapping) (ts : List Turn) (counts : Both ℕ) → IsBehind tap x ts → counts.orig ≡ 0 → counts.answ ≡ 0 → (role : Role)
+    → length (of role (read_of tap x counts)) ≤ octets_of (line_of x) (length ts)
+none-more tap x ts counts h eo ea Originator =
+    omega (arith, h.orig.count, eo, length-append {A = ℕ} x.bodies.orig (take counts.orig tap.orig.piece.items), length-take counts.orig tap.orig.piece.items)
+none-more tap x ts counts h eo ea Answerer =
+    omega (arith, h.answ.count, ea, length-append {A = ℕ} x.bodies.answ (take counts.answ tap.answ.piece.items), length-take counts.answ tap.answ.piece.items)
+
+pub ends-whole : KeepsTaken → (tap : Tap) (start a b c d : FolderState) (n : TapNames) (x : Tapping) (ts : List Turn) (h : Hearing) (counts : Both ℕ) (turns : ℕ)
+    → HasPieces tap start a b c n x ts h counts → counts.orig ≡ 0 → counts.answ ≡ 0 → turns ≡ length ts + 1 → OnlyWrites c d n.trace
+    → Appended c d n.trace (turn_text (length ts) (silent_in x ts h.heard))
+    → EndsReading start a d n x ts (ends.IsDone turns)
+unfolding last-hears
+ends-whole law tap start a b c d n x ts h counts turns k eo ea number w put =
+    let t : Turn = silent_in x ts h.heard in
+    let y : Tapping = now_of tap x counts in (
+      record {
+        others = read_of tap x counts;
+        read = read-later start c d n (read_of tap x counts) k.apart (OnlyPuts-one c d (n.got_o ∷ n.got_a ∷ []) n.trace [] w)
+            k.pieces.read;
+        tells = tells-now tap x ts counts k.pieces.turn.behind.tells;
+        more = added x ts t (turn_text (length ts) t);
+        ended = record {
+          number = number;
+          last = last-hears y ts h (hears-now tap x ts h counts k.hears);
+          none = none-more tap x ts counts k.pieces.turn.behind eo ea;
+          leaves = leaves-turn law y ts t (turn_text (length ts) t);
+        };
+        writes = put-lines tap start a b c d n x ts h counts (turn_text (length ts) t) k w put;
+      },
+      k.pieces.out,
+    )
+
+pub stops-ending : (tap : Tap) (start a b c d : FolderState) (n : TapNames) (x : Tapping) (ts : List Turn) (h : Hearing) (counts : Both ℕ)
+    → HasPieces tap start a b c n x ts h counts → counts.orig ≡ 0 → counts.answ ≡ 0 → OnlyWrites c d n.trace
+    → PartlyAppended c d n.trace (turn_text (length ts) (silent_in x ts h.heard)) → StopsInTurn start a d n x ts
+unfolding last-hears
+stops-ending tap start a b c d n x ts h counts k eo ea w part =
+    let t : Turn = silent_in x ts h.heard in
+    let y : Tapping = now_of tap x counts in
+    record {
+      others = read_of tap x counts;
+      read = read-later start c d n (read_of tap x counts) k.apart (OnlyPuts-one c d (n.got_o ∷ n.got_a ∷ []) n.trace [] w)
+          k.pieces.read;
+      tells = tells-now tap x ts counts k.pieces.turn.behind.tells;
+      more = added x ts t (turn_text (length ts) t);
+      adds = inr (inl (
+        record {
+          turn = t;
+          makes = inr (record {
+            hears = (last-hears y ts h (hears-now tap x ts h counts k.hears)).hears;
+            silent = silent x ts h.heard;
+            none = none-more tap x ts counts k.pieces.turn.behind eo ea;
+          });
+          is = refl;
+        },
+        k.pieces.out,
+      ));
+      writes = part-lines tap start a b c d n x ts h counts (turn_text (length ts) t) k w part;
+    }
+
+-- ---- a slot is refused
+
+some-more : (tap : Tap) (x : Tapping) (ts : List Turn) (counts : Both ℕ) → IsBehind tap x ts → counts.orig ≤ length tap.orig.piece.items
+    → counts.answ ≤ length tap.answ.piece.items → (counts.orig ≡ 0 → counts.answ ≡ 0 → ⊥)
+    → (side : Role) × (octets_of (line_of x) (length ts) < length (of side (read_of tap x counts)))
+some-more tap x ts counts h fo fa some = by (cases_lt 0 counts.orig)
+  where
+    by : (0 < counts.orig) ⊎ (counts.orig ≤ 0) → (side : Role) × (octets_of (line_of x) (length ts) < length (of side (read_of tap x counts)))
+    by (inl l) = (
+      Originator,
+      omega (
+        arith,
+        h.orig.count,
+        l,
+        fo,
+        length-append {A = ℕ} x.bodies.orig (take counts.orig tap.orig.piece.items),
+        length-take counts.orig tap.orig.piece.items,
+      ),
+    )
+    by (inr none) = (Answerer, at)
+      where
+        answ-some : 0 < counts.answ
+        answ-some = elim (cases_lt 0 counts.answ) [ inl l ↦ l | inr m ↦ absurd (some (omega (arith, none)) (omega (arith, m))) ]
+
+        at : octets_of (line_of x) (length ts) < length (of Answerer (read_of tap x counts))
+        at = omega (
+          arith,
+          h.answ.count,
+          answ-some,
+          fa,
+          length-append {A = ℕ} x.bodies.answ (take counts.answ tap.answ.piece.items),
+          length-take counts.answ tap.answ.piece.items,
+        )
+
+pub ends-badly : KeepsTaken → (tap : Tap) (start a b c : FolderState) (n : TapNames) (x : Tapping) (ts : List Turn) (h : Hearing) (counts : Both ℕ)
+    (role : Role) (number : ℕ) → HasPieces tap start a b c n x ts h counts → (counts.orig ≡ 0 → counts.answ ≡ 0 → ⊥) → number ≡ length ts
+    → IsFirstRefused (now_of tap x counts) ts role → EndsReading start a c n x ts (ends.BadTap role number)
+unfolding last-hears
+ends-badly law tap start a b c n x ts h counts role number k some same refused =
+    let t : Turn = silent_in x ts h.heard in
+    let y : Tapping = now_of tap x counts in (
+      record {
+        others = read_of tap x counts;
+        read = k.pieces.read;
+        tells = tells-now tap x ts counts k.pieces.turn.behind.tells;
+        more = added x ts t [];
+        ended = record {
+          number = same;
+          last = last-hears y ts h (hears-now tap x ts h counts k.hears);
+          some = some-more tap x ts counts k.pieces.turn.behind k.pieces.few_orig k.pieces.few_answ some;
+          refused = refused;
+          leaves = with-text y (t ∷ ts) (trace_text ts ++ []) (trace_text ts) (joined_left y ts (added y ts t [])) (append-nil (trace_text ts))
+              (leaves-turn law y ts t []);
+        };
+        writes = add-none a c n (added x ts t []) (put-still tap start a b c n x ts h counts k);
+      },
+      k.pieces.out,
+    )
+  where
+    add-none : (a c : FolderState) (n : TapNames) (more : Left) → AddEach a c (outputs_of n) (more.got.orig ∷ more.got.answ ∷ [])
+        → AddEach a c (outputs_of n) (more.got.orig ∷ more.got.answ ∷ [] ∷ [])
+    add-none a c n more p = (p.0, (p.1.0, (inl (refl, p.1.1.0), tt)))
+
+-- ---- both slots were read
+
+pub to-go : (tap new : Tap) (x : Tapping) (ts : List Turn) (h : Hearing) (counts : Both ℕ) (slots : Both Slot)
+    → InTurn tap x ts h.heard → HearsSo x ts h → HaveRead new (now_of tap x counts) ts slots → new.script ≡ tap.script → new.turn ≡ tap.turn
+    → new.at ≡ tap.at → new.orig.listener ≡ tap.orig.listener → new.answ.listener ≡ tap.answ.listener → new.orig.piece ≡ tap.orig.piece
+    → new.answ.piece ≡ tap.answ.piece → IsToGo new (now_of tap x counts) ts h slots
+to-go tap new x ts h counts slots k so read script turn at lo la po pa = record {
+  script_is = script ∙ k.behind.script_is;
+  tells = tells-now tap x ts counts k.behind.tells;
+  turn = turn ∙ k.behind.turn;
+  at = at ∙ k.behind.at;
+  hears = hears-now tap x ts h counts so;
+  orig = rw lo k.orig;
+  answ = rw la k.answ;
+  read = read;
+  orig_room = rw po k.behind.orig_room;
+  answ_room = rw pa k.behind.answ_room;
+}
+
+pub goes-on-by : (tap new : Tap) (start a b c d : FolderState) (n : TapNames) (x : Tapping) (ts : List Turn) (h : Hearing) (counts : Both ℕ)
+    (slots : Both Slot) → HasPieces tap start a b c n x ts h counts → TapAfter new (now_of tap x counts) (going_in (now_of tap x counts) ts h.heard slots ∷ ts)
+    → OnlyWrites c d n.trace
+    → Appended c d n.trace (turn_text (length ts) (going_in (now_of tap x counts) ts h.heard slots)) → GoesOnBy new start a d n x ts
+goes-on-by tap new start a b c d n x ts h counts slots k after w put = record {
+  others = read_of tap x counts;
+  read = read-later start c d n (read_of tap x counts) k.apart (OnlyPuts-one c d (n.got_o ∷ n.got_a ∷ []) n.trace [] w) k.pieces.read;
+  turn = going_in (now_of tap x counts) ts h.heard slots;
+  after = after;
+  writes = put-lines tap start a b c d n x ts h counts (turn_text (length ts) (going_in (now_of tap x counts) ts h.heard slots)) k w put;
+}
+
+pub stops-going : (tap mid : Tap) (start a b c d : FolderState) (n : TapNames) (x : Tapping) (ts : List Turn) (h : Hearing) (counts : Both ℕ)
+    (slots : Both Slot) → HasPieces tap start a b c n x ts h counts → IsToGo mid (now_of tap x counts) ts h slots → OnlyWrites c d n.trace
+    → PartlyAppended c d n.trace (turn_text (length ts) (going_in (now_of tap x counts) ts h.heard slots)) → StopsInTurn start a d n x ts
+stops-going tap mid start a b c d n x ts h counts slots k go w part =
+    let y : Tapping = now_of tap x counts in
+    let t : Turn = going_in y ts h.heard slots in
+    record {
+      others = read_of tap x counts;
+      read = read-later start c d n (read_of tap x counts) k.apart (OnlyPuts-one c d (n.got_o ∷ n.got_a ∷ []) n.trace [] w) k.pieces.read;
+      tells = tells-now tap x ts counts k.pieces.turn.behind.tells;
+      more = added x ts t (turn_text (length ts) t);
+      adds = inr (inl (record { turn = t; makes = inl (goes-on y ts mid h slots go); is = refl }, k.pieces.out));
+      writes = part-lines tap start a b c d n x ts h counts (turn_text (length ts) t) k w part;
+    }
+
+-- a whole slot was read of each recording
+pub whole-orig : (tap mid : Tap) (x : Tapping) (ts : List Turn) (h : Hearing) (counts : Both ℕ) (slots : Both Slot)
+    → InTurn tap x ts h.heard → counts.orig ≤ length tap.orig.piece.items → IsToGo mid (now_of tap x counts) ts h slots
+    → counts.orig ≡ length tap.orig.piece.items
+whole-orig tap mid x ts h counts slots k few go =
+    omega (
+      arith,
+      go.read.orig.holds.whole,
+      few,
+      k.behind.orig.count,
+      k.behind.orig_room,
+      octets-next (line_of x) (length ts),
+      length-append {A = ℕ} x.bodies.orig (take counts.orig tap.orig.piece.items),
+      length-take counts.orig tap.orig.piece.items,
+    )
+
+-- a piece has octets
+pub some-octets : (tap new : Tap) (x : Tapping) (ts : List Turn) (heard : Both Heard) → HEAD + TAIL < (line_of x).symbols
+    → InTurn tap x ts heard → new.orig.piece ≡ tap.orig.piece → 0 < length new.orig.piece.items
+some-octets tap new x ts heard long k same =
+    let room : length new.orig.piece.items ≡ 4 * (line_of x).symbols = rw same k.behind.orig_room in omega (arith, long, room)
+
+-- the tap is ready for the next turn
+pub ready-again : (old mid new : Tap) (x : Tapping) (t : Turn) (ts : List Turn) → IsReady old → TapAfter new x (t ∷ ts) → new.script ≡ old.script
+    → IsIdle mid.orig.listener (old.turn + 1) → IsIdle mid.answ.listener (old.turn + 1) → new.orig.listener ≡ mid.orig.listener
+    → new.answ.listener ≡ mid.answ.listener → new.turn ≡ old.turn + 1 → old.at < new.at → new.at ≤ TAP_LIMIT → IsReady new
+ready-again old mid new x t ts h after script io ia lo la turn more within = record {
+  limits = subst IsInLimits (sym script) h.limits;
+  orig = rw (lo, turn) io;
+  answ = rw (la, turn) ia;
+  early = omega (arith, turn, more, h.early);
+  within = within;
+  what = x;
+  turns = t ∷ ts;
+  after = after;
+}
+
+-- ---- what was touched, and counted
+
+pub only-read : (a b c : FolderState) (n : TapNames) → OnlyPuts a b (outputs_of n) → OnlyReads b c → OnlyPuts a c (outputs_of n)
+only-read a b c n p r = OnlyPuts-trans a b c (outputs_of n) p (OnlyPuts-reads b c (outputs_of n) r)
+
+pub only-written : (a b c d : FolderState) (n : TapNames) → OnlyPuts a b (outputs_of n) → OnlyReads b c → OnlyWrites c d n.trace
+    → OnlyPuts a d (outputs_of n)
+only-written a b c d n p r w =
+    OnlyPuts-trans a c d (outputs_of n) (only-read a b c n p r)
+    (OnlyPuts-one c d (n.got_o ∷ n.got_a ∷ []) n.trace [] w)

@@ -1,0 +1,60 @@
+use Rattle.std.proofs.Common.{refl, ◌∙◌, ap, subst}
+use Rattle.outside_calls.specs.Folder.{FolderState, Appended, PartlyAppended}
+use Rattle.outside_calls.proofs.Steps.{CountsStand-refl, CountsStand-trans}
+use Rattle.line_world.proofs.Handing.{writes-on, writes-none}
+use Rattle.lapm_receiver.specs.Taking.{Taking}
+use Rattle.line_tap.specs.declared.listener.Listener.{Listener}
+use Rattle.line_tap.proofs.Handing.{handing-starts, next-is, handing-next, handing-ends, handing-stops}
+use Rattle.line_tap.proofs.listener.Listener.deliver.Goals as goal
+
+pub loop-segment-init : goal.loop-segment-init
+loop-segment-init g c = record {
+  hands = λ i h. handing-starts (g.F.Folder.state c.args.folder.now) c.args.name.now c.args.self.now.receiver i h;
+  beside = refl;
+  window = refl;
+  taken = refl;
+  only = writes-none (g.F.Folder.state c.args.folder.now) c.args.name.now;
+  stand = CountsStand-refl (g.F.Folder.state c.args.folder.now);
+  came = g.met.F.Folder.came_none _;
+}
+
+pub returns-then-not-deliver-clause-ok : goal.returns-then-not-deliver-clause-ok
+returns-then-not-deliver-clause-ok g c = λ i h.
+    let k = c.loop-segment.invariant.hands i h in
+    (handing-ends (g.F.Folder.state c.args.folder.now) (g.F.Folder.state c.loop-segment.folder) c.args.name.now
+    c.loop-segment.self.receiver i k (c.if-not-deliver.ensures.answer _ k.stands)).1
+
+pub loop-segment-preserved : goal.loop-segment-preserved
+loop-segment-preserved g c =
+    let start : FolderState = g.F.Folder.state c.args.folder.now in
+    let now : FolderState = g.F.Folder.state c.loop-segment.folder in
+    let next : FolderState = g.F.Folder.state c.append.new.self in
+    let name = c.args.name.now in
+    let put : Appended now next name c.deliver.new.out = subst (Appended now next name) c.as_slice.ensures.items c.in-Ok.ensures.ok in
+    let old = c.loop-segment.invariant in
+    record {
+      hands = λ i h.
+          let k = old.hands i h in
+          handing-next start now next name c.deliver.new.out c.loop-segment.self.receiver c.deliver.new.self i old.only.goes_on k
+          (next-is c.loop-segment.self.receiver i k.given c.deliver.new.out (c.if-not-deliver.ensures.answer _ k.stands)
+          (λ s. c.if-not-deliver.ensures.segment _ s k.stands))
+          (c.if-not-deliver.ensures.stands _ k.stands) put;
+      beside = ap (λ (l : Listener). record l { receiver = c.deliver.new.self }) old.beside;
+      window = ap (λ (r : Taking). r.window) c.if-not-deliver.ensures.value ∙ old.window;
+      taken = ap (λ (r : Taking). r.taken) c.if-not-deliver.ensures.value ∙ old.taken;
+      only = writes-on start now next name old.only c.in-Ok.ensures.only;
+      stand = CountsStand-trans old.stand c.in-Ok.ensures.stand;
+      came = g.met.F.Folder.came_on _ _ _ old.came c.append.ensures.came;
+    }
+
+pub returns-in-Err-clause-err : goal.returns-in-Err-clause-err
+returns-in-Err-clause-err g c = λ i h.
+    let start : FolderState = g.F.Folder.state c.args.folder.now in
+    let now : FolderState = g.F.Folder.state c.loop-segment.folder in
+    let next : FolderState = g.F.Folder.state c.append.new.self in
+    let part : PartlyAppended now next c.args.name.now c.deliver.new.out =
+    subst (PartlyAppended now next c.args.name.now) c.as_slice.ensures.items c.in-Err.ensures.err in
+    let k = c.loop-segment.invariant.hands i h in
+    handing-stops start now next c.args.name.now c.deliver.new.out c.loop-segment.self.receiver i c.loop-segment.invariant.only.goes_on k
+    (next-is c.loop-segment.self.receiver i k.given c.deliver.new.out (c.if-not-deliver.ensures.answer _ k.stands)
+    (λ s. c.if-not-deliver.ensures.segment _ s k.stands)) part

@@ -1,0 +1,265 @@
+-- Segments that an end hands over, one after another.
+use Rattle.std.proofs.Common.{◌≡◌, ◌⊎◌, inl, inr, ℕ, zero, suc, ◌+◌, ◌≤◌, ◌<◌, Bool, true, false, cond, nat_lt, IsTrue, List, [], ◌∷◌, ◌++◌}
+use Rattle.std.proofs.Common.{length, drop, arith, refl, sym, ◌∙◌, ap, subst, Option, Some, None}
+use Rattle.std.proofs.lemmas.Bool.{false≢true}
+use Rattle.std.proofs.lemmas.Bool.Decides.{nat_tests}
+use Rattle.std.proofs.lemmas.List.{append-nil, append_assoc}
+use Rattle.std.proofs.lemmas.List.Folds.{concat-append}
+use Rattle.std.specs.Prelude.{slice_index_or, is_some, unwrap_or}
+use Rattle.std.specs.List.{concat}
+use Rattle.plain_lists.specs.Prefix.{IsPrefixOf}
+use Rattle.outside_calls.specs.Folder.{FolderState, held_at, octets_at, GoesOn, OnlyWrites, Appended, PartlyAppended, Adds}
+use Rattle.outside_calls.proofs.Steps.{GoesOn-refl, GoesOn-trans, KeepsName-trans, told_later, octets-kept, octets-held}
+use Rattle.lapm_receiver.specs.Incoming.{after_delivered}
+use Rattle.lapm_link.specs.declared.any_end.AnyEnd.{AnyEnd}
+use Rattle.lapm_link.specs.declared.any_end.AnyEnd.TheVariants as ends
+use Rattle.lapm_link.specs.declared.negotiating.Talk.{Talk}
+use Rattle.lapm_link.specs.declared.negotiating.Talk.TheVariants as talks
+use Rattle.lapm_link.specs.Stands.{StandsFor, Negotiates}
+use Rattle.link_account.specs.Account.{Account, is_connected, delivers, after_delivery}
+use Rattle.link_run.specs.End.{deliveries, delivered}
+use Rattle.link_run.specs.Reading.{IsOffered}
+use Rattle.line_world.specs.declared.station.Station.{Station}
+use Rattle.line_world.specs.Station.{Stands}
+use Rattle.line_world.proofs.Standing.{as-offered}
+
+-- ---- what a folder holds after several pieces
+
+pub adds-more : (a b c : FolderState) (name xs ys : List ℕ) → GoesOn a b → Adds a b name xs → Appended b c name ys
+    → Appended a c name (xs ++ ys)
+adds-more a b c name xs ys on (inl k) h = λ told.
+    h (told_later on name told) ∙ ap (λ l. Some (l ++ ys)) (octets-kept a b name k.1 told)
+    ∙ ap (λ l. Some (octets_at a name ++ (l ++ ys))) (sym k.0)
+adds-more a b c name xs ys on (inr k) h = λ told.
+    h (told_later on name told) ∙ ap (λ l. Some (l ++ ys)) (octets-held b name (octets_at a name ++ xs) (k told))
+    ∙ ap Some (append_assoc (octets_at a name) xs ys)
+
+pub part-more : (a b c : FolderState) (name xs ys rest : List ℕ) → GoesOn a b → Adds a b name xs → PartlyAppended b c name ys
+    → PartlyAppended a c name (xs ++ (ys ++ rest))
+part-more a b c name xs ys rest on k h = λ told. go k (h (told_later on name told)) told
+  where
+    go : Adds a b name xs
+        → (held_at c name ≡ held_at b name) ⊎ ((part : List ℕ) × IsPrefixOf part ys × (held_at c name ≡ Some (octets_at b name ++ part)))
+        → IsTrue (a.tells name)
+        → (held_at c name ≡ held_at a name)
+        ⊎ ((part : List ℕ) × IsPrefixOf part (xs ++ (ys ++ rest)) × (held_at c name ≡ Some (octets_at a name ++ part)))
+    go (inl k) (inl e) told = inl (e ∙ k.1 told)
+    go (inr k) (inl e) told = inr (xs, (ys ++ rest, refl), e ∙ k told)
+    go (inl k) (inr p) told = inr (
+      p.0,
+      (
+        p.1.0 ++ rest,
+        sym (append_assoc p.0 p.1.0 rest) ∙ ap (λ l. l ++ rest) p.1.1
+            ∙ ap (λ l. l ++ (ys ++ rest)) (sym k.0),
+      ),
+      p.2 ∙ ap (λ l. Some (l ++ p.0)) (octets-kept a b name k.1 told),
+    )
+    go (inr k) (inr p) told = inr (
+      xs ++ p.0,
+      (
+        p.1.0 ++ rest,
+        append_assoc xs p.0 (p.1.0 ++ rest)
+            ∙ ap (λ l. xs ++ l) (sym (append_assoc p.0 p.1.0 rest) ∙ ap (λ l. l ++ rest) p.1.1),
+      ),
+      p.2 ∙ ap (λ l. Some (l ++ p.0)) (octets-held b name (octets_at a name ++ xs) (k told))
+          ∙ ap Some (append_assoc (octets_at a name) xs p.0),
+    )
+
+pub writes-on : (a b c : FolderState) (name : List ℕ) → OnlyWrites a b name → OnlyWrites b c name → OnlyWrites a c name
+writes-on a b c name h k = record {
+  goes_on = GoesOn-trans h.goes_on k.goes_on;
+  names = λ other apart. KeepsName-trans a b c other h.goes_on (h.names other apart) (k.names other apart);
+  said = k.said ∙ h.said;
+  read_faults = λ other. k.read_faults other ∙ h.read_faults other;
+}
+
+-- ---- deliveries, one by one
+
+at-front : (n : ℕ) (xs : List (List ℕ)) → n < length xs → drop n xs ≡ slice_index_or xs n [] ∷ drop (suc n) xs
+at-front n [] h = absurd (omega (arith, h))
+at-front zero (x ∷ xs) h = refl
+at-front (suc n) (x ∷ xs) h = at-front n xs (omega (arith, h))
+
+past-end : (n : ℕ) (xs : List (List ℕ)) → length xs ≤ n → drop n xs ≡ []
+past-end zero [] h = refl
+past-end zero (x ∷ xs) h = absurd (omega (arith, h))
+past-end (suc n) [] h = refl
+past-end (suc n) (x ∷ xs) h = past-end n xs (omega (arith, h))
+
+-- one more of its segments was handed over
+abbrev handed-one : Account → Account
+handed-one b = record b { incoming = record b.incoming { given = b.incoming.given + 1 } }
+
+deliveries-of : (b : Account) → is_connected b.phase ≡ true → deliveries b ≡ drop b.incoming.given b.incoming.taken
+deliveries-of b k = ap (λ c. cond c (drop b.incoming.given b.incoming.taken) []) k
+
+delivered-of : (b : Account) → is_connected b.phase ≡ true
+    → delivered b ≡ record b { incoming = record b.incoming { given = length b.incoming.taken } }
+delivered-of b k = ap (λ c. cond c (record b { incoming = record b.incoming { given = length b.incoming.taken } }) b) k
+
+after-of : (b : Account) → is_connected b.phase ≡ true → nat_lt b.incoming.given (length b.incoming.taken) ≡ true
+    → after_delivery b ≡ handed-one b
+after-of b k l = ap (λ c. cond c (record b { incoming = after_delivered b.incoming }) b) k
+    ∙ ap (λ c. record b { incoming = cond c (record b.incoming { given = b.incoming.given + 1 }) b.incoming }) l
+
+pub record Hands (b : Account) (segment : List ℕ) : Type 0 where
+  pub first : deliveries b ≡ segment ∷ deliveries (after_delivery b)
+  pub rest : delivered (after_delivery b) ≡ delivered b
+
+pub hands-next : (b : Account) (segment : List ℕ) → delivers b ≡ Some segment → Hands b segment
+hands-next b segment e = go (is_connected b.phase) refl (nat_lt b.incoming.given (length b.incoming.taken)) refl e
+  where
+    some : {x y : List ℕ} → Some x ≡ Some y → x ≡ y
+    some {x} z = ap (λ o. unwrap_or o x) z
+
+    none : {x : List ℕ} → None ≡ Some x → ⊥
+    none z = false≢true (ap is_some z)
+
+    go : (c : Bool) → is_connected b.phase ≡ c → (l : Bool) → nat_lt b.incoming.given (length b.incoming.taken) ≡ l
+        → cond c (cond l (Some (slice_index_or b.incoming.taken b.incoming.given [])) None) None ≡ Some segment → Hands b segment
+    go true k true l z =
+        let within : b.incoming.given < length b.incoming.taken = grind (arith, nat_tests) in
+        let next : suc b.incoming.given ≡ b.incoming.given + 1 = omega arith in
+        let after = after-of b k l in
+        record {
+          first = deliveries-of b k ∙ at-front b.incoming.given b.incoming.taken within
+              ∙ ap (λ x. x ∷ drop (suc b.incoming.given) b.incoming.taken) (some z)
+              ∙ ap (λ n. segment ∷ drop n b.incoming.taken) next
+              ∙ ap (λ l. segment ∷ l) (sym (ap deliveries after ∙ deliveries-of (handed-one b) k));
+          rest = ap delivered after ∙ delivered-of (handed-one b) k ∙ sym (delivered-of b k);
+        }
+    go true k false l z = absurd (none z)
+    go false k l m z = absurd (none z)
+
+given-within : (end : AnyEnd) (a : Account) → StandsFor end a → is_connected a.phase ≡ true → a.incoming.given ≤ length a.incoming.taken
+given-within (ends.Detecting end) a h e = absurd (false≢true (sym (ap is_connected h.phase_is) ∙ e))
+given-within (ends.Negotiating end) a h e = go end.talk h
+  where
+    go : (talk : Talk) → Negotiates talk a → a.incoming.given ≤ length a.incoming.taken
+    go (talks.Asking asking) k = absurd (false≢true (sym (ap is_connected k.phase_is) ∙ e))
+    go (talks.Answering answering) k = absurd (false≢true (sym (ap is_connected k.phase_is) ∙ e))
+given-within (ends.Establishing end) a h e = absurd (false≢true (sym (ap is_connected h.0) ∙ e))
+given-within (ends.Connected end) a h e = h.beside.receiver_stands.given_within
+given-within (ends.Releasing end) a h e = absurd (false≢true (sym (ap is_connected h.0) ∙ e))
+given-within (ends.Closed end) a h e = absurd (false≢true (sym (ap is_connected h.0) ∙ e))
+
+pub record HandsNone (b : Account) : Type 0 where
+  pub none : deliveries b ≡ []
+  pub same : delivered b ≡ b
+
+pub hands-none : (end : AnyEnd) (b : Account) → StandsFor end b → is_some (delivers b) ≡ false → HandsNone b
+hands-none end b h e = go (is_connected b.phase) refl (nat_lt b.incoming.given (length b.incoming.taken)) refl e
+  where
+    go : (c : Bool) → is_connected b.phase ≡ c → (l : Bool) → nat_lt b.incoming.given (length b.incoming.taken) ≡ l
+        → is_some (cond c (cond l (Some (slice_index_or b.incoming.taken b.incoming.given [])) None) None) ≡ false → HandsNone b
+    go true k true l z = absurd (false≢true (sym z))
+    go true k false l z =
+        let most = given-within end b h k in
+        let least : length b.incoming.taken ≤ b.incoming.given = grind (arith, nat_tests) in
+        let is : length b.incoming.taken ≡ b.incoming.given = omega (arith, most, least) in
+        record {
+          none = rw k (past-end b.incoming.given b.incoming.taken least);
+          same = rw k (ap (λ n. record b { incoming = record b.incoming { given = n } }) is);
+        }
+    go false k l m z = record { none = rw k refl; same = rw k refl }
+
+pub delivery-offered : (file : List ℕ) (b : Account) → IsOffered file b → IsOffered file (after_delivery b)
+delivery-offered file b h = go (is_connected b.phase)
+  where
+    go : (c : Bool) → IsOffered file (cond c (record b { incoming = after_delivered b.incoming }) b)
+    go true = as-offered file b (record b { incoming = after_delivered b.incoming }) refl refl refl refl h
+    go false = h
+
+delivery-breaks : (b : Account) → (after_delivery b).own_breaks ≡ b.own_breaks
+delivery-breaks b = go (is_connected b.phase)
+  where
+    go : (c : Bool) → (cond c (record b { incoming = after_delivered b.incoming }) b).own_breaks ≡ b.own_breaks
+    go true = refl
+    go false = refl
+
+-- ---- the loop
+
+-- So many segments of this account were handed over: what is left is handed over next.
+pub record Handing (start now : FolderState) (name : List ℕ) (s : Station) (file : List ℕ) (a : Account) : Type 0 where
+  pub after : Account
+  pub stands : Stands s file after
+  pub same : delivered after ≡ delivered a
+  pub done : List (List ℕ)
+  pub all : deliveries a ≡ done ++ deliveries after
+  pub wrote : Adds start now name (concat done)
+
+pub handing-starts : (f : FolderState) (name : List ℕ) (s : Station) (file : List ℕ) (a : Account) → Stands s file a
+    → Handing f f name s file a
+handing-starts f name s file a h = record { after = a; stands = h; same = refl; done = []; all = refl; wrote = inl (refl, λ told. refl) }
+
+pub handing-next : (start now next : FolderState) (name segment : List ℕ) (s new : Station) (file : List ℕ) (a : Account) → GoesOn start now
+    → (h : Handing start now name s file a)
+    → delivers h.after ≡ Some segment → StandsFor new.end (after_delivery h.after) → new.breaks ≡ s.breaks → Appended now next name segment
+    → Handing start next name new file a
+handing-next start now next name segment s new file a on h e end breaks put =
+    let k = hands-next h.after segment e in
+    record {
+      after = after_delivery h.after;
+      stands = record {
+        end = end;
+        breaks = breaks ∙ h.stands.breaks
+            ∙ sym (ap (λ o. length o.lengths) (delivery-breaks h.after));
+        offered = delivery-offered file h.after h.stands.offered;
+      };
+      same = k.rest ∙ h.same;
+      done = h.done ++ segment ∷ [];
+      all = h.all ∙ ap (λ l. h.done ++ l) k.first ∙ sym (append_assoc h.done (segment ∷ []) (deliveries (after_delivery h.after)));
+      wrote = inr (subst (Appended start next name) (sym (concat-append h.done (segment ∷ [])
+          ∙ ap (λ l. concat h.done ++ l) (append-nil segment))) (adds-more start now next name (concat h.done) segment on h.wrote put));
+    }
+
+pub handing-ends : (start now : FolderState) (name : List ℕ) (s new : Station) (file : List ℕ) (a : Account)
+    → (h : Handing start now name s file a) → is_some (delivers h.after) ≡ false
+    → StandsFor new.end (after_delivery h.after) → new.breaks ≡ s.breaks
+    → Stands new file (delivered a) × Adds start now name (concat (deliveries a))
+handing-ends start now name s new file a h e end breaks =
+    let k = hands-none s.end h.after h.stands.end e in
+    let still : after_delivery h.after ≡ delivered a = still-same ∙ sym k.same ∙ h.same in (
+      subst (Stands new file) still (record {
+        end = end;
+        breaks = breaks ∙ h.stands.breaks
+            ∙ sym (ap (λ o. length o.lengths) (delivery-breaks h.after));
+        offered = delivery-offered file h.after h.stands.offered;
+      }),
+      subst (λ l. Adds start now name (concat l)) (sym (h.all ∙ ap (λ l. h.done ++ l) k.none ∙ append-nil h.done)) h.wrote,
+    )
+  where
+    still-same : after_delivery h.after ≡ h.after
+    still-same = go (is_connected h.after.phase) (nat_lt h.after.incoming.given (length h.after.incoming.taken)) e
+      where
+        go : (c l : Bool)
+            → is_some (cond c (cond l (Some (slice_index_or h.after.incoming.taken h.after.incoming.given [])) None) None) ≡ false
+            → cond c (record h.after {
+              incoming = cond l (record h.after.incoming { given = h.after.incoming.given + 1 }) h.after.incoming;
+            })
+            h.after ≡ h.after
+        go true true z = absurd (false≢true (sym z))
+        go true false z = refl
+        go false l z = refl
+
+pub handing-stops : (start now next : FolderState) (name segment : List ℕ) (s : Station) (file : List ℕ) (a : Account) → GoesOn start now
+    → (h : Handing start now name s file a)
+    → delivers h.after ≡ Some segment → PartlyAppended now next name segment → PartlyAppended start next name (concat (deliveries a))
+handing-stops start now next name segment s file a on h e put =
+    let k = hands-next h.after segment e in
+    subst (PartlyAppended start next name) (sym (ap concat (h.all ∙ ap (λ l. h.done ++ l) k.first)
+    ∙ concat-append h.done (segment ∷ deliveries (after_delivery h.after))))
+    (part-more start now next name (concat h.done) segment (concat (deliveries (after_delivery h.after))) on h.wrote put)
+
+pub some-of : {X : Type 0} (o : Option X) → true ≡ is_some o → (x : X) × (o ≡ Some x)
+some-of (Some x) e = (x, refl)
+some-of None e = absurd (false≢true (sym e))
+
+-- the segment that was handed over
+pub handed-segment : (end : AnyEnd) (out : List ℕ) (b : Account) → StandsFor end b → true ≡ is_some (delivers b)
+    → ((a : Account) (segment : List ℕ) → StandsFor end a → delivers a ≡ Some segment → out ≡ segment)
+    → delivers b ≡ Some out
+handed-segment end out b h e is = let s = some-of (delivers b) e in s.1 ∙ ap Some (sym (is b s.0 h s.1))
+
+pub writes-none : (f : FolderState) (name : List ℕ) → OnlyWrites f f name
+writes-none f name = record { goes_on = GoesOn-refl f; names = λ other apart told. refl; said = refl; read_faults = λ other. refl }

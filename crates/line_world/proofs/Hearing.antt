@@ -1,0 +1,177 @@
+-- What both ends hear in a turn, and are then.
+use Rattle.std.proofs.Common.{◌≡◌, ◌≢◌, ℕ, ◌<◌, ◌≤◌, ◌+◌, ◌^◌, true, false, is_ok, List, [], length, arith, refl, sym, ◌∙◌, ap, subst, Option, None, Ok}
+use Rattle.shared_terms.specs.declared.role.Role.{Role}
+use Rattle.shared_terms.specs.declared.role.Role.TheVariants.{Originator, Answerer}
+use Rattle.shared_terms.specs.Role.{other}
+use Rattle.shared_terms.specs.Both.{Both, of}
+use Rattle.frame_check.specs.declared.check.Check.{Check}
+use Rattle.noise_script.specs.Script.{ScriptValue, IsInLimits, delay_of}
+use Rattle.lapm_frames.specs.declared.arrived.Arrived.{Arrived}
+use Rattle.lapm_frames.specs.declared.heard.Heard.{Heard}
+use Rattle.lapm_frames.specs.declared.heard.Heard.TheVariants.{Chance}
+use Rattle.link_account.specs.Account.{check_of}
+use Rattle.link_account.specs.Hear.{hear}
+use Rattle.link_run.specs.Run.{Accounts, Spoken, Turn, arrival, start}
+use Rattle.link_run.specs.Counts.{lost_in}
+use Rattle.link_run.specs.Laws.{RunsOver, HearingsAreWell}
+use Rattle.line_run.specs.Sampled.{Wire, HeardIn, IsHeardOf, LineRun, EndsLine, EndsLineBy}
+use Rattle.line_run.specs.Scripted.{wire_at, link_of, ScriptsMayPlay, ScriptsHaveDelays}
+use Rattle.line_run.specs.LineLaws.{SamplesAreCarried, OneIsCarried}
+use Rattle.line_run.specs.Scripts.{NoLineRunIsLong}
+use Rattle.turn_bound.specs.Limits.{file_limit}
+use Rattle.line_world.specs.declared.lines.Lines.{Lines}
+use Rattle.line_world.specs.Link.{LinkStands, AreIdle, AreCounted, HearsBoth, HearsWell}
+use Rattle.line_run.specs.Stream.{Carried}
+use Rattle.line_world.specs.Lines.{ArrivesBoth, HaveArrived, end_of}
+use Rattle.line_world.specs.declared.directions.LineEnd.{LineEnd}
+use Rattle.line_world.specs.declared.modems.Modems.{Modems}
+use Rattle.line_world.specs.declared.tally.Tally.{Tally}
+use Rattle.line_world.specs.Modems.{AreKept, AreReady, ModemsAfter}
+use Rattle.line_world.specs.Tally.{Tallies}
+use Rattle.line_world.specs.Mid.{Overhears, TalliesHeard, HasHeard, turn_in}
+
+pub few-turns : NoLineRunIsLong → (m : Modems) (script : ScriptValue) (l : Lines) → AreReady m script l → m.turn < 2 ^ 39
+few-turns law m script l h = subst (λ n. n < 2 ^ 39) (sym h.after.turn)
+    (law (wire_at script m.dlci h.beside) h.files h.turns h.ends h.limits within h.after.run)
+  where
+    within : (role : Role) → length (of role h.files) ≤ file_limit
+    within Originator = h.within.orig
+    within Answerer = h.within.answ
+
+pub early-turns : NoLineRunIsLong → (m : Modems) (script : ScriptValue) (l : Lines) → AreReady m script l → m.turn < 2 ^ 40
+early-turns law m script l h = let few = few-turns law m script l h in omega (arith, few)
+
+-- what the laws of runs and of the line say of a turn that is heard
+pub record HearingLaws : Type 0 where
+  pub play : ScriptsMayPlay
+  pub delays : ScriptsHaveDelays
+  pub carried : SamplesAreCarried
+  pub one : OneIsCarried
+  pub well : HearingsAreWell
+
+pub runs-over : ScriptsMayPlay → ScriptsHaveDelays → SamplesAreCarried
+    → (c : Wire) (files : Both (List ℕ)) (ts : List Turn) (ends : Accounts) → IsInLimits c.script
+    → LineRun c (link_of c.script files) ts ends → RunsOver (link_of c.script files) (delay_of c.script) ts ends
+runs-over play delays carried c files ts ends limits run = record {
+  may_play = play c.script files limits;
+  delays = delays c.script limits;
+  carried = carried c ts run.heard;
+  run = run.run;
+}
+
+pub heard-in : (c : Wire) (files : Both (List ℕ)) (ts : List Turn) (ends : Accounts) (heard : Both Heard) (mid : Accounts)
+    (sent : Both (Option Spoken)) → Overhears c files ts ends heard mid → HeardIn c ts (turn_in heard ends mid sent)
+heard-in c files ts ends heard mid sent o Originator = record { heard_of = o.heard_of Originator; well = o.well Originator }
+heard-in c files ts ends heard mid sent o Answerer = record { heard_of = o.heard_of Answerer; well = o.well Answerer }
+
+abbrev pub none-sent : Both (Option Spoken)
+none-sent = record { orig = None; answ = None }
+
+-- What arrives by the checks that both ends have.
+pub record IsHeardBy (c : Wire) (ts : List Turn) (ends : Accounts) (heard : Both Heard) : Type 0 where
+  pub heard_of : (role : Role) → IsHeardOf c (other role) ts (check_of (of role ends)) (of role heard)
+  pub well : (role : Role) → of role heard ≢ Chance
+
+pub heard-by : (l : Lines) (c : Wire) (links : ℕ) (streams : Both (List Carried)) (ts : List Turn) (ends : Accounts) (heard : Both Heard) (checks : Both Check)
+    → ((role : Role) → of role checks ≡ check_of (of role ends))
+    → ArrivesBoth (HaveArrived l c links streams) c ts checks heard → IsHeardBy c ts ends heard
+heard-by l c links streams ts ends heard checks same a = record {
+  heard_of = λ role. subst (λ k. IsHeardOf c (other role) ts k (of role heard)) (same role) (a.heard_of role);
+  well = a.well;
+}
+
+-- what arrives of own slots breaks no end
+pub hears-well : HearingLaws → (c : Wire) (files : Both (List ℕ)) (ts : List Turn) (ends : Accounts) (heard : Both Heard)
+    → IsInLimits c.script → LineRun c (link_of c.script files) ts ends → IsHeardBy c ts ends heard
+    → HearsWell ends (length ts) (arrival heard.orig) (arrival heard.answ)
+hears-well laws c files ts ends heard limits run h = record { orig = well Originator; answ = well Answerer }
+  where
+    t : Turn
+    t = turn_in heard ends ends none-sent
+
+    in-turn : HeardIn c ts t
+    in-turn Originator = record { heard_of = h.heard_of Originator; well = h.well Originator }
+    in-turn Answerer = record { heard_of = h.heard_of Answerer; well = h.well Answerer }
+
+    well : (role : Role) → is_ok (hear (length ts) (arrival (of role t).heard) (of role ends)) ≡ true
+    well = laws.well (link_of c.script files) (delay_of c.script) ts ends t
+        (runs-over laws.play laws.delays laws.carried c files ts ends limits run) (laws.one c ts t in-turn)
+
+-- what both ends are once they have heard
+both-of : (ends : Accounts) (turn : ℕ) (heard : Both Heard) (mid : Accounts) (to_orig to_answ : Arrived) (number : ℕ) → number ≡ turn
+    → to_orig ≡ arrival heard.orig → to_answ ≡ arrival heard.answ
+    → hear number to_orig ends.orig ≡ Ok mid.orig → hear number to_answ ends.answ ≡ Ok mid.answ
+    → (role : Role) → hear turn (arrival (of role heard)) (of role ends) ≡ Ok (of role mid)
+both-of ends turn heard mid to_orig to_answ number n o a ho ha Originator =
+    ap (λ t. hear t (arrival heard.orig) ends.orig) (sym n) ∙ ap (λ x. hear number x ends.orig) (sym o) ∙ ho
+both-of ends turn heard mid to_orig to_answ number n o a ho ha Answerer =
+    ap (λ t. hear t (arrival heard.answ) ends.answ) (sym n) ∙ ap (λ x. hear number x ends.answ) (sym a) ∙ ha
+
+pub record Hearing (m : Modems) (files : Both (List ℕ)) (ends : Accounts) (heard : Both Heard) (turn : ℕ) (to_orig to_answ : Arrived) : Type 0 where
+  pub orig_is : to_orig ≡ arrival heard.orig
+  pub answ_is : to_answ ≡ arrival heard.answ
+  pub hears : HearsBoth m.link files ends turn to_orig to_answ
+  pub checks : (role : Role) → of role m.heard_by ≡ check_of (of role hears.mid)
+
+pub has-heard : (old m : Modems) (l : Lines) (c : Wire) (links : ℕ) (streams : Both (List Carried)) (files : Both (List ℕ)) (ts : List Turn)
+    (ends : Accounts) (heard : Both Heard) (to_orig to_answ : Arrived)
+    → ModemsAfter old c files ts ends → m.turn ≡ old.turn → IsHeardBy c ts ends heard → HaveArrived l c links streams
+    → Hearing m files ends heard old.turn to_orig to_answ → TalliesHeard m.tally ts ends heard → HasHeard m l c links streams files ts ends heard
+has-heard old m l c links streams files ts ends heard to_orig to_answ h number a arrived hearing tally = record {
+  mid = hearing.hears.mid;
+  stands = record {
+    overhears = record {
+      run = h.run;
+      heard_of = a.heard_of;
+      well = a.well;
+      hears = both-of ends (length ts) heard hearing.hears.mid to_orig to_answ old.turn h.turn hearing.orig_is hearing.answ_is hearing.hears.orig
+          hearing.hears.answ;
+    };
+    link = hearing.hears.stands;
+    turn = number ∙ h.turn;
+    tally = tally;
+    checks = hearing.checks;
+  };
+  lines = arrived;
+}
+
+pub tallies-heard : (old new : Tally) (ts : List Turn) (ends : Accounts) (heard : Both Heard) → Tallies old ts ends
+    → new ≡ record old { lost = old.lost + lost_in heard.orig + lost_in heard.answ }
+    → TalliesHeard new ts ends heard
+tallies-heard old new ts ends heard h e = rw e (record {
+  lost = rw h.lost refl;
+  again = h.again;
+  orig = h.orig;
+  answ = h.answ;
+})
+
+-- the line ends the run
+pub lost-so : (c : Wire) (ts : List Turn) (ends : Accounts) (checks : Both Check) (end : LineEnd)
+    → ((role : Role) → of role checks ≡ check_of (of role ends))
+    → EndsLineBy c ts (λ role. of role checks) (end_of end) → EndsLine c ts ends (end_of end)
+lost-so c ts ends checks end same h = subst (λ f. EndsLineBy c ts f (end_of end)) (λ k role. same role k) h
+
+-- ---- before the first turn
+
+abbrev pub nothing-counted : Tally
+nothing-counted = record { lost = 0; again = 0; orig = 0; answ = 0 }
+
+pub begins : (m : Modems) (c : Wire) (script : ScriptValue) (files : Both (List ℕ)) → c.script ≡ script
+    → LinkStands m.link files (start (link_of script files)) → m.turn ≡ 0 → m.tally ≡ nothing-counted → m.spoke ≡ false
+    → ModemsAfter m c files [] (start (link_of script files))
+begins m c script files is link turn tally spoke = record {
+  run = subst (λ s. LineRun c (link_of c.script files) [] (start (link_of s files))) is (record { run = refl; heard = tt });
+  link = link;
+  turn = turn;
+  tally = subst (λ t. Tallies t [] (start (link_of script files))) (sym tally)
+      (record { lost = refl; again = refl; orig = refl; answ = refl });
+  spoke = spoke;
+}
+
+pub kept-first : (m : Modems) → m.dlci < 64 → AreIdle m.link → AreCounted m.link 0 0 → m.turn ≡ 0 → m.tally ≡ nothing-counted → AreKept m
+kept-first m channel idle counted turn tally = record {
+  channel = channel;
+  idle = idle;
+  counted = subst (λ n. AreCounted m.link n n) (sym turn) counted;
+  few = rw (turn, tally) (record { lost = omega arith; again = omega arith; orig = omega arith; answ = omega arith });
+}

@@ -1,0 +1,17 @@
+pub mod Several
+pub mod Hearing
+pub mod Serving
+pub mod Speaking
+pub mod Folders
+pub mod Turning
+pub mod Reached
+pub mod Linking
+pub mod Lending
+pub mod Taping
+pub mod Standing
+pub mod Handing
+pub mod Offering
+pub mod Passing
+pub mod Waiting
+pub mod Coded
+pub mod OneEnd

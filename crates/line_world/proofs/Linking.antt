@@ -1,0 +1,87 @@
+-- Parts of a turn of both ends.
+use Rattle.std.proofs.Common.{◌≡◌, ℕ, ◌+◌, Bool, true, false, is_ok, List, length, take, slice_get, arith, refl, sym, ◌∙◌, ap, Option}
+use Rattle.std.proofs.Common.{Result, Ok, Err}
+use Rattle.std.specs.Option.{option_map}
+use Rattle.outside_calls.specs.Folder.{FolderState, OnlyReads}
+use Rattle.outside_calls.proofs.Steps.{told_later, octets-kept}
+use Rattle.std.proofs.lemmas.Bool.{false≢true}
+use Rattle.shared_terms.specs.declared.role.Role.{Role}
+use Rattle.noise_script.specs.Script.{ScriptValue, break_of}
+use Rattle.noise_script.specs.Script as script
+use Rattle.lapm_frames.specs.declared.arrived.Arrived.{Arrived}
+use Rattle.lapm_frames.specs.declared.sent.Sent.{Sent}
+use Rattle.shared_terms.specs.declared.fault.LinkFault.{LinkFault}
+use Rattle.link_account.specs.Account.{Account, after_busy}
+use Rattle.link_account.specs.Hear.{hear}
+use Rattle.link_account.specs.Speak.{Said}
+use Rattle.link_run.specs.End.{asked, asked_at, is_busy}
+use Rattle.line_run.specs.Scripted.{breaks_of, busy_of, BreaksAreTheScripts, PausesAreTheScripts}
+use Rattle.line_world.specs.declared.station.Station.{Station}
+use Rattle.line_world.specs.Station.{Stands, HearsAs, SpeaksAs, ReadsOn, IsCounted, line_of}
+use Rattle.line_world.specs.Link.{HearsOn}
+
+pub heard-well : (s : Station) (file : List ℕ) (a : Account) (turn : ℕ) (arrived : Arrived) → is_ok (hear turn arrived a) ≡ true
+    → HearsAs (hear turn arrived a) file s (Ok tt) → HearsOn s file a turn arrived
+heard-well s file a turn arrived well h = go (hear turn arrived a) refl well h
+  where
+    go : (r : Result Account LinkFault) → hear turn arrived a ≡ r → is_ok r ≡ true → HearsAs r file s (Ok tt)
+        → HearsOn s file a turn arrived
+    go (Ok b) e w k = record { mid = b; hears = e; stands = k }
+    go (Err fault) e w k = absurd (false≢true w)
+
+pub counted-later : (s : Station) (heard asked : ℕ) → IsCounted s heard asked → IsCounted s heard (asked + 1)
+counted-later s heard asked h = record { segments = omega (arith, h.segments); breaks = omega (arith, h.breaks) }
+
+-- The next break of the script is the next one of the user's.
+pub next-is : BreaksAreTheScripts → (value : ScriptValue) (role : Role) (index taken : ℕ) (next : Option (ℕ × ℕ))
+    → next ≡ break_of value role index → index ≡ taken → option_map line_of next ≡ slice_get (breaks_of value role) taken
+next-is law value role index taken next e i =
+    ap (option_map line_of) e ∙ sym (law value role index) ∙ ap (slice_get (breaks_of value role)) i
+
+-- Whoever isn't told to release asks for its next break,
+pub asks-so : BreaksAreTheScripts → PausesAreTheScripts
+    → (value : ScriptValue) (role : Role) (turn : ℕ) (released busy : Bool) (a : Account)
+    → (index : ℕ) (next : Option (ℕ × ℕ)) → next ≡ break_of value role index → index ≡ length (after_busy busy a).own_breaks.lengths
+    → busy ≡ script.is_busy value role turn → released ≡ false
+    → asked_at turn (option_map line_of next) (after_busy busy a) ≡ asked turn released (breaks_of value role)
+    (after_busy (is_busy turn (busy_of value role)) a)
+asks-so breaks pauses value role turn true busy a index next e i b r = absurd (false≢true (sym r))
+asks-so breaks pauses value role turn false busy a index next e i b r =
+    ap (λ n. asked_at turn n (after_busy busy a)) (next-is breaks value role index _ next e i)
+    ∙ ap (λ x. asked turn false (breaks_of value role) (after_busy x a)) (b ∙ sym (pauses value role turn))
+
+-- and whoever is does not.
+pub asks-none : PausesAreTheScripts → (value : ScriptValue) (role : Role) (turn : ℕ) (released busy : Bool) (a : Account)
+    → busy ≡ script.is_busy value role turn → released ≡ true
+    → after_busy busy a ≡ asked turn released (breaks_of value role) (after_busy (is_busy turn (busy_of value role)) a)
+asks-none pauses value role turn true busy a b r = ap (λ x. after_busy x a) (b ∙ sym (pauses value role turn))
+asks-none pauses value role turn false busy a b r = absurd (false≢true r)
+
+-- An end that breaks as it is to speak does so by its rules;
+pub broken-so : (r : Result Said LinkFault) (file : List ℕ) (sent : Sent) (s : Station) (fault : LinkFault)
+    → SpeaksAs r file sent s (Err fault) → r ≡ Err fault
+broken-so (Ok said) file sent s fault h = absurd h
+broken-so (Err broken) file sent s fault h = ap Err (sym h)
+
+-- What an end says by its rules, as the station sends it.
+pub record Says (r : Result Said LinkFault) (file : List ℕ) (sent : Sent) (s : Station) : Type 0 where
+  pub said : Said
+  pub is : r ≡ Ok said
+  pub sent_is : sent ≡ said.sent
+  pub stands : Stands s file said.account
+
+-- one that doesn't says it.
+pub said-so : (r : Result Said LinkFault) (file : List ℕ) (sent : Sent) (s : Station) → SpeaksAs r file sent s (Ok tt) → Says r file sent s
+said-so (Ok said) file sent s h = record { said = said; is = refl; sent_is = h.0; stands = h.1 }
+said-so (Err broken) file sent s h = absurd h
+
+-- What was read of a file after another was read is what the folder had of it before.
+pub reads-later : (start mid : FolderState) (name : List ℕ) (limit : ℕ) (file : List ℕ) (a : Account) (others : List ℕ)
+    → OnlyReads start mid
+    → ReadsOn mid name limit file a others → ReadsOn start name limit file a others
+reads-later start mid name limit file a others only r = record {
+  within = r.within;
+  same = r.same;
+  told = λ told e. r.told (told_later only.goes_on name told) (e
+      ∙ ap (take limit) (sym (octets-kept start mid name (only.names name) told)));
+}

@@ -1,0 +1,5 @@
+pub mod Hearing
+pub mod Folders
+pub mod Turning
+pub mod Breaking
+pub mod Once

@@ -1,0 +1,95 @@
+-- What the steps of a turn leave of the folder, in a row.
+use Rattle.std.proofs.Common.{◌≡◌, inl, inr, ℕ, ◌≤◌, List, [], ◌∷◌, length, take, IsTrue, sym, ◌∙◌, ap, subst}
+use Rattle.outside_calls.specs.Folder.{FolderState, KeepsName, OnlyWrites, CountsStand, Rose}
+use Rattle.outside_calls.proofs.Steps.{told_later, octets-kept, FaultsStand-trans, CountsStand-trans}
+use Rattle.outside_calls.specs.Outputs.{AreApartFrom, OnlyPuts}
+use Rattle.outside_calls.proofs.Putting.{OnlyPuts-one, SomeRose-earlier}
+use Rattle.line_world.specs.Station.{file_at, ReadsOn}
+use Rattle.link_account.specs.Account.{Account}
+use Rattle.line_world.specs.declared.one_end.step.SingleFault.{SingleFault}
+use Rattle.line_world.specs.declared.one_end.step.SingleFault.TheVariants as faults
+use Rattle.line_world.specs.OneEnd.Single.{PeerNames, StaysKnown, file_limit, inputs_of, outputs_of}
+use Rattle.line_world.specs.OneEnd.Turn.{FaultCounts}
+
+-- no output is the other one, nor the file
+abbrev pub IsApart : PeerNames → Type 0
+IsApart n = AreApartFrom (inputs_of n) (outputs_of n)
+
+-- ---- what was touched
+
+pub got-only : (a b : FolderState) (n : PeerNames) → OnlyWrites a b n.got → OnlyPuts a b (outputs_of n)
+got-only a b n w = OnlyPuts-one a b [] n.got (n.trace ∷ []) w
+
+pub trace-only : (a b : FolderState) (n : PeerNames) → OnlyWrites a b n.trace → OnlyPuts a b (outputs_of n)
+trace-only a b n w = OnlyPuts-one a b (n.got ∷ []) n.trace [] w
+
+-- ---- what was counted
+
+-- of a step that writes one of the outputs
+pub got-counts : (a b : FolderState) (n : PeerNames) (fault : SingleFault) → FaultCounts a b [] (n.got ∷ []) fault
+    → FaultCounts a b (inputs_of n) (outputs_of n) fault
+got-counts a b n faults.ReadFault h = absurd h
+got-counts a b n faults.WriteFault (inl h) = inl h
+got-counts a b n faults.WriteFault (inr h) = absurd h
+got-counts a b n faults.NoMemory h = h
+got-counts a b n (faults.Link fault) h = h
+
+pub trace-counts : (a b : FolderState) (n : PeerNames) (fault : SingleFault) → FaultCounts a b [] (n.trace ∷ []) fault
+    → FaultCounts a b (inputs_of n) (outputs_of n) fault
+trace-counts a b n faults.ReadFault h = absurd h
+trace-counts a b n faults.WriteFault h = inr h
+trace-counts a b n faults.NoMemory h = h
+trace-counts a b n (faults.Link fault) h = h
+
+-- or reads the file
+pub read-counts : (a b : FolderState) (n : PeerNames) (fault : SingleFault) → FaultCounts a b (n.file ∷ []) [] fault
+    → FaultCounts a b (inputs_of n) (outputs_of n) fault
+read-counts a b n faults.ReadFault h = h
+read-counts a b n faults.WriteFault h = absurd h
+read-counts a b n faults.NoMemory h = h
+read-counts a b n (faults.Link fault) h = h
+
+-- a fault behind steps that counted nothing
+pub counts-later : (a b c : FolderState) (inputs outputs : List (List ℕ)) (fault : SingleFault) → CountsStand a b
+    → FaultCounts b c inputs outputs fault → FaultCounts a c inputs outputs fault
+counts-later a b c inputs outputs faults.ReadFault s h = SomeRose-earlier _ _ _ inputs s.faults.reads h
+counts-later a b c inputs outputs faults.WriteFault s h = SomeRose-earlier _ _ _ outputs s.faults.writes h
+counts-later a b c inputs outputs faults.NoMemory s h = (FaultsStand-trans s.faults h.0, subst (λ x. Rose x c.refusals) s.refusals h.1)
+counts-later a b c inputs outputs (faults.Link fault) s h = CountsStand-trans s h
+
+-- ---- which file is known
+
+file-kept : (a b : FolderState) (n : PeerNames) → IsApart n → OnlyPuts a b (outputs_of n) → KeepsName a b n.file
+file-kept a b n apart p = p.names n.file (λ e. apart.1.0.0 (sym e), (λ e. apart.1.1.0.0 (sym e), tt))
+
+file-told : (a b : FolderState) (n : PeerNames) → IsApart n → OnlyPuts a b (outputs_of n) → IsTrue (b.tells n.file)
+    → file_at b n.file file_limit ≡ file_at a n.file file_limit
+file-told a b n apart p tells =
+    ap (take file_limit) (octets-kept a b n.file (file-kept a b n apart p) (subst IsTrue (p.goes_on.tells n.file) tells))
+
+-- where nothing more was read it is the same
+pub stays-known : (a b : FolderState) (n : PeerNames) (file : List ℕ) → IsApart n → OnlyPuts a b (outputs_of n) → length file ≤ file_limit
+    → StaysKnown a b n.file file file
+stays-known a b n file apart p within = record {
+  within = within;
+  known = λ k. record {
+    within = within;
+    told = λ tells. k.told (subst IsTrue (p.goes_on.tells n.file) tells)
+        ∙ sym (file-told a b n apart p tells);
+  };
+}
+
+-- else what was read
+pub others-known : (a b c : FolderState) (n : PeerNames) (file others : List ℕ) (now : Account) → IsApart n → OnlyPuts a b (outputs_of n)
+    → OnlyPuts a c (outputs_of n) → ReadsOn b n.file file_limit file now others
+    → StaysKnown a c n.file file others
+others-known a b c n file others now apart p q r = record {
+  within = r.within;
+  known = λ k. record {
+    within = r.within;
+    told = λ tells.
+        let here : IsTrue (a.tells n.file) = subst IsTrue (q.goes_on.tells n.file) tells in
+        let there : IsTrue (b.tells n.file) = told_later p.goes_on n.file here in
+        r.told there (k.told here ∙ sym (file-told a b n apart p there)) ∙ k.told here ∙ sym (file-told a c n apart q tells);
+  };
+}

@@ -1,0 +1,499 @@
+-- The steps of a turn.
+use Rattle.std.proofs.Common.{◌≡◌, inl, inr, ◌∙◌, ℕ, zero, suc, ◌+◌, ◌≤◌, Bool, true, false, cond, not, ◌&&◌, ◌||◌, List, [], ◌∷◌, length}
+use Rattle.std.proofs.Common.{refl, sym, ap, subst, arith, Option, Some, None, Result, Ok, Err}
+use Rattle.std.specs.List.{concat}
+use Rattle.std.proofs.lemmas.Bool.{false≢true}
+use Rattle.std.specs.Prelude.{slice_get, is_ok}
+use Rattle.std.specs.Option.{option_map}
+use Rattle.outside_calls.specs.Folder.{FolderState, GoesOn, OnlyWrites, Adds, Appended, PartlyAppended}
+use Rattle.outside_calls.proofs.Steps.{GoesOn-refl}
+use Rattle.outside_calls.specs.Outputs.{OnlyPuts, AddEach}
+use Rattle.outside_calls.proofs.Putting.{KeepsEach-refl, AddEach-next, AddPart-next, AddPart-none}
+use Rattle.shared_terms.specs.declared.role.Role.{Role}
+use Rattle.shared_terms.specs.declared.role.Role.TheVariants.{Originator, Answerer}
+use Rattle.shared_terms.specs.Role.{is_originator, other}
+use Rattle.xid_params.specs.Offers.{IsAllowed}
+use Rattle.xid_params.specs.Terms.{default_offer}
+use Rattle.lapm_frames.specs.declared.arrived.Arrived.{Arrived}
+use Rattle.lapm_frames.specs.declared.sent.Sent.{Sent}
+use Rattle.shared_terms.specs.declared.fault.LinkFault.{LinkFault}
+use Rattle.link_account.specs.declared.setup.Setup.{Setup}
+use Rattle.link_account.specs.Account.{Account, is_connected, is_done, break_waits, given_break, after_given}
+use Rattle.link_account.specs.Hear.{hear}
+use Rattle.link_account.specs.Speak.{Said, speak}
+use Rattle.link_run.specs.End.{BreakLine, deliveries, asked_at, is_closed, is_ready, has_finished, speaks_alone}
+use Rattle.link_run.specs.Run.{spoken}
+use Rattle.link_run.specs.Alone.{LoneTurn, LoneGoing, LoneNext, Goes_on, Is_last, Is_faulty, Is_broken, hangs_up, lone_served}
+use Rattle.link_run.specs.Alone.{LoneRunsByWhatIsReadOn, LoneRunsKeepTheirSetup, EachLoneTurnIsMade}
+use Rattle.line_world.specs.declared.station.Station.{Station}
+use Rattle.line_world.specs.Station.{Stands, HearsAs, SpeaksAs, Supplies, IsCounted}
+use Rattle.line_texts.specs.LineText.{trace_line}
+use Rattle.line_world.specs.OneEnd.Heard.{IsHeard, stream, slot_bits}
+use Rattle.detection.specs.Ear.{HasHeard}
+use Rattle.line_world.specs.OneEnd.Peer.{Past, PeerRun, PeerTurn, Outcome, Going, Closed, Broken, party_of, over, heard_as, turn_line}
+use Rattle.line_world.specs.OneEnd.Single.{PeerNames, StaysKnown, file_limit, outputs_of}
+use Rattle.line_world.specs.OneEnd.Turn.{Makes, Stops, StopsInReading, GoesOnBy, EndsBy}
+use Rattle.line_world.specs.OneEnd.Mid.{InTurn, BreaksOff, Serves, AddsLine, AddsPart, HasGone, EndsLine, IsReading, IsWriting, handed}
+use Rattle.line_world.specs.OneEnd.Mid.{served_with}
+use Rattle.line_world.proofs.OneEnd.Folders.{IsApart, got-only, trace-only, stays-known}
+use Rattle.line_world.specs.declared.one_end.single.Single.{Single}
+use Rattle.line_world.specs.declared.one_end.step.SingleFault.{SingleFault}
+use Rattle.line_world.specs.declared.one_end.step.SingleFault.TheVariants as faults
+
+-- ---- the end
+
+pub allowed : IsAllowed default_offer
+allowed = record {
+  tx_len_low = omega arith;
+  tx_len_high = omega arith;
+  rx_len_low = omega arith;
+  rx_len_high = omega arith;
+  tx_window_low = omega arith;
+  tx_window_high = omega arith;
+  rx_window_low = omega arith;
+  rx_window_high = omega arith;
+}
+
+phase-handed : (mid : Account) → (handed mid).phase ≡ mid.phase
+phase-handed mid = go (is_connected mid.phase)
+  where
+    go : (b : Bool) → (after_given
+        (cond b (record mid { incoming = record mid.incoming { given = length mid.incoming.taken } }) mid)).phase ≡ mid.phase
+    go true = refl
+    go false = refl
+
+role-kept : LoneRunsKeepTheirSetup → (s : Single) (p : Past) (slot : List ℕ) (arrived : Arrived) (mid now : Account)
+    → InTurn s p slot arrived mid now → is_originator mid.setup.role ≡ is_originator s.role
+role-kept law s p slot arrived mid now h =
+    ap (λ (x : Setup). is_originator x.role) (law (party_of s.role p.file) p.turns p.account arrived mid h.run.run h.hears)
+
+pub hangs-originator : LoneRunsKeepTheirSetup → (s : Single) (p : Past) (slot : List ℕ) (arrived : Arrived) (mid : Account) (closed : Bool)
+    → InTurn s p slot arrived mid (handed mid)
+    → s.role ≡ Originator → closed ≡ is_closed (handed mid).phase → closed ≡ hangs_up mid
+hangs-originator law s p slot arrived mid closed h role e =
+    let is : is_originator mid.setup.role ≡ true = role-kept law s p slot arrived mid (handed mid) h ∙ ap is_originator role in
+    e ∙ ap is_closed (phase-handed mid) ∙ sym (ap (λ (b : Bool). b && is_closed mid.phase) is)
+
+pub hangs-answerer : LoneRunsKeepTheirSetup → (s : Single) (p : Past) (slot : List ℕ) (arrived : Arrived) (mid : Account)
+    → InTurn s p slot arrived mid (handed mid)
+    → s.role ≡ Answerer → false ≡ hangs_up mid
+hangs-answerer law s p slot arrived mid h role =
+    let is : is_originator mid.setup.role ≡ false = role-kept law s p slot arrived mid (handed mid) h ∙ ap is_originator role in
+    sym (ap (λ (b : Bool). b && is_closed mid.phase) is)
+
+pub counted-later : (s : Station) (heard asked : ℕ) → IsCounted s heard asked → IsCounted s heard (asked + 1)
+counted-later s heard asked h = record { segments = omega (arith, h.segments); breaks = omega (arith, h.breaks) }
+
+-- ---- the file is read on
+
+-- the run is one of the file as it is known then
+pub reads-on : LoneRunsByWhatIsReadOn
+    → (s t : Single) (f : FolderState) (name : List ℕ) (p : Past) (slot : List ℕ) (arrived : Arrived) (mid : Account) (now : Station)
+    → InTurn s p slot arrived mid (handed mid) → (e : Supplies f name file_limit p.file (handed mid) now) → t.role ≡ s.role → t.ear ≡ s.ear
+    → t.turn ≡ s.turn
+    → Stands t.station e.others (served_with e.others mid) → Serves t f name p slot arrived mid
+reads-on law s t f name p slot arrived mid now h e role ear turn stands = record {
+  others = e.others;
+  reads = e.reads_on;
+  stands = record {
+    run = subst (λ (r : Role). PeerRun r (over e.others p)) (sym role) (record {
+      run = law (party_of s.role p.file) p.file e.others p.turns p.account arrived mid allowed h.run.run h.hears e.reads_on.same;
+      hears = h.run.hears;
+    });
+    heard = subst (λ (r : Role). InHeard r) (sym role) h.heard;
+    hears = h.hears;
+    station = stands;
+    ear = subst (λ x. HasHeard x (stream (slot ∷ p.slots))) (sym ear) h.ear;
+    turn = turn ∙ h.turn;
+  };
+}
+  where
+    InHeard : Role → Type 0
+    InHeard r = IsHeard (other r) (stream p.slots) (slot_bits slot) arrived
+
+-- ---- the end as it is to speak
+
+abbrev no-breaks : List BreakLine
+no-breaks = []
+
+no-break : (n : ℕ) → slice_get no-breaks n ≡ None
+no-break zero = refl
+no-break (suc n) = refl
+
+asks-none : (turn taken : ℕ) (a : Account) → asked_at turn (slice_get no-breaks taken) a ≡ a
+asks-none turn taken a = ap (λ o. asked_at turn o a) (no-break taken)
+
+lone-account : (role : Role) (file : List ℕ) (turn : ℕ) (mid : Account)
+    → (lone_served (party_of role file) turn mid).account ≡ served_with file mid
+lone-account role file turn mid = asks-none turn (length (served_with file mid).own_breaks.lengths) (served_with file mid)
+
+-- whether it needs the link no more
+abbrev pub finishes : ℕ → Account → Bool
+finishes turn a = is_done a && not (break_waits a || is_ready turn None)
+
+says-so : (role : Role) (file : List ℕ) (turn : ℕ) (mid : Account)
+    → speaks_alone (party_of role file).user turn (lone_served (party_of role file) turn mid) ≡ speak turn
+    (finishes turn (served_with file mid)) (served_with file mid)
+says-so role file turn mid =
+    ap (λ (a : Account). speak turn (has_finished (party_of role file).user turn a) a) (lone-account role file turn mid)
+    ∙ ap (λ o. speak turn (is_done (served_with file mid) && not (break_waits (served_with file mid) || is_ready turn o))
+    (served_with file mid)) (no-break (length (served_with file mid).own_breaks.lengths))
+
+-- ---- what becomes of the turn
+
+pub record SaidWell (r : Result Said LinkFault) (file : List ℕ) (sent : Sent) (s : Station) : Type 0 where
+  pub said : Said
+  pub says : r ≡ Ok said
+  pub sent_is : sent ≡ said.sent
+  pub stands : Stands s file said.account
+
+pub said-well : (r : Result Said LinkFault) (file : List ℕ) (sent : Sent) (s : Station) (done : Unit {0}) → SpeaksAs r file sent s (Ok done)
+    → SaidWell r file sent s
+said-well (Ok said) file sent s done h = record { said = said; says = refl; sent_is = h.0; stands = h.1 }
+said-well (Err fault) file sent s done h = absurd h
+
+pub said-badly : (r : Result Said LinkFault) (file : List ℕ) (sent : Sent) (s : Station) (broken : LinkFault)
+    → SpeaksAs r file sent s (Err broken) → r ≡ Err broken
+said-badly (Ok said) file sent s broken h = absurd h
+said-badly (Err fault) file sent s broken h = ap (λ f. Err f) (sym h)
+
+-- a turn with these in it
+abbrev pub going-turn : Arrived → Said → Option ℕ → LoneTurn
+going-turn arrived said given = record { arrived = arrived; sent = Some (spoken said); given = given }
+
+abbrev pub silent-turn : Arrived → Option ℕ → LoneTurn
+silent-turn arrived given = record { arrived = arrived; sent = None; given = given }
+
+pub broken : (s : Single) (p : Past) (slot : List ℕ) (arrived : Arrived) (mid : Account) (given : Option ℕ) (fault : LinkFault)
+    → InTurn s p slot arrived mid (served_with p.file mid)
+    → hangs_up mid ≡ false → given ≡ given_break mid
+    → speak s.turn (finishes s.turn (served_with p.file mid)) (served_with p.file mid) ≡ Err fault
+    → PeerTurn s.role p slot (silent-turn arrived given) (concat (deliveries mid)) (Broken fault)
+broken s p slot arrived mid given fault h up g e = record {
+  run = h.run;
+  hears = h.heard;
+  is = inr (
+    mid,
+    record {
+      hears = h.hears;
+      going = up;
+      says = says-so s.role p.file (length p.turns) mid
+          ∙ subst (λ n. speak n (finishes n (served_with p.file mid)) (served_with p.file mid) ≡ Err fault) h.turn e;
+      sent = refl;
+      given = g;
+    },
+    refl,
+  );
+}
+
+pub closing : (s : Single) (p : Past) (slot : List ℕ) (arrived : Arrived) (mid now : Account) (given : Option ℕ)
+    → InTurn s p slot arrived mid now → hangs_up mid ≡ true → given ≡ given_break mid
+    → PeerTurn s.role p slot (silent-turn arrived given) (concat (deliveries mid)) Closed
+closing s p slot arrived mid now given h up g = record {
+  run = h.run;
+  hears = h.heard;
+  is = (mid, record { hears = h.hears; closed = up; sent = refl; given = g }, refl);
+}
+
+pub breaking-off : (s : Single) (p : Past) (slot : List ℕ) (arrived : Arrived) (fault : LinkFault) → BreaksOff s p slot arrived fault
+    → PeerTurn s.role p slot (silent-turn arrived None) [] (Broken fault)
+breaking-off s p slot arrived fault b =
+    record { run = b.run; hears = b.heard; is = inl (record { hears = b.hears; sent = refl; given = refl }, refl) }
+
+-- whatever it comes to, there is such a turn
+pub record Comes (party-role : Role) (p : Past) (slot : List ℕ) (arrived : Arrived) (octets : List ℕ) : Type 0 where
+  pub turn : LoneTurn
+  pub outcome : Outcome
+  pub is : PeerTurn party-role p slot turn octets outcome
+
+abbrev answer-of : Account → Result Account LinkFault → Account
+answer-of mid (Ok a) = a
+answer-of mid (Err fault) = mid
+
+same-mid : (r : Result Account LinkFault) (mid once : Account) → r ≡ Ok mid → r ≡ Ok once → mid ≡ once
+same-mid r mid once e f = sym (ap (answer-of mid) e) ∙ ap (answer-of mid) f
+
+never-both : (r : Result Account LinkFault) (mid : Account) (fault : LinkFault) → r ≡ Ok mid → r ≡ Err fault → ⊥
+never-both r mid fault e f = false≢true (sym (ap is_ok f) ∙ ap is_ok e)
+
+pub comes : EachLoneTurnIsMade → (s : Single) (p : Past) (slot : List ℕ) (arrived : Arrived) (mid now : Account)
+    → InTurn s p slot arrived mid now → Comes s.role p slot arrived (concat (deliveries mid))
+comes law s p slot arrived mid now h = by (law (party_of s.role p.file) p.turns p.account arrived)
+  where
+    same : (once : Account) → hear (length p.turns) arrived p.account ≡ Ok once → concat (deliveries mid) ≡ concat (deliveries once)
+    same once e = ap (λ (a : Account). concat (deliveries a)) (same-mid (hear (length p.turns) arrived p.account) mid once h.hears e)
+
+    by : LoneNext (party_of s.role p.file) p.turns p.account arrived → Comes s.role p slot arrived (concat (deliveries mid))
+    by (Goes_on sent given next g) =
+        record {
+          turn = record { arrived = arrived; sent = sent; given = given };
+          outcome = Going;
+          is = record { run = h.run; hears = h.heard; is = (next, g, same g.mid g.hears) };
+        }
+    by (Is_last given once l) =
+        record {
+          turn = silent-turn arrived given;
+          outcome = Closed;
+          is = record { run = h.run; hears = h.heard; is = (once, l, same once l.hears) };
+        }
+    by (Is_faulty fault f) = absurd (never-both (hear (length p.turns) arrived p.account) mid fault h.hears f.hears)
+    by (Is_broken given once fault b) =
+        record {
+          turn = silent-turn arrived given;
+          outcome = Broken fault;
+          is = record { run = h.run; hears = h.heard; is = inr (once, b, same once b.hears) };
+        }
+
+-- ---- the line of the turn
+
+pub line-is : (s : Single) (p : Past) (t : LoneTurn) (sent : Option Sent) → s.turn ≡ length p.turns
+    → sent ≡ option_map (λ slot. slot.sent) t.sent
+    → trace_line s.turn s.role (heard_as t.arrived) sent t.given ≡ turn_line s.role (length p.turns) t
+line-is s p t sent e f =
+    ap (λ n. trace_line n s.role (heard_as t.arrived) sent t.given) e
+    ∙ ap (λ o. trace_line (length p.turns) s.role (heard_as t.arrived) o t.given) f
+
+pub ends-part : (s : Single) (old new : FolderState) (trace : List ℕ) (p : Past) (slot octets : List ℕ) (fault : SingleFault)
+    → IsWriting fault → AddsPart s old new trace p slot octets
+    → EndsLine s old new trace p slot octets fault
+ends-part s old new trace p slot octets faults.WriteFault w a = a
+ends-part s old new trace p slot octets faults.NoMemory w a = a
+ends-part s old new trace p slot octets faults.ReadFault w a = absurd w
+ends-part s old new trace p slot octets (faults.Link fault) w a = absurd w
+
+pub adds-line : (s : Single) (old new : FolderState) (trace : List ℕ) (p : Past) (slot octets : List ℕ) (outcome : Outcome) (t : LoneTurn)
+    (sent : Option Sent) → s.turn ≡ length p.turns
+    → sent ≡ option_map (λ slot. slot.sent) t.sent → PeerTurn s.role p slot t octets outcome
+    → Appended old new trace (trace_line s.turn s.role (heard_as t.arrived) sent t.given) → AddsLine s old new trace p slot octets outcome
+adds-line s old new trace p slot octets outcome t sent e f is a =
+    record { turn = t; is = is; line = subst (λ (text : List ℕ). Appended old new trace text) (line-is s p t sent e f) a }
+
+pub adds-part : (s : Single) (old new : FolderState) (trace : List ℕ) (p : Past) (slot octets : List ℕ) (outcome : Outcome) (t : LoneTurn)
+    (sent : Option Sent) → s.turn ≡ length p.turns
+    → sent ≡ option_map (λ slot. slot.sent) t.sent → PeerTurn s.role p slot t octets outcome
+    → PartlyAppended old new trace (trace_line s.turn s.role (heard_as t.arrived) sent t.given) → AddsPart s old new trace p slot octets
+adds-part s old new trace p slot octets outcome t sent e f is a =
+    record {
+      outcome = outcome;
+      turn = t;
+      is = is;
+      line = subst (λ (text : List ℕ). PartlyAppended old new trace text) (line-is s p t sent e f) a;
+    }
+
+-- the single end once it has spoken, and once the turn is made
+abbrev pub spoke : Station → Single → Single
+spoke now s = record { role = s.role; station = now; ear = s.ear; turn = s.turn }
+
+abbrev pub moved : Station → Single → Single
+moved now s = record { role = s.role; station = now; ear = s.ear; turn = s.turn + 1 }
+
+pub gone : (s : Single) (now : Station) (old new : FolderState) (trace : List ℕ) (p : Past) (slot : List ℕ) (arrived : Arrived)
+    (mid : Account) (given : Option ℕ) (sent : Sent)
+    → InTurn s p slot arrived mid (served_with p.file mid) → hangs_up mid ≡ false → given ≡ given_break mid
+    → SaidWell (speak s.turn (finishes s.turn (served_with p.file mid)) (served_with p.file mid)) p.file sent now
+    → Appended old new trace (trace_line s.turn s.role (heard_as arrived) (Some sent) given)
+    → HasGone (moved now s) old new trace p slot (concat (deliveries mid))
+gone s now old new trace p slot arrived mid given sent h up g w text =
+    let t = going-turn arrived w.said given in
+    record {
+      adds = record {
+        turn = t;
+        is = record { run = h.run; hears = h.heard; is = (w.said.account, going, refl) };
+        line = subst (λ (l : List ℕ). Appended old new trace l) (line-is s p t (Some sent) h.turn (ap Some w.sent_is)) text;
+      };
+      single = record {
+        run = record { run = (p.account, h.run.run, going); hears = (h.heard, h.run.hears) };
+        station = w.stands;
+        ear = h.ear;
+        turn = omega (arith, h.turn);
+      };
+    }
+  where
+    going : LoneGoing (party_of s.role p.file) p.turns p.account (going-turn arrived w.said given) w.said.account
+    going = record {
+      mid = mid;
+      hears = h.hears;
+      going = up;
+      said = w.said;
+      says = says-so s.role p.file (length p.turns) mid
+          ∙ subst (λ n. speak n (finishes n (served_with p.file mid)) (served_with p.file mid) ≡ Ok w.said) h.turn w.says;
+      sent = refl;
+      given = g;
+      after_is = refl;
+    }
+
+-- it has spoken, but the line isn't written whole
+pub gone-part : (s : Single) (now : Station) (old new : FolderState) (trace : List ℕ) (p : Past) (slot : List ℕ) (arrived : Arrived)
+    (mid : Account) (given : Option ℕ) (sent : Sent) (fault : SingleFault)
+    → InTurn s p slot arrived mid (served_with p.file mid) → hangs_up mid ≡ false → given ≡ given_break mid
+    → SaidWell (speak s.turn (finishes s.turn (served_with p.file mid)) (served_with p.file mid)) p.file sent now → IsWriting fault
+    → PartlyAppended old new trace (trace_line s.turn s.role (heard_as arrived) (Some sent) given)
+    → EndsLine (spoke now s) old new trace p slot (concat (deliveries mid)) fault
+gone-part s now old new trace p slot arrived mid given sent fault h up g w i text =
+    ends-part (spoke now s) old new trace p slot (concat (deliveries mid)) fault i
+    (adds-part (spoke now s) old new trace p slot (concat (deliveries mid)) Going (going-turn arrived w.said given) (Some sent) h.turn
+    (ap Some w.sent_is)
+    (record { run = h.run; hears = h.heard; is = (w.said.account, going, refl) }) text)
+  where
+    going : LoneGoing (party_of s.role p.file) p.turns p.account (going-turn arrived w.said given) w.said.account
+    going = record {
+      mid = mid;
+      hears = h.hears;
+      going = up;
+      said = w.said;
+      says = says-so s.role p.file (length p.turns) mid
+          ∙ subst (λ n. speak n (finishes n (served_with p.file mid)) (served_with p.file mid) ≡ Ok w.said) h.turn w.says;
+      sent = refl;
+      given = g;
+      after_is = refl;
+    }
+
+-- ---- hearing
+
+pub record HeardWell (r : Result Account LinkFault) (file : List ℕ) (s : Station) : Type 0 where
+  pub mid : Account
+  pub hears : r ≡ Ok mid
+  pub stands : Stands s file mid
+
+pub heard-well : (r : Result Account LinkFault) (file : List ℕ) (s : Station) (done : Unit {0}) → HearsAs r file s (Ok done)
+    → HeardWell r file s
+heard-well (Ok mid) file s done h = record { mid = mid; hears = refl; stands = h }
+heard-well (Err fault) file s done h = absurd h
+
+pub heard-badly : (r : Result Account LinkFault) (file : List ℕ) (s : Station) (broken : LinkFault) → HearsAs r file s (Err broken)
+    → r ≡ Err broken
+heard-badly (Ok mid) file s broken h = absurd h
+heard-badly (Err fault) file s broken h = ap (λ f. Err f) (sym h)
+
+-- ---- the whole turn
+
+-- the line stands behind what was handed over
+pub made : (s : Single) (a b z : FolderState) (n : PeerNames) (p : Past) (slot octets others : List ℕ) (outcome : Outcome) → IsApart n
+    → GoesOn a b → AddEach a b (outputs_of n) (octets ∷ [])
+    → OnlyWrites b z n.trace → StaysKnown a z n.file p.file others → AddsLine s b z n.trace (over others p) slot octets outcome
+    → Makes s.role a z n p slot outcome
+made s a b z n p slot octets others outcome apart g d w known l =
+    record {
+      others = others;
+      known = known;
+      turn = l.turn;
+      octets = octets;
+      is = l.is;
+      writes = AddEach-next a b z (n.got ∷ []) n.trace [] (octets ∷ []) _ tt apart.0 g d w (inr l.line);
+    }
+
+-- or a part of it
+stopped : (s : Single) (a b z : FolderState) (n : PeerNames) (p : Past) (slot octets others : List ℕ) → IsApart n → GoesOn a b
+    → AddEach a b (outputs_of n) (octets ∷ [])
+    → OnlyWrites b z n.trace → StaysKnown a z n.file p.file others → AddsPart s b z n.trace (over others p) slot octets
+    → Stops s.role a z n p slot
+stopped s a b z n p slot octets others apart g d w known l = record {
+  others = others;
+  known = known;
+  turn = l.turn;
+  octets = octets;
+  outcome = l.outcome;
+  is = l.is;
+  writes = AddPart-next a b z (n.got ∷ []) n.trace [] (octets ∷ []) _ tt apart.0 g d w l.line;
+}
+
+pub writing-ends : (role : Role) (a b : FolderState) (n : PeerNames) (p : Past) (slot : List ℕ) (fault : SingleFault) → IsWriting fault
+    → Stops role a b n p slot → EndsBy role a b n p slot fault
+writing-ends role a b n p slot faults.WriteFault w s = s
+writing-ends role a b n p slot faults.NoMemory w s = s
+writing-ends role a b n p slot faults.ReadFault w s = absurd w
+writing-ends role a b n p slot (faults.Link fault) w s = absurd w
+
+pub stopped-so : (s : Single) (a b z : FolderState) (n : PeerNames) (p : Past) (slot octets others : List ℕ) (fault : SingleFault)
+    → IsApart n → GoesOn a b → AddEach a b (outputs_of n) (octets ∷ [])
+    → OnlyWrites b z n.trace → StaysKnown a z n.file p.file others → IsWriting fault → AddsPart s b z n.trace (over others p) slot octets
+    → EndsBy s.role a z n p slot fault
+stopped-so s a b z n p slot octets others fault apart g d w known i l =
+    writing-ends s.role a z n p slot fault i (stopped s a b z n p slot octets others apart g d w known l)
+
+pub ended : (s : Single) (a b z : FolderState) (n : PeerNames) (p : Past) (slot octets others : List ℕ) (fault : SingleFault) → IsApart n
+    → GoesOn a b → AddEach a b (outputs_of n) (octets ∷ [])
+    → OnlyWrites b z n.trace → StaysKnown a z n.file p.file others → EndsLine s b z n.trace (over others p) slot octets fault
+    → EndsBy s.role a z n p slot fault
+ended s a b z n p slot octets others (faults.Link fault) apart g d w known l =
+    made s a b z n p slot octets others (Broken fault) apart g d w known l
+ended s a b z n p slot octets others faults.WriteFault apart g d w known l = stopped s a b z n p slot octets others apart g d w known l
+ended s a b z n p slot octets others faults.NoMemory apart g d w known l = stopped s a b z n p slot octets others apart g d w known l
+ended s a b z n p slot octets others faults.ReadFault apart g d w known l = absurd l
+
+-- the run goes on
+pub gone-on : (s : Single) (a b z : FolderState) (n : PeerNames) (p : Past) (slot octets others : List ℕ) → IsApart n → GoesOn a b
+    → AddEach a b (outputs_of n) (octets ∷ [])
+    → OnlyWrites b z n.trace → StaysKnown a z n.file p.file others → HasGone s b z n.trace (over others p) slot octets
+    → GoesOnBy s a z n p slot
+gone-on s a b z n p slot octets others apart g d w known h = record {
+  makes = record {
+    others = others;
+    known = known;
+    turn = h.adds.turn;
+    octets = octets;
+    is = h.adds.is;
+    writes = AddEach-next a b z (n.got ∷ []) n.trace [] (octets ∷ []) _ tt apart.0 g d w (inr h.adds.line);
+  };
+  single = h.single;
+}
+
+-- nothing is handed over where the end breaks as it hears
+pub broke-off : (s : Single) (a z : FolderState) (n : PeerNames) (p : Past) (slot : List ℕ) (fault : SingleFault) → IsApart n
+    → length p.file ≤ file_limit → OnlyWrites a z n.trace
+    → EndsLine s a z n.trace p slot [] fault → EndsBy s.role a z n p slot fault
+broke-off s a z n p slot fault apart within w l =
+    ended s a a z n p slot [] p.file fault apart (GoesOn-refl a) (inl (refl, λ told. refl), (λ told. refl, tt)) w
+    (stays-known a z n p.file apart (trace-only a z n w) within) l
+
+-- the folder doesn't take what is handed over
+pub not-handed : EachLoneTurnIsMade
+    → (s : Single) (a b : FolderState) (n : PeerNames) (p : Past) (slot : List ℕ) (arrived : Arrived) (mid : Account) → IsApart n
+    → length p.file ≤ file_limit
+    → InTurn s p slot arrived mid mid → OnlyWrites a b n.got → PartlyAppended a b n.got (concat (deliveries mid))
+    → Stops s.role a b n p slot
+not-handed law s a b n p slot arrived mid apart within h w part =
+    let m = comes law s p slot arrived mid mid h in
+    record {
+      others = p.file;
+      known = stays-known a b n p.file apart (got-only a b n w) within;
+      turn = m.turn;
+      octets = concat (deliveries mid);
+      outcome = m.outcome;
+      is = m.is;
+      writes = inl (part, (w.names n.trace (λ e. apart.0.0.0 (sym e)), tt));
+    }
+
+-- the octets are handed over
+pub hands-over : (a b : FolderState) (n : PeerNames) (octets : List ℕ) → IsApart n → OnlyWrites a b n.got → Adds a b n.got octets
+    → AddEach a b (outputs_of n) (octets ∷ [])
+hands-over a b n octets apart w adds =
+    AddEach-next a a b [] n.got (n.trace ∷ []) [] octets tt apart.0 (GoesOn-refl a) (KeepsEach-refl a (outputs_of n)) w adds
+
+-- or the file isn't read
+pub not-read : EachLoneTurnIsMade
+    → (s : Single) (a d : FolderState) (n : PeerNames) (p : Past) (slot : List ℕ) (arrived : Arrived) (mid now : Account) → IsApart n
+    → length p.file ≤ file_limit
+    → InTurn s p slot arrived mid now → OnlyPuts a d (outputs_of n) → AddEach a d (outputs_of n) (concat (deliveries mid) ∷ [])
+    → StopsInReading s.role a d n p slot
+not-read law s a d n p slot arrived mid now apart within h only adds =
+    let m = comes law s p slot arrived mid now h in (
+      record {
+        others = p.file;
+        known = stays-known a d n p.file apart only within;
+        turn = m.turn;
+        octets = concat (deliveries mid);
+        outcome = m.outcome;
+        is = m.is;
+        writes = AddPart-none a d (n.got ∷ []) n.trace [] (concat (deliveries mid) ∷ []) _ [] tt adds;
+      },
+      adds,
+    )
+
+pub reading-ends : (role : Role) (a d : FolderState) (n : PeerNames) (p : Past) (slot : List ℕ) (fault : SingleFault) → IsReading fault
+    → StopsInReading role a d n p slot
+    → EndsBy role a d n p slot fault
+reading-ends role a d n p slot faults.ReadFault w s = s
+reading-ends role a d n p slot faults.NoMemory w s = s.0
+reading-ends role a d n p slot faults.WriteFault w s = absurd w
+reading-ends role a d n p slot (faults.Link fault) w s = absurd w

@@ -1,0 +1,107 @@
+-- What happens to both ends between hearing and speaking.
+use Rattle.std.proofs.Common.{◌≡◌, ℕ, zero, suc, Bool, true, false, cond, List, length, refl, sym, ◌∙◌, ap, subst, Option, Some}
+use Rattle.std.proofs.Common.{None, Err, IsErrOf}
+use Rattle.outside_calls.specs.Folder.{FolderState, FaultsStand}
+use Rattle.outside_calls.specs.declared.folder.FolderFault.{FolderFault}
+use Rattle.outside_calls.specs.declared.folder.FolderFault.TheVariants.{Failed, NoMemory}
+use Rattle.shared_terms.specs.declared.role.Role.{Role}
+use Rattle.shared_terms.specs.declared.role.Role.TheVariants.{Originator, Answerer}
+use Rattle.shared_terms.specs.Both.{Both, of}
+use Rattle.noise_script.specs.Script.{ScriptValue, IsInLimits}
+use Rattle.xid_params.specs.Offers.{IsAllowed}
+use Rattle.link_account.specs.Account.{Account, after_busy, after_given, given_break, wants}
+use Rattle.link_run.specs.End.{asked, delivered, is_busy, is_released, offered, offered_at, offered_times, room_for}
+use Rattle.link_run.specs.Run.{Accounts, Spoken, Turn, Hears, served_at}
+use Rattle.link_run.specs.Reading.{RunsByWhatIsReadOn, SameSoFar}
+use Rattle.line_run.specs.Scripted.{link_of, breaks_of, busy_of}
+use Rattle.line_run.specs.Sampled.{Wire}
+use Rattle.lapm_frames.specs.declared.heard.Heard.{Heard}
+use Rattle.line_run.specs.Names.{Written, inputs_of}
+use Rattle.outside_calls.specs.Outputs.{SomeCause}
+use Rattle.line_world.specs.declared.step.RunFault.{RunFault}
+use Rattle.line_world.specs.declared.step.RunFault.TheVariants.{ReadFault}
+use Rattle.line_world.specs.Turn.{IsReading, FaultCounts, fault_of}
+use Rattle.line_world.specs.Mid.{Overhears, ReadsBoth, handed, served, turn_in}
+
+-- handing segments over hands no break over
+pub given-delivered : (a : Account) → given_break (delivered a) ≡ given_break a
+given-delivered a = go _
+  where
+    go : (b : Bool) → given_break (cond b (record a { incoming = record a.incoming { given = length a.incoming.taken } }) a) ≡ given_break a
+    go true = refl
+    go false = refl
+
+pub hears-in : (c : Wire) (files : Both (List ℕ)) (ts : List Turn) (ends mid : Accounts) (heard : Both Heard)
+    (sent : Both (Option Spoken))
+    → Overhears c files ts ends heard mid → Hears (length ts) ends (turn_in heard ends mid sent) mid
+hears-in c files ts ends mid heard sent o Originator = record { hears = o.hears Originator; check_is = refl; given_is = refl }
+hears-in c files ts ends mid heard sent o Answerer = record { hears = o.hears Answerer; check_is = refl; given_is = refl }
+
+-- a run is one of the files as far as they are read now
+pub over-others : RunsByWhatIsReadOn
+    → (c : Wire) (files others : Both (List ℕ)) (ts : List Turn) (ends mid : Accounts) (heard : Both Heard) (f : FolderState)
+    (n : Written)
+    → IsInLimits c.script → Overhears c files ts ends heard mid → ReadsBoth f n files (handed mid) others
+    → Overhears c others ts ends heard mid
+over-others law c files others ts ends mid heard f n limits o r = record {
+  heard_of = o.heard_of;
+  well = o.well;
+  hears = o.hears;
+  run = record {
+    run = law (link_of c.script files) files others ts ends
+        (turn_in heard ends mid (record { orig = None; answ = None })) mid allowed o.run.run
+        (hears-in c files ts ends mid heard (record { orig = None; answ = None }) o) same;
+    heard = o.run.heard;
+  };
+}
+  where
+    allowed : (role : Role) → IsAllowed (of role (link_of c.script files)).setup.offer
+    allowed Originator = limits.offer_orig_allowed
+    allowed Answerer = limits.offer_answ_allowed
+
+    same : (role : Role) → SameSoFar (after_given (delivered (of role mid))).outgoing (of role files) (of role others)
+    same Originator = r.orig.same
+    same Answerer = r.answ.same
+
+-- being offered pieces and handing over leaves the phase
+phase-offered : (n : ℕ) (file : List ℕ) (a : Account) → (offered_times n file a).phase ≡ a.phase
+phase-offered zero file a = refl
+phase-offered (suc n) file a = phase-offered n file (offered_at file a (wants a)) ∙ at (wants a)
+  where
+    at : (w : Option ℕ) → (offered_at file a w).phase ≡ a.phase
+    at None = refl
+    at (Some m) = refl
+
+pub phase-delivered : (a : Account) → (delivered a).phase ≡ a.phase
+phase-delivered a = go _
+  where
+    go : (b : Bool) → (cond b (record a { incoming = record a.incoming { given = length a.incoming.taken } }) a).phase ≡ a.phase
+    go true = refl
+    go false = refl
+
+-- both ends as they are to speak, as a run's definition has it
+pub served-is : (script : ScriptValue) (files : Both (List ℕ)) (turn : ℕ) (mid : Accounts)
+    → served script files turn mid ≡ record {
+      orig = (served_at (link_of script files) turn mid Originator).account;
+      answ = (served_at (link_of script files) turn mid Answerer).account;
+    }
+served-is script files turn mid = ap (λ r. record {
+  orig = asked turn r (breaks_of script Originator) (after_busy (is_busy turn (busy_of script Originator)) (offered files.orig x));
+  answ = asked turn r (breaks_of script Answerer)
+      (after_busy (is_busy turn (busy_of script Answerer)) (offered files.answ (after_given (delivered mid.answ))));
+}) (ap is_released (phase-offered (room_for x) files.orig x ∙ phase-delivered mid.orig))
+  where
+    x : Account
+    x = after_given (delivered mid.orig)
+
+-- ---- a file that is not read
+
+pub reading-fault : (x : RunFault) (fault : FolderFault) → x ≡ fault_of ReadFault fault → IsReading x
+reading-fault x Failed e = subst IsReading (sym e) tt
+reading-fault x NoMemory e = subst IsReading (sym e) tt
+
+pub reading-counts : (old new : FolderState) (n : Written) (x : RunFault) (fault : FolderFault) → x ≡ fault_of ReadFault fault
+    → SomeCause {T = Unit {0}} old.read_faults new.read_faults (inputs_of n) old.refusals new.refusals (Err fault) → (IsErrOf {T = Unit {0}} {E = FolderFault} (Err fault) NoMemory → FaultsStand old new)
+    → FaultCounts old new n x
+reading-counts old new n x Failed e cause spared = subst (FaultCounts old new n) (sym e) (cause.failed refl)
+reading-counts old new n x NoMemory e cause spared = subst (FaultCounts old new n) (sym e) (spared refl, cause.memory refl)

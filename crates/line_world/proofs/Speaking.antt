@@ -1,0 +1,361 @@
+-- Both ends speak, and a turn is made.
+use Rattle.std.proofs.Common.{◌≡◌, ◌≢◌, ℕ, ◌+◌, true, false, List, ◌∷◌, ◌++◌, length, arith}
+use Rattle.std.proofs.Common.{refl, sym, ◌∙◌, ap, subst, Option, Some, None, unwrap_or, Ok}
+use Rattle.std.specs.Option.{option_map}
+use Rattle.outside_calls.specs.Folder.{FolderState, Appended, PartlyAppended, CountsStand}
+use Rattle.frame_check.specs.declared.check.Check.{Check}
+use Rattle.shared_terms.specs.declared.role.Role.{Role}
+use Rattle.shared_terms.specs.declared.role.Role.TheVariants.{Originator, Answerer}
+use Rattle.shared_terms.specs.Both.{Both, of}
+use Rattle.noise_script.specs.Script.{IsInLimits, delay_of}
+use Rattle.lapm_frames.specs.declared.sent.Sent.{Sent}
+use Rattle.lapm_frames.specs.declared.heard.Heard.{Heard}
+use Rattle.lapm_frames.specs.declared.heard.Heard.TheVariants.{Nothing, Passed, Lost, Chance}
+use Rattle.lapm_frames.specs.Sendable.{IsSendable}
+use Rattle.line_texts.specs.LineText.{line_text, trace_line}
+use Rattle.line_texts.specs.declared.trace_line.TraceLine.{TraceLine}
+use Rattle.sample_line.specs.Signals.{IsCodable}
+use Rattle.shared_terms.specs.declared.fault.LinkFault.{LinkFault}
+use Rattle.shared_terms.specs.declared.fault.LinkFault.TheVariants as faults
+use Rattle.link_account.specs.Account.{given_break, check_of}
+use Rattle.link_account.specs.Speak.{Said}
+use Rattle.link_run.specs.Run.{Accounts, Side, Spoken, Turn, GoingTurn, LastTurn, BrokenTurn, IsBroken, BreaksAt, SpeaksAt, spoken, says_at, said_at}
+use Rattle.link_run.specs.Counts.{CountsByNumber, CountsOn, next_count, again_in, sequence_in}
+use Rattle.link_run.specs.Laws.{IsNamed}
+use Rattle.link_run.specs.Outcomes.{Outcome, TurnIs}
+use Rattle.link_run.specs.End.{is_closed}
+use Rattle.link_run.specs.Trace.{side_line, turn_text}
+use Rattle.line_run.specs.Sampled.{Wire, HeardIn}
+use Rattle.line_run.specs.Scripted.{link_of, longest_of, slot_symbols, ScriptsMayPlay, ScriptsHaveDelays, SlotsAreCodable}
+use Rattle.line_run.specs.LineLaws.{SamplesAreCarried, OneIsCarried}
+use Rattle.line_world.specs.declared.link.Link.{Link}
+use Rattle.line_world.specs.declared.lines.Lines.{Lines}
+use Rattle.line_run.specs.Names.{Written}
+use Rattle.line_world.specs.Link.{LinkStands, SaysBoth}
+use Rattle.line_run.specs.Stream.{Carried}
+use Rattle.line_world.specs.Lines.{LinesWait, HaveArrived, AreCodable, ArePut, and_more}
+use Rattle.line_world.specs.declared.modems.Modems.{Modems}
+use Rattle.line_world.specs.declared.tally.Tally.{Tally}
+use Rattle.line_world.specs.declared.step.RunFault.{RunFault}
+use Rattle.line_world.specs.declared.step.RunFault.TheVariants as run_faults
+use Rattle.line_world.specs.Tally.{Tallies}
+use Rattle.line_world.specs.Turn.{IsWriting, FaultCounts}
+use Rattle.line_world.specs.Mid.{HearsThese, Overhears, TalliesHeard, HasGone, AddsPart, SpeaksLast, fault_named, served, side_of, turn_in}
+use Rattle.line_world.proofs.Hearing.{heard-in, none-sent, runs-over}
+use Rattle.line_world.proofs.Serving.{hears-in, served-is}
+
+-- ---- what is made of what both say
+
+abbrev pub spoken_by : Said → Said → Both (Option Spoken)
+spoken_by orig answ = record { orig = Some (spoken orig); answ = Some (spoken answ) }
+
+abbrev pub ends_of : Said → Said → Accounts
+ends_of orig answ = record { orig = orig.account; answ = answ.account }
+
+pub record SpokenTurn (c : Wire) (files : Both (List ℕ)) (ts : List Turn) (ends : Accounts) (heard : Both Heard) (mid : Accounts)
+    (from_orig from_answ : Sent) (l : Link) : Type 0 where
+  pub orig : Said
+  pub answ : Said
+  pub orig_sent : from_orig ≡ orig.sent
+  pub answ_sent : from_answ ≡ answ.sent
+  pub going : GoingTurn (link_of c.script files) ts ends (turn_in heard ends mid (spoken_by orig answ)) (ends_of orig answ)
+  pub mid_is : going.mid ≡ mid
+  pub heard_in : HeardIn c ts (turn_in heard ends mid (spoken_by orig answ))
+  pub stands : LinkStands l files (ends_of orig answ)
+
+pub spoken-turn : (c : Wire) (files : Both (List ℕ)) (ts : List Turn) (ends : Accounts) (heard : Both Heard) (mid : Accounts)
+    (from_orig from_answ : Sent) (l : Link) (turn : ℕ)
+    → turn ≡ length ts → Overhears c files ts ends heard mid → is_closed mid.orig.phase ≡ false
+    → SaysBoth l files (link_of c.script files) turn (served c.script files (length ts) mid) from_orig from_answ
+    → SpokenTurn c files ts ends heard mid from_orig from_answ l
+spoken-turn c files ts ends heard mid from_orig from_answ l turn number o open-still s = record {
+  orig = s.orig;
+  answ = s.answ;
+  orig_sent = s.orig_sent;
+  answ_sent = s.answ_sent;
+  going = record {
+    mid = mid;
+    hearing = hears-in c files ts ends mid heard (spoken_by s.orig s.answ) o;
+    going = open-still;
+    speaking = says;
+  };
+  mid_is = refl;
+  heard_in = heard-in c files ts ends heard mid (spoken_by s.orig s.answ) o;
+  stands = s.stands;
+}
+  where
+    on-says : (role : Role) (said : Said) → says_at (link_of c.script files) turn (served c.script files (length ts) mid) role ≡ Ok said
+        → said_at (link_of c.script files) (length ts) mid role ≡ Ok said
+    on-says role said h = subst (λ (e : Accounts). says_at (link_of c.script files) (length ts) e role ≡ Ok said)
+        (served-is c.script files (length ts) mid)
+        (subst (λ t. says_at (link_of c.script files) t (served c.script files (length ts) mid) role ≡ Ok said) number h)
+
+    says : (role : Role) → SpeaksAt (said_at (link_of c.script files) (length ts) mid role)
+        (of role (turn_in heard ends mid (spoken_by s.orig s.answ))) (of role (ends_of s.orig s.answ))
+    says Originator = record { said = s.orig; says = on-says Originator s.orig s.orig_says; sent_is = refl; after_is = refl }
+    says Answerer = record { said = s.answ; says = on-says Answerer s.answ s.answ_says; sent_is = refl; after_is = refl }
+
+-- an end that breaks does so by a run's definition
+broken-so : (c : Wire) (files : Both (List ℕ)) (number turn : ℕ) (mid : Accounts) (role : Role) (fault : LinkFault) → turn ≡ number
+    → BreaksAt (link_of c.script files) turn (served c.script files number mid) role fault
+    → IsBroken (link_of c.script files) number mid role fault
+broken-so c files number turn mid role fault e h =
+    subst (λ (x : Accounts). BreaksAt (link_of c.script files) number x role fault) (served-is c.script files number mid)
+    (subst (λ t. BreaksAt (link_of c.script files) t (served c.script files number mid) role fault) e h)
+
+silent : (heard : Both Heard) (ends mid : Accounts) (role : Role) → (of role (turn_in heard ends mid none-sent)).sent ≡ None
+silent heard ends mid Originator = refl
+silent heard ends mid Answerer = refl
+
+pub broken-turn : (c : Wire) (files : Both (List ℕ)) (ts : List Turn) (ends : Accounts) (heard : Both Heard) (mid : Accounts) (turn : ℕ)
+    (role : Role) (fault : LinkFault)
+    → turn ≡ length ts → Overhears c files ts ends heard mid → is_closed mid.orig.phase ≡ false
+    → BreaksAt (link_of c.script files) turn (served c.script files (length ts) mid) role fault
+    → BrokenTurn (link_of c.script files) ts ends (turn_in heard ends mid none-sent) mid role fault
+broken-turn c files ts ends heard mid turn role fault number o open-still b = record {
+  hearing = hears-in c files ts ends mid heard none-sent o;
+  going = open-still;
+  broken = broken-so c files (length ts) turn mid role fault number b;
+  silent = silent heard ends mid;
+}
+
+-- both ends hear in it what was heard
+pub hears-these : (heard : Both Heard) (ends mid : Accounts) (sent : Both (Option Spoken)) → HearsThese heard (turn_in heard ends mid sent)
+hears-these heard ends mid sent Originator = refl
+hears-these heard ends mid sent Answerer = refl
+
+-- ---- its text
+
+line-of : (turn : ℕ) (role : Role) (heard : Heard) (sent : Option Sent) (given : Option ℕ) → heard ≢ Chance
+    → line_text (record { turn = turn; role = role; arrived = heard; sent = sent; given = given }) ≡ trace_line turn role heard sent given
+line-of turn role Nothing sent given well = refl
+line-of turn role (Passed s) sent given well = refl
+line-of turn role (Lost s) sent given well = refl
+line-of turn role Chance sent given well = absurd (well refl)
+
+side-text : (line : TraceLine) (number t : ℕ) (role : Role) (heard : Heard) (sent : Option Sent) (given : Option ℕ) (s : Side)
+    → line ≡ record { turn = number; role = role; arrived = heard; sent = sent; given = given } → heard ≢ Chance → number ≡ t
+    → heard ≡ s.heard
+    → sent ≡ option_map (λ (slot : Spoken). slot.sent) s.sent → given ≡ s.given → line_text line ≡ side_line t role s
+side-text line number t role heard sent given s e well n h x g =
+    ap line_text e ∙ line-of number role heard sent given well ∙ (λ k. trace_line (n k) role (h k) (x k) (g k))
+
+pub text-is : (lines : Both TraceLine) (number : ℕ) (ts : List Turn) (ends mid : Accounts) (heard : Both Heard) (given : Both (Option ℕ))
+    (sent : Both (Option Sent)) (sents : Both (Option Spoken))
+    → lines ≡ record {
+      orig = record { turn = number; role = Originator; arrived = heard.orig; sent = sent.orig; given = given.orig };
+      answ = record { turn = number; role = Answerer; arrived = heard.answ; sent = sent.answ; given = given.answ };
+    }
+    → heard.orig ≢ Chance → heard.answ ≢ Chance → number ≡ length ts → given.orig ≡ given_break mid.orig → given.answ ≡ given_break mid.answ
+    → sent.orig ≡ option_map (λ (slot : Spoken). slot.sent) sents.orig → sent.answ ≡ option_map (λ (slot : Spoken). slot.sent) sents.answ
+    → line_text lines.orig ++ line_text lines.answ ≡ turn_text (length ts) (turn_in heard ends mid sents)
+text-is lines number ts ends mid heard given sent sents e wo wa n go ga so sa =
+    let o : line_text lines.orig ≡ side_line (length ts) Originator (side_of heard.orig ends.orig mid.orig sents.orig) =
+    side-text lines.orig number (length ts) Originator heard.orig sent.orig given.orig (side_of heard.orig ends.orig mid.orig sents.orig)
+    (ap (λ (l : Both TraceLine). l.orig) e) wo n refl so go in
+    let a : line_text lines.answ ≡ side_line (length ts) Answerer (side_of heard.answ ends.answ mid.answ sents.answ) =
+    side-text lines.answ number (length ts) Answerer heard.answ sent.answ given.answ (side_of heard.answ ends.answ mid.answ sents.answ)
+    (ap (λ (l : Both TraceLine). l.answ) e) wa n refl sa ga in
+    λ k. o k ++ a k
+
+-- what was taken back of the lines is what was put there
+pub taken-back : {A : Type 0} (x y : A) (a b : Option A) → a ≡ Some x → b ≡ Some y → a ≡ b → x ≡ y
+taken-back x y a b e f g = ap (λ o. unwrap_or o x) (sym e ∙ g ∙ f)
+
+-- ---- what is sent can be coded
+
+pub all-codable : SlotsAreCodable
+    → (c : Wire) (files : Both (List ℕ)) (ts : List Turn) (ends : Accounts) (heard : Both Heard) (mid : Accounts)
+    (from_orig from_answ : Sent) (sent : Both Sent)
+    (k : Link) (l : Lines) (links : ℕ) (streams : Both (List Carried)) (dlci : ℕ) (checks : Both Check)
+    → c.symbols ≡ slot_symbols (longest_of c.script) → IsInLimits c.script → Overhears c files ts ends heard mid
+    → (t : SpokenTurn c files ts ends heard mid from_orig from_answ k) → HaveArrived l c links streams
+    → IsSendable from_orig → IsSendable from_answ → sent.orig ≡ from_orig → sent.answ ≡ from_answ
+    → checks.orig ≡ check_of t.orig.account → checks.answ ≡ check_of t.answ.account → AreCodable l sent checks dlci
+all-codable law c files ts ends heard mid from_orig from_answ sent k l links streams dlci checks size limits o t h sendo senda eo ea co ca Originator =
+    let d = h.coders Originator in
+    let is : IsCodable (check_of t.orig.account) Originator dlci (slot_symbols (longest_of c.script)) l.orig.coder.writer.phase t.orig.sent =
+    law c files ts ends (turn_in heard ends mid (spoken_by t.orig t.answ))
+    (ends_of t.orig t.answ) limits o.run t.heard_in t.going Originator (spoken t.orig) dlci
+    l.orig.coder.writer.phase d.stands.writer.low refl (subst IsSendable t.orig_sent sendo) in
+    rw (co, d.symbols, size, eo, t.orig_sent) is
+all-codable law c files ts ends heard mid from_orig from_answ sent k l links streams dlci checks size limits o t h sendo senda eo ea co ca Answerer =
+    let d = h.coders Answerer in
+    let is : IsCodable (check_of t.answ.account) Answerer dlci (slot_symbols (longest_of c.script)) l.answ.coder.writer.phase t.answ.sent =
+    law c files ts ends (turn_in heard ends mid (spoken_by t.orig t.answ))
+    (ends_of t.orig t.answ) limits o.run t.heard_in t.going Answerer (spoken t.answ) dlci
+    l.answ.coder.writer.phase d.stands.writer.low refl (subst IsSendable t.answ_sent senda) in
+    rw (ca, d.symbols, size, ea, t.answ_sent) is
+
+-- as one slot more behind each
+abbrev pub put_by : ℕ → Said → Said → Both Carried
+put_by dlci orig answ = record { orig = record { dlci = dlci; spoken = spoken orig }; answ = record { dlci = dlci; spoken = spoken answ } }
+
+pub are-put : (dlci : ℕ) (orig answ : Said) (sent : Both Sent) (checks : Both Check) → orig.sent ≡ sent.orig → answ.sent ≡ sent.answ
+    → check_of orig.account ≡ checks.orig → check_of answ.account ≡ checks.answ → ArePut (put_by dlci orig answ) sent checks dlci
+are-put dlci orig answ sent checks so sa co ca Originator = record { dlci_is = refl; sent_is = so; check_is = co }
+are-put dlci orig answ sent checks so sa co ca Answerer = record { dlci_is = refl; sent_is = sa; check_is = ca }
+
+-- ---- the run goes on
+
+pub record GoingLaws : Type 0 where
+  pub play : ScriptsMayPlay
+  pub delays : ScriptsHaveDelays
+  pub carried : SamplesAreCarried
+  pub one : OneIsCarried
+  pub counted : CountsByNumber
+
+-- a tally counted what both sent
+pub record CountsSent (old new : Tally) (from_orig from_answ : Sent) : Type 0 where
+  pub lost : new.lost ≡ old.lost
+  pub again : new.again ≡ old.again + again_in (sequence_in from_orig) old.orig + again_in (sequence_in from_answ) old.answ
+  pub orig : new.orig ≡ next_count (sequence_in from_orig) old.orig
+  pub answ : new.answ ≡ next_count (sequence_in from_answ) old.answ
+
+pub counts-what : (old new : Tally) (sent said : Both Sent) → sent.orig ≡ said.orig → sent.answ ≡ said.answ
+    → CountsSent old new sent.orig sent.answ → CountsSent old new said.orig said.answ
+counts-what old new sent said o a h =
+    subst (λ (x : Sent). CountsSent old new x said.answ) o (subst (λ (y : Sent). CountsSent old new sent.orig y) a h)
+
+pub tallies-on : GoingLaws → (c : Wire) (files : Both (List ℕ)) (ts : List Turn) (ends : Accounts) (heard : Both Heard) (mid : Accounts)
+    (from_orig from_answ : Sent) (k : Link)
+    (old new : Tally) → IsInLimits c.script → Overhears c files ts ends heard mid
+    → (t : SpokenTurn c files ts ends heard mid from_orig from_answ k)
+    → TalliesHeard old ts ends heard → CountsSent old new from_orig from_answ
+    → Tallies new (turn_in heard ends mid (spoken_by t.orig t.answ) ∷ ts) (ends_of t.orig t.answ)
+tallies-on laws c files ts ends heard mid from_orig from_answ k old new limits o t h n =
+    let turn : Turn = turn_in heard ends mid (spoken_by t.orig t.answ) in
+    let carries = laws.one c ts turn t.heard_in in
+    let over = runs-over laws.play laws.delays laws.carried c files ts ends limits o.run in
+    let counts = laws.counted (link_of c.script files) (delay_of c.script) ts ends turn (ends_of t.orig t.answ) over carries t.going in
+    let co : CountsOn Originator ts ends turn (ends_of t.orig t.answ) = counts Originator in
+    let ca : CountsOn Answerer ts ends turn (ends_of t.orig t.answ) = counts Answerer in
+    let ao : again_in (sequence_in from_orig) old.orig ≡ again_in (sequence_in t.orig.sent) ends.orig.outgoing.high =
+    λ i. again_in (sequence_in (t.orig_sent i)) (h.orig i) in
+    let aa : again_in (sequence_in from_answ) old.answ ≡ again_in (sequence_in t.answ.sent) ends.answ.outgoing.high =
+    λ i. again_in (sequence_in (t.answ_sent i)) (h.answ i) in
+    record {
+      lost = n.lost ∙ h.lost;
+      again = omega (arith, n.again, h.again, ao, aa, co.again, ca.again);
+      orig = n.orig ∙ (λ i. next_count (sequence_in (t.orig_sent i)) (h.orig i)) ∙ sym co.high;
+      answ = n.answ ∙ (λ i. next_count (sequence_in (t.answ_sent i)) (h.answ i)) ∙ sym ca.high;
+    }
+
+pub goes-on : GoingLaws → (c : Wire) (old : Tally) (m : Modems) (l : Lines) (links : ℕ) (streams : Both (List Carried))
+    (f new : FolderState) (n : Written) (files : Both (List ℕ))
+    (ts : List Turn) (ends : Accounts) (heard : Both Heard) (mid : Accounts)
+    (from_orig from_answ : Sent) → IsInLimits c.script → m.turn ≡ length ts + 1 → m.spoke ≡ true
+    → Overhears c files ts ends heard mid → (t : SpokenTurn c files ts ends heard mid from_orig from_answ m.link)
+    → TalliesHeard old ts ends heard → CountsSent old m.tally from_orig from_answ
+    → LinesWait l c links (and_more streams (put_by c.dlci t.orig t.answ))
+    → Appended f new n.trace (turn_text (length ts) (turn_in heard ends mid (spoken_by t.orig t.answ)))
+    → HasGone m l c links streams f new n files ts ends mid
+goes-on laws c old m l links streams f new n files ts ends heard mid from_orig from_answ limits number spoke o t tally counts lines trace =
+    let turn : Turn = turn_in heard ends mid (spoken_by t.orig t.answ) in
+    let after : Accounts = ends_of t.orig t.answ in
+    record {
+      turn = turn;
+      after = after;
+      run = o.run;
+      going = t.going;
+      mid_is = t.mid_is;
+      heard = t.heard_in;
+      modems = record {
+        run = record { run = (ends, o.run.run, t.going); heard = (t.heard_in, o.run.heard) };
+        link = t.stands;
+        turn = omega (arith, number);
+        tally = tallies-on laws c files ts ends heard mid from_orig from_answ m.link old m.tally limits o t tally counts;
+        spoke = spoke;
+      };
+      lines = lines;
+      trace = trace;
+    }
+
+-- ---- the run ends as an end breaks
+
+pub ends-so : (c : Wire) (f new : FolderState) (n : Written) (files : Both (List ℕ)) (ts : List Turn) (ends : Accounts)
+    (heard : Both Heard) (mid : Accounts) (turn : ℕ) (role : Role)
+    (fault : LinkFault) → turn ≡ length ts → IsNamed role fault → Overhears c files ts ends heard mid
+    → BrokenTurn (link_of c.script files) ts ends (turn_in heard ends mid none-sent) mid role fault
+    → Appended f new n.trace (turn_text (length ts) (turn_in heard ends mid none-sent))
+    → SpeaksLast c f new n files ts ends heard mid (fault_named turn role fault)
+ends-so c f new n files ts ends heard mid turn role faults.NotDetected number named o b trace = (
+  number,
+  record {
+    turn = turn_in heard ends mid none-sent;
+    hears = hears-these heard ends mid none-sent;
+    makes = record {
+      run = o.run;
+      heard = heard-in c files ts ends heard mid none-sent o;
+      is = subst (λ r. BrokenTurn (link_of c.script files) ts ends (turn_in heard ends mid none-sent) mid r faults.NotDetected) named b;
+    };
+    trace = trace;
+  },
+)
+ends-so c f new n files ts ends heard mid turn role (faults.Spent segment since) number named o b trace = (
+  number,
+  since,
+  record {
+    turn = turn_in heard ends mid none-sent;
+    hears = hears-these heard ends mid none-sent;
+    makes = record {
+      run = o.run;
+      heard = heard-in c files ts ends heard mid none-sent o;
+      is = b;
+    };
+    trace = trace;
+  },
+)
+ends-so c f new n files ts ends heard mid turn role (faults.BadAck nr va high) number named o b trace = absurd named
+ends-so c f new n files ts ends heard mid turn role (faults.PeerReset va vr) number named o b trace = absurd named
+ends-so c f new n files ts ends heard mid turn role faults.PeerRefused number named o b trace = absurd named
+
+-- such an end is no fault of the folder
+pub counts-so : (f new : FolderState) (n : Written) (turn : ℕ) (role : Role) (fault : LinkFault) → IsNamed role fault → CountsStand f new
+    → FaultCounts f new n (fault_named turn role fault)
+counts-so f new n turn role faults.NotDetected named stand = stand
+counts-so f new n turn role (faults.Spent segment since) named stand = stand
+counts-so f new n turn role (faults.BadAck nr va high) named stand = absurd named
+counts-so f new n turn role (faults.PeerReset va vr) named stand = absurd named
+counts-so f new n turn role faults.PeerRefused named stand = absurd named
+
+-- ---- the folder doesn't take the lines
+
+pub stops-so : (c : Wire) (f new : FolderState) (n : Written) (files : Both (List ℕ)) (ts : List Turn) (ends : Accounts)
+    (heard : Both Heard) (mid : Accounts) (fault : RunFault) → IsWriting fault
+    → AddsPart c f new n files ts ends heard mid → SpeaksLast c f new n files ts ends heard mid fault
+stops-so c f new n files ts ends heard mid run_faults.WriteFault w h = h
+stops-so c f new n files ts ends heard mid run_faults.NoMemory w h = h
+stops-so c f new n files ts ends heard mid run_faults.ReadFault w h = absurd w
+stops-so c f new n files ts ends heard mid (run_faults.LineLost role symbol) w h = absurd w
+stops-so c f new n files ts ends heard mid (run_faults.ChanceMatch role turn) w h = absurd w
+stops-so c f new n files ts ends heard mid (run_faults.NotDetected turn) w h = absurd w
+stops-so c f new n files ts ends heard mid (run_faults.LinkLost role segment turn) w h = absurd w
+
+pub adds-part : (c : Wire) (f new : FolderState) (n : Written) (files : Both (List ℕ)) (ts : List Turn) (ends : Accounts)
+    (heard : Both Heard) (mid : Accounts) (sents : Both (Option Spoken))
+    (outcome : Outcome) → Overhears c files ts ends heard mid
+    → TurnIs (link_of c.script files) ts ends (turn_in heard ends mid sents) mid outcome
+    → PartlyAppended f new n.trace (turn_text (length ts) (turn_in heard ends mid sents)) → AddsPart c f new n files ts ends heard mid
+adds-part c f new n files ts ends heard mid sents outcome o is trace = record {
+  outcome = outcome;
+  turn = turn_in heard ends mid sents;
+  hears = hears-these heard ends mid sents;
+  makes = record {
+    run = o.run;
+    heard = heard-in c files ts ends heard mid sents o;
+    is = is;
+  };
+  trace = trace;
+}
+
+-- ---- the run is done
+
+pub last-turn : (c : Wire) (files : Both (List ℕ)) (ts : List Turn) (ends : Accounts) (heard : Both Heard) (mid : Accounts)
+    → Overhears c files ts ends heard mid
+    → is_closed mid.orig.phase ≡ true → LastTurn ts ends (turn_in heard ends mid none-sent) mid
+last-turn c files ts ends heard mid o closed = record {
+  hearing = hears-in c files ts ends mid heard none-sent o;
+  done = closed;
+  silent = silent heard ends mid;
+}

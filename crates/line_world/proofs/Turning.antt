@@ -1,0 +1,290 @@
+-- A whole turn.
+use Rattle.std.proofs.Common.{◌≡◌, inl, inr, ℕ, ◌+◌, ◌<◌, List, [], ◌∷◌, length, refl, sym, ◌∙◌, ap, subst, Result, Ok, Err}
+use Rattle.outside_calls.specs.Folder.{FolderState, OnlyWrites}
+use Rattle.outside_calls.specs.Outputs.{OnlyPuts, AddEach, AddPart}
+use Rattle.outside_calls.proofs.Putting.{AddEach-next, AddPart-next, AddPart-none, AddPart-longer}
+use Rattle.shared_terms.specs.declared.role.Role.{Role}
+use Rattle.shared_terms.specs.declared.role.Role.TheVariants.{Originator, Answerer}
+use Rattle.shared_terms.specs.Role.{other}
+use Rattle.shared_terms.specs.Both.{Both, of}
+use Rattle.noise_script.specs.Script.{IsInLimits, delay_of}
+use Rattle.lapm_frames.specs.declared.heard.Heard.{Heard}
+use Rattle.link_account.specs.Account.{Account, check_of}
+use Rattle.shared_terms.specs.declared.fault.LinkFault.{LinkFault}
+use Rattle.shared_terms.specs.declared.fault.LinkFault.TheVariants as faults
+use Rattle.link_account.specs.Hear.{hear}
+use Rattle.link_run.specs.Run.{Accounts, Turn, Hears, arrival}
+use Rattle.link_run.specs.Laws.{EachTurnIsMade, MakesTurn as MakesAny}
+use Rattle.link_run.specs.Outcomes.{Outcome, Broken, TurnIs}
+use Rattle.link_run.specs.Trace.{turn_text}
+use Rattle.line_run.specs.Sampled.{Wire, HeardIn, IsHeardOf}
+use Rattle.line_run.specs.Scripted.{link_of, ScriptsMayPlay, ScriptsHaveDelays}
+use Rattle.line_run.specs.LineLaws.{SamplesAreCarried, OneIsCarried}
+use Rattle.line_run.specs.Names.{Written, outputs_of, received_of}
+use Rattle.line_run.specs.Stream.{Carried}
+use Rattle.line_run.proofs.Leaving.{hearing-in}
+use Rattle.line_world.specs.Lines.{HaveArrived}
+use Rattle.line_world.specs.declared.lines.Lines.{Lines}
+use Rattle.line_world.specs.Link.{AreCounted, AreIdle, AreWithin, octets_of}
+use Rattle.line_world.specs.declared.modems.Modems.{Modems}
+use Rattle.line_world.specs.Modems.{AreKept}
+use Rattle.line_world.specs.declared.step.RunFault.{RunFault}
+use Rattle.line_world.specs.declared.step.RunFault.TheVariants as run_faults
+use Rattle.line_world.specs.World.{StayKnown}
+use Rattle.line_world.specs.Tally.{IsFew}
+use Rattle.line_world.specs.Turn.{SendsNone, MakesTurn, Stops, StopsReading, EndsBy, EndsInTurn, GoesOnBy, IsWriting, IsReading}
+use Rattle.line_world.specs.Turn.{added}
+use Rattle.line_world.specs.Mid.{Overhears, InTurn, SameBeside, HasGone, HearsThese, AddsLines, AddsPart, SpeaksLast, turn_in}
+use Rattle.line_world.specs.declared.tally.Tally.{Tally}
+use Rattle.link_run.specs.Counts.{lost_in, lost_slots}
+use Rattle.line_world.proofs.Speaking.{hears-these}
+use Rattle.line_world.proofs.Hearing.{heard-in, none-sent, runs-over}
+use Rattle.line_world.proofs.Serving.{hears-in}
+use Rattle.line_world.proofs.Folders.{IsApart, stay-known}
+
+-- ---- what a turn would come to
+
+pub record MakingLaws : Type 0 where
+  pub play : ScriptsMayPlay
+  pub delays : ScriptsHaveDelays
+  pub carried : SamplesAreCarried
+  pub one : OneIsCarried
+  pub made : EachTurnIsMade
+
+ok-inj : (r : Result Account LinkFault) (a b : Account) → r ≡ Ok a → r ≡ Ok b → a ≡ b
+ok-inj r a b p q = ap value (sym p ∙ q)
+  where
+    value : Result Account LinkFault → Account
+    value (Ok x) = x
+    value (Err fault) = a
+
+both-same : (x y : Accounts) → x.orig ≡ y.orig → x.answ ≡ y.answ → x ≡ y
+both-same x y o a = λ k. record { orig = o k; answ = a k }
+
+-- The turn that is being made.
+pub record Making (c : Wire) (files : Both (List ℕ)) (ts : List Turn) (ends : Accounts) (heard : Both Heard) (mid : Accounts) : Type 0 where
+  pub turn : Turn
+  pub outcome : Outcome
+  pub hears : HearsThese heard turn
+  pub makes : MakesTurn c files ts ends turn mid outcome
+
+pub making : MakingLaws → (c : Wire) (files : Both (List ℕ)) (ts : List Turn) (ends : Accounts) (heard : Both Heard) (mid : Accounts)
+    → IsInLimits c.script
+    → Overhears c files ts ends heard mid → Making c files ts ends heard mid
+making laws c files ts ends heard mid limits o = record {
+  turn = m.turn;
+  outcome = m.outcome;
+  hears = λ role. m.heard_is role ∙ hears-these heard ends mid none-sent role;
+  makes = record { run = o.run; heard = well; is = subst (λ x. TurnIs (link_of c.script files) ts ends m.turn x m.outcome) same m.is };
+}
+  where
+    first : Turn
+    first = turn_in heard ends mid none-sent
+
+    heard-first : HeardIn c ts first
+    heard-first = heard-in c files ts ends heard mid none-sent o
+
+    m : MakesAny (link_of c.script files) ts ends (λ role. (of role first).heard)
+    m = laws.made (link_of c.script files) (delay_of c.script) ts ends (λ role. (of role first).heard)
+        (runs-over laws.play laws.delays laws.carried c files ts ends limits o.run)
+        (λ role. laws.one c ts first heard-first role)
+
+    hears : Hears (length ts) ends m.turn m.mid
+    hears = hearing-in (link_of c.script files) ts ends m.turn m.mid m.outcome m.is
+
+    first-hears : Hears (length ts) ends first mid
+    first-hears = hears-in c files ts ends mid heard none-sent o
+
+    same-at : (role : Role) → of role m.mid ≡ of role mid
+    same-at role = ok-inj (hear (length ts) (arrival (of role m.turn).heard) (of role ends)) (of role m.mid) (of role mid)
+        (hears role).hears
+        (ap (λ h. hear (length ts) (arrival h) (of role ends)) (m.heard_is role) ∙ (first-hears role).hears)
+
+    same : m.mid ≡ mid
+    same = both-same m.mid mid (same-at Originator) (same-at Answerer)
+
+    well : HeardIn c ts m.turn
+    well role =
+        let h = heard-first role in
+        record {
+          heard_of = subst (λ x. IsHeardOf c (other role) ts (of role m.turn).check x) (sym (m.heard_is role))
+              (subst (λ x. IsHeardOf c (other role) ts x (of role first).heard) ((first-hears role).check_is
+              ∙ sym (hears role).check_is) h.heard_of);
+          well = λ f. h.well (sym (m.heard_is role) ∙ f);
+        }
+
+-- ---- the ends after a turn in which nothing is sent
+
+abbrev pub Halts : Modems → Lines → Wire → ℕ → Both (List Carried) → List Turn → Both Heard → Type 0
+Halts m l c links streams ts heard = (t : Turn) → HearsThese heard t → SendsNone m l c links streams ts t
+
+pub same-beside : (m : Modems) → SameBeside m m
+same-beside m = record { dlci = refl; turn = refl; tally = refl; heard_by = refl; spoke = refl }
+
+pub halts-so : (old m : Modems) (l : Lines) (c : Wire) (links : ℕ) (streams : Both (List Carried)) (files : Both (List ℕ)) (ts : List Turn)
+    (ends : Accounts) (heard : Both Heard) (mid now : Accounts)
+    → InTurn old c files ts ends heard mid now → HaveArrived l c links streams → SameBeside old m → Halts m l c links streams ts heard
+halts-so old m l c links streams files ts ends heard mid now h arrived same t hears =
+    let orig = sym (hears Originator) in
+    let answ = sym (hears Answerer) in
+    record {
+      lines = arrived;
+      lost = ap (λ (x : Tally). x.lost) same.tally ∙ h.tally.lost ∙ (λ k. lost_slots ts + lost_in (orig k) + lost_in (answ k));
+      again = ap (λ (x : Tally). x.again) same.tally ∙ h.tally.again;
+    }
+
+-- what both hear with once they have heard
+abbrev pub Checked : Modems → Accounts → Type 0
+Checked m mid = (role : Role) → of role m.heard_by ≡ check_of (of role mid)
+
+pub checked-so : (old m : Modems) (c : Wire) (files : Both (List ℕ)) (ts : List Turn) (ends : Accounts) (heard : Both Heard) (mid now : Accounts)
+    → InTurn old c files ts ends heard mid now → SameBeside old m → Checked m mid
+checked-so old m c files ts ends heard mid now h same role = ap (of role) same.heard_by ∙ h.checks role
+
+-- ---- a fault of the folder
+
+pub writing-ends : (m : Modems) (l : Lines) (c : Wire) (links : ℕ) (streams : Both (List Carried)) (a b : FolderState) (n : Written) (files : Both (List ℕ)) (ts : List Turn) (ends : Accounts)
+    (fault : RunFault) → IsWriting fault
+    → Stops m l c links streams a b n files ts ends → EndsBy m l c links streams a b n files ts ends fault
+writing-ends m l c links streams a b n files ts ends run_faults.WriteFault is h = h
+writing-ends m l c links streams a b n files ts ends run_faults.NoMemory is h = h
+writing-ends m l c links streams a b n files ts ends run_faults.ReadFault is h = absurd is
+writing-ends m l c links streams a b n files ts ends (run_faults.LineLost role symbol) is h = absurd is
+writing-ends m l c links streams a b n files ts ends (run_faults.ChanceMatch role turn) is h = absurd is
+writing-ends m l c links streams a b n files ts ends (run_faults.NotDetected turn) is h = absurd is
+writing-ends m l c links streams a b n files ts ends (run_faults.LinkLost role segment turn) is h = absurd is
+
+pub reading-ends : (m : Modems) (l : Lines) (c : Wire) (links : ℕ) (streams : Both (List Carried)) (a b : FolderState) (n : Written) (files : Both (List ℕ)) (ts : List Turn) (ends : Accounts)
+    (fault : RunFault) → IsReading fault
+    → StopsReading m l c links streams a b n files ts ends → EndsBy m l c links streams a b n files ts ends fault
+reading-ends m l c links streams a b n files ts ends run_faults.ReadFault is h = h
+reading-ends m l c links streams a b n files ts ends run_faults.NoMemory is h = inl h.0
+reading-ends m l c links streams a b n files ts ends run_faults.WriteFault is h = absurd is
+reading-ends m l c links streams a b n files ts ends (run_faults.LineLost role symbol) is h = absurd is
+reading-ends m l c links streams a b n files ts ends (run_faults.ChanceMatch role turn) is h = absurd is
+reading-ends m l c links streams a b n files ts ends (run_faults.NotDetected turn) is h = absurd is
+reading-ends m l c links streams a b n files ts ends (run_faults.LinkLost role segment turn) is h = absurd is
+
+-- as what both took is handed over,
+pub stops-handing : MakingLaws
+    → (m : Modems) (l : Lines) (c : Wire) (links : ℕ) (streams : Both (List Carried)) (a b : FolderState) (n : Written) (files : Both (List ℕ)) (ts : List Turn) (ends : Accounts) (heard : Both Heard)
+    (mid : Accounts)
+    → IsInLimits c.script → IsApart n → AreWithin files → OnlyPuts a b (outputs_of n) → Overhears c files ts ends heard mid
+    → Halts m l c links streams ts heard → AddPart a b (outputs_of n) (octets_of mid)
+    → Stops m l c links streams a b n files ts ends
+stops-handing laws m l c links streams a b n files ts ends heard mid limits apart within only o halts part =
+    let k = making laws c files ts ends heard mid limits o in
+    inl (record {
+      others = files;
+      known = stay-known a b n files apart only within;
+      turn = k.turn;
+      mid = mid;
+      outcome = k.outcome;
+      makes = k.makes;
+      halts = halts k.turn k.hears;
+      writes = AddPart-longer a b (outputs_of n) (octets_of mid) (turn_text (length ts) k.turn ∷ []) part;
+    })
+
+-- as the files are read,
+pub stops-reading : MakingLaws
+    → (m : Modems) (l : Lines) (c : Wire) (links : ℕ) (streams : Both (List Carried)) (a b : FolderState) (n : Written) (files : Both (List ℕ)) (ts : List Turn) (ends : Accounts) (heard : Both Heard)
+    (mid : Accounts)
+    → IsInLimits c.script → IsApart n → AreWithin files → OnlyPuts a b (outputs_of n) → Overhears c files ts ends heard mid
+    → Halts m l c links streams ts heard → AddEach a b (outputs_of n) (octets_of mid) → StopsReading m l c links streams a b n files ts ends
+stops-reading laws m l c links streams a b n files ts ends heard mid limits apart within only o halts delivered =
+    let k = making laws c files ts ends heard mid limits o in (
+      record {
+        others = files;
+        known = stay-known a b n files apart only within;
+        turn = k.turn;
+        mid = mid;
+        outcome = k.outcome;
+        makes = k.makes;
+        halts = halts k.turn k.hears;
+        writes = AddPart-none a b (received_of n) n.trace [] (octets_of mid) (turn_text (length ts) k.turn) [] tt delivered;
+      },
+      delivered,
+    )
+
+-- and as the lines go out.
+pub stops-writing : (m : Modems) (l : Lines) (c : Wire) (links : ℕ) (streams : Both (List Carried)) (a b z : FolderState) (n : Written) (files others : Both (List ℕ)) (ts : List Turn)
+    (ends : Accounts) (heard : Both Heard) (mid : Accounts) → IsApart n
+    → StayKnown a z n files others → OnlyPuts a b (outputs_of n) → AddEach a b (outputs_of n) (octets_of mid) → OnlyWrites b z n.trace
+    → Halts m l c links streams ts heard → AddsPart c b z n others ts ends heard mid → Stops m l c links streams a z n files ts ends
+stops-writing m l c links streams a b z n files others ts ends heard mid apart known only delivered lines halts p =
+    inl (record {
+      others = others;
+      known = known;
+      turn = p.turn;
+      mid = mid;
+      outcome = p.outcome;
+      makes = p.makes;
+      halts = halts p.turn p.hears;
+      writes = AddPart-next a b z (received_of n) n.trace [] (octets_of mid) _ tt apart.0 only.goes_on delivered lines p.trace;
+    })
+
+-- ---- the run ends in this turn
+
+pub ends-in : (m : Modems) (l : Lines) (c : Wire) (links : ℕ) (streams : Both (List Carried)) (a b z : FolderState) (n : Written) (files others : Both (List ℕ)) (ts : List Turn) (ends : Accounts)
+    (heard : Both Heard) (mid : Accounts) (outcome : Outcome) (number : ℕ)
+    → IsApart n → number ≡ length ts → StayKnown a z n files others → OnlyPuts a b (outputs_of n) → AddEach a b (outputs_of n) (octets_of mid)
+    → OnlyWrites b z n.trace → Halts m l c links streams ts heard → Checked m mid
+    → AddsLines c b z n others ts ends heard mid outcome → EndsInTurn m l c links streams a z n files ts ends outcome number
+ends-in m l c links streams a b z n files others ts ends heard mid outcome number apart e known only delivered lines halts checked p = record {
+  number_is = e;
+  others = others;
+  known = known;
+  turn = p.turn;
+  mid = mid;
+  makes = p.makes;
+  halts = halts p.turn p.hears;
+  checks = checked;
+  writes = AddEach-next a b z (received_of n) n.trace [] (octets_of mid) _ tt apart.0 only.goes_on delivered lines (inr p.trace);
+}
+
+pub speaks-last : (m : Modems) (l : Lines) (c : Wire) (links : ℕ) (streams : Both (List Carried)) (a b z : FolderState) (n : Written) (files others : Both (List ℕ)) (ts : List Turn)
+    (ends : Accounts) (heard : Both Heard) (mid : Accounts) (fault : RunFault)
+    → IsApart n → StayKnown a z n files others → OnlyPuts a b (outputs_of n) → AddEach a b (outputs_of n) (octets_of mid)
+    → OnlyWrites b z n.trace → Halts m l c links streams ts heard → Checked m mid
+    → SpeaksLast c b z n others ts ends heard mid fault → EndsBy m l c links streams a z n files ts ends fault
+speaks-last m l c links streams a b z n files others ts ends heard mid run_faults.WriteFault apart known only d lines halts checked h =
+    stops-writing m l c links streams a b z n files others ts ends heard mid apart known only d lines halts h
+speaks-last m l c links streams a b z n files others ts ends heard mid run_faults.NoMemory apart known only d lines halts checked h =
+    stops-writing m l c links streams a b z n files others ts ends heard mid apart known only d lines halts h
+speaks-last m l c links streams a b z n files others ts ends heard mid (run_faults.LinkLost role segment turn) apart known only d lines halts checked h =
+    (h.1, ends-in m l c links streams a b z n files others ts ends heard mid (Broken role (faults.Spent segment h.1)) turn apart h.0 known only d lines halts checked h.2)
+speaks-last m l c links streams a b z n files others ts ends heard mid (run_faults.NotDetected turn) apart known only d lines halts checked h =
+    ends-in m l c links streams a b z n files others ts ends heard mid (Broken Originator faults.NotDetected) turn apart h.0 known only d lines halts checked h.1
+speaks-last m l c links streams a b z n files others ts ends heard mid run_faults.ReadFault apart known only d lines halts checked h = absurd h
+speaks-last m l c links streams a b z n files others ts ends heard mid (run_faults.LineLost role symbol) apart known only d lines halts checked h = absurd h
+speaks-last m l c links streams a b z n files others ts ends heard mid (run_faults.ChanceMatch role turn) apart known only d lines halts checked h = absurd h
+
+-- ---- the run goes on
+
+pub goes-on-by : (m : Modems) (l : Lines) (c : Wire) (links : ℕ) (streams : Both (List Carried)) (a b z : FolderState) (n : Written)
+    (files others : Both (List ℕ)) (ts : List Turn) (ends mid : Accounts)
+    → IsApart n → StayKnown a z n files others → OnlyPuts a b (outputs_of n) → AddEach a b (outputs_of n) (octets_of mid) → OnlyWrites b z n.trace
+    → HasGone m l c links streams b z n others ts ends mid → GoesOnBy m l c links streams a z n files ts ends
+goes-on-by m l c links streams a b z n files others ts ends mid apart known only delivered lines h = record {
+  others = others;
+  known = known;
+  turn = h.turn;
+  after = h.after;
+  run = h.run;
+  going = h.going;
+  heard = h.heard;
+  modems = h.modems;
+  lines = h.lines;
+  writes = subst (λ x. AddEach a z (outputs_of n) (added x (turn_text (length ts) h.turn))) (sym h.mid_is)
+      (AddEach-next a b z (received_of n) n.trace [] (octets_of mid) _ tt apart.0 only.goes_on delivered lines (inr h.trace));
+}
+
+-- and another turn may be made
+pub kept-on : (m : Modems) (number : ℕ) → m.dlci < 64 → AreIdle m.link → AreCounted m.link number number → IsFew m.tally number number
+    → m.turn ≡ number → AreKept m
+kept-on m number channel idle counted few e = record {
+  channel = channel;
+  idle = idle;
+  counted = subst (λ t. AreCounted m.link t t) (sym e) counted;
+  few = subst (λ t. IsFew m.tally t t) (sym e) few;
+}

@@ -1,0 +1,99 @@
+use Rattle.std.proofs.Common.{[], ◌∷◌, inl, inr, subst}
+use Rattle.std.specs.List.{concat}
+use Rattle.outside_calls.specs.Folder.{Rose}
+use Rattle.outside_calls.proofs.Steps.{GoesOn-refl, CountsStand-trans, FaultsStand-trans}
+use Rattle.outside_calls.proofs.Putting.{OnlyPuts-one, OnlyPuts-trans, KeepsEach-refl, AddEach-next, AddPart-longer, AddPart-next}
+use Rattle.link_run.specs.End.{deliveries}
+use Rattle.line_run.specs.Names.{outputs_of, written}
+use Rattle.line_world.proofs.Standing.{counted-on}
+use Rattle.line_world.proofs.link.Link.deliver.Goals as goal
+
+pub returns-in-Err-clause-err : goal.returns-in-Err-clause-err
+returns-in-Err-clause-err g c = λ files ends h.
+    let start = g.F.Folder.state c.args.folder.now in
+    let mid = g.F.Folder.state c.deliver.new.folder in
+    let n = written c.args.names.now in
+    AddPart-longer start mid (outputs_of n) (concat (deliveries ends.orig) ∷ []) (concat (deliveries ends.answ) ∷ [])
+    (AddPart-next start start mid [] n.got_o (n.got_a ∷ n.trace ∷ []) [] (concat (deliveries ends.orig)) tt c.requires.apart
+    (GoesOn-refl start) (KeepsEach-refl start (outputs_of n)) c.deliver.ensures.only (c.in-Err.ensures.err files.orig ends.orig h.orig))
+
+pub returns-in-Err-deliver-clause-err : goal.returns-in-Err-deliver-clause-err
+returns-in-Err-deliver-clause-err g c = λ files ends h.
+    let start = g.F.Folder.state c.args.folder.now in
+    let mid = g.F.Folder.state c.deliver.new.folder in
+    let end = g.F.Folder.state c.deliver-2.new.folder in
+    let n = written c.args.names.now in
+    AddPart-next start mid end (n.got_o ∷ []) n.got_a (n.trace ∷ []) (concat (deliveries ends.orig) ∷ []) (concat (deliveries ends.answ))
+    tt c.requires.apart c.deliver.ensures.only.goes_on
+    (AddEach-next start start mid [] n.got_o (n.got_a ∷ n.trace ∷ []) [] (concat (deliveries ends.orig)) tt c.requires.apart
+    (GoesOn-refl start) (KeepsEach-refl start (outputs_of n)) c.deliver.ensures.only (c.in-Ok.ensures.ok files.orig ends.orig h.orig))
+    c.deliver-2.ensures.only (c.in-Err-deliver.ensures.err files.answ ends.answ h.answ)
+
+pub returns-in-Ok-deliver-clause-ok : goal.returns-in-Ok-deliver-clause-ok
+returns-in-Ok-deliver-clause-ok g c = λ files ends h.
+    let start = g.F.Folder.state c.args.folder.now in
+    let mid = g.F.Folder.state c.deliver.new.folder in
+    let end = g.F.Folder.state c.deliver-2.new.folder in
+    let n = written c.args.names.now in
+    AddEach-next start mid end (n.got_o ∷ []) n.got_a (n.trace ∷ []) (concat (deliveries ends.orig) ∷ []) (concat (deliveries ends.answ))
+    tt c.requires.apart c.deliver.ensures.only.goes_on
+    (AddEach-next start start mid [] n.got_o (n.got_a ∷ n.trace ∷ []) [] (concat (deliveries ends.orig)) tt c.requires.apart
+    (GoesOn-refl start) (KeepsEach-refl start (outputs_of n)) c.deliver.ensures.only (c.in-Ok.ensures.ok files.orig ends.orig h.orig))
+    c.deliver-2.ensures.only (c.in-Ok-deliver.ensures.ok files.answ ends.answ h.answ)
+
+pub returns-in-Err-clause-only : goal.returns-in-Err-clause-only
+returns-in-Err-clause-only g c =
+    let n = written c.args.names.now in
+    OnlyPuts-one _ _ [] n.got_o (n.got_a ∷ n.trace ∷ []) c.deliver.ensures.only
+
+pub returns-in-Ok-deliver-clause-only : goal.returns-in-Ok-deliver-clause-only
+returns-in-Ok-deliver-clause-only g c =
+    let n = written c.args.names.now in
+    OnlyPuts-trans _ _ _ (outputs_of n) (OnlyPuts-one _ _ [] n.got_o (n.got_a ∷ n.trace ∷ []) c.deliver.ensures.only)
+    (OnlyPuts-one _ _ (n.got_o ∷ []) n.got_a (n.trace ∷ []) c.deliver-2.ensures.only)
+
+pub returns-in-Err-deliver-clause-only : goal.returns-in-Err-deliver-clause-only
+returns-in-Err-deliver-clause-only g c =
+    let n = written c.args.names.now in
+    OnlyPuts-trans _ _ _ (outputs_of n) (OnlyPuts-one _ _ [] n.got_o (n.got_a ∷ n.trace ∷ []) c.deliver.ensures.only)
+    (OnlyPuts-one _ _ (n.got_o ∷ []) n.got_a (n.trace ∷ []) c.deliver-2.ensures.only)
+
+pub returns-in-Err-clause-cause : goal.returns-in-Err-clause-cause
+returns-in-Err-clause-cause g c = record {
+  failed = λ e. inl (c.in-Err.ensures.cause.failed e);
+  memory = λ e. c.in-Err.ensures.cause.memory e;
+}
+
+pub returns-in-Ok-deliver-clause-stand : goal.returns-in-Ok-deliver-clause-stand
+returns-in-Ok-deliver-clause-stand g c = CountsStand-trans c.in-Ok.ensures.stand c.in-Ok-deliver.ensures.stand
+
+pub returns-in-Err-deliver-clause-cause : goal.returns-in-Err-deliver-clause-cause
+returns-in-Err-deliver-clause-cause g c =
+    let end = g.F.Folder.state c.deliver-2.new.folder in
+    let name = (written c.args.names.now).got_a in
+    record {
+      failed = λ e. inr (inl (subst (λ before. Rose before (end.write_faults name)) (c.in-Ok.ensures.stand.faults.writes name)
+          (c.in-Err-deliver.ensures.cause.failed e)));
+      memory = λ e. subst (λ before. Rose before end.refusals) c.in-Ok.ensures.stand.refusals (c.in-Err-deliver.ensures.cause.memory e);
+    }
+
+pub returns-in-Err-deliver-clause-spared : goal.returns-in-Err-deliver-clause-spared
+returns-in-Err-deliver-clause-spared g c = λ e. FaultsStand-trans c.in-Ok.ensures.stand.faults (c.in-Err-deliver.ensures.spared e)
+
+pub returns-in-Ok-deliver-clause-stands : goal.returns-in-Ok-deliver-clause-stands
+returns-in-Ok-deliver-clause-stands g c = λ files ends h. record {
+  orig = c.in-Ok.ensures.stands files.orig ends.orig h.orig;
+  answ = c.in-Ok-deliver.ensures.stands files.answ ends.answ h.answ;
+}
+
+pub returns-in-Ok-deliver-clause-delivered : goal.returns-in-Ok-deliver-clause-delivered
+returns-in-Ok-deliver-clause-delivered g c = record { orig = c.in-Ok.ensures.delivered; answ = c.in-Ok-deliver.ensures.delivered }
+
+pub returns-in-Ok-deliver-clause-counted : goal.returns-in-Ok-deliver-clause-counted
+returns-in-Ok-deliver-clause-counted g c = λ heard asked h. record {
+  orig = counted-on _ _ c.deliver.ensures.takes_nothing c.deliver.ensures.breaks heard asked h.orig;
+  answ = counted-on _ _ c.deliver-2.ensures.takes_nothing c.deliver-2.ensures.breaks heard asked h.answ;
+}
+
+pub returns-in-Err-clause-spared : goal.returns-in-Err-clause-spared
+returns-in-Err-clause-spared g c = c.in-Err.ensures.spared

@@ -1,0 +1,13 @@
+use Rattle.std.proofs.Common.{subst}
+use Rattle.link_account.specs.declared.setup.Setup.{Setup}
+use Rattle.link_account.specs.Account.{fresh}
+use Rattle.line_world.specs.Station.{Stands}
+use Rattle.line_world.proofs.link.Link.new.Goals as goal
+
+pub returns-clause-stands : goal.returns-clause-stands
+returns-clause-stands c = λ files. record {
+  orig = subst (λ (s : Setup). Stands c.in_ok-new.field-0 files.orig (fresh s)) c.setup.ensures.value
+      (c.in_ok-new.ensures.stands files.orig);
+  answ = subst (λ (s : Setup). Stands c.in_ok-new-2.field-0 files.answ (fresh s)) c.setup-2.ensures.value
+      (c.in_ok-new-2.ensures.stands files.answ);
+}

@@ -1,0 +1,22 @@
+use Rattle.std.proofs.Common.{◌≡◌, Bool, ap, subst, ◌∙◌}
+use Rattle.shared_terms.specs.declared.role.Role.TheVariants.{Originator, Answerer}
+use Rattle.link_account.specs.Account.{after_busy}
+use Rattle.link_run.specs.End.{asked, is_busy, is_released}
+use Rattle.line_run.specs.Scripted.{breaks_of, busy_of}
+use Rattle.line_world.specs.Station.{Stands}
+use Rattle.line_world.proofs.link.Link.serve.Goals as goal
+
+pub returns-clause-stands : goal.returns-clause-stands
+returns-clause-stands c = λ files ends h.
+    let script = c.args.script.now in
+    let turn = c.args.turn in
+    let released : c.is_released-released.result ≡ is_released ends.orig.phase = c.is_released-released.ensures
+    ∙ ap is_released (c.phase.ensures files.orig ends.orig h.orig) in
+    record {
+      orig = subst (λ (r : Bool). Stands c.serve.new.station files.orig
+          (asked turn r (breaks_of script Originator) (after_busy (is_busy turn (busy_of script Originator)) ends.orig))) released
+          (c.serve.ensures.stands files.orig ends.orig h.orig);
+      answ = subst (λ (r : Bool). Stands c.serve-2.new.station files.answ
+          (asked turn r (breaks_of script Answerer) (after_busy (is_busy turn (busy_of script Answerer)) ends.answ))) released
+          (c.serve-2.ensures.stands files.answ ends.answ h.answ);
+    }

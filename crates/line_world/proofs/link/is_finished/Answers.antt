@@ -1,0 +1,12 @@
+use Rattle.std.proofs.Common.{not, ◌&&◌, ◌||◌, length, ap, ◌∙◌, Option}
+use Rattle.link_account.specs.Account.{is_done, break_waits}
+use Rattle.link_run.specs.End.{BreakLine, is_ready}
+use Rattle.line_world.proofs.Linking.{next-is}
+use Rattle.line_world.proofs.link.is_finished.Goals as goal
+
+pub returns : goal.returns
+returns c = λ files file a h.
+    c.is_finished.ensures file a h
+    ∙ ap (λ (n : Option BreakLine). is_done a && not (break_waits a || is_ready c.args.turn n))
+    (next-is c.scripts_make_links.ensures.breaks c.args.script.now c.args.role c.breaks.result
+    (length a.own_breaks.lengths) c.break_line.result c.break_line.ensures (c.breaks.ensures file a h))

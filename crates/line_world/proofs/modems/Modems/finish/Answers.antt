@@ -1,0 +1,41 @@
+use Rattle.std.proofs.Common.{refl, subst, None}
+use Rattle.outside_calls.specs.Folder.{Appended, PartlyAppended}
+use Rattle.shared_terms.specs.declared.role.Role.TheVariants.{Originator, Answerer}
+use Rattle.link_run.specs.Outcomes.{Done}
+use Rattle.line_run.specs.Names.{written}
+use Rattle.line_world.specs.Mid.{turn_in}
+use Rattle.line_world.proofs.Hearing.{heard-in, none-sent}
+use Rattle.line_world.proofs.Speaking.{hears-these, last-turn, text-is, adds-part}
+use Rattle.line_world.proofs.modems.Modems.finish.Goals as goal
+
+pub returns-in-Ok-clause-adds : goal.returns-in-Ok-clause-adds
+returns-in-Ok-clause-adds g c = λ channel files ts ends mid h closed go ga.
+    let o = h.overhears in
+    let f = g.F.Folder.state c.args.folder.now in
+    let new = g.F.Folder.state c.write_turn.new.folder in
+    let n = written c.args.names.now in
+    let text = text-is c.turn_lines-texts.result c.args.self.now.turn ts ends mid c.args.heard c.args.given.now
+    (record { orig = None; answ = None }) none-sent
+    c.turn_lines-texts.ensures (o.well Originator) (o.well Answerer) h.turn go ga refl refl in
+    record {
+      turn = turn_in c.args.heard ends mid none-sent;
+      hears = hears-these c.args.heard ends mid none-sent;
+      makes = record {
+        run = o.run;
+        heard = heard-in channel files ts ends c.args.heard mid none-sent o;
+        is = last-turn channel files ts ends c.args.heard mid o closed;
+      };
+      trace = subst (Appended f new n.trace) text c.in-Ok.ensures.ok;
+    }
+
+pub returns-in-Err-clause-part : goal.returns-in-Err-clause-part
+returns-in-Err-clause-part g c = λ channel files ts ends mid h closed go ga.
+    let o = h.overhears in
+    let f = g.F.Folder.state c.args.folder.now in
+    let new = g.F.Folder.state c.write_turn.new.folder in
+    let n = written c.args.names.now in
+    let text = text-is c.turn_lines-texts.result c.args.self.now.turn ts ends mid c.args.heard c.args.given.now
+    (record { orig = None; answ = None }) none-sent
+    c.turn_lines-texts.ensures (o.well Originator) (o.well Answerer) h.turn go ga refl refl in
+    adds-part channel f new n files ts ends c.args.heard mid none-sent Done o (last-turn channel files ts ends c.args.heard mid o closed)
+    (subst (PartlyAppended f new n.trace) text c.in-Err.ensures.err)

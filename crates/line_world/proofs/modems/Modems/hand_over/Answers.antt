@@ -1,0 +1,28 @@
+use Rattle.std.proofs.Common.{◌∙◌}
+use Rattle.line_world.specs.Link.{both_ends}
+use Rattle.link_run.specs.End.{delivered}
+use Rattle.line_world.proofs.Serving.{given-delivered}
+use Rattle.line_world.proofs.modems.Modems.hand_over.Goals as goal
+
+pub returns-in-Ok-clause-hands : goal.returns-in-Ok-clause-hands
+returns-in-Ok-clause-hands g c = λ channel files ts ends heard mid h.
+    let delivered-link = c.in-Ok.ensures.stands files mid h.link in
+    let given = c.given_breaks.ensures.answer files (both_ends delivered mid) delivered-link in
+    record {
+      stands = record {
+        overhears = h.overhears;
+        link = c.given_breaks.ensures.stands files (both_ends delivered mid) delivered-link;
+        turn = h.turn;
+        tally = h.tally;
+        checks = h.checks;
+      };
+      orig_given = given.0 ∙ given-delivered mid.orig;
+      answ_given = given.1 ∙ given-delivered mid.answ;
+      delivered = c.in-Ok.ensures.ok files mid h.link;
+    }
+
+pub returns-in-Err-clause-part : goal.returns-in-Err-clause-part
+returns-in-Err-clause-part g c = λ channel files ts ends heard mid h. c.in-Err.ensures.err files mid h.link
+
+pub returns-in-Ok-clause-counted : goal.returns-in-Ok-clause-counted
+returns-in-Ok-clause-counted g c = λ heard asked h. c.given_breaks.ensures.counted heard asked (c.in-Ok.ensures.counted heard asked h)

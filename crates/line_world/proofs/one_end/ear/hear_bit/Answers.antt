@@ -1,0 +1,14 @@
+use Rattle.std.proofs.Common.{◌∷◌, [], ◌++◌}
+use Rattle.line_world.proofs.OneEnd.Hearing.{frame-ends, nothing-ends}
+use Rattle.line_world.proofs.one_end.ear.hear_bit.Goals as goal
+
+pub returns-in-Some-frame_in-clause-ends : goal.returns-in-Some-frame_in-clause-ends
+returns-in-Some-frame_in-clause-ends c = λ bits h.
+    frame-ends c.args.peer (bits ++ c.args.bit ∷ []) c.whole.result.now c.in-Some-frame_in.frame
+    (c.whole.ensures.lent _ (c.push.ensures.stands bits h.deframer)) c.in-Some-frame_in.ensures.some
+
+pub returns-in-None-clause-ends : goal.returns-in-None-clause-ends
+returns-in-None-clause-ends c = λ bits h.
+    nothing-ends c.args.peer (bits ++ c.args.bit ∷ []) c.whole.result.now c.one_lent.ensures.no_other
+    (c.in_default.ensures.answer bits h.reader)
+    (c.whole.ensures.lent _ (c.push.ensures.stands bits h.deframer)) c.in-None.ensures.none

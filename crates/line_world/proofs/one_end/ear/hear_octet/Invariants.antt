@@ -1,0 +1,14 @@
+use Rattle.std.proofs.Common.{Bool, List, ◌++◌, take}
+use Rattle.plain_lists.specs.Bits.{octet_bits}
+use Rattle.link_account.specs.Numbers.{IsNumbered}
+use Rattle.line_world.specs.OneEnd.Heard.{IsHeard}
+use Rattle.detection.specs.Ear.{HasHeard}
+use Rattle.line_world.proofs.one_end.ear.hear_octet.Given as goal
+
+abbrev pub invariant-loop-place : goal.invariant-loop-place
+invariant-loop-place l = record {
+  stands : (bits : List Bool) → HasHeard l.fn.ear bits → HasHeard l.ear (bits ++ take l.place (octet_bits l.octet));
+  heard : (earlier bits : List Bool) → HasHeard l.fn.ear (earlier ++ bits) → IsHeard l.peer earlier bits l.fn.heard
+      → IsHeard l.peer earlier (bits ++ take l.place (octet_bits l.octet)) l.heard;
+  numbers : IsNumbered l.heard;
+}

@@ -1,0 +1,30 @@
+use Rattle.std.proofs.Common.{Bool, List, ◌++◌, take, ap, sym, ◌∙◌, subst, arith, append-nil}
+use Rattle.plain_lists.specs.Bits.{octet_bits, bits_of}
+use Rattle.line_world.specs.OneEnd.Heard.{IsHeard, filled}
+use Rattle.detection.specs.Ear.{HasHeard}
+use Rattle.line_world.proofs.OneEnd.Hearing.{append-again, slot-more}
+use Rattle.line_world.proofs.one_end.ear.hear_slot.Goals as goal
+
+pub loop-place-init : goal.loop-place-init
+loop-place-init c = record {
+  stands = λ bits h. subst (λ (b : List Bool). HasHeard c.args.ear.now b) (sym (append-nil bits)) h;
+  heard = λ bits h n low. absurd (omega (arith, low));
+  numbers = tt;
+}
+
+pub loop-place-preserved : goal.loop-place-preserved
+loop-place-preserved c =
+    let place = c.loop-place.place in
+    let all = filled c.args.slot.now in
+    let front : List Bool = bits_of (take place all) in
+    let i = c.loop-place.invariant in
+    let more = slot-more c.args.slot.now place c.octet_at.result c.requires (omega (arith, c.loop-place-test.true)) c.octet_at.ensures in
+    record {
+      stands =
+          λ bits h. subst (λ (b : List Bool). HasHeard c.hear_octet-heard.new.ear b)
+          (append-again bits front (octet_bits c.octet_at.result) ∙ ap (λ b. bits ++ b) more)
+          (c.hear_octet-heard.ensures.stands (bits ++ front) (i.stands bits h));
+      heard = λ bits h. subst (λ (b : List Bool). IsHeard c.args.peer bits b c.hear_octet-heard.result) more
+          (c.hear_octet-heard.ensures.heard bits front (i.stands bits h) (i.heard bits h));
+      numbers = c.hear_octet-heard.ensures.numbers;
+    }

@@ -1,0 +1,13 @@
+use Rattle.std.proofs.Common.{Bool, List, ◌++◌, take}
+use Rattle.plain_lists.specs.Bits.{bits_of}
+use Rattle.link_account.specs.Numbers.{IsNumbered}
+use Rattle.line_world.specs.OneEnd.Heard.{IsHeard, filled}
+use Rattle.detection.specs.Ear.{HasHeard}
+use Rattle.line_world.proofs.one_end.ear.hear_slot.Given as goal
+
+abbrev pub invariant-loop-place : goal.invariant-loop-place
+invariant-loop-place l = record {
+  stands : (bits : List Bool) → HasHeard l.fn.ear bits → HasHeard l.ear (bits ++ bits_of (take l.place (filled l.slot)));
+  heard : (bits : List Bool) → HasHeard l.fn.ear bits → IsHeard l.peer bits (bits_of (take l.place (filled l.slot))) l.heard;
+  numbers : IsNumbered l.heard;
+}

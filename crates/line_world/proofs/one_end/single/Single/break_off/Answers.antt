@@ -1,0 +1,22 @@
+use Rattle.std.proofs.Common.{[], None, refl}
+use Rattle.line_world.specs.OneEnd.Peer.{Broken}
+use Rattle.line_world.proofs.OneEnd.Turning.{silent-turn, breaking-off, adds-line, adds-part, ends-part}
+use Rattle.line_world.proofs.one_end.single.Single.break_off.Goals as goal
+
+pub returns-in-Ok-clause-ends : goal.returns-in-Ok-clause-ends
+returns-in-Ok-clause-ends g c = λ p slot b.
+    let s = c.args.self.now in
+    let k = c.args.breaking in
+    adds-line s (g.F.Folder.state c.args.folder.now) (g.F.Folder.state c.write.new.folder) c.args.trace.now p slot [] (Broken k.fault)
+    (silent-turn k.arrived None) None b.turn refl
+    (breaking-off s p slot k.arrived k.fault b) c.in-Ok.ensures.ok
+
+pub returns-in-Err-clause-ends : goal.returns-in-Err-clause-ends
+returns-in-Err-clause-ends g c = λ p slot b.
+    let s = c.args.self.now in
+    let k = c.args.breaking in
+    let a = g.F.Folder.state c.args.folder.now in
+    let z = g.F.Folder.state c.write.new.folder in
+    ends-part s a z c.args.trace.now p slot [] c.in-Err.fault c.in-Err.ensures.write
+    (adds-part s a z c.args.trace.now p slot [] (Broken k.fault) (silent-turn k.arrived None) None b.turn refl
+    (breaking-off s p slot k.arrived k.fault b) c.in-Err.ensures.err)

@@ -1,0 +1,58 @@
+use Rattle.std.proofs.Common.{◌≡◌, ◌⊎◌, inl, inr, ◌-◌, ◌*◌, ◌≤◌, ℕ, IsTrue, ◌++◌, length, take, drop, arith, ap}
+use Rattle.std.proofs.Common.{◌∙◌, Result, Ok, Err, IfOk}
+use Rattle.std.proofs.lemmas.List.{length-take-le}
+use Rattle.outside_calls.specs.Folder.{ReadsFront, octets_at}
+use Rattle.outside_calls.specs.declared.folder.FolderFault.{FolderFault}
+use Rattle.link_run.specs.End.{piece_at}
+use Rattle.line_world.specs.Station.{file_at}
+use Rattle.line_world.proofs.Offering.{read-segment}
+use Rattle.line_world.proofs.segment.read_segment.Goals.{then-left-from, else-left-from}
+use Rattle.line_world.proofs.segment.read_segment.Goals as goal
+
+pub returns-clause-octets : goal.returns-clause-octets
+returns-clause-octets g c = go c.read_at.result c.read_at.ensures.octets
+  where
+    at : ℕ
+    at = c.from.result * c.args.number
+
+    room : ℕ
+    room = c.if-left-from.room
+
+    at-is : at ≡ c.args.size * c.args.number
+    at-is = ap (λ n. n * c.args.number) c.from.ensures
+
+    low : at ≤ c.args.limit
+    low = rw at-is c.requires.within
+
+    bounds : (room ≤ c.args.size) × (room ≤ c.args.limit - at)
+    bounds = elim c.if-left-from.branch [
+      | then-left-from w ↦ (omega (arith, w.room-is, w.if-left-from.true, c.from-2.ensures), omega (arith, w.room-is))
+      | else-left-from w ↦ (
+        omega (arith, w.room-is, w.from-room.ensures),
+        omega (arith, w.room-is, w.from-room.ensures, w.if-left-from.false, c.from-2.ensures),
+      )
+    ]
+
+    small : room ≤ c.args.size
+    small = bounds.0
+
+    few : room ≤ c.args.limit - at
+    few = bounds.1
+
+    way : (room ≡ c.args.size) ⊎ (room ≡ c.args.limit - at)
+    way = elim c.if-left-from.branch [ then-left-from w ↦ inr w.room-is | else-left-from w ↦ inl (w.room-is ∙ w.from-room.ensures) ]
+
+    wide : length (take room c.args.segment.now) ≡ room
+    wide = length-take-le room c.args.segment.now (omega (arith, small, c.requires.size, c.requires.room))
+
+    go : (r : Result ℕ FolderFault)
+        → IfOk r (ReadsFront (g.F.Folder.state c.args.folder.now) c.args.name.now at (take room c.args.segment.now) c.read_at.new.buf)
+        → IfOk r (λ count. IsTrue ((g.F.Folder.state c.args.folder.now).tells c.args.name.now)
+        → take count (c.read_at.new.buf ++ drop room c.args.segment.now) ≡ piece_at c.args.size
+        (file_at (g.F.Folder.state c.args.folder.now) c.args.name.now c.args.limit) c.args.number)
+    go (Ok count) h = λ told.
+        let r = h told in
+        read-segment (octets_at (g.F.Folder.state c.args.folder.now) c.args.name.now) (take room c.args.segment.now) c.read_at.new.buf
+        (drop room c.args.segment.now)
+        c.args.size c.args.number at c.args.limit room count at-is low small few way wide r.0 r.1
+    go (Err fault) h = tt

@@ -1,0 +1,12 @@
+use Rattle.std.proofs.Common.{option_copied, subst}
+use Rattle.shared_terms.specs.Role.{mode_of}
+use Rattle.line_run.specs.Sampled.{bits_of}
+use Rattle.line_run.specs.Scripted.{wire_of}
+use Rattle.line_world.specs.World.{HasSent}
+use Rattle.line_world.proofs.Taping.{slot-recorded}
+use Rattle.line_world.proofs.tape.Tape.make.Goals as goal
+
+pub returns-in-Some-clause-stands : goal.returns-in-Some-clause-stands
+returns-in-Some-clause-stands c = λ script role ts t body sent stands.
+    slot-recorded script role ts t _ _ _ (subst (λ (o : _). HasSent (option_copied o) script role ts t) c.in-Some.is sent)
+    (c.write_samples.ensures (mode_of role) (bits_of (wire_of script) role ts) body stands)

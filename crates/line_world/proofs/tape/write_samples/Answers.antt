@@ -1,0 +1,23 @@
+use Rattle.std.proofs.Common.{◌≡◌, ◌++◌, ◌+◌, ◌∙◌, ℕ, Bool, List, length, take, sym, ap, subst, arith, length-append}
+use Rattle.bit_stuffing.specs.BitSlot.{line_bits}
+use Rattle.plain_lists.specs.Bits.{low_bits}
+use Rattle.line_world.specs.Taping.{RecordsBits}
+use Rattle.line_world.proofs.Taping.{records-more, quads-more}
+use Rattle.line_world.proofs.tape.write_samples.Goals as goal
+
+pub loop-place-preserved : goal.loop-place-preserved
+loop-place-preserved c = record {
+  room =
+      let four : length c.octets_of.result ≡ 4 = ap length c.octets_of.ensures in
+      ap length c.extend.ensures ∙ omega (arith, four, c.loop-place.invariant.room, length-append c.loop-place.out c.octets_of.result);
+  stands = λ mode bits octets r.
+      let before = c.loop-place.invariant.stands mode bits octets r in
+      let more : List Bool = low_bits 4 c.quad.result in
+      let at-bits = quads-more c.args.slot.now c.loop-place.place c.quad.result bits (omega (arith, c.loop-place-test.true, c.len-place-end.ensures.count)) c.quad.ensures.value in
+      let pushed = records-more mode c.loop-place.modulator c.push-sample.new.self (bits ++ line_bits (take c.loop-place.place c.args.slot.now))
+      more octets c.loop-place.out c.octets_of.result c.push-sample.result before (c.push-sample.ensures mode _ before.samples before.stands)
+      c.octets_of.ensures in
+      subst (λ (o : List ℕ). RecordsBits mode c.push-sample.new.self (bits ++ line_bits (take (c.loop-place.place + 1) c.args.slot.now)) (octets ++ o))
+      (sym c.extend.ensures)
+      (subst (λ (b : List Bool). RecordsBits mode c.push-sample.new.self b (octets ++ (c.loop-place.out ++ c.octets_of.result))) at-bits pushed);
+}

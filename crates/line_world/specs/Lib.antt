@@ -1,0 +1,14 @@
+pub use Rattle.turn_bound.specs.Limits
+pub mod Tally
+pub mod Modems
+pub mod World
+pub mod Turn
+pub mod Mid
+pub mod Turns
+pub mod Link
+pub mod Tapes
+pub mod Taping
+pub mod Station
+pub mod Way
+pub mod Lines
+pub mod OneEnd

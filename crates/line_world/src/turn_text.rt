@@ -1,0 +1,82 @@
+// The lines of a turn.
+ghost use Rattle.std.specs.Prelude.{◌≡◌, ◌++◌, OnOk, OnErr, IfErr};
+ghost use Rattle.outside_calls.specs.Folder.{Appended, OnlyWrites, PartlyAppended};
+ghost use Rattle.line_texts.specs.LineText.{chance_line, line_text};
+ghost use Rattle.line_run.specs.Names.{written};
+ghost use Rattle.line_world.specs.Turn.{IsWriting, TurnCounts, fault_of};
+ghost use Rattle.line_world.specs.Mid.{fault_named};
+ghost use Rattle.link_run.specs.Laws.{IsNamed};
+
+use crate::step::RunFault;
+use crate::{Breaking, Names, append_chance, append_lines};
+use lapm_link::LinkFault;
+use line_texts::TraceLine;
+use outside_calls::{Folder, FolderFault};
+use shared_terms::{Both, Role};
+
+/// Why a run ends whose folder doesn't do a call: this, where it failed.
+pub(crate) fn folder_fault(failed: RunFault, fault: FolderFault) -> RunFault
+    ensures { result ≡ fault_of failed fault }
+{
+    match fault {
+        FolderFault::Failed => failed,
+        FolderFault::NoMemory => RunFault::NoMemory,
+    }
+}
+
+/// Appends both lines of a turn to the trace.
+pub(crate) fn write_turn<F: Folder>(
+    folder: &mut F,
+    names: &Names<'_>,
+    lines: &Both<TraceLine>,
+) -> Result<(), RunFault>
+    ensures ok { OnOk result (Appended (F.state folder.old) (F.state folder.new) (written names.now).trace (line_text lines.now.orig ++ line_text lines.now.answ)) }
+    ensures err { OnErr result (PartlyAppended (F.state folder.old) (F.state folder.new) (written names.now).trace (line_text lines.now.orig ++ line_text lines.now.answ)) }
+    ensures only { OnlyWrites (F.state folder.old) (F.state folder.new) (written names.now).trace }
+    ensures counts { TurnCounts (F.state folder.old) (F.state folder.new) (written names.now) result }
+    ensures write { IfErr result IsWriting }
+    ensures came { F.came folder.old folder.new }
+{
+    match append_lines(folder, names.trace, &lines.orig, &lines.answ) {
+        Ok(()) => Ok(()),
+        Err(fault) => Err(folder_fault(RunFault::WriteFault, fault)),
+    }
+}
+
+/// Appends the one line of a turn in which that role's slot is a chance match.
+pub(crate) fn write_chance<F: Folder>(
+    folder: &mut F,
+    names: &Names<'_>,
+    turn: u64,
+    role: Role,
+) -> Result<(), RunFault>
+    ensures ok { OnOk result (Appended (F.state folder.old) (F.state folder.new) (written names.now).trace (chance_line turn role)) }
+    ensures err { OnErr result (PartlyAppended (F.state folder.old) (F.state folder.new) (written names.now).trace (chance_line turn role)) }
+    ensures only { OnlyWrites (F.state folder.old) (F.state folder.new) (written names.now).trace }
+    ensures counts { TurnCounts (F.state folder.old) (F.state folder.new) (written names.now) result }
+    ensures write { IfErr result IsWriting }
+    ensures came { F.came folder.old folder.new }
+{
+    match append_chance(folder, names.trace, turn, role) {
+        Ok(()) => Ok(()),
+        Err(fault) => Err(folder_fault(RunFault::WriteFault, fault)),
+    }
+}
+
+/// Why a run ends in which an end breaks.
+pub(crate) fn link_fault(turn: u64, breaking: Breaking) -> RunFault
+    requires { IsNamed breaking.role breaking.fault }
+    ensures { result ≡ fault_named turn breaking.role breaking.fault }
+{
+    match breaking.fault {
+        LinkFault::NotDetected => RunFault::NotDetected { turn },
+        LinkFault::Spent { segment, .. } => RunFault::LinkLost {
+            role: breaking.role,
+            segment,
+            turn,
+        },
+        LinkFault::BadAck { .. } | LinkFault::PeerReset { .. } | LinkFault::PeerRefused => {
+            unreachable!()
+        }
+    }
+}

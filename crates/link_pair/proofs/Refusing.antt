@@ -1,0 +1,50 @@
+-- What is refused is refused before the outputs are created.
+use Rattle.std.proofs.Common.{◌≡◌, ◌∙◌, inl, inr, Result, Err, sym, ap, subst}
+use Rattle.outside_calls.specs.Folder.{FolderState}
+use Rattle.outside_calls.specs.Outputs.{KeepsAll}
+use Rattle.command_base.specs.declared.status.Status.{Status}
+use Rattle.command_base.specs.declared.status.Status.TheVariants as status
+use Rattle.command_base.specs.declared.stop.Stop.{Stop}
+use Rattle.command_base.specs.declared.stop.Stop.TheVariants as stops
+use Rattle.command_base.specs.Status.{IsRefusal}
+use Rattle.command_base.specs.Stops.{end_status}
+use Rattle.command_base.proofs.Jobs.{refusal-own}
+use Rattle.run_inputs.specs.declared.limits.TheConstants.{LIMITS}
+use Rattle.pair_run.specs.Ends.{PairEnd, BothDone, LinkLost, NotDetected, LineLost, ChanceMatch}
+use Rattle.link_pair.specs.declared.command.LastTurns.{LastTurns}
+use Rattle.link_pair.specs.Words.{Names}
+use Rattle.link_pair.specs.Answers.{answer_of, result_of}
+use Rattle.link_pair.specs.Ends.{EndsBy, Ends}
+
+-- the answer of a pair that ended is that of its end
+pub answer-is : (end : PairEnd) → end_status (result_of end) ≡ answer_of end
+answer-is (BothDone first second) = λ k. status.Done
+answer-is (LinkLost link role segment turn) = λ k. answer_of (LinkLost link role segment turn)
+answer-is (NotDetected link turn) = λ k. answer_of (NotDetected link turn)
+answer-is (LineLost role symbol) = λ k. answer_of (LineLost role symbol)
+answer-is (ChanceMatch role round) = λ k. answer_of (ChanceMatch role round)
+
+-- and is no refusal
+no-refusal : (end : PairEnd) → IsRefusal (answer_of end) → ⊥
+no-refusal (BothDone first second) r = r
+no-refusal (LinkLost link role segment turn) r = r
+no-refusal (NotDetected link turn) r = r
+no-refusal (LineLost role symbol) r = r
+no-refusal (ChanceMatch role round) r = r
+
+-- the answer by which a pair stopped is that of its end
+pub own-answer : (answer : Status) (end : PairEnd) (result : Result LastTurns Stop) → result ≡ Err (stops.Own answer)
+    → result ≡ result_of end → answer ≡ answer_of end
+own-answer answer end result e f = sym (ap end_status e) ∙ ap end_status f ∙ answer-is end
+
+own-refused : (old before : FolderState) (n : Names) (answer : Status) → IsRefusal answer → EndsBy LIMITS old before n (stops.Own answer)
+    → KeepsAll old before
+own-refused old before n answer r (inl refused) = refused.0
+own-refused old before n answer r (inr e) =
+    absurd (no-refusal e.end (subst IsRefusal (own-answer answer e.end (Err (stops.Own answer)) (λ k. Err
+    (stops.Own answer)) e.result_is) r))
+
+pub refused-by : (old before : FolderState) (n : Names) (end : Result LastTurns Stop) → Ends LIMITS old before n end
+    → IsRefusal (end_status end) → KeepsAll old before
+refused-by old before n end ends =
+    refusal-own end (KeepsAll old before) (λ answer e r. own-refused old before n answer r (subst (Ends LIMITS old before n) e ends))

@@ -1,0 +1,175 @@
+-- From the phases of a pair to how it ends.
+use Rattle.std.proofs.Common.{inl, inr, ℕ, List, [], ◌∷◌, refl, ◌∙◌, arith}
+use Rattle.outside_calls.specs.Folder.{FolderState, GoesOn, KeepsName, OnlyReads, CountsStand}
+use Rattle.outside_calls.proofs.Steps.{GoesOn-trans, KeepsName-trans}
+use Rattle.outside_calls.specs.Outputs.{IsNoneOf, AreApart, AreNoneOf, AreApartFrom, KeepsEach, CreatesPart, OnlyOutputs, OnlyPuts}
+use Rattle.outside_calls.proofs.Putting.{KeepsEach-reads, SomeRose-earlier, inputs-kept, none-fronts}
+use Rattle.shared_terms.specs.Both.{Both}
+use Rattle.noise_script.specs.Script.{ScriptValue, IsInLimits}
+use Rattle.link_run.specs.Run.{Link}
+use Rattle.line_run.specs.Sampled.{Wire}
+use Rattle.line_run.specs.Scripted.{link_of}
+use Rattle.line_run.specs.Scripts.{LineRunsEndSoon}
+use Rattle.line_run.specs.Names.{Written}
+use Rattle.line_world.specs.World.{KnowsFiles}
+use Rattle.command_base.specs.declared.stop.Stop.{Stop}
+use Rattle.command_base.specs.declared.stop.Stop.TheVariants as stops
+use Rattle.command_base.specs.Stops.{StopCounts, EndCounts}
+use Rattle.command_base.proofs.Creating.{CreatesPart-earlier}
+use Rattle.run_inputs.specs.declared.limits.Limits.{Limits}
+use Rattle.run_inputs.specs.declared.limits.TheConstants.{LIMITS}
+use Rattle.run_inputs.specs.Inputs.{Refuses}
+use Rattle.run_commands.proofs.Running.Runs.{file-is}
+use Rattle.pair_run.specs.Beside.{first_wire, second_wire}
+use Rattle.pair_run.specs.Pair.{Progress, Goes, Ended, turns_in, Lasts}
+use Rattle.pair_run.specs.Ends.{PairEnd, BothDone, LinkLost, NotDetected, LineLost, ChanceMatch}
+use Rattle.link_pair.specs.declared.half.PairFault.{PairFault}
+use Rattle.link_pair.specs.declared.half.PairFault.TheVariants as faults
+use Rattle.link_pair.specs.Counts.{FaultCounts}
+use Rattle.link_pair.specs.Half.{LinkStops, LinkStopsReading}
+use Rattle.link_pair.specs.Pair.{PairEnded, PairStops, FaultEnds}
+use Rattle.link_pair.specs.Words.{Names, files_of, inputs_of, outputs_of}
+use Rattle.link_pair.specs.Answers.{result_of, fault_stop}
+use Rattle.link_pair.specs.Ends.{IsBegun, Takes, RanTo, IsFew, StopsInRound, StopsCreating, EndsBy, Ends}
+
+-- the inputs were not taken
+pub ends-refused : (l : Limits) (old new : FolderState) (n : Names) (stop : Stop) → OnlyReads old new
+    → Refuses l old new n.script 5 (files_of n) 1 stop → EndsBy l old new n stop
+ends-refused l old new n (stops.Own answer) reads r = inl (reads.names, r)
+ends-refused l old new n (stops.Read fault) reads r = inl (reads.names, r)
+ends-refused l old new n stops.NoMemory reads r = (reads.names, r)
+ends-refused l old new n (stops.Write fault) reads never = absurd never
+ends-refused l old new n (stops.Say fault) reads never = never
+
+-- an output was not created
+pub ends-creating : (l : Limits) (old mid new : FolderState) (n : Names) (script : ScriptValue) → IsBegun l old mid n script
+    → CreatesPart mid new (outputs_of n) → StopsCreating l old new n
+ends-creating l old mid new n script b c = record {
+  script = script;
+  opens = b.opens;
+  creates = CreatesPart-earlier old mid new (outputs_of n) b.reads.goes_on (KeepsEach-reads old mid (outputs_of n) b.reads) c;
+}
+
+-- names that the words keep apart
+pub apart-names : (n : Names) → AreApart (outputs_of n) → AreNoneOf (outputs_of n) (inputs_of n)
+    → AreApartFrom (files_of n) (outputs_of n)
+apart-names n d i = (d, none-fronts (outputs_of n) (files_of n) (n.script ∷ []) i)
+
+-- the phases of a pair, once its inputs were opened
+pub record Phases (l : Limits) (old mid now next : FolderState) (n : Names) (script : ScriptValue) : Type 0 where
+  pub begun : IsBegun l old mid n script
+  pub creates : OnlyOutputs mid now (outputs_of n)
+  pub rounds : OnlyPuts now next (outputs_of n)
+  pub apart : AreNoneOf (outputs_of n) (files_of n)
+  pub stand : CountsStand mid now
+
+goes-on : (old mid now next : FolderState) (n : Names) (script : ScriptValue) → Phases LIMITS old mid now next n script → GoesOn old next
+goes-on old mid now next n script p = GoesOn-trans p.begun.reads.goes_on (GoesOn-trans p.creates.goes_on p.rounds.goes_on)
+
+-- the files are as they were before all of them
+files-kept : (old mid now next : FolderState) (n : Names) (script : ScriptValue) → Phases LIMITS old mid now next n script
+    → KeepsEach old next (files_of n)
+files-kept old mid now next n script p = inputs-kept old next (files_of n) (outputs_of n) p.apart kept
+  where
+    kept : (other : List ℕ) → IsNoneOf other (outputs_of n) → KeepsName old next other
+    kept other none =
+        KeepsName-trans old mid next other p.begun.reads.goes_on (p.begun.reads.names other)
+        (KeepsName-trans mid now next other p.creates.goes_on (p.creates.names other none) (p.rounds.names other none))
+
+takes : (old mid now next : FolderState) (n : Names) (script : ScriptValue) (files others : Both (List ℕ))
+    → Phases LIMITS old mid now next n script → KnowsFiles next n.first files → KnowsFiles next n.second others
+    → Takes LIMITS old n script files others
+unfolding goes-on files-kept
+takes old mid now next n script files others p k m =
+    let on : GoesOn old next = goes-on old mid now next n script p in
+    let kept = files-kept old mid now next n script p in
+    let within = p.begun.opens.files in record {
+      opens = p.begun.opens;
+      limits = p.begun.limits;
+      first = record {
+        within = k.within;
+        orig = file-is old next n.first.orig files.orig LIMITS.file on kept.0 within.0 (omega arith) k.orig;
+        answ = file-is old next n.first.answ files.answ LIMITS.file on kept.1.0 within.1.0 (omega arith) k.answ;
+      };
+      second = record {
+        within = m.within;
+        orig = file-is old next n.second.orig others.orig LIMITS.file on kept.1.1.0 within.1.1.0 (omega arith) m.orig;
+        answ = file-is old next n.second.answ others.answ LIMITS.file on kept.1.1.1.0 within.1.1.1.0 (omega arith) m.answ;
+      };
+    }
+
+-- the pair ended by itself
+pub ran-to : (old mid now next : FolderState) (n : Names) (script : ScriptValue) (end : PairEnd) → Phases LIMITS old mid now next n script
+    → PairEnded script next n.first n.second end → RanTo LIMITS old next n end
+ran-to old mid now next n script end p e = record {
+  script = script;
+  ended = e;
+  takes = takes old mid now next n script e.files e.others p e.first_known e.second_known;
+}
+
+-- each link made few turns
+pub few-of : LineRunsEndSoon → (c : Wire) (files : Both (List ℕ)) (rounds : ℕ) (p : Progress) → IsInLimits c.script
+    → (l : Lasts c (link_of c.script files) rounds p) → IsFew c files rounds p l
+few-of soon c files rounds (Goes ts ends) h l = soon c files ts ends h l.run
+few-of soon c files rounds (Ended ts ends end left) h l = soon c files l.ran.turns l.ran.ends h l.ran.run
+
+abbrev Stopping : Type 1
+Stopping = Wire → Link → FolderState → Written → ℕ → Progress → Type 0
+
+-- or for the folder
+stops-in : (S : Stopping) → LineRunsEndSoon → (old mid now next : FolderState) (n : Names) (script : ScriptValue)
+    → Phases LIMITS old mid now next n script → PairStops S script next n.first n.second → StopsInRound S LIMITS old next n
+stops-in S soon old mid now next n script p s = record {
+  script = script;
+  stops = s;
+  takes = takes old mid now next n script s.files s.others p s.first_known s.second_known;
+  first_few = few-of soon (first_wire script (turns_in s.q)) s.files _ s.p p.begun.limits s.at.first;
+  second_few = few-of soon (second_wire script (turns_in s.p)) s.others _ s.q p.begun.limits s.at.second;
+}
+
+-- a fault ended the rounds
+pub ends-in-round : LineRunsEndSoon → (old mid now next : FolderState) (n : Names) (script : ScriptValue) (fault : PairFault)
+    → Phases LIMITS old mid now next n script → FaultCounts now next (files_of n) (outputs_of n) fault
+    → FaultEnds script next n.first n.second fault → EndsBy LIMITS old next n (fault_stop fault)
+ends-in-round soon old mid now next n script faults.ReadFault p counts e =
+    inr (
+      refl,
+      SomeRose-earlier old.read_faults now.read_faults next.read_faults (files_of n)
+          (λ name. p.stand.faults.reads name ∙ p.begun.stand.faults.reads name) counts,
+      stops-in LinkStopsReading soon old mid now next n script p e,
+    )
+ends-in-round soon old mid now next n script faults.WriteFault p counts e = inr (stops-in LinkStops soon old mid now next n script p e)
+ends-in-round soon old mid now next n script faults.NoMemory p counts e = inr (stops-in LinkStops soon old mid now next n script p e)
+ends-in-round soon old mid now next n script (faults.LineLost role symbol) p counts e =
+    inr (record { end = LineLost role symbol; result_is = refl; ran = ran-to old mid now next n script (LineLost role symbol) p e })
+ends-in-round soon old mid now next n script (faults.ChanceMatch role turn) p counts e =
+    inr (record { end = ChanceMatch role turn; result_is = refl; ran = ran-to old mid now next n script (ChanceMatch role turn) p e })
+
+-- what a fault counts
+pub round-counts : (now next : FolderState) (n : Names) (fault : PairFault) → FaultCounts now next (files_of n) (outputs_of n) fault
+    → StopCounts now next (inputs_of n) (outputs_of n) (fault_stop fault)
+round-counts now next n faults.ReadFault (inl r) = inl r
+round-counts now next n faults.ReadFault (inr (inl r)) = inr (inl r)
+round-counts now next n faults.ReadFault (inr (inr (inl r))) = inr (inr (inl r))
+round-counts now next n faults.ReadFault (inr (inr (inr (inl r)))) = inr (inr (inr (inl r)))
+round-counts now next n faults.ReadFault (inr (inr (inr (inr never)))) = absurd never
+round-counts now next n faults.WriteFault r = r
+round-counts now next n faults.NoMemory r = r
+round-counts now next n (faults.LineLost role symbol) stand = (tt, stand)
+round-counts now next n (faults.ChanceMatch role turn) stand = (tt, stand)
+
+-- both links ended
+pub ends-of : (l : Limits) (old new : FolderState) (n : Names) (end : PairEnd) → RanTo l old new n end → Ends l old new n (result_of end)
+ends-of l old new n (BothDone first second) e = e
+ends-of l old new n (LinkLost link role segment turn) e = inr (record { end = LinkLost link role segment turn; result_is = refl; ran = e })
+ends-of l old new n (NotDetected link turn) e = inr (record { end = NotDetected link turn; result_is = refl; ran = e })
+ends-of l old new n (LineLost role symbol) e = inr (record { end = LineLost role symbol; result_is = refl; ran = e })
+ends-of l old new n (ChanceMatch role round) e = inr (record { end = ChanceMatch role round; result_is = refl; ran = e })
+
+pub result-counts : (old new : FolderState) (inputs outputs : List (List ℕ)) (end : PairEnd) → CountsStand old new
+    → EndCounts old new inputs outputs (result_of end)
+result-counts old new inputs outputs (BothDone first second) stand = stand
+result-counts old new inputs outputs (LinkLost link role segment turn) stand = (tt, stand)
+result-counts old new inputs outputs (NotDetected link turn) stand = (tt, stand)
+result-counts old new inputs outputs (LineLost role symbol) stand = (tt, stand)
+result-counts old new inputs outputs (ChanceMatch role round) stand = (tt, stand)

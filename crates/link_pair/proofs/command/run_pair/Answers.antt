@@ -1,0 +1,93 @@
+use Rattle.std.proofs.Common.{inl, sym, subst}
+use Rattle.outside_calls.specs.Folder.{FolderState}
+use Rattle.outside_calls.proofs.Steps.{CountsStand-trans}
+use Rattle.outside_calls.proofs.OnlyOutputs.{OnlyOutputs-trans}
+use Rattle.outside_calls.proofs.Putting.{OnlyOutputs-puts}
+use Rattle.noise_script.specs.Script.{ScriptValue}
+use Rattle.command_base.specs.Stops.{StopCounts, EndCounts}
+use Rattle.command_base.proofs.Jobs.{stop-earlier}
+use Rattle.run_inputs.specs.declared.limits.TheConstants.{LIMITS}
+use Rattle.pair_run.specs.Ends.{end_of}
+use Rattle.link_pair.specs.Half.{run_end}
+use Rattle.link_pair.specs.Pair.{script_of}
+use Rattle.link_pair.specs.Words.{Names, named, inputs_of, outputs_of}
+use Rattle.link_pair.specs.Ends.{Ends, EndsBy}
+use Rattle.link_pair.proofs.Running.{apart-names, ends-creating, ran-to, ends-in-round, round-counts, ends-of, result-counts}
+use Rattle.link_pair.proofs.command.run_pair.Goals as goal
+
+pub returns-in-Err-clause-ends : goal.returns-in-Err-clause-ends
+returns-in-Err-clause-ends g c = λ begin b.
+    inl (ends-creating LIMITS begin (g.F.Folder.state c.args.folder.now) (g.F.Folder.state c.create_all.new.folder) (named c.args.words.now)
+    (script_of c.args.pair.now) b c.in-Err.ensures.err)
+
+pub pair_rounds-requires-clause-apart : goal.pair_rounds-requires-clause-apart
+pair_rounds-requires-clause-apart g c =
+    let n : Names = named c.args.words.now in
+    apart-names n (c.apart_names_differ.ensures.outputs (inputs_of n) (outputs_of n) c.requires.apart)
+    (c.apart_names_differ.ensures.inputs (inputs_of n) (outputs_of n) c.requires.apart)
+
+pub returns-in-Ok-pair_rounds-clause-ends : goal.returns-in-Ok-pair_rounds-clause-ends
+returns-in-Ok-pair_rounds-clause-ends g c = λ begin b.
+    let mid : FolderState = g.F.Folder.state c.args.folder.now in
+    let now : FolderState = g.F.Folder.state c.create_all.new.folder in
+    let next : FolderState = g.F.Folder.state c.pair_rounds.new.folder in
+    let n : Names = named c.args.words.now in
+    let script : ScriptValue = script_of c.args.pair.now in
+    let end = end_of (run_end c.in-Ok-pair_rounds.endings.first) (run_end c.in-Ok-pair_rounds.endings.second) in
+    subst (Ends LIMITS begin next n) (sym c.last_turns.ensures)
+    (ends-of LIMITS begin next n end (ran-to begin mid now next n script end (record {
+      begun = b;
+      creates = c.in-Ok.ensures.only;
+      rounds = c.in-Ok-pair_rounds.ensures.only;
+      apart = (apart-names n (c.apart_names_differ.ensures.outputs (inputs_of n) (outputs_of n) c.requires.apart)
+          (c.apart_names_differ.ensures.inputs (inputs_of n) (outputs_of n) c.requires.apart)).1;
+      stand = c.in-Ok.ensures.stand;
+    }) c.in-Ok-pair_rounds.ensures.ended))
+
+pub returns-in-Ok-pair_rounds-clause-only : goal.returns-in-Ok-pair_rounds-clause-only
+returns-in-Ok-pair_rounds-clause-only g c =
+    let n : Names = named c.args.words.now in
+    OnlyOutputs-trans (outputs_of n) c.in-Ok.ensures.only (OnlyOutputs-puts (outputs_of n) c.in-Ok-pair_rounds.ensures.only)
+
+pub returns-in-Ok-pair_rounds-clause-counts : goal.returns-in-Ok-pair_rounds-clause-counts
+returns-in-Ok-pair_rounds-clause-counts g c =
+    let mid : FolderState = g.F.Folder.state c.args.folder.now in
+    let next : FolderState = g.F.Folder.state c.pair_rounds.new.folder in
+    let n : Names = named c.args.words.now in
+    let end = end_of (run_end c.in-Ok-pair_rounds.endings.first) (run_end c.in-Ok-pair_rounds.endings.second) in
+    subst (EndCounts mid next (inputs_of n) (outputs_of n)) (sym c.last_turns.ensures)
+    (result-counts mid next (inputs_of n) (outputs_of n) end (CountsStand-trans c.in-Ok.ensures.stand c.in-Ok-pair_rounds.ensures.counts))
+
+pub returns-in-Err-pair_rounds-clause-ends : goal.returns-in-Err-pair_rounds-clause-ends
+returns-in-Err-pair_rounds-clause-ends g c = λ begin b.
+    let mid : FolderState = g.F.Folder.state c.args.folder.now in
+    let now : FolderState = g.F.Folder.state c.create_all.new.folder in
+    let next : FolderState = g.F.Folder.state c.pair_rounds.new.folder in
+    let n : Names = named c.args.words.now in
+    let script : ScriptValue = script_of c.args.pair.now in
+    let fault = c.in-Err-pair_rounds.fault in
+    subst (EndsBy LIMITS begin next n) (sym c.stop_of.ensures)
+    (ends-in-round c.line_runs_end_soon.ensures.soon begin mid now next n script fault (record {
+      begun = b;
+      creates = c.in-Ok.ensures.only;
+      rounds = c.in-Err-pair_rounds.ensures.only;
+      apart = (apart-names n (c.apart_names_differ.ensures.outputs (inputs_of n) (outputs_of n) c.requires.apart)
+          (c.apart_names_differ.ensures.inputs (inputs_of n) (outputs_of n) c.requires.apart)).1;
+      stand = c.in-Ok.ensures.stand;
+    }) c.in-Err-pair_rounds.ensures.counts c.in-Err-pair_rounds.ensures.fault)
+
+pub returns-in-Err-pair_rounds-clause-only : goal.returns-in-Err-pair_rounds-clause-only
+returns-in-Err-pair_rounds-clause-only g c =
+    let n : Names = named c.args.words.now in
+    OnlyOutputs-trans (outputs_of n) c.in-Ok.ensures.only (OnlyOutputs-puts (outputs_of n) c.in-Err-pair_rounds.ensures.only)
+
+pub returns-in-Err-pair_rounds-clause-counts : goal.returns-in-Err-pair_rounds-clause-counts
+returns-in-Err-pair_rounds-clause-counts g c =
+    let mid : FolderState = g.F.Folder.state c.args.folder.now in
+    let now : FolderState = g.F.Folder.state c.create_all.new.folder in
+    let next : FolderState = g.F.Folder.state c.pair_rounds.new.folder in
+    let n : Names = named c.args.words.now in
+    let fault = c.in-Err-pair_rounds.fault in
+    subst (StopCounts mid next (inputs_of n) (outputs_of n)) (sym c.stop_of.ensures)
+    (stop-earlier mid now next (inputs_of n) (outputs_of n) _ c.in-Ok.ensures.stand
+    (round-counts now next n fault c.in-Err-pair_rounds.ensures.counts))

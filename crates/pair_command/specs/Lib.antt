@@ -1,6 +1,0 @@
-pub mod Words
-pub mod Answers
-pub mod Ends
-pub mod Headline
-pub mod Completes
-pub mod Isolates

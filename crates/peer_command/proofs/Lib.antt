@@ -1,5 +1,0 @@
-mod Slots
-mod Reaching
-mod Starting
-mod Headline
-mod Once

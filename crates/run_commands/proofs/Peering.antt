@@ -1,0 +1,5 @@
+pub mod Slots
+pub mod Reaching
+pub mod Starting
+pub mod Headline
+pub mod Once

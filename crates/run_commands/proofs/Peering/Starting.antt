@@ -1,0 +1,115 @@
+-- Before the first turn, and what a turn's answer says of a run.
+use Rattle.std.proofs.Common.{◌≡◌, ◌∙◌, inl, inr, ℕ, ◌<◌, ◌≤◌, ◌+◌, List, [], ◌∷◌, length, take, refl, sym, subst, arith}
+use Rattle.std.proofs.lemmas.List.{length-take}
+use Rattle.outside_calls.specs.Folder.{FolderState, octets_at, GoesOn, KeepsName, OnlyReads, CountsStand}
+use Rattle.outside_calls.proofs.Steps.{GoesOn-trans, KeepsName-trans, CountsStand-trans}
+use Rattle.shared_terms.specs.declared.role.Role.{Role}
+use Rattle.link_account.specs.Account.{fresh}
+use Rattle.link_run.specs.Alone.{LoneHearingsDeliver, LoneSpeakingTakesNothing}
+use Rattle.line_world.specs.Station.{file_at}
+use Rattle.line_world.specs.declared.one_end.single.Single.{Single}
+use Rattle.line_world.specs.OneEnd.Heard.{slot_octets}
+use Rattle.line_world.specs.OneEnd.Peer.{Past, Going, PeerRun, after, over, setup_of}
+use Rattle.line_world.specs.OneEnd.Single.{SingleAfter, file_limit}
+use Rattle.line_world.specs.OneEnd.Turn.{Makes, GoesOnBy}
+use Rattle.command_base.specs.declared.limits.TheConstants.{FILE_LIMIT}
+use Rattle.command_base.specs.declared.stop.Stop.{Stop}
+use Rattle.command_base.specs.declared.stop.Stop.TheVariants.{Own, Read, Write, Say, NoMemory}
+use Rattle.command_base.specs.Inputs.{IsWithin, IsNotWithin}
+use Rattle.outside_calls.specs.Outputs.{KeepsAll, CreatesPart, Creates, IsNoneOf, AreNoneOf, OnlyOutputs}
+use Rattle.outside_calls.proofs.Putting.{KeepsEach-reads}
+use Rattle.command_base.proofs.Creating.{CreatesPart-earlier}
+use Rattle.command_base.proofs.Reading.{ReadTo-none, longer-earlier}
+use Rattle.command_base.proofs.Jobs.{stop-earlier}
+use Rattle.run_commands.specs.Peering.Words.{Names, turn_names, inputs_of, outputs_of}
+use Rattle.run_commands.specs.Peering.Runs.{IsDone}
+use Rattle.run_commands.specs.Peering.Ends.{RanTo, StopsCreating, EndsBy}
+use Rattle.run_commands.specs.Peering.Turns.{IsBegun, Reached}
+use Rattle.run_commands.proofs.Peering.Reaching.{Around, goes-on, ends-short}
+
+-- the end's role is that of the words
+pub goes-by : LoneHearingsDeliver → LoneSpeakingTakesNothing
+    → (start mid next : FolderState) (n : Names) (old new : Single) (p : Past) (octets slot : List ℕ)
+    → Around start mid next n p octets slot
+    → old.role ≡ n.role → new.role ≡ old.role → CountsStand mid next → GoesOnBy new mid next (turn_names n) p slot
+    → length slot ≡ slot_octets
+    → Reached start next n new
+goes-by hearing speaking start mid next n old new p octets slot a role same stand g full = by new.role (same ∙ role) g.makes g.single
+  where
+    by : (r : Role) → r ≡ n.role → (m : Makes r mid next (turn_names n) p slot Going)
+        → SingleAfter new (after slot m.turn m.is.is.0 (over m.others p)) → Reached start next n new
+    by r e m s =
+        (subst (λ x. (k : Makes x mid next (turn_names n) p slot Going) → SingleAfter new (after slot k.turn k.is.is.0 (over k.others p))
+        → Reached start next n new) (sym e)
+        (λ k t. goes-on hearing speaking start mid next n new p octets slot a (same ∙ role) stand k t full)) m s
+
+pub ends-short-by : LoneHearingsDeliver → LoneSpeakingTakesNothing
+    → (start mid next : FolderState) (n : Names) (old new : Single) (p : Past) (octets slot : List ℕ) (turn : ℕ)
+    → Around start mid next n p octets slot
+    → turn ≡ length p.turns → SingleAfter old p → old.role ≡ n.role → new.role ≡ old.role → GoesOnBy new mid next (turn_names n) p slot
+    → length slot < slot_octets → RanTo start next n (IsDone (turn + 1))
+ends-short-by hearing speaking start mid next n old new p octets slot turn a number after-is role same g short =
+    ends-short hearing speaking start mid next n p octets slot turn a number
+    (subst (λ (r : Role). Makes r mid next (turn_names n) p slot Going) (same ∙ role) g.makes)
+    (subst (λ (r : Role). PeerRun r p) role after-is.run) short
+
+-- ---- the outputs are created
+
+pub ends-creating : (begin mid now : FolderState) (n : Names) → IsBegun begin mid n → CreatesPart mid now (outputs_of n)
+    → StopsCreating begin now n
+ends-creating begin mid now n b c = record {
+  bits_within = b.bits_within;
+  file_within = b.file_within;
+  creates = CreatesPart-earlier begin mid now (outputs_of n) b.reads.goes_on (KeepsEach-reads begin mid (outputs_of n) b.reads) c;
+}
+
+few : (octets : List ℕ) → length (take file_limit octets) ≤ file_limit
+few octets = omega (arith, length-take file_limit octets)
+
+pub reached-first : (begin mid now : FolderState) (n : Names) (s : Single) → IsBegun begin mid n
+    → OnlyOutputs mid now (outputs_of n) → CountsStand mid now
+    → Creates now (outputs_of n) → AreNoneOf (outputs_of n) (inputs_of n) → s.role ≡ n.role
+    → ((file : List ℕ) → SingleAfter s (record { file = file; slots = []; turns = []; account = fresh (setup_of n.role) }))
+    → Reached begin now n s
+reached-first begin mid now n s b only stand c d role first = record {
+  past = record { file = file_at now n.file file_limit; slots = []; turns = []; account = fresh (setup_of n.role) };
+  after = first (file_at now n.file file_limit);
+  role_is = role;
+  octets = [];
+  read = ReadTo-none begin now n.bits FILE_LIMIT b.bits_within on (kept n.bits (λ e. d.0.1.0 (sym e), (λ e. d.1.0.1.0 (sym e), tt)));
+  slots_are = refl;
+  file_within = b.file_within;
+  file_kept = kept n.file (λ e. d.0.0 (sym e), (λ e. d.1.0.0 (sym e), tt));
+  knows = record { within = few (octets_at now n.file); told = λ told. refl };
+  holds = c;
+  stand = CountsStand-trans b.stand stand;
+}
+  where
+    on : GoesOn begin now
+    on = GoesOn-trans b.reads.goes_on only.goes_on
+
+    kept : (name : List ℕ) → IsNoneOf name (outputs_of n) → KeepsName begin now name
+    kept name none = KeepsName-trans begin mid now name b.reads.goes_on (b.reads.names name) (only.names name none)
+
+-- ---- the inputs are looked at
+
+pub bits-refused : (old new : FolderState) (n : Names) (stop : Stop) → OnlyReads old new → IsNotWithin old new n.bits FILE_LIMIT 3 stop
+    → EndsBy old new n stop
+bits-refused old new n (Own answer) reads why = inl (reads.names, inl (why.0, why.1))
+bits-refused old new n (Read fault) reads why = inl (reads.names, inl why)
+bits-refused old new n (Write fault) reads never = absurd never
+bits-refused old new n (Say fault) reads never = absurd never
+bits-refused old new n NoMemory reads never = absurd never
+
+keeps-both : (old mid new : FolderState) → OnlyReads old mid → OnlyReads mid new → KeepsAll old new
+keeps-both old mid new first reads name = KeepsName-trans old mid new name first.goes_on (first.names name) (reads.names name)
+
+pub file-refused : (old mid new : FolderState) (n : Names) (stop : Stop) → OnlyReads old mid → CountsStand old mid → OnlyReads mid new
+    → IsWithin old n.bits FILE_LIMIT → IsNotWithin mid new n.file FILE_LIMIT 2 stop → EndsBy old new n stop
+file-refused old mid new n (Own answer) first stand reads within why =
+    inl (keeps-both old mid new first reads, inr (why.0, within, longer-earlier old mid n.file FILE_LIMIT first why.1))
+file-refused old mid new n (Read fault) first stand reads within why =
+    inl (keeps-both old mid new first reads, inr (within, stop-earlier old mid new (n.file ∷ []) [] (Read fault) stand why))
+file-refused old mid new n (Write fault) first stand reads within never = absurd never
+file-refused old mid new n (Say fault) first stand reads within never = absurd never
+file-refused old mid new n NoMemory first stand reads within never = absurd never

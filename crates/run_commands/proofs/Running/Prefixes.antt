@@ -1,0 +1,210 @@
+-- However a run ends, each received file is as it was, or holds the beginning of the other end's file.
+use Rattle.std.proofs.Common.{◌≡◌, ◌⊎◌, inl, inr, ℕ, List, [], ◌++◌, IsTrue, Some, Result, Ok, Err, refl, sym, ◌∙◌, ap, subst}
+use Rattle.std.proofs.Common.{append_assoc}
+use Rattle.std.proofs.lemmas.List.{append-nil}
+use Rattle.std.proofs.lemmas.List.Folds.{concat-append}
+use Rattle.std.specs.List.{concat}
+use Rattle.plain_lists.specs.Prefix.{IsPrefixOf}
+use Rattle.outside_calls.specs.Folder.{FolderState, octets_at, GoesOn}
+use Rattle.outside_calls.proofs.Steps.{told_later}
+use Rattle.shared_terms.specs.declared.role.Role.{Role}
+use Rattle.shared_terms.specs.declared.role.Role.TheVariants.{Originator, Answerer}
+use Rattle.shared_terms.specs.Role.{other}
+use Rattle.shared_terms.specs.Both.{Both, of}
+use Rattle.noise_script.specs.Script.{ScriptValue, IsInLimits, delay_of}
+use Rattle.survivors.specs.Laws.{ReleasedIsLeast, OfEachCode}
+use Rattle.link_run.specs.End.{deliveries}
+use Rattle.link_run.specs.Run.{Link, Accounts, Turn}
+use Rattle.link_run.specs.Laws.{RunsOver, TakesPrefixes, HearsPrefixes, HearingsDeliver, HoldPrefixes}
+use Rattle.line_run.specs.Sampled.{LineRun}
+use Rattle.line_run.specs.LineLaws.{SamplesAreCarried, OneIsCarried}
+use Rattle.line_run.specs.Ends.{RunEnd, Left, MayRun, RunsLeavePrefixes, DoneLeavesWhole, RunsLeaveWhatPassed}
+use Rattle.line_run.specs.Scripted.{wire_of, link_of, ScriptsMayPlay, ScriptsHaveDelays}
+use Rattle.line_run.proofs.Leaving.{hearing-in}
+use Rattle.line_ends.specs.Scripts.{LineRunsEndSoon}
+use Rattle.line_ends.specs.Causes.{EndsHaveCauses}
+use Rattle.command_base.specs.declared.status.Status.{Status}
+use Rattle.command_base.specs.declared.status.Status.TheVariants.{LineLost, NotDetected, LinkLost, ChanceMatch}
+use Rattle.command_base.specs.declared.stop.Stop.{Stop}
+use Rattle.command_base.specs.declared.stop.Stop.TheVariants as stops
+use Rattle.outside_calls.specs.Outputs.{Holds, HoldsPart, KeptOrEmpty, KeepsAll, CreatesPart}
+use Rattle.run_inputs.specs.declared.limits.TheConstants.{LIMITS}
+use Rattle.run_inputs.specs.Words.{RunNames, texts_of, outputs_of}
+use Rattle.line_world.specs.Turns.{AddsTurn, AddsChance, StopsAfter, held_of}
+use Rattle.outside_calls.specs.Outputs.{HoldPart}
+use Rattle.run_commands.specs.Running.Ends.{RanTo, StopsInTurn, StopsHeading, RanBy, EndsBy, Ends as EndsSo}
+use Rattle.run_commands.specs.Running.Headline.{KeptOrPrefix}
+
+-- the laws of runs that the headline rests on
+pub record RunLaws : Type 0 where
+  pub play : ScriptsMayPlay
+  pub delays : ScriptsHaveDelays
+  pub carried : SamplesAreCarried
+  pub one : OneIsCarried
+  pub takes : TakesPrefixes
+  pub hears : HearsPrefixes
+  pub delivers : HearingsDeliver
+  pub prefixes : RunsLeavePrefixes
+  pub whole : DoneLeavesWhole
+  pub passed : RunsLeaveWhatPassed
+  pub soon : LineRunsEndSoon
+  pub causes : EndsHaveCauses
+  pub least : OfEachCode ReleasedIsLeast
+
+pub may-run : RunLaws → (script : ScriptValue) (files : Both (List ℕ)) → IsInLimits script
+    → MayRun (wire_of script) (link_of script files)
+may-run laws script files limits = record { may_play = laws.play script files limits; delays = laws.delays script limits }
+
+runs-over : RunLaws → (script : ScriptValue) (files : Both (List ℕ)) (ts : List Turn) (ends : Accounts) → IsInLimits script
+    → LineRun (wire_of script) (link_of script files) ts ends
+    → RunsOver (link_of script files) (delay_of script) ts ends
+runs-over laws script files ts ends limits r =
+    record {
+      may_play = laws.play script files limits;
+      delays = laws.delays script limits;
+      carried = laws.carried (wire_of script) ts r.heard;
+      run = r.run;
+    }
+
+-- what a received file holds begins the file that was read
+pub prefix-of : (old before : FolderState) (got sent file taken : List ℕ) → GoesOn old before
+    → (IsTrue (old.tells sent) → file ≡ octets_at old sent) → Holds before got taken → IsPrefixOf taken file
+    → KeptOrPrefix old before got sent
+prefix-of old before got sent file taken g reads holds p = inr (λ ts tg. (taken, holds (told_later g got tg), (p.0, p.1 ∙ reads ts)))
+
+-- and so it does with a part of what comes behind it
+pub part-of : (old before : FolderState) (got sent file taken more : List ℕ) → GoesOn old before
+    → (IsTrue (old.tells sent) → file ≡ octets_at old sent) → HoldsPart before got taken more → IsPrefixOf (taken ++ more) file
+    → KeptOrPrefix old before got sent
+part-of old before got sent file taken more g reads holds p =
+    inr (λ ts tg. let h = holds (told_later g got tg) in
+    (taken ++ h.0, h.2, (h.1.0 ++ p.0, regroup h.0 h.1.0 h.1.1 ∙ p.1 ∙ reads ts)))
+  where
+    regroup : (part rest : List ℕ) → part ++ rest ≡ more → (taken ++ part) ++ (rest ++ p.0) ≡ (taken ++ more) ++ p.0
+    regroup part rest e = sym (append_assoc (taken ++ part) rest p.0)
+        ∙ ap (λ x. x ++ p.0) (append_assoc taken part rest ∙ ap (λ x. taken ++ x) e)
+
+pub empty-of : (old before : FolderState) (got sent : List ℕ) → GoesOn old before → KeptOrEmpty old before got
+    → KeptOrPrefix old before got sent
+empty-of old before got sent g (inl k) = inl k
+empty-of old before got sent g (inr h) = inr (λ ts tg. ([], h (told_later g got tg), (octets_at old sent, refl)))
+
+-- both received files
+pub record BothPrefix (old before : FolderState) (n : RunNames) : Type 0 where
+  pub got_o : KeptOrPrefix old before n.names.got_o n.names.answ
+  pub got_a : KeptOrPrefix old before n.names.got_a n.names.orig
+
+-- the run ended by itself
+both-ran : RunLaws → (old before : FolderState) (n : RunNames) (end : RunEnd) → GoesOn old before → RanTo LIMITS old before n end
+    → BothPrefix old before n
+both-ran laws old before n end g e =
+    let c = wire_of e.script in
+    let link = link_of e.script e.files in
+    let may = may-run laws e.script e.files e.takes.limits in record {
+      got_o = prefix-of old before n.names.got_o n.names.answ e.files.answ e.left.got.orig g e.takes.answ e.holds.0
+          (laws.prefixes c link end e.left may e.run Originator);
+      got_a = prefix-of old before n.names.got_a n.names.orig e.files.orig e.left.got.answ g e.takes.orig e.holds.1.0
+          (laws.prefixes c link end e.left may e.run Answerer);
+    }
+
+-- each received file holds what is left, and a part of what comes behind it
+part-none : (f : FolderState) (name octets piece : List ℕ) → Holds f name octets → HoldsPart f name octets piece
+part-none f name octets piece holds told = ([], (piece, refl), holds told ∙ ap Some (sym (append-nil octets)))
+
+part-all : (f : FolderState) (name octets piece : List ℕ) → Holds f name (octets ++ piece) → HoldsPart f name octets piece
+part-all f name octets piece holds told = (piece, ([], append-nil piece), holds told)
+
+part-o : (f : FolderState) (n : RunNames) (left more : Left) → HoldPart f (texts_of n) (held_of left) (held_of more)
+    → HoldsPart f n.names.got_o left.got.orig more.got.orig
+part-o f n left more (inl h) = h.0
+part-o f n left more (inr h) = part-all f n.names.got_o left.got.orig more.got.orig h.0
+
+part-a : (f : FolderState) (n : RunNames) (left more : Left) → HoldPart f (texts_of n) (held_of left) (held_of more)
+    → HoldsPart f n.names.got_a left.got.answ more.got.answ
+part-a f n left more (inl h) = part-none f n.names.got_a left.got.answ more.got.answ h.1.0
+part-a f n left more (inr (o, inl h)) = h.0
+part-a f n left more (inr (o, inr h)) = part-all f n.names.got_a left.got.answ more.got.answ h.0
+
+-- what is left of some turns, and what the next one adds
+stopped-prefix : RunLaws → (script : ScriptValue) (files : Both (List ℕ)) (f : FolderState) (n : RunNames) → IsInLimits script
+    → (s : StopsAfter (wire_of script) (link_of script files) f n.names) → (role : Role)
+    → IsPrefixOf (of role s.left.got ++ of role s.more.got) (of (other role) (link_of script files)).user.file
+stopped-prefix laws script files f n limits s role = by s.adds
+  where
+    link : Link
+    link = link_of script files
+
+    over : RunsOver link (delay_of script) s.turns s.ends
+    over = runs-over laws script files s.turns s.ends limits s.run
+
+    by : AddsTurn (wire_of script) link s.turns s.ends s.more ⊎ AddsChance (wire_of script) s.turns s.ends s.more
+        → IsPrefixOf (of role s.left.got ++ of role s.more.got) (of (other role) link).user.file
+    by (inl a) =
+        let hears = hearing-in link s.turns s.ends a.turn a.mid a.outcome a.is in
+        let whole : HoldPrefixes link a.mid =
+        laws.hears link (delay_of script) s.turns s.ends a.turn a.mid over
+        (laws.one (wire_of script) s.turns a.turn a.heard) hears in
+        let all : of role s.left.got ++ of role s.more.got ≡ concat (of role a.mid).incoming.taken =
+        ap (λ x. x ++ of role s.more.got) (s.leaves.got_is role) ∙ ap (λ x. concat (of role s.ends).incoming.taken ++ x) (a.got_is role)
+        ∙ sym (concat-append (of role s.ends).incoming.taken (deliveries (of role a.mid)))
+        ∙ ap concat (sym (laws.delivers link s.turns s.ends a.turn a.mid s.run.run hears role)) in
+        subst (λ x. IsPrefixOf x (of (other role) link).user.file) (sym all) (whole role)
+    by (inr a) =
+        let whole : HoldPrefixes link s.ends = laws.takes link (delay_of script) s.turns s.ends over in
+        let all : of role s.left.got ++ of role s.more.got ≡ concat (of role s.ends).incoming.taken =
+        ap (λ x. of role s.left.got ++ x) (a.got_is role) ∙ append-nil (of role s.left.got) ∙ s.leaves.got_is role in
+        subst (λ x. IsPrefixOf x (of (other role) link).user.file) (sym all) (whole role)
+
+both-stopped : RunLaws → (old before : FolderState) (n : RunNames) → GoesOn old before → StopsInTurn LIMITS old before n
+    → BothPrefix old before n
+both-stopped laws old before n g e =
+    let s = e.stops in record {
+      got_o = part-of old before n.names.got_o n.names.answ e.files.answ s.left.got.orig s.more.got.orig g e.takes.answ
+          (part-o before n s.left s.more s.holds)
+          (stopped-prefix laws e.script e.files before n e.takes.limits s Originator);
+      got_a = part-of old before n.names.got_a n.names.orig e.files.orig s.left.got.answ s.more.got.answ g e.takes.orig
+          (part-a before n s.left s.more s.holds)
+          (stopped-prefix laws e.script e.files before n e.takes.limits s Answerer);
+    }
+
+both-creating : (old before : FolderState) (n : RunNames) → GoesOn old before → CreatesPart old before (outputs_of n)
+    → BothPrefix old before n
+both-creating old before n g (inl (o, (a, rest))) = record { got_o = empty-of old before n.names.got_o n.names.answ g o; got_a = inl a }
+both-creating old before n g (inr (o, inl (a, rest))) =
+    record { got_o = empty-of old before n.names.got_o n.names.answ g (inr o); got_a = empty-of old before n.names.got_a n.names.orig g a }
+both-creating old before n g (inr (o, inr (a, rest))) =
+    record { got_o = empty-of old before n.names.got_o n.names.answ g (inr o); got_a = empty-of old before n.names.got_a n.names.orig g (inr a) }
+
+both-heading : (old before : FolderState) (n : RunNames) → GoesOn old before → StopsHeading LIMITS old before n → BothPrefix old before n
+both-heading old before n g h = record {
+  got_o = empty-of old before n.names.got_o n.names.answ g (inr h.creates.0);
+  got_a = empty-of old before n.names.got_a n.names.orig g (inr h.creates.1.0);
+}
+
+both-kept : (old before : FolderState) (n : RunNames) → KeepsAll old before → BothPrefix old before n
+both-kept old before n kept = record { got_o = inl (kept n.names.got_o); got_a = inl (kept n.names.got_a) }
+
+both-own : RunLaws → (old before : FolderState) (n : RunNames) (answer : Status) → GoesOn old before → RanBy LIMITS old before n answer
+    → BothPrefix old before n
+both-own laws old before n (LinkLost role segment turn) g e = both-ran laws old before n _ g e
+both-own laws old before n (NotDetected turn) g e = both-ran laws old before n _ g e
+both-own laws old before n (LineLost role symbol) g e = both-ran laws old before n _ g e
+both-own laws old before n (ChanceMatch role turn) g e = both-ran laws old before n _ g e
+both-own laws old before n answer g e = absurd e
+
+both-by : RunLaws → (old before : FolderState) (n : RunNames) (stop : Stop) → GoesOn old before → EndsBy LIMITS old before n stop
+    → BothPrefix old before n
+both-by laws old before n (stops.Own answer) g (inl refused) = both-kept old before n refused.0
+both-by laws old before n (stops.Own answer) g (inr e) = both-own laws old before n answer g e
+both-by laws old before n (stops.Read fault) g (inl refused) = both-kept old before n refused.0
+both-by laws old before n (stops.Read fault) g (inr (failed, rose, s)) = both-stopped laws old before n g s.0
+both-by laws old before n stops.NoMemory g e = both-kept old before n e.0
+both-by laws old before n (stops.Write fault) g (inl c) = both-creating old before n g c.creates
+both-by laws old before n (stops.Write fault) g (inr (inl h)) = both-heading old before n g h
+both-by laws old before n (stops.Write fault) g (inr (inr e)) = both-stopped laws old before n g e
+both-by laws old before n (stops.Say fault) g never = absurd never
+
+pub both-of : RunLaws → (old before : FolderState) (n : RunNames) (end : Result ℕ Stop) → GoesOn old before → EndsSo LIMITS old before n end
+    → BothPrefix old before n
+both-of laws old before n (Ok turn) g e = both-ran laws old before n _ g e
+both-of laws old before n (Err stop) g e = both-by laws old before n stop g e

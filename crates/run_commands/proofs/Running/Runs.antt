@@ -1,0 +1,163 @@
+-- From the phases of a run to how it ends.
+use Rattle.std.proofs.Common.{◌≡◌, inl, inr, ℕ, ◌≤◌, IsTrue, List, [], ◌∷◌, refl, ◌∙◌, ap, take, arith}
+use Rattle.std.proofs.lemmas.List.{take_all}
+use Rattle.outside_calls.specs.Folder.{FolderState, octets_at, GoesOn, KeepsName, OnlyReads, CountsStand}
+use Rattle.outside_calls.proofs.Steps.{GoesOn-trans, octets-kept, told_later}
+use Rattle.shared_terms.specs.Both.{Both}
+use Rattle.noise_script.specs.Script.{ScriptValue}
+use Rattle.line_run.specs.Ends.{RunEnd}
+use Rattle.line_run.specs.Ends as runs
+use Rattle.line_run.specs.Scripted.{wire_of}
+use Rattle.line_run.specs.Scripts.{LineRunsEndSoon}
+use Rattle.line_world.specs.Limits.{file_limit}
+use Rattle.line_world.specs.declared.step.RunFault.{RunFault}
+use Rattle.line_world.specs.declared.step.RunFault.TheVariants as faults
+use Rattle.line_world.specs.World.{KnowsFiles}
+use Rattle.line_world.specs.Turn.{FaultCountsOver}
+use Rattle.command_base.specs.declared.stop.Stop.{Stop}
+use Rattle.command_base.specs.declared.stop.Stop.TheVariants as stops
+use Rattle.command_base.specs.Inputs.{IsWithin}
+use Rattle.outside_calls.specs.Outputs.{AreNoneOf, OnlyOutputs, Creates, CreatesPart, AreApart, KeepsEach}
+use Rattle.outside_calls.specs.Outputs.{AreApartFrom, OnlyPuts}
+use Rattle.outside_calls.proofs.Putting.{KeepsEach-reads, KeepsEach-trans, SomeRose-earlier, none-fronts, inputs-kept}
+use Rattle.command_base.specs.Stops.{StopCounts}
+use Rattle.command_base.proofs.Creating.{CreatesPart-earlier}
+use Rattle.run_inputs.specs.declared.limits.Limits.{Limits}
+use Rattle.run_inputs.specs.declared.limits.TheConstants.{LIMITS}
+use Rattle.run_inputs.specs.Words.{RunNames, files_of, texts_of, inputs_of, outputs_of}
+use Rattle.run_inputs.specs.Inputs.{Refuses}
+use Rattle.line_world.specs.Turns.{RunEnds, RunStops, RunStopsReading, FaultEnds}
+use Rattle.run_commands.specs.Running.Ends.{IsBegun, Takes, RanTo, StopsInTurn, StopsInReading, StopsCreating, StopsHeading, EndsBy, fault_stop}
+use Rattle.run_commands.specs.Running.Tapes.{HeadsPartly}
+
+-- the inputs were not taken
+pub ends-refused : (l : Limits) (old new : FolderState) (n : RunNames) (stop : Stop) → OnlyReads old new
+    → Refuses l old new n.script 3 (files_of n) 1 stop
+    → EndsBy l old new n stop
+ends-refused l old new n (stops.Own answer) reads r = inl (reads.names, r)
+ends-refused l old new n (stops.Read fault) reads r = inl (reads.names, r)
+ends-refused l old new n stops.NoMemory reads r = (reads.names, r)
+ends-refused l old new n (stops.Write fault) reads never = absurd never
+ends-refused l old new n (stops.Say fault) reads never = never
+
+-- an output was not created
+pub ends-creating : (l : Limits) (old mid new : FolderState) (n : RunNames) (script : ScriptValue) → IsBegun l old mid n script
+    → CreatesPart mid new (outputs_of n) → StopsCreating l old new n
+ends-creating l old mid new n script b c = record {
+  script = script;
+  opens = b.opens;
+  creates = CreatesPart-earlier old mid new (outputs_of n) b.reads.goes_on (KeepsEach-reads old mid (outputs_of n) b.reads) c;
+}
+
+-- a header was not written
+pub ends-heading : (l : Limits) (old mid new : FolderState) (n : RunNames) (script : ScriptValue) → IsBegun l old mid n script
+    → Creates new (texts_of n) → HeadsPartly new n.tapes → StopsHeading l old new n
+ends-heading l old mid new n script b c h = record { script = script; opens = b.opens; creates = c; heads = h }
+
+-- names that the words keep apart
+pub apart-names : (n : RunNames) → AreApart (outputs_of n) → AreNoneOf (outputs_of n) (inputs_of n)
+    → AreApartFrom (files_of n) (outputs_of n)
+apart-names n d i = (d, none-fronts (outputs_of n) (files_of n) (n.script ∷ []) i)
+
+-- the phases of a run, once its inputs were opened
+pub record Phases (l : Limits) (old mid now next : FolderState) (n : RunNames) (script : ScriptValue) : Type 0 where
+  pub begun : IsBegun l old mid n script
+  pub creates : OnlyOutputs mid now (outputs_of n)
+  pub turns : OnlyPuts now next (outputs_of n)
+  pub apart : AreNoneOf (outputs_of n) (files_of n)
+  pub stand : CountsStand mid now
+
+-- a file as it was before all of them
+pub file-is : (old next : FolderState) (name file : List ℕ) (limit : ℕ) → GoesOn old next → KeepsName old next name → IsWithin old name limit
+    → limit ≤ file_limit
+    → (IsTrue (next.tells name) → file ≡ take file_limit (octets_at next name)) → IsTrue (old.tells name) → file ≡ octets_at old name
+file-is old next name file limit on kept within few known told =
+    let same : octets_at next name ≡ octets_at old name = octets-kept old next name kept told in
+    known (told_later on name told) ∙ ap (take file_limit) same ∙ take_all file_limit (octets_at old name) (omega (arith, within told, few))
+
+takes : (old mid now next : FolderState) (n : RunNames) (script : ScriptValue) (files : Both (List ℕ))
+    → Phases LIMITS old mid now next n script → KnowsFiles next n.names files → Takes LIMITS old n script files
+takes old mid now next n script files p k =
+    record {
+      opens = p.begun.opens;
+      limits = p.begun.limits;
+      within = k.within;
+      orig = file-is old next n.names.orig files.orig LIMITS.file on kept.0 p.begun.opens.files.0 (omega arith) k.orig;
+      answ = file-is old next n.names.answ files.answ LIMITS.file on kept.1.0 p.begun.opens.files.1.0 (omega arith) k.answ;
+    }
+  where
+    on : GoesOn old next
+    on = GoesOn-trans p.begun.reads.goes_on (GoesOn-trans p.creates.goes_on p.turns.goes_on)
+
+    kept : KeepsEach old next (files_of n)
+    kept = KeepsEach-trans old mid next (files_of n) p.begun.reads.goes_on (KeepsEach-reads old mid (files_of n) p.begun.reads)
+        (KeepsEach-trans mid now next (files_of n) p.creates.goes_on
+        (inputs-kept mid now (files_of n) (outputs_of n) p.apart p.creates.names)
+        (inputs-kept now next (files_of n) (outputs_of n) p.apart p.turns.names))
+
+-- the run ended by itself
+pub ran-to : (old mid now next : FolderState) (n : RunNames) (script : ScriptValue) (end : RunEnd) → Phases LIMITS old mid now next n script
+    → RunEnds script next n.names n.tapes end → RanTo LIMITS old next n end
+ran-to old mid now next n script end p r =
+    record {
+      script = script;
+      files = r.files;
+      takes = takes old mid now next n script r.files p r.knows;
+      left = r.left;
+      run = r.run;
+      holds = r.holds;
+      taped = r.taped;
+    }
+
+-- or for the folder
+stops-in : LineRunsEndSoon → (old mid now next : FolderState) (n : RunNames) (script : ScriptValue) → Phases LIMITS old mid now next n script
+    → RunStops script next n.names n.tapes → StopsInTurn LIMITS old next n
+stops-in soon old mid now next n script p r =
+    record {
+      script = script;
+      files = r.files;
+      takes = takes old mid now next n script r.files p r.knows;
+      stops = r.stops;
+      taped = r.taped;
+      few = soon (wire_of script) r.files r.stops.turns r.stops.ends p.begun.limits r.stops.run;
+    }
+
+stops-in-reading : LineRunsEndSoon → (old mid now next : FolderState) (n : RunNames) (script : ScriptValue) → Phases LIMITS old mid now next n script
+    → RunStopsReading script next n.names n.tapes → StopsInReading LIMITS old next n
+unfolding stops-in
+stops-in-reading soon old mid now next n script p r = (stops-in soon old mid now next n script p r.0, r.1)
+
+-- a turn's fault ended the run
+pub ends-in-turn : LineRunsEndSoon → (old mid now next : FolderState) (n : RunNames) (script : ScriptValue) (fault : RunFault)
+    → Phases LIMITS old mid now next n script → FaultCountsOver now next (files_of n) (outputs_of n) fault → FaultEnds script next n.names n.tapes fault
+    → EndsBy LIMITS old next n (fault_stop fault)
+ends-in-turn soon old mid now next n script faults.ReadFault p counts e =
+    inr (
+      refl,
+      SomeRose-earlier old.read_faults now.read_faults next.read_faults (files_of n)
+          (λ name. p.stand.faults.reads name ∙ p.begun.stand.faults.reads name) counts,
+      stops-in-reading soon old mid now next n script p e,
+    )
+ends-in-turn soon old mid now next n script faults.WriteFault p counts e = inr (inr (stops-in soon old mid now next n script p e))
+ends-in-turn soon old mid now next n script faults.NoMemory p counts e = inr (inr (stops-in soon old mid now next n script p e))
+ends-in-turn soon old mid now next n script (faults.LineLost role symbol) p counts e =
+    inr (ran-to old mid now next n script (runs.LineLost role symbol) p e)
+ends-in-turn soon old mid now next n script (faults.ChanceMatch role turn) p counts e =
+    inr (ran-to old mid now next n script (runs.ChanceMatch role turn) p e)
+ends-in-turn soon old mid now next n script (faults.NotDetected turn) p counts e =
+    inr (ran-to old mid now next n script (runs.NotDetected turn) p e)
+ends-in-turn soon old mid now next n script (faults.LinkLost role segment turn) p counts e =
+    inr (ran-to old mid now next n script (runs.LinkLost role segment turn) p e)
+
+-- what a turn's fault counts
+pub turn-counts : (now next : FolderState) (n : RunNames) (fault : RunFault) → FaultCountsOver now next (files_of n) (outputs_of n) fault
+    → StopCounts now next (inputs_of n) (outputs_of n) (fault_stop fault)
+turn-counts now next n faults.ReadFault (inl rose) = inl rose
+turn-counts now next n faults.ReadFault (inr (inl rose)) = inr (inl rose)
+turn-counts now next n faults.ReadFault (inr (inr never)) = absurd never
+turn-counts now next n faults.WriteFault rose = rose
+turn-counts now next n faults.NoMemory counts = counts
+turn-counts now next n (faults.LineLost role symbol) stand = (tt, stand)
+turn-counts now next n (faults.ChanceMatch role turn) stand = (tt, stand)
+turn-counts now next n (faults.NotDetected turn) stand = (tt, stand)
+turn-counts now next n (faults.LinkLost role segment turn) stand = (tt, stand)

@@ -1,0 +1,192 @@
+-- However a run ends, each recording is as it was, or holds the beginning of its header and of what its end sends.
+use Rattle.std.proofs.Common.{inl, inr, ℕ, List, [], ◌∷◌, ◌++◌, Some, None, Result, Ok, Err, refl, subst}
+use Rattle.std.proofs.Common.{append_assoc}
+use Rattle.outside_calls.specs.Folder.{FolderState, GoesOn}
+use Rattle.outside_calls.specs.Outputs.{Holds, HoldsFront, KeptOrEmpty, KeepsAll, KeepsEach, CreatesPart, OnlyOutputs}
+use Rattle.outside_calls.proofs.Steps.{KeepsName-trans}
+use Rattle.outside_calls.proofs.Holding.{Holds-kept, HoldsFront-part, HoldsFront-all, HoldsFront-kept}
+use Rattle.shared_terms.specs.declared.role.Role.{Role}
+use Rattle.shared_terms.specs.declared.role.Role.TheVariants.{Originator, Answerer}
+use Rattle.shared_terms.specs.Role.{mode_of}
+use Rattle.shared_terms.specs.Both.{Both}
+use Rattle.recordings.specs.Recording.{header_of}
+use Rattle.noise_script.specs.Script.{ScriptValue}
+use Rattle.link_run.specs.Run.{Accounts, Turn}
+use Rattle.link_run.specs.Outcomes.{Going, TurnIs}
+use Rattle.line_run.specs.Sampled.{Wire, LineRun}
+use Rattle.line_run.specs.Ends.{RunEnd}
+use Rattle.line_run.specs.Recorded.{Tapes, tapes_of}
+use Rattle.line_run.specs.Scripted.{wire_of, link_of}
+use Rattle.command_base.specs.declared.status.Status.{Status}
+use Rattle.command_base.specs.declared.status.Status.TheVariants.{LineLost, NotDetected, LinkLost, ChanceMatch}
+use Rattle.command_base.specs.declared.stop.Stop.{Stop}
+use Rattle.command_base.specs.declared.stop.Stop.TheVariants as stops
+use Rattle.run_inputs.specs.declared.limits.TheConstants.{LIMITS}
+use Rattle.run_inputs.specs.Words.{RunNames, outputs_of}
+use Rattle.line_world.specs.Tapes.{HoldsTape, HoldsTapePart, HoldTapes, HoldTapesPartly}
+use Rattle.line_world.specs.Turns.{TapesStop}
+use Rattle.run_commands.specs.Running.Ends.{Takes, RanTo, StopsInTurn, RanBy, EndsBy, Ends as EndsSo}
+use Rattle.run_commands.specs.Running.Tapes.{HeadsPartly, TapeBegun, TapesBegun}
+
+-- ---- once the last line is said
+
+pub tapes-last : (before new : FolderState) (tapes : Tapes) (c : Wire) (ts : List Turn) → OnlyOutputs before new []
+    → HoldTapes before tapes c ts → HoldTapes new tapes c ts
+tapes-last before new None c ts last h = tt
+tapes-last before new (Some names) c ts last h = (one names.orig Originator h.0, one names.answ Answerer h.1)
+  where
+    one : (name : List ℕ) (role : Role) → HoldsTape before name c role ts → HoldsTape new name c role ts
+    one name role h = record {
+      body = h.body;
+      recorded = h.recorded;
+      holds = Holds-kept before new name (header_of (mode_of role) ++ h.body) last.goes_on h.holds (last.names name tt);
+    }
+
+pub begun-last : (old before new : FolderState) (n : RunNames) (tapes : Tapes) → OnlyOutputs before new [] → GoesOn old before
+    → TapesBegun old before n tapes → TapesBegun old new n tapes
+begun-last old before new n None last g h = tt
+begun-last old before new n (Some names) last g h = (one names.orig Originator h.0, one names.answ Answerer h.1)
+  where
+    one : (name : List ℕ) (role : Role) → TapeBegun old before n name role → TapeBegun old new n name role
+    one name role (inl kept) = inl (KeepsName-trans old before new name g kept (last.names name tt))
+    one name role (inr (inl front)) = inr (inl (HoldsFront-kept before new name _ last.goes_on front (last.names name tt)))
+    one name role (inr (inr h)) = inr (inr (record {
+      script = h.script;
+      limits = h.limits;
+      files = h.files;
+      are_of = h.are_of;
+      turns = h.turns;
+      ends = h.ends;
+      run = h.run;
+      body = h.body;
+      recorded = h.recorded;
+      holds = HoldsFront-kept before new name _ last.goes_on h.holds (last.names name tt);
+    }))
+
+-- ---- what they hold however the run ends
+
+-- what was recorded of some turns
+module _ (old before : FolderState) (n : RunNames) (script : ScriptValue) (files : Both (List ℕ))
+    (takes : Takes LIMITS old n script files) where
+  abbrev c : Wire
+  c = wire_of script
+
+  of-turns : (name : List ℕ) (role : Role) (ts : List Turn) (ends : Accounts) → LineRun c (link_of script files) ts ends
+      → HoldsTape before name c role ts → TapeBegun old before n name role
+  of-turns name role ts ends run h = inr (inr (record {
+    script = script;
+    limits = takes.limits;
+    files = files;
+    are_of = record { script_is = takes.opens.reads.spelled; orig_is = takes.orig; answ_is = takes.answ };
+    turns = ts;
+    ends = ends;
+    run = run;
+    body = h.body;
+    recorded = h.recorded;
+    holds = HoldsFront-all before name (header_of (mode_of role) ++ h.body) h.holds;
+  }))
+
+  of-part : (name : List ℕ) (role : Role) (ts : List Turn) (t : Turn) (ends : Accounts) → LineRun c (link_of script files) (t ∷ ts) ends
+      → HoldsTapePart before name c role ts t → TapeBegun old before n name role
+  of-part name role ts t ends run h = inr (inr (record {
+    script = script;
+    limits = takes.limits;
+    files = files;
+    are_of = record { script_is = takes.opens.reads.spelled; orig_is = takes.orig; answ_is = takes.answ };
+    turns = t ∷ ts;
+    ends = ends;
+    run = run;
+    body = h.body ++ h.more;
+    recorded = h.recorded_more;
+    holds = subst (HoldsFront before name) (append_assoc (header_of (mode_of role)) h.body h.more)
+        (HoldsFront-part before name (header_of (mode_of role) ++ h.body) h.more h.holds);
+  }))
+
+  pub both-turns : (tapes : Tapes) (ts : List Turn) (ends : Accounts) → LineRun c (link_of script files) ts ends → HoldTapes before tapes c ts
+      → TapesBegun old before n tapes
+  both-turns None ts ends run h = tt
+  both-turns (Some names) ts ends run h =
+      (of-turns names.orig Originator ts ends run h.0, of-turns names.answ Answerer ts ends run h.1)
+
+  pub both-parts : (tapes : Tapes) (ts : List Turn) (t : Turn) (ends after : Accounts) → LineRun c (link_of script files) ts ends
+      → LineRun c (link_of script files) (t ∷ ts) after → HoldTapesPartly before tapes c ts t → TapesBegun old before n tapes
+  both-parts None ts t ends after run more h = tt
+  both-parts (Some names) ts t ends after run more (inl h) =
+      (of-part names.orig Originator ts t after more h.0, of-turns names.answ Answerer ts ends run h.1)
+  both-parts (Some names) ts t ends after run more (inr h) =
+      (of-turns names.orig Originator (t ∷ ts) after more h.0, of-part names.answ Answerer ts t after more h.1)
+
+tapes-ran : (old before : FolderState) (n : RunNames) (end : RunEnd) → RanTo LIMITS old before n end → TapesBegun old before n n.tapes
+tapes-ran old before n end e =
+    both-turns old before n e.script e.files e.takes n.tapes e.run.turns e.run.ends e.run.run e.taped
+
+tapes-stopped : (old before : FolderState) (n : RunNames) → StopsInTurn LIMITS old before n → TapesBegun old before n n.tapes
+tapes-stopped old before n e = by e.taped
+  where
+    by : TapesStop (wire_of e.script) (link_of e.script e.files) before n.names n.tapes e.stops → TapesBegun old before n n.tapes
+    by (inl h) = both-turns old before n e.script e.files e.takes n.tapes e.stops.turns e.stops.ends e.stops.run h
+    by (inr s) =
+        let on : TurnIs (link_of e.script e.files) e.stops.turns e.stops.ends s.adds.turn s.adds.mid Going =
+        subst (TurnIs (link_of e.script e.files) e.stops.turns e.stops.ends s.adds.turn s.adds.mid) s.goes_on s.adds.is in
+        both-parts old before n e.script e.files e.takes n.tapes e.stops.turns s.adds.turn e.stops.ends on.0 e.stops.run
+        (record { run = (e.stops.ends, e.stops.run.run, on.1); heard = (s.adds.heard, e.stops.run.heard) }) s.taped
+
+-- before the first turn
+tapes-kept : (old before : FolderState) (n : RunNames) (tapes : Tapes) → KeepsEach old before (tapes_of tapes) → TapesBegun old before n tapes
+tapes-kept old before n None k = tt
+tapes-kept old before n (Some names) k = (inl k.0, inl k.1.0)
+
+empty-front : (f : FolderState) (name header : List ℕ) → Holds f name [] → HoldsFront f name header
+empty-front f name header h told = ([], (header, refl), h told)
+
+tape-empty : (old before : FolderState) (n : RunNames) (name : List ℕ) (role : Role) → KeptOrEmpty old before name
+    → TapeBegun old before n name role
+tape-empty old before n name role (inl k) = inl k
+tape-empty old before n name role (inr h) = inr (inl (empty-front before name (header_of (mode_of role)) h))
+
+tapes-created : (old before : FolderState) (n : RunNames) (tapes : Tapes) → CreatesPart old before (tapes_of tapes)
+    → TapesBegun old before n tapes
+tapes-created old before n None never = absurd never
+tapes-created old before n (Some names) (inl (o, k)) = (tape-empty old before n names.orig Originator o, inl k.0)
+tapes-created old before n (Some names) (inr (o, inl (a, k))) =
+    (tape-empty old before n names.orig Originator (inr o), tape-empty old before n names.answ Answerer a)
+tapes-created old before n (Some names) (inr (o, inr (a, never))) = absurd never
+
+all-created : (old before : FolderState) (n : RunNames) → CreatesPart old before (outputs_of n) → TapesBegun old before n n.tapes
+all-created old before n (inl (o, k)) = tapes-kept old before n n.tapes k.1.1
+all-created old before n (inr (o, inl (a, k))) = tapes-kept old before n n.tapes k.1
+all-created old before n (inr (o, inr (a, inl (t, k)))) = tapes-kept old before n n.tapes k
+all-created old before n (inr (o, inr (a, inr (t, part)))) = tapes-created old before n n.tapes part
+
+tapes-headed : (old before : FolderState) (n : RunNames) (tapes : Tapes) → HeadsPartly before tapes → TapesBegun old before n tapes
+tapes-headed old before n None never = absurd never
+tapes-headed old before n (Some names) (inl (o, a)) =
+    (inr (inl o), inr (inl (empty-front before names.answ (header_of (mode_of Answerer)) a)))
+tapes-headed old before n (Some names) (inr (o, a)) =
+    (inr (inl (HoldsFront-all before names.orig (header_of (mode_of Originator)) o)), inr (inl a))
+
+all-kept : (old before : FolderState) (n : RunNames) (tapes : Tapes) → KeepsAll old before → TapesBegun old before n tapes
+all-kept old before n None kept = tt
+all-kept old before n (Some names) kept = (inl (kept names.orig), inl (kept names.answ))
+
+tapes-own : (old before : FolderState) (n : RunNames) (answer : Status) → RanBy LIMITS old before n answer → TapesBegun old before n n.tapes
+tapes-own old before n (LinkLost role segment turn) e = tapes-ran old before n _ e
+tapes-own old before n (NotDetected turn) e = tapes-ran old before n _ e
+tapes-own old before n (LineLost role symbol) e = tapes-ran old before n _ e
+tapes-own old before n (ChanceMatch role turn) e = tapes-ran old before n _ e
+tapes-own old before n answer e = absurd e
+
+tapes-by : (old before : FolderState) (n : RunNames) (stop : Stop) → EndsBy LIMITS old before n stop → TapesBegun old before n n.tapes
+tapes-by old before n (stops.Own answer) (inl refused) = all-kept old before n n.tapes refused.0
+tapes-by old before n (stops.Own answer) (inr e) = tapes-own old before n answer e
+tapes-by old before n (stops.Read fault) (inl refused) = all-kept old before n n.tapes refused.0
+tapes-by old before n (stops.Read fault) (inr (failed, rose, s)) = tapes-stopped old before n s.0
+tapes-by old before n stops.NoMemory e = all-kept old before n n.tapes e.0
+tapes-by old before n (stops.Write fault) (inl c) = all-created old before n c.creates
+tapes-by old before n (stops.Write fault) (inr (inl h)) = tapes-headed old before n n.tapes h.heads
+tapes-by old before n (stops.Write fault) (inr (inr e)) = tapes-stopped old before n e
+tapes-by old before n (stops.Say fault) never = absurd never
+
+pub tapes-of : (old before : FolderState) (n : RunNames) (end : Result ℕ Stop) → EndsSo LIMITS old before n end → TapesBegun old before n n.tapes
+tapes-of old before n (Ok turn) e = tapes-ran old before n _ e
+tapes-of old before n (Err stop) e = tapes-by old before n stop e

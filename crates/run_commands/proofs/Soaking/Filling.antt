@@ -1,0 +1,74 @@
+-- What the folder of a soak holds, and that it never fails.
+use Rattle.std.proofs.Common.{◌≡◌, ◌≢◌, ◌∙◌, inl, inr, ℕ, nat_eq, false, List, [], ◌∷◌, length, get_or, Option, Some, unwrap_or, refl, sym}
+use Rattle.std.proofs.Common.{ap, arith}
+use Rattle.std.proofs.lemmas.Bool.Decides.{nat_tests}
+use Rattle.std.specs.FinMap as finite
+use Rattle.std.specs.Cmp.Lexicographic.{nat_list_cmp_total}
+use Rattle.outside_calls.specs.Folder.{Files}
+use Rattle.program_folders.specs.Sure.{SureState, sure_folder}
+use Rattle.shared_terms.specs.declared.role.Role.TheVariants.{Originator, Answerer}
+use Rattle.outside_calls.specs.Outputs.{AreApartFrom, SomeRose}
+use Rattle.line_run.specs.Names.{inputs_of, outputs_of}
+use Rattle.line_world.specs.declared.step.RunFault.{RunFault}
+use Rattle.line_world.specs.declared.step.RunFault.TheVariants as faults
+use Rattle.line_world.specs.Turn.{FaultCounts}
+use Rattle.run_commands.specs.Soaking.Soak.{soak_file}
+use Rattle.run_commands.specs.Soaking.Ends.{IsTurnEnd}
+use Rattle.run_commands.specs.Soaking.Folder.{HoldsFiles, soak_names}
+
+-- lists with another number at a place are others
+unequal : (x y : ℕ) → nat_eq x y ≡ false → x ≢ y
+unequal x y f e = grind (arith, nat_tests, f, e)
+
+pub differ : (at : ℕ) (a b : List ℕ) → nat_eq (get_or a at 0) (get_or b at 0) ≡ false → a ≢ b
+differ at a b f e = unequal (get_or a at 0) (get_or b at 0) f (ap (λ (l : List ℕ). get_or l at 0) e)
+
+pub apart : AreApartFrom (inputs_of soak_names) (outputs_of soak_names)
+apart = (
+  (
+    (differ 4 soak_names.got_o soak_names.got_a refl, (differ 0 soak_names.got_o soak_names.trace refl, tt)),
+    ((differ 0 soak_names.got_a soak_names.trace refl, tt), (tt, tt)),
+  ),
+  (
+    (differ 0 soak_names.got_o soak_names.orig refl, (differ 0 soak_names.got_o soak_names.answ refl, tt)),
+    (
+      (differ 0 soak_names.got_a soak_names.orig refl, (differ 0 soak_names.got_a soak_names.answ refl, tt)),
+      ((differ 0 soak_names.trace soak_names.orig refl, (differ 0 soak_names.trace soak_names.answ refl, tt)), tt),
+    ),
+  ),
+)
+
+-- both files were put into a folder
+pub both-put : (s : SureState) (seed : ℕ) (held : Files) (orig answ : List ℕ)
+    → s.held ≡ finite.insert (finite.insert held soak_names.orig orig) soak_names.answ answ → orig ≡ soak_file seed Originator
+    → length orig ≡ 65536
+    → answ ≡ soak_file seed Answerer → length answ ≡ 65536 → HoldsFiles (sure_folder s) seed
+both-put s seed held orig answ e o n a m =
+    let first : Files = finite.insert held soak_names.orig orig in
+    let at-orig : finite.get (finite.insert first soak_names.answ answ) soak_names.orig ≡ Some orig
+    = finite.get-insert nat_list_cmp_total first soak_names.answ answ soak_names.orig
+    ∙ finite.get-insert nat_list_cmp_total held soak_names.orig orig soak_names.orig in
+    let at-answ : finite.get (finite.insert first soak_names.answ answ) soak_names.answ ≡ Some answ =
+    finite.get-insert nat_list_cmp_total first soak_names.answ answ soak_names.answ in
+    record {
+      orig = ap (λ (h : Files). unwrap_or (finite.get h soak_names.orig) []) e ∙ ap (λ (x : Option (List ℕ)). unwrap_or x []) at-orig ∙ o;
+      answ = ap (λ (h : Files). unwrap_or (finite.get h soak_names.answ) []) e ∙ ap (λ (x : Option (List ℕ)). unwrap_or x []) at-answ ∙ a;
+      orig_size = ap (λ (l : List ℕ). length l) (sym o) ∙ n;
+      answ_size = ap (λ (l : List ℕ). length l) (sym a) ∙ m;
+    }
+
+-- no fault is counted
+pub none-rose : (names : List (List ℕ)) → SomeRose (λ _. 0) (λ _. 0) names → ⊥
+none-rose [] rose = rose
+none-rose (name ∷ names) (inl rose) = omega (arith, rose)
+none-rose (name ∷ names) (inr rose) = none-rose names rose
+
+-- so turns don't end by one
+pub turn-end : (a b : SureState) (fault : RunFault) → FaultCounts (sure_folder a) (sure_folder b) soak_names fault → IsTurnEnd fault
+turn-end a b faults.ReadFault rose = absurd (none-rose (inputs_of soak_names) rose)
+turn-end a b faults.WriteFault rose = absurd (none-rose (outputs_of soak_names) rose)
+turn-end a b faults.NoMemory counts = tt
+turn-end a b (faults.LineLost role symbol) counts = tt
+turn-end a b (faults.ChanceMatch role turn) counts = tt
+turn-end a b (faults.NotDetected turn) counts = tt
+turn-end a b (faults.LinkLost role segment turn) counts = tt

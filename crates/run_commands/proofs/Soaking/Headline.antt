@@ -1,0 +1,201 @@
+-- From every answer to the headline, and to when a soak is done.
+use Rattle.std.proofs.Common.{◌≡◌, ◌≢◌, ◌∙◌, ◌⊎◌, inl, inr, ℕ, List, [], ◌++◌, Result, Ok, Err, refl, sym, ap, subst}
+use Rattle.std.specs.Option.{option_map}
+use Rattle.outside_calls.specs.Folder.{FolderState}
+use Rattle.outside_calls.proofs.Steps.{CountsStand-refl, FaultsStand-refl}
+use Rattle.shared_terms.specs.declared.role.Role.{Role}
+use Rattle.shared_terms.specs.declared.role.Role.TheVariants.{Originator, Answerer}
+use Rattle.shared_terms.specs.Role.{other}
+use Rattle.shared_terms.specs.Both.{of}
+use Rattle.line_run.specs.Ends.{RunEnd, Left, MayRun, RunsLeavePrefixes, DoneLeavesWhole, OneResult}
+use Rattle.line_run.specs.Ends as runs
+use Rattle.line_run.specs.Scripted.{ScriptsMayPlay, ScriptsHaveDelays}
+use Rattle.line_ends.specs.Scripts.{LineRunsEndSoon}
+use Rattle.line_ends.specs.Causes.{GivesUp, LostLinksWereStarved, EndsHaveCauses}
+use Rattle.command_base.specs.declared.status.Status.{Status}
+use Rattle.command_base.specs.declared.status.Status.TheVariants.{Done, LineLost, NotDetected, LinkLost, ChanceMatch, NoMemory}
+use Rattle.command_base.specs.declared.stop.Stop.{Stop}
+use Rattle.command_base.specs.declared.stop.Stop.TheVariants as stops
+use Rattle.command_base.specs.Stops.{IsOwn, StopCounts, end_status}
+use Rattle.command_base.specs.Job.{Answers, SaysStop}
+use Rattle.command_base.specs.Lines.{soak_line}
+use Rattle.command_base.specs.Tells.{Tells}
+use Rattle.command_base.proofs.Answering.{IsPlain}
+use Rattle.command_base.specs.Sound.{IsSound}
+use Rattle.command_base.proofs.Jobs.{last-plain, done-of, done-unless-memory, shared-of, Comes, is_done, is_own, is_memory, comes-to}
+use Rattle.run_inputs.specs.Answers.{answer_of}
+use Rattle.line_ends.specs.Completes.{ScriptRunsTo}
+use Rattle.outside_calls.proofs.OnlyOutputs.{OnlyOutputs-refl}
+use Rattle.line_ends.specs.Carried.{IsCarried}
+use Rattle.run_commands.specs.Soaking.Soak.{soak_file, soak_script}
+use Rattle.run_commands.specs.declared.soak.counts.SoakCounts.{SoakCounts}
+use Rattle.run_commands.specs.Soaking.Ends.{Ends, SoakEnds, IsSoaked, soak_wire, soak_link, soak_files, soak_job}
+use Rattle.run_commands.specs.Soaking.Ends as ends
+use Rattle.run_commands.specs.Soaking.Headline.{Soaks, RanBy, Headline}
+use Rattle.run_commands.specs.Soaking.Completes.{Completes}
+
+-- ---- how the command answers
+
+-- what a soak ends by is the command's own answer, and no refusal
+own-answer : (seed : ℕ) (answer : Status) → ends.RanBy seed answer → IsOwn answer
+own-answer seed (LinkLost role segment turn) e = tt
+own-answer seed (NotDetected turn) e = tt
+own-answer seed (LineLost role symbol) e = tt
+own-answer seed (ChanceMatch role turn) e = tt
+own-answer seed answer e = absurd e
+
+stop-counts : (seed : ℕ) (f : FolderState) (stop : Stop) → Ends seed (Err stop) → StopCounts f f [] [] stop
+stop-counts seed f (stops.Own answer) e = (own-answer seed answer e, CountsStand-refl f)
+stop-counts seed f stops.NoMemory e = FaultsStand-refl f
+stop-counts seed f (stops.Read fault) e = absurd e
+stop-counts seed f (stops.Write fault) e = absurd e
+stop-counts seed f (stops.Say fault) e = absurd e
+
+pub soaked : (words : List (List ℕ)) (old new : FolderState) (seed : ℕ) (counts : SoakCounts) (s : Status) → IsSoaked seed counts
+    → Tells old new (soak_line seed counts.turn counts.lost counts.again) Done s → Answers (soak_job seed) words old new s
+soaked words old new seed counts s e tells = record {
+  end = Ok counts;
+  before = old;
+  ends = (e, refl);
+  only = OnlyOutputs-refl old [];
+  refused = λ never. absurd never;
+  counts = CountsStand-refl old;
+  says = tells;
+}
+
+pub stopped : (words : List (List ℕ)) (old new : FolderState) (seed : ℕ) (stop : Stop) (s : Status) → Ends seed (Err stop)
+    → SaysStop words old new stop s → Answers (soak_job seed) words old new s
+stopped words old new seed stop s e says = record {
+  end = Err stop;
+  before = old;
+  ends = (e, refl);
+  only = OnlyOutputs-refl old [];
+  refused = λ r name told. refl;
+  counts = stop-counts seed old stop e;
+  says = says;
+}
+
+-- ---- the headline
+
+-- the laws of runs that it rests on
+pub record SoakLaws : Type 0 where
+  pub play : ScriptsMayPlay
+  pub delays : ScriptsHaveDelays
+  pub prefixes : RunsLeavePrefixes
+  pub whole : DoneLeavesWhole
+  pub soon : LineRunsEndSoon
+  pub causes : EndsHaveCauses
+
+may-run : SoakLaws → (seed : ℕ) (end : RunEnd) → SoakEnds seed end → MayRun (soak_wire seed) (soak_link seed)
+may-run laws seed end e = record {
+  may_play = laws.play (soak_script seed) (soak_files seed) e.limits;
+  delays = laws.delays (soak_script seed) e.limits;
+}
+
+-- the file that a role's user sends
+file-of : (seed : ℕ) (role : Role) → (of role (soak_link seed)).user.file ≡ soak_file seed role
+file-of seed Originator = refl
+file-of seed Answerer = refl
+
+soaks-of : SoakLaws → (seed : ℕ) (end : RunEnd) → SoakEnds seed end → Soaks seed end
+soaks-of laws seed end e = record {
+  ends = e;
+  begins = λ role. let p = laws.prefixes (soak_wire seed) (soak_link seed) end e.left (may-run laws seed end e) e.run role in
+      (p.0, p.1 ∙ file-of seed (other role));
+  few = laws.soon (soak_wire seed) (soak_files seed) e.run.turns e.run.ends e.limits e.run.run;
+  cause = laws.causes (soak_wire seed) (soak_files seed) end e.left e.limits e.run;
+}
+
+-- the answer is that of the run's end
+own-ran : (seed : ℕ) (end : Result SoakCounts Stop) (t : Status) → IsPlain t → Done ≢ t → Ends seed end → end_status end ≡ t
+    → ends.RanBy seed t
+own-ran seed (Ok counts) t p d e f = absurd (d f)
+own-ran seed (Err (stops.Own answer)) t p d e f = subst (ends.RanBy seed) f e
+own-ran seed (Err stops.NoMemory) t p d e f = absurd (p.memory (sym f))
+own-ran seed (Err (stops.Read fault)) t p d e f = absurd e
+own-ran seed (Err (stops.Write fault)) t p d e f = absurd e
+own-ran seed (Err (stops.Say fault)) t p d e f = absurd e
+
+ran-of : (words : List (List ℕ)) (old new : FolderState) (seed : ℕ) (s t : Status) → Answers (soak_job seed) words old new s → s ≡ t
+    → IsPlain t → Done ≢ t → ends.RanBy seed t
+ran-of words old new seed s t a e p d =
+    own-ran seed a.end t p d a.ends.0 (last-plain (soak_job seed).line_of words a.before new a.end s t a.says e p)
+
+ran-by : SoakLaws → (words : List (List ℕ)) (old new : FolderState) (seed : ℕ) (s t : Status) → Answers (soak_job seed) words old new s
+    → s ≡ t → RanBy old new seed t
+ran-by laws words old new seed s Done a e =
+    let d = done-of (soak_job seed) words old new s a e in
+    let i : IsSoaked seed d.done = d.ends.0 in
+    record {
+      counts = d.done;
+      said = d.said ∙ ap (λ (f : FolderState). option_map (λ x. x ++ soak_line seed d.done.turn d.done.lost d.done.again) f.said) d.ends.1;
+      soaked = i;
+      whole = λ role. laws.whole (soak_wire seed) (soak_link seed) d.done.turn i.ends.left (may-run laws seed _ i.ends) i.ends.run role
+          ∙ file-of seed (other role);
+      soaks = soaks-of laws seed (runs.IsDone d.done.turn) i.ends;
+    }
+ran-by laws words old new seed s (LinkLost role segment turn) a e =
+    soaks-of laws seed _ (ran-of words old new seed s (LinkLost role segment turn) a e (record { write = λ f. cc; memory = λ f. cc })
+    (λ f. cc))
+ran-by laws words old new seed s (NotDetected turn) a e =
+    soaks-of laws seed _ (ran-of words old new seed s (NotDetected turn) a e (record { write = λ f. cc; memory = λ f. cc }) (λ f. cc))
+ran-by laws words old new seed s (LineLost role symbol) a e =
+    soaks-of laws seed _ (ran-of words old new seed s (LineLost role symbol) a e (record { write = λ f. cc; memory = λ f. cc }) (λ f. cc))
+ran-by laws words old new seed s (ChanceMatch role turn) a e =
+    soaks-of laws seed _ (ran-of words old new seed s (ChanceMatch role turn) a e (record { write = λ f. cc; memory = λ f. cc }) (λ f. cc))
+ran-by laws words old new seed s t a e = tt
+
+pub headline-of : SoakLaws → (words : List (List ℕ)) (old new : FolderState) (seed : ℕ) (s : Status)
+    → Answers (soak_job seed) words old new s → Headline old new seed s
+headline-of laws words old new seed s a =
+    record {
+      shared = shared-of (soak_job seed) words old new s a (λ e name. a.only.names name tt);
+      ran = ran-by laws words old new seed s s a refl;
+    }
+
+-- ---- when a soak is done
+
+never-up : LostLinksWereStarved → (seed : ℕ) (end : RunEnd) → IsCarried (soak_script seed) (soak_files seed) → GivesUp end
+    → SoakEnds seed end → ⊥
+never-up starved seed end c g e =
+    c.not_starved end e.left e.run g (starved (soak_wire seed) (soak_files seed) end e.left e.limits e.run g)
+
+never-ran : LostLinksWereStarved → (seed : ℕ) (answer : Status) → IsCarried (soak_script seed) (soak_files seed) → ends.RanBy seed answer
+    → ⊥
+never-ran starved seed (LinkLost role segment turn) c e = never-up starved seed (runs.LinkLost role segment turn) c tt e
+never-ran starved seed (NotDetected turn) c e = never-up starved seed (runs.NotDetected turn) c tt e
+never-ran starved seed (LineLost role symbol) c e = c.stays (runs.LineLost role symbol) e.left e.run tt
+never-ran starved seed (ChanceMatch role turn) c e = c.stays (runs.ChanceMatch role turn) e.left e.run tt
+never-ran starved seed answer c e = e
+
+-- the end of the run that an answer names
+own-end : (seed : ℕ) (answer : Status) → ends.RanBy seed answer → (found : RunEnd) × (answer ≡ answer_of found) × SoakEnds seed found
+own-end seed (LinkLost role segment turn) e = (runs.LinkLost role segment turn, refl, e)
+own-end seed (NotDetected turn) e = (runs.NotDetected turn, refl, e)
+own-end seed (LineLost role symbol) e = (runs.LineLost role symbol, refl, e)
+own-end seed (ChanceMatch role turn) e = (runs.ChanceMatch role turn, refl, e)
+own-end seed answer e = absurd e
+
+exact-of : OneResult → (words : List (List ℕ)) (old new : FolderState) (seed : ℕ) (s : Status) → Answers (soak_job seed) words old new s
+    → IsSound old new [] [] → (end : RunEnd) (left : Left) → ScriptRunsTo (soak_script seed) (soak_files seed) end left
+    → (s ≡ answer_of end) ⊎ (s ≡ NoMemory)
+exact-of law words old new seed s a sound end left run = by (comes-to (soak_job seed) words old new s a sound)
+  where
+    so : (found : RunEnd) → SoakEnds seed found → s ≡ answer_of found → (s ≡ answer_of end) ⊎ (s ≡ NoMemory)
+    so found e is = inl (is ∙ ap answer_of (law (soak_wire seed) (soak_link seed) found end e.left left e.run run).0)
+
+    by : Comes a.end s → (s ≡ answer_of end) ⊎ (s ≡ NoMemory)
+    by (is_done counts is e) =
+        let soaked : IsSoaked seed counts = subst (λ (x : Result SoakCounts Stop). Ends seed x) is a.ends.0 in
+        so (runs.IsDone counts.turn) soaked.ends e
+    by (is_own answer is e) =
+        let found = own-end seed answer (subst (λ (x : Result SoakCounts Stop). Ends seed x) is a.ends.0) in
+        so found.0 found.2 (e ∙ found.1)
+    by (is_memory e) = inr e
+
+pub completes-of : OneResult → LostLinksWereStarved → (words : List (List ℕ)) (old new : FolderState) (seed : ℕ) (s : Status)
+    → Answers (soak_job seed) words old new s → Completes old new seed s
+completes-of law starved words old new seed s a = record {
+  exact = exact-of law words old new seed s a;
+  carried = λ sound c. done-unless-memory (soak_job seed) words old new s a sound (λ answer e. never-ran starved seed answer c e.0);
+}

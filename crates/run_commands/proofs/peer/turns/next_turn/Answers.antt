@@ -1,0 +1,203 @@
+use Rattle.std.proofs.Common.{◌≡◌, ◌∙◌, inl, inr, ℕ, ◌*◌, ◌<◌, IsTrue, List, ◌++◌, length, take, refl, sym, subst, arith, Option, Some}
+use Rattle.std.proofs.Common.{None, Result, Ok, Err}
+use Rattle.std.proofs.lemmas.List.{append-nil, length-take-le}
+use Rattle.outside_calls.specs.Folder.{FolderState, octets_at}
+use Rattle.shared_terms.specs.declared.role.Role.{Role}
+use Rattle.command_base.specs.declared.limits.TheConstants.{FILE_LIMIT}
+use Rattle.command_base.specs.Inputs.{ReadTo}
+use Rattle.command_base.specs.declared.stop.Stop.{Stop}
+use Rattle.line_world.specs.OneEnd.Heard.{slot_octets}
+use Rattle.line_world.specs.OneEnd.Peer.{Closed}
+use Rattle.line_world.specs.OneEnd.Turn.{Makes, EndsBy as TurnEndsBy}
+use Rattle.run_commands.specs.Peering.Words.{Names, named, turn_names, inputs_of, outputs_of}
+use Rattle.run_commands.specs.Peering.Ends.{EndsBy}
+use Rattle.run_commands.proofs.Peering.Starting.{goes-by, ends-short-by}
+use Rattle.run_commands.proofs.Peering.Reaching.{fails-later, Around, around, fault-ends, closed-ends, ends-whole, not-read}
+use Rattle.run_commands.proofs.peer.turns.next_turn.Goals as goal
+
+-- a run that ends, or stops, has no next turn
+ends-here : (r : Result (Option ℕ) Stop) (turns : ℕ) → r ≡ Ok None → r ≡ Ok (Some turns) → ⊥
+ends-here r turns none some = cc (none, some)
+
+stops-here : (r : Result (Option ℕ) Stop) (stop : Stop) → r ≡ Ok None → r ≡ Err stop → ⊥
+stops-here r stop none err = cc (none, err)
+
+pub returns-in-Ok-eq0-clause-done : goal.returns-in-Ok-eq0-clause-done
+returns-in-Ok-eq0-clause-done g c = λ start r.
+    let n : Names = named c.args.words.now in
+    let old : FolderState = g.F.Folder.state c.args.folder.now in
+    let mid : FolderState = g.F.Folder.state c.read_piece.new.folder in
+    let number : c.turn_number-turn.result ≡ length r.past.turns = c.turn_number-turn.ensures ∙ r.after.turn in
+    let read : ReadTo start old n.bits FILE_LIMIT (232 * c.turn_number-turn.result) r.octets =
+    subst (λ x. ReadTo start old n.bits FILE_LIMIT (slot_octets * x) r.octets) (sym number) r.read in
+    let end : (count : ℕ) → count ≡ 0
+    → (count < 232 → IsTrue (start.tells n.bits) → r.octets ++ take count c.read_piece.new.piece ≡ octets_at start n.bits)
+    → IsTrue (start.tells n.bits) → r.octets ≡ octets_at start n.bits =
+    λ count e h told. sym (append-nil r.octets)
+    ∙ (subst (λ (m : ℕ). m < 232 → r.octets ++ take m c.read_piece.new.piece ≡ octets_at start n.bits) e (λ few. h few told))
+    (omega arith) in
+    ends-whole start old mid n c.args.single.now r c.turn_number-turn.result number c.in-Ok-eq0.ensures.reads
+    (end c.in-Ok-eq0.field-0 c.in-Ok-eq0.field-0-test (c.in-Ok-eq0.ensures.end start r.octets read))
+
+pub returns-in-Err-clause-err : goal.returns-in-Err-clause-err
+returns-in-Err-clause-err g c = λ start r.
+    let n : Names = named c.args.words.now in
+    let old : FolderState = g.F.Folder.state c.args.folder.now in
+    let mid : FolderState = g.F.Folder.state c.read_piece.new.folder in
+    inr (inl (
+      fails-later start old mid n.bits c.in-Err.fault r.stand c.in-Err.ensures.fails,
+      not-read start old mid n c.args.single.now r c.in-Err.ensures.reads,
+    ))
+
+pub returns-then-count-lt-SLOT_OCTETS-clause-done : goal.returns-then-count-lt-SLOT_OCTETS-clause-done
+returns-then-count-lt-SLOT_OCTETS-clause-done g c = λ start r.
+    let n : Names = named c.args.words.now in
+    let old : FolderState = g.F.Folder.state c.args.folder.now in
+    let mid : FolderState = g.F.Folder.state c.read_piece.new.folder in
+    let next : FolderState = g.F.Folder.state c.turn.new.folder in
+    let slot : List ℕ = take c.in-Ok.count c.read_piece.new.piece in
+    let number : c.turn_number-turn.result ≡ length r.past.turns = c.turn_number-turn.ensures ∙ r.after.turn in
+    let read : ReadTo start old n.bits FILE_LIMIT (232 * c.turn_number-turn.result) r.octets =
+    subst (λ x. ReadTo start old n.bits FILE_LIMIT (slot_octets * x) r.octets) (sym number) r.read in
+    let long : length slot ≡ c.in-Ok.count =
+    length-take-le c.in-Ok.count c.read_piece.new.piece (omega (arith, c.in-Ok.ensures.bound, c.in-Ok.ensures.kept)) in
+    let apart = c.apart_names_differ.ensures.inputs (inputs_of n) (outputs_of n) c.requires.apart in
+    let a : Around start mid next n r.past r.octets slot = around start old mid next n c.args.single.now r slot apart c.in-Ok.ensures.reads
+    (subst (λ x. ReadTo start mid n.bits FILE_LIMIT x (r.octets ++ slot)) (omega (arith, number, long))
+    (c.in-Ok.ensures.more start r.octets read))
+    (omega (arith, long, c.in-Ok.count-test)) (omega (arith, long, c.in-Ok.ensures.bound))
+    (λ less. c.in-Ok.ensures.end start r.octets read (omega (arith, less, long))) c.in-Ok-Going.ensures.only c.in-Ok.ensures.stand in
+    ends-short-by c.lone_turns_deliver_what_came.ensures.hearing c.lone_turns_deliver_what_came.ensures.speaking
+    start mid next n c.args.single.now c.turn.new.self r.past r.octets slot c.turn_number-turn.result a number
+    r.after r.role_is c.in-Ok-Going.ensures.role
+    ((rw c.in-Ok-Going.field-0-is at c.in-Ok-Going.ensures.turn) r.past r.after r.knows.within)
+    (omega (arith, long, c.if-count-lt-SLOT_OCTETS.true))
+
+pub returns-else-count-lt-SLOT_OCTETS-clause-going : goal.returns-else-count-lt-SLOT_OCTETS-clause-going
+returns-else-count-lt-SLOT_OCTETS-clause-going g c = λ start r going.
+    let n : Names = named c.args.words.now in
+    let old : FolderState = g.F.Folder.state c.args.folder.now in
+    let mid : FolderState = g.F.Folder.state c.read_piece.new.folder in
+    let next : FolderState = g.F.Folder.state c.turn.new.folder in
+    let slot : List ℕ = take c.in-Ok.count c.read_piece.new.piece in
+    let number : c.turn_number-turn.result ≡ length r.past.turns = c.turn_number-turn.ensures ∙ r.after.turn in
+    let read : ReadTo start old n.bits FILE_LIMIT (232 * c.turn_number-turn.result) r.octets =
+    subst (λ x. ReadTo start old n.bits FILE_LIMIT (slot_octets * x) r.octets) (sym number) r.read in
+    let long : length slot ≡ c.in-Ok.count =
+    length-take-le c.in-Ok.count c.read_piece.new.piece (omega (arith, c.in-Ok.ensures.bound, c.in-Ok.ensures.kept)) in
+    let apart = c.apart_names_differ.ensures.inputs (inputs_of n) (outputs_of n) c.requires.apart in
+    let a : Around start mid next n r.past r.octets slot = around start old mid next n c.args.single.now r slot apart c.in-Ok.ensures.reads
+    (subst (λ x. ReadTo start mid n.bits FILE_LIMIT x (r.octets ++ slot)) (omega (arith, number, long))
+    (c.in-Ok.ensures.more start r.octets read))
+    (omega (arith, long, c.in-Ok.count-test)) (omega (arith, long, c.in-Ok.ensures.bound))
+    (λ less. c.in-Ok.ensures.end start r.octets read (omega (arith, less, long))) c.in-Ok-Going.ensures.only c.in-Ok.ensures.stand in
+    goes-by c.lone_turns_deliver_what_came.ensures.hearing c.lone_turns_deliver_what_came.ensures.speaking
+    start mid next n c.args.single.now c.turn.new.self r.past r.octets slot a
+    r.role_is c.in-Ok-Going.ensures.role c.in-Ok-Going.ensures.counts
+    ((rw c.in-Ok-Going.field-0-is at c.in-Ok-Going.ensures.turn) r.past r.after r.knows.within)
+    (omega (arith, long, c.in-Ok.ensures.bound, c.if-count-lt-SLOT_OCTETS.false))
+
+pub returns-in-Ok-Closed-clause-done : goal.returns-in-Ok-Closed-clause-done
+returns-in-Ok-Closed-clause-done g c = λ start r.
+    let n : Names = named c.args.words.now in
+    let old : FolderState = g.F.Folder.state c.args.folder.now in
+    let mid : FolderState = g.F.Folder.state c.read_piece.new.folder in
+    let next : FolderState = g.F.Folder.state c.turn.new.folder in
+    let slot : List ℕ = take c.in-Ok.count c.read_piece.new.piece in
+    let number : c.turn_number-turn.result ≡ length r.past.turns = c.turn_number-turn.ensures ∙ r.after.turn in
+    let read : ReadTo start old n.bits FILE_LIMIT (232 * c.turn_number-turn.result) r.octets =
+    subst (λ x. ReadTo start old n.bits FILE_LIMIT (slot_octets * x) r.octets) (sym number) r.read in
+    let long : length slot ≡ c.in-Ok.count =
+    length-take-le c.in-Ok.count c.read_piece.new.piece (omega (arith, c.in-Ok.ensures.bound, c.in-Ok.ensures.kept)) in
+    let apart = c.apart_names_differ.ensures.inputs (inputs_of n) (outputs_of n) c.requires.apart in
+    let a : Around start mid next n r.past r.octets slot = around start old mid next n c.args.single.now r slot apart c.in-Ok.ensures.reads
+    (subst (λ x. ReadTo start mid n.bits FILE_LIMIT x (r.octets ++ slot)) (omega (arith, number, long))
+    (c.in-Ok.ensures.more start r.octets read))
+    (omega (arith, long, c.in-Ok.count-test)) (omega (arith, long, c.in-Ok.ensures.bound))
+    (λ less. c.in-Ok.ensures.end start r.octets read (omega (arith, less, long))) c.in-Ok-Closed.ensures.only c.in-Ok.ensures.stand in
+    let m = (rw c.in-Ok-Closed.field-0-is at c.in-Ok-Closed.ensures.turn) r.past r.after r.knows.within in
+    closed-ends start mid next n r.past r.octets slot c.turn_number-turn.result a number
+    (subst (λ (x : Role). Makes x mid next (turn_names n) r.past slot Closed) (c.in-Ok-Closed.ensures.role ∙ r.role_is) m)
+
+pub returns-in-Err-turn-clause-err : goal.returns-in-Err-turn-clause-err
+returns-in-Err-turn-clause-err g c = λ start r.
+    let n : Names = named c.args.words.now in
+    let old : FolderState = g.F.Folder.state c.args.folder.now in
+    let mid : FolderState = g.F.Folder.state c.read_piece.new.folder in
+    let next : FolderState = g.F.Folder.state c.turn.new.folder in
+    let slot : List ℕ = take c.in-Ok.count c.read_piece.new.piece in
+    let number : c.turn_number-turn.result ≡ length r.past.turns = c.turn_number-turn.ensures ∙ r.after.turn in
+    let read : ReadTo start old n.bits FILE_LIMIT (232 * c.turn_number-turn.result) r.octets =
+    subst (λ x. ReadTo start old n.bits FILE_LIMIT (slot_octets * x) r.octets) (sym number) r.read in
+    let long : length slot ≡ c.in-Ok.count =
+    length-take-le c.in-Ok.count c.read_piece.new.piece (omega (arith, c.in-Ok.ensures.bound, c.in-Ok.ensures.kept)) in
+    let apart = c.apart_names_differ.ensures.inputs (inputs_of n) (outputs_of n) c.requires.apart in
+    let a : Around start mid next n r.past r.octets slot = around start old mid next n c.args.single.now r slot apart c.in-Ok.ensures.reads
+    (subst (λ x. ReadTo start mid n.bits FILE_LIMIT x (r.octets ++ slot)) (omega (arith, number, long))
+    (c.in-Ok.ensures.more start r.octets read))
+    (omega (arith, long, c.in-Ok.count-test)) (omega (arith, long, c.in-Ok.ensures.bound))
+    (λ less. c.in-Ok.ensures.end start r.octets read (omega (arith, less, long))) c.in-Err-turn.ensures.only c.in-Ok.ensures.stand in
+    subst (EndsBy start next n) (sym c.stop_of.ensures)
+    (fault-ends start mid next n r.past r.octets slot c.turn_number-turn.result c.in-Err-turn.fault a number c.in-Err-turn.ensures.counts
+    (subst (λ (x : Role). TurnEndsBy x mid next (turn_names n) r.past slot c.in-Err-turn.fault) (c.in-Err-turn.ensures.role ∙ r.role_is)
+    (c.in-Err-turn.ensures.turn r.past r.after r.knows.within)))
+
+pub returns-in-Ok-eq0-clause-going : goal.returns-in-Ok-eq0-clause-going
+returns-in-Ok-eq0-clause-going g c = λ start r e. absurd (ends-here _ _ e refl)
+
+pub returns-in-Ok-eq0-clause-ready : goal.returns-in-Ok-eq0-clause-ready
+returns-in-Ok-eq0-clause-ready g c = λ e. absurd (ends-here _ _ e refl)
+
+pub returns-in-Ok-eq0-clause-within : goal.returns-in-Ok-eq0-clause-within
+returns-in-Ok-eq0-clause-within g c = λ e. absurd (ends-here _ _ e refl)
+
+pub returns-in-Ok-eq0-clause-number : goal.returns-in-Ok-eq0-clause-number
+returns-in-Ok-eq0-clause-number g c = λ e. absurd (ends-here _ _ e refl)
+
+pub returns-in-Err-clause-going : goal.returns-in-Err-clause-going
+returns-in-Err-clause-going g c = λ start r e. absurd (stops-here _ _ e refl)
+
+pub returns-in-Err-clause-ready : goal.returns-in-Err-clause-ready
+returns-in-Err-clause-ready g c = λ e. absurd (stops-here _ _ e refl)
+
+pub returns-in-Err-clause-within : goal.returns-in-Err-clause-within
+returns-in-Err-clause-within g c = λ e. absurd (stops-here _ _ e refl)
+
+pub returns-in-Err-clause-number : goal.returns-in-Err-clause-number
+returns-in-Err-clause-number g c = λ e. absurd (stops-here _ _ e refl)
+
+pub returns-then-count-lt-SLOT_OCTETS-clause-going : goal.returns-then-count-lt-SLOT_OCTETS-clause-going
+returns-then-count-lt-SLOT_OCTETS-clause-going g c = λ start r e. absurd (ends-here _ _ e refl)
+
+pub returns-then-count-lt-SLOT_OCTETS-clause-ready : goal.returns-then-count-lt-SLOT_OCTETS-clause-ready
+returns-then-count-lt-SLOT_OCTETS-clause-ready g c = λ e. absurd (ends-here _ _ e refl)
+
+pub returns-then-count-lt-SLOT_OCTETS-clause-within : goal.returns-then-count-lt-SLOT_OCTETS-clause-within
+returns-then-count-lt-SLOT_OCTETS-clause-within g c = λ e. absurd (ends-here _ _ e refl)
+
+pub returns-then-count-lt-SLOT_OCTETS-clause-number : goal.returns-then-count-lt-SLOT_OCTETS-clause-number
+returns-then-count-lt-SLOT_OCTETS-clause-number g c = λ e. absurd (ends-here _ _ e refl)
+
+pub returns-in-Ok-Closed-clause-going : goal.returns-in-Ok-Closed-clause-going
+returns-in-Ok-Closed-clause-going g c = λ start r e. absurd (ends-here _ _ e refl)
+
+pub returns-in-Ok-Closed-clause-ready : goal.returns-in-Ok-Closed-clause-ready
+returns-in-Ok-Closed-clause-ready g c = λ e. absurd (ends-here _ _ e refl)
+
+pub returns-in-Ok-Closed-clause-within : goal.returns-in-Ok-Closed-clause-within
+returns-in-Ok-Closed-clause-within g c = λ e. absurd (ends-here _ _ e refl)
+
+pub returns-in-Ok-Closed-clause-number : goal.returns-in-Ok-Closed-clause-number
+returns-in-Ok-Closed-clause-number g c = λ e. absurd (ends-here _ _ e refl)
+
+pub returns-in-Err-turn-clause-going : goal.returns-in-Err-turn-clause-going
+returns-in-Err-turn-clause-going g c = λ start r e. absurd (stops-here _ _ e refl)
+
+pub returns-in-Err-turn-clause-ready : goal.returns-in-Err-turn-clause-ready
+returns-in-Err-turn-clause-ready g c = λ e. absurd (stops-here _ _ e refl)
+
+pub returns-in-Err-turn-clause-within : goal.returns-in-Err-turn-clause-within
+returns-in-Err-turn-clause-within g c = λ e. absurd (stops-here _ _ e refl)
+
+pub returns-in-Err-turn-clause-number : goal.returns-in-Err-turn-clause-number
+returns-in-Err-turn-clause-number g c = λ e. absurd (stops-here _ _ e refl)

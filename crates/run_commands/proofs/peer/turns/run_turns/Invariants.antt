@@ -1,0 +1,23 @@
+use Rattle.std.proofs.Common.{◌-◌, ◌*◌, ◌≤◌}
+use Rattle.outside_calls.specs.Folder.{FolderState, CountsStand}
+use Rattle.command_base.specs.declared.limits.TheConstants.{FILE_LIMIT}
+use Rattle.outside_calls.specs.Outputs.{OnlyOutputs, SaysNothing}
+use Rattle.line_world.specs.OneEnd.Heard.{slot_octets}
+use Rattle.line_world.specs.OneEnd.Single.{IsReady, turn_of}
+use Rattle.run_commands.specs.Peering.Words.{named, outputs_of}
+use Rattle.run_commands.specs.Peering.Turns.{Reached}
+use Rattle.run_commands.proofs.peer.turns.run_turns.Given as goal
+
+abbrev pub invariant-loop-turns : goal.invariant-loop-turns
+invariant-loop-turns g l = record {
+  reached : (start : FolderState) → Reached start (g.F.Folder.state l.fn.folder) (named l.words) l.fn.single
+      → Reached start (g.F.Folder.state l.folder) (named l.words) l.single;
+  ready : IsReady l.single;
+  within : slot_octets * turn_of l.single ≤ FILE_LIMIT;
+  only : OnlyOutputs (g.F.Folder.state l.fn.folder) (g.F.Folder.state l.folder) (outputs_of (named l.words));
+  said : SaysNothing (g.F.Folder.state l.fn.folder) (g.F.Folder.state l.folder);
+  stand : CountsStand (g.F.Folder.state l.fn.folder) (g.F.Folder.state l.folder);
+}
+
+abbrev pub decreases-loop-turns : goal.decreases-loop-turns
+decreases-loop-turns g l = FILE_LIMIT - turn_of l.single

@@ -1,0 +1,56 @@
+use Rattle.std.proofs.Common.{[], sym, subst}
+use Rattle.outside_calls.specs.Folder.{FolderState}
+use Rattle.noise_script.specs.Script.{ScriptValue}
+use Rattle.link_run.specs.Run.{start}
+use Rattle.line_run.specs.Scripted.{link_of}
+use Rattle.line_world.specs.World.{WorldAfter}
+use Rattle.command_base.proofs.Jobs.{end-earlier}
+use Rattle.outside_calls.proofs.OnlyOutputs.{OnlyOutputs-reads, OnlyOutputs-trans}
+use Rattle.run_inputs.specs.declared.limits.TheConstants.{LIMITS}
+use Rattle.run_inputs.specs.Words.{RunNames, named, inputs_of, outputs_of}
+use Rattle.run_commands.specs.Running.Ends.{IsBegun}
+use Rattle.run_commands.proofs.Running.Runs.{ends-refused}
+use Rattle.run_commands.proofs.run.command.run_to_end.Goals as goal
+
+pub returns-in-Err-clause-ends : goal.returns-in-Err-clause-ends
+returns-in-Err-clause-ends g c =
+    ends-refused LIMITS (g.F.Folder.state c.args.folder.now) (g.F.Folder.state c.open_inputs.new.folder)
+    (named c.args.words.now) c.in-Err.stop c.in-Err.ensures.reads c.in-Err.ensures.refused
+
+pub returns-in-Err-clause-counts : goal.returns-in-Err-clause-counts
+returns-in-Err-clause-counts g c = c.in-Err.ensures.counts (outputs_of (named c.args.words.now))
+
+pub returns-in-Err-new-clause-counts : goal.returns-in-Err-new-clause-counts
+returns-in-Err-new-clause-counts g c = let counts = c.in-Ok.ensures.counts (outputs_of (named c.args.words.now)) in counts.faults
+
+pub run_world-requires-clause-first : goal.run_world-requires-clause-first
+run_world-requires-clause-first g c = λ files.
+    subst (λ (s : ScriptValue). WorldAfter c.in-Ok-new.world files [] (start (link_of s files))) (sym c.in-Ok-new.ensures.script)
+    (c.in-Ok-new.ensures.world files)
+
+pub returns-clause-ends : goal.returns-clause-ends
+returns-clause-ends g c =
+    let old : FolderState = g.F.Folder.state c.args.folder.now in
+    let mid : FolderState = g.F.Folder.state c.open_inputs.new.folder in
+    c.run_world.ensures.ends old
+    (subst (IsBegun LIMITS old mid (named c.args.words.now)) (sym c.in-Ok-new.ensures.script)
+    (record {
+      opens = c.in-Ok.ensures.opened;
+      limits = c.is_in_limits.ensures;
+      reads = c.in-Ok.ensures.reads;
+      stand = c.in-Ok.ensures.counts (outputs_of (named c.args.words.now));
+    }))
+
+pub returns-clause-only : goal.returns-clause-only
+returns-clause-only g c =
+    let n : RunNames = named c.args.words.now in
+    OnlyOutputs-trans (outputs_of n) (OnlyOutputs-reads (outputs_of n) c.in-Ok.ensures.reads) c.run_world.ensures.only
+
+pub returns-clause-counts : goal.returns-clause-counts
+returns-clause-counts g c =
+    let old : FolderState = g.F.Folder.state c.args.folder.now in
+    let mid : FolderState = g.F.Folder.state c.open_inputs.new.folder in
+    let next : FolderState = g.F.Folder.state c.run_world.new.folder in
+    let n : RunNames = named c.args.words.now in
+    end-earlier old mid next (inputs_of n) (outputs_of n) c.run_world.result
+    (c.in-Ok.ensures.counts (outputs_of n)) c.run_world.ensures.counts

@@ -1,0 +1,25 @@
+use Rattle.std.proofs.Common.{List, ℕ, ◌∙◌, ap, subst}
+use Rattle.outside_calls.specs.Folder.{FolderState, Appended}
+use Rattle.shared_terms.specs.Role.{mode_of}
+use Rattle.recordings.specs.Recording.{header_of}
+use Rattle.run_commands.proofs.Running.Heads.{begins, heads}
+use Rattle.run_commands.proofs.run.outputs.begin_tape.Goals as goal
+
+pub returns-in-Ok-clause-ok : goal.returns-in-Ok-clause-ok
+returns-in-Ok-clause-ok g c =
+    let a : FolderState = g.F.Folder.state c.args.folder.now in
+    let b : FolderState = g.F.Folder.state c.append_output.new.folder in (
+      c.new.ensures.name,
+      λ channel. begins c.new.result a b channel c.args.role c.args.name.now (c.new.ensures.stands channel) c.new.ensures.name
+          c.in-Ok.ensures.only.goes_on c.requires
+          (subst (λ (o : List ℕ). Appended a b c.args.name.now o)
+          (c.as_slice.ensures.items ∙ c.header_octets.ensures ∙ ap header_of c.mode.ensures) c.in-Ok.ensures.ok),
+    )
+
+pub returns-in-Ok-clause-head : goal.returns-in-Ok-clause-head
+returns-in-Ok-clause-head g c =
+    let a : FolderState = g.F.Folder.state c.args.folder.now in
+    let b : FolderState = g.F.Folder.state c.append_output.new.folder in
+    heads a b c.args.name.now (header_of (mode_of c.args.role)) c.in-Ok.ensures.only.goes_on c.requires
+    (subst (λ (o : List ℕ). Appended a b c.args.name.now o)
+    (c.as_slice.ensures.items ∙ c.header_octets.ensures ∙ ap header_of c.mode.ensures) c.in-Ok.ensures.ok)

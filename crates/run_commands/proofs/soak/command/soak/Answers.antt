@@ -1,0 +1,12 @@
+use Rattle.std.specs.Prelude.{map, string_bytes}
+use Rattle.run_commands.proofs.soak.command.soak.Goals as goal
+
+pub returns-clause-headline : goal.returns-clause-headline
+returns-clause-headline g c =
+    c.answers_keep_the_headline.ensures (map string_bytes c.args.words.now) (g.F.Folder.state c.args.folder.now)
+    (g.F.Folder.state c.soak_and_tell.new.folder) c.args.seed c.soak_and_tell.result c.soak_and_tell.ensures
+
+pub returns-clause-completes : goal.returns-clause-completes
+returns-clause-completes g c =
+    c.carried_soaks_are_done.ensures (map string_bytes c.args.words.now) (g.F.Folder.state c.args.folder.now)
+    (g.F.Folder.state c.soak_and_tell.new.folder) c.args.seed c.soak_and_tell.result c.soak_and_tell.ensures

@@ -1,0 +1,14 @@
+use Rattle.std.proofs.Common.{◌∙◌, [], sym, subst}
+use Rattle.noise_script.specs.Script.{ScriptValue}
+use Rattle.link_run.specs.Run.{start}
+use Rattle.line_run.specs.Scripted.{link_of}
+use Rattle.line_world.specs.World.{WorldAfter}
+use Rattle.run_commands.proofs.soak.soaking.soak_run.Goals as goal
+
+pub soak_world-requires-clause-first : goal.soak_world-requires-clause-first
+soak_world-requires-clause-first c = λ files.
+    subst (λ (s : ScriptValue). WorldAfter c.in-Ok-new.world files [] (start (link_of s files))) (sym c.in-Ok-new.ensures.script)
+    (c.in-Ok-new.ensures.world files)
+
+pub returns : goal.returns
+returns c = c.soak_world.ensures c.args.seed (c.in-Ok-new.ensures.script ∙ c.in-Ok-soak_script.ensures) c.in-Ok.ensures

@@ -1,0 +1,51 @@
+// The folder of a soak.
+ghost use Rattle.std.specs.Prelude.{◌≡◌, IfOk, OnOk, true};
+ghost use Rattle.line_run.specs.Names.{written};
+ghost use Rattle.outside_calls.specs.Outputs.{OnlyOutputs, Creates};
+ghost use Rattle.program_folders.specs.Sure.{sure_folder};
+ghost use Rattle.run_commands.specs.Soaking.Folder.{HoldsFiles, soak_names, soak_outputs};
+
+use crate::soak::files::soak_file;
+use command_base::create_outputs;
+use line_world::Names;
+use outside_calls::{FolderFault, NoMemory};
+use program_folders::SureFolder;
+use shared_terms::Role;
+use std::alloc::Global;
+
+/// The names that the soak's folder has.
+pub(crate) fn soak_names() -> Names<'static>
+    ensures { written result ≡ soak_names }
+{
+    Names {
+        orig: "orig",
+        answ: "answ",
+        got_o: "got_o",
+        got_a: "got_a",
+        trace: "trace",
+    }
+}
+
+/// A folder that holds both files of a seed.
+pub(crate) fn soak_folder(alloc: Global, seed: u64) -> Result<SureFolder, NoMemory>
+    ensures { IfOk result (λ folder. HoldsFiles (sure_folder folder) seed) }
+{
+    let mut folder = SureFolder::new(alloc);
+    let orig = soak_file(alloc, seed, Role::Originator)?;
+    folder.put("orig", &orig)?;
+    let answ = soak_file(alloc, seed, Role::Answerer)?;
+    folder.put("answ", &answ)?;
+    Ok(folder)
+}
+
+/// The outputs are made. This folder never fails, so there may be no memory, and nothing worse.
+pub(crate) fn make_outputs(folder: &mut SureFolder) -> Result<(), NoMemory>
+    ensures made { OnOk result (Creates (sure_folder folder.new) soak_outputs) }
+    ensures only { OnlyOutputs (sure_folder folder.old) (sure_folder folder.new) soak_outputs }
+{
+    match create_outputs(folder, &["got_o", "got_a", "trace"]) {
+        Ok(()) => Ok(()),
+        Err(FolderFault::NoMemory) => Err(NoMemory),
+        Err(FolderFault::Failed) => unreachable!(),
+    }
+}

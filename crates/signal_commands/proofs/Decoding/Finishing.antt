@@ -1,0 +1,27 @@
+-- What a playback gives in the end.
+use Rattle.std.proofs.Common.{ℕ, Bool, List, ◌++◌}
+use Rattle.symbol_map.specs.declared.sample.Sample.{Sample}
+use Rattle.survivors.specs.Survivors.{IsFirstLeast}
+use Rattle.recordings.specs.declared.rate.Rate.{Rate}
+use Rattle.signal_commands.specs.declared.decode.octet_joiner.Bits.{Bits}
+use Rattle.signal_commands.specs.Decoding.Playing.{Finishes, LabelsJoined, ReadToEnd}
+use Rattle.signal_commands.specs.Decoding.Rates.{trellis_at, DemodulatesAt}
+use Rattle.signal_commands.proofs.Decoding.Playings.{whole-joined}
+
+-- the labels of the least sequence that were read so far are joined, and its last ones are read to the end
+pub finishes : {D : Type 0} (rate : Rate) (tap : ℕ) (reads : D → List ℕ → List Bool → Type 0) (d : D) (waiting : Bits)
+    (samples : List Sample) (labels tail before octets : List ℕ)
+    → ((last : D) (all : List ℕ) (bits : List Bool) → reads last all bits → DemodulatesAt rate tap all bits)
+    → IsFirstLeast (trellis_at rate) samples (labels ++ tail) → LabelsJoined reads d waiting labels before
+    → (LabelsJoined reads d waiting labels before → ReadToEnd reads (labels ++ tail) octets) → Finishes rate tap samples octets
+finishes rate tap reads d waiting samples labels tail before octets carries least joined to_end =
+    let (last, others, j) = to_end joined in
+    record {
+      labels = labels ++ tail;
+      least = least;
+      carried = record {
+        bits = j.bits;
+        read = carries last (labels ++ tail) j.bits j.read;
+        whole = whole-joined others j.bits octets j.joined;
+      };
+    }

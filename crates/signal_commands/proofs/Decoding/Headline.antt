@@ -1,0 +1,264 @@
+-- From every answer to what the command promises.
+use Rattle.std.proofs.Common.{◌≡◌, ◌⊎◌, ◌∙◌, inl, inr, ℕ, ◌+◌, ◌%◌, List, [], ◌++◌, length, take, drop, Some, None, Result, Ok, Err, refl}
+use Rattle.std.proofs.Common.{sym, ap, subst, arith, append-nil, take-append-drop}
+use Rattle.std.specs.Bool.{IsTrue}
+use Rattle.std.specs.Option.{option_map}
+use Rattle.symbol_map.specs.declared.sample.Sample.{Sample}
+use Rattle.scramblers.specs.declared.mode.Mode.{Mode}
+use Rattle.scramblers.specs.Mode.{tap_of}
+use Rattle.shared_terms.specs.declared.role.Role.{Role}
+use Rattle.plain_lists.specs.Prefix.{IsPrefixOf}
+use Rattle.outside_calls.specs.Folder.{FolderState, octets_at, GoesOn, KeepsName}
+use Rattle.outside_calls.proofs.Steps.{KeepsName-trans, told_later}
+use Rattle.outside_calls.specs.declared.folder.FolderFault.TheVariants as folder
+use Rattle.survivors.specs.Survivors.{IsReleased, IsLeast, LostIs}
+use Rattle.survivors.proofs.Least.{released-is_least}
+use Rattle.survivors.specs.V32.{line_depth}
+use Rattle.command_base.specs.declared.limits.TheConstants.{RECORDING_LIMIT}
+use Rattle.command_base.specs.declared.status.Status.{Status}
+use Rattle.command_base.specs.declared.status.Status.TheVariants.{Done, Usage, BadScript, BadRecording, BadHex, BadXid, TooLong, ReadFault}
+use Rattle.command_base.specs.declared.status.Status.TheVariants.{WriteFault}
+use Rattle.command_base.specs.declared.status.Status.TheVariants.{LineLost, NotDetected, LinkLost, ChanceMatch}
+use Rattle.command_base.specs.declared.status.Status.TheVariants as status
+use Rattle.command_base.specs.declared.stop.Stop.{Stop}
+use Rattle.command_base.specs.declared.stop.Stop.TheVariants.{Own, Read, Write, Say, NoMemory}
+use Rattle.command_base.specs.Inputs.{IsLonger}
+use Rattle.command_base.specs.Job.{Answers}
+use Rattle.command_base.specs.Lines.{octets_line}
+use Rattle.outside_calls.specs.Outputs.{KeepsAll, HoldsFront, OnlyOutputs}
+use Rattle.command_base.specs.Status.{IsRefusal}
+use Rattle.command_base.specs.Stops.{end_status}
+use Rattle.outside_calls.proofs.Holding.{HoldsFront-all}
+use Rattle.command_base.proofs.Answering.{IsPlain}
+use Rattle.command_base.proofs.Jobs.{IsDone, refusal-own, last-only, last-plain, done-of, shared-of, done-unless-memory}
+use Rattle.signal_commands.specs.Decoding.Words.{DecodeNames}
+use Rattle.recordings.specs.declared.rate.Rate.{Rate}
+use Rattle.recordings.specs.declared.rate.Rate.TheVariants as rates
+use Rattle.recordings.specs.Headers.{IsBadHeader}
+use Rattle.recordings.specs.Samples.{samples_in}
+use Rattle.signal_commands.specs.Decoding.Octets.{Carries}
+use Rattle.signal_commands.specs.Decoding.Rates.{trellis_at}
+use Rattle.command_base.specs.Recordings.{ReadsRecording}
+use Rattle.command_base.proofs.Headers.{never-longer, never-bad, content-same}
+use Rattle.signal_commands.specs.Decoding.Ends.{DecodesAll, DecodesFront, HeaderRefused, SampleCut, RecordingLost, MayWrite, LeavesPart, EndsOwn, Ends, decode_job}
+use Rattle.signal_commands.specs.Decoding.Completes.{IsRecording, Completes}
+use Rattle.signal_commands.specs.Decoding.Headline.{BeginNearest, HoldsBeginning, HoldsWhole, Headline}
+use Rattle.signal_commands.proofs.Decoding.Rates.{code_at}
+
+-- the output, or its beginning, once the line was said
+abbrev Left : FolderState → FolderState → DecodeNames → Type 0
+Left old new n = KeepsName old new n.file ⊎ HoldsBeginning old new n
+
+-- labels that are released, and a least sequence, begin a nearest one
+released-nearest : (rate : Rate) (samples : List Sample) (labels : List ℕ) → IsReleased (trellis_at rate) samples labels
+    → BeginNearest rate samples labels
+released-nearest rate samples labels h =
+    let code = code_at rate in released-is_least (trellis_at rate) code.states code.labels code.steps samples labels code.laws h
+
+least-nearest : (rate : Rate) (samples : List Sample) (labels : List ℕ) → IsLeast (trellis_at rate) samples labels
+    → BeginNearest rate samples labels
+least-nearest rate samples labels h = ([], subst (IsLeast (trellis_at rate) samples) (sym (append-nil labels)) h)
+
+-- what such labels carry, and the output holds the beginning of
+left-nearest : (old before : FolderState) (n : DecodeNames) (mode : Mode) (content : List ℕ) (samples : List Sample)
+    (labels octets : List ℕ)
+    → GoesOn old before → ReadsRecording old n.rec n.rate mode content
+    → IsPrefixOf samples (samples_in content) → BeginNearest n.rate samples labels → Carries n.rate (tap_of mode) labels octets
+    → HoldsFront before n.file octets → Left old before n
+left-nearest old before n mode content samples labels octets g reads front nearest carries file =
+    inr (λ rec told. let f = file (told_later g n.file told) in (
+      f.0,
+      f.2,
+      record {
+        mode = mode;
+        content = content;
+        recording_is = reads.read rec;
+        samples = samples;
+        front = front;
+        labels = labels;
+        nearest = nearest;
+        carried = octets;
+        carries = carries;
+        begins = f.1;
+      },
+    ))
+
+all-of : (content : List ℕ) → IsPrefixOf (samples_in content) (samples_in content)
+all-of content = ([], append-nil (samples_in content))
+
+left-part : (old before : FolderState) (n : DecodeNames) → GoesOn old before → LeavesPart old before n → Left old before n
+left-part old before n g (inl kept) = inl kept
+left-part old before n g (inr w) = by w.may
+  where
+    by : MayWrite n.rate w.mode w.content w.octets → Left old before n
+    by (inl m) = left-nearest old before n w.mode w.content (samples_in w.content) m.0 w.octets g w.reads (all-of w.content)
+        (released-nearest n.rate (samples_in w.content) m.0 m.1) m.2 w.file
+    by (inr m) = left-nearest old before n w.mode w.content (samples_in w.content) m.1.labels w.octets g w.reads (all-of w.content)
+        (least-nearest n.rate (samples_in w.content) m.1.labels m.1.least.least) m.1.carried w.file
+
+front-left : (old before : FolderState) (n : DecodeNames) → GoesOn old before → KeepsAll old before ⊎ DecodesFront old before n
+    → Left old before n
+front-left old before n g (inl kept) = inl (kept n.file)
+front-left old before n g (inr w) =
+    left-nearest old before n w.mode w.content w.first w.labels w.octets g w.reads w.front
+    (released-nearest n.rate w.first w.labels w.released) w.carried (HoldsFront-all before n.file w.octets w.file)
+
+lost-left : (old before : FolderState) (n : DecodeNames) (role : Role) (symbol : ℕ) → GoesOn old before
+    → RecordingLost old before n role symbol → Left old before n
+lost-left old before n role symbol g w =
+    left-nearest old before n w.mode w.content (take (symbol + 1) (samples_in w.content)) w.labels w.octets g w.reads
+    (drop (symbol + 1) (samples_in w.content), take-append-drop (symbol + 1) (samples_in w.content))
+    (released-nearest n.rate (take (symbol + 1) (samples_in w.content)) w.labels w.released) w.carried
+    (HoldsFront-all before n.file w.octets w.file)
+
+bad-left : (old before : FolderState) (n : DecodeNames) (at : ℕ) → GoesOn old before → HeaderRefused old before n at
+    ⊎ SampleCut old before n at → Left old before n
+bad-left old before n at g (inl h) = inl (h.keeps n.file)
+bad-left old before n at g (inr w) =
+    left-nearest old before n w.mode w.content (samples_in w.content) w.labels w.octets g w.reads (all-of w.content)
+    (released-nearest n.rate (samples_in w.content) w.labels w.released) w.carried (HoldsFront-all before n.file w.octets w.file)
+
+-- the answers that the command has of its own
+data OwnIs (old before : FolderState) (n : DecodeNames) (answer : Status) : Type 0 where
+  is_long : answer ≡ TooLong 1 → KeepsAll old before → IsLonger old n.rec RECORDING_LIMIT → OwnIs old before n answer
+  is_bad : (at : ℕ) → answer ≡ BadRecording at → HeaderRefused old before n at ⊎ SampleCut old before n at → OwnIs old before n answer
+  is_lost : (role : Role) (symbol : ℕ) → answer ≡ LineLost role symbol → n.rate ≡ rates.Trellis → RecordingLost old before n role symbol
+      → OwnIs old before n answer
+
+own-is : (old before : FolderState) (n : DecodeNames) (answer : Status) → EndsOwn old before n answer → OwnIs old before n answer
+own-is old before n (TooLong word) e = is_long (ap TooLong e.0) e.1 e.2
+own-is old before n (BadRecording at) e = is_bad at refl e
+own-is old before n (LineLost role symbol) e = is_lost role symbol refl e.0 e.1
+own-is old before n Done e = absurd e
+own-is old before n Usage e = absurd e
+own-is old before n (BadScript line cause) e = absurd e
+own-is old before n (BadHex at) e = absurd e
+own-is old before n (BadXid fault) e = absurd e
+own-is old before n ReadFault e = absurd e
+own-is old before n WriteFault e = absurd e
+own-is old before n (NotDetected turn) e = absurd e
+own-is old before n (LinkLost role segment turn) e = absurd e
+own-is old before n (ChanceMatch role turn) e = absurd e
+own-is old before n status.NoMemory e = absurd e
+own-is old before n (status.PeerFault fault turn) e = absurd e
+own-is old before n (status.AuditNo line cause) e = absurd e
+own-is old before n (status.BadTap role turn) e = absurd e
+own-is old before n (status.PairLinkLost link role segment turn) e = absurd e
+own-is old before n (status.PairNotDetected link turn) e = absurd e
+
+own-left : (old before : FolderState) (n : DecodeNames) (answer : Status) → GoesOn old before → OwnIs old before n answer
+    → Left old before n
+own-left old before n answer g (is_long e keeps longer) = inl (keeps n.file)
+own-left old before n answer g (is_bad at e bad) = bad-left old before n at g bad
+own-left old before n answer g (is_lost role symbol e rate lost) = lost-left old before n role symbol g lost
+
+left-by : (old before : FolderState) (n : DecodeNames) (end : Result ℕ Stop) → GoesOn old before → Ends old before n end → Left old before n
+left-by old before n (Ok count) g w =
+    left-nearest old before n w.mode w.content (samples_in w.content) w.finishes.labels w.octets g w.reads (all-of w.content)
+    (least-nearest n.rate (samples_in w.content) w.finishes.labels w.finishes.least.least) w.finishes.carried
+    (HoldsFront-all before n.file w.octets w.file)
+left-by old before n (Err (Own answer)) g e = own-left old before n answer g (own-is old before n answer e)
+left-by old before n (Err (Read fault)) g e = front-left old before n g e
+left-by old before n (Err (Write fault)) g e = left-part old before n g e.1
+left-by old before n (Err (Say fault)) g e = absurd e
+left-by old before n (Err NoMemory) g e = inl (e.keeps n.file)
+
+-- only a recording that is too long is refused
+own-refused : (old before : FolderState) (n : DecodeNames) (answer : Status) → IsRefusal answer → OwnIs old before n answer
+    → KeepsAll old before
+own-refused old before n answer r (is_long e keeps longer) = keeps
+own-refused old before n answer r (is_bad at e bad) = absurd (subst IsRefusal e r)
+own-refused old before n answer r (is_lost role symbol e rate lost) = absurd (subst IsRefusal e r)
+
+pub refused-by : (old before : FolderState) (n : DecodeNames) (end : Result ℕ Stop) → Ends old before n end → IsRefusal (end_status end)
+    → KeepsAll old before
+refused-by old before n end ends =
+    refusal-own end (KeepsAll old before)
+    (λ answer e r. own-refused old before n answer r (own-is old before n answer (subst (Ends old before n) e ends)))
+
+left-later : (old before new : FolderState) (n : DecodeNames) → GoesOn old before → KeepsName before new n.file → Left old before n
+    → Left old new n
+left-later old before new n g k (inl h) = inl (KeepsName-trans old before new n.file g h k)
+left-later old before new n g k (inr h) = inr (λ rec told. let f = h rec told in (f.0, k (told_later g n.file told) ∙ f.1, f.2))
+
+whole-of : (old before new : FolderState) (n : DecodeNames) → GoesOn old before → OnlyOutputs before new []
+    → IsDone (decode_job n) old before new → HoldsWhole old new n
+whole-of old before new n on last d =
+    let w : DecodesAll old before n d.done = d.ends.0 in (
+      d.done,
+      d.said ∙ ap (option_map (λ x. x ++ octets_line d.done)) d.ends.1,
+      λ rec t. let later = told_later on n.file t in (
+        w.octets,
+        last.names n.file tt later ∙ w.file later,
+        record {
+          mode = w.mode;
+          content = w.content;
+          recording_is = w.reads.read rec;
+          whole = w.followed.whole;
+          labels = w.finishes.labels;
+          nearest = w.finishes.least.least;
+          carries = w.finishes.carried;
+        },
+        w.count_is,
+      ),
+    )
+
+-- where the answer is that a line was lost, it was one of the trellis code
+own-lost : (old before : FolderState) (n : DecodeNames) (answer : Status) (role : Role) (symbol : ℕ) → answer ≡ LineLost role symbol
+    → OwnIs old before n answer → n.rate ≡ rates.Trellis
+own-lost old before n answer role symbol lost (is_long e keeps longer) = (let never : ⊥ = cc (sym e ∙ lost) in absurd never)
+own-lost old before n answer role symbol lost (is_bad at e bad) = (let never : ⊥ = cc (sym e ∙ lost) in absurd never)
+own-lost old before n answer role symbol lost (is_lost r s e rate w) = rate
+
+lost-rate : (old before : FolderState) (n : DecodeNames) (end : Result ℕ Stop) (role : Role) (symbol : ℕ) → Ends old before n end
+    → end_status end ≡ LineLost role symbol → n.rate ≡ rates.Trellis
+lost-rate old before n (Err (Own answer)) role symbol ends e = own-lost old before n answer role symbol e (own-is old before n answer ends)
+lost-rate old before n (Ok count) role symbol ends e = absurd cc
+lost-rate old before n (Err (Read folder.Failed)) role symbol ends e = absurd cc
+lost-rate old before n (Err (Read folder.NoMemory)) role symbol ends e = absurd cc
+lost-rate old before n (Err (Write folder.Failed)) role symbol ends e = absurd cc
+lost-rate old before n (Err (Write folder.NoMemory)) role symbol ends e = absurd cc
+lost-rate old before n (Err (Say fault)) role symbol ends e = absurd ends
+lost-rate old before n (Err NoMemory) role symbol ends e = absurd cc
+
+lost-plain : (role : Role) (symbol : ℕ) → IsPlain (LineLost role symbol)
+lost-plain role symbol = record { write = λ e. cc; memory = λ e. cc }
+
+-- what the command promises holds of every answer
+pub headline-of : (words : List (List ℕ)) (old new : FolderState) (n : DecodeNames) (s : Status) → Answers (decode_job n) words old new s
+    → Headline old new n s
+headline-of words old new n s a =
+    let last : OnlyOutputs a.before new [] = last-only octets_line words a.before new a.end s a.says in
+    record {
+      shared = shared-of (decode_job n) words old new s a (λ e. e.0.keeps);
+      file = left-later old a.before new n a.only.goes_on (last.names n.file tt) (left-by old a.before n a.end a.only.goes_on a.ends.0);
+      whole = λ e. whole-of old a.before new n a.only.goes_on last (done-of (decode_job n) words old new s a e);
+      never_lost = λ role symbol rate e.
+          let answer = last-plain octets_line words a.before new a.end s (LineLost role symbol) a.says e (lost-plain role symbol) in
+          let own : n.rate ≡ rates.Trellis = lost-rate old a.before n a.end role symbol a.ends.0 answer in cc (sym rate ∙ own);
+    }
+
+-- a line is not lost and followed to its end at once
+never-both : (rate : Rate) (content : List ℕ) (symbol : ℕ) → LostIs (trellis_at rate) line_depth (samples_in content) None
+    → LostIs (trellis_at rate) line_depth (samples_in content) (Some symbol) → ⊥
+never-both rate content symbol followed lost = followed (symbol + 1) (omega (arith, lost.within)) lost.over
+
+own-never : (old before : FolderState) (n : DecodeNames) (answer : Status) → IsTrue (old.tells n.rec)
+    → IsRecording n.rate (octets_at old n.rec) → OwnIs old before n answer → ⊥
+own-never old before n answer told r (is_long e keeps longer) = never-longer (length (octets_at old n.rec)) r.within (longer told)
+own-never old before n answer told r (is_bad at e (inl bad)) =
+    never-bad n.rate r.mode at (subst (λ (xs : List ℕ). IsBadHeader n.rate (take 8 xs) at) r.octets_are (bad.header.bad told))
+own-never old before n answer told r (is_bad at e (inr cut)) =
+    let same = content-same n.rate r.mode cut.mode r.content cut.content (sym r.octets_are ∙ cut.reads.read told) in
+    cut.cut (subst (λ (xs : List ℕ). length xs % 4 ≡ 0) same r.whole)
+own-never old before n answer told r (is_lost role symbol e rate lost) =
+    let same = content-same n.rate r.mode lost.mode r.content lost.content (sym r.octets_are ∙ lost.reads.read told) in
+    never-both n.rate r.content symbol (r.not_lost rate)
+    (subst (λ (xs : List ℕ). LostIs (trellis_at n.rate) line_depth (samples_in xs) (Some symbol)) (sym same) lost.lost)
+
+-- and when it is done
+pub completes-of : (words : List (List ℕ)) (old new : FolderState) (n : DecodeNames) (s : Status) → Answers (decode_job n) words old new s
+    → Completes old new n s
+completes-of words old new n s a sound told r =
+    done-unless-memory (decode_job n) words old new s a sound
+    (λ answer ends. own-never old a.before n answer told r (own-is old a.before n answer ends.0))

@@ -1,0 +1,120 @@
+-- Whatever samples follow, the octets that were given begin those that are given then.
+use Rattle.std.proofs.Common.{◌≡◌, ◌∙◌, ℕ, ◌*◌, ◌/◌, ◌<◌, ◌≤◌, Bool, false, List, ◌++◌, length, map, take, drop, refl, sym, ap, subst}
+use Rattle.std.proofs.Common.{arith, append_assoc}
+use Rattle.std.specs.List.{range_with_len}
+use Rattle.std.proofs.Math.Seq.{take-append_seam}
+use Rattle.std.proofs.lemmas.Grind.{flat_map-append}
+use Rattle.std.proofs.lemmas.List.{take-append-drop, length-take, length-drop}
+use Rattle.std.proofs.lemmas.List.Elements.{All-append}
+use Rattle.std.proofs.lemmas.List.FromFn.{length-map-range_with_len, get_or-map-range_with_len}
+use Rattle.plain_lists.specs.Prefix.{IsPrefixOf}
+use Rattle.plain_lists.specs.Bits.{octet_bits, bits_of, octets_of}
+use Rattle.frame_check.proofs.BitLists.{bits_of-octets_of, octets_of-are_octets}
+use Rattle.scramblers.specs.Stream.{bit_at_place, earlier}
+use Rattle.plain_lists.specs.Xor.{xor}
+use Rattle.scramblers.specs.Scrambles.{Scrambles, Descrambles}
+use Rattle.symbol_map.specs.declared.sample.Sample.{Sample}
+use Rattle.survivors.specs.Survivors.{IsReleased}
+use Rattle.survivors.proofs.Least.{some-released}
+use Rattle.survivors.proofs.Fronts.{stays-prefix}
+use Rattle.scramblers.proofs.Readings.{Descrambles_once, Descrambles_from_Scrambles, Scrambles_from_Descrambles, Scrambles-take}
+use Rattle.recordings.specs.declared.rate.Rate.{Rate}
+use Rattle.signal_commands.specs.Decoding.Octets.{AreWholeOctets, Carries}
+use Rattle.signal_commands.specs.Decoding.Rates.{trellis_at, line_at}
+use Rattle.signal_commands.proofs.Decoding.Rates.{code_at, line-longer}
+
+-- the bits that a line is descrambled to
+abbrev descrambled_at : ℕ → List Bool → ℕ → Bool
+descrambled_at tap line i = xor (xor (bit_at_place line i) (earlier line i tap)) (earlier line i 23)
+
+abbrev descrambled : ℕ → List Bool → List Bool
+descrambled tap line = map (descrambled_at tap line) (range_with_len 0 (length line))
+
+descrambles : (tap : ℕ) (line : List Bool) → Descrambles tap line (descrambled tap line)
+descrambles tap line = record {
+  lengths = length-map-range_with_len (descrambled_at tap line) 0 (length line);
+  each = λ i within. get_or-map-range_with_len (descrambled_at tap line) 0 (length line) i i false within (omega arith);
+}
+
+-- all the whole octets of some bits
+whole-octets : (bits : List Bool) → AreWholeOctets bits (octets_of (length bits / 8) (take (8 * (length bits / 8)) bits))
+whole-octets bits =
+    let count : ℕ = length bits / 8 in
+    let front : List Bool = take (8 * count) bits in
+    let long : length front ≡ 8 * count = length-take (8 * count) bits ∙ omega arith in
+    let eq : bits_of (octets_of count front) ≡ front = bits_of-octets_of count front long in
+    record {
+      rest = drop (8 * count) bits;
+      bits_are = sym (take-append-drop (8 * count) bits) ∙ ap (λ xs. xs ++ drop (8 * count) bits) (sym eq);
+      few = rw (length-drop (8 * count) bits) (omega arith);
+      small = octets_of-are_octets count front;
+    }
+
+-- whole octets go on with those of the bits that follow
+record MoreOctets (octets : List ℕ) (bits : List Bool) : Type 0 where
+  pub more : List ℕ
+  pub whole : AreWholeOctets bits (octets ++ more)
+
+octets-more : (octets : List ℕ) (bits more : List Bool) → AreWholeOctets bits octets → MoreOctets octets (bits ++ more)
+octets-more octets bits more h =
+    let w = whole-octets (h.rest ++ more) in
+    let new : List ℕ = octets_of (length (h.rest ++ more) / 8) (take (8 * (length (h.rest ++ more) / 8)) (h.rest ++ more)) in
+    record {
+      more = new;
+      whole = record {
+        rest = w.rest;
+        bits_are = ap (λ xs. xs ++ more) h.bits_are ∙ append_assoc (bits_of octets) h.rest more ∙ ap (λ xs. bits_of octets ++ xs) w.bits_are
+            ∙ sym (append_assoc (bits_of octets) (bits_of new) w.rest)
+            ∙ ap (λ xs. xs ++ w.rest) (sym (flat_map-append octet_bits octets new));
+        few = w.few;
+        small = All-append (λ octet. octet < 256) octets new h.small w.small;
+      };
+    }
+
+-- what labels and those behind them carry
+pub record LongerGives (rate : Rate) (tap : ℕ) (samples : List Sample) (octets : List ℕ) : Type 0 where
+  pub labels : List ℕ
+  pub released : IsReleased (trellis_at rate) samples labels
+  pub all : List ℕ
+  pub carried : Carries rate tap labels all
+  pub front : IsPrefixOf octets all
+
+carries-more : (rate : Rate) (tap : ℕ) (labels rest octets : List ℕ) → 1 ≤ tap → Carries rate tap labels octets
+    → (more : List ℕ) × Carries rate tap (labels ++ rest) (octets ++ more)
+carries-more rate tap labels rest octets low c =
+    let line : List Bool = line_at rate labels in
+    let l = line-longer rate labels rest in
+    let whole : List Bool = line ++ l.0 in
+    let all : List Bool = descrambled tap whole in
+    let n : ℕ = length line in
+    let sent : Scrambles tap all whole = Scrambles_from_Descrambles tap all whole (descrambles tap whole) in
+    let part : Descrambles tap (take n whole) (take n all) =
+    Descrambles_from_Scrambles tap (take n all) (take n whole) (Scrambles-take tap n all whole low sent) in
+    let first : Descrambles tap line (take n all) =
+    subst (λ (xs : List Bool). Descrambles tap xs (take n all)) (take-append_seam line l.0) part in
+    let same : take n all ≡ c.bits = Descrambles_once tap line (take n all) c.bits first c.read in
+    let split : all ≡ c.bits ++ drop n all = sym (take-append-drop n all) ∙ ap (λ (xs : List Bool). xs ++ drop n all) same in
+    let m = octets-more octets c.bits (drop n all) c.whole in (
+      m.more,
+      record {
+        bits = all;
+        read = subst (λ (xs : List Bool). Descrambles tap xs all) (sym l.1) (descrambles tap whole);
+        whole = subst (λ (xs : List Bool). AreWholeOctets xs (octets ++ m.more)) (sym split) m.whole;
+      },
+    )
+
+pub longer : (rate : Rate) (tap : ℕ) (samples more : List Sample) (labels octets : List ℕ) → 1 ≤ tap
+    → IsReleased (trellis_at rate) samples labels → Carries rate tap labels octets
+    → LongerGives rate tap (samples ++ more) octets
+longer rate tap samples more labels octets low r c =
+    let code = code_at rate in
+    let all = some-released (trellis_at rate) code.states code.labels code.steps (samples ++ more) code.laws in
+    let stays = stays-prefix (trellis_at rate) samples more labels all.0 r all.1 in
+    let m = carries-more rate tap labels stays.0 octets low c in
+    record {
+      labels = all.0;
+      released = all.1;
+      all = octets ++ m.0;
+      carried = subst (λ (xs : List ℕ). Carries rate tap xs (octets ++ m.0)) stays.1 m.1;
+      front = (m.0, refl);
+    }

@@ -1,0 +1,52 @@
+-- A playback goes on.
+use Rattle.std.proofs.Common.{◌≡◌, ℕ, Bool, List, ◌++◌, length, arith}
+use Rattle.scramblers.specs.declared.mode.Mode.{Mode}
+use Rattle.scramblers.specs.Mode.{tap_of}
+use Rattle.symbol_map.specs.declared.sample.Sample.{Sample}
+use Rattle.survivors.specs.Survivors.{IsReleased, LostIs}
+use Rattle.survivors.specs.V32.{line_depth}
+use Rattle.exact_decoder.specs.Decoder.{Decoding, heard}
+use Rattle.frame_check.proofs.BitLists.{length-low_bits}
+use Rattle.recordings.specs.declared.rate.Rate.{Rate}
+use Rattle.signal_commands.specs.declared.decode.octet_joiner.Bits.{Bits}
+use Rattle.signal_commands.specs.declared.decode.playback.Playback.{Playback}
+use Rattle.signal_commands.specs.Decoding.Octets.{AreWholeOctets, Carries, bits_in, OctetsJoined}
+use Rattle.signal_commands.specs.Decoding.Playing.{decoding_of, ReadsAt, Hears}
+use Rattle.signal_commands.specs.Decoding.Rates.{trellis_at}
+use Rattle.signal_commands.proofs.Decoding.Rates.{takes-labels}
+
+-- what waits is less than an octet
+pub whole-joined : (waiting : Bits) (bits : List Bool) (octets : List ℕ) → OctetsJoined waiting bits octets → AreWholeOctets bits octets
+whole-joined waiting bits octets j = record {
+  rest = bits_in waiting;
+  bits_are = j.bits_are;
+  few = (let long : length (bits_in waiting) ≡ waiting.count = length-low_bits waiting.count waiting.number in omega (arith, long, j.few));
+  small = j.small;
+}
+
+-- the labels that a playback has taken carry its octets
+pub record TakesOctets (rate : Rate) (mode : Mode) (d : Decoding) (samples : List Sample) (octets : List ℕ) : Type 0 where
+  pub labels : List ℕ
+  pub lost : LostIs (trellis_at rate) line_depth samples d.lost
+  pub released : IsReleased (trellis_at rate) (heard d.lost samples) (labels ++ d.pending)
+  pub carried : Carries rate (tap_of mode) labels octets
+
+pub takes-octets : (rate : Rate) (mode : Mode) (p : Playback) (samples : List Sample) (octets : List ℕ) → Hears rate mode p samples octets
+    → TakesOctets rate mode (decoding_of p.reader) samples octets
+takes-octets rate mode p samples octets h =
+    let t = takes-labels rate mode p.reader samples h.bits h.read in
+    record {
+      labels = t.labels;
+      lost = t.lost;
+      released = t.released;
+      carried = record { bits = h.bits; read = t.read; whole = whole-joined p.joiner h.bits octets h.joined };
+    }
+
+-- some bits more
+pub hears-more : (rate : Rate) (mode : Mode) (p next : Playback) (samples : List Sample) (octets more : List ℕ) (bits : Bits)
+    → ((before : List Bool) → ReadsAt rate mode p.reader samples before → ReadsAt rate mode next.reader samples (before ++ bits_in bits))
+    → ((before : List Bool) (octets : List ℕ) → OctetsJoined p.joiner before octets
+    → OctetsJoined next.joiner (before ++ bits_in bits) (octets ++ more))
+    → Hears rate mode p samples octets → Hears rate mode next samples (octets ++ more)
+hears-more rate mode p next samples octets more bits read joined h =
+    record { bits = h.bits ++ bits_in bits; read = read h.bits h.read; joined = joined h.bits octets h.joined }

@@ -1,0 +1,87 @@
+-- From every answer to what the command promises.
+use Rattle.std.proofs.Common.{◌≡◌, ◌∙◌, ℕ, ◌+◌, ◌*◌, ◌≤◌, ◌<◌, nat_lt, IsTrue, List, [], ◌++◌, length, length-append, take, Result, ap}
+use Rattle.std.proofs.Common.{subst, arith}
+use Rattle.std.specs.Option.{option_map}
+use Rattle.outside_calls.specs.Folder.{FolderState, octets_at}
+use Rattle.scramblers.specs.declared.mode.Mode.{Mode}
+use Rattle.scramblers.specs.declared.mode.Mode.TheVariants.{Call, Answer}
+use Rattle.noise_bound.specs.Margins.{Measured}
+use Rattle.noise_bound.proofs.Margins.{sure-is-decoded}
+use Rattle.command_base.specs.declared.limits.TheConstants.{FILE_LIMIT}
+use Rattle.command_base.specs.declared.status.Status.{Status}
+use Rattle.command_base.specs.declared.stop.Stop.{Stop}
+use Rattle.command_base.specs.Job.{Answers}
+use Rattle.command_base.specs.Lines.{margin_line}
+use Rattle.outside_calls.specs.Outputs.{KeepsAll, OnlyOutputs}
+use Rattle.command_base.specs.Status.{IsRefusal}
+use Rattle.command_base.specs.Stops.{end_status}
+use Rattle.command_base.proofs.Jobs.{IsDone, done-of, shared-of, done-unless-memory}
+use Rattle.recordings.specs.declared.rate.Rate.TheVariants as rates
+use Rattle.recordings.specs.Headers.{IsBadHeader}
+use Rattle.recordings.specs.Recording.{header_of}
+use Rattle.recordings.specs.Samples.{samples_in}
+use Rattle.command_base.proofs.Headers.{never-longer, never-bad}
+use Rattle.signal_commands.specs.Margins.Words.{MarginNames}
+use Rattle.signal_commands.specs.Margins.Ends.{Measures, EndsOwn, margin_job}
+use Rattle.signal_commands.specs.Margins.Ends.EndsOwn.{rec_is_long, file_is_long, is_other, is_misfit}
+use Rattle.signal_commands.specs.Margins.Completes.{AreMeasurable, Completes}
+use Rattle.signal_commands.specs.Margins.Headline.{MeasuresAll, Headline}
+
+-- no file ever changes
+pub refused-by : (old before : FolderState) (end : Result Measured Stop) → OnlyOutputs old before [] → IsRefusal (end_status end)
+    → KeepsAll old before
+refused-by old before end only r name = only.names name tt
+
+measures-of : (old before new : FolderState) (n : MarginNames) → IsDone (margin_job n) old before new → MeasuresAll old new n
+measures-of old before new n d =
+    let m : Measures old n d.done = d.ends.0 in
+    record {
+      mode = m.mode;
+      content = m.content;
+      recording_is = m.reads.read;
+      octets = m.octets;
+      file_is = m.file_is;
+      fits = m.fits;
+      price = d.done.cost;
+      costs = m.costs;
+      said = d.said ∙ ap (option_map (λ (x : List ℕ). x ++ margin_line d.done.cost (nat_lt d.done.cost 10485760))) d.ends.1;
+      decoded = λ low. (let r = sure-is-decoded m.mode m.octets (samples_in m.content) d.done.cost 128 m.costs low (omega arith) in
+          record { not_lost = r.0; released = r.1 });
+    }
+
+-- what the command promises holds of every answer
+pub headline-of : (words : List (List ℕ)) (old new : FolderState) (n : MarginNames) (s : Status) → Answers (margin_job n) words old new s
+    → Headline old new n s
+headline-of words old new n s a =
+    record {
+      shared = shared-of (margin_job n) words old new s a (λ e name. a.only.names name tt);
+      measures = λ e. measures-of old a.before new n (done-of (margin_job n) words old new s a e);
+    }
+
+file-never-longer : (count : ℕ) → count ≤ 1048576 → FILE_LIMIT < count → ⊥
+file-never-longer count within longer = omega (arith, within, longer)
+
+behind-header : (mode : Mode) (content : List ℕ) → length (header_of mode ++ content) ≡ 8 + length content
+behind-header Call content = length-append (header_of Call) content
+behind-header Answer content = length-append (header_of Answer) content
+
+recorded-length : (recording octets : List ℕ) (r : AreMeasurable recording octets) → length recording ≡ 8 + 8 * length octets
+recorded-length recording octets r =
+    ap (λ (xs : List ℕ). length xs) r.recording_is ∙ behind-header r.mode r.content ∙ ap (λ (count : ℕ). 8 + count) r.fits
+
+own-never : (old : FolderState) (n : MarginNames) (answer : Status) → IsTrue (old.tells n.rec) → IsTrue (old.tells n.file)
+    → AreMeasurable (octets_at old n.rec) (octets_at old n.file) → EndsOwn old n answer → ⊥
+own-never old n answer rec file r (rec_is_long e longer) =
+    let long = recorded-length (octets_at old n.rec) (octets_at old n.file) r in
+    never-longer (length (octets_at old n.rec)) (omega (arith, long, r.within)) (longer rec)
+own-never old n answer rec file r (file_is_long e within longer) = file-never-longer (length (octets_at old n.file)) r.within (longer file)
+own-never old n answer rec file r (is_other at e within bad) =
+    never-bad rates.Trellis r.mode at (subst (λ (xs : List ℕ). IsBadHeader rates.Trellis (take 8 xs) at) r.recording_is (bad.bad rec))
+own-never old n answer rec file r (is_misfit at e other) =
+    other.other rec file (recorded-length (octets_at old n.rec) (octets_at old n.file) r)
+
+-- and when it is done
+pub completes-of : (words : List (List ℕ)) (old new : FolderState) (n : MarginNames) (s : Status) → Answers (margin_job n) words old new s
+    → Completes old new n s
+completes-of words old new n s a sound rec file r =
+    done-unless-memory (margin_job n) words old new s a sound (λ answer ends. own-never old n answer rec file r ends.0)

@@ -1,0 +1,31 @@
+-- Why an input is not taken for its length.
+use Rattle.std.proofs.Common.{◌≡◌, ℕ, List, [], ◌∷◌}
+use Rattle.outside_calls.specs.Folder.{FolderState, OnlyReads, CountsStand}
+use Rattle.command_base.specs.declared.limits.TheConstants.{FILE_LIMIT, RECORDING_LIMIT}
+use Rattle.command_base.specs.declared.stop.Stop.{Stop}
+use Rattle.command_base.specs.declared.stop.Stop.TheVariants.{Own, Read, Write, Say, NoMemory}
+use Rattle.command_base.specs.Inputs.{IsWithin, IsNotWithin}
+use Rattle.command_base.proofs.Jobs.{stop-earlier}
+use Rattle.command_base.proofs.Reading.{longer-earlier}
+use Rattle.signal_commands.specs.Margins.Words.{MarginNames}
+use Rattle.signal_commands.specs.Margins.Ends.{EndsBy}
+use Rattle.signal_commands.specs.Margins.Ends.EndsOwn.{rec_is_long, file_is_long}
+use Rattle.signal_commands.specs.Margins.Ends.FailsToRead.{rec_unread, file_unread}
+
+pub rec-refused : (old new : FolderState) (n : MarginNames) (stop : Stop) → IsNotWithin old new n.rec RECORDING_LIMIT 1 stop
+    → EndsBy old new n stop
+rec-refused old new n (Own answer) why = rec_is_long why.0 why.1
+rec-refused old new n (Read fault) why = rec_unread why
+rec-refused old new n (Write fault) why = why
+rec-refused old new n (Say fault) why = why
+rec-refused old new n NoMemory why = why
+
+pub file-refused : (old mid new : FolderState) (n : MarginNames) (stop : Stop) → OnlyReads old mid → CountsStand old mid
+    → IsWithin old n.rec RECORDING_LIMIT → IsNotWithin mid new n.file FILE_LIMIT 2 stop → EndsBy old new n stop
+file-refused old mid new n (Own answer) reads stand within why =
+    file_is_long why.0 within (longer-earlier old mid n.file FILE_LIMIT reads why.1)
+file-refused old mid new n (Read fault) reads stand within why =
+    file_unread within (stop-earlier old mid new (n.file ∷ []) [] (Read fault) stand why)
+file-refused old mid new n (Write fault) reads stand within why = why
+file-refused old mid new n (Say fault) reads stand within why = why
+file-refused old mid new n NoMemory reads stand within why = why

@@ -1,0 +1,78 @@
+-- From every answer to what the command promises.
+use Rattle.std.proofs.Common.{◌≡◌, ◌∙◌, ℕ, ◌+◌, ◌%◌, IsTrue, List, [], ◌++◌, length, take, Some, Result, refl, sym, subst, arith}
+use Rattle.outside_calls.specs.Folder.{FolderState, octets_at, Said}
+use Rattle.survivors.specs.Survivors.{LostIs}
+use Rattle.survivors.proofs.Least.{released-is_least}
+use Rattle.survivors.proofs.V32.{any-has-laws}
+use Rattle.survivors.specs.V32.{any_trellis, line_depth}
+use Rattle.command_base.specs.declared.status.Status.{Status}
+use Rattle.command_base.specs.declared.stop.Stop.{Stop}
+use Rattle.command_base.specs.Job.{Answers}
+use Rattle.command_base.specs.Lines.{pieces_line}
+use Rattle.outside_calls.specs.Outputs.{KeepsAll, OnlyOutputs}
+use Rattle.command_base.specs.Status.{IsRefusal}
+use Rattle.command_base.specs.Stops.{end_status}
+use Rattle.command_base.proofs.Jobs.{IsDone, done-of, shared-of, done-unless-memory}
+use Rattle.command_base.proofs.Saying.{Said-Said}
+use Rattle.recordings.specs.declared.rate.Rate.TheVariants as rates
+use Rattle.recordings.specs.Headers.{IsBadHeader}
+use Rattle.recordings.specs.Samples.{samples_in}
+use Rattle.command_base.proofs.Headers.{never-longer, never-bad, content-same}
+use Rattle.signal_commands.specs.PickingUp.Ends.{IsFollowed, EndsOwn, pickup_job}
+use Rattle.signal_commands.specs.PickingUp.Ends.EndsOwn.{is_long, is_other, is_cut, is_lost}
+use Rattle.signal_commands.specs.PickingUp.Completes.{IsRecording, Completes}
+use Rattle.signal_commands.specs.PickingUp.Headline.{ListsAll, Headline}
+
+-- no file ever changes
+pub refused-by : (old before : FolderState) (end : Result ℕ Stop) → OnlyOutputs old before [] → IsRefusal (end_status end)
+    → KeepsAll old before
+refused-by old before end only r name = only.names name tt
+
+lists-of : (old before new : FolderState) (rec : List ℕ) → IsDone (pickup_job rec) old before new → ListsAll old new rec
+lists-of old before new rec d = record {
+  mode = d.ends.mode;
+  content = d.ends.content;
+  recording_is = d.ends.reads.read;
+  whole = d.ends.followed.whole;
+  not_lost = d.ends.followed.not_lost;
+  pieces = d.ends.says.pieces;
+  gives = d.ends.says.gives;
+  nearest = released-is_least any_trellis 8 32 2
+      (samples_in d.ends.content) d.ends.says.gives.labels any-has-laws d.ends.says.gives.released;
+  lines = d.ends.says.lines;
+  are_lines = d.ends.says.are_lines;
+  said = subst (λ (count : ℕ). Said old new (d.ends.says.lines ++ pieces_line count)) d.ends.count_is
+      (Said-Said old before new d.ends.says.lines (pieces_line d.done) d.ends.says.said d.said);
+}
+
+-- what the command promises holds of every answer
+pub headline-of : (words : List (List ℕ)) (old new : FolderState) (rec : List ℕ) (s : Status) → Answers (pickup_job rec) words old new s
+    → Headline old new rec s
+headline-of words old new rec s a =
+    record {
+      shared = shared-of (pickup_job rec) words old new s a (λ e name. a.only.names name tt);
+      lists = λ e. lists-of old a.before new rec (done-of (pickup_job rec) words old new s a e);
+    }
+
+-- a line is not lost and followed to its end at once
+never-lost : (content : List ℕ) (symbol : ℕ) → IsFollowed content → LostIs any_trellis line_depth (samples_in content) (Some symbol) → ⊥
+never-lost content symbol f lost = f.not_lost (symbol + 1) (omega (arith, lost.within)) lost.over
+
+own-never : (old before : FolderState) (rec : List ℕ) (answer : Status) → IsTrue (old.tells rec) → IsRecording (octets_at old rec)
+    → EndsOwn old before rec answer → ⊥
+own-never old before rec answer told r (is_long e nothing longer) = never-longer (length (octets_at old rec)) r.within (longer told)
+own-never old before rec answer told r (is_other at e nothing bad) =
+    never-bad rates.Trellis r.mode at (subst (λ (xs : List ℕ). IsBadHeader rates.Trellis (take 8 xs) at) r.octets_are (bad.bad told))
+own-never old before rec answer told r (is_cut at e cut) =
+    let same = content-same rates.Trellis r.mode cut.mode r.content cut.content (sym r.octets_are ∙ cut.reads.read told) in
+    cut.cut (subst (λ (xs : List ℕ). length xs % 4 ≡ 0) same r.followed.whole)
+own-never old before rec answer told r (is_lost role symbol e lost) =
+    let same = content-same rates.Trellis r.mode lost.mode r.content lost.content (sym r.octets_are ∙ lost.reads.read told) in
+    never-lost r.content symbol r.followed
+    (subst (λ (xs : List ℕ). LostIs any_trellis line_depth (samples_in xs) (Some symbol)) (sym same) lost.lost)
+
+-- and when it is done
+pub completes-of : (words : List (List ℕ)) (old new : FolderState) (rec : List ℕ) (s : Status) → Answers (pickup_job rec) words old new s
+    → Completes old new rec s
+completes-of words old new rec s a sound told r =
+    done-unless-memory (pickup_job rec) words old new s a sound (λ answer ends. own-never old a.before rec answer told r ends)

@@ -1,0 +1,83 @@
+-- Whatever samples follow, the pieces that the first ones give begin those that all give.
+use Rattle.std.proofs.Common.{◌≡◌, ◌∙◌, ℕ, zero, suc, ◌≤◌, Bool, List, [], ◌∷◌, ◌++◌, length, take, drop, refl, sym, ap, subst, arith}
+use Rattle.std.specs.List.{flat_map}
+use Rattle.std.proofs.Math.Seq.{take-append_seam}
+use Rattle.std.proofs.lemmas.Grind.{flat_map-append}
+use Rattle.std.proofs.lemmas.List.{take-append-drop}
+use Rattle.plain_lists.specs.Bits.{low_bits}
+use Rattle.scramblers.specs.declared.mode.Mode.{Mode}
+use Rattle.scramblers.specs.declared.mode.Mode.TheVariants.{Call, Answer}
+use Rattle.scramblers.specs.Mode.{tap_of}
+use Rattle.scramblers.specs.Scrambles.{Descrambles}
+use Rattle.scramblers.proofs.Readings.{Descrambles_once, Descrambles_from_Scrambles, Scrambles_from_Descrambles, Scrambles-take}
+use Rattle.trellis_tables.specs.LabelReader.{quads_of}
+use Rattle.trellis_tables.proofs.Readings.{quads_of-take}
+use Rattle.survivors.proofs.Fronts.{stays-prefix}
+use Rattle.survivors.specs.V32.{any_trellis}
+use Rattle.bit_stuffing.specs.Found.{Found, pieces_of}
+use Rattle.bit_stuffing.proofs.Sent.{pieces-stay}
+use Rattle.line_coding.specs.PickedUp.{line_behind, IsPickedUp}
+use Rattle.line_coding.proofs.Middle.{picked_up_once}
+use Rattle.line_coding.proofs.Readers.{descrambled, descrambles}
+use Rattle.signal_commands.specs.PickingUp.Laws.{LaterPiecesStandBehind}
+
+-- a list without its first elements begins a longer one without them
+drop-front : {A : Type 0} (n : ℕ) (xs ys : List A) → (more : List A) × (drop n (xs ++ ys) ≡ drop n xs ++ more)
+drop-front zero xs ys = (ys, refl)
+drop-front (suc n) [] ys = (drop (suc n) ys, refl)
+drop-front (suc n) (x ∷ xs) ys = drop-front n xs ys
+
+-- the scrambled bits of labels begin those of more labels
+line-longer : (labels rest : List ℕ) → (more : List Bool) × (line_behind (labels ++ rest) ≡ line_behind labels ++ more)
+line-longer labels rest =
+    let quads : List ℕ = quads_of (labels ++ rest) in
+    let front : take (length labels) quads ≡ quads_of labels =
+    sym (quads_of-take (labels ++ rest) (length labels)) ∙ ap quads_of (take-append_seam labels rest) in
+    let all : quads ≡ quads_of labels ++ drop (length labels) quads =
+    sym (take-append-drop (length labels) quads) ∙ ap (λ (xs : List ℕ). xs ++ drop (length labels) quads) front in
+    let d = drop-front 1 (quads_of labels) (drop (length labels) quads) in
+    let behind : drop 1 quads ≡ drop 1 (quads_of labels) ++ d.0 = ap (λ (xs : List ℕ). drop 1 xs) all ∙ d.1 in
+    (flat_map (low_bits 4) d.0, ap (flat_map (low_bits 4)) behind ∙ flat_map-append (low_bits 4) (drop 1 (quads_of labels)) d.0)
+
+-- and so do the bits that are picked up
+pub bits-longer : (tap : ℕ) (labels rest : List ℕ) (bits : List Bool) → 1 ≤ tap → IsPickedUp tap labels bits → (more : List Bool)
+    × IsPickedUp tap (labels ++ rest) (bits ++ more)
+bits-longer tap labels rest bits low h =
+    let line : List Bool = line_behind labels in
+    let l = line-longer labels rest in
+    let whole : List Bool = line ++ l.0 in
+    let all : List Bool = descrambled tap whole in
+    let given : Descrambles tap whole all = descrambles tap whole in
+    let n : ℕ = length line in
+    let part : Descrambles tap (take n whole) (take n all) =
+    Descrambles_from_Scrambles tap (take n all) (take n whole)
+    (Scrambles-take tap n all whole low (Scrambles_from_Descrambles tap all whole given)) in
+    let first : Descrambles tap line (take n all) =
+    subst (λ (xs : List Bool). Descrambles tap xs (take n all)) (take-append_seam line l.0) part in
+    let same : take n all ≡ h.all = Descrambles_once tap line (take n all) h.all first h.descrambled in
+    let split : all ≡ h.all ++ drop n all = sym (take-append-drop n all) ∙ ap (λ (xs : List Bool). xs ++ drop n all) same in
+    let d = drop-front 23 h.all (drop n all) in
+    let behind : drop 23 all ≡ drop 23 h.all ++ d.0 = ap (λ (xs : List Bool). drop 23 xs) split ∙ d.1 in (
+      d.0,
+      record {
+        all = all;
+        descrambled = subst (λ (xs : List Bool). Descrambles tap xs all) (sym l.1) given;
+        bits_are = ap (λ (xs : List Bool). xs ++ d.0) h.bits_are ∙ sym behind;
+      },
+    )
+
+pub tap-low : (mode : Mode) → 1 ≤ tap_of mode
+tap-low Call = omega arith
+tap-low Answer = omega arith
+
+-- and the pieces in them
+pub later_stand_behind : LaterPiecesStandBehind
+later_stand_behind mode samples more pieces later g k =
+    let tap : ℕ = tap_of mode in
+    let s = stays-prefix any_trellis samples more g.labels k.labels g.released k.released in
+    let b = bits-longer tap g.labels s.0 g.bits (tap-low mode) g.picked_up in
+    let same : k.bits ≡ g.bits ++ b.0 =
+    picked_up_once tap k.labels k.bits (g.bits ++ b.0) k.picked_up
+    (subst (λ (xs : List ℕ). IsPickedUp tap xs (g.bits ++ b.0)) s.1 b.1) in
+    let added = pieces-stay g.bits b.0 in
+    (added.0, ap (λ (xs : List Found). xs ++ added.0) g.pieces_are ∙ sym added.1.all ∙ ap pieces_of (sym same) ∙ sym k.pieces_are)

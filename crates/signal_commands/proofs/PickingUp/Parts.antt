@@ -1,0 +1,125 @@
+-- From what was played to how the picking up of a recording ends.
+use Rattle.std.proofs.Common.{◌≡◌, ◌≢◌, inl, inr, ℕ, ◌+◌, ◌%◌, List, [], ◌++◌, length, sym, subst, Option, None}
+use Rattle.scramblers.specs.declared.mode.Mode.{Mode}
+use Rattle.symbol_map.specs.declared.sample.Sample.{Sample}
+use Rattle.outside_calls.specs.Folder.{FolderState, OnlyReads}
+use Rattle.survivors.specs.Survivors.{LostIs}
+use Rattle.survivors.specs.V32.{any_trellis, line_depth}
+use Rattle.exact_decoder.specs.Decoder.{heard}
+use Rattle.command_base.specs.declared.stop.Stop.{Stop}
+use Rattle.command_base.specs.declared.stop.Stop.TheVariants.{Own, Read, Write, Say, NoMemory}
+use Rattle.recordings.specs.declared.rate.Rate.TheVariants as rates
+use Rattle.recordings.specs.declared.header.TheConstants.{HEADER}
+use Rattle.recordings.specs.Samples.{samples_in}
+use Rattle.recordings.proofs.Samples.{samples_in-front}
+use Rattle.command_base.proofs.Hearing.{said-nothing, said-after}
+use Rattle.command_base.specs.Recordings.{ReadsRecording, IsNotOpened}
+use Rattle.command_base.proofs.Behind.{GoesOnBy}
+use Rattle.signal_commands.specs.PickingUp.Gives.{AreFollowed, SaysPieces}
+use Rattle.signal_commands.specs.PickingUp.Playing.{Playing, Plays, StopsPlay}
+use Rattle.signal_commands.specs.PickingUp.Ends.{PicksUpAll, SampleCut, PicksUpFront, EndsBy}
+use Rattle.signal_commands.specs.PickingUp.Ends.EndsOwn.{is_long, is_other, is_lost}
+use Rattle.signal_commands.proofs.PickingUp.Playings.{followed-by, followed-longer, plays-lost, says-pieces, SaysCounted, says-counted, stops-longer}
+
+-- a line that isn't lost, with all said that its samples give
+pub not-lost : (start now : FolderState) (mode : Mode) (p : Playing) (samples : List Sample) → Plays start now mode p samples
+    → p.reader.reading.decoder.lost ≡ None → LostIs any_trellis line_depth samples None
+not-lost start now mode p samples h lost =
+    subst (λ (l : Option ℕ). LostIs any_trellis line_depth samples l) lost (plays-lost start now mode p samples h)
+
+pub says-all : (start now : FolderState) (mode : Mode) (p : Playing) (samples : List Sample) → Plays start now mode p samples
+    → p.reader.reading.decoder.lost ≡ None → p.reader.reading.decoder.pending ≡ []
+    → SaysPieces start now mode samples
+says-all start now mode p samples h lost taken =
+    subst (λ (l : Option ℕ). SaysPieces start now mode (heard l samples)) lost (says-pieces start now mode p samples h taken)
+
+-- a read fails behind these samples
+pub front-part : (start now : FolderState) (rec : List ℕ) (mode : Mode) (p : Playing) (content : List ℕ)
+    → GoesOnBy start rec rates.Trellis mode content → Plays start now mode p (samples_in content) → p.reader.reading.decoder.lost ≡ None
+    → p.reader.reading.decoder.pending ≡ [] → PicksUpFront start now rec
+front-part start now rec mode p content w h lost taken =
+    let s = samples_in-front content w.rest in
+    let followed : AreFollowed (samples_in content) (samples_in content) =
+    followed-by None (samples_in content) (not-lost start now mode p (samples_in content) h lost) in
+    record {
+      mode = mode;
+      content = content ++ w.rest;
+      reads = w.reads;
+      first = samples_in content;
+      followed = subst (λ (xs : List Sample). AreFollowed xs (samples_in content)) (sym s.1)
+          (followed-longer (samples_in content) s.0 (samples_in content) followed);
+      says = says-all start now mode p (samples_in content) h lost taken;
+    }
+
+-- the samples are not all played
+pub stops-by : (start now : FolderState) (rec : List ℕ) (mode : Mode) (content : List ℕ) (stop : Stop)
+    → GoesOnBy start rec rates.Trellis mode content → StopsPlay start now mode (samples_in content) stop → EndsBy start now rec stop
+stops-by start now rec mode content (Own answer) w h =
+    let s = samples_in-front content w.rest in
+    let more : StopsPlay start now mode (samples_in (content ++ w.rest)) (Own answer) =
+    subst (λ (xs : List Sample). StopsPlay start now mode xs (Own answer)) (sym s.1)
+    (stops-longer start now mode (samples_in content) s.0 (Own answer) h) in
+    is_lost more.0 more.1 more.2 (record {
+      mode = mode;
+      content = content ++ w.rest;
+      reads = w.reads;
+      role_is = more.3.role_is;
+      lost = more.3.lost;
+      says = more.3.says;
+    })
+stops-by start now rec mode content (Say fault) w h =
+    let s = samples_in-front content w.rest in
+    record {
+      mode = mode;
+      content = content ++ w.rest;
+      reads = w.reads;
+      first = h.first;
+      followed = subst (λ (xs : List Sample). AreFollowed xs h.first) (sym s.1)
+          (followed-longer (samples_in content) s.0 h.first h.followed);
+      says = h.says;
+    }
+stops-by start now rec mode content (Read fault) w never = absurd never
+stops-by start now rec mode content (Write fault) w never = never
+stops-by start now rec mode content NoMemory w never = absurd never
+
+-- the last sample is cut
+pub cut-by : (start now : FolderState) (rec : List ℕ) (mode : Mode) (p : Playing) (content : List ℕ) (at : ℕ)
+    → ReadsRecording start rec rates.Trellis mode content → length content % 4 ≢ 0 → at + length content % 4 ≡ HEADER + length content
+    → Plays start now mode p (samples_in content) → p.reader.reading.decoder.lost ≡ None → p.reader.reading.decoder.pending ≡ []
+    → SampleCut start now rec at
+cut-by start now rec mode p content at reads cut at_is h lost taken = record {
+  mode = mode;
+  content = content;
+  reads = reads;
+  cut = cut;
+  at_is = at_is;
+  not_lost = not-lost start now mode p (samples_in content) h lost;
+  says = says-all start now mode p (samples_in content) h lost taken;
+}
+
+-- all of them are played
+pub all-by : (start now : FolderState) (rec : List ℕ) (mode : Mode) (p : Playing) (content : List ℕ)
+    → ReadsRecording start rec rates.Trellis mode content → length content % 4 ≡ 0 → Plays start now mode p (samples_in content)
+    → p.reader.reading.decoder.lost ≡ None → p.reader.reading.decoder.pending ≡ [] → PicksUpAll start now rec p.listener.pieces
+all-by start now rec mode p content reads whole h lost taken =
+    let s : SaysCounted start now mode (samples_in content) p.listener.pieces =
+    subst (λ (l : Option ℕ). SaysCounted start now mode (heard l (samples_in content)) p.listener.pieces) lost
+    (says-counted start now mode p (samples_in content) h taken) in
+    record {
+      mode = mode;
+      content = content;
+      reads = reads;
+      followed = record { whole = whole; not_lost = not-lost start now mode p (samples_in content) h lost };
+      says = s.says;
+      count_is = s.count_is;
+    }
+
+-- the recording is not opened
+pub not-opened : (old new : FolderState) (rec : List ℕ) (stop : Stop) → OnlyReads old new → IsNotOpened old new rec rates.Trellis 1 stop
+    → EndsBy old new rec stop
+not-opened old new rec (Own answer) reads (inl long, stand) = is_long long.0 (said-after old old new [] reads (said-nothing old)) long.1
+not-opened old new rec (Own answer) reads (inr bad, stand) = is_other bad.0 bad.1 (said-after old old new [] reads (said-nothing old)) bad.2
+not-opened old new rec (Read fault) reads fails = inl (said-after old old new [] reads (said-nothing old))
+not-opened old new rec (Write fault) reads never = never
+not-opened old new rec (Say fault) reads never = absurd never
+not-opened old new rec NoMemory reads never = absurd never

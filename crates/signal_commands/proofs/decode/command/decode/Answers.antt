@@ -1,0 +1,14 @@
+use Rattle.std.proofs.Common.{map, string_bytes}
+use Rattle.signal_commands.specs.Decoding.Words.{named}
+use Rattle.signal_commands.proofs.Decoding.Headline.{headline-of, completes-of}
+use Rattle.signal_commands.proofs.decode.command.decode.Goals as goal
+
+pub returns-clause-headline : goal.returns-clause-headline
+returns-clause-headline g c =
+    headline-of (map string_bytes c.args.words.now) (g.F.Folder.state c.args.folder.now) (g.F.Folder.state c.decode_and_tell.new.folder)
+    (named c.args.names.now) c.decode_and_tell.result c.decode_and_tell.ensures
+
+pub returns-clause-completes : goal.returns-clause-completes
+returns-clause-completes g c =
+    completes-of (map string_bytes c.args.words.now) (g.F.Folder.state c.args.folder.now) (g.F.Folder.state c.decode_and_tell.new.folder)
+    (named c.args.names.now) c.decode_and_tell.result c.decode_and_tell.ensures

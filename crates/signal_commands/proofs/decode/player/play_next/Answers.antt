@@ -1,0 +1,144 @@
+use Rattle.std.proofs.Common.{◌≡◌, ◌≢◌, ◌∙◌, inl, inr, ℕ, ◌+◌, ◌-◌, ◌%◌, ◌++◌, List, length, length-append, take, sym, subst, arith}
+use Rattle.std.proofs.lemmas.List.{length-take}
+use Rattle.outside_calls.specs.Folder.{FolderState, Appended, PartlyAppended}
+use Rattle.symbol_map.specs.declared.sample.Sample.{Sample}
+use Rattle.signal_commands.specs.Decoding.Words.{DecodeNames, named}
+use Rattle.recordings.specs.Samples.{samples_in}
+use Rattle.recordings.proofs.Samples.{samples_in-append}
+use Rattle.command_base.specs.Recordings.{ReadBehind}
+use Rattle.command_base.proofs.Behind.{behind-kept, reads-first, reads-all}
+use Rattle.signal_commands.specs.declared.decode.playback.Playback.{Playback}
+use Rattle.signal_commands.specs.Decoding.Playing.{Hears}
+use Rattle.signal_commands.specs.Decoding.Played.{LosesWithin}
+use Rattle.signal_commands.proofs.Decoding.Parts.{Releases, piece-releases, part, front-part, lost-part, cut-part}
+use Rattle.outside_calls.proofs.Holding.{HoldsFront-more, Holds-kept, Holds-more}
+use Rattle.signal_commands.proofs.Decoding.Steps.{apart-names, only-read, only-write}
+use Rattle.signal_commands.proofs.decode.player.play_next.Goals as goal
+
+pub returns-in-Err-clause-err : goal.returns-in-Err-clause-err
+returns-in-Err-clause-err g c start written h =
+    let n : DecodeNames = named c.args.names.now in
+    let old : FolderState = g.F.Folder.state c.args.folder.now in
+    let n1 : FolderState = g.F.Folder.state c.read_samples.new.folder in
+    let reads = c.read_samples.ensures.reads in
+    inr (front-part start n1 n c.args.mode c.args.playback.now h.content h.octets
+    (reads-first start old n.rec n.rate c.args.mode h.content c.args.at h.behind) h.hears c.requires.ready.not_lost c.requires.ready.all_taken
+    (Holds-kept old n1 n.file h.octets reads.goes_on h.file (reads.names n.file)))
+
+pub returns-in-Err-append_output-clause-err : goal.returns-in-Err-append_output-clause-err
+returns-in-Err-append_output-clause-err g c start written h =
+    let n : DecodeNames = named c.args.names.now in
+    let old : FolderState = g.F.Folder.state c.args.folder.now in
+    let n1 : FolderState = g.F.Folder.state c.read_samples.new.folder in
+    let n2 : FolderState = g.F.Folder.state c.append_output.new.folder in
+    let reads = c.read_samples.ensures.reads in
+    let piece : List ℕ = take c.in-Ok.read c.read_samples.new.piece in
+    let given : List ℕ = c.play_piece-played.new.octets in
+    let behind : ReadBehind start n1 n.rec n.rate c.args.mode (h.content ++ piece) (c.args.at + c.in-Ok.read) =
+    c.in-Ok.ensures.more start n.rate c.args.mode h.content h.behind in
+    let plays = c.play_piece-played.ensures.plays n.rate c.args.mode (samples_in h.content) h.octets h.hears in
+    let releases : Releases n.rate c.args.mode (samples_in (h.content ++ piece)) (h.octets ++ given) =
+    subst (λ (xs : List Sample). Releases n.rate c.args.mode xs (h.octets ++ given)) (sym (samples_in-append h.content piece h.whole))
+    (piece-releases n.rate c.args.mode c.play_piece-played.new.playback (samples_in h.content) piece
+    (h.octets ++ given) c.play_piece-played.result plays c.play_piece-played.ensures.taken) in
+    let kept = Holds-kept old n1 n.file h.octets reads.goes_on h.file (reads.names n.file) in
+    let puts : PartlyAppended n1 n2 n.file given =
+    subst (λ (xs : List ℕ). PartlyAppended n1 n2 n.file xs) c.as_slice.ensures.items c.in-Err-append_output.ensures.err in
+    let file = HoldsFront-more n1 n2 n.file h.octets given c.append_output.ensures.only.goes_on kept puts in (
+      h.behind.read.within,
+      inr (part start n2 n c.args.mode (h.content ++ piece) (h.octets ++ given)
+          (reads-first start n1 n.rec n.rate c.args.mode (h.content ++ piece) (c.args.at + c.in-Ok.read) behind) releases file),
+    )
+
+pub returns-in-Ok-played-clause-ok : goal.returns-in-Ok-played-clause-ok
+returns-in-Ok-played-clause-ok g c start written h =
+    let n : DecodeNames = named c.args.names.now in
+    let old : FolderState = g.F.Folder.state c.args.folder.now in
+    let n1 : FolderState = g.F.Folder.state c.read_samples.new.folder in
+    let n2 : FolderState = g.F.Folder.state c.append_output.new.folder in
+    let p : Playback = c.play_piece-played.new.playback in
+    let reads = c.read_samples.ensures.reads in
+    let piece : List ℕ = take c.in-Ok.read c.read_samples.new.piece in
+    let given : List ℕ = c.play_piece-played.new.octets in
+    let long : length piece ≡ c.in-Ok.read =
+    length-take c.in-Ok.read c.read_samples.new.piece ∙ omega (arith, c.in-Ok.ensures.bound, c.read_samples.ensures.kept) in
+    let behind : ReadBehind start n1 n.rec n.rate c.args.mode (h.content ++ piece) (c.args.at + c.in-Ok.read) =
+    c.in-Ok.ensures.more start n.rate c.args.mode h.content h.behind in
+    let hears = c.in-Ok-played.ensures.plays n.rate c.args.mode (samples_in h.content) h.octets h.hears in
+    let kept = Holds-kept old n1 n.file h.octets reads.goes_on h.file (reads.names n.file) in
+    let puts : Appended n1 n2 n.file given =
+    subst (λ (xs : List ℕ). Appended n1 n2 n.file xs) c.as_slice.ensures.items c.in-Ok-append_output.ensures.ok in
+    record {
+      content = h.content ++ piece;
+      octets = h.octets ++ given;
+      hears = subst (λ (xs : List Sample). Hears n.rate c.args.mode p xs (h.octets ++ given))
+          (sym (samples_in-append h.content piece h.whole)) hears;
+      whole = omega (arith, h.whole, length-append h.content piece, long, c.if-read-eq0.true);
+      written_is = omega (arith, h.written_is, length-append h.octets given, c.len.ensures.count);
+      behind = behind-kept start n1 n2 n.rec n.rate c.args.mode (h.content ++ piece)
+          (c.args.at + c.in-Ok.read) behind c.append_output.ensures.only.goes_on
+          (c.append_output.ensures.only.names n.rec (apart-names n c.requires.apart));
+      only = only-write start n1 n2 n.file (only-read start old n1 n.file h.only reads) c.append_output.ensures.only;
+      file = Holds-more n1 n2 n.file h.octets given c.append_output.ensures.only.goes_on kept puts;
+    }
+
+pub returns-in-Ok-played-clause-end : goal.returns-in-Ok-played-clause-end
+returns-in-Ok-played-clause-end g c start written h none told =
+    let n : DecodeNames = named c.args.names.now in
+    let e = c.in-Ok.ensures.end start n.rate c.args.mode h.content h.behind (inr none) told in
+    omega (arith, e, none)
+
+pub returns-in-Ok-2-clause-err : goal.returns-in-Ok-2-clause-err
+returns-in-Ok-2-clause-err g c start written h =
+    let n : DecodeNames = named c.args.names.now in
+    let old : FolderState = g.F.Folder.state c.args.folder.now in
+    let n1 : FolderState = g.F.Folder.state c.read_samples.new.folder in
+    let n2 : FolderState = g.F.Folder.state c.append_output.new.folder in
+    let p : Playback = c.play_piece-played.new.playback in
+    let reads = c.read_samples.ensures.reads in
+    let piece : List ℕ = take c.in-Ok.read c.read_samples.new.piece in
+    let given : List ℕ = c.play_piece-played.new.octets in
+    let long : length piece ≡ c.in-Ok.read =
+    length-take c.in-Ok.read c.read_samples.new.piece ∙ omega (arith, c.in-Ok.ensures.bound, c.read_samples.ensures.kept) in
+    let behind : ReadBehind start n1 n.rec n.rate c.args.mode (h.content ++ piece) (c.args.at + c.in-Ok.read) =
+    c.in-Ok.ensures.more start n.rate c.args.mode h.content h.behind in
+    let hears = c.in-Ok-2.ensures.plays n.rate c.args.mode (samples_in h.content) h.octets h.hears in
+    let ready = c.in-Ok-2.ensures.ready c.args.at c.requires.ready in
+    let kept = Holds-kept old n1 n.file h.octets reads.goes_on h.file (reads.names n.file) in
+    let puts : Appended n1 n2 n.file given =
+    subst (λ (xs : List ℕ). Appended n1 n2 n.file xs) c.as_slice.ensures.items c.in-Ok-append_output.ensures.ok in
+    let cut : c.in-Ok.read % 4 ≢ 0 = c.if-read-eq0.false in
+    let content_cut : length (h.content ++ piece) % 4 ≡ c.in-Ok.read % 4 = omega (arith, h.whole, length-append h.content piece, long) in
+    inr (cut-part start n2 n c.args.mode p (h.content ++ piece) (h.octets ++ given) (c.args.at + (c.in-Ok.read - c.in-Ok.read % 4))
+    (reads-all start n1 n.rec n.rate c.args.mode (h.content ++ piece) (c.args.at + c.in-Ok.read) behind
+    (c.in-Ok.ensures.end start n.rate c.args.mode h.content h.behind (inl cut)))
+    (λ e. cut (sym content_cut ∙ e))
+    (omega (arith, behind.at_is, content_cut))
+    (subst (λ (xs : List Sample). Hears n.rate c.args.mode p xs (h.octets ++ given))
+    (sym (samples_in-append h.content piece h.whole)) hears)
+    ready.not_lost ready.all_taken
+    (Holds-more n1 n2 n.file h.octets given c.append_output.ensures.only.goes_on kept puts))
+
+pub returns-in-Err-played-clause-err : goal.returns-in-Err-played-clause-err
+returns-in-Err-played-clause-err g c start written h =
+    let n : DecodeNames = named c.args.names.now in
+    let old : FolderState = g.F.Folder.state c.args.folder.now in
+    let n1 : FolderState = g.F.Folder.state c.read_samples.new.folder in
+    let n2 : FolderState = g.F.Folder.state c.append_output.new.folder in
+    let p : Playback = c.play_piece-played.new.playback in
+    let reads = c.read_samples.ensures.reads in
+    let piece : List ℕ = take c.in-Ok.read c.read_samples.new.piece in
+    let given : List ℕ = c.play_piece-played.new.octets in
+    let symbol : ℕ = c.in-Err-played.lost.symbol in
+    let behind : ReadBehind start n1 n.rec n.rate c.args.mode (h.content ++ piece) (c.args.at + c.in-Ok.read) =
+    c.in-Ok.ensures.more start n.rate c.args.mode h.content h.behind in
+    let loses = c.in-Err-played.ensures.plays n.rate c.args.mode (samples_in h.content) h.octets h.hears in
+    let kept = Holds-kept old n1 n.file h.octets reads.goes_on h.file (reads.names n.file) in
+    let puts : Appended n1 n2 n.file given =
+    subst (λ (xs : List ℕ). Appended n1 n2 n.file xs) c.as_slice.ensures.items c.in-Ok-append_output.ensures.ok in
+    lost-part start n2 n c.args.mode p (h.content ++ piece) (h.octets ++ given) symbol c.hearer_of.result
+    (reads-first start n1 n.rec n.rate c.args.mode (h.content ++ piece) (c.args.at + c.in-Ok.read) behind)
+    (subst (λ (xs : List Sample). LosesWithin n.rate c.args.mode p xs (h.octets ++ given) symbol)
+    (sym (samples_in-append h.content piece h.whole)) loses)
+    c.hearer_of.ensures
+    (Holds-more n1 n2 n.file h.octets given c.append_output.ensures.only.goes_on kept puts)

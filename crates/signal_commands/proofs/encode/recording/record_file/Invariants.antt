@@ -1,0 +1,19 @@
+use Rattle.std.proofs.Common.{◌≤◌, ◌-◌}
+use Rattle.outside_calls.specs.Folder.{FolderState, CountsStand}
+use Rattle.command_base.specs.declared.limits.TheConstants.{FILE_LIMIT}
+use Rattle.outside_calls.specs.Outputs.{OnlyOutput}
+use Rattle.signal_commands.specs.Encoding.Words.{named}
+use Rattle.signal_commands.specs.Encoding.Recorded.{Begun, RecordedTo}
+use Rattle.signal_commands.proofs.encode.recording.record_file.Given as goal
+
+abbrev pub invariant-loop-count : goal.invariant-loop-count
+invariant-loop-count g l = record {
+  within : l.at ≤ FILE_LIMIT;
+  recorded : (start : FolderState) → Begun start (g.F.Folder.state l.fn.folder) (named l.names)
+      → RecordedTo start (g.F.Folder.state l.folder) (named l.names) l.recorder l.at;
+  only : OnlyOutput (g.F.Folder.state l.fn.folder) (g.F.Folder.state l.folder) l.names.rec.now;
+  stand : CountsStand (g.F.Folder.state l.fn.folder) (g.F.Folder.state l.folder);
+}
+
+abbrev pub decreases-loop-count : goal.decreases-loop-count
+decreases-loop-count g l = FILE_LIMIT - l.at

@@ -1,0 +1,54 @@
+use Rattle.std.proofs.Common.{◌≡◌, inr, ℕ, ◌<◌, List, [], ◌++◌, IsTrue, take, subst, arith}
+use Rattle.outside_calls.specs.Folder.{FolderState, octets_at, Appended, PartlyAppended}
+use Rattle.recordings.specs.declared.recorder.Recorder.{Recorder}
+use Rattle.recordings.specs.Recording.{RecorderStands}
+use Rattle.signal_commands.specs.Encoding.Words.{EncodeNames, named}
+use Rattle.signal_commands.proofs.Encoding.Making.{recorded-front, recorded-more, recorded-whole, piece-part}
+use Rattle.signal_commands.proofs.encode.recording.record_next.Goals as goal
+
+pub returns-in-Ok-eq0-clause-end : goal.returns-in-Ok-eq0-clause-end
+returns-in-Ok-eq0-clause-end g c = λ start r zero.
+    let end : (count : ℕ) → count ≡ 0
+    → (count < 512 → IsTrue (start.tells c.args.names.now.file.now)
+    → r.octets ++ take count c.read_piece.new.piece ≡ octets_at start c.args.names.now.file.now) →
+    IsTrue (start.tells c.args.names.now.file.now) → r.octets ++ [] ≡ octets_at start c.args.names.now.file.now =
+    λ count e h told. (subst (λ (m : ℕ). m < 512
+    → r.octets ++ take m c.read_piece.new.piece ≡ octets_at start c.args.names.now.file.now) e (λ few. h few told)) (omega arith) in
+    recorded-whole start (g.F.Folder.state c.args.folder.now) (g.F.Folder.state c.read_piece.new.folder)
+    (named c.args.names.now) c.args.recorder.now c.args.at r c.in-Ok-eq0.ensures.reads
+    (end c.in-Ok-eq0.field-0 c.in-Ok-eq0.field-0-test (c.in-Ok-eq0.ensures.end start r.octets r.read))
+
+pub returns-in-Err-clause-err : goal.returns-in-Err-clause-err
+returns-in-Err-clause-err g c = λ start r.
+    inr (recorded-front start (g.F.Folder.state c.args.folder.now) (g.F.Folder.state c.read_piece.new.folder)
+    (named c.args.names.now) c.args.recorder.now c.args.at r c.in-Err.ensures.reads)
+
+pub returns-in-Ok-append_output-clause-ok : goal.returns-in-Ok-append_output-clause-ok
+returns-in-Ok-append_output-clause-ok g c = λ start r.
+    let old : FolderState = g.F.Folder.state c.args.folder.now in let mid : FolderState = g.F.Folder.state c.read_piece.new.folder in
+    let new : FolderState = g.F.Folder.state c.append_output.new.folder in
+    let n : EncodeNames = named c.args.names.now in let made : List ℕ = c.record_piece.new.recorded in let piece : List ℕ =
+    take c.in-Ok.count c.read_piece.new.piece in
+    let next : Recorder = c.record_piece.new.recorder in
+    let stands : RecorderStands n.rate n.mode next (r.octets ++ piece) (r.recorded ++ made) =
+    c.record_piece.ensures n.rate n.mode r.octets r.recorded r.stands in
+    recorded-more start old mid new n c.args.recorder.now next c.args.at c.in-Ok.count piece made r c.requires.apart
+    (c.in-Ok.ensures.more start r.octets r.read)
+    stands c.in-Ok.ensures.reads c.in-Ok-append_output.ensures.only
+    (subst (λ (xs : List ℕ). Appended mid new n.rec xs) c.as_slice.ensures.items c.in-Ok-append_output.ensures.ok)
+
+pub returns-in-Err-append_output-clause-err : goal.returns-in-Err-append_output-clause-err
+returns-in-Err-append_output-clause-err g c = λ start r.
+    let old : FolderState = g.F.Folder.state c.args.folder.now in let mid : FolderState = g.F.Folder.state c.read_piece.new.folder in
+    let new : FolderState = g.F.Folder.state c.append_output.new.folder in
+    let n : EncodeNames = named c.args.names.now in let made : List ℕ = c.record_piece.new.recorded in let piece : List ℕ =
+    take c.in-Ok.count c.read_piece.new.piece in
+    let next : Recorder = c.record_piece.new.recorder in
+    let stands : RecorderStands n.rate n.mode next (r.octets ++ piece) (r.recorded ++ made) =
+    c.record_piece.ensures n.rate n.mode r.octets r.recorded r.stands in (
+      r.read.within,
+      piece-part start old mid new n c.args.recorder.now next c.args.at c.in-Ok.count piece made r
+          (c.in-Ok.ensures.more start r.octets r.read)
+          stands c.in-Ok.ensures.reads c.in-Err-append_output.ensures.only
+          (subst (λ (xs : List ℕ). PartlyAppended mid new n.rec xs) c.as_slice.ensures.items c.in-Err-append_output.ensures.err),
+    )

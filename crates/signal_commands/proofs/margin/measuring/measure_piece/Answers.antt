@@ -1,0 +1,38 @@
+use Rattle.std.proofs.Common.{◌≡◌, ◌+◌, ◌*◌, ◌++◌, ◌∷◌, [], ℕ, List, take, slice_index, sym, subst, arith, append_assoc, ap, ◌∙◌}
+use Rattle.std.proofs.lemmas.List.{take_more}
+use Rattle.symbol_map.specs.declared.sample.Sample.{Sample}
+use Rattle.noise_bound.specs.Margins.{MarginStands}
+use Rattle.recordings.specs.Samples.{samples_in}
+use Rattle.signal_commands.proofs.Margins.Measures.{two-more-samples}
+use Rattle.signal_commands.proofs.margin.measuring.measure_piece.Goals as goal
+
+-- one octet more behind those of a piece
+octet-more : (before octets : List ℕ) (place octet : ℕ) → octet ≡ slice_index octets place
+    → take (place + 1) octets ≡ take place octets ++ slice_index octets place ∷ []
+    → (before ++ take place octets) ++ octet ∷ [] ≡ before ++ take (place + 1) octets
+octet-more before octets place octet is more =
+    append_assoc before (take place octets) (octet ∷ []) ∙ ap (λ (x : ℕ). before ++ (take place octets ++ x ∷ [])) is
+    ∙ ap (λ (xs : List ℕ). before ++ xs) (sym more)
+
+pub loop-place-preserved : goal.loop-place-preserved
+loop-place-preserved c =
+    let place : ℕ = c.loop-place.place in
+    let octets : List ℕ = c.args.octets.now in
+    let recorded : List ℕ = c.args.recorded.now in
+    let octet : ℕ = slice_index octets place in
+    record {
+      stands = λ mode before samples s.
+          let pushed : MarginStands mode c.push.new.self ((before ++ take place octets) ++ octet ∷ [])
+          (((samples ++ samples_in (take
+          (4 * (2 * place)) recorded)) ++ c.sample_at-first.result ∷ []) ++ c.sample_at-second.result ∷ []) =
+          c.push.ensures.stands mode (before ++ take place octets) (samples ++ samples_in (take (4 * (2 * place)) recorded))
+          (c.loop-place.invariant.stands mode before samples s) in
+          let sampled : MarginStands mode c.push.new.self ((before ++ take place octets) ++ octet ∷ [])
+          (samples ++ samples_in (take (4 * (2 * (place + 1))) recorded)) =
+          subst (λ (xs : List Sample). MarginStands mode c.push.new.self ((before ++ take place octets) ++ octet ∷ []) xs)
+          (two-more-samples samples recorded place c.sample_at-first.result c.sample_at-second.result
+          (omega (arith, c.requires.fits, c.loop-place-test.true)) c.sample_at-first.ensures c.sample_at-second.ensures) pushed in
+          subst (λ (xs : List ℕ). MarginStands mode c.push.new.self xs (samples ++ samples_in (take (4 * (2 * (place + 1))) recorded)))
+          (octet-more before octets place octet (λ i. octet) (take_more octets place 0 (omega (arith, c.loop-place-test.true)))) sampled;
+      count = omega (arith, c.push.ensures.count, c.loop-place.invariant.count);
+    }

@@ -1,0 +1,38 @@
+use Rattle.std.proofs.Common.{◌+◌, arith}
+use Rattle.outside_calls.specs.Folder.{FolderState}
+use Rattle.outside_calls.proofs.Steps.{OnlyReads-refl, OnlyReads-trans, CountsStand-refl, CountsStand-trans}
+use Rattle.signal_commands.specs.Margins.Words.{MarginNames, named}
+use Rattle.signal_commands.proofs.Margins.Measures.{measured-none, measures-all}
+use Rattle.signal_commands.proofs.margin.measuring.measure_to_end.Goals as goal
+
+pub loop-margin-init : goal.loop-margin-init
+loop-margin-init g c =
+    let old : FolderState = g.F.Folder.state c.args.folder.now in
+    record {
+      within = omega arith;
+      count = c.new-margin.ensures.count;
+      measured = λ start o. measured-none start old (named c.args.names.now) c.args.mode c.new-margin.result o c.new-margin.ensures.stands;
+      reads = OnlyReads-refl old;
+      stand = CountsStand-refl old;
+    }
+
+pub loop-margin-preserved : goal.loop-margin-preserved
+loop-margin-preserved g c =
+    let before = c.loop-margin.invariant in
+    record {
+      within = c.in-Ok.ensures.bound;
+      count = c.in-Ok.ensures.count;
+      measured = λ start o. c.in-Ok.ensures.ok start c.args.mode (before.measured start o);
+      reads = OnlyReads-trans before.reads c.measure_next.ensures.reads;
+      stand = CountsStand-trans before.stand c.in-Ok.ensures.counts;
+    }
+
+pub returns-in-Ok-eq0-clause-ends : goal.returns-in-Ok-eq0-clause-ends
+returns-in-Ok-eq0-clause-ends g c start o =
+    let n : MarginNames = named c.args.names.now in
+    let new : FolderState = g.F.Folder.state c.measure_next.new.folder in
+    let before = c.loop-margin.invariant.measured start o in
+    let end = c.in-Ok-eq0.ensures.end start c.args.mode before c.in-Ok-eq0.field-0-test in
+    measures-all start new n c.args.mode c.measure_next.new.margin (c.loop-margin.at + c.in-Ok-eq0.field-0)
+    (c.in-Ok-eq0.ensures.ok start c.args.mode before) (λ told. (let e = end.0 told in omega (arith, e)))
+    (λ told. (let e = end.1 told in omega (arith, e)))

@@ -1,0 +1,66 @@
+use Rattle.std.proofs.Common.{◌∙◌, ℕ, List, [], refl, sym, subst, take}
+use Rattle.outside_calls.specs.Folder.{FolderState, OnlyReads}
+use Rattle.outside_calls.proofs.Steps.{OnlyReads-trans}
+use Rattle.command_base.specs.declared.limits.TheConstants.{FILE_LIMIT, RECORDING_LIMIT}
+use Rattle.command_base.specs.Inputs.{ReadTo}
+use Rattle.command_base.proofs.Reading.{ReadTo-none, within-earlier}
+use Rattle.recordings.specs.declared.rate.Rate.TheVariants as rates
+use Rattle.recordings.specs.Headers.{IsBadHeader}
+use Rattle.command_base.proofs.HeaderRead.{header-octets}
+use Rattle.signal_commands.specs.Margins.Ends.EndsOwn.{is_other}
+use Rattle.signal_commands.proofs.Margins.Looking.{rec-refused, file-refused}
+use Rattle.signal_commands.specs.Margins.Words.{named}
+use Rattle.signal_commands.proofs.margin.opening.open_inputs.Goals as goal
+
+pub returns-in-Err-clause-err : goal.returns-in-Err-clause-err
+returns-in-Err-clause-err g c =
+    rec-refused (g.F.Folder.state c.args.folder.now) (g.F.Folder.state c.within_limit.new.folder)
+    (named c.args.names.now) c.in-Err.stop c.in-Err.ensures.refused
+
+pub returns-in-Err-within_limit-clause-err : goal.returns-in-Err-within_limit-clause-err
+returns-in-Err-within_limit-clause-err g c =
+    let old : FolderState = g.F.Folder.state c.args.folder.now in
+    file-refused old (g.F.Folder.state c.within_limit.new.folder) (g.F.Folder.state c.within_limit-2.new.folder) (named c.args.names.now)
+    c.in-Err-within_limit.stop c.within_limit.ensures.reads c.in-Ok.ensures.stand c.in-Ok.ensures.within
+    c.in-Err-within_limit.ensures.refused
+
+pub returns-in-Ok-read_header-clause-ok : goal.returns-in-Ok-read_header-clause-ok
+returns-in-Ok-read_header-clause-ok g c =
+    let rec : List ℕ = c.args.names.now.rec.now in
+    let old : FolderState = g.F.Folder.state c.args.folder.now in
+    let n1 : FolderState = g.F.Folder.state c.within_limit.new.folder in
+    let n2 : FolderState = g.F.Folder.state c.within_limit-2.new.folder in
+    let n3 : FolderState = g.F.Folder.state c.read_piece.new.folder in
+    let looked : OnlyReads old n2 = OnlyReads-trans c.within_limit.ensures.reads c.within_limit-2.ensures.reads in
+    let none : ReadTo old n2 rec RECORDING_LIMIT 0 [] =
+    ReadTo-none old n2 rec RECORDING_LIMIT c.in-Ok.ensures.within looked.goes_on (looked.names rec) in
+    record {
+      rec_within = c.in-Ok.ensures.within;
+      file_within = within-earlier old n1 c.args.names.now.file.now FILE_LIMIT c.within_limit.ensures.reads
+          c.in-Ok-within_limit.ensures.within;
+      header = λ told. sym c.in-Ok-read_header.ensures.ok
+          ∙ header-octets old n3 rec c.in-Ok-read_piece.count
+          (take c.in-Ok-read_piece.count c.read_piece.new.piece) c.in-Ok-read_piece.ensures.bound
+          (c.in-Ok-read_piece.ensures.more old [] none) (c.in-Ok-read_piece.ensures.end old [] none) told;
+    }
+
+pub returns-in-Err-read_header-clause-err : goal.returns-in-Err-read_header-clause-err
+returns-in-Err-read_header-clause-err g c =
+    let rec : List ℕ = c.args.names.now.rec.now in
+    let old : FolderState = g.F.Folder.state c.args.folder.now in
+    let n1 : FolderState = g.F.Folder.state c.within_limit.new.folder in
+    let n2 : FolderState = g.F.Folder.state c.within_limit-2.new.folder in
+    let n3 : FolderState = g.F.Folder.state c.read_piece.new.folder in
+    let looked : OnlyReads old n2 = OnlyReads-trans c.within_limit.ensures.reads c.within_limit-2.ensures.reads in
+    let none : ReadTo old n2 rec RECORDING_LIMIT 0 [] =
+    ReadTo-none old n2 rec RECORDING_LIMIT c.in-Ok.ensures.within looked.goes_on (looked.names rec) in
+    is_other c.in-Err-read_header.at refl
+    (within-earlier old n1 c.args.names.now.file.now FILE_LIMIT c.within_limit.ensures.reads c.in-Ok-within_limit.ensures.within)
+    (record {
+      within = c.in-Ok.ensures.within;
+      bad = λ told. subst (λ (xs : List ℕ). IsBadHeader rates.Trellis xs c.in-Err-read_header.at)
+          (header-octets old n3 rec c.in-Ok-read_piece.count
+          (take c.in-Ok-read_piece.count c.read_piece.new.piece) c.in-Ok-read_piece.ensures.bound
+          (c.in-Ok-read_piece.ensures.more old [] none) (c.in-Ok-read_piece.ensures.end old [] none) told)
+          c.in-Err-read_header.ensures.err;
+    })

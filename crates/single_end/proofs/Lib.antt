@@ -1,5 +1,0 @@
-mod Hearing
-mod Folders
-mod Turning
-mod Breaking
-mod Once

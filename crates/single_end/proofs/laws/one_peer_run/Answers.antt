@@ -1,5 +1,0 @@
-use Rattle.single_end.proofs.Once.{one-run, one-turn}
-use Rattle.single_end.proofs.laws.one_peer_run.Goals as goal
-
-pub returns : goal.returns
-returns c = record { run = one-run c.one_is_heard.ensures c.one_lone_run.ensures.run; turn = one-turn c.one_is_heard.ensures }

@@ -1,5 +1,0 @@
-use Rattle.single_end.proofs.Once.{hearing-breaks, peers-heard, others-wants}
-use Rattle.single_end.proofs.laws.peers_faults_are_heard.Goals as goal
-
-pub returns : goal.returns
-returns c = record { hearing = hearing-breaks; peers = peers-heard; wants = others-wants }

@@ -1,6 +1,0 @@
-mod DrawnWords
-mod Lines
-mod Spelling
-mod Filling
-mod Turning
-mod Headline

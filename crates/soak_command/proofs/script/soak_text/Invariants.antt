@@ -1,7 +1,0 @@
-use Rattle.std.proofs.Common.{◌≡◌}
-use Rattle.noise_script.specs.Noisy.{text_of}
-use Rattle.soak_command.specs.Text.{soak_lines}
-use Rattle.soak_command.proofs.script.soak_text.Given as goal
-
-abbrev pub invariant-loop-n : goal.invariant-loop-n
-invariant-loop-n l = l.text.items ≡ text_of (soak_lines l.seed l.n)

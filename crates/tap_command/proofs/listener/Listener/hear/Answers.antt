@@ -1,9 +1,0 @@
-use Rattle.std.proofs.Common.{sym, subst}
-use Rattle.lapm_frames.specs.declared.heard.Heard.{Heard}
-use Rattle.tap_command.specs.Listener.{Overhears}
-use Rattle.tap_command.proofs.listener.Listener.hear.Goals as goal
-
-pub returns-in-Passed-clause-stands : goal.returns-in-Passed-clause-stands
-returns-in-Passed-clause-stands c = λ terms role agreed connected i lengths h.
-    subst (λ (x : Heard). Overhears c.take_slot.new.self terms role agreed connected i lengths x) (sym c.in-Passed.is)
-    (c.take_slot.ensures.stands terms role agreed connected i lengths h)

@@ -1,0 +1,208 @@
+-- From every answer to the headline, and to which answer right inputs have.
+use Rattle.std.proofs.Common.{◌≡◌, ◌⊎◌, inl, inr, ℕ, ◌≤◌, ◌<◌, List, ◌++◌, length, Option, Result, Ok, Err, refl, sym, ◌∙◌, ap, subst, arith}
+use Rattle.std.specs.Option.{option_map}
+use Rattle.outside_calls.specs.Folder.{FolderState, octets_at}
+use Rattle.outside_calls.specs.declared.folder.FolderFault.TheVariants as folder
+use Rattle.shared_terms.specs.declared.audit_cause.AuditCause.{AuditCause}
+use Rattle.noise_script.specs.Script.{ScriptValue}
+use Rattle.noise_script.specs.Laws.{ScriptsAreOne, NoFaultInScripts}
+use Rattle.line_run.specs.Ends.{RunEnd, Left, OneResult, RunsTo}
+use Rattle.line_run.specs.Scripted.{wire_of, link_of}
+use Rattle.command_base.specs.declared.status.Status.{Status}
+use Rattle.command_base.specs.declared.status.Status.TheVariants.{Done, BadScript, TooLong, AuditNo, NoMemory}
+use Rattle.command_base.specs.declared.stop.Stop.{Stop}
+use Rattle.command_base.specs.declared.stop.Stop.TheVariants as stops
+use Rattle.command_base.specs.Inputs.{IsWithin, IsLonger}
+use Rattle.command_base.specs.Job.{Answers}
+use Rattle.command_base.specs.Lines.{true_line}
+use Rattle.command_base.specs.Stops.{end_status}
+use Rattle.command_base.proofs.Jobs.{last-plain, done-of, shared-of, Comes, is_done, is_own, is_memory, comes-to}
+use Rattle.run_inputs.specs.declared.limits.TheConstants.{LIMITS}
+use Rattle.run_inputs.specs.Inputs.{RefusesOwn}
+use Rattle.trace_audit.specs.declared.comparison.Difference.{Difference}
+use Rattle.trace_audit.specs.Words.{AuditNames, files_of}
+use Rattle.trace_audit.specs.Verdict.{DiffersIn, IsFound}
+use Rattle.trace_audit.specs.Ends.{Audits, AnswersOwn, Ends, audit_job}
+use Rattle.trace_audit.specs.Headline.{Audited, AuditedBy, Headline, YesIsTheTrace}
+use Rattle.trace_audit.specs.Completes.{AreRight, files_at, InputsRunTo, IsAnswerTo, Where, Completes}
+use Rattle.trace_audit.proofs.Deciding.{VerdictLaws, never-both, one-difference}
+
+-- ---- the headline
+
+audited-so : (f : FolderState) (n : AuditNames) (found : Result ℕ Difference) → Audits f n found → Audited f n found
+audited-so f n found a = record {
+  script = a.script;
+  limits = a.takes.are_open.limits;
+  files = a.files;
+  are_of = record {
+    script_is = a.takes.are_open.opens.reads.spelled;
+    orig_is = a.takes.orig;
+    answ_is = a.takes.answ;
+  };
+  end = a.end;
+  left = a.left;
+  run = a.run;
+  found_is = a.found_is;
+}
+
+-- a difference was found where that is the answer
+differs-so : (old before : FolderState) (n : AuditNames) (end : Result ℕ Stop) (line : ℕ) (cause : AuditCause) → Ends old before n end
+    → end_status end ≡ AuditNo line cause → Audits old n (Err (record { line = line; cause = cause }))
+differs-so old before n (Ok lines) line cause e f = absurd cc
+differs-so old before n (Err (stops.Own answer)) line cause e f = by (subst (λ (s : Status). RefusesOwn LIMITS old n.script 3 (files_of n) 1 s ⊎ AnswersOwn old n s) f e)
+  where
+    by : ⊥ ⊎ Audits old n (Err (record { line = line; cause = cause })) → Audits old n (Err (record { line = line; cause = cause }))
+    by (inl never) = absurd never
+    by (inr a) = a
+differs-so old before n (Err (stops.Read folder.Failed)) line cause e f = absurd cc
+differs-so old before n (Err (stops.Read folder.NoMemory)) line cause e f = absurd cc
+differs-so old before n (Err (stops.Write fault)) line cause e f = absurd e
+differs-so old before n (Err (stops.Say fault)) line cause e f = absurd e
+differs-so old before n (Err stops.NoMemory) line cause e f = absurd cc
+
+audited-by : (words : List (List ℕ)) (old new : FolderState) (n : AuditNames) (s t : Status) → Answers (audit_job n) words old new s → s ≡ t
+    → AuditedBy old new n t
+audited-by words old new n s Done a e =
+    let d = done-of (audit_job n) words old new s a e in (
+      d.done,
+      d.said ∙ ap (λ (o : Option (List ℕ)). option_map (λ x. x ++ true_line d.done) o) d.ends.1.said,
+      audited-so old n (Ok d.done) d.ends.0,
+    )
+audited-by words old new n s (AuditNo line cause) a e =
+    audited-so old n (Err (record { line = line; cause = cause }))
+    (differs-so old a.before n a.end line cause a.ends.0
+    (last-plain (audit_job n).line_of words a.before new a.end s (AuditNo line cause) a.says e
+    (record { write = λ f. cc; memory = λ f. cc })))
+audited-by words old new n s t a e = tt
+
+pub headline-of : (words : List (List ℕ)) (old new : FolderState) (n : AuditNames) (s : Status) → Answers (audit_job n) words old new s
+    → Headline old new n s
+headline-of words old new n s a = record {
+  shared = shared-of (audit_job n) words old new s a (λ e name. a.only.names name tt);
+  audited = audited-by words old new n s s a refl;
+}
+
+-- ---- which answer right inputs have
+
+script-fits : (count : ℕ) → count ≤ 65536 → LIMITS.script < count → ⊥
+script-fits count within longer = omega (arith, within, longer)
+
+file-fits : (count : ℕ) → count ≤ 16777216 → LIMITS.file < count → ⊥
+file-fits count within longer = omega (arith, within, longer)
+
+trace-fits : (count : ℕ) → count ≤ 16777216 → 16777216 < count → ⊥
+trace-fits count within longer = omega (arith, within, longer)
+
+-- right inputs are not refused
+never-refused : NoFaultInScripts → (old : FolderState) (n : AuditNames) (script : ScriptValue) (answer : Status) → AreRight old n script
+    → RefusesOwn LIMITS old n.script 3 (files_of n) 1 answer → ⊥
+never-refused law old n script (TooLong word) r (inl s) =
+    script-fits (length (octets_at old n.script)) r.script_short (s.longer r.script_told)
+never-refused law old n script (TooLong word) r (inr f) = by f.first
+  where
+    by : (((word ≡ 1) × IsLonger old n.orig LIMITS.file)
+        ⊎ (IsWithin old n.orig LIMITS.file × (((word ≡ 2) × IsLonger old n.answ LIMITS.file) ⊎ (IsWithin old n.answ LIMITS.file × ⊥)))) → ⊥
+    by (inl o) = file-fits (length (octets_at old n.orig)) r.orig_short (o.1 r.orig_told)
+    by (inr (w, inl a)) = file-fits (length (octets_at old n.answ)) r.answ_short (a.1 r.answ_told)
+    by (inr (w, inr a)) = a.1
+never-refused law old n script (BadScript line cause) r s = law (octets_at old n.script) script line cause r.spelled (s.first r.script_told)
+never-refused law old n script answer r never = never
+
+-- the laws that this rests on
+pub record JudgeLaws : Type 0 where
+  pub result : OneResult
+  pub one : ScriptsAreOne
+  pub apart : NoFaultInScripts
+  pub verdict : VerdictLaws
+
+module _ (laws : JudgeLaws) (old : FolderState) (n : AuditNames) (script : ScriptValue) (r : AreRight old n script) (end : RunEnd) (left : Left)
+    (run : InputsRunTo old n script end left) where
+  -- the run that was made leaves what that of the inputs leaves
+  same-left : (found : Result ℕ Difference) (a : Audits old n found) → a.left ≡ left
+  same-left found a =
+      let same : a.script ≡ script = laws.one (octets_at old n.script) a.script script (a.takes.are_open.opens.reads.spelled r.script_told) r.spelled in
+      let over : RunsTo (wire_of script) (link_of script a.files) a.end a.left =
+      subst (λ (s : ScriptValue). RunsTo (wire_of s) (link_of s a.files) a.end a.left) same a.run in
+      let of-orig : RunsTo (wire_of script) (link_of script (record { orig = octets_at old n.orig; answ = a.files.answ })) a.end a.left =
+      subst (λ (o : List ℕ). RunsTo (wire_of script) (link_of script (record { orig = o; answ = a.files.answ })) a.end a.left)
+      (a.takes.orig r.orig_told) over in
+      let of-both : InputsRunTo old n script a.end a.left =
+      subst (λ (w : List ℕ). RunsTo (wire_of script) (link_of script (record { orig = octets_at old n.orig; answ = w })) a.end a.left)
+      (a.takes.answ r.answ_told) of-orig in
+      (laws.result (wire_of script) (link_of script (files_at old n)) a.end end a.left left of-both run).1
+
+  found-so : (found : Result ℕ Difference) → Audits old n found → IsFound left.trace (octets_at old n.trace) found
+  found-so found a =
+      subst (λ (l : Left). IsFound l.trace (octets_at old n.trace) found) (same-left found a) (a.found_is r.trace_told)
+
+  -- so the answer is the one to its text
+  own-answer : (before : FolderState) (answer : Status) → Ends old before n (Err (stops.Own answer))
+      → IsAnswerTo left.trace (octets_at old n.trace) answer
+  own-answer before answer (inl refused) = absurd (never-refused laws.apart old n script answer r refused)
+  own-answer before (TooLong word) (inr long) =
+      absurd (trace-fits (length (octets_at old n.trace)) r.trace_short (long.longer r.trace_told))
+  own-answer before (AuditNo line cause) (inr a) = found-so (Err (record { line = line; cause = cause })) a
+  own-answer before answer (inr never) = absurd never
+
+  exact-so : (words : List (List ℕ)) (new : FolderState) (s : Status) (a : Answers (audit_job n) words old new s) → Comes a.end s
+      → IsAnswerTo left.trace (octets_at old n.trace) s ⊎ (s ≡ NoMemory)
+  exact-so words new s a (is_done lines is e) =
+      let f = found-so (Ok lines) (subst (λ (x : Result ℕ Stop). Ends old a.before n x) is a.ends.0) in
+      inl (subst (λ (t : Status). IsAnswerTo left.trace (octets_at old n.trace) t) (sym e) f.same)
+  exact-so words new s a (is_own answer is e) =
+      inl (subst (λ (t : Status). IsAnswerTo left.trace (octets_at old n.trace) t) (sym e)
+      (own-answer a.before answer (subst (λ (x : Result ℕ Stop). Ends old a.before n x) is a.ends.0)))
+  exact-so words new s a (is_memory e) = inr e
+
+-- ---- there is one answer
+
+yes-so : VerdictLaws → (text octets : List ℕ) (s : Status) → IsAnswerTo text octets s → octets ≡ text → s ≡ Done
+yes-so laws text octets Done h same = refl
+yes-so laws text octets (AuditNo line cause) h same = absurd (never-both laws text octets line cause same h)
+yes-so laws text octets s h same = absurd h
+
+same-answer : (l m : ℕ) (c d : AuditCause) → l ≡ m → c ≡ d → AuditNo l c ≡ AuditNo m d
+same-answer l m c d e f = rw (e, f) refl
+
+no-so : VerdictLaws → (text octets : List ℕ) (s : Status) (line : ℕ) (cause : AuditCause) → IsAnswerTo text octets s
+    → DiffersIn text octets line cause → s ≡ AuditNo line cause
+no-so laws text octets Done line cause h d = absurd (never-both laws text octets line cause h d)
+no-so laws text octets (AuditNo other why) line cause h d =
+    let same = one-difference laws text octets other line why cause h d in same-answer other line why cause same.0 same.1
+no-so laws text octets s line cause h d = absurd h
+
+pub completes-of : JudgeLaws → (words : List (List ℕ)) (old new : FolderState) (n : AuditNames) (s : Status)
+    → Answers (audit_job n) words old new s → Completes old new n s
+completes-of laws words old new n s a = record {
+  exact = exact;
+  yes = λ sound script r end left run same. elim (exact sound script r end left run) [
+    | inl answer ↦ inl (yes-so laws.verdict left.trace (octets_at old n.trace) s answer same)
+    | inr memory ↦ inr memory
+  ];
+  no = λ sound script r end left run line cause d. elim (exact sound script r end left run) [
+    | inl answer ↦ inl (no-so laws.verdict left.trace (octets_at old n.trace) s line cause answer d)
+    | inr memory ↦ inr memory
+  ];
+}
+  where
+    exact : Where old new n (λ text octets. IsAnswerTo text octets s ⊎ (s ≡ NoMemory))
+    exact sound script r end left run =
+        exact-so laws old n script r end left run words new s a (comes-to (audit_job n) words old new s a sound)
+
+-- ---- what a yes says
+
+pub yes-is-the-trace : YesIsTheTrace
+yes-is-the-trace old new n h told =
+    let a = h.audited.2 in
+    let of-orig : RunsTo (wire_of a.script) (link_of a.script (record { orig = octets_at old n.orig; answ = a.files.answ })) a.end a.left =
+    subst (λ (o : List ℕ). RunsTo (wire_of a.script) (link_of a.script (record { orig = o; answ = a.files.answ })) a.end a.left)
+    (a.are_of.orig_is told.orig) a.run in
+    record {
+      script = a.script;
+      spelled = a.are_of.script_is told.script;
+      end = a.end;
+      left = a.left;
+      run = subst (λ (w : List ℕ). RunsTo (wire_of a.script) (link_of a.script (record { orig = octets_at old n.orig; answ = w })) a.end a.left)
+          (a.are_of.answ_is told.answ) of-orig;
+      same = (a.found_is told.trace).same;
+    }

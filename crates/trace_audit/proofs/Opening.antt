@@ -1,0 +1,162 @@
+-- From the phases of an audit to how it ends.
+use Rattle.std.proofs.Common.{◌≡◌, inl, inr, ℕ, ◌<◌, ◌≤◌, IsTrue, List, [], ◌∷◌, length, Result, Ok, Err, refl, sym, ◌∙◌, ap, subst, take, arith}
+use Rattle.std.proofs.lemmas.List.{take_all}
+use Rattle.outside_calls.specs.Folder.{FolderState, octets_at, OnlyReads, CountsStand}
+use Rattle.outside_calls.specs.declared.folder.FolderFault.{FolderFault}
+use Rattle.outside_calls.specs.declared.folder.FolderFault.TheVariants as folder
+use Rattle.outside_calls.proofs.Steps.{OnlyReads-trans, octets-kept, told_later}
+use Rattle.shared_terms.specs.Both.{Both}
+use Rattle.noise_script.specs.Script.{ScriptValue}
+use Rattle.turn_bound.specs.Limits.{file_limit}
+use Rattle.line_run.specs.Names.{Written}
+use Rattle.line_world.specs.World.{KnowsFiles}
+use Rattle.command_base.specs.declared.status.Status.{Status}
+use Rattle.command_base.specs.declared.status.Status.TheVariants as status
+use Rattle.command_base.specs.declared.stop.Stop.{Stop}
+use Rattle.command_base.specs.declared.stop.Stop.TheVariants as stops
+use Rattle.command_base.specs.Inputs.{IsWithin, IsNotWithin}
+use Rattle.command_base.specs.Stops.{ReadFails, StopCounts, EndCounts}
+use Rattle.command_base.proofs.Jobs.{stop-earlier}
+use Rattle.run_inputs.specs.declared.limits.TheConstants.{LIMITS}
+use Rattle.run_inputs.specs.Inputs.{Refuses}
+use Rattle.trace_audit.specs.declared.comparison.Difference.{Difference}
+use Rattle.trace_audit.specs.Words.{AuditNames, files_of, inputs_of}
+use Rattle.trace_audit.specs.Verdict.{IsFound}
+use Rattle.trace_audit.specs.Turns.{RunFound, RunIs}
+use Rattle.trace_audit.specs.Ends.{AreOpen, IsBegun, Takes, Audits, FailsLater, AnswersOwn, EndsBy, Ends}
+
+-- ---- the inputs
+
+-- the script or a file was not taken
+pub refused-first : (old new : FolderState) (n : AuditNames) (stop : Stop) → Refuses LIMITS old new n.script 3 (files_of n) 1 stop
+    → EndsBy old new n stop
+refused-first old new n (stops.Own answer) r = inl r
+refused-first old new n (stops.Read fault) r = inl r
+refused-first old new n (stops.Write fault) r = absurd r
+refused-first old new n (stops.Say fault) r = absurd r
+refused-first old new n stops.NoMemory r = r
+
+-- nor was the trace
+pub refused-trace : (old mid new : FolderState) (n : AuditNames) (script : ScriptValue) (stop : Stop) → AreOpen old n script
+    → OnlyReads old mid → CountsStand old mid → IsNotWithin mid new n.trace 16777216 4 stop → EndsBy old new n stop
+refused-trace old mid new n script (stops.Own answer) are r stand h =
+    inr (subst (λ (s : Status). AnswersOwn old n s) (sym h.0) (record {
+      script = script;
+      are_open = are;
+      word_is = refl;
+      longer = λ told. subst (λ (o : List ℕ). 16777216 < length o) (octets-kept old mid n.trace (r.names n.trace) told)
+          (h.1 (told_later r.goes_on n.trace told));
+    }))
+refused-trace old mid new n script (stops.Read fault) are r stand h =
+    inr (record { script = script; are_open = are; fails = inl (stop-earlier old mid new (n.trace ∷ []) [] (stops.Read fault) stand h) })
+refused-trace old mid new n script (stops.Write fault) are r stand h = absurd h
+refused-trace old mid new n script (stops.Say fault) are r stand h = absurd h
+refused-trace old mid new n script stops.NoMemory are r stand h = absurd h
+
+-- the trace is within its limit
+pub within-earlier : (old mid : FolderState) (name : List ℕ) (limit : ℕ) → OnlyReads old mid → IsWithin mid name limit → IsWithin old name limit
+within-earlier old mid name limit r h told =
+    subst (λ (o : List ℕ). length o ≤ limit) (octets-kept old mid name (r.names name) told) (h (told_later r.goes_on name told))
+
+-- ---- what is counted
+
+-- of the script and the files
+pub counts-first : (a b : FolderState) (n : AuditNames) (stop : Stop) → StopCounts a b (n.orig ∷ n.answ ∷ n.script ∷ []) [] stop
+    → StopCounts a b (inputs_of n) [] stop
+counts-first a b n (stops.Own answer) h = h
+counts-first a b n (stops.Read folder.Failed) (inl o) = inl o
+counts-first a b n (stops.Read folder.Failed) (inr (inl w)) = inr (inl w)
+counts-first a b n (stops.Read folder.Failed) (inr (inr (inl s))) = inr (inr (inl s))
+counts-first a b n (stops.Read folder.Failed) (inr (inr (inr never))) = absurd never
+counts-first a b n (stops.Read folder.NoMemory) h = h
+counts-first a b n (stops.Write fault) h = h
+counts-first a b n (stops.Say fault) h = h
+counts-first a b n stops.NoMemory h = h
+
+-- of the trace
+pub counts-trace : (a b : FolderState) (n : AuditNames) (stop : Stop) → IsNotWithin a b n.trace 16777216 4 stop
+    → StopCounts a b (inputs_of n) [] stop
+counts-trace a b n (stops.Own answer) h = subst (λ (s : Status). StopCounts a b (inputs_of n) [] (stops.Own s)) (sym h.0) (tt, h.2)
+counts-trace a b n (stops.Read folder.Failed) h = inr (inr (inr h))
+counts-trace a b n (stops.Read folder.NoMemory) h = h
+counts-trace a b n (stops.Write fault) h = absurd h
+counts-trace a b n (stops.Say fault) h = absurd h
+counts-trace a b n stops.NoMemory h = absurd h
+
+-- of the turns
+pub counts-turns : (a b : FolderState) (n : AuditNames) (stop : Stop) → StopCounts a b (n.orig ∷ n.answ ∷ n.trace ∷ []) [] stop
+    → StopCounts a b (inputs_of n) [] stop
+counts-turns a b n (stops.Own answer) h = h
+counts-turns a b n (stops.Read folder.Failed) (inl o) = inl o
+counts-turns a b n (stops.Read folder.Failed) (inr (inl w)) = inr (inl w)
+counts-turns a b n (stops.Read folder.Failed) (inr (inr t)) = inr (inr (inr t))
+counts-turns a b n (stops.Read folder.NoMemory) h = h
+counts-turns a b n (stops.Write fault) h = h
+counts-turns a b n (stops.Say fault) h = h
+counts-turns a b n stops.NoMemory h = h
+
+pub end-turns : (a b : FolderState) (n : AuditNames) (end : Result ℕ Stop) → EndCounts a b (n.orig ∷ n.answ ∷ n.trace ∷ []) [] end
+    → EndCounts a b (inputs_of n) [] end
+end-turns a b n (Ok lines) h = h
+end-turns a b n (Err stop) h = counts-turns a b n stop h
+
+-- ---- the turns
+
+-- a file as it was before all of them
+file-is : (old new : FolderState) (name file : List ℕ) → OnlyReads old new → IsWithin old name 16777216
+    → (IsTrue (new.tells name) → file ≡ take file_limit (octets_at new name)) → IsTrue (old.tells name) → file ≡ octets_at old name
+file-is old new name file r within known told =
+    let same : octets_at new name ≡ octets_at old name = octets-kept old new name (r.names name) told in
+    known (told_later r.goes_on name told) ∙ ap (take file_limit) same ∙ take_all file_limit (octets_at old name) (omega (arith, within told))
+
+module _ (begin now new : FolderState) (n : AuditNames) (m : Written) (script : ScriptValue) (b : IsBegun begin now n script)
+    (orig : m.orig ≡ n.orig) (answ : m.answ ≡ n.answ) (read : OnlyReads now new) where
+  all : OnlyReads begin new
+  all = OnlyReads-trans b.reads read
+
+  takes : (files : Both (List ℕ)) → KnowsFiles new m files → Takes begin n script files
+  takes files k = record {
+    are_open = b.are_open;
+    trace = b.trace;
+    within = k.within;
+    orig = file-is begin new n.orig files.orig all b.are_open.opens.files.0
+        (subst (λ (x : List ℕ). IsTrue (new.tells x) → files.orig ≡ take file_limit (octets_at new x)) orig k.orig);
+    answ = file-is begin new n.answ files.answ all b.are_open.opens.files.1.0
+        (subst (λ (x : List ℕ). IsTrue (new.tells x) → files.answ ≡ take file_limit (octets_at new x)) answ k.answ);
+  }
+
+  audits : (found : Result ℕ Difference) → RunFound script new m n.trace found → Audits begin n found
+  audits found f = record {
+    script = script;
+    files = f.files;
+    takes = takes f.files f.knows;
+    end = f.end;
+    left = f.left;
+    run = f.run;
+    found_is = λ told.
+        subst (λ (o : List ℕ). IsFound f.left.trace o found) (octets-kept begin new n.trace (all.names n.trace) told)
+        (f.found_is (told_later all.goes_on n.trace told));
+  }
+
+  -- a name was not read in them
+  fails : (fault : FolderFault) → ReadFails begin new (n.orig ∷ n.answ ∷ n.trace ∷ []) fault → FailsLater begin new n fault
+  fails folder.Failed (inl o) = record { script = script; are_open = b.are_open; fails = inr (b.trace, inl o) }
+  fails folder.Failed (inr (inl w)) = record { script = script; are_open = b.are_open; fails = inr (b.trace, inr (inl w)) }
+  fails folder.Failed (inr (inr t)) = record { script = script; are_open = b.are_open; fails = inl t }
+  fails folder.NoMemory h = record { script = script; are_open = b.are_open; fails = inl h }
+
+  pub ends-so : (end : Result ℕ Stop) → RunIs script new m n.trace end → EndCounts now new (n.orig ∷ n.answ ∷ n.trace ∷ []) [] end
+      → Ends begin new n end
+  ends-so (Ok lines) r k = audits (Ok lines) r
+  ends-so (Err (stops.Own (status.AuditNo line cause))) r k = inr (audits (Err (record { line = line; cause = cause })) r)
+  ends-so (Err (stops.Read fault)) r k =
+      inr (fails fault (stop-earlier begin now new (n.orig ∷ n.answ ∷ n.trace ∷ []) [] (stops.Read fault) b.stand k))
+  ends-so (Err stops.NoMemory) r k = b.are_open.opens.reads.within
+  ends-so (Err (stops.Write fault)) r k = absurd r
+  ends-so (Err (stops.Say fault)) r k = absurd r
+  ends-so (Err (stops.Own answer)) r k = absurd r
+
+-- memory was not found
+pub no-memory : (begin now : FolderState) (n : AuditNames) (script : ScriptValue) → IsBegun begin now n script
+    → EndsBy begin now n stops.NoMemory
+no-memory begin now n script b = b.are_open.opens.reads.within

@@ -1,0 +1,149 @@
+-- Both lines of a turn are lines that are read.
+use Rattle.std.proofs.Common.{◌≡◌, ℕ, ◌<◌, ◌≤◌, ◌^◌, Bool, true, false, cond, nat_lt, List, [], ◌∷◌, length, slice_index_or, arith, refl, sym}
+use Rattle.std.proofs.Common.{◌∙◌, subst, Option, Some, None}
+use Rattle.std.specs.Prelude.{IfSome, unwrap_or}
+use Rattle.std.specs.Option.{option_map}
+use Rattle.frame_check.specs.declared.sizes.TheConstants.{INFO}
+use Rattle.shared_terms.specs.declared.role.Role.{Role}
+use Rattle.shared_terms.specs.Role.{other}
+use Rattle.shared_terms.specs.Both.{Both, of}
+use Rattle.lapm_frames.specs.declared.frame.Frame.{Frame}
+use Rattle.lapm_frames.specs.declared.frame.Frame.TheVariants as frames
+use Rattle.lapm_frames.specs.Frame.{information_of}
+use Rattle.lapm_frames.specs.Parts.{parts_of}
+use Rattle.lapm_frames.specs.declared.sent.Sent.{Sent}
+use Rattle.lapm_frames.specs.declared.sent.Sent.TheVariants as slots
+use Rattle.lapm_frames.specs.declared.heard.Heard.{Heard}
+use Rattle.lapm_frames.specs.declared.heard.Heard.TheVariants.{Nothing, Passed, Lost, Chance}
+use Rattle.break_signals.specs.Words.{word_in}
+use Rattle.noise_script.specs.Script.{ScriptValue, IsInLimits, delay_of}
+use Rattle.link_account.specs.Account.{Account, is_connected, given_break}
+use Rattle.link_run.specs.Run.{Accounts, Spoken, Turn}
+use Rattle.link_run.specs.Carried.{sent_ago, has_message, Crosses, Carries}
+use Rattle.link_run.specs.Outcomes.{Outcome, Going, Done, Broken, TurnIs}
+use Rattle.line_run.specs.Sampled.{HeardIn, LineRun}
+use Rattle.line_run.specs.Scripted.{wire_of, link_of}
+use Rattle.line_texts.specs.FrameText.{break_in}
+use Rattle.line_texts.specs.LineText.{is_chance}
+use Rattle.trace_audit.specs.Grammar.{IsBreak, count_bound}
+use Rattle.trace_audit.specs.Written.{IsReadableFrame, IsReadableSent, IsReadableSignal, IsReadableHeard, IsReadable}
+use Rattle.trace_audit.proofs.Written.{read-break}
+use Rattle.line_ends.specs.Plain.{InOctets, IsPlain, IsPlainSent, AsksInOctets}
+use Rattle.trace_audit.specs.Readable.{line_of, LinesAreRead}
+use Rattle.line_run.proofs.Slots.{SentAgo, sent-ago}
+use Rattle.line_run.proofs.Leaving.{hearing-in}
+use Rattle.line_ends.proofs.Words.{Owes}
+use Rattle.line_ends.proofs.Saying.{octet-at}
+use Rattle.line_ends.proofs.Slots.{plain-sent, short-sent}
+use Rattle.line_ends.proofs.Sending.{SendLaws, HoldBoth, holds-all, mid-holds-at}
+
+-- a plain frame of few octets is read
+few : (o : Option (List ℕ)) → length (unwrap_or o []) ≤ INFO → IfSome o (λ info. length info < count_bound)
+few None h = tt
+few (Some info) h = omega (arith, h)
+
+breaks : (f : Frame) → InOctets f → IfSome (break_in f) IsBreak
+breaks (frames.Ui command pf info) h = read-break info (word_in info) refl h
+breaks (frames.I ns nr pf info) h = tt
+breaks (frames.Rr command nr pf) h = tt
+breaks (frames.Rnr command nr pf) h = tt
+breaks (frames.Rej command nr pf) h = tt
+breaks (frames.Srej command nr pf) h = tt
+breaks (frames.Sabme pf) h = tt
+breaks (frames.Disc pf) h = tt
+breaks (frames.Ua pf) h = tt
+breaks (frames.Dm pf) h = tt
+breaks (frames.Frmr pf info) h = tt
+breaks (frames.Xid command pf info) h = tt
+breaks (frames.Test command pf info) h = tt
+
+frame-read : (f : Frame) → IsPlain f → length (information_of f) ≤ INFO → IsReadableFrame f
+frame-read f p l = (p.ns, p.nr, few (parts_of f).info l, breaks f p.octets)
+
+-- a slot whose frame has few octets
+abbrev IsShort : Sent → Type 0
+IsShort s = (frame : Frame) → s ≡ slots.Frame frame → length (information_of frame) ≤ INFO
+
+sent-read : (s : Sent) → IsPlainSent s → IsShort s → IsReadableSent s
+sent-read slots.Mark p f = tt
+sent-read slots.Odp p f = tt
+sent-read slots.Adp p f = tt
+sent-read slots.Flags p f = tt
+sent-read (slots.Frame frame) p f = frame-read frame p (f frame refl)
+
+signal-read : (s : Sent) → has_message s ≡ true → IsPlainSent s → IsShort s → IsReadableSignal s
+signal-read slots.Mark m p f = absurd cc
+signal-read slots.Odp m p f = tt
+signal-read slots.Adp m p f = tt
+signal-read slots.Flags m p f = absurd cc
+signal-read (slots.Frame frame) m p f = frame-read frame p (f frame refl)
+
+-- what was sent is read where it is heard
+abbrev IsKnown : Option Spoken → Type 0
+IsKnown o = (slot : Spoken) → o ≡ Some slot → IsPlainSent slot.sent × IsShort slot.sent
+
+heard-read : (o : Option Spoken) (heard : Heard) → Crosses o heard → IsKnown o → IsReadableHeard heard × (is_chance heard ≡ false)
+heard-read None Nothing c f = (tt, refl)
+heard-read None (Passed s) c f = absurd c
+heard-read None (Lost s) c f = absurd c
+heard-read None Chance c f = absurd c
+heard-read (Some slot) Nothing c f = (tt, refl)
+heard-read (Some slot) (Passed s) c f =
+    let k = f slot refl in (subst IsReadableSignal (sym c.0) (signal-read slot.sent c.1 k.0 k.1), refl)
+heard-read (Some slot) (Lost s) c f =
+    let k = f slot refl in (subst IsReadableSignal (sym c.0) (signal-read slot.sent c.1 k.0 k.1), refl)
+heard-read (Some slot) Chance c f = absurd c
+
+-- a break that is given is an octet
+given-read : (a : Account) → Owes a → IfSome (given_break a) (λ units. units < 256)
+given-read a h = go (is_connected a.phase) (nat_lt a.breaks_told (length a.their_breaks.lengths))
+  where
+    go : (b c : Bool)
+        → IfSome (cond b (cond c (Some (slice_index_or a.their_breaks.lengths a.breaks_told 0)) None) None) (λ units. units < 256)
+    go true true = octet-at a.their_breaks.lengths a.breaks_told h.1
+    go true false = tt
+    go false c = tt
+
+module _ (laws : SendLaws) (script : ScriptValue) (files : Both (List ℕ)) (ts : List Turn) (ends : Accounts) (h : IsInLimits script)
+    (o : AsksInOctets script) (r : LineRun (wire_of script) (link_of script files) ts ends) where
+  both : HoldBoth (λ role. (of role (link_of script files)).user.file) ts ends
+  both = holds-all laws (wire_of script) files ts ends h o r
+
+  -- what a turn sends
+  spoken-read : (t : Turn) (mid : Accounts) (outcome : Outcome) → HeardIn (wire_of script) ts t
+      → TurnIs (link_of script files) ts ends t mid outcome → (role : Role) → IsKnown (of role t).sent
+  spoken-read t mid Going heard g role slot e =
+      let run : LineRun (wire_of script) (link_of script files) (t ∷ ts) g.0 =
+      record { run = (ends, r.run, g.1); heard = (heard, r.heard) } in
+      let k = holds-all laws (wire_of script) files (t ∷ ts) g.0 h o run in
+      (k.plain.0 role slot e, λ frame f. k.short.0 role slot frame e f)
+  spoken-read t mid Done heard l role slot e = let n : None ≡ Some slot = sym (l.silent role) ∙ e in absurd cc
+  spoken-read t mid (Broken at fault) heard b role slot e = let n : None ≡ Some slot = sym (b.silent role) ∙ e in absurd cc
+
+  sent-line : (o : Option Spoken) → IsKnown o → IfSome (option_map (λ (slot : Spoken). slot.sent) o) IsReadableSent
+  sent-line None f = tt
+  sent-line (Some slot) f = let k = f slot refl in sent-read slot.sent k.0 k.1
+
+  line-read : (t : Turn) (mid : Accounts) (outcome : Outcome) → HeardIn (wire_of script) ts t
+      → TurnIs (link_of script files) ts ends t mid outcome → length ts < 2 ^ 40 → (role : Role) → IsReadable (line_of (length ts) role (of role t))
+  line-read t mid outcome heard is early role =
+      let hearing = hearing-in (link_of script files) ts ends t mid outcome is in
+      let carries : Carries (delay_of script) ts t = laws.one (wire_of script) ts t heard in
+      let from : Role = other role in
+      let known : IsKnown (sent_ago (delay_of script from) from ts) = λ slot e.
+      let s : SentAgo from (delay_of script from) ts slot = sent-ago from (delay_of script from) ts slot (laws.delays script h from) e in
+      (plain-sent from (delay_of script from) ts slot s both.plain, short-sent from (delay_of script from) ts slot s both.short) in
+      let arrived = heard-read (sent_ago (delay_of script from) from ts) (of role t).heard (carries role) known in
+      let holds = mid-holds-at laws script files ts ends t mid h carries hearing both role in
+      record {
+        turn = early;
+        arrived = arrived.0;
+        sent = sent-line (of role t).sent (spoken-read t mid outcome heard is role);
+        given = subst (λ (g : Option ℕ). IfSome g (λ units. units < 256)) (sym (hearing role).given_is) (given-read (of role mid) holds.owes);
+        no_reply = λ c. let n : false ≡ true = sym arrived.1 ∙ c in absurd cc;
+        no_break = λ c. let n : false ≡ true = sym arrived.1 ∙ c in absurd cc;
+      }
+
+pub lines-are-read : SendLaws → LinesAreRead
+lines-are-read laws script files ts ends t mid outcome h o r heard is early role =
+    line-read laws script files ts ends h o r t mid outcome heard is early role

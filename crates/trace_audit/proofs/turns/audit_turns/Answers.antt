@@ -1,0 +1,44 @@
+use Rattle.std.proofs.Common.{Bool, Ok, refl, sym, ◌∙◌, ap, subst}
+use Rattle.outside_calls.specs.Folder.{FolderState}
+use Rattle.outside_calls.proofs.Steps.{OnlyReads-refl, OnlyReads-trans, CountsStand-refl, CountsStand-trans}
+use Rattle.line_run.specs.Names.{written}
+use Rattle.line_world.specs.World.{turn_of}
+use Rattle.line_world.proofs.Reached.{nearer}
+use Rattle.line_ends.specs.Plain.{AsksInOctets}
+use Rattle.trace_audit.specs.Turns.{AreCompared}
+use Rattle.trace_audit.proofs.Running.{compared-none}
+use Rattle.trace_audit.proofs.turns.audit_turns.Goals as goal
+
+pub loop-comparison-init : goal.loop-comparison-init
+loop-comparison-init g c =
+    let old : FolderState = g.F.Folder.state c.args.folder.now in
+    record {
+      compared = compared-none c.args.world.now old (written c.args.names.now) c.args.trace.now c.new-comparison.result c.requires.first
+          c.new-comparison.ensures.compared c.new-comparison.ensures.few;
+      script = refl;
+      ready = c.requires.ready;
+      reads = OnlyReads-refl old;
+      stand = CountsStand-refl old;
+    }
+
+pub audit_turn-requires-clause-asks : goal.audit_turn-requires-clause-asks
+audit_turn-requires-clause-asks g c = subst AsksInOctets (sym c.loop-comparison.invariant.script) c.requires.asks
+
+pub loop-comparison-smaller : goal.loop-comparison-smaller
+loop-comparison-smaller g c =
+    nearer (turn_of c.loop-comparison.world) (turn_of c.audit_turn.new.world)
+    (c.turns_are_few.ensures c.loop-comparison.world c.loop-comparison.invariant.ready)
+    (c.audit_turn.ensures.number (c.in-Ok-true.is ∙ ap (λ (b : Bool). Ok b) c.in-Ok-true.field-0-test))
+
+pub loop-comparison-preserved : goal.loop-comparison-preserved
+loop-comparison-preserved g c =
+    let i = c.loop-comparison.invariant in
+    record {
+      compared = subst
+          (λ (b : Bool). AreCompared b c.audit_turn.new.world (g.F.Folder.state c.audit_turn.new.folder) (written c.args.names.now)
+          c.args.trace.now c.audit_turn.new.comparison) c.in-Ok-true.field-0-test c.in-Ok-true.ensures.compared;
+      script = c.audit_turn.ensures.script ∙ i.script;
+      ready = c.audit_turn.ensures.ready (c.in-Ok-true.is ∙ ap (λ (b : Bool). Ok b) c.in-Ok-true.field-0-test);
+      reads = OnlyReads-trans i.reads c.audit_turn.ensures.reads;
+      stand = CountsStand-trans i.stand c.in-Ok-true.ensures.counts;
+    }

@@ -1,0 +1,18 @@
+use Rattle.std.proofs.Common.{◌≡◌, ◌-◌, ◌^◌, true}
+use Rattle.outside_calls.specs.Folder.{OnlyReads, CountsStand}
+use Rattle.line_run.specs.Names.{written}
+use Rattle.line_world.specs.World.{IsReady, script_of, turn_of}
+use Rattle.trace_audit.specs.Turns.{AreCompared}
+use Rattle.trace_audit.proofs.turns.audit_turns.Given as goal
+
+abbrev pub invariant-loop-comparison : goal.invariant-loop-comparison
+invariant-loop-comparison g l = record {
+  compared : AreCompared true l.world (g.F.Folder.state l.folder) (written l.names) l.trace l.comparison;
+  script : script_of l.world ≡ script_of l.fn.world;
+  ready : IsReady l.world;
+  reads : OnlyReads (g.F.Folder.state l.fn.folder) (g.F.Folder.state l.folder);
+  stand : CountsStand (g.F.Folder.state l.fn.folder) (g.F.Folder.state l.folder);
+}
+
+abbrev pub decreases-loop-comparison : goal.decreases-loop-comparison
+decreases-loop-comparison g l = 2 ^ 40 - turn_of l.world

@@ -1,0 +1,36 @@
+use Rattle.std.proofs.Common.{Result, ℕ, sym, subst}
+use Rattle.outside_calls.specs.Folder.{FolderState}
+use Rattle.noise_script.specs.Script.{ScriptValue}
+use Rattle.line_run.specs.Names.{Written, written}
+use Rattle.line_world.specs.World.{script_of}
+use Rattle.command_base.specs.declared.stop.Stop.{Stop}
+use Rattle.trace_audit.specs.Turns.{RunIs}
+use Rattle.trace_audit.proofs.Running.{end-few, ends-so, stops-so}
+use Rattle.trace_audit.proofs.turns.audit_world.Goals as goal
+
+pub end-requires : goal.end-requires
+end-requires g c =
+    record {
+      few = end-few c.audit_turns.new.world (g.F.Folder.state c.audit_turns.new.folder) (g.F.Folder.state c.audit_turns.new.folder)
+          (written c.args.names.now) c.args.trace.now c.in-Ok.comparison c.in-Ok.ensures.compared;
+    }
+
+pub returns-in-Ok-read_on-clause-run : goal.returns-in-Ok-read_on-clause-run
+returns-in-Ok-read_on-clause-run g c =
+    let mid : FolderState = g.F.Folder.state c.audit_turns.new.folder in
+    let new : FolderState = g.F.Folder.state c.read_on.new.folder in
+    let n : Written = written c.args.names.now in
+    let script : ScriptValue = script_of c.args.world.now in
+    subst (λ (r : Result ℕ Stop). RunIs script new n c.args.trace.now r) (sym c.found_end.ensures)
+    (ends-so c.audit_turns.new.world mid new n c.args.trace.now c.in-Ok.comparison c.in-Ok.ensures.compared script _ c.end.result
+    c.audit_turns.ensures.script c.requires.apart c.read_on.ensures.reads c.in-Ok-read_on.ensures.window c.end.ensures)
+
+pub returns-in-Err-clause-run : goal.returns-in-Err-clause-run
+returns-in-Err-clause-run g c =
+    stops-so (script_of c.args.world.now) (g.F.Folder.state c.audit_turns.new.folder) (written c.args.names.now) c.args.trace.now
+    c.in-Err.stop c.in-Err.ensures.stops
+
+pub returns-in-Err-read_on-clause-run : goal.returns-in-Err-read_on-clause-run
+returns-in-Err-read_on-clause-run g c =
+    stops-so (script_of c.args.world.now) (g.F.Folder.state c.read_on.new.folder) (written c.args.names.now) c.args.trace.now
+    c.in-Err-read_on.stop c.in-Err-read_on.ensures.stops

@@ -1,0 +1,37 @@
+use Rattle.std.proofs.Common.{sym, ◌∙◌, ap, Ok, Bool}
+use Rattle.outside_calls.specs.Folder.{FolderState}
+use Rattle.line_run.specs.Names.{written}
+use Rattle.trace_audit.proofs.Turning.{LineLaws, made, made-counts, going-step}
+use Rattle.trace_audit.proofs.watching.make_turn.Goals as goal
+
+pub returns-in-Ok-clause-made : goal.returns-in-Ok-clause-made
+returns-in-Ok-clause-made g c = λ before s.
+    let laws : LineLaws = record {
+      turns = c.traces_are_read.ensures.turns;
+      chances = c.traces_are_read.ensures.chances;
+      texts = record {
+        turn = c.traces_have_lines.ensures.turn;
+        trace = c.traces_have_lines.ensures.trace;
+        chance = c.traces_have_lines.ensures.chance;
+      };
+    } in
+    let w = c.args.world.now in
+    let v = c.watch_turn-watching.new.world in
+    let old : FolderState = g.F.Folder.state c.args.folder.now in
+    let new : FolderState = g.F.Folder.state c.watch_turn-watching.new.folder in
+    let watching = c.watch_turn-watching.result in
+    made laws w v old new (written c.args.names.now) watching.step watching.text c.in-Ok.goes_on c.requires.apart c.requires.ready.limits
+    c.requires.asks c.watch_turn-watching.ensures.script (c.turns_are_few.ensures w c.requires.ready)
+    c.watch_turn-watching.ensures.watched (sym c.step_end.ensures ∙ c.in-Ok.is) before s
+
+pub returns-in-Ok-clause-ready : goal.returns-in-Ok-clause-ready
+returns-in-Ok-clause-ready g c = λ on.
+    c.watch_turn-watching.ensures.ready
+    (going-step c.watch_turn-watching.result.step (sym c.step_end.ensures ∙ c.in-Ok.is ∙ ap (λ (b : Bool). Ok b) on))
+
+pub returns-in-Ok-clause-counts : goal.returns-in-Ok-clause-counts
+returns-in-Ok-clause-counts g c =
+    let watching = c.watch_turn-watching.result in
+    made-counts c.args.world.now c.watch_turn-watching.new.world (g.F.Folder.state c.args.folder.now)
+    (g.F.Folder.state c.watch_turn-watching.new.folder) (written c.args.names.now) watching.step watching.text c.in-Ok.goes_on
+    c.watch_turn-watching.ensures.watched (sym c.step_end.ensures ∙ c.in-Ok.is)
