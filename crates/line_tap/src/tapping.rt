@@ -348,6 +348,7 @@ impl Tap {
     {
         keeps_taken();
         slots_have_room();
+        // Made before the first call: behind one the compiler would clear their room twice.
         let mut labels = Both {
             orig: LabelSlot::new(),
             answ: LabelSlot::new(),
