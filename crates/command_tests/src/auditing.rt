@@ -1,6 +1,5 @@
 // Traces that are audited: those that runs leave, and others.
 use crate::stage::play;
-use std::test::Fail;
 
 /// Traces and whether they are true.
 const SCENARIOS: &str = r##"
@@ -459,6 +458,6 @@ says "too long: s\n"
 "##;
 
 #[test]
-fn traces_are_audited(rt: HostRuntime) -> Result<(), Fail> {
-    play(&rt, rt.alloc(), "auditing.rt", SCENARIOS)
+fn traces_are_audited(rt: HostRuntime) {
+    play(&rt, rt.alloc(), "auditing.rt", SCENARIOS);
 }

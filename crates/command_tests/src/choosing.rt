@@ -1,6 +1,5 @@
 // Each command over a folder in memory, and words that are no command's.
 use crate::stage::play;
-use std::test::Fail;
 
 /// Words and what comes of them.
 const SCENARIOS: &str = r##"
@@ -85,6 +84,6 @@ leaves f ""
 "##;
 
 #[test]
-fn words_are_done_or_told_the_usage(rt: HostRuntime) -> Result<(), Fail> {
-    play(&rt, rt.alloc(), "choosing.rt", SCENARIOS)
+fn words_are_done_or_told_the_usage(rt: HostRuntime) {
+    play(&rt, rt.alloc(), "choosing.rt", SCENARIOS);
 }

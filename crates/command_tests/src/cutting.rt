@@ -1,6 +1,5 @@
 // A recording and a stream of bits that are cut at each length, and a folder that fails at each call while they are read.
 use crate::stage::play;
-use std::test::Fail;
 
 /// What is cut, and what fails.
 const SCENARIOS: &str = r##"
@@ -152,6 +151,6 @@ none f
 "##;
 
 #[test]
-fn inputs_are_cut_at_each_length(rt: HostRuntime) -> Result<(), Fail> {
-    play(&rt, rt.alloc(), "cutting.rt", SCENARIOS)
+fn inputs_are_cut_at_each_length(rt: HostRuntime) {
+    play(&rt, rt.alloc(), "cutting.rt", SCENARIOS);
 }

@@ -1,6 +1,5 @@
 // Recordings, and what is decoded of them.
 use crate::stage::play;
-use std::test::Fail;
 
 /// Recordings and what each gives.
 const SCENARIOS: &str = r##"
@@ -267,6 +266,6 @@ leaves g f
 "##;
 
 #[test]
-fn recordings_are_decoded_or_refused(rt: HostRuntime) -> Result<(), Fail> {
-    play(&rt, rt.alloc(), "decoding.rt", SCENARIOS)
+fn recordings_are_decoded_or_refused(rt: HostRuntime) {
+    play(&rt, rt.alloc(), "decoding.rt", SCENARIOS);
 }

@@ -1,6 +1,5 @@
 // Files that become recordings, with what each command says and leaves.
 use crate::stage::play;
-use std::test::Fail;
 
 /// Files and their recordings.
 const SCENARIOS: &str = r##"
@@ -86,6 +85,6 @@ none r
 "##;
 
 #[test]
-fn files_become_recordings(rt: HostRuntime) -> Result<(), Fail> {
-    play(&rt, rt.alloc(), "encoding.rt", SCENARIOS)
+fn files_become_recordings(rt: HostRuntime) {
+    play(&rt, rt.alloc(), "encoding.rt", SCENARIOS);
 }

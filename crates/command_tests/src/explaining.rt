@@ -1,6 +1,5 @@
 // Fields in digits, and what is said of them.
 use crate::stage::play;
-use std::test::Fail;
 
 /// Digits and what they spell.
 const SCENARIOS: &str = r##"
@@ -36,6 +35,6 @@ says "bad hex: at 1\n"
 "##;
 
 #[test]
-fn fields_are_explained(rt: HostRuntime) -> Result<(), Fail> {
-    play(&rt, rt.alloc(), "explaining.rt", SCENARIOS)
+fn fields_are_explained(rt: HostRuntime) {
+    play(&rt, rt.alloc(), "explaining.rt", SCENARIOS);
 }

@@ -1,6 +1,5 @@
 // Offsets that turn a slot into another, or into nothing.
 use crate::stage::play;
-use std::test::Fail;
 
 /// Offsets and what is heard.
 const SCENARIOS: &str = r##"
@@ -159,6 +158,6 @@ leaves t plain
 "##;
 
 #[test]
-fn offsets_turn_slots(rt: HostRuntime) -> Result<(), Fail> {
-    play(&rt, rt.alloc(), "hits.rt", SCENARIOS)
+fn offsets_turn_slots(rt: HostRuntime) {
+    play(&rt, rt.alloc(), "hits.rt", SCENARIOS);
 }

@@ -1,6 +1,5 @@
 // What comes of a link's slots once it has ended, while the other link goes on.
 use crate::stage::play;
-use std::test::Fail;
 
 /// Slots of a link that has ended.
 const SCENARIOS: &str = r##"
@@ -68,6 +67,6 @@ sweep go1 ga1 go2 ga2 t1 t2
 "##;
 
 #[test]
-fn a_link_idles_once_it_has_ended(rt: HostRuntime) -> Result<(), Fail> {
-    play(&rt, rt.alloc(), "idling.rt", SCENARIOS)
+fn a_link_idles_once_it_has_ended(rt: HostRuntime) {
+    play(&rt, rt.alloc(), "idling.rt", SCENARIOS);
 }

@@ -1,6 +1,5 @@
 // Inputs of exactly their limits, and of one octet more.
 use crate::stage::play;
-use std::test::Fail;
 
 /// Inputs and whether they are taken.
 const SCENARIOS: &str = r##"
@@ -74,6 +73,6 @@ says "too long: s\n"
 "##;
 
 #[test]
-fn inputs_of_the_limit_are_taken(rt: HostRuntime) -> Result<(), Fail> {
-    play(&rt, rt.alloc(), "limits.rt", SCENARIOS)
+fn inputs_of_the_limit_are_taken(rt: HostRuntime) {
+    play(&rt, rt.alloc(), "limits.rt", SCENARIOS);
 }

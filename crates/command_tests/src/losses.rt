@@ -1,6 +1,5 @@
 // Runs that losses end.
 use crate::stage::play;
-use std::test::Fail;
 
 /// Losses and how runs end by them.
 const SCENARIOS: &str = r##"
@@ -52,6 +51,6 @@ says "link lost: orig segment 1 turn 130\n"
 "##;
 
 #[test]
-fn losses_end_runs(rt: HostRuntime) -> Result<(), Fail> {
-    play(&rt, rt.alloc(), "losses.rt", SCENARIOS)
+fn losses_end_runs(rt: HostRuntime) {
+    play(&rt, rt.alloc(), "losses.rt", SCENARIOS);
 }

@@ -1,6 +1,5 @@
 // Recordings that are held against what was sent.
 use crate::stage::play;
-use std::test::Fail;
 
 /// Recordings, their files and the cost.
 const SCENARIOS: &str = r##"
@@ -170,6 +169,6 @@ leaves g "\xb1\x94\x21\xd7\x15ggh" f[8..]
 "##;
 
 #[test]
-fn recordings_are_measured_or_refused(rt: HostRuntime) -> Result<(), Fail> {
-    play(&rt, rt.alloc(), "measuring.rt", SCENARIOS)
+fn recordings_are_measured_or_refused(rt: HostRuntime) {
+    play(&rt, rt.alloc(), "measuring.rt", SCENARIOS);
 }

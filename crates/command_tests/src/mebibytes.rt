@@ -1,6 +1,5 @@
 // Files of a mebibyte, which cross in some nine thousand turns.
 use crate::stage::play;
-use std::test::Fail;
 
 /// Files and whether they cross.
 const SCENARIOS: &str = r##"
@@ -16,6 +15,6 @@ leaves ga o
 "##;
 
 #[test]
-fn files_of_a_mebibyte_cross(rt: HostRuntime) -> Result<(), Fail> {
-    play(&rt, rt.alloc(), "mebibytes.rt", SCENARIOS)
+fn files_of_a_mebibyte_cross(rt: HostRuntime) {
+    play(&rt, rt.alloc(), "mebibytes.rt", SCENARIOS);
 }

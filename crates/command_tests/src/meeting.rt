@@ -1,6 +1,5 @@
 // Ends that meet recorded bits of a peer, with what each run says and leaves.
 use crate::stage::play;
-use std::test::Fail;
 
 /// The bits of peers, and what comes of them.
 const SCENARIOS: &str = r##"
@@ -199,6 +198,6 @@ sweep g t
 "##;
 
 #[test]
-fn ends_meet_recorded_bits(rt: HostRuntime) -> Result<(), Fail> {
-    play(&rt, rt.alloc(), "meeting.rt", SCENARIOS)
+fn ends_meet_recorded_bits(rt: HostRuntime) {
+    play(&rt, rt.alloc(), "meeting.rt", SCENARIOS);
 }

@@ -1,6 +1,5 @@
 // The inputs of a run, which are taken in order.
 use crate::stage::play;
-use std::test::Fail;
 
 /// Inputs and what is read of them.
 const SCENARIOS: &str = r##"
@@ -70,6 +69,6 @@ leaves calls "read s 65536 1\n" "read s 0 1024\n" "read s 10 1024\n" "read o 167
 "##;
 
 #[test]
-fn inputs_are_taken_in_order(rt: HostRuntime) -> Result<(), Fail> {
-    play(&rt, rt.alloc(), "opening.rt", SCENARIOS)
+fn inputs_are_taken_in_order(rt: HostRuntime) {
+    play(&rt, rt.alloc(), "opening.rt", SCENARIOS);
 }

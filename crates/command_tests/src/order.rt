@@ -1,8 +1,5 @@
 // In which order outputs grow where a call of the folder fails: what a scenario can't say, since it goes by the lengths of two of them.
-use super::stage::Stage;
-use std::alloc::Global;
-use std::process::Abort;
-use std::test::Fail;
+use super::stage::{Stage, stage_behind};
 
 /// A pair of small links, which is done.
 const PAIR: &str = "\
@@ -23,61 +20,44 @@ exit 0";
 /// A slot's octets in a recording.
 const SLOT: usize = 1856;
 
-/// The stage behind these lines, all of which hold.
-fn stage_behind(alloc: Global, lines: &str) -> Result<Stage, Fail> {
-    let mut stage = Stage::new(alloc);
-    for line in lines.lines() {
-        if !stage.step(line)? {
-            return Err(Fail::new("a line doesn't hold"));
-        }
-    }
-    Ok(stage)
-}
-
-/// Looks at both traces of the pair where this call fails: whether the first one is ahead, where a trace isn't written.
-fn is_ahead(rt: &impl Abort, stage: &Stage, number: u64) -> Result<Option<bool>, Fail> {
+/// Whether an output isn't written where this call fails, and how many lines the first trace of the pair is ahead of the second one then.
+fn ahead(stage: &Stage, number: u64) -> Option<(bool, usize)> {
     let ran = stage.run_failing(number)?;
-    let one = ran.count_lines("t1");
-    let other = ran.count_lines("t2");
-    let is_ahead = one == other.saturating_add(2);
-    assert!(rt; one == other || is_ahead, "{number}");
-    Ok((ran.code == 6).then_some(is_ahead))
+    let lines = ran.count_lines("t1").checked_sub(ran.count_lines("t2"))?;
+    Some((ran.code == 6, lines))
 }
 
 /// Where a trace isn't written in a round, the other one has the lines of the turns that were made: those of this round too, where its link is
 /// the first.
 #[test]
-fn a_trace_that_is_not_written_stops_both_links(rt: HostRuntime) -> Result<(), Fail> {
-    let stage = stage_behind(rt.alloc(), PAIR)?;
+fn a_trace_that_is_not_written_stops_both_links(rt: HostRuntime) {
+    let stage = stage_behind(&rt, rt.alloc(), "order.rt, PAIR", 1, PAIR);
     let mut first = 0u32;
     let mut second = 0u32;
     for number in 1..stage.calls() {
-        match is_ahead(&rt, &stage, number)? {
-            Some(false) => first = first.saturating_add(1),
-            Some(true) => second = second.saturating_add(1),
-            None => {}
+        match ahead(&stage, number) {
+            Some((true, 0)) => first = first.saturating_add(1),
+            Some((true, 2)) => second = second.saturating_add(1),
+            Some((false, 0 | 2)) => {}
+            _ => panic!(rt; "{number}"),
         }
     }
-    assert!(&rt; first > 13 && second > 13);
-    Ok(())
+    assert!(rt; first > 13 && second > 13);
 }
 
-/// Looks at both recordings where this call fails.
-fn is_in_order(rt: &impl Abort, stage: &Stage, number: u64) -> Result<(), Fail> {
+/// Whether both recordings are so long as each other where this call fails, or the originator's up to a slot longer.
+fn is_in_order(stage: &Stage, number: u64) -> Option<bool> {
     let ran = stage.run_failing(number)?;
     let orig = ran.left("ro").unwrap_or_default().len();
     let answ = ran.left("ra").unwrap_or_default().len();
-    assert!(rt; answ <= orig, "{number}");
-    assert!(rt; orig <= answ.saturating_add(SLOT), "{number}");
-    Ok(())
+    Some(answ <= orig && orig <= answ.saturating_add(SLOT))
 }
 
 /// The originator's recording is a slot ahead of the answerer's at most.
 #[test]
-fn the_originator_s_recording_comes_first(rt: HostRuntime) -> Result<(), Fail> {
-    let stage = stage_behind(rt.alloc(), RECORDED)?;
+fn the_originator_s_recording_comes_first(rt: HostRuntime) {
+    let stage = stage_behind(&rt, rt.alloc(), "order.rt, RECORDED", 1, RECORDED);
     for number in 1..=stage.calls() {
-        is_in_order(&rt, &stage, number)?;
+        assert!(rt; is_in_order(&stage, number) == Some(true), "{number}");
     }
-    Ok(())
 }

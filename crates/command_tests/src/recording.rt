@@ -1,6 +1,5 @@
 // Runs that are recorded: what both ends sent stands in two recordings.
 use crate::stage::play;
-use std::test::Fail;
 
 /// Runs and what is recorded of them.
 const SCENARIOS: &str = r##"
@@ -94,6 +93,6 @@ sweep go ga t ro ra
 "##;
 
 #[test]
-fn runs_are_recorded(rt: HostRuntime) -> Result<(), Fail> {
-    play(&rt, rt.alloc(), "recording.rt", SCENARIOS)
+fn runs_are_recorded(rt: HostRuntime) {
+    play(&rt, rt.alloc(), "recording.rt", SCENARIOS);
 }

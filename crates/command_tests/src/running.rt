@@ -1,6 +1,5 @@
 // Runs, with what each says and leaves.
 use crate::stage::play;
-use std::test::Fail;
 
 /// Runs and their traces.
 const SCENARIOS: &str = r##"
@@ -274,6 +273,6 @@ says "bad script: line 150: word\n"
 "##;
 
 #[test]
-fn files_cross(rt: HostRuntime) -> Result<(), Fail> {
-    play(&rt, rt.alloc(), "running.rt", SCENARIOS)
+fn files_cross(rt: HostRuntime) {
+    play(&rt, rt.alloc(), "running.rt", SCENARIOS);
 }

@@ -12,7 +12,6 @@ use shared_terms::{AuditCause, Cause, Role};
 use std::alloc::Global;
 use std::fmt::{Debug, Display};
 use std::process::Abort;
-use std::test::Fail;
 use xid_params::XidFault;
 
 /// Answers, the program's statuses, and their lines.
@@ -156,37 +155,41 @@ const STOPS: &[(Stop, Status, u8, &str)] = &[
     (Stop::NoMemory, Status::NoMemory, 11, "no memory\n"),
 ];
 
-/// Looks at the answer to a stop of the command whose words are `run o`, at its code and at its line.
-fn tells(
-    rt: &impl Abort,
-    alloc: Global,
-    stop: Stop,
-    status: Status,
-    code: u8,
-    line: &str,
-) -> Result<(), Fail> {
-    let words = vec![in alloc;
-        String::from_str(alloc, "run")?,
-        String::from_str(alloc, "o")?,
-    ]?;
+/// The words of the command that stops.
+fn words(alloc: Global) -> Option<Vec<String>> {
+    let mut words = Vec::new(alloc);
+    words.push(String::from_str(alloc, "run").ok()?).ok()?;
+    words.push(String::from_str(alloc, "o").ok()?).ok()?;
+    Some(words)
+}
+
+/// Whether a stop has this answer, with its code, and says this line.
+fn tells(alloc: Global, words: &[String], stop: Stop, answer: (Status, u8, &str)) -> bool {
+    let (status, code, line) = answer;
     let mut folder = MemoryFolder::new(alloc);
-    assert!(rt; tell_stop(&mut folder, &words, stop) == status, "{line}");
-    assert!(rt; folder.said() == line.as_bytes(), "{line}");
-    assert!(rt; status.code() == code, "{line}");
-    Ok(())
+    let told = tell_stop(&mut folder, words, stop);
+    told == status && status.code() == code && folder.said() == line.as_bytes()
 }
 
 #[test]
-fn each_answer_says_its_line(rt: HostRuntime) -> Result<(), Fail> {
-    for (status, code, line) in LINES {
-        tells(&rt, rt.alloc(), Stop::Own(*status), *status, *code, line)?;
+fn each_answer_says_its_line(rt: HostRuntime) {
+    let Some(words) = words(rt.alloc()) else {
+        panic!(rt; "no memory")
+    };
+    for &(status, code, line) in LINES {
+        let stop = Stop::Own(status);
+        assert!(rt;
+            tells(rt.alloc(), &words, stop, (status, code, line)),
+            "{line}"
+        );
     }
-    for (stop, status, code, line) in STOPS {
-        tells(&rt, rt.alloc(), *stop, *status, *code, line)?;
+    for &(stop, status, code, line) in STOPS {
+        assert!(rt;
+            tells(rt.alloc(), &words, stop, (status, code, line)),
+            "{line}"
+        );
     }
-    assert!(&rt; Status::Done.code() == 0);
-    assert!(&rt; Status::Usage.code() == 2);
-    Ok(())
+    assert!(rt; Status::Done.code() == 0 && Status::Usage.code() == 2);
 }
 
 /// Looks at a line.
@@ -204,47 +207,44 @@ fn done_lines_have_their_numbers(rt: HostRuntime) {
     is_line(&rt, usage.as_slice(), "usage: modem run, xid\n");
 }
 
-fn inputs_end_at_their_limit(rt: &impl Abort, folder: &mut MemoryFolder) {
-    assert!(rt; within_limit(folder, "f", 5, 1) == Ok(()));
+fn inputs_end_at_their_limit(folder: &mut MemoryFolder) -> bool {
     let long = Stop::Own(Status::TooLong { word: 1 });
-    assert!(rt; within_limit(folder, "f", 4, 1) == Err(long));
+    within_limit(folder, "f", 5, 1) == Ok(()) && within_limit(folder, "f", 4, 1) == Err(long)
 }
 
-fn pieces_are_read_at_their_place(rt: &impl Abort, folder: &mut MemoryFolder) {
+fn pieces_are_read_at_their_place(folder: &mut MemoryFolder) -> bool {
     let mut piece = [0u8; 3];
-    assert!(rt; read_piece(folder, "f", 4, 2, &mut piece) == Ok(2));
-    assert!(rt; piece == [b'c', b'd', 0]);
-    assert!(rt; read_piece(folder, "g", 4, 2, &mut piece) == Err(FolderFault::Failed));
+    let read = read_piece(folder, "f", 4, 2, &mut piece);
+    let is_read = read == Ok(2) && piece == [b'c', b'd', 0];
+    is_read && read_piece(folder, "g", 4, 2, &mut piece) == Err(FolderFault::Failed)
 }
 
-fn files_are_read_to_their_limit(rt: &impl Abort, alloc: Global, folder: &mut MemoryFolder) {
+fn files_are_read_to_their_limit(alloc: Global, folder: &mut MemoryFolder) -> bool {
     match read_file(alloc, folder, "f", 4) {
-        Ok(file) => assert!(rt; file.as_slice() == b"abcd".as_slice()),
-        Err(_) => assert!(rt; false),
+        Ok(file) => file.as_slice() == b"abcd".as_slice(),
+        Err(_) => false,
     }
 }
 
-fn outputs_are_made_empty_and_grow(rt: &impl Abort, folder: &mut MemoryFolder) {
-    assert!(rt; create_output(folder, "f") == Ok(()));
-    assert!(rt; append_output(folder, "f", b"xy") == Ok(()));
-    assert!(rt; folder.get("f") == Some(b"xy".as_slice()));
+fn outputs_are_made_empty_and_grow(folder: &mut MemoryFolder) -> bool {
+    let is_made = create_output(folder, "f") == Ok(());
+    let is_written = append_output(folder, "f", b"xy") == Ok(());
+    is_made && is_written && folder.get("f") == Some(b"xy".as_slice())
 }
 
-fn a_line_is_said(rt: &impl Abort, folder: &mut MemoryFolder) {
-    assert!(rt; say_line(folder, b"xy") == Ok(()));
-    assert!(rt; folder.said() == b"xy".as_slice());
+fn a_line_is_said(folder: &mut MemoryFolder) -> bool {
+    say_line(folder, b"xy") == Ok(()) && folder.said() == b"xy".as_slice()
 }
 
 #[test]
-fn a_file_of_five_octets_is_read_and_written(rt: HostRuntime) -> Result<(), Fail> {
+fn a_file_of_five_octets_is_read_and_written(rt: HostRuntime) {
     let mut folder = MemoryFolder::new(rt.alloc());
-    folder.put("f", b"abcde")?;
-    inputs_end_at_their_limit(&rt, &mut folder);
-    pieces_are_read_at_their_place(&rt, &mut folder);
-    files_are_read_to_their_limit(&rt, rt.alloc(), &mut folder);
-    outputs_are_made_empty_and_grow(&rt, &mut folder);
-    a_line_is_said(&rt, &mut folder);
-    Ok(())
+    assert!(rt; folder.put("f", b"abcde").is_ok());
+    assert!(rt; inputs_end_at_their_limit(&mut folder));
+    assert!(rt; pieces_are_read_at_their_place(&mut folder));
+    assert!(rt; files_are_read_to_their_limit(rt.alloc(), &mut folder));
+    assert!(rt; outputs_are_made_empty_and_grow(&mut folder));
+    assert!(rt; a_line_is_said(&mut folder));
 }
 
 /// Names of files, names of outputs, and whether they are apart.
@@ -257,39 +257,59 @@ const NAMES: &[([&str; 2], [&str; 2], bool)] = &[
 #[test]
 fn names_of_outputs_are_apart_and_ends_have_their_words(rt: HostRuntime) {
     for (files, outputs, apart) in NAMES {
-        assert!(&rt; are_apart(files, outputs) == *apart);
+        assert!(rt; are_apart(files, outputs) == *apart);
     }
-    assert!(&rt; Role::of_word(b"orig") == Some(Role::Originator));
-    assert!(&rt; Role::of_word(b"answ") == Some(Role::Answerer));
-    assert!(&rt; Role::of_word(b"origin") == None);
+    assert!(rt; Role::of_word(b"orig") == Some(Role::Originator));
+    assert!(rt; Role::of_word(b"answ") == Some(Role::Answerer));
+    assert!(rt; Role::of_word(b"origin") == None);
 }
 
-/// A script's delays, tries and first break of the originator. The first sample that an originator sends is (8192, -2048), as its recording shows:
-/// the noise of the other script moves it to (8387, -2281).
+/// Whether a script has these delays, tries and first break of the originator.
+fn a_script_is_read(alloc: Global) -> bool {
+    match read_script(alloc, b"delay 3 5\nbreak orig 5 30\n") {
+        Ok(script) => {
+            script.delay(Role::Originator) == 3
+                && script.delay(Role::Answerer) == 5
+                && script.tries() == 5
+                && script.break_line(Role::Originator, 0) == Some((5, 30))
+        }
+        Err(_) => false,
+    }
+}
+
+/// The first sample that an originator sends is (8192, -2048), as its recording shows: whether the noise of another script moves it to
+/// (8387, -2281).
+fn noise_moves_a_sample(alloc: Global) -> bool {
+    match read_script(alloc, b"noise orig 0 2 500 42") {
+        Ok(noise) => {
+            let offset = noise.offset(&mut Generators::new(), Role::Originator, 0);
+            (offset.re.wrapping_add(8192), offset.im.wrapping_sub(2048)) == (8387, -2281)
+        }
+        Err(_) => false,
+    }
+}
+
 #[test]
-fn scripts_say_what_the_line_does(rt: HostRuntime) -> Result<(), Fail> {
-    let script = read_script(rt.alloc(), b"delay 3 5\nbreak orig 5 30\n")?;
-    assert!(&rt; script.delay(Role::Originator) == 3);
-    assert!(&rt; script.delay(Role::Answerer) == 5);
-    assert!(&rt; script.tries() == 5);
-    assert!(&rt; script.break_line(Role::Originator, 0) == Some((5, 30)));
-    let noise = read_script(rt.alloc(), b"noise orig 0 2 500 42")?;
-    let offset = noise.offset(&mut Generators::new(), Role::Originator, 0);
-    assert!(&rt; (offset.re.wrapping_add(8192), offset.im.wrapping_sub(2048)) == (8387, -2281));
-    Ok(())
+fn scripts_say_what_the_line_does(rt: HostRuntime) {
+    assert!(rt; a_script_is_read(rt.alloc()));
+    assert!(rt; noise_moves_a_sample(rt.alloc()));
 }
 
-/// Looks at both texts of a fault.
-fn shows<T: Display + Debug>(
-    rt: &impl Abort,
-    alloc: Global,
-    fault: &T,
-    display: &str,
-    debug: &str,
-) -> Result<(), Fail> {
-    assert!(rt; format!(in alloc; "{fault}")?.as_str() == display);
-    assert!(rt; format!(in alloc; "{fault:?}")?.as_str() == debug);
-    Ok(())
+/// Whether a fault has both these texts.
+fn shows<T: Display + Debug>(alloc: Global, fault: &T, display: &str, debug: &str) -> Option<bool> {
+    let shown = format!(in alloc; "{fault}").ok()?;
+    let other = format!(in alloc; "{fault:?}").ok()?;
+    Some(shown.as_str() == display && other.as_str() == debug)
+}
+
+/// Looks at both texts of each fault.
+fn show<T: Display + Debug>(rt: &impl Abort, alloc: Global, faults: &[(T, &str, &str)]) {
+    for (fault, display, debug) in faults {
+        assert!(rt;
+            shows(alloc, fault, display, debug) == Some(true),
+            "{debug}"
+        );
+    }
 }
 
 /// Faults of fields and their texts.
@@ -340,15 +360,9 @@ const FOLDER_FAULTS: &[(FolderFault, &str, &str)] = &[
 ];
 
 #[test]
-fn faults_have_their_texts(rt: HostRuntime) -> Result<(), Fail> {
-    for (fault, display, debug) in FIELD_FAULTS {
-        shows(&rt, rt.alloc(), fault, display, debug)?;
-    }
-    for (fault, display, debug) in FRAME_FAULTS {
-        shows(&rt, rt.alloc(), fault, display, debug)?;
-    }
-    for (fault, display, debug) in FOLDER_FAULTS {
-        shows(&rt, rt.alloc(), fault, display, debug)?;
-    }
-    shows(&rt, rt.alloc(), &NoMemory, "no memory", "NoMemory")
+fn faults_have_their_texts(rt: HostRuntime) {
+    show(&rt, rt.alloc(), FIELD_FAULTS);
+    show(&rt, rt.alloc(), FRAME_FAULTS);
+    show(&rt, rt.alloc(), FOLDER_FAULTS);
+    show(&rt, rt.alloc(), &[(NoMemory, "no memory", "NoMemory")]);
 }

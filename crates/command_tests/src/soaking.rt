@@ -1,6 +1,5 @@
 // Soaks, and words that spell no seed.
 use crate::stage::play;
-use std::test::Fail;
 
 /// Seeds and what comes of them.
 const SCENARIOS: &str = r##"
@@ -29,6 +28,6 @@ begins said "soak 9 done "
 "##;
 
 #[test]
-fn seeds_are_soaked(rt: HostRuntime) -> Result<(), Fail> {
-    play(&rt, rt.alloc(), "soaking.rt", SCENARIOS)
+fn seeds_are_soaked(rt: HostRuntime) {
+    play(&rt, rt.alloc(), "soaking.rt", SCENARIOS);
 }

@@ -1,9 +1,10 @@
 // What plays scenarios: it goes over their lines, keeps the files and what the last command left, and names the line that doesn't hold.
+//
+// A step that can't be played answers `None`: a word is missing or wrong in its line, or memory wasn't found.
 use noting::NotingFolder;
 use outside_core::MemoryFolder;
 use std::alloc::Global;
 use std::process::Abort;
-use std::test::Fail;
 
 mod asking;
 mod looking;
@@ -12,10 +13,9 @@ mod noting;
 mod octets;
 
 /// The line of a file of scenarios in which their text begins.
-const FIRST_LINE: usize = 6;
+const FIRST_LINE: usize = 5;
 
 /// How a command ended, and the folder as it left it.
-#[derive(Drop)]
 pub(crate) struct Ran {
     /// The exit status.
     pub(crate) code: u8,
@@ -25,8 +25,18 @@ pub(crate) struct Ran {
     fails: Vec<u64>,
 }
 
+impl Drop for Ran {
+    // for the prover: so it is dropped by a call, and its fields are not dropped anew wherever one is.
+    fn drop(self) {
+        let Ran {
+            code: _,
+            folder: _,
+            fails: _,
+        } = self;
+    }
+}
+
 /// A scenario as far as it was played.
-#[derive(Drop)]
 pub(crate) struct Stage {
     /// The names of the files that a command finds.
     names: Vec<String>,
@@ -41,85 +51,112 @@ pub(crate) struct Stage {
     alloc: Global,
 }
 
+impl Drop for Stage {
+    // for the prover, as above
+    fn drop(self) {
+        let Stage {
+            names: _,
+            files: _,
+            fails: _,
+            words: _,
+            ran: _,
+            alloc: _,
+        } = self;
+    }
+}
+
 impl Stage {
     /// The beginning of a scenario, without files.
-    pub(crate) fn new(alloc: Global) -> Stage {
+    fn new(alloc: Global) -> Stage {
         Stage {
             names: Vec::new(alloc),
             files: MemoryFolder::new(alloc),
             fails: Vec::new(alloc),
             words: Vec::new(alloc),
-            ran: Ran {
-                code: 0,
-                folder: NotingFolder {
-                    folder: MemoryFolder::new(alloc),
-                    notes: String::new(alloc),
-                },
-                fails: Vec::new(alloc),
-            },
+            ran: Ran::new(alloc),
             alloc,
         }
     }
 
+    /// Begins anew.
+    fn begin(&mut self) -> Option<bool> {
+        *self = Stage::new(self.alloc);
+        Some(true)
+    }
+
     /// Plays a line: whether what it says holds.
-    pub(crate) fn step(&mut self, line: &str) -> Result<bool, Fail> {
+    fn step(&mut self, line: &str) -> Option<bool> {
         let line = line.trim();
         let (verb, rest) = line.split_once(' ').unwrap_or((line, ""));
         match verb {
-            "" | "#" => {}
-            "scenario" => *self = Stage::new(self.alloc),
-            "fails" => self.fail_at(rest)?,
-            "ask" => self.ask(rest)?,
-            "keep" => self.keep(rest)?,
-            "usage" => return self.is_no_command(rest),
-            "alike" => return self.is_left_alike(rest),
-            "sweep" => return self.is_cut_at_each_call(rest),
-            _ => return self.make_or_look(verb, rest),
+            "" | "#" => Some(true),
+            "scenario" => self.begin(),
+            "fails" => self.fail_at(rest),
+            "ask" => self.ask(rest),
+            "keep" => self.keep(rest),
+            "usage" => self.is_no_command(rest),
+            "alike" => self.is_left_alike(rest),
+            "sweep" => self.is_cut_at_each_call(rest),
+            _ => self.look_or_make(verb, rest),
         }
-        Ok(true)
     }
 
-    /// Plays a line that makes a file, or looks at what was left.
-    fn make_or_look(&mut self, verb: &str, rest: &str) -> Result<bool, Fail> {
+    /// Plays a line that looks at what was left, or makes a file.
+    fn look_or_make(&mut self, verb: &str, rest: &str) -> Option<bool> {
         let (name, text) = rest.split_once(' ').unwrap_or((rest, ""));
-        match self.made(verb, name, text)? {
-            Some(octets) => {
-                self.put(name, &octets)?;
-                Ok(true)
-            }
-            None => self.holds(verb, name, text, rest),
+        match verb {
+            "exit" => self.has_number(verb, name, rest),
+            "lines" | "length" => self.has_number(verb, name, text),
+            "says" => self.compares("leaves", "said", rest),
+            "leaves" | "begins" | "ends" | "holds" => self.compares(verb, name, text),
+            "none" | "kept" => Some(self.has_all(verb, rest)),
+            "line" => self.has_line(name, text, true),
+            "lacks" => self.has_line(name, text, false),
+            _ => self.make(verb, name, text),
         }
+    }
+
+    /// Plays a line that makes a file.
+    fn make(&mut self, verb: &str, name: &str, text: &str) -> Option<bool> {
+        let mut octets = Vec::new(self.alloc);
+        self.write(&mut octets, verb, name, text)?;
+        self.put(name, &octets)
     }
 
     /// Lets a file have these octets, before the next command and now.
-    fn put(&mut self, name: &str, octets: &[u8]) -> Result<(), Fail> {
+    fn put(&mut self, name: &str, octets: &[u8]) -> Option<bool> {
         if self.files.get(name).is_none() {
-            self.names.push(String::from_str(self.alloc, name)?)?;
+            let name = String::from_str(self.alloc, name).ok()?;
+            self.names.push(name).ok()?;
         }
-        self.files.put(name, octets)?;
-        self.ran.folder.folder.put(name, octets)?;
-        Ok(())
+        self.files.put(name, octets).ok()?;
+        self.ran.folder.folder.put(name, octets).ok()?;
+        Some(true)
     }
 }
 
-/// Plays the scenarios of a file, and ends the test at the first line that doesn't hold.
-pub(crate) fn play(
+/// The stage behind lines of a file, the first of which has this number. The test ends at the first one that doesn't hold.
+pub(crate) fn stage_behind(
     rt: &impl Abort,
     alloc: Global,
     file: &str,
-    scenarios: &str,
-) -> Result<(), Fail> {
+    first: usize,
+    lines: &str,
+) -> Stage {
     let mut stage = Stage::new(alloc);
-    for (place, line) in scenarios.lines().enumerate() {
-        let number = FIRST_LINE.saturating_add(place);
-        match stage.step(line) {
-            Ok(true) => {}
-            Ok(false) => assert!(rt; false, "{file}:{number}: {line}\n{}", stage.ran),
-            Err(why) => {
-                assert!(rt; false, "{file}:{number}: {line}: it can't be played");
-                return Err(why);
-            }
-        }
+    for (place, line) in lines.lines().enumerate() {
+        let number = first.saturating_add(place);
+        let holds = stage.step(line);
+        assert!(rt;
+            holds == Some(true),
+            "{file}:{number}: {line}\nholds: {holds:?}, {}",
+            stage.ran
+        );
     }
-    Ok(())
+    stage
+}
+
+/// Plays the scenarios of a file, and ends the test at the first line that doesn't hold.
+pub(crate) fn play(rt: &impl Abort, alloc: Global, file: &str, scenarios: &str) {
+    let _ = stage_behind(rt, alloc, file, FIRST_LINE, scenarios);
 }

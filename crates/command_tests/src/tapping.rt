@@ -1,6 +1,5 @@
 // Recordings of both ways of a line, tapped beside its script.
 use crate::stage::play;
-use std::test::Fail;
 
 /// Recordings and what is tapped. Octets of a slot are put on the line as they are, so those of frames have no five ones in a row.
 const SCENARIOS: &str = r##"
@@ -297,6 +296,6 @@ leaves t trace
 "##;
 
 #[test]
-fn recordings_are_tapped(rt: HostRuntime) -> Result<(), Fail> {
-    play(&rt, rt.alloc(), "tapping.rt", SCENARIOS)
+fn recordings_are_tapped(rt: HostRuntime) {
+    play(&rt, rt.alloc(), "tapping.rt", SCENARIOS);
 }

@@ -11,8 +11,6 @@ mod frames;
 mod pair;
 mod slot;
 mod terms;
-#[cfg(test)]
-mod tests;
 mod user;
 
 pub use bits::{Quads, SampleEar};

@@ -29,6 +29,24 @@ window-low o a h k = lowered-low _ (min o.tx_window a.rx_window) (omega (arith, 
 pub window-high : (o a : Offer) → IsAllowed o → IsAllowed a → (agree o a).window_o ≤ 127
 window-high o a h k = lowered-high _ (min o.tx_window a.rx_window) (omega (arith, h.tx_window_high, k.rx_window_high))
 
+-- likewise what the answerer sends
+pub other-low : (o a : Offer) → IsAllowed o → IsAllowed a → 1 ≤ (agree o a).window_a
+other-low o a h k = lowered-low _ (min a.tx_window o.rx_window) (omega (arith, k.tx_window_low, h.rx_window_low))
+
+pub other-high : (o a : Offer) → IsAllowed o → IsAllowed a → (agree o a).window_a ≤ 127
+other-high o a h k = lowered-high _ (min a.tx_window o.rx_window) (omega (arith, k.tx_window_high, h.rx_window_high))
+
+lowered-few : (b : Bool) (n : ℕ) → b ≡ true → lowered b n ≤ 64
+lowered-few true n e = omega arith
+lowered-few false n e = absurd cc
+
+-- with SREJ both are small
+pub window-few : (o a : Offer) → ((agree o a).srej ≡ true → (agree o a).window_o ≤ 64) × ((agree o a).srej ≡ true → (agree o a).window_a ≤ 64)
+window-few o a = (
+  lowered-few (agree o a).srej (min o.tx_window a.rx_window),
+  lowered-few (agree o a).srej (min a.tx_window o.rx_window),
+)
+
 pub after-none : (tap : Tap) (terms : Terms) (x : Tapping) (symbols : ℕ) → x ≡ tapping tap.script no_octets → terms ≡ terms_of x
     → symbols ≡ (line_of x).symbols → tap.at ≡ 8 → tap.turn ≡ 0
     → ListensFor tap.orig.listener terms Originator [] → ListensFor tap.answ.listener terms Answerer []

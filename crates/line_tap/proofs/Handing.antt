@@ -105,3 +105,12 @@ handing-stops start now next name segment r i on h n part =
     sym (concat-append h.front (segment ∷ drop (h.given + 1) i.taken)) ∙ ap concat (ap (λ l. h.front ++ l) (sym n.first) ∙ sym h.split) in
     subst (PartlyAppended start next name) all
     (part-more start now next name (concat h.front) segment (concat (drop (h.given + 1) i.taken)) on h.put part)
+
+-- one less is ready
+pub fewer-ready : (old new : Taking) → new ≡ record old { ready = drop 1 old.ready } → true ≡ nat_lt 0 (length old.ready)
+    → length new.ready < length old.ready
+fewer-ready old new value some = subst (λ (r : Taking). length r.ready < length old.ready) (sym value) (less old.ready some)
+  where
+    less : (ready : List (List ℕ)) → true ≡ nat_lt 0 (length ready) → length (drop 1 ready) < length ready
+    less [] e = absurd cc
+    less (first ∷ ready) e = omega arith

@@ -15,7 +15,7 @@ use Rattle.command_base.specs.declared.stop.Stop.TheVariants.{Own, Read, Write, 
 use Rattle.command_base.specs.Inputs.{ReadTo}
 use Rattle.command_base.specs.Stops.{StopCounts}
 use Rattle.run_inputs.specs.declared.limits.Limits.{Limits}
-use Rattle.run_inputs.specs.Inputs.{Opens}
+use Rattle.run_inputs.specs.Inputs.{Opens, Refuses}
 use Rattle.line_tap.specs.declared.limits.TheConstants.{TAP_LIMIT}
 use Rattle.line_tap.specs.Names.{TapNames, recordings_of}
 use Rattle.line_tap.specs.Tap.{AreReadTo}
@@ -38,6 +38,15 @@ pub both-read : (start now : FolderState) (n : TapNames) → ReadTo start now n.
     → ReadTo start now n.rec_a TAP_LIMIT 8 (header_of Answer) → AreReadTo start now n no_octets
 both-read start now n orig answ Originator = orig
 both-read start now n orig answ Answerer = answ
+
+-- the script or a length is refused
+pub inputs-refused : (l : Limits) (old new : FolderState) (n : TapNames) (stop : Stop) → Refuses l old new n.script 3 (recordings_of n) 1 stop
+    → IsRefused l old new n stop
+inputs-refused l old new n (Own answer) refused = inl refused
+inputs-refused l old new n (Read fault) refused = inl refused
+inputs-refused l old new n (Write fault) refused = absurd refused
+inputs-refused l old new n (Say fault) refused = absurd refused
+inputs-refused l old new n NoMemory refused = refused
 
 -- a recording has no header: the originator's,
 pub orig-refused : (l : Limits) (old new : FolderState) (n : TapNames) (script : ScriptValue) (stop : Stop)

@@ -1,5 +1,5 @@
 -- What an end is given by what it hears, and hands over.
-use Rattle.std.proofs.Common.{◌≡◌, ℕ, Bool, true, false, List, ◌++◌, refl, sym, Option, Some, None, append-nil}
+use Rattle.std.proofs.Common.{◌≡◌, ℕ, ◌*◌, ◌≤◌, Bool, true, false, List, ◌++◌, length, refl, sym, subst, Option, Some, None, append-nil}
 use Rattle.std.specs.Prelude.{◌||◌}
 use Rattle.shared_terms.specs.declared.role.Role.{Role}
 use Rattle.shared_terms.specs.declared.role.Role.TheVariants.{Originator, Answerer}
@@ -10,6 +10,11 @@ use Rattle.link_run.specs.Overheard.{opens}
 use Rattle.lapm_frames.specs.declared.heard.Heard.TheVariants.{Passed}
 use Rattle.lapm_frames.specs.declared.sent.Sent.TheVariants as slots
 use Rattle.break_signals.specs.Breaks.{with_given}
+use Rattle.xid_params.specs.declared.terms.Terms.{Terms}
+use Rattle.lapm_receiver.specs.Incoming.{Incoming}
+use Rattle.lapm_receiver.specs.Taking.{Taking, StandsIn}
+use Rattle.line_tap.specs.declared.listener.Listener.{Listener}
+use Rattle.line_tap.specs.Listener.{Listens, IsIdle, HasTaken, delivered}
 
 -- one break more
 pub with-given : (o : Option ℕ) (lengths : List ℕ) → with_given o lengths ≡ lengths ++ given_in o
@@ -30,3 +35,26 @@ pub gives-no-segment : (connected : Bool) (ns nr : ℕ) (pf : Bool) (info length
     → lengths ≡ lengths ++ given_in (given_by connected (Passed (slots.Frame (I ns nr pf info))) lengths)
 gives-no-segment true ns nr pf info lengths = sym (append-nil lengths)
 gives-no-segment false ns nr pf info lengths = sym (append-nil lengths)
+
+-- ---- segments are handed over
+
+-- what a listener knows beside its segments stays
+pub listens-on : (old mid : Listener) (new : Taking) (terms : Terms) (role : Role) (agreed connected : Bool) (i : Incoming) (lengths : List ℕ)
+    → mid ≡ record old { receiver = mid.receiver } → StandsIn new (delivered i) → Listens old terms role agreed connected i lengths
+    → Listens (record mid { receiver = new }) terms role agreed connected (delivered i) lengths
+listens-on old mid new terms role agreed connected i lengths beside stands h =
+    subst (λ (l : Listener). Listens (record l { receiver = new }) terms role agreed connected (delivered i) lengths) (sym beside) (record {
+      role_is = h.role_is;
+      check_is = h.check_is;
+      agreed_is = h.agreed_is;
+      takes = stands;
+      breaks = h.breaks;
+      connected_is = h.connected_is;
+    })
+
+pub idle-again : (old new : Listener) (turns : ℕ) → new.receiver.window ≡ old.receiver.window → new.receiver.taken ≡ old.receiver.taken
+    → length new.receiver.ready ≡ 0 → HasTaken old turns → IsIdle new turns
+idle-again old new turns window taken none h = record {
+  taken = record { begun = subst (λ (n : ℕ). 1 ≤ n) (sym window) h.begun; few = subst (λ (n : ℕ). n ≤ 127 * turns) (sym taken) h.few };
+  none = none;
+}

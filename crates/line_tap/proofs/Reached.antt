@@ -1,8 +1,8 @@
 -- Where the turns of a tap have come.
-use Rattle.std.proofs.Common.{◌≡◌, inl, ℕ, ◌+◌, ◌<◌, List, [], ◌∷◌, ◌++◌, length, sym, subst}
+use Rattle.std.proofs.Common.{◌≡◌, inl, ℕ, ◌+◌, ◌-◌, ◌<◌, arith, List, [], ◌∷◌, ◌++◌, length, sym, subst}
 use Rattle.std.specs.List.{concat}
 use Rattle.outside_calls.specs.Folder.{FolderState, GoesOn}
-use Rattle.outside_calls.specs.Outputs.{Holds, HoldEach}
+use Rattle.outside_calls.specs.Outputs.{Creates, Holds, HoldEach}
 use Rattle.outside_calls.proofs.Putting.{HoldEach-add, HoldPart-add, AddPart-none}
 use Rattle.shared_terms.specs.declared.role.Role.{Role}
 use Rattle.shared_terms.specs.declared.role.Role.TheVariants.{Originator, Answerer}
@@ -20,11 +20,12 @@ use Rattle.line_tap.specs.Ends as ends
 use Rattle.command_base.specs.declared.status.Status.TheVariants.{LineLost, ChanceMatch, BadTap}
 use Rattle.command_base.specs.declared.stop.Stop.{Stop}
 use Rattle.command_base.specs.declared.stop.Stop.TheVariants.{Own, Read, Write, Say, NoMemory}
+use Rattle.line_tap.specs.declared.limits.TheConstants.{TAP_LIMIT}
 use Rattle.line_tap.specs.declared.tapping.Tap.{Tap}
 use Rattle.line_tap.specs.Names.{TapNames, outputs_of}
 use Rattle.line_tap.specs.Turn.{held_of, left_of, got_in, added}
-use Rattle.line_tap.specs.Tap.{TapAfter, AreReadTo, GoesOnBy, EndsInTurn, EndsReading, StopsInTurn, StopsReadingIn, TurnStops}
-use Rattle.line_tap.specs.Turns.{TapEnds, TapStops, TapStopsReading, StopsBy}
+use Rattle.line_tap.specs.Tap.{IsReady, TapAfter, AreReadTo, GoesOnBy, EndsInTurn, EndsReading, StopsInTurn, StopsReadingIn, TurnStops}
+use Rattle.line_tap.specs.Turns.{no_octets, TapEnds, TapStops, TapStopsReading, StopsBy}
 use Rattle.line_tap.proofs.Longer.{longer, tells-longer, got-more}
 use Rattle.line_tap.proofs.Whole.{Rest, rests, more_of, knows-whole, none-short, whole-longer, badly-longer, lost-longer, chance-longer, got-longer, adds-longer}
 
@@ -35,6 +36,16 @@ pub record Reached (tap : Tap) (script : ScriptValue) (start now : FolderState) 
   pub after : TapAfter tap (tapping script bodies) turns
   pub read : AreReadTo start now n bodies
   pub holds : HoldEach now (outputs_of n) (held_of (left_of (tapping script bodies) turns (trace_text turns)))
+
+-- none was made
+pub reached-none : (tap : Tap) (start now : FolderState) (n : TapNames) → TapAfter tap (tapping tap.script no_octets) []
+    → AreReadTo start now n no_octets → Creates now (outputs_of n) → Reached tap tap.script start now n
+reached-none tap start now n after read created =
+    record { bodies = no_octets; turns = []; after = after; read = read; holds = created }
+
+-- less of the recordings is left
+pub less-left : (old new : Tap) → old.at < new.at → IsReady new → TAP_LIMIT - new.at < TAP_LIMIT - old.at
+less-left old new nearer ready = omega (arith, nearer, ready.within)
 
 held-more : (next : FolderState) (name before more all : List ℕ) → Holds next name (before ++ more) → all ≡ before ++ more → Holds next name all
 held-more next name before more all holds e = subst (Holds next name) (sym e) holds

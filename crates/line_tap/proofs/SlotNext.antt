@@ -1,7 +1,7 @@
 -- The octets of one slot more, behind those of all slots before.
-use Rattle.std.proofs.Common.{◌≡◌, ◌∙◌, ℕ, ◌+◌, ◌*◌, ◌≤◌, List, [], ◌∷◌, ◌++◌, length, take, drop, arith, length-append, sym, ap, subst}
+use Rattle.std.proofs.Common.{◌≡◌, ◌∙◌, ℕ, ◌+◌, ◌*◌, ◌≤◌, ◌<◌, List, [], ◌∷◌, ◌++◌, length, take, drop, arith, length-append, sym, ap, subst}
 use Rattle.std.proofs.Math.Seq.{take-append_seam, drop-append_seam}
-use Rattle.std.proofs.lemmas.List.{take_all}
+use Rattle.std.proofs.lemmas.List.{take_all, length-take}
 use Rattle.std.proofs.lemmas.Grind.{common_steps}
 use Rattle.frame_check.specs.declared.check.Check.{Check}
 use Rattle.shared_terms.specs.declared.role.Role.{Role}
@@ -106,3 +106,17 @@ reads-next old new c check role ts body piece slot h size k = record {
   where
     carried : carries old slot.sent ≡ signal_of check role c.dlci slot.sent
     carried = ap (λ (w : Sender). signal_of w.check w.role w.dlci slot.sent) h.reads.sender
+
+-- less than a slot's octets hold none
+pub short-held : (r : SlotReader) (c : Wire) (check : Check) (role : Role) (ts : List Turn) (body piece : List ℕ) (count : ℕ)
+    → ReadsOn r c check role ts body → count < 4 * c.symbols → (s : Sent) → HoldsNext c check role ts (body ++ take count piece) s → ⊥
+short-held r c check role ts body piece count h few s x =
+    omega (
+      arith,
+      x.whole,
+      h.count,
+      few,
+      octets-next c (length ts),
+      length-append {A = ℕ} body (take count piece),
+      length-take count piece,
+    )

@@ -1,6 +1,6 @@
 -- What a turn of a tap comes to, at each of its ways out.
-use Rattle.std.proofs.Common.{◌≡◌, ◌⊎◌, inl, inr, ℕ, ◌+◌, ◌*◌, ◌<◌, ◌≤◌, IsTrue, List, [], ◌∷◌, ◌++◌, length, take, arith, length-append}
-use Rattle.std.proofs.Common.{refl, sym, ◌∙◌, ap, subst, append-nil, append_assoc, None, Ok}
+use Rattle.std.proofs.Common.{◌≡◌, ◌⊎◌, inl, inr, ℕ, ◌+◌, ◌*◌, ◌^◌, ◌<◌, ◌≤◌, IsTrue, List, [], ◌∷◌, ◌++◌, length, take, arith, length-append}
+use Rattle.std.proofs.Common.{refl, sym, ◌∙◌, ap, subst, append-nil, append_assoc, None, Result, Ok, Err}
 use Rattle.std.proofs.lemmas.Bool.{cases_lt}
 use Rattle.std.proofs.lemmas.List.{length-take}
 use Rattle.std.specs.List.{concat}
@@ -26,8 +26,11 @@ use Rattle.line_run.specs.Ends.{Left}
 use Rattle.line_tap.specs.Tapping.{Tapping, tapping, line_of, terms_of, octets_of, Tells}
 use Rattle.line_tap.specs.Ends.{EndsLine, Leaves, LastHears, IsFirstRefused}
 use Rattle.line_tap.specs.Ends as ends
+use Rattle.command_base.specs.declared.stop.Stop.{Stop}
 use Rattle.command_base.specs.Inputs.{ReadTo}
 use Rattle.line_tap.specs.declared.limits.TheConstants.{TAP_LIMIT}
+use Rattle.line_tap.specs.declared.step.Step.{Step}
+use Rattle.line_tap.specs.declared.step.Step.TheVariants.{Going, Done}
 use Rattle.line_tap.specs.declared.tapping.Tap.{Tap}
 use Rattle.line_tap.specs.declared.tapping.Hearing.{Hearing}
 use Rattle.line_tap.specs.End.{Slot}
@@ -40,7 +43,7 @@ use Rattle.line_tap.specs.Tap.{AreReadTo, AreReadOut, HearsThese, HearsTurn, Has
 use Rattle.line_tap.specs.Tap.{EndsInTurn, EndsReading, StopsInTurn, StopsReadingIn, IsBehind, HasReadPieces, HaveRead, IsReady, IsToGo}
 use Rattle.line_tap.specs.Tap.{TapAfter, GoesOnBy, going_in, and_pieces, read_of}
 use Rattle.line_tap.proofs.Longer.{tells-longer, got-more}
-use Rattle.line_tap.proofs.HeardSo.{SameReading, behind-on}
+use Rattle.line_tap.proofs.HeardSo.{SameReading, behind-on, few-turns}
 use Rattle.line_tap.proofs.Going.{hears-so, goes-on}
 use Rattle.line_tap.proofs.SlotNext.{octets-next}
 
@@ -593,3 +596,30 @@ pub only-written : (a b c d : FolderState) (n : TapNames) → OnlyPuts a b (outp
 only-written a b c d n p r w =
     OnlyPuts-trans a c d (outputs_of n) (only-read a b c n p r)
     (OnlyPuts-one c d (n.got_o ∷ n.got_a ∷ []) n.trace [] w)
+
+-- ---- what stands at each way out
+
+-- an answer that isn't that the reading goes on
+pub is-stopped : {stop : Stop} {P : Type 0} → ◌≡◌ {A = Result Step Stop} (Err stop) (Ok Going) → P
+is-stopped e = absurd cc
+
+pub is-done : {turns : ℕ} {P : Type 0} → ◌≡◌ {A = Result Step Stop} (Ok (Done turns)) (Ok Going) → P
+is-done e = absurd cc
+
+-- the place and the turn are those before the turn
+pub within-still : (old new : Tap) → IsReady old → new.at ≡ old.at → new.at ≤ TAP_LIMIT
+within-still old new h same = omega (arith, h.within, same)
+
+pub early-still : (old new : Tap) → IsReady old → new.turn ≡ old.turn → new.turn < 2 ^ 40
+early-still old new h same = subst (λ (n : ℕ). n < 2 ^ 40) (sym same) (few-turns old h)
+
+-- the place moves on by a whole piece, and not past the limit
+pub nearer-by : (old mid new : Tap) → mid.at ≡ old.at → 0 < length mid.orig.piece.items → new.at ≡ mid.at + length mid.orig.piece.items
+    → old.at < new.at
+nearer-by old mid new same some moved = omega (arith, same, some, moved)
+
+pub within-by : (tap mid new : Tap) (before count : ℕ) → tap.at ≡ before → mid.at ≡ tap.at → mid.orig.piece ≡ tap.orig.piece
+    → count ≡ length tap.orig.piece.items → before + count ≤ TAP_LIMIT → new.at ≡ mid.at + length mid.orig.piece.items → new.at ≤ TAP_LIMIT
+within-by tap mid new before count first same piece whole within moved =
+    let long : length mid.orig.piece.items ≡ length tap.orig.piece.items = rw piece refl in
+    omega (arith, first, same, long, whole, within, moved)

@@ -1,5 +1,5 @@
 // The words of a tap.
-ghost use Rattle.std.specs.Prelude.{◌≡◌, true, IfSome, string_bytes, map};
+ghost use Rattle.std.specs.Prelude.{◌≡◌, true, IfSome, Some, None, if◌then◌else◌, string_bytes, map};
 ghost use Rattle.std.specs.Option.{option_map};
 ghost use Rattle.command_base.specs.Apart.{are_apart};
 ghost use Rattle.line_tap.specs.Names.{named, inputs_of, outputs_of};
@@ -7,6 +7,20 @@ ghost use Rattle.line_tap.specs.Words.{names_of};
 
 use crate::TapWords;
 use command_base::are_apart;
+
+/// These names, where they are apart.
+fn apart_names(names: TapWords<'_>) -> Option<TapWords<'_>>
+    ensures names { option_map named result ≡ (if are_apart (inputs_of (named names.entry)) (outputs_of (named names.entry)) then Some (named names.entry) else None) }
+    ensures apart { IfSome result (λ names. are_apart (inputs_of (named names)) (outputs_of (named names)) ≡ true) }
+{
+    let inputs = [names.rec_o, names.rec_a, names.script];
+    let outputs = [names.got_o, names.got_a, names.trace];
+    if are_apart(&inputs, &outputs) {
+        Some(names)
+    } else {
+        None
+    }
+}
 
 /// The words of `tap`, where these are such words.
 pub fn tap_words(words: &[String]) -> Option<TapWords<'_>>
@@ -16,18 +30,15 @@ pub fn tap_words(words: &[String]) -> Option<TapWords<'_>>
     let [command, rec_o, rec_a, script, got_o, got_a, trace] = words else {
         return None;
     };
-    let words = TapWords {
+    if command.as_str() != "tap" {
+        return None;
+    }
+    apart_names(TapWords {
         rec_o: rec_o.as_str(),
         rec_a: rec_a.as_str(),
         script: script.as_str(),
         got_o: got_o.as_str(),
         got_a: got_a.as_str(),
         trace: trace.as_str(),
-    };
-    let inputs = [words.rec_o, words.rec_a, words.script];
-    let outputs = [words.got_o, words.got_a, words.trace];
-    if command.as_str() != "tap" || !are_apart(&inputs, &outputs) {
-        return None;
-    }
-    Some(words)
+    })
 }

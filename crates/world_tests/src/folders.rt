@@ -11,17 +11,27 @@ use std::test::Fail;
 /// The octets that stand in the file from these places on, as far as five: its front, its last ones, none at its end and past it.
 const PARTS: &[(u64, &[u8])] = &[(0, b"one t"), (5, b"wo"), (7, b""), (8, b"")];
 
-/// Makes a file and reads it back.
-fn keeps_a_file<F: Folder>(rt: &impl Abort, folder: &mut F) -> Result<(), Fail> {
+/// Makes a file where there is one already, and says a line.
+fn make_file<F: Folder>(folder: &mut F) -> Result<(), FolderFault> {
     folder.append("f", b"old")?;
     folder.create("f")?;
     folder.append("f", b"one ")?;
     folder.append("f", b"two")?;
-    folder.say(b"said\n")?;
+    folder.say(b"said\n")
+}
+
+/// Whether these octets are read of the file from that place on, where five are asked for.
+fn has_part<F: Folder>(folder: &mut F, at: u64, octets: &[u8]) -> Result<bool, FolderFault> {
     let mut buf = [0u8; 5];
+    let count = folder.read_at("f", at, &mut buf)?;
+    Ok(&buf[..count] == octets)
+}
+
+/// Makes a file and reads it back.
+fn keeps_a_file<F: Folder>(rt: &impl Abort, folder: &mut F) -> Result<(), Fail> {
+    make_file(folder)?;
     for &(at, octets) in PARTS {
-        let count = folder.read_at("f", at, &mut buf)?;
-        assert!(rt; &buf[..count] == octets, "at {at}");
+        assert!(rt; has_part(folder, at, octets)?, "at {at}");
     }
     Ok(())
 }
@@ -70,21 +80,18 @@ const UNWRITABLE: &[&str] = &["missing/f", "/dev/full", "."];
 /// Names of which nothing can be read. The last one has no places to go to, as a pipe has none.
 const UNREADABLE: &[&str] = &["missing", ".", "/dev/ptmx"];
 
-/// It keeps long pieces too.
-#[test]
-fn the_disk_keeps_files_and_fails_at_bad_names(rt: HostRuntime) -> Result<(), Fail> {
-    let mut folder = DiskFolder::new(rt);
-    keeps_a_file(&rt, &mut folder)?;
-    let failed = Err(FolderFault::Failed);
-    assert!(rt; folder.create("missing/f") == failed);
-    for name in UNWRITABLE {
-        assert!(rt; folder.append(name, b"piece") == failed, "{name}");
-    }
-    for name in UNREADABLE {
-        let read = folder.read_at(name, 0, &mut [0u8; 4]);
-        assert!(rt; read == Err(FolderFault::Failed), "{name}");
-    }
-    // Octets that differ from their neighbours.
+/// Whether nothing can be put under a name.
+fn is_unwritable<F: Folder>(folder: &mut F, name: &str) -> bool {
+    folder.append(name, b"piece") == Err(FolderFault::Failed)
+}
+
+/// Whether nothing can be read of a name.
+fn is_unreadable<F: Folder>(folder: &mut F, name: &str) -> bool {
+    folder.read_at(name, 0, &mut [0u8; 4]) == Err(FolderFault::Failed)
+}
+
+/// Whether a long piece, of octets that differ from their neighbours, is read back whole.
+fn keeps_a_long_piece<F: Folder>(folder: &mut F) -> Result<bool, FolderFault> {
     let mut piece = [0u8; 1500];
     for (place, octet) in piece.iter_mut().enumerate() {
         *octet = (place % 251) as u8;
@@ -92,7 +99,22 @@ fn the_disk_keeps_files_and_fails_at_bad_names(rt: HostRuntime) -> Result<(), Fa
     folder.append("long", &piece)?;
     let mut buf = [0u8; 1600];
     let count = folder.read_at("long", 0, &mut buf)?;
-    assert!(rt; &buf[..count] == piece.as_slice());
+    Ok(&buf[..count] == piece.as_slice())
+}
+
+/// It keeps long pieces too.
+#[test]
+fn the_disk_keeps_files_and_fails_at_bad_names(rt: HostRuntime) -> Result<(), Fail> {
+    let mut folder = DiskFolder::new(rt);
+    keeps_a_file(&rt, &mut folder)?;
+    assert!(rt; folder.create("missing/f") == Err(FolderFault::Failed));
+    for name in UNWRITABLE {
+        assert!(rt; is_unwritable(&mut folder, name), "{name}");
+    }
+    for name in UNREADABLE {
+        assert!(rt; is_unreadable(&mut folder, name), "{name}");
+    }
+    assert!(rt; keeps_a_long_piece(&mut folder)?);
     Ok(())
 }
 

@@ -1,10 +1,12 @@
-//! Worked examples of the crates below a run: folders, scripts, and the line of samples.
+//! Worked examples of the crates below a run: folders, scripts, and the line of samples; and of those crates in a program of one's own.
 //!
 //! It has no call of its own. In their own crates these tests would prove each crate's whole code once more.
 #![tactic(auto)]
 
 #[cfg(test)]
 mod folders;
+#[cfg(test)]
+mod library;
 #[cfg(test)]
 mod lines;
 #[cfg(test)]

@@ -1,7 +1,6 @@
 // Statements that make files: slots of a line, recordings that are turned, and scripts that move what was sent.
 use super::Stage;
 use super::octets::add_all;
-use std::test::Fail;
 
 /// The octets of a slot of 464 symbols.
 const SLOT: usize = 232;
@@ -46,188 +45,226 @@ fn way(from: &[u8], to: &[u8]) -> (i32, i32) {
 }
 
 /// The way that a pair of units of the map is.
-fn way_of(pair: &str) -> Result<(i32, i32), Fail> {
-    let (re, im) = pair.split_once(',').ok_or("no pair")?;
-    Ok((
-        re.parse::<i32>()?.wrapping_mul(UNIT),
-        im.parse::<i32>()?.wrapping_mul(UNIT),
-    ))
+fn way_of(pair: &str) -> Option<(i32, i32)> {
+    let (re, im) = pair.split_once(',')?;
+    let (re, im): (i32, i32) = (re.parse().ok()?, im.parse().ok()?);
+    Some((re.wrapping_mul(UNIT), im.wrapping_mul(UNIT)))
 }
 
 /// Puts the line into a script that moves a symbol of an end's so far.
-fn write_hit(script: &mut String, role: &str, symbol: usize, way: (i32, i32)) -> Result<(), Fail> {
+fn write_hit(script: &mut String, role: &str, symbol: usize, way: (i32, i32)) -> Option<()> {
     let (re, im) = way;
-    writeln!(script, "hit {role} {symbol} 1 {re} {im}")?;
-    Ok(())
+    writeln!(script, "hit {role} {symbol} 1 {re} {im}").ok()
 }
 
 /// Puts lines into a script that move an end's samples from those of one recording to those of another.
-fn write_hits(script: &mut String, role: &str, sent: &[u8], aimed: &[u8]) -> Result<(), Fail> {
+fn write_hits(script: &mut String, role: &str, sent: &[u8], aimed: &[u8]) -> Option<()> {
     let samples = sent.chunks(4).zip(aimed.chunks(4)).skip(HEADER);
     for (symbol, (from, to)) in samples.enumerate() {
         write_hit(script, role, symbol, way(from, to))?;
     }
-    Ok(())
+    Some(())
 }
 
 /// Puts lines into a script that move an end's samples from one on, each as far as a pair says.
-fn write_moves(script: &mut String, role: &str, first: usize, pairs: &str) -> Result<(), Fail> {
+fn write_moves(script: &mut String, role: &str, first: usize, pairs: &str) -> Option<()> {
     for (place, pair) in pairs.split_whitespace().enumerate() {
         write_hit(script, role, first.saturating_add(place), way_of(pair)?)?;
     }
-    Ok(())
+    Some(())
 }
 
 /// Where these octets stand first.
 pub(super) fn place_of(part: &[u8], octets: &[u8]) -> Option<usize> {
-    (0..octets.len()).find(|place| {
-        octets
-            .get(*place..)
-            .is_some_and(|rest| rest.starts_with(part))
-    })
+    for place in 0..octets.len() {
+        if octets.get(place..)?.starts_with(part) {
+            return Some(place);
+        }
+    }
+    None
+}
+
+/// Writes so many octets that differ from their neighbours.
+fn add_ramp(octets: &mut Vec<u8>, count: &str) -> Option<()> {
+    let count: usize = count.parse().ok()?;
+    for place in 0..count {
+        octets.push((place % 251) as u8).ok()?;
+    }
+    Some(())
+}
+
+/// Writes the bits of flags, as many as a slot has.
+fn add_flags(bits: &mut Vec<bool>) -> Option<()> {
+    for place in 0..8 * SLOT {
+        bits.push((FLAG >> (place % 8) as u32) & 1 == 1).ok()?;
+    }
+    Some(())
+}
+
+/// Writes the bits of a frame, the low one of an octet first and a zero behind five ones, and those of flags.
+fn add_bits(bits: &mut Vec<bool>, frame: &[u8]) -> Option<()> {
+    let mut ones = 0u32;
+    for octet in frame {
+        for place in 0..8u32 {
+            let bit = (octet >> place) & 1 == 1;
+            bits.push(bit).ok()?;
+            ones = if bit { ones.saturating_add(1) } else { 0 };
+            if ones == 5 {
+                bits.push(false).ok()?;
+                ones = 0;
+            }
+        }
+    }
+    add_flags(bits)
+}
+
+/// The octet of these bits, of which the low one comes first.
+fn octet_of(bits: &[bool]) -> u8 {
+    let mut octet = 0u8;
+    for bit in bits.iter().rev() {
+        octet = octet << 1 | u8::from(*bit);
+    }
+    octet
+}
+
+/// Writes the octets that bits are, up to a slot's end behind the flags of its head.
+fn add_octets(octets: &mut Vec<u8>, bits: &[bool]) -> Option<()> {
+    for octet in bits.chunks(8).take(SLOT - HEAD.len()) {
+        octets.push(octet_of(octet)).ok()?;
+    }
+    Some(())
+}
+
+/// Writes these octets with other pieces where the old one stands first.
+fn add_changed(octets: &mut Vec<u8>, before: &[u8], old: &[u8], new: &[Vec<u8>]) -> Option<()> {
+    let place = place_of(old, before)?;
+    octets.extend_from_slice(before.get(..place)?).ok()?;
+    add_all(octets, new)?;
+    let rest = before.get(place.saturating_add(old.len())..)?;
+    octets.extend_from_slice(rest).ok()
+}
+
+/// Writes a recording with the samples of these places turned by a quarter and then moved that far.
+fn add_samples(
+    octets: &mut Vec<u8>,
+    before: &[u8],
+    places: (u64, u64),
+    way: (i16, i16),
+) -> Option<()> {
+    let (from, to) = places;
+    let (re, im) = way;
+    for (place, old) in before.chunks(4).enumerate() {
+        let place = place as u64;
+        let added = if from <= place && place < to {
+            octets.extend_from_slice(&turned_sample(old, re, im))
+        } else {
+            octets.extend_from_slice(old)
+        };
+        added.ok()?;
+    }
+    Some(())
 }
 
 impl Stage {
-    /// What a file has once the line was played that makes it, or nothing where the line makes none.
-    pub(super) fn made(&self, verb: &str, name: &str, text: &str) -> Result<Option<Vec<u8>>, Fail> {
+    /// Writes what a file has once the line was played that makes it.
+    pub(super) fn write(
+        &self,
+        octets: &mut Vec<u8>,
+        verb: &str,
+        name: &str,
+        text: &str,
+    ) -> Option<()> {
         let before = self.ran.left(name).unwrap_or_default();
-        let octets = match verb {
-            "file" => self.joined(text)?,
-            "add" => self.behind(before, &self.joined(text)?)?,
-            "ramp" => self.ramp(text.parse()?)?,
-            "slot" => self.slot(before, text)?,
-            "frame" => self.frame(before, text)?,
-            "swap" => self.swapped(before, text)?,
-            "turn" => self.turned(before, text)?,
-            "hits" => self.hits(before, text)?,
-            "moves" => self.moves(before, text)?,
-            _ => return Ok(None),
-        };
-        Ok(Some(octets))
-    }
-
-    /// So many octets that differ from their neighbours.
-    fn ramp(&self, count: usize) -> Result<Vec<u8>, Fail> {
-        let mut octets = vec![in self.alloc; 0u8; count]?;
-        for (place, octet) in octets.iter_mut().enumerate() {
-            *octet = (place % 251) as u8;
+        match verb {
+            "file" => self.add(octets, text),
+            "ramp" => add_ramp(octets, text),
+            "swap" => self.add_swapped(octets, before, text),
+            "turn" => self.add_turned(octets, before, text),
+            _ => self.write_behind(octets, before, verb, text),
         }
-        Ok(octets)
     }
 
-    /// A slot more: all pieces but the first one, and the octet of that one up to the slot's end.
-    fn slot(&self, before: &[u8], text: &str) -> Result<Vec<u8>, Fail> {
+    /// Writes what a file has once the line was played that puts more behind its octets.
+    fn write_behind(
+        &self,
+        octets: &mut Vec<u8>,
+        before: &[u8],
+        verb: &str,
+        text: &str,
+    ) -> Option<()> {
+        octets.extend_from_slice(before).ok()?;
+        match verb {
+            "add" => self.add(octets, text),
+            "slot" => self.add_slot(octets, text),
+            "frame" => self.add_frame(octets, text),
+            "hits" => self.add_hits(octets, text),
+            "moves" => self.add_moves(octets, text),
+            _ => None,
+        }
+    }
+
+    /// A slot: all pieces but the first one, and the octet of that one up to the slot's end.
+    fn add_slot(&self, octets: &mut Vec<u8>, text: &str) -> Option<()> {
+        let end = octets.len().saturating_add(SLOT);
         let pieces = self.pieces(text)?;
-        let [fill, pieces @ ..] = pieces.as_slice() else {
-            return Err(Fail::new("nothing to fill with"));
-        };
-        let mut slot = Vec::new(self.alloc);
-        add_all(&mut slot, pieces)?;
-        for _ in slot.len()..SLOT {
-            slot.extend_from_slice(fill)?;
+        let (fill, pieces) = pieces.split_first()?;
+        add_all(octets, pieces)?;
+        for _ in octets.len()..end {
+            octets.extend_from_slice(fill).ok()?;
         }
-        self.behind(before, &slot)
+        Some(())
     }
 
-    /// Octets behind others.
-    fn behind(&self, before: &[u8], more: &[u8]) -> Result<Vec<u8>, Fail> {
-        let mut octets = Vec::from_slice(self.alloc, before)?;
-        octets.extend_from_slice(more)?;
-        Ok(octets)
-    }
-
-    /// The bits of a frame, the low one of an octet first and a zero behind five ones, and those of flags.
-    fn bits_of(&self, frame: &[u8]) -> Result<Vec<bool>, Fail> {
+    /// A slot: flags, the frame that all pieces are, with zeros put in, and flags up to the slot's end.
+    fn add_frame(&self, octets: &mut Vec<u8>, text: &str) -> Option<()> {
+        octets.extend_from_slice(&HEAD).ok()?;
+        let frame = self.joined(text)?;
         let mut bits = Vec::new(self.alloc);
-        let mut ones = 0u32;
-        for octet in frame {
-            for place in 0..8u32 {
-                let bit = (octet >> place) & 1 == 1;
-                bits.push(bit)?;
-                ones = if bit { ones.saturating_add(1) } else { 0 };
-                if ones == 5 {
-                    bits.push(false)?;
-                    ones = 0;
-                }
-            }
-        }
-        for place in 0..8 * SLOT {
-            bits.push((FLAG >> (place % 8) as u32) & 1 == 1)?;
-        }
-        Ok(bits)
+        add_bits(&mut bits, &frame)?;
+        add_octets(octets, &bits)
     }
 
-    /// A slot more: flags, the frame that all pieces are, with zeros put in, and flags up to the slot's end.
-    fn frame(&self, before: &[u8], text: &str) -> Result<Vec<u8>, Fail> {
-        let bits = self.bits_of(&self.joined(text)?)?;
-        let mut slot = Vec::from_slice(self.alloc, &HEAD)?;
-        for octet in bits.chunks(8).take(SLOT - HEAD.len()) {
-            slot.push(
-                octet
-                    .iter()
-                    .rev()
-                    .fold(0, |octet, bit| octet << 1 | u8::from(*bit)),
-            )?;
-        }
-        self.behind(before, &slot)
-    }
-
-    /// The octets with the other pieces in the first one's place.
-    fn swapped(&self, before: &[u8], text: &str) -> Result<Vec<u8>, Fail> {
+    /// The octets before with the other pieces in the first one's place.
+    fn add_swapped(&self, octets: &mut Vec<u8>, before: &[u8], text: &str) -> Option<()> {
         let pieces = self.pieces(text)?;
-        let (old, new) = pieces.split_first().ok_or("nothing to swap")?;
-        let place = place_of(old, before).ok_or("it stands nowhere")?;
-        let rest = place.saturating_add(old.len());
-        let mut octets = Vec::from_slice(self.alloc, before.get(..place).unwrap_or_default())?;
-        add_all(&mut octets, new)?;
-        octets.extend_from_slice(before.get(rest..).unwrap_or_default())?;
-        Ok(octets)
+        let (old, new) = pieces.split_first()?;
+        add_changed(octets, before, old, new)
     }
 
     /// A recording with the samples from one number to another turned by a quarter and then moved that far.
-    fn turned(&self, before: &[u8], text: &str) -> Result<Vec<u8>, Fail> {
+    fn add_turned(&self, octets: &mut Vec<u8>, before: &[u8], text: &str) -> Option<()> {
         let [from, to, re, im] = self.four_numbers(text)?;
-        let (re, im) = (i16::try_from(re)?, i16::try_from(im)?);
-        let mut octets = Vec::new(self.alloc);
-        for (place, old) in before.chunks(4).enumerate() {
-            match place.checked_sub(HEADER) {
-                Some(number) if (from..to).contains(&(number as u64)) => {
-                    octets.extend_from_slice(&turned_sample(old, re, im))?;
-                }
-                _ => octets.extend_from_slice(old)?,
-            }
-        }
-        Ok(octets)
+        let header = HEADER as u64;
+        let places = (from.saturating_add(header), to.saturating_add(header));
+        let way = (i16::try_from(re).ok()?, i16::try_from(im).ok()?);
+        add_samples(octets, before, places, way)
     }
 
     /// Four numbers between spaces.
-    fn four_numbers(&self, text: &str) -> Result<[u64; 4], Fail> {
+    fn four_numbers(&self, text: &str) -> Option<[u64; 4]> {
         match self.numbers(text)?.as_slice() {
-            [a, b, c, d] => Ok([*a, *b, *c, *d]),
-            _ => Err(Fail::new("no four numbers")),
+            [a, b, c, d] => Some([*a, *b, *c, *d]),
+            _ => None,
         }
     }
 
-    /// Lines of a script more that move an end's first samples, of which the first piece is the recording, to those of the second one.
-    fn hits(&self, before: &[u8], text: &str) -> Result<Vec<u8>, Fail> {
-        let (role, text) = text.split_once(' ').ok_or("no recordings")?;
-        let (sent, aimed) = text.split_once(' ').ok_or("no two recordings")?;
+    /// Lines of a script that move an end's first samples, of which the first piece is the recording, to those of the second one.
+    fn add_hits(&self, octets: &mut Vec<u8>, text: &str) -> Option<()> {
+        let (role, text) = text.split_once(' ')?;
+        let (sent, aimed) = text.split_once(' ')?;
+        let (sent, aimed) = (self.ran.octets(sent)?, self.ran.octets(aimed)?);
         let mut script = String::new(self.alloc);
-        write_hits(
-            &mut script,
-            role,
-            self.ran.octets(sent)?,
-            self.ran.octets(aimed)?,
-        )?;
-        self.behind(before, script.as_bytes())
+        write_hits(&mut script, role, sent, aimed)?;
+        octets.extend_from_slice(script.as_bytes()).ok()
     }
 
-    /// Lines of a script more that move an end's samples from one on, each as many units of the map as a pair of numbers says.
-    fn moves(&self, before: &[u8], text: &str) -> Result<Vec<u8>, Fail> {
-        let (role, text) = text.split_once(' ').ok_or("no symbol")?;
-        let (first, pairs) = text.split_once(' ').ok_or("no pairs")?;
+    /// Lines of a script that move an end's samples from one on, each as many units of the map as a pair of numbers says.
+    fn add_moves(&self, octets: &mut Vec<u8>, text: &str) -> Option<()> {
+        let (role, text) = text.split_once(' ')?;
+        let (first, pairs) = text.split_once(' ')?;
+        let first = first.parse().ok()?;
         let mut script = String::new(self.alloc);
-        write_moves(&mut script, role, first.parse()?, pairs)?;
-        self.behind(before, script.as_bytes())
+        write_moves(&mut script, role, first, pairs)?;
+        octets.extend_from_slice(script.as_bytes()).ok()
     }
 }

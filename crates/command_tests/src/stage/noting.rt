@@ -4,10 +4,10 @@ ghost use Rattle.outside_core.specs.Memory.{memory_folder};
 
 use outside_calls::{Folder, FolderFault};
 use outside_core::MemoryFolder;
+use std::alloc::Global;
 
 /// A folder in memory that notes each call in a line: its kind, its name, the place that it reads from, and how many octets it reads at most,
 /// or puts.
-#[derive(Drop)]
 pub(crate) struct NotingFolder {
     /// The files.
     pub(crate) folder: MemoryFolder,
@@ -15,7 +15,25 @@ pub(crate) struct NotingFolder {
     pub(crate) notes: String,
 }
 
+impl Drop for NotingFolder {
+    // for the prover: so it is dropped by a call, and its fields are not dropped anew wherever one is.
+    fn drop(self) {
+        let NotingFolder {
+            folder: _,
+            notes: _,
+        } = self;
+    }
+}
+
 impl NotingFolder {
+    /// A folder without files, of which nothing was asked.
+    pub(crate) fn new(alloc: Global) -> NotingFolder {
+        NotingFolder {
+            folder: MemoryFolder::new(alloc),
+            notes: String::new(alloc),
+        }
+    }
+
     /// Notes a call. Where there is no memory for that, a scenario that looks at the notes fails.
     fn note(&mut self, kind: &str, name: &str, at: u64, count: usize)
         ensures { self.new.folder ≡ self.old.folder }

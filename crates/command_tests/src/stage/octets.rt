@@ -1,6 +1,5 @@
 // Octets as lines of a scenario write them.
 use super::{Ran, Stage};
-use std::test::Fail;
 
 /// The number that a hexadecimal digit is.
 fn digit(octet: u8) -> Option<u8> {
@@ -23,15 +22,19 @@ fn named(text: &[u8]) -> Option<(u8, &[u8])> {
 }
 
 /// The part of octets from one place to another, both of which may be left out.
-fn part_of<'a>(octets: &'a [u8], range: &str) -> Result<&'a [u8], Fail> {
-    let (from, to) = range.split_once("..").ok_or("no range")?;
-    let from = if from.is_empty() { 0 } else { from.parse()? };
+fn part_of<'a>(octets: &'a [u8], range: &str) -> Option<&'a [u8]> {
+    let (from, to) = range.split_once("..")?;
+    let from = if from.is_empty() {
+        0
+    } else {
+        from.parse().ok()?
+    };
     let to = if to.is_empty() {
         octets.len()
     } else {
-        to.parse()?
+        to.parse().ok()?
     };
-    Ok(octets.get(from..to).ok_or("no such part")?)
+    octets.get(from..to)
 }
 
 impl Ran {
@@ -45,88 +48,96 @@ impl Ran {
     }
 
     /// What was left under a name, or the part of it that stands in brackets behind the name.
-    pub(super) fn octets(&self, word: &str) -> Result<&[u8], Fail> {
+    pub(super) fn octets(&self, word: &str) -> Option<&[u8]> {
         let word = word.strip_suffix(']').unwrap_or(word);
         match word.split_once('[') {
-            None => Ok(self.left(word).ok_or("no such file")?),
-            Some((name, range)) => part_of(self.left(name).ok_or("no such file")?, range),
+            None => self.left(word),
+            Some((name, range)) => part_of(self.left(name)?, range),
         }
     }
 }
 
 /// Puts the octets of all pieces behind others.
-pub(super) fn add_all(octets: &mut Vec<u8>, pieces: &[Vec<u8>]) -> Result<(), Fail> {
+pub(super) fn add_all(octets: &mut Vec<u8>, pieces: &[Vec<u8>]) -> Option<()> {
     for piece in pieces {
-        octets.extend_from_slice(piece)?;
+        octets.extend_from_slice(piece).ok()?;
     }
-    Ok(())
+    Some(())
 }
 
 /// Puts the octet behind others that a part of a text names behind a backslash, and what stands behind its name.
-fn add_named(octets: &mut Vec<u8>, part: &str) -> Result<(), Fail> {
-    let (octet, rest) = named(part.as_bytes()).ok_or("no such octet")?;
-    octets.push(octet)?;
-    octets.extend_from_slice(rest)?;
-    Ok(())
+fn add_named(octets: &mut Vec<u8>, part: &str) -> Option<()> {
+    let (octet, rest) = named(part.as_bytes())?;
+    octets.push(octet).ok()?;
+    octets.extend_from_slice(rest).ok()
+}
+
+/// Puts the octets behind others that stand in a text between quotes.
+fn add_quoted(octets: &mut Vec<u8>, text: &str) -> Option<()> {
+    for (place, part) in text.split('\\').enumerate() {
+        if place == 0 {
+            octets.extend_from_slice(part.as_bytes()).ok()?;
+        } else {
+            add_named(octets, part)?;
+        }
+    }
+    Some(())
 }
 
 impl Stage {
-    /// The octets of a text between quotes.
-    fn quoted(&self, text: &str) -> Result<Vec<u8>, Fail> {
+    /// Puts the piece behind others that a text between quotes is.
+    fn add_piece(&self, pieces: &mut Vec<Vec<u8>>, text: &str) -> Option<()> {
         let mut octets = Vec::new(self.alloc);
-        for (place, part) in text.split('\\').enumerate() {
-            if place == 0 {
-                octets.extend_from_slice(part.as_bytes())?;
-            } else {
-                add_named(&mut octets, part)?;
-            }
-        }
-        Ok(octets)
+        add_quoted(&mut octets, text)?;
+        pieces.push(octets).ok()
     }
 
-    /// A piece so many times.
-    fn repeated(&self, piece: &[u8], times: &str) -> Result<Vec<u8>, Fail> {
-        Ok(piece.repeat(self.alloc, times.parse()?)?)
-    }
-
-    /// The piece that a word is: what was left under this name, or the last piece so many times.
-    fn piece_of(&self, word: &str, last: Option<Vec<u8>>) -> Result<Vec<u8>, Fail> {
+    /// The piece that a word is, where these stand before it: what was left under this name, or the last piece so many times.
+    fn piece_of(&self, word: &str, pieces: &mut Vec<Vec<u8>>) -> Option<Vec<u8>> {
         match word.strip_prefix('*') {
-            Some(times) => self.repeated(&last.ok_or("nothing to repeat")?, times),
-            None => Ok(Vec::from_slice(self.alloc, self.ran.octets(word)?)?),
+            Some(times) => pieces.pop()?.repeat(self.alloc, times.parse().ok()?).ok(),
+            None => Vec::from_slice(self.alloc, self.ran.octets(word)?).ok(),
         }
     }
 
     /// Puts the pieces behind others that words are.
-    fn add_words(&self, pieces: &mut Vec<Vec<u8>>, text: &str) -> Result<(), Fail> {
+    fn add_words(&self, pieces: &mut Vec<Vec<u8>>, text: &str) -> Option<()> {
         for word in text.split_whitespace() {
-            let last = if word.starts_with('*') {
-                pieces.pop()
-            } else {
-                None
-            };
-            pieces.push(self.piece_of(word, last)?)?;
+            let piece = self.piece_of(word, pieces)?;
+            pieces.push(piece).ok()?;
         }
-        Ok(())
+        Some(())
+    }
+
+    /// Puts the pieces behind others that a text has: every second part of it stands between quotes.
+    fn add_pieces(&self, pieces: &mut Vec<Vec<u8>>, text: &str) -> Option<()> {
+        for (place, part) in text.split('"').enumerate() {
+            let added = if place % 2 == 1 {
+                self.add_piece(pieces, part)
+            } else {
+                self.add_words(pieces, part)
+            };
+            added?;
+        }
+        Some(())
     }
 
     /// Pieces of octets: texts between quotes, which may be repeated, and names of what was left.
-    pub(super) fn pieces(&self, text: &str) -> Result<Vec<Vec<u8>>, Fail> {
+    pub(super) fn pieces(&self, text: &str) -> Option<Vec<Vec<u8>>> {
         let mut pieces = Vec::new(self.alloc);
-        for (place, part) in text.split('"').enumerate() {
-            if place % 2 == 1 {
-                pieces.push(self.quoted(part)?)?;
-            } else {
-                self.add_words(&mut pieces, part)?;
-            }
-        }
-        Ok(pieces)
+        self.add_pieces(&mut pieces, text)?;
+        Some(pieces)
+    }
+
+    /// Puts the octets of all pieces behind others.
+    pub(super) fn add(&self, octets: &mut Vec<u8>, text: &str) -> Option<()> {
+        add_all(octets, &self.pieces(text)?)
     }
 
     /// The octets of all pieces.
-    pub(super) fn joined(&self, text: &str) -> Result<Vec<u8>, Fail> {
+    pub(super) fn joined(&self, text: &str) -> Option<Vec<u8>> {
         let mut octets = Vec::new(self.alloc);
-        add_all(&mut octets, &self.pieces(text)?)?;
-        Ok(octets)
+        self.add(&mut octets, text)?;
+        Some(octets)
     }
 }

@@ -10,6 +10,8 @@ use Rattle.outside_calls.proofs.Steps.{GoesOn-trans, KeepsName-trans, octets-kep
 use Rattle.outside_calls.specs.declared.folder.FolderFault.{FolderFault}
 use Rattle.outside_calls.specs.declared.folder.FolderFault.TheVariants as folder
 use Rattle.shared_terms.specs.declared.role.Role.{Role}
+use Rattle.shared_terms.specs.declared.fault.LinkFault.{LinkFault}
+use Rattle.shared_terms.specs.declared.fault.LinkFault.TheVariants as links
 use Rattle.link_run.specs.End.{deliveries}
 use Rattle.link_run.specs.Alone.{LoneTurn, LoneHearingsDeliver, LoneSpeakingTakesNothing}
 use Rattle.line_world.specs.declared.one_end.single.Single.{Single}
@@ -20,16 +22,16 @@ use Rattle.line_world.specs.OneEnd.Peer.{Past, PeerRun, PeerTurn, Outcome, Going
 use Rattle.line_world.specs.OneEnd.Single.{KnowsFile, SingleAfter, file_limit}
 use Rattle.line_world.specs.OneEnd.Turn.{Makes, Stops, added, StopsInReading as TurnStopsInReading, EndsBy as TurnEndsBy, FaultCounts}
 use Rattle.command_base.specs.declared.limits.TheConstants.{FILE_LIMIT}
-use Rattle.command_base.specs.declared.stop.Stop.TheVariants.{Read}
+use Rattle.command_base.specs.declared.stop.Stop.TheVariants.{Read, Write}
 use Rattle.command_base.specs.Inputs.{IsWithin, ReadTo}
-use Rattle.command_base.specs.Stops.{ReadFails}
+use Rattle.command_base.specs.Stops.{IsOwn, ReadFails, StopCounts}
 use Rattle.command_base.proofs.Jobs.{stop-earlier}
-use Rattle.outside_calls.specs.Outputs.{AreNoneOf, Holds, OnlyPuts, HoldPart}
-use Rattle.outside_calls.proofs.Putting.{KeepsEach-reads, HoldEach-add, HoldEach-kept, HoldPart-add}
+use Rattle.outside_calls.specs.Outputs.{AreApart, AreNoneOf, AreApartFrom, Holds, OnlyPuts, HoldPart}
+use Rattle.outside_calls.proofs.Putting.{KeepsEach-reads, HoldEach-add, HoldEach-kept, HoldPart-add, OnlyPuts-reads, OnlyPuts-trans}
 use Rattle.command_base.proofs.Reading.{ReadTo-begins, ReadTo-kept}
 use Rattle.run_commands.specs.Peering.Words.{Names, inputs_of, outputs_of, turn_names}
 use Rattle.run_commands.specs.Peering.Runs.{Left, PeerEnd, IsDone, GivesUp, MakesTurn, RunsTo, left_of, left_after, slot_at, slots_before}
-use Rattle.run_commands.specs.Peering.Ends.{Takes, HoldLeft, held_of, RanTo, StopsBetween, StopsInTurn, StopsInReading, EndsBy}
+use Rattle.run_commands.specs.Peering.Ends.{Takes, HoldLeft, held_of, RanTo, StopsBetween, StopsInTurn, StopsInReading, EndsBy, status_of}
 use Rattle.run_commands.specs.Peering.Turns.{Reached, fault_stop}
 use Rattle.run_commands.proofs.Peering.Slots.{slots-front, slot-behind, full-slot, short-slot, slots-whole, slots-short, slots-more}
 
@@ -412,3 +414,61 @@ around start old mid next n s r slot apart reads read some few end only stand = 
   only = only;
   stand = CountsStand-trans r.stand stand;
 }
+
+-- likewise where the slot is what a read left at the front of a piece
+pub around-slot : (start old mid next : FolderState) (n : Names) (s : Single) (r : Reached start old n s) (turn count : ℕ) (piece : List ℕ)
+    → turn ≡ length r.past.turns → AreNoneOf (outputs_of n) (inputs_of n) → OnlyReads old mid
+    → (ReadTo start old n.bits FILE_LIMIT (slot_octets * turn) r.octets
+    → ReadTo start mid n.bits FILE_LIMIT (slot_octets * turn + count) (r.octets ++ take count piece))
+    → (ReadTo start old n.bits FILE_LIMIT (slot_octets * turn) r.octets
+    → count < slot_octets → IsTrue (start.tells n.bits) → r.octets ++ take count piece ≡ octets_at start n.bits)
+    → 1 ≤ count → count ≤ slot_octets → length (take count piece) ≡ count → OnlyPuts mid next (outputs_of n) → CountsStand old mid
+    → Around start mid next n r.past r.octets (take count piece)
+around-slot start old mid next n s r turn count piece number apart reads more end some few long only stand =
+    let slot : List ℕ = take count piece in
+    let read : ReadTo start old n.bits FILE_LIMIT (slot_octets * turn) r.octets =
+    subst (λ x. ReadTo start old n.bits FILE_LIMIT (slot_octets * x) r.octets) (sym number) r.read in
+    around start old mid next n s r slot apart reads
+    (subst (λ x. ReadTo start mid n.bits FILE_LIMIT x (r.octets ++ slot)) (omega (arith, number, long)) (more read))
+    (omega (arith, long, some)) (omega (arith, long, few)) (λ less. end read (omega (arith, less, long))) only stand
+
+-- ---- what a turn touches, and what it counts
+
+-- the names that it uses are apart as all are
+pub turn-apart : (n : Names) → AreApart (outputs_of n) → AreNoneOf (outputs_of n) (inputs_of n) → AreApartFrom (n.file ∷ []) (outputs_of n)
+turn-apart n apart none = (apart, ((none.0.0, tt), ((none.1.0.0, tt), tt)))
+
+-- a slot is read, and the outputs are written
+pub touches : (old mid next : FolderState) (n : Names) → OnlyReads old mid → OnlyPuts mid next (outputs_of n)
+    → OnlyPuts old next (outputs_of n)
+touches old mid next n reads puts = OnlyPuts-trans old mid next (outputs_of n) (OnlyPuts-reads old mid (outputs_of n) reads) puts
+
+-- a fault of one input is one of the inputs'
+pub bits-fail : (old new : FolderState) (n : Names) (fault : FolderFault) → ReadFails old new (n.bits ∷ []) fault
+    → ReadFails old new (inputs_of n) fault
+bits-fail old new n folder.Failed rose = inr rose
+bits-fail old new n folder.NoMemory refused = refused
+
+pub file-fails : (old new : FolderState) (n : Names) (fault : FolderFault) → ReadFails old new (n.file ∷ []) fault
+    → ReadFails old new (inputs_of n) fault
+file-fails old new n folder.Failed (inl rose) = inl rose
+file-fails old new n folder.Failed (inr never) = absurd never
+file-fails old new n folder.NoMemory refused = refused
+
+own-fault : (role : Role) (fault : LinkFault) (turn : ℕ) → IsOwn (status_of role fault turn)
+own-fault role links.NotDetected turn = tt
+own-fault role (links.Spent segment since) turn = tt
+own-fault role (links.BadAck nr va high) turn = tt
+own-fault role (links.PeerReset va vr) turn = tt
+own-fault role links.PeerRefused turn = tt
+
+-- a fault of a turn, behind what counted none
+pub fault-counts : (old mid next : FolderState) (n : Names) (turn : ℕ) (fault : SingleFault) → CountsStand old mid
+    → FaultCounts mid next (n.file ∷ []) (outputs_of n) fault → StopCounts old next (inputs_of n) (outputs_of n) (fault_stop n.role turn fault)
+fault-counts old mid next n turn faults.ReadFault stand rose =
+    stop-earlier old mid next (inputs_of n) (outputs_of n) (Read folder.Failed) stand (file-fails mid next n folder.Failed rose)
+fault-counts old mid next n turn faults.WriteFault stand rose =
+    stop-earlier old mid next (inputs_of n) (outputs_of n) (Write folder.Failed) stand rose
+fault-counts old mid next n turn faults.NoMemory stand refused =
+    stop-earlier old mid next (inputs_of n) (outputs_of n) (Write folder.NoMemory) stand refused
+fault-counts old mid next n turn (faults.Link fault) stand counts = (own-fault n.role fault turn, CountsStand-trans stand counts)

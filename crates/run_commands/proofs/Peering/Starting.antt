@@ -3,6 +3,7 @@ use Rattle.std.proofs.Common.{◌≡◌, ◌∙◌, inl, inr, ℕ, ◌<◌, ◌�
 use Rattle.std.proofs.lemmas.List.{length-take}
 use Rattle.outside_calls.specs.Folder.{FolderState, octets_at, GoesOn, KeepsName, OnlyReads, CountsStand}
 use Rattle.outside_calls.proofs.Steps.{GoesOn-trans, KeepsName-trans, CountsStand-trans}
+use Rattle.outside_calls.specs.declared.folder.FolderFault.{FolderFault}
 use Rattle.shared_terms.specs.declared.role.Role.{Role}
 use Rattle.link_account.specs.Account.{fresh}
 use Rattle.link_run.specs.Alone.{LoneHearingsDeliver, LoneSpeakingTakesNothing}
@@ -16,6 +17,7 @@ use Rattle.command_base.specs.declared.limits.TheConstants.{FILE_LIMIT}
 use Rattle.command_base.specs.declared.stop.Stop.{Stop}
 use Rattle.command_base.specs.declared.stop.Stop.TheVariants.{Own, Read, Write, Say, NoMemory}
 use Rattle.command_base.specs.Inputs.{IsWithin, IsNotWithin}
+use Rattle.command_base.specs.Stops.{IsOwn, ReadFails, StopCounts}
 use Rattle.outside_calls.specs.Outputs.{KeepsAll, CreatesPart, Creates, IsNoneOf, AreNoneOf, OnlyOutputs}
 use Rattle.outside_calls.proofs.Putting.{KeepsEach-reads}
 use Rattle.command_base.proofs.Creating.{CreatesPart-earlier}
@@ -113,3 +115,13 @@ file-refused old mid new n (Read fault) first stand reads within why =
 file-refused old mid new n (Write fault) first stand reads within never = absurd never
 file-refused old mid new n (Say fault) first stand reads within never = absurd never
 file-refused old mid new n NoMemory first stand reads within never = absurd never
+
+-- what was counted then: a fault of that input, or nothing
+pub refused-counts : (old new : FolderState) (n : Names) (name : List ℕ) (word : ℕ) (stop : Stop)
+    → ((fault : FolderFault) → ReadFails old new (name ∷ []) fault → ReadFails old new (inputs_of n) fault)
+    → IsNotWithin old new name FILE_LIMIT word stop → StopCounts old new (inputs_of n) (outputs_of n) stop
+refused-counts old new n name word (Own answer) among why = (subst IsOwn (sym why.0) tt, why.2)
+refused-counts old new n name word (Read fault) among why = among fault why
+refused-counts old new n name word (Write fault) among never = absurd never
+refused-counts old new n name word (Say fault) among never = absurd never
+refused-counts old new n name word NoMemory among never = absurd never

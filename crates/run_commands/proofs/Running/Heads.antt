@@ -1,12 +1,18 @@
 -- Outputs that are created, and recordings that get their headers.
-use Rattle.std.proofs.Common.{◌≡◌, ℕ, List, [], ◌∷◌, ◌++◌, sym, subst}
+use Rattle.std.proofs.Common.{◌≡◌, inl, inr, ℕ, List, [], ◌∷◌, ◌++◌, sym, subst}
 use Rattle.std.proofs.lemmas.List.{append-nil}
-use Rattle.outside_calls.specs.Folder.{FolderState, Appended, GoesOn}
-use Rattle.outside_calls.specs.Outputs.{Holds, Creates, KeepsEach}
+use Rattle.outside_calls.specs.Folder.{FolderState, Appended, GoesOn, OnlyWrites, CountsStand}
+use Rattle.outside_calls.specs.declared.folder.FolderFault.{FolderFault}
+use Rattle.outside_calls.specs.declared.folder.FolderFault.TheVariants as folder
+use Rattle.outside_calls.specs.Outputs.{Holds, Creates, KeepsEach, AreApart, OnlyOutputs}
 use Rattle.outside_calls.proofs.Holding.{Holds-kept, Holds-more}
+use Rattle.outside_calls.proofs.OnlyOutputs.{OnlyOutputs-trans}
+use Rattle.command_base.specs.Stops.{WriteFails}
+use Rattle.command_base.proofs.Jobs.{write-earlier}
 use Rattle.shared_terms.specs.declared.role.Role.{Role}
 use Rattle.shared_terms.specs.Role.{mode_of}
 use Rattle.recordings.specs.Recording.{header_of}
+use Rattle.line_run.specs.Recorded.{tapes_of}
 use Rattle.line_run.specs.Sampled.{Wire}
 use Rattle.run_inputs.specs.Words.{RunNames, texts_of, outputs_of}
 use Rattle.line_world.specs.Taping.{TapeStands, KeepsTape}
@@ -34,3 +40,42 @@ creates-kept a b (name ∷ names) on kept c = (Holds-kept a b name [] on c.0 kep
 -- those that every run has, among all that were created
 pub creates-front : (f : FolderState) (n : RunNames) → Creates f (outputs_of n) → Creates f (texts_of n)
 creates-front f n c = (c.0, (c.1.0, (c.1.1.0, tt)))
+
+-- ---- the recordings among all outputs
+
+pub tapes-apart : (n : RunNames) → AreApart (outputs_of n) → AreApart (tapes_of n.tapes)
+tapes-apart n apart = apart.1.1.1
+
+pub creates-tapes : (f : FolderState) (n : RunNames) → Creates f (outputs_of n) → Creates f (tapes_of n.tapes)
+creates-tapes f n c = c.1.1.1
+
+-- they are touched behind all
+pub touches-tapes : (old mid new : FolderState) (n : RunNames) → OnlyOutputs old mid (outputs_of n) → OnlyOutputs mid new (tapes_of n.tapes)
+    → OnlyOutputs old new (outputs_of n)
+touches-tapes old mid new n first next =
+    OnlyOutputs-trans (outputs_of n) first
+    (record { goes_on = next.goes_on; names = λ other none. next.names other none.1.1.1 })
+
+-- a fault of one of them is one of the outputs'
+pub tapes-fail : (old mid new : FolderState) (n : RunNames) (fault : FolderFault) → CountsStand old mid
+    → WriteFails mid new (tapes_of n.tapes) fault → WriteFails old new (outputs_of n) fault
+tapes-fail old mid new n folder.Failed stand rose =
+    write-earlier old mid new (outputs_of n) folder.Failed stand (inr (inr (inr rose)))
+tapes-fail old mid new n folder.NoMemory stand refused = write-earlier old mid new (outputs_of n) folder.NoMemory stand refused
+
+-- ---- two outputs, one behind the other
+
+pub touches-first : (a b : FolderState) (name : List ℕ) (names : List (List ℕ)) → OnlyWrites a b name → OnlyOutputs a b (name ∷ names)
+touches-first a b name names w = record { goes_on = w.goes_on; names = λ other none. w.names other none.0 }
+
+pub touches-both : (a b c : FolderState) (name other : List ℕ) → OnlyWrites a b name → OnlyWrites b c other
+    → OnlyOutputs a c (name ∷ other ∷ [])
+touches-both a b c name other first next =
+    OnlyOutputs-trans (name ∷ other ∷ []) (touches-first a b name (other ∷ []) first)
+    (record { goes_on = next.goes_on; names = λ any none. next.names any none.1.0 })
+
+pub first-fails : (old new : FolderState) (name : List ℕ) (names : List (List ℕ)) (fault : FolderFault) → WriteFails old new (name ∷ []) fault
+    → WriteFails old new (name ∷ names) fault
+first-fails old new name names folder.Failed (inl rose) = inl rose
+first-fails old new name names folder.Failed (inr never) = absurd never
+first-fails old new name names folder.NoMemory refused = refused

@@ -83,3 +83,24 @@ text-is seed = refl
 
 pub whole-short : (seed : ℕ) → seed < 2 ^ 64 → length (soak_text seed) ≤ 504
 whole-short seed h = rw (text-is seed) (text-short seed 12 h)
+
+-- what is put behind a text piece by piece
+pub three-pieces : (old first next new head number rest : List ℕ) → first ≡ old ++ head → next ≡ first ++ number → new ≡ next ++ rest
+    → new ≡ old ++ (head ++ (number ++ rest))
+three-pieces old first next new head number rest x y z =
+    z ∙ ap (λ l. l ++ rest) (y ∙ ap (λ l. l ++ number) x) ∙ append_assoc (old ++ head) number rest ∙ append_assoc old head (number ++ rest)
+
+-- the line of noise, and that of a loss
+pub noise-put : (old new head : List ℕ) (role : Role) (seed : ℕ) → head ≡ noise_head role → new ≡ old ++ (head ++ (decimal seed ++ 10 ∷ []))
+    → new ≡ old ++ (noise_line role seed ++ 10 ∷ [])
+noise-put old new head role seed is e =
+    e ∙ ap (λ h. old ++ (h ++ (decimal seed ++ 10 ∷ []))) is
+    ∙ ap (λ l. old ++ l) (sym (append_assoc (noise_head role) (decimal seed) (10 ∷ [])))
+
+pub loss-put : (old new head : List ℕ) (role : Role) (turn : ℕ) → head ≡ lose_head role
+    → new ≡ old ++ (head ++ (decimal turn ++ codes " 1\n")) → new ≡ old ++ (lose_line role turn ++ 10 ∷ [])
+loss-put old new head role turn is e =
+    e ∙ ap (λ h. old ++ (h ++ (decimal turn ++ codes " 1\n"))) is
+    ∙ ap (λ l. old ++ l)
+    (sym (append_assoc (lose_head role) (decimal turn ++ codes " 1") (10 ∷ [])
+    ∙ ap (λ l. lose_head role ++ l) (append_assoc (decimal turn) (codes " 1") (10 ∷ []))))

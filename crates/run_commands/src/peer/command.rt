@@ -3,7 +3,7 @@
 ghost use Rattle.std.specs.Prelude.{◌≡◌, ℕ, [], List, true, map, string_bytes};
 ghost use Rattle.outside_calls.specs.Folder.{FolderState};
 ghost use Rattle.command_base.specs.Job.{Answers};
-ghost use Rattle.outside_calls.specs.Outputs.{OnlyOutputs, SaysNothing};
+ghost use Rattle.outside_calls.specs.Outputs.{OnlyPuts};
 ghost use Rattle.command_base.specs.Stops.{EndCounts};
 ghost use Rattle.command_base.specs.Apart.{are_apart};
 ghost use Rattle.link_account.specs.Account.{fresh};
@@ -45,8 +45,7 @@ fn run_single<F: Folder>(
         → SingleAfter single.old (record { file = file; slots = []; turns = []; account = fresh (setup_of words.now.role) }) }
     ensures ends { (begin : FolderState) → IsBegun begin (F.state folder.old) (named words.now)
         → Ends begin (F.state folder.new) (named words.now) result }
-    ensures only { OnlyOutputs (F.state folder.old) (F.state folder.new) (outputs_of (named words.now)) }
-    ensures said { SaysNothing (F.state folder.old) (F.state folder.new) }
+    ensures only { OnlyPuts (F.state folder.old) (F.state folder.new) (outputs_of (named words.now)) }
     ensures counts { EndCounts (F.state folder.old) (F.state folder.new) (inputs_of (named words.now))
         (outputs_of (named words.now)) result }
 {
@@ -62,8 +61,7 @@ fn run_single<F: Folder>(
 fn meet_peer<F: Folder>(alloc: Global, folder: &mut F, words: &PeerWords<'_>) -> Result<u64, Stop>
     requires { are_apart (inputs_of (named words.now)) (outputs_of (named words.now)) ≡ true }
     ensures ends { Ends (F.state folder.old) (F.state folder.new) (named words.now) result }
-    ensures only { OnlyOutputs (F.state folder.old) (F.state folder.new) (outputs_of (named words.now)) }
-    ensures said { SaysNothing (F.state folder.old) (F.state folder.new) }
+    ensures only { OnlyPuts (F.state folder.old) (F.state folder.new) (outputs_of (named words.now)) }
     ensures counts { EndCounts (F.state folder.old) (F.state folder.new) (inputs_of (named words.now))
         (outputs_of (named words.now)) result }
 {

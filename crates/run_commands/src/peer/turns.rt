@@ -2,7 +2,7 @@
 ghost use Rattle.std.specs.Prelude.{◌≡◌, ℕ, ◌*◌, ◌+◌, ◌≤◌, Ok, None, true, length, IfOk, IfErr, IfSome};
 ghost use Rattle.outside_calls.specs.Folder.{FolderState};
 ghost use Rattle.command_base.specs.declared.limits.TheConstants.{FILE_LIMIT};
-ghost use Rattle.outside_calls.specs.Outputs.{OnlyOutputs, SaysNothing};
+ghost use Rattle.outside_calls.specs.Outputs.{OnlyPuts};
 ghost use Rattle.command_base.specs.Stops.{EndCounts};
 ghost use Rattle.command_base.specs.Apart.{are_apart};
 ghost use Rattle.line_world.specs.OneEnd.Heard.{slot_octets};
@@ -63,11 +63,9 @@ fn next_turn<F: Folder>(
         → IfOk result (λ turns. IfSome turns (λ turns. RanTo start (F.state folder.new) (named words.now) (IsDone turns))) }
     ensures err { (start : FolderState) → Reached start (F.state folder.old) (named words.now) single.old
         → IfErr result (EndsBy start (F.state folder.new) (named words.now)) }
-    ensures ready { result ≡ Ok None → IsReady single.new }
-    ensures within { result ≡ Ok None → slot_octets * turn_of single.new ≤ FILE_LIMIT }
-    ensures number { result ≡ Ok None → turn_of single.new ≡ turn_of single.old + 1 }
-    ensures only { OnlyOutputs (F.state folder.old) (F.state folder.new) (outputs_of (named words.now)) }
-    ensures said { SaysNothing (F.state folder.old) (F.state folder.new) }
+    ensures next { result ≡ Ok None → IsReady single.new × (slot_octets * turn_of single.new ≤ FILE_LIMIT)
+        × (turn_of single.new ≡ turn_of single.old + 1) }
+    ensures only { OnlyPuts (F.state folder.old) (F.state folder.new) (outputs_of (named words.now)) }
     ensures counts { EndCounts (F.state folder.old) (F.state folder.new) (inputs_of (named words.now))
         (outputs_of (named words.now)) result }
 {
@@ -105,8 +103,7 @@ pub(crate) fn run_turns<F: Folder>(
     requires first { turn_of single.old ≡ 0 }
     ensures ends { (start : FolderState) → Reached start (F.state folder.old) (named words.now) single.old
         → Ends start (F.state folder.new) (named words.now) result }
-    ensures only { OnlyOutputs (F.state folder.old) (F.state folder.new) (outputs_of (named words.now)) }
-    ensures said { SaysNothing (F.state folder.old) (F.state folder.new) }
+    ensures only { OnlyPuts (F.state folder.old) (F.state folder.new) (outputs_of (named words.now)) }
     ensures counts { EndCounts (F.state folder.old) (F.state folder.new) (inputs_of (named words.now))
         (outputs_of (named words.now)) result }
 {

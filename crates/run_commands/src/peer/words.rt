@@ -30,18 +30,21 @@ pub fn peer_words(words: &[String]) -> Option<PeerWords<'_>>
     let [command, role, file, bits, got, trace] = words else {
         return None;
     };
-    let inputs = [file.as_str(), bits.as_str()];
-    let outputs = [got.as_str(), trace.as_str()];
-    if command.as_str() != "peer" || !are_apart(&inputs, &outputs) {
+    if command.as_str() != "peer" {
+        return None;
+    }
+    let (file, bits) = (file.as_str(), bits.as_str());
+    let (got, trace) = (got.as_str(), trace.as_str());
+    if !are_apart(&[file, bits], &[got, trace]) {
         return None;
     }
     match Role::of_word(role.as_bytes()) {
         Some(role) => Some(PeerWords {
             role,
-            file: file.as_str(),
-            bits: bits.as_str(),
-            got: got.as_str(),
-            trace: trace.as_str(),
+            file,
+            bits,
+            got,
+            trace,
         }),
         None => None,
     }

@@ -11,17 +11,27 @@ use std::alloc::Global;
 /// The words of a file.
 pub(crate) const FILE_WORDS: u64 = 16384;
 
+/// Puts octets behind the others.
+pub(crate) fn put_octets(octets: &mut Vec<u8>, more: &[u8]) -> Result<(), NoMemory>
+    ensures { OnOk result (octets.new.items ≡ octets.old.items ++ more.now) }
+{
+    octets.extend_from_slice(more)?;
+    Ok(())
+}
+
 /// Puts a word's four octets behind the others, the low one first.
 fn put_word(octets: &mut Vec<u8>, word: u32) -> Result<(), NoMemory>
     ensures { OnOk result (octets.new.items ≡ octets.old.items ++ word_octets word) }
 {
-    octets.extend_from_slice(&[
-        (word % 256) as u8,
-        (word / 256 % 256) as u8,
-        (word / 65536 % 256) as u8,
-        (word / 16777216) as u8,
-    ])?;
-    Ok(())
+    put_octets(
+        octets,
+        &[
+            (word % 256) as u8,
+            (word / 256 % 256) as u8,
+            (word / 65536 % 256) as u8,
+            (word / 16777216) as u8,
+        ],
+    )
 }
 
 /// So many words of a seed from a place on, as octets.

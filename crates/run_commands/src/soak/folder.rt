@@ -1,8 +1,10 @@
 // The folder of a soak.
-ghost use Rattle.std.specs.Prelude.{◌≡◌, IfOk, OnOk, true};
+ghost use Rattle.std.specs.Prelude.{◌≡◌, IfOk, OnOk, length, true};
+ghost use Rattle.std.specs.FinMap as finite;
 ghost use Rattle.line_run.specs.Names.{written};
 ghost use Rattle.outside_calls.specs.Outputs.{OnlyOutputs, Creates};
 ghost use Rattle.program_folders.specs.Sure.{sure_folder};
+ghost use Rattle.run_commands.specs.Soaking.Soak.{soak_file};
 ghost use Rattle.run_commands.specs.Soaking.Folder.{HoldsFiles, soak_names, soak_outputs};
 
 use crate::soak::files::soak_file;
@@ -26,15 +28,28 @@ pub(crate) fn soak_names() -> Names<'static>
     }
 }
 
+/// Puts a role's file into the folder.
+fn put_file(
+    alloc: Global,
+    folder: &mut SureFolder,
+    name: &str,
+    seed: u64,
+    role: Role,
+) -> Result<(), NoMemory>
+    ensures file { OnOk result (folder.new.held ≡ finite.insert folder.old.held name.now (soak_file seed role)) }
+    ensures size { OnOk result (length (soak_file seed role) ≡ 65536) }
+{
+    let file = soak_file(alloc, seed, role)?;
+    folder.put(name, &file)
+}
+
 /// A folder that holds both files of a seed.
 pub(crate) fn soak_folder(alloc: Global, seed: u64) -> Result<SureFolder, NoMemory>
     ensures { IfOk result (λ folder. HoldsFiles (sure_folder folder) seed) }
 {
     let mut folder = SureFolder::new(alloc);
-    let orig = soak_file(alloc, seed, Role::Originator)?;
-    folder.put("orig", &orig)?;
-    let answ = soak_file(alloc, seed, Role::Answerer)?;
-    folder.put("answ", &answ)?;
+    put_file(alloc, &mut folder, "orig", seed, Role::Originator)?;
+    put_file(alloc, &mut folder, "answ", seed, Role::Answerer)?;
     Ok(folder)
 }
 

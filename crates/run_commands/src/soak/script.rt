@@ -4,7 +4,7 @@ ghost use Rattle.run_commands.specs.Soaking.Soak.{role_in_turn, turn_lost, soak_
 ghost use Rattle.run_commands.specs.Soaking.Text.{noise_head, noise_line, lose_head, lose_line, soak_text};
 
 use crate::soak::drawing::drawn_word;
-use crate::soak::files::FILE_WORDS;
+use crate::soak::files::{FILE_WORDS, put_octets};
 use itoa::Buffer;
 use noise_script::laws::noisy_lines_spell;
 use noise_script::{Script, ScriptFault, read_script};
@@ -20,8 +20,16 @@ fn put_number(text: &mut Vec<u8>, number: u64) -> Result<(), NoMemory>
     ensures { OnOk result (text.new.items ≡ text.old.items ++ decimal number) }
 {
     let mut buffer = Buffer::new();
-    text.extend_from_slice(buffer.format(number).as_bytes())?;
-    Ok(())
+    put_octets(text, buffer.format(number).as_bytes())
+}
+
+/// Puts a line: its words up to a number, the number, and the rest.
+fn put_line(text: &mut Vec<u8>, head: &[u8], number: u64, rest: &[u8]) -> Result<(), NoMemory>
+    ensures { OnOk result (text.new.items ≡ text.old.items ++ (head.now ++ (decimal number ++ rest.now))) }
+{
+    put_octets(text, head)?;
+    put_number(text, number)?;
+    put_octets(text, rest)
 }
 
 /// The words of the line of noise on what a role sends, up to its seed.
@@ -38,10 +46,7 @@ fn noise_head(role: Role) -> &'static [u8]
 fn put_noise(text: &mut Vec<u8>, role: Role, seed: u64) -> Result<(), NoMemory>
     ensures { OnOk result (text.new.items ≡ text.old.items ++ (noise_line role seed ++ 10 ∷ [])) }
 {
-    text.extend_from_slice(noise_head(role))?;
-    put_number(text, seed)?;
-    text.extend_from_slice(b"\n")?;
-    Ok(())
+    put_line(text, noise_head(role), seed, b"\n")
 }
 
 /// The words of a line that loses a slot of a role, up to its turn.
@@ -58,10 +63,7 @@ fn lose_head(role: Role) -> &'static [u8]
 fn put_loss(text: &mut Vec<u8>, role: Role, turn: u64) -> Result<(), NoMemory>
     ensures { OnOk result (text.new.items ≡ text.old.items ++ (lose_line role turn ++ 10 ∷ [])) }
 {
-    text.extend_from_slice(lose_head(role))?;
-    put_number(text, turn)?;
-    text.extend_from_slice(b" 1\n")?;
-    Ok(())
+    put_line(text, lose_head(role), turn, b" 1\n")
 }
 
 /// The role of that number, the originator first.
@@ -88,7 +90,7 @@ fn soak_text(alloc: Global, seed: u64) -> Result<Vec<u8>, NoMemory>
     ensures { IfOk result (λ text. text.items ≡ soak_text seed) }
 {
     let mut text = Vec::new(alloc);
-    text.extend_from_slice(b"delay 3 5\n")?;
+    put_octets(&mut text, b"delay 3 5\n")?;
     put_noise(&mut text, Role::Originator, seed)?;
     put_noise(&mut text, Role::Answerer, seed)?;
     for n in 0..LOSSES {

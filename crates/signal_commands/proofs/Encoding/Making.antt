@@ -1,5 +1,5 @@
 -- From single steps to how the making of a recording ends.
-use Rattle.std.proofs.Common.{◌≡◌, ◌≢◌, ◌∙◌, inl, inr, ℕ, ◌+◌, ◌*◌, Bool, true, false, IsTrue, List, [], ◌++◌, length, refl, sym, ap, subst}
+use Rattle.std.proofs.Common.{◌≡◌, ◌≢◌, ◌∙◌, inl, inr, ℕ, ◌+◌, ◌*◌, Bool, true, false, IsTrue, List, [], ◌∷◌, ◌++◌, length, refl, sym, ap, subst}
 use Rattle.std.proofs.Common.{arith, rules, append-nil, append_assoc}
 use Rattle.plain_lists.specs.Prefix.{IsPrefixOf}
 use Rattle.outside_calls.specs.Folder.{FolderState, octets_at, OnlyReads, OnlyWrites, Appended, PartlyAppended}
@@ -17,10 +17,11 @@ use Rattle.command_base.specs.declared.limits.TheConstants.{FILE_LIMIT}
 use Rattle.command_base.specs.declared.stop.Stop.{Stop}
 use Rattle.command_base.specs.declared.stop.Stop.TheVariants.{Own, Read, Write, Say, NoMemory}
 use Rattle.command_base.specs.Inputs.{IsWithin, IsNotWithin, ReadTo}
-use Rattle.outside_calls.specs.Outputs.{Holds, HoldsFront, KeptOrEmpty}
+use Rattle.outside_calls.specs.Outputs.{Holds, HoldsFront, KeptOrEmpty, OnlyOutput}
 use Rattle.outside_calls.proofs.Holding.{Holds-kept, Holds-more, HoldsFront-all, HoldsFront-more, HoldsFront-longer}
 use Rattle.outside_calls.proofs.OnlyOutputs.{OnlyOutput-reads, OnlyOutput-writes, OnlyOutput-trans}
-use Rattle.command_base.proofs.Reading.{ReadTo-kept, ReadTo-begins}
+use Rattle.command_base.proofs.Reading.{ReadTo-none, ReadTo-kept, ReadTo-begins}
+use Rattle.command_base.specs.Stops.{IsOwn, StopCounts}
 use Rattle.command_base.specs.Apart.{are_apart}
 use Rattle.command_base.proofs.Differing.{none-of-inputs}
 use Rattle.signal_commands.specs.Encoding.Words.{EncodeNames, inputs_of, outputs_of}
@@ -209,3 +210,48 @@ not-begun old new n (Read fault) reads fails = inl (reads.names n.rec)
 not-begun old new n (Write fault) reads never = absurd never
 not-begun old new n (Say fault) reads never = never
 not-begun old new n NoMemory reads never = never
+
+-- what was counted then: a fault of the file, or nothing
+pub refused-counts : (old new : FolderState) (n : EncodeNames) (stop : Stop) → IsNotWithin old new n.file FILE_LIMIT 2 stop
+    → StopCounts old new (n.file ∷ []) (n.rec ∷ []) stop
+refused-counts old new n (Own answer) why = (subst IsOwn (sym why.0) tt, why.2)
+refused-counts old new n (Read fault) why = why
+refused-counts old new n (Write fault) never = absurd never
+refused-counts old new n (Say fault) never = absurd never
+refused-counts old new n NoMemory never = absurd never
+
+-- ---- the output alone is touched
+
+pub writes-only : (old mid new : FolderState) (n : EncodeNames) → OnlyReads old mid → OnlyWrites mid new n.rec → OnlyOutput old new n.rec
+writes-only old mid new n reads writes =
+    OnlyOutput-trans n.rec (OnlyOutput-reads n.rec reads) (OnlyOutput-writes n.rec writes)
+
+-- the header stands in the output, and nothing is recorded yet
+pub recorded-none : (start old now : FolderState) (n : EncodeNames) (kept : Recorder) → Begun start old n
+    → are_apart (inputs_of n) (outputs_of n) ≡ true → RecorderStands n.rate n.mode kept [] [] → OnlyWrites old now n.rec
+    → Appended old now n.rec (header_at n.rate n.mode) → RecordedTo start now n kept 0
+recorded-none start old now n kept b apart stands writes puts = record {
+  octets = [];
+  recorded = [];
+  stands = stands;
+  read = ReadTo-none start now n.file FILE_LIMIT b.within only.goes_on (only.names n.file (file-apart n apart));
+  only = only;
+  rec = subst (Holds now n.rec) (sym (append-nil (header_at n.rate n.mode)))
+      (Holds-more old now n.rec [] (header_at n.rate n.mode) writes.goes_on b.empty puts);
+}
+  where
+    only : OnlyOutput start now n.rec
+    only = OnlyOutput-trans n.rec b.only (OnlyOutput-writes n.rec writes)
+
+-- reading alone leaves it as it is
+pub recorded-read : (start old mid : FolderState) (n : EncodeNames) (kept : Recorder) (at place : ℕ) → place ≡ at
+    → RecordedTo start old n kept at → OnlyReads old mid → RecordedTo start mid n kept place
+recorded-read start old mid n kept at place same r reads =
+    subst (RecordedTo start mid n kept) (sym same) (record {
+      octets = r.octets;
+      recorded = r.recorded;
+      stands = r.stands;
+      read = ReadTo-kept start old mid n.file FILE_LIMIT at r.octets r.read reads.goes_on (reads.names n.file);
+      only = OnlyOutput-trans n.rec r.only (OnlyOutput-reads n.rec reads);
+      rec = held-after old mid n.rec (header_at n.rate n.mode ++ r.recorded) reads r.rec;
+    })

@@ -1,13 +1,16 @@
 -- Why an input is not taken for its length.
-use Rattle.std.proofs.Common.{◌≡◌, ℕ, List, [], ◌∷◌}
+use Rattle.std.proofs.Common.{inl, inr, ℕ, List, [], ◌∷◌, sym, subst}
 use Rattle.outside_calls.specs.Folder.{FolderState, OnlyReads, CountsStand}
+use Rattle.outside_calls.specs.declared.folder.FolderFault.{FolderFault}
+use Rattle.outside_calls.specs.declared.folder.FolderFault.TheVariants as folder
 use Rattle.command_base.specs.declared.limits.TheConstants.{FILE_LIMIT, RECORDING_LIMIT}
 use Rattle.command_base.specs.declared.stop.Stop.{Stop}
 use Rattle.command_base.specs.declared.stop.Stop.TheVariants.{Own, Read, Write, Say, NoMemory}
 use Rattle.command_base.specs.Inputs.{IsWithin, IsNotWithin}
+use Rattle.command_base.specs.Stops.{IsOwn, ReadFails, StopCounts}
 use Rattle.command_base.proofs.Jobs.{stop-earlier}
 use Rattle.command_base.proofs.Reading.{longer-earlier}
-use Rattle.signal_commands.specs.Margins.Words.{MarginNames}
+use Rattle.signal_commands.specs.Margins.Words.{MarginNames, inputs_of}
 use Rattle.signal_commands.specs.Margins.Ends.{EndsBy}
 use Rattle.signal_commands.specs.Margins.Ends.EndsOwn.{rec_is_long, file_is_long}
 use Rattle.signal_commands.specs.Margins.Ends.FailsToRead.{rec_unread, file_unread}
@@ -29,3 +32,25 @@ file-refused old mid new n (Read fault) reads stand within why =
 file-refused old mid new n (Write fault) reads stand within why = why
 file-refused old mid new n (Say fault) reads stand within why = why
 file-refused old mid new n NoMemory reads stand within why = why
+
+-- a fault of one input is one of the inputs'
+pub rec-fails : (old new : FolderState) (n : MarginNames) (fault : FolderFault) → ReadFails old new (n.rec ∷ []) fault
+    → ReadFails old new (inputs_of n) fault
+rec-fails old new n folder.Failed (inl rose) = inl rose
+rec-fails old new n folder.Failed (inr never) = absurd never
+rec-fails old new n folder.NoMemory refused = refused
+
+pub file-fails : (old new : FolderState) (n : MarginNames) (fault : FolderFault) → ReadFails old new (n.file ∷ []) fault
+    → ReadFails old new (inputs_of n) fault
+file-fails old new n folder.Failed rose = inr rose
+file-fails old new n folder.NoMemory refused = refused
+
+-- what was counted where an input is not taken: a fault of it, or nothing
+pub refused-counts : (old new : FolderState) (n : MarginNames) (name : List ℕ) (limit word : ℕ) (stop : Stop)
+    → ((fault : FolderFault) → ReadFails old new (name ∷ []) fault → ReadFails old new (inputs_of n) fault)
+    → IsNotWithin old new name limit word stop → StopCounts old new (inputs_of n) [] stop
+refused-counts old new n name limit word (Own answer) among why = (subst IsOwn (sym why.0) tt, why.2)
+refused-counts old new n name limit word (Read fault) among why = among fault why
+refused-counts old new n name limit word (Write fault) among never = absurd never
+refused-counts old new n name limit word (Say fault) among never = absurd never
+refused-counts old new n name limit word NoMemory among never = absurd never

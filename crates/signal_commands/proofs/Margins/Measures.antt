@@ -18,7 +18,7 @@ use Rattle.recordings.proofs.Samples.{samples_in-more, samples_in-append}
 use Rattle.command_base.specs.Recordings.{ReadBehind, IsAtEnd}
 use Rattle.command_base.proofs.Behind.{behind-more, reads-all}
 use Rattle.command_base.specs.declared.limits.TheConstants.{FILE_LIMIT, RECORDING_LIMIT}
-use Rattle.command_base.specs.Inputs.{IsWithin, ReadTo}
+use Rattle.command_base.specs.Inputs.{ReadTo}
 use Rattle.command_base.proofs.Reading.{ReadTo-none, ReadTo-kept}
 use Rattle.signal_commands.specs.Margins.Words.{MarginNames}
 use Rattle.signal_commands.specs.Margins.Ends.{Measures, AreOpen, HasOtherLength}

@@ -1,5 +1,5 @@
 -- From every answer to what the command promises.
-use Rattle.std.proofs.Common.{◌≡◌, ◌∙◌, ℕ, ◌+◌, ◌%◌, IsTrue, List, [], ◌++◌, length, take, Some, Result, refl, sym, subst, arith}
+use Rattle.std.proofs.Common.{◌≡◌, ◌∙◌, ℕ, ◌+◌, ◌%◌, IsTrue, List, [], ◌++◌, length, take, Some, Result, sym, subst, arith}
 use Rattle.outside_calls.specs.Folder.{FolderState, octets_at, Said}
 use Rattle.survivors.specs.Survivors.{LostIs}
 use Rattle.survivors.proofs.Least.{released-is_least}

@@ -69,14 +69,11 @@ pub(crate) fn play_next<F: Folder>(
     requires ready { IsReady playback.old.reader at }
     ensures size { length piece.new ≡ PIECE }
     ensures ok { (start : FolderState) (written : ℕ) → PlayedTo start (F.state folder.old) (named names.now) mode playback.old at written
-        → IfOk result (λ step. PlayedTo start (F.state folder.new) (named names.now) mode playback.new (at + step.read) (written + step.given)) }
-    ensures end { (start : FolderState) (written : ℕ) → PlayedTo start (F.state folder.old) (named names.now) mode playback.old at written
-        → IfOk result (λ step. step.read ≡ 0 → IsAtEnd start names.now.rec.now at) }
+        → IfOk result (λ step. PlayedTo start (F.state folder.new) (named names.now) mode playback.new (at + step.read) (written + step.given)
+        × (step.read ≡ 0 → IsAtEnd start names.now.rec.now at)) }
     ensures err { (start : FolderState) (written : ℕ) → PlayedTo start (F.state folder.old) (named names.now) mode playback.old at written
         → IfErr result (EndsBy start (F.state folder.new) (named names.now)) }
-    ensures ready { IfOk result (λ step. IsReady playback.new.reader (at + step.read)) }
-    ensures bound { IfOk result (λ step. at + step.read ≤ RECORDING_LIMIT) }
-    ensures given { IfOk result (λ step. step.given ≤ ROOM) }
+    ensures next { IfOk result (λ step. IsReady playback.new.reader (at + step.read) × (at + step.read ≤ RECORDING_LIMIT) × (step.given ≤ ROOM)) }
     ensures only { OnlyOutput (F.state folder.old) (F.state folder.new) names.now.file.now }
     ensures counts { EndCounts (F.state folder.old) (F.state folder.new) (names.now.rec.now ∷ []) (names.now.file.now ∷ []) result }
 {

@@ -50,9 +50,8 @@ fn record_next<F: Folder>(
     requires apart { are_apart (inputs_of (named names.now)) (outputs_of (named names.now)) ≡ true }
     requires within { at ≤ FILE_LIMIT }
     ensures ok { (start : FolderState) → RecordedTo start (F.state folder.old) (named names.now) recorder.old at
-        → IfOk result (λ count. RecordedTo start (F.state folder.new) (named names.now) recorder.new (at + count)) }
-    ensures end { (start : FolderState) → RecordedTo start (F.state folder.old) (named names.now) recorder.old at
-        → IfOk result (λ count. count ≡ 0 → WritesAll start (F.state folder.new) (named names.now) (samples_each names.now.rate * at)) }
+        → IfOk result (λ count. RecordedTo start (F.state folder.new) (named names.now) recorder.new (at + count)
+        × (count ≡ 0 → WritesAll start (F.state folder.new) (named names.now) (samples_each names.now.rate * at))) }
     ensures err { (start : FolderState) → RecordedTo start (F.state folder.old) (named names.now) recorder.old at
         → IfErr result (EndsBy start (F.state folder.new) (named names.now)) }
     ensures bound { IfOk result (λ count. at + count ≤ FILE_LIMIT) }

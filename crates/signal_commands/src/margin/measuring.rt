@@ -55,13 +55,11 @@ fn measure_next<F: Folder>(
     requires within { at ≤ FILE_LIMIT }
     requires count { margin.old.count ≡ at }
     ensures ok { (start : FolderState) (mode : Mode) → MeasuredTo start (F.state folder.old) (named names.now) mode margin.old at
-        → IfOk result (λ count. MeasuredTo start (F.state folder.new) (named names.now) mode margin.new (at + count)) }
-    ensures end { (start : FolderState) (mode : Mode) → MeasuredTo start (F.state folder.old) (named names.now) mode margin.old at
-        → IfOk result (λ count. count ≡ 0 → IsAtEnd start names.now.file.now at × IsAtEnd start names.now.rec.now (HEADER + 8 * at)) }
+        → IfOk result (λ count. MeasuredTo start (F.state folder.new) (named names.now) mode margin.new (at + count)
+        × (count ≡ 0 → IsAtEnd start names.now.file.now at × IsAtEnd start names.now.rec.now (HEADER + 8 * at))) }
     ensures err { (start : FolderState) (mode : Mode) → MeasuredTo start (F.state folder.old) (named names.now) mode margin.old at
         → IfErr result (EndsBy start (F.state folder.new) (named names.now)) }
-    ensures bound { IfOk result (λ count. at + count ≤ FILE_LIMIT) }
-    ensures count { IfOk result (λ count. margin.new.count ≡ at + count) }
+    ensures next { IfOk result (λ count. (at + count ≤ FILE_LIMIT) × (margin.new.count ≡ at + count)) }
     ensures reads { OnlyReads (F.state folder.old) (F.state folder.new) }
     ensures counts { EndCounts (F.state folder.old) (F.state folder.new) (inputs_of (named names.now)) [] result }
 {

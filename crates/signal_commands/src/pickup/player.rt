@@ -4,6 +4,7 @@ ghost use Rattle.scramblers.specs.declared.mode.Mode.{Mode};
 ghost use Rattle.symbol_map.specs.declared.sample.Sample.{Sample};
 ghost use Rattle.outside_calls.specs.Folder.{FolderState, OnlySays, CountsStand};
 ghost use Rattle.command_base.specs.Stops.{SayFails, EndCounts};
+ghost use Rattle.plain_lists.specs.Bits.{low_bits};
 ghost use Rattle.line_coding.specs.MiddleReading.{bits_of_taken};
 ghost use Rattle.command_base.specs.Heard.{Heard, PartlyHeard};
 ghost use Rattle.signal_commands.specs.PickingUp.Playing.{Plays, IsReady, SaysSome, StopsPlay};
@@ -42,6 +43,19 @@ impl Model for Player {
     ghost view = { λ p. playing_of p.reader p.listener };
 }
 
+/// The bits that a label gives, as the low bits of an octet, and how many.
+fn taken_bits(taken: Taken) -> (u8, u32)
+    ensures bits { low_bits result.1 result.0 ≡ bits_of_taken taken }
+    ensures few { result.1 ≤ 4 }
+{
+    match taken {
+        Taken::Nothing => (0, 0),
+        Taken::LastBit(false) => (0, 1),
+        Taken::LastBit(true) => (1, 1),
+        Taken::Four(four) => (four, 4),
+    }
+}
+
 /// Hears the bits that a label gives.
 fn hear_taken<F: Folder>(
     folder: &mut F,
@@ -59,12 +73,8 @@ fn hear_taken<F: Folder>(
     ensures sender { listener.new.sender ≡ listener.old.sender }
     ensures pieces { listener.new.pieces ≤ listener.old.pieces + 4 }
 {
-    match taken {
-        Taken::Nothing => Ok(()),
-        Taken::LastBit(false) => listener.hear_low(folder, 0, 1),
-        Taken::LastBit(true) => listener.hear_low(folder, 1, 1),
-        Taken::Four(four) => listener.hear_low(folder, four, 4),
-    }
+    let (octet, count) = taken_bits(taken);
+    listener.hear_low(folder, octet, count)
 }
 
 impl Player {

@@ -58,13 +58,11 @@ fn play_next<F: Folder>(
     requires ready { IsReady player.old at }
     ensures size { length piece.new ≡ PIECE }
     ensures ok { (start : FolderState) → PlayedTo start (F.state folder.old) rec.now mode player.old at
-        → IfOk result (λ read. PlayedTo start (F.state folder.new) rec.now mode player.new (at + read)) }
-    ensures end { (start : FolderState) → PlayedTo start (F.state folder.old) rec.now mode player.old at
-        → IfOk result (λ read. read ≡ 0 → IsAtEnd start rec.now at) }
+        → IfOk result (λ read. PlayedTo start (F.state folder.new) rec.now mode player.new (at + read)
+        × (read ≡ 0 → IsAtEnd start rec.now at)) }
     ensures err { (start : FolderState) → PlayedTo start (F.state folder.old) rec.now mode player.old at
         → IfErr result (EndsBy start (F.state folder.new) rec.now) }
-    ensures ready { IfOk result (λ read. IsReady player.new (at + read)) }
-    ensures bound { IfOk result (λ read. at + read ≤ RECORDING_LIMIT) }
+    ensures next { IfOk result (λ read. IsReady player.new (at + read) × (at + read ≤ RECORDING_LIMIT)) }
     ensures only { OnlyOutputs (F.state folder.old) (F.state folder.new) [] }
     ensures counts { EndCounts (F.state folder.old) (F.state folder.new) (rec.now ∷ []) [] result }
 {

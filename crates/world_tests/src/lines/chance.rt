@@ -15,15 +15,21 @@ fn points(alloc: Global, slot: &BitSlot) -> Result<Vec<Sample>, Fail> {
     Ok(points)
 }
 
+/// Puts the line into a script that moves an originator's symbol from one point to another.
+fn write_hit(text: &mut String, symbol: usize, from: Sample, to: Sample) -> Result<(), Fail> {
+    let re = i32::from(to.re) - i32::from(from.re);
+    let im = i32::from(to.im) - i32::from(from.im);
+    writeln!(text, "hit orig {symbol} 1 {re} {im}")?;
+    Ok(())
+}
+
 /// The script that turns an originator's first slot into another: a line moves each symbol from one point to another.
 fn script_between(alloc: Global, from: &BitSlot, to: &BitSlot) -> Result<Script, Fail> {
     let mut text = String::new(alloc);
     let before = points(alloc, from)?;
     let after = points(alloc, to)?;
     for (symbol, (point, other)) in before.iter().zip(&after).enumerate() {
-        let re = i32::from(other.re) - i32::from(point.re);
-        let im = i32::from(other.im) - i32::from(point.im);
-        writeln!(text, "hit orig {symbol} 1 {re} {im}")?;
+        write_hit(&mut text, symbol, *point, *other)?;
     }
     if text.len() > SCRIPT_OCTETS {
         return Err(Fail::new("the script is too long"));

@@ -98,17 +98,36 @@ fn passes_or_is_chance(heard: &Heard, sent: &Sent, passes: bool) -> bool {
     }
 }
 
+/// These octets, each piece with a flag behind it.
+fn with_flags(alloc: Global, pieces: &[&[u8]]) -> Result<Vec<u8>, Fail> {
+    let mut octets = Vec::new(alloc);
+    for piece in pieces {
+        octets.extend_from_slice(piece)?;
+        octets.push(0x7e)?;
+    }
+    Ok(octets)
+}
+
+/// The octets of an originator's first I frame with so many zeros and this check.
+fn frame_of_zeros(alloc: Global, count: usize, check: &[u8]) -> Result<Vec<u8>, Fail> {
+    let mut octets = Vec::from_slice(alloc, b"\x03\x00\x00")?;
+    octets.append(&mut vec![in alloc; 0u8; count]?)?;
+    octets.extend_from_slice(check)?;
+    Ok(octets)
+}
+
+/// Whether what is heard of a slot of these octets is what was sent, or else a chance match.
+fn is_heard(alloc: Global, octets: &[u8], sent: &Sent, passes: bool) -> Result<bool, Fail> {
+    let heard = heard_of(alloc, octets, sent)?;
+    Ok(passes_or_is_chance(&heard, sent, passes))
+}
+
 #[test]
 fn pieces_beside_the_right_frame_are_chance(rt: HostRuntime) -> Result<(), Fail> {
     let sent = sent(&Message::Ready(0));
-    for (name, pieces, passes) in PIECES {
-        let mut octets = Vec::new(rt.alloc());
-        for piece in *pieces {
-            octets.extend_from_slice(piece)?;
-            octets.push(0x7e)?;
-        }
-        let heard = heard_of(rt.alloc(), &octets, &sent)?;
-        assert!(&rt; passes_or_is_chance(&heard, &sent, *passes), "{name}");
+    for &(name, pieces, passes) in PIECES {
+        let octets = with_flags(rt.alloc(), pieces)?;
+        assert!(&rt; is_heard(rt.alloc(), &octets, &sent, passes)?, "{name}");
     }
     Ok(())
 }
@@ -116,12 +135,9 @@ fn pieces_beside_the_right_frame_are_chance(rt: HostRuntime) -> Result<(), Fail>
 #[test]
 fn an_information_field_that_is_too_long_is_chance(rt: HostRuntime) -> Result<(), Fail> {
     let sent = sent(&Message::Longest(0, 0, 0, false));
-    for (name, count, check, passes) in ZEROS {
-        let mut octets = Vec::from_slice(rt.alloc(), b"\x03\x00\x00")?;
-        octets.append(&mut vec![in rt.alloc(); 0u8; *count]?)?;
-        octets.extend_from_slice(check)?;
-        let heard = heard_of(rt.alloc(), &octets, &sent)?;
-        assert!(&rt; passes_or_is_chance(&heard, &sent, *passes), "{name}");
+    for &(name, count, check, passes) in ZEROS {
+        let octets = frame_of_zeros(rt.alloc(), count, check)?;
+        assert!(&rt; is_heard(rt.alloc(), &octets, &sent, passes)?, "{name}");
     }
     Ok(())
 }

@@ -1,4 +1,4 @@
-use Rattle.std.proofs.Common.{inl, ℕ, Ok, Err}
+use Rattle.std.proofs.Common.{inl, ℕ, Ok, Err, ◌∙◌}
 use Rattle.outside_calls.specs.Folder.{FolderState}
 use Rattle.outside_calls.specs.Outputs.{AreApartFrom}
 use Rattle.outside_calls.proofs.OnlyOutputs.{OnlyOutputs-trans}
@@ -67,3 +67,33 @@ returns-in-Err-tap_turns-clause-counts g c =
     stop-earlier (g.F.Folder.state c.args.folder.now) (g.F.Folder.state c.create_all.new.folder) (g.F.Folder.state c.tap_turns.new.folder)
     (recordings_of (named c.args.words.now)) (outputs_of (named c.args.words.now)) c.in-Err-tap_turns.stop c.in-Ok.ensures.stand
     c.in-Err-tap_turns.ensures.counts
+
+pub create_all-requires : goal.create_all-requires
+create_all-requires g c = c.requires.apart
+
+pub tap_turns-requires-clause-ready : goal.tap_turns-requires-clause-ready
+tap_turns-requires-clause-ready g c = c.requires.ready
+
+pub tap_turns-requires-clause-first : goal.tap_turns-requires-clause-first
+tap_turns-requires-clause-first g c = c.requires.first
+
+pub tap_turns-requires-clause-created : goal.tap_turns-requires-clause-created
+tap_turns-requires-clause-created g c = c.in-Ok.ensures.ok
+
+pub returns-in-Err-clause-only : goal.returns-in-Err-clause-only
+returns-in-Err-clause-only g c = c.in-Err.ensures.only
+
+pub returns-in-Err-clause-said : goal.returns-in-Err-clause-said
+returns-in-Err-clause-said g c = c.in-Err.ensures.said
+
+pub returns-in-Err-clause-counts : goal.returns-in-Err-clause-counts
+returns-in-Err-clause-counts g c = c.in-Err.ensures.fails
+
+pub returns-in-Ok-tap_turns-clause-said : goal.returns-in-Ok-tap_turns-clause-said
+returns-in-Ok-tap_turns-clause-said g c = c.in-Ok-tap_turns.ensures.only.said ∙ c.in-Ok.ensures.said
+
+pub returns-in-Ok-tap_turns-clause-counts : goal.returns-in-Ok-tap_turns-clause-counts
+returns-in-Ok-tap_turns-clause-counts g c = CountsStand-trans c.in-Ok.ensures.stand c.in-Ok-tap_turns.ensures.counts
+
+pub returns-in-Err-tap_turns-clause-said : goal.returns-in-Err-tap_turns-clause-said
+returns-in-Err-tap_turns-clause-said g c = c.in-Err-tap_turns.ensures.only.said ∙ c.in-Ok.ensures.said

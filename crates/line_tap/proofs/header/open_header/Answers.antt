@@ -25,3 +25,42 @@ returns-in-Err-check_header-clause-err g c = λ start h told.
     (header-octets start (g.F.Folder.state c.read_piece.new.folder) c.args.name.now c.in-Ok.count piece c.in-Ok.ensures.bound
     (c.in-Ok.ensures.more start [] h) (c.in-Ok.ensures.end start [] h) told)
     c.in-Err-check_header.ensures.err
+
+pub returns-in-Ok-check_header-clause-err : goal.returns-in-Ok-check_header-clause-err
+returns-in-Ok-check_header-clause-err g c = λ start h. tt
+
+pub returns-in-Ok-check_header-clause-reads : goal.returns-in-Ok-check_header-clause-reads
+returns-in-Ok-check_header-clause-reads g c = c.in-Ok.ensures.reads
+
+pub returns-in-Ok-check_header-clause-stand : goal.returns-in-Ok-check_header-clause-stand
+returns-in-Ok-check_header-clause-stand g c = c.in-Ok.ensures.stand
+
+pub returns-in-Ok-check_header-clause-counts : goal.returns-in-Ok-check_header-clause-counts
+returns-in-Ok-check_header-clause-counts g c = λ outputs. tt
+
+pub returns-in-Err-check_header-clause-ok : goal.returns-in-Err-check_header-clause-ok
+returns-in-Err-check_header-clause-ok g c = λ start h. tt
+
+pub returns-in-Err-check_header-clause-reads : goal.returns-in-Err-check_header-clause-reads
+returns-in-Err-check_header-clause-reads g c = c.in-Ok.ensures.reads
+
+pub returns-in-Err-check_header-clause-stand : goal.returns-in-Err-check_header-clause-stand
+returns-in-Err-check_header-clause-stand g c = tt
+
+pub returns-in-Err-check_header-clause-counts : goal.returns-in-Err-check_header-clause-counts
+returns-in-Err-check_header-clause-counts g c = λ outputs. (tt, c.in-Ok.ensures.stand)
+
+pub returns-in-Err-clause-ok : goal.returns-in-Err-clause-ok
+returns-in-Err-clause-ok g c = λ start h. tt
+
+pub returns-in-Err-clause-err : goal.returns-in-Err-clause-err
+returns-in-Err-clause-err g c = λ start h. tt
+
+pub returns-in-Err-clause-reads : goal.returns-in-Err-clause-reads
+returns-in-Err-clause-reads g c = c.in-Err.ensures.reads
+
+pub returns-in-Err-clause-stand : goal.returns-in-Err-clause-stand
+returns-in-Err-clause-stand g c = tt
+
+pub returns-in-Err-clause-counts : goal.returns-in-Err-clause-counts
+returns-in-Err-clause-counts g c = λ outputs. c.in-Err.ensures.fails

@@ -7,7 +7,7 @@ use Rattle.command_base.proofs.Reading.{ReadTo-none, ReadTo-kept}
 use Rattle.line_tap.specs.declared.limits.TheConstants.{TAP_LIMIT}
 use Rattle.line_tap.specs.Names.{TapNames, named, inputs_of}
 use Rattle.line_tap.specs.declared.limits.TheConstants.{LIMITS}
-use Rattle.line_tap.proofs.HeaderRead.{both-read, header-read, orig-refused, answ-refused, stop-widened}
+use Rattle.line_tap.proofs.HeaderRead.{inputs-refused, both-read, header-read, orig-refused, answ-refused, stop-widened}
 use Rattle.line_tap.proofs.opening.open.Goals as goal
 
 pub returns-in-Err-open_header-clause-refused : goal.returns-in-Err-open_header-clause-refused
@@ -88,3 +88,37 @@ returns-in-Err-open_header-2-clause-counts g c = λ outputs.
     (CountsStand-trans (c.in-Ok.ensures.counts outputs) c.in-Ok-open_header.ensures.stand)
     (stop-widened n2 n3 (n.rec_a ∷ []) (inputs_of n) outputs c.in-Err-open_header-2.stop
     (λ some. elim some [ inl rose ↦ inr (inl rose) | inr never ↦ absurd never ]) (c.in-Err-open_header-2.ensures.counts outputs))
+
+pub returns-in-Err-clause-opened : goal.returns-in-Err-clause-opened
+returns-in-Err-clause-opened g c = tt
+
+pub returns-in-Err-clause-refused : goal.returns-in-Err-clause-refused
+returns-in-Err-clause-refused g c =
+    inputs-refused LIMITS (g.F.Folder.state c.args.folder.now) (g.F.Folder.state c.open_inputs.new.folder) (named c.args.words.now) c.in-Err.stop
+    c.in-Err.ensures.refused
+
+pub returns-in-Err-clause-reads : goal.returns-in-Err-clause-reads
+returns-in-Err-clause-reads g c = c.in-Err.ensures.reads
+
+pub returns-in-Err-clause-counts : goal.returns-in-Err-clause-counts
+returns-in-Err-clause-counts g c = c.in-Err.ensures.counts
+
+pub returns-in-Err-open_header-clause-opened : goal.returns-in-Err-open_header-clause-opened
+returns-in-Err-open_header-clause-opened g c = tt
+
+pub returns-in-Err-open_header-clause-reads : goal.returns-in-Err-open_header-clause-reads
+returns-in-Err-open_header-clause-reads g c = OnlyReads-trans c.in-Ok.ensures.reads c.in-Err-open_header.ensures.reads
+
+pub returns-in-Ok-open_header-2-clause-refused : goal.returns-in-Ok-open_header-2-clause-refused
+returns-in-Ok-open_header-2-clause-refused g c = tt
+
+pub returns-in-Ok-open_header-2-clause-reads : goal.returns-in-Ok-open_header-2-clause-reads
+returns-in-Ok-open_header-2-clause-reads g c =
+    OnlyReads-trans (OnlyReads-trans c.in-Ok.ensures.reads c.in-Ok-open_header.ensures.reads) c.in-Ok-open_header-2.ensures.reads
+
+pub returns-in-Err-open_header-2-clause-opened : goal.returns-in-Err-open_header-2-clause-opened
+returns-in-Err-open_header-2-clause-opened g c = tt
+
+pub returns-in-Err-open_header-2-clause-reads : goal.returns-in-Err-open_header-2-clause-reads
+returns-in-Err-open_header-2-clause-reads g c =
+    OnlyReads-trans (OnlyReads-trans c.in-Ok.ensures.reads c.in-Ok-open_header.ensures.reads) c.in-Err-open_header-2.ensures.reads

@@ -1,12 +1,12 @@
 use Rattle.std.proofs.Common.{◌∙◌, refl, subst}
 use Rattle.outside_calls.specs.Folder.{FolderState}
-use Rattle.outside_calls.proofs.Steps.{CountsStand-trans}
-use Rattle.outside_calls.proofs.Putting.{OnlyPuts-trans}
+use Rattle.outside_calls.proofs.Steps.{CountsStand-refl, CountsStand-trans}
+use Rattle.outside_calls.proofs.Putting.{OnlyPuts-refl, OnlyPuts-trans}
 use Rattle.noise_script.specs.Script.{ScriptValue, IsInLimits}
 use Rattle.line_tap.specs.Tapping.{tapping}
 use Rattle.command_base.proofs.Jobs.{stop-earlier}
 use Rattle.line_tap.specs.Names.{TapNames, named, outputs_of, recordings_of}
-use Rattle.line_tap.proofs.Reached.{reached-going, reached-done, reached-stop}
+use Rattle.line_tap.proofs.Reached.{reached-none, less-left, reached-going, reached-done, reached-stop}
 use Rattle.line_tap.proofs.turns.tap_turns.Goals as goal
 
 pub loop-turns-preserved : goal.loop-turns-preserved
@@ -68,3 +68,26 @@ pub returns-in-Err-clause-counts : goal.returns-in-Err-clause-counts
 returns-in-Err-clause-counts g c =
     stop-earlier (g.F.Folder.state c.args.folder.now) (g.F.Folder.state c.loop-turns.folder) (g.F.Folder.state c.turn.new.folder)
     (recordings_of (named c.args.names.now)) (outputs_of (named c.args.names.now)) c.in-Err.stop c.loop-turns.invariant.stand c.in-Err.ensures.counts
+
+pub turn-requires-clause-ready : goal.turn-requires-clause-ready
+turn-requires-clause-ready g c = c.loop-turns.invariant.ready
+
+pub turn-requires-clause-apart : goal.turn-requires-clause-apart
+turn-requires-clause-apart g c = c.requires.apart
+
+pub loop-turns-init : goal.loop-turns-init
+loop-turns-init g c =
+    let old : FolderState = g.F.Folder.state c.args.folder.now in
+    let n : TapNames = named c.args.names.now in
+    record {
+      ready = c.requires.ready;
+      script = refl;
+      reached = λ start k. reached-none c.args.tap.now start old n c.requires.first k c.requires.created;
+      only = OnlyPuts-refl old (outputs_of n);
+      stand = CountsStand-refl old;
+    }
+
+pub loop-turns-smaller : goal.loop-turns-smaller
+loop-turns-smaller g c =
+    less-left c.loop-turns.tap c.turn.new.self ((rw c.in-Ok-Going.field-0-is at c.in-Ok-Going.ensures.nearer) refl)
+    ((rw c.in-Ok-Going.field-0-is at c.in-Ok-Going.ensures.ready) refl)

@@ -1,4 +1,4 @@
-use Rattle.std.proofs.Common.{◌≡◌, ◌*◌, ◌++◌, length, take, arith, sym, subst, ℕ, List, Option, Some, None}
+use Rattle.std.proofs.Common.{◌≡◌, ◌∙◌, ap, ◌<◌, ◌*◌, ◌++◌, length, take, arith, sym, subst, ℕ, List, Option, Some, None}
 use Rattle.std.specs.Prelude.{IfNone}
 use Rattle.std.proofs.lemmas.List.{take_all}
 use Rattle.std.proofs.lemmas.Option.{IfSome_then}
@@ -9,7 +9,7 @@ use Rattle.line_tap.specs.Reader.{IsNext, ReadsSlot}
 use Rattle.line_run.specs.Fitting.{AreFit}
 use Rattle.line_run.specs.Sampled.{signals}
 use Rattle.line_tap.specs.End.{ReadsNext, slot_as}
-use Rattle.line_tap.proofs.SlotNext.{none-held, reads-next}
+use Rattle.line_tap.proofs.SlotNext.{none-held, short-held, reads-next}
 use Rattle.line_tap.proofs.end.TappedEnd.read.Goals as goal
 
 pub returns-clause-some : goal.returns-clause-some
@@ -45,3 +45,9 @@ returns-clause-none c = λ channel check role ts body h fit.
     none)) in
     none-then c.read.result (c.read.ensures.none (signals channel role ts) (samples_in body) h.stands
     (subst (λ n. AreFit (4 * n) 0 (signals channel role ts)) (sym h.reads.symbols) fit)) next
+
+pub returns-then-count-len-clause-none : goal.returns-then-count-len-clause-none
+returns-then-count-len-clause-none c = λ channel check role ts body h fit s x.
+    let short : c.args.count < 4 * channel.symbols =
+    subst (λ (n : ℕ). c.args.count < n) (c.len.ensures ∙ c.requires.size ∙ ap (λ n. 4 * n) h.reads.symbols) c.if-count-len.true in
+    short-held c.args.self.now.reader channel check role ts body c.args.self.now.piece.items c.args.count h short s x

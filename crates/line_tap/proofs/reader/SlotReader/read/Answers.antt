@@ -150,3 +150,39 @@ write_again-requires-clause-octets c = λ frame e.
     c.as_slice-2.ensures.items
     ∙ subst (λ found. IfSome found (λ f. c.frame_in-found.new.room ≡ checked r.sender.check r.sender.role r.sender.dlci f)) g.0
     c.frame_in-found.ensures.is
+
+pub returns-in_err-state-clause-some : goal.returns-in_err-state-clause-some
+returns-in_err-state-clause-some c = λ sigs samples k. rw c.from_residual.ensures tt
+
+pub returns-in_err-phase-clause-some : goal.returns-in_err-phase-clause-some
+returns-in_err-phase-clause-some c = λ sigs samples k. rw c.from_residual-in_err-phase.ensures tt
+
+pub returns-then-not-same_quads-clause-some : goal.returns-then-not-same_quads-clause-some
+returns-then-not-same_quads-clause-some c = λ sigs samples k. tt
+
+pub returns-clause-none : goal.returns-clause-none
+returns-clause-none c = λ sigs samples k fit. tt
+
+pub returns-in_err-state-clause-sender : goal.returns-in_err-state-clause-sender
+returns-in_err-state-clause-sender c = refl
+
+pub returns-in_err-state-clause-size : goal.returns-in_err-state-clause-size
+returns-in_err-state-clause-size c = refl
+
+pub returns-in_err-phase-clause-sender : goal.returns-in_err-phase-clause-sender
+returns-in_err-phase-clause-sender c = refl
+
+pub returns-in_err-phase-clause-size : goal.returns-in_err-phase-clause-size
+returns-in_err-phase-clause-size c = refl
+
+pub returns-then-not-same_quads-clause-sender : goal.returns-then-not-same_quads-clause-sender
+returns-then-not-same_quads-clause-sender c = refl
+
+pub returns-then-not-same_quads-clause-size : goal.returns-then-not-same_quads-clause-size
+returns-then-not-same_quads-clause-size c = refl
+
+pub returns-clause-sender : goal.returns-clause-sender
+returns-clause-sender c = refl
+
+pub returns-clause-size : goal.returns-clause-size
+returns-clause-size c = refl

@@ -1,8 +1,11 @@
-use Rattle.std.proofs.Common.{◌+◌, arith, refl, subst, sym, Some}
+use Rattle.std.proofs.Common.{◌+◌, [], ◌∷◌, refl, subst, sym, ap, ◌∙◌, Some}
 use Rattle.outside_calls.specs.Folder.{Appended, PartlyAppended}
 use Rattle.shared_terms.specs.Both.{Both}
 use Rattle.shared_terms.specs.declared.role.Role.TheVariants.{Originator, Answerer}
+use Rattle.std.specs.Prelude.{is_some}
 use Rattle.lapm_frames.specs.declared.sent.Sent.{Sent}
+use Rattle.lapm_frames.specs.Sendable.{IsSendable}
+use Rattle.line_texts.specs.declared.trace_line.TraceLine.{TraceLine}
 use Rattle.link_run.specs.Listened.{check_by}
 use Rattle.line_run.specs.Stream.{sent_by}
 use Rattle.line_world.proofs.Waiting.{room-of}
@@ -10,9 +13,10 @@ use Rattle.line_tap.specs.Tapping.{line_of, terms_of, told}
 use Rattle.line_tap.specs.End.{Slot}
 use Rattle.line_tap.specs.declared.tapping.Tap.{Tap}
 use Rattle.line_tap.specs.Tap.{slots_as}
-use Rattle.line_tap.specs.Names.{named}
+use Rattle.line_tap.specs.Names.{TapNames, named}
 use Rattle.line_tap.proofs.TurnTexts.{text-is, taken-back}
 use Rattle.line_tap.proofs.Going.{after-going}
+use Rattle.line_tap.proofs.Causes.{write-among}
 use Rattle.line_tap.proofs.tapping.Tap.go_on.Goals as goal
 
 pub returns-in-Err-clause-err : goal.returns-in-Err-clause-err
@@ -47,7 +51,7 @@ returns-clause-ok g c = λ x ts k.
         script = refl;
         orig = refl;
         answ = refl;
-        at = omega (arith, c.len.ensures);
+        at = ap (λ n. tap.at + n) (c.len.ensures ∙ tap.orig.piece.ok.0);
         turn = refl;
         from_orig = record {
           stands = c.put.ensures.stands;
@@ -73,3 +77,82 @@ returns-clause-ok g c = λ x ts k.
           (record { orig = Some (told (check_by (terms_of x)) slots.orig.sent); answ = Some (told (check_by (terms_of x)) slots.answ.sent) })
           c.turn_lines-lines.ensures k.turn k.hears refl refl) c.in-Ok.ensures.ok,
     )
+
+pub returns-in-Err-clause-ok : goal.returns-in-Err-clause-ok
+returns-in-Err-clause-ok g c = tt
+
+pub returns-in-Err-clause-orig : goal.returns-in-Err-clause-orig
+returns-in-Err-clause-orig g c = refl
+
+pub returns-in-Err-clause-answ : goal.returns-in-Err-clause-answ
+returns-in-Err-clause-answ g c = refl
+
+pub returns-in-Err-clause-script : goal.returns-in-Err-clause-script
+returns-in-Err-clause-script g c = refl
+
+pub returns-in-Err-clause-turn : goal.returns-in-Err-clause-turn
+returns-in-Err-clause-turn g c = tt
+
+pub returns-in-Err-clause-at : goal.returns-in-Err-clause-at
+returns-in-Err-clause-at g c = tt
+
+pub returns-in-Err-clause-stand : goal.returns-in-Err-clause-stand
+returns-in-Err-clause-stand g c = tt
+
+pub returns-in-Err-clause-only : goal.returns-in-Err-clause-only
+returns-in-Err-clause-only g c = c.in-Err.ensures.only
+
+pub returns-in-Err-clause-fails : goal.returns-in-Err-clause-fails
+returns-in-Err-clause-fails g c =
+    let n : TapNames = named c.args.names.now in
+    write-among (g.F.Folder.state c.args.folder.now) (g.F.Folder.state c.write_turn.new.folder) (n.got_o ∷ n.got_a ∷ []) n.trace []
+    c.in-Err.fault c.in-Err.ensures.fails
+
+pub returns-clause-err : goal.returns-clause-err
+returns-clause-err g c = tt
+
+pub returns-clause-orig : goal.returns-clause-orig
+returns-clause-orig g c = refl
+
+pub returns-clause-answ : goal.returns-clause-answ
+returns-clause-answ g c = refl
+
+pub returns-clause-script : goal.returns-clause-script
+returns-clause-script g c = refl
+
+pub returns-clause-turn : goal.returns-clause-turn
+returns-clause-turn g c = refl
+
+pub returns-clause-at : goal.returns-clause-at
+returns-clause-at g c = ap (λ n. c.args.self.now.at + n) (c.len.ensures ∙ c.args.self.now.orig.piece.ok.0)
+
+pub returns-clause-only : goal.returns-clause-only
+returns-clause-only g c = c.in-Ok.ensures.only
+
+pub returns-clause-stand : goal.returns-clause-stand
+returns-clause-stand g c = c.in-Ok.ensures.stand
+
+pub returns-clause-fails : goal.returns-clause-fails
+returns-clause-fails g c = tt
+
+pub put-requires-clause-sendable : goal.put-requires-clause-sendable
+put-requires-clause-sendable g c =
+    let h = c.requires.stands in
+    subst IsSendable
+    (sym (taken-back c.sent_in-sent.result.orig c.args.sent.orig c.turn_lines-lines.result.orig.sent (Some c.args.sent.orig) c.sent_in-sent.ensures.orig
+    (λ i. (c.turn_lines-lines.ensures i).orig.sent) refl))
+    (c.codable_slots_fit.ensures.sendable _ Originator _ _ _ c.args.sent.orig h.2.read.orig.holds.codable)
+
+pub put-requires-2-clause-sendable : goal.put-requires-2-clause-sendable
+put-requires-2-clause-sendable g c =
+    let h = c.requires.stands in
+    subst IsSendable
+    (sym (taken-back c.sent_in-sent.result.answ c.args.sent.answ c.turn_lines-lines.result.answ.sent (Some c.args.sent.answ) c.sent_in-sent.ensures.answ
+    (λ i. (c.turn_lines-lines.ensures i).answ.sent) refl))
+    (c.codable_slots_fit.ensures.sendable _ Answerer _ _ _ c.args.sent.answ h.2.read.answ.holds.codable)
+
+pub sent_in-sent-requires-clause-orig : goal.sent_in-sent-requires-clause-orig
+sent_in-sent-requires-clause-orig g c = ap (λ (lines : Both TraceLine). is_some lines.orig.sent) c.turn_lines-lines.ensures
+
+pub sent_in-sent-requires-clause-answ : goal.sent_in-sent-requires-clause-answ
+sent_in-sent-requires-clause-answ g c = ap (λ (lines : Both TraceLine). is_some lines.answ.sent) c.turn_lines-lines.ensures

@@ -1,4 +1,4 @@
-use Rattle.std.proofs.Common.{◌++◌, take, List, ℕ}
+use Rattle.std.proofs.Common.{◌*◌, ◌≤◌, ◌++◌, take, List, ℕ, refl, sym, ◌∙◌, ap, subst}
 use Rattle.shared_terms.specs.declared.role.Role.TheVariants.{Originator, Answerer}
 use Rattle.frame_check.specs.declared.check.Check.{Check}
 use Rattle.link_run.specs.Listened.{check_by}
@@ -50,3 +50,78 @@ returns-in-None-read-clause-looks c = λ x ts heard h.
       (c.in-Some.sent, first.holds),
       c.in-None-read.ensures.none (line_of x) check Answerer ts x.bodies.answ h.behind.answ (told-fit laws x ts h.behind.tells Answerer),
     )
+
+pub read-requires-clause-size : goal.read-requires-clause-size
+read-requires-clause-size c = let h = c.requires.stands in c.args.self.now.orig.piece.ok.0 ∙ h.3.behind.orig_room ∙ ap (λ n. 4 * n) (sym h.3.behind.orig.reads.symbols)
+
+pub read-requires-clause-count : goal.read-requires-clause-count
+read-requires-clause-count c = subst (λ (n : ℕ). c.args.counts.now.orig ≤ n) (sym c.args.self.now.orig.piece.ok.0) c.requires.orig
+
+pub read-requires-2-clause-size : goal.read-requires-2-clause-size
+read-requires-2-clause-size c = let h = c.requires.stands in c.args.self.now.answ.piece.ok.0 ∙ h.3.behind.answ_room ∙ ap (λ n. 4 * n) (sym h.3.behind.answ.reads.symbols)
+
+pub read-requires-2-clause-count : goal.read-requires-2-clause-count
+read-requires-2-clause-count c = subst (λ (n : ℕ). c.args.counts.now.answ ≤ n) (sym c.args.self.now.answ.piece.ok.0) c.requires.answ
+
+pub returns-in-None-clause-orig : goal.returns-in-None-clause-orig
+returns-in-None-clause-orig c = c.in-None.ensures.listener
+
+pub returns-in-None-clause-answ : goal.returns-in-None-clause-answ
+returns-in-None-clause-answ c = refl
+
+pub returns-in-None-clause-orig_piece : goal.returns-in-None-clause-orig_piece
+returns-in-None-clause-orig_piece c = c.in-None.ensures.piece
+
+pub returns-in-None-clause-answ_piece : goal.returns-in-None-clause-answ_piece
+returns-in-None-clause-answ_piece c = refl
+
+pub returns-in-None-clause-turn : goal.returns-in-None-clause-turn
+returns-in-None-clause-turn c = refl
+
+pub returns-in-None-clause-at : goal.returns-in-None-clause-at
+returns-in-None-clause-at c = refl
+
+pub returns-in-None-clause-script : goal.returns-in-None-clause-script
+returns-in-None-clause-script c = refl
+
+pub returns-in-Some-read-clause-orig : goal.returns-in-Some-read-clause-orig
+returns-in-Some-read-clause-orig c = c.in-Some.ensures.listener
+
+pub returns-in-Some-read-clause-answ : goal.returns-in-Some-read-clause-answ
+returns-in-Some-read-clause-answ c = c.in-Some-read.ensures.listener
+
+pub returns-in-Some-read-clause-orig_piece : goal.returns-in-Some-read-clause-orig_piece
+returns-in-Some-read-clause-orig_piece c = c.in-Some.ensures.piece
+
+pub returns-in-Some-read-clause-answ_piece : goal.returns-in-Some-read-clause-answ_piece
+returns-in-Some-read-clause-answ_piece c = c.in-Some-read.ensures.piece
+
+pub returns-in-Some-read-clause-turn : goal.returns-in-Some-read-clause-turn
+returns-in-Some-read-clause-turn c = refl
+
+pub returns-in-Some-read-clause-at : goal.returns-in-Some-read-clause-at
+returns-in-Some-read-clause-at c = refl
+
+pub returns-in-Some-read-clause-script : goal.returns-in-Some-read-clause-script
+returns-in-Some-read-clause-script c = refl
+
+pub returns-in-None-read-clause-orig : goal.returns-in-None-read-clause-orig
+returns-in-None-read-clause-orig c = c.in-Some.ensures.listener
+
+pub returns-in-None-read-clause-answ : goal.returns-in-None-read-clause-answ
+returns-in-None-read-clause-answ c = c.in-None-read.ensures.listener
+
+pub returns-in-None-read-clause-orig_piece : goal.returns-in-None-read-clause-orig_piece
+returns-in-None-read-clause-orig_piece c = c.in-Some.ensures.piece
+
+pub returns-in-None-read-clause-answ_piece : goal.returns-in-None-read-clause-answ_piece
+returns-in-None-read-clause-answ_piece c = c.in-None-read.ensures.piece
+
+pub returns-in-None-read-clause-turn : goal.returns-in-None-read-clause-turn
+returns-in-None-read-clause-turn c = refl
+
+pub returns-in-None-read-clause-at : goal.returns-in-None-read-clause-at
+returns-in-None-read-clause-at c = refl
+
+pub returns-in-None-read-clause-script : goal.returns-in-None-read-clause-script
+returns-in-None-read-clause-script c = refl

@@ -1,17 +1,18 @@
-use Rattle.std.proofs.Common.{◌≡◌, ◌+◌, ◌<◌, ◌≤◌, ◌∙◌, length, arith, refl, ap, subst}
+use Rattle.std.proofs.Common.{◌≡◌, ◌+◌, ◌∙◌, refl, sym, ap, subst}
 use Rattle.noise_script.specs.Script.{IsInLimits}
 use Rattle.outside_calls.specs.Folder.{FolderState}
-use Rattle.outside_calls.proofs.Steps.{CountsStand-trans}
+use Rattle.outside_calls.proofs.Steps.{CountsStand-refl, CountsStand-trans}
+use Rattle.outside_calls.proofs.Putting.{OnlyPuts-refl}
 use Rattle.line_world.specs.declared.directions.LineEnd.{LineEnd}
 use Rattle.line_world.specs.Lines.{end_of}
 use Rattle.line_tap.specs.Ends.{EndsLine}
 use Rattle.command_base.specs.declared.stop.Stop.TheVariants.{Read, Write}
 use Rattle.command_base.proofs.Jobs.{stop-earlier}
 use Rattle.line_tap.specs.Names.{TapNames, named, outputs_of, recordings_of}
-use Rattle.line_tap.specs.declared.limits.TheConstants.{TAP_LIMIT}
 use Rattle.line_tap.specs.Tap.{IsToGo, going_in, slots_as}
 use Rattle.line_tap.proofs.Turning.{HasPieces, now_of, loses-line, stops-delivering, stops-reading, ends-whole, stops-ending, ends-badly}
 use Rattle.line_tap.proofs.Turning.{so-heard, has-pieces, only-read}
+use Rattle.line_tap.proofs.Turning.{is-stopped, is-done, within-still, early-still, nearer-by, within-by}
 use Rattle.line_tap.proofs.Turning.{to-go, goes-on-by, stops-going, only-written, whole-orig, some-octets, ready-again}
 use Rattle.line_tap.proofs.tapping.Tap.turn.Goals as goal
 
@@ -221,14 +222,13 @@ returns-in-Ok-go_on-clause-ready g c = λ same.
     let room = some-octets c.read.new.self c.look.new.self x ts c.in-Ok.hearing.heard
     (c.slots_have_room.ensures.room x.script (subst IsInLimits r0.after.behind.script_is r0.limits)).0 turn
     c.in-Ok-look.ensures.orig_piece in
-    let more : c.args.self.now.at < c.go_on.new.self.at =
-    omega (arith, room, c.in-Ok-go_on.ensures.at, c.in-Ok-look.ensures.at, c.in-Ok-read.ensures.at, c.in-Ok-deliver.ensures.at, c.in-Ok.ensures.at) in
+    let same : c.look.new.self.at ≡ c.args.self.now.at =
+    c.in-Ok-look.ensures.at ∙ c.in-Ok-read.ensures.at ∙ c.in-Ok-deliver.ensures.at ∙ c.in-Ok.ensures.at in
+    let more = nearer-by c.args.self.now c.look.new.self c.go_on.new.self same room c.in-Ok-go_on.ensures.at in
     let whole = whole-orig c.read.new.self c.look.new.self x ts c.in-Ok.hearing c.in-Ok-read.counts (slots_as c.in-Ok-look.sent c.look.new.labels) turn
-    (omega (arith, c.in-Ok-read.ensures.orig_few)) go in
-    let piece : length c.look.new.self.orig.piece.items ≡ length c.read.new.self.orig.piece.items =
-    omega (arith, c.in-Ok-look.ensures.orig_piece) in
-    let within : c.go_on.new.self.at ≤ TAP_LIMIT =
-    omega (arith, whole, piece, c.in-Ok-read.ensures.within, c.in-Ok-go_on.ensures.at, c.in-Ok-look.ensures.at, c.in-Ok-read.ensures.at) in
+    c.in-Ok-read.ensures.orig_few go in
+    let within = within-by c.read.new.self c.look.new.self c.go_on.new.self c.deliver.new.self.at c.in-Ok-read.counts.orig c.in-Ok-read.ensures.at
+    c.in-Ok-look.ensures.at c.in-Ok-look.ensures.orig_piece whole c.in-Ok-read.ensures.within c.in-Ok-go_on.ensures.at in
     ready-again c.args.self.now c.deliver.new.self c.go_on.new.self (now_of c.read.new.self x c.in-Ok-read.counts)
     (going_in (now_of c.read.new.self x c.in-Ok-read.counts) ts c.in-Ok.hearing.heard (slots_as c.in-Ok-look.sent c.look.new.labels)) ts r0
     (c.in-Ok-go_on.ensures.ok (now_of c.read.new.self x c.in-Ok-read.counts) ts go).0
@@ -237,8 +237,8 @@ returns-in-Ok-go_on-clause-ready g c = λ same.
     (c.in-Ok-deliver.ensures.answ (c.args.self.now.turn + 1) c.in-Ok.ensures.answ)
     (c.in-Ok-go_on.ensures.orig ∙ c.in-Ok-look.ensures.orig ∙ c.in-Ok-read.ensures.orig)
     (c.in-Ok-go_on.ensures.answ ∙ c.in-Ok-look.ensures.answ ∙ c.in-Ok-read.ensures.answ)
-    (omega (arith, c.in-Ok-go_on.ensures.turn, c.in-Ok-look.ensures.turn, c.in-Ok-read.ensures.turn, c.in-Ok-deliver.ensures.turn, c.in-Ok.ensures.turn))
-    more within
+    (c.in-Ok-go_on.ensures.turn
+    ∙ ap (λ n. n + 1) (c.in-Ok-look.ensures.turn ∙ c.in-Ok-read.ensures.turn ∙ c.in-Ok-deliver.ensures.turn ∙ c.in-Ok.ensures.turn)) more within
 
 pub returns-in-Ok-go_on-clause-nearer : goal.returns-in-Ok-go_on-clause-nearer
 returns-in-Ok-go_on-clause-nearer g c = λ same.
@@ -250,12 +250,129 @@ returns-in-Ok-go_on-clause-nearer g c = λ same.
     let room = some-octets c.read.new.self c.look.new.self x ts c.in-Ok.hearing.heard
     (c.slots_have_room.ensures.room x.script (subst IsInLimits r0.after.behind.script_is r0.limits)).0 turn
     c.in-Ok-look.ensures.orig_piece in
-    omega (
-      arith,
-      room,
-      c.in-Ok-go_on.ensures.at,
-      c.in-Ok-look.ensures.at,
-      c.in-Ok-read.ensures.at,
-      c.in-Ok-deliver.ensures.at,
-      c.in-Ok.ensures.at,
-    )
+    nearer-by c.args.self.now c.look.new.self c.go_on.new.self
+    (c.in-Ok-look.ensures.at ∙ c.in-Ok-read.ensures.at ∙ c.in-Ok-deliver.ensures.at ∙ c.in-Ok.ensures.at) room c.in-Ok-go_on.ensures.at
+
+pub returns-in-Err-Lost-clause-script : goal.returns-in-Err-Lost-clause-script
+returns-in-Err-Lost-clause-script g c = c.in-Err-Lost.ensures.script
+
+pub returns-in-Err-Chance-clause-script : goal.returns-in-Err-Chance-clause-script
+returns-in-Err-Chance-clause-script g c = c.in-Err-Chance.ensures.script
+
+pub returns-in-Err-clause-script : goal.returns-in-Err-clause-script
+returns-in-Err-clause-script g c = c.in-Err.ensures.script ∙ c.in-Ok.ensures.script
+
+pub returns-in-Err-read-clause-script : goal.returns-in-Err-read-clause-script
+returns-in-Err-read-clause-script g c = c.in-Err-read.ensures.script ∙ c.in-Ok-deliver.ensures.script ∙ c.in-Ok.ensures.script
+
+pub returns-in-Ok-finish-clause-script : goal.returns-in-Ok-finish-clause-script
+returns-in-Ok-finish-clause-script g c = c.in-Ok-read.ensures.script ∙ c.in-Ok-deliver.ensures.script ∙ c.in-Ok.ensures.script
+
+pub returns-in-Err-finish-clause-script : goal.returns-in-Err-finish-clause-script
+returns-in-Err-finish-clause-script g c = c.in-Ok-read.ensures.script ∙ c.in-Ok-deliver.ensures.script ∙ c.in-Ok.ensures.script
+
+pub returns-in-Err-look-clause-script : goal.returns-in-Err-look-clause-script
+returns-in-Err-look-clause-script g c = c.in-Err-look.ensures.script ∙ c.in-Ok-read.ensures.script ∙ c.in-Ok-deliver.ensures.script ∙ c.in-Ok.ensures.script
+
+pub returns-in-Ok-go_on-clause-script : goal.returns-in-Ok-go_on-clause-script
+returns-in-Ok-go_on-clause-script g c = c.in-Ok-go_on.ensures.script ∙ c.in-Ok-look.ensures.script ∙ c.in-Ok-read.ensures.script ∙ c.in-Ok-deliver.ensures.script ∙ c.in-Ok.ensures.script
+
+pub returns-in-Err-go_on-clause-script : goal.returns-in-Err-go_on-clause-script
+returns-in-Err-go_on-clause-script g c = c.in-Err-go_on.ensures.script ∙ c.in-Ok-look.ensures.script ∙ c.in-Ok-read.ensures.script ∙ c.in-Ok-deliver.ensures.script ∙ c.in-Ok.ensures.script
+
+pub returns-in-Err-Lost-clause-ready : goal.returns-in-Err-Lost-clause-ready
+returns-in-Err-Lost-clause-ready g c = λ same. is-stopped same
+
+pub returns-in-Err-Lost-clause-nearer : goal.returns-in-Err-Lost-clause-nearer
+returns-in-Err-Lost-clause-nearer g c = λ same. is-stopped same
+
+pub returns-in-Err-Chance-clause-ready : goal.returns-in-Err-Chance-clause-ready
+returns-in-Err-Chance-clause-ready g c = λ same. is-stopped same
+
+pub returns-in-Err-Chance-clause-nearer : goal.returns-in-Err-Chance-clause-nearer
+returns-in-Err-Chance-clause-nearer g c = λ same. is-stopped same
+
+pub returns-in-Err-clause-ready : goal.returns-in-Err-clause-ready
+returns-in-Err-clause-ready g c = λ same. is-stopped same
+
+pub returns-in-Err-clause-nearer : goal.returns-in-Err-clause-nearer
+returns-in-Err-clause-nearer g c = λ same. is-stopped same
+
+pub returns-in-Err-read-clause-ready : goal.returns-in-Err-read-clause-ready
+returns-in-Err-read-clause-ready g c = λ same. is-stopped same
+
+pub returns-in-Err-read-clause-nearer : goal.returns-in-Err-read-clause-nearer
+returns-in-Err-read-clause-nearer g c = λ same. is-stopped same
+
+pub returns-in-Ok-finish-clause-ready : goal.returns-in-Ok-finish-clause-ready
+returns-in-Ok-finish-clause-ready g c = λ same. is-done same
+
+pub returns-in-Ok-finish-clause-nearer : goal.returns-in-Ok-finish-clause-nearer
+returns-in-Ok-finish-clause-nearer g c = λ same. is-done same
+
+pub returns-in-Err-finish-clause-ready : goal.returns-in-Err-finish-clause-ready
+returns-in-Err-finish-clause-ready g c = λ same. is-stopped same
+
+pub returns-in-Err-finish-clause-nearer : goal.returns-in-Err-finish-clause-nearer
+returns-in-Err-finish-clause-nearer g c = λ same. is-stopped same
+
+pub returns-in-Err-look-clause-ready : goal.returns-in-Err-look-clause-ready
+returns-in-Err-look-clause-ready g c = λ same. is-stopped same
+
+pub returns-in-Err-look-clause-nearer : goal.returns-in-Err-look-clause-nearer
+returns-in-Err-look-clause-nearer g c = λ same. is-stopped same
+
+pub returns-in-Err-go_on-clause-ready : goal.returns-in-Err-go_on-clause-ready
+returns-in-Err-go_on-clause-ready g c = λ same. is-stopped same
+
+pub returns-in-Err-go_on-clause-nearer : goal.returns-in-Err-go_on-clause-nearer
+returns-in-Err-go_on-clause-nearer g c = λ same. is-stopped same
+
+pub returns-in-Err-Lost-clause-only : goal.returns-in-Err-Lost-clause-only
+returns-in-Err-Lost-clause-only g c = OnlyPuts-refl (g.F.Folder.state c.args.folder.now) (outputs_of (named c.args.names.now))
+
+pub returns-in-Err-Lost-clause-counts : goal.returns-in-Err-Lost-clause-counts
+returns-in-Err-Lost-clause-counts g c = (tt, CountsStand-refl (g.F.Folder.state c.args.folder.now))
+
+pub returns-in-Err-Chance-clause-only : goal.returns-in-Err-Chance-clause-only
+returns-in-Err-Chance-clause-only g c = c.meet_chance.ensures.only
+
+pub returns-in-Err-Chance-clause-counts : goal.returns-in-Err-Chance-clause-counts
+returns-in-Err-Chance-clause-counts g c = c.meet_chance.ensures.counts
+
+pub returns-in-Err-clause-only : goal.returns-in-Err-clause-only
+returns-in-Err-clause-only g c = c.in-Err.ensures.only
+
+pub returns-in-Err-clause-counts : goal.returns-in-Err-clause-counts
+returns-in-Err-clause-counts g c = c.in-Err.ensures.fails
+
+pub hear-requires : goal.hear-requires
+hear-requires g c = c.requires.ready
+
+pub meet_chance-requires : goal.meet_chance-requires
+meet_chance-requires g c = c.requires.apart
+
+pub deliver-requires : goal.deliver-requires
+deliver-requires g c = c.requires.apart
+
+pub read-requires : goal.read-requires
+read-requires g c = within-still c.args.self.now c.deliver.new.self c.requires.ready (c.in-Ok-deliver.ensures.at ∙ c.in-Ok.ensures.at)
+
+pub look-requires-clause-limits : goal.look-requires-clause-limits
+look-requires-clause-limits g c = subst IsInLimits (sym (c.in-Ok-read.ensures.script ∙ c.in-Ok-deliver.ensures.script ∙ c.in-Ok.ensures.script)) c.requires.ready.limits
+
+pub look-requires-clause-orig : goal.look-requires-clause-orig
+look-requires-clause-orig g c = c.in-Ok-read.ensures.orig_few
+
+pub look-requires-clause-answ : goal.look-requires-clause-answ
+look-requires-clause-answ g c = c.in-Ok-read.ensures.answ_few
+
+pub go_on-requires-clause-early : goal.go_on-requires-clause-early
+go_on-requires-clause-early g c =
+    early-still c.args.self.now c.look.new.self c.requires.ready
+    (c.in-Ok-look.ensures.turn ∙ c.in-Ok-read.ensures.turn ∙ c.in-Ok-deliver.ensures.turn ∙ c.in-Ok.ensures.turn)
+
+pub go_on-requires-clause-within : goal.go_on-requires-clause-within
+go_on-requires-clause-within g c =
+    within-still c.args.self.now c.look.new.self c.requires.ready
+    (c.in-Ok-look.ensures.at ∙ c.in-Ok-read.ensures.at ∙ c.in-Ok-deliver.ensures.at ∙ c.in-Ok.ensures.at)

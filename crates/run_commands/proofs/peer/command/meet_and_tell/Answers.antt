@@ -1,8 +1,9 @@
 use Rattle.std.proofs.Common.{◌∙◌, ℕ, List, Ok, Err, subst}
 use Rattle.outside_calls.specs.Folder.{FolderState}
+use Rattle.outside_calls.proofs.Putting.{OnlyOutputs-puts}
 use Rattle.command_base.specs.declared.status.Status.TheVariants.{Done}
 use Rattle.command_base.specs.Tells.{Tells}
-use Rattle.run_commands.specs.Peering.Words.{Names, named}
+use Rattle.run_commands.specs.Peering.Words.{Names, named, outputs_of}
 use Rattle.run_commands.proofs.Peering.Headline.{refused-by}
 use Rattle.run_commands.proofs.peer.command.meet_and_tell.Goals as goal
 
@@ -13,8 +14,8 @@ returns-in-Ok g c =
     record {
       end = Ok c.in-Ok.turns;
       before = before;
-      ends = (c.in-Ok.ensures.ends, c.in-Ok.ensures.said);
-      only = c.in-Ok.ensures.only;
+      ends = (c.in-Ok.ensures.ends, c.in-Ok.ensures.only.said);
+      only = OnlyOutputs-puts (outputs_of (named c.args.names.now)) c.in-Ok.ensures.only;
       refused = λ never. absurd never;
       counts = c.in-Ok.ensures.counts;
       says = subst (λ (line : List ℕ). Tells before new line Done c.tell.result)
@@ -28,8 +29,8 @@ returns-in-Err g c =
     record {
       end = Err c.in-Err.stop;
       before = before;
-      ends = (c.in-Err.ensures.ends, c.in-Err.ensures.said);
-      only = c.in-Err.ensures.only;
+      ends = (c.in-Err.ensures.ends, c.in-Err.ensures.only.said);
+      only = OnlyOutputs-puts (outputs_of n) c.in-Err.ensures.only;
       refused = refused-by (g.F.Folder.state c.args.folder.now) before n (Err c.in-Err.stop) c.in-Err.ensures.ends;
       counts = c.in-Err.ensures.counts;
       says = c.tell_stop.ensures;

@@ -1,10 +1,12 @@
 use Rattle.outside_calls.specs.Folder.{FolderState}
-use Rattle.outside_calls.proofs.Steps.{OnlyReads-trans, CountsStand-trans}
+use Rattle.outside_calls.proofs.Steps.{OnlyReads-trans, FaultsStand-trans, CountsStand-trans}
 use Rattle.command_base.specs.declared.limits.TheConstants.{FILE_LIMIT}
-use Rattle.command_base.proofs.Jobs.{end-earlier}
-use Rattle.outside_calls.proofs.OnlyOutputs.{OnlyOutputs-reads, OnlyOutputs-trans}
+use Rattle.command_base.proofs.Jobs.{stop-earlier, end-earlier}
+use Rattle.outside_calls.proofs.Putting.{OnlyPuts-reads, OnlyPuts-trans}
 use Rattle.run_commands.specs.Peering.Words.{Names, named, inputs_of, outputs_of}
 use Rattle.command_base.proofs.Reading.{within-earlier}
+use Rattle.run_commands.proofs.Peering.Reaching.{bits-fail, file-fails}
+use Rattle.run_commands.proofs.Peering.Starting.{bits-refused, file-refused, refused-counts}
 use Rattle.run_commands.proofs.peer.command.meet_peer.Goals as goal
 
 pub returns-clause-ends : goal.returns-clause-ends
@@ -19,13 +21,6 @@ returns-clause-ends g c =
       stand = CountsStand-trans c.in-Ok.ensures.stand c.in-Ok-within_limit.ensures.stand;
     })
 
-pub returns-clause-only : goal.returns-clause-only
-returns-clause-only g c =
-    let n : Names = named c.args.words.now in
-    OnlyOutputs-trans (outputs_of n)
-    (OnlyOutputs-reads (outputs_of n)
-    (OnlyReads-trans c.in-Ok.ensures.reads c.in-Ok-within_limit.ensures.reads)) c.run_single.ensures.only
-
 pub returns-clause-counts : goal.returns-clause-counts
 returns-clause-counts g c =
     let n : Names = named c.args.words.now in
@@ -34,3 +29,73 @@ returns-clause-counts g c =
     let new : FolderState = g.F.Folder.state c.run_single.new.folder in
     end-earlier old mid new (inputs_of n) (outputs_of n) c.run_single.result
     (CountsStand-trans c.in-Ok.ensures.stand c.in-Ok-within_limit.ensures.stand) c.run_single.ensures.counts
+
+-- ---- the bits are not taken
+
+pub returns-in-Err-clause-ends : goal.returns-in-Err-clause-ends
+returns-in-Err-clause-ends g c =
+    bits-refused (g.F.Folder.state c.args.folder.now) (g.F.Folder.state c.within_limit.new.folder) (named c.args.words.now)
+    c.in-Err.stop c.in-Err.ensures.reads c.in-Err.ensures.refused
+
+pub returns-in-Err-clause-only : goal.returns-in-Err-clause-only
+returns-in-Err-clause-only g c = OnlyPuts-reads (g.F.Folder.state c.args.folder.now) (g.F.Folder.state c.within_limit.new.folder) (outputs_of (named c.args.words.now)) c.in-Err.ensures.reads
+
+pub returns-in-Err-clause-counts : goal.returns-in-Err-clause-counts
+returns-in-Err-clause-counts g c =
+    let n : Names = named c.args.words.now in
+    let old : FolderState = g.F.Folder.state c.args.folder.now in
+    let new : FolderState = g.F.Folder.state c.within_limit.new.folder in
+    refused-counts old new n n.bits 3 c.in-Err.stop (bits-fail old new n) c.in-Err.ensures.refused
+
+-- ---- the file is not taken
+
+pub returns-in-Err-within_limit-clause-ends : goal.returns-in-Err-within_limit-clause-ends
+returns-in-Err-within_limit-clause-ends g c =
+    file-refused (g.F.Folder.state c.args.folder.now) (g.F.Folder.state c.within_limit.new.folder)
+    (g.F.Folder.state c.within_limit-2.new.folder) (named c.args.words.now) c.in-Err-within_limit.stop c.in-Ok.ensures.reads
+    c.in-Ok.ensures.stand c.in-Err-within_limit.ensures.reads c.in-Ok.ensures.within c.in-Err-within_limit.ensures.refused
+
+pub returns-in-Err-within_limit-clause-only : goal.returns-in-Err-within_limit-clause-only
+returns-in-Err-within_limit-clause-only g c =
+    OnlyPuts-reads (g.F.Folder.state c.args.folder.now) (g.F.Folder.state c.within_limit-2.new.folder) (outputs_of (named c.args.words.now))
+    (OnlyReads-trans c.in-Ok.ensures.reads c.in-Err-within_limit.ensures.reads)
+
+pub returns-in-Err-within_limit-clause-counts : goal.returns-in-Err-within_limit-clause-counts
+returns-in-Err-within_limit-clause-counts g c =
+    let n : Names = named c.args.words.now in
+    let old : FolderState = g.F.Folder.state c.args.folder.now in
+    let mid : FolderState = g.F.Folder.state c.within_limit.new.folder in
+    let new : FolderState = g.F.Folder.state c.within_limit-2.new.folder in
+    stop-earlier old mid new (inputs_of n) (outputs_of n) c.in-Err-within_limit.stop c.in-Ok.ensures.stand
+    (refused-counts mid new n n.file 2 c.in-Err-within_limit.stop (file-fails mid new n) c.in-Err-within_limit.ensures.refused)
+
+-- ---- there is no memory
+
+pub returns-in-Err-new-clause-ends : goal.returns-in-Err-new-clause-ends
+returns-in-Err-new-clause-ends g c =
+    let n : Names = named c.args.words.now in
+    let old : FolderState = g.F.Folder.state c.args.folder.now in
+    let mid : FolderState = g.F.Folder.state c.within_limit.new.folder in
+    let reads = OnlyReads-trans c.in-Ok.ensures.reads c.in-Ok-within_limit.ensures.reads in (
+      reads.names,
+      c.in-Ok.ensures.within,
+      within-earlier old mid n.file FILE_LIMIT c.in-Ok.ensures.reads c.in-Ok-within_limit.ensures.within,
+    )
+
+pub returns-in-Err-new-clause-only : goal.returns-in-Err-new-clause-only
+returns-in-Err-new-clause-only g c =
+    OnlyPuts-reads (g.F.Folder.state c.args.folder.now) (g.F.Folder.state c.within_limit-2.new.folder) (outputs_of (named c.args.words.now))
+    (OnlyReads-trans c.in-Ok.ensures.reads c.in-Ok-within_limit.ensures.reads)
+
+pub returns-in-Err-new-clause-counts : goal.returns-in-Err-new-clause-counts
+returns-in-Err-new-clause-counts g c = FaultsStand-trans c.in-Ok.ensures.stand.faults c.in-Ok-within_limit.ensures.stand.faults
+
+pub returns-clause-only : goal.returns-clause-only
+returns-clause-only g c =
+    let n : Names = named c.args.words.now in
+    let old : FolderState = g.F.Folder.state c.args.folder.now in
+    let mid : FolderState = g.F.Folder.state c.within_limit-2.new.folder in
+    let new : FolderState = g.F.Folder.state c.run_single.new.folder in
+    OnlyPuts-trans old mid new (outputs_of n)
+    (OnlyPuts-reads old mid (outputs_of n) (OnlyReads-trans c.in-Ok.ensures.reads c.in-Ok-within_limit.ensures.reads))
+    c.run_single.ensures.only

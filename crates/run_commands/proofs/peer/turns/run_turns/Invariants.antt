@@ -1,7 +1,7 @@
 use Rattle.std.proofs.Common.{◌-◌, ◌*◌, ◌≤◌}
 use Rattle.outside_calls.specs.Folder.{FolderState, CountsStand}
 use Rattle.command_base.specs.declared.limits.TheConstants.{FILE_LIMIT}
-use Rattle.outside_calls.specs.Outputs.{OnlyOutputs, SaysNothing}
+use Rattle.outside_calls.specs.Outputs.{OnlyPuts}
 use Rattle.line_world.specs.OneEnd.Heard.{slot_octets}
 use Rattle.line_world.specs.OneEnd.Single.{IsReady, turn_of}
 use Rattle.run_commands.specs.Peering.Words.{named, outputs_of}
@@ -14,8 +14,7 @@ invariant-loop-turns g l = record {
       → Reached start (g.F.Folder.state l.folder) (named l.words) l.single;
   ready : IsReady l.single;
   within : slot_octets * turn_of l.single ≤ FILE_LIMIT;
-  only : OnlyOutputs (g.F.Folder.state l.fn.folder) (g.F.Folder.state l.folder) (outputs_of (named l.words));
-  said : SaysNothing (g.F.Folder.state l.fn.folder) (g.F.Folder.state l.folder);
+  only : OnlyPuts (g.F.Folder.state l.fn.folder) (g.F.Folder.state l.folder) (outputs_of (named l.words));
   stand : CountsStand (g.F.Folder.state l.fn.folder) (g.F.Folder.state l.folder);
 }
 

@@ -1,4 +1,4 @@
-use Rattle.std.proofs.Common.{[], sym, subst}
+use Rattle.std.proofs.Common.{◌∙◌, [], sym, subst}
 use Rattle.outside_calls.specs.Folder.{FolderState}
 use Rattle.noise_script.specs.Script.{ScriptValue}
 use Rattle.link_run.specs.Run.{start}
@@ -54,3 +54,18 @@ returns-clause-counts g c =
     let n : RunNames = named c.args.words.now in
     end-earlier old mid next (inputs_of n) (outputs_of n) c.run_world.result
     (c.in-Ok.ensures.counts (outputs_of n)) c.run_world.ensures.counts
+
+pub returns-in-Err-clause-only : goal.returns-in-Err-clause-only
+returns-in-Err-clause-only g c = OnlyOutputs-reads (outputs_of (named c.args.words.now)) c.in-Err.ensures.reads
+
+pub returns-in-Err-clause-said : goal.returns-in-Err-clause-said
+returns-in-Err-clause-said g c = c.in-Err.ensures.reads.said
+
+pub returns-in-Err-new-clause-only : goal.returns-in-Err-new-clause-only
+returns-in-Err-new-clause-only g c = OnlyOutputs-reads (outputs_of (named c.args.words.now)) c.in-Ok.ensures.reads
+
+pub returns-in-Err-new-clause-said : goal.returns-in-Err-new-clause-said
+returns-in-Err-new-clause-said g c = c.in-Ok.ensures.reads.said
+
+pub returns-clause-said : goal.returns-clause-said
+returns-clause-said g c = c.run_world.ensures.said ∙ c.in-Ok.ensures.reads.said

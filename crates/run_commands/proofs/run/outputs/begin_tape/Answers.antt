@@ -1,5 +1,6 @@
-use Rattle.std.proofs.Common.{List, ℕ, ◌∙◌, ap, subst}
-use Rattle.outside_calls.specs.Folder.{FolderState, Appended}
+use Rattle.std.proofs.Common.{List, ℕ, [], ◌∙◌, ap, subst}
+use Rattle.outside_calls.specs.Folder.{FolderState, Appended, PartlyAppended}
+use Rattle.outside_calls.proofs.Holding.{HoldsFront-more}
 use Rattle.shared_terms.specs.Role.{mode_of}
 use Rattle.recordings.specs.Recording.{header_of}
 use Rattle.run_commands.proofs.Running.Heads.{begins, heads}
@@ -23,3 +24,23 @@ returns-in-Ok-clause-head g c =
     heads a b c.args.name.now (header_of (mode_of c.args.role)) c.in-Ok.ensures.only.goes_on c.requires
     (subst (λ (o : List ℕ). Appended a b c.args.name.now o)
     (c.as_slice.ensures.items ∙ c.header_octets.ensures ∙ ap header_of c.mode.ensures) c.in-Ok.ensures.ok)
+
+pub returns-in-Ok-clause-only : goal.returns-in-Ok-clause-only
+returns-in-Ok-clause-only g c = c.in-Ok.ensures.only
+
+pub returns-in-Ok-clause-stand : goal.returns-in-Ok-clause-stand
+returns-in-Ok-clause-stand g c = c.in-Ok.ensures.stand
+
+pub returns-in-Err-clause-err : goal.returns-in-Err-clause-err
+returns-in-Err-clause-err g c =
+    let a : FolderState = g.F.Folder.state c.args.folder.now in
+    let b : FolderState = g.F.Folder.state c.append_output.new.folder in
+    HoldsFront-more a b c.args.name.now [] (header_of (mode_of c.args.role)) c.in-Err.ensures.only.goes_on c.requires
+    (subst (λ (o : List ℕ). PartlyAppended a b c.args.name.now o)
+    (c.as_slice.ensures.items ∙ c.header_octets.ensures ∙ ap header_of c.mode.ensures) c.in-Err.ensures.err)
+
+pub returns-in-Err-clause-only : goal.returns-in-Err-clause-only
+returns-in-Err-clause-only g c = c.in-Err.ensures.only
+
+pub returns-in-Err-clause-fails : goal.returns-in-Err-clause-fails
+returns-in-Err-clause-fails g c = c.in-Err.ensures.fails

@@ -1,9 +1,10 @@
-use Rattle.std.proofs.Common.{inl, inr}
+use Rattle.std.proofs.Common.{◌∙◌, inl, inr}
 use Rattle.outside_calls.specs.Folder.{FolderState}
+use Rattle.outside_calls.proofs.Steps.{CountsStand-trans}
 use Rattle.line_run.specs.Recorded.{tapes_of}
 use Rattle.run_inputs.specs.Words.{RunNames, named, texts_of, inputs_of, outputs_of}
 use Rattle.line_world.proofs.Several.{keeps-front}
-use Rattle.run_commands.proofs.Running.Heads.{creates-kept, creates-front}
+use Rattle.run_commands.proofs.Running.Heads.{creates-kept, creates-front, tapes-apart, creates-tapes, touches-tapes, tapes-fail}
 use Rattle.run_commands.proofs.run.outputs.make_outputs.Goals as goal
 
 pub returns-in-Err-clause-err : goal.returns-in-Err-clause-err
@@ -38,3 +39,48 @@ returns-in-Err-begin_tapes-clause-err g c =
           })) (creates-front now n c.in-Ok.ensures.ok),
       c.in-Err-begin_tapes.ensures.err,
     )
+
+pub begin_tapes-requires-clause-apart : goal.begin_tapes-requires-clause-apart
+begin_tapes-requires-clause-apart g c =
+    let n : RunNames = named c.args.words.now in
+    tapes-apart n (c.apart_names_differ.ensures.outputs (inputs_of n) (outputs_of n) c.requires)
+
+pub begin_tapes-requires-clause-created : goal.begin_tapes-requires-clause-created
+begin_tapes-requires-clause-created g c =
+    creates-tapes (g.F.Folder.state c.create_all.new.folder) (named c.args.words.now) c.in-Ok.ensures.ok
+
+pub returns-in-Err-clause-only : goal.returns-in-Err-clause-only
+returns-in-Err-clause-only g c = c.in-Err.ensures.only
+
+pub returns-in-Err-clause-said : goal.returns-in-Err-clause-said
+returns-in-Err-clause-said g c = c.in-Err.ensures.said
+
+pub returns-in-Err-clause-fails : goal.returns-in-Err-clause-fails
+returns-in-Err-clause-fails g c = c.in-Err.ensures.fails
+
+pub returns-in-Ok-begin_tapes-clause-ok : goal.returns-in-Ok-begin_tapes-clause-ok
+returns-in-Ok-begin_tapes-clause-ok g c = c.in-Ok-begin_tapes.ensures.ok
+
+pub returns-in-Ok-begin_tapes-clause-only : goal.returns-in-Ok-begin_tapes-clause-only
+returns-in-Ok-begin_tapes-clause-only g c =
+    touches-tapes (g.F.Folder.state c.args.folder.now) (g.F.Folder.state c.create_all.new.folder)
+    (g.F.Folder.state c.begin_tapes.new.folder) (named c.args.words.now) c.in-Ok.ensures.only c.in-Ok-begin_tapes.ensures.only
+
+pub returns-in-Ok-begin_tapes-clause-said : goal.returns-in-Ok-begin_tapes-clause-said
+returns-in-Ok-begin_tapes-clause-said g c = c.in-Ok-begin_tapes.ensures.said ∙ c.in-Ok.ensures.said
+
+pub returns-in-Ok-begin_tapes-clause-stand : goal.returns-in-Ok-begin_tapes-clause-stand
+returns-in-Ok-begin_tapes-clause-stand g c = CountsStand-trans c.in-Ok.ensures.stand c.in-Ok-begin_tapes.ensures.stand
+
+pub returns-in-Err-begin_tapes-clause-only : goal.returns-in-Err-begin_tapes-clause-only
+returns-in-Err-begin_tapes-clause-only g c =
+    touches-tapes (g.F.Folder.state c.args.folder.now) (g.F.Folder.state c.create_all.new.folder)
+    (g.F.Folder.state c.begin_tapes.new.folder) (named c.args.words.now) c.in-Ok.ensures.only c.in-Err-begin_tapes.ensures.only
+
+pub returns-in-Err-begin_tapes-clause-said : goal.returns-in-Err-begin_tapes-clause-said
+returns-in-Err-begin_tapes-clause-said g c = c.in-Err-begin_tapes.ensures.said ∙ c.in-Ok.ensures.said
+
+pub returns-in-Err-begin_tapes-clause-fails : goal.returns-in-Err-begin_tapes-clause-fails
+returns-in-Err-begin_tapes-clause-fails g c =
+    tapes-fail (g.F.Folder.state c.args.folder.now) (g.F.Folder.state c.create_all.new.folder) (g.F.Folder.state c.begin_tapes.new.folder)
+    (named c.args.words.now) c.in-Err-begin_tapes.fault c.in-Ok.ensures.stand c.in-Err-begin_tapes.ensures.fails

@@ -1,4 +1,4 @@
-use Rattle.std.proofs.Common.{◌++◌, ◌∙◌, sym, ap}
+use Rattle.std.proofs.Common.{◌≡◌, ◌++◌, ◌∙◌, sym, ap, arith}
 use Rattle.run_commands.specs.Soaking.Drawing.{word_octets, drawn_octets}
 use Rattle.run_commands.proofs.Soaking.DrawnWords.{drawn-none, drawn-more}
 use Rattle.run_commands.proofs.soak.files.drawn_octets.Goals as goal
@@ -11,3 +11,8 @@ loop-place-preserved c =
     c.in_ok-put_word.ensures ∙ ap (λ l. l ++ word_octets c.drawn_word.result) c.loop-place.invariant
     ∙ ap (λ w. drawn_octets c.args.seed c.args.from c.loop-place.place ++ word_octets w) c.drawn_word.ensures
     ∙ sym (drawn-more c.args.seed c.args.from c.loop-place.place)
+
+pub returns : goal.returns
+returns c =
+    let all : c.loop-place.place ≡ c.args.count = omega (arith, c.loop-place-test.false, c.loop-place.auto.place-end) in
+    c.loop-place.invariant ∙ ap (λ n. drawn_octets c.args.seed c.args.from n) all

@@ -9,8 +9,8 @@ use Rattle.run_commands.proofs.soak.script.soak_text.Goals as goal
 
 pub loop-n-init : goal.loop-n-init
 loop-n-init c =
-    let first : c.extend_from_slice.new.self.items ≡ delay_line ++ 10 ∷ [] =
-    c.in_ok-extend_from_slice.ensures.items ∙ ap (λ l. l ++ codes "delay 3 5\n") c.new-text.ensures.items in
+    let first : c.put_octets.new.octets.items ≡ delay_line ++ 10 ∷ [] =
+    c.in_ok-put_octets.ensures ∙ ap (λ l. l ++ codes "delay 3 5\n") c.new-text.ensures.items in
     let next : c.put_noise.new.text.items ≡ (delay_line ++ 10 ∷ []) ++ (noise_line Originator c.args.seed ++ 10 ∷ [])
     = c.in_ok-put_noise.ensures ∙ ap (λ l. l ++ (noise_line Originator c.args.seed ++ 10 ∷ [])) first in
     c.in_ok-put_noise-2.ensures ∙ ap (λ l. l ++ (noise_line Answerer c.args.seed ++ 10 ∷ [])) next

@@ -1,6 +1,7 @@
 use Rattle.std.proofs.Common.{inl, inr, [], ◌∷◌, refl}
 use Rattle.outside_calls.specs.Folder.{FolderState}
-use Rattle.outside_calls.proofs.Steps.{KeepsName-trans, CountsStand-trans}
+use Rattle.outside_calls.proofs.Steps.{KeepsName-trans, FaultsStand-refl, CountsStand-trans}
+use Rattle.outside_calls.proofs.OnlyOutputs.{OnlyOutput-refl, OnlyOutput-writes, OnlyOutput-trans}
 use Rattle.recordings.specs.declared.header.TheConstants.{HEADER}
 use Rattle.command_base.proofs.Behind.{behind-none, reads-first}
 use Rattle.outside_calls.specs.Outputs.{OnlyOutput}
@@ -78,3 +79,35 @@ returns-in-Err-play_to_end-clause-counts g c =
     stop-earlier (g.F.Folder.state c.args.folder.now) (g.F.Folder.state c.create_output.new.folder)
     (g.F.Folder.state c.play_to_end.new.folder) (c.args.names.now.rec.now ∷ [])
     (c.args.names.now.file.now ∷ []) c.in-Err-play_to_end.stop c.in-Ok-create_output.ensures.stand c.in-Err-play_to_end.ensures.counts
+
+pub returns-in-Err-clause-ends : goal.returns-in-Err-clause-ends
+returns-in-Err-clause-ends g c start o =
+    record {
+      keeps = o.reads.names;
+      stand = o.stand;
+      within = o.within;
+      mode = c.args.mode;
+      header = o.header;
+    }
+
+pub returns-in-Err-clause-only : goal.returns-in-Err-clause-only
+returns-in-Err-clause-only g c = OnlyOutput-refl (g.F.Folder.state c.args.folder.now) c.args.names.now.file.now
+
+pub returns-in-Err-clause-counts : goal.returns-in-Err-clause-counts
+returns-in-Err-clause-counts g c = FaultsStand-refl (g.F.Folder.state c.args.folder.now)
+
+pub returns-in-Err-create_output-clause-only : goal.returns-in-Err-create_output-clause-only
+returns-in-Err-create_output-clause-only g c = OnlyOutput-writes c.args.names.now.file.now c.in-Err-create_output.ensures.only
+
+pub returns-in-Err-create_output-clause-counts : goal.returns-in-Err-create_output-clause-counts
+returns-in-Err-create_output-clause-counts g c = c.in-Err-create_output.ensures.fails
+
+pub returns-in-Ok-play_to_end-clause-only : goal.returns-in-Ok-play_to_end-clause-only
+returns-in-Ok-play_to_end-clause-only g c =
+    OnlyOutput-trans c.args.names.now.file.now (OnlyOutput-writes c.args.names.now.file.now c.in-Ok-create_output.ensures.only)
+    (OnlyOutput-trans c.args.names.now.file.now c.in-Ok-play_to_end.ensures.only c.write_rest.ensures.only)
+
+pub returns-in-Err-play_to_end-clause-only : goal.returns-in-Err-play_to_end-clause-only
+returns-in-Err-play_to_end-clause-only g c =
+    OnlyOutput-trans c.args.names.now.file.now (OnlyOutput-writes c.args.names.now.file.now c.in-Ok-create_output.ensures.only)
+    c.in-Err-play_to_end.ensures.only

@@ -1,6 +1,8 @@
-use Rattle.std.proofs.Common.{◌≡◌, ◌≢◌, ◌∙◌, inl, inr, ℕ, ◌+◌, ◌-◌, ◌%◌, ◌++◌, List, length, length-append, take, sym, subst, arith}
+use Rattle.std.proofs.Common.{◌≡◌, ◌≢◌, ◌∙◌, inl, inr, ℕ, ◌+◌, ◌-◌, ◌%◌, [], ◌∷◌, ◌++◌, List, length, length-append, take, sym, subst, arith}
 use Rattle.std.proofs.lemmas.List.{length-take}
 use Rattle.outside_calls.specs.Folder.{FolderState, Appended, PartlyAppended}
+use Rattle.outside_calls.proofs.Steps.{CountsStand-trans}
+use Rattle.command_base.proofs.Jobs.{write-earlier}
 use Rattle.symbol_map.specs.declared.sample.Sample.{Sample}
 use Rattle.signal_commands.specs.Decoding.Words.{DecodeNames, named}
 use Rattle.recordings.specs.Samples.{samples_in}
@@ -8,11 +10,11 @@ use Rattle.recordings.proofs.Samples.{samples_in-append}
 use Rattle.command_base.specs.Recordings.{ReadBehind}
 use Rattle.command_base.proofs.Behind.{behind-kept, reads-first, reads-all}
 use Rattle.signal_commands.specs.declared.decode.playback.Playback.{Playback}
-use Rattle.signal_commands.specs.Decoding.Playing.{Hears}
+use Rattle.signal_commands.specs.Decoding.Playing.{Hears, IsReady}
 use Rattle.signal_commands.specs.Decoding.Played.{LosesWithin}
 use Rattle.signal_commands.proofs.Decoding.Parts.{Releases, piece-releases, part, front-part, lost-part, cut-part}
 use Rattle.outside_calls.proofs.Holding.{HoldsFront-more, Holds-kept, Holds-more}
-use Rattle.signal_commands.proofs.Decoding.Steps.{apart-names, only-read, only-write}
+use Rattle.signal_commands.proofs.Decoding.Steps.{apart-names, only-read, only-write, only-of-reads}
 use Rattle.signal_commands.proofs.decode.player.play_next.Goals as goal
 
 pub returns-in-Err-clause-err : goal.returns-in-Err-clause-err
@@ -67,26 +69,22 @@ returns-in-Ok-played-clause-ok g c start written h =
     let hears = c.in-Ok-played.ensures.plays n.rate c.args.mode (samples_in h.content) h.octets h.hears in
     let kept = Holds-kept old n1 n.file h.octets reads.goes_on h.file (reads.names n.file) in
     let puts : Appended n1 n2 n.file given =
-    subst (λ (xs : List ℕ). Appended n1 n2 n.file xs) c.as_slice.ensures.items c.in-Ok-append_output.ensures.ok in
-    record {
-      content = h.content ++ piece;
-      octets = h.octets ++ given;
-      hears = subst (λ (xs : List Sample). Hears n.rate c.args.mode p xs (h.octets ++ given))
-          (sym (samples_in-append h.content piece h.whole)) hears;
-      whole = omega (arith, h.whole, length-append h.content piece, long, c.if-read-eq0.true);
-      written_is = omega (arith, h.written_is, length-append h.octets given, c.len.ensures.count);
-      behind = behind-kept start n1 n2 n.rec n.rate c.args.mode (h.content ++ piece)
-          (c.args.at + c.in-Ok.read) behind c.append_output.ensures.only.goes_on
-          (c.append_output.ensures.only.names n.rec (apart-names n c.requires.apart));
-      only = only-write start n1 n2 n.file (only-read start old n1 n.file h.only reads) c.append_output.ensures.only;
-      file = Holds-more n1 n2 n.file h.octets given c.append_output.ensures.only.goes_on kept puts;
-    }
-
-pub returns-in-Ok-played-clause-end : goal.returns-in-Ok-played-clause-end
-returns-in-Ok-played-clause-end g c start written h none told =
-    let n : DecodeNames = named c.args.names.now in
-    let e = c.in-Ok.ensures.end start n.rate c.args.mode h.content h.behind (inr none) told in
-    omega (arith, e, none)
+    subst (λ (xs : List ℕ). Appended n1 n2 n.file xs) c.as_slice.ensures.items c.in-Ok-append_output.ensures.ok in (
+      record {
+        content = h.content ++ piece;
+        octets = h.octets ++ given;
+        hears = subst (λ (xs : List Sample). Hears n.rate c.args.mode p xs (h.octets ++ given))
+            (sym (samples_in-append h.content piece h.whole)) hears;
+        whole = omega (arith, h.whole, length-append h.content piece, long, c.if-read-eq0.true);
+        written_is = omega (arith, h.written_is, length-append h.octets given, c.len.ensures.count);
+        behind = behind-kept start n1 n2 n.rec n.rate c.args.mode (h.content ++ piece)
+            (c.args.at + c.in-Ok.read) behind c.append_output.ensures.only.goes_on
+            (c.append_output.ensures.only.names n.rec (apart-names n c.requires.apart));
+        only = only-write start n1 n2 n.file (only-read start old n1 n.file h.only reads) c.append_output.ensures.only;
+        file = Holds-more n1 n2 n.file h.octets given c.append_output.ensures.only.goes_on kept puts;
+      },
+      λ none told. (let e = c.in-Ok.ensures.end start n.rate c.args.mode h.content h.behind (inr none) told in omega (arith, e, none)),
+    )
 
 pub returns-in-Ok-2-clause-err : goal.returns-in-Ok-2-clause-err
 returns-in-Ok-2-clause-err g c start written h =
@@ -142,3 +140,83 @@ returns-in-Err-played-clause-err g c start written h =
     (sym (samples_in-append h.content piece h.whole)) loses)
     c.hearer_of.ensures
     (Holds-more n1 n2 n.file h.octets given c.append_output.ensures.only.goes_on kept puts)
+
+pub returns-in-Err-clause-size : goal.returns-in-Err-clause-size
+returns-in-Err-clause-size g c = c.read_samples.ensures.kept
+
+pub returns-in-Err-clause-only : goal.returns-in-Err-clause-only
+returns-in-Err-clause-only g c =
+    only-of-reads (g.F.Folder.state c.args.folder.now) (g.F.Folder.state c.read_samples.new.folder) c.args.names.now.file.now c.read_samples.ensures.reads
+
+pub returns-in-Err-clause-counts : goal.returns-in-Err-clause-counts
+returns-in-Err-clause-counts g c = c.in-Err.ensures.fails
+
+pub returns-in-Err-append_output-clause-size : goal.returns-in-Err-append_output-clause-size
+returns-in-Err-append_output-clause-size g c = c.read_samples.ensures.kept
+
+pub returns-in-Err-append_output-clause-only : goal.returns-in-Err-append_output-clause-only
+returns-in-Err-append_output-clause-only g c =
+    let n1 : FolderState = g.F.Folder.state c.read_samples.new.folder in
+    only-write (g.F.Folder.state c.args.folder.now) n1 (g.F.Folder.state c.append_output.new.folder) c.args.names.now.file.now
+    (only-of-reads (g.F.Folder.state c.args.folder.now) n1 c.args.names.now.file.now c.read_samples.ensures.reads) c.append_output.ensures.only
+
+pub returns-in-Err-append_output-clause-counts : goal.returns-in-Err-append_output-clause-counts
+returns-in-Err-append_output-clause-counts g c =
+    write-earlier (g.F.Folder.state c.args.folder.now) (g.F.Folder.state c.read_samples.new.folder) (g.F.Folder.state c.append_output.new.folder)
+    (c.args.names.now.file.now ∷ []) c.in-Err-append_output.fault c.in-Ok.ensures.stand c.in-Err-append_output.ensures.fails
+
+pub returns-in-Ok-played-clause-size : goal.returns-in-Ok-played-clause-size
+returns-in-Ok-played-clause-size g c = c.read_samples.ensures.kept
+
+pub returns-in-Ok-played-clause-only : goal.returns-in-Ok-played-clause-only
+returns-in-Ok-played-clause-only g c =
+    let n1 : FolderState = g.F.Folder.state c.read_samples.new.folder in
+    only-write (g.F.Folder.state c.args.folder.now) n1 (g.F.Folder.state c.append_output.new.folder) c.args.names.now.file.now
+    (only-of-reads (g.F.Folder.state c.args.folder.now) n1 c.args.names.now.file.now c.read_samples.ensures.reads) c.append_output.ensures.only
+
+pub returns-in-Ok-played-clause-counts : goal.returns-in-Ok-played-clause-counts
+returns-in-Ok-played-clause-counts g c = CountsStand-trans c.in-Ok.ensures.stand c.in-Ok-append_output.ensures.stand
+
+pub returns-in-Ok-2-clause-size : goal.returns-in-Ok-2-clause-size
+returns-in-Ok-2-clause-size g c = c.read_samples.ensures.kept
+
+pub returns-in-Ok-2-clause-only : goal.returns-in-Ok-2-clause-only
+returns-in-Ok-2-clause-only g c =
+    let n1 : FolderState = g.F.Folder.state c.read_samples.new.folder in
+    only-write (g.F.Folder.state c.args.folder.now) n1 (g.F.Folder.state c.append_output.new.folder) c.args.names.now.file.now
+    (only-of-reads (g.F.Folder.state c.args.folder.now) n1 c.args.names.now.file.now c.read_samples.ensures.reads) c.append_output.ensures.only
+
+pub returns-in-Ok-2-clause-counts : goal.returns-in-Ok-2-clause-counts
+returns-in-Ok-2-clause-counts g c = (tt, CountsStand-trans c.in-Ok.ensures.stand c.in-Ok-append_output.ensures.stand)
+
+pub returns-in-Err-played-clause-size : goal.returns-in-Err-played-clause-size
+returns-in-Err-played-clause-size g c = c.read_samples.ensures.kept
+
+pub returns-in-Err-played-clause-only : goal.returns-in-Err-played-clause-only
+returns-in-Err-played-clause-only g c =
+    let n1 : FolderState = g.F.Folder.state c.read_samples.new.folder in
+    only-write (g.F.Folder.state c.args.folder.now) n1 (g.F.Folder.state c.append_output.new.folder) c.args.names.now.file.now
+    (only-of-reads (g.F.Folder.state c.args.folder.now) n1 c.args.names.now.file.now c.read_samples.ensures.reads) c.append_output.ensures.only
+
+pub returns-in-Err-played-clause-counts : goal.returns-in-Err-played-clause-counts
+returns-in-Err-played-clause-counts g c = (tt, CountsStand-trans c.in-Ok.ensures.stand c.in-Ok-append_output.ensures.stand)
+
+pub returns-in-Ok-played-clause-next : goal.returns-in-Ok-played-clause-next
+returns-in-Ok-played-clause-next g c =
+    let long : length (take c.in-Ok.read c.read_samples.new.piece) ≡ c.in-Ok.read =
+    length-take c.in-Ok.read c.read_samples.new.piece ∙ omega (arith, c.in-Ok.ensures.bound, c.read_samples.ensures.kept) in (
+      subst (λ (count : ℕ). IsReady c.play_piece-played.new.playback.reader (c.args.at + count)) long
+          (c.in-Ok-played.ensures.ready c.args.at c.requires.ready),
+      c.in-Ok.ensures.within,
+      omega (arith, c.len.ensures.count, c.len.ensures.bound),
+    )
+
+pub play_piece-played-requires-clause-few : goal.play_piece-played-requires-clause-few
+play_piece-played-requires-clause-few g c = omega (arith, length-take c.in-Ok.read c.read_samples.new.piece, c.in-Ok.ensures.bound)
+
+pub play_piece-played-requires-clause-ready : goal.play_piece-played-requires-clause-ready
+play_piece-played-requires-clause-ready g c = record {
+  not_lost = c.requires.ready.not_lost;
+  all_taken = c.requires.ready.all_taken;
+  count = omega (arith, c.requires.ready.count, c.requires.within);
+}

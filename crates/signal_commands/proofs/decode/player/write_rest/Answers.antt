@@ -4,6 +4,7 @@ use Rattle.signal_commands.specs.Decoding.Words.{DecodeNames, named}
 use Rattle.recordings.specs.Samples.{samples_in}
 use Rattle.signal_commands.specs.Decoding.Ends.{IsFollowed}
 use Rattle.outside_calls.proofs.Holding.{HoldsFront-more, Holds-more}
+use Rattle.outside_calls.proofs.OnlyOutputs.{OnlyOutput-writes}
 use Rattle.command_base.proofs.Behind.{reads-all}
 use Rattle.signal_commands.proofs.Decoding.Parts.{followed}
 use Rattle.signal_commands.proofs.decode.player.write_rest.Goals as goal
@@ -49,3 +50,15 @@ returns-in-Err-clause-ends g c start mode at h end =
         file = HoldsFront-more old n2 n.file h.octets given c.append_output.ensures.only.goes_on h.file puts;
       }),
     )
+
+pub returns-in-Ok-clause-only : goal.returns-in-Ok-clause-only
+returns-in-Ok-clause-only g c = OnlyOutput-writes c.args.names.now.file.now c.append_output.ensures.only
+
+pub returns-in-Err-clause-only : goal.returns-in-Err-clause-only
+returns-in-Err-clause-only g c = OnlyOutput-writes c.args.names.now.file.now c.append_output.ensures.only
+
+pub returns-in-Ok-clause-counts : goal.returns-in-Ok-clause-counts
+returns-in-Ok-clause-counts g c = c.in-Ok.ensures.stand
+
+pub returns-in-Err-clause-counts : goal.returns-in-Err-clause-counts
+returns-in-Err-clause-counts g c = c.in-Err.ensures.fails

@@ -1,6 +1,10 @@
+use Rattle.std.proofs.Common.{[], ◌∷◌}
 use Rattle.outside_calls.specs.Folder.{FolderState}
+use Rattle.outside_calls.proofs.Steps.{CountsStand-trans}
+use Rattle.outside_calls.proofs.OnlyOutputs.{OnlyOutput-reads, OnlyOutput-trans}
+use Rattle.command_base.proofs.Jobs.{write-earlier, end-earlier}
 use Rattle.signal_commands.specs.Encoding.Words.{named}
-use Rattle.signal_commands.proofs.Encoding.Making.{create-part, not-begun}
+use Rattle.signal_commands.proofs.Encoding.Making.{create-part, not-begun, refused-counts, writes-only}
 use Rattle.signal_commands.proofs.encode.recording.make_recording.Goals as goal
 
 pub returns-in-Err-clause-ends : goal.returns-in-Err-clause-ends
@@ -16,3 +20,42 @@ returns-in-Err-create_output-clause-ends g c =
       create-part old mid new
           (named c.args.names.now) c.in-Ok.ensures.within c.in-Ok.ensures.reads c.in-Err-create_output.ensures.err,
     )
+
+pub returns-in-Err-clause-only : goal.returns-in-Err-clause-only
+returns-in-Err-clause-only g c = OnlyOutput-reads c.args.names.now.rec.now c.in-Err.ensures.reads
+
+pub returns-in-Err-clause-counts : goal.returns-in-Err-clause-counts
+returns-in-Err-clause-counts g c =
+    refused-counts (g.F.Folder.state c.args.folder.now) (g.F.Folder.state c.within_limit.new.folder) (named c.args.names.now) c.in-Err.stop c.in-Err.ensures.refused
+
+pub returns-in-Err-create_output-clause-only : goal.returns-in-Err-create_output-clause-only
+returns-in-Err-create_output-clause-only g c =
+    writes-only (g.F.Folder.state c.args.folder.now) (g.F.Folder.state c.within_limit.new.folder) (g.F.Folder.state c.create_output.new.folder)
+    (named c.args.names.now) c.in-Ok.ensures.reads c.in-Err-create_output.ensures.only
+
+pub returns-in-Err-create_output-clause-counts : goal.returns-in-Err-create_output-clause-counts
+returns-in-Err-create_output-clause-counts g c =
+    write-earlier (g.F.Folder.state c.args.folder.now) (g.F.Folder.state c.within_limit.new.folder) (g.F.Folder.state c.create_output.new.folder)
+    (c.args.names.now.rec.now ∷ []) c.in-Err-create_output.fault c.in-Ok.ensures.stand c.in-Err-create_output.ensures.fails
+
+pub returns-clause-ends : goal.returns-clause-ends
+returns-clause-ends g c =
+    c.record_file.ensures.ends (g.F.Folder.state c.args.folder.now) (record {
+      within = c.in-Ok.ensures.within;
+      only = writes-only (g.F.Folder.state c.args.folder.now) (g.F.Folder.state c.within_limit.new.folder) (g.F.Folder.state c.create_output.new.folder)
+          (named c.args.names.now) c.in-Ok.ensures.reads c.in-Ok-create_output.ensures.only;
+      empty = c.in-Ok-create_output.ensures.ok;
+    })
+
+pub returns-clause-only : goal.returns-clause-only
+returns-clause-only g c =
+    OnlyOutput-trans c.args.names.now.rec.now
+    (writes-only (g.F.Folder.state c.args.folder.now) (g.F.Folder.state c.within_limit.new.folder) (g.F.Folder.state c.create_output.new.folder)
+    (named c.args.names.now) c.in-Ok.ensures.reads c.in-Ok-create_output.ensures.only)
+    c.record_file.ensures.only
+
+pub returns-clause-counts : goal.returns-clause-counts
+returns-clause-counts g c =
+    end-earlier (g.F.Folder.state c.args.folder.now) (g.F.Folder.state c.create_output.new.folder) (g.F.Folder.state c.record_file.new.folder)
+    (c.args.names.now.file.now ∷ []) (c.args.names.now.rec.now ∷ []) c.record_file.result
+    (CountsStand-trans c.in-Ok.ensures.stand c.in-Ok-create_output.ensures.stand) c.record_file.ensures.counts

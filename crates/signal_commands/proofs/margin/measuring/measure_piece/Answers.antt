@@ -1,5 +1,5 @@
-use Rattle.std.proofs.Common.{◌≡◌, ◌+◌, ◌*◌, ◌++◌, ◌∷◌, [], ℕ, List, take, slice_index, sym, subst, arith, append_assoc, ap, ◌∙◌}
-use Rattle.std.proofs.lemmas.List.{take_more}
+use Rattle.std.proofs.Common.{◌≡◌, ◌+◌, ◌*◌, ◌++◌, ◌∷◌, [], ℕ, List, take, slice_index, sym, subst, arith, append-nil, append_assoc, ap, ◌∙◌}
+use Rattle.std.proofs.lemmas.List.{take_more, take_all}
 use Rattle.symbol_map.specs.declared.sample.Sample.{Sample}
 use Rattle.noise_bound.specs.Margins.{MarginStands}
 use Rattle.recordings.specs.Samples.{samples_in}
@@ -36,3 +36,28 @@ loop-place-preserved c =
           (octet-more before octets place octet (λ i. octet) (take_more octets place 0 (omega (arith, c.loop-place-test.true)))) sampled;
       count = omega (arith, c.push.ensures.count, c.loop-place.invariant.count);
     }
+
+pub loop-place-init : goal.loop-place-init
+loop-place-init c = record {
+  stands = λ mode before samples s.
+      subst (λ (xs : List ℕ). MarginStands mode c.args.margin.now xs (samples ++ [])) (sym (append-nil before))
+      (subst (λ (xs : List Sample). MarginStands mode c.args.margin.now before xs) (sym (append-nil samples)) s);
+  count = omega arith;
+}
+
+pub push-requires : goal.push-requires
+push-requires c = omega (arith, c.loop-place.invariant.count, c.loop-place-test.true, c.requires.few)
+
+pub returns-clause-stands : goal.returns-clause-stands
+returns-clause-stands c mode before samples s =
+    let place : ℕ = c.loop-place.place in
+    let octets : List ℕ = c.args.octets.now in
+    let recorded : List ℕ = c.args.recorded.now in
+    subst (λ (xs : List ℕ). MarginStands mode c.loop-place.margin (before ++ xs) (samples ++ samples_in recorded))
+    (take_all place octets c.loop-place-test.false)
+    (subst (λ (xs : List ℕ). MarginStands mode c.loop-place.margin (before ++ take place octets) (samples ++ samples_in xs))
+    (take_all (4 * (2 * place)) recorded (omega (arith, c.requires.fits, c.loop-place-test.false)))
+    (c.loop-place.invariant.stands mode before samples s))
+
+pub returns-clause-count : goal.returns-clause-count
+returns-clause-count c = omega (arith, c.loop-place.invariant.count, c.loop-place-test.false, c.loop-place.auto.place-end)

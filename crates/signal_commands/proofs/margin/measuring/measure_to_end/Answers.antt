@@ -20,9 +20,9 @@ pub loop-margin-preserved : goal.loop-margin-preserved
 loop-margin-preserved g c =
     let before = c.loop-margin.invariant in
     record {
-      within = c.in-Ok.ensures.bound;
-      count = c.in-Ok.ensures.count;
-      measured = λ start o. c.in-Ok.ensures.ok start c.args.mode (before.measured start o);
+      within = c.in-Ok.ensures.next.0;
+      count = c.in-Ok.ensures.next.1;
+      measured = λ start o. (c.in-Ok.ensures.ok start c.args.mode (before.measured start o)).0;
       reads = OnlyReads-trans before.reads c.measure_next.ensures.reads;
       stand = CountsStand-trans before.stand c.in-Ok.ensures.counts;
     }
@@ -32,7 +32,8 @@ returns-in-Ok-eq0-clause-ends g c start o =
     let n : MarginNames = named c.args.names.now in
     let new : FolderState = g.F.Folder.state c.measure_next.new.folder in
     let before = c.loop-margin.invariant.measured start o in
-    let end = c.in-Ok-eq0.ensures.end start c.args.mode before c.in-Ok-eq0.field-0-test in
+    let all = c.in-Ok-eq0.ensures.ok start c.args.mode before in
+    let end = all.1 c.in-Ok-eq0.field-0-test in
     measures-all start new n c.args.mode c.measure_next.new.margin (c.loop-margin.at + c.in-Ok-eq0.field-0)
-    (c.in-Ok-eq0.ensures.ok start c.args.mode before) (λ told. (let e = end.0 told in omega (arith, e)))
+    all.0 (λ told. (let e = end.0 told in omega (arith, e)))
     (λ told. (let e = end.1 told in omega (arith, e)))

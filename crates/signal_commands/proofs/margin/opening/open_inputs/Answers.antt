@@ -1,6 +1,8 @@
 use Rattle.std.proofs.Common.{◌∙◌, ℕ, List, [], refl, sym, subst, take}
 use Rattle.outside_calls.specs.Folder.{FolderState, OnlyReads}
-use Rattle.outside_calls.proofs.Steps.{OnlyReads-trans}
+use Rattle.outside_calls.proofs.Steps.{OnlyReads-trans, CountsStand-trans}
+use Rattle.command_base.specs.declared.stop.Stop.TheVariants.{Read}
+use Rattle.command_base.proofs.Jobs.{stop-earlier}
 use Rattle.command_base.specs.declared.limits.TheConstants.{FILE_LIMIT, RECORDING_LIMIT}
 use Rattle.command_base.specs.Inputs.{ReadTo}
 use Rattle.command_base.proofs.Reading.{ReadTo-none, within-earlier}
@@ -8,8 +10,9 @@ use Rattle.recordings.specs.declared.rate.Rate.TheVariants as rates
 use Rattle.recordings.specs.Headers.{IsBadHeader}
 use Rattle.command_base.proofs.HeaderRead.{header-octets}
 use Rattle.signal_commands.specs.Margins.Ends.EndsOwn.{is_other}
-use Rattle.signal_commands.proofs.Margins.Looking.{rec-refused, file-refused}
-use Rattle.signal_commands.specs.Margins.Words.{named}
+use Rattle.signal_commands.specs.Margins.Ends.FailsToRead.{one_unread}
+use Rattle.signal_commands.proofs.Margins.Looking.{rec-refused, file-refused, rec-fails, file-fails, refused-counts}
+use Rattle.signal_commands.specs.Margins.Words.{named, inputs_of}
 use Rattle.signal_commands.proofs.margin.opening.open_inputs.Goals as goal
 
 pub returns-in-Err-clause-err : goal.returns-in-Err-clause-err
@@ -64,3 +67,58 @@ returns-in-Err-read_header-clause-err g c =
           (c.in-Ok-read_piece.ensures.more old [] none) (c.in-Ok-read_piece.ensures.end old [] none) told)
           c.in-Err-read_header.ensures.err;
     })
+
+pub returns-in-Err-clause-reads : goal.returns-in-Err-clause-reads
+returns-in-Err-clause-reads g c = c.in-Err.ensures.reads
+
+pub returns-in-Err-clause-counts : goal.returns-in-Err-clause-counts
+returns-in-Err-clause-counts g c =
+    let old : FolderState = g.F.Folder.state c.args.folder.now in
+    let new : FolderState = g.F.Folder.state c.within_limit.new.folder in
+    refused-counts old new (named c.args.names.now) c.args.names.now.rec.now RECORDING_LIMIT 1 c.in-Err.stop (rec-fails old new (named c.args.names.now))
+    c.in-Err.ensures.refused
+
+pub returns-in-Err-within_limit-clause-reads : goal.returns-in-Err-within_limit-clause-reads
+returns-in-Err-within_limit-clause-reads g c = OnlyReads-trans c.in-Ok.ensures.reads c.in-Err-within_limit.ensures.reads
+
+pub returns-in-Err-within_limit-clause-counts : goal.returns-in-Err-within_limit-clause-counts
+returns-in-Err-within_limit-clause-counts g c =
+    let mid : FolderState = g.F.Folder.state c.within_limit.new.folder in
+    let new : FolderState = g.F.Folder.state c.within_limit-2.new.folder in
+    stop-earlier (g.F.Folder.state c.args.folder.now) mid new (inputs_of (named c.args.names.now)) [] c.in-Err-within_limit.stop c.in-Ok.ensures.stand
+    (refused-counts mid new (named c.args.names.now) c.args.names.now.file.now FILE_LIMIT 2 c.in-Err-within_limit.stop
+    (file-fails mid new (named c.args.names.now)) c.in-Err-within_limit.ensures.refused)
+
+pub returns-in-Ok-read_header-clause-reads : goal.returns-in-Ok-read_header-clause-reads
+returns-in-Ok-read_header-clause-reads g c =
+    OnlyReads-trans (OnlyReads-trans c.in-Ok.ensures.reads c.in-Ok-within_limit.ensures.reads) c.in-Ok-read_piece.ensures.reads
+
+pub returns-in-Ok-read_header-clause-counts : goal.returns-in-Ok-read_header-clause-counts
+returns-in-Ok-read_header-clause-counts g c =
+    CountsStand-trans (CountsStand-trans c.in-Ok.ensures.stand c.in-Ok-within_limit.ensures.stand) c.in-Ok-read_piece.ensures.stand
+
+pub returns-in-Err-read_header-clause-reads : goal.returns-in-Err-read_header-clause-reads
+returns-in-Err-read_header-clause-reads g c =
+    OnlyReads-trans (OnlyReads-trans c.in-Ok.ensures.reads c.in-Ok-within_limit.ensures.reads) c.in-Ok-read_piece.ensures.reads
+
+pub returns-in-Err-read_header-clause-counts : goal.returns-in-Err-read_header-clause-counts
+returns-in-Err-read_header-clause-counts g c =
+    (tt, CountsStand-trans (CountsStand-trans c.in-Ok.ensures.stand c.in-Ok-within_limit.ensures.stand) c.in-Ok-read_piece.ensures.stand)
+
+pub returns-in-Err-read_piece-clause-err : goal.returns-in-Err-read_piece-clause-err
+returns-in-Err-read_piece-clause-err g c =
+    one_unread c.in-Ok.ensures.within
+    (within-earlier (g.F.Folder.state c.args.folder.now) (g.F.Folder.state c.within_limit.new.folder) c.args.names.now.file.now FILE_LIMIT c.in-Ok.ensures.reads
+    c.in-Ok-within_limit.ensures.within)
+
+pub returns-in-Err-read_piece-clause-reads : goal.returns-in-Err-read_piece-clause-reads
+returns-in-Err-read_piece-clause-reads g c =
+    OnlyReads-trans (OnlyReads-trans c.in-Ok.ensures.reads c.in-Ok-within_limit.ensures.reads) c.in-Err-read_piece.ensures.reads
+
+pub returns-in-Err-read_piece-clause-counts : goal.returns-in-Err-read_piece-clause-counts
+returns-in-Err-read_piece-clause-counts g c =
+    let mid : FolderState = g.F.Folder.state c.within_limit-2.new.folder in
+    let new : FolderState = g.F.Folder.state c.read_piece.new.folder in
+    stop-earlier (g.F.Folder.state c.args.folder.now) mid new (inputs_of (named c.args.names.now)) [] (Read c.in-Err-read_piece.fault)
+    (CountsStand-trans c.in-Ok.ensures.stand c.in-Ok-within_limit.ensures.stand)
+    (rec-fails mid new (named c.args.names.now) c.in-Err-read_piece.fault c.in-Err-read_piece.ensures.fails)

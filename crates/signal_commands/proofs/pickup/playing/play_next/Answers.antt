@@ -9,6 +9,7 @@ use Rattle.outside_calls.proofs.OnlyOutputs.{OnlyOutputs-reads, OnlyOutputs-says
 use Rattle.recordings.specs.declared.rate.Rate.TheVariants as rates
 use Rattle.recordings.specs.Samples.{samples_in}
 use Rattle.recordings.proofs.Samples.{samples_in-append}
+use Rattle.command_base.specs.declared.limits.TheConstants.{RECORDING_LIMIT}
 use Rattle.command_base.specs.Recordings.{ReadBehind}
 use Rattle.command_base.proofs.Behind.{behind-kept, reads-first, reads-all}
 use Rattle.signal_commands.specs.PickingUp.Ends.EndsOwn.{is_cut}
@@ -82,32 +83,67 @@ returns-clause-ok g c start h =
     let long : length piece ≡ c.in-Ok.read =
     length-take c.in-Ok.read c.read_samples.new.piece ∙ omega (arith, c.in-Ok.ensures.bound, c.read_samples.ensures.kept) in
     let behind : ReadBehind start n1 c.args.rec.now rates.Trellis c.args.mode (h.content ++ piece) (c.args.at + c.in-Ok.read) =
-    c.in-Ok.ensures.more start rates.Trellis c.args.mode h.content h.behind in
-    record {
-      content = h.content ++ piece;
-      plays = subst (λ (xs : List Sample). Plays start n2 c.args.mode c.play_piece.new.player xs)
-          (sym (samples_in-append h.content piece h.whole))
-          (c.in-Ok-play_piece.ensures.ok start (samples_in h.content)
-          (plays-after start old n1 c.args.mode c.args.player.now (samples_in h.content) c.read_samples.ensures.reads h.plays));
-      whole = omega (arith, h.whole, length-append h.content piece, long, c.if-read-ne0.false);
-      behind = behind-kept start n1 n2 c.args.rec.now rates.Trellis c.args.mode (h.content ++ piece)
-          (c.args.at + c.in-Ok.read) behind c.play_piece.ensures.only.goes_on (c.play_piece.ensures.only.names c.args.rec.now);
-      only = OnlyOutputs-trans [] h.only
-          (OnlyOutputs-trans [] (OnlyOutputs-reads [] c.read_samples.ensures.reads) (OnlyOutputs-says [] c.play_piece.ensures.only));
-    }
+    c.in-Ok.ensures.more start rates.Trellis c.args.mode h.content h.behind in (
+      record {
+        content = h.content ++ piece;
+        plays = subst (λ (xs : List Sample). Plays start n2 c.args.mode c.play_piece.new.player xs)
+            (sym (samples_in-append h.content piece h.whole))
+            (c.in-Ok-play_piece.ensures.ok start (samples_in h.content)
+            (plays-after start old n1 c.args.mode c.args.player.now (samples_in h.content) c.read_samples.ensures.reads h.plays));
+        whole = omega (arith, h.whole, length-append h.content piece, long, c.if-read-ne0.false);
+        behind = behind-kept start n1 n2 c.args.rec.now rates.Trellis c.args.mode (h.content ++ piece)
+            (c.args.at + c.in-Ok.read) behind c.play_piece.ensures.only.goes_on (c.play_piece.ensures.only.names c.args.rec.now);
+        only = OnlyOutputs-trans [] h.only
+            (OnlyOutputs-trans [] (OnlyOutputs-reads [] c.read_samples.ensures.reads) (OnlyOutputs-says [] c.play_piece.ensures.only));
+      },
+      λ none told. (let e = c.in-Ok.ensures.end start rates.Trellis c.args.mode h.content h.behind (inr none) told in omega (arith, e, none)),
+    )
 
-pub returns-clause-end : goal.returns-clause-end
-returns-clause-end g c start h none told =
-    let e = c.in-Ok.ensures.end start rates.Trellis c.args.mode h.content h.behind (inr none) told in
-    omega (arith, e, none)
-
-pub returns-clause-ready : goal.returns-clause-ready
-returns-clause-ready g c =
+pub returns-clause-next : goal.returns-clause-next
+returns-clause-next g c =
     let piece : List ℕ = take c.in-Ok.read c.read_samples.new.piece in
     let long : length piece ≡ c.in-Ok.read =
-    length-take c.in-Ok.read c.read_samples.new.piece ∙ omega (arith, c.in-Ok.ensures.bound, c.read_samples.ensures.kept) in
-    ready-later c.play_piece.new.player (c.args.at + length piece) (c.args.at + c.in-Ok.read) (omega (arith, long))
-    (c.in-Ok-play_piece.ensures.ready c.args.at c.requires.ready)
+    length-take c.in-Ok.read c.read_samples.new.piece ∙ omega (arith, c.in-Ok.ensures.bound, c.read_samples.ensures.kept) in (
+      ready-later c.play_piece.new.player (c.args.at + length piece) (c.args.at + c.in-Ok.read) (omega (arith, long))
+          (c.in-Ok-play_piece.ensures.ready c.args.at c.requires.ready),
+      c.in-Ok.ensures.within,
+    )
 
 pub returns-clause-counts : goal.returns-clause-counts
 returns-clause-counts g c = CountsStand-trans c.in-Ok.ensures.stand (c.in-Ok-play_piece.ensures.counts [])
+
+pub returns-in-Err-clause-size : goal.returns-in-Err-clause-size
+returns-in-Err-clause-size g c = c.read_samples.ensures.kept
+
+pub returns-in-Err-clause-only : goal.returns-in-Err-clause-only
+returns-in-Err-clause-only g c = OnlyOutputs-reads [] c.read_samples.ensures.reads
+
+pub returns-in-Err-clause-counts : goal.returns-in-Err-clause-counts
+returns-in-Err-clause-counts g c = c.in-Err.ensures.fails
+
+pub returns-in-Err-play_piece-clause-size : goal.returns-in-Err-play_piece-clause-size
+returns-in-Err-play_piece-clause-size g c = c.read_samples.ensures.kept
+
+pub returns-in-Err-play_piece-clause-only : goal.returns-in-Err-play_piece-clause-only
+returns-in-Err-play_piece-clause-only g c =
+    OnlyOutputs-trans [] (OnlyOutputs-reads [] c.read_samples.ensures.reads) (OnlyOutputs-says [] c.play_piece.ensures.only)
+
+pub returns-then-read-ne0-clause-size : goal.returns-then-read-ne0-clause-size
+returns-then-read-ne0-clause-size g c = c.read_samples.ensures.kept
+
+pub returns-then-read-ne0-clause-only : goal.returns-then-read-ne0-clause-only
+returns-then-read-ne0-clause-only g c =
+    OnlyOutputs-trans [] (OnlyOutputs-reads [] c.read_samples.ensures.reads) (OnlyOutputs-says [] c.play_piece.ensures.only)
+
+pub returns-clause-size : goal.returns-clause-size
+returns-clause-size g c = c.read_samples.ensures.kept
+
+pub returns-clause-only : goal.returns-clause-only
+returns-clause-only g c =
+    OnlyOutputs-trans [] (OnlyOutputs-reads [] c.read_samples.ensures.reads) (OnlyOutputs-says [] c.play_piece.ensures.only)
+
+pub play_piece-requires-clause-few : goal.play_piece-requires-clause-few
+play_piece-requires-clause-few g c = omega (arith, length-take c.in-Ok.read c.read_samples.new.piece, c.in-Ok.ensures.bound)
+
+pub play_piece-requires-clause-ready : goal.play_piece-requires-clause-ready
+play_piece-requires-clause-ready g c = ready-later c.args.player.now c.args.at RECORDING_LIMIT c.requires.within c.requires.ready

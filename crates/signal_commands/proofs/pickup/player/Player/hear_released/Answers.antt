@@ -1,8 +1,10 @@
-use Rattle.std.proofs.Common.{◌∙◌, ◌++◌, List, drop, ap, arith, ℕ}
+use Rattle.std.proofs.Common.{◌∙◌, ◌++◌, Bool, List, length, drop, sym, ap, subst, arith, append-nil, refl, ℕ}
 use Rattle.outside_calls.specs.Folder.{FolderState}
-use Rattle.outside_calls.proofs.Steps.{CountsStand-trans}
-use Rattle.line_coding.specs.MiddleReading.{bits_of_taken}
+use Rattle.outside_calls.proofs.Steps.{GoesOn-refl, CountsStand-refl, CountsStand-trans}
+use Rattle.line_coding.specs.MiddleReading.{MiddleRead, bits_of_taken}
+use Rattle.survivors.specs.V32.{line_depth}
 use Rattle.command_base.proofs.Hearing.{says-trans}
+use Rattle.signal_commands.specs.PickingUp.Playing.{Playing, Plays}
 use Rattle.signal_commands.proofs.PickingUp.Playings.{plays-taken, says-some}
 use Rattle.signal_commands.proofs.pickup.player.Player.hear_released.Goals as goal
 
@@ -34,3 +36,46 @@ returns-in-Err-clause-err g c start mode samples h =
 
 pub returns-clause-taken : goal.returns-clause-taken
 returns-clause-taken g c = c.in_default.ensures.pending ∙ ap (λ (xs : List ℕ). drop 1 xs) c.in_default.ensures.first
+
+pub loop-taken-init : goal.loop-taken-init
+loop-taken-init g c =
+    let old : FolderState = g.F.Folder.state c.args.folder.now in
+    record {
+      plays = λ start mode samples h. subst (λ (p : Playing). Plays start old mode p samples) (sym c.self.view_is) h;
+      lost = ap (λ (p : Playing). p.reader.reading.decoder.lost) c.self.view_is;
+      count = ap (λ (p : Playing). p.reader.reading.decoder.count) c.self.view_is;
+      room = omega (
+        arith,
+        ap (λ (p : Playing). p.listener.pieces) c.self.view_is,
+        ap (λ (p : Playing). length p.reader.reading.decoder.pending) c.self.view_is,
+      );
+      only = record { goes_on = GoesOn-refl old; names = λ name told. refl; read_faults = λ name. refl };
+      stand = CountsStand-refl old;
+    }
+
+pub returns-clause-ok : goal.returns-clause-ok
+returns-clause-ok g c start mode samples h =
+    let p = c.loop-taken.invariant.plays start mode samples h in
+    record {
+      bits = p.bits;
+      read = subst (λ (bits : List Bool). MiddleRead mode line_depth c.take.new.self samples bits) (append-nil p.bits)
+          (c.in_default.ensures.stands mode samples p.bits p.read);
+      heard = p.heard;
+      sender_is = p.sender_is;
+    }
+
+pub returns-clause-lost : goal.returns-clause-lost
+returns-clause-lost g c = c.in_default.ensures.lost ∙ c.loop-taken.invariant.lost
+
+pub returns-clause-count : goal.returns-clause-count
+returns-clause-count g c = c.in_default.ensures.count ∙ c.loop-taken.invariant.count
+
+pub returns-clause-pieces : goal.returns-clause-pieces
+returns-clause-pieces g c =
+    omega (
+      arith,
+      c.loop-taken.invariant.room,
+      c.pending-few.ensures.few,
+      ap (λ (p : Playing). p.listener.pieces) c.self.view_is,
+      ap (λ (p : Playing). length p.reader.reading.decoder.pending) c.self.view_is,
+    )

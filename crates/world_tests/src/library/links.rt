@@ -1,6 +1,6 @@
 // Terms, and two ends.
 
-use crate::{exchange, terms_of};
+use library_example::{exchange, terms_of};
 use shared_terms::Both;
 use std::alloc::Global;
 use std::process::Abort;

@@ -1,6 +1,6 @@
 // Samples, bits and frames.
 
-use crate::{FrameEar, Quads, SampleEar};
+use library_example::{FrameEar, Quads, SampleEar};
 use scramblers::Mode;
 use shared_terms::Role;
 use std::test::Fail;

@@ -1,4 +1,0 @@
-// What each part does, by values that were worked out elsewhere.
-
-mod links;
-mod signals;
