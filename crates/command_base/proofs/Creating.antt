@@ -1,7 +1,7 @@
 -- Outputs that are created in order.
 use Rattle.std.proofs.Common.{inl, inr, ℕ, List, [], ◌∷◌}
 use Rattle.outside_calls.specs.Folder.{FolderState, GoesOn, KeepsName, OnlyWrites, CountsStand}
-use Rattle.outside_calls.proofs.Steps.{KeepsName-trans}
+use Rattle.outside_calls.proofs.Steps.{GoesOn-trans, KeepsName-trans}
 use Rattle.outside_calls.specs.declared.folder.FolderFault.{FolderFault}
 use Rattle.outside_calls.specs.declared.folder.FolderFault.TheVariants as folder
 use Rattle.outside_calls.specs.Outputs.{Holds, KeptOrEmpty, KeepsEach, IsNoneOf, CreatesPart, OnlyOutputs}
@@ -37,6 +37,25 @@ CreatesPart-first old mid new name names apart w holds only part =
 pub CreatesPart-none : (old new : FolderState) (name : List ℕ) (names : List (List ℕ)) → IsNoneOf name names → OnlyWrites old new name
     → KeptOrEmpty old new name → CreatesPart old new (name ∷ names)
 CreatesPart-none old new name names apart w kept = inl (kept, KeepsEach-writes old new name names apart w)
+
+-- names that are touched, and those alone
+pub OnlyOutputs-first : (old mid new : FolderState) (name : List ℕ) (names : List (List ℕ)) → OnlyWrites old mid name
+    → OnlyOutputs mid new names → OnlyOutputs old new (name ∷ names)
+OnlyOutputs-first old mid new name names w only = record {
+  goes_on = GoesOn-trans w.goes_on only.goes_on;
+  names = λ other apart. KeepsName-trans old mid new other w.goes_on (w.names other apart.0) (only.names other apart.1);
+}
+
+pub OnlyOutputs-none : (old new : FolderState) (name : List ℕ) (names : List (List ℕ)) → OnlyWrites old new name
+    → OnlyOutputs old new (name ∷ names)
+OnlyOutputs-none old new name names w = record { goes_on = w.goes_on; names = λ other apart. w.names other apart.0 }
+
+-- the first of some names was not made
+pub WriteFails-first : (old new : FolderState) (name : List ℕ) (names : List (List ℕ)) (fault : FolderFault)
+    → WriteFails old new (name ∷ []) fault → WriteFails old new (name ∷ names) fault
+WriteFails-first old new name names folder.Failed (inl rose) = inl rose
+WriteFails-first old new name names folder.Failed (inr never) = absurd never
+WriteFails-first old new name names folder.NoMemory refused = refused
 
 pub WriteFails-later : (old mid new : FolderState) (name : List ℕ) (names : List (List ℕ)) (fault : FolderFault) → CountsStand old mid
     → WriteFails mid new names fault → WriteFails old new (name ∷ names) fault

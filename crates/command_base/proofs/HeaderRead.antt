@@ -1,5 +1,5 @@
 -- What is read of a recording to open it.
-use Rattle.std.proofs.Common.{◌≡◌, ◌∙◌, inl, inr, ℕ, ◌+◌, ◌≤◌, ◌<◌, List, IsTrue, length, take, sym, ap, arith}
+use Rattle.std.proofs.Common.{◌≡◌, ◌∙◌, inl, inr, ℕ, ◌+◌, ◌≤◌, ◌<◌, List, [], ◌∷◌, IsTrue, length, take, sym, ap, subst, arith}
 use Rattle.std.proofs.lemmas.List.{take_all}
 use Rattle.std.proofs.lemmas.Bool.{cases_lt}
 use Rattle.outside_calls.specs.Folder.{FolderState, octets_at}
@@ -7,6 +7,7 @@ use Rattle.recordings.specs.declared.rate.Rate.{Rate}
 use Rattle.command_base.specs.declared.limits.TheConstants.{RECORDING_LIMIT}
 use Rattle.command_base.specs.declared.stop.Stop.{Stop}
 use Rattle.command_base.specs.declared.stop.Stop.TheVariants.{Own, Read, Write, Say, NoMemory}
+use Rattle.command_base.specs.Stops.{IsOwn, StopCounts}
 use Rattle.command_base.specs.Inputs.{IsNotWithin, ReadTo}
 use Rattle.command_base.specs.Recordings.{IsNotOpened}
 
@@ -29,3 +30,12 @@ not-within old new name rate word (Read fault) fails = fails
 not-within old new name rate word (Write fault) never = never
 not-within old new name rate word (Say fault) never = never
 not-within old new name rate word NoMemory never = never
+
+-- what was counted then
+pub within-counts : (old new : FolderState) (name : List ℕ) (limit word : ℕ) (stop : Stop) (outputs : List (List ℕ))
+    → IsNotWithin old new name limit word stop → StopCounts old new (name ∷ []) outputs stop
+within-counts old new name limit word (Own answer) outputs long = (subst IsOwn (sym long.0) tt, long.2)
+within-counts old new name limit word (Read fault) outputs fails = fails
+within-counts old new name limit word (Write fault) outputs never = absurd never
+within-counts old new name limit word (Say fault) outputs never = absurd never
+within-counts old new name limit word NoMemory outputs never = absurd never

@@ -10,6 +10,7 @@ use Rattle.command_base.specs.declared.stop.Stop.{Stop}
 use Rattle.command_base.specs.declared.stop.Stop.TheVariants.{Own, Read, Write, Say, NoMemory}
 use Rattle.command_base.specs.Status.{IsRefusal, IsFolderFault, PassesNoneOver}
 use Rattle.outside_calls.specs.Outputs.{KeepsAll, OnlyOutputs, SomeRose}
+use Rattle.command_base.specs.Inputs.{FailsToHold}
 use Rattle.command_base.specs.Stops.{IsOwn, ReadFails, WriteFails, SayFails, StopCounts, EndCounts, fault_status, stop_status, end_status}
 use Rattle.command_base.specs.Job.{Job, SaysLast, Answers, Shared}
 use Rattle.command_base.specs.Sound.{NoneRose, IsSound, DoneUnlessMemory}
@@ -21,7 +22,7 @@ use Rattle.command_base.proofs.Answering.{tells-refusal, told-or-memory, stand-l
 
 -- ---- counts over several steps
 
-read-earlier : (old mid new : FolderState) (inputs : List (List ℕ)) (fault : FolderFault) → CountsStand old mid
+pub read-earlier : (old mid new : FolderState) (inputs : List (List ℕ)) (fault : FolderFault) → CountsStand old mid
     → ReadFails mid new inputs fault → ReadFails old new inputs fault
 read-earlier old mid new inputs folder.Failed stand fails = SomeRose-earlier _ _ _ inputs stand.faults.reads fails
 read-earlier old mid new inputs folder.NoMemory stand fails =
@@ -46,6 +47,15 @@ stop-earlier old mid new inputs outputs (Read fault) stand counts = read-earlier
 stop-earlier old mid new inputs outputs (Write fault) stand counts = write-earlier old mid new outputs fault stand counts
 stop-earlier old mid new inputs outputs (Say fault) stand counts = say-earlier old mid new fault stand counts
 stop-earlier old mid new inputs outputs NoMemory stand counts = FaultsStand-trans stand.faults counts
+
+-- or before the octets of a file are not held
+pub hold-earlier : (old mid new : FolderState) (name : List ℕ) (stop : Stop) → CountsStand old mid → FailsToHold mid new name stop
+    → FailsToHold old new name stop
+hold-earlier old mid new name (Own answer) stand never = never
+hold-earlier old mid new name (Read fault) stand fails = read-earlier old mid new (name ∷ []) fault stand fails
+hold-earlier old mid new name (Write fault) stand never = never
+hold-earlier old mid new name (Say fault) stand never = never
+hold-earlier old mid new name NoMemory stand fails = FaultsStand-trans stand.faults fails
 
 -- or before all that is left of it
 pub end-earlier : {D : Type 0} (old mid new : FolderState) (inputs outputs : List (List ℕ)) (end : Result D Stop) → CountsStand old mid

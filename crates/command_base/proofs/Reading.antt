@@ -1,13 +1,13 @@
 -- An input that is read on, piece by piece.
 use Rattle.std.proofs.Common.{◌≡◌, ◌∙◌, ℕ, ◌+◌, ◌-◌, ◌≤◌, ◌<◌, min, List, [], ◌++◌, IsTrue, length, take, take-add, drop, refl, sym, ap}
-use Rattle.std.proofs.Common.{subst, arith, length-append, inl, ◌∷◌, Err, IsErrOf}
+use Rattle.std.proofs.Common.{subst, arith, length-append, length-drop, inl, ◌∷◌, Err, IsErrOf}
 use Rattle.std.proofs.lemmas.List.{take-append-drop, take_all, drop_all}
 use Rattle.plain_lists.specs.Octets.{AreOctets}
 use Rattle.plain_lists.specs.Prefix.{IsPrefixOf}
-use Rattle.outside_calls.specs.Folder.{FolderState, TellsOctets, octets_at, GoesOn, KeepsName, OnlyReads, HasCause, FaultsStand}
+use Rattle.outside_calls.specs.Folder.{FolderState, TellsOctets, octets_at, GoesOn, KeepsName, OnlyReads, HasCause, FaultsStand, CountsStand}
 use Rattle.outside_calls.specs.declared.folder.FolderFault.{FolderFault}
 use Rattle.outside_calls.specs.declared.folder.FolderFault.TheVariants.{Failed, NoMemory}
-use Rattle.outside_calls.proofs.Steps.{GoesOn-trans, KeepsName-trans, told_later, octets-kept}
+use Rattle.outside_calls.proofs.Steps.{GoesOn-trans, KeepsName-trans, OnlyReads-trans, CountsStand-trans, told_later, octets-kept}
 use Rattle.command_base.specs.Inputs.{IsWithin, IsLonger, ReadTo}
 use Rattle.command_base.specs.Stops.{ReadFails}
 
@@ -113,3 +113,39 @@ none-left octets room limit at count some low is none = drop_all at octets (leas
   where
     least : (a b limit at count : ℕ) → 0 < a → at < limit → count ≡ min (min a (limit - at)) (b - at) → count ≡ 0 → b ≤ at
     least a b limit at count k l e none = omega arith
+
+-- A file is held, up to its limit.
+pub record IsHeld (start now : FolderState) (name : List ℕ) (limit : ℕ) (file : List ℕ) (len : ℕ) : Type 0 where
+  pub octets : IsTrue (start.tells name) → file ≡ take limit (octets_at start name)
+  pub bound : len ≤ limit
+  pub reads : OnlyReads start now
+  pub stand : CountsStand start now
+
+-- as many octets are held as the limit says
+pub held-to-limit : (start now : FolderState) (name : List ℕ) (limit : ℕ) (file : List ℕ) (len : ℕ) → OnlyReads start now
+    → CountsStand start now → (IsTrue (start.tells name) → file ≡ take len (octets_at start name)) → len ≤ limit → limit ≤ len
+    → IsHeld start now name limit file len
+held-to-limit start now name limit file len reads stand held few many =
+    let whole : len ≡ limit = omega (arith, few, many) in
+    record { octets = λ told. held told ∙ ap (λ n. take n (octets_at start name)) whole; bound = few; reads = reads; stand = stand }
+
+-- or no more was read
+pub held-to-end : (start now new : FolderState) (name before after : List ℕ) (limit len later count : ℕ) → OnlyReads start now
+    → CountsStand start now → (IsTrue (start.tells name) → before ≡ take len (octets_at start name)) → OnlyReads now new
+    → CountsStand now new → later ≡ len + count → len + count ≤ limit → count ≡ 0 →
+    (IsTrue (now.tells name) → let rest = drop len (octets_at now name) in
+    (after ≡ before ++ take count rest) × (count ≡ 0 → rest ≡ []))
+    → IsHeld start new name limit after later
+held-to-end start now new name before after limit len later count reads stand held more still is few none next = record {
+  octets = λ told.
+      let file : List ℕ = octets_at start name in
+      let same : octets_at now name ≡ file = octets-kept start now name (reads.names name) told in
+      let over : drop len file ≡ [] =
+      ap (λ (xs : List ℕ). drop len xs) (sym same) ∙ (next (told_later reads.goes_on name told)).1 none in
+      let short : length file ≤ len = omega (arith, length-drop len file, ap (λ (xs : List ℕ). length xs) over) in
+      held-more start now name before after len later count reads.goes_on (reads.names name) told (held told) is
+      (λ t. (next t).0) ∙ take_all later file (omega (arith, short, is)) ∙ sym (take_all limit file (omega (arith, short, few)));
+  bound = omega (arith, is, few);
+  reads = OnlyReads-trans reads more;
+  stand = CountsStand-trans stand still;
+}

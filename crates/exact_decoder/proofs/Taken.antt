@@ -1,5 +1,5 @@
 -- The decoder after a label is taken, and at its end.
-use Rattle.std.proofs.Common.{◌≡◌, ℕ, ◌<◌, Bool, List, [], ◌∷◌, ◌++◌, length, reverse, All, Option, Some, None, IfSome, MatchOption}
+use Rattle.std.proofs.Common.{◌≡◌, ℕ, ◌<◌, Bool, List, [], ◌∷◌, ◌++◌, length, drop, reverse, All, Option, Some, None, IfSome, MatchOption}
 use Rattle.std.proofs.Common.{option_to_list, append_assoc, refl, sym, ◌∙◌, ap, subst, arith}
 use Rattle.std.proofs.lemmas.List.{append-nil, reverse-append}
 use Rattle.std.proofs.lemmas.List.Elements.{All-head, All-tail, All-same}
@@ -68,6 +68,16 @@ sound-popped table states labels reach depth k count old new lost None p h =
 sound-popped table states labels reach depth k count old new lost (Some label) p h =
     let t = sound-taken table states labels reach depth (decoding_of k count old lost) label (reverse new) (turned old new label p) h in
     (t.1, t.0)
+
+-- the label that is taken, and those that are left
+pub popped-first : (old new : List ℕ) (r : Option ℕ) (seen : List ℕ) → reverse old ≡ seen → IsPopped old new r
+    → MatchOption r (seen ≡ []) (λ label. seen ≡ label ∷ reverse new)
+popped-first old new None seen e p = sym e ∙ ap reverse p.0
+popped-first old new (Some label) seen e p = sym e ∙ turned old new label p
+
+pub popped-rest : (old new : List ℕ) (r : Option ℕ) → IsPopped old new r → reverse new ≡ drop 1 (reverse old)
+popped-rest old new None p = ap reverse p.1 ∙ sym (ap (λ l. drop 1 (reverse l)) p.0)
+popped-rest old new (Some label) p = sym (ap (drop 1) (turned old new label p))
 
 pub stands-popped : (table : ℕ → ℕ → Option ℕ) (points : ℕ → Sample) (depth : ℕ) (starts : ℕ → Bool) (k : Kept) (count : ℕ)
     (old new : List ℕ) (lost : Option ℕ) (samples : List Sample) (taken : List ℕ) (r : Option ℕ) → IsPopped old new r

@@ -2,3 +2,4 @@ mod Kept
 mod Saying
 mod Telling
 mod Fitting
+mod Unconnected

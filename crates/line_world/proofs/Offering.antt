@@ -179,3 +179,7 @@ as-err fault x e = ap conv e
     conv : Result (Unit {0}) FolderFault → Result ℕ FolderFault
     conv (Ok done) = Err fault
     conv (Err y) = Err y
+
+-- a call that was made has no fault
+pub no-fault : {T P : Type 0} {x : T} {fault : FolderFault} → ◌≡◌ {A = Result T FolderFault} (Ok x) (Err fault) → P
+no-fault e = absurd cc

@@ -1,7 +1,7 @@
 -- What happens to both ends between hearing and speaking.
 use Rattle.std.proofs.Common.{◌≡◌, ℕ, zero, suc, Bool, true, false, cond, List, length, refl, sym, ◌∙◌, ap, subst, Option, Some}
-use Rattle.std.proofs.Common.{None, Err, IsErrOf}
-use Rattle.outside_calls.specs.Folder.{FolderState, FaultsStand}
+use Rattle.std.proofs.Common.{None, Err, IsErrOf, inl, inr}
+use Rattle.outside_calls.specs.Folder.{FolderState, FaultsStand, HasCause}
 use Rattle.outside_calls.specs.declared.folder.FolderFault.{FolderFault}
 use Rattle.outside_calls.specs.declared.folder.FolderFault.TheVariants.{Failed, NoMemory}
 use Rattle.shared_terms.specs.declared.role.Role.{Role}
@@ -16,11 +16,11 @@ use Rattle.link_run.specs.Reading.{RunsByWhatIsReadOn, SameSoFar}
 use Rattle.line_run.specs.Scripted.{link_of, breaks_of, busy_of}
 use Rattle.line_run.specs.Sampled.{Wire}
 use Rattle.lapm_frames.specs.declared.heard.Heard.{Heard}
-use Rattle.line_run.specs.Names.{Written, inputs_of}
+use Rattle.line_run.specs.Names.{Written, inputs_of, outputs_of}
 use Rattle.outside_calls.specs.Outputs.{SomeCause}
 use Rattle.line_world.specs.declared.step.RunFault.{RunFault}
-use Rattle.line_world.specs.declared.step.RunFault.TheVariants.{ReadFault}
-use Rattle.line_world.specs.Turn.{IsReading, FaultCounts, fault_of}
+use Rattle.line_world.specs.declared.step.RunFault.TheVariants.{ReadFault, WriteFault}
+use Rattle.line_world.specs.Turn.{IsReading, IsWriting, FaultCounts, fault_of}
 use Rattle.line_world.specs.Mid.{Overhears, ReadsBoth, handed, served, turn_in}
 
 -- handing segments over hands no break over
@@ -105,3 +105,24 @@ pub reading-counts : (old new : FolderState) (n : Written) (x : RunFault) (fault
     → FaultCounts old new n x
 reading-counts old new n x Failed e cause spared = subst (FaultCounts old new n) (sym e) (cause.failed refl)
 reading-counts old new n x NoMemory e cause spared = subst (FaultCounts old new n) (sym e) (spared refl, cause.memory refl)
+
+-- ---- an output that isn't written
+
+pub writing-fault : (x : RunFault) (fault : FolderFault) → x ≡ fault_of WriteFault fault → IsWriting x
+writing-fault x Failed e = subst IsWriting (sym e) tt
+writing-fault x NoMemory e = subst IsWriting (sym e) tt
+
+pub writing-counts : (old new : FolderState) (n : Written) (x : RunFault) (fault : FolderFault) → x ≡ fault_of WriteFault fault
+    → SomeCause {T = Unit {0}} old.write_faults new.write_faults (outputs_of n) old.refusals new.refusals (Err fault)
+    → (IsErrOf {T = Unit {0}} {E = FolderFault} (Err fault) NoMemory → FaultsStand old new)
+    → FaultCounts old new n x
+writing-counts old new n x Failed e cause spared = subst (FaultCounts old new n) (sym e) (cause.failed refl)
+writing-counts old new n x NoMemory e cause spared = subst (FaultCounts old new n) (sym e) (spared refl, cause.memory refl)
+
+-- it is the trace
+pub trace-counts : (old new : FolderState) (n : Written) (x : RunFault) (fault : FolderFault) → x ≡ fault_of WriteFault fault
+    → HasCause {T = Unit {0}} (old.write_faults n.trace) (new.write_faults n.trace) old.refusals new.refusals (Err fault)
+    → (IsErrOf {T = Unit {0}} {E = FolderFault} (Err fault) NoMemory → FaultsStand old new)
+    → FaultCounts old new n x
+trace-counts old new n x fault e cause spared =
+    writing-counts old new n x fault e (record { failed = λ is. inr (inr (inl (cause.failed is))); memory = cause.memory }) spared

@@ -30,6 +30,8 @@ use Rattle.line_world.specs.declared.modems.Modems.{Modems}
 use Rattle.line_world.specs.Modems.{AreKept}
 use Rattle.line_world.specs.declared.step.RunFault.{RunFault}
 use Rattle.line_world.specs.declared.step.RunFault.TheVariants as run_faults
+use Rattle.line_world.specs.declared.step.Step.{Step}
+use Rattle.line_world.specs.declared.step.Step.TheVariants as steps
 use Rattle.line_world.specs.World.{StayKnown}
 use Rattle.line_world.specs.Tally.{IsFew}
 use Rattle.line_world.specs.Turn.{SendsNone, MakesTurn, Stops, StopsReading, EndsBy, EndsInTurn, GoesOnBy, IsWriting, IsReading}
@@ -288,3 +290,14 @@ kept-on m number channel idle counted few e = record {
   counted = subst (λ t. AreCounted m.link t t) (sym e) counted;
   few = subst (λ t. IsFew m.tally t t) (sym e) few;
 }
+
+-- what a fault ends doesn't go on
+pub no-step : {A : Type 0} {fault : RunFault} {step : Step} → Err fault ≡ Ok step → A
+no-step e = absurd cc
+
+-- nor does what is done
+abbrev pub done-step : ℕ → Result Step RunFault
+done-step turn = Ok (steps.Done turn)
+
+pub done-no-step : {A : Type 0} {turn : ℕ} → done-step turn ≡ Ok steps.Going → A
+done-no-step e = absurd cc

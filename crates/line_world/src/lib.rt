@@ -6,11 +6,11 @@
 //! counts. An end with its user is a [`Station`]: the user's file is read segment by segment, what the end takes is appended to another, and
 //! the user's breaks and pauses are handed on. The line and the script are lent to each turn of the ends, so that links can share a line.
 //!
-//! A direction ([`DelayedLine`]) has one coder, one line of samples and one decoder, through which the slots of all links pass in the order in
-//! which they are sent: what an end sends is on its way for as many slots as the direction is told when it is made. [`Directions`] are both, for
-//! slots that were coded elsewhere; [`Lines`] have the coders too.
+//! A direction ([`DelayedLine`]) has one line of samples with its decoder, through which the slots of all links pass in the order in which they
+//! are sent: what an end sends is on its way for as many slots as the direction is told when it is made. [`Directions`] are both, for slots
+//! that were coded elsewhere; [`Lines`] have a coder for each as well.
 //!
-//! The lines of a trace ([`write_line`], [`append_lines`]) and one direction of the line without delay ([`Line`]) are handed on.
+//! What writes a line of a trace ([`write_line`]) and one direction of the line without delay ([`Line`]) are handed on.
 #![tactic(auto)]
 
 mod direction;

@@ -1,5 +1,5 @@
 -- A pair before its first round, and from round to round.
-use Rattle.std.proofs.Common.{◌≡◌, ℕ, ◌+◌, ◌-◌, ◌^◌, ◌<◌, List, [], sym, subst, arith, refl}
+use Rattle.std.proofs.Common.{◌≡◌, ℕ, ◌+◌, ◌-◌, ◌^◌, ◌<◌, List, [], sym, subst, arith, refl, Result, Ok, Err}
 use Rattle.outside_calls.specs.Folder.{FolderState, CountsStand}
 use Rattle.outside_calls.specs.Outputs.{Creates}
 use Rattle.outside_calls.proofs.Steps.{CountsStand-trans, FaultsStand-trans}
@@ -15,7 +15,7 @@ use Rattle.pair_run.specs.Ends.{First}
 use Rattle.link_pair.specs.declared.half.PairFault.{PairFault}
 use Rattle.link_pair.specs.declared.half.PairFault.TheVariants as faults
 use Rattle.link_pair.specs.declared.two_links.Pair.{Pair}
-use Rattle.link_pair.specs.Counts.{FaultCounts}
+use Rattle.link_pair.specs.Counts.{CountsBy, FaultCounts}
 use Rattle.link_pair.specs.Pair.{all_outputs, IsFirst, Awaits, FaultEnds, FaultEndsIn}
 
 pub begins : (x : Pair) (f : FolderState) (n m : Written) → IsFirst x → Creates f (all_outputs n m) → Awaits x f n m First
@@ -68,3 +68,8 @@ counts-later a b c inputs outputs faults.NoMemory s h =
     (FaultsStand-trans s.faults h.0, subst (λ x. Rose x c.refusals) s.refusals h.1)
 counts-later a b c inputs outputs (faults.LineLost role symbol) s h = CountsStand-trans s h
 counts-later a b c inputs outputs (faults.ChanceMatch role turn) s h = CountsStand-trans s h
+
+pub counts-behind : {T : Type 0} (a b c : FolderState) (inputs outputs : List (List ℕ)) (result : Result T PairFault) → CountsStand a b
+    → CountsBy b c inputs outputs result → CountsBy a c inputs outputs result
+counts-behind a b c inputs outputs (Ok done) s h = CountsStand-trans s h
+counts-behind a b c inputs outputs (Err fault) s h = counts-later a b c inputs outputs fault s h

@@ -33,10 +33,10 @@ use Rattle.line_world.specs.declared.step.Step.{Step}
 use Rattle.line_world.specs.declared.step.Step.TheVariants as steps
 use Rattle.line_world.specs.declared.step.RunFault.{RunFault}
 use Rattle.line_world.specs.declared.step.RunFault.TheVariants as run_faults
-use Rattle.line_run.specs.Names.{Written, outputs_of}
+use Rattle.line_run.specs.Names.{Written, inputs_of, outputs_of}
 use Rattle.line_world.specs.Link.{AreWithin, octets_of}
 use Rattle.line_world.specs.Modems.{AreKept, AreReady, ModemsAfter}
-use Rattle.line_world.specs.Turn.{added, GoesOnBy, LosesLine, MeetsChance, StopsInTurn, StopsReading, Stops, TurnAnswers}
+use Rattle.line_world.specs.Turn.{added, GoesOnBy, LosesLine, MeetsChance, StopsInTurn, StopsReading, Stops, TurnAnswers, TurnCounts}
 use Rattle.line_world.specs.Turn as turns
 use Rattle.line_world.specs.Turns.{AddsTurn, held_of}
 use Rattle.line_world.specs.World.{KnowsFiles}
@@ -48,6 +48,7 @@ use Rattle.link_pair.specs.declared.half.Half.{Half}
 use Rattle.link_pair.specs.declared.half.LinkEnd.{LinkEnd}
 use Rattle.link_pair.specs.declared.half.LinkEnd.TheVariants as link_ends
 use Rattle.link_pair.specs.declared.half.PairFault.{PairFault}
+use Rattle.link_pair.specs.Counts.{CountsBy}
 use Rattle.link_pair.specs.Half.{run_end, sorted, MayGoOn, StandsFor, left_by, HoldLeft, HalfAt, HalfIsReady, HasCome}
 use Rattle.link_pair.specs.Half.{IsEndedByLine, LinkStops, LinkStopsReading, IsStopped, HalfEnds}
 
@@ -512,3 +513,19 @@ pub came-halted : (m : Modems) (l : Lines) (c : Wire) (links : ℕ) (streams : B
 came-halted m l c links streams f n files round p fault a =
     subst (λ x. HalfEnds c f n files round x fault) (sym a.is)
     (subst (λ k. HalfEnds c f n files k (Goes a.ts a.ends) fault) a.count a.comes)
+
+-- what a turn counted is what the pair counts by it
+pub sorted-counts : (a b : FolderState) (n : Written) (answer : Result Step RunFault) (r : Result (Option LinkEnd) PairFault)
+    → r ≡ sorted answer → TurnCounts a b n answer → CountsBy a b (inputs_of n) (outputs_of n) r
+sorted-counts a b n answer r e h = subst (CountsBy a b (inputs_of n) (outputs_of n)) (sym e) (go answer h)
+  where
+    go : (answer : Result Step RunFault) → TurnCounts a b n answer → CountsBy a b (inputs_of n) (outputs_of n) (sorted answer)
+    go (Ok steps.Going) h = h
+    go (Ok (steps.Done turn)) h = h
+    go (Err (run_faults.LinkLost role segment turn)) h = h
+    go (Err (run_faults.NotDetected turn)) h = h
+    go (Err (run_faults.LineLost role symbol)) h = h
+    go (Err (run_faults.ChanceMatch role turn)) h = h
+    go (Err run_faults.ReadFault) h = h
+    go (Err run_faults.WriteFault) h = h
+    go (Err run_faults.NoMemory) h = h

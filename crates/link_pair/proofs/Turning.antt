@@ -463,3 +463,11 @@ none-of o e = ap (value o) e
 pub some-of : (o : Option Endings) (endings : Endings) → answered o ≡ answered (Some endings) → o ≡ Some endings
 unfolding value
 some-of o endings e = ap (value o) e
+
+-- where both have ended there is an answer
+pub some-not-none : {P : Type 0} {endings : Endings} → answered (Some endings) ≡ answered None → P
+some-not-none e = absurd cc
+
+-- a fault is no answer
+pub fault-not-done : {P : Type 0} {fault : PairFault} {o : Option Endings} → Err fault ≡ answered o → P
+fault-not-done e = absurd cc

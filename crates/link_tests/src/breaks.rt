@@ -1,9 +1,9 @@
 // Words of breaks, and breaks asked, answered and given.
+use super::assert_row;
 use break_signals::{
     BreakFault, BreakReceiver, BreakSender, BreakWord, Spent0, read_break, write_break,
 };
 use frame_check::Info;
-use std::test::Fail;
 
 /// Octets, and the word that they are, or their first fault.
 const WORDS: &[(&str, &[u8], Result<BreakWord, BreakFault>)] = &[
@@ -51,11 +51,10 @@ fn spells(octets: &[u8], word: Result<BreakWord, BreakFault>) -> bool {
 }
 
 #[test]
-fn words_are_three_octets(rt: HostRuntime) -> Result<(), Fail> {
+fn words_are_three_octets(rt: HostRuntime) {
     for &(name, octets, word) in WORDS {
-        assert!(&rt; spells(octets, word), "{name}");
+        assert_row(&rt, name, spells(octets, word));
     }
-    Ok(())
 }
 
 /// What an end does that asks for a break, with one try and four turns to wait.
@@ -115,26 +114,32 @@ const STEPS: &[(&str, Step)] = &[
 ];
 
 #[test]
-fn a_break_is_sent_again_until_it_is_answered(rt: HostRuntime) -> Result<(), Fail> {
+fn a_break_is_sent_again_until_it_is_answered(rt: HostRuntime) {
     let mut sender = BreakSender::new();
     for (name, step) in STEPS {
-        assert!(&rt; holds(&mut sender, step), "{name}");
+        assert_row(&rt, name, holds(&mut sender, step));
     }
-    Ok(())
+}
+
+const ACK: BreakWord = BreakWord::Ack {
+    number: 0,
+    length: 20,
+};
+
+/// Whether a receiver owes an answer, and none once it is sent.
+fn owes_one(receiver: &mut BreakReceiver) -> bool {
+    if receiver.due() != Some(ACK) {
+        return false;
+    }
+    receiver.sent();
+    receiver.due() == None
 }
 
 #[test]
-fn a_break_is_given_once(rt: HostRuntime) -> Result<(), Fail> {
+fn a_break_is_given_once(rt: HostRuntime) {
     let mut receiver = BreakReceiver::new();
-    assert!(&rt; receiver.take(0, 20) == Some(20));
-    assert!(&rt; receiver.take(0, 20) == None);
-    let ack = BreakWord::Ack {
-        number: 0,
-        length: 20,
-    };
-    assert!(&rt; receiver.due() == Some(ack));
-    receiver.sent();
-    assert!(&rt; receiver.due() == None);
-    assert!(&rt; receiver.take(1, 3) == Some(3));
-    Ok(())
+    assert_row(&rt, "it is given", receiver.take(0, 20) == Some(20));
+    assert_row(&rt, "but once", receiver.take(0, 20) == None);
+    assert_row(&rt, "it is answered", owes_one(&mut receiver));
+    assert_row(&rt, "the next one is given", receiver.take(1, 3) == Some(3));
 }

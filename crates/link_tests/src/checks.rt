@@ -1,6 +1,6 @@
 // Published values of both checks.
+use super::assert_row;
 use frame_check::{Check, Info, Whole, append, passes};
-use std::test::Fail;
 
 /// Octets, a check, and whether they pass it.
 const OCTETS: &[(&str, &[u8], Check, bool)] = &[
@@ -75,11 +75,10 @@ const OCTETS: &[(&str, &[u8], Check, bool)] = &[
 ];
 
 #[test]
-fn octets_pass_their_own_check(rt: HostRuntime) -> Result<(), Fail> {
+fn octets_pass_their_own_check(rt: HostRuntime) {
     for &(name, octets, check, passing) in OCTETS {
-        assert!(&rt; passes(octets, check) == passing, "{name}");
+        assert_row(&rt, name, passes(octets, check) == passing);
     }
-    Ok(())
 }
 
 /// Octets, the same with their check, and the check of the whole, which is the complement of the residue that ITU-T V.42 names for a
@@ -124,24 +123,26 @@ fn are_checked(octets: &[u8], check: Check, checked: &[u8], residue: &[u8]) -> b
 }
 
 #[test]
-fn octets_get_their_check(rt: HostRuntime) -> Result<(), Fail> {
+fn octets_get_their_check(rt: HostRuntime) {
     for &(name, octets, check, checked, residue) in CHECKED {
-        assert!(&rt; are_checked(octets, check, checked, residue), "{name}");
+        assert_row(&rt, name, are_checked(octets, check, checked, residue));
     }
-    Ok(())
+}
+
+/// Whether a list has what it is given until it is cleared, and its copy still has it then.
+fn list_goes_on() -> bool {
+    let mut octets = Info::new();
+    let begins_empty = octets.is_empty();
+    octets.push(1);
+    octets.extend(&[2, 3]);
+    let count = octets.len();
+    let copy = octets.copy();
+    octets.clear();
+    begins_empty && count == 3 && octets.is_empty() && copy.as_slice() == [1, 2, 3].as_slice()
 }
 
 #[test]
-fn lists_of_octets(rt: HostRuntime) -> Result<(), Fail> {
-    let mut octets = Info::new();
-    assert!(&rt; octets.is_empty());
-    octets.push(1);
-    octets.extend(&[2, 3]);
-    assert!(&rt; octets.len() == 3);
-    let copy = octets.copy();
-    octets.clear();
-    assert!(&rt; octets.is_empty());
-    assert!(&rt; copy.as_slice() == [1, 2, 3].as_slice());
-    assert!(&rt; Whole::new().len() == 0);
-    Ok(())
+fn lists_of_octets(rt: HostRuntime) {
+    assert_row(&rt, "it goes on", list_goes_on());
+    assert_row(&rt, "it begins empty", Whole::new().len() == 0);
 }

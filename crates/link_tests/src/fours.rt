@@ -4,8 +4,6 @@ ghost use Rattle.std.specs.Prelude.{◌<◌};
 use bit_stuffing::{BitSlot, Deframer, SlotWriter};
 use detection::{PatternReader, Seen, mark_slot, pattern_slot};
 use frame_check::SLOT;
-use std::process::Abort;
-use std::test::Fail;
 
 /// Readers of one stream: two that go on by four bits where that is plain, and two that take each bit.
 #[derive(Drop)]
@@ -26,35 +24,61 @@ impl Beside {
         }
     }
 
-    /// One bit for all: they answer the same.
-    fn push(&mut self, rt: &impl Abort, bit: bool) {
-        assert!(rt; self.by_fours.push(bit) == self.by_bits.push(bit));
-        assert!(rt; self.by_fours.whole() == self.by_bits.whole());
-        assert!(rt; self.patterns_by_fours.push(bit) == self.patterns_by_bits.push(bit));
+    /// Whether the same piece ends with a bit, and none where it was passed over.
+    fn piece_agrees(&mut self, is_passed: bool, bit: bool) -> bool {
+        let piece = if is_passed {
+            None
+        } else {
+            self.by_fours.push(bit)
+        };
+        self.by_bits.push(bit) == piece
     }
 
-    /// Four bits: where they are passed over, no piece and no pattern ends with any of them.
-    fn push_four(&mut self, rt: &impl Abort, four: u8)
+    /// Whether the same pattern ends with a bit, and none where it was passed over.
+    fn pattern_agrees(&mut self, is_passed: bool, bit: bool) -> bool {
+        let seen = if is_passed {
+            None
+        } else {
+            self.patterns_by_fours.push(bit)
+        };
+        self.patterns_by_bits.push(bit) == seen
+    }
+
+    /// Whether the same octets are lent.
+    fn whole_agrees(&self) -> bool {
+        self.by_fours.whole() == self.by_bits.whole()
+    }
+
+    /// Whether all agree on one bit.
+    fn bit_agrees(&mut self, bit: bool) -> bool {
+        self.piece_agrees(false, bit) && self.whole_agrees() && self.pattern_agrees(false, bit)
+    }
+
+    /// Whether all agree on four bits, which may be passed over.
+    fn four_agrees(&mut self, four: u8) -> bool
         requires { four < 16 }
     {
         let pieces_passed = self.by_fours.pass_four(four);
         let patterns_passed = self.patterns_by_fours.pass_four(four);
         for place in 0..4u32 {
             let bit = (four >> place) & 1 == 1;
-            let piece = self.by_bits.push(bit);
-            let seen = self.patterns_by_bits.push(bit);
-            if pieces_passed {
-                assert!(rt; piece == None);
-            } else {
-                assert!(rt; self.by_fours.push(bit) == piece);
-            }
-            if patterns_passed {
-                assert!(rt; seen == None);
-            } else {
-                assert!(rt; self.patterns_by_fours.push(bit) == seen);
+            if !self.piece_agrees(pieces_passed, bit)
+                || !self.pattern_agrees(patterns_passed, bit)
+            {
+                return false;
             }
         }
-        assert!(rt; self.by_fours.whole() == self.by_bits.whole());
+        self.whole_agrees()
+    }
+
+    /// Whether all agree on the bits of a slot.
+    fn slot_agrees(&mut self, slot: &BitSlot) -> bool {
+        for place in 0..slot.len() {
+            if !self.four_agrees(slot.quad(place) % 16) {
+                return false;
+            }
+        }
+        true
     }
 }
 
@@ -86,16 +110,12 @@ fn fill(turn: u32, word: &mut u32, slot: &mut BitSlot) {
 
 // Some 8,000 bits. A bit between slots moves the fours on, so that flags and patterns end at each place of one.
 #[test]
-fn fours_are_four_bits(rt: HostRuntime) -> Result<(), Fail> {
+fn fours_are_four_bits(rt: HostRuntime) {
     let mut beside = Beside::new();
     let mut slot = BitSlot::new();
     let mut word = 1;
     for turn in 0..20u32 {
         fill(turn, &mut word, &mut slot);
-        for place in 0..slot.len() {
-            beside.push_four(&rt, slot.quad(place) % 16);
-        }
-        beside.push(&rt, turn % 2 == 0);
+        assert!(&rt; beside.slot_agrees(&slot) && beside.bit_agrees(turn % 2 == 0));
     }
-    Ok(())
 }

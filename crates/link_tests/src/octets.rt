@@ -1,8 +1,8 @@
 // Each kind of frame, read and written, and each fault at its first place.
+use super::assert_row;
 use frame_check::{INFO, Info, Whole};
 use lapm_frames::{Frame, FrameFault, read, write};
 use shared_terms::Role;
-use std::test::Fail;
 
 const ORIGINATOR: Role = Role::Originator;
 
@@ -170,11 +170,10 @@ fn spells(fields: &Fields, sender: Role, channel: u8, octets: &[u8]) -> bool {
 }
 
 #[test]
-fn frames_by_their_octets(rt: HostRuntime) -> Result<(), Fail> {
+fn frames_by_their_octets(rt: HostRuntime) {
     for (name, fields, sender, channel, octets) in FRAMES {
-        assert!(&rt; spells(fields, *sender, *channel, octets), "{name}");
+        assert_row(&rt, name, spells(fields, *sender, *channel, octets));
     }
-    Ok(())
 }
 
 /// Octets that are no frame of this sender on this channel, and their first fault.
@@ -259,12 +258,16 @@ const FAULTS: &[(&str, &[u8], Role, u8, FrameFault)] = &[
     ),
 ];
 
+/// Whether octets are no frame, and have this first fault.
+fn have_fault(octets: &[u8], sender: Role, channel: u8, fault: FrameFault) -> bool {
+    read(octets, sender, channel % 64) == Err(fault)
+}
+
 #[test]
-fn first_faults_of_octets(rt: HostRuntime) -> Result<(), Fail> {
+fn first_faults_of_octets(rt: HostRuntime) {
     for &(name, octets, sender, channel, fault) in FAULTS {
-        assert!(&rt; read(octets, sender, channel % 64) == Err(fault), "{name}");
+        assert_row(&rt, name, have_fault(octets, sender, channel, fault));
     }
-    Ok(())
 }
 
 /// The octets of an I frame with the most information, and with one octet more.
@@ -275,15 +278,14 @@ const MORE: usize = INFO + 4;
 const LONGEST: &Fields = &Fields::I(0, 0, false, &[0; INFO]);
 
 #[test]
-fn information_has_a_most(rt: HostRuntime) -> Result<(), Fail> {
+fn information_has_a_most(rt: HostRuntime) {
     let mut most = [0; MOST];
     most[0] = 0x03;
-    assert!(&rt; spells(LONGEST, ORIGINATOR, 0, &most));
+    assert_row(&rt, "most", spells(LONGEST, ORIGINATOR, 0, &most));
     let mut more = [0; MORE];
     more[0] = 0x03;
     let fault = FrameFault::Long { len: MORE };
-    assert!(&rt; read(&more, ORIGINATOR, 0) == Err(fault));
+    assert_row(&rt, "I", have_fault(&more, ORIGINATOR, 0, fault));
     more[1] = 0xaf;
-    assert!(&rt; read(&more, ORIGINATOR, 0) == Err(fault));
-    Ok(())
+    assert_row(&rt, "XID", have_fault(&more, ORIGINATOR, 0, fault));
 }

@@ -1,6 +1,6 @@
 // Information fields, read and written.
+use super::assert_row;
 use frame_check::{INFO, Info};
-use std::test::Fail;
 use xid_params::{Offer, Terms, XidFault, agree, default_offer, read_offer, write_offer};
 
 /// The defaults of V.42.
@@ -35,22 +35,21 @@ const SENT: &[(&str, &[u8], Offer)] = &[
 ];
 
 /// Whether octets are read as this offer, and it is written as these octets.
-fn spells(octets: &[u8], offer: Offer) -> bool {
+fn spells(octets: &[u8], offer: &Offer) -> bool {
     let Ok(heard) = read_offer(octets) else {
         return false;
     };
     let mut written = Info::new();
     write_offer(&heard, &mut written);
-    heard == offer && written.as_slice() == octets
+    heard == *offer && written.as_slice() == octets
 }
 
 #[test]
-fn fields_as_they_are_sent(rt: HostRuntime) -> Result<(), Fail> {
-    for &(name, octets, offer) in SENT {
-        assert!(&rt; spells(octets, offer), "{name}");
+fn fields_as_they_are_sent(rt: HostRuntime) {
+    for (name, octets, offer) in SENT {
+        assert_row(&rt, name, spells(octets, offer));
     }
-    assert!(&rt; default_offer() == DEFAULT);
-    Ok(())
+    assert_row(&rt, "default", default_offer() == DEFAULT);
 }
 
 /// Fields that no end of this kind sends, and what they offer, or their first fault.
@@ -127,12 +126,16 @@ const HEARD: &[(&str, &[u8], Result<Offer, XidFault>)] = &[
     ),
 ];
 
+/// Whether octets are read as this offer, or have this first fault.
+fn are_heard(octets: &[u8], offer: &Result<Offer, XidFault>) -> bool {
+    read_offer(octets) == *offer
+}
+
 #[test]
-fn fields_as_they_are_heard(rt: HostRuntime) -> Result<(), Fail> {
-    for &(name, octets, offer) in HEARD {
-        assert!(&rt; read_offer(octets) == offer, "{name}");
+fn fields_as_they_are_heard(rt: HostRuntime) {
+    for (name, octets, offer) in HEARD {
+        assert_row(&rt, name, are_heard(octets, offer));
     }
-    Ok(())
 }
 
 #[test]

@@ -1,10 +1,9 @@
 // Patterns in slots and in streams of bits.
+use super::assert_row;
 use super::slots::slot_of;
 use bit_stuffing::BitSlot;
 use detection::{PatternReader, Seen, mark_slot, pattern_slot};
 use frame_check::SLOT;
-use std::process::Abort;
-use std::test::Fail;
 
 /// The digits of two characters.
 type Pair = (&'static [u8], &'static [u8]);
@@ -50,7 +49,7 @@ fn is_quiet(reader: &mut PatternReader, digits: &[u8], ones: usize) -> bool {
 }
 
 /// Whether two pairs of characters end so.
-fn end_with(one: Pair, other: Pair, ones: usize, seen: Option<Seen>) -> bool {
+fn end_with(one: &Pair, other: &Pair, ones: usize, seen: Option<Seen>) -> bool {
     let mut reader = PatternReader::new();
     is_quiet(&mut reader, one.0, ones)
         && is_quiet(&mut reader, one.1, ones)
@@ -60,20 +59,14 @@ fn end_with(one: Pair, other: Pair, ones: usize, seen: Option<Seen>) -> bool {
 }
 
 #[test]
-fn two_patterns_of_a_kind_are_seen(rt: HostRuntime) -> Result<(), Fail> {
-    for &(name, one, other, ones, seen) in PAIRS {
-        assert!(&rt; end_with(one, other, ones, seen), "{name}");
+fn two_patterns_of_a_kind_are_seen(rt: HostRuntime) {
+    for (name, one, other, ones, seen) in PAIRS {
+        assert_row(&rt, name, end_with(one, other, *ones, *seen));
     }
-    Ok(())
 }
 
-/// The number of bits up to the first pattern in a slot, and how often the pattern is seen.
-fn sights(
-    rt: &impl Abort,
-    reader: &mut PatternReader,
-    slot: &BitSlot,
-    seen: Seen,
-) -> (usize, usize) {
+/// The number of bits up to the first pattern in a slot, and how often the pattern is seen, where no other one is.
+fn sights(reader: &mut PatternReader, slot: &BitSlot, seen: Seen) -> Option<(usize, usize)> {
     let mut first = 0usize;
     let mut count = 0usize;
     for i in 0..slot.len() {
@@ -82,38 +75,44 @@ fn sights(
             let Some(answer) = reader.push((quad >> shift) & 1 == 1) else {
                 continue;
             };
-            assert!(rt; answer == seen);
+            if answer != seen {
+                return None;
+            }
             count = count.wrapping_add(1);
             if count == 1 {
                 first = i.wrapping_mul(4).wrapping_add(shift as usize + 1);
             }
         }
     }
-    (first, count)
+    Some((first, count))
 }
 
-#[test]
-fn slots_of_patterns_and_of_ones(rt: HostRuntime) -> Result<(), Fail> {
-    let mut reader = PatternReader::new();
-    for seen in [Seen::Odp, Seen::Adp] {
-        let mut slot = BitSlot::new();
-        pattern_slot(seen, SLOT as u16, &mut slot);
-        assert!(rt; slot.len() == SLOT);
-        assert!(rt; sights(&rt, &mut reader, &slot, seen) == (71, 9));
-        slot.clear();
-        mark_slot(139, &mut slot);
-        assert!(rt; slot.len() == 139);
-        assert!(rt; sights(&rt, &mut reader, &slot, seen) == (0, 0));
+/// Whether a pattern is seen in its slot, and nothing in one of ones behind it.
+fn is_seen_in_its_slot(reader: &mut PatternReader, seen: Seen) -> bool {
+    let mut slot = BitSlot::new();
+    pattern_slot(seen, SLOT as u16, &mut slot);
+    if slot.len() != SLOT || sights(reader, &slot, seen) != Some((71, 9)) {
+        return false;
     }
-    Ok(())
+    slot.clear();
+    mark_slot(139, &mut slot);
+    slot.len() == 139 && sights(reader, &slot, seen) == Some((0, 0))
 }
 
 #[test]
-fn a_pattern_cut_over_two_slots(rt: HostRuntime) -> Result<(), Fail> {
+fn slots_of_patterns_and_of_ones(rt: HostRuntime) {
+    let mut reader = PatternReader::new();
+    assert_row(&rt, "ODP", is_seen_in_its_slot(&mut reader, Seen::Odp));
+    assert_row(&rt, "ADP", is_seen_in_its_slot(&mut reader, Seen::Adp));
+}
+
+#[test]
+fn a_pattern_cut_over_two_slots(rt: HostRuntime) {
     let first = slot_of(&[2, 2, 14, 15, 15, 15, 5, 4, 14, 15, 15]);
     let second = slot_of(&[15, 11, 8, 8, 15, 15, 15, 7, 1, 9, 15, 15]);
     let mut reader = PatternReader::new();
-    assert!(rt; sights(&rt, &mut reader, &first, Seen::Odp) == (0, 0));
-    assert!(rt; sights(&rt, &mut reader, &second, Seen::Odp) == (48, 1));
-    Ok(())
+    let at_first = sights(&mut reader, &first, Seen::Odp) == Some((0, 0));
+    assert_row(&rt, "first slot", at_first);
+    let at_second = sights(&mut reader, &second, Seen::Odp) == Some((48, 1));
+    assert_row(&rt, "second slot", at_second);
 }

@@ -1,9 +1,11 @@
 // Segments in and out of order.
 ghost use Rattle.std.specs.Prelude.{◌≡◌, ◌≤◌};
 
+use super::assert_row;
 use frame_check::Info;
 use lapm_receiver::{Receiver, Took};
-use std::test::Fail;
+use std::alloc::Global;
+use std::process::Abort;
 
 /// What a receiver does with a window of four, and what it then says.
 enum Step {
@@ -23,30 +25,48 @@ enum Step {
     Tell,
 }
 
+/// What becomes of a segment of this number and octet, where none was taken in its turn before.
+fn taken(receiver: &mut Receiver, ns: u8, octet: u8) -> Option<Took>
+    requires { 1 ≤ receiver.old.window }
+    ensures { receiver.new.window ≡ receiver.old.window }
+{
+    if receiver.undelivered() != 0 || receiver.taken() != 0 {
+        return None;
+    }
+    let mut segment = Info::new();
+    segment.push(octet);
+    Some(receiver.take(ns % 128, &segment))
+}
+
+/// The number of the segment that is asked for.
+fn asked(receiver: &mut Receiver) -> Option<u8>
+    ensures { receiver.new.window ≡ receiver.old.window }
+{
+    let asked = receiver.ask();
+    if asked.is_some() {
+        receiver.asked();
+    }
+    asked
+}
+
+/// Whether the next segment that is delivered has this octet.
+fn delivers(receiver: &mut Receiver, octet: u8) -> bool
+    ensures { receiver.new.window ≡ receiver.old.window }
+{
+    let mut segment = Info::new();
+    receiver.deliver(&mut segment) && segment.as_slice() == [octet].as_slice()
+}
+
 /// Whether a step goes as it says.
 fn holds(receiver: &mut Receiver, step: &Step) -> bool
     requires { 1 ≤ receiver.old.window }
     ensures { receiver.new.window ≡ receiver.old.window }
 {
-    let mut segment = Info::new();
     match *step {
-        Step::Take(ns, octet, took) => {
-            segment.push(octet);
-            receiver.undelivered() == 0
-                && receiver.taken() == 0
-                && receiver.take(ns % 128, &segment) == took
-        }
-        Step::Ask(number) => {
-            let asked = receiver.ask();
-            if asked.is_some() {
-                receiver.asked();
-            }
-            asked == number
-        }
+        Step::Take(ns, octet, took) => taken(receiver, ns, octet) == Some(took),
+        Step::Ask(number) => asked(receiver) == number,
         Step::Undelivered(count) => receiver.undelivered() == count,
-        Step::Deliver(octet) => {
-            receiver.deliver(&mut segment) && segment.as_slice() == [octet].as_slice()
-        }
+        Step::Deliver(octet) => delivers(receiver, octet),
         Step::Number(nr) => receiver.nr() == nr,
         Step::Owed(owed) => receiver.owed() == owed,
         Step::Tell => {
@@ -101,15 +121,24 @@ const RECEIVERS: &[(&str, u8, bool, &[Step])] = &[
     ),
 ];
 
+/// A receiver with such a room.
+fn begun(rt: &impl Abort, alloc: Global, room: u8, srej: bool) -> Receiver
+    ensures { 1 ≤ result.window }
+{
+    assert!(rt; 4 <= room && room <= 127);
+    let Ok(mut receiver) = Receiver::new(alloc, room) else {
+        panic!(rt; "no memory");
+    };
+    receiver.begin(4, srej);
+    receiver
+}
+
 #[test]
-fn segments_in_and_out_of_order(rt: HostRuntime) -> Result<(), Fail> {
+fn segments_in_and_out_of_order(rt: HostRuntime) {
     for (name, room, srej, steps) in RECEIVERS {
-        assert!(&rt; 4 <= *room && *room <= 127, "{name}");
-        let mut receiver = Receiver::new(rt.alloc(), *room)?;
-        receiver.begin(4, *srej);
+        let mut receiver = begun(&rt, rt.alloc(), *room, *srej);
         for step in *steps {
-            assert!(&rt; holds(&mut receiver, step), "{name}");
+            assert_row(&rt, name, holds(&mut receiver, step));
         }
     }
-    Ok(())
 }

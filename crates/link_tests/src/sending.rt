@@ -1,9 +1,11 @@
 // Segments sent, acknowledged, asked for again and timed out.
 ghost use Rattle.std.specs.Prelude.{◌≡◌, ◌≤◌};
 
+use super::assert_row;
 use frame_check::{INFO, Info};
 use lapm_sender::{BadAck, Sender, Spent};
-use std::test::Fail;
+use std::alloc::Global;
+use std::process::Abort;
 
 /// What a sender does with a window of two and one try, and what it then says.
 enum Step {
@@ -33,6 +35,34 @@ enum Step {
     Reply,
 }
 
+/// Offers the piece that is wanted, where one is.
+fn offers(sender: &mut Sender, piece: &[u8]) -> bool
+    ensures { sender.new.window ≡ sender.old.window }
+{
+    match sender.wants() {
+        Some(number) if number < 1 << 40 && piece.len() <= usize::from(sender.size()) => {
+            sender.offer(piece);
+            true
+        }
+        _ => false,
+    }
+}
+
+/// Whether the next segment to be sent has this number modulo 128 and these octets.
+fn sends(sender: &mut Sender, ns: u8, octets: &[u8]) -> bool
+    ensures { sender.new.window ≡ sender.old.window }
+{
+    let mut out = Info::new();
+    sender.next(&mut out) == Some(ns) && out.as_slice() == octets
+}
+
+/// Whether the other end is awaited, and its reply moves no front.
+fn is_replied(sender: &mut Sender) -> bool
+    ensures { sender.new.window ≡ sender.old.window }
+{
+    sender.awaiting() && sender.replied(0) == Ok(false)
+}
+
 /// Whether a step goes as it says.
 fn holds(sender: &mut Sender, step: &Step) -> bool
     requires { 1 ≤ sender.old.window }
@@ -40,24 +70,9 @@ fn holds(sender: &mut Sender, step: &Step) -> bool
 {
     match *step {
         Step::Want(number) => sender.wants() == number,
-        Step::Offer(piece) => {
-            if piece.len() > usize::from(sender.size()) {
-                return false;
-            }
-            let Some(number) = sender.wants() else {
-                return false;
-            };
-            if number >= 1 << 40 {
-                return false;
-            }
-            sender.offer(piece);
-            true
-        }
+        Step::Offer(piece) => offers(sender, piece),
         Step::Ready(ready) => sender.ready() == ready,
-        Step::Next(ns, octets) => {
-            let mut out = Info::new();
-            sender.next(&mut out) == Some(ns) && out.as_slice() == octets
-        }
+        Step::Next(ns, octets) => sends(sender, ns, octets),
         Step::Outstanding(outstanding) => sender.outstanding() == outstanding,
         Step::Acknowledge(nr, answer) => sender.acked(nr) == answer,
         Step::Select(nr) => sender.selected(nr) == Ok(()),
@@ -65,7 +80,7 @@ fn holds(sender: &mut Sender, step: &Step) -> bool
         Step::Front(front) => sender.front() == front,
         Step::Whole => sender.whole(),
         Step::Expire(answer) => sender.expire() == answer,
-        Step::Reply => sender.awaiting() && sender.replied(0) == Ok(false),
+        Step::Reply => is_replied(sender),
     }
 }
 
@@ -132,17 +147,25 @@ const SENDERS: &[(&str, u8, u16, &[Step])] = &[
     ),
 ];
 
+/// A sender with such a room, which wants nothing before it is begun.
+fn begun(rt: &impl Abort, alloc: Global, room: u8, size: u16) -> Sender
+    ensures { 1 ≤ result.window }
+{
+    assert!(rt; 2 <= room && room <= 127 && 1 <= size && usize::from(size) <= INFO);
+    let Ok(mut sender) = Sender::new(alloc, room) else {
+        panic!(rt; "no memory");
+    };
+    assert!(rt; sender.wants() == None);
+    sender.begin(2, size, 1, false);
+    sender
+}
+
 #[test]
-fn segments_sent_and_acknowledged(rt: HostRuntime) -> Result<(), Fail> {
+fn segments_sent_and_acknowledged(rt: HostRuntime) {
     for (name, room, size, steps) in SENDERS {
-        assert!(&rt; 2 <= *room && *room <= 127, "{name}");
-        assert!(&rt; 1 <= *size && usize::from(*size) <= INFO, "{name}");
-        let mut sender = Sender::new(rt.alloc(), *room)?;
-        assert!(&rt; sender.wants() == None, "{name}");
-        sender.begin(2, *size, 1, false);
+        let mut sender = begun(&rt, rt.alloc(), *room, *size);
         for step in *steps {
-            assert!(&rt; holds(&mut sender, step), "{name}");
+            assert_row(&rt, name, holds(&mut sender, step));
         }
     }
-    Ok(())
 }

@@ -1,8 +1,10 @@
 // Pieces in bits, and slots.
+ghost use Rattle.std.specs.Prelude.{◌≡◌};
+ghost use Rattle.link_tests.specs.declared.slots.TheConstants.{SYMBOLS};
+
+use super::assert_row;
 use bit_stuffing::{BitSlot, Deframer, Piece, SlotWriter};
 use frame_check::{SLOT, WHOLE};
-use std::process::Abort;
-use std::test::Fail;
 
 const FLAG: &[u8] = b"01111110";
 
@@ -97,6 +99,11 @@ const STREAMS: &[(&str, &[Push])] = &[
     ),
 ];
 
+/// Whether one bit is answered so, and these octets are lent behind it.
+fn answers(deframer: &mut Deframer, bit: bool, answer: Option<Piece>, whole: &[u8]) -> bool {
+    deframer.push(bit) == answer && deframer.whole() == whole
+}
+
 /// Whether the bits of a push are answered so.
 fn is_answered(deframer: &mut Deframer, push: &Push) -> bool {
     let (digits, times, answer, whole) = *push;
@@ -104,13 +111,13 @@ fn is_answered(deframer: &mut Deframer, push: &Push) -> bool {
     for _ in 0..times {
         for digit in digits {
             left = left.saturating_sub(1);
-            let found = deframer.push(*digit == b'1');
-            let (piece, octets) = if left == 0 {
-                (answer, whole)
+            let bit = *digit == b'1';
+            let is_answered = if left == 0 {
+                answers(deframer, bit, answer, whole)
             } else {
-                (None, b"".as_slice())
+                answers(deframer, bit, None, b"")
             };
-            if found != piece || deframer.whole() != octets {
+            if !is_answered {
                 return false;
             }
         }
@@ -118,15 +125,22 @@ fn is_answered(deframer: &mut Deframer, push: &Push) -> bool {
     true
 }
 
-#[test]
-fn pieces_in_streams(rt: HostRuntime) -> Result<(), Fail> {
-    for (name, pushes) in STREAMS {
-        let mut deframer = Deframer::new();
-        for push in *pushes {
-            assert!(&rt; is_answered(&mut deframer, push), "{name}");
+/// Whether the bits of a stream are answered so.
+fn are_answered(pushes: &[Push]) -> bool {
+    let mut deframer = Deframer::new();
+    for push in pushes {
+        if !is_answered(&mut deframer, push) {
+            return false;
         }
     }
-    Ok(())
+    true
+}
+
+#[test]
+fn pieces_in_streams(rt: HostRuntime) {
+    for &(name, pushes) in STREAMS {
+        assert_row(&rt, name, are_answered(pushes));
+    }
 }
 
 /// A slot of these quads.
@@ -140,58 +154,81 @@ pub(crate) fn slot_of(quads: &[u8]) -> BitSlot {
     slot
 }
 
-/// The digits of a slot's bits from this one on are these.
-fn assert_digits(rt: &impl Abort, slot: &BitSlot, from: usize, digits: &[u8]) {
+/// Whether the digits of a slot's bits from this one on are these.
+fn has_digits(slot: &BitSlot, from: usize, digits: &[u8]) -> bool {
     for i in 0..digits.len() {
         let place = from.wrapping_add(i);
-        assert!(rt; place / 4 < slot.len());
+        if place / 4 >= slot.len() {
+            return false;
+        }
         let bit = (slot.quad(place / 4) >> (place % 4)) & 1 == 1;
-        assert!(rt; bit == (digits[i] == b'1'));
+        if bit != (digits[i] == b'1') {
+            return false;
+        }
     }
+    true
+}
+
+/// Whether a slot begins with flags, and then a frame of two octets of ones with no check.
+fn has_stuffed_ones(slot: &BitSlot) -> bool {
+    for place in 0..4 {
+        if !has_digits(slot, 8 * place, FLAG) {
+            return false;
+        }
+    }
+    has_digits(slot, 32, b"1111101111101111101") && has_digits(slot, 51, FLAG)
 }
 
 #[test]
-fn a_zero_goes_behind_five_ones(rt: HostRuntime) -> Result<(), Fail> {
+fn a_zero_goes_behind_five_ones(rt: HostRuntime) {
     let mut writer = SlotWriter::new(SLOT as u16);
     let mut slot = BitSlot::new();
     writer.slot(Some(&[0xff, 0xff]), &mut slot);
-    assert!(rt; slot.len() == SLOT);
-    for place in 0..4 {
-        assert_digits(&rt, &slot, 8 * place, FLAG);
-    }
-    assert_digits(&rt, &slot, 32, b"1111101111101111101");
-    assert_digits(&rt, &slot, 51, FLAG);
-    Ok(())
+    assert!(rt; slot.len() == SLOT && has_stuffed_ones(&slot));
 }
 
 /// The symbols of a slot in which the last flag of such a frame's slot is cut.
 const SYMBOLS: usize = 464;
 
-#[test]
-fn a_flag_that_is_cut_goes_on_in_the_next_slot(rt: HostRuntime) -> Result<(), Fail> {
-    let mut writer = SlotWriter::new(SYMBOLS as u16);
-    let mut slot = BitSlot::new();
-    writer.slot(Some(&[1, 2, 3, 0xff]), &mut slot);
-    assert_digits(&rt, &slot, 4 * SYMBOLS - 7, b"0111111");
+/// Writes such a slot of flags alone.
+fn write_flags(writer: &mut SlotWriter, slot: &mut BitSlot)
+    requires { writer.old.symbols ≡ SYMBOLS }
+    ensures { writer.new.symbols ≡ SYMBOLS }
+{
     slot.clear();
-    writer.slot(None, &mut slot);
-    assert_digits(&rt, &slot, 0, b"001111110");
-    assert_digits(&rt, &slot, 4 * SYMBOLS - 7, b"0111111");
-    writer.restart();
-    slot.clear();
-    writer.slot(None, &mut slot);
-    assert_digits(&rt, &slot, 0, FLAG);
-    Ok(())
+    writer.slot(None, slot);
+}
+
+/// Whether such a slot ends in a flag without its last bit.
+fn ends_in_a_flag(slot: &BitSlot) -> bool {
+    has_digits(slot, 4 * SYMBOLS - 7, b"0111111")
 }
 
 #[test]
-fn quads_of_a_slot(rt: HostRuntime) -> Result<(), Fail> {
-    assert!(rt; BitSlot::new().is_empty());
-    let mut slot = slot_of(&[6, 15]);
-    assert!(rt; slot.len() == 2);
-    assert!(rt; slot.quad(1) == 15);
-    assert_digits(&rt, &slot, 0, b"01101111");
+fn a_flag_that_is_cut_goes_on_in_the_next_slot(rt: HostRuntime) {
+    let mut writer = SlotWriter::new(SYMBOLS as u16);
+    let mut slot = BitSlot::new();
+    writer.slot(Some(&[1, 2, 3, 0xff]), &mut slot);
+    assert_row(&rt, "it is cut", ends_in_a_flag(&slot));
+    write_flags(&mut writer, &mut slot);
+    assert_row(&rt, "it goes on", has_digits(&slot, 0, b"001111110"));
+    assert_row(&rt, "it is cut again", ends_in_a_flag(&slot));
+    writer.restart();
+    write_flags(&mut writer, &mut slot);
+    assert_row(&rt, "it begins anew", has_digits(&slot, 0, FLAG));
+}
+
+/// Whether a slot has these two quads, and none once it is cleared.
+fn has_quads_until_cleared(slot: &mut BitSlot) -> bool {
+    if slot.len() != 2 || slot.quad(1) != 15 || !has_digits(slot, 0, b"01101111") {
+        return false;
+    }
     slot.clear();
-    assert!(rt; slot.len() == 0);
-    Ok(())
+    slot.len() == 0
+}
+
+#[test]
+fn quads_of_a_slot(rt: HostRuntime) {
+    let mut slot = slot_of(&[6, 15]);
+    assert!(rt; BitSlot::new().is_empty() && has_quads_until_cleared(&mut slot));
 }

@@ -1,9 +1,9 @@
 // The text of each kind of frame, lines of a trace, and numbers as texts.
+use super::assert_row;
 use frame_check::Octets;
 use lapm_frames::{Frame, Heard, Sent, read};
 use line_texts::{FrameText, LineText, TraceLine, put_decimal, write_frame_text, write_line};
 use shared_terms::Role;
-use std::test::Fail;
 
 /// The octets of a frame of the originator, and its text.
 const FRAMES: &[(&[u8], &str)] = &[
@@ -42,69 +42,89 @@ fn has_text(octets: &[u8], text: &str) -> bool {
 }
 
 #[test]
-fn each_kind_has_its_text(rt: HostRuntime) -> Result<(), Fail> {
+fn each_kind_has_its_text(rt: HostRuntime) {
     for &(octets, text) in FRAMES {
-        assert!(&rt; has_text(octets, text), "{text}");
+        assert_row(&rt, text, has_text(octets, text));
     }
-    Ok(())
 }
 
-/// A line of a trace has that text.
-fn line_is(line: &TraceLine, text: &[u8]) -> bool {
-    let mut out = LineText::new();
-    write_line(line, &mut out);
-    out.as_slice() == text
+/// These octets of the originator as they are sent: flags, where they are no frame.
+fn sent(octets: &[u8]) -> Sent {
+    match read(octets, Role::Originator, 0) {
+        Ok(frame) => Sent::Frame(frame),
+        Err(_) => Sent::Flags,
+    }
 }
 
-#[test]
-fn lines_of_a_trace_have_their_texts(rt: HostRuntime) -> Result<(), Fail> {
-    let silent = TraceLine {
+fn silent_line() -> TraceLine {
+    TraceLine {
         turn: 0,
         role: Role::Answerer,
         arrived: Heard::Nothing,
         sent: Some(Sent::Mark),
         given: None,
-    };
-    assert!(&rt; line_is(&silent, b"0 answ - > mark\n"));
-    let broken = TraceLine {
+    }
+}
+
+fn break_line() -> TraceLine {
+    TraceLine {
         turn: 8,
         role: Role::Answerer,
-        arrived: Heard::Passed(Sent::Frame(read(b"\x03\x03@\x00\x1e", Role::Originator, 0)?)),
-        sent: Some(Sent::Frame(read(b"\x03\x03`\x00\x1e", Role::Originator, 0)?)),
+        arrived: Heard::Passed(sent(b"\x03\x03@\x00\x1e")),
+        sent: Some(sent(b"\x03\x03`\x00\x1e")),
         given: Some(30),
-    };
-    assert!(&rt;
-        line_is(
-            &broken,
-            b"8 answ ui cmd p=0 brk 0 30 > ui cmd p=0 brkack 0 30 break=30\n"
-        )
-    );
-    let last = TraceLine {
+    }
+}
+
+fn last_line() -> TraceLine {
+    TraceLine {
         turn: 120,
         role: Role::Originator,
         arrived: Heard::Lost(Sent::Adp),
         sent: None,
         given: None,
-    };
-    assert!(&rt; line_is(&last, b"120 orig lost adp > none\n"));
-    let chance = TraceLine {
+    }
+}
+
+fn chance_line() -> TraceLine {
+    TraceLine {
         turn: 1,
         role: Role::Originator,
         arrived: Heard::Chance,
         sent: None,
         given: None,
-    };
-    assert!(&rt; line_is(&chance, b"1 orig chance\n"));
-    Ok(())
+    }
+}
+
+/// Whether a line of a trace has that text.
+fn line_is(line: TraceLine, text: &[u8]) -> bool {
+    let mut out = LineText::new();
+    write_line(&line, &mut out);
+    out.as_slice() == text
 }
 
 #[test]
-fn numbers_stand_behind_what_is_there(rt: HostRuntime) -> Result<(), Fail> {
+fn lines_of_a_trace_have_their_texts(rt: HostRuntime) {
+    assert_row(&rt, "silent", line_is(silent_line(), b"0 answ - > mark\n"));
+    let broken = line_is(
+        break_line(),
+        b"8 answ ui cmd p=0 brk 0 30 > ui cmd p=0 brkack 0 30 break=30\n",
+    );
+    assert_row(&rt, "broken", broken);
+    assert_row(
+        &rt,
+        "last",
+        line_is(last_line(), b"120 orig lost adp > none\n"),
+    );
+    assert_row(&rt, "chance", line_is(chance_line(), b"1 orig chance\n"));
+}
+
+#[test]
+fn numbers_stand_behind_what_is_there(rt: HostRuntime) {
     let mut octets = Octets::<64>::new();
     octets.extend(b"a ");
     put_decimal(&mut octets, 0);
     octets.push(b' ');
     put_decimal(&mut octets, u64::MAX);
     assert!(rt; octets.as_slice() == b"a 0 18446744073709551615".as_slice());
-    Ok(())
 }

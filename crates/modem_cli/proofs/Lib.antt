@@ -1,1 +1,2 @@
 pub mod Others
+mod Asking

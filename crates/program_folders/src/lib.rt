@@ -1,4 +1,4 @@
-//! The folders that the program runs over: in memory, and on disk.
+//! The folders that the program runs over: in memory, on disk, and one over another for an audit.
 //!
 //! [`SureFolder`] keeps its files in memory, tells all of them, and fails for want of memory alone. [`DiskFolder`] is the
 //! folder that the program runs in: it tells nothing of its files. Each is a `Folder`, which stands in `outside_calls`, so

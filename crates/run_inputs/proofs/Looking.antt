@@ -8,14 +8,14 @@ use Rattle.outside_calls.specs.Outputs.{SomeRose}
 use Rattle.command_base.specs.declared.status.Status.TheVariants.{BadScript, TooLong}
 use Rattle.command_base.specs.declared.stop.Stop.{Stop}
 use Rattle.command_base.specs.declared.stop.Stop.TheVariants.{Own, Read, Write, Say, NoMemory}
-use Rattle.command_base.specs.Inputs.{IsWithin, IsNotWithin}
+use Rattle.command_base.specs.Inputs.{IsWithin, IsNotWithin, FailsToHold}
 use Rattle.command_base.specs.Stops.{IsOwn, StopCounts, EndCounts}
 use Rattle.command_base.proofs.Jobs.{stop-earlier}
 use Rattle.command_base.proofs.Reading.{within-earlier, longer-earlier, octets-earlier}
 use Rattle.noise_script.specs.Script.{ScriptValue}
 use Rattle.run_inputs.specs.declared.limits.Limits.{Limits}
 use Rattle.run_inputs.specs.Lengths.{AreWithin, TellOctets, IsFirstLong, FailsInOrder, RefusesLengths}
-use Rattle.run_inputs.specs.Scripts.{ReadsScript, RefusesScript}
+use Rattle.run_inputs.specs.Scripts.{ReadsScript, RefusesScript, RefusesScriptOwn}
 use Rattle.run_inputs.specs.Inputs.{Opens, RefusesOwn, Refuses}
 
 -- ---- a look changes nothing
@@ -110,6 +110,35 @@ counts-first old new name names outputs limit place (Read folder.NoMemory) refus
 counts-first old new name names outputs limit place (Write fault) why = absurd why
 counts-first old new name names outputs limit place (Say fault) why = absurd why
 counts-first old new name names outputs limit place NoMemory why = absurd why
+
+-- ---- a script that is not read
+
+-- it is not within its limit,
+pub script-longer : (old new : FolderState) (name : List ℕ) (limit place : ℕ) (stop : Stop) → IsNotWithin old new name limit place stop
+    → RefusesScript limit old name place stop
+script-longer old new name limit place (Own answer) (is, longer, stand) =
+    subst (RefusesScriptOwn limit old name place) (sym is) (record { word_is = refl; longer = longer })
+script-longer old new name limit place (Read fault) why = tt
+script-longer old new name limit place (Write fault) why = absurd why
+script-longer old new name limit place (Say fault) why = absurd why
+script-longer old new name limit place NoMemory why = absurd why
+
+-- or its octets are not held
+pub script-not-held : (old mid new : FolderState) (name : List ℕ) (limit place : ℕ) (stop : Stop) → IsWithin old name limit
+    → FailsToHold mid new name stop → RefusesScript limit old name place stop
+script-not-held old mid new name limit place (Own answer) within why = absurd why
+script-not-held old mid new name limit place (Read fault) within why = tt
+script-not-held old mid new name limit place (Write fault) within why = absurd why
+script-not-held old mid new name limit place (Say fault) within why = absurd why
+script-not-held old mid new name limit place NoMemory within why = within
+
+pub counts-held : (old new : FolderState) (name : List ℕ) (outputs : List (List ℕ)) (stop : Stop) → FailsToHold old new name stop
+    → StopCounts old new (name ∷ []) outputs stop
+counts-held old new name outputs (Own answer) why = absurd why
+counts-held old new name outputs (Read fault) why = why
+counts-held old new name outputs (Write fault) why = absurd why
+counts-held old new name outputs (Say fault) why = absurd why
+counts-held old new name outputs NoMemory why = why
 
 -- ---- the inputs of a run
 

@@ -1,6 +1,7 @@
 // Ties, losses and the states of small codes.
-ghost use Rattle.std.specs.Prelude.{◌≡◌, ◌+◌, ◌≤◌, ◌<◌, [], None, IfOk, All};
+ghost use Rattle.std.specs.Prelude.{◌≡◌, ◌+◌, ◌≤◌, ◌<◌, [], None, IfOk, IsTrue, All};
 
+use super::assert_row;
 use exact_decoder::{Decoder, Lost, ViterbiStep};
 use outside_calls::NoMemory;
 use rate_4800::Rate4800;
@@ -12,6 +13,23 @@ use trellis_tables::{LabelReader, TrellisCode, V32Code, Way};
 const MIDDLE: Sample = Sample { re: 0, im: 0 };
 
 type Line = Decoder<V32Code, 8, 32, 128>;
+
+// Whether this label alone is released, or none.
+fn gives<
+    const STATES: usize,
+    const LABELS: usize,
+    const DEPTH: usize,
+    C: ViterbiStep<STATES, LABELS> + Drop,
+>(decoder: &mut Decoder<C, STATES, LABELS, DEPTH>, label: Option<u8>) -> bool
+    ensures taken { IsTrue result → decoder.new.pending ≡ [] }
+    ensures count { decoder.new.count ≡ decoder.old.count }
+    ensures lost { decoder.new.lost ≡ decoder.old.lost }
+{
+    if label.is_some() && decoder.take() != label {
+        return false;
+    }
+    decoder.take() == None && decoder.pending() == 0
+}
 
 // A sample is taken, and then this label alone is released, or none.
 fn releases<
@@ -32,11 +50,7 @@ fn releases<
     ensures lost { decoder.new.lost ≡ None }
 {
     assert!(rt; decoder.push(sample).is_ok());
-    if let Some(label) = label {
-        assert!(rt; decoder.take() == Some(label));
-    }
-    assert!(rt; decoder.take() == None);
-    assert!(rt; decoder.pending() == 0);
+    assert!(rt; gives(decoder, label));
 }
 
 // The label of the nearest of four points, of equally near ones the least, by all distances.
@@ -123,7 +137,7 @@ fn two_points(rt: HostRuntime) -> Result<(), NoMemory> {
         releases(&rt, &mut decoder, Sample { re, im }, None);
         let (re, im) = second;
         releases(&rt, &mut decoder, Sample { re, im }, None);
-        assert!(&rt; carry(decoder.finish().as_slice(), &quads), "{name}");
+        assert_row(&rt, name, carry(decoder.finish().as_slice(), &quads));
     }
     Ok(())
 }
@@ -155,9 +169,9 @@ fn loses(rt: &impl Abort, decoder: &mut Line, symbol: u64)
     ensures taken { decoder.new.pending ≡ [] }
     ensures count { decoder.new.count ≤ decoder.old.count + 1 }
 {
-    assert!(rt; decoder.push(MIDDLE) == Err(Lost { symbol }));
-    assert!(rt; decoder.pending() == 0);
-    assert!(rt; decoder.lost() == Some(Lost { symbol }));
+    let lost = Lost { symbol };
+    let pushed = decoder.push(MIDDLE);
+    assert!(rt; pushed == Err(lost) && decoder.pending() == 0 && decoder.lost() == Some(lost));
 }
 
 #[test]

@@ -27,3 +27,12 @@ mod scrambling;
 mod survivor_lists;
 #[cfg(test)]
 mod trellis;
+
+#[cfg(test)]
+use std::process::Abort;
+
+/// Stops at a row of a table that doesn't hold, and says its name.
+#[cfg(test)]
+fn assert_row(rt: &impl Abort, name: &str, holds: bool) {
+    assert!(rt; holds, "{name}");
+}

@@ -1,4 +1,5 @@
 // How much noise there is between an octet and its two samples.
+use super::assert_row;
 use noise_bound::Margin;
 use scramblers::Mode;
 use symbol_map::Sample;
@@ -25,6 +26,6 @@ fn costs(re: i16, cost: u64, sure: bool) -> bool {
 #[test]
 fn a_sample_a_unit_farther_is_not_sure(rt: HostRuntime) {
     for &(name, re, cost, sure) in MARGINS {
-        assert!(&rt; costs(re, cost, sure), "{name}");
+        assert_row(&rt, name, costs(re, cost, sure));
     }
 }

@@ -1,6 +1,7 @@
 // The samples of some octets, whose low four bits come first.
 ghost use Rattle.std.specs.Prelude.{◌<◌};
 
+use super::assert_row;
 use line_coding::Modulator;
 use scramblers::Mode;
 use symbol_map::Sample;
@@ -43,9 +44,10 @@ fn octets_in_both_modes(rt: HostRuntime) {
     for &(name, mode, octet, first, second) in OCTETS {
         let mut modulator = Modulator::new(mode);
         let is_first = is_sent(&mut modulator, octet % 16, first);
-        assert!(&rt;
+        assert_row(
+            &rt,
+            name,
             is_first && is_sent(&mut modulator, octet / 16, second),
-            "{name}"
         );
     }
 }

@@ -1,4 +1,5 @@
 // Recordings of an octet in both modes, at both rates.
+use super::assert_row;
 use recordings::{Rate, Recorder, header_octets};
 use scramblers::Mode;
 
@@ -23,7 +24,7 @@ const HEADERS: &[(&str, Rate, Mode, &[u8])] = &[
 #[test]
 fn headers_name_the_mode_and_the_rate(rt: HostRuntime) {
     for &(name, rate, mode, header) in HEADERS {
-        assert!(&rt; header_octets(rate, mode).as_slice() == header, "{name}");
+        assert_row(&rt, name, header_octets(rate, mode).as_slice() == header);
     }
 }
 
@@ -63,6 +64,6 @@ const RECORDED: &[(&str, Rate, Mode, u8, &[u8])] = &[
 fn octets_become_samples(rt: HostRuntime) {
     for &(name, rate, mode, octet, samples) in RECORDED {
         let mut recorder = Recorder::new(rate, mode);
-        assert!(&rt; recorder.push(octet).as_slice() == samples, "{name}");
+        assert_row(&rt, name, recorder.push(octet).as_slice() == samples);
     }
 }

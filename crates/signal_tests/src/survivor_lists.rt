@@ -1,7 +1,8 @@
 // The decoder beside survivors as whole lists, which is the definition as plainly as can be.
-ghost use Rattle.std.specs.Prelude.{◌≡◌, ◌<◌, ◌≤◌, ◌^◌, [], None, OnOk};
+ghost use Rattle.std.specs.Prelude.{◌≡◌, ◌<◌, ◌≤◌, ◌^◌, [], OnOk};
 
-use exact_decoder::Decoder;
+use super::assert_row;
+use exact_decoder::{Decoder, Lost};
 use outside_calls::NoMemory;
 use std::alloc::Global;
 use std::process::Abort;
@@ -150,6 +151,17 @@ impl Stream {
         (1024 * self.draw(64) as i32 - 32768) as i16
     }
 
+    // The sample of a symbol. From the symbol `middle` on all lie in the middle of the map.
+    fn sample_at(&mut self, symbol: u32, middle: u32, spread: u32) -> Sample
+        requires { spread < 2 ^ 12 }
+    {
+        if symbol < middle {
+            self.sample(spread)
+        } else {
+            Sample { re: 0, im: 0 }
+        }
+    }
+
     // One of a code sequence, or without a spread one by chance, to which many labels are equally near.
     fn sample(&mut self, spread: u32) -> Sample
         requires { spread < 2 ^ 12 }
@@ -182,22 +194,78 @@ fn take_all(rt: &impl Abort, decoder: &mut Line, taken: &mut Vec<u8>) -> Result<
     Ok(())
 }
 
-// What was taken, and the labels behind it, are the least survivor.
-fn ends_alike(
-    rt: &impl Abort,
-    decoder: Line,
-    mut taken: Vec<u8>,
-    survivors: &Survivors,
-) -> Result<(), NoMemory>
-    requires taken { decoder.pending ≡ [] }
-    requires lost { decoder.lost ≡ None }
+/// What stands beside a decoder: a stream, its survivors, and the labels that the decoder gave.
+struct Beside {
+    stream: Stream,
+    survivors: Survivors,
+    taken: Vec<u8>,
+}
+
+impl Drop for Beside {
+    // for the prover: so it is dropped by a call, and its fields are not dropped anew wherever one is.
+    fn drop(self) {
+        let Beside {
+            stream: _,
+            survivors: _,
+            taken: _,
+        } = self;
+    }
+}
+
+impl Beside {
+    fn new(alloc: Global) -> Result<Beside, NoMemory> {
+        Ok(Beside {
+            stream: Stream {
+                encoder: Encoder::new(),
+                word: 1,
+            },
+            survivors: Survivors::new(alloc)?,
+            taken: Vec::new(alloc),
+        })
+    }
+
+    // The sample of a symbol, which the survivors have then heard.
+    fn hear(
+        &mut self,
+        alloc: Global,
+        symbol: u32,
+        middle: u32,
+        spread: u32,
+    ) -> Result<Sample, NoMemory>
+        requires { spread < 2 ^ 12 }
+    {
+        let sample = self.stream.sample_at(symbol, middle, spread);
+        self.survivors.push(alloc, sample)?;
+        Ok(sample)
+    }
+
+    // Whether what all survivors begin with was taken, and the line is lost with this symbol where they have too much behind it.
+    fn agrees(&self, pushed: &Result<(), Lost>, symbol: u32) -> bool {
+        let (released, unreleased) = self.survivors.released();
+        let expected = if unreleased.len() > 128 {
+            Err(Lost {
+                symbol: u64::from(symbol),
+            })
+        } else {
+            Ok(())
+        };
+        self.taken.as_slice() == released && *pushed == expected
+    }
+}
+
+// With which symbol the line is lost. Where it isn't, what was taken, and the labels behind it, are the least survivor.
+fn ends_alike(rt: &impl Abort, decoder: Line, beside: &mut Beside) -> Result<Option<u64>, NoMemory>
+    requires { decoder.pending ≡ [] }
 {
+    if let Some(lost) = decoder.lost() {
+        return Ok(Some(lost.symbol));
+    }
     let tail = decoder.finish();
     for label in tail.as_slice() {
-        taken.push(*label)?;
+        beside.taken.push(*label)?;
     }
-    assert!(rt; taken.as_slice() == survivors.least());
-    Ok(())
+    assert!(rt; beside.taken.as_slice() == beside.survivors.least());
+    Ok(None)
 }
 
 // With which symbol the line is lost, where from the symbol `middle` on all samples lie in the middle of the map. After each sample
@@ -211,34 +279,17 @@ fn lost_with(
     requires { spread < 2 ^ 12 }
 {
     let mut decoder: Line = Decoder::new(alloc, V32Code, 0)?;
-    let mut survivors = Survivors::new(alloc)?;
-    let mut stream = Stream {
-        encoder: Encoder::new(),
-        word: 1,
-    };
-    let mut taken = Vec::new(alloc);
+    let mut beside = Beside::new(alloc)?;
     for symbol in 0..400u32 {
-        let sample = if symbol < middle {
-            stream.sample(spread)
-        } else {
-            Sample { re: 0, im: 0 }
-        };
-        survivors.push(alloc, sample)?;
+        let sample = beside.hear(alloc, symbol, middle, spread)?;
         let pushed = decoder.push(sample);
-        take_all(rt, &mut decoder, &mut taken)?;
-        let (released, unreleased) = survivors.released();
-        assert!(rt; taken.as_slice() == released);
-        assert!(rt; pushed.is_err() == (unreleased.len() > 128));
+        take_all(rt, &mut decoder, &mut beside.taken)?;
+        assert!(rt; beside.agrees(&pushed, symbol));
         if let Err(lost) = pushed {
-            assert!(rt; lost.symbol == u64::from(symbol));
             return Ok(Some(lost.symbol));
         }
     }
-    if let Some(lost) = decoder.lost() {
-        return Ok(Some(lost.symbol));
-    }
-    ends_alike(rt, decoder, taken, &survivors)?;
-    Ok(None)
+    ends_alike(rt, decoder, &mut beside)
 }
 
 /// Spreads, the symbol from which on all samples lie in the middle, and whether the line is lost, where that is known beforehand.
@@ -255,7 +306,7 @@ const STREAMS: &[(&str, u32, u32, Option<bool>)] = &[
 fn both_release_the_same(rt: HostRuntime) -> Result<(), NoMemory> {
     for &(name, spread, middle, lost) in STREAMS {
         let symbol = lost_with(&rt, rt.alloc(), spread % 4096, middle)?;
-        assert!(&rt; lost.is_none() || lost == Some(symbol.is_some()), "{name}");
+        assert_row(&rt, name, lost.is_none() || lost == Some(symbol.is_some()));
     }
     Ok(())
 }

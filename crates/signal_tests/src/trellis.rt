@@ -1,7 +1,7 @@
 // Quads coded and read again, and the code's states.
 ghost use Rattle.std.specs.Prelude.{◌≡◌, length};
 
-use std::process::Abort;
+use super::assert_row;
 use symbol_map::Sample;
 use trellis_tables::{Encoder, LabelReader, TrellisCode, V32Code, rotate_state};
 
@@ -46,7 +46,7 @@ fn are_coded(quads: &[u8], points: &[(i16, i16)]) -> bool {
 #[test]
 fn quads_become_points(rt: HostRuntime) {
     for &(name, quads, points) in CODED {
-        assert!(&rt; are_coded(quads, points), "{name}");
+        assert_row(&rt, name, are_coded(quads, points));
     }
 }
 
@@ -57,18 +57,28 @@ fn uncoded_bits_are_read(rt: HostRuntime) {
     assert!(rt; reader.push(2) == 0x4);
 }
 
-// Each branch is found again from its end, whatever the code.
-fn check_branches<const STATES: usize, const LABELS: usize, C: TrellisCode<STATES, LABELS>>(
-    rt: &impl Abort,
+// Whether each branch is found again from its end, whatever the code.
+fn are_found<const STATES: usize, const LABELS: usize, C: TrellisCode<STATES, LABELS>>(
     code: &C,
-) {
+) -> bool {
     for state in 0..STATES {
         for label in 0..LABELS {
             if let Some(to) = code.next(state as u8, label as u8) {
-                assert!(rt; code.before(to, label as u8) == Some(state as u8));
+                if code.before(to, label as u8) != Some(state as u8) {
+                    return false;
+                }
             }
         }
     }
+    true
+}
+
+// Whether two equal symbols lead on, and a label that leads nowhere does not.
+fn lead_on() -> bool {
+    V32Code.next(0, 8) == Some(2)
+        && V32Code.next(2, 8) == Some(3)
+        && V32Code.before(3, 8) == Some(2)
+        && V32Code.next(3, 8) == None
 }
 
 /// States, and what they are after a clockwise quarter turn of all points.
@@ -85,14 +95,9 @@ const ROTATED: &[(u8, u8)] = &[
 
 #[test]
 fn states_and_branches(rt: HostRuntime) {
-    // two equal symbols, and a label that leads nowhere
-    assert!(rt; V32Code.next(0, 8) == Some(2));
-    assert!(rt; V32Code.next(2, 8) == Some(3));
-    assert!(rt; V32Code.before(3, 8) == Some(2));
-    assert!(rt; V32Code.next(3, 8) == None);
+    assert!(rt; lead_on());
     for &(state, rotated) in ROTATED {
         assert!(rt; rotate_state(state % 8) == rotated, "{state}");
     }
-    check_branches(&rt, &V32Code);
-    assert!(rt; <V32Code as TrellisCode<8, 32>>::REACH == 2);
+    assert!(rt; are_found(&V32Code) && <V32Code as TrellisCode<8, 32>>::REACH == 2);
 }

@@ -1,6 +1,6 @@
 -- Numbers in decimal digits without leading zeros.
 use Rattle.std.proofs.Common.{◌≡◌, ℕ, zero, suc, ◌^◌, ◌<◌, ◌≤◌, Bool, true, false, not, ◌&&◌, cond, eqb, List, [], ◌∷◌, ◌++◌, length, get_or}
-use Rattle.std.proofs.Common.{Some, None, refl, sym, ap, subst, ◌∙◌, arith, append_assoc}
+use Rattle.std.proofs.Common.{Option, Some, None, refl, sym, ap, subst, ◌∙◌, arith, append_assoc}
 use Rattle.std.specs.Prelude.{decimal, nat_le, nat_lt}
 use Rattle.std.specs.List.{list_all}
 use Rattle.std.specs.Option.{option_map, option_and_then}
@@ -69,7 +69,21 @@ bounded n bound m e = go (nat_lt n bound) refl e
     go true t e = let s : n ≡ m = cc in (s, grind (arith, nat_tests, t, s))
     go false t e = absurd cc
 
+past-is : (n m : ℕ) → m ≤ n → nat_lt n m ≡ false
+past-is n m h = grind (arith, nat_tests, h)
+
 -- ---- at the front of a text
+
+-- none is read, or one below the bound, or past it
+pub read-none : (bound : ℕ) (text : List ℕ) → None ≡ plain_number (front_of is_digit text) → None ≡ number_at bound text
+read-none bound text e = ap (λ (o : Option ℕ). option_map (λ n. (n, rest_of is_digit text)) (option_and_then (if_below bound) o)) e
+
+pub read-below : (bound n : ℕ) (text rest : List ℕ) → Some n ≡ plain_number (front_of is_digit text) → rest ≡ rest_of is_digit text → n < bound
+    → Some (n, rest) ≡ number_at bound text
+read-below bound n text rest e r h = rw (sym e, r, below-is n bound h) refl
+
+pub read-past : (bound n : ℕ) (text : List ℕ) → Some n ≡ plain_number (front_of is_digit text) → bound ≤ n → None ≡ number_at bound text
+read-past bound n text e h = rw (sym e, past-is n bound h) refl
 
 pub number-reads : (bound n : ℕ) (rest : List ℕ) → n < bound → bound ≤ 2 ^ 64 → begins is_digit rest ≡ false
     → number_at bound (decimal n ++ rest) ≡ Some (n, rest)

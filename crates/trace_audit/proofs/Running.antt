@@ -1,5 +1,5 @@
 -- The turns of an audit, one after the other, up to what is found.
-use Rattle.std.proofs.Common.{◌≡◌, inr, ℕ, ◌+◌, ◌*◌, ◌<◌, ◌^◌, Bool, true, false, List, [], ◌∷◌, ◌++◌, length, Result, Ok, Err, refl, sym, ◌∙◌, ap, subst, arith, length-append}
+use Rattle.std.proofs.Common.{◌≡◌, inl, inr, ℕ, ◌+◌, ◌*◌, ◌<◌, ◌^◌, Bool, true, false, List, [], ◌∷◌, ◌++◌, length, Result, Ok, Err, refl, sym, ◌∙◌, ap, subst, arith, length-append}
 use Rattle.std.specs.Prelude.{IsTrue, MatchResult}
 use Rattle.outside_calls.specs.Folder.{FolderState, OnlyReads, CountsStand, octets_at}
 use Rattle.outside_calls.specs.declared.folder.FolderFault.TheVariants as folder
@@ -10,7 +10,7 @@ use Rattle.shared_terms.specs.Both.{Both}
 use Rattle.noise_script.specs.Script.{ScriptValue}
 use Rattle.link_run.specs.Run.{Turn, start}
 use Rattle.line_run.specs.Scripted.{link_of}
-use Rattle.line_run.specs.Names.{Written, outputs_of}
+use Rattle.line_run.specs.Names.{Written, inputs_of, outputs_of}
 use Rattle.line_world.specs.World.{KnowsFiles, WorldAfter, script_of, turn_of}
 use Rattle.line_world.specs.declared.world.World.{World}
 use Rattle.line_world.proofs.Folders.{IsApart}
@@ -131,6 +131,18 @@ trace-counts a b n trace (stops.Write fault) h = h
 trace-counts a b n trace (stops.Say fault) h = h
 trace-counts a b n trace stops.NoMemory h = h
 
+-- so are the files
+pub files-counts : (a b : FolderState) (n : Written) (trace : List ℕ) (stop : Stop) → StopCounts a b (inputs_of n) [] stop
+    → StopCounts a b (audit_inputs n trace) [] stop
+files-counts a b n trace (stops.Own answer) h = h
+files-counts a b n trace (stops.Read folder.Failed) (inl orig) = inl orig
+files-counts a b n trace (stops.Read folder.Failed) (inr (inl answ)) = inr (inl answ)
+files-counts a b n trace (stops.Read folder.Failed) (inr (inr never)) = absurd never
+files-counts a b n trace (stops.Read folder.NoMemory) h = h
+files-counts a b n trace (stops.Write fault) h = h
+files-counts a b n trace (stops.Say fault) h = h
+files-counts a b n trace stops.NoMemory h = h
+
 pub found-counts : (a b : FolderState) (inputs : List (List ℕ)) (found : Result ℕ Difference) → CountsStand a b
     → EndCounts a b inputs [] (found_end found)
 found-counts a b inputs (Ok lines) h = h
@@ -191,3 +203,11 @@ stops-so script f n trace (stops.Read fault) h = tt
 stops-so script f n trace (stops.Write fault) h = absurd h
 stops-so script f n trace (stops.Say fault) h = absurd h
 stops-so script f n trace stops.NoMemory h = tt
+
+-- ---- whether a turn has stopped the audit
+
+pub same-ok : {a b : Bool} → ◌≡◌ {A = Result Bool Stop} (Ok a) (Ok b) → a ≡ b
+same-ok e = cc
+
+pub no-ok : {P : Type 0} {stop : Stop} {b : Bool} → ◌≡◌ {A = Result Bool Stop} (Err stop) (Ok b) → P
+no-ok e = absurd cc

@@ -1,7 +1,8 @@
 -- From a turn over the folder of an audit to the lines that it adds.
-use Rattle.std.proofs.Common.{◌≡◌, ℕ, ◌<◌, ◌^◌, Bool, true, false, List, [], ◌∷◌, ◌++◌, length, Result, Ok, Err, refl, sym, ◌∙◌, ap, subst, arith, append-nil}
-use Rattle.outside_calls.specs.Folder.{FolderState, CountsStand}
-use Rattle.outside_calls.specs.Outputs.{OnlyPuts}
+use Rattle.std.proofs.Common.{◌≡◌, ℕ, ◌<◌, ◌^◌, Bool, true, false, List, [], ◌∷◌, ◌++◌, length, Result, Ok, Err, refl, sym, ◌∙◌, ap, subst, arith, append-nil, inl, inr}
+use Rattle.std.specs.Prelude.{IfErr}
+use Rattle.outside_calls.specs.Folder.{FolderState}
+use Rattle.outside_calls.specs.Outputs.{OnlyPuts, SomeRose}
 use Rattle.shared_terms.specs.declared.role.Role.{Role}
 use Rattle.shared_terms.specs.declared.role.Role.TheVariants.{Originator}
 use Rattle.shared_terms.specs.declared.fault.LinkFault.TheVariants as causes
@@ -16,7 +17,7 @@ use Rattle.line_run.specs.Ends as runs
 use Rattle.line_run.specs.Scripted.{wire_of, link_of}
 use Rattle.line_run.specs.Stream.{both_sent_by}
 use Rattle.line_run.proofs.WhatIsLeft.{left_of, leaves-so}
-use Rattle.line_run.specs.Names.{Written, outputs_of}
+use Rattle.line_run.specs.Names.{Written, inputs_of, outputs_of}
 use Rattle.line_world.specs.World.{KnowsFiles, script_of, turn_of}
 use Rattle.line_world.specs.Turn.{GoesOnBy, LosesLine, MeetsChance, TurnAnswers, TurnCounts}
 use Rattle.line_world.specs.Turn as turns
@@ -27,12 +28,15 @@ use Rattle.line_world.specs.declared.step.RunFault.{RunFault}
 use Rattle.line_world.specs.declared.step.RunFault.TheVariants as faults
 use Rattle.line_world.proofs.Folders.{IsApart}
 use Rattle.line_world.proofs.Reached.{knows-later}
+use Rattle.command_base.specs.declared.stop.Stop.{Stop}
+use Rattle.command_base.specs.Stops.{EndCounts}
 use Rattle.trace_audit.specs.Differences.{text_of, AreWhole}
 use Rattle.trace_audit.proofs.Lines.{text_of-append}
 use Rattle.trace_audit.specs.Lines.{AreLines, chance_words, turn_lines, trace_lines, TextsHaveLines, TurnsHaveLines, ChancesHaveLines}
 use Rattle.line_ends.specs.Plain.{AsksInOctets}
-use Rattle.program_folders.proofs.Passed.{stands-inside}
-use Rattle.trace_audit.specs.Turns.{step_end, held_by, Watched, StillRuns, HasRun, TurnMade}
+use Rattle.program_folders.specs.Passed.{OnlyPassed}
+use Rattle.program_folders.proofs.Passed.{stands-inside, faults-stand-inside}
+use Rattle.trace_audit.specs.Turns.{IsReading, step_end, held_by, Watched, StillRuns, HasRun, TurnMade}
 use Rattle.trace_audit.proofs.Inside.{knows-inside, knows-outside, text-added, text-more, text-kept}
 
 -- the laws of traces' lines
@@ -233,21 +237,44 @@ going-step (Err (faults.ChanceMatch role turn)) e = absurd cc
 going-step (Err (faults.NotDetected turn)) e = absurd cc
 going-step (Err (faults.LinkLost role segment turn)) e = absurd cc
 
--- a turn that is made counts nothing
-step-counts : (a b : FolderState) (n : Written) (step : Result Step RunFault) (goes_on : Bool) → step_end step ≡ Ok goes_on
-    → TurnCounts a b n step → CountsStand a b
-step-counts a b n (Ok steps.Going) goes_on e k = k
-step-counts a b n (Ok (steps.Done turn)) goes_on e k = k
-step-counts a b n (Err faults.ReadFault) goes_on e k = absurd cc
-step-counts a b n (Err faults.WriteFault) goes_on e k = absurd cc
-step-counts a b n (Err faults.NoMemory) goes_on e k = absurd cc
-step-counts a b n (Err (faults.LineLost role symbol)) goes_on e k = k
-step-counts a b n (Err (faults.ChanceMatch role turn)) goes_on e k = k
-step-counts a b n (Err (faults.NotDetected turn)) goes_on e k = k
-step-counts a b n (Err (faults.LinkLost role segment turn)) goes_on e k = k
+-- nothing is written but what the audit keeps
+never-wrote : (names : List (List ℕ)) → SomeRose (λ name. 0) (λ name. 0) names → ⊥
+never-wrote [] never = never
+never-wrote (name ∷ names) (inl rose) = absurd (omega (arith, rose))
+never-wrote (name ∷ names) (inr rose) = never-wrote names rose
 
-pub made-counts : (w v : World) (old new : FolderState) (n : Written) (step : Result Step RunFault) (text : List ℕ) (goes_on : Bool)
-    → Watched w v old new n step text → step_end step ≡ Ok goes_on → CountsStand old new
-made-counts w v old new n step text goes_on h e =
-    stands-inside old new _ _ [] text 0 h.refusals h.passed
-    (step-counts (held_by old n [] 0) (held_by new n text h.refusals) n step goes_on e h.counts)
+module _ (w v : World) (old new : FolderState) (n : Written) (text : List ℕ) where
+  -- so a turn stops where a file is not read, or for want of memory,
+  step-reading : (r : ℕ) (step : Result Step RunFault) → TurnCounts (held_by old n [] 0) (held_by new n text r) n step
+      → IfErr (step_end step) IsReading
+  step-reading r (Ok steps.Going) k = tt
+  step-reading r (Ok (steps.Done turn)) k = tt
+  step-reading r (Err faults.ReadFault) k = tt
+  step-reading r (Err faults.WriteFault) k = absurd (never-wrote (outputs_of n) k)
+  step-reading r (Err faults.NoMemory) k = tt
+  step-reading r (Err (faults.LineLost role symbol)) k = tt
+  step-reading r (Err (faults.ChanceMatch role turn)) k = tt
+  step-reading r (Err (faults.NotDetected turn)) k = tt
+  step-reading r (Err (faults.LinkLost role segment turn)) k = tt
+
+  pub stops-reading : (step : Result Step RunFault) (end : Result Bool Stop) → Watched w v old new n step text → step_end step ≡ end
+      → IfErr end IsReading
+  stops-reading step end h e = subst (λ (x : Result Bool Stop). IfErr x IsReading) e (step-reading h.refusals step h.counts)
+
+  -- and counts that, or nothing
+  step-counts : (r : ℕ) → OnlyPassed old new 0 r → (step : Result Step RunFault)
+      → TurnCounts (held_by old n [] 0) (held_by new n text r) n step → EndCounts old new (inputs_of n) [] (step_end step)
+  step-counts r p (Ok steps.Going) k = stands-inside old new _ _ [] text 0 r p k
+  step-counts r p (Ok (steps.Done turn)) k = stands-inside old new _ _ [] text 0 r p k
+  step-counts r p (Err faults.ReadFault) k = k
+  step-counts r p (Err faults.WriteFault) k = absurd (never-wrote (outputs_of n) k)
+  step-counts r p (Err faults.NoMemory) k = faults-stand-inside old new _ _ [] text 0 r p k.0
+  step-counts r p (Err (faults.LineLost role symbol)) k = stands-inside old new _ _ [] text 0 r p k
+  step-counts r p (Err (faults.ChanceMatch role turn)) k = stands-inside old new _ _ [] text 0 r p k
+  step-counts r p (Err (faults.NotDetected turn)) k = stands-inside old new _ _ [] text 0 r p k
+  step-counts r p (Err (faults.LinkLost role segment turn)) k = stands-inside old new _ _ [] text 0 r p k
+
+  pub end-counts : (step : Result Step RunFault) (end : Result Bool Stop) → Watched w v old new n step text → step_end step ≡ end
+      → EndCounts old new (inputs_of n) [] end
+  end-counts step end h e =
+      subst (λ (x : Result Bool Stop). EndCounts old new (inputs_of n) [] x) e (step-counts h.refusals h.passed step h.counts)

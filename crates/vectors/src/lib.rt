@@ -7,3 +7,12 @@ mod cut;
 mod reactions;
 #[cfg(test)]
 mod sizes;
+
+#[cfg(test)]
+use std::process::Abort;
+
+/// Stops at a row of a table that doesn't hold, and says its name.
+#[cfg(test)]
+fn assert_row(rt: &impl Abort, name: &str, holds: bool) {
+    assert!(rt; holds, "{name}");
+}

@@ -1,5 +1,6 @@
 // What an end does in its next turn, for each state that it can be in and each thing that it can hear.
 use std::alloc::Global;
+use std::process::Abort;
 use std::test::Fail;
 
 mod answerer;
@@ -68,23 +69,28 @@ fn closed(heard: Slot) -> Reaction {
 }
 
 /// Whether an end does in this state at what it hears what the rules ask for.
-fn is_as_expected(alloc: Global, stage: Stage, heard: Slot) -> Result<bool, Fail> {
-    let expected = Observed::of(expected(stage, heard));
+fn is_as_expected(alloc: Global, stage: Stage, heard: Slot) -> bool {
+    let Ok(standing) = Standing::at(alloc, stage) else {
+        return false;
+    };
     // where its user asks for a pause on the way to the state, it still does
     let is_busy = stage.busy_from().is_some();
-    let observed = Standing::at(alloc, stage)?.react(heard, is_busy);
-    Ok(observed == expected)
+    standing.react(heard, is_busy) == Observed::of(expected(stage, heard))
+}
+
+/// Stops where an end doesn't do in this state what the rules ask for.
+fn assert_reactions(rt: &impl Abort, alloc: Global, state: &str, stage: Stage) {
+    for &(arrival, heard) in ARRIVALS {
+        let holds = is_as_expected(alloc, stage, heard);
+        assert!(rt; holds, "{state} at {arrival}");
+    }
 }
 
 #[test]
-fn each_state_at_each_arrival(rt: HostRuntime) -> Result<(), Fail> {
-    for (state, stage) in STAGES {
-        for (arrival, heard) in ARRIVALS {
-            let holds = is_as_expected(rt.alloc(), *stage, *heard)?;
-            assert!(&rt; holds, "{state} at {arrival}");
-        }
+fn each_state_at_each_arrival(rt: HostRuntime) {
+    for &(state, stage) in STAGES {
+        assert_reactions(&rt, rt.alloc(), state, stage);
     }
-    Ok(())
 }
 
 /// The widest windows are set up where there is memory for them.

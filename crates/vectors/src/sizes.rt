@@ -1,4 +1,5 @@
 // The sizes and limits of all crates.
+use super::assert_row;
 use bit_stuffing::{HEAD, SHORTEST, TAIL};
 use command_base::{FILE_LIMIT, HEX_LIMIT, RECORDING_LIMIT, RUN_FILE_LIMIT};
 use frame_check::{INFO, SLOT, WHOLE};
@@ -27,6 +28,6 @@ const SIZES: &[(&str, u64, u64)] = &[
 #[test]
 fn sizes_and_limits(rt: HostRuntime) {
     for &(name, size, number) in SIZES {
-        assert!(&rt; size == number, "{name}");
+        assert_row(&rt, name, size == number);
     }
 }

@@ -88,6 +88,17 @@ heard-more start old mid new n l next at count piece h read reads says sender he
   only = OnlyOutputs-trans [] h.only (OnlyOutputs-trans [] (OnlyOutputs-reads [] reads) (OnlyOutputs-says [] says));
 }
 
+-- nothing more was heard at a read
+pub heard-still : (start old mid : FolderState) (n : FramesNames) (l : Listening) (at : ℕ) → HeardTo start old n l at → OnlyReads old mid
+    → HeardTo start mid n l at
+heard-still start old mid n l at h reads = record {
+  octets = h.octets;
+  read = ReadTo-kept start old mid n.bits FILE_LIMIT at h.octets h.read reads.goes_on (reads.names n.bits);
+  sender_is = h.sender_is;
+  heard = heard-after start old mid l (bits_of h.octets) reads h.heard;
+  only = OnlyOutputs-trans [] h.only (OnlyOutputs-reads [] reads);
+}
+
 -- a line of the next piece was not said
 pub say-part : (start old mid new : FolderState) (n : FramesNames) (l : Listening) (at count : ℕ) (piece : List ℕ)
     (h : HeardTo start old n l at) →

@@ -1,6 +1,9 @@
 -- What the steps of a turn leave of the folder, in a row.
-use Rattle.std.proofs.Common.{◌≡◌, inl, inr, ℕ, ◌≤◌, List, [], ◌∷◌, length, take, IsTrue, sym, ◌∙◌, ap, subst}
-use Rattle.outside_calls.specs.Folder.{FolderState, KeepsName, OnlyWrites, CountsStand, Rose}
+use Rattle.std.proofs.Common.{◌≡◌, inl, inr, ℕ, ◌≤◌, List, [], ◌∷◌, length, take, IsTrue, refl, sym, ◌∙◌, ap, subst, Result, Err}
+use Rattle.std.specs.Prelude.{IsErrOf}
+use Rattle.outside_calls.specs.Folder.{FolderState, KeepsName, OnlyWrites, FaultsStand, CountsStand, HasCause, Rose}
+use Rattle.outside_calls.specs.declared.folder.FolderFault.{FolderFault}
+use Rattle.outside_calls.specs.declared.folder.FolderFault.TheVariants as folder
 use Rattle.outside_calls.proofs.Steps.{told_later, octets-kept, FaultsStand-trans, CountsStand-trans}
 use Rattle.outside_calls.specs.Outputs.{AreApartFrom, OnlyPuts}
 use Rattle.outside_calls.proofs.Putting.{OnlyPuts-one, SomeRose-earlier}
@@ -9,7 +12,8 @@ use Rattle.link_account.specs.Account.{Account}
 use Rattle.line_world.specs.declared.one_end.step.SingleFault.{SingleFault}
 use Rattle.line_world.specs.declared.one_end.step.SingleFault.TheVariants as faults
 use Rattle.line_world.specs.OneEnd.Single.{PeerNames, StaysKnown, file_limit, inputs_of, outputs_of}
-use Rattle.line_world.specs.OneEnd.Turn.{FaultCounts}
+use Rattle.line_world.specs.OneEnd.Turn.{FaultCounts, fault_of}
+use Rattle.line_world.specs.OneEnd.Mid.{IsReading, IsWriting}
 
 -- no output is the other one, nor the file
 abbrev pub IsApart : PeerNames → Type 0
@@ -24,6 +28,9 @@ pub trace-only : (a b : FolderState) (n : PeerNames) → OnlyWrites a b n.trace 
 trace-only a b n w = OnlyPuts-one a b (n.got ∷ []) n.trace [] w
 
 -- ---- what was counted
+
+abbrev answer : FolderFault → Result (Unit {0}) FolderFault
+answer fault = Err fault
 
 -- of a step that writes one of the outputs
 pub got-counts : (a b : FolderState) (n : PeerNames) (fault : SingleFault) → FaultCounts a b [] (n.got ∷ []) fault
@@ -48,6 +55,28 @@ read-counts a b n faults.ReadFault h = h
 read-counts a b n faults.WriteFault h = absurd h
 read-counts a b n faults.NoMemory h = h
 read-counts a b n (faults.Link fault) h = h
+
+-- where a call that writes one name is not done
+pub write-fault : (fault : FolderFault) → IsWriting (fault_of faults.WriteFault fault)
+write-fault folder.Failed = tt
+write-fault folder.NoMemory = tt
+
+pub write-fault-counts : (a b : FolderState) (name : List ℕ) (fault : FolderFault)
+    → HasCause (a.write_faults name) (b.write_faults name) a.refusals b.refusals (answer fault)
+    → (IsErrOf (answer fault) folder.NoMemory → FaultsStand a b) → FaultCounts a b [] (name ∷ []) (fault_of faults.WriteFault fault)
+write-fault-counts a b name folder.Failed cause spared = inl (cause.failed refl)
+write-fault-counts a b name folder.NoMemory cause spared = (spared refl, cause.memory refl)
+
+-- or one that reads one
+pub read-fault : (fault : FolderFault) → IsReading (fault_of faults.ReadFault fault)
+read-fault folder.Failed = tt
+read-fault folder.NoMemory = tt
+
+pub read-fault-counts : (a b : FolderState) (name : List ℕ) (fault : FolderFault)
+    → HasCause (a.read_faults name) (b.read_faults name) a.refusals b.refusals (answer fault)
+    → (IsErrOf (answer fault) folder.NoMemory → FaultsStand a b) → FaultCounts a b (name ∷ []) [] (fault_of faults.ReadFault fault)
+read-fault-counts a b name folder.Failed cause spared = inl (cause.failed refl)
+read-fault-counts a b name folder.NoMemory cause spared = (spared refl, cause.memory refl)
 
 -- a fault behind steps that counted nothing
 pub counts-later : (a b c : FolderState) (inputs outputs : List (List ℕ)) (fault : SingleFault) → CountsStand a b

@@ -39,6 +39,8 @@ use Rattle.line_world.proofs.OneEnd.Folders.{IsApart, got-only, trace-only, stay
 use Rattle.line_world.specs.declared.one_end.single.Single.{Single}
 use Rattle.line_world.specs.declared.one_end.step.SingleFault.{SingleFault}
 use Rattle.line_world.specs.declared.one_end.step.SingleFault.TheVariants as faults
+use Rattle.line_world.specs.declared.one_end.step.SingleStep.{SingleStep}
+use Rattle.line_world.specs.declared.one_end.step.SingleStep.TheVariants as steps
 
 -- ---- the end
 
@@ -497,3 +499,14 @@ reading-ends role a d n p slot faults.ReadFault w s = s
 reading-ends role a d n p slot faults.NoMemory w s = s.0
 reading-ends role a d n p slot faults.WriteFault w s = absurd w
 reading-ends role a d n p slot (faults.Link fault) w s = absurd w
+
+-- what a fault ends doesn't go on
+pub no-step : {A : Type 0} {fault : SingleFault} {step : SingleStep} → Err fault ≡ Ok step → A
+no-step e = absurd cc
+
+-- nor does a link that is taken down
+abbrev pub closed-step : Result SingleStep SingleFault
+closed-step = Ok steps.Closed
+
+pub closed-no-step : {A : Type 0} → closed-step ≡ Ok steps.Going → A
+closed-no-step e = absurd cc

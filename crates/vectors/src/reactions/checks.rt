@@ -1,11 +1,11 @@
 // The check that an end's frames with numbers have, turn by turn.
 use super::end::Standing;
 use super::slot::{Kind, Says, Slot, Supervisory, offer};
-use frame_check::{Check, Info};
-use lapm_link::{Sent, Setup};
+use crate::assert_row;
+use frame_check::Check;
+use lapm_link::Setup;
 use shared_terms::Role;
 use std::alloc::Global;
-use std::test::Fail;
 
 /// An end that offers the check of 32 bits or not, and in each turn what it hears and the check that it then has.
 struct Agreement {
@@ -120,32 +120,42 @@ const AGREEMENTS: &[Agreement] = &[
     },
 ];
 
-/// Whether an end has these checks.
-fn has_checks(alloc: Global, agreement: &Agreement) -> Result<bool, Fail> {
+/// The end behind a turn in which it hears this, where it then has this check.
+fn checked(standing: Standing, heard: Slot, check: Check) -> Option<Standing> {
+    match standing.behind(heard, b"", false, false) {
+        Ok(next) if next.check() == check => Some(next),
+        _ => None,
+    }
+}
+
+/// Whether an end has the checks of these turns.
+fn goes_through(mut standing: Standing, turns: &[(Slot, Check)]) -> bool {
+    for &(heard, check) in turns {
+        let Some(next) = checked(standing, heard, check) else {
+            return false;
+        };
+        standing = next;
+    }
+    true
+}
+
+/// Whether an end has the checks of this agreement.
+fn has_checks(alloc: Global, agreement: &Agreement) -> bool {
     let setup = Setup {
         role: agreement.role,
         offer: offer(false, agreement.offers),
         tries: 5,
         period: 60,
     };
-    let mut standing = Standing::new(alloc, setup)?;
-    let mut got = Info::new();
-    let mut sent = Sent::Mark;
-    for (heard, check) in agreement.turns {
-        let arrived = heard.arrived();
-        standing = standing.turn(&arrived, b"", false, false, &mut got, &mut sent)?;
-        if standing.check() != *check {
-            return Ok(false);
-        }
+    match Standing::new(alloc, setup) {
+        Ok(standing) => goes_through(standing, agreement.turns),
+        Err(_) => false,
     }
-    Ok(true)
 }
 
 #[test]
-fn the_check_changes_with_the_agreement(rt: HostRuntime) -> Result<(), Fail> {
+fn the_check_changes_with_the_agreement(rt: HostRuntime) {
     for agreement in AGREEMENTS {
-        let holds = has_checks(rt.alloc(), agreement)?;
-        assert!(&rt; holds, "{}", agreement.name);
+        assert_row(&rt, agreement.name, has_checks(rt.alloc(), agreement));
     }
-    Ok(())
 }

@@ -12,7 +12,6 @@ use frame_check::{Check, Info};
 use lapm_link::{AnyEnd, Arrived, Broken, Detecting, LinkFault, Phase, Sent, Setup};
 use outside_calls::NoMemory;
 use std::alloc::Global;
-use std::test::Fail;
 
 /// What an end was seen to do, with the words of a `Reaction`.
 #[derive(Drop, PartialEq, Eq)]
@@ -100,7 +99,7 @@ fn speak(end: AnyEnd, turn: u64, release: bool, sent: &mut Sent) -> Result<AnyEn
 }
 
 /// Whether a turn that may be none has come.
-fn is_reached(from: Option<usize>, turn: usize) -> bool {
+fn is_reached(from: Option<u64>, turn: u64) -> bool {
     match from {
         Some(from) => from <= turn,
         None => false,
@@ -118,22 +117,33 @@ impl Standing {
     }
 
     /// An end that has spoken in each turn in which it heard what leads to this state.
-    pub(super) fn at(alloc: Global, stage: Stage) -> Result<Standing, Fail> {
-        let mut standing = Standing::new(alloc, stage.setup())?;
-        let mut got = Info::new();
-        let mut sent = Sent::Mark;
-        for (turn, slot) in stage.heard().iter().enumerate() {
-            let arrived = slot.arrived();
-            standing = standing.turn(
-                &arrived,
-                stage.file(),
-                stage.releases(),
-                is_reached(stage.busy_from(), turn),
-                &mut got,
-                &mut sent,
-            )?;
+    pub(super) fn at(alloc: Global, stage: Stage) -> Result<Standing, &'static str> {
+        let Ok(mut standing) = Standing::new(alloc, stage.setup()) else {
+            return Err("no memory");
+        };
+        for heard in stage.heard() {
+            standing = standing.on_the_way(stage, *heard)?;
         }
         Ok(standing)
+    }
+
+    /// The end behind one turn more of those that lead to this state.
+    fn on_the_way(self, stage: Stage, heard: Slot) -> Result<Standing, &'static str> {
+        let busy = is_reached(stage.busy_from(), self.turn);
+        self.behind(heard, stage.file(), stage.releases(), busy)
+    }
+
+    /// The end behind a turn in which it hears this, whatever it gets and sends then.
+    pub(super) fn behind(
+        self,
+        heard: Slot,
+        file: &[u8],
+        release: bool,
+        busy: bool,
+    ) -> Result<Standing, &'static str> {
+        let mut got = Info::new();
+        let mut sent = Sent::Mark;
+        self.turn(&heard.arrived(), file, release, busy, &mut got, &mut sent)
     }
 
     /// Hears, takes what is delivered and given, is offered its file where it wants that, and speaks.
@@ -164,6 +174,10 @@ impl Standing {
             end,
             turn: turn + 1,
         })
+    }
+
+    pub(super) fn phase(&self) -> Phase {
+        self.end.phase()
     }
 
     /// The check of the end's frames with numbers.

@@ -34,124 +34,132 @@ pub(super) fn sabme_sent(heard: Slot) -> Reaction {
     }
 }
 
-/// Connected: V(A) = 0, V(S) = 0, V(R) = 0. An answer to the poll is awaited, and the segment waits for it. 0 is the only N(R)
-/// that is right, and no SREJ is.
-pub(super) fn poll_sent(heard: Slot) -> Reaction {
+/// What each connected originator does that has this V(A) and V(R), and sends this where the link goes on.
+fn connected(va: u64, vr: u64, heard: Slot, sends: Slot) -> Reaction {
+    match heard {
+        Sabme(_) | Frmr(_) => reset(va, vr),
+        Dm(_) | Disc(_) => Breaks(PeerRefused),
+        _ => Sends(Connected, sends),
+    }
+}
+
+/// The same with V(A) = 0, V(S) = 0, V(R) = 0: 0 is the only N(R) that is right, and no SREJ is.
+fn none_sent(heard: Slot, sends: Slot) -> Reaction {
     match heard {
         I(_, 1, _) | S(_, _, 1, _) => bad_ack(1, 0, 0),
         S(Srej, _, 0, _) => bad_ack(0, 0, 0),
-
-        I(0, _, pf) => Sends(Connected, S(Rr, Response, 1, pf)),
-        I(1, _, true) => Sends(Connected, S(Rr, Response, 0, true)),
-        I(127, _, _) => Sends(Connected, S(Rr, Response, 0, false)),
-        I(..) => Sends(Connected, S(Rej, Response, 0, false)),
-        S(_, Command, _, true) => Sends(Connected, S(Rr, Response, 0, true)),
-        S(Rnr, Response, _, true) => Sends(Connected, Flags),
-        S(_, Response, _, true) => Sends(Connected, I(0, 0, false)),
-
-        Ui(_, _, Brk(n, length)) => Sends(Connected, Ui(Command, false, BrkAck(n, length))),
-        Sabme(_) | Frmr(_) => reset(0, 0),
-        Dm(_) | Disc(_) => Breaks(PeerRefused),
-        _ => Sends(Connected, Flags),
+        _ => connected(0, 0, heard, sends),
     }
+}
+
+/// The same with V(A) = 0, V(S) = 1, V(R) = 0: 0 and 1 are right as N(R), and SREJ may ask for 0.
+fn one_sent(heard: Slot, sends: Slot) -> Reaction {
+    match heard {
+        S(Srej, _, 1, _) => bad_ack(1, 0, 1),
+        _ => connected(0, 0, heard, sends),
+    }
+}
+
+/// The same with V(A) = 1, V(S) = 1, V(R) = 1: 1 is the only N(R) that is right, and no SREJ is.
+fn one_acknowledged(heard: Slot, sends: Slot) -> Reaction {
+    match heard {
+        I(_, 0, _) | S(_, _, 0, _) => bad_ack(0, 1, 1),
+        S(Srej, _, 1, _) => bad_ack(1, 1, 1),
+        _ => connected(1, 1, heard, sends),
+    }
+}
+
+/// Connected: V(A) = 0, V(S) = 0, V(R) = 0. An answer to the poll is awaited, and the segment waits for it. 0 is the only N(R)
+/// that is right, and no SREJ is.
+pub(super) fn poll_sent(heard: Slot) -> Reaction {
+    let sends = match heard {
+        I(0, _, pf) => S(Rr, Response, 1, pf),
+        I(1, _, true) => S(Rr, Response, 0, true),
+        I(127, _, _) => S(Rr, Response, 0, false),
+        I(..) => S(Rej, Response, 0, false),
+        S(_, Command, _, true) => S(Rr, Response, 0, true),
+        S(Rnr, Response, _, true) => Flags,
+        S(_, Response, _, true) => I(0, 0, false),
+        Ui(_, _, Brk(n, length)) => Ui(Command, false, BrkAck(n, length)),
+        _ => Flags,
+    };
+    none_sent(heard, sends)
 }
 
 /// Connected: V(A) = 0, V(S) = 1, V(R) = 0. The segment goes again where it is asked for. 0 and 1 are right as N(R), and SREJ
 /// may ask for 0.
 pub(super) fn segment_sent(heard: Slot) -> Reaction {
-    match heard {
-        S(Srej, _, 1, _) => bad_ack(1, 0, 1),
-
-        I(0, _, pf) => Sends(Connected, S(Rr, Response, 1, pf)),
-        I(1, _, true) => Sends(Connected, S(Rr, Response, 0, true)),
-        I(127, _, _) => Sends(Connected, S(Rr, Response, 0, false)),
-        I(..) => Sends(Connected, S(Rej, Response, 0, false)),
-        S(Srej, _, 0, _) => Sends(Connected, I(0, 0, false)),
-        S(_, Command, _, true) => Sends(Connected, S(Rr, Response, 0, true)),
-        S(Rej, _, 0, _) => Sends(Connected, I(0, 0, false)),
-
-        Ui(_, _, Brk(n, length)) => Sends(Connected, Ui(Command, false, BrkAck(n, length))),
-        Sabme(_) | Frmr(_) => reset(0, 0),
-        Dm(_) | Disc(_) => Breaks(PeerRefused),
-        _ => Sends(Connected, Flags),
-    }
+    let sends = match heard {
+        I(0, _, pf) => S(Rr, Response, 1, pf),
+        I(1, _, true) => S(Rr, Response, 0, true),
+        I(127, _, _) => S(Rr, Response, 0, false),
+        I(..) => S(Rej, Response, 0, false),
+        S(Srej, _, 0, _) => I(0, 0, false),
+        S(_, Command, _, true) => S(Rr, Response, 0, true),
+        S(Rej, _, 0, _) => I(0, 0, false),
+        Ui(_, _, Brk(n, length)) => Ui(Command, false, BrkAck(n, length)),
+        _ => Flags,
+    };
+    one_sent(heard, sends)
 }
 
 /// Connected: V(A) = 0, V(S) = 1, V(R) = 0. An answer to the poll is awaited, and before it the segment doesn't go again.
 pub(super) fn poll_sent_again(heard: Slot) -> Reaction {
-    match heard {
-        S(Srej, _, 1, _) => bad_ack(1, 0, 1),
-
-        I(0, _, pf) => Sends(Connected, S(Rr, Response, 1, pf)),
-        I(1, _, true) => Sends(Connected, S(Rr, Response, 0, true)),
-        I(127, _, _) => Sends(Connected, S(Rr, Response, 0, false)),
-        I(..) => Sends(Connected, S(Rej, Response, 0, false)),
-        S(Srej, _, 0, _) => Sends(Connected, Flags),
-        S(_, Command, _, true) => Sends(Connected, S(Rr, Response, 0, true)),
-        S(Rnr, Response, 0, true) => Sends(Connected, Flags),
-        S(_, Response, 0, true) => Sends(Connected, I(0, 0, false)),
-
-        Ui(_, _, Brk(n, length)) => Sends(Connected, Ui(Command, false, BrkAck(n, length))),
-        Sabme(_) | Frmr(_) => reset(0, 0),
-        Dm(_) | Disc(_) => Breaks(PeerRefused),
-        _ => Sends(Connected, Flags),
-    }
+    let sends = match heard {
+        I(0, _, pf) => S(Rr, Response, 1, pf),
+        I(1, _, true) => S(Rr, Response, 0, true),
+        I(127, _, _) => S(Rr, Response, 0, false),
+        I(..) => S(Rej, Response, 0, false),
+        S(Srej, _, 0, _) => Flags,
+        S(_, Command, _, true) => S(Rr, Response, 0, true),
+        S(Rnr, Response, 0, true) => Flags,
+        S(_, Response, 0, true) => I(0, 0, false),
+        Ui(_, _, Brk(n, length)) => Ui(Command, false, BrkAck(n, length)),
+        _ => Flags,
+    };
+    one_sent(heard, sends)
 }
 
 /// Connected: V(A) = 0, V(S) = 1, V(R) = 0. The poll is still to be sent, also where its answer seems to have come, and only the
 /// reply to the other end's poll goes before it.
 pub(super) fn poll_held_back(heard: Slot) -> Reaction {
-    match heard {
-        S(Srej, _, 1, _) => bad_ack(1, 0, 1),
-
-        I(0, _, true) => Sends(Connected, S(Rr, Response, 1, true)),
-        I(0, _, false) => Sends(Connected, S(Rr, Command, 1, true)),
-        I(_, _, true) => Sends(Connected, S(Rr, Response, 0, true)),
-        S(Srej, _, 0, _) => Sends(Connected, S(Rr, Command, 0, true)),
-        S(_, Command, _, true) => Sends(Connected, S(Rr, Response, 0, true)),
-
-        Sabme(_) | Frmr(_) => reset(0, 0),
-        Dm(_) | Disc(_) => Breaks(PeerRefused),
-        _ => Sends(Connected, S(Rr, Command, 0, true)),
-    }
+    let sends = match heard {
+        I(0, _, true) => S(Rr, Response, 1, true),
+        I(0, _, false) => S(Rr, Command, 1, true),
+        I(_, _, true) => S(Rr, Response, 0, true),
+        S(Srej, _, 0, _) => S(Rr, Command, 0, true),
+        S(_, Command, _, true) => S(Rr, Response, 0, true),
+        _ => S(Rr, Command, 0, true),
+    };
+    one_sent(heard, sends)
 }
 
 /// Connected: V(A) = 1, V(S) = 1, V(R) = 1. 1 is the only N(R) that is right, and no SREJ is.
 pub(super) fn segment_acknowledged(heard: Slot) -> Reaction {
-    match heard {
-        I(_, 0, _) | S(_, _, 0, _) => bad_ack(0, 1, 1),
-        S(Srej, _, 1, _) => bad_ack(1, 1, 1),
-
-        I(0, _, _) => Sends(Connected, S(Rr, Response, 1, false)),
-        I(1, _, _) => Sends(Connected, S(Rr, Response, 2, false)),
-        S(_, Command, _, true) => Sends(Connected, S(Rr, Response, 1, true)),
-
-        Ui(_, _, Brk(n, length)) => Sends(Connected, Ui(Command, false, BrkAck(n, length))),
-        Sabme(_) | Frmr(_) => reset(1, 1),
-        Dm(_) | Disc(_) => Breaks(PeerRefused),
-        _ => Sends(Connected, Flags),
-    }
+    let sends = match heard {
+        I(0, _, _) => S(Rr, Response, 1, false),
+        I(1, _, _) => S(Rr, Response, 2, false),
+        S(_, Command, _, true) => S(Rr, Response, 1, true),
+        Ui(_, _, Brk(n, length)) => Ui(Command, false, BrkAck(n, length)),
+        _ => Flags,
+    };
+    one_acknowledged(heard, sends)
 }
 
 /// Connected: V(A) = 0, V(S) = 0, V(R) = 0. The answer to the poll was that the other end is busy. The segment goes once it says by RR or
 /// REJ that it no longer is; an I frame doesn't say so. 0 is the only N(R) that is right, and no SREJ is.
 pub(super) fn paused(heard: Slot) -> Reaction {
-    match heard {
-        I(_, 1, _) | S(_, _, 1, _) => bad_ack(1, 0, 0),
-        S(Srej, _, 0, _) => bad_ack(0, 0, 0),
-
-        I(0, _, pf) => Sends(Connected, S(Rr, Response, 1, pf)),
-        I(1, _, true) => Sends(Connected, S(Rr, Response, 0, true)),
-        I(127, _, _) => Sends(Connected, S(Rr, Response, 0, false)),
-        I(..) => Sends(Connected, S(Rej, Response, 0, false)),
-        S(_, Command, _, true) => Sends(Connected, S(Rr, Response, 0, true)),
-        S(Rr | Rej, ..) => Sends(Connected, I(0, 0, false)),
-
-        Ui(_, _, Brk(n, length)) => Sends(Connected, Ui(Command, false, BrkAck(n, length))),
-        Sabme(_) | Frmr(_) => reset(0, 0),
-        Dm(_) | Disc(_) => Breaks(PeerRefused),
-        _ => Sends(Connected, Flags),
-    }
+    let sends = match heard {
+        I(0, _, pf) => S(Rr, Response, 1, pf),
+        I(1, _, true) => S(Rr, Response, 0, true),
+        I(127, _, _) => S(Rr, Response, 0, false),
+        I(..) => S(Rej, Response, 0, false),
+        S(_, Command, _, true) => S(Rr, Response, 0, true),
+        S(Rr | Rej, ..) => I(0, 0, false),
+        Ui(_, _, Brk(n, length)) => Ui(Command, false, BrkAck(n, length)),
+        _ => Flags,
+    };
+    none_sent(heard, sends)
 }
 
 /// Releasing: an answer to the DISC is awaited.

@@ -158,10 +158,10 @@ impl Stage {
     }
 
     /// The turn from which on the end's user asks for a pause, where it does.
-    pub(super) fn busy_from(self) -> Option<usize> {
+    pub(super) fn busy_from(self) -> Option<u64> {
         match self {
             Stage::Busy => Some(0),
-            Stage::BusyUntold => Some(self.heard().len()),
+            Stage::BusyUntold => Some(self.heard().len() as u64),
             _ => None,
         }
     }

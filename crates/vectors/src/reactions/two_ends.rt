@@ -12,7 +12,7 @@ use super::slot::offer;
 use super::stage::Stage;
 use frame_check::Info;
 use lapm_frames::{Frame, Seen};
-use lapm_link::{AnyEnd, Arrived, LinkFault, Phase, Sent, Setup};
+use lapm_link::{AnyEnd, Arrived, Closed, LinkFault, Phase, Sent, Setup};
 use outside_calls::NoMemory;
 use shared_terms::Role;
 use std::alloc::Global;
@@ -100,8 +100,8 @@ impl Station {
     }
 
     /// Hears and then speaks.
-    fn turn(self, arrived: &Arrived, release: bool) -> Result<Station, &'static str>
-        requires { IsNumbered arrived.now }
+    fn turn(self, arrived: Arrived, release: bool) -> Result<Station, &'static str>
+        requires { IsNumbered arrived }
     {
         let Station {
             standing,
@@ -109,7 +109,7 @@ impl Station {
             mut got,
             mut sent,
         } = self;
-        let standing = standing.turn(arrived, &[file], release, false, &mut got, &mut sent)?;
+        let standing = standing.turn(&arrived, &[file], release, false, &mut got, &mut sent)?;
         Ok(Station {
             standing,
             file,
@@ -139,56 +139,89 @@ impl Pair {
         let at_originator = arrival(&self.answerer.sent);
         let at_answerer = arrival(&self.originator.sent);
         Ok(Pair {
-            originator: self.originator.turn(&at_originator, release)?,
-            answerer: self.answerer.turn(&at_answerer, false)?,
+            originator: self.originator.turn(at_originator, release)?,
+            answerer: self.answerer.turn(at_answerer, false)?,
         })
     }
 
     fn has_sent(&self, line_o: &Slot, line_a: &Slot) -> bool {
         self.originator.sent == line_o.sent(b'a') && self.answerer.sent == line_a.sent(b'b')
     }
-}
 
-#[test]
-fn two_files_of_one_octet(rt: HostRuntime) -> Result<(), Fail> {
-    let mut pair = Pair::new(rt.alloc())?;
-    for (number, (line_o, line_a)) in LINES.iter().enumerate() {
-        pair = pair.turn(number >= RELEASE)?;
-        assert!(&rt; pair.has_sent(line_o, line_a), "turn {number}");
+    /// Whether the originator is Closed, and each got the other one's file.
+    fn is_done(&self) -> bool {
+        self.originator.standing.phase() == Phase::Closed
+            && self.originator.got.as_slice() == b"b".as_slice()
+            && self.answerer.got.as_slice() == b"a".as_slice()
     }
-    let Pair {
-        originator,
-        answerer,
-    } = pair;
-    assert!(rt; originator.standing.end().phase() == Phase::Closed);
-    assert!(rt; originator.got.as_slice() == b"b".as_slice());
-    assert!(rt; answerer.got.as_slice() == b"a".as_slice());
-    Ok(())
+}
+
+/// The first turn in which the two ends don't send their line, or the one behind all lines, where they aren't done then.
+fn first_wrong_turn(alloc: Global) -> Option<usize> {
+    let Ok(mut pair) = Pair::new(alloc) else {
+        return Some(0);
+    };
+    for (number, (line_o, line_a)) in LINES.iter().enumerate() {
+        let Ok(next) = pair.turn(number >= RELEASE) else {
+            return Some(number);
+        };
+        if !next.has_sent(line_o, line_a) {
+            return Some(number);
+        }
+        pair = next;
+    }
+    if pair.is_done() {
+        None
+    } else {
+        Some(LINES.len())
+    }
 }
 
 #[test]
-fn an_acknowledgement_of_what_was_not_sent_breaks_the_link(rt: HostRuntime) -> Result<(), Fail> {
-    let broken = Standing::at(rt.alloc(), Stage::PollSent)?.broken_by(I(0, 5, false))?;
+fn two_files_of_one_octet(rt: HostRuntime) {
+    if let Some(number) = first_wrong_turn(rt.alloc()) {
+        panic!(&rt; "turn {number}");
+    }
+}
+
+/// Whether a closed end stays Closed, and sends flags.
+fn stays_closed(end: Closed) -> bool {
+    let mut sent = Sent::Mark;
+    match AnyEnd::Closed(end).speak(9, false, &mut sent) {
+        Ok(closed) => closed.phase() == Phase::Closed && sent == Sent::Flags,
+        Err(_) => false,
+    }
+}
+
+/// Whether an end that has sent no segment breaks its link by the acknowledgement of one.
+fn is_broken_by_acknowledgement(standing: Standing) -> bool {
     let fault = LinkFault::BadAck {
         nr: 5,
         va: 0,
         high: 0,
     };
-    assert!(rt; broken.fault == fault);
-    let mut sent = Sent::Mark;
-    let Ok(closed) = AnyEnd::Closed(broken.end).speak(9, false, &mut sent) else {
-        return Err(Fail::new("a closed end broke"));
-    };
-    assert!(rt; closed.phase() == Phase::Closed);
-    assert!(rt; sent == Sent::Flags);
+    match standing.broken_by(I(0, 5, false)) {
+        Ok(broken) => broken.fault == fault && stays_closed(broken.end),
+        Err(_) => false,
+    }
+}
+
+#[test]
+fn an_acknowledgement_of_what_was_not_sent_breaks_the_link(rt: HostRuntime) -> Result<(), Fail> {
+    let standing = Standing::at(rt.alloc(), Stage::PollSent)?;
+    assert!(rt; is_broken_by_acknowledgement(standing));
     Ok(())
+}
+
+/// Whether an end takes on one break, and no second one while it waits.
+fn takes_one_break(standing: Standing) -> bool {
+    let mut end = standing.end();
+    end.ask_break(3, 30) && end.break_waiting() && !end.ask_break(4, 31)
 }
 
 #[test]
 fn one_break_waits_at_a_time(rt: HostRuntime) -> Result<(), Fail> {
-    let mut end = Standing::at(rt.alloc(), Stage::PollSent)?.end();
-    assert!(rt; end.ask_break(3, 30));
-    assert!(rt; end.break_waiting());
-    assert!(rt; !end.ask_break(4, 31));
+    let standing = Standing::at(rt.alloc(), Stage::PollSent)?;
+    assert!(rt; takes_one_break(standing));
     Ok(())
 }

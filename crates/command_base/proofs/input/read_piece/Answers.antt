@@ -1,17 +1,38 @@
-use Rattle.std.proofs.Common.{arith}
+use Rattle.std.proofs.Common.{◌≡◌, ◌≤◌, length, take, sym, subst}
+use Rattle.outside_calls.specs.Folder.{FolderState}
 use Rattle.std.proofs.lemmas.List.{length-take-le}
 use Rattle.command_base.proofs.Reading.{ReadTo-more, ReadTo-end}
 use Rattle.command_base.proofs.input.read_piece.Goals as goal
 
-pub returns-in-Ok-clause-more : goal.returns-in-Ok-clause-more
-returns-in-Ok-clause-more g c = λ start octets r.
-    ReadTo-more start (g.F.Folder.state c.args.folder.now)
-    (g.F.Folder.state c.read_part.new.folder) c.args.name.now c.args.limit c.args.at c.in-Ok.count octets _ r c.in-Ok.ensures.reads
-    (length-take-le c.in-Ok.count c.read_part.new.piece (omega (arith, c.in-Ok.ensures.bound, c.in-Ok.ensures.kept))) c.in-Ok.ensures.front
+pub returns-in-Ok : goal.returns-in-Ok
+returns-in-Ok g c =
+    let old : FolderState = g.F.Folder.state c.args.folder.now in
+    let new : FolderState = g.F.Folder.state c.read_part.new.folder in
+    let count = c.in-Ok.count in
+    let long : length (take count c.read_part.new.piece) ≡ count =
+    length-take-le count c.read_part.new.piece (subst (λ n. count ≤ n) (sym c.read_part.ensures.kept) c.in-Ok.ensures.bound) in
+    record {
+      more = λ start octets r.
+          ReadTo-more start old new c.args.name.now c.args.limit c.args.at count octets _ r c.read_part.ensures.reads long c.in-Ok.ensures.front;
+      end = λ start octets r few told.
+          ReadTo-end start old new c.args.name.now c.args.limit c.args.at count _ octets _ r c.read_part.ensures.reads long
+          c.in-Ok.ensures.front c.in-Ok.ensures.count few told;
+      bound = c.in-Ok.ensures.bound;
+      within = c.in-Ok.ensures.within;
+      kept = c.read_part.ensures.kept;
+      reads = c.read_part.ensures.reads;
+      fails = tt;
+      stand = c.in-Ok.ensures.stand;
+    }
 
-pub returns-in-Ok-clause-end : goal.returns-in-Ok-clause-end
-returns-in-Ok-clause-end g c = λ start octets r few told.
-    ReadTo-end start (g.F.Folder.state c.args.folder.now)
-    (g.F.Folder.state c.read_part.new.folder) c.args.name.now c.args.limit c.args.at c.in-Ok.count _ octets _ r c.in-Ok.ensures.reads
-    (length-take-le c.in-Ok.count c.read_part.new.piece (omega (arith, c.in-Ok.ensures.bound, c.in-Ok.ensures.kept))) c.in-Ok.ensures.front
-    c.in-Ok.ensures.count few told
+pub returns-in-Err : goal.returns-in-Err
+returns-in-Err g c = record {
+  more = λ start octets r. tt;
+  end = λ start octets r. tt;
+  bound = tt;
+  within = tt;
+  kept = c.read_part.ensures.kept;
+  reads = c.read_part.ensures.reads;
+  fails = c.in-Err.ensures.fails;
+  stand = tt;
+}

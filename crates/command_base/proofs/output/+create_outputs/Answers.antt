@@ -1,42 +1,71 @@
-use Rattle.std.proofs.Common.{◌≡◌, ◌∷◌, map, ℕ, List, Bor, ap, subst, sym}
-use Rattle.outside_calls.specs.Folder.{FolderState}
+use Rattle.std.proofs.Common.{◌≡◌, ◌∙◌, [], ◌∷◌, map, ℕ, List, Bor, refl, ap, subst, sym}
+use Rattle.std.proofs.lemmas.List.{nil_from_length}
+use Rattle.outside_calls.specs.Folder.{FolderState, CountsStand}
+use Rattle.outside_calls.proofs.Steps.{CountsStand-refl, CountsStand-trans}
+use Rattle.outside_calls.proofs.Holding.{Holds-kept}
+use Rattle.outside_calls.proofs.OnlyOutputs.{OnlyOutputs-refl}
 use Rattle.outside_calls.specs.declared.folder.FolderFault.{FolderFault}
-use Rattle.outside_calls.specs.Outputs.{AreApart, CreatesPart}
+use Rattle.outside_calls.specs.Outputs.{AreApart, Creates, CreatesPart, OnlyOutputs}
 use Rattle.command_base.specs.Stops.{WriteFails}
-use Rattle.command_base.proofs.Creating.{CreatesPart-first, CreatesPart-none, WriteFails-later}
-use Rattle.command_base.proofs.Saying.{on-err-map, if-err-map}
+use Rattle.command_base.proofs.Creating.{CreatesPart-first, CreatesPart-none, OnlyOutputs-first, OnlyOutputs-none, WriteFails-first, WriteFails-later}
+use Rattle.command_base.proofs.Saying.{on-ok-map, on-err-map, if-err-map}
 use Rattle.command_base.proofs.output.+create_outputs.Goals as goal
 
 abbrev texts : List (Bor (List ℕ)) → List (List ℕ)
 texts names = map (λ name. name.now) names
 
-pub returns-in-Ok-clause-err : goal.returns-in-Ok-clause-err
-returns-in-Ok-clause-err g t c =
+pub returns-in-None : goal.returns-in-None
+returns-in-None g t c =
+    let now : FolderState = g.F.Folder.state c.args.folder.now in
+    let e : texts c.args.names.now ≡ [] = ap texts (nil_from_length c.args.names.now c.in-None.ensures.cases) in
+    record {
+      ok = subst (Creates now) (sym e) tt;
+      err = tt;
+      only = OnlyOutputs-refl now (texts c.args.names.now);
+      said = refl {a = now.said};
+      fails = tt;
+      stand = CountsStand-refl now;
+    }
+
+pub returns-in-Ok : goal.returns-in-Ok
+returns-in-Ok g t c =
     let old : FolderState = g.F.Folder.state c.args.folder.now in let mid : FolderState = g.F.Folder.state c.create_output.new.folder in
     let new : FolderState = g.F.Folder.state c.create_outputs.new.folder in
     let name : List ℕ = c.in-Some.name.now.now in let names : List (List ℕ) = texts c.in-Some.others.now in
     let e : texts c.args.names.now ≡ name ∷ names = ap texts c.in-Some.ensures.cases.0 in
     let apart : AreApart (name ∷ names) = subst AreApart e c.requires in
-    on-err-map {P = CreatesPart mid new names} c.create_outputs.result
-    (λ part. subst (CreatesPart old new) (sym e)
-    (CreatesPart-first old mid new name names apart.0 c.create_output.ensures.only c.in-Ok.ensures.ok c.create_outputs.ensures.only
-    part)) c.create_outputs.ensures.err
+    let first = c.create_output.ensures.only in
+    let others = c.create_outputs.ensures.only in
+    record {
+      ok = on-ok-map {P = Creates new names} c.create_outputs.result
+          (λ creates. subst (Creates new) (sym e)
+          (Holds-kept mid new name [] others.goes_on c.in-Ok.ensures.ok (others.names name apart.0), creates)) c.create_outputs.ensures.ok;
+      err = on-err-map {P = CreatesPart mid new names} c.create_outputs.result
+          (λ part. subst (CreatesPart old new) (sym e) (CreatesPart-first old mid new name names apart.0 first c.in-Ok.ensures.ok others part))
+          c.create_outputs.ensures.err;
+      only = subst (OnlyOutputs old new) (sym e) (OnlyOutputs-first old mid new name names first others);
+      said = c.create_outputs.ensures.said ∙ first.said;
+      fails = if-err-map {P = WriteFails mid new names} c.create_outputs.result
+          (λ (fault : FolderFault) fails.
+          subst (λ (all : List (List ℕ)). WriteFails old new all fault) (sym e)
+          (WriteFails-later old mid new name names fault c.in-Ok.ensures.stand fails)) c.create_outputs.ensures.fails;
+      stand = on-ok-map {P = CountsStand mid new} c.create_outputs.result (CountsStand-trans c.in-Ok.ensures.stand)
+          c.create_outputs.ensures.stand;
+    }
 
-pub returns-in-Ok-clause-fails : goal.returns-in-Ok-clause-fails
-returns-in-Ok-clause-fails g t c =
-    let old : FolderState = g.F.Folder.state c.args.folder.now in let mid : FolderState = g.F.Folder.state c.create_output.new.folder in
-    let new : FolderState = g.F.Folder.state c.create_outputs.new.folder in
-    let name : List ℕ = c.in-Some.name.now.now in let names : List (List ℕ) = texts c.in-Some.others.now in
-    let e : texts c.args.names.now ≡ name ∷ names = ap texts c.in-Some.ensures.cases.0 in
-    if-err-map {P = WriteFails mid new names} c.create_outputs.result
-    (λ (fault : FolderFault) fails.
-    subst (λ (all : List (List ℕ)). WriteFails old new all fault) (sym e)
-    (WriteFails-later old mid new name names fault c.in-Ok.ensures.stand fails)) c.create_outputs.ensures.fails
-
-pub returns-in-Err-clause-err : goal.returns-in-Err-clause-err
-returns-in-Err-clause-err g t c =
+pub returns-in-Err : goal.returns-in-Err
+returns-in-Err g t c =
     let old : FolderState = g.F.Folder.state c.args.folder.now in let new : FolderState = g.F.Folder.state c.create_output.new.folder in
     let name : List ℕ = c.in-Some.name.now.now in let names : List (List ℕ) = texts c.in-Some.others.now in
     let e : texts c.args.names.now ≡ name ∷ names = ap texts c.in-Some.ensures.cases.0 in
     let apart : AreApart (name ∷ names) = subst AreApart e c.requires in
-    subst (CreatesPart old new) (sym e) (CreatesPart-none old new name names apart.0 c.create_output.ensures.only c.in-Err.ensures.err)
+    let first = c.create_output.ensures.only in
+    record {
+      ok = tt;
+      err = subst (CreatesPart old new) (sym e) (CreatesPart-none old new name names apart.0 first c.in-Err.ensures.err);
+      only = subst (OnlyOutputs old new) (sym e) (OnlyOutputs-none old new name names first);
+      said = first.said;
+      fails = subst (λ (all : List (List ℕ)). WriteFails old new all c.in-Err.fault) (sym e)
+          (WriteFails-first old new name names c.in-Err.fault c.in-Err.ensures.fails);
+      stand = tt;
+    }

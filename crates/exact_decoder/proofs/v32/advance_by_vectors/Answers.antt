@@ -1,4 +1,4 @@
-use Rattle.std.proofs.Common.{◌≡◌, ℕ, ◌+◌, ◌*◌, ◌/◌, ◌^◌, ◌<◌, List, [], ◌∷◌, ◌++◌, length, arith, refl, sym, ◌∙◌, ap, subst}
+use Rattle.std.proofs.Common.{◌≡◌, ℕ, ◌+◌, ◌*◌, ◌/◌, ◌^◌, ◌<◌, List, [], ◌∷◌, ◌++◌, length, arith, lit<, refl, sym, ◌∙◌, ap, subst}
 use Rattle.std.specs.Prelude.{ℤ}
 use Rattle.std.specs.Int.{w16, cast_signed, cast_unsigned}
 use Rattle.std.proofs.lemmas.Int.{ints}
@@ -21,6 +21,10 @@ use Rattle.exact_decoder.proofs.v32.advance_by_vectors.Goals as goal
 abbrev sample_of : ℤ → ℤ → Sample
 sample_of re im = record { re = re; im = im }
 
+-- a key of a state's metric alone
+half-key : (metric state : ℕ) → metric < 2 ^ 23 → state < 8 → 256 * metric + state < 2 ^ 31
+half-key metric state small few = omega arith
+
 -- the step of lists that are equal
 same_step : (a b : Sample) (p q m n : List ℕ) (c d : List Choice) → a ≡ b → p ≡ q → m ≡ n → c ≡ d
     → Advances point_of 8 4 8 4 way_before way_subset a p m c → Advances point_of 8 4 8 4 way_before way_subset b q n d
@@ -32,6 +36,11 @@ same_step a b p q m n c d i j k l h =
 
 pub returns : goal.returns
 returns v =
+    let before_long : length v.args.column.now.before ≡ 8 = omega arith in
+    let labels_long : length v.args.column.now.labels ≡ 8 = omega arith in
+    let sample = v.args.sample in
+    let re_read : cast_signed w16 (cast_unsigned w16 sample.re) ≡ sample.re = omega (arith, ints) in
+    let im_read : cast_signed w16 (cast_unsigned w16 sample.im) ≡ sample.im = omega (arith, ints) in
     let x = v.counted.result in
     let y = v.counted-2.result in
     let lx = v.counted.ensures.bound in
@@ -39,56 +48,53 @@ returns v =
     let sums = v.args.sums.now in
     let squares = v.nearest_squares-squares.ensures x y v.both_ways-at.ensures lx ly in
     let others = v.nearest_others-others.ensures x y v.both_ways-at.ensures lx ly in
-    let (a, ma, isa) = v.requires.narrow 0 (omega arith) in
-    let (b, mb, isb) = v.requires.narrow 1 (omega arith) in
-    let (c, mc, isc) = v.requires.narrow 2 (omega arith) in
-    let (d, md, isd) = v.requires.narrow 3 (omega arith) in
-    let (e, me, ise) = v.requires.narrow 4 (omega arith) in
-    let (f, mf, isf) = v.requires.narrow 5 (omega arith) in
-    let (g, mg, isg) = v.requires.narrow 6 (omega arith) in
-    let (h, mh, ish) = v.requires.narrow 7 (omega arith) in
+    let (a, ma, isa) = v.requires.narrow 0 (lit< tt) in
+    let (b, mb, isb) = v.requires.narrow 1 (lit< tt) in
+    let (c, mc, isc) = v.requires.narrow 2 (lit< tt) in
+    let (d, md, isd) = v.requires.narrow 3 (lit< tt) in
+    let (e, me, ise) = v.requires.narrow 4 (lit< tt) in
+    let (f, mf, isf) = v.requires.narrow 5 (lit< tt) in
+    let (g, mg, isg) = v.requires.narrow 6 (lit< tt) in
+    let (h, mh, ish) = v.requires.narrow 7 (lit< tt) in
     let was : sums ≡ words a b c d e f g h = words-are sums a b c d e f g h v.requires.long isa isb isc isd ise isf isg ish in
     let k : ℕ → ℕ = key_into x y a b c d e f g h in
     let few = each_of_eight (λ i. k i < 2 ^ 32)
-    (key-small a 0 (nearest_000 x y) _ _ _ ma (omega arith) (small-000 x y lx ly))
-    (key-small c 2 (nearest_000 x y) _ _ _ mc (omega arith) (small-000 x y lx ly))
-    (key-small e 4 (nearest_000 x y) _ _ _ me (omega arith) (small-000 x y lx ly))
-    (key-small g 6 (nearest_000 x y) _ _ _ mg (omega arith) (small-000 x y lx ly))
-    (key-small b 1 (nearest_100 x y) _ _ _ mb (omega arith) (small-100 x y lx ly))
-    (key-small h 7 (nearest_100 x y) _ _ _ mh (omega arith) (small-100 x y lx ly))
-    (key-small f 5 (nearest_100 x y) _ _ _ mf (omega arith) (small-100 x y lx ly))
-    (key-small d 3 (nearest_100 x y) _ _ _ md (omega arith) (small-100 x y lx ly)) in
+    (key-small a 0 (nearest_000 x y) _ _ _ ma (lit< tt) (small-000 x y lx ly))
+    (key-small c 2 (nearest_000 x y) _ _ _ mc (lit< tt) (small-000 x y lx ly))
+    (key-small e 4 (nearest_000 x y) _ _ _ me (lit< tt) (small-000 x y lx ly))
+    (key-small g 6 (nearest_000 x y) _ _ _ mg (lit< tt) (small-000 x y lx ly))
+    (key-small b 1 (nearest_100 x y) _ _ _ mb (lit< tt) (small-100 x y lx ly))
+    (key-small h 7 (nearest_100 x y) _ _ _ mh (lit< tt) (small-100 x y lx ly))
+    (key-small f 5 (nearest_100 x y) _ _ _ mf (lit< tt) (small-100 x y lx ly))
+    (key-small d 3 (nearest_100 x y) _ _ _ md (lit< tt) (small-100 x y lx ly)) in
     let before = v.keys_of-before.ensures a b c d e f g h was ma mb mc md me mf mg mh in
     let first = v.enter_first-first.ensures (256 * a + 0) (256 * c + 2) (256 * e + 4) (256 * g + 6)
     (nearest_010 x y) (nearest_011 x y) (nearest_100 x y) (nearest_101 x y) (nearest_000 x y) (nearest_001 x y) (nearest_110 x y)
     (nearest_111 x y)
     (turned (0 ∷ 2 ∷ 4 ∷ 6 ∷ []) _ _ before) squares others
-    (omega (arith, ma)) (omega (arith, mc)) (omega (arith, me)) (omega (arith, mg))
+    (half-key a 0 ma (lit< tt)) (half-key c 2 mc (lit< tt)) (half-key e 4 me (lit< tt)) (half-key g 6 mg (lit< tt))
     (small-010 x y lx ly) (small-011 x y lx ly) (small-000 x y lx ly) (small-001 x y lx ly) in
     let second = v.enter_second-second.ensures (256 * b + 1) (256 * d + 3) (256 * f + 5) (256 * h + 7)
     (nearest_010 x y) (nearest_011 x y) (nearest_100 x y) (nearest_101 x y) (nearest_000 x y) (nearest_001 x y) (nearest_110 x y)
     (nearest_111 x y)
     (turned (1 ∷ 3 ∷ 5 ∷ 7 ∷ []) _ _ before) squares others
-    (omega (arith, mb)) (omega (arith, md)) (omega (arith, mf)) (omega (arith, mh))
+    (half-key b 1 mb (lit< tt)) (half-key d 3 md (lit< tt)) (half-key f 5 mf (lit< tt)) (half-key h 7 mh (lit< tt))
     (small-100 x y lx ly) (small-101 x y lx ly) (small-110 x y lx ly) (small-111 x y lx ly) in
     let (z, z_is, least) = v.least_in-least.ensures (k 0) (k 1) (k 2) (k 3) (k 4) (k 5) (k 6) (k 7) first second in
     let p = least_of_eight k z z_is in
     let keys = both (λ v w. pick_l 0 (v ++ w) (0 ∷ 1 ∷ 2 ∷ 3 ∷ 4 ∷ 5 ∷ 6 ∷ 7 ∷ [])) _ _ _ _ first second in
     let lowered = v.lowered.ensures (k 0) (k 1) (k 2) (k 3) (k 4) (k 5) (k 6) (k 7) z keys
     (turned (0 ∷ 0 ∷ 0 ∷ 0 ∷ 0 ∷ 0 ∷ 0 ∷ 0 ∷ []) _ _ least)
-    (p.below_each 0 (omega arith)) (p.below_each 1 (omega arith)) (p.below_each 2 (omega arith)) (p.below_each 3 (omega arith))
-    (p.below_each 4 (omega arith)) (p.below_each 5 (omega arith)) (p.below_each 6 (omega arith)) (p.below_each 7 (omega arith))
-    (few 0 (omega arith)) (few 1 (omega arith)) (few 2 (omega arith)) (few 3 (omega arith)) (few 4 (omega arith)) (few 5 (omega arith))
-    (few 6 (omega arith)) (few 7 (omega arith)) in
+    (p.below_each 0 (lit< tt)) (p.below_each 1 (lit< tt)) (p.below_each 2 (lit< tt)) (p.below_each 3 (lit< tt))
+    (p.below_each 4 (lit< tt)) (p.below_each 5 (lit< tt)) (p.below_each 6 (lit< tt)) (p.below_each 7 (lit< tt))
+    (few 0 (lit< tt)) (few 1 (lit< tt)) (few 2 (lit< tt)) (few 3 (lit< tt)) (few 4 (lit< tt)) (few 5 (lit< tt))
+    (few 6 (lit< tt)) (few 7 (lit< tt)) in
     let states = v.low_bits.ensures 3 (k 0) (k 1) (k 2) (k 3) (k 4) (k 5) (k 6) (k 7) refl keys in
     let labels = v.low_bits-2.ensures 5 (k 0 / 8) (k 1 / 8) (k 2 / 8) (k 3 / 8) (k 4 / 8) (k 5 / 8) (k 6 / 8) (k 7 / 8) refl
     (ap (λ v. zip2 (λ a b. a / 2 ^ b) v (3 ∷ 3 ∷ 3 ∷ 3 ∷ 3 ∷ 3 ∷ 3 ∷ 3 ∷ [])) keys) in
     let new_sums = put_chunk_whole sums v.lowered.result (v.requires.long ∙ sym (ap length lowered)) ∙ lowered in
-    let new_states = put_chunk_whole v.args.column.now.before v.low_bits.result (omega (arith, ap length states)) ∙ states in
-    let new_labels = put_chunk_whole v.args.column.now.labels v.low_bits-2.result (omega (arith, ap length labels)) ∙ labels in
-    let sample = v.args.sample in
-    let re_read : cast_signed w16 (cast_unsigned w16 sample.re) ≡ sample.re = omega (arith, ints) in
-    let im_read : cast_signed w16 (cast_unsigned w16 sample.im) ≡ sample.im = omega (arith, ints) in
+    let new_states = put_chunk_whole v.args.column.now.before v.low_bits.result (before_long ∙ sym (ap length states)) ∙ states in
+    let new_labels = put_chunk_whole v.args.column.now.labels v.low_bits-2.result (labels_long ∙ sym (ap length labels)) ∙ labels in
     let re_is : coordinate x ≡ sample.re = v.counted.ensures.value ∙ re_read in
     let im_is : coordinate y ≡ sample.im = v.counted-2.ensures.value ∙ im_read in
     let sample_is : sample_at x y ≡ sample = ap (λ n. sample_of n (coordinate y)) re_is ∙ ap (sample_of sample.re) im_is in

@@ -1,7 +1,8 @@
-use Rattle.std.proofs.Common.{◌≡◌, false, refl, sym, lit<, arith}
+use Rattle.std.proofs.Common.{◌≡◌, ◌∷◌, false, refl, sym, lit<, arith}
 use Rattle.std.proofs.lemmas.Bool.Decides.{nat_tests}
 use Rattle.std.proofs.lemmas.Result.{err_from_is_err_and}
 use Rattle.lapm_frames.specs.declared.frame.Frame.TheVariants.{Rr, Rnr, Rej, Srej}
+use Rattle.lapm_frames.specs.Frame.{address_of}
 use Rattle.lapm_frames.proofs.Forms.{is_supervisory}
 use Rattle.lapm_frames.proofs.Faults.{supervisory-control, supervisory-numbers}
 use Rattle.lapm_frames.proofs.supervisory.read.Goals as goal
@@ -35,3 +36,8 @@ pub returns-in_default-clause-err : goal.returns-in_default-clause-err
 returns-in_default-clause-err c =
     let none : is_supervisory c.args.control ≡ false = grind (arith, nat_tests) in
     supervisory-control c.args.command c.args.control c.args.tail.now c.requires none
+
+pub returns-in_ok-nr-in-9-clause-ok : goal.returns-in_ok-nr-in-9-clause-ok
+returns-in_ok-nr-in-9-clause-ok c =
+    let told = c.in_ok-nr-in-9.ensures.ok in
+    rw (c.supervisory-in-9.ensures) (λ sender dlci. ((tt, told.0, tt), λ k. address_of c.args.command sender dlci ∷ c.in-9.is k ∷ told.1 k))

@@ -1,6 +1,7 @@
 use Rattle.std.proofs.Common.{◌≡◌, suc, ◌+◌, ◌-◌, ◌≤◌, true, false, length, drop, sym, ap, ◌∙◌, arith}
 use Rattle.std.specs.Prelude.{is_some, slice_get}
-use Rattle.lapm_receiver.specs.Slots.{info_at, missing_among}
+use Rattle.std.proofs.lemmas.List.{drop_all}
+use Rattle.lapm_receiver.specs.Slots.{any_held, info_at, missing_among}
 use Rattle.lapm_receiver.proofs.Rows.{full-slot, found-slot, low-slot, last-slot, copied-some}
 use Rattle.lapm_receiver.proofs.slots.least_missing.Goals as goal
 use Rattle.lapm_receiver.proofs.slots.least_missing.Goals.{else-later-via-then-later+else-low-number, else-later-via-else-later}
@@ -40,3 +41,12 @@ returns c =
     let number : c.args.first + (c.loop-place.place - c.args.start) ≡ c.args.first = omega (arith, down) in
     c.loop-place.invariant.missing_is ∙ ap (λ n. missing_among c.args.low n (drop c.loop-place.place c.args.ring.now.items)) number
     ∙ ap (λ p. missing_among c.args.low c.args.first (drop p c.args.ring.now.items)) down
+
+pub loop-place-init : goal.loop-place-init
+loop-place-init c =
+    let none = drop_all c.len-place.result c.args.ring.now.items (omega (arith, c.len-place.ensures.len)) in
+    record {
+      above = omega (arith, c.len-place.ensures.len, c.requires.within);
+      later_is = sym (ap any_held none);
+      missing_is = sym (ap (missing_among c.args.low (c.args.first + (c.len-place.result - c.args.start))) none);
+    }

@@ -4,6 +4,9 @@ use Rattle.shared_terms.specs.declared.role.Role.TheVariants.{Originator, Answer
 use Rattle.line_run.specs.Scripted.{wire_of}
 use Rattle.line_world.specs.World.{script_of}
 use Rattle.line_world.proofs.Taping.{keeps-holds, keeps-later, both-take}
+use Rattle.std.proofs.Common.{[]}
+use Rattle.outside_calls.proofs.Putting.{OnlyPuts-one, OnlyPuts-trans}
+use Rattle.line_world.proofs.Folders.{counts-front}
 use Rattle.line_world.proofs.tape.record_both.Goals as goal
 
 pub returns-in-Err-clause-records : goal.returns-in-Err-clause-records
@@ -30,3 +33,22 @@ returns-clause-records g c = λ files ts t ends w k.
     (keeps-later c.record.new.self b z channel Originator (t ∷ ts) c.record-2.ensures.only.goes_on
     (c.record-2.ensures.only.names c.record.new.self.name.now (λ e. c.requires.apart.0.0 (sym c.in-Ok.ensures.name ∙ e))) orig)
     (c.record-2.ensures.records (script_of c.args.world.now) Answerer ts t (c.sent-2.ensures.sent files ts t ends w) answ)
+
+pub returns-in-Err-clause-only : goal.returns-in-Err-clause-only
+returns-in-Err-clause-only g c = OnlyPuts-one _ _ [] c.args.tapes.now.orig.name.now (c.args.tapes.now.answ.name.now ∷ []) c.record.ensures.only
+
+pub returns-in-Err-clause-counts : goal.returns-in-Err-clause-counts
+returns-in-Err-clause-counts g c =
+    counts-front (g.F.Folder.state c.args.folder.now) (g.F.Folder.state c.record.new.folder) []
+    (c.args.tapes.now.orig.name.now ∷ [])
+    (c.args.tapes.now.answ.name.now ∷ []) c.in-Err.fault c.in-Err.ensures.counts
+
+pub returns-clause-came : goal.returns-clause-came
+returns-clause-came g c = g.met.F.Folder.came_on _ _ _ c.record.ensures.came c.record-2.ensures.came
+
+pub returns-clause-only : goal.returns-clause-only
+returns-clause-only g c =
+    let orig = c.args.tapes.now.orig.name.now in
+    let answ = c.args.tapes.now.answ.name.now in
+    OnlyPuts-trans _ _ _ (orig ∷ answ ∷ []) (OnlyPuts-one _ _ [] orig (answ ∷ []) c.record.ensures.only)
+    (OnlyPuts-one _ _ (orig ∷ []) answ [] c.record-2.ensures.only)

@@ -3,6 +3,8 @@ use Rattle.bit_stuffing.specs.BitSlot.{line_bits}
 use Rattle.plain_lists.specs.Bits.{low_bits}
 use Rattle.line_world.specs.Taping.{RecordsBits}
 use Rattle.line_world.proofs.Taping.{records-more, quads-more}
+use Rattle.std.proofs.Common.{append-nil}
+use Rattle.std.proofs.lemmas.List.{take_all}
 use Rattle.line_world.proofs.tape.write_samples.Goals as goal
 
 pub loop-place-preserved : goal.loop-place-preserved
@@ -21,3 +23,23 @@ loop-place-preserved c = record {
       (sym c.extend.ensures)
       (subst (λ (b : List Bool). RecordsBits mode c.push-sample.new.self b (octets ++ (c.loop-place.out ++ c.octets_of.result))) at-bits pushed);
 }
+
+pub loop-place-init : goal.loop-place-init
+loop-place-init c = record {
+  room = ap length c.requires;
+  stands = λ mode bits octets r. subst (λ (b : List Bool). RecordsBits mode c.args.modulator.now b (octets ++ c.args.out.now)) (sym (append-nil bits))
+      (subst (λ (o : List ℕ). RecordsBits mode c.args.modulator.now bits o) (sym (append-nil octets) ∙ ap (λ o. octets ++ o) (sym c.requires)) r);
+}
+
+pub quad-requires : goal.quad-requires
+quad-requires c = omega (arith, c.loop-place-test.true, c.len-place-end.ensures.count)
+
+pub extend-requires : goal.extend-requires
+extend-requires c = let four : length c.octets_of.result ≡ 4 = ap length c.octets_of.ensures in
+    omega (arith, four, c.loop-place.invariant.room, c.loop-place-test.true, c.len-place-end.ensures.count, c.len-place-end.ensures.bound)
+
+pub returns : goal.returns
+returns c = λ mode bits octets r.
+    subst (λ (s : List ℕ). RecordsBits mode c.loop-place.modulator (bits ++ line_bits s) (octets ++ c.loop-place.out))
+    (take_all c.loop-place.place c.args.slot.now (omega (arith, c.loop-place-test.false, c.len-place-end.ensures.count)))
+    (c.loop-place.invariant.stands mode bits octets r)

@@ -6,6 +6,7 @@ use Rattle.run_inputs.specs.declared.limits.TheConstants.{LIMITS}
 use Rattle.link_pair.specs.Words.{Names, named, inputs_of, outputs_of}
 use Rattle.link_pair.specs.Ends.{IsBegun}
 use Rattle.link_pair.proofs.Running.{ends-refused}
+use Rattle.std.proofs.Common.{◌∙◌}
 use Rattle.link_pair.proofs.command.pair_to_end.Goals as goal
 
 pub returns-in-Err-clause-ends : goal.returns-in-Err-clause-ends
@@ -46,3 +47,18 @@ returns-clause-counts g c =
     let n : Names = named c.args.words.now in
     end-earlier old mid next (inputs_of n) (outputs_of n) c.run_pair.result (c.in-Ok.ensures.counts
     (outputs_of n)) c.run_pair.ensures.counts
+
+pub returns-in-Err-clause-only : goal.returns-in-Err-clause-only
+returns-in-Err-clause-only g c = OnlyOutputs-reads (outputs_of (named c.args.words.now)) c.in-Err.ensures.reads
+
+pub returns-in-Err-clause-said : goal.returns-in-Err-clause-said
+returns-in-Err-clause-said g c = c.in-Err.ensures.reads.said
+
+pub returns-in-Err-new-clause-only : goal.returns-in-Err-new-clause-only
+returns-in-Err-new-clause-only g c = OnlyOutputs-reads (outputs_of (named c.args.words.now)) c.in-Ok.ensures.reads
+
+pub returns-in-Err-new-clause-said : goal.returns-in-Err-new-clause-said
+returns-in-Err-new-clause-said g c = c.in-Ok.ensures.reads.said
+
+pub returns-clause-said : goal.returns-clause-said
+returns-clause-said g c = c.run_pair.ensures.said ∙ c.in-Ok.ensures.reads.said

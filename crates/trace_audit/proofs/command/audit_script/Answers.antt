@@ -1,14 +1,17 @@
 use Rattle.std.proofs.Common.{[], sym, ap, subst}
 use Rattle.outside_calls.specs.Folder.{FolderState}
+use Rattle.outside_calls.specs.Outputs.{AreApartFrom}
+use Rattle.outside_calls.proofs.Steps.{OnlyReads-refl, FaultsStand-refl}
 use Rattle.noise_script.specs.Script.{ScriptValue}
 use Rattle.link_run.specs.Run.{start}
 use Rattle.line_run.specs.Scripted.{link_of}
-use Rattle.line_run.specs.Names.{Written, written}
+use Rattle.line_run.specs.Names.{Written, inputs_of, outputs_of, written}
 use Rattle.line_world.specs.World.{WorldAfter}
+use Rattle.line_ends.specs.Plain.{AsksInOctets}
 use Rattle.command_base.specs.Stops.{EndCounts}
 use Rattle.trace_audit.specs.Words.{AuditNames, named}
 use Rattle.trace_audit.specs.Turns.{RunIs, audit_inputs}
-use Rattle.trace_audit.proofs.Opening.{ends-so}
+use Rattle.trace_audit.proofs.Opening.{ends-so, end-turns, no-memory}
 use Rattle.trace_audit.proofs.command.audit_script.Goals as goal
 
 pub audit_world-requires-clause-first : goal.audit_world-requires-clause-first
@@ -25,5 +28,39 @@ returns-clause-ends g c = λ begin b.
     ends-so begin now new n m c.args.script b (ap (λ (w : Written). w.orig) c.turn_names-names.ensures)
     (ap (λ (w : Written). w.answ) c.turn_names-names.ensures) c.audit_world.ensures.reads c.audit_world.result
     (subst (λ (s : ScriptValue). RunIs s new m n.trace c.audit_world.result) c.in-Ok.ensures.script c.audit_world.ensures.run)
+    (subst (λ (w : Written). EndCounts now new (audit_inputs w n.trace) [] c.audit_world.result) c.turn_names-names.ensures
+    c.audit_world.ensures.counts)
+
+pub returns-in-Err-clause-ends : goal.returns-in-Err-clause-ends
+returns-in-Err-clause-ends g c = λ begin b. no-memory begin (g.F.Folder.state c.args.folder.now) (named c.args.words.now) c.args.script b
+
+pub returns-in-Err-clause-reads : goal.returns-in-Err-clause-reads
+returns-in-Err-clause-reads g c = OnlyReads-refl (g.F.Folder.state c.args.folder.now)
+
+pub returns-in-Err-clause-counts : goal.returns-in-Err-clause-counts
+returns-in-Err-clause-counts g c = FaultsStand-refl (g.F.Folder.state c.args.folder.now)
+
+pub returns-in-Err-new-clause-ends : goal.returns-in-Err-new-clause-ends
+returns-in-Err-new-clause-ends g c = λ begin b. no-memory begin (g.F.Folder.state c.args.folder.now) (named c.args.words.now) c.args.script b
+
+pub returns-in-Err-new-clause-reads : goal.returns-in-Err-new-clause-reads
+returns-in-Err-new-clause-reads g c = OnlyReads-refl (g.F.Folder.state c.args.folder.now)
+
+pub returns-in-Err-new-clause-counts : goal.returns-in-Err-new-clause-counts
+returns-in-Err-new-clause-counts g c = FaultsStand-refl (g.F.Folder.state c.args.folder.now)
+
+pub audit_world-requires-clause-apart : goal.audit_world-requires-clause-apart
+audit_world-requires-clause-apart g c =
+    subst (λ (w : Written). AreApartFrom (inputs_of w) (outputs_of w)) (sym c.turn_names-names.ensures) c.in-Ok-new.ensures
+
+pub audit_world-requires-clause-asks : goal.audit_world-requires-clause-asks
+audit_world-requires-clause-asks g c = subst AsksInOctets (sym c.in-Ok.ensures.script) c.requires
+
+pub returns-clause-counts : goal.returns-clause-counts
+returns-clause-counts g c =
+    let now : FolderState = g.F.Folder.state c.args.folder.now in
+    let new : FolderState = g.F.Folder.state c.audit_world.new.folder in
+    let n : AuditNames = named c.args.words.now in
+    end-turns now new n c.audit_world.result
     (subst (λ (w : Written). EndCounts now new (audit_inputs w n.trace) [] c.audit_world.result) c.turn_names-names.ensures
     c.audit_world.ensures.counts)

@@ -47,3 +47,9 @@ returns-in-Err-within_limit-clause-counts g c =
     let n : AuditNames = named c.args.words.now in
     stop-earlier old mid new (inputs_of n) [] c.in-Err-within_limit.stop (c.in-Ok.ensures.counts [])
     (counts-trace mid new n c.in-Err-within_limit.stop c.in-Err-within_limit.ensures.refused)
+
+pub returns-in-Ok-within_limit-clause-reads : goal.returns-in-Ok-within_limit-clause-reads
+returns-in-Ok-within_limit-clause-reads g c = OnlyReads-trans c.in-Ok.ensures.reads c.in-Ok-within_limit.ensures.reads
+
+pub returns-in-Err-within_limit-clause-reads : goal.returns-in-Err-within_limit-clause-reads
+returns-in-Err-within_limit-clause-reads g c = OnlyReads-trans c.in-Ok.ensures.reads c.in-Err-within_limit.ensures.reads

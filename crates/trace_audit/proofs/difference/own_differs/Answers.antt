@@ -1,5 +1,5 @@
 use Rattle.std.proofs.Common.{refl, sym, rules}
-use denote.Enum.Bare.{same_true}
+use denote.Enum.Bare.{same_true, differs_true}
 use Rattle.shared_terms.specs.contracts.role.Role.{the_type}
 use Rattle.trace_audit.proofs.Windows.{unnot, differ, same-octets, given-differs}
 use Rattle.trace_audit.proofs.difference.own_differs.Goals as goal
@@ -9,6 +9,24 @@ returns-in_default c = λ r. c.in_default.ensures.err refl r.0 r.1
 
 pub unreachable-requires : goal.unreachable-requires
 unreachable-requires c = c.in_default-read_text.ensures.err refl c.requires.read.0 c.requires.read.1
+
+pub returns-then-right-other : goal.returns-then-right-other
+returns-then-right-other c = record {
+  right = c.in-Ok-read_text.right;
+  other = c.in-Ok.other;
+  right_is = c.in-Ok-read_text.ensures.ok;
+  other_is = c.in-Ok.ensures.ok;
+  differ = c.if-right-other.true;
+}
+
+pub returns-then-ne : goal.returns-then-ne
+returns-then-ne c = record {
+  right = c.in-Ok-read_text.right;
+  other = c.in-Ok.other;
+  right_is = c.in-Ok-read_text.ensures.ok;
+  other_is = c.in-Ok.ensures.ok;
+  differ = (c.if-right-other.false, differs_true the_type _ _ (sym c.if-ne.ensures));
+}
 
 pub returns-then-ne-2 : goal.returns-then-ne-2
 returns-then-ne-2 c = record {

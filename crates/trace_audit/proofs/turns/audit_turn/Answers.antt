@@ -1,11 +1,11 @@
 use Rattle.std.proofs.Common.{List, ℕ, [], sym, ◌∙◌, subst}
 use Rattle.outside_calls.specs.Folder.{FolderState}
-use Rattle.outside_calls.proofs.Steps.{OnlyReads-trans}
+use Rattle.outside_calls.proofs.Steps.{OnlyReads-trans, CountsStand-trans}
 use Rattle.line_run.specs.Names.{Written, written}
 use Rattle.trace_audit.specs.Differences.{IsCut}
 use Rattle.command_base.proofs.Jobs.{stop-earlier}
 use Rattle.trace_audit.specs.Turns.{audit_inputs}
-use Rattle.trace_audit.proofs.Running.{turn-few, turn-compared, trace-counts}
+use Rattle.trace_audit.proofs.Running.{turn-few, turn-compared, trace-counts, files-counts, same-ok, no-ok}
 use Rattle.trace_audit.proofs.turns.audit_turn.Goals as goal
 
 pub compare_text-requires : goal.compare_text-requires
@@ -51,3 +51,29 @@ returns-in-Err-compare_text-clause-counts g c =
     let n : Written = written c.args.names.now in
     stop-earlier old mid new (audit_inputs n c.args.trace.now) [] c.in-Err-compare_text.stop c.in-Ok.ensures.counts
     (trace-counts mid new n c.args.trace.now c.in-Err-compare_text.stop c.in-Err-compare_text.ensures.counts)
+
+pub returns-in-Err-clause-ready : goal.returns-in-Err-clause-ready
+returns-in-Err-clause-ready g c = λ e. no-ok e
+
+pub returns-in-Err-clause-number : goal.returns-in-Err-clause-number
+returns-in-Err-clause-number g c = λ e. no-ok e
+
+pub returns-in-Err-clause-counts : goal.returns-in-Err-clause-counts
+returns-in-Err-clause-counts g c =
+    files-counts (g.F.Folder.state c.args.folder.now) (g.F.Folder.state c.make_turn.new.folder) (written c.args.names.now)
+    c.args.trace.now c.in-Err.stop c.in-Err.ensures.counts
+
+pub returns-in-Ok-compare_text-clause-ready : goal.returns-in-Ok-compare_text-clause-ready
+returns-in-Ok-compare_text-clause-ready g c = λ e. c.in-Ok.ensures.ready (same-ok e)
+
+pub returns-in-Ok-compare_text-clause-number : goal.returns-in-Ok-compare_text-clause-number
+returns-in-Ok-compare_text-clause-number g c = λ e. c.in-Ok.ensures.number (same-ok e)
+
+pub returns-in-Ok-compare_text-clause-counts : goal.returns-in-Ok-compare_text-clause-counts
+returns-in-Ok-compare_text-clause-counts g c = CountsStand-trans c.in-Ok.ensures.counts c.in-Ok-compare_text.ensures.counts
+
+pub returns-in-Err-compare_text-clause-ready : goal.returns-in-Err-compare_text-clause-ready
+returns-in-Err-compare_text-clause-ready g c = λ e. no-ok e
+
+pub returns-in-Err-compare_text-clause-number : goal.returns-in-Err-compare_text-clause-number
+returns-in-Err-compare_text-clause-number g c = λ e. no-ok e

@@ -1,11 +1,12 @@
-use Rattle.std.proofs.Common.{Bool, Ok, refl, sym, ◌∙◌, ap, subst}
+use Rattle.std.proofs.Common.{Bool, Ok, [], refl, sym, ◌∙◌, ap, subst}
 use Rattle.outside_calls.specs.Folder.{FolderState}
 use Rattle.outside_calls.proofs.Steps.{OnlyReads-refl, OnlyReads-trans, CountsStand-refl, CountsStand-trans}
 use Rattle.line_run.specs.Names.{written}
 use Rattle.line_world.specs.World.{turn_of}
 use Rattle.line_world.proofs.Reached.{nearer}
 use Rattle.line_ends.specs.Plain.{AsksInOctets}
-use Rattle.trace_audit.specs.Turns.{AreCompared}
+use Rattle.command_base.proofs.Jobs.{stop-earlier}
+use Rattle.trace_audit.specs.Turns.{AreCompared, audit_inputs}
 use Rattle.trace_audit.proofs.Running.{compared-none}
 use Rattle.trace_audit.proofs.turns.audit_turns.Goals as goal
 
@@ -42,3 +43,29 @@ loop-comparison-preserved g c =
       reads = OnlyReads-trans i.reads c.audit_turn.ensures.reads;
       stand = CountsStand-trans i.stand c.in-Ok-true.ensures.counts;
     }
+
+pub returns-in-Ok-false-clause-compared : goal.returns-in-Ok-false-clause-compared
+returns-in-Ok-false-clause-compared g c =
+    subst
+    (λ (b : Bool). AreCompared b c.audit_turn.new.world (g.F.Folder.state c.audit_turn.new.folder) (written c.args.names.now)
+    c.args.trace.now c.audit_turn.new.comparison) c.in-Ok-false.field-0-test c.in-Ok-false.ensures.compared
+
+pub returns-in-Ok-false-clause-script : goal.returns-in-Ok-false-clause-script
+returns-in-Ok-false-clause-script g c = c.audit_turn.ensures.script ∙ c.loop-comparison.invariant.script
+
+pub returns-in-Ok-false-clause-reads : goal.returns-in-Ok-false-clause-reads
+returns-in-Ok-false-clause-reads g c = OnlyReads-trans c.loop-comparison.invariant.reads c.audit_turn.ensures.reads
+
+pub returns-in-Ok-false-clause-counts : goal.returns-in-Ok-false-clause-counts
+returns-in-Ok-false-clause-counts g c = CountsStand-trans c.loop-comparison.invariant.stand c.in-Ok-false.ensures.counts
+
+pub returns-in-Err-clause-script : goal.returns-in-Err-clause-script
+returns-in-Err-clause-script g c = c.audit_turn.ensures.script ∙ c.loop-comparison.invariant.script
+
+pub returns-in-Err-clause-reads : goal.returns-in-Err-clause-reads
+returns-in-Err-clause-reads g c = OnlyReads-trans c.loop-comparison.invariant.reads c.audit_turn.ensures.reads
+
+pub returns-in-Err-clause-counts : goal.returns-in-Err-clause-counts
+returns-in-Err-clause-counts g c =
+    stop-earlier (g.F.Folder.state c.args.folder.now) (g.F.Folder.state c.loop-comparison.folder) (g.F.Folder.state c.audit_turn.new.folder)
+    (audit_inputs (written c.args.names.now) c.args.trace.now) [] c.in-Err.stop c.loop-comparison.invariant.stand c.in-Err.ensures.counts

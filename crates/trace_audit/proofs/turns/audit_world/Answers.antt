@@ -1,11 +1,14 @@
-use Rattle.std.proofs.Common.{Result, ℕ, sym, subst}
+use Rattle.std.proofs.Common.{Result, ℕ, [], sym, subst}
 use Rattle.outside_calls.specs.Folder.{FolderState}
+use Rattle.outside_calls.proofs.Steps.{OnlyReads-trans, CountsStand-trans}
 use Rattle.noise_script.specs.Script.{ScriptValue}
 use Rattle.line_run.specs.Names.{Written, written}
 use Rattle.line_world.specs.World.{script_of}
 use Rattle.command_base.specs.declared.stop.Stop.{Stop}
-use Rattle.trace_audit.specs.Turns.{RunIs}
-use Rattle.trace_audit.proofs.Running.{end-few, ends-so, stops-so}
+use Rattle.command_base.specs.Stops.{EndCounts}
+use Rattle.command_base.proofs.Jobs.{stop-earlier}
+use Rattle.trace_audit.specs.Turns.{RunIs, audit_inputs}
+use Rattle.trace_audit.proofs.Running.{end-few, ends-so, stops-so, found-counts, trace-counts}
 use Rattle.trace_audit.proofs.turns.audit_world.Goals as goal
 
 pub end-requires : goal.end-requires
@@ -34,3 +37,25 @@ pub returns-in-Err-read_on-clause-run : goal.returns-in-Err-read_on-clause-run
 returns-in-Err-read_on-clause-run g c =
     stops-so (script_of c.args.world.now) (g.F.Folder.state c.read_on.new.folder) (written c.args.names.now) c.args.trace.now
     c.in-Err-read_on.stop c.in-Err-read_on.ensures.stops
+
+pub returns-in-Ok-read_on-clause-reads : goal.returns-in-Ok-read_on-clause-reads
+returns-in-Ok-read_on-clause-reads g c = OnlyReads-trans c.audit_turns.ensures.reads c.read_on.ensures.reads
+
+pub returns-in-Ok-read_on-clause-counts : goal.returns-in-Ok-read_on-clause-counts
+returns-in-Ok-read_on-clause-counts g c =
+    let old : FolderState = g.F.Folder.state c.args.folder.now in
+    let new : FolderState = g.F.Folder.state c.read_on.new.folder in
+    let inputs = audit_inputs (written c.args.names.now) c.args.trace.now in
+    subst (λ (r : Result ℕ Stop). EndCounts old new inputs [] r) (sym c.found_end.ensures)
+    (found-counts old new inputs c.end.result (CountsStand-trans c.in-Ok.ensures.counts c.in-Ok-read_on.ensures.counts))
+
+pub returns-in-Err-read_on-clause-reads : goal.returns-in-Err-read_on-clause-reads
+returns-in-Err-read_on-clause-reads g c = OnlyReads-trans c.audit_turns.ensures.reads c.read_on.ensures.reads
+
+pub returns-in-Err-read_on-clause-counts : goal.returns-in-Err-read_on-clause-counts
+returns-in-Err-read_on-clause-counts g c =
+    let mid : FolderState = g.F.Folder.state c.audit_turns.new.folder in
+    let new : FolderState = g.F.Folder.state c.read_on.new.folder in
+    let n : Written = written c.args.names.now in
+    stop-earlier (g.F.Folder.state c.args.folder.now) mid new (audit_inputs n c.args.trace.now) [] c.in-Err-read_on.stop
+    c.in-Ok.ensures.counts (trace-counts mid new n c.args.trace.now c.in-Err-read_on.stop c.in-Err-read_on.ensures.counts)

@@ -1,7 +1,9 @@
-use Rattle.std.proofs.Common.{sym, ◌∙◌, ap, Ok, Bool}
+use Rattle.std.proofs.Common.{sym, ◌∙◌, ap, Ok, Err, Bool}
 use Rattle.outside_calls.specs.Folder.{FolderState}
 use Rattle.line_run.specs.Names.{written}
-use Rattle.trace_audit.proofs.Turning.{LineLaws, made, made-counts, going-step}
+use Rattle.line_world.specs.World.{turn_of}
+use Rattle.line_world.specs.Turn.{turns_made}
+use Rattle.trace_audit.proofs.Turning.{LineLaws, made, stops-reading, end-counts, going-step}
 use Rattle.trace_audit.proofs.watching.make_turn.Goals as goal
 
 pub returns-in-Ok-clause-made : goal.returns-in-Ok-clause-made
@@ -32,6 +34,26 @@ returns-in-Ok-clause-ready g c = λ on.
 pub returns-in-Ok-clause-counts : goal.returns-in-Ok-clause-counts
 returns-in-Ok-clause-counts g c =
     let watching = c.watch_turn-watching.result in
-    made-counts c.args.world.now c.watch_turn-watching.new.world (g.F.Folder.state c.args.folder.now)
-    (g.F.Folder.state c.watch_turn-watching.new.folder) (written c.args.names.now) watching.step watching.text c.in-Ok.goes_on
+    end-counts c.args.world.now c.watch_turn-watching.new.world (g.F.Folder.state c.args.folder.now)
+    (g.F.Folder.state c.watch_turn-watching.new.folder) (written c.args.names.now) watching.text watching.step (Ok c.in-Ok.goes_on)
     c.watch_turn-watching.ensures.watched (sym c.step_end.ensures ∙ c.in-Ok.is)
+
+pub returns-in-Ok-clause-number : goal.returns-in-Ok-clause-number
+returns-in-Ok-clause-number g c = λ on.
+    c.watch_turn-watching.ensures.number
+    ∙ ap (turns_made (turn_of c.args.world.now))
+    (going-step c.watch_turn-watching.result.step (sym c.step_end.ensures ∙ c.in-Ok.is ∙ ap (λ (b : Bool). Ok b) on))
+
+pub returns-in-Err-clause-stops : goal.returns-in-Err-clause-stops
+returns-in-Err-clause-stops g c =
+    let watching = c.watch_turn-watching.result in
+    stops-reading c.args.world.now c.watch_turn-watching.new.world (g.F.Folder.state c.args.folder.now)
+    (g.F.Folder.state c.watch_turn-watching.new.folder) (written c.args.names.now) watching.text watching.step (Err c.in-Err.stop)
+    c.watch_turn-watching.ensures.watched (sym c.step_end.ensures ∙ c.in-Err.is)
+
+pub returns-in-Err-clause-counts : goal.returns-in-Err-clause-counts
+returns-in-Err-clause-counts g c =
+    let watching = c.watch_turn-watching.result in
+    end-counts c.args.world.now c.watch_turn-watching.new.world (g.F.Folder.state c.args.folder.now)
+    (g.F.Folder.state c.watch_turn-watching.new.folder) (written c.args.names.now) watching.text watching.step (Err c.in-Err.stop)
+    c.watch_turn-watching.ensures.watched (sym c.step_end.ensures ∙ c.in-Err.is)

@@ -71,3 +71,14 @@ returns-then-is_plain-clause-room c =
     let p = plain-written c.args.room c.args.octet (omega (arith, c.requires.few)) c.ranges.octet.fits
     (sym c.is_plain.ensures ∙ c.if-is_plain.true) in
     c.room_behind_octet.ensures.value ∙ sym p.1
+
+pub returns-clause-written : goal.returns-clause-written
+returns-clause-written c =
+    let at : c.loop-place.place ≡ 8 = omega (arith, c.loop-place-test.false, c.loop-place.auto.place-end) in
+    c.loop-place.invariant.bits
+    ∙ ap (λ place. written c.args.self.now c.args.out.now ++ stuffed c.args.room (take place (octet_bits c.args.octet))) at
+
+pub returns-clause-room : goal.returns-clause-room
+returns-clause-room c =
+    let at : c.loop-place.place ≡ 8 = omega (arith, c.loop-place-test.false, c.loop-place.auto.place-end) in
+    c.loop-place.invariant.left ∙ ap (λ place. room_behind c.args.room (take place (octet_bits c.args.octet))) at

@@ -1,7 +1,7 @@
 use Rattle.std.proofs.Common.{[], arith}
 use Rattle.outside_calls.specs.Folder.{FolderState}
-use Rattle.outside_calls.proofs.Steps.{CountsStand-refl}
-use Rattle.outside_calls.proofs.OnlyOutputs.{OnlyOutputs-refl}
+use Rattle.outside_calls.proofs.Steps.{CountsStand-refl, CountsStand-trans}
+use Rattle.outside_calls.proofs.OnlyOutputs.{OnlyOutputs-refl, OnlyOutputs-trans}
 use Rattle.frame_commands.specs.Listing.Words.{named}
 use Rattle.frame_commands.proofs.Listing.Listed.{heard-none-yet}
 use Rattle.frame_commands.proofs.frames.listing.hear_file.Goals as goal
@@ -17,3 +17,12 @@ loop-listener-init g c =
       only = OnlyOutputs-refl old [];
       stand = CountsStand-refl old;
     }
+
+pub loop-listener-preserved : goal.loop-listener-preserved
+loop-listener-preserved g c = record {
+  within = c.in-Ok.ensures.bound;
+  pieces = c.in-Ok.ensures.pieces;
+  heard = λ start b. c.in-Ok.ensures.ok start (c.loop-listener.invariant.heard start b);
+  only = OnlyOutputs-trans [] c.loop-listener.invariant.only c.in-Ok.ensures.only;
+  stand = CountsStand-trans c.loop-listener.invariant.stand c.in-Ok.ensures.counts;
+}

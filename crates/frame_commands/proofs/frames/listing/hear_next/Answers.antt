@@ -1,7 +1,12 @@
-use Rattle.std.proofs.Common.{◌≡◌, inr, ℕ, ◌<◌, [], ◌++◌, IsTrue, take, subst, arith}
+use Rattle.std.proofs.Common.{◌≡◌, inr, ℕ, ◌<◌, [], ◌∷◌, ◌++◌, IsTrue, take, subst, arith}
 use Rattle.outside_calls.specs.Folder.{octets_at}
+use Rattle.outside_calls.proofs.Steps.{CountsStand-trans}
+use Rattle.outside_calls.proofs.OnlyOutputs.{OnlyOutputs-reads, OnlyOutputs-says, OnlyOutputs-trans}
+use Rattle.command_base.specs.declared.stop.Stop.TheVariants.{Say}
+use Rattle.command_base.proofs.Jobs.{stop-earlier}
 use Rattle.frame_commands.specs.Listing.Words.{named}
-use Rattle.frame_commands.proofs.Listing.Listed.{heard-part, heard-more, heard-whole, say-part}
+use Rattle.frame_commands.specs.Listing.Heard.{HeardTo}
+use Rattle.frame_commands.proofs.Listing.Listed.{heard-part, heard-still, heard-more, heard-whole, say-part}
 use Rattle.frame_commands.proofs.frames.listing.hear_next.Goals as goal
 
 pub returns-in-Ok-eq0-clause-end : goal.returns-in-Ok-eq0-clause-end
@@ -39,3 +44,34 @@ returns-in-Err-hear-clause-err g c = λ start h. (
       (take c.in-Ok.count c.read_piece.new.piece) h
       (c.in-Ok.ensures.more start h.octets h.read) c.in-Ok.ensures.reads c.in-Err-hear.ensures.err,
 )
+
+pub returns-in-Ok-eq0-clause-ok : goal.returns-in-Ok-eq0-clause-ok
+returns-in-Ok-eq0-clause-ok g c = λ start h.
+    let still = heard-still start (g.F.Folder.state c.args.folder.now) (g.F.Folder.state c.read_piece.new.folder)
+    (named c.args.names.now) c.args.listener.now c.args.at h c.in-Ok-eq0.ensures.reads in
+    subst (λ (n : ℕ). HeardTo start (g.F.Folder.state c.read_piece.new.folder) (named c.args.names.now) c.args.listener.now n) (omega arith) still
+
+pub returns-in-Ok-eq0-clause-only : goal.returns-in-Ok-eq0-clause-only
+returns-in-Ok-eq0-clause-only g c = OnlyOutputs-reads [] c.in-Ok-eq0.ensures.reads
+
+pub returns-in-Err-clause-only : goal.returns-in-Err-clause-only
+returns-in-Err-clause-only g c = OnlyOutputs-reads [] c.in-Err.ensures.reads
+
+pub returns-in-Err-clause-counts : goal.returns-in-Err-clause-counts
+returns-in-Err-clause-counts g c = c.in-Err.ensures.fails
+
+pub returns-in-Ok-hear-clause-only : goal.returns-in-Ok-hear-clause-only
+returns-in-Ok-hear-clause-only g c =
+    OnlyOutputs-trans [] (OnlyOutputs-reads [] c.in-Ok.ensures.reads) (OnlyOutputs-says [] c.in-Ok-hear.ensures.only)
+
+pub returns-in-Ok-hear-clause-counts : goal.returns-in-Ok-hear-clause-counts
+returns-in-Ok-hear-clause-counts g c = CountsStand-trans c.in-Ok.ensures.stand c.in-Ok-hear.ensures.stand
+
+pub returns-in-Err-hear-clause-only : goal.returns-in-Err-hear-clause-only
+returns-in-Err-hear-clause-only g c =
+    OnlyOutputs-trans [] (OnlyOutputs-reads [] c.in-Ok.ensures.reads) (OnlyOutputs-says [] c.in-Err-hear.ensures.only)
+
+pub returns-in-Err-hear-clause-counts : goal.returns-in-Err-hear-clause-counts
+returns-in-Err-hear-clause-counts g c =
+    stop-earlier (g.F.Folder.state c.args.folder.now) (g.F.Folder.state c.read_piece.new.folder) (g.F.Folder.state c.hear.new.folder)
+    (c.args.names.now.bits.now ∷ []) [] (Say c.in-Err-hear.fault) c.in-Ok.ensures.stand c.in-Err-hear.ensures.fails

@@ -1,10 +1,87 @@
-use Rattle.std.proofs.Common.{◌≡◌, Some, subst}
-use Rattle.lapm_receiver.specs.Incoming.{next_delivered}
-use Rattle.lapm_link.specs.Stands.{StandsFor, Links}
+use Rattle.std.proofs.Common.{◌≡◌, ◌∙◌, ◌≤◌, ◌<◌, ℕ, Bool, true, false, List, [], ◌∷◌, length, drop, Option, Some, None, refl, sym, ap, subst, nat_lt, arith}
+use Rattle.std.specs.Bool.{OnTrue}
+use Rattle.std.specs.Prelude.{is_some}
+use Rattle.lapm_receiver.specs.Taking.{Taking}
+use Rattle.link_account.specs.Account.{Account}
+use Rattle.lapm_link.specs.declared.any_end.AnyEnd.{AnyEnd}
+use Rattle.lapm_link.specs.Stands.{StandsFor, Links, taken_of, undelivered_of, waiting_of}
+use Rattle.lapm_link.proofs.Unconnected.{delivers-next, links-delivered, delivers-none, nothing-delivered, undelivered-none, takes-none}
 use Rattle.lapm_link.proofs.any_end.AnyEnd.deliver.Goals as goal
 
-pub returns-in-Connected-clause-segment : goal.returns-in-Connected-clause-segment
-returns-in-Connected-clause-segment c = λ a segment h e.
-    let l : Links c.in-Connected.end a = subst (λ v. StandsFor v a) c.in-Connected.is h in
-    let given : next_delivered a.incoming ≡ Some segment = rw l.beside.phase_is at e in
-    c.deliver.ensures.segment a.incoming segment l.beside.receiver_stands given
+-- one less is ready, where any is
+fewer-ready : (some : Bool) (old new : List (List ℕ)) → some ≡ nat_lt 0 (length old) → new ≡ drop 1 old
+    → OnTrue some (length new < length old)
+fewer-ready false old new left is = tt
+fewer-ready true [] new left is = absurd cc
+fewer-ready true (first ∷ old) new left is = subst (λ (xs : List (List ℕ)). length xs < length (first ∷ old)) (sym is) (less old)
+  where
+    less : (xs : List (List ℕ)) → length xs < length (first ∷ xs)
+    less xs = omega arith
+
+no-more : (old : List (List ℕ)) → length (drop 1 old) ≤ length old
+no-more [] = omega arith
+no-more (first ∷ old) = omega arith
+
+same-number : (n : ℕ) → n ≤ n
+same-number n = omega arith
+
+none-some : (segment : List ℕ) → ◌≡◌ {A = Option (List ℕ)} None (Some segment) → ⊥
+none-some segment e = cc
+
+pub returns-in-Connected : goal.returns-in-Connected
+returns-in-Connected c =
+    let old : Taking = c.in-Connected.end.receiver in
+    let links : (a : Account) → StandsFor c.args.self.now a → Links c.in-Connected.end a =
+    λ a h. subst (λ (v : AnyEnd). StandsFor v a) c.in-Connected.is h in
+    record {
+      answer = λ a h. let l = (links a h).beside in
+          c.deliver.ensures.answer a.incoming l.receiver_stands ∙ ap is_some (sym (delivers-next a l.phase_is));
+      segment = λ a segment h e. let l = (links a h).beside in
+          c.deliver.ensures.segment a.incoming segment l.receiver_stands (sym (delivers-next a l.phase_is) ∙ e);
+      account = λ a h. let l = links a h in
+          links-delivered _ a l.beside.phase_is (record {
+            sender_stands = l.sender_stands;
+            beside = record {
+              phase_is = l.beside.phase_is;
+              setup_is = l.beside.setup_is;
+              terms_are = l.beside.terms_are;
+              numbered_is = l.beside.numbered_is;
+              receiver_stands = c.deliver.ensures.stands a.incoming l.beside.receiver_stands;
+              breaks_stand = record {
+                own = l.beside.breaks_stand.own;
+                their = l.beside.breaks_stand.their;
+                told_within = l.beside.breaks_stand.told_within;
+                given_is = l.beside.breaks_stand.given_is;
+              };
+              owes_is = l.beside.owes_is;
+              waits = record { poll_is = l.beside.waits.poll_is; urgent_is = l.beside.waits.urgent_is; timer_is = l.beside.waits.timer_is };
+              special_is = l.beside.special_is;
+            };
+          });
+      unchanged = c.deliver.ensures.out_unchanged;
+      delivered = c.deliver.ensures.empty;
+      fewer = subst (λ (n : ℕ). OnTrue c.deliver.result (length c.deliver.new.self.ready < n)) (sym (ap undelivered_of c.in-Connected.is))
+          (fewer-ready c.deliver.result old.ready c.deliver.new.self.ready c.deliver.ensures.left
+          (ap (λ (r : Taking). r.ready) c.deliver.ensures.value));
+      takes_nothing = record {
+        taken_of = subst (λ (n : ℕ). c.deliver.new.self.taken ≤ n) (sym (ap taken_of c.in-Connected.is))
+            (subst (λ (r : Taking). r.taken ≤ old.taken) (sym c.deliver.ensures.value) (same-number old.taken));
+        undelivered_of = subst (λ (n : ℕ). length c.deliver.new.self.ready ≤ n) (sym (ap undelivered_of c.in-Connected.is))
+            (subst (λ (r : Taking). length r.ready ≤ length old.ready) (sym c.deliver.ensures.value) (no-more old.ready));
+        waiting_of = λ e. sym (ap waiting_of c.in-Connected.is) ∙ e;
+      };
+    }
+
+pub returns-in_default : goal.returns-in_default
+returns-in_default c =
+    let end : AnyEnd = c.args.self.now in
+    let not = c.in_default.not-Connected in
+    record {
+      answer = λ a h. ap is_some (sym (delivers-none end a not h));
+      segment = λ a segment h e. absurd (none-some segment (sym (delivers-none end a not h) ∙ e));
+      account = λ a h. nothing-delivered end a not h;
+      unchanged = refl;
+      delivered = undelivered-none end not;
+      fewer = tt;
+      takes_nothing = takes-none end;
+    }

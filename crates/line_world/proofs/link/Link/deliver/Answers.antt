@@ -6,6 +6,7 @@ use Rattle.outside_calls.proofs.Putting.{OnlyPuts-one, OnlyPuts-trans, KeepsEach
 use Rattle.link_run.specs.End.{deliveries}
 use Rattle.line_run.specs.Names.{outputs_of, written}
 use Rattle.line_world.proofs.Standing.{counted-on}
+use Rattle.line_world.proofs.Offering.{no-fault}
 use Rattle.line_world.proofs.link.Link.deliver.Goals as goal
 
 pub returns-in-Err-clause-err : goal.returns-in-Err-clause-err
@@ -97,3 +98,15 @@ returns-in-Ok-deliver-clause-counted g c = λ heard asked h. record {
 
 pub returns-in-Err-clause-spared : goal.returns-in-Err-clause-spared
 returns-in-Err-clause-spared g c = c.in-Err.ensures.spared
+
+pub returns-in-Ok-deliver-clause-cause : goal.returns-in-Ok-deliver-clause-cause
+returns-in-Ok-deliver-clause-cause g c = record { failed = λ e. no-fault e; memory = λ e. no-fault e }
+
+pub returns-in-Ok-deliver-clause-spared : goal.returns-in-Ok-deliver-clause-spared
+returns-in-Ok-deliver-clause-spared g c = λ e. no-fault e
+
+pub returns-in-Ok-deliver-clause-came : goal.returns-in-Ok-deliver-clause-came
+returns-in-Ok-deliver-clause-came g c = g.met.F.Folder.came_on _ _ _ c.deliver.ensures.came c.deliver-2.ensures.came
+
+pub returns-in-Err-deliver-clause-came : goal.returns-in-Err-deliver-clause-came
+returns-in-Err-deliver-clause-came g c = g.met.F.Folder.came_on _ _ _ c.deliver.ensures.came c.deliver-2.ensures.came

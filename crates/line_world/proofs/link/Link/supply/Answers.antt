@@ -5,6 +5,8 @@ use Rattle.turn_bound.specs.Limits.{file_limit}
 use Rattle.line_world.specs.Station.{Supplies}
 use Rattle.line_run.specs.Names.{written}
 use Rattle.line_world.proofs.Linking.{reads-later}
+use Rattle.std.proofs.Common.{arith}
+use Rattle.line_world.proofs.Offering.{no-fault}
 use Rattle.line_world.proofs.link.Link.supply.Goals as goal
 
 pub returns-in-Err-clause-counted : goal.returns-in-Err-clause-counted
@@ -76,3 +78,31 @@ returns-in-Err-clause-idle g c = λ h. record { orig = c.supply.ensures.idle h.o
 
 pub returns-in-Err-clause-only : goal.returns-in-Err-clause-only
 returns-in-Err-clause-only g c = c.supply.ensures.only
+
+pub supply-requires-clause-limit : goal.supply-requires-clause-limit
+supply-requires-clause-limit g c = omega arith
+
+pub supply-requires-clause-stands : goal.supply-requires-clause-stands
+supply-requires-clause-stands g c =
+    let w = c.requires.stands in
+    (w.0.orig, w.1.orig, w.2.orig, w.3.orig)
+
+pub supply-requires-2-clause-limit : goal.supply-requires-2-clause-limit
+supply-requires-2-clause-limit g c = omega arith
+
+pub supply-requires-2-clause-stands : goal.supply-requires-2-clause-stands
+supply-requires-2-clause-stands g c =
+    let w = c.requires.stands in
+    (w.0.answ, w.1.answ, w.2.answ, w.3.answ)
+
+pub returns-in-Ok-supply-clause-cause : goal.returns-in-Ok-supply-clause-cause
+returns-in-Ok-supply-clause-cause g c = record { failed = λ e. no-fault e; memory = λ e. no-fault e }
+
+pub returns-in-Ok-supply-clause-spared : goal.returns-in-Ok-supply-clause-spared
+returns-in-Ok-supply-clause-spared g c = λ e. no-fault e
+
+pub returns-in-Ok-supply-clause-came : goal.returns-in-Ok-supply-clause-came
+returns-in-Ok-supply-clause-came g c = g.met.F.Folder.came_on _ _ _ c.supply.ensures.came c.supply-2.ensures.came
+
+pub returns-in-Err-supply-clause-came : goal.returns-in-Err-supply-clause-came
+returns-in-Err-supply-clause-came g c = g.met.F.Folder.came_on _ _ _ c.supply.ensures.came c.supply-2.ensures.came

@@ -81,3 +81,9 @@ returns-clause-hears c = λ channel links streams files ts ends script dlci h wa
       checks = c.checks-self.ensures files hears.mid hears.stands;
     })
     (tallies-heard c.args.self.now.tally c.hear.new.self ts ends c.in-Ok.heard h.tally c.hear.ensures)
+
+pub returns-in-Err-clause-spoke : goal.returns-in-Err-clause-spoke
+returns-in-Err-clause-spoke c = refl
+
+pub returns-clause-spoke : goal.returns-clause-spoke
+returns-clause-spoke c = refl

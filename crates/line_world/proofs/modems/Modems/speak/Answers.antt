@@ -1,4 +1,7 @@
-use Rattle.std.proofs.Common.{◌≡◌, ◌+◌, length, refl, sym, ◌∙◌, ap, subst, Some, None}
+use Rattle.std.proofs.Common.{◌≡◌, ◌+◌, length, refl, sym, ◌∙◌, ap, subst, Some, None, is_some, arith}
+use Rattle.shared_terms.specs.Both.{Both}
+use Rattle.lapm_frames.specs.Sendable.{IsSendable}
+use Rattle.line_texts.specs.declared.trace_line.TraceLine.{TraceLine}
 use Rattle.outside_calls.specs.Folder.{Appended, PartlyAppended}
 use Rattle.shared_terms.specs.declared.role.Role.TheVariants.{Originator, Answerer}
 use Rattle.noise_script.specs.Script.{ScriptValue, IsInLimits}
@@ -209,3 +212,38 @@ returns-in-Err-write_turn-2-clause-only g c = c.write_turn-in-Err.ensures.only
 
 pub returns-in-Err-write_turn-2-clause-counts : goal.returns-in-Err-write_turn-2-clause-counts
 returns-in-Err-write_turn-2-clause-counts g c = c.in-Err-write_turn-2.ensures.counts
+
+pub sent_in-sent-requires-clause-orig : goal.sent_in-sent-requires-clause-orig
+sent_in-sent-requires-clause-orig g c = ap (λ (x : Both TraceLine). is_some x.orig.sent) c.turn_lines-texts.ensures
+
+pub sent_in-sent-requires-clause-answ : goal.sent_in-sent-requires-clause-answ
+sent_in-sent-requires-clause-answ g c = ap (λ (x : Both TraceLine). is_some x.answ.sent) c.turn_lines-texts.ensures
+
+pub send-requires-clause-again : goal.send-requires-clause-again
+send-requires-clause-again g c = omega (arith, c.requires.few.again, c.requires.early)
+
+pub send-requires-clause-orig : goal.send-requires-clause-orig
+send-requires-clause-orig g c = omega (arith, c.requires.few.orig, c.requires.early)
+
+pub send-requires-clause-answ : goal.send-requires-clause-answ
+send-requires-clause-answ g c = omega (arith, c.requires.few.answ, c.requires.early)
+
+pub send-requires-in-Ok-clause-orig_sendable : goal.send-requires-in-Ok-clause-orig_sendable
+send-requires-in-Ok-clause-orig_sendable g c =
+    subst IsSendable
+    (sym (taken-back c.sent_in-sent.result.orig c.in-Ok.sent.orig _ _ c.sent_in-sent.ensures.orig (λ k. (c.turn_lines-texts.ensures k).orig.sent) refl))
+    c.in-Ok.ensures.orig_sendable
+
+pub send-requires-in-Ok-clause-answ_sendable : goal.send-requires-in-Ok-clause-answ_sendable
+send-requires-in-Ok-clause-answ_sendable g c =
+    subst IsSendable
+    (sym (taken-back c.sent_in-sent.result.answ c.in-Ok.sent.answ _ _ c.sent_in-sent.ensures.answ (λ k. (c.turn_lines-texts.ensures k).answ.sent) refl))
+    c.in-Ok.ensures.answ_sendable
+
+pub send-requires-in-Ok-clause-room : goal.send-requires-in-Ok-clause-room
+send-requires-in-Ok-clause-room g c =
+    let w = c.requires.stands in
+    (w.0, w.1, w.2, w.9)
+
+pub overflow_add-self : goal.overflow_add-self
+overflow_add-self g c = omega (arith, c.requires.early)

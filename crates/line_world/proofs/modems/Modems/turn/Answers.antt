@@ -15,6 +15,9 @@ use Rattle.line_world.proofs.Serving.{phase-delivered}
 use Rattle.line_world.proofs.Folders.{lines-only, counts-later, stay-known, others-known}
 use Rattle.line_world.proofs.Turning.{MakingLaws, writing-ends, reading-ends, same-beside, halts-so, checked-so, stops-handing, stops-reading, stops-writing, ends-in}
 use Rattle.line_world.proofs.Turning.{speaks-last, goes-on-by, kept-on}
+use Rattle.outside_calls.proofs.Steps.{CountsStand-refl}
+use Rattle.outside_calls.proofs.Putting.{OnlyPuts-refl}
+use Rattle.line_world.proofs.Turning.{no-step, done-no-step}
 use Rattle.line_world.proofs.modems.Modems.turn.Goals as goal
 
 pub returns-in-Err-Lost-clause-turn : goal.returns-in-Err-Lost-clause-turn
@@ -328,3 +331,118 @@ returns-in-Err-Chance-clause-counts g c = c.meet_chance.ensures.counts
 pub serve-requires-clause-early : goal.serve-requires-clause-early
 serve-requires-clause-early g c =
     rw (c.hand_over.ensures.beside.turn, c.hear.ensures.turn) (early-turns c.line_runs_end_soon.ensures.within_limits c.args.self.now c.args.script.now c.args.lines.now c.requires.ready)
+
+pub hear-requires : goal.hear-requires
+hear-requires g c = record { ready = c.requires.ready }
+
+pub returns-in-Err-Lost-clause-kept : goal.returns-in-Err-Lost-clause-kept
+returns-in-Err-Lost-clause-kept g c = λ e. no-step e
+
+pub returns-in-Err-Lost-clause-channel : goal.returns-in-Err-Lost-clause-channel
+returns-in-Err-Lost-clause-channel g c = c.hear.ensures.dlci
+
+pub returns-in-Err-Lost-clause-spoke : goal.returns-in-Err-Lost-clause-spoke
+returns-in-Err-Lost-clause-spoke g c = c.hear.ensures.spoke
+
+pub returns-in-Err-Lost-clause-only : goal.returns-in-Err-Lost-clause-only
+returns-in-Err-Lost-clause-only g c = OnlyPuts-refl _ (outputs_of (written c.args.names.now))
+
+pub returns-in-Err-Lost-clause-came : goal.returns-in-Err-Lost-clause-came
+returns-in-Err-Lost-clause-came g c = g.met.F.Folder.came_none _
+
+pub returns-in-Err-Lost-clause-counts : goal.returns-in-Err-Lost-clause-counts
+returns-in-Err-Lost-clause-counts g c = CountsStand-refl _
+
+pub meet_chance-requires : goal.meet_chance-requires
+meet_chance-requires g c = record { apart = c.requires.apart }
+
+pub returns-in-Err-Chance-clause-kept : goal.returns-in-Err-Chance-clause-kept
+returns-in-Err-Chance-clause-kept g c = λ e. no-step e
+
+pub returns-in-Err-Chance-clause-channel : goal.returns-in-Err-Chance-clause-channel
+returns-in-Err-Chance-clause-channel g c = c.hear.ensures.dlci
+
+pub returns-in-Err-Chance-clause-spoke : goal.returns-in-Err-Chance-clause-spoke
+returns-in-Err-Chance-clause-spoke g c = c.hear.ensures.spoke
+
+pub returns-in-Err-Chance-clause-came : goal.returns-in-Err-Chance-clause-came
+returns-in-Err-Chance-clause-came g c = c.meet_chance.ensures.came
+
+pub hand_over-requires : goal.hand_over-requires
+hand_over-requires g c = record { apart = c.requires.apart }
+
+pub returns-in-Err-clause-kept : goal.returns-in-Err-clause-kept
+returns-in-Err-clause-kept g c = λ e. no-step e
+
+pub returns-in-Err-clause-channel : goal.returns-in-Err-clause-channel
+returns-in-Err-clause-channel g c = c.hand_over.ensures.beside.dlci ∙ c.hear.ensures.dlci
+
+pub returns-in-Err-clause-spoke : goal.returns-in-Err-clause-spoke
+returns-in-Err-clause-spoke g c = c.hand_over.ensures.beside.spoke ∙ c.hear.ensures.spoke
+
+pub returns-in-Err-clause-came : goal.returns-in-Err-clause-came
+returns-in-Err-clause-came g c = c.hand_over.ensures.came
+
+pub returns-in-Ok-finish-clause-kept : goal.returns-in-Ok-finish-clause-kept
+returns-in-Ok-finish-clause-kept g c = λ e. done-no-step e
+
+pub returns-in-Ok-finish-clause-channel : goal.returns-in-Ok-finish-clause-channel
+returns-in-Ok-finish-clause-channel g c = c.hand_over.ensures.beside.dlci ∙ c.hear.ensures.dlci
+
+pub returns-in-Ok-finish-clause-spoke : goal.returns-in-Ok-finish-clause-spoke
+returns-in-Ok-finish-clause-spoke g c = c.hand_over.ensures.beside.spoke ∙ c.hear.ensures.spoke
+
+pub returns-in-Ok-finish-clause-came : goal.returns-in-Ok-finish-clause-came
+returns-in-Ok-finish-clause-came g c = g.met.F.Folder.came_on _ _ _ c.hand_over.ensures.came c.finish.ensures.came
+
+pub returns-in-Err-finish-clause-kept : goal.returns-in-Err-finish-clause-kept
+returns-in-Err-finish-clause-kept g c = λ e. no-step e
+
+pub returns-in-Err-finish-clause-channel : goal.returns-in-Err-finish-clause-channel
+returns-in-Err-finish-clause-channel g c = c.hand_over.ensures.beside.dlci ∙ c.hear.ensures.dlci
+
+pub returns-in-Err-finish-clause-spoke : goal.returns-in-Err-finish-clause-spoke
+returns-in-Err-finish-clause-spoke g c = c.hand_over.ensures.beside.spoke ∙ c.hear.ensures.spoke
+
+pub returns-in-Err-finish-clause-came : goal.returns-in-Err-finish-clause-came
+returns-in-Err-finish-clause-came g c = g.met.F.Folder.came_on _ _ _ c.hand_over.ensures.came c.finish.ensures.came
+
+pub returns-in-Err-serve-clause-kept : goal.returns-in-Err-serve-clause-kept
+returns-in-Err-serve-clause-kept g c = λ e. no-step e
+
+pub returns-in-Err-serve-clause-channel : goal.returns-in-Err-serve-clause-channel
+returns-in-Err-serve-clause-channel g c = c.serve.ensures.beside.dlci ∙ c.hand_over.ensures.beside.dlci ∙ c.hear.ensures.dlci
+
+pub returns-in-Err-serve-clause-spoke : goal.returns-in-Err-serve-clause-spoke
+returns-in-Err-serve-clause-spoke g c = c.serve.ensures.beside.spoke ∙ c.hand_over.ensures.beside.spoke ∙ c.hear.ensures.spoke
+
+pub returns-in-Err-serve-clause-came : goal.returns-in-Err-serve-clause-came
+returns-in-Err-serve-clause-came g c = g.met.F.Folder.came_on _ _ _ c.hand_over.ensures.came c.serve.ensures.came
+
+pub speak-requires-clause-channel : goal.speak-requires-clause-channel
+speak-requires-clause-channel g c = subst (λ n. n < 64) (sym (c.serve.ensures.beside.dlci ∙ c.hand_over.ensures.beside.dlci ∙ c.hear.ensures.dlci))
+    c.requires.ready.kept.channel
+
+pub returns-in-Ok-speak-clause-channel : goal.returns-in-Ok-speak-clause-channel
+returns-in-Ok-speak-clause-channel g c = c.speak.ensures.dlci ∙ c.serve.ensures.beside.dlci ∙ c.hand_over.ensures.beside.dlci ∙ c.hear.ensures.dlci
+
+pub returns-in-Ok-speak-clause-spoke : goal.returns-in-Ok-speak-clause-spoke
+returns-in-Ok-speak-clause-spoke g c = c.in-Ok-speak.ensures.spoke
+
+pub returns-in-Ok-speak-clause-came : goal.returns-in-Ok-speak-clause-came
+returns-in-Ok-speak-clause-came g c =
+    g.met.F.Folder.came_on _ _ _ (g.met.F.Folder.came_on _ _ _ c.hand_over.ensures.came c.serve.ensures.came) c.speak.ensures.came
+
+pub returns-in-Err-speak-clause-kept : goal.returns-in-Err-speak-clause-kept
+returns-in-Err-speak-clause-kept g c = λ e. no-step e
+
+pub returns-in-Err-speak-clause-channel : goal.returns-in-Err-speak-clause-channel
+returns-in-Err-speak-clause-channel g c = c.speak.ensures.dlci ∙ c.serve.ensures.beside.dlci ∙ c.hand_over.ensures.beside.dlci ∙ c.hear.ensures.dlci
+
+pub returns-in-Err-speak-clause-spoke : goal.returns-in-Err-speak-clause-spoke
+returns-in-Err-speak-clause-spoke g c =
+    c.in-Err-speak.ensures.beside.spoke ∙ c.serve.ensures.beside.spoke ∙ c.hand_over.ensures.beside.spoke ∙ c.hear.ensures.spoke
+
+pub returns-in-Err-speak-clause-came : goal.returns-in-Err-speak-clause-came
+returns-in-Err-speak-clause-came g c =
+    g.met.F.Folder.came_on _ _ _ (g.met.F.Folder.came_on _ _ _ c.hand_over.ensures.came c.serve.ensures.came) c.speak.ensures.came

@@ -4,6 +4,7 @@ use Rattle.lapm_frames.specs.declared.arrived.Arrived.{Arrived}
 use Rattle.line_world.specs.OneEnd.Heard.{IsHeard, first}
 use Rattle.detection.specs.Ear.{HasHeard}
 use Rattle.line_world.proofs.OneEnd.Hearing.{bit-more, heard-more, append-again}
+use Rattle.std.proofs.Common.{◌≡◌, append-nil}
 use Rattle.line_world.proofs.one_end.ear.hear_octet.Goals as goal
 
 pub loop-place-preserved : goal.loop-place-preserved
@@ -28,3 +29,24 @@ loop-place-preserved c =
           (c.hear_bit-next.ensures.ends (earlier ++ (bits ++ take place all)) now)));
       numbers = c.first-heard.ensures.numbers i.numbers c.hear_bit-next.ensures.numbers;
     }
+
+pub loop-place-init : goal.loop-place-init
+loop-place-init c = record {
+  stands = λ bits h. subst (λ (b : List Bool). HasHeard c.args.ear.now b) (sym (append-nil bits)) h;
+  heard = λ earlier bits h e. subst (λ (b : List Bool). IsHeard c.args.peer earlier b c.args.heard) (sym (append-nil bits)) e;
+  numbers = c.requires;
+}
+
+pub returns-clause-stands : goal.returns-clause-stands
+returns-clause-stands c = λ bits h.
+    let all : c.loop-place.place ≡ 8 = omega (arith, c.loop-place-test.false, c.loop-place.auto.place-end) in
+    subst (λ n. HasHeard c.loop-place.ear (bits ++ take n (octet_bits c.args.octet))) all (c.loop-place.invariant.stands bits h)
+
+pub returns-clause-heard : goal.returns-clause-heard
+returns-clause-heard c = λ earlier bits h e.
+    let all : c.loop-place.place ≡ 8 = omega (arith, c.loop-place-test.false, c.loop-place.auto.place-end) in
+    subst (λ n. IsHeard c.args.peer earlier (bits ++ take n (octet_bits c.args.octet)) c.loop-place.heard) all
+    (c.loop-place.invariant.heard earlier bits h e)
+
+pub returns-clause-numbers : goal.returns-clause-numbers
+returns-clause-numbers c = c.loop-place.invariant.numbers

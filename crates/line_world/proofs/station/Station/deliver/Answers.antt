@@ -5,6 +5,7 @@ use Rattle.line_world.specs.declared.station.Station.{Station}
 use Rattle.line_world.proofs.Handing.{handing-starts, handing-next, handing-ends, handing-stops, handed-segment, writes-on}
 use Rattle.line_world.proofs.Handing.{writes-none}
 use Rattle.line_world.proofs.Standing.{takes-on}
+use Rattle.line_world.proofs.Offering.{no-fault}
 use Rattle.line_world.proofs.station.Station.deliver.Goals as goal
 
 pub loop-segment-init : goal.loop-segment-init
@@ -95,3 +96,18 @@ returns-in-Err-clause-takes_nothing g c =
 pub returns-then-not-deliver-clause-takes_nothing : goal.returns-then-not-deliver-clause-takes_nothing
 returns-then-not-deliver-clause-takes_nothing g c =
     takes-on _ _ _ c.loop-segment.invariant.takes c.if-not-deliver.ensures.takes_nothing
+
+pub returns-then-not-deliver-clause-cause : goal.returns-then-not-deliver-clause-cause
+returns-then-not-deliver-clause-cause g c = record { failed = λ e. no-fault e; memory = λ e. no-fault e }
+
+pub returns-then-not-deliver-clause-spared : goal.returns-then-not-deliver-clause-spared
+returns-then-not-deliver-clause-spared g c = λ e. no-fault e
+
+pub returns-in-Err-clause-came : goal.returns-in-Err-clause-came
+returns-in-Err-clause-came g c = g.met.F.Folder.came_on _ _ _ c.loop-segment.invariant.came c.append.ensures.came
+
+pub returns-then-not-deliver-clause-delivered : goal.returns-then-not-deliver-clause-delivered
+returns-then-not-deliver-clause-delivered g c = c.if-not-deliver.ensures.delivered
+
+pub loop-segment-smaller : goal.loop-segment-smaller
+loop-segment-smaller g c = c.if-not-deliver.ensures.fewer

@@ -7,6 +7,7 @@ use Rattle.outside_calls.proofs.Steps.{octets-kept}
 use Rattle.link_run.specs.End.{piece_at}
 use Rattle.line_world.proofs.Offering.{supplying-starts, supplying-next, supplying-ends, wants-within, as-err}
 use Rattle.line_world.proofs.Standing.{idle-on, counted-on, takes-on}
+use Rattle.line_world.proofs.Offering.{no-fault}
 use Rattle.line_world.proofs.station.Station.supply.Goals as goal
 
 pub loop-number-init : goal.loop-number-init
@@ -117,3 +118,18 @@ returns-in-Err-clause-cause g c =
 
 pub returns-in-Err-clause-came : goal.returns-in-Err-clause-came
 returns-in-Err-clause-came g c = g.met.F.Folder.came_on _ _ _ c.loop-number.invariant.came c.read_segment.ensures.came
+
+pub returns-in-None-clause-cause : goal.returns-in-None-clause-cause
+returns-in-None-clause-cause g c = record { failed = λ e. no-fault e; memory = λ e. no-fault e }
+
+pub returns-in-None-clause-spared : goal.returns-in-None-clause-spared
+returns-in-None-clause-spared g c = λ e. no-fault e
+
+pub loop-number-smaller : goal.loop-number-smaller
+loop-number-smaller g c = c.offer.ensures.fewer
+
+pub offer-requires-clause-short : goal.offer-requires-clause-short
+offer-requires-clause-short g c = let whole : length (take c.in-Ok.count c.read_segment.new.segment) ≡ c.in-Ok.count =
+    length-take-le c.in-Ok.count c.read_segment.new.segment
+    (omega (arith, c.in-Ok.ensures.count, c.piece-size.ensures.few, c.read_segment.ensures.length, c.loop-number.invariant.room)) in
+    omega (arith, whole, c.in-Ok.ensures.count, c.piece-size.ensures.value)

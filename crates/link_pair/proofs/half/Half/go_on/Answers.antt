@@ -2,6 +2,7 @@ use Rattle.std.proofs.Common.{refl, sym, ◌∙◌, ap, Ok}
 use Rattle.line_run.specs.Scripted.{wire_at}
 use Rattle.line_run.specs.Names.{written}
 use Rattle.link_pair.proofs.Going.{ready-for, came-to, came-going, came-ended, came-halted}
+use Rattle.link_pair.proofs.Going.{sorted-counts}
 use Rattle.link_pair.proofs.half.Half.go_on.Goals as goal
 
 pub turn-requires-clause-ready : goal.turn-requires-clause-ready
@@ -58,3 +59,18 @@ returns-in-Err-clause-turn g c = λ beside links streams files round p at.
     c.turn.new.lines script beside links streams (g.F.Folder.state c.args.folder.now) new n files round p c.turn.result _
     (sym c.in-Err.ensures) c.requires.going c.requires.apart c.turn.ensures.only at c.turn.ensures.kept c.turn.ensures.turn in
     came-halted c.turn.new.self c.turn.new.lines (wire_at script h.dlci beside) links streams new n files round p c.in-Err.fault a
+
+pub send_flags-requires-clause-channel : goal.send_flags-requires-clause-channel
+send_flags-requires-clause-channel g c = c.requires.ready.1.low
+
+pub returns-in-Ok-None-clause-counts : goal.returns-in-Ok-None-clause-counts
+returns-in-Ok-None-clause-counts g c = sorted-counts (g.F.Folder.state c.args.folder.now) (g.F.Folder.state c.turn.new.folder)
+    (written c.args.names.now) c.turn.result _ c.in-Ok-None.ensures c.turn.ensures.counts
+
+pub returns-in-Ok-Some-clause-counts : goal.returns-in-Ok-Some-clause-counts
+returns-in-Ok-Some-clause-counts g c = sorted-counts (g.F.Folder.state c.args.folder.now) (g.F.Folder.state c.turn.new.folder)
+    (written c.args.names.now) c.turn.result _ c.in-Ok-Some.ensures c.turn.ensures.counts
+
+pub returns-in-Err-clause-counts : goal.returns-in-Err-clause-counts
+returns-in-Err-clause-counts g c = sorted-counts (g.F.Folder.state c.args.folder.now) (g.F.Folder.state c.turn.new.folder)
+    (written c.args.names.now) c.turn.result _ c.in-Err.ensures c.turn.ensures.counts

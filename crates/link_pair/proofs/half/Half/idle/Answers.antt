@@ -4,9 +4,12 @@ use Rattle.line_run.specs.Sampled.{EndsLineBy}
 use Rattle.line_run.specs.Scripted.{wire_at}
 use Rattle.line_world.specs.Lines.{end_of}
 use Rattle.line_world.specs.declared.directions.LineEnd.{LineEnd}
-use Rattle.line_run.specs.Names.{inputs_of, written}
+use Rattle.line_run.specs.Names.{inputs_of, outputs_of, written}
 use Rattle.pair_run.specs.Pair.{turns_on_line}
 use Rattle.link_pair.proofs.Idling.{at-end, count-at, has-idled, lost-idly, met-idly, stopped-idly, writes-ends, writes-counts}
+use Rattle.std.proofs.Common.{[], ◌∷◌}
+use Rattle.outside_calls.proofs.Steps.{CountsStand-refl}
+use Rattle.outside_calls.proofs.Putting.{OnlyPuts-one, OnlyPuts-refl}
 use Rattle.link_pair.proofs.half.Half.idle.Goals as goal
 
 pub arrive-requires-clause-due : goal.arrive-requires-clause-due
@@ -106,3 +109,38 @@ returns-in-Err-clause-counts g c =
     writes-counts (g.F.Folder.state c.args.folder.now) (g.F.Folder.state c.write_chance.new.folder)
     (written c.args.names.now) c.in-Err.fault
     c.in-Err.ensures.write (c.in-Err.ensures.counts (inputs_of (written c.args.names.now)))
+
+pub arrive-requires-clause-channel : goal.arrive-requires-clause-channel
+arrive-requires-clause-channel g c = c.requires.ready.low
+
+pub arrive-requires-clause-few : goal.arrive-requires-clause-few
+arrive-requires-clause-few g c = c.requires.ready.few
+
+pub send_flags-requires-clause-channel : goal.send_flags-requires-clause-channel
+send_flags-requires-clause-channel g c = c.requires.ready.low
+
+pub returns-in-Ok-clause-only : goal.returns-in-Ok-clause-only
+returns-in-Ok-clause-only g c = OnlyPuts-refl _ (outputs_of (written c.args.names.now))
+
+pub returns-in-Ok-clause-came : goal.returns-in-Ok-clause-came
+returns-in-Ok-clause-came g c = g.met.F.Folder.came_none _
+
+pub returns-in-Ok-clause-counts : goal.returns-in-Ok-clause-counts
+returns-in-Ok-clause-counts g c = CountsStand-refl _
+
+pub returns-in-Err-Lost-clause-only : goal.returns-in-Err-Lost-clause-only
+returns-in-Err-Lost-clause-only g c = OnlyPuts-refl _ (outputs_of (written c.args.names.now))
+
+pub returns-in-Err-Lost-clause-came : goal.returns-in-Err-Lost-clause-came
+returns-in-Err-Lost-clause-came g c = g.met.F.Folder.came_none _
+
+pub returns-in-Err-Lost-clause-counts : goal.returns-in-Err-Lost-clause-counts
+returns-in-Err-Lost-clause-counts g c = CountsStand-refl _
+
+pub returns-in-Ok-write_chance-clause-only : goal.returns-in-Ok-write_chance-clause-only
+returns-in-Ok-write_chance-clause-only g c = let n = written c.args.names.now in
+    OnlyPuts-one _ _ (n.got_o ∷ n.got_a ∷ []) n.trace [] c.write_chance.ensures.only
+
+pub returns-in-Err-clause-only : goal.returns-in-Err-clause-only
+returns-in-Err-clause-only g c = let n = written c.args.names.now in
+    OnlyPuts-one _ _ (n.got_o ∷ n.got_a ∷ []) n.trace [] c.write_chance.ensures.only

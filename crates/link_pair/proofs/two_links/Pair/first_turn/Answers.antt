@@ -4,6 +4,8 @@ use Rattle.line_run.specs.Names.{Written, written}
 use Rattle.link_pair.proofs.Beside.{first-apart}
 use Rattle.link_pair.proofs.Pairing.{PairLaws, pair-laws, first-ready}
 use Rattle.link_pair.proofs.Turning.{Leaves, goes-to-second, ends-first, fault-first, none-of, some-of}
+use Rattle.link_pair.proofs.Beside.{only-first, first-counts}
+use Rattle.link_pair.proofs.Turning.{fault-not-done}
 use Rattle.link_pair.proofs.two_links.Pair.first_turn.Goals as goal
 
 pub turn-requires-clause-ready : goal.turn-requires-clause-ready
@@ -67,3 +69,22 @@ returns-in-Err-clause-fault g c =
     let around : Leaves old new n m n = record { apart = c.requires.apart; only = c.turn.ensures.only } in
     fault-first laws c.args.self.now c.turn.new.self c.turn.new.lines old new n m c.requires.ready c.in-Err.fault around
     c.in-Err.ensures.turn
+
+pub returns-in-Ok-clause-only : goal.returns-in-Ok-clause-only
+returns-in-Ok-clause-only g c = only-first _ _ (written c.args.names.now.first) (written c.args.names.now.second) c.turn.ensures.only
+
+pub returns-in-Err-clause-going : goal.returns-in-Err-clause-going
+returns-in-Err-clause-going g c = λ e. fault-not-done e
+
+pub returns-in-Err-clause-ended : goal.returns-in-Err-clause-ended
+returns-in-Err-clause-ended g c = λ endings e. fault-not-done e
+
+pub returns-in-Err-clause-ended_round : goal.returns-in-Err-clause-ended_round
+returns-in-Err-clause-ended_round g c = λ endings e. fault-not-done e
+
+pub returns-in-Err-clause-only : goal.returns-in-Err-clause-only
+returns-in-Err-clause-only g c = only-first _ _ (written c.args.names.now.first) (written c.args.names.now.second) c.turn.ensures.only
+
+pub returns-in-Err-clause-counts : goal.returns-in-Err-clause-counts
+returns-in-Err-clause-counts g c = first-counts (g.F.Folder.state c.args.folder.now) (g.F.Folder.state c.turn.new.folder)
+    (written c.args.names.now.first) (written c.args.names.now.second) c.in-Err.fault c.in-Err.ensures.counts

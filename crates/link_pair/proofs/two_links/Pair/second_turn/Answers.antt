@@ -5,6 +5,8 @@ use Rattle.pair_run.specs.Ends.{Second}
 use Rattle.link_pair.proofs.Beside.{second-apart}
 use Rattle.link_pair.proofs.Pairing.{PairLaws, pair-laws, second-ready, few-rounds}
 use Rattle.link_pair.proofs.Turning.{Leaves, goes-to-first, ends-second, fault-second, none-of, some-of}
+use Rattle.link_pair.proofs.Beside.{only-second, second-counts}
+use Rattle.link_pair.proofs.Turning.{fault-not-done}
 use Rattle.link_pair.proofs.two_links.Pair.second_turn.Goals as goal
 
 pub turn-requires-clause-ready : goal.turn-requires-clause-ready
@@ -73,3 +75,25 @@ pub overflow_add-self : goal.overflow_add-self
 overflow_add-self g c =
     let few = few-rounds c.pairs_have_few_rounds.ensures c.args.self.now _ _ _ Second c.requires.ready in
     omega (arith, few)
+
+pub returns-in-Ok-clause-only : goal.returns-in-Ok-clause-only
+returns-in-Ok-clause-only g c = only-second _ _ (written c.args.names.now.first) (written c.args.names.now.second) c.turn.ensures.only
+
+pub returns-in-Err-clause-going : goal.returns-in-Err-clause-going
+returns-in-Err-clause-going g c = λ e. fault-not-done e
+
+pub returns-in-Err-clause-ended : goal.returns-in-Err-clause-ended
+returns-in-Err-clause-ended g c = λ endings e. fault-not-done e
+
+pub returns-in-Err-clause-ended_round : goal.returns-in-Err-clause-ended_round
+returns-in-Err-clause-ended_round g c = λ endings e. fault-not-done e
+
+pub returns-in-Err-clause-round : goal.returns-in-Err-clause-round
+returns-in-Err-clause-round g c = λ e. fault-not-done e
+
+pub returns-in-Err-clause-only : goal.returns-in-Err-clause-only
+returns-in-Err-clause-only g c = only-second _ _ (written c.args.names.now.first) (written c.args.names.now.second) c.turn.ensures.only
+
+pub returns-in-Err-clause-counts : goal.returns-in-Err-clause-counts
+returns-in-Err-clause-counts g c = second-counts (g.F.Folder.state c.args.folder.now) (g.F.Folder.state c.turn.new.folder)
+    (written c.args.names.now.first) (written c.args.names.now.second) c.in-Err.fault c.in-Err.ensures.counts

@@ -1,4 +1,4 @@
-use Rattle.std.proofs.Common.{Bool, None, refl, subst, Ok, Err}
+use Rattle.std.proofs.Common.{Bool, None, refl, subst, arith, Ok, Err}
 use Rattle.std.specs.List.{concat}
 use Rattle.link_account.specs.Speak.{speak}
 use Rattle.link_run.specs.End.{deliveries}
@@ -69,3 +69,9 @@ returns-in-Ok-write-2-clause-counted g c = tt
 
 pub returns-in-Ok-write-2-clause-turn : goal.returns-in-Ok-write-2-clause-turn
 returns-in-Ok-write-2-clause-turn g c = tt
+
+pub speak-requires : goal.speak-requires
+speak-requires g c = c.requires.early
+
+pub overflow_add-self : goal.overflow_add-self
+overflow_add-self g c = omega (arith, c.requires.early)

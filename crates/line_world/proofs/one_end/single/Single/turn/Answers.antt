@@ -12,6 +12,9 @@ use Rattle.line_world.proofs.OneEnd.Folders.{got-only, trace-only, trace-counts,
 use Rattle.line_world.proofs.OneEnd.Turning.{broke-off, hands-over, not-handed, not-read, writing-ends, reading-ends, made, stopped-so, ended, gone-on}
 use Rattle.line_world.proofs.OneEnd.Turning.{counted-later}
 use Rattle.line_world.specs.OneEnd.Mid.{handed}
+use Rattle.std.proofs.Common.{◌<◌, ◌^◌}
+use Rattle.line_world.proofs.OneEnd.Turning.{no-step, closed-no-step}
+use Rattle.line_world.proofs.OneEnd.Folders.{got-counts}
 use Rattle.line_world.proofs.one_end.single.Single.turn.Goals as goal
 
 pub returns-in-Err-clause-turn : goal.returns-in-Err-clause-turn
@@ -281,3 +284,83 @@ returns-in-Ok-speak-clause-number g c =
 pub returns-in-Err-speak-clause-number : goal.returns-in-Err-speak-clause-number
 returns-in-Err-speak-clause-number g c =
     c.in-Err-speak.ensures.halts ∙ c.serve.ensures.turn ∙ c.hand_over.ensures.turn ∙ c.hear.ensures.turn
+
+pub hear-requires-clause-ready : goal.hear-requires-clause-ready
+hear-requires-clause-ready g c = c.requires.ready
+
+pub hear-requires-clause-early : goal.hear-requires-clause-early
+hear-requires-clause-early g c = c.requires.few
+
+pub hear-requires-clause-short : goal.hear-requires-clause-short
+hear-requires-clause-short g c = c.requires.short
+
+pub returns-in-Err-clause-role : goal.returns-in-Err-clause-role
+returns-in-Err-clause-role g c = c.hear.ensures.role
+
+pub returns-in-Err-clause-ready : goal.returns-in-Err-clause-ready
+returns-in-Err-clause-ready g c = λ e. no-step e
+
+pub returns-in-Err-clause-came : goal.returns-in-Err-clause-came
+returns-in-Err-clause-came g c = c.break_off.ensures.came
+
+pub returns-in-Err-hand_over-clause-role : goal.returns-in-Err-hand_over-clause-role
+returns-in-Err-hand_over-clause-role g c = c.hand_over.ensures.role ∙ c.hear.ensures.role
+
+pub returns-in-Err-hand_over-clause-ready : goal.returns-in-Err-hand_over-clause-ready
+returns-in-Err-hand_over-clause-ready g c = λ e. no-step e
+
+pub returns-in-Err-hand_over-clause-came : goal.returns-in-Err-hand_over-clause-came
+returns-in-Err-hand_over-clause-came g c = c.hand_over.ensures.came
+
+pub returns-in-Ok-finish-clause-role : goal.returns-in-Ok-finish-clause-role
+returns-in-Ok-finish-clause-role g c = c.hand_over.ensures.role ∙ c.hear.ensures.role
+
+pub returns-in-Ok-finish-clause-ready : goal.returns-in-Ok-finish-clause-ready
+returns-in-Ok-finish-clause-ready g c = λ e. closed-no-step e
+
+pub returns-in-Ok-finish-clause-came : goal.returns-in-Ok-finish-clause-came
+returns-in-Ok-finish-clause-came g c = g.met.F.Folder.came_on _ _ _ c.hand_over.ensures.came c.finish.ensures.came
+
+pub returns-in-Err-finish-clause-role : goal.returns-in-Err-finish-clause-role
+returns-in-Err-finish-clause-role g c = c.hand_over.ensures.role ∙ c.hear.ensures.role
+
+pub returns-in-Err-finish-clause-ready : goal.returns-in-Err-finish-clause-ready
+returns-in-Err-finish-clause-ready g c = λ e. no-step e
+
+pub returns-in-Err-finish-clause-came : goal.returns-in-Err-finish-clause-came
+returns-in-Err-finish-clause-came g c = g.met.F.Folder.came_on _ _ _ c.hand_over.ensures.came c.finish.ensures.came
+
+pub returns-in-Err-serve-clause-role : goal.returns-in-Err-serve-clause-role
+returns-in-Err-serve-clause-role g c = c.serve.ensures.role ∙ c.hand_over.ensures.role ∙ c.hear.ensures.role
+
+pub returns-in-Err-serve-clause-ready : goal.returns-in-Err-serve-clause-ready
+returns-in-Err-serve-clause-ready g c = λ e. no-step e
+
+pub returns-in-Err-serve-clause-came : goal.returns-in-Err-serve-clause-came
+returns-in-Err-serve-clause-came g c = g.met.F.Folder.came_on _ _ _ c.hand_over.ensures.came c.serve.ensures.came
+
+pub speak-requires : goal.speak-requires
+speak-requires g c = record {
+  early = subst (λ n. n < 2 ^ 40) (sym (c.serve.ensures.turn ∙ c.hand_over.ensures.turn ∙ c.hear.ensures.turn)) c.requires.few;
+}
+
+pub returns-in-Ok-speak-clause-role : goal.returns-in-Ok-speak-clause-role
+returns-in-Ok-speak-clause-role g c = c.speak.ensures.role ∙ c.serve.ensures.role ∙ c.hand_over.ensures.role ∙ c.hear.ensures.role
+
+pub returns-in-Ok-speak-clause-came : goal.returns-in-Ok-speak-clause-came
+returns-in-Ok-speak-clause-came g c =
+    g.met.F.Folder.came_on _ _ _ (g.met.F.Folder.came_on _ _ _ c.hand_over.ensures.came c.serve.ensures.came) c.speak.ensures.came
+
+pub returns-in-Err-speak-clause-role : goal.returns-in-Err-speak-clause-role
+returns-in-Err-speak-clause-role g c = c.speak.ensures.role ∙ c.serve.ensures.role ∙ c.hand_over.ensures.role ∙ c.hear.ensures.role
+
+pub returns-in-Err-speak-clause-ready : goal.returns-in-Err-speak-clause-ready
+returns-in-Err-speak-clause-ready g c = λ e. no-step e
+
+pub returns-in-Err-speak-clause-came : goal.returns-in-Err-speak-clause-came
+returns-in-Err-speak-clause-came g c =
+    g.met.F.Folder.came_on _ _ _ (g.met.F.Folder.came_on _ _ _ c.hand_over.ensures.came c.serve.ensures.came) c.speak.ensures.came
+
+pub returns-in-Err-hand_over-clause-counts : goal.returns-in-Err-hand_over-clause-counts
+returns-in-Err-hand_over-clause-counts g c = got-counts (g.F.Folder.state c.args.folder.now) (g.F.Folder.state c.hand_over.new.folder)
+    (named c.args.file.now c.args.got.now c.args.trace.now) c.in-Err-hand_over.fault c.in-Err-hand_over.ensures.counts

@@ -1,0 +1,18 @@
+use Rattle.std.proofs.Common.{◌≡◌, ℕ, List, refl, sym, subst}
+use Rattle.outside_calls.specs.Folder.{FolderState}
+use Rattle.outside_calls.specs.declared.folder.FolderFault.{FolderFault}
+use Rattle.command_base.specs.declared.status.Status.{Status}
+use Rattle.command_base.specs.declared.stop.Stop.{Stop}
+use Rattle.command_base.specs.declared.stop.Stop.TheVariants.{Say}
+use Rattle.command_base.specs.Stops.{stop_status}
+use Rattle.command_base.specs.Job.{SaysStop}
+use Rattle.command_base.proofs.telling.tell_stop.Goals as goal
+
+says-no-more : (words : List (List ℕ)) (state : FolderState) (stop : Stop) (fault : FolderFault) (status : Status)
+    → stop ≡ Say fault → status ≡ stop_status stop
+    → SaysStop words state state stop status
+says-no-more words state stop fault status is e =
+    subst (λ (stop : Stop). status ≡ stop_status stop → SaysStop words state state stop status) (sym is) (λ e. (refl, e)) e
+
+pub returns-in-Say : goal.returns-in-Say
+returns-in-Say g c = says-no-more _ (g.F.Folder.state c.args.folder.now) c.args.stop _ c.status.result c.in-Say.is c.status.ensures

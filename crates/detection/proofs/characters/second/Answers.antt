@@ -1,0 +1,7 @@
+use Rattle.std.proofs.Common.{sym, ap}
+use Rattle.std.specs.Prelude.{reverse}
+use Rattle.detection.specs.Patterns.{second}
+use Rattle.detection.proofs.characters.second.Goals as goal
+
+pub returns-in-Odp-clause-bits : goal.returns-in-Odp-clause-bits
+returns-in-Odp-clause-bits c = sym (ap (λ seen. reverse (second seen)) c.in-Odp.is)

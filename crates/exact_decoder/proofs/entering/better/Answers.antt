@@ -1,0 +1,4 @@
+use Rattle.exact_decoder.proofs.entering.better.Goals as goal
+
+pub returns : goal.returns
+returns c = c.min.ensures

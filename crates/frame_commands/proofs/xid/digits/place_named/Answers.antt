@@ -1,0 +1,6 @@
+use Rattle.std.proofs.Common.{sym, ap}
+use Rattle.frame_commands.specs.Explaining.Digits.{place_named}
+use Rattle.frame_commands.proofs.xid.digits.place_named.Goals as goal
+
+pub returns-in-InvalidHexCharacter : goal.returns-in-InvalidHexCharacter
+returns-in-InvalidHexCharacter c = sym (ap (place_named c.args.count) c.in-InvalidHexCharacter.is)

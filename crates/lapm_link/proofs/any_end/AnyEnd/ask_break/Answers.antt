@@ -1,0 +1,55 @@
+use Rattle.std.proofs.Common.{◌∙◌, ◌≤◌, ℕ, length, sym, ap, subst, arith}
+use Rattle.link_account.specs.Account.{Account}
+use Rattle.lapm_link.specs.declared.any_end.AnyEnd.{AnyEnd}
+use Rattle.lapm_link.specs.Stands.{StandsFor, Links, taken_of, undelivered_of, waiting_of}
+use Rattle.lapm_link.proofs.Unconnected.{takes-break, links-asked, takes-no-break, no-break-asked, takes-none}
+use Rattle.lapm_link.proofs.any_end.AnyEnd.ask_break.Goals as goal
+
+same-number : (n : ℕ) → n ≤ n
+same-number n = omega arith
+
+pub returns-in-Connected : goal.returns-in-Connected
+returns-in-Connected c =
+    let links : (a : Account) → StandsFor c.args.self.now a → Links c.in-Connected.end a =
+    λ a h. subst (λ (v : AnyEnd). StandsFor v a) c.in-Connected.is h in
+    record {
+      answer = λ a h. let l = (links a h).beside in
+          c.ask.ensures.answer a.own_breaks l.breaks_stand.own ∙ sym (takes-break c.args.turn a l.phase_is);
+      account = λ a h. let l = links a h in
+          links-asked _ c.args.turn c.args.length a l.beside.phase_is (record {
+            sender_stands = l.sender_stands;
+            beside = record {
+              phase_is = l.beside.phase_is;
+              setup_is = l.beside.setup_is;
+              terms_are = l.beside.terms_are;
+              numbered_is = l.beside.numbered_is;
+              receiver_stands = l.beside.receiver_stands;
+              breaks_stand = record {
+                own = c.ask.ensures.stands a.own_breaks l.beside.breaks_stand.own;
+                their = l.beside.breaks_stand.their;
+                told_within = l.beside.breaks_stand.told_within;
+                given_is = l.beside.breaks_stand.given_is;
+              };
+              owes_is = l.beside.owes_is;
+              waits = record { poll_is = l.beside.waits.poll_is; urgent_is = l.beside.waits.urgent_is; timer_is = l.beside.waits.timer_is };
+              special_is = l.beside.special_is;
+            };
+          });
+      takes_nothing = record {
+        taken_of = subst (λ (n : ℕ). c.in-Connected.end.receiver.taken ≤ n) (sym (ap taken_of c.in-Connected.is))
+            (same-number c.in-Connected.end.receiver.taken);
+        undelivered_of = subst (λ (n : ℕ). length c.in-Connected.end.receiver.ready ≤ n) (sym (ap undelivered_of c.in-Connected.is))
+            (same-number (length c.in-Connected.end.receiver.ready));
+        waiting_of = λ e. sym (ap waiting_of c.in-Connected.is) ∙ e;
+      };
+    }
+
+pub returns-in_default : goal.returns-in_default
+returns-in_default c =
+    let end : AnyEnd = c.args.self.now in
+    let not = c.in_default.not-Connected in
+    record {
+      answer = λ a h. sym (takes-no-break end c.args.turn a not h);
+      account = λ a h. no-break-asked end c.args.turn c.args.length a not h;
+      takes_nothing = takes-none end;
+    }

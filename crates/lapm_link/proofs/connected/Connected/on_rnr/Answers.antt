@@ -1,0 +1,86 @@
+use Rattle.std.proofs.Common.{◌≡◌, ◌∙◌, ◌&&◌, ◌||◌, Bool, Result, Ok, Err, if◌then◌else◌, refl, sym, ap}
+use Rattle.std.proofs.lemmas.Result.{err_from_is_err_and}
+use Rattle.lapm_sender.specs.Outgoing.{replied, acknowledged}
+use Rattle.shared_terms.specs.declared.fault.LinkFault.{LinkFault}
+use Rattle.link_account.specs.declared.owes.Owes.{Owes}
+use Rattle.link_account.specs.Account.{Account}
+use Rattle.link_account.specs.Hear.{ends_wait, then_in}
+use Rattle.lapm_link.specs.declared.connected.Connected.{Connected}
+use Rattle.lapm_link.specs.Taking.{taken_as}
+use Rattle.lapm_link.specs.Stands.{Becomes, Links}
+use Rattle.lapm_link.proofs.connected.Connected.on_rnr.Goals as goal
+use Rattle.lapm_link.proofs.connected.Connected.on_rnr.Goals.{then-ends, else-ends, then-self, else-self+then-command, else-self+else-command}
+
+-- a refused number stays refused
+refused : (f : Account → Account) (r : Result Account LinkFault) (end : Connected) (fault : LinkFault) → Becomes r end (Err fault)
+    → Becomes (then_in f r) end (Err fault)
+refused f (Ok a) end fault h = absurd h
+refused f (Err other) end fault h = h
+
+pub returns-in_err-on_number-clause-becomes : goal.returns-in_err-on_number-clause-becomes
+returns-in_err-on_number-clause-becomes c = λ a h.
+    let p = err_from_is_err_and c.from_residual.result c.from_residual.ensures.1 in
+    let nr = c.args.nr in
+    let o = a.outgoing in
+    let by : taken_as c.if-ends.meaning nr o ≡ (if ends_wait c.args.command c.args.pf a then replied nr o else acknowledged nr o) =
+    elim c.if-ends.branch [
+      | then-ends w ↦
+          ap (λ m. taken_as m nr o) w.meaning-is
+          ∙ ap (λ e. if e then replied nr o else acknowledged nr o) (sym w.if-ends.true ∙ c.ends_wait-ends.ensures a h)
+      | else-ends w ↦
+          ap (λ m. taken_as m nr o) w.meaning-is
+          ∙ ap (λ e. if e then replied nr o else acknowledged nr o) (sym w.if-ends.false ∙ c.ends_wait-ends.ensures a h)
+    ] in
+    rw (p.1, p.2, sym by) (refused _ _ _ _ (c.in_err-on_number.ensures.becomes a h))
+
+-- what follows a number that is taken
+goes_on : (f : Account → Account) (r : Result Account LinkFault) (end end' : Connected) → Becomes r end (Ok tt)
+    → ((b : Account) → Links end b → Links end' (f b))
+    → Becomes (then_in f r) end' (Ok tt)
+goes_on f (Ok a) end end' h k = k a h
+goes_on f (Err other) end end' h k = absurd h
+
+pub returns-clause-becomes : goal.returns-clause-becomes
+returns-clause-becomes c = λ a h.
+    let nr = c.args.nr in
+    let o = a.outgoing in
+    let polls = c.args.command && c.args.pf in
+    let by : taken_as c.if-ends.meaning nr o ≡ (if ends_wait c.args.command c.args.pf a then replied nr o else acknowledged nr o) =
+    elim c.if-ends.branch [
+      | then-ends w ↦
+          ap (λ m. taken_as m nr o) w.meaning-is
+          ∙ ap (λ e. if e then replied nr o else acknowledged nr o) (sym w.if-ends.true ∙ c.ends_wait-ends.ensures a h)
+      | else-ends w ↦
+          ap (λ m. taken_as m nr o) w.meaning-is
+          ∙ ap (λ e. if e then replied nr o else acknowledged nr o) (sym w.if-ends.false ∙ c.ends_wait-ends.ensures a h)
+    ] in
+    let owes : Owes = c.on_number.new.self.owes in
+    let reply : c.if-self.self ≡ (owes.reply || polls) = elim c.if-self.branch [
+      | then-self w ↦ w.self-is ∙ w.if-self.true ∙ sym (ap (λ r. r || polls) w.if-self.true)
+      | else-self+then-command w ↦
+          w.self-is ∙ sym (ap (λ r. r || polls) w.if-self.false ∙ ap (λ command. command && c.args.pf) w.if-command.true)
+      | else-self+else-command w ↦
+          w.self-is ∙ w.if-command.false ∙ sym (ap (λ r. r || polls) w.if-self.false ∙ ap (λ command. command && c.args.pf) w.if-command.false)
+    ] in
+    rw (sym by)
+    (goes_on _ _ c.on_number.new.self _ (c.in_ok-on_number.ensures.becomes a h) (λ b k. record {
+      sender_stands = k.sender_stands;
+      beside = record {
+        phase_is = k.beside.phase_is;
+        setup_is = k.beside.setup_is;
+        terms_are = k.beside.terms_are;
+        numbered_is = k.beside.numbered_is;
+        receiver_stands = k.beside.receiver_stands;
+        breaks_stand = record {
+          own = k.beside.breaks_stand.own;
+          their = k.beside.breaks_stand.their;
+          told_within = k.beside.breaks_stand.told_within;
+          given_is = k.beside.breaks_stand.given_is;
+        };
+        owes_is =
+            ap (λ (r : Bool). record owes { reply = r }) reply
+            ∙ ap (λ (owes : Owes). record owes { reply = owes.reply || polls }) k.beside.owes_is;
+        waits = record { poll_is = k.beside.waits.poll_is; urgent_is = k.beside.waits.urgent_is; timer_is = refl };
+        special_is = k.beside.special_is;
+      };
+    }))

@@ -1,0 +1,50 @@
+use Rattle.std.proofs.Common.{◌≡◌, ◌∙◌, ◌||◌, Bool, false, if◌then◌else◌, Some, Ok, Err, sym, ap, subst}
+use Rattle.shared_terms.specs.Role.{is_originator}
+use Rattle.link_account.specs.declared.setup.Setup.{Setup}
+use Rattle.link_account.specs.declared.owes.Owes.{Owes}
+use Rattle.link_account.specs.declared.answer.Answer.TheVariants as answers
+use Rattle.link_account.specs.Account.{Account}
+use Rattle.link_account.specs.Hear.{on_sabme, owing, peer_reset}
+use Rattle.lapm_link.specs.declared.connected.Connected.{Connected}
+use Rattle.lapm_link.specs.Stands.{Links, Becomes}
+use Rattle.lapm_link.proofs.connected.Connected.on_sabme.Goals as goal
+use Rattle.lapm_link.proofs.connected.Connected.on_sabme.Goals.{then-self-via-then-self, then-self-via-else-self+then-is_originator}
+
+pub returns-then-self-clause-becomes : goal.returns-then-self-clause-becomes
+returns-then-self-clause-becomes c = λ a h. elim c.then-self.branch [
+  | then-self-via-then-self w ↦ rw (sym h.beside.numbered_is ∙ w.if-self.true) (c.peer_reset.ensures a h)
+  | then-self-via-else-self+then-is_originator w ↦
+      let role = ap (λ (setup : Setup). is_originator setup.role) h.beside.setup_is in
+      rw (sym h.beside.numbered_is ∙ w.if-self.false, sym role ∙ sym w.if-is_originator.ensures) (c.peer_reset.ensures a h)
+]
+
+-- an answerer that has heard no number
+owes_ua : (end : Connected) (pf : Bool) (a : Account) → (a.numbered || is_originator a.setup.role) ≡ false → Links end (owing (answers.Ua pf) a)
+    → Becomes (on_sabme pf a) end (Ok tt)
+owes_ua end pf a e h =
+    subst (λ (b : Bool). Becomes (if b then Err (peer_reset a) else Ok (owing (answers.Ua pf) a)) end (Ok tt)) (sym e) h
+
+pub returns-clause-becomes : goal.returns-clause-becomes
+returns-clause-becomes c = λ a h.
+    let numbered = sym h.beside.numbered_is ∙ c.if-self.false in
+    let role = ap (λ (setup : Setup). is_originator setup.role) h.beside.setup_is in
+    owes_ua _ c.args.pf a (ap (λ b. b || is_originator a.setup.role) numbered ∙ sym role ∙ sym c.if-is_originator.ensures)
+    (record {
+      sender_stands = h.sender_stands;
+      beside = record {
+        phase_is = h.beside.phase_is;
+        setup_is = h.beside.setup_is;
+        terms_are = h.beside.terms_are;
+        numbered_is = h.beside.numbered_is;
+        receiver_stands = h.beside.receiver_stands;
+        breaks_stand = record {
+          own = h.beside.breaks_stand.own;
+          their = h.beside.breaks_stand.their;
+          told_within = h.beside.breaks_stand.told_within;
+          given_is = h.beside.breaks_stand.given_is;
+        };
+        owes_is = ap (λ (owes : Owes). record owes { answer = Some (answers.Ua c.args.pf) }) h.beside.owes_is;
+        waits = record { poll_is = h.beside.waits.poll_is; urgent_is = h.beside.waits.urgent_is; timer_is = h.beside.waits.timer_is };
+        special_is = h.beside.special_is;
+      };
+    })

@@ -1,0 +1,7 @@
+use Rattle.std.proofs.Common.{sym, ap, subst}
+use Rattle.xid_params.specs.declared.terms.Terms.{Terms}
+use Rattle.lapm_link.specs.Stands.{Negotiates}
+use Rattle.lapm_link.proofs.negotiating.Negotiating.has_long_check.Goals as goal
+
+pub returns-in-Asking : goal.returns-in-Asking
+returns-in-Asking c = λ a h. sym (ap (λ (terms : Terms). terms.check32) (subst (λ talk. Negotiates talk a) c.in-Asking.is h).terms_are)

@@ -1,0 +1,9 @@
+use Rattle.std.proofs.Common.{◌∙◌, length, ap}
+use Rattle.line_coding.specs.Reading.{Reading}
+use Rattle.line_coding.proofs.reader.SampleReader.pending.Goals as goal
+
+pub returns : goal.returns
+returns g c = record {
+  value = c.pending.ensures.value ∙ ap (λ (r : Reading g.row.D.Denot). length r.decoder.pending) c.self.view_is;
+  few = c.pending.ensures.few;
+}

@@ -1,0 +1,14 @@
+use Rattle.std.proofs.Common.{refl, subst}
+use Rattle.lapm_receiver.specs.Incoming.{begun}
+use Rattle.lapm_receiver.specs.Taking.{StandsIn}
+use Rattle.line_tap.proofs.listener.Listener.new.Goals as goal
+
+pub returns-clause-stands : goal.returns-clause-stands
+returns-clause-stands c = record {
+  role_is = refl;
+  check_is = refl;
+  agreed_is = c.agreed_check.ensures;
+  takes = subst (λ window. StandsIn c.begin.new.self (begun window c.args.terms.now.srej)) c.window-window.ensures c.begin.ensures.stands;
+  breaks = c.new-2.ensures.expected_is;
+  connected_is = refl;
+}

@@ -1,0 +1,20 @@
+use Rattle.std.proofs.Common.{◌≡◌, ◌∙◌, ◌++◌, ◌∷◌, [], ℕ, zero, suc, ◌<◌, nat_lt, true, List, length, take, drop, get_or, refl, ap, arith}
+use Rattle.std.proofs.lemmas.Bool.Decides.{nat_tests}
+use Rattle.noise_script.specs.declared.entry.Break.{Break}
+use Rattle.noise_script.specs.Breaks.{placed}
+use Rattle.noise_script.proofs.draft.place_of.Goals as goal
+
+-- a line before the first one that is later
+before : (line : Break) (at : ℕ) (lines : List Break) (d : Break) → at < length lines → line.turn < (get_or lines at d).turn
+    → placed line (drop at lines) ≡ line ∷ drop at lines
+before line at [] d h l = absurd (omega (arith, h))
+before line zero (next ∷ lines) d h l =
+    let earlier : nat_lt line.turn next.turn ≡ true = grind (arith, nat_tests, l) in
+    rw earlier refl
+before line (suc at) (next ∷ lines) d h l = before line at lines d (omega (arith, h)) l
+
+pub returns-then-line-next-clause-place : goal.returns-then-line-next-clause-place
+returns-then-line-next-clause-place c =
+    c.loop-at.invariant
+    ∙ ap (λ rest. take c.loop-at.at c.args.breaks.now ++ rest)
+    (before c.args.line c.loop-at.at c.args.breaks.now _ c.loop-at-test.true c.if-line-next.true)

@@ -1,0 +1,7 @@
+use Rattle.std.proofs.Common.{sym, ◌∙◌, ap}
+use Rattle.command_base.specs.declared.stop.Stop.TheVariants.{Own}
+use Rattle.run_commands.specs.Peering.Turns.{fault_stop}
+use Rattle.run_commands.proofs.peer.turns.stop_of.Goals as goal
+
+pub returns-in-Link : goal.returns-in-Link
+returns-in-Link c = ap Own c.status_of.ensures ∙ sym (ap (fault_stop c.args.role c.args.turn) c.in-Link.is)

@@ -1,0 +1,17 @@
+use Rattle.std.proofs.Common.{◌≡◌, ◌<◌, nat_lt, true, refl, arith}
+use Rattle.std.proofs.lemmas.Bool.Decides.{nat_tests}
+use Rattle.std.specs.Int.{bit_at}
+use Rattle.scramblers.proofs.scrambler.Scrambler.new.Goals as goal
+
+no-bit : (i : _) → bit_at 0 i ≡ 0
+no-bit i = grind arith
+
+pub returns : goal.returns
+returns g c = record {
+  scrambled = record { lengths = refl; each = λ i h. absurd (omega (arith, h)) };
+  holds = record {
+    recent = λ places low high.
+        let past : nat_lt 0 places ≡ true = grind (arith, nat_tests, low) in
+        rw past (no-bit _);
+  };
+}
