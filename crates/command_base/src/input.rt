@@ -49,8 +49,9 @@ fn read_front<F: Folder>(
     }
 }
 
-/// Fills the front of `piece` with the input's octets from `at` on, up to its limit, and answers how many.
-fn read_part<F: Folder>(
+/// Fills the front of `piece` with the input's octets from `at` on, up to its limit, and answers how many. None at or past the limit is read, also of
+/// an input that grows.
+pub fn read_part<F: Folder>(
     folder: &mut F,
     name: &str,
     limit: u64,

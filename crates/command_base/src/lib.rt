@@ -22,7 +22,7 @@ mod telling;
 
 pub use apart::are_apart;
 pub use ends::{hearer_of, sender_of};
-pub use input::{read_file, read_piece, within_limit};
+pub use input::{read_file, read_part, read_piece, within_limit};
 pub use laws::{apart_names_differ, limits_in_octets};
 pub use limits::{FILE_LIMIT, HEX_LIMIT, RECORDING_LIMIT, RUN_FILE_LIMIT};
 pub use lines::{

@@ -79,8 +79,8 @@ taps-leave laws m tapes old new was then n end r is ran told of-run sound comple
     spelled = ran.are_of.script_is told.script
 
     files : (role : Role) → AreOctets (of role ran.files)
-    files Originator = subst AreOctets (sym (ran.are_of.orig_is told.orig)) told.orig_octets
-    files Answerer = subst AreOctets (sym (ran.are_of.answ_is told.answ)) told.answ_octets
+    files Originator = subst AreOctets (sym (ran.are_of.orig_is told.orig)) (ran.are_of.orig_octets told.orig)
+    files Answerer = subst AreOctets (sym (ran.are_of.answ_is told.answ)) (ran.are_of.answ_octets told.answ)
 
     sendable : AllSendable ran.run.turns
     sendable = laws.octets (wire_of ran.script) ran.files ran.run.turns ran.run.ends ran.limits

@@ -1,6 +1,5 @@
 -- What a tap of the recordings of a run leaves.
 use Rattle.std.specs.Prelude.{◌≡◌, ◌⊎◌, ℕ, ◌≤◌, IsTrue, List, length, Some}
-use Rattle.plain_lists.specs.Octets.{AreOctets}
 use Rattle.outside_calls.specs.Folder.{FolderState, held_at, octets_at}
 use Rattle.shared_terms.specs.Both.{Both}
 use Rattle.line_run.specs.Ends.{RunEnd}
@@ -14,13 +13,11 @@ use Rattle.line_tap.specs.Names.{TapNames, inputs_of, outputs_of}
 use Rattle.line_tap.specs.Answers.{answer_of}
 use Rattle.line_tap.specs.Completes.{Completes}
 
--- The files and the script of a run are told before it, and the script is short enough.
+-- The files and the script of a run are told before it.
 pub record AreTold (f : FolderState) (m : RunNames) : Type 0 where
   pub script : IsTrue (f.tells m.script)
   pub orig : IsTrue (f.tells m.names.orig)
-  pub orig_octets : AreOctets (octets_at f m.names.orig)
   pub answ : IsTrue (f.tells m.names.answ)
-  pub answ_octets : AreOctets (octets_at f m.names.answ)
 
 -- A tap's inputs are what a run left in its recordings, and its script: `old` and `new` are the folders before and behind the run, `was` the one
 -- before the tap. All are told, and no recording is longer than a tap reads.

@@ -4,6 +4,7 @@ use Rattle.outside_calls.specs.Folder.{FolderState, OnlyReads}
 use Rattle.outside_calls.specs.Outputs.{AreApartFrom, CreatesPart, KeepsAll, OnlyOutputs, SomeRose}
 use Rattle.outside_calls.proofs.Putting.{KeepsEach-reads, inputs-kept}
 use Rattle.shared_terms.specs.declared.role.Role.TheVariants.{Originator, Answerer}
+use Rattle.scramblers.specs.declared.mode.Mode.TheVariants.{Call, Answer}
 use Rattle.noise_script.specs.Script.{ScriptValue, IsInLimits}
 use Rattle.command_base.specs.Status.{IsRefusal}
 use Rattle.command_base.specs.Stops.{EndCounts, end_status}
@@ -20,7 +21,7 @@ use Rattle.line_tap.specs.Names.{TapNames, inputs_of, outputs_of, recordings_of}
 use Rattle.line_tap.specs.Tap.{AreReadTo}
 use Rattle.line_tap.specs.Turns.{TurnsEnd, no_octets}
 use Rattle.line_tap.specs.declared.limits.TheConstants.{LIMITS}
-use Rattle.line_tap.proofs.HeaderRead.{stop-widened}
+use Rattle.line_tap.proofs.HeaderRead.{header-read, stop-widened}
 use Rattle.line_tap.specs.Outcomes.{IsBegun, IsRefused, TappedBy, StopsCreating, EndsBy, Ends}
 
 -- ---- what was read stays read as the outputs are made
@@ -49,6 +50,8 @@ pub ends-creating : (l : Limits) (old mid new : FolderState) (n : TapNames) (scr
 ends-creating l old mid new n script b c = record {
   script = script;
   opens = b.opens;
+  orig = header-read old mid n.rec_o Call (b.headers Originator);
+  answ = header-read old mid n.rec_a Answer (b.headers Answerer);
   creates = CreatesPart-earlier old mid new (outputs_of n) b.reads.goes_on (KeepsEach-reads old mid (outputs_of n) b.reads) c;
 }
 

@@ -71,10 +71,12 @@ pub record StopsInReading (l : Limits) (old new : FolderState) (n : TapNames) (f
   pub stops : TapStopsReading script old new n
   pub fails : ReadFails old new (recordings_of n) fault
 
--- An output was not created, once the inputs were opened.
+-- An output was not created, once the inputs were opened and both headers read.
 pub record StopsCreating (l : Limits) (old new : FolderState) (n : TapNames) : Type 0 where
   pub script : ScriptValue
   pub opens : Opens l old n.script (recordings_of n) script
+  pub orig : HasHeader old n.rec_o Call
+  pub answ : HasHeader old n.rec_a Answer
   pub creates : CreatesPart old new (outputs_of n)
 
 -- the answers by which a tap itself ends, each by its cause

@@ -5,7 +5,7 @@ ghost use Rattle.outside_calls.specs.Folder.{FolderState};
 ghost use Rattle.command_base.specs.declared.status.Status.{Status};
 ghost use Rattle.command_base.specs.Job.{Answers};
 ghost use Rattle.line_tap.specs.Names.{TapNames};
-ghost use Rattle.line_tap.specs.declared.limits.TheConstants.{LIMITS};
+ghost use Rattle.line_tap.specs.declared.limits.TheConstants.{LIMITS, TAP_LIMIT};
 ghost use Rattle.line_tap.specs.Outcomes.{tap_job};
 ghost use Rattle.line_tap.specs.Headline.{Headline};
 ghost use Rattle.line_tap.specs.Completes.{Completes};
@@ -13,10 +13,11 @@ ghost use Rattle.line_tap.specs.Completes.{Completes};
 use crate::laws::recordings_tell_once;
 use noise_script::laws::one_answer;
 
-/// A script has at most 65,536 octets, and a recording at most 268,435,456.
+/// A script has at most 65,536 octets, and a recording at most 268,435,456; it is read up to there.
 pub fn limits_of_a_tap()
     ensures script { LIMITS.script ≡ 65536 }
     ensures file { LIMITS.file ≡ 268435456 }
+    ensures place { TAP_LIMIT ≡ LIMITS.file }
 {}
 
 /// Whatever a tap answers, its headline holds.

@@ -10,7 +10,7 @@
 //! are sent: what an end sends is on its way for as many slots as the direction is told when it is made. [`Directions`] are both, for slots
 //! that were coded elsewhere; [`Lines`] have a coder for each as well.
 //!
-//! What writes a line of a trace ([`write_line`]) and one direction of the line without delay ([`Line`]) are handed on.
+//! What writes a line of a trace ([`write_line`]) and one direction of the line without delay ([`Coder`], [`Line`]) are handed on.
 #![tactic(auto)]
 
 mod direction;
@@ -44,7 +44,7 @@ pub use lines::Lines;
 use link::{Breaking, Link};
 pub use modems::Modems;
 pub use one_end::{SLOT_OCTETS, Single, SingleFault, SingleStep};
-pub use sample_line::{Heard, Line};
+pub use sample_line::{Coder, Heard, LabelSlot, Line};
 pub use station::Station;
 pub use step::{RunFault, Step};
 pub use tape::Tape;

@@ -2,7 +2,8 @@
 use Rattle.std.proofs.Common.{◌≡◌, ◌⊎◌, inl, inr, ℕ, Bool, true, false, List, [], ◌++◌, Some, Result, Ok, Err, refl, sym, ◌∙◌, ap, subst}
 use Rattle.std.specs.Option.{option_map}
 use Rattle.std.proofs.lemmas.Bool.{false≢true}
-use Rattle.outside_calls.specs.Folder.{FolderState, GoesOn}
+use Rattle.plain_lists.specs.Octets.{AreOctets}
+use Rattle.outside_calls.specs.Folder.{FolderState, GoesOn, octets_at}
 use Rattle.outside_calls.proofs.Steps.{told_later}
 use Rattle.outside_calls.specs.declared.folder.FolderFault.{FolderFault}
 use Rattle.outside_calls.specs.declared.folder.FolderFault.TheVariants as folder
@@ -12,11 +13,13 @@ use Rattle.shared_terms.specs.declared.role.Role.{Role}
 use Rattle.shared_terms.specs.declared.role.Role.TheVariants.{Originator, Answerer}
 use Rattle.shared_terms.specs.Both.{Both, of}
 use Rattle.noise_script.specs.Script.{ScriptValue, IsInLimits, delay_of}
+use Rattle.noise_script.specs.Laws.{BreaksAreOctets}
 use Rattle.link_run.specs.Laws.{agreed_srej}
 use Rattle.link_run.specs.Taken.{taken_octets}
 use Rattle.line_run.specs.Sampled.{Wire}
 use Rattle.line_run.specs.Ends.{Left}
 use Rattle.line_run.specs.Scripted.{link_of}
+use Rattle.line_ends.specs.Completes.{IsFaint}
 use Rattle.command_base.specs.declared.status.Status.{Status}
 use Rattle.command_base.specs.declared.status.Status.TheVariants as status
 use Rattle.command_base.specs.declared.stop.Stop.{Stop}
@@ -38,12 +41,14 @@ use Rattle.run_commands.proofs.Running.ReadingOff.{run-read, turns-read}
 use Rattle.pair_run.specs.Beside.{first_wire, second_wire}
 use Rattle.pair_run.specs.Pair.{Progress, Goes, Ended, turns_in, Lasts}
 use Rattle.pair_run.specs.Ends.{PairEnd, BothDone, LinkLost, NotDetected, LineLost, ChanceMatch, LeavesOf, PairRunsTo, by_links, by_line}
+use Rattle.pair_run.specs.Laws.{AreIsolated, FaintPairsAreIsolated}
 use Rattle.link_pair.specs.Half.{left_by}
 use Rattle.link_pair.specs.declared.command.LastTurns.{LastTurns}
-use Rattle.link_pair.specs.Words.{Names, files_of}
+use Rattle.link_pair.specs.Words.{Names, files_of, inputs_of}
 use Rattle.link_pair.specs.Answers.{answer_of, result_of}
 use Rattle.link_pair.specs.Ends.{AreFiles, RanTo, EndsBy, pair_job}
 use Rattle.link_pair.specs.Ends as ends
+use Rattle.link_pair.specs.Isolates.{AreTold}
 use Rattle.link_pair.specs.Headline.{heard_in, CauseIn, LinkRan, Came, came_of, Ran, RanBy, Headline}
 use Rattle.link_pair.proofs.Running.{few-of}
 use Rattle.link_pair.proofs.Refusing.{own-answer}
@@ -108,6 +113,23 @@ second-same : (script : ScriptValue) (files others : Both (List ℕ)) (end : Pai
 second-same script files others end left leaves (by_links first second e is) role = refl
 second-same script files others end left leaves (by_line link round cause e is) role = left-same e.q _ leaves e.second_leaves role
 
+-- of told octets each link runs as it does alone where the noise is faint
+pub isolated-of : FaintPairsAreIsolated → BreaksAreOctets → (old before : FolderState) (n : Names) (end : PairEnd)
+    → (e : RanTo LIMITS old before n end) → AreTold old (inputs_of n) → IsFaint e.script
+    → AreIsolated e.script e.ended.files e.ended.others end e.ended.left e.ended.leaves
+isolated-of isolated breaks old before n end e told faint =
+    let sent = breaks (octets_at old n.script) e.script (e.takes.opens.reads.spelled told.1.1.1.1.0) in
+    isolated e.script e.ended.files e.ended.others end e.ended.left e.ended.leaves e.takes.limits faint
+    (record { files_are = first; breaks_are = sent }) (record { files_are = second; breaks_are = sent }) e.ended.runs
+  where
+    first : (role : Role) → AreOctets (of role e.ended.files)
+    first Originator = subst AreOctets (sym (e.takes.first.orig told.0)) (e.takes.opens.octets.0 told.0)
+    first Answerer = subst AreOctets (sym (e.takes.first.answ told.1.0)) (e.takes.opens.octets.1.0 told.1.0)
+
+    second : (role : Role) → AreOctets (of role e.ended.others)
+    second Originator = subst AreOctets (sym (e.takes.second.orig told.1.1.0)) (e.takes.opens.octets.1.1.0 told.1.1.0)
+    second Answerer = subst AreOctets (sym (e.takes.second.answ told.1.1.1.0)) (e.takes.opens.octets.1.1.1.0 told.1.1.1.0)
+
 -- a pair that ended by itself
 ran-of : HeadLaws → (old before new : FolderState) (n : Names) (end : PairEnd) → OnlyOutputs before new [] → RanTo LIMITS old before n end
     → Ran old new n end
@@ -133,6 +155,7 @@ ran-of laws old before new n end last e =
       second = link-ran laws (second_wire script
           (turns_in came.p)) k.others before new n.second came.seconds came.q k.leaves e.takes.limits
           last came.at.second (second-same script k.files k.others end k.left k.leaves k.runs) k.second_holds;
+      alone = isolated-of laws.isolated laws.breaks old before n end e;
     }
 
 -- ---- by the answer

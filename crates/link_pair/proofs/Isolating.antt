@@ -1,6 +1,5 @@
 -- What a pair leaves of a link is what a run of that link alone leaves.
 use Rattle.std.proofs.Common.{◌≡◌, ℕ, List, [], ◌∷◌, refl, sym, ◌∙◌, subst}
-use Rattle.plain_lists.specs.Octets.{AreOctets}
 use Rattle.outside_calls.specs.Folder.{FolderState, octets_at}
 use Rattle.outside_calls.specs.Outputs.{HoldEach, KeepsEach, OnlyOutputs}
 use Rattle.outside_calls.proofs.Putting.{HoldEach-kept}
@@ -34,7 +33,7 @@ use Rattle.link_pair.specs.declared.command.LastTurns.{LastTurns}
 use Rattle.link_pair.specs.Words.{Names, inputs_of, run_of}
 use Rattle.link_pair.specs.Ends.{RanTo, pair_job}
 use Rattle.link_pair.specs.Isolates.{EndsPair, EndsRun, AreTold, HoldSame, AreLeftAlike, FaintLinksAreAlone, UndisplacedLinksAreAlone}
-use Rattle.link_pair.proofs.Headline.{own-ends, not-refused}
+use Rattle.link_pair.proofs.Headline.{isolated-of, own-ends, not-refused}
 
 pub record AloneLaws : Type 0 where
   pub isolated : FaintPairsAreIsolated
@@ -135,18 +134,8 @@ links-are-alone laws words others old new was then n link s r b faint = by link 
     spelled : ScriptSpelling (octets_at old n.script) e.script
     spelled = e.takes.opens.reads.spelled told.1.1.1.1.0
 
-    first : (role : Role) → AreOctets (of role e.ended.files)
-    first Originator = subst AreOctets (sym (e.takes.first.orig told.0)) (e.takes.opens.octets.0 told.0)
-    first Answerer = subst AreOctets (sym (e.takes.first.answ told.1.0)) (e.takes.opens.octets.1.0 told.1.0)
-
-    second : (role : Role) → AreOctets (of role e.ended.others)
-    second Originator = subst AreOctets (sym (e.takes.second.orig told.1.1.0)) (e.takes.opens.octets.1.1.0 told.1.1.0)
-    second Answerer = subst AreOctets (sym (e.takes.second.answ told.1.1.1.0)) (e.takes.opens.octets.1.1.1.0 told.1.1.1.0)
-
     i : AreIsolated e.script e.ended.files e.ended.others a.0 e.ended.left e.ended.leaves
-    i = laws.isolated e.script e.ended.files e.ended.others a.0 e.ended.left e.ended.leaves e.takes.limits (faint e.script spelled)
-        (record { files_are = first; breaks_are = laws.breaks (octets_at old n.script) e.script spelled })
-        (record { files_are = second; breaks_are = laws.breaks (octets_at old n.script) e.script spelled }) e.ended.runs
+    i = isolated-of laws.isolated laws.breaks old b.pair.before n a.0 e told (faint e.script spelled)
 
     last : OnlyOutputs b.pair.before new []
     last = last-only (λ (turns : LastTurns). both_done_line turns.first turns.second) words b.pair.before new b.pair.end s b.pair.says

@@ -11,6 +11,7 @@ use Rattle.shared_terms.specs.declared.role.Role.TheVariants.{Originator, Answer
 use Rattle.shared_terms.specs.Role.{other}
 use Rattle.shared_terms.specs.Both.{Both, of}
 use Rattle.noise_script.specs.Script.{ScriptValue, IsInLimits, delay_of}
+use Rattle.noise_script.specs.Laws.{BreaksAreOctets}
 use Rattle.link_run.specs.End.{deliveries}
 use Rattle.link_run.specs.Run.{Link, Accounts, Turn}
 use Rattle.link_run.specs.Laws.{RunsOver, HoldPrefixes, TakesWhatPassed}
@@ -29,7 +30,7 @@ use Rattle.run_commands.proofs.Running.Prefixes.{RunLaws, prefix-of, part-of, em
 use Rattle.pair_run.specs.Beside.{first_wire, second_wire}
 use Rattle.pair_run.specs.Pair.{Progress, Goes, Ended, turns_in, Lasts, PairAt}
 use Rattle.pair_run.specs.Ends.{Which, First, Second, BothDone, firsts_at}
-use Rattle.pair_run.specs.Laws.{ArePrefixes, PairsLeavePrefixes, DonePairsAreWhole}
+use Rattle.pair_run.specs.Laws.{ArePrefixes, PairsLeavePrefixes, DonePairsAreWhole, FaintPairsAreIsolated}
 use Rattle.link_pair.specs.Half.{left_by, AddsMore, LinkStops, LinkStopsReading}
 use Rattle.link_pair.specs.Pair.{StopsTurn}
 use Rattle.link_pair.specs.declared.command.LastTurns.{LastTurns}
@@ -44,6 +45,8 @@ pub record HeadLaws : Type 0 where
   pub took : TakesWhatPassed
   pub prefixes : PairsLeavePrefixes
   pub whole : DonePairsAreWhole
+  pub isolated : FaintPairsAreIsolated
+  pub breaks : BreaksAreOctets
 
 pub may-run : HeadLaws → (c : Wire) (files : Both (List ℕ)) → IsInLimits c.script → MayRun c (link_of c.script files)
 may-run laws c files h = record { may_play = laws.runs.play c.script files h; delays = laws.runs.delays c.script h }

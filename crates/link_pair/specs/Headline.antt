@@ -13,6 +13,7 @@ use Rattle.line_run.specs.Sampled.{Wire}
 use Rattle.line_run.specs.Ends.{Left, turns_heard}
 use Rattle.line_run.specs.Scripted.{link_of}
 use Rattle.line_ends.specs.Causes.{HasCause}
+use Rattle.line_ends.specs.Completes.{IsFaint}
 use Rattle.command_base.specs.declared.status.Status.{Status}
 use Rattle.command_base.specs.declared.status.Status.TheVariants as status
 use Rattle.command_base.specs.Job.{Shared}
@@ -24,9 +25,11 @@ use Rattle.pair_run.specs.Beside.{first_wire, second_wire}
 use Rattle.pair_run.specs.Pair.{Progress, Goes, Ended, turns_in, Lasts, PairAt}
 use Rattle.pair_run.specs.Ends.{Which, PairEnd, BothDone, LinkLost, NotDetected, LineLost, ChanceMatch, firsts_at, PairRunsTo}
 use Rattle.pair_run.specs.Ends.{by_links, by_line}
+use Rattle.pair_run.specs.Laws.{AreIsolated}
 use Rattle.link_pair.specs.Words.{Names, inputs_of, outputs_of}
 use Rattle.link_pair.specs.Answers.{number_of}
 use Rattle.link_pair.specs.Ends.{AreFiles, IsFew}
+use Rattle.link_pair.specs.Isolates.{AreTold}
 
 -- ---- one link
 
@@ -77,7 +80,8 @@ came_of script files others end left leaves (by_links first second e is) = recor
 came_of script files others end left leaves (by_line link round cause e is) =
     record { firsts = firsts_at link round; seconds = round; p = e.p; q = e.q; at = e.at }
 
--- The pair of the folder's script and files ended so, and this holds of each link.
+-- The pair of the folder's script and files ended so, and this holds of each link. Where all inputs are told and the noise of the script is
+-- faint, each link ends, and leaves the octets and the trace, as a run of it alone does.
 pub record Ran (old new : FolderState) (n : Names) (end : PairEnd) : Type 0 where
   pub script : ScriptValue
   pub limits : IsInLimits script
@@ -93,6 +97,7 @@ pub record Ran (old new : FolderState) (n : Names) (end : PairEnd) : Type 0 wher
   pub came_is : came ≡ came_of script files others end left leaves runs
   pub first : LinkRan (first_wire script (turns_in came.q)) files new n.first came.firsts came.p came.at.first left
   pub second : LinkRan (second_wire script (turns_in came.p)) others new n.second came.seconds came.q came.at.second leaves
+  pub alone : AreTold old (inputs_of n) → IsFaint script → AreIsolated script files others end left leaves
 
 -- the pair, where the answer is one by which a pair itself ends; done says the last turns of both links
 abbrev pub RanBy : FolderState → FolderState → Names → Status → Type 0

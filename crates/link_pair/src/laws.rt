@@ -33,6 +33,8 @@ pub(crate) fn answers_keep_the_headline()
     what_passed_is_taken();
     runs_leave_prefixes();
     pairs_leave_prefixes();
+    pairs_are_isolated();
+    spelled_scripts_are_in_limits();
     line_runs_end_soon();
     lost_links_were_starved();
     released_labels_begin_a_least_sequence();

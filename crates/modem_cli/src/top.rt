@@ -101,12 +101,13 @@ fn answer<F: Folder>(alloc: Global, folder: &mut F, words: &[String], asked: &As
 
 /// Does what the words of a command line say, and answers how it ended. Each answer's line is said last.
 pub fn modem<F: Folder>(alloc: Global, words: &[String], folder: &mut F) -> Status
-    // Each end of a run receives a prefix of the other's file, and done means that both are whole. What `encode` writes is
-    // the file's recording, or the beginning of it. What `decode` writes is carried by a code sequence that is no farther from the
-    // recording than any other, or is the beginning of that. What `frames` says are the pieces of the file's bits, and what `pickup` says
-    // those that a recording gives from whatever state its line began in. What `peer` leaves is what an end's run against the file's bits
-    // gives. Where `margin` says that it is sure, what a recording releases begins the labels of the file. What `record` records is what both
-    // ends send, and what `tap` writes is what two recordings tell. Each link of a `pair` leaves what a run leaves. A trace that `audit` calls true is that of the run of the files and the script.
+    // Each end of a run receives a prefix of the other's file, and done means that both are whole. What `encode` writes is the file's recording, or
+    // the beginning of it. What `decode` writes is carried by the first labels of a sequence that is no farther from the recording's first samples, up
+    // to some place, than any other, or is the beginning of that. What `frames` says are the pieces of the file's bits, and what `pickup` says those that
+    // a recording gives from whatever state its line began in. What `peer` leaves is what an end's run against the file's bits gives. Where `margin`
+    // says that it is sure, what a recording releases begins the labels of the file. What `record` records is what both ends send, and what `tap` writes
+    // is what two recordings tell. Each link of a `pair` is a run over the line beside the other link; where the noise is faint it leaves what a run of
+    // it alone leaves. A trace that `audit` calls true is that of the run of the files and the script.
     ensures promises { PromisesOf (asked (map string_bytes words.now)) (F.state folder.old) (F.state folder.new) result }
 
     // Each answer comes where it has to, with its line.

@@ -10,8 +10,8 @@ use crate::transfer::copy_from;
 use frame_check::Octets;
 use outside_calls::{Folder, FolderFault};
 
-/// The most octets of a turn's trace: two lines of 160 octets, each with its line feed.
-pub const HELD: usize = 322;
+/// The most octets of a turn's trace: two lines, each of at most 160 octets with its line feed.
+pub const HELD: usize = 320;
 
 /// A folder over another one, for an audit. Reads go on to that one. Of what is written to the outputs of a run only the trace is held, as
 /// much as one turn writes.

@@ -6,3 +6,4 @@ pub mod SlotCoding
 pub mod Once
 pub mod Arriving
 pub mod Fitting
+pub mod Packing

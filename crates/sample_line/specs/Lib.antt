@@ -8,4 +8,5 @@ pub mod Hears
 pub mod Path
 pub mod Line
 pub mod Coder
+pub mod Packed
 pub mod Laws

@@ -1,26 +1,50 @@
-// The labels of a slot.
-ghost use Rattle.std.specs.Prelude.{◌≡◌, ◌<◌, ◌≤◌, [], ◌∷◌, ◌++◌, length, slice_index};
+// The labels of a slot, five bits each: a line of long delay holds more than a hundred slots.
+ghost use Rattle.std.specs.Prelude.{◌≡◌, ◌<◌, ◌≤◌, ◌+◌, ◌*◌, ◌%◌, ◌^◌, [], ◌∷◌, ◌++◌, length, slice_index};
 
-use arrayvec::ArrayVec;
 use frame_check::SLOT;
 use std::marker::Model;
+
+/// How many octets hold the low four bits of `SLOT` labels.
+const QUADS: usize = SLOT / 2 + 1;
+
+/// How many octets hold the high bit of `SLOT` labels.
+const HIGHS: usize = SLOT / 8 + 1;
 
 /// At most `SLOT` labels of the 32-point map, by which a slot is modulated.
 #[derive(Drop)]
 pub struct LabelSlot {
-    /// In the order in which they are sent, each below 32.
-    labels: ArrayVec<u8, SLOT>,
+    /// The low four bits of each label, two labels an octet, the earlier one in its low end.
+    quads: [u8; QUADS],
+    /// The high bit of each label, eight labels an octet, the earliest one in its low end.
+    highs: [u8; HIGHS],
+    /// How many labels there are. What stands behind them in the octets isn't read.
+    count: usize,
 }
 
 impl Model for LabelSlot {
-    ghost use Rattle.std.specs.Prelude.{List, ℕ, All, length, ◌≤◌, ◌<◌};
+    ghost use Rattle.std.specs.Prelude.{List, ℕ, ◌≤◌};
     ghost use Rattle.frame_check.specs.declared.sizes.TheConstants.{SLOT};
+    ghost use Rattle.sample_line.specs.Packed.{labels_in};
 
     ghost Value = { List ℕ };
 
-    ghost view = { λ s. s.labels.items };
+    ghost view = { λ s. labels_in s.count s.quads s.highs };
 
-    ghost invariant = { λ s. (length s.labels.items ≤ SLOT) × All (λ label. label < 32) s.labels.items };
+    ghost invariant = { λ s. s.count ≤ SLOT };
+}
+
+/// Octets of any value, generic so that no proof writes them out one by one.
+fn unread<const COUNT: usize>() -> [u8; COUNT] {
+    [0; COUNT]
+}
+
+/// An octet with these bits from a place on, and its own below that place.
+fn with_bits(octet: u8, place: usize, bits: u8) -> u8
+    requires place { place < 8 }
+    requires fit { bits * 2 ^ place + 2 ^ place ≤ 256 }
+    ensures { result ≡ bits * 2 ^ place + octet % 2 ^ place }
+{
+    (bits << place) + octet % (1 << place)
 }
 
 impl LabelSlot {
@@ -29,7 +53,9 @@ impl LabelSlot {
         ensures { result ≡ [] }
     {
         LabelSlot {
-            labels: ArrayVec::new(),
+            quads: unread(),
+            highs: unread(),
+            count: 0,
         }
     }
 
@@ -38,7 +64,7 @@ impl LabelSlot {
         ensures count { result ≡ length self.now }
         ensures bound { length self.now ≤ SLOT }
     {
-        self.labels.len()
+        self.count
     }
 
     /// The label at a place.
@@ -47,14 +73,16 @@ impl LabelSlot {
         ensures value { result ≡ slice_index self.now i }
         ensures bound { result < 32 }
     {
-        self.labels[i]
+        let quad = (self.quads[i / 2] >> (4 * (i % 2))) % 16;
+        let high = (self.highs[i / 8] >> (i % 8)) % 2;
+        quad + 16 * high
     }
 
     /// Takes all labels out.
     pub fn clear(&mut self)
         ensures { self.new ≡ [] }
     {
-        self.labels.clear();
+        self.count = 0;
     }
 
     /// Puts a label behind the others.
@@ -63,6 +91,9 @@ impl LabelSlot {
         requires small { label < 32 }
         ensures { self.new ≡ self.old ++ label ∷ [] }
     {
-        self.labels.push(label);
+        let i = self.count;
+        self.quads[i / 2] = with_bits(self.quads[i / 2], 4 * (i % 2), label % 16);
+        self.highs[i / 8] = with_bits(self.highs[i / 8], i % 8, label / 16);
+        self.count = i + 1;
     }
 }

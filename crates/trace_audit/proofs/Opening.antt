@@ -21,6 +21,7 @@ use Rattle.run_inputs.specs.declared.limits.TheConstants.{LIMITS}
 use Rattle.run_inputs.specs.Inputs.{Refuses}
 use Rattle.trace_audit.specs.declared.comparison.Difference.{Difference}
 use Rattle.trace_audit.specs.Words.{AuditNames, files_of, inputs_of}
+use Rattle.trace_audit.specs.Compared.{trace_limit}
 use Rattle.trace_audit.specs.Verdict.{IsFound}
 use Rattle.trace_audit.specs.Turns.{RunFound, RunIs}
 use Rattle.trace_audit.specs.Ends.{AreOpen, IsBegun, Takes, Audits, FailsLater, AnswersOwn, EndsBy, Ends}
@@ -134,7 +135,8 @@ module _ (begin now new : FolderState) (n : AuditNames) (m : Written) (script : 
     left = f.left;
     run = f.run;
     found_is = λ told.
-        subst (λ (o : List ℕ). IsFound f.left.trace o found) (octets-kept begin new n.trace (all.names n.trace) told)
+        subst (λ (o : List ℕ). IsFound f.left.trace o found)
+        (ap (take trace_limit) (octets-kept begin new n.trace (all.names n.trace) told) ∙ take_all trace_limit (octets_at begin n.trace) (b.trace told))
         (f.found_is (told_later all.goes_on n.trace told));
   }
 

@@ -1,19 +1,32 @@
 -- The octets of a text where it is to be read on.
-use Rattle.std.proofs.Common.{◌≡◌, ◌∙◌, ℕ, min, List, ◌++◌, length, length-take, take, drop, Some, ap, arith}
-use Rattle.std.proofs.lemmas.List.{take-append-le, take_all, take_min}
+use Rattle.std.proofs.Common.{◌≡◌, ◌∙◌, ℕ, ◌-◌, ◌<◌, ◌≤◌, min, List, [], length, length-take, length-drop, take, take-take, drop, Some, sym, ap, refl, arith}
+use Rattle.std.proofs.lemmas.List.{take_all, take_min, drop-take, drop_all}
 use Rattle.trace_audit.specs.Compared.{HasWindow, place_of}
 use Rattle.trace_audit.specs.declared.comparison.Comparison.{Comparison}
 use Rattle.trace_audit.specs.declared.comparison.Comparison.TheVariants.{Agrees, Differs}
 
--- they are those that a call puts in front of what the window held
-pub window-read : (c : Comparison) (at : ℕ) (text before after : List ℕ) (count : ℕ) → place_of c ≡ Some at
-    → (count ≡ min (length before) (length (drop at text))) × (after ≡ take count (drop at text) ++ drop count before)
-    → HasWindow text c (length before) (take count after)
-window-read (Agrees place lines) at text before after count e h =
+-- they are those that are read, as far as the text ends at a limit
+pub window-read : (c : Comparison) (at limit : ℕ) (text window : List ℕ) (size count : ℕ) → place_of c ≡ Some at → at ≤ limit
+    → take count window ≡ take count (drop at text) → count ≡ min (min size (limit - at)) (length text - at)
+    → HasWindow (take limit text) c size (take count window)
+window-read (Agrees place lines) at limit text window size count e low front is =
     let same : at ≡ place = cc in
+    let room : ℕ = limit - at in
     let rest : List ℕ = drop at text in
-    let long : length (take count rest) ≡ min count (length rest) = length-take count rest in
-    ap (take count) h.1 ∙ take-append-le count (take count rest) (drop count before) (omega (arith, long, h.0))
-    ∙ take_all count (take count rest) (omega (arith, long)) ∙ ap (λ (n : ℕ). take n rest) h.0 ∙ take_min (length before) rest
-    ∙ ap (λ (p : ℕ). take (length before) (drop p text)) same
-window-read (Differs number cause) at text before after count e h = tt
+    let cut : drop at (take limit text) ≡ take room rest =
+    ap (λ (n : ℕ). drop at (take n text)) (omega (arith, low)) ∙ drop-take at room text in
+    let long : length rest ≡ length text - at = length-drop at text in
+    let short : length (take room rest) ≡ min room (length rest) = length-take room rest in
+    let few : min size (length (take room rest)) ≡ count = omega (arith, short, long, is) in
+    front ∙ sym (take-take count room rest (omega (arith, is))) ∙ ap (λ (n : ℕ). take n (take room rest)) (sym few)
+    ∙ take_min size (take room rest) ∙ ap (take size) (sym cut) ∙ ap (λ (p : ℕ). take size (drop p (take limit text))) same
+window-read (Differs number cause) at limit text window size count e low front is = tt
+
+-- none behind the limit
+pub window-none : (c : Comparison) (at limit : ℕ) (text window : List ℕ) (size : ℕ) → place_of c ≡ Some at → limit < at
+    → HasWindow (take limit text) c size (take 0 window)
+window-none (Agrees place lines) at limit text window size e high =
+    let same : at ≡ place = cc in
+    let none : drop at (take limit text) ≡ [] = drop_all at (take limit text) (omega (arith, length-take limit text, high)) in
+    sym (take_all size [] (omega arith)) ∙ ap (take size) (sym none) ∙ ap (λ (p : ℕ). take size (drop p (take limit text))) same
+window-none (Differs number cause) at limit text window size e high = tt

@@ -1,7 +1,7 @@
 -- The turns of an audit, one after the other, up to what is found.
-use Rattle.std.proofs.Common.{◌≡◌, inl, inr, ℕ, ◌+◌, ◌*◌, ◌<◌, ◌^◌, Bool, true, false, List, [], ◌∷◌, ◌++◌, length, Result, Ok, Err, refl, sym, ◌∙◌, ap, subst, arith, length-append}
+use Rattle.std.proofs.Common.{◌≡◌, inl, inr, ℕ, ◌+◌, ◌*◌, ◌<◌, ◌^◌, Bool, true, false, List, [], ◌∷◌, ◌++◌, length, Result, Ok, Err, refl, sym, ◌∙◌, ap, subst, take, arith, length-append}
 use Rattle.std.specs.Prelude.{IsTrue, MatchResult}
-use Rattle.outside_calls.specs.Folder.{FolderState, OnlyReads, CountsStand, octets_at}
+use Rattle.outside_calls.specs.Folder.{FolderState, OnlyReads, CountsStand}
 use Rattle.outside_calls.specs.declared.folder.FolderFault.TheVariants as folder
 use Rattle.outside_calls.proofs.Steps.{octets-kept}
 use Rattle.outside_calls.proofs.OnlyOutputs.{told_earlier}
@@ -19,7 +19,7 @@ use Rattle.command_base.specs.declared.stop.Stop.{Stop}
 use Rattle.command_base.specs.declared.stop.Stop.TheVariants as stops
 use Rattle.command_base.specs.Stops.{StopCounts, EndCounts}
 use Rattle.trace_audit.specs.Differences.{text_of, FirstDiffers, IsCut}
-use Rattle.trace_audit.specs.Compared.{Compared, HasWindow, IsFew}
+use Rattle.trace_audit.specs.Compared.{Compared, HasWindow, IsFew, audited, trace_limit}
 use Rattle.trace_audit.specs.declared.comparison.Comparison.{Comparison}
 use Rattle.trace_audit.specs.declared.comparison.Difference.{Difference}
 use Rattle.trace_audit.specs.Lines.{trace_lines, turn_lines}
@@ -57,8 +57,8 @@ comes-read false w a b n lines apart r h = record {
 }
 
 -- the octets of a name as they were before some reads
-before-read : (a b : FolderState) (name : List ℕ) → OnlyReads a b → IsTrue (b.tells name) → octets_at a name ≡ octets_at b name
-before-read a b name r told = sym (octets-kept a b name (r.names name) (told_earlier r.goes_on name told))
+before-read : (a b : FolderState) (name : List ℕ) → OnlyReads a b → IsTrue (b.tells name) → audited a name ≡ audited b name
+before-read a b name r told = sym (ap (take trace_limit) (octets-kept a b name (r.names name) (told_earlier r.goes_on name told)))
 
 -- ---- one turn
 
@@ -79,8 +79,8 @@ module _ (w v : World) (old mid : FolderState) (n : Written) (trace : List ℕ) 
   -- its lines are compared too
   pub turn-compared : (goes_on : Bool) (text : List ℕ) (m : TurnMade goes_on v mid n h.lines text) (new : FolderState) (d : Comparison)
       → IsApart n → OnlyReads old mid → OnlyReads mid new
-      → ((before lines : List (List ℕ)) → IsCut text lines → IsTrue (mid.tells trace) → Compared (octets_at mid trace) before c
-      → Compared (octets_at mid trace) (before ++ lines) d)
+      → ((before lines : List (List ℕ)) → IsCut text lines → IsTrue (mid.tells trace) → Compared (audited mid trace) before c
+      → Compared (audited mid trace) (before ++ lines) d)
       → ((k : ℕ) (lines : List (List ℕ)) → IsCut text lines → IsFew k c → IsFew (k + length lines) d)
       → AreCompared goes_on v new n trace d
   turn-compared goes_on text m new d apart watched read compared counted =
@@ -114,7 +114,7 @@ compared-none w f n trace c first compared few = record {
     lines_is = refl;
     whole = tt;
   };
-  compared = λ told. compared (octets_at f trace);
+  compared = λ told. compared (audited f trace);
   few = few;
   bound = omega arith;
 }
@@ -166,7 +166,7 @@ module _ (v : World) (mid new : FolderState) (n : Written) (trace : List ℕ) (c
   found-is octets (Err d) m = record { lines = h.lines; cut = h.comes.cut; first = m }
 
   run-found : (window : List ℕ) (found : Result ℕ Difference) → IsApart n → OnlyReads mid new
-      → (IsTrue (mid.tells trace) → HasWindow (octets_at mid trace) c 1 window)
+      → (IsTrue (mid.tells trace) → HasWindow (audited mid trace) c 1 window)
       → ((text : List ℕ) (lines : List (List ℕ)) → Compared text lines c → HasWindow text c 1 window
       → MatchResult found (λ count. (text ≡ text_of lines) × (count ≡ length lines)) (λ d. FirstDiffers lines text d.line d.cause))
       → RunFound (script_of v) new n trace found
@@ -179,7 +179,7 @@ module _ (v : World) (mid new : FolderState) (n : Written) (trace : List ℕ) (c
     found_is = λ told.
         let was : IsTrue (mid.tells trace) = told_earlier read.goes_on trace told in
         subst (λ (o : List ℕ). IsFound h.comes.left.trace o found) (before-read mid new trace read told)
-        (found-is (octets_at mid trace) found (ends (octets_at mid trace) h.lines (h.compared was) (has was)));
+        (found-is (audited mid trace) found (ends (audited mid trace) h.lines (h.compared was) (has was)));
   }
 
   run-is : (script : ScriptValue) (found : Result ℕ Difference) → RunFound script new n trace found → RunIs script new n trace (found_end found)
@@ -187,7 +187,7 @@ module _ (v : World) (mid new : FolderState) (n : Written) (trace : List ℕ) (c
   run-is script (Err d) r = r
 
   pub ends-so : (script : ScriptValue) (window : List ℕ) (found : Result ℕ Difference) → script_of v ≡ script → IsApart n → OnlyReads mid new
-      → (IsTrue (mid.tells trace) → HasWindow (octets_at mid trace) c 1 window)
+      → (IsTrue (mid.tells trace) → HasWindow (audited mid trace) c 1 window)
       → ((text : List ℕ) (lines : List (List ℕ)) → Compared text lines c → HasWindow text c 1 window
       → MatchResult found (λ count. (text ≡ text_of lines) × (count ≡ length lines)) (λ d. FirstDiffers lines text d.line d.cause))
       → RunIs script new n trace (found_end found)

@@ -1,11 +1,11 @@
 -- The lines of a text, compared one after the other.
-use Rattle.std.proofs.Common.{◌≡◌, ◌≢◌, ℕ, ◌+◌, ◌<◌, List, [], ◌∷◌, ◌++◌, length, drop, refl, sym, ◌∙◌, ap, subst, arith, append_assoc, append-nil, length-append}
+use Rattle.std.proofs.Common.{◌≡◌, ◌≢◌, ℕ, ◌+◌, ◌<◌, List, [], ◌∷◌, ◌++◌, length, take, drop, refl, sym, ◌∙◌, ap, subst, arith, append_assoc, append-nil, length-append}
 use Rattle.std.specs.Prelude.{IsTrue}
-use Rattle.outside_calls.specs.Folder.{FolderState, OnlyReads, octets_at}
+use Rattle.outside_calls.specs.Folder.{FolderState, OnlyReads}
 use Rattle.outside_calls.proofs.Steps.{told_later, octets-kept}
 use Rattle.trace_audit.specs.Cutting.{front_of, rest_of}
 use Rattle.trace_audit.specs.Differences.{is_no_feed, text_of, AreWhole, IsCut}
-use Rattle.trace_audit.specs.Compared.{Compared, IsFew}
+use Rattle.trace_audit.specs.Compared.{Compared, IsFew, audited, trace_limit}
 use Rattle.trace_audit.specs.declared.comparison.Comparison.{Comparison}
 use Rattle.trace_audit.proofs.Cuts.{first-front, first-rest, first-some, one-cut}
 use Rattle.trace_audit.specs.Lines.{AreLines}
@@ -117,16 +117,16 @@ module _ (Told : Type 0) (octets text rest : List ℕ) (start now : Comparison) 
       subst (λ (l : List (List ℕ)). IsFew (n + length l) now) (all-done none lines cut) (m.counted n h)
 
 -- the octets of a name stay, where it is told
-pub same-octets : (a b : FolderState) (name : List ℕ) → OnlyReads a b → IsTrue (a.tells name) → octets_at b name ≡ octets_at a name
-same-octets a b name r told = octets-kept a b name (r.names name) told
+pub same-octets : (a b : FolderState) (name : List ℕ) → OnlyReads a b → IsTrue (a.tells name) → audited b name ≡ audited a name
+same-octets a b name r told = ap (take trace_limit) (octets-kept a b name (r.names name) told)
 
 -- so what is said of the octets as they were before some reads holds of them
 pub compared-later : (a b : FolderState) (name : List ℕ) (c d : Comparison) (line : List ℕ) → OnlyReads a b
-    → ((lines : List (List ℕ)) → IsTrue (b.tells name) → Compared (octets_at b name) lines c
-    → Compared (octets_at b name) (lines ++ line ∷ []) d)
-    → (lines : List (List ℕ)) → IsTrue (a.tells name) → Compared (octets_at a name) lines c
-    → Compared (octets_at a name) (lines ++ line ∷ []) d
+    → ((lines : List (List ℕ)) → IsTrue (b.tells name) → Compared (audited b name) lines c
+    → Compared (audited b name) (lines ++ line ∷ []) d)
+    → (lines : List (List ℕ)) → IsTrue (a.tells name) → Compared (audited a name) lines c
+    → Compared (audited a name) (lines ++ line ∷ []) d
 compared-later a b name c d line r f lines told h =
-    let same : octets_at b name ≡ octets_at a name = same-octets a b name r told in
+    let same : audited b name ≡ audited a name = same-octets a b name r told in
     subst (λ (o : List ℕ). Compared o (lines ++ line ∷ []) d) same
     (f lines (told_later r.goes_on name told) (subst (λ (o : List ℕ). Compared o lines c) (sym same) h))

@@ -1,9 +1,18 @@
 -- How far a text was compared with lines.
 use Rattle.std.specs.Prelude.{◌≡◌, ℕ, ◌+◌, ◌*◌, ◌≤◌, List, ◌∷◌, ◌++◌, length, take, drop, Option, Some, None}
+use Rattle.outside_calls.specs.Folder.{FolderState, octets_at}
 use Rattle.trace_audit.specs.Differences.{text_of, LineDiffers}
 use Rattle.shared_terms.specs.declared.audit_cause.AuditCause.{AuditCause}
 use Rattle.trace_audit.specs.declared.comparison.Comparison.{Comparison}
 use Rattle.trace_audit.specs.declared.comparison.Comparison.TheVariants.{Agrees, Differs}
+
+-- the most octets of a trace that is audited
+abbrev pub trace_limit : ℕ
+trace_limit = 16777216
+
+-- the octets of a trace, which ends at that limit for who reads it
+abbrev pub audited : FolderState → List ℕ → List ℕ
+audited f name = take trace_limit (octets_at f name)
 
 -- The text has all these lines, and this behind them.
 pub record HasLines (text : List ℕ) (lines : List (List ℕ)) (at count : ℕ) : Type 0 where

@@ -19,11 +19,8 @@ use Rattle.run_inputs.specs.declared.limits.TheConstants.{LIMITS}
 use Rattle.run_inputs.specs.Inputs.{Opens, RefusesOwn, FailsToRead}
 use Rattle.trace_audit.specs.declared.comparison.Difference.{Difference}
 use Rattle.trace_audit.specs.Verdict.{IsFound}
+use Rattle.trace_audit.specs.Compared.{trace_limit}
 use Rattle.trace_audit.specs.Words.{AuditNames, files_of, inputs_of}
-
--- the most octets of a trace that is audited
-abbrev pub trace_limit : ℕ
-trace_limit = 16777216
 
 -- The script and the files were opened.
 pub record AreOpen (f : FolderState) (n : AuditNames) (script : ScriptValue) : Type 0 where

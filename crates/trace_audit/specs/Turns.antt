@@ -1,6 +1,6 @@
 -- Where the turns of an audit have come. What is said of a name's octets holds where the folder tells that name.
 use Rattle.std.specs.Prelude.{◌≡◌, ℕ, ◌<◌, ◌≤◌, ◌^◌, IsTrue, Bool, true, false, ◌+◌, List, [], ◌∷◌, ◌++◌, length, Result, Ok, Err}
-use Rattle.outside_calls.specs.Folder.{FolderState, octets_at}
+use Rattle.outside_calls.specs.Folder.{FolderState}
 use Rattle.outside_calls.specs.declared.folder.FolderFault.TheVariants as folder
 use Rattle.outside_calls.specs.Outputs.{OnlyPuts}
 use Rattle.shared_terms.specs.Both.{Both}
@@ -22,7 +22,7 @@ use Rattle.command_base.specs.declared.stop.Stop.{Stop}
 use Rattle.command_base.specs.declared.stop.Stop.TheVariants.{Own, Read, Write, Say, NoMemory}
 use Rattle.command_base.specs.declared.status.Status.TheVariants.{AuditNo}
 use Rattle.trace_audit.specs.Differences.{text_of, AreWhole, IsCut}
-use Rattle.trace_audit.specs.Compared.{Compared, IsFew}
+use Rattle.trace_audit.specs.Compared.{Compared, IsFew, audited}
 use Rattle.trace_audit.specs.declared.comparison.Comparison.{Comparison}
 use Rattle.trace_audit.specs.declared.comparison.Difference.{Difference}
 use Rattle.trace_audit.specs.Verdict.{IsFound}
@@ -92,7 +92,7 @@ pub record TurnMade (goes_on : Bool) (w : World) (f : FolderState) (n : Written)
 pub record AreCompared (goes_on : Bool) (w : World) (f : FolderState) (n : Written) (trace : List ℕ) (c : Comparison) : Type 0 where
   pub lines : List (List ℕ)
   pub comes : ComesTo goes_on w f n lines
-  pub compared : IsTrue (f.tells trace) → Compared (octets_at f trace) lines c
+  pub compared : IsTrue (f.tells trace) → Compared (audited f trace) lines c
   pub few : IsFew (length lines) c
   pub bound : length lines < 2 ^ 42
 
@@ -119,7 +119,7 @@ pub record RunFound (script : ScriptValue) (f : FolderState) (n : Written) (trac
   pub end : RunEnd
   pub left : Left
   pub run : RunsTo (wire_of script) (link_of script files) end left
-  pub found_is : IsTrue (f.tells trace) → IsFound left.trace (octets_at f trace) found
+  pub found_is : IsTrue (f.tells trace) → IsFound left.trace (audited f trace) found
 
 -- as an audit ends by what is found
 abbrev pub found_end : Result ℕ Difference → Result ℕ Stop

@@ -1,19 +1,20 @@
 // Lines of a run, compared with the octets of a name.
 ghost use Rattle.std.specs.Prelude.{◌≡◌, ◌≤◌, ◌<◌, ◌+◌, ◌++◌, ◌∷◌, [], List, ℕ, IsTrue, None, Ok, IfOk, IfErr, OnOk, drop, length, take};
-ghost use Rattle.outside_calls.specs.Folder.{OnlyReads, octets_at};
+ghost use Rattle.outside_calls.specs.Folder.{OnlyReads};
 ghost use Rattle.command_base.specs.Stops.{EndCounts};
 ghost use Rattle.trace_audit.specs.Differences.{is_no_feed, IsCut, text_of};
-ghost use Rattle.trace_audit.specs.Compared.{Compared, HasWindow, IsFew, place_of};
+ghost use Rattle.trace_audit.specs.Compared.{Compared, HasWindow, IsFew, audited, place_of};
 ghost use Rattle.trace_audit.specs.Cutting.{front_of, rest_of};
 ghost use Rattle.trace_audit.specs.Lines.{AreLines};
 ghost use Rattle.trace_audit.specs.Turns.{HasFew, IsReading};
 
+use crate::command::TRACE_LIMIT;
 use crate::{Comparison, WINDOW, cut_line};
-use command_base::Stop;
+use command_base::{Stop, read_part};
 use outside_calls::Folder;
 
-/// Fills the front of the window with the octets of a name from the place on where it is to be read on, and answers how many. Once a difference
-/// was found nothing is read.
+/// Fills the front of the window with the octets of a trace from the place on where it is to be read on, and answers how many. A trace ends at its
+/// limit, also where it grew since its length was looked at. Once a difference was found nothing is read.
 pub(crate) fn read_on<F: Folder>(
     folder: &mut F,
     trace: &str,
@@ -21,7 +22,7 @@ pub(crate) fn read_on<F: Folder>(
     window: &mut [u8],
 ) -> Result<usize, Stop>
     ensures window { IfOk result (λ count. IsTrue ((F.state folder.old).tells trace.now)
-        → HasWindow (octets_at (F.state folder.old) trace.now) comparison.now (length window.old) (take count window.new)) }
+        → HasWindow (audited (F.state folder.old) trace.now) comparison.now (length window.old) (take count window.new)) }
     ensures bound { IfOk result (λ count. count ≤ length window.new) }
     ensures unread { place_of comparison.now ≡ None → F.state folder.new ≡ F.state folder.old }
     ensures none { place_of comparison.now ≡ None → result ≡ Ok 0 }
@@ -31,10 +32,15 @@ pub(crate) fn read_on<F: Folder>(
 {
     match comparison.place() {
         None => Ok(0),
-        Some(at) => match folder.read_at(trace, at, window) {
-            Ok(count) => Ok(count),
-            Err(fault) => Err(Stop::Read(fault)),
-        },
+        Some(at) => {
+            if TRACE_LIMIT < at {
+                return Ok(0);
+            }
+            match read_part(folder, trace, TRACE_LIMIT, at, window) {
+                Ok(count) => Ok(count),
+                Err(fault) => Err(Stop::Read(fault)),
+            }
+        }
     }
 }
 
@@ -47,8 +53,8 @@ fn compare_line<F: Folder>(
 ) -> Result<(), Stop>
     requires lines { AreLines (line.now ∷ []) }
     requires few { HasFew 1 comparison.old }
-    ensures compared { (lines : List (List ℕ)) → IsTrue ((F.state folder.old).tells trace.now) → Compared (octets_at (F.state folder.old) trace.now) lines comparison.old
-        → OnOk result (Compared (octets_at (F.state folder.old) trace.now) (lines ++ line.now ∷ []) comparison.new) }
+    ensures compared { (lines : List (List ℕ)) → IsTrue ((F.state folder.old).tells trace.now) → Compared (audited (F.state folder.old) trace.now) lines comparison.old
+        → OnOk result (Compared (audited (F.state folder.old) trace.now) (lines ++ line.now ∷ []) comparison.new) }
     ensures few { (n : ℕ) → IsFew n comparison.old → OnOk result (IsFew (n + 1) comparison.new) }
     ensures unread { place_of comparison.old ≡ None → F.state folder.new ≡ F.state folder.old }
     ensures stops { IfErr result IsReading }
@@ -85,8 +91,8 @@ pub(crate) fn compare_text<F: Folder>(
     comparison: &mut Comparison,
 ) -> Result<(), Stop>
     requires { (lines : List (List ℕ)) × (text.now ≡ text_of lines) × AreLines lines × HasFew (length lines) comparison.old }
-    ensures compared { (before lines : List (List ℕ)) → IsCut text.now lines → IsTrue ((F.state folder.old).tells trace.now) → Compared (octets_at (F.state folder.old) trace.now) before comparison.old
-        → OnOk result (Compared (octets_at (F.state folder.old) trace.now) (before ++ lines) comparison.new) }
+    ensures compared { (before lines : List (List ℕ)) → IsCut text.now lines → IsTrue ((F.state folder.old).tells trace.now) → Compared (audited (F.state folder.old) trace.now) before comparison.old
+        → OnOk result (Compared (audited (F.state folder.old) trace.now) (before ++ lines) comparison.new) }
     ensures few { (n : ℕ) (lines : List (List ℕ)) → IsCut text.now lines → IsFew n comparison.old → OnOk result (IsFew (n + length lines) comparison.new) }
     ensures stops { IfErr result IsReading }
     ensures reads { OnlyReads (F.state folder.old) (F.state folder.new) }

@@ -98,3 +98,27 @@ fn first_slot(
     let mut line = Line::new(alloc, sender, SLOT as u16)?;
     kept(through(&mut coder, &mut line, script, sent, coded, judged))
 }
+
+/// The label with which a place is tried: each label stands at each of eight places that follow one another.
+fn tried_at(i: usize) -> u8 {
+    ((i + i / 8 * 5) % 32) as u8
+}
+
+#[test]
+fn a_full_slot_keeps_its_labels(rt: HostRuntime) {
+    let mut labels = LabelSlot::new();
+    for i in 0..SLOT {
+        if labels.len() < SLOT {
+            labels.push(tried_at(i));
+        }
+    }
+    assert!(rt; labels.len() == SLOT);
+    let mut same = true;
+    for i in 0..labels.len() {
+        same = same && labels.label(i) == tried_at(i);
+    }
+    assert!(rt; same);
+    labels.clear();
+    labels.push(tried_at(9));
+    assert!(rt; labels.len() == 1 && labels.label(0) == tried_at(9));
+}

@@ -33,7 +33,7 @@ use Rattle.run_commands.specs.Running.Ends as ends
 use Rattle.run_commands.specs.Running.Headline.{KeptOrPrefix, HoldsWhole, Ran, RanBy, Headline}
 use Rattle.run_commands.proofs.Running.Prefixes.{RunLaws, BothPrefix, may-run, both-of}
 use Rattle.run_commands.proofs.Running.ReadingOff.{run-read}
-use Rattle.run_commands.proofs.Running.Tapes.{tapes-last, begun-last, tapes-of}
+use Rattle.run_commands.proofs.Running.Tapes.{are-of, tapes-last, begun-last, tapes-of}
 
 pub prefix-later : (old before new : FolderState) (got sent : List ℕ) → GoesOn old before → KeepsName before new got
     → KeptOrPrefix old before got sent → KeptOrPrefix old new got sent
@@ -63,7 +63,7 @@ ran-of laws old before new n end last e =
       script = e.script;
       limits = e.takes.limits;
       files = e.files;
-      are_of = record { script_is = e.takes.opens.reads.spelled; orig_is = e.takes.orig; answ_is = e.takes.answ };
+      are_of = are-of old n e.script e.files e.takes;
       left = e.left;
       run = e.run;
       heard = heard;

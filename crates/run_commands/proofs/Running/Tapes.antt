@@ -25,8 +25,20 @@ use Rattle.run_inputs.specs.declared.limits.TheConstants.{LIMITS}
 use Rattle.run_inputs.specs.Words.{RunNames, outputs_of}
 use Rattle.line_world.specs.Tapes.{HoldsTape, HoldsTapePart, HoldTapes, HoldTapesPartly}
 use Rattle.line_world.specs.Turns.{TapesStop}
+use Rattle.run_commands.specs.Running.Files.{AreOf}
 use Rattle.run_commands.specs.Running.Ends.{Takes, RanTo, StopsInTurn, RanBy, EndsBy, Ends as EndsSo}
 use Rattle.run_commands.specs.Running.Tapes.{HeadsPartly, TapeBegun, TapesBegun}
+
+-- ---- the script and the files that were taken
+
+pub are-of : (f : FolderState) (n : RunNames) (script : ScriptValue) (files : Both (List ℕ)) → Takes LIMITS f n script files → AreOf f n script files
+are-of f n script files takes = record {
+  script_is = takes.opens.reads.spelled;
+  orig_is = takes.orig;
+  answ_is = takes.answ;
+  orig_octets = takes.opens.octets.0;
+  answ_octets = takes.opens.octets.1.0;
+}
 
 -- ---- once the last line is said
 
@@ -77,7 +89,7 @@ module _ (old before : FolderState) (n : RunNames) (script : ScriptValue) (files
     script = script;
     limits = takes.limits;
     files = files;
-    are_of = record { script_is = takes.opens.reads.spelled; orig_is = takes.orig; answ_is = takes.answ };
+    are_of = are-of old n script files takes;
     turns = ts;
     ends = ends;
     run = run;
@@ -92,7 +104,7 @@ module _ (old before : FolderState) (n : RunNames) (script : ScriptValue) (files
     script = script;
     limits = takes.limits;
     files = files;
-    are_of = record { script_is = takes.opens.reads.spelled; orig_is = takes.orig; answ_is = takes.answ };
+    are_of = are-of old n script files takes;
     turns = t ∷ ts;
     ends = ends;
     run = run;

@@ -25,5 +25,7 @@ returns c =
       took = c.what_passed_is_taken.ensures.takes;
       prefixes = c.pairs_leave_prefixes.ensures.prefixes;
       whole = c.pairs_leave_prefixes.ensures.whole;
+      isolated = c.pairs_are_isolated.ensures.faint;
+      breaks = c.spelled_scripts_are_in_limits.ensures.breaks;
     } in
     headline-of laws

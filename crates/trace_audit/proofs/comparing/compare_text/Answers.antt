@@ -1,6 +1,7 @@
 use Rattle.std.proofs.Common.{◌≢◌, ℕ, List, [], ◌∷◌, sym, ◌∙◌}
 use Rattle.std.specs.Prelude.{IsTrue}
-use Rattle.outside_calls.specs.Folder.{FolderState, octets_at}
+use Rattle.outside_calls.specs.Folder.{FolderState}
+use Rattle.trace_audit.specs.Compared.{audited}
 use Rattle.outside_calls.proofs.Steps.{OnlyReads-refl, OnlyReads-trans, CountsStand-refl, CountsStand-trans}
 use Rattle.command_base.proofs.Jobs.{stop-earlier}
 use Rattle.trace_audit.proofs.Windows.{empty, full}
@@ -11,7 +12,7 @@ pub loop-rest-init : goal.loop-rest-init
 loop-rest-init g c =
     let old : FolderState = g.F.Folder.state c.args.folder.now in
     record {
-      midway = midway-start (IsTrue (old.tells c.args.trace.now)) (octets_at old c.args.trace.now) c.args.text.now c.requires.0
+      midway = midway-start (IsTrue (old.tells c.args.trace.now)) (audited old c.args.trace.now) c.args.text.now c.requires.0
           c.args.comparison.now c.requires.1 c.requires.2 c.requires.3;
       reads = OnlyReads-refl old;
       stand = CountsStand-refl old;

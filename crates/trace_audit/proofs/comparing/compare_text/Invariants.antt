@@ -1,12 +1,13 @@
 use Rattle.std.proofs.Common.{length}
 use Rattle.std.specs.Prelude.{IsTrue}
-use Rattle.outside_calls.specs.Folder.{OnlyReads, CountsStand, octets_at}
+use Rattle.outside_calls.specs.Folder.{OnlyReads, CountsStand}
+use Rattle.trace_audit.specs.Compared.{audited}
 use Rattle.trace_audit.proofs.Splitting.{Midway}
 use Rattle.trace_audit.proofs.comparing.compare_text.Given as goal
 
 abbrev pub invariant-loop-rest : goal.invariant-loop-rest
 invariant-loop-rest g l = record {
-  midway : Midway (IsTrue ((g.F.Folder.state l.fn.folder).tells l.trace)) (octets_at (g.F.Folder.state l.fn.folder) l.trace) l.text
+  midway : Midway (IsTrue ((g.F.Folder.state l.fn.folder).tells l.trace)) (audited (g.F.Folder.state l.fn.folder) l.trace) l.text
       l.rest l.fn.comparison l.comparison;
   reads : OnlyReads (g.F.Folder.state l.fn.folder) (g.F.Folder.state l.folder);
   stand : CountsStand (g.F.Folder.state l.fn.folder) (g.F.Folder.state l.folder);
