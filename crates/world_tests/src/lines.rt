@@ -100,8 +100,10 @@ fn first_slot(
 }
 
 /// The label with which a place is tried: each label stands at each of eight places that follow one another.
-fn tried_at(i: usize) -> u8 {
-    ((i + i / 8 * 5) % 32) as u8
+fn tried_at(i: usize) -> u8
+    ensures { result < 32 }
+{
+    ((i % 32 + i / 8 % 32 * 5) % 32) as u8
 }
 
 #[test]
