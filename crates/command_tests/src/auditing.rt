@@ -455,6 +455,19 @@ file s "\x07"*65537
 ask audit o a s t
 exit 4
 says "too long: s\n"
+
+scenario a trace of its limit is read
+# It differs in its first line, behind which no octet of it is read. That one which agrees grows past its limit is tried with the built program, since
+# its run has more than 150,000 turns.
+file o "a"
+file a "b"
+file s ""
+file t "\x07"*16777216
+grows t "\x07"
+ask audit o a s t
+exit 13
+says "false line 1: spelling\n"
+ends calls "read t 16777216 1\nread t 0 162\nread a 0 128\nread o 0 128\nsay - 0 23\n"
 "##;
 
 #[test]

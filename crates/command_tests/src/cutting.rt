@@ -140,11 +140,12 @@ file r "V32R\0\0\0\0\x00\xe0\x00\x08\x00\xe0\x00\x08"
 ask decode r f
 exit 0
 begins calls "read r 8388616 1\nread r 0 8\ncreate f 0 0\n"
-fails 3
+fails create f
 ask decode r f
 exit 6
 none f
-fails 3 4
+fails create f
+fails read r 3
 ask decode r f
 exit 6
 none f

@@ -263,6 +263,40 @@ leaves g "\0"
 ask decode sent g
 exit 0
 leaves g f
+
+scenario a small decoding makes these calls
+# An octet at the limit, the header, the output, and piece by piece the samples and what they release, at last the rest. No label of two samples is
+# released, and at 4800 bit/s each is.
+file r "V32R\0\0\0\0\x00\xe0\x00\x08\x00\xe0\x00\x08"
+file asked ""
+add asked "read r 8388616 1\n"
+add asked "read r 0 8\n"
+add asked "create f 0 0\n"
+add asked "read r 8 4096\n"
+add asked "append f 0 0\n"
+add asked "read r 16 4096\n"
+add asked "append f 0 0\n"
+add asked "append f 0 1\n"
+add asked "say - 0 9\n"
+ask decode r f
+exit 0
+says "octets 1\n"
+leaves calls asked
+file r "V32R\x02\0\0\0\x00\x08\x00\xe8\x00\x08\x00\xe8\x00\x08\x00\xe8\x00\x08\x00\xe8"
+file asked ""
+add asked "read r 8388616 1\n"
+add asked "read r 0 8\n"
+add asked "create f 0 0\n"
+add asked "read r 8 4096\n"
+add asked "append f 0 1\n"
+add asked "read r 24 4096\n"
+add asked "append f 0 0\n"
+add asked "append f 0 0\n"
+add asked "say - 0 9\n"
+ask decode4 r f
+exit 0
+says "octets 1\n"
+leaves calls asked
 "##;
 
 #[test]

@@ -42,39 +42,83 @@ leaves r "V32R\x03\0\0\0"
 scenario each call that fails is named by its kind
 # A file of three pieces takes an octet at its limit, the output, its header, and four reads with three appends between.
 file f "\x07"*1200
-fails 1
+file asked ""
+add asked "read f 1048576 1\n"
+add asked "create r 0 0\n"
+add asked "append r 0 8\n"
+add asked "read f 0 512\n"
+add asked "append r 0 4096\n"
+add asked "read f 512 512\n"
+add asked "append r 0 4096\n"
+add asked "read f 1024 512\n"
+add asked "append r 0 1408\n"
+add asked "read f 1200 512\n"
+add asked "say - 0 13\n"
+ask encode call f r
+exit 0
+says "samples 2400\n"
+leaves calls asked
+fails read f 1
 ask encode call f r
 exit 5
-fails 2
+fails create r
 ask encode call f r
 exit 6
-fails 3
+fails append r 1
 ask encode call f r
 exit 6
-fails 4
+fails read f 2
 ask encode call f r
 exit 5
-fails 5
+fails append r 2
 ask encode call f r
 exit 6
-fails 6
+fails read f 3
 ask encode call f r
 exit 5
-fails 7
+fails append r 3
 ask encode call f r
 exit 6
-fails 8
+fails read f 4
 ask encode call f r
 exit 5
-fails 9
+fails append r 4
 ask encode call f r
 exit 6
-fails 10
+fails read f 5
 ask encode call f r
 exit 5
-fails 11
+fails say 1
 ask encode call f r
 exit 6
+
+scenario a small encoding makes these calls
+# At 4800 bit/s an octet is four samples.
+file f "a"
+file asked ""
+add asked "read f 1048576 1\n"
+add asked "create r 0 0\n"
+add asked "append r 0 8\n"
+add asked "read f 0 512\n"
+add asked "append r 0 16\n"
+add asked "read f 1 512\n"
+add asked "say - 0 10\n"
+ask encode4 answer f r
+exit 0
+says "samples 4\n"
+leaves calls asked
+file asked ""
+add asked "read f 1048576 1\n"
+add asked "create r 0 0\n"
+add asked "append r 0 8\n"
+add asked "read f 0 512\n"
+add asked "append r 0 8\n"
+add asked "read f 1 512\n"
+add asked "say - 0 10\n"
+ask encode answer f r
+exit 0
+says "samples 2\n"
+leaves calls asked
 
 scenario a file that is too long is named
 file f "\x07"*1048577

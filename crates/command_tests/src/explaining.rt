@@ -32,6 +32,14 @@ says "bad hex: at 1\n"
 ask xid 8g
 exit 3
 says "bad hex: at 1\n"
+
+scenario a line is said at once and nothing is read
+ask xid 82
+exit 0
+leaves calls "say - 0 57\n"
+ask xid 8
+exit 3
+leaves calls "say - 0 14\n"
 "##;
 
 #[test]

@@ -1,5 +1,5 @@
 // Runs over a folder that fails at a call, and what runs ask of it.
-use crate::stage::play;
+use crate::stage::{Stage, play, stage_behind};
 
 /// Calls of the folder.
 const SCENARIOS: &str = r##"
@@ -15,14 +15,14 @@ leaves ga o
 sweep go ga
 
 scenario a failed append leaves the turns before
-# Both ends send one file of four segments. The 34th call, the third append to the answerer, fails.
+# Both ends send one file of four segments. The third append to what the answerer received, that of turn 11, fails.
 ramp f 512
 file s ""
 ask run f f s go ga t
 leaves go f
 leaves ga f
 sweep go ga
-fails 34
+fails append ga 3
 ask run f f s go ga t
 exit 6
 says "write fault\n"
@@ -32,43 +32,44 @@ lines t 22
 line t "10 answ i s=1 r=1 p=0 n=128 > i s=2 r=2 p=0 n=128"
 
 scenario a failed read leaves prefixes
-# Once the outputs are made a file is read segment by segment, here in turn 6 by the calls from the fifteenth on.
+# Once the outputs are made a file is read segment by segment, here in turn 6. The first read of it looks at its length.
 ramp o 512
 file a ""
 file s ""
 ask run o a s go ga t
 leaves go a
 leaves ga o
+holds calls "append t 0 51\nread o 0 128\nread o 128 128\nread o 256 128\nread o 384 128\nread o 512 128\nappend t 0 52\n"
 sweep go ga
-fails 15
+fails read o 2
 ask run o a s go ga t
 exit 5
 says "read fault\n"
 begins o ga
 begins a go
 lines t 12
-fails 16
+fails read o 3
 ask run o a s go ga t
 exit 5
 says "read fault\n"
 begins o ga
 begins a go
 lines t 12
-fails 17
+fails read o 4
 ask run o a s go ga t
 exit 5
 says "read fault\n"
 begins o ga
 begins a go
 lines t 12
-fails 18
+fails read o 5
 ask run o a s go ga t
 exit 5
 says "read fault\n"
 begins o ga
 begins a go
 lines t 12
-fails 19
+fails read o 6
 ask run o a s go ga t
 exit 5
 says "read fault\n"
@@ -126,7 +127,7 @@ scenario outputs are made up to the first that fails
 file o "a"
 file a "b"
 file s ""
-fails 6
+fails create ga
 ask run o a s go ga t
 exit 6
 says "write fault\n"
@@ -138,13 +139,46 @@ scenario a fault in the middle of a line is the answer
 file o "\x07"*16777217
 file a ""
 file s ""
-fails 6
+fails say 3
 ask run o a s go ga t
 exit 6
 says "too long: o"
+leaves calls "read s 65536 1\nread s 0 1024\nread o 16777216 1\nsay - 0 10\nsay - 0 1\nsay - 0 1\n"
 "##;
 
 #[test]
 fn calls_of_runs_fail(rt: HostRuntime) {
     play(&rt, rt.alloc(), "failing.rt", SCENARIOS);
+}
+
+/// A small run without a fault.
+const SMALL: &str = "\
+file o \"a\"
+file a \"b\"
+file s \"\"
+ask run o a s go ga t
+exit 0";
+
+/// Calls that it doesn't make, and words that mean none.
+const UNMADE: &[&str] = &[
+    "fails read o 3",
+    "fails append go 2",
+    "fails create o",
+    "fails say 2",
+    "fails say 0",
+    "fails say",
+    "fails 3",
+];
+
+/// Whether the small run isn't played where such a call is to fail.
+fn is_refused(stage: &mut Stage, call: &str) -> bool {
+    stage.step(call) == Some(true) && stage.step("ask run o a s go ga t") == None
+}
+
+#[test]
+fn calls_that_are_not_made_can_t_fail(rt: HostRuntime) {
+    for call in UNMADE {
+        let mut stage = stage_behind(&rt, rt.alloc(), "failing.rt, SMALL", 1, SMALL);
+        assert!(rt; is_refused(&mut stage, call), "{call}");
+    }
 }

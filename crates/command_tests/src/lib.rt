@@ -19,7 +19,8 @@
 //! | `turn NAME FROM TO RE IM` | the samples of a recording from one number to another are turned by a quarter, and then moved that far |
 //! | `hits NAME ROLE SENT AIMED` | a script has lines more that move an end's first samples from those of one recording to those of another |
 //! | `moves NAME ROLE SYMBOL RE,IM ..` | the same, from a symbol on, each as many units of the map as a pair says |
-//! | `fails NUMBER ..` | these calls of the folder fail while the next command runs |
+//! | `fails read NAME N`, `fails append NAME N`, `fails create NAME`, `fails say N` | the N-th such call of the next command fails: which of all its calls that is shows the command without a fault, and it has to make it |
+//! | `grows NAME PIECES` | a file has these octets more while the next command runs, from its second read on: the first one looks at its length |
 //! | `ask WORDS` | a command runs over a folder of the files; `@NAME` is the word that stands in a file |
 //! | `keep NAME ..` | files that it left stand before the next command |
 //! | `exit NUMBER` | it ended with this status |
@@ -50,6 +51,8 @@ mod ending;
 mod explaining;
 #[cfg(test)]
 mod failing;
+#[cfg(test)]
+mod growing;
 #[cfg(test)]
 mod hits;
 #[cfg(test)]

@@ -14,23 +14,32 @@ exit 0
 says "refused control 7f\npieces 1\n"
 # One of one piece reads an octet at the limit and the file, says a line, reads the end and says the last line: each call that fails is named by
 # its kind.
-fails 1
+file asked ""
+add asked "read b 1048576 1\n"
+add asked "read b 0 4096\n"
+add asked "say - 0 20\n"
+add asked "read b 7 4096\n"
+add asked "say - 0 9\n"
+ask frames orig b
+exit 0
+leaves calls asked
+fails read b 1
 ask frames orig b
 exit 5
 says "read fault\n"
-fails 2
+fails read b 2
 ask frames orig b
 exit 5
 says "read fault\n"
-fails 3
+fails say 1
 ask frames orig b
 exit 6
 says ""
-fails 4
+fails read b 3
 ask frames orig b
 exit 5
 says "frame sabme cmd p=1\nread fault\n"
-fails 5
+fails say 2
 ask frames orig b
 exit 6
 says "frame sabme cmd p=1\n"

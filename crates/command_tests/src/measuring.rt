@@ -73,51 +73,61 @@ kept r f
 # named by its kind.
 file r "V32R\0\0\0\0\x00\xe0\x00\x08\x00\xe0\x00\x08"
 file f "\0"
-fails 1
+fails read r 1
 ask margin r f
 exit 5
 says "read fault\n"
 kept r f
-fails 2
+fails read f 1
 ask margin r f
 exit 5
 says "read fault\n"
 kept r f
-fails 3
+fails read r 2
 ask margin r f
 exit 5
 says "read fault\n"
 kept r f
-fails 4
+fails read f 2
 ask margin r f
 exit 5
 says "read fault\n"
 kept r f
-fails 5
+fails read r 3
 ask margin r f
 exit 5
 says "read fault\n"
 kept r f
-fails 6
+fails read f 3
 ask margin r f
 exit 5
 says "read fault\n"
 kept r f
-fails 7
+fails read r 4
 ask margin r f
 exit 5
 says "read fault\n"
 kept r f
-fails 8
+fails say 1
 ask margin r f
 exit 6
 says ""
 kept r f
-fails 9
+# No other call is made.
+file asked ""
+add asked "read r 8388616 1\n"
+add asked "read f 1048576 1\n"
+add asked "read r 0 8\n"
+add asked "read f 0 512\n"
+add asked "read r 8 4096\n"
+add asked "read f 1 512\n"
+add asked "read r 16 4096\n"
+add asked "say - 0 14\n"
 ask margin r f
 exit 0
 says "cost 0 sure 1\n"
 kept r f
+leaves calls asked
 
 scenario the smaller length may be that of a later piece
 # Inputs of several pieces, one of which ends before the other.

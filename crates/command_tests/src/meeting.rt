@@ -195,6 +195,51 @@ ask peer answ f b g t
 exit 12
 says "peer fault: bad ack nr 5 va 0 high 0 turn 1\n"
 sweep g t
+
+scenario a small peer makes these calls
+# An octet at the limit of the bits and then of the file, the outputs, and turn by turn a slot, what comes for the user, what the end wants of its
+# file, and a line of the trace. The bits end behind their slots, or within one.
+file f "xyz"
+slot b "\xff" "~\x03\xdf\x3e\xb9\xfa\xf9"
+slot b "\xff" "~\x03\x01\x01\xf9\x42\xfc\xfe"
+slot b "\xff" "~\x03\x00\x00\x61\x9c\xab~"
+file asked ""
+add asked "read b 1048576 1\n"
+add asked "read f 1048576 1\n"
+add asked "create g 0 0\n"
+add asked "create t 0 0\n"
+add asked "read b 0 232\n"
+add asked "read f 0 128\n"
+add asked "append t 0 34\n"
+add asked "read b 232 232\n"
+add asked "append t 0 39\n"
+add asked "read b 464 232\n"
+add asked "append g 0 1\n"
+add asked "append t 0 45\n"
+add asked "read b 696 232\n"
+add asked "say - 0 7\n"
+ask peer answ f b g t
+exit 0
+says "done 3\n"
+file trace "0 answ sabme cmd p=1 > ua rsp p=1\n"
+add trace "1 answ rr cmd r=0 p=1 > rr rsp r=0 p=1\n"
+add trace "2 answ i s=0 r=0 p=0 n=1 > i s=0 r=1 p=0 n=3\n"
+leaves t trace
+leaves calls asked
+file b "~\x03\xdf\x3e\xb9\xfa\xf9"
+file asked ""
+add asked "read b 1048576 1\n"
+add asked "read f 1048576 1\n"
+add asked "create g 0 0\n"
+add asked "create t 0 0\n"
+add asked "read b 0 232\n"
+add asked "read f 0 128\n"
+add asked "append t 0 34\n"
+add asked "say - 0 7\n"
+ask peer answ f b g t
+exit 0
+says "done 1\n"
+leaves calls asked
 "##;
 
 #[test]

@@ -41,27 +41,27 @@ scenario a read that fails is a read fault
 file o "a"
 file a "b"
 file s "delay 3 5\n"
-fails 1
+fails read s 1
 ask run o a s go ga t
 exit 5
 says "read fault\n"
 leaves calls "read s 65536 1\n" "say - 0 11\n"
-fails 2
+fails read s 2
 ask run o a s go ga t
 exit 5
 says "read fault\n"
 leaves calls "read s 65536 1\n" "read s 0 1024\n" "say - 0 11\n"
-fails 3
+fails read s 3
 ask run o a s go ga t
 exit 5
 says "read fault\n"
 leaves calls "read s 65536 1\n" "read s 0 1024\n" "read s 10 1024\n" "say - 0 11\n"
-fails 4
+fails read o 1
 ask run o a s go ga t
 exit 5
 says "read fault\n"
 leaves calls "read s 65536 1\n" "read s 0 1024\n" "read s 10 1024\n" "read o 16777216 1\n" "say - 0 11\n"
-fails 5
+fails read a 1
 ask run o a s go ga t
 exit 5
 says "read fault\n"

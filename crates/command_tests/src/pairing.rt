@@ -175,6 +175,72 @@ ask pair o1 a1 o2 a2 s go1 ga1 go2 ga2 t1 t2
 exit 0
 says "done 12 12\n"
 leaves calls asked
+
+scenario a pair of files of different lengths makes these calls
+# The second link has three segments to send and none to receive. The first one makes no call more once it has ended.
+file o1 "a"
+file a1 "b"
+ramp o2 300
+file a2 ""
+file s ""
+file asked ""
+add asked "read s 65536 1\n"
+add asked "read s 0 1024\n"
+add asked "read o1 16777216 1\n"
+add asked "read a1 16777216 1\n"
+add asked "read o2 16777216 1\n"
+add asked "read a2 16777216 1\n"
+add asked "create go1 0 0\n"
+add asked "create ga1 0 0\n"
+add asked "create go2 0 0\n"
+add asked "create ga2 0 0\n"
+add asked "create t1 0 0\n"
+add asked "create t2 0 0\n"
+add asked "append t1 0 31\n"
+add asked "append t2 0 31\n"
+add asked "append t1 0 32\n"
+add asked "append t2 0 32\n"
+add asked "append t1 0 47\n"
+add asked "append t2 0 47\n"
+add asked "append t1 0 62\n"
+add asked "append t2 0 62\n"
+add asked "append t1 0 57\n"
+add asked "append t2 0 57\n"
+add asked "read a1 0 128\n"
+add asked "append t1 0 51\n"
+add asked "read a2 0 128\n"
+add asked "append t2 0 51\n"
+add asked "read o1 0 128\n"
+add asked "append t1 0 52\n"
+add asked "read o2 0 128\n"
+add asked "read o2 128 128\n"
+add asked "read o2 256 128\n"
+add asked "append t2 0 52\n"
+add asked "append t1 0 56\n"
+add asked "append t2 0 56\n"
+add asked "append t1 0 71\n"
+add asked "append t2 0 61\n"
+add asked "append go1 0 1\n"
+add asked "append ga1 0 1\n"
+add asked "append t1 0 84\n"
+add asked "append ga2 0 128\n"
+add asked "append t2 0 75\n"
+add asked "append t1 0 69\n"
+add asked "append ga2 0 128\n"
+add asked "append t2 0 89\n"
+add asked "append t1 0 52\n"
+add asked "append ga2 0 44\n"
+add asked "append t2 0 75\n"
+add asked "append t1 0 43\n"
+add asked "append t2 0 56\n"
+add asked "append t2 0 52\n"
+add asked "append t2 0 43\n"
+add asked "say - 0 11\n"
+ask pair o1 a1 o2 a2 s go1 ga1 go2 ga2 t1 t2
+exit 0
+says "done 12 14\n"
+leaves ga2 o2
+leaves calls asked
 "##;
 
 #[test]

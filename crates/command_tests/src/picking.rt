@@ -18,27 +18,37 @@ exit 0
 says "frame sabme cmd p=1\npieces 1\n"
 # An octet at the limit, the header and the samples are read, a line is said, the end is read and the last line is said: each call that fails is
 # named by its kind.
-fails 1
+file asked ""
+add asked "read r 8388616 1\n"
+add asked "read r 0 8\n"
+add asked "read r 8 4096\n"
+add asked "say - 0 20\n"
+add asked "read r 3700 4096\n"
+add asked "say - 0 9\n"
+ask pickup r
+exit 0
+leaves calls asked
+fails read r 1
 ask pickup r
 exit 5
 says "read fault\n"
-fails 2
+fails read r 2
 ask pickup r
 exit 5
 says "read fault\n"
-fails 3
+fails read r 3
 ask pickup r
 exit 5
 says "read fault\n"
-fails 4
+fails say 1
 ask pickup r
 exit 6
 says ""
-fails 5
+fails read r 4
 ask pickup r
 exit 5
 says "frame sabme cmd p=1\nread fault\n"
-fails 6
+fails say 2
 ask pickup r
 exit 6
 says "frame sabme cmd p=1\n"

@@ -7,6 +7,8 @@ scenario a seed is soaked
 ask soak 7
 exit 0
 says "soak 7 done 614 lost 12 again 99\n"
+# Its files are none of the folder's.
+leaves calls "say - 0 33\n"
 
 scenario words without a seed are told the usage
 file empty ""

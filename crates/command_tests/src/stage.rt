@@ -1,12 +1,15 @@
 // What plays scenarios: it goes over their lines, keeps the files and what the last command left, and names the line that doesn't hold.
 //
 // A step that can't be played answers `None`: a word is missing or wrong in its line, or memory wasn't found.
+use growing::Growing;
 use noting::NotingFolder;
 use outside_core::MemoryFolder;
 use std::alloc::Global;
 use std::process::Abort;
 
 mod asking;
+mod faults;
+mod growing;
 mod looking;
 mod making;
 mod noting;
@@ -42,8 +45,10 @@ pub(crate) struct Stage {
     names: Vec<String>,
     /// What these files have.
     files: MemoryFolder,
-    /// The calls of the folder that fail while the next command runs, by their numbers.
-    fails: Vec<u64>,
+    /// The calls of the folder that fail while the next command runs.
+    fails: Vec<String>,
+    /// The file that grows while it runs.
+    growing: Growing,
     /// The words of the last command.
     words: Vec<String>,
     /// How it ended.
@@ -58,6 +63,7 @@ impl Drop for Stage {
             names: _,
             files: _,
             fails: _,
+            growing: _,
             words: _,
             ran: _,
             alloc: _,
@@ -72,6 +78,7 @@ impl Stage {
             names: Vec::new(alloc),
             files: MemoryFolder::new(alloc),
             fails: Vec::new(alloc),
+            growing: Growing::new(alloc),
             words: Vec::new(alloc),
             ran: Ran::new(alloc),
             alloc,
@@ -85,7 +92,7 @@ impl Stage {
     }
 
     /// Plays a line: whether what it says holds.
-    fn step(&mut self, line: &str) -> Option<bool> {
+    pub(crate) fn step(&mut self, line: &str) -> Option<bool> {
         let line = line.trim();
         let (verb, rest) = line.split_once(' ').unwrap_or((line, ""));
         match verb {
@@ -101,10 +108,11 @@ impl Stage {
         }
     }
 
-    /// Plays a line that looks at what was left, or makes a file.
+    /// Plays a line that looks at what was left, or makes a file, or lets one grow.
     fn look_or_make(&mut self, verb: &str, rest: &str) -> Option<bool> {
         let (name, text) = rest.split_once(' ').unwrap_or((rest, ""));
         match verb {
+            "grows" => self.grow(name, text),
             "exit" => self.has_number(verb, name, rest),
             "lines" | "length" => self.has_number(verb, name, text),
             "says" => self.compares("leaves", "said", rest),

@@ -181,37 +181,42 @@ ask tap flags.o wrong.a plain go ga t
 exit 3
 says "bad recording: at 4\n"
 none go ga t
-fails 1
+ask tap flags.o flags.a plain go ga t
+exit 0
+file asked "read plain 65536 1\n" "read plain 0 1024\n" "read flags.o 268435456 1\n" "read flags.a 268435456 1\n"
+add asked "read flags.o 0 8\n" "read flags.a 0 8\n" "create go 0 0\n"
+begins calls asked
+fails read plain 1
 ask tap flags.o flags.a plain go ga t
 exit 5
 says "read fault\n"
 none go ga t
-fails 2
+fails read plain 2
 ask tap flags.o flags.a plain go ga t
 exit 5
 says "read fault\n"
 none go ga t
-fails 3
+fails read flags.o 1
 ask tap flags.o flags.a plain go ga t
 exit 5
 says "read fault\n"
 none go ga t
-fails 4
+fails read flags.a 1
 ask tap flags.o flags.a plain go ga t
 exit 5
 says "read fault\n"
 none go ga t
-fails 5
+fails read flags.o 2
 ask tap flags.o flags.a plain go ga t
 exit 5
 says "read fault\n"
 none go ga t
-fails 6
+fails read flags.a 2
 ask tap flags.o flags.a plain go ga t
 exit 5
 says "read fault\n"
 none go ga t
-fails 7
+fails create go
 ask tap flags.o flags.a plain go ga t
 exit 6
 says "write fault\n"
@@ -230,6 +235,45 @@ exit 0
 says "turns 2\n"
 holds calls "read flags.o 8 1856\nread flags.a 8 1856\nappend t 0 "
 holds calls "read flags.o 1864 1856\nread flags.a 1864 1856\nappend t "
+
+scenario a small tap makes these calls
+# An octet at each limit, the script, both headers, the outputs, and turn by turn what came for the users, a slot of each recording, and both lines of
+# the trace.
+file s ""
+slot sent "~"
+slot sent "~" "~~~~" "\x03\x00\x00\x61\x9c\xab"
+ask encode call sent ro
+keep ro
+file sent ""
+slot sent "~"
+slot sent "~"
+ask encode answer sent ra
+keep ra
+file asked ""
+add asked "read s 65536 1\n"
+add asked "read s 0 1024\n"
+add asked "read ro 268435456 1\n"
+add asked "read ra 268435456 1\n"
+add asked "read ro 0 8\n"
+add asked "read ra 0 8\n"
+add asked "create go 0 0\n"
+add asked "create ga 0 0\n"
+add asked "create t 0 0\n"
+add asked "read ro 8 1856\n"
+add asked "read ra 8 1856\n"
+add asked "append t 0 34\n"
+add asked "read ro 1864 1856\n"
+add asked "read ra 1864 1856\n"
+add asked "append t 0 46\n"
+add asked "append ga 0 1\n"
+add asked "read ro 3720 1856\n"
+add asked "read ra 3720 1856\n"
+add asked "append t 0 48\n"
+add asked "say - 0 8\n"
+ask tap ro ra s go ga t
+exit 0
+says "turns 3\n"
+leaves calls asked
 
 scenario enough symbols are left behind a frame
 # Segments of b, of which octets of five ones and three zeros have a zero put in.

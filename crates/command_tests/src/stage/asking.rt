@@ -1,4 +1,5 @@
 // Statements that ask for a command.
+use super::growing::Growing;
 use super::looking::agree;
 use super::noting::NotingFolder;
 use super::{Ran, Stage};
@@ -38,12 +39,6 @@ impl Stage {
         Some(numbers)
     }
 
-    /// Lets these calls of the folder fail while the next command runs.
-    pub(super) fn fail_at(&mut self, text: &str) -> Option<bool> {
-        self.fails = self.numbers(text)?;
-        Some(true)
-    }
-
     /// A word of a command. Behind an @ stands the name of a file that has the word.
     fn word_of(&self, word: &str) -> Option<String> {
         let word = match word.strip_prefix('@') {
@@ -74,6 +69,7 @@ impl Stage {
     /// Does what words say over a folder of the files, which fails at these calls.
     pub(super) fn run_over(&self, words: &[String], fails: &[u64]) -> Option<Ran> {
         let mut ran = Ran::new(self.alloc);
+        ran.folder.growing = self.growing.again(self.alloc)?;
         self.fill(&mut ran.folder.folder)?;
         ran.folder.folder.fail_at(fails).ok()?;
         ran.fails = Vec::from_slice(self.alloc, fails).ok()?;
@@ -94,8 +90,10 @@ impl Stage {
     /// Does what words say.
     pub(super) fn ask(&mut self, text: &str) -> Option<bool> {
         self.words = self.words_of(text)?;
-        self.ran = self.run_over(&self.words, &self.fails)?;
+        let fails = self.failing_calls()?;
+        self.ran = self.run_over(&self.words, &fails)?;
         self.fails = Vec::new(self.alloc);
+        self.growing = Growing::new(self.alloc);
         Some(true)
     }
 

@@ -1,18 +1,21 @@
-// A folder in memory that notes what is asked of it, call by call. No clause of a command says how many calls it makes.
-ghost use Rattle.std.specs.Prelude.{◌≡◌};
+// A folder in memory that notes what is asked of it, call by call, and in which a file may grow. No clause of a command says how many calls it makes.
+ghost use Rattle.std.specs.Prelude.{◌≡◌, false};
 ghost use Rattle.outside_core.specs.Memory.{memory_folder};
 
+use super::growing::Growing;
 use outside_calls::{Folder, FolderFault};
 use outside_core::MemoryFolder;
 use std::alloc::Global;
 
 /// A folder in memory that notes each call in a line: its kind, its name, the place that it reads from, and how many octets it reads at most,
-/// or puts.
+/// or puts. It tells no name, since a file of it may grow between two calls.
 pub(crate) struct NotingFolder {
     /// The files.
     pub(crate) folder: MemoryFolder,
     /// The lines.
     pub(crate) notes: String,
+    /// The file that grows.
+    pub(super) growing: Growing,
 }
 
 impl Drop for NotingFolder {
@@ -21,6 +24,7 @@ impl Drop for NotingFolder {
         let NotingFolder {
             folder: _,
             notes: _,
+            growing: _,
         } = self;
     }
 }
@@ -31,6 +35,7 @@ impl NotingFolder {
         NotingFolder {
             folder: MemoryFolder::new(alloc),
             notes: String::new(alloc),
+            growing: Growing::new(alloc),
         }
     }
 
@@ -40,10 +45,22 @@ impl NotingFolder {
     {
         let _ = write!(self.notes, "{kind} {name} {at} {count}\n");
     }
+
+    /// Lets the file that grows have its octets, if it is the one that is read now. Where there is no memory for that it stays as it was.
+    fn grow(&mut self, name: &str)
+        ensures said { self.new.folder.said ≡ self.old.folder.said }
+        ensures reads { self.new.folder.read_faults ≡ self.old.folder.read_faults }
+        ensures writes { self.new.folder.write_faults ≡ self.old.folder.write_faults }
+        ensures refusals { self.new.folder.refusals ≡ self.old.folder.refusals }
+    {
+        if self.growing.is_due(name) {
+            let _ = self.folder.put(name, &self.growing.octets);
+        }
+    }
 }
 
 impl Folder for NotingFolder {
-    ghost state = { λ f. memory_folder f.folder };
+    ghost state = { λ f. record (memory_folder f.folder) { tells = λ _. false } };
 
     ghost came = { λ a b. Unit {0} };
 
@@ -53,6 +70,7 @@ impl Folder for NotingFolder {
 
     fn read_at(&mut self, name: &str, at: u64, buf: &mut [u8]) -> Result<usize, FolderFault> {
         self.note("read", name, at, buf.len());
+        self.grow(name);
         self.folder.read_at(name, at, buf)
     }
 
