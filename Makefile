@@ -7,7 +7,7 @@ PAGE = $(ROOT)/share/man/man1/modem.1
 SHARE = $(ROOT)/share/modem
 DOCS = $(ROOT)/share/doc/modem
 PROGRAM = $(if $(wildcard crates),crates/modem_main/out/modem_main,modem)
-TOOLS = add_noise bits common.py constellation decibel hint ladder losses pcap samples tally throughput trellis waterfall
+TOOLS = add_noise bits common.py constellation decibel hint ladder losses page page.html pcap samples tally throughput trellis waterfall
 WIRESHARK = lapm.lua colorfilters
 PAGES = FORMATS.md GLOSSARY.md TROUBLE.md
 
@@ -43,13 +43,15 @@ dist:
 	cp -r CHANGELOG.md CONTRIBUTING.md Makefile README.md VERSION docs example out/$(NAME)
 	sed -i -E 's,\[([^]]*)\]\((\.\./)?crates/[^)]*\),\1,g; s,``::,::,g' out/$(NAME)/*.md out/$(NAME)/docs/*.md # the crates stay in the repository
 	install $(PROGRAM) out/$(NAME)/modem
-	mkdir out/$(NAME)/tools && cd tools && cp -r $(TOOLS) check pictures wireshark ../out/$(NAME)/tools
+	mkdir out/$(NAME)/tools && cd tools && cp -r $(TOOLS) browser.py check pictures try_page wireshark ../out/$(NAME)/tools
 	cd out && tar --sort=name --owner=0 --group=0 --numeric-owner --mtime="$$(git log -1 --format=%cI 2>/dev/null || date -Is)" -c $(NAME) | gzip -n >$(NAME).tar.gz
 	cd out && rm -rf $(NAME) && sha256sum $(NAME).tar.gz >$(NAME).tar.gz.sha256 && cat $(NAME).tar.gz.sha256
 
 # The pictures of README.md and docs/TEACHING.md, and the manual page as text, made anew.
 pictures:
 	tools/pictures docs/pictures
+	if command -v chromium >/dev/null; then tools/try_page shot docs/pictures/page.png; fi
+	if command -v pngquant >/dev/null; then pngquant --force --output docs/pictures/page.png 48 docs/pictures/page.png; fi
 	MANWIDTH=100 man -l docs/modem.1 | col -bx > docs/modem.txt
 
 # The examples of the pages and of the manual page, and the pictures, against what the program does.
