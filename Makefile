@@ -7,7 +7,7 @@ PAGE = $(ROOT)/share/man/man1/modem.1
 SHARE = $(ROOT)/share/modem
 DOCS = $(ROOT)/share/doc/modem
 PROGRAM = $(if $(wildcard crates),crates/modem_main/out/modem_main,modem)
-TOOLS = add_noise bits common.py constellation decibel hint ladder losses page page.html pcap samples tally throughput trellis waterfall
+TOOLS = add_noise bits common.py constellation decibel differ forms.sh go_on hint hiss ladder losses page page.html pcap pipes places samples seed shrink sweep tally throughput trellis waterfall
 WIRESHARK = lapm.lua colorfilters
 PAGES = FORMATS.md GLOSSARY.md TROUBLE.md
 

@@ -436,6 +436,16 @@ def decibel(ratio):
     return 10 * math.log10(ratio)
 
 
+def words_of_noise(seed, stream):
+    """The words of PCG32 (XSH RR), without end."""
+    mask, step = 2**64 - 1, 2 * stream + 1
+    state = ((seed + step) * 6364136223846793005 + step) & mask
+    while True:
+        word, turn = (state >> 18 ^ state) >> 27 & 0xFFFFFFFF, state >> 59
+        yield (word >> turn | word << (-turn & 31)) & 0xFFFFFFFF
+        state = (state * 6364136223846793005 + step) & mask
+
+
 def signal_to_noise(samples, cost):
     """Es/N0 of so many samples whose squared distances from their points add up to this."""
     return math.inf if cost == 0 else decibel(POWER * UNIT**2 * samples / cost)
