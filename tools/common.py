@@ -62,11 +62,22 @@ def octets_of(name):
         fail(f"{name}: {error.strerror}")
 
 
+def program():
+    """The program beside the tools, or that of the path; in the repository what ./modem builds, where it isn't built yet."""
+    top = Path(__file__).resolve().parent.parent
+    built = top / "crates" / "modem_main" / "out" / "modem_main"
+    if not (top / "modem").exists():
+        return shutil.which("modem") or fail("there is no modem")
+    if built.exists() and subprocess.run([top / "modem"], capture_output=True, check=False).returncode == 2:
+        return built
+    return top / "modem"
+
+
 def modem(*words):
-    """Runs the program beside the tools, or that of the path: its status and what it said."""
-    beside = Path(__file__).resolve().parent.parent / "modem"
-    program = os.environ.get("MODEM") or (beside if beside.exists() else shutil.which("modem")) or fail("there is no modem")
-    ran = subprocess.run([program, *words], capture_output=True, text=True, check=False)
+    """Runs the program: its status and what it said. Which program that is, is asked once, and known to processes that this one begins."""
+    if not os.environ.get("MODEM"):
+        os.environ["MODEM"] = str(program())
+    ran = subprocess.run([os.environ["MODEM"], *words], capture_output=True, text=True, check=False)
     return ran.returncode, ran.stdout.strip()
 
 
@@ -81,6 +92,7 @@ def beside(name):
 
 def on_all_processors(function, items):
     """What a function makes of each item, in order, by as many processes as there are processors, or as MODEM_JOBS says."""
+    os.environ.setdefault("MODEM", str(program()))
     with ProcessPoolExecutor(int(os.environ.get("MODEM_JOBS") or os.cpu_count())) as pool:
         yield from pool.map(function, items)
 
