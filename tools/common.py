@@ -63,21 +63,26 @@ def octets_of(name):
 
 
 def program():
-    """The program beside the tools, or that of the path; in the repository what ./modem builds, where it isn't built yet."""
+    """The program: $MODEM, the one beside the tools, or that of the path. It is asked for once, and known to the processes that this one begins."""
+    if not os.environ.get("MODEM"):
+        os.environ["MODEM"] = str(found_program())
+    return os.environ["MODEM"]
+
+
+def found_program():
+    """The program beside the tools, in the repository as ./modem builds it, or that of the path."""
     top = Path(__file__).resolve().parent.parent
-    built = top / "crates" / "modem_main" / "out" / "modem_main"
     if not (top / "modem").exists():
         return shutil.which("modem") or fail("there is no modem")
-    if built.exists() and subprocess.run([top / "modem"], capture_output=True, check=False).returncode == 2:
-        return built
-    return top / "modem"
+    built = top / "crates" / "modem_main" / "out" / "modem_main"
+    # Without words ./modem ends with 2, once it is built and current.
+    is_current = built.exists() and subprocess.run([top / "modem"], capture_output=True, check=False).returncode == 2
+    return built if is_current else top / "modem"
 
 
 def modem(*words):
-    """Runs the program: its status and what it said. Which program that is, is asked once, and known to processes that this one begins."""
-    if not os.environ.get("MODEM"):
-        os.environ["MODEM"] = str(program())
-    ran = subprocess.run([os.environ["MODEM"], *words], capture_output=True, text=True, check=False)
+    """Runs the program: its status and what it said."""
+    ran = subprocess.run([program(), *words], capture_output=True, text=True, check=False)
     return ran.returncode, ran.stdout.strip()
 
 
@@ -92,7 +97,7 @@ def beside(name):
 
 def on_all_processors(function, items):
     """What a function makes of each item, in order, by as many processes as there are processors, or as MODEM_JOBS says."""
-    os.environ.setdefault("MODEM", str(program()))
+    program()
     with ProcessPoolExecutor(int(os.environ.get("MODEM_JOBS") or os.cpu_count())) as pool:
         yield from pool.map(function, items)
 
