@@ -43,7 +43,7 @@ dist:
 	cp -r CHANGELOG.md CONTRIBUTING.md Makefile README.md VERSION docs example out/$(NAME)
 	sed -i -E 's,\[([^]]*)\]\((\.\./)?crates/[^)]*\),\1,g; s,``::,::,g' out/$(NAME)/*.md out/$(NAME)/docs/*.md # the crates stay in the repository
 	install $(PROGRAM) out/$(NAME)/modem
-	mkdir out/$(NAME)/tools && cd tools && cp -r $(TOOLS) browser.py check pictures try_page wireshark ../out/$(NAME)/tools
+	mkdir out/$(NAME)/tools && cd tools && cp -r $(TOOLS) browser.py check pictures try_notebook try_page wireshark ../out/$(NAME)/tools
 	cd out && tar --sort=name --owner=0 --group=0 --numeric-owner --mtime="$$(git log -1 --format=%cI 2>/dev/null || date -Is)" -c $(NAME) | gzip -n >$(NAME).tar.gz
 	cd out && rm -rf $(NAME) && sha256sum $(NAME).tar.gz >$(NAME).tar.gz.sha256 && cat $(NAME).tar.gz.sha256
 

@@ -62,11 +62,27 @@ def octets_of(name):
         fail(f"{name}: {error.strerror}")
 
 
+def program():
+    """The program: $MODEM, the one beside the tools, or that of the path. It is asked for once, and known to the processes that this one begins."""
+    if not os.environ.get("MODEM"):
+        os.environ["MODEM"] = str(found_program())
+    return os.environ["MODEM"]
+
+
+def found_program():
+    """The program beside the tools, in the repository as ./modem builds it, or that of the path."""
+    top = Path(__file__).resolve().parent.parent
+    if not (top / "modem").exists():
+        return shutil.which("modem") or fail("there is no modem")
+    built = top / "crates" / "modem_main" / "out" / "modem_main"
+    # Without words ./modem ends with 2, once it is built and current.
+    is_current = built.exists() and subprocess.run([top / "modem"], capture_output=True, check=False).returncode == 2
+    return built if is_current else top / "modem"
+
+
 def modem(*words):
-    """Runs the program beside the tools, or that of the path: its status and what it said."""
-    beside = Path(__file__).resolve().parent.parent / "modem"
-    program = os.environ.get("MODEM") or (beside if beside.exists() else shutil.which("modem")) or fail("there is no modem")
-    ran = subprocess.run([program, *words], capture_output=True, text=True, check=False)
+    """Runs the program: its status and what it said."""
+    ran = subprocess.run([program(), *words], capture_output=True, text=True, check=False)
     return ran.returncode, ran.stdout.strip()
 
 
@@ -81,6 +97,7 @@ def beside(name):
 
 def on_all_processors(function, items):
     """What a function makes of each item, in order, by as many processes as there are processors, or as MODEM_JOBS says."""
+    program()
     with ProcessPoolExecutor(int(os.environ.get("MODEM_JOBS") or os.cpu_count())) as pool:
         yield from pool.map(function, items)
 
