@@ -6,15 +6,22 @@ BIN = $(ROOT)/bin/modem
 PAGE = $(ROOT)/share/man/man1/modem.1
 SHARE = $(ROOT)/share/modem
 DOCS = $(ROOT)/share/doc/modem
-PROGRAM = $(if $(wildcard crates),crates/modem_main/out/modem_main,modem)
+PROGRAM = $(if $(wildcard crates.txt),crates/modem_main/out/modem_main,modem)
 TOOLS = add_noise bits common.py constellation decibel differ forms.sh go_on hint hiss ladder losses page page.html pcap pipes places samples seed shrink sweep tally throughput trellis waterfall
 WIRESHARK = lapm.lua colorfilters
-PAGES = FORMATS.md GLOSSARY.md TROUBLE.md
-
 VERSION = $(shell cat VERSION)
 NAME = modem-$(VERSION)-x86_64-linux
 
-.PHONY: all install uninstall dist pictures check
+# When the text was made that is packed: so the same text makes the same archive, octet for octet.
+MADE = $(shell git log -1 --format=%ct 2>/dev/null || date +%s)
+
+# Pages for who has no repository: parts that are marked as the repository's go, and what is marked as the archive's stands.
+OWN = sed -i -e '/^<!-- repository -->$$/,/^<!-- end -->$$/d' -e '/^<!-- archive$$/d' -e '/^end -->$$/d'
+
+# Links to the crates, where these aren't in place, leave their words.
+UNLINKED = sed -i -E 's,\[([^]]*)\]\((\.\./)?crates/[^)]*\),\1,g; s,``::,::,g'
+
+.PHONY: all install uninstall dist deb pictures check
 
 # The program, proved and built, where it isn't yet.
 all:
@@ -25,27 +32,45 @@ install:
 	./modem; test $$? -eq 2
 	install -D $(PROGRAM) "$(BIN)"
 	install -D -m 644 docs/modem.1 "$(PAGE)"
-	install -d "$(SHARE)/tools" "$(DOCS)"
+	install -d "$(SHARE)/tools/wireshark" "$(DOCS)/docs/pictures"
 	cd tools && install $(TOOLS) "$(abspath $(SHARE))/tools"
-	install -d "$(SHARE)/tools/wireshark"
 	cd tools/wireshark && install -m 644 $(WIRESHARK) "$(abspath $(SHARE))/tools/wireshark"
-	cd docs && install -m 644 $(PAGES) "$(abspath $(DOCS))"
+	cp -r example "$(SHARE)"
 	ln -sfn ../../bin/modem "$(SHARE)/modem"
+	install -m 644 README.md CHANGELOG.md VERSION "$(DOCS)"
+	install -m 644 docs/*.md docs/modem.txt docs/modem.ipynb "$(DOCS)/docs"
+	install -m 644 docs/pictures/* "$(DOCS)/docs/pictures"
+	$(OWN) "$(DOCS)"/*.md
+	$(UNLINKED) "$(DOCS)"/*.md "$(DOCS)"/docs/*.md
 
 uninstall:
 	rm -f "$(BIN)" "$(PAGE)"
 	rm -rf "$(SHARE)" "$(DOCS)"
 
-# The built program with all that its users need, and a sum of it, in out/.
+# The built program with all that its users need, with the code and the definitions that the pages name, and a sum of it, in out/. The same text and the
+# same program give the same archive, octet for octet: make it again, and compare the sums.
 dist:
 	./modem; test $$? -eq 2
 	rm -rf out/$(NAME) && mkdir -p out/$(NAME)
 	cp -r CHANGELOG.md CONTRIBUTING.md Makefile README.md VERSION docs example out/$(NAME)
-	sed -i -E 's,\[([^]]*)\]\((\.\./)?crates/[^)]*\),\1,g; s,``::,::,g' out/$(NAME)/*.md out/$(NAME)/docs/*.md # the crates stay in the repository
+	$(OWN) out/$(NAME)/*.md
+	for it in crates/*/src crates/*/specs; do mkdir -p "out/$(NAME)/$$it" && cp -r "$$it" "out/$(NAME)/$$(dirname "$$it")" || exit 1; done
 	install $(PROGRAM) out/$(NAME)/modem
 	mkdir out/$(NAME)/tools && cd tools && cp -r $(TOOLS) browser.py check pictures try_notebook try_page wireshark ../out/$(NAME)/tools
-	cd out && tar --sort=name --owner=0 --group=0 --numeric-owner --mtime="$$(git log -1 --format=%cI 2>/dev/null || date -Is)" -c $(NAME) | gzip -n >$(NAME).tar.gz
+	cd out && tar --sort=name --mode=u+rw,go=rX --owner=0 --group=0 --numeric-owner --mtime="@$(MADE)" -c $(NAME) | gzip -n >$(NAME).tar.gz
 	cd out && rm -rf $(NAME) && sha256sum $(NAME).tar.gz >$(NAME).tar.gz.sha256 && cat $(NAME).tar.gz.sha256
+
+# A package for Debian and its kin, in out/: program, manual page, tools, examples and pages.
+deb:
+	rm -rf out/deb && $(MAKE) -s install DESTDIR="$(CURDIR)/out/deb" PREFIX=/usr
+	gzip -9n out/deb/usr/share/man/man1/modem.1
+	mkdir out/deb/DEBIAN
+	printf '%s\n' 'Package: modem' 'Version: $(VERSION)' 'Architecture: amd64' 'Section: comm' 'Priority: optional' 'Depends: libc6 (>= 2.34)' \
+		'Recommends: python3' "Installed-Size: $$(du -sk out/deb/usr | cut -f1)" 'Maintainer: the owner of this project <owner@example.invalid>' \
+		'Description: data mode of an error-correcting telephone modem pair, proved' \
+		' V.42 LAPM over the trellis-coded 9600 bit/s signal of V.32, symbol by symbol: it' \
+		' decodes recordings, explains captures, and runs two modems over a scripted line.' >out/deb/DEBIAN/control
+	cd out && SOURCE_DATE_EPOCH=$(MADE) dpkg-deb --root-owner-group --build deb modem_$(VERSION)_amd64.deb && rm -rf deb
 
 # The pictures of README.md and docs/TEACHING.md, and the manual page as text, made anew.
 pictures:
