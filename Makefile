@@ -8,6 +8,7 @@ SHARE = $(ROOT)/share/modem
 DOCS = $(ROOT)/share/doc/modem
 PROGRAM = $(if $(wildcard crates.txt),crates/modem_main/out/modem_main,modem)
 TOOLS = add_noise bits common.py constellation decibel differ forms.sh go_on hint hiss ladder losses page page.html pcap pipes places samples seed shrink sweep tally throughput trellis waterfall
+PARTS = common.py forms.sh page.html
 WIRESHARK = lapm.lua colorfilters
 VERSION = $(shell cat VERSION)
 NAME = modem-$(VERSION)-x86_64-linux
@@ -33,7 +34,8 @@ install:
 	install -D $(PROGRAM) "$(BIN)"
 	install -D -m 644 docs/modem.1 "$(PAGE)"
 	install -d "$(SHARE)/tools/wireshark" "$(DOCS)/docs/pictures"
-	cd tools && install $(TOOLS) "$(abspath $(SHARE))/tools"
+	cd tools && install $(filter-out $(PARTS),$(TOOLS)) "$(abspath $(SHARE))/tools"
+	cd tools && install -m 644 $(PARTS) "$(abspath $(SHARE))/tools"
 	cd tools/wireshark && install -m 644 $(WIRESHARK) "$(abspath $(SHARE))/tools/wireshark"
 	cp -r example "$(SHARE)"
 	ln -sfn ../../bin/modem "$(SHARE)/modem"
@@ -64,12 +66,14 @@ dist:
 deb:
 	rm -rf out/deb && $(MAKE) -s install DESTDIR="$(CURDIR)/out/deb" PREFIX=/usr
 	gzip -9n out/deb/usr/share/man/man1/modem.1
+	gzip -9nc CHANGELOG.md >out/deb/usr/share/doc/modem/changelog.gz
 	mkdir out/deb/DEBIAN
 	printf '%s\n' 'Package: modem' 'Version: $(VERSION)' 'Architecture: amd64' 'Section: comm' 'Priority: optional' 'Depends: libc6 (>= 2.34)' \
 		'Recommends: python3' "Installed-Size: $$(du -sk out/deb/usr | cut -f1)" 'Maintainer: the owner of this project <owner@example.invalid>' \
 		'Description: data mode of an error-correcting telephone modem pair, proved' \
-		' V.42 LAPM over the trellis-coded 9600 bit/s signal of V.32, symbol by symbol: it' \
-		' decodes recordings, explains captures, and runs two modems over a scripted line.' >out/deb/DEBIAN/control
+		' V.42 LAPM over the trellis-coded 9600 bit/s signal of V.32, symbol by symbol:' \
+		' it decodes recordings, explains captures, and runs two modems over a line that' \
+		' a script describes.' >out/deb/DEBIAN/control
 	cd out && SOURCE_DATE_EPOCH=$(MADE) dpkg-deb --root-owner-group --build deb modem_$(VERSION)_amd64.deb && rm -rf deb
 
 # The pictures of README.md and docs/TEACHING.md, and the manual page as text, made anew.
