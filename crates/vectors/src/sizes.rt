@@ -3,7 +3,10 @@ use super::assert_row;
 use bit_stuffing::{HEAD, SHORTEST, TAIL};
 use command_base::{FILE_LIMIT, HEX_LIMIT, RECORDING_LIMIT, RUN_FILE_LIMIT};
 use frame_check::{INFO, SLOT, WHOLE};
+use line_tap::TAP_LIMIT;
 use noise_script::{BREAK_LINES, BUSY_LINES, HIT_LINES, LOSE_LINES, NOISE_LINES, SCRIPT_OCTETS};
+use run_inputs::LIMITS;
+use trace_audit::TRACE_LIMIT;
 
 /// The sizes and limits by their numbers: contracts name them, and would follow another number.
 const SIZES: &[(&str, u64, u64)] = &[
@@ -14,6 +17,10 @@ const SIZES: &[(&str, u64, u64)] = &[
     ("HEAD", HEAD as u64, 10),
     ("TAIL", TAIL as u64, 128),
     ("RUN_FILE_LIMIT", RUN_FILE_LIMIT, 16_777_216),
+    ("LIMITS.file", LIMITS.file, 16_777_216),
+    ("LIMITS.script", LIMITS.script, 65_536),
+    ("TAP_LIMIT", TAP_LIMIT, 268_435_456),
+    ("TRACE_LIMIT", TRACE_LIMIT, 16_777_216),
     ("FILE_LIMIT", FILE_LIMIT, 1_048_576),
     ("RECORDING_LIMIT", RECORDING_LIMIT, 8_388_616),
     ("HEX_LIMIT", HEX_LIMIT as u64, 512),
