@@ -1,8 +1,9 @@
 # What the words of each command stand for, as the manual page has them; for the tools beside it, in the folder $here.
 
-# The manual page, in the repository or the archive, or where `make install` put it.
+# The manual page, in the repository or the archive, or where `make install` or a package put it.
 page=$here/../docs/modem.1
 [ -r "$page" ] || page=$here/../../man/man1/modem.1
+[ -r "$page" ] || page=$page.gz
 
 # The words that this command takes, as the manual page's synopsis has them: outputs, which are bold there, with a > in front.
 form_of() {
@@ -14,5 +15,5 @@ form_of() {
                 words = split(substr(fonts[part], mark ? 4 : 2), names, " ")
                 for (word = 1; word <= words; word++) printf "%s%s ", mark, names[word]
             }
-        }' "$page"
+        }' <(zcat -f "$page")
 }
