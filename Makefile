@@ -3,11 +3,12 @@
 PREFIX ?= /usr/local
 ROOT = $(DESTDIR)$(PREFIX)
 BIN = $(ROOT)/bin/modem
+PROVED = $(ROOT)/lib/modem/modem
 PAGE = $(ROOT)/share/man/man1/modem.1
 SHARE = $(ROOT)/share/modem
 DOCS = $(ROOT)/share/doc/modem
 PROGRAM = $(if $(wildcard crates.txt),crates/modem_main/out/modem_main,modem)
-TOOLS = add_noise bits common.py constellation decibel differ forms.sh go_on hint hiss ladder losses page page.html pcap pipes places samples seed shrink sweep tally throughput trellis waterfall
+TOOLS = add_noise bits common.py constellation decibel differ forms.sh go_on hint hiss ladder losses page page.html pcap pipes places samples seed shrink sweep tally throughput trellis waterfall wrapper
 PARTS = common.py forms.sh page.html
 WIRESHARK = lapm.lua colorfilters
 VERSION = $(shell cat VERSION)
@@ -28,17 +29,21 @@ UNLINKED = sed -i -E 's,\[([^]]*)\]\((\.\./)?crates/[^)]*\),\1,g; s,``::,::,g'
 all:
 	./modem; test $$? -eq 2
 
-# Without words the program says how it is used, with status 2: by then it is proved and built. The tools find the program beside their folder.
+# Without words the program says how it is used, with status 2: by then it is proved and built. In the path stands the wrapper, for pipes and hints; the tools
+# find the program itself beside their folder.
 install:
 	./modem; test $$? -eq 2
-	install -D $(PROGRAM) "$(BIN)"
+	install -D $(PROGRAM) "$(PROVED)"
+	install -d "$(dir $(BIN))"
+	ln -sfn ../share/modem/tools/wrapper "$(BIN)"
 	install -D -m 644 docs/modem.1 "$(PAGE)"
 	install -d "$(SHARE)/tools/wireshark" "$(DOCS)/docs/pictures"
 	cd tools && install $(filter-out $(PARTS),$(TOOLS)) "$(abspath $(SHARE))/tools"
 	cd tools && install -m 644 $(PARTS) "$(abspath $(SHARE))/tools"
 	cd tools/wireshark && install -m 644 $(WIRESHARK) "$(abspath $(SHARE))/tools/wireshark"
 	cp -r example "$(SHARE)"
-	ln -sfn ../../bin/modem "$(SHARE)/modem"
+	ln -sfn ../../lib/modem/modem "$(SHARE)/modem"
+	install -m 644 VERSION "$(SHARE)"
 	install -m 644 README.md CHANGELOG.md VERSION "$(DOCS)"
 	install -m 644 docs/*.md docs/modem.txt docs/modem.ipynb "$(DOCS)/docs"
 	install -m 644 docs/pictures/* "$(DOCS)/docs/pictures"
@@ -47,7 +52,7 @@ install:
 
 uninstall:
 	rm -f "$(BIN)" "$(PAGE)"
-	rm -rf "$(SHARE)" "$(DOCS)"
+	rm -rf "$(SHARE)" "$(DOCS)" "$(dir $(PROVED))"
 
 # The built program with all that its users need, with the code and the definitions that the pages name, and a sum of it, in out/. The same text and the
 # same program give the same archive, octet for octet: make it again, and compare the sums.
