@@ -23,7 +23,7 @@ OWN = sed -i -e '/^<!-- repository -->$$/,/^<!-- end -->$$/d' -e '/^<!-- archive
 # Links to the crates, where these aren't in place, leave their words.
 UNLINKED = sed -i -E 's,\[([^]]*)\]\((\.\./)?crates/[^)]*\),\1,g; s,``::,::,g'
 
-.PHONY: all install uninstall dist deb pictures check
+.PHONY: all install uninstall dist deb pictures refused check
 
 # The program, proved and built, where it isn't yet.
 all:
@@ -87,6 +87,11 @@ pictures:
 	if command -v chromium >/dev/null; then tools/try_page shot docs/pictures/page.png; fi
 	if command -v pngquant >/dev/null; then pngquant --force --output docs/pictures/page.png 48 docs/pictures/page.png; fi
 	MANWIDTH=100 man -l docs/modem.1 | col -bx > docs/modem.txt
+
+# The table of docs/REFUSED.md: wrong bodies, tried anew. It needs the kit, and takes some ten minutes.
+refused:
+	./modem; test $$? -eq 2
+	bench/refused
 
 # The examples of the pages and of the manual page, and the pictures, against what the program does.
 check:
