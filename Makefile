@@ -88,7 +88,7 @@ pictures:
 	if command -v pngquant >/dev/null; then pngquant --force --output docs/pictures/page.png 48 docs/pictures/page.png; fi
 	MANWIDTH=100 man -l docs/modem.1 | col -bx > docs/modem.txt
 
-# The table of docs/REFUSED.md: wrong bodies, tried anew. It needs the kit, and takes some ten minutes.
+# The table of docs/REFUSED.md: wrong bodies, tried anew. It needs the kit, and takes some three minutes on four processors.
 refused:
 	./modem; test $$? -eq 2
 	bench/refused
