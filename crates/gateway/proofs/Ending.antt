@@ -1,0 +1,37 @@
+-- What a reader's tail and its bits make of the line's end.
+use Rattle.std.proofs.Common.{ℕ, Bool, List, ◌++◌}
+use Rattle.scramblers.specs.declared.mode.Mode.{Mode}
+use Rattle.symbol_map.specs.declared.sample.Sample.{Sample}
+use Rattle.symbol_map.specs.Points.{point_of}
+use Rattle.trellis_tables.specs.Table.{next_state}
+use Rattle.survivors.specs.V32.{at_beginning, line_depth}
+use Rattle.line_coding.specs.Reading.{Reading, SamplesRead, IsFinished}
+use Rattle.line_coding.specs.Demodulates.{DemodulatorStands}
+use Rattle.line_coding.specs.declared.demodulator.Demodulator.{Demodulator}
+use Rattle.rate_4800.specs.Code.{next_state as next_quarter, point_of as quarter_of}
+use Rattle.rate_4800.specs.Demodulates.{DemodulatorStands as QuarterDemodulatorStands}
+use Rattle.rate_4800.specs.declared.demodulator.Demodulator.{Demodulator as QuarterDemodulator}
+use Rattle.gateway.specs.declared.any_reader.AnyReader.TheVariants as readers
+use Rattle.gateway.specs.declared.any_reader.LineKind.{LineKind}
+use Rattle.gateway.specs.declared.any_reader.LineKind.TheVariants as lines
+use Rattle.gateway.specs.Reads.{Read, ReadsAs, Ends}
+
+pub begun-ends : (line : LineKind) (mode : Mode) (r : Reading Demodulator) (samples : List Sample) (before more : List Bool) (tail : List ℕ) (d : Demodulator)
+    → (SamplesRead next_state point_of (DemodulatorStands mode) at_beginning line_depth r samples before
+    → IsFinished next_state point_of (DemodulatorStands mode) at_beginning samples before tail d)
+    → ((labels : List ℕ) → DemodulatorStands mode d labels before → Read (DemodulatorStands mode) (labels ++ tail) (before ++ more))
+    → ReadsAs line mode (readers.Begun r) samples before → Ends line mode samples (before ++ more)
+begun-ends lines.Begun mode r samples before more tail d finish put start =
+    let f = finish start in record { labels = f.labels ++ tail; least = f.least; carried = put f.labels f.read }
+begun-ends lines.Middle mode r samples before more tail d finish put start = absurd start
+begun-ends lines.Quarters mode r samples before more tail d finish put start = absurd start
+
+pub quarters-end : (line : LineKind) (mode : Mode) (r : Reading QuarterDemodulator) (samples : List Sample) (before more : List Bool) (tail : List ℕ) (d : QuarterDemodulator)
+    → (SamplesRead next_quarter quarter_of (QuarterDemodulatorStands mode) at_beginning line_depth r samples before
+    → IsFinished next_quarter quarter_of (QuarterDemodulatorStands mode) at_beginning samples before tail d)
+    → ((labels : List ℕ) → QuarterDemodulatorStands mode d labels before → Read (QuarterDemodulatorStands mode) (labels ++ tail) (before ++ more))
+    → ReadsAs line mode (readers.Quarters r) samples before → Ends line mode samples (before ++ more)
+quarters-end lines.Begun mode r samples before more tail d finish put start = absurd start
+quarters-end lines.Middle mode r samples before more tail d finish put start = absurd start
+quarters-end lines.Quarters mode r samples before more tail d finish put start =
+    let f = finish start in record { labels = f.labels ++ tail; least = f.least; carried = put f.labels f.read }

@@ -1,0 +1,34 @@
+use Rattle.std.proofs.Common.{ℕ, ◌∷◌, ◌*◌, ◌+◌, ◌≡◌, ◌≤◌, ◌++◌, Bool, List, [], length, suc, sym, subst, append_assoc, ◌∙◌, arith, ℤ, pos, get_or}
+use Rattle.scramblers.specs.declared.mode.Mode.{Mode}
+use Rattle.symbol_map.specs.declared.sample.Sample.{Sample}
+use Rattle.gateway.specs.declared.any_reader.LineKind.{LineKind}
+use Rattle.gateway.specs.Given.{given, samples_in}
+use Rattle.gateway.specs.Reads.{ReadsAs}
+use Rattle.gateway.specs.declared.any_reader.AnyReader.{AnyReader}
+use Rattle.gateway.proofs.decoder.SampleDecoder.push.Goals as goal
+
+-- one sample more
+one_more : (line : LineKind) (mode : Mode) (r : AnyReader) (samples : List Sample) (parts : List ℤ) (k k' : ℕ) (s : Sample) (bits : List Bool) → k' ≡ suc k
+    → s.re ≡ get_or parts (2 * k) (pos 0) → s.im ≡ get_or parts (2 * k + 1) (pos 0)
+    → ReadsAs line mode r ((samples ++ samples_in k parts) ++ s ∷ []) bits → ReadsAs line mode r (samples ++ samples_in k' parts) bits
+one_more line mode r samples parts k k' s bits ek re im h =
+    subst (λ (n : ℕ). ReadsAs line mode r (samples ++ samples_in n parts) bits) (sym ek)
+    (subst (λ (all : List Sample). ReadsAs line mode r all bits) (append_assoc samples (samples_in k parts) _ ∙ (λ i. samples ++ (samples_in k parts ++ record { re = re i; im = im i } ∷ []))) h)
+
+pub returns-in-Err-clause-reads : goal.returns-in-Err-clause-reads
+returns-in-Err-clause-reads c = λ line mode samples before start.
+    let so_far = samples_in c.loop-read.read c.args.parts.now in let bits = before ++ given c.take_bits-next.result.0 c.take_bits-next.new.bits in
+    one_more line mode c.push.new.self samples c.args.parts.now c.loop-read.read (c.loop-read.read + 1) c.sample_at.result bits (omega arith) c.sample_at.ensures.re c.sample_at.ensures.im
+    (c.push.ensures.reads line mode (samples ++ so_far) bits (c.take_bits-next.ensures.reads line mode (samples ++ so_far) before (c.loop-read.invariant.reads line mode samples before start)))
+
+pub loop-read-preserved : goal.loop-read-preserved
+loop-read-preserved c = record {
+  same = c.take_bits-next.ensures.length ∙ c.loop-read.invariant.same;
+  written = c.take_bits-next.ensures.next;
+  count = omega (arith, c.push.ensures.count, c.take_bits-next.ensures.count, c.loop-read.invariant.count);
+  early = omega (arith, c.if-samples-ge-MOST.false);
+  reads = λ line mode samples before start.
+      let so_far = samples_in c.loop-read.read c.args.parts.now in let bits = before ++ given c.take_bits-next.result.0 c.take_bits-next.new.bits in
+      one_more line mode c.push.new.self samples c.args.parts.now c.loop-read.read (c.loop-read.read + 1) c.sample_at.result bits (omega arith) c.sample_at.ensures.re c.sample_at.ensures.im
+      (c.push.ensures.reads line mode (samples ++ so_far) bits (c.take_bits-next.ensures.reads line mode (samples ++ so_far) before (c.loop-read.invariant.reads line mode samples before start)));
+}

@@ -1,0 +1,30 @@
+// The bits of a label.
+ghost use Rattle.std.specs.Prelude.{◌≡◌, ◌+◌, ◌++◌, ◌≤◌, length};
+ghost use Rattle.plain_lists.specs.Bits.{low_bits};
+ghost use Rattle.gateway.specs.Given.{given};
+
+/// Up to four bits.
+#[derive(Clone, Copy)]
+pub struct LabelBits {
+    /// How many they are.
+    pub count: u8,
+    /// The number whose low bits they are, the first one lowest.
+    pub number: u8,
+}
+
+/// Puts the bits into the list at this place, an octet each: the place behind them.
+pub(crate) fn put_bits(bits: LabelBits, out: &mut [u8], at: usize) -> usize
+    requires few { bits.count ≤ 4 }
+    requires room { at + 4 ≤ length out.old }
+    ensures length { length out.new ≡ length out.old }
+    ensures next { result ≤ at + 4 }
+    ensures within { result ≤ length out.new }
+    ensures given { given result out.new ≡ given at out.old ++ low_bits bits.count bits.number }
+{
+    let mut rest = bits.number;
+    for place in 0..bits.count {
+        out[at + place as usize] = rest % 2;
+        rest /= 2;
+    }
+    at + bits.count as usize
+}

@@ -1,0 +1,24 @@
+//! The calls of the static library `modem_c`, for Rattle: samples to bits ([`SampleDecoder`]) and back ([`SampleEncoder`]), bits to frames
+//! ([`FrameReader`]) and back ([`FrameWriter`]), how good a decoding is ([`LockMeter`]), and an end of the link ([`Endpoint`]). Nothing is
+//! asked of who calls them: what the crates below ask is tested here, or kept by the type.
+#![tactic(auto)]
+
+mod any_reader;
+mod decoder;
+mod deframer;
+mod encoder;
+mod framer;
+mod label_bits;
+mod link;
+mod meter;
+mod turns;
+
+pub use any_reader::{AnyReader, LineKind};
+pub use decoder::{DecoderStop, LAST_BITS, Pushed, SampleDecoder};
+pub use deframer::FrameReader;
+pub use encoder::SampleEncoder;
+pub use framer::FrameWriter;
+pub use label_bits::LabelBits;
+pub use link::{Endpoint, LinkStop};
+pub use meter::LockMeter;
+pub use turns::{Carried, Told};

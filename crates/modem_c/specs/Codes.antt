@@ -1,0 +1,17 @@
+-- What the numbers mean that C passes.
+use Rattle.std.specs.Prelude.{ℕ, zero, suc, Option, Some, None}
+use Rattle.scramblers.specs.declared.mode.Mode.{Mode}
+use Rattle.scramblers.specs.declared.mode.Mode.TheVariants.{Call, Answer}
+use Rattle.gateway.specs.declared.any_reader.LineKind.{LineKind}
+use Rattle.gateway.specs.declared.any_reader.LineKind.TheVariants.{Begun, Middle, Quarters}
+
+abbrev pub line_of : ℕ → Option LineKind
+line_of zero = Some Begun
+line_of (suc zero) = Some Middle
+line_of (suc (suc zero)) = Some Quarters
+line_of (suc (suc (suc n))) = None
+
+abbrev pub mode_of : ℕ → Option Mode
+mode_of zero = Some Call
+mode_of (suc zero) = Some Answer
+mode_of (suc (suc n)) = None

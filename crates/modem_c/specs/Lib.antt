@@ -1,0 +1,5 @@
+pub mod Held
+pub mod Codes
+pub mod Led
+pub mod Decoders
+pub mod Deframers
