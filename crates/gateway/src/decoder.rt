@@ -1,5 +1,5 @@
 // Samples to bits, as they come, into room that the caller has.
-ghost use Rattle.std.specs.Prelude.{◌≡◌, ◌≢◌, ◌+◌, ◌*◌, ◌<◌, ◌≤◌, ◌^◌, ◌++◌, ℕ, Bool, List, [], All, length, slice_index_or, pos, IfOk, MatchOption, MatchResult};
+ghost use Rattle.std.specs.Prelude.{◌≡◌, ◌≢◌, ◌+◌, ◌*◌, ◌<◌, ◌≤◌, ◌^◌, ◌++◌, ℕ, Bool, List, [], All, length, IfOk, MatchOption, MatchResult};
 ghost use Rattle.scramblers.specs.declared.mode.Mode.{Mode};
 ghost use Rattle.symbol_map.specs.declared.sample.Sample.{Sample};
 ghost use Rattle.gateway.specs.declared.any_reader.LineKind.{LineKind};
@@ -8,8 +8,9 @@ ghost use Rattle.gateway.specs.Given.{given, samples_in};
 ghost use Rattle.gateway.specs.Reads.{Read, ReadsAs, Ends};
 ghost use Rattle.gateway.specs.Stopped.{IsIdle, IsStopped, IsUnfinished};
 
-use crate::label_bits::{LabelBits, put_bits};
 use crate::any_reader::{AnyReader, LineKind};
+use crate::label_bits::{LabelBits, put_bits};
+use crate::parts::sample_at;
 use line_coding::{Demodulate, Demodulator};
 use outside_calls::NoMemory;
 use rate_4800::Demodulator as QuarterDemodulator;
@@ -54,18 +55,6 @@ pub struct SampleDecoder {
     samples: u64,
     ghost few: { (decoding_of reader).count ≤ samples },
     ghost early: { samples ≤ 2 ^ 50 },
-}
-
-/// The sample at this place among parts that are real and imaginary by turns.
-fn sample_at(parts: &[i16], place: usize) -> Sample
-    requires { 2 * place + 1 < length parts.now }
-    ensures re { result.re ≡ slice_index_or parts.now (2 * place) (pos 0) }
-    ensures im { result.im ≡ slice_index_or parts.now (2 * place + 1) (pos 0) }
-{
-    Sample {
-        re: parts[2 * place],
-        im: parts[2 * place + 1],
-    }
 }
 
 /// Gives the bits of the labels that are released, while there is room: the place behind them.

@@ -1,7 +1,6 @@
 // Bits to samples, as they come, into room that the caller has.
-ghost use Rattle.std.specs.Prelude.{◌≡◌, ◌+◌, ◌*◌, ◌<◌, ◌≤◌, ◌^◌, ◌++◌, Bool, List, [], ◌∷◌, length};
+ghost use Rattle.std.specs.Prelude.{◌≡◌, ◌+◌, ◌*◌, ◌<◌, ◌≤◌, ◌++◌, Bool, List, [], ◌∷◌, length};
 ghost use Rattle.std.specs.Bool.{OnTrue, OnFalse};
-ghost use Rattle.plain_lists.specs.Bits.{low_bits};
 ghost use Rattle.scramblers.specs.declared.mode.Mode.{Mode};
 ghost use Rattle.symbol_map.specs.declared.sample.Sample.{Sample};
 ghost use Rattle.gateway.specs.declared.any_reader.LineKind.{LineKind};
@@ -9,6 +8,8 @@ ghost use Rattle.gateway.specs.declared.any_reader.LineKind.TheVariants as lines
 ghost use Rattle.gateway.specs.Encoded.{HasEncoded, bits_each};
 ghost use Rattle.gateway.specs.Given.{heard, samples_in};
 
+use crate::bit_groups::{four_at, two_at};
+use crate::parts::put_sample;
 use line_coding::Modulator;
 use rate_4800::Modulator as QuarterModulator;
 use scramblers::Mode;
@@ -32,34 +33,6 @@ pub struct Encoded {
     pub written: usize,
     /// Whether fewer bits are left than become a sample.
     pub all: bool,
-}
-
-/// The number of four bits from this place on, the first one lowest.
-fn four_at(bits: &[u8], at: usize) -> u8
-    requires { at + 4 ≤ length bits.now }
-    ensures bits { heard (at + 4) bits.now ≡ heard at bits.now ++ low_bits 4 result }
-    ensures bound { result < 16 }
-{
-    bits[at] % 2 + 2 * (bits[at + 1] % 2) + 4 * (bits[at + 2] % 2) + 8 * (bits[at + 3] % 2)
-}
-
-/// The number of two bits from this place on, the first one lowest.
-fn two_at(bits: &[u8], at: usize) -> u8
-    requires { at + 2 ≤ length bits.now }
-    ensures bits { heard (at + 2) bits.now ≡ heard at bits.now ++ low_bits 2 result }
-    ensures bound { result < 4 }
-{
-    bits[at] % 2 + 2 * (bits[at + 1] % 2)
-}
-
-/// Puts the sample at this place among parts that are real and imaginary by turns.
-fn put_sample(sample: Sample, parts: &mut [i16], place: usize)
-    requires { 2 * place + 1 < length parts.old }
-    ensures samples { samples_in (place + 1) parts.new ≡ samples_in place parts.old ++ sample ∷ [] }
-    ensures length { length parts.new ≡ length parts.old }
-{
-    parts[2 * place] = sample.re;
-    parts[2 * place + 1] = sample.im;
 }
 
 impl SampleEncoder {

@@ -3,7 +3,7 @@ use Rattle.std.proofs.lemmas.Int.{to_z-of_z}
 use mir.Val.{SFits}
 use Rattle.gateway.specs.Given.{samples_in}
 use Rattle.gateway.proofs.Encoding.{samples-put}
-use Rattle.gateway.proofs.encoder.put_sample.Goals as goal
+use Rattle.gateway.proofs.parts.put_sample.Goals as goal
 
 pub returns-clause-samples : goal.returns-clause-samples
 returns-clause-samples c =

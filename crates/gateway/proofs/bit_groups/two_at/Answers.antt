@@ -1,6 +1,6 @@
 use Rattle.std.proofs.Common.{ℕ, ◌+◌, ◌*◌, ◌/◌, ◌%◌, ◌≡◌, get_or, nat_eq, ap, arith}
 use Rattle.gateway.proofs.Encoding.{heard-two}
-use Rattle.gateway.proofs.encoder.two_at.Goals as goal
+use Rattle.gateway.proofs.bit_groups.two_at.Goals as goal
 
 pub returns-clause-bits : goal.returns-clause-bits
 returns-clause-bits c =

@@ -1,6 +1,6 @@
 use Rattle.std.proofs.Common.{ℕ, ◌+◌, ◌*◌, ◌/◌, ◌%◌, ◌≡◌, get_or, nat_eq, ap, arith}
 use Rattle.gateway.proofs.Encoding.{heard-four}
-use Rattle.gateway.proofs.encoder.four_at.Goals as goal
+use Rattle.gateway.proofs.bit_groups.four_at.Goals as goal
 
 pub returns-clause-bits : goal.returns-clause-bits
 returns-clause-bits c =
