@@ -19,8 +19,11 @@ Refused old new code = (new ≡ old) × (code ≡ BAD_ARGUMENT)
 abbrev pub Made : Option Machine → Option Machine → ℤ → (Option Machine → Type 0) → Type 0
 Made old new code is = ((code ≡ DONE) × is new) ⊎ ((code ≡ NO_MEMORY) × (new ≡ old))
 
--- so it is where both arguments mean something
-abbrev pub MadeOf : {A B : Type 0} → Option A → Option B → Option Machine → Option Machine → ℤ → (A → B → Option Machine → Type 0) → Type 0
-MadeOf None second old new code is = Refused old new code
-MadeOf (Some a) None old new code is = Refused old new code
-MadeOf (Some a) (Some b) old new code is = Made old new code (is a b)
+-- So it is where the argument means something, or both do.
+abbrev pub MadeOf : {A : Type 0} → Option A → Option Machine → Option Machine → ℤ → (A → Option Machine → Type 0) → Type 0
+MadeOf None old new code is = Refused old new code
+MadeOf (Some a) old new code is = Made old new code (is a)
+
+abbrev pub MadeOfBoth : {A B : Type 0} → Option A → Option B → Option Machine → Option Machine → ℤ → (A → B → Option Machine → Type 0) → Type 0
+MadeOfBoth None second old new code is = Refused old new code
+MadeOfBoth (Some a) second old new code is = MadeOf second old new code (is a)

@@ -3,4 +3,6 @@ pub mod Codes
 pub mod Led
 pub mod Answered
 pub mod Decoders
+pub mod Encoders
+pub mod Meters
 pub mod Deframers

@@ -6,7 +6,7 @@ ghost use Rattle.gateway.specs.declared.any_reader.LineKind.{LineKind};
 ghost use Rattle.gateway.specs.Given.{given, samples_in};
 ghost use Rattle.gateway.specs.Reads.{Ends};
 ghost use Rattle.modem_c.specs.declared.machine.Machine.TheVariants as machines;
-ghost use Rattle.modem_c.specs.Answered.{Missing, Answered, MadeOf};
+ghost use Rattle.modem_c.specs.Answered.{Missing, Answered, MadeOfBoth};
 ghost use Rattle.modem_c.specs.Codes as codes;
 ghost use Rattle.modem_c.specs.Decoders.{Decodes, PushAnswers, FinishAnswers};
 ghost use Rattle.modem_c.specs.Decoders as decoders;
@@ -74,7 +74,7 @@ fn take_decoder(alloc: Global, handle: &mut Handle) -> Result<(SampleDecoder, Bo
 /// A decoder before the first sample of a line of this kind, sent by the modem of that mode.
 #[unsafe(no_mangle)]
 pub extern "C" fn modem_decoder_new(alloc: Global, handle: &mut Handle, line: u8, mode: u8) -> i32
-    ensures { MadeOf (codes.line_of line) (codes.mode_of mode) handle.old.value handle.new.value result (λ l m led. Decodes l m led [] []) }
+    ensures { MadeOfBoth (codes.line_of line) (codes.mode_of mode) handle.old.value handle.new.value result (λ l m led. Decodes l m led [] []) }
 {
     let (Some(line), Some(mode)) = (line_of(line), mode_of(mode)) else {
         return BAD_ARGUMENT;
