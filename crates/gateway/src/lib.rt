@@ -15,6 +15,8 @@ mod meter;
 mod parts;
 mod turns;
 
+pub mod signal_laws;
+
 pub use any_reader::{AnyReader, LineKind};
 pub use decoder::{DecoderStop, LAST_BITS, Pushed, SampleDecoder};
 pub use deframer::FrameReader;
