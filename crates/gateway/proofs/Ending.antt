@@ -20,7 +20,7 @@ pub begun-ends : (line : LineKind) (mode : Mode) (r : Reading Demodulator) (samp
     → (SamplesRead next_state point_of (DemodulatorStands mode) at_beginning line_depth r samples before
     → IsFinished next_state point_of (DemodulatorStands mode) at_beginning samples before tail d)
     → ((labels : List ℕ) → DemodulatorStands mode d labels before → Read (DemodulatorStands mode) (labels ++ tail) (before ++ more))
-    → ReadsAs line mode (readers.Begun r) samples before → Ends line mode samples (before ++ more)
+    → ReadsAs line mode (readers.Begun r) samples before → Ends line mode samples before more
 begun-ends lines.Begun mode r samples before more tail d finish put start =
     let f = finish start in record { labels = f.labels ++ tail; least = f.least; carried = put f.labels f.read }
 begun-ends lines.Middle mode r samples before more tail d finish put start = absurd start
@@ -30,7 +30,7 @@ pub quarters-end : (line : LineKind) (mode : Mode) (r : Reading QuarterDemodulat
     → (SamplesRead next_quarter quarter_of (QuarterDemodulatorStands mode) at_beginning line_depth r samples before
     → IsFinished next_quarter quarter_of (QuarterDemodulatorStands mode) at_beginning samples before tail d)
     → ((labels : List ℕ) → QuarterDemodulatorStands mode d labels before → Read (QuarterDemodulatorStands mode) (labels ++ tail) (before ++ more))
-    → ReadsAs line mode (readers.Quarters r) samples before → Ends line mode samples (before ++ more)
+    → ReadsAs line mode (readers.Quarters r) samples before → Ends line mode samples before more
 quarters-end lines.Begun mode r samples before more tail d finish put start = absurd start
 quarters-end lines.Middle mode r samples before more tail d finish put start = absurd start
 quarters-end lines.Quarters mode r samples before more tail d finish put start =

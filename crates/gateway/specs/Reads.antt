@@ -1,5 +1,5 @@
 -- For which samples and bits a reader of any line stands.
-use Rattle.std.specs.Prelude.{ℕ, Bool, List, Option}
+use Rattle.std.specs.Prelude.{◌≡◌, ℕ, Bool, List, [], ◌++◌, Option}
 use Rattle.scramblers.specs.declared.mode.Mode.{Mode}
 use Rattle.symbol_map.specs.declared.sample.Sample.{Sample}
 use Rattle.survivors.specs.Survivors.{IsFirstLeast}
@@ -36,14 +36,15 @@ pub record Read {D : Type 0} (reads : D → List ℕ → List Bool → Type 0) (
   pub reader : D
   pub read : reads reader labels bits
 
--- The bits are those of the least sequence of labels, of several the one that ends in the smallest state. Of a line's middle nothing is said.
+-- The bits are those of the least sequence of labels, of several the one that ends in the smallest state.
 pub record FirstLeast {D : Type 0} (reads : D → List ℕ → List Bool → Type 0) (next : ℕ → ℕ → Option ℕ) (point : ℕ → Sample) (samples : List Sample)
     (bits : List Bool) : Type 0 where
   pub labels : List ℕ
   pub least : IsFirstLeast (trellis_of next point at_beginning) samples labels
   pub carried : Read reads labels bits
 
-abbrev pub Ends : LineKind → Mode → List Sample → List Bool → Type 0
-Ends lines.Begun mode samples bits = FirstLeast (DemodulatorStands mode) next_state point_of samples bits
-Ends lines.Middle mode samples bits = Unit {0}
-Ends lines.Quarters mode samples bits = FirstLeast (QuarterDemodulatorStands mode) next_quarter quarter_of samples bits
+-- What is given at a line's end behind the bits before: with these they are those of the least sequence. Of a line's middle nothing is given.
+abbrev pub Ends : LineKind → Mode → List Sample → List Bool → List Bool → Type 0
+Ends lines.Begun mode samples before last = FirstLeast (DemodulatorStands mode) next_state point_of samples (before ++ last)
+Ends lines.Middle mode samples before last = last ≡ []
+Ends lines.Quarters mode samples before last = FirstLeast (QuarterDemodulatorStands mode) next_quarter quarter_of samples (before ++ last)

@@ -1,5 +1,5 @@
 // The readers of a line from its beginning, at both rates, and from its middle, as one.
-ghost use Rattle.std.specs.Prelude.{◌≡◌, ◌+◌, ◌<◌, ◌≤◌, ◌^◌, ◌++◌, ◌∷◌, Bool, List, [], Some, None, length, drop, IfOk, MatchOption, MatchResult};
+ghost use Rattle.std.specs.Prelude.{◌≡◌, ◌+◌, ◌<◌, ◌≤◌, ◌^◌, ◌++◌, ◌∷◌, Bool, List, [], Some, None, length, drop, IfOk, MatchOption};
 ghost use Rattle.plain_lists.specs.Bits.{low_bits};
 ghost use Rattle.scramblers.specs.declared.mode.Mode.{Mode};
 ghost use Rattle.symbol_map.specs.declared.sample.Sample.{Sample};
@@ -85,20 +85,19 @@ impl AnyReader {
         }
     }
 
-    /// One sample more.
-    pub fn push(&mut self, sample: Sample) -> Result<(), Lost>
+    /// One sample more. Whether that lost the line is told by `lost`.
+    pub fn push(&mut self, sample: Sample)
         requires taken { (decoding_of self.old).pending ≡ [] }
         requires count { (decoding_of self.old).count < 2 ^ 56 }
         ensures reads { (line : LineKind) (mode : Mode) (samples : List Sample) (bits : List Bool) → ReadsAs line mode self.old samples bits
             → ReadsAs line mode self.new (samples ++ sample ∷ []) bits }
-        ensures answer { MatchResult result (λ _. (decoding_of self.new).lost ≡ None) (λ lost. (decoding_of self.new).lost ≡ Some lost.symbol) }
         ensures count { (decoding_of self.new).count ≤ (decoding_of self.old).count + 1 }
     {
-        match self {
+        let _said = match self {
             AnyReader::Begun(reader) => reader.push(sample),
             AnyReader::Middle(reader) => reader.push(sample),
             AnyReader::Quarters(reader) => reader.push(sample),
-        }
+        };
     }
 
     /// The bits of the oldest label that is released and not yet taken.

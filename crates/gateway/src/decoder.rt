@@ -1,16 +1,16 @@
 // Samples to bits, as they come, into room that the caller has.
-ghost use Rattle.std.specs.Prelude.{◌≡◌, ◌+◌, ◌*◌, ◌<◌, ◌≤◌, ◌^◌, ◌++◌, ℕ, Bool, List, [], None, All, length, slice_index_or, pos, IfOk, IfErr};
-ghost use Rattle.std.specs.Bool.{OnTrue, OnFalse};
+ghost use Rattle.std.specs.Prelude.{◌≡◌, ◌≢◌, ◌+◌, ◌*◌, ◌<◌, ◌≤◌, ◌^◌, ◌++◌, ℕ, Bool, List, [], All, length, IfOk, MatchOption, MatchResult};
 ghost use Rattle.scramblers.specs.declared.mode.Mode.{Mode};
 ghost use Rattle.symbol_map.specs.declared.sample.Sample.{Sample};
 ghost use Rattle.gateway.specs.declared.any_reader.LineKind.{LineKind};
 ghost use Rattle.gateway.specs.Decoding.{decoding_of};
 ghost use Rattle.gateway.specs.Given.{given, samples_in};
 ghost use Rattle.gateway.specs.Reads.{Read, ReadsAs, Ends};
-ghost use Rattle.gateway.specs.Stops.{StopsSo};
+ghost use Rattle.gateway.specs.Stopped.{IsIdle, IsStopped, IsUnfinished};
 
-use crate::label_bits::{LabelBits, put_bits};
 use crate::any_reader::{AnyReader, LineKind};
+use crate::label_bits::{LabelBits, put_bits};
+use crate::parts::sample_at;
 use line_coding::{Demodulate, Demodulator};
 use outside_calls::NoMemory;
 use rate_4800::Demodulator as QuarterDemodulator;
@@ -31,9 +31,9 @@ pub enum DecoderStop {
     All,
     /// There is no room for the bits of a label more.
     Full,
-    /// The line is lost since this symbol, counted from 0.
+    /// All bits are given, and the line is lost since this symbol, counted from 0.
     Lost(u64),
-    /// No line has more samples.
+    /// No line has so many samples: none was read.
     Late,
 }
 
@@ -42,7 +42,7 @@ pub enum DecoderStop {
 pub struct Pushed {
     /// Samples that were read.
     pub read: usize,
-    /// LabelBits that were given.
+    /// Bits that were given.
     pub written: usize,
     /// Where it stopped.
     pub stop: DecoderStop,
@@ -57,37 +57,37 @@ pub struct SampleDecoder {
     ghost early: { samples ≤ 2 ^ 50 },
 }
 
-/// The sample at this place among parts that are real and imaginary by turns.
-fn sample_at(parts: &[i16], place: usize) -> Sample
-    requires { 2 * place + 1 < length parts.now }
-    ensures re { result.re ≡ slice_index_or parts.now (2 * place) (pos 0) }
-    ensures im { result.im ≡ slice_index_or parts.now (2 * place + 1) (pos 0) }
-{
-    Sample {
-        re: parts[2 * place],
-        im: parts[2 * place + 1],
-    }
-}
-
-/// Gives the bits of the labels that are released, while there is room: the place behind them, and whether they are all given.
-fn take_bits(reader: &mut AnyReader, bits: &mut [u8], at: usize) -> (usize, bool)
+/// Gives the bits of the labels that are released, while there is room: the place behind them.
+fn take_bits(reader: &mut AnyReader, bits: &mut [u8], at: usize) -> usize
     requires { at ≤ length bits.old }
     ensures length { length bits.new ≡ length bits.old }
-    ensures next { result.0 ≤ length bits.new }
+    ensures next { result ≤ length bits.new }
     ensures reads { (line : LineKind) (mode : Mode) (samples : List Sample) (before : List Bool) → ReadsAs line mode reader.old samples (before ++ given at bits.old)
-        → ReadsAs line mode reader.new samples (before ++ given result.0 bits.new) }
-    ensures full { OnFalse result.1 (length bits.new < result.0 + 4) }
-    ensures taken { OnTrue result.1 ((decoding_of reader.new).pending ≡ []) }
+        → ReadsAs line mode reader.new samples (before ++ given result bits.new) }
+    ensures full { (decoding_of reader.new).pending ≢ [] → length bits.new < result + 4 }
     ensures count { (decoding_of reader.new).count ≡ (decoding_of reader.old).count }
 {
     let mut next = at;
     while bits.len() - next >= 4 {
         match reader.take() {
-            None => return (next, true),
+            None => return next,
             Some(taken) => next = put_bits(taken, bits, next),
         }
     }
-    (next, reader.pending() == 0)
+    next
+}
+
+/// Why no sample more can be read, if that is so.
+fn stop_of(reader: &AnyReader) -> Option<DecoderStop>
+    ensures { MatchOption result (IsIdle (decoding_of reader.now)) (λ stop. IsStopped stop (decoding_of reader.now)) }
+{
+    if reader.pending() > 0 {
+        return Some(DecoderStop::Full);
+    }
+    match reader.lost() {
+        Some(lost) => Some(DecoderStop::Lost(lost.symbol)),
+        None => None,
+    }
 }
 
 /// Gives the bits of these labels: how many.
@@ -115,9 +115,12 @@ fn put_labels<D: Demodulate<LABELS>, const LABELS: usize>(
 }
 
 impl SampleDecoder {
-    /// An ear before the first sample of the modem of that mode. All memory is taken here.
+    ghost use Rattle.gateway.specs.Decoded.{HasDecoded};
+    ghost use Rattle.gateway.specs.Stops.{StopsSo};
+
+    /// A decoder before the first sample of the modem of that mode. All memory is taken here.
     pub fn new(alloc: Global, line: LineKind, mode: Mode) -> Result<SampleDecoder, NoMemory>
-        ensures { IfOk result (λ ear. ReadsAs line mode ear.reader [] []) }
+        ensures { IfOk result (λ decoder. HasDecoded line mode decoder [] []) }
     {
         Ok(SampleDecoder {
             reader: AnyReader::new(alloc, line, mode)?,
@@ -125,11 +128,12 @@ impl SampleDecoder {
         })
     }
 
-    /// Samples more, a real and an imaginary part each, and the bits of the labels that they release, an octet each.
+    /// Samples more, a real and an imaginary part each, and the bits of the labels that they release, an octet each. Once the line is lost
+    /// no sample more is read: what waits is given, and `Lost` comes again.
     pub fn push(self, parts: &[i16], bits: &mut [u8]) -> (SampleDecoder, Pushed)
-        ensures reads { (line : LineKind) (mode : Mode) (samples : List Sample) (before : List Bool) → ReadsAs line mode self.reader samples before
-            → ReadsAs line mode result.0.reader (samples ++ samples_in result.1.read parts.now) (before ++ given result.1.written bits.new) }
-        ensures stops { StopsSo result.1.stop (length parts.now) (length bits.new) result.1.read result.1.written result.0.reader }
+        ensures decodes { (line : LineKind) (mode : Mode) (samples : List Sample) (before : List Bool) → HasDecoded line mode self samples before
+            → HasDecoded line mode result.0 (samples ++ samples_in result.1.read parts.now) (before ++ given result.1.written bits.new) }
+        ensures stops { StopsSo result.1.stop self (length parts.now) (length bits.new) result.1.read result.1.written result.0 }
         ensures length { length bits.new ≡ length bits.old }
         ensures read { 2 * result.1.read ≤ length parts.now }
         ensures written { result.1.written ≤ length bits.new }
@@ -138,58 +142,57 @@ impl SampleDecoder {
             mut reader,
             mut samples,
         } = self;
-        let mut written = 0;
-        for read in 0..parts.len() / 2 {
-            let (next, all) = take_bits(&mut reader, bits, written);
-            written = next;
-            if !all || samples >= MOST {
-                let stop = if all { DecoderStop::Late } else { DecoderStop::Full };
-                return (
-                    SampleDecoder { reader, samples },
-                    Pushed {
-                        read,
-                        written,
-                        stop,
-                    },
-                );
-            }
-            samples += 1;
-            if let Err(lost) = reader.push(sample_at(parts, read)) {
-                return (
-                    SampleDecoder { reader, samples },
-                    Pushed {
-                        read: read + 1,
-                        written,
-                        stop: DecoderStop::Lost(lost.symbol),
-                    },
-                );
-            }
+        let count = parts.len() / 2;
+        if count as u64 > MOST - samples {
+            let pushed = Pushed {
+                read: 0,
+                written: 0,
+                stop: DecoderStop::Late,
+            };
+            return (SampleDecoder { reader, samples }, pushed);
         }
-        let (written, all) = take_bits(&mut reader, bits, written);
-        (
-            SampleDecoder { reader, samples },
-            Pushed {
-                read: parts.len() / 2,
-                written,
-                stop: if all { DecoderStop::All } else { DecoderStop::Full },
-            },
-        )
+        let mut written = 0;
+        for read in 0..count {
+            written = take_bits(&mut reader, bits, written);
+            if let Some(stop) = stop_of(&reader) {
+                let pushed = Pushed {
+                    read,
+                    written,
+                    stop,
+                };
+                return (SampleDecoder { reader, samples }, pushed);
+            }
+            reader.push(sample_at(parts, read));
+            samples += 1;
+        }
+        written = take_bits(&mut reader, bits, written);
+        let stop = match stop_of(&reader) {
+            Some(stop) => stop,
+            None => DecoderStop::All,
+        };
+        let pushed = Pushed {
+            read: count,
+            written,
+            stop,
+        };
+        (SampleDecoder { reader, samples }, pushed)
     }
 
-    /// The bits of the labels that still waited, at the line's end: how many. Where bits wait that weren't given, where there is no room
-    /// for as many as there can be, and where the line is lost, it stays as it is.
+    /// The bits of the labels that still waited, at the line's end: how many. Where bits wait that weren't given, where the line is lost,
+    /// and where there is no room for as many as there can be, it stays as it is.
     pub fn finish(self, bits: &mut [u8]) -> Result<usize, (SampleDecoder, DecoderStop)>
-        ensures ends { (line : LineKind) (mode : Mode) (samples : List Sample) (before : List Bool) → ReadsAs line mode self.reader samples before
-            → IfOk result (λ written. Ends line mode samples (before ++ given written bits.new)) }
-        ensures stays { IfErr result (λ stopped. stopped.0 ≡ self) }
+        ensures ends { (line : LineKind) (mode : Mode) (samples : List Sample) (before : List Bool) → HasDecoded line mode self samples before
+            → IfOk result (λ written. Ends line mode samples before (given written bits.new)) }
+        ensures answer { MatchResult result (λ _. IsIdle (decoding_of self.reader) × (512 ≤ length bits.new))
+            (λ stopped. (stopped.0 ≡ self) × IsUnfinished stopped.1 (decoding_of self.reader) (length bits.new)) }
         ensures length { length bits.new ≡ length bits.old }
         ensures written { IfOk result (λ written. written ≤ length bits.new) }
     {
-        if self.reader.pending() > 0 || bits.len() < LAST_BITS {
-            return Err((self, DecoderStop::Full));
+        if let Some(stop) = stop_of(&self.reader) {
+            return Err((self, stop));
         }
-        if let Some(lost) = self.reader.lost() {
-            return Err((self, DecoderStop::Lost(lost.symbol)));
+        if bits.len() < LAST_BITS {
+            return Err((self, DecoderStop::Full));
         }
         let SampleDecoder { reader, samples: _ } = self;
         match reader {

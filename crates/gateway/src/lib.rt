@@ -4,6 +4,7 @@
 #![tactic(auto)]
 
 mod any_reader;
+mod bit_groups;
 mod decoder;
 mod deframer;
 mod encoder;
@@ -11,14 +12,17 @@ mod framer;
 mod label_bits;
 mod link;
 mod meter;
+mod parts;
 mod turns;
+
+pub mod signal_laws;
 
 pub use any_reader::{AnyReader, LineKind};
 pub use decoder::{DecoderStop, LAST_BITS, Pushed, SampleDecoder};
 pub use deframer::FrameReader;
-pub use encoder::SampleEncoder;
+pub use encoder::{Encoded, SampleEncoder};
 pub use framer::FrameWriter;
 pub use label_bits::LabelBits;
 pub use link::{Endpoint, LinkStop};
-pub use meter::LockMeter;
+pub use meter::{LockMeter, LockReading};
 pub use turns::{Carried, Told};

@@ -11,6 +11,13 @@ line_of (suc zero) = Some Middle
 line_of (suc (suc zero)) = Some Quarters
 line_of (suc (suc (suc n))) = None
 
+-- of a line that is sent: it has no middle
+abbrev pub sent_line_of : ℕ → Option LineKind
+sent_line_of zero = Some Begun
+sent_line_of (suc zero) = None
+sent_line_of (suc (suc zero)) = Some Quarters
+sent_line_of (suc (suc (suc n))) = None
+
 abbrev pub mode_of : ℕ → Option Mode
 mode_of zero = Some Call
 mode_of (suc zero) = Some Answer

@@ -1,5 +1,8 @@
 pub mod Held
 pub mod Codes
 pub mod Led
+pub mod Answered
 pub mod Decoders
+pub mod Encoders
+pub mod Meters
 pub mod Deframers

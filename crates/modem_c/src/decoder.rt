@@ -1,31 +1,24 @@
 // Samples to bits.
-ghost use Rattle.std.specs.Prelude.{◌≡◌, ◌*◌, ◌/◌, ◌+◌, ◌<◌, ◌≤◌, ◌++◌, [], Bool, List, Some, pos, length};
+ghost use Rattle.std.specs.Prelude.{◌≡◌, ◌*◌, ◌≤◌, ◌++◌, [], Bool, List, Some, None, IsSomeAnd, MatchResult, length};
 ghost use Rattle.scramblers.specs.declared.mode.Mode.{Mode};
 ghost use Rattle.symbol_map.specs.declared.sample.Sample.{Sample};
 ghost use Rattle.gateway.specs.declared.any_reader.LineKind.{LineKind};
 ghost use Rattle.gateway.specs.Given.{given, samples_in};
 ghost use Rattle.gateway.specs.Reads.{Ends};
+ghost use Rattle.modem_c.specs.declared.machine.Machine.TheVariants as machines;
+ghost use Rattle.modem_c.specs.Answered.{Missing, Answered, MadeOfBoth};
 ghost use Rattle.modem_c.specs.Codes as codes;
-ghost use Rattle.modem_c.specs.Decoders.{Decodes};
+ghost use Rattle.modem_c.specs.Decoders.{Decodes, PushAnswers, FinishAnswers};
+ghost use Rattle.modem_c.specs.Decoders as decoders;
+ghost use Rattle.modem_c.specs.Led.{decoder_in};
 
 use crate::codes::{BAD_ARGUMENT, DONE, EMPTY, FULL, LATE, LOST, NO_MEMORY, WRONG_KIND, mode_of};
 use crate::handle::{Handle, make, put, take};
 use crate::machine::Machine;
-use gateway::{LineKind, SampleDecoder, DecoderStop};
+use crate::progress::Progress;
+use gateway::{DecoderStop, LineKind, SampleDecoder};
 use std::alloc::Global;
 use std::mem;
-
-/// How far a push came.
-#[repr(C)]
-#[derive(Clone, Copy)]
-pub struct Progress {
-    /// Samples that were read, two parts each.
-    pub read: usize,
-    /// LabelBits that were given.
-    pub written: usize,
-    /// The symbol since which the line is lost.
-    pub lost: u64,
-}
 
 fn line_of(code: u8) -> Option<LineKind>
     ensures { result ≡ codes.line_of code }
@@ -38,16 +31,56 @@ fn line_of(code: u8) -> Option<LineKind>
     }
 }
 
+/// The code of a stop.
+fn code_of(stop: DecoderStop) -> i32
+    ensures { result ≡ decoders.code_of stop }
+{
+    match stop {
+        DecoderStop::All => DONE,
+        DecoderStop::Full => FULL,
+        DecoderStop::Lost(_) => LOST,
+        DecoderStop::Late => LATE,
+    }
+}
+
+/// The symbol since which the line is lost.
+fn lost_of(stop: DecoderStop) -> u64
+    ensures { result ≡ decoders.lost_of stop }
+{
+    match stop {
+        DecoderStop::Lost(symbol) => symbol,
+        _ => 0,
+    }
+}
+
+/// The decoder that the handle leads to, and the box that it was in, or why there is none. The handle is empty meanwhile.
+fn take_decoder(alloc: Global, handle: &mut Handle) -> Result<(SampleDecoder, Box<Machine>), i32>
+    ensures { MatchResult result (λ taken. (handle.old.value ≡ Some (machines.Decoder taken.0)) × (taken.1.value ≡ machines.Spent))
+        (λ code. (decoder_in handle.old.value ≡ None) × Missing handle.old.value handle.new.value code) }
+{
+    let Some(mut machine) = take(alloc, handle) else {
+        return Err(EMPTY);
+    };
+    match mem::replace(machine.as_mut(), Machine::Spent) {
+        Machine::Decoder(decoder) => Ok((decoder, machine)),
+        other => {
+            *machine = other;
+            put(alloc, handle, machine);
+            Err(WRONG_KIND)
+        }
+    }
+}
+
 /// A decoder before the first sample of a line of this kind, sent by the modem of that mode.
 #[unsafe(no_mangle)]
 pub extern "C" fn modem_decoder_new(alloc: Global, handle: &mut Handle, line: u8, mode: u8) -> i32
-    ensures { (l : LineKind) (m : Mode) → codes.line_of line ≡ Some l → codes.mode_of mode ≡ Some m → result ≡ pos 0 → Decodes l m handle.new.value [] [] }
+    ensures { MadeOfBoth (codes.line_of line) (codes.mode_of mode) handle.old.value handle.new.value result (λ l m led. Decodes l m led [] []) }
 {
     let (Some(line), Some(mode)) = (line_of(line), mode_of(mode)) else {
         return BAD_ARGUMENT;
     };
     match SampleDecoder::new(alloc, line, mode) {
-        Ok(ear) => make(alloc, handle, Machine::Decoder(ear)),
+        Ok(decoder) => make(alloc, handle, Machine::Decoder(decoder)),
         Err(_) => NO_MEMORY,
     }
 }
@@ -63,45 +96,26 @@ pub extern "C" fn modem_decoder_push(
 ) -> i32
     ensures decodes { (line : LineKind) (mode : Mode) (samples : List Sample) (before : List Bool) → Decodes line mode handle.old.value samples before
         → Decodes line mode handle.new.value (samples ++ samples_in progress.new.read parts.now) (before ++ given progress.new.written bits.new) }
-    ensures done { (line : LineKind) (mode : Mode) (samples : List Sample) (before : List Bool) → Decodes line mode handle.old.value samples before
-        → result ≡ pos 0 → progress.new.read ≡ length parts.now / 2 }
-    ensures full { (line : LineKind) (mode : Mode) (samples : List Sample) (before : List Bool) → Decodes line mode handle.old.value samples before
-        → result ≡ pos 2 → length bits.new < progress.new.written + 4 }
+    ensures answer { Answered (decoder_in handle.old.value) handle.old.value handle.new.value result
+        (λ old. IsSomeAnd (decoder_in handle.new.value) (PushAnswers old (length parts.now) (length bits.new) result progress.new)) }
     ensures length { length bits.new ≡ length bits.old }
     ensures read { 2 * progress.new.read ≤ length parts.now }
     ensures written { progress.new.written ≤ length bits.new }
 {
-    *progress = Progress {
-        read: 0,
-        written: 0,
-        lost: 0,
+    *progress = Progress::none();
+    let (decoder, mut machine) = match take_decoder(alloc, handle) {
+        Ok(taken) => taken,
+        Err(code) => return code,
     };
-    let Some(mut machine) = take(alloc, handle) else {
-        return EMPTY;
-    };
-    let code = match mem::replace(machine.as_mut(), Machine::Spent) {
-        Machine::Decoder(ear) => {
-            let (ear, pushed) = ear.push(parts, bits);
-            *machine = Machine::Decoder(ear);
-            progress.read = pushed.read;
-            progress.written = pushed.written;
-            match pushed.stop {
-                DecoderStop::All => DONE,
-                DecoderStop::Full => FULL,
-                DecoderStop::Lost(symbol) => {
-                    progress.lost = symbol;
-                    LOST
-                }
-                DecoderStop::Late => LATE,
-            }
-        }
-        other => {
-            *machine = other;
-            WRONG_KIND
-        }
-    };
+    let (decoder, pushed) = decoder.push(parts, bits);
+    *machine = Machine::Decoder(decoder);
     put(alloc, handle, machine);
-    code
+    *progress = Progress {
+        read: pushed.read,
+        written: pushed.written,
+        lost: lost_of(pushed.stop),
+    };
+    code_of(pushed.stop)
 }
 
 /// The bits of the labels that still wait, at the line's end. The decoder is spent then.
@@ -113,40 +127,28 @@ pub extern "C" fn modem_decoder_finish(
     progress: &mut Progress,
 ) -> i32
     ensures ends { (line : LineKind) (mode : Mode) (samples : List Sample) (before : List Bool) → Decodes line mode handle.old.value samples before
-        → result ≡ pos 0 → Ends line mode samples (before ++ given progress.new.written bits.new) }
+        → result ≡ DONE → Ends line mode samples before (given progress.new.written bits.new) }
+    ensures answer { Answered (decoder_in handle.old.value) handle.old.value handle.new.value result
+        (λ old. FinishAnswers old (length bits.new) result progress.new handle.old.value handle.new.value) }
     ensures length { length bits.new ≡ length bits.old }
     ensures written { progress.new.written ≤ length bits.new }
 {
-    *progress = Progress {
-        read: 0,
-        written: 0,
-        lost: 0,
+    *progress = Progress::none();
+    let (decoder, mut machine) = match take_decoder(alloc, handle) {
+        Ok(taken) => taken,
+        Err(code) => return code,
     };
-    let Some(mut machine) = take(alloc, handle) else {
-        return EMPTY;
-    };
-    let code = match mem::replace(machine.as_mut(), Machine::Spent) {
-        Machine::Decoder(ear) => match ear.finish(bits) {
-            Ok(written) => {
-                progress.written = written;
-                DONE
-            }
-            Err((ear, stop)) => {
-                *machine = Machine::Decoder(ear);
-                match stop {
-                    DecoderStop::Lost(symbol) => {
-                        progress.lost = symbol;
-                        LOST
-                    }
-                    _ => FULL,
-                }
-            }
-        },
-        other => {
-            *machine = other;
-            WRONG_KIND
+    match decoder.finish(bits) {
+        Ok(written) => {
+            put(alloc, handle, machine);
+            progress.written = written;
+            DONE
         }
-    };
-    put(alloc, handle, machine);
-    code
+        Err((decoder, stop)) => {
+            *machine = Machine::Decoder(decoder);
+            put(alloc, handle, machine);
+            progress.lost = lost_of(stop);
+            code_of(stop)
+        }
+    }
 }

@@ -1,10 +1,11 @@
-use Rattle.std.proofs.Common.{ℕ, ◌∷◌, ◌*◌, ◌+◌, ◌≡◌, ◌≤◌, ◌++◌, Bool, List, [], length, suc, sym, subst, append_assoc, ◌∙◌, arith, ℤ, pos, get_or}
+use Rattle.std.proofs.Common.{ℕ, ◌∷◌, ◌*◌, ◌+◌, ◌/◌, ◌≡◌, ◌≤◌, ◌++◌, Bool, List, [], length, suc, sym, subst, append_assoc, ◌∙◌, arith, ℤ, pos, get_or}
 use Rattle.scramblers.specs.declared.mode.Mode.{Mode}
 use Rattle.symbol_map.specs.declared.sample.Sample.{Sample}
 use Rattle.gateway.specs.declared.any_reader.LineKind.{LineKind}
 use Rattle.gateway.specs.Given.{given, samples_in}
 use Rattle.gateway.specs.Reads.{ReadsAs}
 use Rattle.gateway.specs.declared.any_reader.AnyReader.{AnyReader}
+use Rattle.gateway.proofs.Decoded.{length-more}
 use Rattle.gateway.proofs.decoder.SampleDecoder.push.Goals as goal
 
 -- one sample more
@@ -15,20 +16,34 @@ one_more line mode r samples parts k k' s bits ek re im h =
     subst (λ (n : ℕ). ReadsAs line mode r (samples ++ samples_in n parts) bits) (sym ek)
     (subst (λ (all : List Sample). ReadsAs line mode r all bits) (append_assoc samples (samples_in k parts) _ ∙ (λ i. samples ++ (samples_in k parts ++ record { re = re i; im = im i } ∷ []))) h)
 
-pub returns-in-Err-clause-reads : goal.returns-in-Err-clause-reads
-returns-in-Err-clause-reads c = λ line mode samples before start.
-    let so_far = samples_in c.loop-read.read c.args.parts.now in let bits = before ++ given c.take_bits-next.result.0 c.take_bits-next.new.bits in
-    one_more line mode c.push.new.self samples c.args.parts.now c.loop-read.read (c.loop-read.read + 1) c.sample_at.result bits (omega arith) c.sample_at.ensures.re c.sample_at.ensures.im
-    (c.push.ensures.reads line mode (samples ++ so_far) bits (c.take_bits-next.ensures.reads line mode (samples ++ so_far) before (c.loop-read.invariant.reads line mode samples before start)))
+pub returns-in-Some-clause-decodes : goal.returns-in-Some-clause-decodes
+returns-in-Some-clause-decodes c = λ line mode samples before start. record {
+  reads = c.take_bits-written.ensures.reads line mode (samples ++ samples_in c.loop-read.read c.args.parts.now) before
+      (c.loop-read.invariant.reads line mode samples before start.reads);
+  counted = length-more samples c.loop-read.read c.args.parts.now c.args.self.samples c.loop-read.samples start.counted c.loop-read.invariant.samples;
+}
 
 pub loop-read-preserved : goal.loop-read-preserved
 loop-read-preserved c = record {
-  same = c.take_bits-next.ensures.length ∙ c.loop-read.invariant.same;
-  written = c.take_bits-next.ensures.next;
-  count = omega (arith, c.push.ensures.count, c.take_bits-next.ensures.count, c.loop-read.invariant.count);
-  early = omega (arith, c.if-samples-ge-MOST.false);
+  same = c.take_bits-written.ensures.length ∙ c.loop-read.invariant.same;
+  written = c.take_bits-written.ensures.next;
+  few = omega (arith, c.push.ensures.count, c.take_bits-written.ensures.count, c.loop-read.invariant.few);
+  samples = omega (arith, c.loop-read.invariant.samples);
   reads = λ line mode samples before start.
-      let so_far = samples_in c.loop-read.read c.args.parts.now in let bits = before ++ given c.take_bits-next.result.0 c.take_bits-next.new.bits in
+      let so_far = samples_in c.loop-read.read c.args.parts.now in let bits = before ++ given c.take_bits-written.result c.take_bits-written.new.bits in
       one_more line mode c.push.new.self samples c.args.parts.now c.loop-read.read (c.loop-read.read + 1) c.sample_at.result bits (omega arith) c.sample_at.ensures.re c.sample_at.ensures.im
-      (c.push.ensures.reads line mode (samples ++ so_far) bits (c.take_bits-next.ensures.reads line mode (samples ++ so_far) before (c.loop-read.invariant.reads line mode samples before start)));
+      (c.push.ensures.reads line mode (samples ++ so_far) bits (c.take_bits-written.ensures.reads line mode (samples ++ so_far) before (c.loop-read.invariant.reads line mode samples before start)));
 }
+
+pub returns-clause-decodes : goal.returns-clause-decodes
+returns-clause-decodes c = λ line mode samples before start.
+    let count = length c.args.parts.now / 2 in
+    let all : c.loop-read.read ≡ count = omega (arith, c.loop-read-test.false) in
+    let bits = before ++ given c.take_bits-written-2.result c.take_bits-written-2.new.bits in
+    record {
+      reads = subst (λ (n : ℕ). ReadsAs line mode c.take_bits-written-2.new.reader (samples ++ samples_in n c.args.parts.now) bits) all
+          (c.take_bits-written-2.ensures.reads line mode (samples ++ samples_in c.loop-read.read c.args.parts.now) before
+          (c.loop-read.invariant.reads line mode samples before start.reads));
+      counted = length-more samples count c.args.parts.now c.args.self.samples c.loop-read.samples start.counted
+          (subst (λ (n : ℕ). c.loop-read.samples ≡ c.args.self.samples + n) all c.loop-read.invariant.samples);
+    }

@@ -1,4 +1,4 @@
-use Rattle.std.proofs.Common.{◌≡◌, ◌≤◌, ◌^◌, ◌++◌, Bool, List, length}
+use Rattle.std.proofs.Common.{◌≡◌, ◌+◌, ◌≤◌, ◌++◌, Bool, List, length}
 use Rattle.scramblers.specs.declared.mode.Mode.{Mode}
 use Rattle.symbol_map.specs.declared.sample.Sample.{Sample}
 use Rattle.gateway.specs.declared.any_reader.LineKind.{LineKind}
@@ -11,8 +11,8 @@ abbrev pub invariant-loop-read : goal.invariant-loop-read
 invariant-loop-read l = record {
   same : length l.bits ≡ length l.fn.bits;
   written : l.written ≤ length l.bits;
-  count : (decoding_of l.reader).count ≤ l.samples;
-  early : l.samples ≤ 2 ^ 50;
+  few : (decoding_of l.reader).count ≤ l.samples;
+  samples : l.samples ≡ l.fn.self.samples + l.read;
   reads : (line : LineKind) (mode : Mode) (samples : List Sample) (before : List Bool) → ReadsAs line mode l.fn.self.reader samples before
       → ReadsAs line mode l.reader (samples ++ samples_in l.read l.parts) (before ++ given l.written l.bits);
 }

@@ -1,0 +1,12 @@
+use Rattle.std.proofs.Common.{ℕ, ◌+◌, ◌*◌, ◌/◌, ◌%◌, ◌≡◌, get_or, nat_eq, ap, arith}
+use Rattle.gateway.proofs.Encoding.{heard-two}
+use Rattle.gateway.proofs.bit_groups.two_at.Goals as goal
+
+pub returns-clause-bits : goal.returns-clause-bits
+returns-clause-bits c =
+    let bits = c.args.bits.now in let at = c.args.at in
+    let w : ℕ = get_or bits at 0 in let x : ℕ = get_or bits (at + 1) 0 in
+    let n : ℕ = w % 2 + 2 * (x % 2) in
+    let ew : w % 2 ≡ n % 2 = omega arith in
+    let ex : x % 2 ≡ n / 2 % 2 = omega arith in
+    heard-two bits at _ _ (ap (λ k. nat_eq k 1) ew) (ap (λ k. nat_eq k 1) ex)

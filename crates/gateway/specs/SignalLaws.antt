@@ -1,0 +1,77 @@
+-- Laws that join an encoder and a decoder.
+use Rattle.std.specs.Prelude.{◌≡◌, ℕ, ◌+◌, ◌*◌, ◌<◌, ◌≤◌, Bool, List, [], ◌∷◌, ◌++◌, length, None}
+use Rattle.plain_lists.specs.Prefix.{IsPrefixOf}
+use Rattle.scramblers.specs.declared.mode.Mode.{Mode}
+use Rattle.symbol_map.specs.declared.sample.Sample.{Sample}
+use Rattle.symbol_map.specs.Distance.{distance_of}
+use Rattle.exact_decoder.specs.Decoder.{Decoding}
+use Rattle.noise_bound.specs.Near.{sure}
+use Rattle.noise_bound.specs.Margins.{distances}
+use Rattle.gateway.specs.declared.any_reader.LineKind.TheVariants as lines
+use Rattle.gateway.specs.declared.decoder.SampleDecoder.{SampleDecoder}
+use Rattle.gateway.specs.declared.encoder.SampleEncoder.{SampleEncoder}
+use Rattle.gateway.specs.Decoded.{HasDecoded}
+use Rattle.gateway.specs.Decoding.{decoding_of}
+use Rattle.gateway.specs.Encoded.{HasEncoded}
+use Rattle.gateway.specs.Reads.{Ends}
+
+-- Of samples that were sent the first ones were heard as these, with so much noise: less in all than 2.5 squares of a unit of the map, whatever its places.
+pub record IsHeardOf (sent heard : List Sample) : Type 0 where
+  pub first : List Sample
+  pub later : List Sample
+  pub parts : sent ≡ first ++ later
+  pub same_length : length first ≡ length heard
+  pub near : distances first heard < sure
+
+-- each sample is heard nearer than this to the one that was sent
+abbrev pub AreEachNear : ℕ → List Sample → List Sample → Type 0
+AreEachNear bound [] [] = Unit {0}
+AreEachNear bound [] (s ∷ heard) = ⊥
+AreEachNear bound (p ∷ sent) [] = ⊥
+AreEachNear bound (p ∷ sent) (s ∷ heard) = (distance_of p s < bound) × AreEachNear bound sent heard
+
+-- half the way between two points at 4800 bit/s: the square root of five squares of a unit of the map, of 2048 units each
+abbrev pub half_way : ℕ
+half_way = 20971520
+
+-- Of samples that were sent the first ones were heard as these, each with noise of less than half the way to the next point.
+pub record IsHeardEach (sent heard : List Sample) : Type 0 where
+  pub first : List Sample
+  pub later : List Sample
+  pub parts : sent ≡ first ++ later
+  pub near : AreEachNear half_way first heard
+
+-- A decoder of so many bits a sample isn't lost, the bits that it gave begin those that were sent, and of the samples that it heard at most
+-- so many are still to come, but for the labels that wait.
+pub record FollowsSent (each most : ℕ) (d : Decoding) (sent given : List Bool) (heard : List Sample) : Type 0 where
+  pub never_lost : d.lost ≡ None
+  pub were_sent : IsPrefixOf given sent
+  pub few_to_come : each * length heard ≤ length given + each * (length d.pending + most)
+
+-- at 9600 bit/s, with noise below 2.5 squares of a unit of the map in all
+abbrev pub SentBitsComeBack : Type 0
+SentBitsComeBack = (mode : Mode) (e : SampleEncoder) (d : SampleDecoder) (sent given : List Bool) (samples heard : List Sample)
+    → HasEncoded lines.Begun mode e sent samples → IsHeardOf samples heard → HasDecoded lines.Begun mode d heard given
+    → FollowsSent 4 126 (decoding_of d.reader) sent given heard
+
+-- and without noise
+abbrev pub SentBitsComeSoon : Type 0
+SentBitsComeSoon = (mode : Mode) (e : SampleEncoder) (d : SampleDecoder) (sent given : List Bool) (heard later : List Sample)
+    → HasEncoded lines.Begun mode e sent (heard ++ later) → HasDecoded lines.Begun mode d heard given
+    → FollowsSent 4 24 (decoding_of d.reader) sent given heard
+
+-- with those that are given at its end they are all that were sent
+abbrev pub AllBitsComeBack : Type 0
+AllBitsComeBack = (mode : Mode) (e : SampleEncoder) (sent given last : List Bool) (samples : List Sample)
+    → HasEncoded lines.Begun mode e sent samples → Ends lines.Begun mode samples given last → given ++ last ≡ sent
+
+-- at 4800 bit/s, where no sample is heard farther off than half the way to the next point: none is behind
+abbrev pub QuarterBitsComeBack : Type 0
+QuarterBitsComeBack = (mode : Mode) (e : SampleEncoder) (d : SampleDecoder) (sent given : List Bool) (samples heard : List Sample)
+    → HasEncoded lines.Quarters mode e sent samples → IsHeardEach samples heard → HasDecoded lines.Quarters mode d heard given
+    → FollowsSent 2 0 (decoding_of d.reader) sent given heard
+
+abbrev pub AllQuarterBitsComeBack : Type 0
+AllQuarterBitsComeBack = (mode : Mode) (e : SampleEncoder) (sent given last : List Bool) (samples heard : List Sample)
+    → HasEncoded lines.Quarters mode e sent samples → AreEachNear half_way samples heard → Ends lines.Quarters mode heard given last
+    → given ++ last ≡ sent

@@ -1,0 +1,27 @@
+// How far a push came.
+ghost use Rattle.std.specs.Prelude.{◌≡◌};
+
+/// How far a push came.
+#[repr(C)]
+#[derive(Clone, Copy)]
+pub struct Progress {
+    /// What was read of what came: samples of two parts each, bits, or octets of bits with their samples.
+    pub read: usize,
+    /// What was written of what it became: bits, or samples of two parts each.
+    pub written: usize,
+    /// The symbol since which the line is lost, counted from 0, or 0.
+    pub lost: u64,
+}
+
+impl Progress {
+    /// Nothing yet.
+    pub(crate) fn none() -> Progress
+        ensures { result ≡ record { read = 0; written = 0; lost = 0 } }
+    {
+        Progress {
+            read: 0,
+            written: 0,
+            lost: 0,
+        }
+    }
+}
