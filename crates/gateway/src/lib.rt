@@ -19,6 +19,6 @@ pub use deframer::FrameReader;
 pub use encoder::SampleEncoder;
 pub use framer::FrameWriter;
 pub use label_bits::LabelBits;
-pub use link::{Endpoint, LinkStop};
+pub use link::{BreakAsked, Endpoint, LinkStop, TurnState};
 pub use meter::LockMeter;
 pub use turns::{Carried, Told};
