@@ -1,5 +1,5 @@
 // An end of the link, turn by turn. What its calls ask is kept by the type, or tested.
-ghost use Rattle.std.specs.Prelude.{◌≡◌, ◌*◌, ◌≤◌, ◌↔◌, IsTrue, None, IfOk, is_some, length};
+ghost use Rattle.std.specs.Prelude.{◌≡◌, ◌*◌, ◌≤◌, ◌↔◌, IsTrue, None, is_some, length, MatchResult};
 ghost use Rattle.std.specs.Bool.{OnFalse, OnTrue};
 ghost use Rattle.std.specs.Option.{MatchOption};
 ghost use Rattle.lapm_link.specs.Fits.{IsSetUp};
@@ -100,7 +100,7 @@ impl Endpoint {
 
     /// An end before its first turn; none where it may not be set up so. All memory is taken here.
     pub fn new(alloc: Global, setup: Setup) -> Result<Option<Endpoint>, NoMemory>
-        ensures { IfOk result (λ made. MatchOption made (IsSetUp setup → ⊥) (λ end. IsSetUp setup × IsNew setup end)) }
+        ensures { MatchResult result (λ made. MatchOption made (IsSetUp setup → ⊥) (λ end. IsSetUp setup × IsNew setup end)) (λ _. IsSetUp setup) }
     {
         if !is_set_up(&setup) {
             return Ok(None);

@@ -3,3 +3,5 @@ pub mod Codes
 pub mod Led
 pub mod Decoders
 pub mod Deframers
+pub mod Answers
+pub mod Links
