@@ -23,6 +23,6 @@ pub use deframer::FrameReader;
 pub use encoder::{Encoded, SampleEncoder};
 pub use framer::FrameWriter;
 pub use label_bits::LabelBits;
-pub use link::{Endpoint, LinkStop};
 pub use meter::{LockMeter, LockReading};
+pub use link::{BreakAsked, Endpoint, LinkStop, TurnState};
 pub use turns::{Carried, Told};

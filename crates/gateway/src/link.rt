@@ -1,29 +1,65 @@
 // An end of the link, turn by turn. What its calls ask is kept by the type, or tested.
-ghost use Rattle.std.specs.Prelude.{◌≡◌, ◌+◌, ◌*◌, ◌≤◌, ◌<◌, ◌^◌, None, IsTrue, IfOk};
+ghost use Rattle.std.specs.Prelude.{◌≡◌, ◌*◌, ◌≤◌, ◌↔◌, IsTrue, None, is_some, length, MatchResult};
+ghost use Rattle.std.specs.Bool.{OnFalse, OnTrue};
+ghost use Rattle.std.specs.Option.{MatchOption};
 ghost use Rattle.lapm_link.specs.Fits.{IsSetUp};
 ghost use Rattle.lapm_link.specs.Stands.{taken_of, undelivered_of, waiting_of};
+ghost use Rattle.gateway.specs.TurnStates.{times_heard, most_turns};
 
 use crate::turns::{Carried, Told, arrived_of, told_of};
-use frame_check::Info;
+use frame_check::{Check, Info};
 use lapm_link::{AnyEnd, Detecting, LinkFault, Phase, Sent, Setup};
 use outside_calls::NoMemory;
 use shared_terms::Role;
 use std::alloc::Global;
 
 /// No end has more turns.
-const LATEST: u64 = 1 << 40;
+const MOST_TURNS: u64 = 1 << 40;
 
-/// Why a call of an end does nothing, or ends its link.
+/// No file has more pieces.
+const MOST_PIECES: u64 = 1 << 56;
+
+/// Why an end doesn't hear or speak, or ends its link.
 #[derive(Clone, Copy, PartialEq, Eq)]
 pub enum LinkStop {
     /// It isn't its turn: an end hears, all that it took is delivered, and it speaks.
     Order,
-    /// No end has more turns.
+    /// No end has more turns than 2^40.
     Late,
-    /// It wants no segment, or one of another length.
-    NotWanted,
     /// The link broke.
     Broken(LinkFault),
+}
+
+/// What an end answers that is asked for a break.
+#[derive(Clone, Copy, PartialEq, Eq)]
+pub enum BreakAsked {
+    /// It will tell the other end.
+    Taken,
+    /// It isn't connected, a break waits for its answer, or the rest after the last one isn't over.
+    Refused,
+    /// It has no turn left.
+    Late,
+}
+
+/// Where an end is in its turns.
+#[derive(Clone, Copy)]
+pub struct TurnState {
+    /// How many turns are over.
+    pub turn: u64,
+    /// Whether it has heard in this turn.
+    pub heard: bool,
+    /// Whether all that it took is delivered.
+    pub delivered: bool,
+}
+
+impl TurnState {
+    ghost use Rattle.gateway.specs.TurnStates.{may_hear};
+
+    fn may_hear(self) -> bool
+        ensures { result ≡ may_hear self }
+    {
+        !self.heard && self.delivered
+    }
 }
 
 /// An end of the link.
@@ -31,21 +67,16 @@ pub enum LinkStop {
 pub struct Endpoint {
     link: AnyEnd,
     role: Role,
-    turn: u64,
-    hears: u64,
-    /// Whether it has heard in this turn.
-    heard: bool,
-    /// Whether all that it took is delivered.
-    delivered: bool,
-    ghost few: { hears ≤ 2 ^ 40 },
-    ghost counted: { taken_of link ≤ 128 * hears },
-    ghost all_delivered: { IsTrue delivered → undelivered_of link ≡ 0 },
+    state: TurnState,
+    ghost early: { times_heard state ≤ most_turns },
+    ghost counted: { taken_of link ≤ 128 * times_heard state },
+    ghost all_delivered: { IsTrue state.delivered → undelivered_of link ≡ 0 },
     ghost given: { waiting_of link ≡ None },
 }
 
 /// Whether an end may be set up so.
 fn is_set_up(setup: &Setup) -> bool
-    ensures { IsTrue result → IsSetUp setup.now }
+    ensures { IsTrue result ↔ IsSetUp setup.now }
 {
     1 <= setup.offer.tx_len
         && setup.offer.tx_len <= 1024
@@ -62,158 +93,181 @@ fn is_set_up(setup: &Setup) -> bool
 }
 
 impl Endpoint {
+    ghost use Rattle.std.specs.Prelude.{ℕ, List, Some};
+    ghost use Rattle.link_account.specs.Account.{Account, delivers, after_delivery, after_offer, after_busy, is_done, check_of};
+    ghost use Rattle.lapm_link.specs.Stands.{StandsFor, wanted_of, piece_of};
+    ghost use Rattle.gateway.specs.Endpoints.{IsNew, IsSameTurn, HearsTurn, after_delivering, longest_wanted, wanted_length, is_taken, AnswersBreak, SpeaksTurn};
+
     /// An end before its first turn; none where it may not be set up so. All memory is taken here.
-    pub fn new(alloc: Global, setup: Setup) -> Result<Option<Endpoint>, NoMemory> {
+    pub fn new(alloc: Global, setup: Setup) -> Result<Option<Endpoint>, NoMemory>
+        ensures { MatchResult result (λ made. MatchOption made (IsSetUp setup → ⊥) (λ end. IsSetUp setup × IsNew setup end)) (λ _. IsSetUp setup) }
+    {
         if !is_set_up(&setup) {
             return Ok(None);
         }
         Ok(Some(Endpoint {
             link: AnyEnd::Detecting(Detecting::new(alloc, setup)?),
             role: setup.role,
-            turn: 0,
-            hears: 0,
-            heard: false,
-            delivered: true,
+            state: TurnState {
+                turn: 0,
+                heard: false,
+                delivered: true,
+            },
         }))
     }
 
-    /// It hears what came in this turn: the length of the other end's break, where one is given.
-    pub fn hear(self, carried: &Carried<'_>) -> (Endpoint, Result<Option<u8>, LinkStop>) {
-        if self.heard || !self.delivered {
+    /// It hears what came in this turn: the length of the other end's break in units of 10 ms, where one is given. After a break of the link
+    /// it goes on as a closed end.
+    pub fn hear(self, carried: &Carried<'_>) -> (Endpoint, Result<Option<u8>, LinkStop>)
+        ensures { HearsTurn self carried.now result.0 result.1 }
+    {
+        if !self.state.may_hear() {
             return (self, Err(LinkStop::Order));
         }
-        if self.turn >= LATEST || self.hears >= LATEST {
+        if self.state.turn >= MOST_TURNS {
             return (self, Err(LinkStop::Late));
         }
-        let Endpoint {
-            link,
-            role,
-            turn,
-            hears,
-            heard: _,
-            delivered: _,
-        } = self;
+        let Endpoint { link, role, state } = self;
         let arrived = arrived_of(carried, link.check(), role.other());
-        match link.hear(turn, &arrived) {
+        match link.hear(state.turn, &arrived) {
             Ok(mut link) => {
                 let given = link.given_break();
-                let end = Endpoint {
-                    link,
-                    role,
-                    turn,
-                    hears: hears + 1,
+                let state = TurnState {
+                    turn: state.turn,
                     heard: true,
                     delivered: false,
                 };
-                (end, Ok(given))
+                (Endpoint { link, role, state }, Ok(given))
             }
             Err(broken) => {
-                let end = Endpoint {
-                    link: AnyEnd::Closed(broken.end),
-                    role,
-                    turn,
-                    hears: hears + 1,
+                let link = AnyEnd::Closed(broken.end);
+                let state = TurnState {
+                    turn: state.turn,
                     heard: true,
                     delivered: true,
                 };
-                (end, Err(LinkStop::Broken(broken.fault)))
+                let stop = LinkStop::Broken(broken.fault);
+                (Endpoint { link, role, state }, Err(stop))
             }
         }
     }
 
-    /// Copies the next segment in order. False where none is left.
-    pub fn deliver(&mut self, segment: &mut Info) -> bool {
+    /// Copies the next segment in order, in place of what was there. False where none is left.
+    pub fn deliver(&mut self, segment: &mut Info) -> bool
+        ensures answer { (a : Account) → StandsFor self.old.link a → result ≡ is_some (delivers a) }
+        ensures segment { (a : Account) (next : List ℕ) → StandsFor self.old.link a → delivers a ≡ Some next → segment.new ≡ next }
+        ensures account { (a : Account) → StandsFor self.old.link a → StandsFor self.new.link (after_delivery a) }
+        ensures unchanged { OnFalse result (segment.new ≡ segment.old) }
+        ensures role { self.new.role ≡ self.old.role }
+        ensures state { self.new.state ≡ after_delivering result self.old.state }
+    {
         let is_delivered = self.link.deliver(segment);
         if !is_delivered {
-            self.delivered = true;
+            self.state.delivered = true;
         }
         is_delivered
     }
 
-    /// The length of the segment that it wants next, where it wants one.
-    pub fn wants(&self) -> Option<u16> {
+    /// The length of the longest piece that it takes next, where it wants one, in octets.
+    pub fn wants(&self) -> Option<u16>
+        ensures value { result ≡ longest_wanted (wanted_of self.now.link) (piece_of self.now.link) }
+        ensures account { (a : Account) → StandsFor self.now.link a → result ≡ wanted_length a }
+    {
         match self.link.wants() {
-            Some(_) => Some(self.link.piece()),
-            None => None,
+            Some(number) if number < MOST_PIECES => Some(self.link.piece()),
+            _ => None,
         }
     }
 
-    /// Takes the next piece of the file. A shorter one ends the file, and an empty one ends it without a segment.
-    pub fn offer(&mut self, piece: &[u8]) -> Result<(), LinkStop> {
-        match self.link.wants() {
-            Some(number) if number < 1 << 56 => {}
-            _ => return Err(LinkStop::NotWanted),
+    /// Takes the next piece of the file. A shorter one ends the file, and an empty one ends it without a segment. False where it wants none,
+    /// or none that is so long.
+    pub fn offer(&mut self, piece: &[u8]) -> bool
+        ensures answer { (a : Account) → StandsFor self.old.link a → result ≡ is_taken (length piece.now) (wanted_length a) }
+        ensures account { OnTrue result ((a : Account) → StandsFor self.old.link a → StandsFor self.new.link (after_offer piece.now a)) }
+        ensures unchanged { OnFalse result (self.new ≡ self.old) }
+        ensures same { IsSameTurn self.old self.new }
+    {
+        match self.wants() {
+            Some(longest) if piece.len() <= usize::from(longest) => {
+                self.link.offer(piece);
+                true
+            }
+            _ => false,
         }
-        if piece.len() > usize::from(self.link.piece()) {
-            return Err(LinkStop::NotWanted);
-        }
-        self.link.offer(piece);
-        Ok(())
     }
 
-    /// Asks for a break of this length, in units of 10 ms. False where one waits, or the rest after the last one isn't over.
-    pub fn ask_break(&mut self, length: u8) -> Result<bool, LinkStop> {
-        if self.turn >= LATEST {
-            return Err(LinkStop::Late);
+    /// Asks for a break of this length, in units of 10 ms.
+    pub fn ask_break(&mut self, length: u8) -> BreakAsked
+        ensures { AnswersBreak self.old length self.new result }
+    {
+        if self.state.turn >= MOST_TURNS {
+            return BreakAsked::Late;
         }
-        Ok(self.link.ask_break(self.turn, length))
+        if self.link.ask_break(self.state.turn, length) {
+            BreakAsked::Taken
+        } else {
+            BreakAsked::Refused
+        }
     }
 
     /// Whether its user asks for a pause from now on.
-    pub fn set_busy(&mut self, busy: bool) {
+    pub fn set_busy(&mut self, busy: bool)
+        ensures account { (a : Account) → StandsFor self.old.link a → StandsFor self.new.link (after_busy busy a) }
+        ensures same { IsSameTurn self.old self.new }
+    {
         self.link.set_busy(busy);
     }
 
     /// Whether its file has ended, and all of it is acknowledged.
-    pub fn is_whole(&self) -> bool {
+    pub fn is_whole(&self) -> bool
+        ensures { (a : Account) → StandsFor self.now.link a → result ≡ is_done a }
+    {
         self.link.whole()
     }
 
     /// The phase that it is in.
-    pub fn phase(&self) -> Phase {
+    pub fn phase(&self) -> Phase
+        ensures { (a : Account) → StandsFor self.now.link a → result ≡ a.phase }
+    {
         self.link.phase()
     }
 
-    /// What it says in this turn, and the turn ends. `release` tells a connected originator to take the link down.
-    pub fn speak(self, release: bool) -> (Endpoint, Result<Told, LinkStop>) {
-        if !self.heard {
+    /// The check of the frames with numbers that it sends and hears now.
+    pub fn check(&self) -> Check
+        ensures { (a : Account) → StandsFor self.now.link a → result ≡ check_of a }
+    {
+        self.link.check()
+    }
+
+    /// What it says in this turn, and the turn ends. `release` tells a connected originator to take the link down. After a break of the link
+    /// it goes on as a closed end.
+    pub fn speak(self, release: bool) -> (Endpoint, Result<Told, LinkStop>)
+        ensures { SpeaksTurn self release result.0 result.1 }
+    {
+        if !self.state.heard {
             return (self, Err(LinkStop::Order));
         }
-        if self.turn >= LATEST {
-            return (self, Err(LinkStop::Late));
-        }
-        let Endpoint {
-            link,
-            role,
-            turn,
-            hears,
-            heard: _,
-            delivered,
-        } = self;
+        let Endpoint { link, role, state } = self;
         let mut sent = Sent::Mark;
-        match link.speak(turn, release, &mut sent) {
+        match link.speak(state.turn, release, &mut sent) {
             Ok(link) => {
                 let told = told_of(&sent, link.check(), role);
-                let end = Endpoint {
-                    link,
-                    role,
-                    turn: turn + 1,
-                    hears,
+                let state = TurnState {
+                    turn: state.turn + 1,
                     heard: false,
-                    delivered,
+                    delivered: state.delivered,
                 };
-                (end, Ok(told))
+                (Endpoint { link, role, state }, Ok(told))
             }
             Err(broken) => {
-                let end = Endpoint {
-                    link: AnyEnd::Closed(broken.end),
-                    role,
-                    turn: turn + 1,
-                    hears,
+                let link = AnyEnd::Closed(broken.end);
+                let state = TurnState {
+                    turn: state.turn + 1,
                     heard: false,
                     delivered: true,
                 };
-                (end, Err(LinkStop::Broken(broken.fault)))
+                let stop = LinkStop::Broken(broken.fault);
+                (Endpoint { link, role, state }, Err(stop))
             }
         }
     }

@@ -2,6 +2,8 @@
 use Rattle.std.specs.Prelude.{ℕ, zero, suc, Option, Some, None}
 use Rattle.scramblers.specs.declared.mode.Mode.{Mode}
 use Rattle.scramblers.specs.declared.mode.Mode.TheVariants.{Call, Answer}
+use Rattle.shared_terms.specs.declared.role.Role.{Role}
+use Rattle.shared_terms.specs.declared.role.Role.TheVariants.{Originator, Answerer}
 use Rattle.gateway.specs.declared.any_reader.LineKind.{LineKind}
 use Rattle.gateway.specs.declared.any_reader.LineKind.TheVariants.{Begun, Middle, Quarters}
 
@@ -22,3 +24,8 @@ abbrev pub mode_of : ℕ → Option Mode
 mode_of zero = Some Call
 mode_of (suc zero) = Some Answer
 mode_of (suc (suc n)) = None
+
+abbrev pub role_of : ℕ → Option Role
+role_of zero = Some Originator
+role_of (suc zero) = Some Answerer
+role_of (suc (suc n)) = None

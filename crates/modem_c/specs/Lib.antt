@@ -6,3 +6,5 @@ pub mod Decoders
 pub mod Encoders
 pub mod Meters
 pub mod Deframers
+pub mod Answers
+pub mod Links

@@ -1,14 +1,22 @@
 // An end of the link, turn by turn.
-ghost use Rattle.std.specs.Prelude.{◌≡◌, ◌≤◌, length};
+ghost use Rattle.std.specs.Prelude.{◌≡◌, ◌≤◌, ℤ, length, negsuc, MatchResult, None, Some};
+ghost use Rattle.frame_check.specs.declared.sizes.TheConstants.{INFO, WHOLE};
+ghost use Rattle.link_account.specs.Account.{Account};
+ghost use Rattle.lapm_link.specs.Stands.{StandsFor};
+ghost use Rattle.gateway.specs.declared.link.Endpoint.{Endpoint};
+ghost use Rattle.gateway.specs.Endpoints.{wanted_length};
+ghost use Rattle.modem_c.specs.Answers.{AnswersOf, astray, flag_of};
+ghost use Rattle.modem_c.specs.Led.{link_in};
+ghost use Rattle.modem_c.specs.Links.{setup_of, AnswersSetup, unbroken, broke_by, code_of, why_of, length_given, AnswersHearing, AnswersDelivery, WantedAs, IsOffered, IsAsked, asked_code, AnswersBusy, phase_number, flag, standing_of, silence, said_of, room_said, AnswersSpeaking};
 
 use crate::codes::{
-    BAD_ARGUMENT, BROKEN, DONE, EMPTY, FULL, LATE, NO_MEMORY, NOTHING, ORDER, WRONG_KIND,
+    BAD_ARGUMENT, BROKEN, DONE, EMPTY, FULL, LATE, NO_MEMORY, NOTHING, ORDER, WRONG_KIND, flag_of,
     put_octets, role_of,
 };
 use crate::handle::{Handle, make, put, take};
 use crate::machine::Machine;
-use frame_check::{INFO, Info, WHOLE};
-use gateway::{Carried, Endpoint, LinkStop, Told};
+use frame_check::{Check, INFO, Info, WHOLE};
+use gateway::{BreakAsked, Carried, Endpoint, LinkStop, Told};
 use lapm_frames::Seen;
 use lapm_link::{LinkFault, Phase, Setup};
 use std::alloc::Global;
@@ -21,17 +29,17 @@ use xid_params::Offer as LinkOffer;
 pub struct Offered {
     /// Turns that an end waits for an answer, 1 to 65,535.
     pub period: u32,
-    /// The longest information that it sends, 1 to 1024.
+    /// The longest information that it sends, 1 to 1024 octets.
     pub tx_len: u16,
-    /// The longest that it receives, 1 to 1024.
+    /// The longest that it receives, 1 to 1024 octets.
     pub rx_len: u16,
     /// How many segments it sends unanswered, 1 to 127.
     pub tx_window: u8,
-    /// How many it receives so.
+    /// How many it receives so, 1 to 127.
     pub rx_window: u8,
-    /// 1 for selective reject.
+    /// 1 for selective reject, else 0.
     pub srej: u8,
-    /// 1 for the check of 32 bits.
+    /// 1 for the check of 32 bits, else 0.
     pub check32: u8,
     /// How often it tries, 1 to 20.
     pub tries: u8,
@@ -39,21 +47,24 @@ pub struct Offered {
     pub role: u8,
 }
 
-/// Why a link broke.
+/// Why a link broke. What the cause says nothing of is 0.
 #[repr(C)]
 #[derive(Clone, Copy)]
 pub struct Broke {
-    /// 0 it didn't, 1 not detected, 2 tries spent, 3 a bad acknowledgement, 4 the other end began anew, 5 it refused.
+    /// 0 it didn't, 1 the other end answered no pattern, 2 all tries are spent, 3 an acknowledgement of a number that wasn't sent, 4 the other
+    /// end began anew, 5 it refused or hung up.
     pub cause: u32,
-    /// Of a bad acknowledgement.
+    /// Of a bad acknowledgement: the number, below 128.
     pub nr: u8,
-    /// The same: the lowest that it could have been.
+    /// The lowest number that it could have been, modulo 128.
     pub low: u8,
-    /// The highest.
+    /// The highest, modulo 128.
     pub high: u8,
-    /// Of spent tries the oldest segment that isn't acknowledged; of an end that began anew the segments that were acknowledged.
-    pub segment: u64,
-    /// Of spent tries the turn since which it waited; of an end that began anew the segments that were taken.
+    /// Of spent tries, and of an end that began anew: how many segments are acknowledged.
+    pub acknowledged: u64,
+    /// Of an end that began anew: how many segments were taken.
+    pub taken: u64,
+    /// Of spent tries: the turn in which the first of the periods began.
     pub since: u64,
 }
 
@@ -63,28 +74,90 @@ pub struct Broke {
 pub struct Said {
     /// 0 ones, 1 the originator's pattern, 2 the answerer's, 3 a frame, 4 flags.
     pub kind: u32,
-    /// The octets of a frame with its check.
+    /// How many octets the frame has with its check; 0 for what is no frame.
     pub octets: usize,
 }
 
-fn unbroken() -> Broke {
+/// How an end stands.
+#[repr(C)]
+#[derive(Clone, Copy)]
+pub struct Standing {
+    /// 0 detecting, 1 negotiating, 2 establishing, 3 connected, 4 releasing, 5 closed.
+    pub phase: u32,
+    /// 1 where its file has ended and all of it is acknowledged, else 0.
+    pub whole: u32,
+    /// 1 where the frames with numbers that it sends and hears now have a check of 32 bits, else 0.
+    pub check32: u32,
+}
+
+/// Takes the end out of the handle, with the block that it stands in. The code where there is none.
+fn take_end(alloc: Global, handle: &mut Handle) -> Result<(Box<Machine>, Endpoint), i32>
+    ensures { MatchResult result (λ taken. link_in handle.old.value ≡ Some taken.1)
+        (λ code. (link_in handle.old.value ≡ None) × (code ≡ astray handle.old.value) × (handle.new.value ≡ handle.old.value)) }
+{
+    let Some(mut machine) = take(alloc, handle) else {
+        return Err(EMPTY);
+    };
+    match mem::replace(machine.as_mut(), Machine::Spent) {
+        Machine::Link(end) => Ok((machine, end)),
+        other => {
+            *machine = other;
+            put(alloc, handle, machine);
+            Err(WRONG_KIND)
+        }
+    }
+}
+
+/// Puts an end into the handle, in that block.
+fn put_end(alloc: Global, handle: &mut Handle, mut block: Box<Machine>, end: Endpoint)
+    ensures { link_in handle.new.value ≡ Some end }
+{
+    *block = Machine::Link(end);
+    put(alloc, handle, block);
+}
+
+/// The setup that these numbers say.
+fn setup_of(offered: &Offered) -> Option<Setup>
+    ensures { result ≡ setup_of offered.now }
+{
+    Some(Setup {
+        role: role_of(offered.role)?,
+        offer: LinkOffer {
+            srej: flag_of(offered.srej)?,
+            check32: flag_of(offered.check32)?,
+            tx_len: offered.tx_len,
+            rx_len: offered.rx_len,
+            tx_window: offered.tx_window,
+            rx_window: offered.rx_window,
+        },
+        tries: offered.tries,
+        period: offered.period,
+    })
+}
+
+fn unbroken() -> Broke
+    ensures { result ≡ unbroken }
+{
     Broke {
         cause: 0,
         nr: 0,
         low: 0,
         high: 0,
-        segment: 0,
+        acknowledged: 0,
+        taken: 0,
         since: 0,
     }
 }
 
-fn broken_by(fault: LinkFault) -> Broke {
+fn broke_by(fault: LinkFault) -> Broke
+    ensures { result ≡ broke_by fault }
+{
     let mut broke = unbroken();
     match fault {
         LinkFault::NotDetected => broke.cause = 1,
         LinkFault::Spent { segment, since } => {
             broke.cause = 2;
-            broke.segment = segment;
+            broke.acknowledged = segment;
             broke.since = since;
         }
         LinkFault::BadAck { nr, va, high } => {
@@ -95,47 +168,37 @@ fn broken_by(fault: LinkFault) -> Broke {
         }
         LinkFault::PeerReset { va, vr } => {
             broke.cause = 4;
-            broke.segment = va;
-            broke.since = vr;
+            broke.acknowledged = va;
+            broke.taken = vr;
         }
         LinkFault::PeerRefused => broke.cause = 5,
     }
     broke
 }
 
-fn code_of(stop: LinkStop, why: &mut Broke) -> i32 {
+/// The code of a stop, and why the link broke.
+fn code_of(stop: LinkStop, why: &mut Broke) -> i32
+    requires { why.old ≡ unbroken }
+    ensures code { result ≡ code_of stop }
+    ensures why { why.new ≡ why_of stop }
+{
     match stop {
         LinkStop::Order => ORDER,
         LinkStop::Late => LATE,
-        LinkStop::NotWanted => BAD_ARGUMENT,
         LinkStop::Broken(fault) => {
-            *why = broken_by(fault);
+            *why = broke_by(fault);
             BROKEN
         }
     }
 }
 
-/// An end before its first turn.
+/// An end before its first turn. BAD_ARGUMENT where these numbers set up none.
 #[unsafe(no_mangle)]
-pub extern "C" fn modem_link_new(alloc: Global, handle: &mut Handle, offered: &Offered) -> i32 {
-    let Some(role) = role_of(offered.role) else {
+pub extern "C" fn modem_link_new(alloc: Global, handle: &mut Handle, offered: &Offered) -> i32
+    ensures { AnswersSetup (setup_of offered.now) handle.old.value handle.new.value result }
+{
+    let Some(setup) = setup_of(offered) else {
         return BAD_ARGUMENT;
-    };
-    if offered.srej > 1 || offered.check32 > 1 {
-        return BAD_ARGUMENT;
-    }
-    let setup = Setup {
-        role,
-        offer: LinkOffer {
-            srej: offered.srej == 1,
-            check32: offered.check32 == 1,
-            tx_len: offered.tx_len,
-            rx_len: offered.rx_len,
-            tx_window: offered.tx_window,
-            rx_window: offered.rx_window,
-        },
-        tries: offered.tries,
-        period: offered.period,
     };
     match Endpoint::new(alloc, setup) {
         Ok(Some(end)) => make(alloc, handle, Machine::Link(end)),
@@ -144,8 +207,32 @@ pub extern "C" fn modem_link_new(alloc: Global, handle: &mut Handle, offered: &O
     }
 }
 
-/// It hears what came in this turn: 0 nothing, 1 the originator's pattern, 2 the answerer's, 3 a frame's octets with their check. The length
-/// of the other end's break, where one is given, or -1.
+fn hear(end: Endpoint, kind: u32, octets: &[u8], given: &mut i32, why: &mut Broke) -> (Endpoint, i32)
+    requires given { given.old ≡ length_given None }
+    requires why { why.old ≡ unbroken }
+    ensures { AnswersHearing kind octets.now end result.0 result.1 given.new why.new }
+{
+    let carried = match kind {
+        0 => Carried::Nothing,
+        1 => Carried::Pattern(Seen::Odp),
+        2 => Carried::Pattern(Seen::Adp),
+        3 => Carried::Octets(octets),
+        _ => return (end, BAD_ARGUMENT),
+    };
+    let (end, heard) = end.hear(&carried);
+    let code = match heard {
+        Ok(None) => DONE,
+        Ok(Some(length)) => {
+            *given = i32::from(length);
+            DONE
+        }
+        Err(stop) => code_of(stop, why),
+    };
+    (end, code)
+}
+
+/// It hears what came in this turn: 0 nothing, 1 the originator's pattern, 2 the answerer's, 3 a frame's octets with their check; octets that
+/// are no frame are nothing. `given` is the length of the other end's break in units of 10 ms, where one is given, or -1.
 #[unsafe(no_mangle)]
 pub extern "C" fn modem_link_hear(
     alloc: Global,
@@ -154,42 +241,38 @@ pub extern "C" fn modem_link_hear(
     octets: &[u8],
     given: &mut i32,
     why: &mut Broke,
-) -> i32 {
+) -> i32
+    ensures { AnswersOf link_in handle.old.value handle.new.value result ((given.new ≡ length_given None) × (why.new ≡ unbroken))
+        (λ old new. AnswersHearing kind octets.now old new result given.new why.new) }
+{
     *given = -1;
     *why = unbroken();
-    let carried = match kind {
-        0 => Carried::Nothing,
-        1 => Carried::Pattern(Seen::Odp),
-        2 => Carried::Pattern(Seen::Adp),
-        3 => Carried::Octets(octets),
-        _ => return BAD_ARGUMENT,
+    let (block, end) = match take_end(alloc, handle) {
+        Ok(taken) => taken,
+        Err(code) => return code,
     };
-    let Some(mut machine) = take(alloc, handle) else {
-        return EMPTY;
-    };
-    let code = match mem::replace(machine.as_mut(), Machine::Spent) {
-        Machine::Link(end) => {
-            let (end, heard) = end.hear(&carried);
-            *machine = Machine::Link(end);
-            match heard {
-                Ok(None) => DONE,
-                Ok(Some(length)) => {
-                    *given = i32::from(length);
-                    DONE
-                }
-                Err(stop) => code_of(stop, why),
-            }
-        }
-        other => {
-            *machine = other;
-            WRONG_KIND
-        }
-    };
-    put(alloc, handle, machine);
+    let (end, code) = hear(end, kind, octets, given, why);
+    put_end(alloc, handle, block, end);
     code
 }
 
-/// The next segment in order: its length, where there is one. There is to be room for 1024 octets.
+fn deliver(end: &mut Endpoint, room: &mut [u8], taken: &mut usize) -> i32
+    requires { taken.old ≡ 0 }
+    ensures { AnswersDelivery end.old end.new room.old room.new taken.new result }
+{
+    if room.len() < INFO {
+        return FULL;
+    }
+    let mut segment = Info::new();
+    if !end.deliver(&mut segment) {
+        return NOTHING;
+    }
+    put_octets(segment.as_slice(), room);
+    *taken = segment.len();
+    DONE
+}
+
+/// The next segment in order, with its length; NOTHING where none is left. FULL where there is no room for 1024 octets.
 #[unsafe(no_mangle)]
 pub extern "C" fn modem_link_deliver(
     alloc: Global,
@@ -197,120 +280,110 @@ pub extern "C" fn modem_link_deliver(
     room: &mut [u8],
     taken: &mut usize,
 ) -> i32
+    ensures answers { AnswersOf link_in handle.old.value handle.new.value result ((taken.new ≡ 0) × (room.new ≡ room.old))
+        (λ old new. AnswersDelivery old new room.old room.new taken.new result) }
     ensures room { length room.new ≡ length room.old }
     ensures within { taken.new ≤ length room.new }
 {
     *taken = 0;
-    if room.len() < INFO {
-        return FULL;
-    }
-    let Some(mut machine) = take(alloc, handle) else {
-        return EMPTY;
+    let (block, mut end) = match take_end(alloc, handle) {
+        Ok(taken) => taken,
+        Err(code) => return code,
     };
-    let code = match machine.as_mut() {
-        Machine::Link(end) => {
-            let mut segment = Info::new();
-            if end.deliver(&mut segment) {
-                put_octets(segment.as_slice(), room);
-                *taken = segment.len();
-                DONE
-            } else {
-                NOTHING
-            }
-        }
-        _ => WRONG_KIND,
-    };
-    put(alloc, handle, machine);
+    let code = deliver(&mut end, room, taken);
+    put_end(alloc, handle, block, end);
     code
 }
 
-/// The length of the segment that it wants next, where it wants one.
+/// The length of the longest piece that it takes next, where it wants one; NOTHING where it wants none.
 #[unsafe(no_mangle)]
-pub extern "C" fn modem_link_wants(alloc: Global, handle: &mut Handle, length: &mut usize) -> i32 {
+pub extern "C" fn modem_link_wants(alloc: Global, handle: &mut Handle, length: &mut usize) -> i32
+    ensures { AnswersOf link_in handle.old.value handle.new.value result (length.new ≡ 0)
+        (λ old new. (new ≡ old) × ((a : Account) → StandsFor old.link a → WantedAs (wanted_length a) length.new result)) }
+{
     *length = 0;
-    let Some(machine) = take(alloc, handle) else {
-        return EMPTY;
+    let (block, end) = match take_end(alloc, handle) {
+        Ok(taken) => taken,
+        Err(code) => return code,
     };
-    let code = match machine.as_ref() {
-        Machine::Link(end) => match end.wants() {
-            Some(wanted) => {
-                *length = usize::from(wanted);
-                DONE
-            }
-            None => NOTHING,
-        },
-        _ => WRONG_KIND,
-    };
-    put(alloc, handle, machine);
-    code
-}
-
-/// It takes the next piece of the file, no longer than it wants one. A shorter one ends the file.
-#[unsafe(no_mangle)]
-pub extern "C" fn modem_link_offer(alloc: Global, handle: &mut Handle, piece: &[u8]) -> i32 {
-    let Some(mut machine) = take(alloc, handle) else {
-        return EMPTY;
-    };
-    let code = match machine.as_mut() {
-        Machine::Link(end) => match end.offer(piece) {
-            Ok(()) => DONE,
-            Err(_) => BAD_ARGUMENT,
-        },
-        _ => WRONG_KIND,
-    };
-    put(alloc, handle, machine);
-    code
-}
-
-/// It asks for a break of this length, in units of 10 ms, where none waits.
-#[unsafe(no_mangle)]
-pub extern "C" fn modem_link_ask_break(alloc: Global, handle: &mut Handle, length: u8) -> i32 {
-    let Some(mut machine) = take(alloc, handle) else {
-        return EMPTY;
-    };
-    let code = match machine.as_mut() {
-        Machine::Link(end) => match end.ask_break(length) {
-            Ok(true) => DONE,
-            Ok(false) => NOTHING,
-            Err(_) => LATE,
-        },
-        _ => WRONG_KIND,
-    };
-    put(alloc, handle, machine);
-    code
-}
-
-/// Whether its user asks for a pause from now on.
-#[unsafe(no_mangle)]
-pub extern "C" fn modem_link_set_busy(alloc: Global, handle: &mut Handle, busy: u8) -> i32 {
-    if busy > 1 {
-        return BAD_ARGUMENT;
-    }
-    let Some(mut machine) = take(alloc, handle) else {
-        return EMPTY;
-    };
-    let code = match machine.as_mut() {
-        Machine::Link(end) => {
-            end.set_busy(busy == 1);
+    let code = match end.wants() {
+        Some(wanted) => {
+            *length = usize::from(wanted);
             DONE
         }
-        _ => WRONG_KIND,
+        None => NOTHING,
     };
-    put(alloc, handle, machine);
+    put_end(alloc, handle, block, end);
     code
 }
 
-/// How an end stands.
-#[repr(C)]
-#[derive(Clone, Copy)]
-pub struct Standing {
-    /// 0 detecting, 1 negotiating, 2 establishing, 3 connected, 4 releasing, 5 closed.
-    pub phase: u32,
-    /// 1 where its file has ended and all of it is acknowledged.
-    pub whole: u32,
+/// It takes the next piece of the file. A shorter one than it wants ends the file, and an empty one ends it without a segment. BAD_ARGUMENT
+/// where it wants none, or none that is so long.
+#[unsafe(no_mangle)]
+pub extern "C" fn modem_link_offer(alloc: Global, handle: &mut Handle, piece: &[u8]) -> i32
+    ensures { AnswersOf link_in handle.old.value handle.new.value result (Unit {0}) (λ old new. IsOffered old new piece.now result) }
+{
+    let (block, mut end) = match take_end(alloc, handle) {
+        Ok(taken) => taken,
+        Err(code) => return code,
+    };
+    let code = if end.offer(piece) {
+        DONE
+    } else {
+        BAD_ARGUMENT
+    };
+    put_end(alloc, handle, block, end);
+    code
 }
 
-fn phase_code(phase: Phase) -> u32 {
+/// It asks for a break of this length, in units of 10 ms; NOTHING where it isn't connected, one waits, or the rest after the last one isn't
+/// over.
+#[unsafe(no_mangle)]
+pub extern "C" fn modem_link_ask_break(alloc: Global, handle: &mut Handle, length: u8) -> i32
+    ensures { AnswersOf link_in handle.old.value handle.new.value result (Unit {0}) (λ old new. IsAsked old new length result) }
+{
+    let (block, mut end) = match take_end(alloc, handle) {
+        Ok(taken) => taken,
+        Err(code) => return code,
+    };
+    let code = match end.ask_break(length) {
+        BreakAsked::Taken => DONE,
+        BreakAsked::Refused => NOTHING,
+        BreakAsked::Late => LATE,
+    };
+    put_end(alloc, handle, block, end);
+    code
+}
+
+fn tell_busy(end: &mut Endpoint, busy: u8) -> i32
+    ensures { AnswersBusy (flag_of busy) end.old end.new result }
+{
+    match flag_of(busy) {
+        Some(busy) => {
+            end.set_busy(busy);
+            DONE
+        }
+        None => BAD_ARGUMENT,
+    }
+}
+
+/// Whether its user asks for a pause from now on: 1, or 0.
+#[unsafe(no_mangle)]
+pub extern "C" fn modem_link_set_busy(alloc: Global, handle: &mut Handle, busy: u8) -> i32
+    ensures { AnswersOf link_in handle.old.value handle.new.value result (Unit {0}) (λ old new. AnswersBusy (flag_of busy) old new result) }
+{
+    let (block, mut end) = match take_end(alloc, handle) {
+        Ok(taken) => taken,
+        Err(code) => return code,
+    };
+    let code = tell_busy(&mut end, busy);
+    put_end(alloc, handle, block, end);
+    code
+}
+
+fn phase_number(phase: Phase) -> u32
+    ensures { result ≡ phase_number phase }
+{
     match phase {
         Phase::Detecting => 0,
         Phase::Negotiating => 1,
@@ -321,32 +394,44 @@ fn phase_code(phase: Phase) -> u32 {
     }
 }
 
+fn standing_of(end: &Endpoint) -> Standing
+    ensures { (a : Account) → StandsFor end.now.link a → result ≡ standing_of a }
+{
+    let check32 = match end.check() {
+        Check::Sixteen => 0,
+        Check::ThirtyTwo => 1,
+    };
+    Standing {
+        phase: phase_number(end.phase()),
+        whole: u32::from(end.is_whole()),
+        check32,
+    }
+}
+
 /// How it stands.
 #[unsafe(no_mangle)]
 pub extern "C" fn modem_link_standing(
     alloc: Global,
     handle: &mut Handle,
     standing: &mut Standing,
-) -> i32 {
-    let Some(machine) = take(alloc, handle) else {
-        return EMPTY;
+) -> i32
+    ensures { AnswersOf link_in handle.old.value handle.new.value result (standing.new ≡ standing.old)
+        (λ old new. (result ≡ DONE) × (new ≡ old) × ((a : Account) → StandsFor old.link a → standing.new ≡ standing_of a)) }
+{
+    let (block, end) = match take_end(alloc, handle) {
+        Ok(taken) => taken,
+        Err(code) => return code,
     };
-    let code = match machine.as_ref() {
-        Machine::Link(end) => {
-            standing.phase = phase_code(end.phase());
-            standing.whole = u32::from(end.is_whole());
-            DONE
-        }
-        _ => WRONG_KIND,
-    };
-    put(alloc, handle, machine);
-    code
+    *standing = standing_of(&end);
+    put_end(alloc, handle, block, end);
+    DONE
 }
 
+/// What is said, and a frame's octets copied.
 fn say(told: &Told, room: &mut [u8]) -> Said
     requires { WHOLE ≤ length room.old }
-    ensures room { length room.new ≡ length room.old }
-    ensures within { result.octets ≤ length room.new }
+    ensures said { result ≡ said_of told.now }
+    ensures room { room.new ≡ room_said told.now room.old }
 {
     let kind = match told {
         Told::Mark => 0,
@@ -364,7 +449,29 @@ fn say(told: &Told, room: &mut [u8]) -> Said
     Said { kind, octets: 0 }
 }
 
-/// What it says in this turn; the turn ends. `release` of 1 tells a connected originator to take the link down. There is to be room for
+fn speak(end: Endpoint, release: u8, room: &mut [u8], said: &mut Said, why: &mut Broke) -> (Endpoint, i32)
+    requires said { said.old ≡ silence }
+    requires why { why.old ≡ unbroken }
+    ensures { AnswersSpeaking (flag_of release) end result.0 result.1 room.old room.new said.new why.new }
+{
+    let Some(release) = flag_of(release) else {
+        return (end, BAD_ARGUMENT);
+    };
+    if room.len() < WHOLE {
+        return (end, FULL);
+    }
+    let (end, told) = end.speak(release);
+    let code = match told {
+        Ok(told) => {
+            *said = say(&told, room);
+            DONE
+        }
+        Err(stop) => code_of(stop, why),
+    };
+    (end, code)
+}
+
+/// What it says in this turn; the turn ends. `release` of 1 tells a connected originator to take the link down. FULL where there is no room for
 /// 1031 octets.
 #[unsafe(no_mangle)]
 pub extern "C" fn modem_link_speak(
@@ -375,37 +482,19 @@ pub extern "C" fn modem_link_speak(
     said: &mut Said,
     why: &mut Broke,
 ) -> i32
+    ensures answers { AnswersOf link_in handle.old.value handle.new.value result
+        ((said.new ≡ silence) × (why.new ≡ unbroken) × (room.new ≡ room.old))
+        (λ old new. AnswersSpeaking (flag_of release) old new result room.old room.new said.new why.new) }
     ensures room { length room.new ≡ length room.old }
     ensures within { said.new.octets ≤ length room.new }
 {
     *said = Said { kind: 0, octets: 0 };
     *why = unbroken();
-    if release > 1 {
-        return BAD_ARGUMENT;
-    }
-    if room.len() < WHOLE {
-        return FULL;
-    }
-    let Some(mut machine) = take(alloc, handle) else {
-        return EMPTY;
+    let (block, end) = match take_end(alloc, handle) {
+        Ok(taken) => taken,
+        Err(code) => return code,
     };
-    let code = match mem::replace(machine.as_mut(), Machine::Spent) {
-        Machine::Link(end) => {
-            let (end, told) = end.speak(release == 1);
-            *machine = Machine::Link(end);
-            match told {
-                Ok(told) => {
-                    *said = say(&told, room);
-                    DONE
-                }
-                Err(stop) => code_of(stop, why),
-            }
-        }
-        other => {
-            *machine = other;
-            WRONG_KIND
-        }
-    };
-    put(alloc, handle, machine);
+    let (end, code) = speak(end, release, room, said, why);
+    put_end(alloc, handle, block, end);
     code
 }

@@ -1,0 +1,45 @@
+-- What an endpoint hears and says, by what its end of the link does.
+use Rattle.std.proofs.Common.{◌≡◌, ℕ, Option, Result, Ok, Err, refl, sym, subst}
+use Rattle.frame_check.specs.declared.check.Check.{Check}
+use Rattle.shared_terms.specs.declared.role.Role.{Role}
+use Rattle.shared_terms.specs.Role.{other}
+use Rattle.shared_terms.specs.declared.fault.LinkFault.{LinkFault}
+use Rattle.lapm_frames.specs.declared.arrived.Arrived.{Arrived}
+use Rattle.lapm_frames.specs.declared.sent.Sent.{Sent}
+use Rattle.link_account.specs.Account.{Account, check_of, given_break, after_given}
+use Rattle.link_account.specs.Hear.{hear}
+use Rattle.link_account.specs.Speak.{Said}
+use Rattle.lapm_link.specs.declared.any_end.AnyEnd.{AnyEnd}
+use Rattle.lapm_link.specs.declared.any_end.AnyEnd.TheVariants.{Closed}
+use Rattle.lapm_link.specs.declared.closed.Broken.{Broken}
+use Rattle.lapm_link.specs.Stands.{StandsFor, Speaks}
+use Rattle.lapm_link.specs.Stands as stands
+use Rattle.gateway.specs.declared.turns.Carried.{Carried}
+use Rattle.gateway.specs.declared.turns.Told.{Told}
+use Rattle.gateway.specs.Turns.{Arrives, told_as}
+use Rattle.gateway.specs.Endpoints.{Hears, HeardAs, SaysAs}
+
+-- what arrives, by the check and the sender that the code uses
+pub arrives-as : (check : Check) (sender role : Role) (carried : Carried) (arrived : Arrived) (a : Account) → check ≡ check_of a
+    → sender ≡ other role → Arrives check sender carried arrived → Arrives (check_of a) (other role) carried arrived
+arrives-as check sender role carried arrived a c s h =
+    subst (λ (v : Check). Arrives v (other role) carried arrived) c (subst (λ (v : Role). Arrives check v carried arrived) s h)
+
+pub heard-ok : (a : Account) (mid link : AnyEnd) (given : Option ℕ) (becomes : Result Account LinkFault)
+    → ((b : Account) → StandsFor mid b → given ≡ given_break b) → ((b : Account) → StandsFor mid b → StandsFor link (after_given b))
+    → stands.Hears becomes a (Ok mid) → HeardAs becomes a link (Ok given)
+heard-ok a mid link given (Ok b) answer account h = (answer b h, account b h)
+heard-ok a mid link given (Err fault) answer account h = absurd h
+
+pub heard-err : (a : Account) (broken : Broken) (becomes : Result Account LinkFault)
+    → stands.Hears becomes a (Err broken) → HeardAs becomes a (Closed broken.end) (Err broken.fault)
+heard-err a broken (Err fault) h = (h.fault_is, (refl, h.over))
+heard-err a broken (Ok b) h = absurd h
+
+pub says-ok : (role : Role) (a : Account) (link : AnyEnd) (before sent : Sent) (check : Check) (told : Told) (said : Result Said LinkFault)
+    → ((b : Account) → StandsFor link b → check ≡ check_of b) → told ≡ told_as check role sent
+    → Speaks said a before sent (Ok link) → SaysAs said role a link (Ok told)
+says-ok role a link before sent check told (Ok said) checks is h =
+    (subst (λ (v : Sent). told ≡ told_as (check_of said.account) role v) h.0
+    (subst (λ (v : Check). told ≡ told_as v role sent) (checks said.account h.1) is), h.1)
+says-ok role a link before sent check told (Err fault) checks is h = absurd h
