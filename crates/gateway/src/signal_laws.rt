@@ -5,6 +5,7 @@ use noise_bound::noiseless::{
     decoders_follow_a_line_without_noise, only_the_sent_labels_are_least,
 };
 use noise_bound::noisy::decoders_follow_a_line;
+use rate_4800::laws::{all_are_released, near_ones_are_read};
 
 /// What a decoder gives at 9600 bit/s are the bits that went into the encoder: as long as all of the noise is below 2.5 squares of a unit
 /// of the map the line isn't lost and at most 126 samples are behind, without noise 24, and then none at its end.
@@ -22,4 +23,7 @@ pub fn sent_bits_come_back()
 pub fn quarter_bits_come_back()
     ensures near { QuarterBitsComeBack }
     ensures all { AllQuarterBitsComeBack }
-{}
+{
+    all_are_released();
+    near_ones_are_read();
+}
