@@ -1,6 +1,6 @@
 -- What was sent at 9600 bit/s comes back.
-use Rattle.std.proofs.Common.{◌≡◌, ◌∙◌, ℕ, ◌+◌, ◌*◌, ◌<◌, ◌≤◌, Bool, List, [], ◌∷◌, ◌++◌, length, map, take, drop, None, refl, sym, ap, subst, arith, append-nil, append_assoc, length-append}
-use Rattle.std.proofs.lemmas.List.{take-append-drop, take-map, length-take-le}
+use Rattle.std.proofs.Common.{◌≡◌, ◌∙◌, ℕ, ◌+◌, ◌≤◌, Bool, List, [], ◌∷◌, ◌++◌, length, map, take, drop, None, refl, sym, ap, subst, arith, append_assoc, length-append}
+use Rattle.std.proofs.lemmas.List.{take-append-drop, take-map}
 use Rattle.plain_lists.specs.Prefix.{IsPrefixOf}
 use Rattle.scramblers.specs.declared.mode.Mode.{Mode}
 use Rattle.scramblers.specs.Mode.{tap_of}
@@ -30,8 +30,8 @@ use Rattle.gateway.specs.declared.encoder.SampleEncoder.{SampleEncoder}
 use Rattle.gateway.specs.declared.encoder.SampleEncoder.TheVariants as encoders
 use Rattle.gateway.specs.Decoding.{decoding_of}
 use Rattle.gateway.specs.Encoded.{HasEncoded}
-use Rattle.gateway.specs.Reads.{ReadsAs, Ends}
-use Rattle.gateway.specs.SignalLaws.{IsHeardOf, FollowsSent, SentBitsComeBack, SentBitsComeSoon, AllBitsComeBack}
+use Rattle.gateway.specs.Reads.{ReadsAs}
+use Rattle.gateway.specs.SignalLaws.{FollowsSent, SentBitsComeBack, SentBitsComeSoon, AllBitsComeBack}
 use Rattle.gateway.proofs.Sent.{some-tap, begins-more, take-front, carries-first}
 
 -- distances from points are what labels cost

@@ -1,9 +1,8 @@
 -- What was sent at 4800 bit/s comes back.
-use Rattle.std.proofs.Common.{◌≡◌, ◌∙◌, ℕ, zero, suc, ◌+◌, ◌*◌, ◌<◌, ◌≤◌, ◌%◌, Bool, List, [], ◌∷◌, ◌++◌, length, map, take, drop, get_or, Option, Some, None, refl, sym, ap, subst, arith, append-nil, append_assoc, length-append, All}
+use Rattle.std.proofs.Common.{◌≡◌, ◌∙◌, ℕ, ◌+◌, ◌*◌, ◌<◌, Bool, List, [], ◌∷◌, ◌++◌, length, map, take, drop, get_or, Option, Some, None, refl, sym, ap, subst, arith, append-nil, append_assoc, length-append, All}
 use Rattle.std.specs.List.{range_with_len}
 use Rattle.std.proofs.lemmas.List.{take-append-drop, take-map, length-take-le}
 use Rattle.std.proofs.lemmas.List.Elements.{All-nil, All-cons, All-head, All-tail}
-use Rattle.plain_lists.specs.Prefix.{IsPrefixOf}
 use Rattle.scramblers.specs.declared.mode.Mode.{Mode}
 use Rattle.scramblers.specs.Mode.{tap_of}
 use Rattle.scramblers.proofs.Readings.{Descrambles_once}
@@ -12,15 +11,14 @@ use Rattle.differential.specs.Turned.{turned, turned_at}
 use Rattle.differential.proofs.Places.{length-unturned}
 use Rattle.survivors.specs.Survivors.{IsReleased, LostIs}
 use Rattle.survivors.proofs.Least.{some-released}
-use Rattle.exact_decoder.specs.Decoder.{Decoding, DecoderStands, heard}
-use Rattle.rate_4800.specs.Code.{point_of, next_state}
+use Rattle.exact_decoder.specs.Decoder.{heard}
+use Rattle.rate_4800.specs.Code.{point_of}
 use Rattle.rate_4800.specs.Demodulates.{Demodulates, line_of}
 use Rattle.rate_4800.specs.Modulates.{Modulates}
 use Rattle.rate_4800.specs.Laws.{quarters, AllAreReleased, NearOnesAreRead}
 use Rattle.rate_4800.proofs.Reading.{quarters_have_laws}
 use Rattle.rate_4800.proofs.Standing.{modulated, demodulated}
 use Rattle.rate_4800.proofs.Twos.{comes-back}
-use Rattle.survivors.specs.V32.{at_beginning}
 use Rattle.gateway.specs.declared.any_reader.AnyReader.{AnyReader}
 use Rattle.gateway.specs.declared.any_reader.AnyReader.TheVariants as readers
 use Rattle.gateway.specs.declared.any_reader.LineKind.TheVariants as lines
@@ -28,8 +26,8 @@ use Rattle.gateway.specs.declared.encoder.SampleEncoder.{SampleEncoder}
 use Rattle.gateway.specs.declared.encoder.SampleEncoder.TheVariants as encoders
 use Rattle.gateway.specs.Decoding.{decoding_of}
 use Rattle.gateway.specs.Encoded.{HasEncoded}
-use Rattle.gateway.specs.Reads.{ReadsAs, Ends}
-use Rattle.gateway.specs.SignalLaws.{AreEachNear, half_way, IsHeardEach, FollowsSent, QuarterBitsComeBack, AllQuarterBitsComeBack}
+use Rattle.gateway.specs.Reads.{ReadsAs}
+use Rattle.gateway.specs.SignalLaws.{AreEachNear, half_way, FollowsSent, QuarterBitsComeBack, AllQuarterBitsComeBack}
 use Rattle.gateway.proofs.Sent.{some-tap, begins-more, take-front, quarters-carry-first, length-twos}
 
 -- what stands at a place
