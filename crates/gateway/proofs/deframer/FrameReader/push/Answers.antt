@@ -1,4 +1,4 @@
-use Rattle.std.proofs.Common.{ℕ, suc, ◌+◌, ◌%◌, ◌≡◌, ◌∷◌, ◌++◌, Bool, List, [], nat_eq, get_or, sym, ap, subst, append_assoc, ◌∙◌, arith}
+use Rattle.std.proofs.Common.{ℕ, suc, ◌+◌, ◌%◌, ◌≡◌, ◌∷◌, ◌++◌, Bool, List, [], Some, nat_eq, get_or, refl, sym, ap, subst, append_assoc, ◌∙◌, arith}
 use Rattle.bit_stuffing.specs.Deframer.{DeframerStands}
 use Rattle.bit_stuffing.specs.Found.{answer_of}
 use Rattle.gateway.specs.Given.{heard}
