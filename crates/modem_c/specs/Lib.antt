@@ -5,4 +5,5 @@ pub mod Answered
 pub mod Decoders
 pub mod Encoders
 pub mod Meters
+pub mod SignalLaws
 pub mod Deframers
