@@ -102,15 +102,15 @@ sent-bits-come-back decodes mode e d sent given samples heard encoded heard_of d
       near = omega (arith, price, heard_of.near);
     } in
     follows 126 mode d.reader sent given heard l.labels l.later l.carried same decoded.reads (λ taken stands.
-        let f = decodes 0 128 l.labels taken heard (decoding_of d.reader) (omega arith) near stands in (f.never_lost, f.was_sent, f.few_to_come))
+    let f = decodes 0 128 l.labels taken heard (decoding_of d.reader) (omega arith) near stands in (f.never_lost, f.was_sent, f.few_to_come))
 
 pub sent-bits-come-soon : DecodesNoiseless → SentBitsComeSoon
 sent-bits-come-soon decodes mode e d sent given heard later encoded decoded =
     let l = first-labels mode e sent (heard ++ later) heard later encoded refl in
     let same : length l.labels ≡ length heard = sym (ap length l.points ∙ length-points l.labels) in
     follows 24 mode d.reader sent given heard l.labels l.later l.carried same decoded.reads (λ taken stands.
-        let f = decodes 0 128 l.labels taken heard (decoding_of d.reader) (omega arith)
-        (record { start_there = omega arith; end = l.end; leads = l.leads; exact = l.points }) stands in (f.never_lost, f.was_sent, f.few_to_come))
+    let f = decodes 0 128 l.labels taken heard (decoding_of d.reader) (omega arith)
+    (record { start_there = omega arith; end = l.end; leads = l.leads; exact = l.points }) stands in (f.never_lost, f.was_sent, f.few_to_come))
 
 pub all-bits-come-back : OnlySentIsLeast → AllBitsComeBack
 all-bits-come-back least mode (encoders.Quarters m) sent given last samples h ends = absurd h
@@ -133,4 +133,4 @@ sure-bits-are-given decodes sure-near mode d bits given samples price c low deco
     (subst (λ (xs : List Bool). Demodulates (tap_of mode) labels xs) (sym c.bits_are)
     (comes-back (tap_of mode) (bits_of c.octets) s.line s.quads s.labels s.end s.scrambled s.in_fours s.are_quads s.encoded)) in
     follows 126 mode d.reader bits given samples labels [] carried c.cost.same_length decoded.reads (λ taken stands.
-        let f = decodes 0 128 labels taken samples (decoding_of d.reader) (omega arith) near stands in (f.never_lost, f.was_sent, f.few_to_come))
+    let f = decodes 0 128 labels taken samples (decoding_of d.reader) (omega arith) near stands in (f.never_lost, f.was_sent, f.few_to_come))

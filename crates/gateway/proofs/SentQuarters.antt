@@ -47,7 +47,7 @@ read-on read (label ∷ labels) past [] front before (s ∷ samples) e same coun
 read-on read (label ∷ labels) past (x ∷ rest) front before (s ∷ samples) e same count few near released =
     let r = read before samples s label front (All-head (λ l. l < 4) label labels few) near.0 released in
     let first : x ≡ label = sym (at-place past x rest (length before) (sym same)) ∙ ap (λ xs. get_or xs (length before) 0) (sym e ∙ r.2)
-        ∙ at-place r.0 label r.1 (length before) (sym r.3) in
+    ∙ at-place r.0 label r.1 (length before) (sym r.3) in
     let more : front ≡ (past ++ x ∷ []) ++ rest = e ∙ sym (append_assoc past (x ∷ []) rest) in
     let longer : length (past ++ x ∷ []) ≡ length (before ++ s ∷ []) =
     omega (arith, same, length-append {A = ℕ} past (x ∷ []), length-append {A = Sample} before (s ∷ [])) in
@@ -55,7 +55,7 @@ read-on read (label ∷ labels) past (x ∷ rest) front before (s ∷ samples) e
     let whole : IsReleased quarters ((before ++ s ∷ []) ++ samples) front =
     subst (λ xs. IsReleased quarters xs front) (sym (append_assoc before (s ∷ []) samples)) released in
     let behind : rest ≡ labels = read-on read labels (past ++ x ∷ []) rest front (before ++ s ∷ []) samples more longer fewer
-        (All-tail (λ l. l < 4) label labels few) near.1 whole in
+    (All-tail (λ l. l < 4) label labels few) near.1 whole in
     λ i. first i ∷ behind i
 
 read-all : AllAreReleased → NearOnesAreRead → (labels front : List ℕ) (samples : List Sample) → All (λ label. label < 4) labels
@@ -148,10 +148,10 @@ all-quarter-bits-come-back released read mode (encoders.Quarters m) sent given l
     let r = some-released quarters 1 4 1 heard quarters_have_laws in
     let front : List ℕ = r.0 in
     let sent_ones : front ≡ labels = read-all released read labels front heard few
-        (subst (λ (points : List Sample). AreEachNear half_way points heard) s.points near) r.1 in
+    (subst (λ (points : List Sample). AreEachNear half_way points heard) s.points near) r.1 in
     let begins = r.1.common ends.least.end ends.labels ends.least.survivor in
     let one : front ≡ ends.labels = whole front ends.labels begins.0 begins.1
-        (released heard front r.1 ∙ sym ends.least.survivor.sequence.same_length) in
+    (released heard front r.1 ∙ sym ends.least.survivor.sequence.same_length) in
     let same : ends.labels ≡ labels = sym one ∙ sent_ones in
     let bits : Demodulates (tap_of mode) labels (given ++ last) =
     subst (λ (xs : List ℕ). Demodulates (tap_of mode) xs (given ++ last)) same

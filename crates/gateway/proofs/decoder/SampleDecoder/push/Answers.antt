@@ -40,8 +40,14 @@ loop-read-preserved c = record {
       let old = c.take_bits-written.ensures.reads line mode (samples ++ so_far) before (c.loop-read.invariant.reads line mode samples before start.reads) in
       let last = lost-with line mode c.take_bits-written.new.reader c.push.new.self (samples ++ so_far) c.sample_at.result bits bits symbol
       c.in_default.ensures.1 e old (c.push.ensures.reads line mode (samples ++ so_far) bits old) in
-      omega (arith, last, length-append {A = Sample} samples (samples_in k parts), length-append {A = Sample} samples (samples_in (k + 1) parts),
-      length-samples_in k parts, length-samples_in (k + 1) parts);
+      omega (
+        arith,
+        last,
+        length-append {A = Sample} samples (samples_in k parts),
+        length-append {A = Sample} samples (samples_in (k + 1) parts),
+        length-samples_in k parts,
+        length-samples_in (k + 1) parts,
+      );
 }
 
 pub returns-clause-decodes : goal.returns-clause-decodes
