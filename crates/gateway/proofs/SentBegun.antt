@@ -1,6 +1,7 @@
 -- What was sent at 9600 bit/s comes back.
-use Rattle.std.proofs.Common.{◌≡◌, ◌∙◌, ℕ, ◌+◌, ◌*◌, ◌<◌, ◌≤◌, Bool, List, [], ◌∷◌, ◌++◌, length, map, take, drop, None, refl, sym, ap, subst, arith, append-nil, append_assoc, length-append}
-use Rattle.std.proofs.lemmas.List.{take-append-drop, take-map, length-take-le}
+use Rattle.std.proofs.Common.{append-nil, ◌≡◌, ◌∙◌, ℕ, ◌+◌, ◌≤◌, Bool, List, [], ◌∷◌, ◌++◌, length, map, take, drop, None, refl, sym, ap, subst, arith, append_assoc, length-append}
+use Rattle.std.proofs.lemmas.List.{take-append-drop, take-map}
+use Rattle.plain_lists.specs.Bits.{bits_of}
 use Rattle.plain_lists.specs.Prefix.{IsPrefixOf}
 use Rattle.scramblers.specs.declared.mode.Mode.{Mode}
 use Rattle.scramblers.specs.Mode.{tap_of}
@@ -21,6 +22,7 @@ use Rattle.line_coding.proofs.Standing.{modulated, demodulated}
 use Rattle.noise_bound.specs.Margins.{distances}
 use Rattle.noise_bound.specs.Near.{only, sure, IsNear}
 use Rattle.noise_bound.specs.NoiselessLaws.{OnlySentIsLeast, DecodesNoiseless}
+use Rattle.noise_bound.specs.Laws.{SureIsNear}
 use Rattle.noise_bound.specs.NoisyLaws.{DecodesNear}
 use Rattle.noise_bound.proofs.NoiselessCosts.{length-points}
 use Rattle.gateway.specs.declared.any_reader.AnyReader.{AnyReader}
@@ -30,8 +32,8 @@ use Rattle.gateway.specs.declared.encoder.SampleEncoder.{SampleEncoder}
 use Rattle.gateway.specs.declared.encoder.SampleEncoder.TheVariants as encoders
 use Rattle.gateway.specs.Decoding.{decoding_of}
 use Rattle.gateway.specs.Encoded.{HasEncoded}
-use Rattle.gateway.specs.Reads.{ReadsAs, Ends}
-use Rattle.gateway.specs.SignalLaws.{IsHeardOf, FollowsSent, SentBitsComeBack, SentBitsComeSoon, AllBitsComeBack}
+use Rattle.gateway.specs.Reads.{ReadsAs}
+use Rattle.gateway.specs.SignalLaws.{FollowsSent, SentBitsComeBack, SentBitsComeSoon, AllBitsComeBack, SureBitsAreGiven}
 use Rattle.gateway.proofs.Sent.{some-tap, begins-more, take-front, carries-first}
 
 -- distances from points are what labels cost
@@ -100,15 +102,15 @@ sent-bits-come-back decodes mode e d sent given samples heard encoded heard_of d
       near = omega (arith, price, heard_of.near);
     } in
     follows 126 mode d.reader sent given heard l.labels l.later l.carried same decoded.reads (λ taken stands.
-        let f = decodes 0 128 l.labels taken heard (decoding_of d.reader) (omega arith) near stands in (f.never_lost, f.was_sent, f.few_to_come))
+    let f = decodes 0 128 l.labels taken heard (decoding_of d.reader) (omega arith) near stands in (f.never_lost, f.was_sent, f.few_to_come))
 
 pub sent-bits-come-soon : DecodesNoiseless → SentBitsComeSoon
 sent-bits-come-soon decodes mode e d sent given heard later encoded decoded =
     let l = first-labels mode e sent (heard ++ later) heard later encoded refl in
     let same : length l.labels ≡ length heard = sym (ap length l.points ∙ length-points l.labels) in
     follows 24 mode d.reader sent given heard l.labels l.later l.carried same decoded.reads (λ taken stands.
-        let f = decodes 0 128 l.labels taken heard (decoding_of d.reader) (omega arith)
-        (record { start_there = omega arith; end = l.end; leads = l.leads; exact = l.points }) stands in (f.never_lost, f.was_sent, f.few_to_come))
+    let f = decodes 0 128 l.labels taken heard (decoding_of d.reader) (omega arith)
+    (record { start_there = omega arith; end = l.end; leads = l.leads; exact = l.points }) stands in (f.never_lost, f.was_sent, f.few_to_come))
 
 pub all-bits-come-back : OnlySentIsLeast → AllBitsComeBack
 all-bits-come-back least mode (encoders.Quarters m) sent given last samples h ends = absurd h
@@ -120,3 +122,15 @@ all-bits-come-back least mode (encoders.Begun m) sent given last samples h ends 
     subst (λ (xs : List ℕ). Demodulates (tap_of mode) xs (given ++ last)) same (demodulated mode ends.carried.reader ends.labels (given ++ last) ends.carried.read) in
     Descrambles_once (tap_of mode) (line_of s.labels) (given ++ last) sent read
     (comes-back (tap_of mode) sent s.line s.quads s.labels s.end s.scrambled s.in_fours s.are_quads s.encoded)
+
+pub sure-bits-are-given : DecodesNear → SureIsNear → SureBitsAreGiven
+sure-bits-are-given decodes sure-near mode d bits given samples price c low decoded =
+    let labels : List ℕ = c.cost.modulated.labels in
+    let s = c.cost.modulated in
+    let near : IsNear sure (only 0) labels samples = sure-near mode c.octets samples price c.cost low in
+    let carried : Demodulates (tap_of mode) (labels ++ []) bits =
+    subst (λ (xs : List ℕ). Demodulates (tap_of mode) xs bits) (sym (append-nil labels))
+    (subst (λ (xs : List Bool). Demodulates (tap_of mode) labels xs) (sym c.bits_are)
+    (comes-back (tap_of mode) (bits_of c.octets) s.line s.quads s.labels s.end s.scrambled s.in_fours s.are_quads s.encoded)) in
+    follows 126 mode d.reader bits given samples labels [] carried c.cost.same_length decoded.reads (λ taken stands.
+    let f = decodes 0 128 labels taken samples (decoding_of d.reader) (omega arith) near stands in (f.never_lost, f.was_sent, f.few_to_come))

@@ -13,6 +13,7 @@ use Rattle.gateway.specs.declared.encoder.SampleEncoder.{SampleEncoder}
 use Rattle.gateway.specs.Decoded.{HasDecoded}
 use Rattle.gateway.specs.Decoding.{decoding_of}
 use Rattle.gateway.specs.Encoded.{HasEncoded}
+use Rattle.gateway.specs.Measured.{BitsCost}
 use Rattle.gateway.specs.Reads.{Ends}
 
 -- Of samples that were sent the first ones were heard as these, with so much noise: less in all than 2.5 squares of a unit of the map, whatever its places.
@@ -64,6 +65,12 @@ SentBitsComeSoon = (mode : Mode) (e : SampleEncoder) (d : SampleDecoder) (sent g
 abbrev pub AllBitsComeBack : Type 0
 AllBitsComeBack = (mode : Mode) (e : SampleEncoder) (sent given last : List Bool) (samples : List Sample)
     → HasEncoded lines.Begun mode e sent samples → Ends lines.Begun mode samples given last → given ++ last ≡ sent
+
+-- Bits that cost so little against samples that a meter is sure are those that a decoder gives of these samples, and no others are.
+abbrev pub SureBitsAreGiven : Type 0
+SureBitsAreGiven = (mode : Mode) (d : SampleDecoder) (bits given : List Bool) (samples : List Sample) (price : ℕ)
+    → BitsCost mode bits samples price → price < sure → HasDecoded lines.Begun mode d samples given
+    → FollowsSent 4 126 (decoding_of d.reader) bits given samples
 
 -- at 4800 bit/s, where no sample is heard farther off than half the way to the next point: none is behind
 abbrev pub QuarterBitsComeBack : Type 0

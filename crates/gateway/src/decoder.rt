@@ -65,6 +65,7 @@ fn take_bits(reader: &mut AnyReader, bits: &mut [u8], at: usize) -> usize
     ensures reads { (line : LineKind) (mode : Mode) (samples : List Sample) (before : List Bool) → ReadsAs line mode reader.old samples (before ++ given at bits.old)
         → ReadsAs line mode reader.new samples (before ++ given result bits.new) }
     ensures full { (decoding_of reader.new).pending ≢ [] → length bits.new < result + 4 }
+    ensures lost { (decoding_of reader.new).lost ≡ (decoding_of reader.old).lost }
     ensures count { (decoding_of reader.new).count ≡ (decoding_of reader.old).count }
 {
     let mut next = at;

@@ -13,9 +13,8 @@ mod label_bits;
 mod link;
 mod meter;
 mod parts;
-mod turns;
-
 pub mod signal_laws;
+mod turns;
 
 pub use any_reader::{AnyReader, LineKind};
 pub use decoder::{DecoderStop, LAST_BITS, Pushed, SampleDecoder};

@@ -55,10 +55,7 @@ impl LockMeter {
             MatchOption result.1 (2 ^ 24 < self.octets + both) (λ octets. (octets ≡ both) × (self.octets + both ≤ 2 ^ 24)) }
         ensures stays { MatchOption result.1 (result.0 ≡ self) (λ octets. result.0.octets ≡ self.octets + octets) }
     {
-        let LockMeter {
-            mut margin,
-            octets,
-        } = self;
+        let LockMeter { mut margin, octets } = self;
         let count = (bits.len() / 8).min(parts.len() / 4);
         if count > (MOST - octets) as usize {
             return (LockMeter { margin, octets }, None);

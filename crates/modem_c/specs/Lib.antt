@@ -5,6 +5,7 @@ pub mod Answered
 pub mod Decoders
 pub mod Encoders
 pub mod Meters
+pub mod SignalLaws
 pub mod Deframers
 pub mod Answers
 pub mod Links

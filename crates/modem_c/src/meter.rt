@@ -97,11 +97,7 @@ pub extern "C" fn modem_meter_push(
 
 /// What the meter reads now.
 #[unsafe(no_mangle)]
-pub extern "C" fn modem_meter_read(
-    alloc: Global,
-    handle: &mut Handle,
-    reading: &mut Reading,
-) -> i32
+pub extern "C" fn modem_meter_read(alloc: Global, handle: &mut Handle, reading: &mut Reading) -> i32
     ensures cost { (mode : Mode) (bits : List Bool) (samples : List Sample) → Meters mode handle.old.value bits samples
         → BitsCost mode bits samples reading.new.cost × (reading.new.symbols ≡ length samples) }
     ensures answer { Answered (meter_in handle.old.value) handle.old.value handle.new.value result

@@ -1,4 +1,4 @@
-use Rattle.std.proofs.Common.{ℕ, ◌≡◌, ◌+◌, ◌++◌, ◌∙◌, ap, arith, append_assoc}
+use Rattle.std.proofs.Common.{◌≡◌, ◌+◌, ◌++◌, ◌∙◌, ap, arith, append_assoc}
 use Rattle.plain_lists.specs.Bits.{low_bits}
 use Rattle.gateway.specs.Given.{heard}
 use Rattle.gateway.proofs.Measuring.{two-fours}

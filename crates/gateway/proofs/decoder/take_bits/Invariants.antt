@@ -12,6 +12,7 @@ invariant-loop-bits l = record {
   same : length l.bits ≡ length l.fn.bits;
   next : l.next ≤ length l.bits;
   count : (decoding_of l.reader).count ≡ (decoding_of l.fn.reader).count;
+  lost : (decoding_of l.reader).lost ≡ (decoding_of l.fn.reader).lost;
   reads : (line : LineKind) (mode : Mode) (samples : List Sample) (before : List Bool) → ReadsAs line mode l.fn.reader samples (before ++ given l.at l.fn.bits)
       → ReadsAs line mode l.reader samples (before ++ given l.next l.bits);
 }

@@ -1,4 +1,4 @@
-use Rattle.std.proofs.Common.{ℕ, suc, ◌≡◌, ◌+◌, ◌-◌, ◌/◌, ◌%◌, ◌<◌, ◌++◌, List, length, set, ◌∙◌, arith, length-set}
+use Rattle.std.proofs.Common.{suc, ◌≡◌, ◌+◌, ◌-◌, ◌/◌, ◌%◌, ◌<◌, ◌++◌, length, set, ◌∙◌, arith, length-set}
 use Rattle.plain_lists.specs.Bits.{low_bits}
 use Rattle.gateway.specs.Given.{given}
 use Rattle.gateway.proofs.Putting.{given-put}

@@ -1,5 +1,4 @@
-use Rattle.std.proofs.Common.{ℕ, ◌++◌, Bool, List, subst}
-use Rattle.symbol_map.specs.declared.sample.Sample.{Sample}
+use Rattle.std.proofs.Common.{ℕ, ◌++◌, List, subst}
 use Rattle.line_coding.specs.Demodulates.{DemodulatorStands}
 use Rattle.rate_4800.specs.Demodulates.{DemodulatorStands as QuarterDemodulatorStands}
 use Rattle.survivors.specs.V32.{at_beginning}

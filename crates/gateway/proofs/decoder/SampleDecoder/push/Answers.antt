@@ -1,11 +1,11 @@
-use Rattle.std.proofs.Common.{ℕ, ◌∷◌, ◌*◌, ◌+◌, ◌/◌, ◌≡◌, ◌≤◌, ◌++◌, Bool, List, [], length, suc, sym, subst, append_assoc, ◌∙◌, arith, ℤ, pos, get_or}
+use Rattle.std.proofs.Common.{ℕ, ◌∷◌, ◌*◌, ◌+◌, ◌/◌, ◌≡◌, ◌++◌, Bool, List, [], length, suc, sym, subst, append_assoc, ◌∙◌, arith, ℤ, pos, get_or, length-append}
 use Rattle.scramblers.specs.declared.mode.Mode.{Mode}
 use Rattle.symbol_map.specs.declared.sample.Sample.{Sample}
 use Rattle.gateway.specs.declared.any_reader.LineKind.{LineKind}
 use Rattle.gateway.specs.Given.{given, samples_in}
 use Rattle.gateway.specs.Reads.{ReadsAs}
 use Rattle.gateway.specs.declared.any_reader.AnyReader.{AnyReader}
-use Rattle.gateway.proofs.Decoded.{length-more}
+use Rattle.gateway.proofs.Decoded.{length-samples_in, length-more, lost-with}
 use Rattle.gateway.proofs.decoder.SampleDecoder.push.Goals as goal
 
 -- one sample more
@@ -21,6 +21,7 @@ returns-in-Some-clause-decodes c = λ line mode samples before start. record {
   reads = c.take_bits-written.ensures.reads line mode (samples ++ samples_in c.loop-read.read c.args.parts.now) before
       (c.loop-read.invariant.reads line mode samples before start.reads);
   counted = length-more samples c.loop-read.read c.args.parts.now c.args.self.samples c.loop-read.samples start.counted c.loop-read.invariant.samples;
+  ended = λ symbol e. c.loop-read.invariant.ended line mode samples before start symbol (sym c.take_bits-written.ensures.lost ∙ e);
 }
 
 pub loop-read-preserved : goal.loop-read-preserved
@@ -33,6 +34,20 @@ loop-read-preserved c = record {
       let so_far = samples_in c.loop-read.read c.args.parts.now in let bits = before ++ given c.take_bits-written.result c.take_bits-written.new.bits in
       one_more line mode c.push.new.self samples c.args.parts.now c.loop-read.read (c.loop-read.read + 1) c.sample_at.result bits (omega arith) c.sample_at.ensures.re c.sample_at.ensures.im
       (c.push.ensures.reads line mode (samples ++ so_far) bits (c.take_bits-written.ensures.reads line mode (samples ++ so_far) before (c.loop-read.invariant.reads line mode samples before start)));
+  ended = λ line mode samples before start symbol e.
+      let parts = c.args.parts.now in let k = c.loop-read.read in
+      let so_far = samples_in k parts in let bits = before ++ given c.take_bits-written.result c.take_bits-written.new.bits in
+      let old = c.take_bits-written.ensures.reads line mode (samples ++ so_far) before (c.loop-read.invariant.reads line mode samples before start.reads) in
+      let last = lost-with line mode c.take_bits-written.new.reader c.push.new.self (samples ++ so_far) c.sample_at.result bits bits symbol
+      c.in_default.ensures.1 e old (c.push.ensures.reads line mode (samples ++ so_far) bits old) in
+      omega (
+        arith,
+        last,
+        length-append {A = Sample} samples (samples_in k parts),
+        length-append {A = Sample} samples (samples_in (k + 1) parts),
+        length-samples_in k parts,
+        length-samples_in (k + 1) parts,
+      );
 }
 
 pub returns-clause-decodes : goal.returns-clause-decodes
@@ -46,4 +61,6 @@ returns-clause-decodes c = λ line mode samples before start.
           (c.loop-read.invariant.reads line mode samples before start.reads));
       counted = length-more samples count c.args.parts.now c.args.self.samples c.loop-read.samples start.counted
           (subst (λ (n : ℕ). c.loop-read.samples ≡ c.args.self.samples + n) all c.loop-read.invariant.samples);
+      ended = λ symbol e. subst (λ (n : ℕ). length (samples ++ samples_in n c.args.parts.now) ≡ symbol + 1) all
+          (c.loop-read.invariant.ended line mode samples before start symbol (sym c.take_bits-written-2.ensures.lost ∙ e));
     }

@@ -1,7 +1,8 @@
-use Rattle.std.proofs.Common.{◌≡◌, ◌+◌, ◌≤◌, ◌++◌, Bool, List, length}
+use Rattle.std.proofs.Common.{◌≡◌, ℕ, ◌+◌, ◌≤◌, ◌++◌, Bool, List, length, Some}
 use Rattle.scramblers.specs.declared.mode.Mode.{Mode}
 use Rattle.symbol_map.specs.declared.sample.Sample.{Sample}
 use Rattle.gateway.specs.declared.any_reader.LineKind.{LineKind}
+use Rattle.gateway.specs.Decoded.{HasDecoded}
 use Rattle.gateway.specs.Decoding.{decoding_of}
 use Rattle.gateway.specs.Given.{given, samples_in}
 use Rattle.gateway.specs.Reads.{ReadsAs}
@@ -15,4 +16,6 @@ invariant-loop-read l = record {
   samples : l.samples ≡ l.fn.self.samples + l.read;
   reads : (line : LineKind) (mode : Mode) (samples : List Sample) (before : List Bool) → ReadsAs line mode l.fn.self.reader samples before
       → ReadsAs line mode l.reader (samples ++ samples_in l.read l.parts) (before ++ given l.written l.bits);
+  ended : (line : LineKind) (mode : Mode) (samples : List Sample) (before : List Bool) → HasDecoded line mode l.fn.self samples before
+      → (symbol : ℕ) → (decoding_of l.reader).lost ≡ Some symbol → length (samples ++ samples_in l.read l.parts) ≡ symbol + 1;
 }

@@ -1,0 +1,30 @@
+//! Laws that join what handles lead to: an encoder's, or a meter's, and a decoder's. The functions do nothing but name the laws that they
+//! rest on: each law is a contract. Not for C.
+ghost use Rattle.modem_c.specs.SignalLaws.{SentBitsComeBack, SentBitsComeSoon, AllBitsComeBack, SureBitsAreGiven, QuarterBitsComeBack, AllQuarterBitsComeBack};
+
+use gateway::signal_laws;
+
+/// What a decoder gives at 9600 bit/s are the bits that went into the encoder: as long as all of the noise is below 2.5 squares of a unit
+/// of the map the line isn't lost and at most 126 samples are behind, without noise 24, and then none at its end.
+pub fn sent_bits_come_back()
+    ensures near { SentBitsComeBack }
+    ensures soon { SentBitsComeSoon }
+    ensures all { AllBitsComeBack }
+{
+    signal_laws::sent_bits_come_back();
+}
+
+/// Where a meter is sure of bits, a decoder of the samples gives these bits, at most 126 samples behind.
+pub fn sure_bits_are_given()
+    ensures { SureBitsAreGiven }
+{
+    signal_laws::sure_bits_are_given();
+}
+
+/// At 4800 bit/s the line isn't lost and no sample is behind, where each one is heard nearer than half the way to the next point.
+pub fn quarter_bits_come_back()
+    ensures near { QuarterBitsComeBack }
+    ensures all { AllQuarterBitsComeBack }
+{
+    signal_laws::quarter_bits_come_back();
+}
