@@ -9,6 +9,7 @@ mod deframer;
 mod encoder;
 mod framer;
 mod label_bits;
+pub mod laws;
 mod link;
 mod meter;
 mod turns;
