@@ -9,8 +9,8 @@ ghost use Rattle.gateway.specs.Given.{given, samples_in};
 ghost use Rattle.gateway.specs.Reads.{Read, ReadsAs, Ends};
 ghost use Rattle.gateway.specs.Stops.{StopsSo};
 
-use crate::any_reader::{AnyReader, LineKind};
 use crate::label_bits::{LabelBits, put_bits};
+use crate::any_reader::{AnyReader, LineKind};
 use line_coding::{Demodulate, Demodulator};
 use outside_calls::NoMemory;
 use rate_4800::Demodulator as QuarterDemodulator;
@@ -143,11 +143,7 @@ impl SampleDecoder {
             let (next, all) = take_bits(&mut reader, bits, written);
             written = next;
             if !all || samples >= MOST {
-                let stop = if all {
-                    DecoderStop::Late
-                } else {
-                    DecoderStop::Full
-                };
+                let stop = if all { DecoderStop::Late } else { DecoderStop::Full };
                 return (
                     SampleDecoder { reader, samples },
                     Pushed {
@@ -175,11 +171,7 @@ impl SampleDecoder {
             Pushed {
                 read: parts.len() / 2,
                 written,
-                stop: if all {
-                    DecoderStop::All
-                } else {
-                    DecoderStop::Full
-                },
+                stop: if all { DecoderStop::All } else { DecoderStop::Full },
             },
         )
     }

@@ -11,7 +11,7 @@ ghost use Rattle.modem_c.specs.Decoders.{Decodes};
 use crate::codes::{BAD_ARGUMENT, DONE, EMPTY, FULL, LATE, LOST, NO_MEMORY, WRONG_KIND, mode_of};
 use crate::handle::{Handle, make, put, take};
 use crate::machine::Machine;
-use gateway::{DecoderStop, LineKind, SampleDecoder};
+use gateway::{LineKind, SampleDecoder, DecoderStop};
 use std::alloc::Global;
 use std::mem;
 

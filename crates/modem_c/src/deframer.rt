@@ -148,11 +148,7 @@ pub extern "C" fn modem_deframer_new(
         1 => Check::ThirtyTwo,
         _ => return BAD_ARGUMENT,
     };
-    make(
-        alloc,
-        handle,
-        Machine::Deframer(FrameReader::new(sender, check)),
-    )
+    make(alloc, handle, Machine::Deframer(FrameReader::new(sender, check)))
 }
 
 /// LabelBits more, an octet each, up to the one with which a piece ends. There is to be room for 1024 octets of information.

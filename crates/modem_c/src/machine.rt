@@ -1,6 +1,8 @@
 // What a handle leads to.
 
-use gateway::{Endpoint, FrameReader, FrameWriter, LockMeter, SampleDecoder, SampleEncoder};
+use gateway::{
+    Endpoint, FrameReader, FrameWriter, LockMeter, SampleDecoder, SampleEncoder,
+};
 
 /// What C keeps by a handle.
 #[derive(Drop)]
