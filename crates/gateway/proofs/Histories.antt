@@ -1,6 +1,9 @@
 -- The calls that are made of two ends are the events of a play.
-use Rattle.std.proofs.Common.{◌≡◌, ◌∙◌, ℕ, ◌≤◌, ◌&&◌, Bool, true, false, cond, nat_le, nat_lt, ◌^◌, List, [], ◌∷◌, ◌++◌, length, Option, Some, None, Result, Ok, Err, refl, sym, ap, subst}
-use Rattle.std.specs.Prelude.{is_some}
+use Rattle.std.proofs.Common.{◌≡◌, ◌∙◌, ℕ, ◌+◌, ◌<◌, ◌≤◌, ◌&&◌, Bool, true, false, cond, nat_le, nat_lt, ◌^◌, List, [], ◌∷◌, ◌++◌, length, Option, Some, None, Result, Ok, Err, refl, sym, ap, subst, take, drop, inl, inr, arith, length-append}
+use Rattle.std.specs.Prelude.{is_some, slice_index_or}
+use Rattle.std.proofs.lemmas.List.{take-append-le, take_more, take-append-drop, append_assoc}
+use Rattle.std.proofs.lemmas.Bool.Decides.{nat_tests}
+use Rattle.std.proofs.lemmas.Grind.{common_steps}
 use Rattle.std.proofs.lemmas.Bool.{false≢true}
 use Rattle.frame_check.specs.declared.check.Check.{Check}
 use Rattle.frame_check.specs.FrameCheck.{IsChecked}
@@ -20,12 +23,17 @@ use Rattle.lapm_frames.specs.Frame.{IsFrame}
 use Rattle.lapm_frames.specs.Sendable.{IsSendable}
 use Rattle.lapm_frames.specs.Checked.{check_heard, checked, SpellsFrame}
 use Rattle.link_account.specs.declared.setup.Setup.{Setup}
-use Rattle.link_account.specs.Account.{Account, fresh, check_of, wants, piece_size, after_given, after_offer, after_delivery, after_break_asked, after_busy}
+use Rattle.link_account.specs.Account.{Account, fresh, check_of, wants, piece_size, after_given, after_offer, after_delivery, after_break_asked, after_busy, is_connected, delivers}
 use Rattle.link_account.specs.Hear.{hear}
 use Rattle.link_account.specs.Speak.{Said, speak}
 use Rattle.link_account.specs.Play.{Slot, Side, Play, Event, arrives, spoken, heard, happens, play, start, seen_from}
 use Rattle.link_account.specs.Play as plays
-use Rattle.link_account.specs.Laws.{MayPlay, played, TakesInOrder}
+use Rattle.link_account.specs.declared.phase.Phase.{Phase}
+use Rattle.link_account.specs.declared.phase.Phase.TheVariants as phases
+use Rattle.link_account.specs.Laws.{MayPlay, played, TakesInOrder, has_begun}
+use Rattle.lapm_receiver.specs.Incoming.{KeepsTaken}
+use Rattle.break_signals.specs.Breaks.{after_ask}
+use Rattle.lapm_sender.specs.Outgoing.{Outgoing, wanted}
 use Rattle.lapm_link.specs.declared.any_end.AnyEnd.{AnyEnd}
 use Rattle.lapm_link.specs.Stands.{StandsFor}
 use Rattle.gateway.specs.declared.turns.Carried.{Carried}
@@ -39,7 +47,8 @@ use Rattle.gateway.specs.Turns.{Arrives, told_as}
 use Rattle.gateway.specs.Endpoints.{IsNew, HeardAs, SaysAs, OfferedAs, AnswersBreak, longest_wanted, wanted_length, is_taken}
 use Rattle.gateway.specs.Histories.{Utterance, EndSide, Move, Speaks, Passes, Is_lost, Hears_nothing, Is_offered, Is_asked, Is_delivered, Is_busy}
 use Rattle.gateway.specs.Histories.{CarriesTold, AreJudgedAlike, HearsOf, SpeaksOf, LosesOf, PassesOf, OfferedOf, AskedOf, DeliveredOf, BusyOf}
-use Rattle.gateway.specs.Histories.{IsMade, Step, Begin, History, IsPlayed, HistoriesArePlays, TakesPrefix, HistoriesKeepPrefixes}
+use Rattle.gateway.specs.Histories.{IsMade, Step, Begins, History, HistoriesArePlays, HistoriesKeepPrefixes, with_offered, with_delivered}
+use Rattle.gateway.proofs.Lists.{Lists, lists, Grows, grows-heard, kept-spoken}
 
 -- what is known of frames and their octets
 pub record FrameLaws : Type 0 where
@@ -174,11 +183,99 @@ told-snoc role (s ∷ slots) (t ∷ line) slot said h last = (h.0, told-snoc rol
 told-snoc role [] (t ∷ line) slot said h last = absurd h
 told-snoc role (s ∷ slots) [] slot said h last = absurd h
 
+-- what the user of an end handed over and was given, by its account
+pub record IsBook (offered delivered : List (List ℕ)) (l : Lists) : Type 0 where
+  pub pieces_are : offered ≡ l.pieces
+  pub given_are : delivered ≡ take l.given l.taken
+  pub within : l.given ≤ length l.taken
+  pub blank : l.begun ≡ false → (l.pieces ≡ []) × (l.given ≡ 0)
+
+book-grows : (offered delivered : List (List ℕ)) (a b : Account) → Grows a b → IsBook offered delivered (lists a)
+    → IsBook offered delivered (lists b)
+book-grows offered delivered a b (inl (more, e)) h = subst (IsBook offered delivered) (sym e) (record {
+  pieces_are = h.pieces_are;
+  given_are = h.given_are ∙ sym (take-append-le a.incoming.given a.incoming.taken more h.within);
+  within = let w : a.incoming.given ≤ length a.incoming.taken = h.within in omega (arith, w, length-append {A = List ℕ} a.incoming.taken more);
+  blank = h.blank;
+})
+book-grows offered delivered a b (inr (was, e)) h =
+    let none = h.blank was in
+    subst (IsBook offered delivered) (sym e) (record {
+      pieces_are = h.pieces_are ∙ none.0;
+      given_are = h.given_are ∙ ap (λ (n : ℕ). take n a.incoming.taken) none.1;
+      within = omega arith;
+      blank = λ z. absurd (false≢true (sym z));
+    })
+
+connected-begun : (p : Phase) → is_connected p ≡ true → has_begun p ≡ true
+connected-begun phases.Connected e = refl
+connected-begun phases.Releasing e = refl
+connected-begun phases.Closed e = refl
+connected-begun phases.Detecting e = absurd (false≢true e)
+connected-begun phases.Negotiating e = absurd (false≢true e)
+connected-begun phases.Establishing e = absurd (false≢true e)
+
+-- a segment is given
+book-given : (offered delivered : List (List ℕ)) (a : Account) (segment : Option (List ℕ)) → delivers a ≡ segment
+    → IsBook offered delivered (lists a) → IsBook offered (with_delivered segment delivered) (lists (after_delivery a))
+book-given offered delivered a segment e h =
+    go (is_connected a.phase) (nat_lt a.incoming.given (length a.incoming.taken)) refl refl segment e
+  where
+    go : (c l : Bool) → is_connected a.phase ≡ c → nat_lt a.incoming.given (length a.incoming.taken) ≡ l → (segment : Option (List ℕ))
+        → cond c (cond l (Some (slice_index_or a.incoming.taken a.incoming.given [])) None) None ≡ segment
+        → IsBook offered (with_delivered segment delivered)
+        (lists (cond c (record a { incoming = cond l (record a.incoming { given = a.incoming.given + 1 }) a.incoming }) a))
+    go true true j k segment e =
+        let within : a.incoming.given < length a.incoming.taken = grind (arith, nat_tests) in
+        subst (λ (o : Option (List ℕ)). IsBook offered (with_delivered o delivered) (record (lists a) { given = a.incoming.given + 1 })) e (record {
+          pieces_are = h.pieces_are;
+          given_are = ap (λ (l : List (List ℕ)). l ++ slice_index_or a.incoming.taken a.incoming.given [] ∷ []) h.given_are
+              ∙ sym (take_more a.incoming.taken a.incoming.given [] within);
+          within = omega arith;
+          blank = λ z. absurd (false≢true (sym z ∙ connected-begun a.phase j));
+        })
+    go true false j k segment e = subst (λ (o : Option (List ℕ)). IsBook offered (with_delivered o delivered) (lists a)) e h
+    go false l j k segment e = subst (λ (o : Option (List ℕ)). IsBook offered (with_delivered o delivered) (lists a)) e h
+
+-- a piece is taken
+book-offered : (offered delivered : List (List ℕ)) (a : Account) (piece : List ℕ) → has_begun a.phase ≡ true
+    → IsBook offered delivered (lists a) → IsBook (with_offered true piece offered) delivered (lists (after_offer piece a))
+book-offered offered delivered a [] begun h = h
+book-offered offered delivered a (octet ∷ octets) begun h = record {
+  pieces_are = ap (λ (l : List (List ℕ)). l ++ (octet ∷ octets) ∷ []) h.pieces_are;
+  given_are = h.given_are;
+  within = h.within;
+  blank = λ z. absurd (false≢true (sym z ∙ begun));
+}
+
+-- an end that wants a piece is Connected
+wants-begun : (a : Account) (b : Bool) → (is_some (wants a) && b) ≡ true → has_begun a.phase ≡ true
+wants-begun a b e = connected-begun a.phase (go (is_connected a.phase) e)
+  where
+    go : (c : Bool) → (is_some (cond c (wanted a.outgoing) None) && b) ≡ true → c ≡ true
+    go true e = refl
+    go false e = absurd (false≢true e)
+
+busy-lists : (busy : Bool) (a : Account) → lists (after_busy busy a) ≡ lists a
+busy-lists busy a = go (is_connected a.phase)
+  where
+    go : (c : Bool) → lists (cond c (record a { owes = record a.owes { busy = busy } }) a) ≡ lists a
+    go true = refl
+    go false = refl
+
+asked-lists : (turn units : ℕ) (a : Account) → lists (after_break_asked turn units a) ≡ lists a
+asked-lists turn units a = go (is_connected a.phase)
+  where
+    go : (c : Bool) → lists (cond c (record a { own_breaks = after_ask turn units a.own_breaks }) a) ≡ lists a
+    go true = refl
+    go false = refl
+
 -- a side of a play and an end that stands for it
 pub record IsSide (role : Role) (x : Account) (slots : List Slot) (side : EndSide) : Type 0 where
   pub stands : StandsFor side.end.link x
   pub role_is : side.end.role ≡ role
   pub line : AllTold role slots side.line
+  pub book : IsBook side.offered side.delivered (lists x)
 
 pub record LastsAt (so sa : Setup) (role : Role) (own peer : EndSide) : Type 0 where
   pub x : Account
@@ -212,22 +309,27 @@ led-on : (so sa : Setup) (events : List Event) (event : Event) (p q : Play) → 
     → played so sa (events ++ event ∷ []) ≡ q
 led-on so sa events event p q e h = play-append events (event ∷ []) (start (fresh so) (fresh sa)) ∙ ap (happens event) e ∙ h
 
--- the account of the own end changes by one event, and its line doesn't
+-- the own side has another form
+side-of : (role : Role) (x : Account) (slots : List Slot) (new form : EndSide) → new ≡ form → StandsFor new.end.link x → new.end.role ≡ role
+    → AllTold role slots form.line → IsBook form.offered form.delivered (lists x) → IsSide role x slots new
+side-of role x slots new form e stands role_is line book = record {
+  stands = stands;
+  role_is = role_is;
+  line = subst (λ (s : EndSide). AllTold role slots s.line) (sym e) line;
+  book = subst (λ (s : EndSide). IsBook s.offered s.delivered (lists x)) (sym e) book;
+}
+
+-- the own end comes to this account by one event, and its line stays
 changes : (so sa : Setup) (role : Role) (own peer new : EndSide) (h : LastsAt so sa role own peer) (event : Event) (b : Account)
-    → happens event (at role h.x h.lx h.y h.ly) ≡ at role b h.lx h.y h.ly → StandsFor new.end.link b → new.end.role ≡ own.end.role
-    → new.line ≡ own.line → LastsAt so sa role new peer
-changes so sa role own peer new h event b e stands role_is line = record {
+    → happens event (at role h.x h.lx h.y h.ly) ≡ at role b h.lx h.y h.ly → IsSide role b h.lx new → LastsAt so sa role new peer
+changes so sa role own peer new h event b e side = record {
   x = b;
   lx = h.lx;
   y = h.y;
   ly = h.ly;
   events = h.events ++ event ∷ [];
   led = led-on so sa h.events event (at role h.x h.lx h.y h.ly) (at role b h.lx h.y h.ly) h.led e;
-  own_side = record {
-    stands = stands;
-    role_is = role_is ∙ h.own_side.role_is;
-    line = subst (AllTold role h.lx) (sym line) h.own_side.line;
-  };
+  own_side = side;
   peer_side = h.peer_side;
 }
 
@@ -293,9 +395,17 @@ has-heard : (becomes : Result Account LinkFault) (a : Account) (link : AnyEnd) (
 has-heard (Ok b) a link given h = record { account = b; becomes_is = refl; stands = h.1 }
 has-heard (Err fault) a link given h = absurd h
 
-hears-step : (so sa : Setup) (role : Role) (own peer new : EndSide) → LastsAt so sa role own peer → HearsOf loads.Nothing own new
-    → LastsAt so sa role new peer
-hears-step so sa role own peer new h m =
+-- an end that has heard this, by the account that it came to
+heard-side : KeepsTaken → (role : Role) (turn : ℕ) (arrived : Arrived) (x b : Account) (slots : List Slot) (old new : EndSide)
+    → IsSide role x slots old → hear turn arrived x ≡ Ok b → new ≡ record old { end = new.end } → new.end.role ≡ old.end.role
+    → StandsFor new.end.link (after_given b) → IsSide role (after_given b) slots new
+heard-side keeps role turn arrived x b slots old new h e is role_is stands =
+    side-of role (after_given b) slots new (record old { end = new.end }) is stands (role_is ∙ h.role_is) h.line
+    (book-grows old.offered old.delivered x b (grows-heard keeps turn arrived x b e) h.book)
+
+hears-step : KeepsTaken → (so sa : Setup) (role : Role) (own peer new : EndSide) → LastsAt so sa role own peer
+    → HearsOf loads.Nothing own new → LastsAt so sa role new peer
+hears-step keeps so sa role own peer new h m =
     let turn : ℕ = own.end.state.turn in
     let k = m.hears.hears h.x h.own_side.stands in
     let heard = has-heard (hear turn k.arrived h.x) h.x new.end.link m.given k.becomes in
@@ -310,11 +420,7 @@ hears-step so sa role own peer new h m =
       led = led-on so sa (h.events ++ plays.Hears_nothing role turn ∷ []) (plays.Gives_break role) _ _
           (led-on so sa h.events (plays.Hears_nothing role turn) _ _ h.led (hears-event role turn h.x heard.account h.y h.lx h.ly is))
           (gives-event role heard.account h.y h.lx h.ly);
-      own_side = record {
-        stands = heard.stands;
-        role_is = m.hears.role_is ∙ h.own_side.role_is;
-        line = subst (AllTold role h.lx) (sym m.line_is) h.own_side.line;
-      };
+      own_side = heard-side keeps role turn arrivals.Nothing h.x heard.account h.lx own new h.own_side is m.new_is m.hears.role_is heard.stands;
       peer_side = h.peer_side;
     }
 
@@ -323,9 +429,16 @@ gives-at-peer : (role : Role) (x y : Account) (lx ly : List Slot)
 gives-at-peer Originator x y lx ly = refl
 gives-at-peer Answerer x y lx ly = refl
 
-passes-step : FrameLaws → (so sa : Setup) (role : Role) (own peer new after : EndSide) → LastsAt so sa role own peer
+-- an end whose oldest utterance is gone
+shorter-side : (role : Role) (x : Account) (slots left : List Slot) (old new : EndSide) (rest : List Utterance) → IsSide role x slots old
+    → new ≡ record old { line = rest } → AllTold role left rest → IsSide role x left new
+shorter-side role x slots left old new rest h is t =
+    side-of role x left new (record old { line = rest }) is
+    (subst (λ (s : EndSide). StandsFor s.end.link x) (sym is) h.stands) (ap (λ (s : EndSide). s.end.role) is ∙ h.role_is) t h.book
+
+passes-step : FrameLaws → KeepsTaken → (so sa : Setup) (role : Role) (own peer new after : EndSide) → LastsAt so sa role own peer
     → PassesOf own peer new after → LastsAt so sa role new after
-passes-step laws so sa role own peer new after h m =
+passes-step laws keeps so sa role own peer new after h m =
     go h.lx refl (subst (AllTold role h.lx) m.line_was h.own_side.line)
   where
     go : (slots : List Slot) → h.lx ≡ slots → AllTold role slots (m.said ∷ m.rest) → LastsAt so sa role new after
@@ -350,16 +463,9 @@ passes-step laws so sa role own peer new after h m =
               (led-on so sa h.events (plays.Passes role turn) (at role h.x (slot ∷ left) h.y h.ly) _
               (h.led ∙ ap (λ (l : List Slot). at role h.x l h.y h.ly) e) (passes-event role turn h.x h.y heard.account slot left h.ly is))
               (gives-at-peer role h.x heard.account left h.ly);
-          own_side = record {
-            stands = subst (λ (s : EndSide). StandsFor s.end.link h.x) (sym m.new_is) h.own_side.stands;
-            role_is = ap (λ (s : EndSide). s.end.role) m.new_is ∙ h.own_side.role_is;
-            line = subst (λ (s : EndSide). AllTold role left s.line) (sym m.new_is) t.1;
-          };
-          peer_side = record {
-            stands = heard.stands;
-            role_is = m.hears.hears.role_is ∙ h.peer_side.role_is;
-            line = subst (AllTold (other role) h.ly) (sym m.hears.line_is) h.peer_side.line;
-          };
+          own_side = shorter-side role h.x h.lx left own new m.rest h.own_side m.new_is t.1;
+          peer_side = heard-side keeps (other role) turn (arrives slot.sent) h.y heard.account h.ly peer after h.peer_side is m.hears.new_is
+              m.hears.hears.role_is heard.stands;
         }
 
 loses-step : (so sa : Setup) (role : Role) (own peer new : EndSide) → LastsAt so sa role own peer → LosesOf own new
@@ -376,11 +482,7 @@ loses-step so sa role own peer new h m = go h.lx refl (subst (AllTold role h.lx)
       events = h.events ++ plays.Is_lost role ∷ [];
       led = led-on so sa h.events (plays.Is_lost role) (at role h.x (slot ∷ left) h.y h.ly) _
           (h.led ∙ ap (λ (l : List Slot). at role h.x l h.y h.ly) e) (loses-event role h.x h.y slot left h.ly);
-      own_side = record {
-        stands = subst (λ (s : EndSide). StandsFor s.end.link h.x) (sym m.new_is) h.own_side.stands;
-        role_is = ap (λ (s : EndSide). s.end.role) m.new_is ∙ h.own_side.role_is;
-        line = subst (λ (s : EndSide). AllTold role left s.line) (sym m.new_is) t.1;
-      };
+      own_side = shorter-side role h.x h.lx left own new m.rest h.own_side m.new_is t.1;
       peer_side = h.peer_side;
     }
 
@@ -404,44 +506,60 @@ speaks-step so sa role release own peer new h m =
           events = h.events ++ plays.Speaks role own.end.state.turn release ∷ [];
           led = led-on so sa h.events (plays.Speaks role own.end.state.turn release) _ _ h.led
               (speaks-event role own.end.state.turn release h.x h.y h.lx h.ly said e);
-          own_side = record {
-            stands = s.2;
-            role_is = m.speaks.role_is ∙ h.own_side.role_is;
-            line = subst (AllTold role (h.lx ++ slot_of h.x said ∷ [])) (sym m.line_is)
-                (told-snoc role h.lx own.line (slot_of h.x said) m.said h.own_side.line (told_is, s.1));
-          };
+          own_side = side-of role said.account (h.lx ++ slot_of h.x said ∷ []) new
+              (record own { end = new.end; line = own.line ++ m.said ∷ [] }) m.new_is s.2 (m.speaks.role_is ∙ h.own_side.role_is)
+              (told-snoc role h.lx own.line (slot_of h.x said) m.said h.own_side.line (told_is, s.1))
+              (subst (IsBook own.offered own.delivered) (sym (kept-spoken own.end.state.turn release h.x said e)) h.own_side.book);
           peer_side = h.peer_side;
         }
 
 -- the own end is as it was
-stays : (so sa : Setup) (role : Role) (own peer new : EndSide) → LastsAt so sa role own peer → new.end ≡ own.end → new.line ≡ own.line
-    → LastsAt so sa role new peer
-stays so sa role own peer new h e line = record {
+stays : (so sa : Setup) (role : Role) (own peer new : EndSide) → LastsAt so sa role own peer → new.end ≡ own.end
+    → new ≡ record own { end = new.end } → LastsAt so sa role new peer
+stays so sa role own peer new h e is = record {
   x = h.x;
   lx = h.lx;
   y = h.y;
   ly = h.ly;
   events = h.events;
   led = h.led;
-  own_side = record {
-    stands = subst (λ (v : Endpoint). StandsFor v.link h.x) (sym e) h.own_side.stands;
-    role_is = ap (λ (v : Endpoint). v.role) e ∙ h.own_side.role_is;
-    line = subst (AllTold role h.lx) (sym line) h.own_side.line;
-  };
+  own_side = side-of role h.x h.lx new (record own { end = new.end }) is
+      (subst (λ (v : Endpoint). StandsFor v.link h.x) (sym e) h.own_side.stands)
+      (ap (λ (v : Endpoint). v.role) e ∙ h.own_side.role_is) h.own_side.line h.own_side.book;
   peer_side = h.peer_side;
 }
 
+-- its account changes, and none of its segments
+alters : (so sa : Setup) (role : Role) (own peer new : EndSide) (h : LastsAt so sa role own peer) (event : Event) (b : Account)
+    → happens event (at role h.x h.lx h.y h.ly) ≡ at role b h.lx h.y h.ly → lists b ≡ lists h.x → StandsFor new.end.link b
+    → new.end.role ≡ own.end.role → new ≡ record own { end = new.end } → LastsAt so sa role new peer
+alters so sa role own peer new h event b e same stands role_is is =
+    changes so sa role own peer new h event b e
+    (side-of role b h.lx new (record own { end = new.end }) is stands (role_is ∙ h.own_side.role_is) h.own_side.line
+    (subst (IsBook own.offered own.delivered) (sym same) h.own_side.book))
+
 offered-step : (so sa : Setup) (role : Role) (piece : List ℕ) (own peer new : EndSide) → LastsAt so sa role own peer
     → OfferedOf piece own new → LastsAt so sa role new peer
-offered-step so sa role piece own peer new h m = go m.taken refl m.offers.account
+offered-step so sa role piece own peer new h m = go m.taken refl m.offers.account m.new_is
   where
-    go : (taken : Bool) → m.taken ≡ taken → OfferedAs taken piece own.end new.end → LastsAt so sa role new peer
-    go true e k =
+    go : (taken : Bool) → m.taken ≡ taken → OfferedAs taken piece own.end new.end
+        → new ≡ record own { end = new.end; offered = with_offered taken piece own.offered } → LastsAt so sa role new peer
+    go true e k is =
+        let wanted = taken-wanted (length piece) (piece_size h.x) (wants h.x) (sym e ∙ m.offers.answer h.x h.own_side.stands) in
         changes so sa role own peer new h (plays.Is_offered role piece) (after_offer piece h.x)
-        (offered-event role piece h.x h.y h.lx h.ly
-        (taken-wanted (length piece) (piece_size h.x) (wants h.x) (sym e ∙ m.offers.answer h.x h.own_side.stands)))
-        (k h.x h.own_side.stands) m.offers.same.role_is m.line_is
-    go false e k = stays so sa role own peer new h k m.line_is
+        (offered-event role piece h.x h.y h.lx h.ly wanted)
+        (side-of role (after_offer piece h.x) h.lx new (record own { end = new.end; offered = with_offered true piece own.offered }) is
+        (k h.x h.own_side.stands) (m.offers.same.role_is ∙ h.own_side.role_is) h.own_side.line
+        (book-offered own.offered own.delivered h.x piece (wants-begun h.x (nat_le (length piece) (piece_size h.x)) wanted) h.own_side.book))
+    go false e k is = stays so sa role own peer new h k is
+
+delivered-step : (so sa : Setup) (role : Role) (own peer new : EndSide) → LastsAt so sa role own peer → DeliveredOf own new
+    → LastsAt so sa role new peer
+delivered-step so sa role own peer new h m =
+    changes so sa role own peer new h (plays.Delivers role) (after_delivery h.x) (delivers-event role h.x h.y h.lx h.ly)
+    (side-of role (after_delivery h.x) h.lx new (record own { end = new.end; delivered = with_delivered m.segment own.delivered }) m.new_is
+    (m.delivers.account h.x h.own_side.stands) (m.delivers.role_is ∙ h.own_side.role_is) h.own_side.line
+    (book-given own.offered own.delivered h.x m.segment (m.delivers.next h.x h.own_side.stands) h.own_side.book))
 
 asked-step : (so sa : Setup) (role : Role) (units : ℕ) (own peer new : EndSide) → LastsAt so sa role own peer → AskedOf units own new
     → LastsAt so sa role new peer
@@ -449,31 +567,33 @@ asked-step so sa role units own peer new h m = go m.answer m.answers
   where
     go : (answer : BreakAsked) → AnswersBreak own.end units new.end answer → LastsAt so sa role new peer
     go asked.Taken k =
-        changes so sa role own peer new h (plays.Is_asked role own.end.state.turn units) _
-        (asked-event role own.end.state.turn units h.x h.y h.lx h.ly) (k.account h.x h.own_side.stands) k.same.role_is m.line_is
+        alters so sa role own peer new h (plays.Is_asked role own.end.state.turn units) (after_break_asked own.end.state.turn units h.x)
+        (asked-event role own.end.state.turn units h.x h.y h.lx h.ly) (asked-lists own.end.state.turn units h.x)
+        (k.account h.x h.own_side.stands) k.same.role_is m.new_is
     go asked.Refused k =
-        changes so sa role own peer new h (plays.Is_asked role own.end.state.turn units) _
-        (asked-event role own.end.state.turn units h.x h.y h.lx h.ly) (k.account h.x h.own_side.stands) k.same.role_is m.line_is
-    go asked.Late k = stays so sa role own peer new h k.1 m.line_is
+        alters so sa role own peer new h (plays.Is_asked role own.end.state.turn units) (after_break_asked own.end.state.turn units h.x)
+        (asked-event role own.end.state.turn units h.x h.y h.lx h.ly) (asked-lists own.end.state.turn units h.x)
+        (k.account h.x h.own_side.stands) k.same.role_is m.new_is
+    go asked.Late k = stays so sa role own peer new h k.1 m.new_is
 
-made-at : FrameLaws → (so sa : Setup) (role : Role) (move : Move) (own peer new after : EndSide) → LastsAt so sa role own peer
+made-at : FrameLaws → KeepsTaken → (so sa : Setup) (role : Role) (move : Move) (own peer new after : EndSide) → LastsAt so sa role own peer
     → IsMade move own peer new after → LastsAt so sa role new after
-made-at laws so sa role Passes own peer new after h m = passes-step laws so sa role own peer new after h m
-made-at laws so sa role (Speaks release) own peer new after h m =
+made-at laws keeps so sa role Passes own peer new after h m = passes-step laws keeps so sa role own peer new after h m
+made-at laws keeps so sa role (Speaks release) own peer new after h m =
     subst (LastsAt so sa role new) (sym m.1) (speaks-step so sa role release own peer new h m.0)
-made-at laws so sa role Is_lost own peer new after h m = subst (LastsAt so sa role new) (sym m.1) (loses-step so sa role own peer new h m.0)
-made-at laws so sa role Hears_nothing own peer new after h m =
-    subst (LastsAt so sa role new) (sym m.1) (hears-step so sa role own peer new h m.0)
-made-at laws so sa role (Is_offered piece) own peer new after h m =
+made-at laws keeps so sa role Is_lost own peer new after h m =
+    subst (LastsAt so sa role new) (sym m.1) (loses-step so sa role own peer new h m.0)
+made-at laws keeps so sa role Hears_nothing own peer new after h m =
+    subst (LastsAt so sa role new) (sym m.1) (hears-step keeps so sa role own peer new h m.0)
+made-at laws keeps so sa role (Is_offered piece) own peer new after h m =
     subst (LastsAt so sa role new) (sym m.1) (offered-step so sa role piece own peer new h m.0)
-made-at laws so sa role (Is_asked units) own peer new after h m =
+made-at laws keeps so sa role (Is_asked units) own peer new after h m =
     subst (LastsAt so sa role new) (sym m.1) (asked-step so sa role units own peer new h m.0)
-made-at laws so sa role Is_delivered own peer new after h m =
-    subst (LastsAt so sa role new) (sym m.1) (changes so sa role own peer new h (plays.Delivers role) _
-    (delivers-event role h.x h.y h.lx h.ly) (m.0.delivers.account h.x h.own_side.stands) m.0.delivers.role_is m.0.line_is)
-made-at laws so sa role (Is_busy busy) own peer new after h m =
-    subst (LastsAt so sa role new) (sym m.1) (changes so sa role own peer new h (plays.Is_busy role busy) _
-    (busy-event role busy h.x h.y h.lx h.ly) (m.0.told.account h.x h.own_side.stands) m.0.told.same.role_is m.0.line_is)
+made-at laws keeps so sa role Is_delivered own peer new after h m =
+    subst (LastsAt so sa role new) (sym m.1) (delivered-step so sa role own peer new h m.0)
+made-at laws keeps so sa role (Is_busy busy) own peer new after h m =
+    subst (LastsAt so sa role new) (sym m.1) (alters so sa role own peer new h (plays.Is_busy role busy) (after_busy busy h.x)
+    (busy-event role busy h.x h.y h.lx h.ly) (busy-lists busy h.x) (m.0.told.account h.x h.own_side.stands) m.0.told.same.role_is m.0.new_is)
 
 -- ---- histories
 
@@ -484,36 +604,33 @@ from-role so sa ends Answerer Answerer h = h
 from-role so sa ends Originator Answerer h = turned so sa Originator ends.orig ends.answ h
 from-role so sa ends Answerer Originator h = turned so sa Answerer ends.answ ends.orig h
 
-begins : (so sa : Setup) (ends : Both EndSide) → MayPlay so sa → Begin so sa ends → LastsAt so sa Originator ends.orig ends.answ
-begins so sa ends m b = record {
+new-side : (role : Role) (setup : Setup) (side : EndSide) → setup.role ≡ role → Begins setup side → IsSide role (fresh setup) [] side
+new-side role setup side e b = record {
+  stands = b.is_new.stands;
+  role_is = b.is_new.role_is ∙ e;
+  line = subst (AllTold role []) (sym b.line_is) tt;
+  book = record { pieces_are = b.offered_is; given_are = b.delivered_is; within = omega arith; blank = λ z. (refl, refl) };
+}
+
+lasts : FrameLaws → KeepsTaken → (so sa : Setup) (steps : List Step) (ends : Both EndSide) → MayPlay so sa → History so sa steps ends
+    → (role : Role) → LastsAt so sa role (of role ends) (of (other role) ends)
+lasts laws keeps so sa [] ends m h role = from-role so sa ends Originator role (record {
   x = fresh so;
   lx = [];
   y = fresh sa;
   ly = [];
   events = [];
   led = refl;
-  own_side = record {
-    stands = b.orig.stands;
-    role_is = b.orig.role_is ∙ m.originates;
-    line = subst (AllTold Originator []) (sym b.orig_line) tt;
-  };
-  peer_side = record {
-    stands = b.answ.stands;
-    role_is = b.answ.role_is ∙ m.answers;
-    line = subst (AllTold Answerer []) (sym b.answ_line) tt;
-  };
-}
+  own_side = new-side Originator so ends.orig m.originates h.0;
+  peer_side = new-side Answerer sa ends.answ m.answers h.1;
+})
+lasts laws keeps so sa (step ∷ steps) ends m h role =
+    from-role so sa ends step.role role (made-at laws keeps so sa step.role step.move (of step.role h.0) (of (other step.role) h.0)
+    (of step.role ends) (of (other step.role) ends) (lasts laws keeps so sa steps h.0 m h.1 step.role) h.2)
 
-lasts : FrameLaws → (so sa : Setup) (steps : List Step) (ends : Both EndSide) → MayPlay so sa → History so sa steps ends
-    → (role : Role) → LastsAt so sa role (of role ends) (of (other role) ends)
-lasts laws so sa [] ends m h role = from-role so sa ends Originator role (begins so sa ends m h)
-lasts laws so sa (step ∷ steps) ends m h role =
-    from-role so sa ends step.role role (made-at laws so sa step.role step.move (of step.role h.0) (of (other step.role) h.0)
-    (of step.role ends) (of (other step.role) ends) (lasts laws so sa steps h.0 m h.1 step.role) h.2)
-
-pub histories_are_plays : FrameLaws → HistoriesArePlays
-histories_are_plays laws so sa steps ends m h =
-    let l = lasts laws so sa steps ends m h Originator in
+pub histories_are_plays : FrameLaws → KeepsTaken → HistoriesArePlays
+histories_are_plays laws keeps so sa steps ends m h =
+    let l = lasts laws keeps so sa steps ends m h Originator in
     record { events = l.events; stand = stand l }
   where
     stand : (l : LastsAt so sa Originator ends.orig ends.answ) (role : Role)
@@ -523,23 +640,29 @@ histories_are_plays laws so sa steps ends m h =
     stand l Answerer =
         subst (λ (p : Play). StandsFor ends.answ.end.link (seen_from Answerer p).own.account) (sym l.led) l.peer_side.stands
 
-pub histories_keep_prefixes : FrameLaws → TakesInOrder → HistoriesKeepPrefixes
-histories_keep_prefixes laws in_order so sa steps ends m h role = go role (lasts laws so sa steps ends m h role)
+-- what was given begins what was taken
+given-begins : (n : ℕ) (taken pieces delivered offered : List (List ℕ)) → delivered ≡ take n taken → offered ≡ pieces
+    → IsPrefixOf taken pieces → IsPrefixOf delivered offered
+given-begins n taken pieces delivered offered d o (rest, e) = (
+  drop n taken ++ rest,
+  ap (λ (l : List (List ℕ)). l ++ (drop n taken ++ rest)) d ∙ sym (append_assoc (take n taken) (drop n taken) rest)
+      ∙ ap (λ (l : List (List ℕ)). l ++ rest) (take-append-drop n taken) ∙ e ∙ sym o,
+)
+
+pub histories_keep_prefixes : FrameLaws → KeepsTaken → TakesInOrder → HistoriesKeepPrefixes
+histories_keep_prefixes laws keeps in_order so sa steps ends m h role = go role (lasts laws keeps so sa steps ends m h role)
   where
-    go : (role : Role) → LastsAt so sa role (of role ends) (of (other role) ends) → TakesPrefix (of role ends).end (of (other role) ends).end
-    go Originator l = record {
-      own_account = l.x;
-      peer_account = l.y;
-      own_stands = l.own_side.stands;
-      peer_stands = l.peer_side.stands;
-      begins = subst (λ (p : Play). IsPrefixOf p.originator.account.incoming.taken p.answerer.account.outgoing.pieces) l.led
-          (in_order so sa l.events m).1;
-    }
-    go Answerer l = record {
-      own_account = l.x;
-      peer_account = l.y;
-      own_stands = l.own_side.stands;
-      peer_stands = l.peer_side.stands;
-      begins = subst (λ (p : Play). IsPrefixOf p.answerer.account.incoming.taken p.originator.account.outgoing.pieces) l.led
-          (in_order so sa l.events m).0;
-    }
+    begins : (role : Role) (own peer : EndSide) (l : LastsAt so sa role own peer) → IsPrefixOf l.x.incoming.taken l.y.outgoing.pieces
+        → IsPrefixOf own.delivered peer.offered
+    begins role own peer l p =
+        given-begins l.x.incoming.given l.x.incoming.taken l.y.outgoing.pieces own.delivered peer.offered l.own_side.book.given_are
+        l.peer_side.book.pieces_are p
+
+    go : (role : Role) → LastsAt so sa role (of role ends) (of (other role) ends)
+        → IsPrefixOf (of role ends).delivered (of (other role) ends).offered
+    go Originator l = begins Originator ends.orig ends.answ l
+        (subst (λ (p : Play). IsPrefixOf p.originator.account.incoming.taken p.answerer.account.outgoing.pieces) l.led
+        (in_order so sa l.events m).1)
+    go Answerer l = begins Answerer ends.answ ends.orig l
+        (subst (λ (p : Play). IsPrefixOf p.answerer.account.incoming.taken p.originator.account.outgoing.pieces) l.led
+        (in_order so sa l.events m).0)

@@ -24,10 +24,12 @@ pub record Utterance : Type 0 where
   pub told : Told
   pub check : Check
 
--- an end, and what it said that hasn't arrived, the oldest first
+-- an end, what it said that hasn't arrived, the oldest first, the pieces that it took from its user, and the segments that it gave its user
 pub record EndSide : Type 0 where
   pub end : Endpoint
   pub line : List Utterance
+  pub offered : List (List ℕ)
+  pub delivered : List (List ℕ)
 
 -- a call of one end, and what becomes of what it said; no call answers a break of the link
 pub data Move : Type 0 where
@@ -60,52 +62,63 @@ AreJudgedAlike written heard (told.Pattern pattern) = Unit {0}
 pub record HearsOf (carried : Carried) (old new : EndSide) : Type 0 where
   pub given : Option ℕ
   pub hears : HearsTurn old.end carried new.end (Ok given)
-  pub line_is : new.line ≡ old.line
+  pub new_is : new ≡ record old { end = new.end }
 
 -- It speaks.
 pub record SpeaksOf (release : Bool) (old new : EndSide) : Type 0 where
   pub said : Utterance
   pub speaks : SpeaksTurn old.end release new.end (Ok said.told)
   pub check_is : (a : Account) → StandsFor new.end.link a → said.check ≡ check_of a
-  pub line_is : new.line ≡ old.line ++ said ∷ []
+  pub new_is : new ≡ record old { end = new.end; line = old.line ++ said ∷ [] }
 
 -- What it said first is lost.
 pub record LosesOf (old new : EndSide) : Type 0 where
   pub said : Utterance
   pub rest : List Utterance
   pub line_was : old.line ≡ said ∷ rest
-  pub new_is : new ≡ record { end = old.end; line = rest }
+  pub new_is : new ≡ record old { line = rest }
 
 -- It reaches the other end.
 pub record PassesOf (old peer new heard : EndSide) : Type 0 where
   pub said : Utterance
   pub rest : List Utterance
   pub line_was : old.line ≡ said ∷ rest
-  pub new_is : new ≡ record { end = old.end; line = rest }
+  pub new_is : new ≡ record old { line = rest }
   pub carried : Carried
   pub carries : CarriesTold said.told carried
   pub judged : (b : Account) → StandsFor peer.end.link b → AreJudgedAlike said.check (check_of b) said.told
   pub hears : HearsOf carried peer heard
 
--- Its user hands a piece over, asks for a break, takes a segment, or says whether it asks for a pause.
+-- the pieces once one was offered: an empty one is no segment
+abbrev pub with_offered : Bool → List ℕ → List (List ℕ) → List (List ℕ)
+with_offered false piece pieces = pieces
+with_offered true [] pieces = pieces
+with_offered true (octet ∷ octets) pieces = pieces ++ (octet ∷ octets) ∷ []
+
+-- the segments once the next one was given
+abbrev pub with_delivered : Option (List ℕ) → List (List ℕ) → List (List ℕ)
+with_delivered None segments = segments
+with_delivered (Some segment) segments = segments ++ segment ∷ []
+
+-- Its user hands a piece over, takes a segment, asks for a break, or says whether it asks for a pause.
 pub record OfferedOf (piece : List ℕ) (old new : EndSide) : Type 0 where
   pub taken : Bool
   pub offers : Offers old.end new.end piece taken
-  pub line_is : new.line ≡ old.line
-
-pub record AskedOf (units : ℕ) (old new : EndSide) : Type 0 where
-  pub answer : BreakAsked
-  pub answers : AnswersBreak old.end units new.end answer
-  pub line_is : new.line ≡ old.line
+  pub new_is : new ≡ record old { end = new.end; offered = with_offered taken piece old.offered }
 
 pub record DeliveredOf (old new : EndSide) : Type 0 where
   pub segment : Option (List ℕ)
   pub delivers : Delivers old.end new.end segment
-  pub line_is : new.line ≡ old.line
+  pub new_is : new ≡ record old { end = new.end; delivered = with_delivered segment old.delivered }
+
+pub record AskedOf (units : ℕ) (old new : EndSide) : Type 0 where
+  pub answer : BreakAsked
+  pub answers : AnswersBreak old.end units new.end answer
+  pub new_is : new ≡ record old { end = new.end }
 
 pub record BusyOf (busy : Bool) (old new : EndSide) : Type 0 where
   pub told : IsToldBusy old.end new.end busy
-  pub line_is : new.line ≡ old.line
+  pub new_is : new ≡ record old { end = new.end }
 
 -- a move of one end, and what it makes of both
 abbrev pub IsMade : Move → EndSide → EndSide → EndSide → EndSide → Type 0
@@ -123,16 +136,16 @@ pub record Step : Type 0 where
   pub role : Role
   pub move : Move
 
--- two ends before their first turns
-pub record Begin (so sa : Setup) (ends : Both EndSide) : Type 0 where
-  pub orig : IsNew so ends.orig.end
-  pub answ : IsNew sa ends.answ.end
-  pub orig_line : ends.orig.line ≡ []
-  pub answ_line : ends.answ.line ≡ []
+-- an end before its first turn
+pub record Begins (setup : Setup) (side : EndSide) : Type 0 where
+  pub is_new : IsNew setup side.end
+  pub line_is : side.line ≡ []
+  pub offered_is : side.offered ≡ []
+  pub delivered_is : side.delivered ≡ []
 
 -- the moves of two ends up to now, the newest first, and the ends after them
 abbrev pub History : Setup → Setup → List Step → Both EndSide → Type 0
-History so sa [] ends = Begin so sa ends
+History so sa [] ends = Begins so ends.orig × Begins sa ends.answ
 History so sa (step ∷ steps) ends =
     (before : Both EndSide) × History so sa steps before
     × IsMade step.move (of step.role before) (of (other step.role) before) (of step.role ends) (of (other step.role) ends)
@@ -146,14 +159,7 @@ abbrev pub HistoriesArePlays : Type 0
 HistoriesArePlays = (so sa : Setup) (steps : List Step) (ends : Both EndSide) → MayPlay so sa → History so sa steps ends
     → IsPlayed so sa ends
 
--- What an end took in order begins what was offered at the other.
-pub record TakesPrefix (own peer : Endpoint) : Type 0 where
-  pub own_account : Account
-  pub peer_account : Account
-  pub own_stands : StandsFor own.link own_account
-  pub peer_stands : StandsFor peer.link peer_account
-  pub begins : IsPrefixOf own_account.incoming.taken peer_account.outgoing.pieces
-
+-- What an end gave its user begins what the other took from its own: in order, with no segment lost, turned round or given twice.
 abbrev pub HistoriesKeepPrefixes : Type 0
 HistoriesKeepPrefixes = (so sa : Setup) (steps : List Step) (ends : Both EndSide) → MayPlay so sa → History so sa steps ends
-    → (role : Role) → TakesPrefix (of role ends).end (of (other role) ends).end
+    → (role : Role) → IsPrefixOf (of role ends).delivered (of (other role) ends).offered
