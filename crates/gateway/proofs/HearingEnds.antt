@@ -6,6 +6,7 @@ use Rattle.shared_terms.specs.Role.{other}
 use Rattle.shared_terms.specs.declared.fault.LinkFault.{LinkFault}
 use Rattle.lapm_frames.specs.declared.arrived.Arrived.{Arrived}
 use Rattle.lapm_frames.specs.declared.sent.Sent.{Sent}
+use Rattle.lapm_frames.specs.Sendable.{IsSendable}
 use Rattle.link_account.specs.Account.{Account, check_of, given_break, after_given}
 use Rattle.link_account.specs.Hear.{hear}
 use Rattle.link_account.specs.Speak.{Said}
@@ -38,8 +39,11 @@ heard-err a broken (Ok b) h = absurd h
 
 pub says-ok : (role : Role) (a : Account) (link : AnyEnd) (before sent : Sent) (check : Check) (told : Told) (said : Result Said LinkFault)
     → ((b : Account) → StandsFor link b → check ≡ check_of b) → told ≡ told_as check role sent
-    → Speaks said a before sent (Ok link) → SaysAs said role a link (Ok told)
-says-ok role a link before sent check told (Ok said) checks is h =
-    (subst (λ (v : Sent). told ≡ told_as (check_of said.account) role v) h.0
-    (subst (λ (v : Check). told ≡ told_as v role sent) (checks said.account h.1) is), h.1)
-says-ok role a link before sent check told (Err fault) checks is h = absurd h
+    → IsSendable sent → Speaks said a before sent (Ok link) → SaysAs said role a link (Ok told)
+says-ok role a link before sent check told (Ok said) checks is can h = (
+  subst (λ (v : Sent). told ≡ told_as (check_of said.account) role v) h.0
+      (subst (λ (v : Check). told ≡ told_as v role sent) (checks said.account h.1) is),
+  subst IsSendable h.0 can,
+  h.1,
+)
+says-ok role a link before sent check told (Err fault) checks is can h = absurd h

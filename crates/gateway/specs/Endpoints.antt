@@ -1,11 +1,12 @@
 -- What an end of the link answers and becomes, turn by turn, by the account for which it stands.
-use Rattle.std.specs.Prelude.{◌≡◌, ℕ, ◌+◌, ◌<◌, ◌^◌, Bool, true, false, if◌then◌else◌, nat_le, nat_lt, Option, Some, None, Result, Ok, Err}
+use Rattle.std.specs.Prelude.{◌≡◌, ℕ, ◌+◌, ◌<◌, ◌^◌, Bool, true, false, if◌then◌else◌, nat_le, nat_lt, List, length, Option, Some, None, Result, Ok, Err}
 use Rattle.shared_terms.specs.declared.role.Role.{Role}
 use Rattle.shared_terms.specs.Role.{other}
 use Rattle.shared_terms.specs.declared.fault.LinkFault.{LinkFault}
+use Rattle.lapm_frames.specs.Sendable.{IsSendable}
 use Rattle.lapm_frames.specs.declared.arrived.Arrived.{Arrived}
 use Rattle.link_account.specs.declared.setup.Setup.{Setup}
-use Rattle.link_account.specs.Account.{Account, fresh, check_of, given_break, after_given, wants, piece_size, takes_own, after_break_asked}
+use Rattle.link_account.specs.Account.{Account, fresh, check_of, given_break, after_given, wants, piece_size, delivers, after_delivery, after_offer, after_busy, takes_own, after_break_asked}
 use Rattle.link_account.specs.Hear.{hear}
 use Rattle.link_account.specs.Speak.{Said, speak}
 use Rattle.lapm_link.specs.declared.any_end.AnyEnd.{AnyEnd}
@@ -71,9 +72,16 @@ HearsTurn old carried new (Err stops.Late) = (may_hear old.state ≡ true) × (o
 -- ---- between hearing and speaking
 
 -- once a delivery gives nothing, all is delivered
-abbrev pub after_delivering : Bool → TurnState → TurnState
-after_delivering true at_turn = at_turn
-after_delivering false at_turn = record at_turn { delivered = true }
+abbrev pub after_delivering : Option (List ℕ) → TurnState → TurnState
+after_delivering (Some segment) at_turn = at_turn
+after_delivering None at_turn = record at_turn { delivered = true }
+
+-- An end that delivers its next segment, or none.
+pub record Delivers (old new : Endpoint) (segment : Option (List ℕ)) : Type 0 where
+  pub next : (a : Account) → StandsFor old.link a → delivers a ≡ segment
+  pub account : (a : Account) → StandsFor old.link a → StandsFor new.link (after_delivery a)
+  pub role_is : new.role ≡ old.role
+  pub state_is : new.state ≡ after_delivering segment old.state
 
 -- the longest piece that is taken next, by the number of the piece that is wanted and by the agreed length; none is taken behind 2^56 pieces
 abbrev pub longest_wanted : Option ℕ → ℕ → Option ℕ
@@ -87,6 +95,22 @@ wanted_length a = longest_wanted (wants a) (piece_size a)
 abbrev pub is_taken : ℕ → Option ℕ → Bool
 is_taken count None = false
 is_taken count (Some longest) = nat_le count longest
+
+-- what an end is that was offered a piece: unchanged, where it didn't take it
+abbrev pub OfferedAs : Bool → List ℕ → Endpoint → Endpoint → Type 0
+OfferedAs true piece old new = (a : Account) → StandsFor old.link a → StandsFor new.link (after_offer piece a)
+OfferedAs false piece old new = new ≡ old
+
+-- An end that is offered a piece, and answers whether it takes it.
+pub record Offers (old new : Endpoint) (piece : List ℕ) (taken : Bool) : Type 0 where
+  pub same : IsSameTurn old new
+  pub answer : (a : Account) → StandsFor old.link a → taken ≡ is_taken (length piece) (wanted_length a)
+  pub account : OfferedAs taken piece old new
+
+-- An end that is told whether its user asks for a pause.
+pub record IsToldBusy (old new : Endpoint) (busy : Bool) : Type 0 where
+  pub same : IsSameTurn old new
+  pub account : (a : Account) → StandsFor old.link a → StandsFor new.link (after_busy busy a)
 
 -- An end that is asked for a break of this length, and answers whether it takes it.
 pub record AsksBreak (old new : Endpoint) (units : ℕ) (taken : Bool) : Type 0 where
@@ -108,9 +132,10 @@ abbrev pub after_speaking : Result Told LinkFault → TurnState → TurnState
 after_speaking (Ok told) at_turn = record { turn = at_turn.turn + 1; heard = false; delivered = at_turn.delivered }
 after_speaking (Err fault) at_turn = record { turn = at_turn.turn + 1; heard = false; delivered = true }
 
--- what speaking says and leaves, where this is what the account says; a link that broke is closed
+-- what speaking says and leaves, where this is what the account says: it can be sent; a link that broke is closed
 abbrev pub SaysAs : Result Said LinkFault → Role → Account → AnyEnd → Result Told LinkFault → Type 0
-SaysAs (Ok said) role a link (Ok told) = (told ≡ told_as (check_of said.account) role said.sent) × StandsFor link said.account
+SaysAs (Ok said) role a link (Ok told) =
+    (told ≡ told_as (check_of said.account) role said.sent) × IsSendable said.sent × StandsFor link said.account
 SaysAs (Err fault) role a link (Err broken) = (broken ≡ fault) × StandsFor link (given_up a)
 SaysAs (Ok said) role a link (Err broken) = ⊥
 SaysAs (Err fault) role a link (Ok told) = ⊥

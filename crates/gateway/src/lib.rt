@@ -10,6 +10,7 @@ mod deframer;
 mod encoder;
 mod framer;
 mod label_bits;
+pub mod laws;
 mod link;
 mod meter;
 mod parts;

@@ -1,6 +1,6 @@
 // An end of the link, turn by turn. What its calls ask is kept by the type, or tested.
-ghost use Rattle.std.specs.Prelude.{◌≡◌, ◌*◌, ◌≤◌, ◌↔◌, IsTrue, None, is_some, length, MatchResult};
-ghost use Rattle.std.specs.Bool.{OnFalse, OnTrue};
+ghost use Rattle.std.specs.Prelude.{◌≡◌, ◌*◌, ◌≤◌, ◌↔◌, IsTrue, None, MatchResult};
+ghost use Rattle.std.specs.Bool.{OnFalse};
 ghost use Rattle.std.specs.Option.{MatchOption};
 ghost use Rattle.lapm_link.specs.Fits.{IsSetUp};
 ghost use Rattle.lapm_link.specs.Stands.{taken_of, undelivered_of, waiting_of};
@@ -93,10 +93,10 @@ fn is_set_up(setup: &Setup) -> bool
 }
 
 impl Endpoint {
-    ghost use Rattle.std.specs.Prelude.{ℕ, List, Some};
-    ghost use Rattle.link_account.specs.Account.{Account, delivers, after_delivery, after_offer, after_busy, is_done, check_of};
+    ghost use Rattle.std.specs.Prelude.{Some, if◌then◌else◌};
+    ghost use Rattle.link_account.specs.Account.{Account, is_done, check_of};
     ghost use Rattle.lapm_link.specs.Stands.{StandsFor, wanted_of, piece_of};
-    ghost use Rattle.gateway.specs.Endpoints.{IsNew, IsSameTurn, HearsTurn, after_delivering, longest_wanted, wanted_length, is_taken, AnswersBreak, SpeaksTurn};
+    ghost use Rattle.gateway.specs.Endpoints.{IsNew, HearsTurn, Delivers, Offers, IsToldBusy, longest_wanted, wanted_length, AnswersBreak, SpeaksTurn};
 
     /// An end before its first turn; none where it may not be set up so. All memory is taken here.
     pub fn new(alloc: Global, setup: Setup) -> Result<Option<Endpoint>, NoMemory>
@@ -154,12 +154,8 @@ impl Endpoint {
 
     /// Copies the next segment in order, in place of what was there. False where none is left.
     pub fn deliver(&mut self, segment: &mut Info) -> bool
-        ensures answer { (a : Account) → StandsFor self.old.link a → result ≡ is_some (delivers a) }
-        ensures segment { (a : Account) (next : List ℕ) → StandsFor self.old.link a → delivers a ≡ Some next → segment.new ≡ next }
-        ensures account { (a : Account) → StandsFor self.old.link a → StandsFor self.new.link (after_delivery a) }
+        ensures delivers { Delivers self.old self.new (if result then Some segment.new else None) }
         ensures unchanged { OnFalse result (segment.new ≡ segment.old) }
-        ensures role { self.new.role ≡ self.old.role }
-        ensures state { self.new.state ≡ after_delivering result self.old.state }
     {
         let is_delivered = self.link.deliver(segment);
         if !is_delivered {
@@ -182,10 +178,7 @@ impl Endpoint {
     /// Takes the next piece of the file. A shorter one ends the file, and an empty one ends it without a segment. False where it wants none,
     /// or none that is so long.
     pub fn offer(&mut self, piece: &[u8]) -> bool
-        ensures answer { (a : Account) → StandsFor self.old.link a → result ≡ is_taken (length piece.now) (wanted_length a) }
-        ensures account { OnTrue result ((a : Account) → StandsFor self.old.link a → StandsFor self.new.link (after_offer piece.now a)) }
-        ensures unchanged { OnFalse result (self.new ≡ self.old) }
-        ensures same { IsSameTurn self.old self.new }
+        ensures { Offers self.old self.new piece.now result }
     {
         match self.wants() {
             Some(longest) if piece.len() <= usize::from(longest) => {
@@ -212,8 +205,7 @@ impl Endpoint {
 
     /// Whether its user asks for a pause from now on.
     pub fn set_busy(&mut self, busy: bool)
-        ensures account { (a : Account) → StandsFor self.old.link a → StandsFor self.new.link (after_busy busy a) }
-        ensures same { IsSameTurn self.old self.new }
+        ensures { IsToldBusy self.old self.new busy }
     {
         self.link.set_busy(busy);
     }

@@ -17,23 +17,18 @@ use Rattle.modem_c.specs.declared.machine.Machine.TheVariants as machines
 use Rattle.modem_c.specs.Led.{link_in}
 use Rattle.modem_c.specs.Links.{AnswersSetup, AnswersDelivery, AnswersSpeaking, DeliveredAs, SpokenNumbers, room_with, room_said, said_of}
 
--- the segment that is handed over is the next one
-pub handed-next : (next : Option (List ℕ)) (out : List ℕ) → true ≡ is_some next → ((segment : List ℕ) → next ≡ Some segment → out ≡ segment)
-    → next ≡ Some out
-handed-next (Some segment) out e is = ap Some (sym (is segment refl))
-handed-next None out e is = absurd cc
-
-pub handed-none : (next : Option (List ℕ)) → false ≡ is_some next → next ≡ None
-handed-none (Some segment) e = absurd cc
-handed-none None e = refl
-
 -- an end is made, as far as there is memory for it
 pub made : (setup : Setup) (end : Endpoint) (old new : Option Machine) (code : ℤ) → IsSetUp setup → IsNew setup end
     → (((code ≡ DONE) × (new ≡ Some (machines.Link end))) ⊎ ((code ≡ NO_MEMORY) × (new ≡ old)))
     → AnswersSetup (Some setup) old new (to_z w32 (of_z w32 code))
 made setup end old new code allowed is (inl done) =
-    inl (allowed, inl (ap (λ (v : ℤ). to_z w32 (of_z w32 v)) done.0,
-    subst (λ (v : Option Machine). IsSomeAnd (link_in v) (IsNew setup)) (sym done.1) is))
+    inl (
+      allowed,
+      inl (
+        ap (λ (v : ℤ). to_z w32 (of_z w32 v)) done.0,
+        subst (λ (v : Option Machine). IsSomeAnd (link_in v) (IsNew setup)) (sym done.1) is,
+      ),
+    )
 made setup end old new code allowed is (inr none) = inl (allowed, inr (ap (λ (v : ℤ). to_z w32 (of_z w32 v)) none.0, none.1))
 
 within-room : (octets room : List ℕ) → length octets ≤ length (room_with octets room)

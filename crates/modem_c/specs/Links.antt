@@ -1,5 +1,5 @@
 -- What the calls of an end of the link answer at C's boundary.
-use Rattle.std.specs.Prelude.{◌≡◌, ℕ, ◌<◌, ◌≤◌, ◌⊎◌, ◌++◌, ℤ, pos, negsuc, Bool, true, false, List, length, drop, Option, Some, None, Result, Ok, Err, IsSomeAnd, is_some}
+use Rattle.std.specs.Prelude.{◌≡◌, ℕ, ◌<◌, ◌≤◌, ◌⊎◌, ◌++◌, ℤ, pos, negsuc, Bool, true, false, if◌then◌else◌, List, length, drop, Option, Some, None, Result, Ok, Err, IsSomeAnd}
 use Rattle.frame_check.specs.declared.sizes.TheConstants.{INFO, WHOLE}
 use Rattle.shared_terms.specs.declared.role.Role.{Role}
 use Rattle.shared_terms.specs.declared.fault.LinkFault.{LinkFault}
@@ -8,9 +8,8 @@ use Rattle.lapm_frames.specs.declared.seen.Seen.TheVariants as seen
 use Rattle.link_account.specs.declared.phase.Phase.{Phase}
 use Rattle.link_account.specs.declared.phase.Phase.TheVariants as phases
 use Rattle.link_account.specs.declared.setup.Setup.{Setup}
-use Rattle.link_account.specs.Account.{Account, delivers, after_delivery, after_offer, after_busy, is_done}
+use Rattle.link_account.specs.Account.{Account, is_done}
 use Rattle.lapm_link.specs.Fits.{IsSetUp}
-use Rattle.lapm_link.specs.Stands.{StandsFor}
 use Rattle.gateway.specs.declared.link.Endpoint.{Endpoint}
 use Rattle.gateway.specs.declared.link.LinkStop.{LinkStop}
 use Rattle.gateway.specs.declared.link.LinkStop.TheVariants as stops
@@ -20,7 +19,7 @@ use Rattle.gateway.specs.declared.turns.Carried.{Carried}
 use Rattle.gateway.specs.declared.turns.Carried.TheVariants as loads
 use Rattle.gateway.specs.declared.turns.Told.{Told}
 use Rattle.gateway.specs.declared.turns.Told.TheVariants as told
-use Rattle.gateway.specs.Endpoints.{IsNew, IsSameTurn, HearsTurn, after_delivering, wanted_length, is_taken, AnswersBreak, SpeaksTurn}
+use Rattle.gateway.specs.Endpoints.{IsNew, HearsTurn, Delivers, Offers, IsToldBusy, AnswersBreak, SpeaksTurn}
 use Rattle.modem_c.specs.declared.codes.TheConstants.{DONE, NOTHING, FULL, BROKEN, NO_MEMORY, BAD_ARGUMENT, ORDER, LATE}
 use Rattle.modem_c.specs.declared.link.Offered.{Offered}
 use Rattle.modem_c.specs.declared.link.Broke.{Broke}
@@ -134,10 +133,7 @@ DeliveredAs (Some segment) before after count code =
 pub record DeliversNext (old new : Endpoint) (before after : List ℕ) (count : ℕ) (code : ℤ) : Type 0 where
   pub room : INFO ≤ length before
   pub segment : Option (List ℕ)
-  pub next : (a : Account) → StandsFor old.link a → delivers a ≡ segment
-  pub account : (a : Account) → StandsFor old.link a → StandsFor new.link (after_delivery a)
-  pub role_is : new.role ≡ old.role
-  pub state_is : new.state ≡ after_delivering (is_some segment) old.state
+  pub delivers : Delivers old new segment
   pub written : DeliveredAs segment before after count code
 
 -- what the call answers at an end: there is room for the longest segment, or nothing is done
@@ -151,15 +147,11 @@ abbrev pub WantedAs : Option ℕ → ℕ → ℤ → Type 0
 WantedAs None count code = (code ≡ NOTHING) × (count ≡ 0)
 WantedAs (Some longest) count code = (code ≡ DONE) × (count ≡ longest)
 
--- what the call answers that offers a piece, where it is taken or isn't
-abbrev pub OfferedAs : Bool → List ℕ → Account → Endpoint → Endpoint → ℤ → Type 0
-OfferedAs true piece a old new code = (code ≡ DONE) × StandsFor new.link (after_offer piece a)
-OfferedAs false piece a old new code = (code ≡ BAD_ARGUMENT) × (new ≡ old)
-
--- An end is offered a piece.
+-- An end is offered a piece: DONE where it takes it.
 pub record IsOffered (old new : Endpoint) (piece : List ℕ) (code : ℤ) : Type 0 where
-  pub same : IsSameTurn old new
-  pub taken : (a : Account) → StandsFor old.link a → OfferedAs (is_taken (length piece) (wanted_length a)) piece a old new code
+  pub taken : Bool
+  pub offers : Offers old new piece taken
+  pub code_is : code ≡ (if taken then DONE else BAD_ARGUMENT)
 
 -- the code of what an end answers that is asked for a break
 abbrev pub asked_code : BreakAsked → ℤ
@@ -173,15 +165,10 @@ pub record IsAsked (old new : Endpoint) (units : ℕ) (code : ℤ) : Type 0 wher
   pub answers : AnswersBreak old units new answer
   pub code_is : code ≡ asked_code answer
 
--- An end is told whether its user asks for a pause; an octet that is neither 0 nor 1 says nothing.
-pub record IsTold (old new : Endpoint) (busy : Bool) (code : ℤ) : Type 0 where
-  pub code_is : code ≡ DONE
-  pub same : IsSameTurn old new
-  pub account : (a : Account) → StandsFor old.link a → StandsFor new.link (after_busy busy a)
-
+-- what the call answers that tells an end whether its user asks for a pause; an octet that is neither 0 nor 1 says nothing
 abbrev pub AnswersBusy : Option Bool → Endpoint → Endpoint → ℤ → Type 0
 AnswersBusy None old new code = (code ≡ BAD_ARGUMENT) × (new ≡ old)
-AnswersBusy (Some busy) old new code = IsTold old new busy code
+AnswersBusy (Some busy) old new code = (code ≡ DONE) × IsToldBusy old new busy
 
 -- ---- how an end stands
 

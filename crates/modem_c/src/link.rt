@@ -207,7 +207,13 @@ pub extern "C" fn modem_link_new(alloc: Global, handle: &mut Handle, offered: &O
     }
 }
 
-fn hear(end: Endpoint, kind: u32, octets: &[u8], given: &mut i32, why: &mut Broke) -> (Endpoint, i32)
+fn hear(
+    end: Endpoint,
+    kind: u32,
+    octets: &[u8],
+    given: &mut i32,
+    why: &mut Broke,
+) -> (Endpoint, i32)
     requires given { given.old ≡ length_given None }
     requires why { why.old ≡ unbroken }
     ensures { AnswersHearing kind octets.now end result.0 result.1 given.new why.new }
@@ -327,11 +333,7 @@ pub extern "C" fn modem_link_offer(alloc: Global, handle: &mut Handle, piece: &[
         Ok(taken) => taken,
         Err(code) => return code,
     };
-    let code = if end.offer(piece) {
-        DONE
-    } else {
-        BAD_ARGUMENT
-    };
+    let code = if end.offer(piece) { DONE } else { BAD_ARGUMENT };
     put_end(alloc, handle, block, end);
     code
 }
@@ -449,7 +451,13 @@ fn say(told: &Told, room: &mut [u8]) -> Said
     Said { kind, octets: 0 }
 }
 
-fn speak(end: Endpoint, release: u8, room: &mut [u8], said: &mut Said, why: &mut Broke) -> (Endpoint, i32)
+fn speak(
+    end: Endpoint,
+    release: u8,
+    room: &mut [u8],
+    said: &mut Said,
+    why: &mut Broke,
+) -> (Endpoint, i32)
     requires said { said.old ≡ silence }
     requires why { why.old ≡ unbroken }
     ensures { AnswersSpeaking (flag_of release) end result.0 result.1 room.old room.new said.new why.new }

@@ -1,0 +1,668 @@
+-- The calls that are made of two ends are the events of a play.
+use Rattle.std.proofs.Common.{◌≡◌, ◌∙◌, ℕ, ◌+◌, ◌<◌, ◌≤◌, ◌&&◌, Bool, true, false, cond, nat_le, nat_lt, ◌^◌, List, [], ◌∷◌, ◌++◌, length, Option, Some, None, Result, Ok, Err, refl, sym, ap, subst, take, drop, inl, inr, arith, length-append}
+use Rattle.std.specs.Prelude.{is_some, slice_index_or}
+use Rattle.std.proofs.lemmas.List.{take-append-le, take_more, take-append-drop, append_assoc}
+use Rattle.std.proofs.lemmas.Bool.Decides.{nat_tests}
+use Rattle.std.proofs.lemmas.Grind.{common_steps}
+use Rattle.std.proofs.lemmas.Bool.{false≢true}
+use Rattle.frame_check.specs.declared.check.Check.{Check}
+use Rattle.frame_check.specs.FrameCheck.{IsChecked}
+use Rattle.shared_terms.specs.declared.role.Role.{Role}
+use Rattle.shared_terms.specs.declared.role.Role.TheVariants.{Originator, Answerer}
+use Rattle.shared_terms.specs.Role.{other}
+use Rattle.shared_terms.specs.Both.{Both, of}
+use Rattle.plain_lists.specs.Prefix.{IsPrefixOf}
+use Rattle.shared_terms.specs.declared.fault.LinkFault.{LinkFault}
+use Rattle.lapm_frames.specs.declared.frame.Frame.{Frame}
+use Rattle.lapm_frames.specs.declared.seen.Seen.{Seen}
+use Rattle.lapm_frames.specs.declared.arrived.Arrived.{Arrived}
+use Rattle.lapm_frames.specs.declared.arrived.Arrived.TheVariants as arrivals
+use Rattle.lapm_frames.specs.declared.sent.Sent.{Sent}
+use Rattle.lapm_frames.specs.declared.sent.Sent.TheVariants as slots
+use Rattle.lapm_frames.specs.Frame.{IsFrame}
+use Rattle.lapm_frames.specs.Sendable.{IsSendable}
+use Rattle.lapm_frames.specs.Checked.{check_heard, checked, SpellsFrame}
+use Rattle.link_account.specs.declared.setup.Setup.{Setup}
+use Rattle.link_account.specs.Account.{Account, fresh, check_of, wants, piece_size, after_given, after_offer, after_delivery, after_break_asked, after_busy, is_connected, delivers}
+use Rattle.link_account.specs.Hear.{hear}
+use Rattle.link_account.specs.Speak.{Said, speak}
+use Rattle.link_account.specs.Play.{Slot, Side, Play, Event, arrives, spoken, heard, happens, play, start, seen_from}
+use Rattle.link_account.specs.Play as plays
+use Rattle.link_account.specs.declared.phase.Phase.{Phase}
+use Rattle.link_account.specs.declared.phase.Phase.TheVariants as phases
+use Rattle.link_account.specs.Laws.{MayPlay, played, TakesInOrder, has_begun}
+use Rattle.lapm_receiver.specs.Incoming.{KeepsTaken}
+use Rattle.break_signals.specs.Breaks.{after_ask}
+use Rattle.lapm_sender.specs.Outgoing.{Outgoing, wanted}
+use Rattle.lapm_link.specs.declared.any_end.AnyEnd.{AnyEnd}
+use Rattle.lapm_link.specs.Stands.{StandsFor}
+use Rattle.gateway.specs.declared.turns.Carried.{Carried}
+use Rattle.gateway.specs.declared.turns.Carried.TheVariants as loads
+use Rattle.gateway.specs.declared.turns.Told.{Told}
+use Rattle.gateway.specs.declared.turns.Told.TheVariants as told
+use Rattle.gateway.specs.declared.link.Endpoint.{Endpoint}
+use Rattle.gateway.specs.declared.link.BreakAsked.{BreakAsked}
+use Rattle.gateway.specs.declared.link.BreakAsked.TheVariants as asked
+use Rattle.gateway.specs.Turns.{Arrives, told_as}
+use Rattle.gateway.specs.Endpoints.{IsNew, HeardAs, SaysAs, OfferedAs, AnswersBreak, longest_wanted, wanted_length, is_taken}
+use Rattle.gateway.specs.Histories.{Utterance, EndSide, Move, Speaks, Passes, Is_lost, Hears_nothing, Is_offered, Is_asked, Is_delivered, Is_busy}
+use Rattle.gateway.specs.Histories.{CarriesTold, AreJudgedAlike, HearsOf, SpeaksOf, LosesOf, PassesOf, OfferedOf, AskedOf, DeliveredOf, BusyOf}
+use Rattle.gateway.specs.Histories.{IsMade, Step, Begins, History, HistoriesArePlays, HistoriesKeepPrefixes, with_offered, with_delivered}
+use Rattle.gateway.proofs.Lists.{Lists, lists, Grows, grows-heard, kept-spoken}
+
+-- what is known of frames and their octets
+pub record FrameLaws : Type 0 where
+  pub exists : (check : Check) (frame : Frame) (sender : Role) (dlci : ℕ) → IsFrame frame
+      → SpellsFrame check sender dlci (checked check sender dlci frame) frame
+  pub one : (check : Check) (frame other : Frame) (sender : Role) (dlci : ℕ) (whole : List ℕ)
+      → SpellsFrame check sender dlci whole frame → SpellsFrame check sender dlci whole other → frame ≡ other
+
+-- ---- plays
+
+-- a play where neither end is broken; the first account and line are those of the role
+abbrev pub at : Role → Account → List Slot → Account → List Slot → Play
+at Originator x lx y ly =
+    record { originator = record { account = x; line = lx; fault = None }; answerer = record { account = y; line = ly; fault = None } }
+at Answerer x lx y ly =
+    record { originator = record { account = y; line = ly; fault = None }; answerer = record { account = x; line = lx; fault = None } }
+
+at-other : (role : Role) (x : Account) (lx : List Slot) (y : Account) (ly : List Slot) → at role x lx y ly ≡ at (other role) y ly x lx
+at-other Originator x lx y ly = refl
+at-other Answerer x lx y ly = refl
+
+play-append : (es fs : List Event) (p : Play) → play (es ++ fs) p ≡ play fs (play es p)
+play-append [] fs p = refl
+play-append (e ∷ es) fs p = play-append es fs (happens e p)
+
+hears-event : (role : Role) (turn : ℕ) (x b y : Account) (lx ly : List Slot) → hear turn arrivals.Nothing x ≡ Ok b
+    → happens (plays.Hears_nothing role turn) (at role x lx y ly) ≡ at role b lx y ly
+hears-event Originator turn x b y lx ly e =
+    ap (λ r. record {
+      originator = heard r (record { account = x; line = lx; fault = None });
+      answerer = record { account = y; line = ly; fault = None };
+    }) e
+hears-event Answerer turn x b y lx ly e =
+    ap (λ r. record {
+      originator = record { account = y; line = ly; fault = None };
+      answerer = heard r (record { account = x; line = lx; fault = None });
+    }) e
+
+passes-event : (role : Role) (turn : ℕ) (x y b : Account) (slot : Slot) (rest ly : List Slot) → hear turn (arrives slot.sent) y ≡ Ok b
+    → happens (plays.Passes role turn) (at role x (slot ∷ rest) y ly) ≡ at role x rest b ly
+passes-event Originator turn x y b slot rest ly e =
+    ap (λ r. record {
+      originator = record { account = x; line = rest; fault = None };
+      answerer = heard r (record { account = y; line = ly; fault = None });
+    }) e
+passes-event Answerer turn x y b slot rest ly e =
+    ap (λ r. record {
+      originator = heard r (record { account = y; line = ly; fault = None });
+      answerer = record { account = x; line = rest; fault = None };
+    }) e
+
+loses-event : (role : Role) (x y : Account) (slot : Slot) (rest ly : List Slot)
+    → happens (plays.Is_lost role) (at role x (slot ∷ rest) y ly) ≡ at role x rest y ly
+loses-event Originator x y slot rest ly = refl
+loses-event Answerer x y slot rest ly = refl
+
+abbrev slot_of : Account → Said → Slot
+slot_of x said = record { sent = said.sent; number = said.number; told = length x.incoming.taken }
+
+speaks-event : (role : Role) (turn : ℕ) (release : Bool) (x y : Account) (lx ly : List Slot) (said : Said) → speak turn release x ≡ Ok said
+    → happens (plays.Speaks role turn release) (at role x lx y ly) ≡ at role said.account (lx ++ slot_of x said ∷ []) y ly
+speaks-event Originator turn release x y lx ly said e =
+    ap (λ r. record {
+      originator = spoken r (record { account = x; line = lx; fault = None });
+      answerer = record { account = y; line = ly; fault = None };
+    }) e
+speaks-event Answerer turn release x y lx ly said e =
+    ap (λ r. record {
+      originator = record { account = y; line = ly; fault = None };
+      answerer = spoken r (record { account = x; line = lx; fault = None });
+    }) e
+
+gives-event : (role : Role) (x y : Account) (lx ly : List Slot)
+    → happens (plays.Gives_break role) (at role x lx y ly) ≡ at role (after_given x) lx y ly
+gives-event Originator x y lx ly = refl
+gives-event Answerer x y lx ly = refl
+
+delivers-event : (role : Role) (x y : Account) (lx ly : List Slot)
+    → happens (plays.Delivers role) (at role x lx y ly) ≡ at role (after_delivery x) lx y ly
+delivers-event Originator x y lx ly = refl
+delivers-event Answerer x y lx ly = refl
+
+asked-event : (role : Role) (turn units : ℕ) (x y : Account) (lx ly : List Slot)
+    → happens (plays.Is_asked role turn units) (at role x lx y ly) ≡ at role (after_break_asked turn units x) lx y ly
+asked-event Originator turn units x y lx ly = refl
+asked-event Answerer turn units x y lx ly = refl
+
+busy-event : (role : Role) (busy : Bool) (x y : Account) (lx ly : List Slot)
+    → happens (plays.Is_busy role busy) (at role x lx y ly) ≡ at role (after_busy busy x) lx y ly
+busy-event Originator busy x y lx ly = refl
+busy-event Answerer busy x y lx ly = refl
+
+offered-event : (role : Role) (piece : List ℕ) (x y : Account) (lx ly : List Slot)
+    → (is_some (wants x) && nat_le (length piece) (piece_size x)) ≡ true
+    → happens (plays.Is_offered role piece) (at role x lx y ly) ≡ at role (after_offer piece x) lx y ly
+offered-event Originator piece x y lx ly e =
+    ap (λ (c : Bool). record {
+      originator = cond c (record { account = after_offer piece x; line = lx; fault = None }) (record { account = x; line = lx; fault = None });
+      answerer = record { account = y; line = ly; fault = None };
+    }) e
+offered-event Answerer piece x y lx ly e =
+    ap (λ (c : Bool). record {
+      originator = record { account = y; line = ly; fault = None };
+      answerer = cond c (record { account = after_offer piece x; line = lx; fault = None }) (record { account = x; line = lx; fault = None });
+    }) e
+
+-- a piece that is taken is wanted
+taken-wanted : (count size : ℕ) (number : Option ℕ) → true ≡ is_taken count (longest_wanted number size)
+    → (is_some number && nat_le count size) ≡ true
+taken-wanted count size None e = absurd (false≢true (sym e))
+taken-wanted count size (Some number) e = go (nat_lt number (2 ^ 56)) e
+  where
+    go : (b : Bool) → true ≡ is_taken count (cond b (Some size) None) → (is_some (Some number) && nat_le count size) ≡ true
+    go true e = sym e
+    go false e = absurd (false≢true (sym e))
+
+-- ---- a side
+
+abbrev IsToldAs : Role → Sent → Utterance → Type 0
+IsToldAs role sent said = (said.told ≡ told_as said.check role sent) × IsSendable sent
+
+abbrev AllTold : Role → List Slot → List Utterance → Type 0
+AllTold role [] [] = Unit {0}
+AllTold role (slot ∷ slots) (said ∷ line) = IsToldAs role slot.sent said × AllTold role slots line
+AllTold role [] (said ∷ line) = ⊥
+AllTold role (slot ∷ slots) [] = ⊥
+
+told-snoc : (role : Role) (slots : List Slot) (line : List Utterance) (slot : Slot) (said : Utterance) → AllTold role slots line
+    → IsToldAs role slot.sent said → AllTold role (slots ++ slot ∷ []) (line ++ said ∷ [])
+told-snoc role [] [] slot said h last = (last, tt)
+told-snoc role (s ∷ slots) (t ∷ line) slot said h last = (h.0, told-snoc role slots line slot said h.1 last)
+told-snoc role [] (t ∷ line) slot said h last = absurd h
+told-snoc role (s ∷ slots) [] slot said h last = absurd h
+
+-- what the user of an end handed over and was given, by its account
+pub record IsBook (offered delivered : List (List ℕ)) (l : Lists) : Type 0 where
+  pub pieces_are : offered ≡ l.pieces
+  pub given_are : delivered ≡ take l.given l.taken
+  pub within : l.given ≤ length l.taken
+  pub blank : l.begun ≡ false → (l.pieces ≡ []) × (l.given ≡ 0)
+
+book-grows : (offered delivered : List (List ℕ)) (a b : Account) → Grows a b → IsBook offered delivered (lists a)
+    → IsBook offered delivered (lists b)
+book-grows offered delivered a b (inl (more, e)) h = subst (IsBook offered delivered) (sym e) (record {
+  pieces_are = h.pieces_are;
+  given_are = h.given_are ∙ sym (take-append-le a.incoming.given a.incoming.taken more h.within);
+  within = let w : a.incoming.given ≤ length a.incoming.taken = h.within in omega (arith, w, length-append {A = List ℕ} a.incoming.taken more);
+  blank = h.blank;
+})
+book-grows offered delivered a b (inr (was, e)) h =
+    let none = h.blank was in
+    subst (IsBook offered delivered) (sym e) (record {
+      pieces_are = h.pieces_are ∙ none.0;
+      given_are = h.given_are ∙ ap (λ (n : ℕ). take n a.incoming.taken) none.1;
+      within = omega arith;
+      blank = λ z. absurd (false≢true (sym z));
+    })
+
+connected-begun : (p : Phase) → is_connected p ≡ true → has_begun p ≡ true
+connected-begun phases.Connected e = refl
+connected-begun phases.Releasing e = refl
+connected-begun phases.Closed e = refl
+connected-begun phases.Detecting e = absurd (false≢true e)
+connected-begun phases.Negotiating e = absurd (false≢true e)
+connected-begun phases.Establishing e = absurd (false≢true e)
+
+-- a segment is given
+book-given : (offered delivered : List (List ℕ)) (a : Account) (segment : Option (List ℕ)) → delivers a ≡ segment
+    → IsBook offered delivered (lists a) → IsBook offered (with_delivered segment delivered) (lists (after_delivery a))
+book-given offered delivered a segment e h =
+    go (is_connected a.phase) (nat_lt a.incoming.given (length a.incoming.taken)) refl refl segment e
+  where
+    go : (c l : Bool) → is_connected a.phase ≡ c → nat_lt a.incoming.given (length a.incoming.taken) ≡ l → (segment : Option (List ℕ))
+        → cond c (cond l (Some (slice_index_or a.incoming.taken a.incoming.given [])) None) None ≡ segment
+        → IsBook offered (with_delivered segment delivered)
+        (lists (cond c (record a { incoming = cond l (record a.incoming { given = a.incoming.given + 1 }) a.incoming }) a))
+    go true true j k segment e =
+        let within : a.incoming.given < length a.incoming.taken = grind (arith, nat_tests) in
+        subst (λ (o : Option (List ℕ)). IsBook offered (with_delivered o delivered) (record (lists a) { given = a.incoming.given + 1 })) e (record {
+          pieces_are = h.pieces_are;
+          given_are = ap (λ (l : List (List ℕ)). l ++ slice_index_or a.incoming.taken a.incoming.given [] ∷ []) h.given_are
+              ∙ sym (take_more a.incoming.taken a.incoming.given [] within);
+          within = omega arith;
+          blank = λ z. absurd (false≢true (sym z ∙ connected-begun a.phase j));
+        })
+    go true false j k segment e = subst (λ (o : Option (List ℕ)). IsBook offered (with_delivered o delivered) (lists a)) e h
+    go false l j k segment e = subst (λ (o : Option (List ℕ)). IsBook offered (with_delivered o delivered) (lists a)) e h
+
+-- a piece is taken
+book-offered : (offered delivered : List (List ℕ)) (a : Account) (piece : List ℕ) → has_begun a.phase ≡ true
+    → IsBook offered delivered (lists a) → IsBook (with_offered true piece offered) delivered (lists (after_offer piece a))
+book-offered offered delivered a [] begun h = h
+book-offered offered delivered a (octet ∷ octets) begun h = record {
+  pieces_are = ap (λ (l : List (List ℕ)). l ++ (octet ∷ octets) ∷ []) h.pieces_are;
+  given_are = h.given_are;
+  within = h.within;
+  blank = λ z. absurd (false≢true (sym z ∙ begun));
+}
+
+-- an end that wants a piece is Connected
+wants-begun : (a : Account) (b : Bool) → (is_some (wants a) && b) ≡ true → has_begun a.phase ≡ true
+wants-begun a b e = connected-begun a.phase (go (is_connected a.phase) e)
+  where
+    go : (c : Bool) → (is_some (cond c (wanted a.outgoing) None) && b) ≡ true → c ≡ true
+    go true e = refl
+    go false e = absurd (false≢true e)
+
+busy-lists : (busy : Bool) (a : Account) → lists (after_busy busy a) ≡ lists a
+busy-lists busy a = go (is_connected a.phase)
+  where
+    go : (c : Bool) → lists (cond c (record a { owes = record a.owes { busy = busy } }) a) ≡ lists a
+    go true = refl
+    go false = refl
+
+asked-lists : (turn units : ℕ) (a : Account) → lists (after_break_asked turn units a) ≡ lists a
+asked-lists turn units a = go (is_connected a.phase)
+  where
+    go : (c : Bool) → lists (cond c (record a { own_breaks = after_ask turn units a.own_breaks }) a) ≡ lists a
+    go true = refl
+    go false = refl
+
+-- a side of a play and an end that stands for it
+pub record IsSide (role : Role) (x : Account) (slots : List Slot) (side : EndSide) : Type 0 where
+  pub stands : StandsFor side.end.link x
+  pub role_is : side.end.role ≡ role
+  pub line : AllTold role slots side.line
+  pub book : IsBook side.offered side.delivered (lists x)
+
+pub record LastsAt (so sa : Setup) (role : Role) (own peer : EndSide) : Type 0 where
+  pub x : Account
+  pub lx : List Slot
+  pub y : Account
+  pub ly : List Slot
+  pub events : List Event
+  pub led : played so sa events ≡ at role x lx y ly
+  pub own_side : IsSide role x lx own
+  pub peer_side : IsSide (other role) y ly peer
+
+other-other : (role : Role) → other (other role) ≡ role
+other-other Originator = refl
+other-other Answerer = refl
+
+-- the same from the other end
+turned : (so sa : Setup) (role : Role) (own peer : EndSide) → LastsAt so sa role own peer → LastsAt so sa (other role) peer own
+turned so sa role own peer h = record {
+  x = h.y;
+  lx = h.ly;
+  y = h.x;
+  ly = h.lx;
+  events = h.events;
+  led = h.led ∙ at-other role h.x h.lx h.y h.ly;
+  own_side = h.peer_side;
+  peer_side = subst (λ (r : Role). IsSide r h.x h.lx own) (sym (other-other role)) h.own_side;
+}
+
+-- one event more
+led-on : (so sa : Setup) (events : List Event) (event : Event) (p q : Play) → played so sa events ≡ p → happens event p ≡ q
+    → played so sa (events ++ event ∷ []) ≡ q
+led-on so sa events event p q e h = play-append events (event ∷ []) (start (fresh so) (fresh sa)) ∙ ap (happens event) e ∙ h
+
+-- the own side has another form
+side-of : (role : Role) (x : Account) (slots : List Slot) (new form : EndSide) → new ≡ form → StandsFor new.end.link x → new.end.role ≡ role
+    → AllTold role slots form.line → IsBook form.offered form.delivered (lists x) → IsSide role x slots new
+side-of role x slots new form e stands role_is line book = record {
+  stands = stands;
+  role_is = role_is;
+  line = subst (λ (s : EndSide). AllTold role slots s.line) (sym e) line;
+  book = subst (λ (s : EndSide). IsBook s.offered s.delivered (lists x)) (sym e) book;
+}
+
+-- the own end comes to this account by one event, and its line stays
+changes : (so sa : Setup) (role : Role) (own peer new : EndSide) (h : LastsAt so sa role own peer) (event : Event) (b : Account)
+    → happens event (at role h.x h.lx h.y h.ly) ≡ at role b h.lx h.y h.ly → IsSide role b h.lx new → LastsAt so sa role new peer
+changes so sa role own peer new h event b e side = record {
+  x = b;
+  lx = h.lx;
+  y = h.y;
+  ly = h.ly;
+  events = h.events ++ event ∷ [];
+  led = led-on so sa h.events event (at role h.x h.lx h.y h.ly) (at role b h.lx h.y h.ly) h.led e;
+  own_side = side;
+  peer_side = h.peer_side;
+}
+
+-- ---- what arrives
+
+-- a frame is spelled by octets that were written with one check and are judged by another alike
+spells-by : FrameLaws → (written check : Check) (role : Role) (frame : Frame) (whole : List ℕ) → IsFrame frame
+    → whole ≡ checked written role 0 frame → check_heard written whole ≡ check_heard check whole
+    → SpellsFrame check role 0 whole frame
+spells-by laws written check role frame whole is e same =
+    let s : SpellsFrame written role 0 whole frame =
+    subst (λ (v : List ℕ). SpellsFrame written role 0 v frame) (sym e) (laws.exists written frame role 0 is) in
+    record {
+      octets = s.octets;
+      passes = subst (λ (c : Check). IsChecked c s.octets whole) same s.passes;
+      spelling = s.spelling;
+    }
+
+octets-heard : FrameLaws → (check : Check) (role : Role) (frame : Frame) (whole : List ℕ) (carried : Carried) (arrived : Arrived)
+    → SpellsFrame check role 0 whole frame → CarriesTold (told.Octets whole) carried → Arrives check role carried arrived
+    → arrived ≡ arrivals.Frame frame
+octets-heard laws check role frame whole (loads.Octets lent) arrived s c h = go arrived h
+  where
+    there : SpellsFrame check role 0 lent.now frame
+    there = subst (λ (v : List ℕ). SpellsFrame check role 0 v frame) (sym c) s
+
+    go : (arrived : Arrived) → Arrives check role (loads.Octets lent) arrived → arrived ≡ arrivals.Frame frame
+    go (arrivals.Frame found) h = ap arrivals.Frame (laws.one check found frame role 0 lent.now h there)
+    go arrivals.Nothing h = absurd (h frame there)
+    go (arrivals.Pattern pattern) h = absurd h
+octets-heard laws check role frame whole loads.Nothing arrived s c h = absurd c
+octets-heard laws check role frame whole (loads.Pattern pattern) arrived s c h = absurd c
+
+-- what was said arrives as what was sent
+told-arrives : FrameLaws → (written check : Check) (role : Role) (sent : Sent) (carried : Carried) (arrived : Arrived) → IsSendable sent
+    → CarriesTold (told_as written role sent) carried → AreJudgedAlike written check (told_as written role sent)
+    → Arrives check role carried arrived → arrived ≡ arrives sent
+told-arrives laws written check role slots.Mark carried arrived can c j h = subst (λ (v : Carried). Arrives check role v arrived) c h
+told-arrives laws written check role slots.Flags carried arrived can c j h = subst (λ (v : Carried). Arrives check role v arrived) c h
+told-arrives laws written check role slots.Odp carried arrived can c j h = subst (λ (v : Carried). Arrives check role v arrived) c h
+told-arrives laws written check role slots.Adp carried arrived can c j h = subst (λ (v : Carried). Arrives check role v arrived) c h
+told-arrives laws written check role (slots.Frame frame) carried arrived can c j h =
+    octets-heard laws check role frame (checked written role 0 frame) carried arrived
+    (spells-by laws written check role frame (checked written role 0 frame) can.0 refl j) c h
+
+arrives-as-sent : FrameLaws → (check : Check) (role : Role) (sent : Sent) (said : Utterance) (carried : Carried) (arrived : Arrived)
+    → IsToldAs role sent said → CarriesTold said.told carried → AreJudgedAlike said.check check said.told
+    → Arrives check role carried arrived → arrived ≡ arrives sent
+arrives-as-sent laws check role sent said carried arrived is c j h =
+    told-arrives laws said.check check role sent carried arrived is.1 (subst (λ (t : Told). CarriesTold t carried) is.0 c)
+    (subst (λ (t : Told). AreJudgedAlike said.check check t) is.0 j) h
+
+-- ---- moves
+
+-- a hearing that isn't a break
+pub record HasHeard (becomes : Result Account LinkFault) (link : AnyEnd) : Type 0 where
+  pub account : Account
+  pub becomes_is : becomes ≡ Ok account
+  pub stands : StandsFor link (after_given account)
+
+has-heard : (becomes : Result Account LinkFault) (a : Account) (link : AnyEnd) (given : Option ℕ) → HeardAs becomes a link (Ok given)
+    → HasHeard becomes link
+has-heard (Ok b) a link given h = record { account = b; becomes_is = refl; stands = h.1 }
+has-heard (Err fault) a link given h = absurd h
+
+-- an end that has heard this, by the account that it came to
+heard-side : KeepsTaken → (role : Role) (turn : ℕ) (arrived : Arrived) (x b : Account) (slots : List Slot) (old new : EndSide)
+    → IsSide role x slots old → hear turn arrived x ≡ Ok b → new ≡ record old { end = new.end } → new.end.role ≡ old.end.role
+    → StandsFor new.end.link (after_given b) → IsSide role (after_given b) slots new
+heard-side keeps role turn arrived x b slots old new h e is role_is stands =
+    side-of role (after_given b) slots new (record old { end = new.end }) is stands (role_is ∙ h.role_is) h.line
+    (book-grows old.offered old.delivered x b (grows-heard keeps turn arrived x b e) h.book)
+
+hears-step : KeepsTaken → (so sa : Setup) (role : Role) (own peer new : EndSide) → LastsAt so sa role own peer
+    → HearsOf loads.Nothing own new → LastsAt so sa role new peer
+hears-step keeps so sa role own peer new h m =
+    let turn : ℕ = own.end.state.turn in
+    let k = m.hears.hears h.x h.own_side.stands in
+    let heard = has-heard (hear turn k.arrived h.x) h.x new.end.link m.given k.becomes in
+    let is : hear turn arrivals.Nothing h.x ≡ Ok heard.account =
+    subst (λ (v : Arrived). hear turn v h.x ≡ Ok heard.account) k.arrives heard.becomes_is in
+    record {
+      x = after_given heard.account;
+      lx = h.lx;
+      y = h.y;
+      ly = h.ly;
+      events = h.events ++ plays.Hears_nothing role turn ∷ [] ++ plays.Gives_break role ∷ [];
+      led = led-on so sa (h.events ++ plays.Hears_nothing role turn ∷ []) (plays.Gives_break role) _ _
+          (led-on so sa h.events (plays.Hears_nothing role turn) _ _ h.led (hears-event role turn h.x heard.account h.y h.lx h.ly is))
+          (gives-event role heard.account h.y h.lx h.ly);
+      own_side = heard-side keeps role turn arrivals.Nothing h.x heard.account h.lx own new h.own_side is m.new_is m.hears.role_is heard.stands;
+      peer_side = h.peer_side;
+    }
+
+gives-at-peer : (role : Role) (x y : Account) (lx ly : List Slot)
+    → happens (plays.Gives_break (other role)) (at role x lx y ly) ≡ at role x lx (after_given y) ly
+gives-at-peer Originator x y lx ly = refl
+gives-at-peer Answerer x y lx ly = refl
+
+-- an end whose oldest utterance is gone
+shorter-side : (role : Role) (x : Account) (slots left : List Slot) (old new : EndSide) (rest : List Utterance) → IsSide role x slots old
+    → new ≡ record old { line = rest } → AllTold role left rest → IsSide role x left new
+shorter-side role x slots left old new rest h is t =
+    side-of role x left new (record old { line = rest }) is
+    (subst (λ (s : EndSide). StandsFor s.end.link x) (sym is) h.stands) (ap (λ (s : EndSide). s.end.role) is ∙ h.role_is) t h.book
+
+passes-step : FrameLaws → KeepsTaken → (so sa : Setup) (role : Role) (own peer new after : EndSide) → LastsAt so sa role own peer
+    → PassesOf own peer new after → LastsAt so sa role new after
+passes-step laws keeps so sa role own peer new after h m =
+    go h.lx refl (subst (AllTold role h.lx) m.line_was h.own_side.line)
+  where
+    go : (slots : List Slot) → h.lx ≡ slots → AllTold role slots (m.said ∷ m.rest) → LastsAt so sa role new after
+    go [] e t = absurd t
+    go (slot ∷ left) e t =
+        let turn : ℕ = peer.end.state.turn in
+        let k = m.hears.hears.hears h.y h.peer_side.stands in
+        let from : other peer.end.role ≡ role = ap other h.peer_side.role_is ∙ other-other role in
+        let arrived : k.arrived ≡ arrives slot.sent =
+        arrives-as-sent laws (check_of h.y) role slot.sent m.said m.carried k.arrived t.0 m.carries (m.judged h.y h.peer_side.stands)
+        (subst (λ (r : Role). Arrives (check_of h.y) r m.carried k.arrived) from k.arrives) in
+        let heard = has-heard (hear turn k.arrived h.y) h.y after.end.link m.hears.given k.becomes in
+        let is : hear turn (arrives slot.sent) h.y ≡ Ok heard.account =
+        subst (λ (v : Arrived). hear turn v h.y ≡ Ok heard.account) arrived heard.becomes_is in
+        record {
+          x = h.x;
+          lx = left;
+          y = after_given heard.account;
+          ly = h.ly;
+          events = h.events ++ plays.Passes role turn ∷ [] ++ plays.Gives_break (other role) ∷ [];
+          led = led-on so sa (h.events ++ plays.Passes role turn ∷ []) (plays.Gives_break (other role)) _ _
+              (led-on so sa h.events (plays.Passes role turn) (at role h.x (slot ∷ left) h.y h.ly) _
+              (h.led ∙ ap (λ (l : List Slot). at role h.x l h.y h.ly) e) (passes-event role turn h.x h.y heard.account slot left h.ly is))
+              (gives-at-peer role h.x heard.account left h.ly);
+          own_side = shorter-side role h.x h.lx left own new m.rest h.own_side m.new_is t.1;
+          peer_side = heard-side keeps (other role) turn (arrives slot.sent) h.y heard.account h.ly peer after h.peer_side is m.hears.new_is
+              m.hears.hears.role_is heard.stands;
+        }
+
+loses-step : (so sa : Setup) (role : Role) (own peer new : EndSide) → LastsAt so sa role own peer → LosesOf own new
+    → LastsAt so sa role new peer
+loses-step so sa role own peer new h m = go h.lx refl (subst (AllTold role h.lx) m.line_was h.own_side.line)
+  where
+    go : (slots : List Slot) → h.lx ≡ slots → AllTold role slots (m.said ∷ m.rest) → LastsAt so sa role new peer
+    go [] e t = absurd t
+    go (slot ∷ left) e t = record {
+      x = h.x;
+      lx = left;
+      y = h.y;
+      ly = h.ly;
+      events = h.events ++ plays.Is_lost role ∷ [];
+      led = led-on so sa h.events (plays.Is_lost role) (at role h.x (slot ∷ left) h.y h.ly) _
+          (h.led ∙ ap (λ (l : List Slot). at role h.x l h.y h.ly) e) (loses-event role h.x h.y slot left h.ly);
+      own_side = shorter-side role h.x h.lx left own new m.rest h.own_side m.new_is t.1;
+      peer_side = h.peer_side;
+    }
+
+speaks-step : (so sa : Setup) (role : Role) (release : Bool) (own peer new : EndSide) → LastsAt so sa role own peer → SpeaksOf release own new
+    → LastsAt so sa role new peer
+speaks-step so sa role release own peer new h m =
+    go (speak own.end.state.turn release h.x) refl (m.speaks.says h.x h.own_side.stands)
+  where
+    go : (r : Result Said LinkFault) → speak own.end.state.turn release h.x ≡ r
+        → SaysAs r own.end.role h.x new.end.link (Ok m.said.told) → LastsAt so sa role new peer
+    go (Err fault) e s = absurd s
+    go (Ok said) e s =
+        let told_is : m.said.told ≡ told_as m.said.check role said.sent =
+        subst (λ (c : Check). m.said.told ≡ told_as c role said.sent) (sym (m.check_is said.account s.2))
+        (subst (λ (r : Role). m.said.told ≡ told_as (check_of said.account) r said.sent) h.own_side.role_is s.0) in
+        record {
+          x = said.account;
+          lx = h.lx ++ slot_of h.x said ∷ [];
+          y = h.y;
+          ly = h.ly;
+          events = h.events ++ plays.Speaks role own.end.state.turn release ∷ [];
+          led = led-on so sa h.events (plays.Speaks role own.end.state.turn release) _ _ h.led
+              (speaks-event role own.end.state.turn release h.x h.y h.lx h.ly said e);
+          own_side = side-of role said.account (h.lx ++ slot_of h.x said ∷ []) new
+              (record own { end = new.end; line = own.line ++ m.said ∷ [] }) m.new_is s.2 (m.speaks.role_is ∙ h.own_side.role_is)
+              (told-snoc role h.lx own.line (slot_of h.x said) m.said h.own_side.line (told_is, s.1))
+              (subst (IsBook own.offered own.delivered) (sym (kept-spoken own.end.state.turn release h.x said e)) h.own_side.book);
+          peer_side = h.peer_side;
+        }
+
+-- the own end is as it was
+stays : (so sa : Setup) (role : Role) (own peer new : EndSide) → LastsAt so sa role own peer → new.end ≡ own.end
+    → new ≡ record own { end = new.end } → LastsAt so sa role new peer
+stays so sa role own peer new h e is = record {
+  x = h.x;
+  lx = h.lx;
+  y = h.y;
+  ly = h.ly;
+  events = h.events;
+  led = h.led;
+  own_side = side-of role h.x h.lx new (record own { end = new.end }) is
+      (subst (λ (v : Endpoint). StandsFor v.link h.x) (sym e) h.own_side.stands)
+      (ap (λ (v : Endpoint). v.role) e ∙ h.own_side.role_is) h.own_side.line h.own_side.book;
+  peer_side = h.peer_side;
+}
+
+-- its account changes, and none of its segments
+alters : (so sa : Setup) (role : Role) (own peer new : EndSide) (h : LastsAt so sa role own peer) (event : Event) (b : Account)
+    → happens event (at role h.x h.lx h.y h.ly) ≡ at role b h.lx h.y h.ly → lists b ≡ lists h.x → StandsFor new.end.link b
+    → new.end.role ≡ own.end.role → new ≡ record own { end = new.end } → LastsAt so sa role new peer
+alters so sa role own peer new h event b e same stands role_is is =
+    changes so sa role own peer new h event b e
+    (side-of role b h.lx new (record own { end = new.end }) is stands (role_is ∙ h.own_side.role_is) h.own_side.line
+    (subst (IsBook own.offered own.delivered) (sym same) h.own_side.book))
+
+offered-step : (so sa : Setup) (role : Role) (piece : List ℕ) (own peer new : EndSide) → LastsAt so sa role own peer
+    → OfferedOf piece own new → LastsAt so sa role new peer
+offered-step so sa role piece own peer new h m = go m.taken refl m.offers.account m.new_is
+  where
+    go : (taken : Bool) → m.taken ≡ taken → OfferedAs taken piece own.end new.end
+        → new ≡ record own { end = new.end; offered = with_offered taken piece own.offered } → LastsAt so sa role new peer
+    go true e k is =
+        let wanted = taken-wanted (length piece) (piece_size h.x) (wants h.x) (sym e ∙ m.offers.answer h.x h.own_side.stands) in
+        changes so sa role own peer new h (plays.Is_offered role piece) (after_offer piece h.x)
+        (offered-event role piece h.x h.y h.lx h.ly wanted)
+        (side-of role (after_offer piece h.x) h.lx new (record own { end = new.end; offered = with_offered true piece own.offered }) is
+        (k h.x h.own_side.stands) (m.offers.same.role_is ∙ h.own_side.role_is) h.own_side.line
+        (book-offered own.offered own.delivered h.x piece (wants-begun h.x (nat_le (length piece) (piece_size h.x)) wanted) h.own_side.book))
+    go false e k is = stays so sa role own peer new h k is
+
+delivered-step : (so sa : Setup) (role : Role) (own peer new : EndSide) → LastsAt so sa role own peer → DeliveredOf own new
+    → LastsAt so sa role new peer
+delivered-step so sa role own peer new h m =
+    changes so sa role own peer new h (plays.Delivers role) (after_delivery h.x) (delivers-event role h.x h.y h.lx h.ly)
+    (side-of role (after_delivery h.x) h.lx new (record own { end = new.end; delivered = with_delivered m.segment own.delivered }) m.new_is
+    (m.delivers.account h.x h.own_side.stands) (m.delivers.role_is ∙ h.own_side.role_is) h.own_side.line
+    (book-given own.offered own.delivered h.x m.segment (m.delivers.next h.x h.own_side.stands) h.own_side.book))
+
+asked-step : (so sa : Setup) (role : Role) (units : ℕ) (own peer new : EndSide) → LastsAt so sa role own peer → AskedOf units own new
+    → LastsAt so sa role new peer
+asked-step so sa role units own peer new h m = go m.answer m.answers
+  where
+    go : (answer : BreakAsked) → AnswersBreak own.end units new.end answer → LastsAt so sa role new peer
+    go asked.Taken k =
+        alters so sa role own peer new h (plays.Is_asked role own.end.state.turn units) (after_break_asked own.end.state.turn units h.x)
+        (asked-event role own.end.state.turn units h.x h.y h.lx h.ly) (asked-lists own.end.state.turn units h.x)
+        (k.account h.x h.own_side.stands) k.same.role_is m.new_is
+    go asked.Refused k =
+        alters so sa role own peer new h (plays.Is_asked role own.end.state.turn units) (after_break_asked own.end.state.turn units h.x)
+        (asked-event role own.end.state.turn units h.x h.y h.lx h.ly) (asked-lists own.end.state.turn units h.x)
+        (k.account h.x h.own_side.stands) k.same.role_is m.new_is
+    go asked.Late k = stays so sa role own peer new h k.1 m.new_is
+
+made-at : FrameLaws → KeepsTaken → (so sa : Setup) (role : Role) (move : Move) (own peer new after : EndSide) → LastsAt so sa role own peer
+    → IsMade move own peer new after → LastsAt so sa role new after
+made-at laws keeps so sa role Passes own peer new after h m = passes-step laws keeps so sa role own peer new after h m
+made-at laws keeps so sa role (Speaks release) own peer new after h m =
+    subst (LastsAt so sa role new) (sym m.1) (speaks-step so sa role release own peer new h m.0)
+made-at laws keeps so sa role Is_lost own peer new after h m =
+    subst (LastsAt so sa role new) (sym m.1) (loses-step so sa role own peer new h m.0)
+made-at laws keeps so sa role Hears_nothing own peer new after h m =
+    subst (LastsAt so sa role new) (sym m.1) (hears-step keeps so sa role own peer new h m.0)
+made-at laws keeps so sa role (Is_offered piece) own peer new after h m =
+    subst (LastsAt so sa role new) (sym m.1) (offered-step so sa role piece own peer new h m.0)
+made-at laws keeps so sa role (Is_asked units) own peer new after h m =
+    subst (LastsAt so sa role new) (sym m.1) (asked-step so sa role units own peer new h m.0)
+made-at laws keeps so sa role Is_delivered own peer new after h m =
+    subst (LastsAt so sa role new) (sym m.1) (delivered-step so sa role own peer new h m.0)
+made-at laws keeps so sa role (Is_busy busy) own peer new after h m =
+    subst (LastsAt so sa role new) (sym m.1) (alters so sa role own peer new h (plays.Is_busy role busy) (after_busy busy h.x)
+    (busy-event role busy h.x h.y h.lx h.ly) (busy-lists busy h.x) (m.0.told.account h.x h.own_side.stands) m.0.told.same.role_is m.0.new_is)
+
+-- ---- histories
+
+from-role : (so sa : Setup) (ends : Both EndSide) (r role : Role) → LastsAt so sa r (of r ends) (of (other r) ends)
+    → LastsAt so sa role (of role ends) (of (other role) ends)
+from-role so sa ends Originator Originator h = h
+from-role so sa ends Answerer Answerer h = h
+from-role so sa ends Originator Answerer h = turned so sa Originator ends.orig ends.answ h
+from-role so sa ends Answerer Originator h = turned so sa Answerer ends.answ ends.orig h
+
+new-side : (role : Role) (setup : Setup) (side : EndSide) → setup.role ≡ role → Begins setup side → IsSide role (fresh setup) [] side
+new-side role setup side e b = record {
+  stands = b.is_new.stands;
+  role_is = b.is_new.role_is ∙ e;
+  line = subst (AllTold role []) (sym b.line_is) tt;
+  book = record { pieces_are = b.offered_is; given_are = b.delivered_is; within = omega arith; blank = λ z. (refl, refl) };
+}
+
+lasts : FrameLaws → KeepsTaken → (so sa : Setup) (steps : List Step) (ends : Both EndSide) → MayPlay so sa → History so sa steps ends
+    → (role : Role) → LastsAt so sa role (of role ends) (of (other role) ends)
+lasts laws keeps so sa [] ends m h role = from-role so sa ends Originator role (record {
+  x = fresh so;
+  lx = [];
+  y = fresh sa;
+  ly = [];
+  events = [];
+  led = refl;
+  own_side = new-side Originator so ends.orig m.originates h.0;
+  peer_side = new-side Answerer sa ends.answ m.answers h.1;
+})
+lasts laws keeps so sa (step ∷ steps) ends m h role =
+    from-role so sa ends step.role role (made-at laws keeps so sa step.role step.move (of step.role h.0) (of (other step.role) h.0)
+    (of step.role ends) (of (other step.role) ends) (lasts laws keeps so sa steps h.0 m h.1 step.role) h.2)
+
+pub histories_are_plays : FrameLaws → KeepsTaken → HistoriesArePlays
+histories_are_plays laws keeps so sa steps ends m h =
+    let l = lasts laws keeps so sa steps ends m h Originator in
+    record { events = l.events; stand = stand l }
+  where
+    stand : (l : LastsAt so sa Originator ends.orig ends.answ) (role : Role)
+        → StandsFor (of role ends).end.link (seen_from role (played so sa l.events)).own.account
+    stand l Originator =
+        subst (λ (p : Play). StandsFor ends.orig.end.link (seen_from Originator p).own.account) (sym l.led) l.own_side.stands
+    stand l Answerer =
+        subst (λ (p : Play). StandsFor ends.answ.end.link (seen_from Answerer p).own.account) (sym l.led) l.peer_side.stands
+
+-- what was given begins what was taken
+given-begins : (n : ℕ) (taken pieces delivered offered : List (List ℕ)) → delivered ≡ take n taken → offered ≡ pieces
+    → IsPrefixOf taken pieces → IsPrefixOf delivered offered
+given-begins n taken pieces delivered offered d o (rest, e) = (
+  drop n taken ++ rest,
+  ap (λ (l : List (List ℕ)). l ++ (drop n taken ++ rest)) d ∙ sym (append_assoc (take n taken) (drop n taken) rest)
+      ∙ ap (λ (l : List (List ℕ)). l ++ rest) (take-append-drop n taken) ∙ e ∙ sym o,
+)
+
+pub histories_keep_prefixes : FrameLaws → KeepsTaken → TakesInOrder → HistoriesKeepPrefixes
+histories_keep_prefixes laws keeps in_order so sa steps ends m h role = go role (lasts laws keeps so sa steps ends m h role)
+  where
+    begins : (role : Role) (own peer : EndSide) (l : LastsAt so sa role own peer) → IsPrefixOf l.x.incoming.taken l.y.outgoing.pieces
+        → IsPrefixOf own.delivered peer.offered
+    begins role own peer l p =
+        given-begins l.x.incoming.given l.x.incoming.taken l.y.outgoing.pieces own.delivered peer.offered l.own_side.book.given_are
+        l.peer_side.book.pieces_are p
+
+    go : (role : Role) → LastsAt so sa role (of role ends) (of (other role) ends)
+        → IsPrefixOf (of role ends).delivered (of (other role) ends).offered
+    go Originator l = begins Originator ends.orig ends.answ l
+        (subst (λ (p : Play). IsPrefixOf p.originator.account.incoming.taken p.answerer.account.outgoing.pieces) l.led
+        (in_order so sa l.events m).1)
+    go Answerer l = begins Answerer ends.answ ends.orig l
+        (subst (λ (p : Play). IsPrefixOf p.answerer.account.incoming.taken p.originator.account.outgoing.pieces) l.led
+        (in_order so sa l.events m).0)

@@ -1,0 +1,18 @@
+//! What two ends of the library do, by the calls that are made of them. The functions do nothing but name the laws that they rest on: each law is a
+//! contract.
+ghost use Rattle.gateway.specs.Histories.{HistoriesArePlays, HistoriesKeepPrefixes};
+
+use lapm_frames::laws::one_checked;
+use lapm_receiver::laws::keeps_taken;
+use link_account::laws::plays;
+
+/// Whatever calls are made of two ends and whatever the line loses, they come to where a play of the link comes to, as long as neither breaks. So
+/// the segments that an end gave its user are the pieces that the other took from its own, as far as they go.
+pub fn histories()
+    ensures plays { HistoriesArePlays }
+    ensures prefixes { HistoriesKeepPrefixes }
+{
+    one_checked();
+    keeps_taken();
+    plays();
+}
