@@ -15,7 +15,7 @@ mod turns;
 
 pub use any_reader::{AnyReader, LineKind};
 pub use decoder::{DecoderStop, LAST_BITS, Pushed, SampleDecoder};
-pub use deframer::FrameReader;
+pub use deframer::{FrameReader, FrameStop};
 pub use encoder::SampleEncoder;
 pub use framer::FrameWriter;
 pub use label_bits::LabelBits;
