@@ -61,6 +61,7 @@ impl FrameReader {
             → HasHeard sender check self.new (past ++ heard result.0 bits.now) }
         ensures stops { (sender : Role) (check : Check) (past : List Bool) → HasHeard sender check self.old past
             → StopsAt past bits.now result.0 result.1 }
+        ensures stays { result.1 ≡ FrameStop.Late → self.new ≡ self.old }
         ensures within { result.0 ≤ length bits.now }
     {
         let Some(heard) = self.heard.checked_add(bits.len() as u64) else {

@@ -1,0 +1,22 @@
+-- The fields of a frame, as C has them.
+use Rattle.std.specs.Prelude.{◌≡◌, ℕ, List, unwrap_or}
+use Rattle.plain_lists.specs.Bits.{number}
+use Rattle.lapm_frames.specs.declared.frame.Frame.{Frame}
+use Rattle.lapm_frames.specs.Parts.{FrameParts, parts_of}
+use Rattle.lapm_frames.specs.Frame.{information_of}
+use Rattle.modem_c.specs.declared.frame.FrameFields.{FrameFields}
+use Rattle.modem_c.specs.declared.frame.TheConstants.{NO_NUMBER}
+
+abbrev pub fields_of : FrameParts → FrameFields
+fields_of parts = record {
+  control = parts.control;
+  command = number parts.command;
+  pf = number parts.pf;
+  ns = unwrap_or parts.ns NO_NUMBER;
+  nr = unwrap_or parts.nr NO_NUMBER;
+}
+
+-- the frame has these fields, and this information, which is empty where its kind has none
+pub record HasFields (frame : Frame) (fields : FrameFields) (info : List ℕ) : Type 0 where
+  pub fields_are : fields ≡ fields_of (parts_of frame)
+  pub info_is : info ≡ information_of frame
