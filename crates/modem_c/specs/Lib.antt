@@ -4,4 +4,5 @@ pub mod Led
 pub mod Answered
 pub mod Decoders
 pub mod FrameFields
+pub mod FramesWritten
 pub mod Deframers
