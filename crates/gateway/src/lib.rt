@@ -17,7 +17,7 @@ pub use any_reader::{AnyReader, LineKind};
 pub use decoder::{DecoderStop, LAST_BITS, Pushed, SampleDecoder};
 pub use deframer::{FrameReader, FrameStop};
 pub use encoder::SampleEncoder;
-pub use framer::FrameWriter;
+pub use framer::{FRAME_BITS, FrameWriter, SlotStop, frame_bits};
 pub use label_bits::LabelBits;
 pub use link::{Endpoint, LinkStop};
 pub use meter::LockMeter;
