@@ -19,10 +19,10 @@ mod turns;
 
 pub use any_reader::{AnyReader, LineKind};
 pub use decoder::{DecoderStop, LAST_BITS, Pushed, SampleDecoder};
-pub use deframer::FrameReader;
+pub use deframer::{FrameReader, FrameStop};
 pub use encoder::{Encoded, SampleEncoder};
-pub use framer::FrameWriter;
+pub use framer::{FRAME_BITS, FrameWriter, SlotStop, frame_bits};
 pub use label_bits::LabelBits;
-pub use meter::{LockMeter, LockReading};
 pub use link::{BreakAsked, Endpoint, LinkStop, TurnState};
+pub use meter::{LockMeter, LockReading};
 pub use turns::{Carried, Told};

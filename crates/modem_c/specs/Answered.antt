@@ -1,5 +1,5 @@
 -- Which codes come of what a handle leads to, and of arguments.
-use Rattle.std.specs.Prelude.{◌≡◌, ◌⊎◌, ℤ, Option, Some, None, MatchOption}
+use Rattle.std.specs.Prelude.{◌≡◌, ◌≢◌, ◌⊎◌, ℕ, ℤ, List, ◌++◌, length, drop, Option, Some, None, MatchOption}
 use Rattle.modem_c.specs.declared.machine.Machine.{Machine}
 use Rattle.modem_c.specs.declared.codes.TheConstants.{DONE, NO_MEMORY, EMPTY, WRONG_KIND, BAD_ARGUMENT}
 
@@ -27,3 +27,14 @@ MadeOf (Some a) old new code is = Made old new code (is a)
 abbrev pub MadeOfBoth : {A B : Type 0} → Option A → Option B → Option Machine → Option Machine → ℤ → (A → B → Option Machine → Type 0) → Type 0
 MadeOfBoth None second old new code is = Refused old new code
 MadeOfBoth (Some a) second old new code is = MadeOf second old new code (is a)
+
+-- EMPTY where the handle leads nowhere, WRONG_KIND where it leads to something else, and neither where it leads to what the call is for
+abbrev pub AnswersKind : {M : Type 0} → Option Machine → Option M → ℤ → Type 0
+AnswersKind None it code = code ≡ EMPTY
+AnswersKind (Some machine) None code = code ≡ WRONG_KIND
+AnswersKind (Some machine) (Some it) code = (code ≢ EMPTY) × (code ≢ WRONG_KIND)
+
+-- these octets, so many, are written at the beginning of what was the room before, and nothing behind them
+pub record Puts (octets before after : List ℕ) (count : ℕ) : Type 0 where
+  pub count_is : count ≡ length octets
+  pub written : after ≡ octets ++ drop (length octets) before

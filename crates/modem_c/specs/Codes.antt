@@ -4,6 +4,8 @@ use Rattle.scramblers.specs.declared.mode.Mode.{Mode}
 use Rattle.scramblers.specs.declared.mode.Mode.TheVariants.{Call, Answer}
 use Rattle.shared_terms.specs.declared.role.Role.{Role}
 use Rattle.shared_terms.specs.declared.role.Role.TheVariants.{Originator, Answerer}
+use Rattle.frame_check.specs.declared.check.Check.{Check}
+use Rattle.frame_check.specs.declared.check.Check.TheVariants.{Sixteen, ThirtyTwo}
 use Rattle.gateway.specs.declared.any_reader.LineKind.{LineKind}
 use Rattle.gateway.specs.declared.any_reader.LineKind.TheVariants.{Begun, Middle, Quarters}
 
@@ -29,3 +31,9 @@ abbrev pub role_of : ℕ → Option Role
 role_of zero = Some Originator
 role_of (suc zero) = Some Answerer
 role_of (suc (suc n)) = None
+
+-- the check of I frames and S frames: 1 for that of 32 bits
+abbrev pub check_of : ℕ → Option Check
+check_of zero = Some Sixteen
+check_of (suc zero) = Some ThirtyTwo
+check_of (suc (suc n)) = None

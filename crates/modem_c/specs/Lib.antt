@@ -6,6 +6,8 @@ pub mod Decoders
 pub mod Encoders
 pub mod Meters
 pub mod SignalLaws
+pub mod FrameFields
+pub mod FramesWritten
 pub mod Deframers
 pub mod Answers
 pub mod Links

@@ -1,25 +1,41 @@
-use Rattle.std.proofs.Common.{ℕ, suc, ◌+◌, ◌%◌, ◌≡◌, ◌∷◌, ◌++◌, Bool, List, [], Some, nat_eq, get_or, refl, sym, ap, subst, append_assoc, ◌∙◌, arith}
+use Rattle.std.proofs.Common.{ℕ, suc, ◌+◌, ◌<◌, ◌≤◌, ◌≡◌, ◌++◌, Bool, List, None, length, ap, sym, subst, refl, ◌∙◌, arith}
 use Rattle.bit_stuffing.specs.Deframer.{DeframerStands}
 use Rattle.bit_stuffing.specs.Found.{answer_of}
 use Rattle.gateway.specs.Given.{heard}
+use Rattle.gateway.proofs.Hearing.{heard-more, length-heard-behind, none_more}
 use Rattle.gateway.proofs.deframer.FrameReader.push.Goals as goal
 
--- one bit more
-one_more : (past : List Bool) (octets : List ℕ) (k k' : ℕ) → k' ≡ suc k → (past ++ heard k octets) ++ nat_eq (get_or octets k 0 % 2) 1 ∷ [] ≡ past ++ heard k' octets
-one_more past octets k k' e = append_assoc past (heard k octets) _ ∙ (λ i. past ++ heard (sym e i) octets)
+pub returns-in-Some-push-clause-reads : goal.returns-in-Some-push-clause-reads
+returns-in-Some-push-clause-reads c = λ sender check past start. let k = c.loop-place.place in let bits = c.args.bits.now in record {
+  stands = subst (λ (all : List Bool). DeframerStands c.push.new.self all) (heard-more past bits k (k + 1) (omega arith))
+      (c.push.ensures.stands (past ++ heard k bits) (c.loop-place.invariant.stands past start.stands));
+  sender_is = c.loop-place.invariant.sender ∙ start.sender_is;
+  check_is = c.loop-place.invariant.check ∙ start.check_is;
+  count_is = ap (λ n. n + (k + 1)) (c.loop-place.invariant.heard ∙ start.count_is) ∙ sym (length-heard-behind past bits (k + 1));
+}
 
-pub returns-in-Some-clause-stands : goal.returns-in-Some-clause-stands
-returns-in-Some-clause-stands c = λ past start. let k = c.loop-place.place in
-    subst (λ (all : List Bool). DeframerStands c.push.new.self all) (one_more past c.args.bits.now k (k + 1) (omega arith)) (c.push.ensures.stands (past ++ heard k c.args.bits.now) (c.loop-place.invariant.stands past start))
-
-pub returns-in-Some-clause-piece : goal.returns-in-Some-clause-piece
-returns-in-Some-clause-piece c = λ past start. let k = c.loop-place.place in
-    ap answer_of (sym (one_more past c.args.bits.now k (k + 1) (omega arith))) ∙ sym (c.push.ensures.value (past ++ heard k c.args.bits.now) (c.loop-place.invariant.stands past start)) ∙ c.in-Some.is
+pub returns-in-Some-push-clause-stops : goal.returns-in-Some-push-clause-stops
+returns-in-Some-push-clause-stops c = λ sender check past start. let k = c.loop-place.place in let bits = c.args.bits.now in
+    (subst (λ (n : ℕ). n + length bits < 18446744073709551616) start.count_is c.in-Some.ensures.0, (k, refl, c.loop-place.invariant.quiet past start.stands,
+    ap answer_of (sym (heard-more past bits k (k + 1) (omega arith))) ∙ sym (c.push.ensures.value (past ++ heard k bits) (c.loop-place.invariant.stands past start.stands)) ∙ c.in-Some-push.is))
 
 pub loop-place-preserved : goal.loop-place-preserved
-loop-place-preserved c = record {
-  stands = λ past start. let k = c.loop-place.place in
-      subst (λ (all : List Bool). DeframerStands c.push.new.self all) (one_more past c.args.bits.now k (k + 1) (omega arith)) (c.push.ensures.stands (past ++ heard k c.args.bits.now) (c.loop-place.invariant.stands past start));
+loop-place-preserved c = let k = c.loop-place.place in let bits = c.args.bits.now in record {
+  stands = λ past start. subst (λ (all : List Bool). DeframerStands c.push.new.self all) (heard-more past bits k (k + 1) (omega arith))
+      (c.push.ensures.stands (past ++ heard k bits) (c.loop-place.invariant.stands past start));
+  quiet = λ past start. none_more past bits k (k + 1) (omega arith) (c.loop-place.invariant.quiet past start)
+      (ap answer_of (sym (heard-more past bits k (k + 1) (omega arith))) ∙ sym (c.push.ensures.value (past ++ heard k bits) (c.loop-place.invariant.stands past start)) ∙ c.in_default-push.is);
   sender = c.loop-place.invariant.sender;
   check = c.loop-place.invariant.check;
+  heard = c.loop-place.invariant.heard;
+}
+
+pub returns-clause-reads : goal.returns-clause-reads
+returns-clause-reads c = λ sender check past start. let bits = c.args.bits.now in
+    let all : c.loop-place.place ≡ length bits = omega (arith, c.loop-place.auto.place-end, c.loop-place-test.false) in record {
+  stands = subst (λ (k : ℕ). DeframerStands c.loop-place.self.deframer (past ++ heard k bits)) all
+      (c.loop-place.invariant.stands past start.stands);
+  sender_is = c.loop-place.invariant.sender ∙ start.sender_is;
+  check_is = c.loop-place.invariant.check ∙ start.check_is;
+  count_is = c.in-Some.ensures.1 ∙ ap (λ n. n + length bits) start.count_is ∙ sym (length-heard-behind past bits (length bits));
 }

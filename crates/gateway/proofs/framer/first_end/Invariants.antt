@@ -1,0 +1,11 @@
+use Rattle.std.proofs.Common.{◌≡◌, []}
+use Rattle.bit_stuffing.specs.Deframer.{DeframerStands}
+use Rattle.bit_stuffing.specs.Found.{pieces_of}
+use Rattle.gateway.specs.Given.{given}
+use Rattle.gateway.proofs.framer.first_end.Given as goal
+
+abbrev pub invariant-loop-place : goal.invariant-loop-place
+invariant-loop-place l = record {
+  stands : DeframerStands l.deframer (given l.place l.bits);
+  quiet : pieces_of (given l.place l.bits) ≡ [];
+}

@@ -1,0 +1,10 @@
+use Rattle.std.proofs.Common.{◌∙◌, refl}
+use Rattle.bit_stuffing.specs.BitSlot.{line_bits}
+use Rattle.gateway.proofs.Slotted.{whole-slot}
+use Rattle.gateway.proofs.framer.write_patterns.Goals as goal
+
+pub returns-clause-stands : goal.returns-clause-stands
+returns-clause-stands c = λ slots start. c.restart.ensures.stands slots _ start
+
+pub returns-clause-count : goal.returns-clause-count
+returns-clause-count c = whole-slot c.pattern_slot.new.out (line_bits c.pattern_slot.new.out) c.args.symbols refl c.pattern_slot.ensures.plain.full ∙ c.requires.symbols
