@@ -38,7 +38,7 @@ use Rattle.link_account.specs.declared.answer.Answer.{Answer}
 use Rattle.link_account.specs.declared.answer.Answer.TheVariants as answers
 use Rattle.link_account.specs.Account.{Account, check_of, fresh}
 use Rattle.link_account.specs.Play.{Slot, arrives}
-use Rattle.link_account.specs.Hear.{hear, on_frame, on_seen, on_pattern, on_detecting, on_negotiating, on_establishing, on_connected, on_releasing, on_closed, on_nothing, on_xid_command, on_xid_response, connected, on_number, on_sabme, on_disc, on_word, then_in, taking, replying, hurrying, ends_wait, owing, trying, timer_after, peer_reset, pausing, without_adp}
+use Rattle.link_account.specs.Hear.{hear, on_frame, on_seen, on_pattern, on_detecting, on_negotiating, on_connected, on_closed, on_xid_command, on_xid_response, connected, on_number, on_sabme, on_disc, on_word, then_in, taking, replying, hurrying, ends_wait, owing, trying, timer_after, peer_reset, pausing, without_adp}
 use Rattle.link_account.specs.Speak.{Said, says, says_frame, says_segment, says_own, says_break, says_asking, where_says, else_says, answering, may_send, step1, step2, step3, step4, step5, step6, step7, step8, steps, speak, speak_in, speak_detecting, speak_negotiating, speak_releasing, speak_linked, speak_answer, u_try, tries_frame, trying_again, spent, on_timer, timer_expires, polling, on_break_timer, breaking, then_tries, after_timers, tells, has_news, ready_frame, nr_of, telling}
 
 abbrev pub rank : Phase → ℕ

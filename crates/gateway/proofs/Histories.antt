@@ -3,7 +3,6 @@ use Rattle.std.proofs.Common.{◌≡◌, ◌∙◌, ℕ, ◌+◌, ◌<◌, ◌�
 use Rattle.std.specs.Prelude.{is_some, slice_index_or}
 use Rattle.std.proofs.lemmas.List.{take-append-le, take_more, take-append-drop, append_assoc}
 use Rattle.std.proofs.lemmas.Bool.Decides.{nat_tests}
-use Rattle.std.proofs.lemmas.Grind.{common_steps}
 use Rattle.std.proofs.lemmas.Bool.{false≢true}
 use Rattle.frame_check.specs.declared.check.Check.{Check}
 use Rattle.frame_check.specs.declared.check.Check.TheVariants.{Sixteen}
@@ -14,7 +13,6 @@ use Rattle.shared_terms.specs.Both.{Both, of}
 use Rattle.plain_lists.specs.Prefix.{IsPrefixOf}
 use Rattle.shared_terms.specs.declared.fault.LinkFault.{LinkFault}
 use Rattle.lapm_frames.specs.declared.frame.Frame.{Frame}
-use Rattle.lapm_frames.specs.declared.seen.Seen.{Seen}
 use Rattle.lapm_frames.specs.declared.arrived.Arrived.{Arrived}
 use Rattle.lapm_frames.specs.declared.arrived.Arrived.TheVariants as arrivals
 use Rattle.lapm_frames.specs.declared.sent.Sent.{Sent}
@@ -23,20 +21,20 @@ use Rattle.lapm_frames.specs.Frame.{IsFrame}
 use Rattle.lapm_frames.specs.Sendable.{IsSendable}
 use Rattle.frame_check.specs.Division.{with_check}
 use Rattle.lapm_frames.specs.Frame.{has_number, spelled}
-use Rattle.lapm_frames.specs.Checked.{check_for, checked, SpellsFrame}
+use Rattle.lapm_frames.specs.Checked.{checked, SpellsFrame}
 use Rattle.xid_params.specs.Offers.{ReadsWritten}
 use Rattle.link_account.specs.declared.setup.Setup.{Setup}
 use Rattle.link_account.specs.Account.{Account, fresh, check_of, wants, piece_size, after_given, after_offer, after_delivery, after_break_asked, after_busy, is_connected, delivers}
 use Rattle.link_account.specs.Hear.{hear}
 use Rattle.link_account.specs.Speak.{Said, speak}
-use Rattle.link_account.specs.Play.{Slot, Side, Play, Event, arrives, spoken, heard, happens, play, start, seen_from}
+use Rattle.link_account.specs.Play.{Slot, Play, Event, arrives, spoken, heard, happens, play, start, seen_from}
 use Rattle.link_account.specs.Play as plays
 use Rattle.link_account.specs.declared.phase.Phase.{Phase}
 use Rattle.link_account.specs.declared.phase.Phase.TheVariants as phases
 use Rattle.link_account.specs.Laws.{MayPlay, played, TakesInOrder, has_begun}
 use Rattle.lapm_receiver.specs.Incoming.{KeepsTaken, after_delivered}
 use Rattle.break_signals.specs.Breaks.{after_ask}
-use Rattle.lapm_sender.specs.Outgoing.{Outgoing, wanted}
+use Rattle.lapm_sender.specs.Outgoing.{wanted}
 use Rattle.lapm_link.specs.declared.any_end.AnyEnd.{AnyEnd}
 use Rattle.lapm_link.specs.Stands.{StandsFor}
 use Rattle.gateway.specs.declared.turns.Carried.{Carried}
@@ -47,12 +45,12 @@ use Rattle.gateway.specs.declared.link.Endpoint.{Endpoint}
 use Rattle.gateway.specs.declared.link.BreakAsked.{BreakAsked}
 use Rattle.gateway.specs.declared.link.BreakAsked.TheVariants as asked
 use Rattle.gateway.specs.Turns.{Arrives, told_as}
-use Rattle.gateway.specs.Endpoints.{IsNew, HeardAs, SaysAs, OfferedAs, AnswersBreak, longest_wanted, wanted_length, is_taken}
+use Rattle.gateway.specs.Endpoints.{HeardAs, SaysAs, OfferedAs, AnswersBreak, longest_wanted, is_taken}
 use Rattle.gateway.specs.Histories.{EndSide, Move, Speaks, Passes, Is_lost, Hears_nothing, Is_offered, Is_asked, Is_delivered, Is_busy}
-use Rattle.gateway.specs.Histories.{CarriesTold, HearsOf, SpeaksOf, LosesOf, PassesOf, OfferedOf, AskedOf, DeliveredOf, BusyOf}
+use Rattle.gateway.specs.Histories.{CarriesTold, HearsOf, SpeaksOf, LosesOf, PassesOf, OfferedOf, AskedOf, DeliveredOf}
 use Rattle.gateway.specs.Histories.{IsMade, Step, Begins, History, HistoriesArePlays, HistoriesKeepPrefixes, with_offered, with_delivered}
 use Rattle.gateway.proofs.Lists.{Lists, lists, Grows, grows-heard, kept-spoken}
-use Rattle.gateway.proofs.Agreeing.{OnSent, Reads, Face, face, KnowsAt, knows-turned, knows-as, nothing-arrives, first-arrives, knows-less, knows-heard, knows-spoken, agreed_check, check-sent, check-heard, knows-first}
+use Rattle.gateway.proofs.Agreeing.{OnSent, Reads, face, KnowsAt, knows-turned, knows-as, nothing-arrives, first-arrives, knows-less, knows-heard, knows-spoken, agreed_check, check-sent, check-heard, knows-first}
 
 -- what is known of frames and their octets, of receivers and of offers
 pub record HistoryLaws : Type 0 where
