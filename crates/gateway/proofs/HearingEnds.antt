@@ -1,5 +1,5 @@
 -- What an endpoint hears and says, by what its end of the link does.
-use Rattle.std.proofs.Common.{◌≡◌, ℕ, Option, Result, Ok, Err, refl, sym, subst}
+use Rattle.std.proofs.Common.{◌≡◌, ℕ, Option, Result, Ok, Err, refl, subst}
 use Rattle.frame_check.specs.declared.check.Check.{Check}
 use Rattle.shared_terms.specs.declared.role.Role.{Role}
 use Rattle.shared_terms.specs.Role.{other}
@@ -8,7 +8,6 @@ use Rattle.lapm_frames.specs.declared.arrived.Arrived.{Arrived}
 use Rattle.lapm_frames.specs.declared.sent.Sent.{Sent}
 use Rattle.lapm_frames.specs.Sendable.{IsSendable}
 use Rattle.link_account.specs.Account.{Account, check_of, given_break, after_given}
-use Rattle.link_account.specs.Hear.{hear}
 use Rattle.link_account.specs.Speak.{Said}
 use Rattle.lapm_link.specs.declared.any_end.AnyEnd.{AnyEnd}
 use Rattle.lapm_link.specs.declared.any_end.AnyEnd.TheVariants.{Closed}

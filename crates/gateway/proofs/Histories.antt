@@ -3,10 +3,9 @@ use Rattle.std.proofs.Common.{◌≡◌, ◌∙◌, ℕ, ◌+◌, ◌<◌, ◌�
 use Rattle.std.specs.Prelude.{is_some, slice_index_or}
 use Rattle.std.proofs.lemmas.List.{take-append-le, take_more, take-append-drop, append_assoc}
 use Rattle.std.proofs.lemmas.Bool.Decides.{nat_tests}
-use Rattle.std.proofs.lemmas.Grind.{common_steps}
 use Rattle.std.proofs.lemmas.Bool.{false≢true}
 use Rattle.frame_check.specs.declared.check.Check.{Check}
-use Rattle.frame_check.specs.FrameCheck.{IsChecked}
+use Rattle.frame_check.specs.declared.check.Check.TheVariants.{Sixteen}
 use Rattle.shared_terms.specs.declared.role.Role.{Role}
 use Rattle.shared_terms.specs.declared.role.Role.TheVariants.{Originator, Answerer}
 use Rattle.shared_terms.specs.Role.{other}
@@ -14,26 +13,28 @@ use Rattle.shared_terms.specs.Both.{Both, of}
 use Rattle.plain_lists.specs.Prefix.{IsPrefixOf}
 use Rattle.shared_terms.specs.declared.fault.LinkFault.{LinkFault}
 use Rattle.lapm_frames.specs.declared.frame.Frame.{Frame}
-use Rattle.lapm_frames.specs.declared.seen.Seen.{Seen}
 use Rattle.lapm_frames.specs.declared.arrived.Arrived.{Arrived}
 use Rattle.lapm_frames.specs.declared.arrived.Arrived.TheVariants as arrivals
 use Rattle.lapm_frames.specs.declared.sent.Sent.{Sent}
 use Rattle.lapm_frames.specs.declared.sent.Sent.TheVariants as slots
 use Rattle.lapm_frames.specs.Frame.{IsFrame}
 use Rattle.lapm_frames.specs.Sendable.{IsSendable}
-use Rattle.lapm_frames.specs.Checked.{check_heard, checked, SpellsFrame}
+use Rattle.frame_check.specs.Division.{with_check}
+use Rattle.lapm_frames.specs.Frame.{has_number, spelled}
+use Rattle.lapm_frames.specs.Checked.{checked, SpellsFrame}
+use Rattle.xid_params.specs.Offers.{ReadsWritten}
 use Rattle.link_account.specs.declared.setup.Setup.{Setup}
 use Rattle.link_account.specs.Account.{Account, fresh, check_of, wants, piece_size, after_given, after_offer, after_delivery, after_break_asked, after_busy, is_connected, delivers}
 use Rattle.link_account.specs.Hear.{hear}
 use Rattle.link_account.specs.Speak.{Said, speak}
-use Rattle.link_account.specs.Play.{Slot, Side, Play, Event, arrives, spoken, heard, happens, play, start, seen_from}
+use Rattle.link_account.specs.Play.{Slot, Play, Event, arrives, spoken, heard, happens, play, start, seen_from}
 use Rattle.link_account.specs.Play as plays
 use Rattle.link_account.specs.declared.phase.Phase.{Phase}
 use Rattle.link_account.specs.declared.phase.Phase.TheVariants as phases
 use Rattle.link_account.specs.Laws.{MayPlay, played, TakesInOrder, has_begun}
-use Rattle.lapm_receiver.specs.Incoming.{KeepsTaken}
+use Rattle.lapm_receiver.specs.Incoming.{KeepsTaken, after_delivered}
 use Rattle.break_signals.specs.Breaks.{after_ask}
-use Rattle.lapm_sender.specs.Outgoing.{Outgoing, wanted}
+use Rattle.lapm_sender.specs.Outgoing.{wanted}
 use Rattle.lapm_link.specs.declared.any_end.AnyEnd.{AnyEnd}
 use Rattle.lapm_link.specs.Stands.{StandsFor}
 use Rattle.gateway.specs.declared.turns.Carried.{Carried}
@@ -44,18 +45,21 @@ use Rattle.gateway.specs.declared.link.Endpoint.{Endpoint}
 use Rattle.gateway.specs.declared.link.BreakAsked.{BreakAsked}
 use Rattle.gateway.specs.declared.link.BreakAsked.TheVariants as asked
 use Rattle.gateway.specs.Turns.{Arrives, told_as}
-use Rattle.gateway.specs.Endpoints.{IsNew, HeardAs, SaysAs, OfferedAs, AnswersBreak, longest_wanted, wanted_length, is_taken}
-use Rattle.gateway.specs.Histories.{Utterance, EndSide, Move, Speaks, Passes, Is_lost, Hears_nothing, Is_offered, Is_asked, Is_delivered, Is_busy}
-use Rattle.gateway.specs.Histories.{CarriesTold, AreJudgedAlike, HearsOf, SpeaksOf, LosesOf, PassesOf, OfferedOf, AskedOf, DeliveredOf, BusyOf}
+use Rattle.gateway.specs.Endpoints.{HeardAs, SaysAs, OfferedAs, AnswersBreak, longest_wanted, is_taken}
+use Rattle.gateway.specs.Histories.{EndSide, Move, Speaks, Passes, Is_lost, Hears_nothing, Is_offered, Is_asked, Is_delivered, Is_busy}
+use Rattle.gateway.specs.Histories.{CarriesTold, HearsOf, SpeaksOf, LosesOf, PassesOf, OfferedOf, AskedOf, DeliveredOf}
 use Rattle.gateway.specs.Histories.{IsMade, Step, Begins, History, HistoriesArePlays, HistoriesKeepPrefixes, with_offered, with_delivered}
 use Rattle.gateway.proofs.Lists.{Lists, lists, Grows, grows-heard, kept-spoken}
+use Rattle.gateway.proofs.Agreeing.{OnSent, Reads, face, KnowsAt, knows-turned, knows-as, nothing-arrives, first-arrives, knows-less, knows-heard, knows-spoken, agreed_check, check-sent, check-heard, knows-first}
 
--- what is known of frames and their octets
-pub record FrameLaws : Type 0 where
+-- what is known of frames and their octets, of receivers and of offers
+pub record HistoryLaws : Type 0 where
   pub exists : (check : Check) (frame : Frame) (sender : Role) (dlci : ℕ) → IsFrame frame
       → SpellsFrame check sender dlci (checked check sender dlci frame) frame
   pub one : (check : Check) (frame other : Frame) (sender : Role) (dlci : ℕ) (whole : List ℕ)
       → SpellsFrame check sender dlci whole frame → SpellsFrame check sender dlci whole other → frame ≡ other
+  pub keeps : KeepsTaken
+  pub written : ReadsWritten
 
 -- ---- plays
 
@@ -167,21 +171,25 @@ taken-wanted count size (Some number) e = go (nat_lt number (2 ^ 56)) e
 
 -- ---- a side
 
-abbrev IsToldAs : Role → Sent → Utterance → Type 0
-IsToldAs role sent said = (said.told ≡ told_as said.check role sent) × IsSendable sent
+-- what was said spells what was sent, and a frame with numbers with this check
+pub record IsToldAs (check : Check) (role : Role) (sent : Sent) (said : Told) : Type 0 where
+  pub written : Check
+  pub told_is : said ≡ told_as written role sent
+  pub can : IsSendable sent
+  pub numbered : OnSent (λ frame. has_number frame ≡ true → written ≡ check) sent
 
-abbrev AllTold : Role → List Slot → List Utterance → Type 0
-AllTold role [] [] = Unit {0}
-AllTold role (slot ∷ slots) (said ∷ line) = IsToldAs role slot.sent said × AllTold role slots line
-AllTold role [] (said ∷ line) = ⊥
-AllTold role (slot ∷ slots) [] = ⊥
+abbrev AllTold : Check → Role → List Slot → List Told → Type 0
+AllTold check role [] [] = Unit {0}
+AllTold check role (slot ∷ slots) (said ∷ line) = IsToldAs check role slot.sent said × AllTold check role slots line
+AllTold check role [] (said ∷ line) = ⊥
+AllTold check role (slot ∷ slots) [] = ⊥
 
-told-snoc : (role : Role) (slots : List Slot) (line : List Utterance) (slot : Slot) (said : Utterance) → AllTold role slots line
-    → IsToldAs role slot.sent said → AllTold role (slots ++ slot ∷ []) (line ++ said ∷ [])
-told-snoc role [] [] slot said h last = (last, tt)
-told-snoc role (s ∷ slots) (t ∷ line) slot said h last = (h.0, told-snoc role slots line slot said h.1 last)
-told-snoc role [] (t ∷ line) slot said h last = absurd h
-told-snoc role (s ∷ slots) [] slot said h last = absurd h
+told-snoc : (check : Check) (role : Role) (slots : List Slot) (line : List Told) (slot : Slot) (said : Told)
+    → AllTold check role slots line → IsToldAs check role slot.sent said → AllTold check role (slots ++ slot ∷ []) (line ++ said ∷ [])
+told-snoc check role [] [] slot said h last = (last, tt)
+told-snoc check role (s ∷ slots) (t ∷ line) slot said h last = (h.0, told-snoc check role slots line slot said h.1 last)
+told-snoc check role [] (t ∷ line) slot said h last = absurd h
+told-snoc check role (s ∷ slots) [] slot said h last = absurd h
 
 -- what the user of an end handed over and was given, by its account
 pub record IsBook (offered delivered : List (List ℕ)) (l : Lists) : Type 0 where
@@ -270,11 +278,32 @@ asked-lists turn units a = go (is_connected a.phase)
     go true = refl
     go false = refl
 
+busy-face : (busy : Bool) (a : Account) → face (after_busy busy a) ≡ face a
+busy-face busy a = go (is_connected a.phase)
+  where
+    go : (c : Bool) → face (cond c (record a { owes = record a.owes { busy = busy } }) a) ≡ face a
+    go true = refl
+    go false = refl
+
+asked-face : (turn units : ℕ) (a : Account) → face (after_break_asked turn units a) ≡ face a
+asked-face turn units a = go (is_connected a.phase)
+  where
+    go : (c : Bool) → face (cond c (record a { own_breaks = after_ask turn units a.own_breaks }) a) ≡ face a
+    go true = refl
+    go false = refl
+
+given-face : (a : Account) → face (after_delivery a) ≡ face a
+given-face a = go (is_connected a.phase)
+  where
+    go : (c : Bool) → face (cond c (record a { incoming = after_delivered a.incoming }) a) ≡ face a
+    go true = refl
+    go false = refl
+
 -- a side of a play and an end that stands for it
-pub record IsSide (role : Role) (x : Account) (slots : List Slot) (side : EndSide) : Type 0 where
+pub record IsSide (check : Check) (role : Role) (x : Account) (slots : List Slot) (side : EndSide) : Type 0 where
   pub stands : StandsFor side.end.link x
   pub role_is : side.end.role ≡ role
-  pub line : AllTold role slots side.line
+  pub line : AllTold check role slots side.line
   pub book : IsBook side.offered side.delivered (lists x)
 
 pub record LastsAt (so sa : Setup) (role : Role) (own peer : EndSide) : Type 0 where
@@ -284,8 +313,9 @@ pub record LastsAt (so sa : Setup) (role : Role) (own peer : EndSide) : Type 0 w
   pub ly : List Slot
   pub events : List Event
   pub led : played so sa events ≡ at role x lx y ly
-  pub own_side : IsSide role x lx own
-  pub peer_side : IsSide (other role) y ly peer
+  pub own_side : IsSide (agreed_check so sa) role x lx own
+  pub peer_side : IsSide (agreed_check so sa) (other role) y ly peer
+  pub known : KnowsAt role so sa x lx y ly
 
 other-other : (role : Role) → other (other role) ≡ role
 other-other Originator = refl
@@ -301,7 +331,8 @@ turned so sa role own peer h = record {
   events = h.events;
   led = h.led ∙ at-other role h.x h.lx h.y h.ly;
   own_side = h.peer_side;
-  peer_side = subst (λ (r : Role). IsSide r h.x h.lx own) (sym (other-other role)) h.own_side;
+  peer_side = subst (λ (r : Role). IsSide (agreed_check so sa) r h.x h.lx own) (sym (other-other role)) h.own_side;
+  known = knows-turned role so sa h.x h.lx h.y h.ly h.known;
 }
 
 -- one event more
@@ -310,19 +341,20 @@ led-on : (so sa : Setup) (events : List Event) (event : Event) (p q : Play) → 
 led-on so sa events event p q e h = play-append events (event ∷ []) (start (fresh so) (fresh sa)) ∙ ap (happens event) e ∙ h
 
 -- the own side has another form
-side-of : (role : Role) (x : Account) (slots : List Slot) (new form : EndSide) → new ≡ form → StandsFor new.end.link x → new.end.role ≡ role
-    → AllTold role slots form.line → IsBook form.offered form.delivered (lists x) → IsSide role x slots new
-side-of role x slots new form e stands role_is line book = record {
+side-of : (check : Check) (role : Role) (x : Account) (slots : List Slot) (new form : EndSide) → new ≡ form → StandsFor new.end.link x → new.end.role ≡ role
+    → AllTold check role slots form.line → IsBook form.offered form.delivered (lists x) → IsSide check role x slots new
+side-of check role x slots new form e stands role_is line book = record {
   stands = stands;
   role_is = role_is;
-  line = subst (λ (s : EndSide). AllTold role slots s.line) (sym e) line;
+  line = subst (λ (s : EndSide). AllTold check role slots s.line) (sym e) line;
   book = subst (λ (s : EndSide). IsBook s.offered s.delivered (lists x)) (sym e) book;
 }
 
 -- the own end comes to this account by one event, and its line stays
 changes : (so sa : Setup) (role : Role) (own peer new : EndSide) (h : LastsAt so sa role own peer) (event : Event) (b : Account)
-    → happens event (at role h.x h.lx h.y h.ly) ≡ at role b h.lx h.y h.ly → IsSide role b h.lx new → LastsAt so sa role new peer
-changes so sa role own peer new h event b e side = record {
+    → happens event (at role h.x h.lx h.y h.ly) ≡ at role b h.lx h.y h.ly → face b ≡ face h.x → IsSide (agreed_check so sa) role b h.lx new
+    → LastsAt so sa role new peer
+changes so sa role own peer new h event b e same side = record {
   x = b;
   lx = h.lx;
   y = h.y;
@@ -331,24 +363,21 @@ changes so sa role own peer new h event b e side = record {
   led = led-on so sa h.events event (at role h.x h.lx h.y h.ly) (at role b h.lx h.y h.ly) h.led e;
   own_side = side;
   peer_side = h.peer_side;
+  known = knows-as role so sa h.x b h.lx h.y h.ly same h.known;
 }
 
 -- ---- what arrives
 
--- a frame is spelled by octets that were written with one check and are judged by another alike
-spells-by : FrameLaws → (written check : Check) (role : Role) (frame : Frame) (whole : List ℕ) → IsFrame frame
-    → whole ≡ checked written role 0 frame → check_heard written whole ≡ check_heard check whole
-    → SpellsFrame check role 0 whole frame
-spells-by laws written check role frame whole is e same =
-    let s : SpellsFrame written role 0 whole frame =
-    subst (λ (v : List ℕ). SpellsFrame written role 0 v frame) (sym e) (laws.exists written frame role 0 is) in
-    record {
-      octets = s.octets;
-      passes = subst (λ (c : Check). IsChecked c s.octets whole) same s.passes;
-      spelling = s.spelling;
-    }
+-- two ends that have one check for a frame write it alike
+same-octets : (written check : Check) (role : Role) (frame : Frame) → (has_number frame ≡ true → written ≡ check)
+    → checked written role 0 frame ≡ checked check role 0 frame
+same-octets written check role frame h = ap (λ (c : Check). with_check c (spelled frame role 0)) (go (has_number frame) h)
+  where
+    go : (b : Bool) → (b ≡ true → written ≡ check) → cond b written Sixteen ≡ cond b check Sixteen
+    go true h = h refl
+    go false h = refl
 
-octets-heard : FrameLaws → (check : Check) (role : Role) (frame : Frame) (whole : List ℕ) (carried : Carried) (arrived : Arrived)
+octets-heard : HistoryLaws → (check : Check) (role : Role) (frame : Frame) (whole : List ℕ) (carried : Carried) (arrived : Arrived)
     → SpellsFrame check role 0 whole frame → CarriesTold (told.Octets whole) carried → Arrives check role carried arrived
     → arrived ≡ arrivals.Frame frame
 octets-heard laws check role frame whole (loads.Octets lent) arrived s c h = go arrived h
@@ -363,24 +392,33 @@ octets-heard laws check role frame whole (loads.Octets lent) arrived s c h = go 
 octets-heard laws check role frame whole loads.Nothing arrived s c h = absurd c
 octets-heard laws check role frame whole (loads.Pattern pattern) arrived s c h = absurd c
 
--- what was said arrives as what was sent
-told-arrives : FrameLaws → (written check : Check) (role : Role) (sent : Sent) (carried : Carried) (arrived : Arrived) → IsSendable sent
-    → CarriesTold (told_as written role sent) carried → AreJudgedAlike written check (told_as written role sent)
-    → Arrives check role carried arrived → arrived ≡ arrives sent
-told-arrives laws written check role slots.Mark carried arrived can c j h = subst (λ (v : Carried). Arrives check role v arrived) c h
-told-arrives laws written check role slots.Flags carried arrived can c j h = subst (λ (v : Carried). Arrives check role v arrived) c h
-told-arrives laws written check role slots.Odp carried arrived can c j h = subst (λ (v : Carried). Arrives check role v arrived) c h
-told-arrives laws written check role slots.Adp carried arrived can c j h = subst (λ (v : Carried). Arrives check role v arrived) c h
-told-arrives laws written check role (slots.Frame frame) carried arrived can c j h =
+-- what was said arrives as what was sent, where its frame has one check at both ends
+told-arrives : HistoryLaws → (written check : Check) (role : Role) (sent : Sent) (carried : Carried) (arrived : Arrived) → IsSendable sent
+    → OnSent (λ frame. has_number frame ≡ true → written ≡ check) sent
+    → CarriesTold (told_as written role sent) carried → Arrives check role carried arrived → arrived ≡ arrives sent
+told-arrives laws written check role slots.Mark carried arrived can j c h = subst (λ (v : Carried). Arrives check role v arrived) c h
+told-arrives laws written check role slots.Flags carried arrived can j c h = subst (λ (v : Carried). Arrives check role v arrived) c h
+told-arrives laws written check role slots.Odp carried arrived can j c h = subst (λ (v : Carried). Arrives check role v arrived) c h
+told-arrives laws written check role slots.Adp carried arrived can j c h = subst (λ (v : Carried). Arrives check role v arrived) c h
+told-arrives laws written check role (slots.Frame frame) carried arrived can j c h =
     octets-heard laws check role frame (checked written role 0 frame) carried arrived
-    (spells-by laws written check role frame (checked written role 0 frame) can.0 refl j) c h
+    (subst (λ (v : List ℕ). SpellsFrame check role 0 v frame) (sym (same-octets written check role frame j))
+    (laws.exists check frame role 0 can.0)) c h
 
-arrives-as-sent : FrameLaws → (check : Check) (role : Role) (sent : Sent) (said : Utterance) (carried : Carried) (arrived : Arrived)
-    → IsToldAs role sent said → CarriesTold said.told carried → AreJudgedAlike said.check check said.told
+both-checks : (one other check : Check) (sent : Sent) → OnSent (λ frame. has_number frame ≡ true → one ≡ check) sent
+    → OnSent (λ frame. has_number frame ≡ true → other ≡ check) sent → OnSent (λ frame. has_number frame ≡ true → one ≡ other) sent
+both-checks one other check slots.Mark h k = tt
+both-checks one other check slots.Odp h k = tt
+both-checks one other check slots.Adp h k = tt
+both-checks one other check slots.Flags h k = tt
+both-checks one other check (slots.Frame frame) h k = λ n. h n ∙ sym (k n)
+
+arrives-as-sent : HistoryLaws → (agreed check : Check) (role : Role) (sent : Sent) (said : Told) (carried : Carried) (arrived : Arrived)
+    → IsToldAs agreed role sent said → OnSent (λ frame. has_number frame ≡ true → check ≡ agreed) sent → CarriesTold said carried
     → Arrives check role carried arrived → arrived ≡ arrives sent
-arrives-as-sent laws check role sent said carried arrived is c j h =
-    told-arrives laws said.check check role sent carried arrived is.1 (subst (λ (t : Told). CarriesTold t carried) is.0 c)
-    (subst (λ (t : Told). AreJudgedAlike said.check check t) is.0 j) h
+arrives-as-sent laws agreed check role sent said carried arrived is j c h =
+    told-arrives laws is.written check role sent carried arrived is.can (both-checks is.written check agreed sent is.numbered j)
+    (subst (λ (t : Told). CarriesTold t carried) is.told_is c) h
 
 -- ---- moves
 
@@ -396,16 +434,16 @@ has-heard (Ok b) a link given h = record { account = b; becomes_is = refl; stand
 has-heard (Err fault) a link given h = absurd h
 
 -- an end that has heard this, by the account that it came to
-heard-side : KeepsTaken → (role : Role) (turn : ℕ) (arrived : Arrived) (x b : Account) (slots : List Slot) (old new : EndSide)
-    → IsSide role x slots old → hear turn arrived x ≡ Ok b → new ≡ record old { end = new.end } → new.end.role ≡ old.end.role
-    → StandsFor new.end.link (after_given b) → IsSide role (after_given b) slots new
-heard-side keeps role turn arrived x b slots old new h e is role_is stands =
-    side-of role (after_given b) slots new (record old { end = new.end }) is stands (role_is ∙ h.role_is) h.line
-    (book-grows old.offered old.delivered x b (grows-heard keeps turn arrived x b e) h.book)
+heard-side : HistoryLaws → (check : Check) (role : Role) (turn : ℕ) (arrived : Arrived) (x b : Account) (slots : List Slot) (old new : EndSide)
+    → IsSide check role x slots old → hear turn arrived x ≡ Ok b → new ≡ record old { end = new.end } → new.end.role ≡ old.end.role
+    → StandsFor new.end.link (after_given b) → IsSide check role (after_given b) slots new
+heard-side laws check role turn arrived x b slots old new h e is role_is stands =
+    side-of check role (after_given b) slots new (record old { end = new.end }) is stands (role_is ∙ h.role_is) h.line
+    (book-grows old.offered old.delivered x b (grows-heard laws.keeps turn arrived x b e) h.book)
 
-hears-step : KeepsTaken → (so sa : Setup) (role : Role) (own peer new : EndSide) → LastsAt so sa role own peer
+hears-step : HistoryLaws → (so sa : Setup) → Reads so sa → (role : Role) (own peer new : EndSide) → LastsAt so sa role own peer
     → HearsOf loads.Nothing own new → LastsAt so sa role new peer
-hears-step keeps so sa role own peer new h m =
+hears-step laws so sa reads role own peer new h m =
     let turn : ℕ = own.end.state.turn in
     let k = m.hears.hears h.x h.own_side.stands in
     let heard = has-heard (hear turn k.arrived h.x) h.x new.end.link m.given k.becomes in
@@ -420,8 +458,11 @@ hears-step keeps so sa role own peer new h m =
       led = led-on so sa (h.events ++ plays.Hears_nothing role turn ∷ []) (plays.Gives_break role) _ _
           (led-on so sa h.events (plays.Hears_nothing role turn) _ _ h.led (hears-event role turn h.x heard.account h.y h.lx h.ly is))
           (gives-event role heard.account h.y h.lx h.ly);
-      own_side = heard-side keeps role turn arrivals.Nothing h.x heard.account h.lx own new h.own_side is m.new_is m.hears.role_is heard.stands;
+      own_side = heard-side laws (agreed_check so sa) role turn arrivals.Nothing h.x heard.account h.lx own new h.own_side is m.new_is
+          m.hears.role_is heard.stands;
       peer_side = h.peer_side;
+      known = knows-as role so sa heard.account (after_given heard.account) h.lx h.y h.ly refl
+          (knows-heard role so sa reads h.x heard.account h.lx h.y h.ly turn arrivals.Nothing (nothing-arrives role so sa h.x h.y) is h.known);
     }
 
 gives-at-peer : (role : Role) (x y : Account) (lx ly : List Slot)
@@ -430,25 +471,28 @@ gives-at-peer Originator x y lx ly = refl
 gives-at-peer Answerer x y lx ly = refl
 
 -- an end whose oldest utterance is gone
-shorter-side : (role : Role) (x : Account) (slots left : List Slot) (old new : EndSide) (rest : List Utterance) → IsSide role x slots old
-    → new ≡ record old { line = rest } → AllTold role left rest → IsSide role x left new
-shorter-side role x slots left old new rest h is t =
-    side-of role x left new (record old { line = rest }) is
+shorter-side : (check : Check) (role : Role) (x : Account) (slots left : List Slot) (old new : EndSide) (rest : List Told) → IsSide check role x slots old
+    → new ≡ record old { line = rest } → AllTold check role left rest → IsSide check role x left new
+shorter-side check role x slots left old new rest h is t =
+    side-of check role x left new (record old { line = rest }) is
     (subst (λ (s : EndSide). StandsFor s.end.link x) (sym is) h.stands) (ap (λ (s : EndSide). s.end.role) is ∙ h.role_is) t h.book
 
-passes-step : FrameLaws → KeepsTaken → (so sa : Setup) (role : Role) (own peer new after : EndSide) → LastsAt so sa role own peer
+passes-step : HistoryLaws → (so sa : Setup) → Reads so sa → (role : Role) (own peer new after : EndSide) → LastsAt so sa role own peer
     → PassesOf own peer new after → LastsAt so sa role new after
-passes-step laws keeps so sa role own peer new after h m =
-    go h.lx refl (subst (AllTold role h.lx) m.line_was h.own_side.line)
+passes-step laws so sa reads role own peer new after h m =
+    go h.lx refl (subst (AllTold (agreed_check so sa) role h.lx) m.line_was h.own_side.line)
   where
-    go : (slots : List Slot) → h.lx ≡ slots → AllTold role slots (m.said ∷ m.rest) → LastsAt so sa role new after
+    go : (slots : List Slot) → h.lx ≡ slots → AllTold (agreed_check so sa) role slots (m.said ∷ m.rest) → LastsAt so sa role new after
     go [] e t = absurd t
     go (slot ∷ left) e t =
+        let known : KnowsAt role so sa h.x (slot ∷ left) h.y h.ly =
+        subst (λ (l : List Slot). KnowsAt role so sa h.x l h.y h.ly) e h.known in
         let turn : ℕ = peer.end.state.turn in
         let k = m.hears.hears.hears h.y h.peer_side.stands in
         let from : other peer.end.role ≡ role = ap other h.peer_side.role_is ∙ other-other role in
         let arrived : k.arrived ≡ arrives slot.sent =
-        arrives-as-sent laws (check_of h.y) role slot.sent m.said m.carried k.arrived t.0 m.carries (m.judged h.y h.peer_side.stands)
+        arrives-as-sent laws (agreed_check so sa) (check_of h.y) role slot.sent m.said m.carried k.arrived t.0
+        (check-heard role so sa h.x slot left h.y h.ly known) m.carries
         (subst (λ (r : Role). Arrives (check_of h.y) r m.carried k.arrived) from k.arrives) in
         let heard = has-heard (hear turn k.arrived h.y) h.y after.end.link m.hears.given k.becomes in
         let is : hear turn (arrives slot.sent) h.y ≡ Ok heard.account =
@@ -463,16 +507,22 @@ passes-step laws keeps so sa role own peer new after h m =
               (led-on so sa h.events (plays.Passes role turn) (at role h.x (slot ∷ left) h.y h.ly) _
               (h.led ∙ ap (λ (l : List Slot). at role h.x l h.y h.ly) e) (passes-event role turn h.x h.y heard.account slot left h.ly is))
               (gives-at-peer role h.x heard.account left h.ly);
-          own_side = shorter-side role h.x h.lx left own new m.rest h.own_side m.new_is t.1;
-          peer_side = heard-side keeps (other role) turn (arrives slot.sent) h.y heard.account h.ly peer after h.peer_side is m.hears.new_is
+          own_side = shorter-side (agreed_check so sa) role h.x h.lx left own new m.rest h.own_side m.new_is t.1;
+          peer_side = heard-side laws (agreed_check so sa) (other role) turn (arrives slot.sent) h.y heard.account h.ly peer after h.peer_side is m.hears.new_is
               m.hears.hears.role_is heard.stands;
+          known = subst (λ (r : Role). KnowsAt r so sa h.x left (after_given heard.account) h.ly) (other-other role)
+              (knows-turned (other role) so sa (after_given heard.account) h.ly h.x left
+              (knows-as (other role) so sa heard.account (after_given heard.account) h.ly h.x left refl
+              (knows-heard (other role) so sa reads h.y heard.account h.ly h.x left turn (arrives slot.sent)
+              (first-arrives role so sa h.x slot left h.y h.ly known) is
+              (knows-turned role so sa h.x left h.y h.ly (knows-less role so sa h.x slot left h.y h.ly known)))));
         }
 
 loses-step : (so sa : Setup) (role : Role) (own peer new : EndSide) → LastsAt so sa role own peer → LosesOf own new
     → LastsAt so sa role new peer
-loses-step so sa role own peer new h m = go h.lx refl (subst (AllTold role h.lx) m.line_was h.own_side.line)
+loses-step so sa role own peer new h m = go h.lx refl (subst (AllTold (agreed_check so sa) role h.lx) m.line_was h.own_side.line)
   where
-    go : (slots : List Slot) → h.lx ≡ slots → AllTold role slots (m.said ∷ m.rest) → LastsAt so sa role new peer
+    go : (slots : List Slot) → h.lx ≡ slots → AllTold (agreed_check so sa) role slots (m.said ∷ m.rest) → LastsAt so sa role new peer
     go [] e t = absurd t
     go (slot ∷ left) e t = record {
       x = h.x;
@@ -482,22 +532,22 @@ loses-step so sa role own peer new h m = go h.lx refl (subst (AllTold role h.lx)
       events = h.events ++ plays.Is_lost role ∷ [];
       led = led-on so sa h.events (plays.Is_lost role) (at role h.x (slot ∷ left) h.y h.ly) _
           (h.led ∙ ap (λ (l : List Slot). at role h.x l h.y h.ly) e) (loses-event role h.x h.y slot left h.ly);
-      own_side = shorter-side role h.x h.lx left own new m.rest h.own_side m.new_is t.1;
+      own_side = shorter-side (agreed_check so sa) role h.x h.lx left own new m.rest h.own_side m.new_is t.1;
       peer_side = h.peer_side;
+      known = knows-less role so sa h.x slot left h.y h.ly (subst (λ (l : List Slot). KnowsAt role so sa h.x l h.y h.ly) e h.known);
     }
 
-speaks-step : (so sa : Setup) (role : Role) (release : Bool) (own peer new : EndSide) → LastsAt so sa role own peer → SpeaksOf release own new
+speaks-step : (so sa : Setup) → Reads so sa → (role : Role) (release : Bool) (own peer new : EndSide) → LastsAt so sa role own peer → SpeaksOf release own new
     → LastsAt so sa role new peer
-speaks-step so sa role release own peer new h m =
+speaks-step so sa reads role release own peer new h m =
     go (speak own.end.state.turn release h.x) refl (m.speaks.says h.x h.own_side.stands)
   where
     go : (r : Result Said LinkFault) → speak own.end.state.turn release h.x ≡ r
-        → SaysAs r own.end.role h.x new.end.link (Ok m.said.told) → LastsAt so sa role new peer
+        → SaysAs r own.end.role h.x new.end.link (Ok m.said) → LastsAt so sa role new peer
     go (Err fault) e s = absurd s
     go (Ok said) e s =
-        let told_is : m.said.told ≡ told_as m.said.check role said.sent =
-        subst (λ (c : Check). m.said.told ≡ told_as c role said.sent) (sym (m.check_is said.account s.2))
-        (subst (λ (r : Role). m.said.told ≡ told_as (check_of said.account) r said.sent) h.own_side.role_is s.0) in
+        let told_is : m.said ≡ told_as (check_of said.account) role said.sent =
+        subst (λ (r : Role). m.said ≡ told_as (check_of said.account) r said.sent) h.own_side.role_is s.0 in
         record {
           x = said.account;
           lx = h.lx ++ slot_of h.x said ∷ [];
@@ -506,11 +556,17 @@ speaks-step so sa role release own peer new h m =
           events = h.events ++ plays.Speaks role own.end.state.turn release ∷ [];
           led = led-on so sa h.events (plays.Speaks role own.end.state.turn release) _ _ h.led
               (speaks-event role own.end.state.turn release h.x h.y h.lx h.ly said e);
-          own_side = side-of role said.account (h.lx ++ slot_of h.x said ∷ []) new
+          own_side = side-of (agreed_check so sa) role said.account (h.lx ++ slot_of h.x said ∷ []) new
               (record own { end = new.end; line = own.line ++ m.said ∷ [] }) m.new_is s.2 (m.speaks.role_is ∙ h.own_side.role_is)
-              (told-snoc role h.lx own.line (slot_of h.x said) m.said h.own_side.line (told_is, s.1))
+              (told-snoc (agreed_check so sa) role h.lx own.line (slot_of h.x said) m.said h.own_side.line (record {
+                written = check_of said.account;
+                told_is = told_is;
+                can = s.1;
+                numbered = check-sent role so sa h.x h.lx h.y h.ly own.end.state.turn release said e h.known;
+              }))
               (subst (IsBook own.offered own.delivered) (sym (kept-spoken own.end.state.turn release h.x said e)) h.own_side.book);
           peer_side = h.peer_side;
+          known = knows-spoken role so sa reads h.x h.lx h.y h.ly own.end.state.turn release said (slot_of h.x said) refl e h.known;
         }
 
 -- the own end is as it was
@@ -523,19 +579,20 @@ stays so sa role own peer new h e is = record {
   ly = h.ly;
   events = h.events;
   led = h.led;
-  own_side = side-of role h.x h.lx new (record own { end = new.end }) is
+  own_side = side-of (agreed_check so sa) role h.x h.lx new (record own { end = new.end }) is
       (subst (λ (v : Endpoint). StandsFor v.link h.x) (sym e) h.own_side.stands)
       (ap (λ (v : Endpoint). v.role) e ∙ h.own_side.role_is) h.own_side.line h.own_side.book;
   peer_side = h.peer_side;
+  known = h.known;
 }
 
 -- its account changes, and none of its segments
 alters : (so sa : Setup) (role : Role) (own peer new : EndSide) (h : LastsAt so sa role own peer) (event : Event) (b : Account)
-    → happens event (at role h.x h.lx h.y h.ly) ≡ at role b h.lx h.y h.ly → lists b ≡ lists h.x → StandsFor new.end.link b
+    → happens event (at role h.x h.lx h.y h.ly) ≡ at role b h.lx h.y h.ly → lists b ≡ lists h.x → face b ≡ face h.x → StandsFor new.end.link b
     → new.end.role ≡ own.end.role → new ≡ record own { end = new.end } → LastsAt so sa role new peer
-alters so sa role own peer new h event b e same stands role_is is =
-    changes so sa role own peer new h event b e
-    (side-of role b h.lx new (record own { end = new.end }) is stands (role_is ∙ h.own_side.role_is) h.own_side.line
+alters so sa role own peer new h event b e same shown stands role_is is =
+    changes so sa role own peer new h event b e shown
+    (side-of (agreed_check so sa) role b h.lx new (record own { end = new.end }) is stands (role_is ∙ h.own_side.role_is) h.own_side.line
     (subst (IsBook own.offered own.delivered) (sym same) h.own_side.book))
 
 offered-step : (so sa : Setup) (role : Role) (piece : List ℕ) (own peer new : EndSide) → LastsAt so sa role own peer
@@ -547,8 +604,8 @@ offered-step so sa role piece own peer new h m = go m.taken refl m.offers.accoun
     go true e k is =
         let wanted = taken-wanted (length piece) (piece_size h.x) (wants h.x) (sym e ∙ m.offers.answer h.x h.own_side.stands) in
         changes so sa role own peer new h (plays.Is_offered role piece) (after_offer piece h.x)
-        (offered-event role piece h.x h.y h.lx h.ly wanted)
-        (side-of role (after_offer piece h.x) h.lx new (record own { end = new.end; offered = with_offered true piece own.offered }) is
+        (offered-event role piece h.x h.y h.lx h.ly wanted) refl
+        (side-of (agreed_check so sa) role (after_offer piece h.x) h.lx new (record own { end = new.end; offered = with_offered true piece own.offered }) is
         (k h.x h.own_side.stands) (m.offers.same.role_is ∙ h.own_side.role_is) h.own_side.line
         (book-offered own.offered own.delivered h.x piece (wants-begun h.x (nat_le (length piece) (piece_size h.x)) wanted) h.own_side.book))
     go false e k is = stays so sa role own peer new h k is
@@ -556,8 +613,8 @@ offered-step so sa role piece own peer new h m = go m.taken refl m.offers.accoun
 delivered-step : (so sa : Setup) (role : Role) (own peer new : EndSide) → LastsAt so sa role own peer → DeliveredOf own new
     → LastsAt so sa role new peer
 delivered-step so sa role own peer new h m =
-    changes so sa role own peer new h (plays.Delivers role) (after_delivery h.x) (delivers-event role h.x h.y h.lx h.ly)
-    (side-of role (after_delivery h.x) h.lx new (record own { end = new.end; delivered = with_delivered m.segment own.delivered }) m.new_is
+    changes so sa role own peer new h (plays.Delivers role) (after_delivery h.x) (delivers-event role h.x h.y h.lx h.ly) (given-face h.x)
+    (side-of (agreed_check so sa) role (after_delivery h.x) h.lx new (record own { end = new.end; delivered = with_delivered m.segment own.delivered }) m.new_is
     (m.delivers.account h.x h.own_side.stands) (m.delivers.role_is ∙ h.own_side.role_is) h.own_side.line
     (book-given own.offered own.delivered h.x m.segment (m.delivers.next h.x h.own_side.stands) h.own_side.book))
 
@@ -568,32 +625,32 @@ asked-step so sa role units own peer new h m = go m.answer m.answers
     go : (answer : BreakAsked) → AnswersBreak own.end units new.end answer → LastsAt so sa role new peer
     go asked.Taken k =
         alters so sa role own peer new h (plays.Is_asked role own.end.state.turn units) (after_break_asked own.end.state.turn units h.x)
-        (asked-event role own.end.state.turn units h.x h.y h.lx h.ly) (asked-lists own.end.state.turn units h.x)
+        (asked-event role own.end.state.turn units h.x h.y h.lx h.ly) (asked-lists own.end.state.turn units h.x) (asked-face own.end.state.turn units h.x)
         (k.account h.x h.own_side.stands) k.same.role_is m.new_is
     go asked.Refused k =
         alters so sa role own peer new h (plays.Is_asked role own.end.state.turn units) (after_break_asked own.end.state.turn units h.x)
-        (asked-event role own.end.state.turn units h.x h.y h.lx h.ly) (asked-lists own.end.state.turn units h.x)
+        (asked-event role own.end.state.turn units h.x h.y h.lx h.ly) (asked-lists own.end.state.turn units h.x) (asked-face own.end.state.turn units h.x)
         (k.account h.x h.own_side.stands) k.same.role_is m.new_is
     go asked.Late k = stays so sa role own peer new h k.1 m.new_is
 
-made-at : FrameLaws → KeepsTaken → (so sa : Setup) (role : Role) (move : Move) (own peer new after : EndSide) → LastsAt so sa role own peer
+made-at : HistoryLaws → (so sa : Setup) → Reads so sa → (role : Role) (move : Move) (own peer new after : EndSide) → LastsAt so sa role own peer
     → IsMade move own peer new after → LastsAt so sa role new after
-made-at laws keeps so sa role Passes own peer new after h m = passes-step laws keeps so sa role own peer new after h m
-made-at laws keeps so sa role (Speaks release) own peer new after h m =
-    subst (LastsAt so sa role new) (sym m.1) (speaks-step so sa role release own peer new h m.0)
-made-at laws keeps so sa role Is_lost own peer new after h m =
+made-at laws so sa reads role Passes own peer new after h m = passes-step laws so sa reads role own peer new after h m
+made-at laws so sa reads role (Speaks release) own peer new after h m =
+    subst (LastsAt so sa role new) (sym m.1) (speaks-step so sa reads role release own peer new h m.0)
+made-at laws so sa reads role Is_lost own peer new after h m =
     subst (LastsAt so sa role new) (sym m.1) (loses-step so sa role own peer new h m.0)
-made-at laws keeps so sa role Hears_nothing own peer new after h m =
-    subst (LastsAt so sa role new) (sym m.1) (hears-step keeps so sa role own peer new h m.0)
-made-at laws keeps so sa role (Is_offered piece) own peer new after h m =
+made-at laws so sa reads role Hears_nothing own peer new after h m =
+    subst (LastsAt so sa role new) (sym m.1) (hears-step laws so sa reads role own peer new h m.0)
+made-at laws so sa reads role (Is_offered piece) own peer new after h m =
     subst (LastsAt so sa role new) (sym m.1) (offered-step so sa role piece own peer new h m.0)
-made-at laws keeps so sa role (Is_asked units) own peer new after h m =
+made-at laws so sa reads role (Is_asked units) own peer new after h m =
     subst (LastsAt so sa role new) (sym m.1) (asked-step so sa role units own peer new h m.0)
-made-at laws keeps so sa role Is_delivered own peer new after h m =
+made-at laws so sa reads role Is_delivered own peer new after h m =
     subst (LastsAt so sa role new) (sym m.1) (delivered-step so sa role own peer new h m.0)
-made-at laws keeps so sa role (Is_busy busy) own peer new after h m =
+made-at laws so sa reads role (Is_busy busy) own peer new after h m =
     subst (LastsAt so sa role new) (sym m.1) (alters so sa role own peer new h (plays.Is_busy role busy) (after_busy busy h.x)
-    (busy-event role busy h.x h.y h.lx h.ly) (busy-lists busy h.x) (m.0.told.account h.x h.own_side.stands) m.0.told.same.role_is m.0.new_is)
+    (busy-event role busy h.x h.y h.lx h.ly) (busy-lists busy h.x) (busy-face busy h.x) (m.0.told.account h.x h.own_side.stands) m.0.told.same.role_is m.0.new_is)
 
 -- ---- histories
 
@@ -604,33 +661,42 @@ from-role so sa ends Answerer Answerer h = h
 from-role so sa ends Originator Answerer h = turned so sa Originator ends.orig ends.answ h
 from-role so sa ends Answerer Originator h = turned so sa Answerer ends.answ ends.orig h
 
-new-side : (role : Role) (setup : Setup) (side : EndSide) → setup.role ≡ role → Begins setup side → IsSide role (fresh setup) [] side
-new-side role setup side e b = record {
+new-side : (check : Check) (role : Role) (setup : Setup) (side : EndSide) → setup.role ≡ role → Begins setup side → IsSide check role (fresh setup) [] side
+new-side check role setup side e b = record {
   stands = b.is_new.stands;
   role_is = b.is_new.role_is ∙ e;
-  line = subst (AllTold role []) (sym b.line_is) tt;
+  line = subst (AllTold check role []) (sym b.line_is) tt;
   book = record { pieces_are = b.offered_is; given_are = b.delivered_is; within = omega arith; blank = λ z. (refl, refl) };
 }
 
-lasts : FrameLaws → KeepsTaken → (so sa : Setup) (steps : List Step) (ends : Both EndSide) → MayPlay so sa → History so sa steps ends
+reads-both : HistoryLaws → (so sa : Setup) → MayPlay so sa → Reads so sa
+reads-both laws so sa m = record {
+  originates = m.originates;
+  answers = m.answers;
+  orig = laws.written so.offer m.offer_o;
+  answ = laws.written sa.offer m.offer_a;
+}
+
+lasts : HistoryLaws → (so sa : Setup) (steps : List Step) (ends : Both EndSide) → MayPlay so sa → History so sa steps ends
     → (role : Role) → LastsAt so sa role (of role ends) (of (other role) ends)
-lasts laws keeps so sa [] ends m h role = from-role so sa ends Originator role (record {
+lasts laws so sa [] ends m h role = from-role so sa ends Originator role (record {
   x = fresh so;
   lx = [];
   y = fresh sa;
   ly = [];
   events = [];
   led = refl;
-  own_side = new-side Originator so ends.orig m.originates h.0;
-  peer_side = new-side Answerer sa ends.answ m.answers h.1;
+  own_side = new-side (agreed_check so sa) Originator so ends.orig m.originates h.0;
+  peer_side = new-side (agreed_check so sa) Answerer sa ends.answ m.answers h.1;
+  known = knows-first so sa;
 })
-lasts laws keeps so sa (step ∷ steps) ends m h role =
-    from-role so sa ends step.role role (made-at laws keeps so sa step.role step.move (of step.role h.0) (of (other step.role) h.0)
-    (of step.role ends) (of (other step.role) ends) (lasts laws keeps so sa steps h.0 m h.1 step.role) h.2)
+lasts laws so sa (step ∷ steps) ends m h role =
+    from-role so sa ends step.role role (made-at laws so sa (reads-both laws so sa m) step.role step.move (of step.role h.0) (of (other step.role) h.0)
+    (of step.role ends) (of (other step.role) ends) (lasts laws so sa steps h.0 m h.1 step.role) h.2)
 
-pub histories_are_plays : FrameLaws → KeepsTaken → HistoriesArePlays
-histories_are_plays laws keeps so sa steps ends m h =
-    let l = lasts laws keeps so sa steps ends m h Originator in
+pub histories_are_plays : HistoryLaws → HistoriesArePlays
+histories_are_plays laws so sa steps ends m h =
+    let l = lasts laws so sa steps ends m h Originator in
     record { events = l.events; stand = stand l }
   where
     stand : (l : LastsAt so sa Originator ends.orig ends.answ) (role : Role)
@@ -649,8 +715,8 @@ given-begins n taken pieces delivered offered d o (rest, e) = (
       ∙ ap (λ (l : List (List ℕ)). l ++ rest) (take-append-drop n taken) ∙ e ∙ sym o,
 )
 
-pub histories_keep_prefixes : FrameLaws → KeepsTaken → TakesInOrder → HistoriesKeepPrefixes
-histories_keep_prefixes laws keeps in_order so sa steps ends m h role = go role (lasts laws keeps so sa steps ends m h role)
+pub histories_keep_prefixes : HistoryLaws → TakesInOrder → HistoriesKeepPrefixes
+histories_keep_prefixes laws in_order so sa steps ends m h role = go role (lasts laws so sa steps ends m h role)
   where
     begins : (role : Role) (own peer : EndSide) (l : LastsAt so sa role own peer) → IsPrefixOf l.x.incoming.taken l.y.outgoing.pieces
         → IsPrefixOf own.delivered peer.offered

@@ -1,7 +1,6 @@
 -- What hearing and speaking make of the segments of an account: those offered, those taken, and how many are given.
 use Rattle.std.proofs.Common.{◌≡◌, ◌∙◌, ◌⊎◌, inl, inr, ℕ, ◌+◌, ◌-◌, ◌*◌, ◌&&◌, ◌||◌, Bool, true, false, cond, nat_eq, nat_le, List, [], ◌∷◌, ◌++◌, refl, sym, ap, subst, Option, Some, None, Result, Ok, Err}
 use Rattle.std.specs.Option.{option_map}
-use Rattle.std.proofs.lemmas.Bool.{false≢true}
 use Rattle.std.proofs.lemmas.List.{append-nil}
 use Rattle.shared_terms.specs.declared.role.Role.{Role}
 use Rattle.shared_terms.specs.declared.role.Role.TheVariants.{Originator, Answerer}
@@ -17,7 +16,7 @@ use Rattle.xid_params.specs.declared.offer.Offer.{Offer}
 use Rattle.xid_params.specs.Offers.{offer_in, written}
 use Rattle.lapm_sender.specs.Meant.{meant}
 use Rattle.lapm_sender.specs.Numbers.{with_number}
-use Rattle.lapm_sender.specs.Outgoing.{Outgoing, acknowledged, rejected, replied, selected, advanced, gone_back, wait_ended, is_outstanding, after_next, sent_among, expired, paused_at, resumed}
+use Rattle.lapm_sender.specs.Outgoing.{Outgoing, acknowledged, rejected, replied, selected, advanced, gone_back, wait_ended, is_outstanding, sent_among, paused_at, resumed}
 use Rattle.lapm_receiver.specs.Incoming.{Incoming, after_take, after_kind, kind_of, offset, KeepsTaken, asks, after_asked}
 use Rattle.lapm_receiver.specs.declared.took.Took.{Took}
 use Rattle.lapm_receiver.specs.declared.took.Took.TheVariants.{InOrder, Kept, Repeat, Gap}
@@ -34,7 +33,7 @@ use Rattle.link_account.specs.declared.answer.Answer.{Answer}
 use Rattle.link_account.specs.declared.answer.Answer.TheVariants as answers
 use Rattle.link_account.specs.Account.{Account}
 use Rattle.link_account.specs.Laws.{has_begun}
-use Rattle.link_account.specs.Hear.{hear, on_frame, on_seen, on_pattern, on_detecting, on_negotiating, on_establishing, on_connected, on_releasing, on_closed, on_nothing, on_xid_command, on_xid_response, connected, on_number, on_sabme, on_disc, on_word, then_in, taking, replying, hurrying, ends_wait, owing, trying, timer_after, peer_reset, pausing}
+use Rattle.link_account.specs.Hear.{hear, on_frame, on_seen, on_pattern, on_detecting, on_negotiating, on_establishing, on_connected, on_releasing, on_closed, on_nothing, on_xid_command, on_xid_response, on_number, on_sabme, on_disc, on_word, then_in, taking, replying, hurrying, ends_wait, owing, trying, timer_after, peer_reset, pausing}
 use Rattle.link_account.specs.Speak.{Said, says, says_segment, says_own, says_break, says_asking, where_says, else_says, answering, may_send, step1, step2, step3, step4, step5, step6, step7, step8, steps, speak, speak_in, speak_detecting, speak_negotiating, speak_releasing, speak_linked, speak_answer, u_try, tries_frame, trying_again, spent, on_timer, timer_expires, polling, on_break_timer, breaking, then_tries, after_timers, tells, has_news}
 
 pub record Lists : Type 0 where

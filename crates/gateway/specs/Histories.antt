@@ -1,13 +1,10 @@
 -- Two ends by the calls that are made of them, over a line that may lose whatever is said.
 use Rattle.std.specs.Prelude.{◌≡◌, ℕ, Bool, true, false, List, [], ◌∷◌, ◌++◌, Option, Some, None, Ok}
-use Rattle.frame_check.specs.declared.check.Check.{Check}
 use Rattle.shared_terms.specs.declared.role.Role.{Role}
 use Rattle.shared_terms.specs.Role.{other}
 use Rattle.shared_terms.specs.Both.{Both, of}
 use Rattle.plain_lists.specs.Prefix.{IsPrefixOf}
-use Rattle.lapm_frames.specs.Checked.{check_heard}
 use Rattle.link_account.specs.declared.setup.Setup.{Setup}
-use Rattle.link_account.specs.Account.{Account, check_of}
 use Rattle.link_account.specs.Play.{Event, seen_from}
 use Rattle.link_account.specs.Laws.{MayPlay, played}
 use Rattle.lapm_link.specs.Stands.{StandsFor}
@@ -19,15 +16,10 @@ use Rattle.gateway.specs.declared.link.Endpoint.{Endpoint}
 use Rattle.gateway.specs.declared.link.BreakAsked.{BreakAsked}
 use Rattle.gateway.specs.Endpoints.{IsNew, HearsTurn, Delivers, Offers, IsToldBusy, AnswersBreak, SpeaksTurn}
 
--- what an end said in a turn, and which check it answered behind it
-pub record Utterance : Type 0 where
-  pub told : Told
-  pub check : Check
-
 -- an end, what it said that hasn't arrived, the oldest first, the pieces that it took from its user, and the segments that it gave its user
 pub record EndSide : Type 0 where
   pub end : Endpoint
-  pub line : List Utterance
+  pub line : List Told
   pub offered : List (List ℕ)
   pub delivered : List (List ℕ)
 
@@ -51,13 +43,6 @@ CarriesTold (told.Octets whole) (loads.Octets lent) = lent.now ≡ whole
 CarriesTold (told.Octets whole) loads.Nothing = ⊥
 CarriesTold (told.Octets whole) (loads.Pattern pattern) = ⊥
 
--- ends of these two checks judge this alike: a frame with numbers is heard by the check that it was written with
-abbrev pub AreJudgedAlike : Check → Check → Told → Type 0
-AreJudgedAlike written heard (told.Octets whole) = check_heard written whole ≡ check_heard heard whole
-AreJudgedAlike written heard told.Mark = Unit {0}
-AreJudgedAlike written heard told.Flags = Unit {0}
-AreJudgedAlike written heard (told.Pattern pattern) = Unit {0}
-
 -- An end hears this.
 pub record HearsOf (carried : Carried) (old new : EndSide) : Type 0 where
   pub given : Option ℕ
@@ -66,27 +51,25 @@ pub record HearsOf (carried : Carried) (old new : EndSide) : Type 0 where
 
 -- It speaks.
 pub record SpeaksOf (release : Bool) (old new : EndSide) : Type 0 where
-  pub said : Utterance
-  pub speaks : SpeaksTurn old.end release new.end (Ok said.told)
-  pub check_is : (a : Account) → StandsFor new.end.link a → said.check ≡ check_of a
+  pub said : Told
+  pub speaks : SpeaksTurn old.end release new.end (Ok said)
   pub new_is : new ≡ record old { end = new.end; line = old.line ++ said ∷ [] }
 
 -- What it said first is lost.
 pub record LosesOf (old new : EndSide) : Type 0 where
-  pub said : Utterance
-  pub rest : List Utterance
+  pub said : Told
+  pub rest : List Told
   pub line_was : old.line ≡ said ∷ rest
   pub new_is : new ≡ record old { line = rest }
 
 -- It reaches the other end.
 pub record PassesOf (old peer new heard : EndSide) : Type 0 where
-  pub said : Utterance
-  pub rest : List Utterance
+  pub said : Told
+  pub rest : List Told
   pub line_was : old.line ≡ said ∷ rest
   pub new_is : new ≡ record old { line = rest }
   pub carried : Carried
-  pub carries : CarriesTold said.told carried
-  pub judged : (b : Account) → StandsFor peer.end.link b → AreJudgedAlike said.check (check_of b) said.told
+  pub carries : CarriesTold said carried
   pub hears : HearsOf carried peer heard
 
 -- the pieces once one was offered: an empty one is no segment

@@ -5,6 +5,7 @@ ghost use Rattle.gateway.specs.Histories.{HistoriesArePlays, HistoriesKeepPrefix
 use lapm_frames::laws::one_checked;
 use lapm_receiver::laws::keeps_taken;
 use link_account::laws::plays;
+use xid_params::laws::reads_written;
 
 /// Whatever calls are made of two ends and whatever the line loses, they come to where a play of the link comes to, as long as neither breaks. So
 /// the segments that an end gave its user are the pieces that the other took from its own, as far as they go.
@@ -14,5 +15,6 @@ pub fn histories()
 {
     one_checked();
     keeps_taken();
+    reads_written();
     plays();
 }

@@ -1,6 +1,6 @@
 -- What the calls of an end of the link answer.
-use Rattle.std.proofs.Common.{◌≡◌, ◌∙◌, ℕ, ◌+◌, ◌<◌, ◌≤◌, ◌⊎◌, inl, inr, ℤ, to_z, of_z, w32, Bool, true, false, List, ◌++◌, length, drop, Option, Some, None, Result, Ok, Err, refl, sym, ap, subst, arith, length-append}
-use Rattle.std.specs.Prelude.{is_some, IsSomeAnd}
+use Rattle.std.proofs.Common.{◌≡◌, ℕ, ◌≤◌, ◌⊎◌, inl, inr, ℤ, to_z, of_z, w32, Bool, List, length, drop, Option, Some, None, Result, Ok, Err, sym, ap, subst, arith, length-append}
+use Rattle.std.specs.Prelude.{IsSomeAnd}
 use Rattle.link_account.specs.declared.setup.Setup.{Setup}
 use Rattle.lapm_frames.specs.declared.seen.Seen.TheVariants as seen
 use Rattle.lapm_link.specs.Fits.{IsSetUp}

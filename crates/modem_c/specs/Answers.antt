@@ -1,13 +1,13 @@
 -- What a call answers at a handle, and what the handle leads to then.
 use Rattle.std.specs.Prelude.{◌≡◌, ℕ, zero, suc, ℤ, Bool, true, false, Option, Some, None, IsSomeAnd}
 use Rattle.std.specs.Option.{MatchOption}
-use Rattle.modem_c.specs.declared.codes.TheConstants.{EMPTY, WRONG_KIND}
+use Rattle.modem_c.specs.CodeNumbers as codes
 use Rattle.modem_c.specs.declared.machine.Machine.{Machine}
 
 -- the code at a handle that doesn't lead where the call wants it to
 abbrev pub astray : Option Machine → ℤ
-astray None = EMPTY
-astray (Some machine) = WRONG_KIND
+astray None = codes.empty
+astray (Some machine) = codes.wrong_kind
 
 -- A call that wants one kind of machine. At a handle that leads to no such machine it answers `astray`, the handle stays as it is, and so much holds
 -- besides; at any other the handle leads to such a machine before and after it, of which this holds.

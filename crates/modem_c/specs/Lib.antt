@@ -9,5 +9,6 @@ pub mod SignalLaws
 pub mod FrameFields
 pub mod FramesWritten
 pub mod Deframers
+pub mod CodeNumbers
 pub mod Answers
 pub mod Links

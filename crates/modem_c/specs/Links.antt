@@ -20,7 +20,7 @@ use Rattle.gateway.specs.declared.turns.Carried.TheVariants as loads
 use Rattle.gateway.specs.declared.turns.Told.{Told}
 use Rattle.gateway.specs.declared.turns.Told.TheVariants as told
 use Rattle.gateway.specs.Endpoints.{IsNew, HearsTurn, Delivers, Offers, IsToldBusy, AnswersBreak, SpeaksTurn}
-use Rattle.modem_c.specs.declared.codes.TheConstants.{DONE, NOTHING, FULL, BROKEN, NO_MEMORY, BAD_ARGUMENT, ORDER, LATE}
+use Rattle.modem_c.specs.CodeNumbers as codes
 use Rattle.modem_c.specs.declared.link.Offered.{Offered}
 use Rattle.modem_c.specs.declared.link.Broke.{Broke}
 use Rattle.modem_c.specs.declared.link.Said.{Said}
@@ -56,10 +56,10 @@ setup_of o = setup_with o (role_of o.role) (flag_of o.srej) (flag_of o.check32)
 
 -- what the call answers that makes an end of this setup: it is done, no memory is left, or the setup isn't allowed; only the first changes the handle
 abbrev pub AnswersSetup : Option Setup → Option Machine → Option Machine → ℤ → Type 0
-AnswersSetup None old new code = (code ≡ BAD_ARGUMENT) × (new ≡ old)
+AnswersSetup None old new code = (code ≡ codes.bad_argument) × (new ≡ old)
 AnswersSetup (Some setup) old new code =
-    (IsSetUp setup × (((code ≡ DONE) × IsSomeAnd (link_in new) (IsNew setup)) ⊎ ((code ≡ NO_MEMORY) × (new ≡ old))))
-    ⊎ ((IsSetUp setup → ⊥) × (code ≡ BAD_ARGUMENT) × (new ≡ old))
+    (IsSetUp setup × (((code ≡ codes.done) × IsSomeAnd (link_in new) (IsNew setup)) ⊎ ((code ≡ codes.no_memory) × (new ≡ old))))
+    ⊎ ((IsSetUp setup → ⊥) × (code ≡ codes.bad_argument) × (new ≡ old))
 
 -- ---- why a link broke
 
@@ -75,9 +75,9 @@ broke_by faults.PeerRefused = record unbroken { cause = 5 }
 
 -- what hearing and speaking answer: the code, and why the link broke
 abbrev pub code_of : LinkStop → ℤ
-code_of stops.Order = ORDER
-code_of stops.Late = LATE
-code_of (stops.Broken fault) = BROKEN
+code_of stops.Order = codes.order
+code_of stops.Late = codes.late
+code_of (stops.Broken fault) = codes.broken
 
 abbrev pub why_of : LinkStop → Broke
 why_of stops.Order = unbroken
@@ -100,7 +100,7 @@ length_given (Some units) = pos units
 
 -- the code, the length of the break that is given and the reason for which the link broke are those of this answer
 abbrev pub HeardNumbers : Result (Option ℕ) LinkStop → ℤ → ℤ → Broke → Type 0
-HeardNumbers (Ok units) code given why = (code ≡ DONE) × (given ≡ length_given units) × (why ≡ unbroken)
+HeardNumbers (Ok units) code given why = (code ≡ codes.done) × (given ≡ length_given units) × (why ≡ unbroken)
 HeardNumbers (Err stop) code given why = (code ≡ code_of stop) × (given ≡ length_given None) × (why ≡ why_of stop)
 
 -- An end hears what is carried, by the rules of its turns.
@@ -115,7 +115,7 @@ pub record HearsCarried (kind : ℕ) (octets : List ℕ) (old new : Endpoint) (c
 abbrev pub AnswersHearing : ℕ → List ℕ → Endpoint → Endpoint → ℤ → ℤ → Broke → Type 0
 AnswersHearing kind octets old new code given why =
     HearsCarried kind octets old new code given why
-    ⊎ ((3 < kind) × (code ≡ BAD_ARGUMENT) × (new ≡ old) × (given ≡ length_given None) × (why ≡ unbroken))
+    ⊎ ((3 < kind) × (code ≡ codes.bad_argument) × (new ≡ old) × (given ≡ length_given None) × (why ≡ unbroken))
 
 -- ---- between hearing and speaking
 
@@ -125,9 +125,9 @@ room_with octets room = octets ++ drop (length octets) room
 
 -- what delivery answers and writes, where this is the next segment
 abbrev pub DeliveredAs : Option (List ℕ) → List ℕ → List ℕ → ℕ → ℤ → Type 0
-DeliveredAs None before after count code = (code ≡ NOTHING) × (count ≡ 0) × (after ≡ before)
+DeliveredAs None before after count code = (code ≡ codes.nothing) × (count ≡ 0) × (after ≡ before)
 DeliveredAs (Some segment) before after count code =
-    (code ≡ DONE) × (count ≡ length segment) × (after ≡ room_with segment before)
+    (code ≡ codes.done) × (count ≡ length segment) × (after ≡ room_with segment before)
 
 -- An end delivers the next segment, where one is left.
 pub record DeliversNext (old new : Endpoint) (before after : List ℕ) (count : ℕ) (code : ℤ) : Type 0 where
@@ -140,24 +140,24 @@ pub record DeliversNext (old new : Endpoint) (before after : List ℕ) (count : 
 abbrev pub AnswersDelivery : Endpoint → Endpoint → List ℕ → List ℕ → ℕ → ℤ → Type 0
 AnswersDelivery old new before after count code =
     DeliversNext old new before after count code
-    ⊎ ((length before < INFO) × (code ≡ FULL) × (new ≡ old) × (count ≡ 0) × (after ≡ before))
+    ⊎ ((length before < INFO) × (code ≡ codes.full) × (new ≡ old) × (count ≡ 0) × (after ≡ before))
 
 -- what the call answers that asks which length is wanted
 abbrev pub WantedAs : Option ℕ → ℕ → ℤ → Type 0
-WantedAs None count code = (code ≡ NOTHING) × (count ≡ 0)
-WantedAs (Some longest) count code = (code ≡ DONE) × (count ≡ longest)
+WantedAs None count code = (code ≡ codes.nothing) × (count ≡ 0)
+WantedAs (Some longest) count code = (code ≡ codes.done) × (count ≡ longest)
 
--- An end is offered a piece: DONE where it takes it.
+-- An end is offered a piece: it is done where it takes it.
 pub record IsOffered (old new : Endpoint) (piece : List ℕ) (code : ℤ) : Type 0 where
   pub taken : Bool
   pub offers : Offers old new piece taken
-  pub code_is : code ≡ (if taken then DONE else BAD_ARGUMENT)
+  pub code_is : code ≡ (if taken then codes.done else codes.bad_argument)
 
 -- the code of what an end answers that is asked for a break
 abbrev pub asked_code : BreakAsked → ℤ
-asked_code asked.Taken = DONE
-asked_code asked.Refused = NOTHING
-asked_code asked.Late = LATE
+asked_code asked.Taken = codes.done
+asked_code asked.Refused = codes.nothing
+asked_code asked.Late = codes.late
 
 -- An end is asked for a break of this length.
 pub record IsAsked (old new : Endpoint) (units : ℕ) (code : ℤ) : Type 0 where
@@ -167,8 +167,8 @@ pub record IsAsked (old new : Endpoint) (units : ℕ) (code : ℤ) : Type 0 wher
 
 -- what the call answers that tells an end whether its user asks for a pause; an octet that is neither 0 nor 1 says nothing
 abbrev pub AnswersBusy : Option Bool → Endpoint → Endpoint → ℤ → Type 0
-AnswersBusy None old new code = (code ≡ BAD_ARGUMENT) × (new ≡ old)
-AnswersBusy (Some busy) old new code = (code ≡ DONE) × IsToldBusy old new busy
+AnswersBusy None old new code = (code ≡ codes.bad_argument) × (new ≡ old)
+AnswersBusy (Some busy) old new code = (code ≡ codes.done) × IsToldBusy old new busy
 
 -- ---- how an end stands
 
@@ -210,7 +210,7 @@ room_said told.Flags room = room
 -- the code, what is said and the reason for which the link broke are those of this answer
 abbrev pub SpokenNumbers : Result Told LinkStop → ℤ → List ℕ → List ℕ → Said → Broke → Type 0
 SpokenNumbers (Ok told) code before after said why =
-    (code ≡ DONE) × (said ≡ said_of told) × (after ≡ room_said told before) × (why ≡ unbroken)
+    (code ≡ codes.done) × (said ≡ said_of told) × (after ≡ room_said told before) × (why ≡ unbroken)
 SpokenNumbers (Err stop) code before after said why =
     (code ≡ code_of stop) × (said ≡ silence) × (after ≡ before) × (why ≡ why_of stop)
 
@@ -231,7 +231,7 @@ pub record IsSilent (old new : Endpoint) (before after : List ℕ) (said : Said)
 
 -- what the call answers at an end: `release` is 0 or 1, and there is room for the longest frame with its check
 abbrev pub AnswersSpeaking : Option Bool → Endpoint → Endpoint → ℤ → List ℕ → List ℕ → Said → Broke → Type 0
-AnswersSpeaking None old new code before after said why = (code ≡ BAD_ARGUMENT) × IsSilent old new before after said why
+AnswersSpeaking None old new code before after said why = (code ≡ codes.bad_argument) × IsSilent old new before after said why
 AnswersSpeaking (Some release) old new code before after said why =
     SpeaksInto old new release code before after said why
-    ⊎ ((length before < WHOLE) × (code ≡ FULL) × IsSilent old new before after said why)
+    ⊎ ((length before < WHOLE) × (code ≡ codes.full) × IsSilent old new before after said why)

@@ -1,13 +1,14 @@
 // An end of the link, turn by turn.
-ghost use Rattle.std.specs.Prelude.{◌≡◌, ◌≤◌, ℤ, length, negsuc, MatchResult, None, Some};
+ghost use Rattle.std.specs.Prelude.{◌≡◌, ◌≤◌, length, MatchResult, None, Some};
 ghost use Rattle.frame_check.specs.declared.sizes.TheConstants.{INFO, WHOLE};
 ghost use Rattle.link_account.specs.Account.{Account};
 ghost use Rattle.lapm_link.specs.Stands.{StandsFor};
 ghost use Rattle.gateway.specs.declared.link.Endpoint.{Endpoint};
 ghost use Rattle.gateway.specs.Endpoints.{wanted_length};
+ghost use Rattle.modem_c.specs.CodeNumbers.{done};
 ghost use Rattle.modem_c.specs.Answers.{AnswersOf, astray, flag_of};
 ghost use Rattle.modem_c.specs.Led.{link_in};
-ghost use Rattle.modem_c.specs.Links.{setup_of, AnswersSetup, unbroken, broke_by, code_of, why_of, length_given, AnswersHearing, AnswersDelivery, WantedAs, IsOffered, IsAsked, asked_code, AnswersBusy, phase_number, flag, standing_of, silence, said_of, room_said, AnswersSpeaking};
+ghost use Rattle.modem_c.specs.Links.{setup_of, AnswersSetup, unbroken, broke_by, code_of, why_of, length_given, AnswersHearing, AnswersDelivery, WantedAs, IsOffered, IsAsked, AnswersBusy, phase_number, standing_of, silence, said_of, room_said, AnswersSpeaking};
 
 use crate::codes::{
     BAD_ARGUMENT, BROKEN, DONE, EMPTY, FULL, LATE, NO_MEMORY, NOTHING, ORDER, WRONG_KIND, flag_of,
@@ -418,7 +419,7 @@ pub extern "C" fn modem_link_standing(
     standing: &mut Standing,
 ) -> i32
     ensures { AnswersOf link_in handle.old.value handle.new.value result (standing.new ≡ standing.old)
-        (λ old new. (result ≡ DONE) × (new ≡ old) × ((a : Account) → StandsFor old.link a → standing.new ≡ standing_of a)) }
+        (λ old new. (result ≡ done) × (new ≡ old) × ((a : Account) → StandsFor old.link a → standing.new ≡ standing_of a)) }
 {
     let (block, end) = match take_end(alloc, handle) {
         Ok(taken) => taken,

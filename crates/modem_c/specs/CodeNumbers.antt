@@ -1,0 +1,35 @@
+-- The numbers that calls answer, as C knows them.
+use Rattle.std.specs.Prelude.{ℤ, pos, negsuc}
+
+abbrev pub done : ℤ
+done = pos 0
+
+abbrev pub nothing : ℤ
+nothing = pos 1
+
+abbrev pub full : ℤ
+full = pos 2
+
+abbrev pub lost : ℤ
+lost = pos 3
+
+abbrev pub broken : ℤ
+broken = pos 4
+
+abbrev pub no_memory : ℤ
+no_memory = negsuc 0  -- -1
+
+abbrev pub empty : ℤ
+empty = negsuc 1  -- -2
+
+abbrev pub wrong_kind : ℤ
+wrong_kind = negsuc 2  -- -3
+
+abbrev pub bad_argument : ℤ
+bad_argument = negsuc 3  -- -4
+
+abbrev pub order : ℤ
+order = negsuc 4  -- -5
+
+abbrev pub late : ℤ
+late = negsuc 5  -- -6
