@@ -76,7 +76,8 @@ pub extern "C" fn modem_encoder_push(
     ensures encodes { (line : LineKind) (mode : Mode) (past : List Bool) (samples : List Sample) → Encodes line mode handle.old.value past samples
         → Encodes line mode handle.new.value (past ++ heard progress.new.read bits.now) (samples ++ samples_in progress.new.written parts.new) }
     ensures answer { Answered (encoder_in handle.old.value) handle.old.value handle.new.value result
-        (λ old. EncodeAnswers (bits_each old) (length bits.now) (length parts.new) result progress.new × (progress.new.read ≡ bits_each old * progress.new.written)) }
+        (λ old. EncodeAnswers (bits_each old) (length bits.now) (length parts.new) result progress.new
+        × (progress.new.read ≡ bits_each old * progress.new.written)) }
     ensures length { length parts.new ≡ length parts.old }
     ensures read { progress.new.read ≤ length bits.now }
     ensures written { 2 * progress.new.written ≤ length parts.new }
