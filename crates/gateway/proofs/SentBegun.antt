@@ -37,13 +37,13 @@ use Rattle.gateway.specs.SignalLaws.{FollowsSent, SentBitsComeBack, SentBitsCome
 use Rattle.gateway.proofs.Sent.{some-tap, begins-more, take-front, carries-first}
 
 -- distances from points are what labels cost
-distances-cost : (labels : List ℕ) (samples : List Sample) → distances (map point_of labels) samples ≡ cost far_from labels samples
+pub distances-cost : (labels : List ℕ) (samples : List Sample) → distances (map point_of labels) samples ≡ cost far_from labels samples
 distances-cost [] samples = refl
 distances-cost (label ∷ labels) [] = refl
 distances-cost (label ∷ labels) (sample ∷ samples) = ap (λ n. distance_of (point_of label) sample + n) (distances-cost labels samples)
 
 -- the labels of an encoder's first samples, and what all of them carry
-record FirstLabels (mode : Mode) (sent : List Bool) (first : List Sample) : Type 0 where
+pub record FirstLabels (mode : Mode) (sent : List Bool) (first : List Sample) : Type 0 where
   pub labels : List ℕ
   pub later : List ℕ
   pub carried : Demodulates (tap_of mode) (labels ++ later) sent
@@ -51,7 +51,7 @@ record FirstLabels (mode : Mode) (sent : List Bool) (first : List Sample) : Type
   pub leads : Leads next_state 0 labels end
   pub points : first ≡ map point_of labels
 
-first-labels : (mode : Mode) (e : SampleEncoder) (sent : List Bool) (samples first later : List Sample)
+pub first-labels : (mode : Mode) (e : SampleEncoder) (sent : List Bool) (samples first later : List Sample)
     → HasEncoded lines.Begun mode e sent samples → samples ≡ first ++ later → FirstLabels mode sent first
 first-labels mode (encoders.Quarters m) sent samples first later h e = absurd h
 first-labels mode (encoders.Begun m) sent samples first later h e =

@@ -1,11 +1,11 @@
 -- Laws that join an encoder and a decoder.
-use Rattle.std.specs.Prelude.{◌≡◌, ℕ, ◌+◌, ◌*◌, ◌<◌, ◌≤◌, Bool, List, [], ◌∷◌, ◌++◌, length, None}
+use Rattle.std.specs.Prelude.{◌≡◌, ℕ, zero, suc, ◌+◌, ◌*◌, ◌<◌, ◌≤◌, Bool, List, [], ◌∷◌, ◌++◌, length, map, drop, None}
 use Rattle.plain_lists.specs.Prefix.{IsPrefixOf}
 use Rattle.scramblers.specs.declared.mode.Mode.{Mode}
 use Rattle.symbol_map.specs.declared.sample.Sample.{Sample}
-use Rattle.symbol_map.specs.Distance.{distance_of}
+use Rattle.symbol_map.specs.Distance.{distance_of, quarter_turned}
 use Rattle.exact_decoder.specs.Decoder.{Decoding}
-use Rattle.noise_bound.specs.Near.{sure}
+use Rattle.noise_bound.specs.Near.{sure, sure_of_any}
 use Rattle.noise_bound.specs.Margins.{distances}
 use Rattle.gateway.specs.declared.any_reader.LineKind.TheVariants as lines
 use Rattle.gateway.specs.declared.decoder.SampleDecoder.{SampleDecoder}
@@ -16,13 +16,33 @@ use Rattle.gateway.specs.Encoded.{HasEncoded}
 use Rattle.gateway.specs.Measured.{BitsCost}
 use Rattle.gateway.specs.Reads.{Ends}
 
--- Of samples that were sent the first ones were heard as these, with so much noise: less in all than 2.5 squares of a unit of the map, whatever its places.
+-- Of samples that were sent the first ones were heard as these, with noise of less in all than 2.5 squares of a unit of the map, whatever
+-- its places.
 pub record IsHeardOf (sent heard : List Sample) : Type 0 where
   pub first : List Sample
   pub later : List Sample
   pub parts : sent ≡ first ++ later
   pub same_length : length first ≡ length heard
   pub near : distances first heard < sure
+
+-- samples after so many quarter turns
+abbrev pub turned_by : ℕ → List Sample → List Sample
+turned_by zero samples = samples
+turned_by (suc turns) samples = map quarter_turned (turned_by turns samples)
+
+-- Of samples that were sent those behind the first so many were heard as these, by some quarters turned, with noise of less in all than one
+-- square of a unit of the map.
+pub record IsHeardBehind (count : ℕ) (sent heard : List Sample) : Type 0 where
+  pub before : List Sample
+  pub middle : List Sample
+  pub later : List Sample
+  pub parts : sent ≡ (before ++ middle) ++ later
+  pub place : length before ≡ count
+  pub turns : ℕ
+  pub noisy : List Sample
+  pub turned : heard ≡ turned_by turns noisy
+  pub same_length : length middle ≡ length noisy
+  pub near : distances middle noisy < sure_of_any
 
 -- each sample is heard nearer than this to the one that was sent
 abbrev pub AreEachNear : ℕ → List Sample → List Sample → Type 0
@@ -31,7 +51,7 @@ AreEachNear bound [] (s ∷ heard) = ⊥
 AreEachNear bound (p ∷ sent) [] = ⊥
 AreEachNear bound (p ∷ sent) (s ∷ heard) = (distance_of p s < bound) × AreEachNear bound sent heard
 
--- half the way between two points at 4800 bit/s: the square root of five squares of a unit of the map, of 2048 units each
+-- half the way between two points at 4800 bit/s, squared: five squares of a unit of the map, of 2048 squared each
 abbrev pub half_way : ℕ
 half_way = 20971520
 
@@ -71,6 +91,19 @@ abbrev pub SureBitsAreGiven : Type 0
 SureBitsAreGiven = (mode : Mode) (d : SampleDecoder) (bits given : List Bool) (samples : List Sample) (price : ℕ)
     → BitsCost mode bits samples price → price < sure → HasDecoded lines.Begun mode d samples given
     → FollowsSent 4 126 (decoding_of d.reader) bits given samples
+
+-- A decoder of a line's middle isn't lost, the bits that it gave begin those that were sent behind the 27 that it can't tell, and of the
+-- samples that it heard at most so many are still to come, but for the labels that wait.
+pub record FollowsMiddle (most : ℕ) (d : Decoding) (sent given : List Bool) (heard : List Sample) : Type 0 where
+  pub never_lost : d.lost ≡ None
+  pub were_sent : IsPrefixOf given (drop 27 sent)
+  pub few_to_come : 4 * length heard ≤ length given + 27 + 4 * (length d.pending + most)
+
+-- from any sample on, by however many quarters the points are turned
+abbrev pub MiddleBitsComeBack : Type 0
+MiddleBitsComeBack = (mode : Mode) (e : SampleEncoder) (d : SampleDecoder) (sent given : List Bool) (samples heard : List Sample) (count : ℕ)
+    → HasEncoded lines.Begun mode e sent samples → IsHeardBehind count samples heard → HasDecoded lines.Middle mode d heard given
+    → FollowsMiddle 116 (decoding_of d.reader) (drop (4 * count) sent) given heard
 
 -- at 4800 bit/s, where no sample is heard farther off than half the way to the next point: none is behind
 abbrev pub QuarterBitsComeBack : Type 0

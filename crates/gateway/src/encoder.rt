@@ -63,7 +63,8 @@ impl SampleEncoder {
     /// The sample of the bits from this place on.
     fn sample_of(&mut self, bits: &[u8], at: usize) -> Sample
         requires { at + bits_each self.old ≤ length bits.now }
-        ensures encodes { (line : LineKind) (mode : Mode) (past : List Bool) (samples : List Sample) → HasEncoded line mode self.old (past ++ heard at bits.now) samples
+        ensures encodes { (line : LineKind) (mode : Mode) (past : List Bool) (samples : List Sample)
+            → HasEncoded line mode self.old (past ++ heard at bits.now) samples
             → HasEncoded line mode self.new (past ++ heard (at + bits_each self.old) bits.now) (samples ++ result ∷ []) }
         ensures same { bits_each self.new ≡ bits_each self.old }
     {

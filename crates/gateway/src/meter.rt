@@ -50,7 +50,8 @@ impl LockMeter {
     /// many octets were measured, of eight bits and two samples, as many as both are enough for. Where they are too many none is measured.
     pub fn push(self, bits: &[u8], parts: &[i16]) -> (LockMeter, Option<usize>)
         ensures measures { (mode : Mode) (past : List Bool) (samples : List Sample) → HasMeasured mode self past samples
-            → MatchOption result.1 (result.0 ≡ self) (λ octets. HasMeasured mode result.0 (past ++ heard (8 * octets) bits.now) (samples ++ samples_in (2 * octets) parts.now)) }
+            → MatchOption result.1 (result.0 ≡ self)
+            (λ octets. HasMeasured mode result.0 (past ++ heard (8 * octets) bits.now) (samples ++ samples_in (2 * octets) parts.now)) }
         ensures octets { let both = min (length bits.now / 8) (length parts.now / 4) in
             MatchOption result.1 (2 ^ 24 < self.octets + both) (λ octets. (octets ≡ both) × (self.octets + both ≤ 2 ^ 24)) }
         ensures stays { MatchOption result.1 (result.0 ≡ self) (λ octets. result.0.octets ≡ self.octets + octets) }

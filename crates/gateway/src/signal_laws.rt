@@ -1,11 +1,13 @@
 //! Laws that join an encoder and a decoder. The functions do nothing but name the laws that they rest on: each law is a contract.
-ghost use Rattle.gateway.specs.SignalLaws.{SentBitsComeBack, SentBitsComeSoon, AllBitsComeBack, SureBitsAreGiven, QuarterBitsComeBack, AllQuarterBitsComeBack};
+ghost use Rattle.gateway.specs.SignalLaws.{SentBitsComeBack, SentBitsComeSoon, AllBitsComeBack, MiddleBitsComeBack, SureBitsAreGiven};
+ghost use Rattle.gateway.specs.SignalLaws.{QuarterBitsComeBack, AllQuarterBitsComeBack};
 
+use line_coding::laws::{bits_in_the_middle_are_those_sent, readers_pick_up};
 use noise_bound::laws::sure_recordings_are_decoded;
 use noise_bound::noiseless::{
     decoders_follow_a_line_without_noise, only_the_sent_labels_are_least,
 };
-use noise_bound::noisy::decoders_follow_a_line;
+use noise_bound::noisy::{decoders_follow_a_line, decoders_follow_a_line_from_any_start};
 use rate_4800::laws::{all_are_released, near_ones_are_read};
 
 /// What a decoder gives at 9600 bit/s are the bits that went into the encoder: as long as all of the noise is below 2.5 squares of a unit
@@ -18,6 +20,16 @@ pub fn sent_bits_come_back()
     decoders_follow_a_line();
     decoders_follow_a_line_without_noise();
     only_the_sent_labels_are_least();
+}
+
+/// From any sample on, by however many quarters the points are turned, a decoder of the line's middle gives the bits behind the first 27 that
+/// it hears: as long as all of the noise is below one square of a unit of the map the line isn't lost and at most 116 samples are behind.
+pub fn middle_bits_come_back()
+    ensures { MiddleBitsComeBack }
+{
+    bits_in_the_middle_are_those_sent();
+    decoders_follow_a_line_from_any_start();
+    readers_pick_up();
 }
 
 /// Where a meter is sure of bits, a decoder of the samples gives these bits, at most 126 samples behind.

@@ -2,7 +2,7 @@
 use Rattle.std.proofs.Common.{Option, Some, None, IsSomeAnd}
 use Rattle.gateway.specs.SignalLaws as gateway
 use Rattle.modem_c.specs.Led.{decoder_in, encoder_in}
-use Rattle.modem_c.specs.SignalLaws.{SentBitsComeBack, SentBitsComeSoon, AllBitsComeBack, SureBitsAreGiven, QuarterBitsComeBack, AllQuarterBitsComeBack}
+use Rattle.modem_c.specs.SignalLaws.{SentBitsComeBack, SentBitsComeSoon, AllBitsComeBack, MiddleBitsComeBack, SureBitsAreGiven, QuarterBitsComeBack, AllQuarterBitsComeBack}
 
 of-it : {A R : Type 0} {P : A → Type 0} (o : Option A) → IsSomeAnd o P → ((a : A) → P a → R) → R
 of-it None h f = absurd h
@@ -23,6 +23,10 @@ sent-bits-come-soon law mode e d sent given heard later encodes decodes =
 pub all-bits-come-back : gateway.AllBitsComeBack → AllBitsComeBack
 all-bits-come-back law mode e sent given last samples encodes ends =
     of-it (encoder_in e) encodes (λ a h. law mode a sent given last samples h ends)
+
+pub middle-bits-come-back : gateway.MiddleBitsComeBack → MiddleBitsComeBack
+middle-bits-come-back law mode e d sent given samples heard count encodes behind decodes =
+    of-it (encoder_in e) encodes (λ a h. at-it (decoder_in d) decodes (λ b k. law mode a b sent given samples heard count h behind k))
 
 pub sure-bits-are-given : gateway.SureBitsAreGiven → SureBitsAreGiven
 sure-bits-are-given law mode d bits given samples price costs low decodes =

@@ -2,6 +2,7 @@ pub mod Held
 pub mod Codes
 pub mod Led
 pub mod Answered
+pub mod Progressed
 pub mod Decoders
 pub mod Encoders
 pub mod Meters

@@ -1,5 +1,5 @@
 -- Laws that join a handle that leads to an encoder, or to a meter, and one that leads to a decoder.
-use Rattle.std.specs.Prelude.{◌≡◌, ◌<◌, ℕ, Bool, List, ◌++◌, Option, IsSomeAnd}
+use Rattle.std.specs.Prelude.{◌≡◌, ◌*◌, ◌<◌, ℕ, Bool, List, ◌++◌, drop, Option, IsSomeAnd}
 use Rattle.scramblers.specs.declared.mode.Mode.{Mode}
 use Rattle.symbol_map.specs.declared.sample.Sample.{Sample}
 use Rattle.noise_bound.specs.Near.{sure}
@@ -7,7 +7,7 @@ use Rattle.gateway.specs.declared.any_reader.LineKind.TheVariants as lines
 use Rattle.gateway.specs.Decoding.{decoding_of}
 use Rattle.gateway.specs.Measured.{BitsCost}
 use Rattle.gateway.specs.Reads.{Ends}
-use Rattle.gateway.specs.SignalLaws.{IsHeardOf, IsHeardEach, AreEachNear, half_way, FollowsSent}
+use Rattle.gateway.specs.SignalLaws.{IsHeardOf, IsHeardBehind, IsHeardEach, AreEachNear, half_way, FollowsSent, FollowsMiddle}
 use Rattle.modem_c.specs.declared.machine.Machine.{Machine}
 use Rattle.modem_c.specs.Decoders.{Decodes}
 use Rattle.modem_c.specs.Encoders.{Encodes}
@@ -33,6 +33,12 @@ SentBitsComeSoon = (mode : Mode) (e d : Option Machine) (sent given : List Bool)
 abbrev pub AllBitsComeBack : Type 0
 AllBitsComeBack = (mode : Mode) (e : Option Machine) (sent given last : List Bool) (samples : List Sample)
     → Encodes lines.Begun mode e sent samples → Ends lines.Begun mode samples given last → given ++ last ≡ sent
+
+-- from any sample on, by however many quarters the points are turned: the bits behind the first 27 that are heard
+abbrev pub MiddleBitsComeBack : Type 0
+MiddleBitsComeBack = (mode : Mode) (e d : Option Machine) (sent given : List Bool) (samples heard : List Sample) (count : ℕ)
+    → Encodes lines.Begun mode e sent samples → IsHeardBehind count samples heard → Decodes lines.Middle mode d heard given
+    → IsSomeAnd (decoder_in d) (λ it. FollowsMiddle 116 (decoding_of it.reader) (drop (4 * count) sent) given heard)
 
 -- bits of which a meter is sure are given by a decoder of the samples
 abbrev pub SureBitsAreGiven : Type 0

@@ -11,6 +11,7 @@ ghost use Rattle.modem_c.specs.Codes as codes;
 ghost use Rattle.modem_c.specs.Decoders.{Decodes, PushAnswers, FinishAnswers};
 ghost use Rattle.modem_c.specs.Decoders as decoders;
 ghost use Rattle.modem_c.specs.Led.{decoder_in};
+ghost use Rattle.modem_c.specs.Progressed.{nothing_done};
 
 use crate::codes::{BAD_ARGUMENT, DONE, EMPTY, FULL, LATE, LOST, NO_MEMORY, WRONG_KIND, mode_of};
 use crate::handle::{Handle, make, put, take};
@@ -98,6 +99,7 @@ pub extern "C" fn modem_decoder_push(
         → Decodes line mode handle.new.value (samples ++ samples_in progress.new.read parts.now) (before ++ given progress.new.written bits.new) }
     ensures answer { Answered (decoder_in handle.old.value) handle.old.value handle.new.value result
         (λ old. IsSomeAnd (decoder_in handle.new.value) (PushAnswers old (length parts.now) (length bits.new) result progress.new)) }
+    ensures none { decoder_in handle.old.value ≡ None → progress.new ≡ nothing_done }
     ensures length { length bits.new ≡ length bits.old }
     ensures read { 2 * progress.new.read ≤ length parts.now }
     ensures written { progress.new.written ≤ length bits.new }
@@ -130,6 +132,7 @@ pub extern "C" fn modem_decoder_finish(
         → result ≡ DONE → Ends line mode samples before (given progress.new.written bits.new) }
     ensures answer { Answered (decoder_in handle.old.value) handle.old.value handle.new.value result
         (λ old. FinishAnswers old (length bits.new) result progress.new handle.old.value handle.new.value) }
+    ensures none { decoder_in handle.old.value ≡ None → progress.new ≡ nothing_done }
     ensures length { length bits.new ≡ length bits.old }
     ensures written { progress.new.written ≤ length bits.new }
 {

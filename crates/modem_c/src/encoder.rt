@@ -10,6 +10,7 @@ ghost use Rattle.modem_c.specs.Answered.{Missing, Answered, MadeOfBoth};
 ghost use Rattle.modem_c.specs.Codes as codes;
 ghost use Rattle.modem_c.specs.Encoders.{Encodes, EncodeAnswers};
 ghost use Rattle.modem_c.specs.Led.{encoder_in};
+ghost use Rattle.modem_c.specs.Progressed.{nothing_done};
 
 use crate::codes::{BAD_ARGUMENT, DONE, EMPTY, FULL, WRONG_KIND, mode_of};
 use crate::handle::{Handle, make, put, take};
@@ -76,7 +77,9 @@ pub extern "C" fn modem_encoder_push(
     ensures encodes { (line : LineKind) (mode : Mode) (past : List Bool) (samples : List Sample) → Encodes line mode handle.old.value past samples
         → Encodes line mode handle.new.value (past ++ heard progress.new.read bits.now) (samples ++ samples_in progress.new.written parts.new) }
     ensures answer { Answered (encoder_in handle.old.value) handle.old.value handle.new.value result
-        (λ old. EncodeAnswers (bits_each old) (length bits.now) (length parts.new) result progress.new × (progress.new.read ≡ bits_each old * progress.new.written)) }
+        (λ old. EncodeAnswers (bits_each old) (length bits.now) (length parts.new) result progress.new
+        × (progress.new.read ≡ bits_each old * progress.new.written)) }
+    ensures none { encoder_in handle.old.value ≡ None → progress.new ≡ nothing_done }
     ensures length { length parts.new ≡ length parts.old }
     ensures read { progress.new.read ≤ length bits.now }
     ensures written { 2 * progress.new.written ≤ length parts.new }

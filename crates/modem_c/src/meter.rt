@@ -10,6 +10,7 @@ ghost use Rattle.modem_c.specs.declared.machine.Machine.TheVariants as machines;
 ghost use Rattle.modem_c.specs.Answered.{Missing, Answered, MadeOf};
 ghost use Rattle.modem_c.specs.Codes as codes;
 ghost use Rattle.modem_c.specs.Led.{meter_in};
+ghost use Rattle.modem_c.specs.Progressed.{nothing_done};
 ghost use Rattle.modem_c.specs.Meters.{Meters, MeterAnswers};
 
 use crate::codes::{BAD_ARGUMENT, DONE, EMPTY, LATE, WRONG_KIND, mode_of};
@@ -75,6 +76,7 @@ pub extern "C" fn modem_meter_push(
         → Meters mode handle.new.value (past ++ heard progress.new.read bits.now) (samples ++ samples_in (progress.new.read / 4) parts.now) }
     ensures answer { Answered (meter_in handle.old.value) handle.old.value handle.new.value result
         (λ old. MeterAnswers old.octets (length bits.now) (length parts.now) result progress.new handle.old.value handle.new.value) }
+    ensures none { meter_in handle.old.value ≡ None → progress.new ≡ nothing_done }
     ensures read { progress.new.read ≤ length bits.now }
     ensures heard { 2 * (progress.new.read / 4) ≤ length parts.now }
 {

@@ -1,5 +1,6 @@
 // How far a push came.
 ghost use Rattle.std.specs.Prelude.{◌≡◌};
+ghost use Rattle.modem_c.specs.Progressed.{nothing_done};
 
 /// How far a push came.
 #[repr(C)]
@@ -16,7 +17,7 @@ pub struct Progress {
 impl Progress {
     /// Nothing yet.
     pub(crate) fn none() -> Progress
-        ensures { result ≡ record { read = 0; written = 0; lost = 0 } }
+        ensures { result ≡ nothing_done }
     {
         Progress {
             read: 0,

@@ -1,6 +1,7 @@
 //! Laws that join what handles lead to: an encoder's, or a meter's, and a decoder's. The functions do nothing but name the laws that they
 //! rest on: each law is a contract. Not for C.
-ghost use Rattle.modem_c.specs.SignalLaws.{SentBitsComeBack, SentBitsComeSoon, AllBitsComeBack, SureBitsAreGiven, QuarterBitsComeBack, AllQuarterBitsComeBack};
+ghost use Rattle.modem_c.specs.SignalLaws.{SentBitsComeBack, SentBitsComeSoon, AllBitsComeBack, MiddleBitsComeBack, SureBitsAreGiven};
+ghost use Rattle.modem_c.specs.SignalLaws.{QuarterBitsComeBack, AllQuarterBitsComeBack};
 
 use gateway::signal_laws;
 
@@ -12,6 +13,14 @@ pub fn sent_bits_come_back()
     ensures all { AllBitsComeBack }
 {
     signal_laws::sent_bits_come_back();
+}
+
+/// From any sample on, by however many quarters the points are turned, a decoder of the line's middle gives the bits behind the first 27 that
+/// it hears: as long as all of the noise is below one square of a unit of the map the line isn't lost and at most 116 samples are behind.
+pub fn middle_bits_come_back()
+    ensures { MiddleBitsComeBack }
+{
+    signal_laws::middle_bits_come_back();
 }
 
 /// Where a meter is sure of bits, a decoder of the samples gives these bits, at most 126 samples behind.
