@@ -91,16 +91,17 @@ slot-alone symbols w phase octets out bits e none count line put =
     ap (λ n. given (4 * n) bits) (sym (count ∙ e)) ∙ put ∙ line ∙ (λ i. slot_bits (4 * e i) (none i) (Flags (Some octets)))
 
 -- they are the frame's where the place is that at which its piece ends
-pub opens : (size count : ℕ) (octets bits : List ℕ) → IsFrame octets → length (opening 0 (Some octets)) ≤ size → size ≤ length bits
+pub opens : (size count : ℕ) (octets bits : List ℕ) → size ≡ 10460 → IsFrame octets → length (opening 0 (Some octets)) ≤ size → size ≤ length bits
     → given size bits ≡ slot_bits size 0 (Flags (Some octets))
     → ((found : Found) → pieces_of (given size bits) ≡ found ∷ [] → count ≡ found.place)
     → ((n : ℕ) (before : List Slot) (slot : Slot) → AreSlots n 0 (before ++ slot ∷ []) → (added : List Found) × SlotAdds n before slot added)
     → pieces_of [] ≡ [] → OpensFrame octets bits count
-opens size count octets bits is_frame fits room given_is first sent none =
+opens size count octets bits most is_frame fits room given_is first sent none =
     let line : List Bool = opening 0 (Some octets) in
     let ends : count ≡ length line = first (whole_at (length line) octets) (ap pieces_of given_is ∙ frame-alone size octets is_frame fits sent none) in
     record {
       is_frame = is_frame;
+      room = omega (arith, most, room);
       within = omega (arith, ends, fits, room);
       bits_are = ap (λ k. given k bits) ends ∙ given-take (length line) size fits bits ∙ ap (take (length line)) given_is
           ∙ take-append_seam line (fill (size - length line));

@@ -6,3 +6,5 @@ pub mod Decoders
 pub mod FrameFields
 pub mod FramesWritten
 pub mod Deframers
+pub mod Framers
+pub mod Offers
