@@ -1,5 +1,5 @@
 -- Where a frame alone ends among the bits of a slot.
-use Rattle.std.proofs.Common.{ℕ, zero, suc, ◌+◌, ◌-◌, ◌*◌, ◌/◌, ◌≡◌, ◌<◌, ◌≤◌, ◌∷◌, ◌++◌, Bool, true, false, List, [], Option, Some, None, nat_eq, get_or, length, take, refl, ap, sym, subst, ◌∙◌, arith, append_assoc, length-append, zero-add, true≢false}
+use Rattle.std.proofs.Common.{ℕ, zero, suc, ◌+◌, ◌-◌, ◌*◌, ◌≡◌, ◌<◌, ◌≤◌, ◌∷◌, ◌++◌, Bool, true, false, List, [], Option, Some, None, nat_eq, get_or, length, take, refl, ap, sym, subst, ◌∙◌, arith, append_assoc, length-append, zero-add, true≢false}
 use Rattle.std.specs.Option.{option_map}
 use Rattle.std.specs.Prelude.{All, is_some}
 use Rattle.std.proofs.lemmas.List.{append-nil}
@@ -7,7 +7,7 @@ use Rattle.std.proofs.Math.Seq.{take-append_seam}
 use Rattle.bit_stuffing.specs.BitSlot.{line_bits}
 use Rattle.bit_stuffing.specs.Found.{Found, answer_of, found_at, listed, pieces_of}
 use Rattle.bit_stuffing.specs.Sent.{Added, SlotAdds, whole_at}
-use Rattle.bit_stuffing.specs.Slots.{AreSlots, IsFrame, Slot, fill, opening, slot_bits, sent_bits}
+use Rattle.bit_stuffing.specs.Slots.{AreSlots, IsFrame, Slot, fill, opening, slot_bits}
 use Rattle.bit_stuffing.specs.Slots.Slot.{Flags}
 use Rattle.gateway.specs.Given.{given}
 use Rattle.gateway.specs.FrameBits.{OpensFrame}

@@ -1,5 +1,5 @@
 -- The bits that octets say by their lowest, one after another.
-use Rattle.std.proofs.Common.{ℕ, zero, suc, ◌+◌, ◌%◌, ◌≡◌, ◌<◌, ◌≤◌, ◌∷◌, ◌++◌, Bool, List, [], None, nat_eq, get_or, length, refl, ap, sym, subst, append_assoc, ◌∙◌, arith, length-append, eq-or-lt_of_le, inl, inr}
+use Rattle.std.proofs.Common.{ℕ, zero, suc, ◌+◌, ◌%◌, ◌≡◌, ◌∷◌, ◌++◌, Bool, List, [], None, nat_eq, get_or, length, refl, ap, sym, subst, append_assoc, ◌∙◌, arith, length-append, eq-or-lt_of_le, inl, inr}
 use Rattle.bit_stuffing.specs.Found.{answer_of}
 use Rattle.gateway.specs.Given.{heard}
 use Rattle.gateway.specs.Frames.{NoneEnds}

@@ -1,9 +1,8 @@
 -- The slots that a writer of slots has written.
-use Rattle.std.specs.Prelude.{◌≡◌, ℕ, ◌+◌, ◌-◌, ◌*◌, ◌<◌, ◌≤◌, Bool, List, [], ◌∷◌, ◌++◌, length, Some, None, Result, Ok, Err}
+use Rattle.std.specs.Prelude.{◌≡◌, ℕ, ◌-◌, ◌*◌, ◌<◌, ◌≤◌, List, [], ◌∷◌, ◌++◌, length, Result, Ok, Err}
 use Rattle.bit_stuffing.specs.SlotWriter.{WriterStands}
 use Rattle.bit_stuffing.specs.declared.slot_writer.TheConstants.{TAIL}
 use Rattle.detection.specs.Slots.{Signal, CanCarry, signal_bits, slots_of}
-use Rattle.detection.specs.Slots.Signal.{PatternSlot, MarkSlot, FlagSlot}
 use Rattle.gateway.specs.declared.framer.FrameWriter.{FrameWriter}
 use Rattle.gateway.specs.declared.framer.SlotStop.{SlotStop}
 use Rattle.gateway.specs.declared.framer.SlotStop.TheVariants as stops

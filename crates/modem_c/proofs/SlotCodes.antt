@@ -1,12 +1,12 @@
 -- What a slot answers, by what its kind is.
-use Rattle.std.proofs.Common.{◌≡◌, ◌≢◌, ◌*◌, ◌-◌, ◌∷◌, ◌++◌, ℕ, ℤ, pos, List, [], Option, Some, None, refl, ap, sym, subst, ◌∙◌}
-use Rattle.std.specs.Prelude.{Result, Ok, Err, unwrap_or}
+use Rattle.std.proofs.Common.{◌≡◌, ◌*◌, ◌-◌, ◌++◌, ℕ, List, Option, Some, None, refl, ap, sym, subst, ◌∙◌}
+use Rattle.std.specs.Prelude.{Err, unwrap_or}
 use Rattle.detection.specs.Slots.{CanCarry, Signal, signal_bits}
 use Rattle.gateway.specs.declared.framer.FrameWriter.{FrameWriter}
 use Rattle.gateway.specs.declared.framer.SlotStop.{SlotStop}
 use Rattle.gateway.specs.declared.framer.SlotStop.TheVariants as stops
 use Rattle.gateway.specs.Given.{given}
-use Rattle.gateway.specs.SlotsWritten.{AddsSlot, HasWritten, SlotWritten}
+use Rattle.gateway.specs.SlotsWritten.{AddsSlot, SlotWritten}
 use Rattle.modem_c.specs.declared.codes.TheConstants.{DONE, FULL, BAD_ARGUMENT}
 use Rattle.modem_c.specs.Framers.{SlottedBy}
 use Rattle.modem_c.specs.Framers.Slotted.{BadFrame, NoRoom, Done}

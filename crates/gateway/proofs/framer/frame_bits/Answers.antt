@@ -1,7 +1,5 @@
-use Rattle.std.proofs.Common.{ℕ, ◌*◌, ◌≡◌, ◌≤◌, Some, length, refl, ap, ◌∙◌, arith}
-use Rattle.bit_stuffing.specs.Slots.{opening, slot_bits}
-use Rattle.bit_stuffing.specs.Slots.Slot.{Flags}
-use Rattle.gateway.specs.Given.{given}
+use Rattle.std.proofs.Common.{◌≤◌, Some, length, refl, arith}
+use Rattle.bit_stuffing.specs.Slots.{opening}
 use Rattle.gateway.proofs.FirstEnd.{opens, slot-alone}
 use Rattle.gateway.proofs.framer.frame_bits.Goals as goal
 

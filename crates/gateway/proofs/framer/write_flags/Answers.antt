@@ -1,4 +1,4 @@
-use Rattle.std.proofs.Common.{ℕ, ◌*◌, ◌-◌, ◌≤◌, length}
+use Rattle.std.proofs.Common.{◌*◌, ◌-◌, ◌≤◌, length}
 use Rattle.std.specs.Option.{option_copied}
 use Rattle.bit_stuffing.specs.Slots.{opening, slot_bits}
 use Rattle.bit_stuffing.specs.Slots.Slot.{Flags}

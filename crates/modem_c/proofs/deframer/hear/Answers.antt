@@ -1,4 +1,4 @@
-use Rattle.std.proofs.Common.{ℕ, List, Bool, ◌++◌, length, subst, ap, sym, refl, ◌∙◌}
+use Rattle.std.proofs.Common.{ℕ, ◌++◌, length, subst, ap, sym, refl, ◌∙◌}
 use Rattle.gateway.specs.declared.deframer.FrameStop.{FrameStop}
 use Rattle.gateway.specs.declared.deframer.FrameStop.TheVariants as stops
 use Rattle.gateway.specs.Given.{heard}

@@ -1,4 +1,4 @@
-use Rattle.std.proofs.Common.{◌∷◌, ◌++◌, List, [], refl, sym, subst}
+use Rattle.std.proofs.Common.{◌∷◌, ◌++◌, [], sym, subst}
 use Rattle.detection.specs.Slots.{Signal}
 use Rattle.gateway.specs.Signals.{signal_of}
 use Rattle.gateway.specs.SlotsWritten.{HasWritten}

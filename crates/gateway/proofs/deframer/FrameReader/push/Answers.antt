@@ -1,4 +1,4 @@
-use Rattle.std.proofs.Common.{ℕ, suc, ◌+◌, ◌<◌, ◌≤◌, ◌≡◌, ◌++◌, Bool, List, None, length, ap, sym, subst, refl, ◌∙◌, arith}
+use Rattle.std.proofs.Common.{ℕ, ◌+◌, ◌<◌, ◌≡◌, ◌++◌, Bool, List, length, ap, sym, subst, refl, ◌∙◌, arith}
 use Rattle.bit_stuffing.specs.Deframer.{DeframerStands}
 use Rattle.bit_stuffing.specs.Found.{answer_of}
 use Rattle.gateway.specs.Given.{heard}

@@ -1,6 +1,5 @@
-use Rattle.std.proofs.Common.{ℕ, ◌≡◌, ◌*◌, ◌∷◌, ◌++◌, [], List, length, refl, ap, sym, subst, ◌∙◌, arith}
-use Rattle.bit_stuffing.specs.Slots.{Slot}
-use Rattle.detection.specs.Slots.{Signal, slot_of, slots_of}
+use Rattle.std.proofs.Common.{ℕ, ◌≡◌, ◌*◌, refl, subst, ◌∙◌, arith}
+use Rattle.detection.specs.Slots.{Signal, slots_of}
 use Rattle.gateway.specs.Signals.{signal_of}
 use Rattle.gateway.specs.SlotsWritten.{Carries}
 use Rattle.gateway.proofs.Slotted.{slot-more, stands-behind, stands-more}
