@@ -51,10 +51,10 @@ first-ends octets place count found within quiet some grow stay whole =
     let pieces : pieces_of one ≡ listed (found_at one) = grow bits bit ∙ ap (λ fs. fs ++ listed (found_at one)) quiet in
     let added : here.0 ≡ listed (found_at one) = ap (λ fs. fs ++ here.0) (sym quiet) ∙ sym here.1.all ∙ pieces in
     let all : listed (found_at one) ++ behind.0 ≡ found ∷ [] =
-        ap (λ fs. fs ++ behind.0) (sym pieces) ∙ sym behind.1.all ∙ ap pieces_of (sym split.1) ∙ whole in
+    ap (λ fs. fs ++ behind.0) (sym pieces) ∙ sym behind.1.all ∙ ap pieces_of (sym split.1) ∙ whole in
     let long : length one ≡ place + 1 = length-append bits (bit ∷ []) ∙ ap (λ n. n + 1) (length-given place octets) in
     let places : All (λ f. (place < f.place) × (f.place ≤ place + 1)) here.0 = λ k d low. let p = here.1.places k d low in
-        (subst (λ (n : ℕ). n < (get_or here.0 k d).place) (length-given place octets) p.0, subst (λ (n : ℕ). (get_or here.0 k d).place ≤ n) long p.1) in
+    (subst (λ (n : ℕ). n < (get_or here.0 k d).place) (length-given place octets) p.0, subst (λ (n : ℕ). (get_or here.0 k d).place ≤ n) long p.1) in
     only-end (found_at one) here.0 behind.0 place found some added places all
 
 -- no piece ends with the bit at this place either

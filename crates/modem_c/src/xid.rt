@@ -186,11 +186,7 @@ pub extern "C" fn modem_xid_read(
 
 /// The information of an XID frame that offers this: 23 octets.
 #[unsafe(no_mangle)]
-pub extern "C" fn modem_xid_write(
-    offer: &OfferFields,
-    room: &mut [u8],
-    count: &mut usize,
-) -> i32
+pub extern "C" fn modem_xid_write(offer: &OfferFields, room: &mut [u8], count: &mut usize) -> i32
     ensures writes { OfferWritten offer.now room.old room.new count.new result }
     ensures length { length room.new ≡ length room.old }
     ensures within { count.new ≤ length room.new }
