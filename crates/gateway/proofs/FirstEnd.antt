@@ -1,5 +1,5 @@
 -- Where a frame alone ends among the bits of a slot.
-use Rattle.std.proofs.Common.{ℕ, zero, suc, ◌+◌, ◌-◌, ◌*◌, ◌/◌, ◌≡◌, ◌<◌, ◌≤◌, ◌∷◌, ◌++◌, Bool, true, false, List, [], Option, Some, None, nat_eq, get_or, length, take, refl, ap, sym, subst, ◌∙◌, arith, append_assoc, length-append, zero-add, true≢false}
+use Rattle.std.proofs.Common.{ℕ, zero, suc, ◌+◌, ◌-◌, ◌*◌, ◌≡◌, ◌<◌, ◌≤◌, ◌∷◌, ◌++◌, Bool, true, false, List, [], Option, Some, None, nat_eq, get_or, length, take, refl, ap, sym, subst, ◌∙◌, arith, append_assoc, length-append, zero-add, true≢false}
 use Rattle.std.specs.Option.{option_map}
 use Rattle.std.specs.Prelude.{All, is_some}
 use Rattle.std.proofs.lemmas.List.{append-nil}
@@ -7,7 +7,7 @@ use Rattle.std.proofs.Math.Seq.{take-append_seam}
 use Rattle.bit_stuffing.specs.BitSlot.{line_bits}
 use Rattle.bit_stuffing.specs.Found.{Found, answer_of, found_at, listed, pieces_of}
 use Rattle.bit_stuffing.specs.Sent.{Added, SlotAdds, whole_at}
-use Rattle.bit_stuffing.specs.Slots.{AreSlots, IsFrame, Slot, fill, opening, slot_bits, sent_bits}
+use Rattle.bit_stuffing.specs.Slots.{AreSlots, IsFrame, Slot, fill, opening, slot_bits}
 use Rattle.bit_stuffing.specs.Slots.Slot.{Flags}
 use Rattle.gateway.specs.Given.{given}
 use Rattle.gateway.specs.FrameBits.{OpensFrame}
@@ -51,10 +51,10 @@ first-ends octets place count found within quiet some grow stay whole =
     let pieces : pieces_of one ≡ listed (found_at one) = grow bits bit ∙ ap (λ fs. fs ++ listed (found_at one)) quiet in
     let added : here.0 ≡ listed (found_at one) = ap (λ fs. fs ++ here.0) (sym quiet) ∙ sym here.1.all ∙ pieces in
     let all : listed (found_at one) ++ behind.0 ≡ found ∷ [] =
-        ap (λ fs. fs ++ behind.0) (sym pieces) ∙ sym behind.1.all ∙ ap pieces_of (sym split.1) ∙ whole in
+    ap (λ fs. fs ++ behind.0) (sym pieces) ∙ sym behind.1.all ∙ ap pieces_of (sym split.1) ∙ whole in
     let long : length one ≡ place + 1 = length-append bits (bit ∷ []) ∙ ap (λ n. n + 1) (length-given place octets) in
     let places : All (λ f. (place < f.place) × (f.place ≤ place + 1)) here.0 = λ k d low. let p = here.1.places k d low in
-        (subst (λ (n : ℕ). n < (get_or here.0 k d).place) (length-given place octets) p.0, subst (λ (n : ℕ). (get_or here.0 k d).place ≤ n) long p.1) in
+    (subst (λ (n : ℕ). n < (get_or here.0 k d).place) (length-given place octets) p.0, subst (λ (n : ℕ). (get_or here.0 k d).place ≤ n) long p.1) in
     only-end (found_at one) here.0 behind.0 place found some added places all
 
 -- no piece ends with the bit at this place either
@@ -91,16 +91,17 @@ slot-alone symbols w phase octets out bits e none count line put =
     ap (λ n. given (4 * n) bits) (sym (count ∙ e)) ∙ put ∙ line ∙ (λ i. slot_bits (4 * e i) (none i) (Flags (Some octets)))
 
 -- they are the frame's where the place is that at which its piece ends
-pub opens : (size count : ℕ) (octets bits : List ℕ) → IsFrame octets → length (opening 0 (Some octets)) ≤ size → size ≤ length bits
+pub opens : (size count : ℕ) (octets bits : List ℕ) → size ≡ 10460 → IsFrame octets → length (opening 0 (Some octets)) ≤ size → size ≤ length bits
     → given size bits ≡ slot_bits size 0 (Flags (Some octets))
     → ((found : Found) → pieces_of (given size bits) ≡ found ∷ [] → count ≡ found.place)
     → ((n : ℕ) (before : List Slot) (slot : Slot) → AreSlots n 0 (before ++ slot ∷ []) → (added : List Found) × SlotAdds n before slot added)
     → pieces_of [] ≡ [] → OpensFrame octets bits count
-opens size count octets bits is_frame fits room given_is first sent none =
+opens size count octets bits most is_frame fits room given_is first sent none =
     let line : List Bool = opening 0 (Some octets) in
     let ends : count ≡ length line = first (whole_at (length line) octets) (ap pieces_of given_is ∙ frame-alone size octets is_frame fits sent none) in
     record {
       is_frame = is_frame;
+      room = omega (arith, most, room);
       within = omega (arith, ends, fits, room);
       bits_are = ap (λ k. given k bits) ends ∙ given-take (length line) size fits bits ∙ ap (take (length line)) given_is
           ∙ take-append_seam line (fill (size - length line));

@@ -1,5 +1,5 @@
 -- The bits that octets say by their lowest, one after another.
-use Rattle.std.proofs.Common.{ℕ, zero, suc, ◌+◌, ◌%◌, ◌≡◌, ◌<◌, ◌≤◌, ◌∷◌, ◌++◌, Bool, List, [], None, nat_eq, get_or, length, refl, ap, sym, subst, append_assoc, ◌∙◌, arith, length-append, eq-or-lt_of_le, inl, inr}
+use Rattle.std.proofs.Common.{ℕ, zero, suc, ◌+◌, ◌%◌, ◌≡◌, ◌∷◌, ◌++◌, Bool, List, [], None, nat_eq, get_or, length, refl, ap, sym, subst, append_assoc, ◌∙◌, arith, length-append, eq-or-lt_of_le, inl, inr}
 use Rattle.bit_stuffing.specs.Found.{answer_of}
 use Rattle.gateway.specs.Given.{heard}
 use Rattle.gateway.specs.Frames.{NoneEnds}
@@ -20,5 +20,6 @@ length-heard-behind past octets k = length-append past (heard k octets) ∙ ap (
 -- no piece ends with one bit more either
 pub none_more : (past : List Bool) (bits : List ℕ) (k k' : ℕ) → k' ≡ suc k → NoneEnds past bits k → answer_of (past ++ heard k' bits) ≡ None → NoneEnds past bits k'
 none_more past bits k k' e before last n low high = elim (eq-or-lt_of_le high) [
-    inl same ↦ subst (λ (m : ℕ). answer_of (past ++ heard m bits) ≡ None) (sym same) last
-  | inr less ↦ before n low (omega (arith, less, e)) ]
+  | inl same ↦ subst (λ (m : ℕ). answer_of (past ++ heard m bits) ≡ None) (sym same) last
+  | inr less ↦ before n low (omega (arith, less, e))
+]

@@ -1,6 +1,5 @@
 -- The bits of a slot, and the room that it needs.
 use Rattle.std.proofs.Common.{ℕ, zero, suc, ◌+◌, ◌-◌, ◌*◌, ◌/◌, ◌≡◌, ◌<◌, ◌≤◌, ◌∷◌, ◌++◌, Bool, List, [], Option, Some, None, nat_eq, get_or, length, take, refl, ap, sym, subst, ◌∙◌, arith, length-append}
-use Rattle.std.specs.List.{flat_map}
 use Rattle.std.proofs.lemmas.Grind.{flat_map-append}
 use Rattle.std.proofs.Math.Logic.{∥∥₁_map}
 use Rattle.std.proofs.lemmas.List.{map-append, take_more}
@@ -47,7 +46,7 @@ pub quad-more : (slot bits bits' : List ℕ) (place count : ℕ) → place < len
     → given count bits' ≡ given (4 * place) bits ++ low_bits 4 (get_or slot place 0) → given (4 * (place + 1)) bits' ≡ line_bits (take (place + 1) slot)
 quad-more slot bits bits' place count within before put =
     let long : count ≡ 4 * place + 4 = sym (length-given count bits') ∙ ap length put ∙ length-append (given (4 * place) bits) (low_bits 4 (get_or slot place 0))
-        ∙ ap (λ n. n + 4) (length-given (4 * place) bits) in
+    ∙ ap (λ n. n + 4) (length-given (4 * place) bits) in
     let same : 4 * (place + 1) ≡ count = omega (arith, long) in
     ap (λ n. given n bits') same ∙ put ∙ ap (λ bs. bs ++ low_bits 4 (get_or slot place 0)) before
     ∙ sym (flat_map-append (low_bits 4) (take place slot) (get_or slot place 0 ∷ [])) ∙ ap line_bits (sym (take_more slot place 0 within))
@@ -66,8 +65,8 @@ pub slot-more : (symbols w phase : ℕ) (signals : List Signal) (signal : Signal
 slot-more symbols w phase signals signal out bits e phase_is count line put grows =
     let slots : List Slot = slots_of (4 * symbols) signals in
     let whole : given (4 * symbols) bits ≡ slot_bits (4 * symbols) (phase_after (4 * symbols) slots) (slot_of (4 * symbols) signal) =
-        ap (λ n. given (4 * n) bits) (sym (count ∙ e)) ∙ put ∙ line ∙ (λ i. slot_bits (4 * w) (phase_is i) (slot_of (4 * w) signal))
-        ∙ (λ i. slot_bits (4 * e i) (phase_after (4 * e i) slots) (slot_of (4 * e i) signal)) in
+    ap (λ n. given (4 * n) bits) (sym (count ∙ e)) ∙ put ∙ line ∙ (λ i. slot_bits (4 * w) (phase_is i) (slot_of (4 * w) signal))
+    ∙ (λ i. slot_bits (4 * e i) (phase_after (4 * e i) slots) (slot_of (4 * e i) signal)) in
     ap (sent_bits (4 * symbols)) (map-append (slot_of (4 * symbols)) signals (signal ∷ [])) ∙ grows (4 * symbols) slots (slot_of (4 * symbols) signal)
     ∙ ap (λ bs. sent_bits (4 * symbols) slots ++ bs) (sym whole)
 

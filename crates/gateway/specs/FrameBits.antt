@@ -9,6 +9,7 @@ use Rattle.gateway.specs.Given.{given}
 -- four flags, the frame and its closing flag, as so many octets
 pub record OpensFrame (octets : List ℕ) (bits : List ℕ) (count : ℕ) : Type 0 where
   pub is_frame : IsFrame octets
+  pub room : 4 * SLOT ≤ length bits
   pub within : count ≤ length bits
   pub bits_are : given count bits ≡ opening 0 (Some octets)
 

@@ -1,5 +1,5 @@
 // Frames, patterns, flags and ones to bits, in slots, and a frame alone.
-ghost use Rattle.std.specs.Prelude.{◌≡◌, ◌+◌, ◌-◌, ◌*◌, ◌<◌, ◌≤◌, ◌↔◌, ◌++◌, ◌∷◌, [], ℕ, List, IsTrue, Some, None, Ok, Err, IfSome, MatchOption, MatchResult, length};
+ghost use Rattle.std.specs.Prelude.{◌≡◌, ◌+◌, ◌-◌, ◌*◌, ◌<◌, ◌≤◌, ◌↔◌, ◌++◌, ◌∷◌, [], ℕ, List, IsTrue, IfErr, MatchOption, length};
 ghost use Rattle.std.specs.Option.{option_copied};
 ghost use Rattle.frame_check.specs.declared.sizes.TheConstants.{SLOT};
 ghost use Rattle.bit_stuffing.specs.BitSlot.{line_bits};
@@ -160,21 +160,23 @@ impl FrameWriter {
     }
 
     /// Writes the bits of the next slot, an octet each, four a symbol: how many.
-    pub fn slot(&mut self, told: &Told, bits: &mut [u8]) -> Result<(), SlotStop>
-        ensures { (symbols : ℕ) (signals : List Signal) → HasWritten symbols self.old signals
+    pub fn slot(&mut self, told: &Told, bits: &mut [u8]) -> Result<usize, SlotStop>
+        ensures writes { (symbols : ℕ) (signals : List Signal) → HasWritten symbols self.old signals
             → SlotWritten symbols signals (signal_of told.now) self.old bits.old self.new bits.new result }
+        ensures stays { IfErr result (λ stop. (self.new ≡ self.old) × (bits.new ≡ bits.old)) }
     {
         if !can_carry(self.symbols, told) {
             return Err(SlotStop::BadFrame);
         }
-        if bits.len() < 4 * usize::from(self.symbols) {
+        let count = 4 * usize::from(self.symbols);
+        if bits.len() < count {
             return Err(SlotStop::Full);
         }
         sent_grows();
         let mut out = BitSlot::new();
         write_told(&mut self.writer, self.symbols, told, &mut out);
         put_slot(&out, bits);
-        Ok(())
+        Ok(count)
     }
 }
 

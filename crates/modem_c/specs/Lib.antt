@@ -13,3 +13,5 @@ pub mod Deframers
 pub mod CodeNumbers
 pub mod Answers
 pub mod Links
+pub mod Framers
+pub mod Offers

@@ -196,7 +196,11 @@ pub extern "C" fn modem_deframer_new(
     let (Some(sender), Some(check)) = (role_of(sender), check_of(check32)) else {
         return BAD_ARGUMENT;
     };
-    make(alloc, handle, Machine::Deframer(FrameReader::new(sender, check)))
+    make(
+        alloc,
+        handle,
+        Machine::Deframer(FrameReader::new(sender, check)),
+    )
 }
 
 /// I frames and S frames have a check of 16 bits, or of 32, from now on: also one that has begun.

@@ -119,11 +119,7 @@ fn is_number(number: Option<u8>) -> bool
 fn are_same(a: FrameFields, b: FrameFields) -> bool
     ensures { IsTrue result ↔ (a ≡ b) }
 {
-    a.control == b.control
-        && a.command == b.command
-        && a.pf == b.pf
-        && a.ns == b.ns
-        && a.nr == b.nr
+    a.control == b.control && a.command == b.command && a.pf == b.pf && a.ns == b.ns && a.nr == b.nr
 }
 
 /// Whether the frame has these fields and this information, and its numbers are below 128.

@@ -1,7 +1,6 @@
-use Rattle.std.proofs.Common.{ℕ, suc, ◌+◌, ◌∷◌, ◌++◌, ◌≡◌, Bool, List, [], true, nat_eq, get_or, ap, sym, subst, ◌∙◌, arith}
+use Rattle.std.proofs.Common.{ℕ, suc, ◌+◌, ◌≡◌, ap, sym, subst, ◌∙◌, arith}
 use Rattle.std.specs.Prelude.{is_some}
 use Rattle.bit_stuffing.specs.Deframer.{DeframerStands}
-use Rattle.bit_stuffing.specs.Found.{answer_of, pieces_of}
 use Rattle.gateway.specs.Given.{given}
 use Rattle.gateway.proofs.FirstEnd.{first-ends, none-ends}
 use Rattle.gateway.proofs.framer.first_end.Goals as goal

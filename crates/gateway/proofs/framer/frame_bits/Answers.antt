@@ -1,7 +1,5 @@
-use Rattle.std.proofs.Common.{ℕ, ◌*◌, ◌≡◌, ◌≤◌, Some, length, refl, ap, ◌∙◌, arith}
-use Rattle.bit_stuffing.specs.Slots.{opening, slot_bits}
-use Rattle.bit_stuffing.specs.Slots.Slot.{Flags}
-use Rattle.gateway.specs.Given.{given}
+use Rattle.std.proofs.Common.{◌≤◌, Some, length, refl, arith}
+use Rattle.bit_stuffing.specs.Slots.{opening}
 use Rattle.gateway.proofs.FirstEnd.{opens, slot-alone}
 use Rattle.gateway.proofs.framer.frame_bits.Goals as goal
 
@@ -12,5 +10,5 @@ returns c = let octets = c.args.octets.now in let bits = c.put_slot.new.bits in
     let fits : length (opening 0 (Some octets)) ≤ 10460 = let high = is_frame.high in omega (arith, short, high) in
     let room : 10460 ≤ length bits = let same = c.put_slot.auto.bits in omega (arith, c.if-bits-lt-FRAME_BITS.false, same) in
     let line = slot-alone 2615 c.new.result.symbols c.new.result.phase octets c.write_flags.new.out bits c.new.ensures.symbols c.new.ensures.stands.phase_is
-        c.write_flags.ensures.count c.write_flags.ensures.bits c.put_slot.ensures in
-    opens 10460 c.first_end.result octets bits is_frame fits room line c.first_end.ensures c.found_is_sent.ensures c.pieces_grow.ensures.none
+    c.write_flags.ensures.count c.write_flags.ensures.bits c.put_slot.ensures in
+    opens 10460 c.first_end.result octets bits refl is_frame fits room line c.first_end.ensures c.found_is_sent.ensures c.pieces_grow.ensures.none

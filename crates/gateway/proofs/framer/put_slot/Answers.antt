@@ -1,4 +1,4 @@
-use Rattle.std.proofs.Common.{ℕ, ◌≡◌, ◌<◌, ◌++◌, ◌*◌, length, ◌∙◌, ap, subst}
+use Rattle.std.proofs.Common.{ℕ, ◌<◌, ◌++◌, ◌*◌, length, ◌∙◌, ap, subst}
 use Rattle.plain_lists.specs.Bits.{low_bits}
 use Rattle.gateway.specs.Given.{given}
 use Rattle.gateway.proofs.Slotted.{quad-more}

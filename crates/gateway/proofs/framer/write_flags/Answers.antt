@@ -1,4 +1,4 @@
-use Rattle.std.proofs.Common.{ℕ, ◌*◌, ◌-◌, ◌≤◌, length}
+use Rattle.std.proofs.Common.{◌*◌, ◌-◌, ◌≤◌, length}
 use Rattle.std.specs.Option.{option_copied}
 use Rattle.bit_stuffing.specs.Slots.{opening, slot_bits}
 use Rattle.bit_stuffing.specs.Slots.Slot.{Flags}
@@ -13,6 +13,6 @@ pub returns-clause-count : goal.returns-clause-count
 returns-clause-count c =
     let symbols = c.args.writer.now.symbols in let phase = c.args.writer.now.phase in let frame = option_copied c.args.frame in
     let room : length (opening phase frame) ≤ 4 * (symbols - 128) = fits-room symbols phase frame c.requires.phase c.requires.low c.requires.fits
-        c.opening_is_short.ensures.without c.opening_is_short.ensures.with_frame in
+    c.opening_is_short.ensures.without c.opening_is_short.ensures.with_frame in
     whole-slot c.slot.new.out (slot_bits (4 * symbols) phase (Flags frame)) symbols c.slot.ensures.bits
     (c.slots_have_size.ensures.size (4 * symbols) phase (Flags frame) (flags-slot symbols phase frame c.requires.fits room))

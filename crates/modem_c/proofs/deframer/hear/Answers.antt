@@ -1,4 +1,4 @@
-use Rattle.std.proofs.Common.{ℕ, List, Bool, ◌++◌, length, subst, ap, sym, refl, ◌∙◌}
+use Rattle.std.proofs.Common.{ℕ, ◌++◌, length, subst, ap, sym, refl, ◌∙◌}
 use Rattle.gateway.specs.declared.deframer.FrameStop.{FrameStop}
 use Rattle.gateway.specs.declared.deframer.FrameStop.TheVariants as stops
 use Rattle.gateway.specs.Given.{heard}
@@ -32,6 +32,8 @@ returns-in-Piece-clause-pushed c = λ sender check past start. let bits = c.args
     (subst (λ (n : ℕ). StopsAt past bits n (stops.Piece c.in-Piece.piece)) same
     (subst (λ (stop : FrameStop). StopsAt past bits read stop) c.in-Piece.is (c.push-read.ensures.stops sender check past start)))
     (c.tell_piece.ensures.ended ∙ c.heard-found.ensures sender check (past ++ heard read bits) (c.push-read.ensures.reads sender check past start)
-    ∙ ap (λ (n : ℕ). length (past ++ heard n bits)) same)
-    (refl, subst (λ (n : ℕ). Tells sender check (past ++ heard n bits) c.in-Piece.piece c.tell_piece.new.found c.args.room.now c.tell_piece.new.room) same
-    (c.tell_piece.ensures.tells sender check (past ++ heard read bits) (c.push-read.ensures.reads sender check past start)))
+    ∙ ap (λ (n : ℕ). length (past ++ heard n bits)) same) (
+      refl,
+      subst (λ (n : ℕ). Tells sender check (past ++ heard n bits) c.in-Piece.piece c.tell_piece.new.found c.args.room.now c.tell_piece.new.room) same
+          (c.tell_piece.ensures.tells sender check (past ++ heard read bits) (c.push-read.ensures.reads sender check past start)),
+    )

@@ -1,4 +1,4 @@
-use Rattle.std.proofs.Common.{◌≡◌, ◌++◌, ℕ, List, length, drop, Option, Some, subst, sym, ap, refl, ◌∙◌, pos}
+use Rattle.std.proofs.Common.{◌≡◌, ℕ, List, length, Option, Some, subst, sym, ap, refl, ◌∙◌, pos}
 use Rattle.shared_terms.specs.declared.role.Role.{Role}
 use Rattle.frame_check.specs.declared.check.Check.{Check}
 use Rattle.modem_c.specs.Answered.{Puts}

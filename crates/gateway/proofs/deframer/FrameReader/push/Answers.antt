@@ -1,4 +1,4 @@
-use Rattle.std.proofs.Common.{ℕ, suc, ◌+◌, ◌<◌, ◌≤◌, ◌≡◌, ◌++◌, Bool, List, None, length, ap, sym, subst, refl, ◌∙◌, arith}
+use Rattle.std.proofs.Common.{ℕ, ◌+◌, ◌<◌, ◌≡◌, ◌++◌, Bool, List, length, ap, sym, subst, refl, ◌∙◌, arith}
 use Rattle.bit_stuffing.specs.Deframer.{DeframerStands}
 use Rattle.bit_stuffing.specs.Found.{answer_of}
 use Rattle.gateway.specs.Given.{heard}
@@ -15,9 +15,15 @@ returns-in-Some-push-clause-reads c = λ sender check past start. let k = c.loop
 }
 
 pub returns-in-Some-push-clause-stops : goal.returns-in-Some-push-clause-stops
-returns-in-Some-push-clause-stops c = λ sender check past start. let k = c.loop-place.place in let bits = c.args.bits.now in
-    (subst (λ (n : ℕ). n + length bits < 18446744073709551616) start.count_is c.in-Some.ensures.0, (k, refl, c.loop-place.invariant.quiet past start.stands,
-    ap answer_of (sym (heard-more past bits k (k + 1) (omega arith))) ∙ sym (c.push.ensures.value (past ++ heard k bits) (c.loop-place.invariant.stands past start.stands)) ∙ c.in-Some-push.is))
+returns-in-Some-push-clause-stops c = λ sender check past start. let k = c.loop-place.place in let bits = c.args.bits.now in (
+  subst (λ (n : ℕ). n + length bits < 18446744073709551616) start.count_is c.in-Some.ensures.0,
+  (
+    k,
+    refl,
+    c.loop-place.invariant.quiet past start.stands,
+    ap answer_of (sym (heard-more past bits k (k + 1) (omega arith))) ∙ sym (c.push.ensures.value (past ++ heard k bits) (c.loop-place.invariant.stands past start.stands)) ∙ c.in-Some-push.is,
+  ),
+)
 
 pub loop-place-preserved : goal.loop-place-preserved
 loop-place-preserved c = let k = c.loop-place.place in let bits = c.args.bits.now in record {
@@ -33,9 +39,9 @@ loop-place-preserved c = let k = c.loop-place.place in let bits = c.args.bits.no
 pub returns-clause-reads : goal.returns-clause-reads
 returns-clause-reads c = λ sender check past start. let bits = c.args.bits.now in
     let all : c.loop-place.place ≡ length bits = omega (arith, c.loop-place.auto.place-end, c.loop-place-test.false) in record {
-  stands = subst (λ (k : ℕ). DeframerStands c.loop-place.self.deframer (past ++ heard k bits)) all
-      (c.loop-place.invariant.stands past start.stands);
-  sender_is = c.loop-place.invariant.sender ∙ start.sender_is;
-  check_is = c.loop-place.invariant.check ∙ start.check_is;
-  count_is = c.in-Some.ensures.1 ∙ ap (λ n. n + length bits) start.count_is ∙ sym (length-heard-behind past bits (length bits));
-}
+      stands = subst (λ (k : ℕ). DeframerStands c.loop-place.self.deframer (past ++ heard k bits)) all
+          (c.loop-place.invariant.stands past start.stands);
+      sender_is = c.loop-place.invariant.sender ∙ start.sender_is;
+      check_is = c.loop-place.invariant.check ∙ start.check_is;
+      count_is = c.in-Some.ensures.1 ∙ ap (λ n. n + length bits) start.count_is ∙ sym (length-heard-behind past bits (length bits));
+    }

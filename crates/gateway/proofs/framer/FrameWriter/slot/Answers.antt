@@ -1,6 +1,5 @@
-use Rattle.std.proofs.Common.{ℕ, ◌≡◌, ◌*◌, ◌∷◌, ◌++◌, [], List, length, refl, ap, sym, subst, ◌∙◌, arith}
-use Rattle.bit_stuffing.specs.Slots.{Slot}
-use Rattle.detection.specs.Slots.{Signal, slot_of, slots_of}
+use Rattle.std.proofs.Common.{ℕ, ◌≡◌, ◌*◌, refl, subst, ◌∙◌, arith}
+use Rattle.detection.specs.Slots.{Signal, slots_of}
 use Rattle.gateway.specs.Signals.{signal_of}
 use Rattle.gateway.specs.SlotsWritten.{Carries}
 use Rattle.gateway.proofs.Slotted.{slot-more, stands-behind, stands-more}
@@ -14,12 +13,13 @@ invariant_of-self c = record {
   stands = stands-more c.args.self.now.writer c.write_told.new.writer _ c.write_told.ensures.stands c.args.self.now.stands;
 }
 
-pub returns : goal.returns
-returns c = λ symbols signals start.
+pub returns-clause-writes : goal.returns-clause-writes
+returns-clause-writes c = λ symbols signals start.
     let same : c.args.self.now.writer.symbols ≡ symbols = c.args.self.now.same ∙ start.symbols_are in
     let signal : Signal = signal_of c.args.told.now in record {
       carries = subst (λ (n : ℕ). Carries n signal) start.symbols_are (c.if-not-can_carry.ensures.0 refl);
-      room = let same_bits = c.put_slot.auto.bits in let s = start.symbols_are in let n = c.from.ensures in omega (arith, c.if-bits-from.false, n, s, same_bits);
+      count_is = let s = start.symbols_are in let n = c.from-count.ensures in omega (arith, n, s);
+      room = let same_bits = c.put_slot.auto.bits in let s = start.symbols_are in let n = c.from-count.ensures in omega (arith, c.if-bits-count.false, n, s, same_bits);
       writes = record {
         symbols_are = start.symbols_are;
         stands = stands-behind c.write_told.new.writer symbols c.args.self.now.writer.symbols signals signal same (c.write_told.ensures.stands (slots_of (4 * symbols) signals) start.stands);
