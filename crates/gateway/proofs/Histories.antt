@@ -47,7 +47,7 @@ use Rattle.gateway.specs.declared.link.BreakAsked.TheVariants as asked
 use Rattle.gateway.specs.Turns.{Arrives, told_as}
 use Rattle.gateway.specs.Endpoints.{HeardAs, SaysAs, OfferedAs, AnswersBreak, longest_wanted, is_taken}
 use Rattle.gateway.specs.Histories.{EndSide, Move, Speaks, Passes, Is_lost, Hears_nothing, Is_offered, Is_asked, Is_delivered, Is_busy}
-use Rattle.gateway.specs.Histories.{CarriesTold, HearsOf, SpeaksOf, LosesOf, PassesOf, OfferedOf, AskedOf, DeliveredOf}
+use Rattle.gateway.specs.Histories.{CarriesTold, HearsOf, HearsNothing, SpeaksOf, LosesOf, PassesOf, OfferedOf, AskedOf, DeliveredOf}
 use Rattle.gateway.specs.Histories.{IsMade, Step, Begins, History, HistoriesArePlays, HistoriesKeepPrefixes, with_offered, with_delivered}
 use Rattle.gateway.proofs.Lists.{Lists, lists, Grows, grows-heard, kept-spoken}
 use Rattle.gateway.proofs.Agreeing.{OnSent, Reads, face, KnowsAt, knows-turned, knows-as, nothing-arrives, first-arrives, knows-less, knows-heard, knows-spoken, agreed_check, check-sent, check-heard, knows-first}
@@ -441,14 +441,26 @@ heard-side laws check role turn arrived x b slots old new h e is role_is stands 
     side-of check role (after_given b) slots new (record old { end = new.end }) is stands (role_is ∙ h.role_is) h.line
     (book-grows old.offered old.delivered x b (grows-heard laws.keeps turn arrived x b e) h.book)
 
+-- what arrives as nothing arrives as nothing else
+one-nothing : (check : Check) (role : Role) (carried : Carried) (arrived : Arrived) → Arrives check role carried arrived
+    → Arrives check role carried arrivals.Nothing → arrived ≡ arrivals.Nothing
+one-nothing check role loads.Nothing arrived h k = h
+one-nothing check role (loads.Pattern pattern) arrived h k = h ∙ sym k
+one-nothing check role (loads.Octets octets) arrivals.Nothing h k = refl
+one-nothing check role (loads.Octets octets) (arrivals.Frame frame) h k = absurd (k frame h)
+one-nothing check role (loads.Octets octets) (arrivals.Pattern pattern) h k = absurd h
+
 hears-step : HistoryLaws → (so sa : Setup) → Reads so sa → (role : Role) (own peer new : EndSide) → LastsAt so sa role own peer
-    → HearsOf loads.Nothing own new → LastsAt so sa role new peer
-hears-step laws so sa reads role own peer new h m =
+    → HearsNothing own new → LastsAt so sa role new peer
+hears-step laws so sa reads role own peer new h nothing =
+    let m = nothing.hears in
     let turn : ℕ = own.end.state.turn in
     let k = m.hears.hears h.x h.own_side.stands in
+    let none : k.arrived ≡ arrivals.Nothing =
+    one-nothing (check_of h.x) (other own.end.role) nothing.carried k.arrived k.arrives (nothing.is_nothing h.x h.own_side.stands) in
     let heard = has-heard (hear turn k.arrived h.x) h.x new.end.link m.given k.becomes in
     let is : hear turn arrivals.Nothing h.x ≡ Ok heard.account =
-    subst (λ (v : Arrived). hear turn v h.x ≡ Ok heard.account) k.arrives heard.becomes_is in
+    subst (λ (v : Arrived). hear turn v h.x ≡ Ok heard.account) none heard.becomes_is in
     record {
       x = after_given heard.account;
       lx = h.lx;

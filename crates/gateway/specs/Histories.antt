@@ -4,11 +4,14 @@ use Rattle.shared_terms.specs.declared.role.Role.{Role}
 use Rattle.shared_terms.specs.Role.{other}
 use Rattle.shared_terms.specs.Both.{Both, of}
 use Rattle.plain_lists.specs.Prefix.{IsPrefixOf}
+use Rattle.lapm_frames.specs.declared.arrived.Arrived.TheVariants as arrivals
 use Rattle.link_account.specs.declared.setup.Setup.{Setup}
+use Rattle.link_account.specs.Account.{Account, check_of}
 use Rattle.link_account.specs.Play.{Event, seen_from}
 use Rattle.link_account.specs.Laws.{MayPlay, played}
 use Rattle.lapm_link.specs.Stands.{StandsFor}
 use Rattle.gateway.specs.declared.turns.Carried.{Carried}
+use Rattle.gateway.specs.Turns.{Arrives}
 use Rattle.gateway.specs.declared.turns.Carried.TheVariants as loads
 use Rattle.gateway.specs.declared.turns.Told.{Told}
 use Rattle.gateway.specs.declared.turns.Told.TheVariants as told
@@ -48,6 +51,12 @@ pub record HearsOf (carried : Carried) (old new : EndSide) : Type 0 where
   pub given : Option ℕ
   pub hears : HearsTurn old.end carried new.end (Ok given)
   pub new_is : new ≡ record old { end = new.end }
+
+-- It hears what is no frame by its check, as octets that the line damaged, or nothing at all.
+pub record HearsNothing (old new : EndSide) : Type 0 where
+  pub carried : Carried
+  pub is_nothing : (a : Account) → StandsFor old.end.link a → Arrives (check_of a) (other old.end.role) carried arrivals.Nothing
+  pub hears : HearsOf carried old new
 
 -- It speaks.
 pub record SpeaksOf (release : Bool) (old new : EndSide) : Type 0 where
@@ -108,7 +117,7 @@ abbrev pub IsMade : Move → EndSide → EndSide → EndSide → EndSide → Typ
 IsMade (Speaks release) old peer new after = SpeaksOf release old new × (after ≡ peer)
 IsMade Passes old peer new after = PassesOf old peer new after
 IsMade Is_lost old peer new after = LosesOf old new × (after ≡ peer)
-IsMade Hears_nothing old peer new after = HearsOf loads.Nothing old new × (after ≡ peer)
+IsMade Hears_nothing old peer new after = HearsNothing old new × (after ≡ peer)
 IsMade (Is_offered piece) old peer new after = OfferedOf piece old new × (after ≡ peer)
 IsMade (Is_asked units) old peer new after = AskedOf units old new × (after ≡ peer)
 IsMade Is_delivered old peer new after = DeliveredOf old new × (after ≡ peer)
