@@ -1,14 +1,15 @@
 -- Two ends by the calls that are made of them, over a line that may lose whatever is said.
-use Rattle.std.specs.Prelude.{◌≡◌, ℕ, Bool, true, false, List, [], ◌∷◌, ◌++◌, Option, Some, None, Ok}
+use Rattle.std.specs.Prelude.{◌≡◌, ℕ, Bool, true, false, List, [], ◌∷◌, ◌++◌, Option, Some, None, Ok, Err}
 use Rattle.shared_terms.specs.declared.role.Role.{Role}
 use Rattle.shared_terms.specs.Role.{other}
+use Rattle.shared_terms.specs.declared.fault.LinkFault.{LinkFault}
 use Rattle.shared_terms.specs.Both.{Both, of}
 use Rattle.plain_lists.specs.Prefix.{IsPrefixOf}
 use Rattle.lapm_frames.specs.declared.arrived.Arrived.TheVariants as arrivals
 use Rattle.link_account.specs.declared.setup.Setup.{Setup}
 use Rattle.link_account.specs.Account.{Account, check_of}
 use Rattle.link_account.specs.Play.{Event, seen_from}
-use Rattle.link_account.specs.Laws.{MayPlay, played}
+use Rattle.link_account.specs.Laws.{MayPlay, played, WantsAnswers}
 use Rattle.lapm_link.specs.Stands.{StandsFor}
 use Rattle.gateway.specs.declared.turns.Carried.{Carried}
 use Rattle.gateway.specs.Turns.{Arrives}
@@ -16,6 +17,7 @@ use Rattle.gateway.specs.declared.turns.Carried.TheVariants as loads
 use Rattle.gateway.specs.declared.turns.Told.{Told}
 use Rattle.gateway.specs.declared.turns.Told.TheVariants as told
 use Rattle.gateway.specs.declared.link.Endpoint.{Endpoint}
+use Rattle.gateway.specs.declared.link.LinkStop.TheVariants as stops
 use Rattle.gateway.specs.declared.link.BreakAsked.{BreakAsked}
 use Rattle.gateway.specs.Endpoints.{IsNew, HearsTurn, Delivers, Offers, IsToldBusy, AnswersBreak, SpeaksTurn}
 
@@ -155,3 +157,16 @@ HistoriesArePlays = (so sa : Setup) (steps : List Step) (ends : Both EndSide) �
 abbrev pub HistoriesKeepPrefixes : Type 0
 HistoriesKeepPrefixes = (so sa : Setup) (steps : List Step) (ends : Both EndSide) → MayPlay so sa → History so sa steps ends
     → (role : Role) → IsPrefixOf (of role ends).delivered (of (other role) ends).offered
+
+-- An end that speaks breaks for want of answers alone: the other end answered no pattern, or all tries are spent.
+abbrev pub SpeakingBreaksForWant : Type 0
+SpeakingBreaksForWant = (so sa : Setup) (steps : List Step) (ends : Both EndSide) → MayPlay so sa → History so sa steps ends
+    → (role : Role) (release : Bool) (new : Endpoint) (fault : LinkFault)
+    → SpeaksTurn (of role ends).end release new (Err (stops.Broken fault)) → WantsAnswers (Some fault)
+
+-- And no end breaks as it hears what the other said.
+abbrev pub HearingNeverBreaks : Type 0
+HearingNeverBreaks = (so sa : Setup) (steps : List Step) (ends : Both EndSide) → MayPlay so sa → History so sa steps ends
+    → (role : Role) (said : Told) (rest : List Told) (carried : Carried) (new : Endpoint) (fault : LinkFault)
+    → (of role ends).line ≡ said ∷ rest → CarriesTold said carried
+    → HearsTurn (of (other role) ends).end carried new (Err (stops.Broken fault)) → ⊥
