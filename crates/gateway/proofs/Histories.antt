@@ -31,7 +31,7 @@ use Rattle.link_account.specs.Play.{Slot, Play, Event, arrives, spoken, heard, h
 use Rattle.link_account.specs.Play as plays
 use Rattle.link_account.specs.declared.phase.Phase.{Phase}
 use Rattle.link_account.specs.declared.phase.Phase.TheVariants as phases
-use Rattle.link_account.specs.Laws.{MayPlay, played, TakesInOrder, has_begun}
+use Rattle.link_account.specs.Laws.{MayPlay, played, TakesInOrder, has_begun, WantsAnswers, BreaksForWantAlone}
 use Rattle.lapm_receiver.specs.Incoming.{KeepsTaken, after_delivered}
 use Rattle.break_signals.specs.Breaks.{after_ask}
 use Rattle.lapm_sender.specs.Outgoing.{wanted}
@@ -47,9 +47,9 @@ use Rattle.gateway.specs.declared.link.BreakAsked.TheVariants as asked
 use Rattle.gateway.specs.Turns.{Arrives, told_as}
 use Rattle.gateway.specs.Endpoints.{HeardAs, SaysAs, OfferedAs, AnswersBreak, longest_wanted, is_taken}
 use Rattle.gateway.specs.Histories.{EndSide, Move, Speaks, Passes, Is_lost, Hears_nothing, Is_offered, Is_asked, Is_delivered, Is_busy}
-use Rattle.gateway.specs.Histories.{CarriesTold, HearsOf, SpeaksOf, LosesOf, PassesOf, OfferedOf, AskedOf, DeliveredOf}
-use Rattle.gateway.specs.Histories.{IsMade, Step, Begins, History, HistoriesArePlays, HistoriesKeepPrefixes, with_offered, with_delivered}
-use Rattle.gateway.proofs.Lists.{Lists, lists, Grows, grows-heard, kept-spoken}
+use Rattle.gateway.specs.Histories.{CarriesTold, HearsOf, HearsNothing, SpeaksOf, LosesOf, PassesOf, OfferedOf, AskedOf, DeliveredOf}
+use Rattle.gateway.specs.Histories.{SpeakingBreaksForWant, HearingNeverBreaks, IsMade, Step, Begins, History, HistoriesArePlays, HistoriesKeepPrefixes, with_offered, with_delivered}
+use Rattle.gateway.proofs.Lists.{Lists, lists, Grows, grows-heard, kept-spoken, breaks-not}
 use Rattle.gateway.proofs.Agreeing.{OnSent, Reads, face, KnowsAt, knows-turned, knows-as, nothing-arrives, first-arrives, knows-less, knows-heard, knows-spoken, agreed_check, check-sent, check-heard, knows-first}
 
 -- what is known of frames and their octets, of receivers and of offers
@@ -441,14 +441,26 @@ heard-side laws check role turn arrived x b slots old new h e is role_is stands 
     side-of check role (after_given b) slots new (record old { end = new.end }) is stands (role_is ∙ h.role_is) h.line
     (book-grows old.offered old.delivered x b (grows-heard laws.keeps turn arrived x b e) h.book)
 
+-- what arrives as nothing arrives as nothing else
+one-nothing : (check : Check) (role : Role) (carried : Carried) (arrived : Arrived) → Arrives check role carried arrived
+    → Arrives check role carried arrivals.Nothing → arrived ≡ arrivals.Nothing
+one-nothing check role loads.Nothing arrived h k = h
+one-nothing check role (loads.Pattern pattern) arrived h k = h ∙ sym k
+one-nothing check role (loads.Octets octets) arrivals.Nothing h k = refl
+one-nothing check role (loads.Octets octets) (arrivals.Frame frame) h k = absurd (k frame h)
+one-nothing check role (loads.Octets octets) (arrivals.Pattern pattern) h k = absurd h
+
 hears-step : HistoryLaws → (so sa : Setup) → Reads so sa → (role : Role) (own peer new : EndSide) → LastsAt so sa role own peer
-    → HearsOf loads.Nothing own new → LastsAt so sa role new peer
-hears-step laws so sa reads role own peer new h m =
+    → HearsNothing own new → LastsAt so sa role new peer
+hears-step laws so sa reads role own peer new h nothing =
+    let m = nothing.hears in
     let turn : ℕ = own.end.state.turn in
     let k = m.hears.hears h.x h.own_side.stands in
+    let none : k.arrived ≡ arrivals.Nothing =
+    one-nothing (check_of h.x) (other own.end.role) nothing.carried k.arrived k.arrives (nothing.is_nothing h.x h.own_side.stands) in
     let heard = has-heard (hear turn k.arrived h.x) h.x new.end.link m.given k.becomes in
     let is : hear turn arrivals.Nothing h.x ≡ Ok heard.account =
-    subst (λ (v : Arrived). hear turn v h.x ≡ Ok heard.account) k.arrives heard.becomes_is in
+    subst (λ (v : Arrived). hear turn v h.x ≡ Ok heard.account) none heard.becomes_is in
     record {
       x = after_given heard.account;
       lx = h.lx;
@@ -732,3 +744,76 @@ histories_keep_prefixes laws in_order so sa steps ends m h role = go role (lasts
     go Answerer l = begins Answerer ends.answ ends.orig l
         (subst (λ (p : Play). IsPrefixOf p.answerer.account.incoming.taken p.originator.account.outgoing.pieces) l.led
         (in_order so sa l.events m).0)
+
+-- ---- breaks
+
+-- where an event leaves a fault, the law of plays says of which kind
+wanted-fault : BreaksForWantAlone → (so sa : Setup) → MayPlay so sa → (role : Role) (events : List Event) (event : Event) (p : Play)
+    (fault : LinkFault) → played so sa events ≡ p → (seen_from role (happens event p)).own.fault ≡ Some fault → WantsAnswers (Some fault)
+wanted-fault wants_alone so sa m role events event p fault e f =
+    subst WantsAnswers f (subst (λ (q : Play). WantsAnswers (seen_from role q).own.fault)
+    (led-on so sa events event p (happens event p) e refl) (go role))
+  where
+    go : (role : Role) → WantsAnswers (seen_from role (played so sa (events ++ event ∷ []))).own.fault
+    go Originator = (wants_alone so sa (events ++ event ∷ []) m).0
+    go Answerer = (wants_alone so sa (events ++ event ∷ []) m).1
+
+speaking-fault : (role : Role) (turn : ℕ) (release : Bool) (x y : Account) (lx ly : List Slot) (fault : LinkFault)
+    → speak turn release x ≡ Err fault
+    → (seen_from role (happens (plays.Speaks role turn release) (at role x lx y ly))).own.fault ≡ Some fault
+speaking-fault Originator turn release x y lx ly fault e =
+    ap (λ r. (spoken r (record { account = x; line = lx; fault = None })).fault) e
+speaking-fault Answerer turn release x y lx ly fault e =
+    ap (λ r. (spoken r (record { account = x; line = lx; fault = None })).fault) e
+
+passing-fault : (role : Role) (turn : ℕ) (x y : Account) (slot : Slot) (rest ly : List Slot) (fault : LinkFault)
+    → hear turn (arrives slot.sent) y ≡ Err fault
+    → (seen_from (other role) (happens (plays.Passes role turn) (at role x (slot ∷ rest) y ly))).own.fault ≡ Some fault
+passing-fault Originator turn x y slot rest ly fault e = ap (λ r. (heard r (record { account = y; line = ly; fault = None })).fault) e
+passing-fault Answerer turn x y slot rest ly fault e = ap (λ r. (heard r (record { account = y; line = ly; fault = None })).fault) e
+
+pub speaking_breaks_for_want : HistoryLaws → BreaksForWantAlone → SpeakingBreaksForWant
+speaking_breaks_for_want laws wants_alone so sa steps ends m hist role release new fault s =
+    let h = lasts laws so sa steps ends m hist role in
+    go h (speak (of role ends).end.state.turn release h.x) refl (s.says h.x h.own_side.stands)
+  where
+    go : (h : LastsAt so sa role (of role ends) (of (other role) ends)) (r : Result Said LinkFault)
+        → speak (of role ends).end.state.turn release h.x ≡ r → SaysAs r (of role ends).end.role h.x new.link (Err fault)
+        → WantsAnswers (Some fault)
+    go h (Ok said) e k = absurd k
+    go h (Err broken) e k =
+        wanted-fault wants_alone so sa m role h.events (plays.Speaks role (of role ends).end.state.turn release)
+        (at role h.x h.lx h.y h.ly) fault h.led
+        (speaking-fault role (of role ends).end.state.turn release h.x h.y h.lx h.ly fault (e ∙ ap Err (sym k.0)))
+
+pub hearing_never_breaks : HistoryLaws → BreaksForWantAlone → HearingNeverBreaks
+hearing_never_breaks laws wants_alone so sa steps ends m hist role said rest carried new fault line carries s =
+    let h = lasts laws so sa steps ends m hist role in
+    at-line h h.lx refl (subst (AllTold (agreed_check so sa) role h.lx) line h.own_side.line)
+  where
+    at-line : (h : LastsAt so sa role (of role ends) (of (other role) ends)) (slots : List Slot) → h.lx ≡ slots
+        → AllTold (agreed_check so sa) role slots (said ∷ rest) → ⊥
+    at-line h [] e t = absurd t
+    at-line h (slot ∷ left) e t =
+        let peer : Endpoint = (of (other role) ends).end in
+        let known : KnowsAt role so sa h.x (slot ∷ left) h.y h.ly =
+        subst (λ (l : List Slot). KnowsAt role so sa h.x l h.y h.ly) e h.known in
+        let k = s.hears h.y h.peer_side.stands in
+        let from : other peer.role ≡ role = ap other h.peer_side.role_is ∙ other-other role in
+        let arrived : k.arrived ≡ arrives slot.sent =
+        arrives-as-sent laws (agreed_check so sa) (check_of h.y) role slot.sent said carried k.arrived t.0
+        (check-heard role so sa h.x slot left h.y h.ly known) carries
+        (subst (λ (r : Role). Arrives (check_of h.y) r carried k.arrived) from k.arrives) in
+        go h slot left (h.led ∙ ap (λ (l : List Slot). at role h.x l h.y h.ly) e)
+        (hear peer.state.turn (arrives slot.sent) h.y) refl
+        (subst (λ (v : Arrived). HeardAs (hear peer.state.turn v h.y) h.y new.link (Err fault)) arrived k.becomes)
+      where
+        go : (h : LastsAt so sa role (of role ends) (of (other role) ends)) (slot : Slot) (left : List Slot)
+            → played so sa h.events ≡ at role h.x (slot ∷ left) h.y h.ly → (r : Result Account LinkFault)
+            → hear (of (other role) ends).end.state.turn (arrives slot.sent) h.y ≡ r → HeardAs r h.y new.link (Err fault) → ⊥
+        go h slot left led (Ok b) e k = absurd k
+        go h slot left led (Err broken) e k =
+            breaks-not laws.keeps (of (other role) ends).end.state.turn (arrives slot.sent) h.y broken e
+            (wanted-fault wants_alone so sa m (other role) h.events (plays.Passes role (of (other role) ends).end.state.turn)
+            (at role h.x (slot ∷ left) h.y h.ly) broken led
+            (passing-fault role (of (other role) ends).end.state.turn h.x h.y slot left h.ly broken e))

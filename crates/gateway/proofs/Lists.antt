@@ -32,7 +32,7 @@ use Rattle.link_account.specs.declared.phase.Phase.TheVariants.{Detecting, Negot
 use Rattle.link_account.specs.declared.answer.Answer.{Answer}
 use Rattle.link_account.specs.declared.answer.Answer.TheVariants as answers
 use Rattle.link_account.specs.Account.{Account}
-use Rattle.link_account.specs.Laws.{has_begun}
+use Rattle.link_account.specs.Laws.{has_begun, WantsAnswers}
 use Rattle.link_account.specs.Hear.{hear, on_frame, on_seen, on_pattern, on_detecting, on_negotiating, on_establishing, on_connected, on_releasing, on_closed, on_nothing, on_xid_command, on_xid_response, on_number, on_sabme, on_disc, on_word, then_in, taking, replying, hurrying, ends_wait, owing, trying, timer_after, peer_reset, pausing}
 use Rattle.link_account.specs.Speak.{Said, says, says_segment, says_own, says_break, says_asking, where_says, else_says, answering, may_send, step1, step2, step3, step4, step5, step6, step7, step8, steps, speak, speak_in, speak_detecting, speak_negotiating, speak_releasing, speak_linked, speak_answer, u_try, tries_frame, trying_again, spent, on_timer, timer_expires, polling, on_break_timer, breaking, then_tries, after_timers, tells, has_news}
 
@@ -55,7 +55,7 @@ Grows a b =
 
 abbrev OnHearing : Account → Result Account LinkFault → Type 0
 OnHearing a (Ok b) = Grows a b
-OnHearing a (Err fault) = Unit {0}
+OnHearing a (Err fault) = WantsAnswers (Some fault) → ⊥
 
 same : (a b : Account) → lists b ≡ lists a → Grows a b
 same a b e = inl ([], e ∙ ap (λ (l : List (List ℕ)). record (lists a) { taken = l }) (sym (append-nil a.incoming.taken)))
@@ -80,7 +80,7 @@ negotiating Originator (Xid false pf info) turn a e = response (offer_in info)
     response : (o : Option Offer) → Grows a (on_xid_response o turn a)
     response None = same a a refl
     response (Some offer) = same a (on_xid_response (Some offer) turn a) (moved a Establishing (sym e))
-negotiating Originator (Dm pf) turn a e = tt
+negotiating Originator (Dm pf) turn a e = λ z. z
 negotiating Answerer (Xid true pf info) turn a e = command (offer_in info)
   where
     command : (o : Option Offer) → Grows a (on_xid_command o a)
@@ -92,7 +92,7 @@ negotiating role frame turn a e = same a a refl
 
 establishing : (frame : Frame) (turn : ℕ) (a : Account) → has_begun a.phase ≡ false → OnHearing a (on_establishing frame turn a)
 establishing (Ua true) turn a e = inr (e, refl)
-establishing (Dm true) turn a e = tt
+establishing (Dm true) turn a e = λ z. z
 establishing frame turn a e = same a a refl
 
 releasing : (frame : Frame) (a : Account) → has_begun a.phase ≡ true → OnHearing a (on_releasing frame a)
@@ -148,7 +148,7 @@ out-cond false o m n h k = k
 -- a number, and then what leaves the lists as they are
 numbered : (turn nr : ℕ) (a : Account) (f : Account → Account) (m : Option Outgoing) → ((b : Account) → lists (f b) ≡ lists b)
     → IfOut a.outgoing m → OnHearing a (then_in f (on_number turn nr m a))
-numbered turn nr a f None kept h = tt
+numbered turn nr a f None kept h = λ z. z
 numbered turn nr a f (Some new) kept h =
     let b : Account =
     record a { numbered = true; outgoing = new; wait = record a.wait { timer = timer_after turn a.outgoing new a.wait.timer } } in
@@ -162,7 +162,7 @@ kind-given Gap o info i = refl
 
 segment : KeepsTaken → (turn ns nr : ℕ) (pf : Bool) (info : List ℕ) (a : Account) (m : Option Outgoing) → IfOut a.outgoing m
     → OnHearing a (then_in (λ b. replying pf (taking ns info b)) (on_number turn nr m a))
-segment keeps turn ns nr pf info a None h = tt
+segment keeps turn ns nr pf info a None h = λ z. z
 segment keeps turn ns nr pf info a (Some new) h =
     let more = keeps ns info a.incoming in
     inl (
@@ -187,11 +187,11 @@ sabme : (pf : Bool) (a : Account) → OnHearing a (on_sabme pf a)
 sabme pf a = go (a.numbered || is_originator a.setup.role)
   where
     go : (b : Bool) → OnHearing a (cond b (Err (peer_reset a)) (Ok (owing (answers.Ua pf) a)))
-    go true = tt
+    go true = λ z. z
     go false = same a (owing (answers.Ua pf) a) refl
 
 disc : (role : Role) (pf : Bool) (a : Account) → has_begun a.phase ≡ true → OnHearing a (on_disc role pf a)
-disc Originator pf a e = tt
+disc Originator pf a e = λ z. z
 disc Answerer pf a e = same a (owing (answers.Ua pf) (record a { phase = Closed })) (moved a Closed (sym e))
 
 linked : KeepsTaken → (frame : Frame) (turn : ℕ) (a : Account) → has_begun a.phase ≡ true → OnHearing a (on_connected frame turn a)
@@ -215,15 +215,15 @@ linked keeps (Rej command nr pf) turn a e =
 linked keeps (Srej command nr pf) turn a e = chosen (selected nr a.outgoing) (out-selected nr a.outgoing)
   where
     chosen : (m : Option Outgoing) → IfOut a.outgoing m → OnHearing a (on_number turn nr m a)
-    chosen None h = tt
+    chosen None h = λ z. z
     chosen (Some new) h = same a
         (record a { numbered = true; outgoing = new; wait = record a.wait { timer = timer_after turn a.outgoing new a.wait.timer } })
         (ap (λ (l : List (List ℕ)). record (lists a) { pieces = l }) h)
 linked keeps (Sabme pf) turn a e = sabme pf a
 linked keeps (Disc pf) turn a e = disc a.setup.role pf a e
 linked keeps (Ua pf) turn a e = same a a refl
-linked keeps (Dm pf) turn a e = tt
-linked keeps (Frmr pf info) turn a e = tt
+linked keeps (Dm pf) turn a e = λ z. z
+linked keeps (Frmr pf info) turn a e = λ z. z
 linked keeps (Ui command pf info) turn a e = word turn (word_in info) a
 linked keeps (Xid command pf info) turn a e = same a a refl
 linked keeps (Test command pf info) turn a e = same a a refl
@@ -257,6 +257,11 @@ hearing keeps turn (arrivals.Frame frame) a = framed keeps a.phase frame turn a 
 
 pub grows-heard : KeepsTaken → (turn : ℕ) (arrived : Arrived) (a b : Account) → hear turn arrived a ≡ Ok b → Grows a b
 grows-heard keeps turn arrived a b e = subst (OnHearing a) e (hearing keeps turn arrived a)
+
+-- an end that hears breaks for no want of answers
+pub breaks-not : KeepsTaken → (turn : ℕ) (arrived : Arrived) (a : Account) (fault : LinkFault) → hear turn arrived a ≡ Err fault
+    → WantsAnswers (Some fault) → ⊥
+breaks-not keeps turn arrived a fault e = subst (OnHearing a) e (hearing keeps turn arrived a)
 
 -- ---- speaking
 

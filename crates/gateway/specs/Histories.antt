@@ -1,18 +1,23 @@
 -- Two ends by the calls that are made of them, over a line that may lose whatever is said.
-use Rattle.std.specs.Prelude.{◌≡◌, ℕ, Bool, true, false, List, [], ◌∷◌, ◌++◌, Option, Some, None, Ok}
+use Rattle.std.specs.Prelude.{◌≡◌, ℕ, Bool, true, false, List, [], ◌∷◌, ◌++◌, Option, Some, None, Ok, Err}
 use Rattle.shared_terms.specs.declared.role.Role.{Role}
 use Rattle.shared_terms.specs.Role.{other}
+use Rattle.shared_terms.specs.declared.fault.LinkFault.{LinkFault}
 use Rattle.shared_terms.specs.Both.{Both, of}
 use Rattle.plain_lists.specs.Prefix.{IsPrefixOf}
+use Rattle.lapm_frames.specs.declared.arrived.Arrived.TheVariants as arrivals
 use Rattle.link_account.specs.declared.setup.Setup.{Setup}
+use Rattle.link_account.specs.Account.{Account, check_of}
 use Rattle.link_account.specs.Play.{Event, seen_from}
-use Rattle.link_account.specs.Laws.{MayPlay, played}
+use Rattle.link_account.specs.Laws.{MayPlay, played, WantsAnswers}
 use Rattle.lapm_link.specs.Stands.{StandsFor}
 use Rattle.gateway.specs.declared.turns.Carried.{Carried}
+use Rattle.gateway.specs.Turns.{Arrives}
 use Rattle.gateway.specs.declared.turns.Carried.TheVariants as loads
 use Rattle.gateway.specs.declared.turns.Told.{Told}
 use Rattle.gateway.specs.declared.turns.Told.TheVariants as told
 use Rattle.gateway.specs.declared.link.Endpoint.{Endpoint}
+use Rattle.gateway.specs.declared.link.LinkStop.TheVariants as stops
 use Rattle.gateway.specs.declared.link.BreakAsked.{BreakAsked}
 use Rattle.gateway.specs.Endpoints.{IsNew, HearsTurn, Delivers, Offers, IsToldBusy, AnswersBreak, SpeaksTurn}
 
@@ -48,6 +53,12 @@ pub record HearsOf (carried : Carried) (old new : EndSide) : Type 0 where
   pub given : Option ℕ
   pub hears : HearsTurn old.end carried new.end (Ok given)
   pub new_is : new ≡ record old { end = new.end }
+
+-- It hears what is no frame by its check, as octets that the line damaged, or nothing at all.
+pub record HearsNothing (old new : EndSide) : Type 0 where
+  pub carried : Carried
+  pub is_nothing : (a : Account) → StandsFor old.end.link a → Arrives (check_of a) (other old.end.role) carried arrivals.Nothing
+  pub hears : HearsOf carried old new
 
 -- It speaks.
 pub record SpeaksOf (release : Bool) (old new : EndSide) : Type 0 where
@@ -108,7 +119,7 @@ abbrev pub IsMade : Move → EndSide → EndSide → EndSide → EndSide → Typ
 IsMade (Speaks release) old peer new after = SpeaksOf release old new × (after ≡ peer)
 IsMade Passes old peer new after = PassesOf old peer new after
 IsMade Is_lost old peer new after = LosesOf old new × (after ≡ peer)
-IsMade Hears_nothing old peer new after = HearsOf loads.Nothing old new × (after ≡ peer)
+IsMade Hears_nothing old peer new after = HearsNothing old new × (after ≡ peer)
 IsMade (Is_offered piece) old peer new after = OfferedOf piece old new × (after ≡ peer)
 IsMade (Is_asked units) old peer new after = AskedOf units old new × (after ≡ peer)
 IsMade Is_delivered old peer new after = DeliveredOf old new × (after ≡ peer)
@@ -146,3 +157,16 @@ HistoriesArePlays = (so sa : Setup) (steps : List Step) (ends : Both EndSide) �
 abbrev pub HistoriesKeepPrefixes : Type 0
 HistoriesKeepPrefixes = (so sa : Setup) (steps : List Step) (ends : Both EndSide) → MayPlay so sa → History so sa steps ends
     → (role : Role) → IsPrefixOf (of role ends).delivered (of (other role) ends).offered
+
+-- An end that speaks breaks for want of answers alone: the other end answered no pattern, or all tries are spent.
+abbrev pub SpeakingBreaksForWant : Type 0
+SpeakingBreaksForWant = (so sa : Setup) (steps : List Step) (ends : Both EndSide) → MayPlay so sa → History so sa steps ends
+    → (role : Role) (release : Bool) (new : Endpoint) (fault : LinkFault)
+    → SpeaksTurn (of role ends).end release new (Err (stops.Broken fault)) → WantsAnswers (Some fault)
+
+-- And no end breaks as it hears what the other said.
+abbrev pub HearingNeverBreaks : Type 0
+HearingNeverBreaks = (so sa : Setup) (steps : List Step) (ends : Both EndSide) → MayPlay so sa → History so sa steps ends
+    → (role : Role) (said : Told) (rest : List Told) (carried : Carried) (new : Endpoint) (fault : LinkFault)
+    → (of role ends).line ≡ said ∷ rest → CarriesTold said carried
+    → HearsTurn (of (other role) ends).end carried new (Err (stops.Broken fault)) → ⊥

@@ -1,4 +1,4 @@
-use Rattle.gateway.proofs.Histories.{HistoryLaws, histories_are_plays, histories_keep_prefixes}
+use Rattle.gateway.proofs.Histories.{HistoryLaws, histories_are_plays, histories_keep_prefixes, speaking_breaks_for_want, hearing_never_breaks}
 use Rattle.gateway.proofs.laws.histories.Goals as goal
 
 pub returns : goal.returns
@@ -10,4 +10,9 @@ returns c =
       keeps = c.keeps_taken.ensures;
       written = c.reads_written.ensures.read;
     } in
-    record { plays = histories_are_plays laws; prefixes = histories_keep_prefixes laws c.plays.ensures.in_order }
+    record {
+      plays = histories_are_plays laws;
+      prefixes = histories_keep_prefixes laws c.plays.ensures.in_order;
+      speaking = speaking_breaks_for_want laws c.plays.ensures.faults;
+      hearing = hearing_never_breaks laws c.plays.ensures.faults;
+    }
