@@ -21,6 +21,7 @@ use gateway::{DecoderStop, LineKind, SampleDecoder};
 use std::alloc::Global;
 use std::mem;
 
+/// The line of a code.
 fn line_of(code: u8) -> Option<LineKind>
     ensures { result ≡ codes.line_of code }
 {
@@ -86,7 +87,9 @@ pub extern "C" fn modem_decoder_new(alloc: Global, handle: &mut Handle, line: u8
     }
 }
 
-/// Samples more, as parts that are real and imaginary by turns, and the bits that they release.
+/// Samples more, as parts that are real and imaginary by turns, and the bits that they release, an octet each. `FULL`: call again behind what was
+/// read, with room for four bits at least. `LOST`: no sample behind the one that lost the line is read, now or later. `LATE`: none of these
+/// was read, since with them the line would have more than 2^50.
 #[unsafe(no_mangle)]
 pub extern "C" fn modem_decoder_push(
     alloc: Global,
@@ -120,7 +123,8 @@ pub extern "C" fn modem_decoder_push(
     code_of(pushed.stop)
 }
 
-/// The bits of the labels that still wait, at the line's end. The decoder is spent then.
+/// The bits of the labels that aren't released at the line's end. The decoder is spent then. `FULL`: released ones wait, which a push without
+/// samples gives, or there is room for fewer than 512 bits.
 #[unsafe(no_mangle)]
 pub extern "C" fn modem_decoder_finish(
     alloc: Global,

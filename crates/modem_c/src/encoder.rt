@@ -65,7 +65,7 @@ pub extern "C" fn modem_encoder_new(alloc: Global, handle: &mut Handle, line: u8
 }
 
 /// Bits more, an octet each whose lowest bit counts, and the samples that they become, as parts that are real and imaginary by turns: four bits
-/// a sample at 9600 bit/s, two at 4800. Bits that are left over are to come again.
+/// a sample at 9600 bit/s, two at 4800. Bits that weren't read are to come again. `FULL`: there are enough for a sample, and no room for it.
 #[unsafe(no_mangle)]
 pub extern "C" fn modem_encoder_push(
     alloc: Global,

@@ -62,8 +62,8 @@ pub extern "C" fn modem_meter_new(alloc: Global, handle: &mut Handle, mode: u8) 
     make(alloc, handle, Machine::Meter(LockMeter::new(mode)))
 }
 
-/// Bits more, and the samples that they were decoded of, a sample for four bits: as many as both are enough for, eight bits at a time. What is left
-/// over is to come again.
+/// Bits more, and the samples that they were decoded of, a sample for four bits: as many as both are enough for, eight bits at a time. What wasn't
+/// read is to come again. `LATE`: none of these was read, since with them they would be more than 2^27 bits.
 #[unsafe(no_mangle)]
 pub extern "C" fn modem_meter_push(
     alloc: Global,

@@ -6,9 +6,9 @@ ghost use Rattle.modem_c.specs.Progressed.{nothing_done};
 #[repr(C)]
 #[derive(Clone, Copy)]
 pub struct Progress {
-    /// What was read of what came: samples of two parts each, bits, or octets of bits with their samples.
+    /// What was read: samples of two parts each by a decoder, bits by an encoder or a meter.
     pub read: usize,
-    /// What was written of what it became: bits, or samples of two parts each.
+    /// What was written: bits by a decoder, samples of two parts each by an encoder, nothing by a meter.
     pub written: usize,
     /// The symbol since which the line is lost, counted from 0, or 0.
     pub lost: u64,
