@@ -1,8 +1,6 @@
 -- The bits that octets say by their lowest, one after another.
-use Rattle.std.proofs.Common.{ℕ, zero, suc, ◌+◌, ◌%◌, ◌≡◌, ◌∷◌, ◌++◌, Bool, List, [], None, nat_eq, get_or, length, refl, ap, sym, subst, append_assoc, ◌∙◌, arith, length-append, eq-or-lt_of_le, inl, inr}
-use Rattle.bit_stuffing.specs.Found.{answer_of}
+use Rattle.std.proofs.Common.{ℕ, zero, suc, ◌+◌, ◌%◌, ◌≡◌, ◌<◌, ◌≤◌, ◌∷◌, ◌++◌, Bool, List, [], Option, None, nat_eq, get_or, length, refl, ap, sym, subst, append_assoc, ◌∙◌, arith, length-append, eq-or-lt_of_le, inl, inr}
 use Rattle.gateway.specs.Given.{heard}
-use Rattle.gateway.specs.Frames.{NoneEnds}
 
 pub length-heard : (k : ℕ) (octets : List ℕ) → length (heard k octets) ≡ k
 length-heard zero octets = refl
@@ -17,9 +15,10 @@ heard-more past octets k k' e = append_assoc past (heard k octets) _ ∙ (λ i. 
 pub length-heard-behind : (past : List Bool) (octets : List ℕ) (k : ℕ) → length (past ++ heard k octets) ≡ length past + k
 length-heard-behind past octets k = length-append past (heard k octets) ∙ ap (λ n. length past + n) (length-heard k octets)
 
--- no piece ends with one bit more either
-pub none_more : (past : List Bool) (bits : List ℕ) (k k' : ℕ) → k' ≡ suc k → NoneEnds past bits k → answer_of (past ++ heard k' bits) ≡ None → NoneEnds past bits k'
-none_more past bits k k' e before last n low high = elim (eq-or-lt_of_le high) [
-  | inl same ↦ subst (λ (m : ℕ). answer_of (past ++ heard m bits) ≡ None) (sym same) last
-  | inr less ↦ before n low (omega (arith, less, e))
-]
+-- what it does behind none of these bits, and not behind the next one, it does behind none of them
+pub none_more : {X : Type 0} (does : List Bool → Option X) (past : List Bool) (bits : List ℕ) (k k' : ℕ) → k' ≡ suc k
+    → ((n : ℕ) → 0 < n → n ≤ k → does (past ++ heard n bits) ≡ None) → does (past ++ heard k' bits) ≡ None
+    → (n : ℕ) → 0 < n → n ≤ k' → does (past ++ heard n bits) ≡ None
+none_more does past bits k k' e before last n low high = elim (eq-or-lt_of_le high) [
+    inl same ↦ subst (λ (m : ℕ). does (past ++ heard m bits) ≡ None) (sym same) last
+  | inr less ↦ before n low (omega (arith, less, e)) ]

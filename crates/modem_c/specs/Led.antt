@@ -4,6 +4,7 @@ use Rattle.gateway.specs.declared.decoder.SampleDecoder.{SampleDecoder}
 use Rattle.gateway.specs.declared.encoder.SampleEncoder.{SampleEncoder}
 use Rattle.gateway.specs.declared.meter.LockMeter.{LockMeter}
 use Rattle.gateway.specs.declared.deframer.FrameReader.{FrameReader}
+use Rattle.gateway.specs.declared.detector.PatternDetector.{PatternDetector}
 use Rattle.gateway.specs.declared.framer.FrameWriter.{FrameWriter}
 use Rattle.gateway.specs.declared.link.Endpoint.{Endpoint}
 use Rattle.modem_c.specs.declared.machine.Machine.{Machine}
@@ -15,6 +16,7 @@ decoder_in (Some (machines.Decoder it)) = Some it
 decoder_in (Some (machines.Encoder it)) = None
 decoder_in (Some (machines.Meter it)) = None
 decoder_in (Some (machines.Deframer it)) = None
+decoder_in (Some (machines.Detector it)) = None
 decoder_in (Some (machines.Framer it)) = None
 decoder_in (Some (machines.Link it)) = None
 decoder_in (Some machines.Spent) = None
@@ -25,6 +27,7 @@ encoder_in (Some (machines.Decoder it)) = None
 encoder_in (Some (machines.Encoder it)) = Some it
 encoder_in (Some (machines.Meter it)) = None
 encoder_in (Some (machines.Deframer it)) = None
+encoder_in (Some (machines.Detector it)) = None
 encoder_in (Some (machines.Framer it)) = None
 encoder_in (Some (machines.Link it)) = None
 encoder_in (Some machines.Spent) = None
@@ -35,6 +38,7 @@ meter_in (Some (machines.Decoder it)) = None
 meter_in (Some (machines.Encoder it)) = None
 meter_in (Some (machines.Meter it)) = Some it
 meter_in (Some (machines.Deframer it)) = None
+meter_in (Some (machines.Detector it)) = None
 meter_in (Some (machines.Framer it)) = None
 meter_in (Some (machines.Link it)) = None
 meter_in (Some machines.Spent) = None
@@ -45,6 +49,7 @@ deframer_in (Some (machines.Decoder it)) = None
 deframer_in (Some (machines.Encoder it)) = None
 deframer_in (Some (machines.Meter it)) = None
 deframer_in (Some (machines.Deframer it)) = Some it
+deframer_in (Some (machines.Detector it)) = None
 deframer_in (Some (machines.Framer it)) = None
 deframer_in (Some (machines.Link it)) = None
 deframer_in (Some machines.Spent) = None
@@ -55,6 +60,7 @@ framer_in (Some (machines.Decoder it)) = None
 framer_in (Some (machines.Encoder it)) = None
 framer_in (Some (machines.Meter it)) = None
 framer_in (Some (machines.Deframer it)) = None
+framer_in (Some (machines.Detector it)) = None
 framer_in (Some (machines.Framer it)) = Some it
 framer_in (Some (machines.Link it)) = None
 framer_in (Some machines.Spent) = None
@@ -65,6 +71,18 @@ link_in (Some (machines.Decoder it)) = None
 link_in (Some (machines.Encoder it)) = None
 link_in (Some (machines.Meter it)) = None
 link_in (Some (machines.Deframer it)) = None
+link_in (Some (machines.Detector it)) = None
 link_in (Some (machines.Framer it)) = None
 link_in (Some (machines.Link it)) = Some it
 link_in (Some machines.Spent) = None
+
+abbrev pub detector_in : Option Machine → Option PatternDetector
+detector_in None = None
+detector_in (Some (machines.Decoder it)) = None
+detector_in (Some (machines.Encoder it)) = None
+detector_in (Some (machines.Meter it)) = None
+detector_in (Some (machines.Deframer it)) = None
+detector_in (Some (machines.Detector it)) = Some it
+detector_in (Some (machines.Framer it)) = None
+detector_in (Some (machines.Link it)) = None
+detector_in (Some machines.Spent) = None

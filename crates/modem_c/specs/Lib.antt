@@ -10,6 +10,7 @@ pub mod SignalLaws
 pub mod FrameFields
 pub mod FramesWritten
 pub mod Deframers
+pub mod Detectors
 pub mod CodeNumbers
 pub mod Answers
 pub mod Links

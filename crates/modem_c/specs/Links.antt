@@ -21,7 +21,7 @@ use Rattle.gateway.specs.declared.turns.Told.{Told}
 use Rattle.gateway.specs.declared.turns.Told.TheVariants as told
 use Rattle.gateway.specs.Endpoints.{IsNew, HearsTurn, Delivers, Offers, IsToldBusy, AnswersBreak, SpeaksTurn}
 use Rattle.modem_c.specs.CodeNumbers as codes
-use Rattle.modem_c.specs.declared.link.Offered.{Offered}
+use Rattle.modem_c.specs.declared.link.SetupFields.{SetupFields}
 use Rattle.modem_c.specs.declared.link.Broke.{Broke}
 use Rattle.modem_c.specs.declared.link.Said.{Said}
 use Rattle.modem_c.specs.declared.link.Standing.{Standing}
@@ -33,16 +33,16 @@ use Rattle.modem_c.specs.Led.{link_in}
 -- ---- an end is made
 
 -- the setup that these numbers say: none where the role or a flag is neither 0 nor 1
-abbrev pub setup_with : Offered → Option Role → Option Bool → Option Bool → Option Setup
+abbrev pub setup_with : SetupFields → Option Role → Option Bool → Option Bool → Option Setup
 setup_with o (Some role) (Some srej) (Some check32) = Some (record {
   role = role;
   offer = record {
     srej = srej;
     check32 = check32;
-    tx_len = o.tx_len;
-    rx_len = o.rx_len;
-    tx_window = o.tx_window;
-    rx_window = o.rx_window;
+    tx_len = o.offer.tx_len;
+    rx_len = o.offer.rx_len;
+    tx_window = o.offer.tx_window;
+    rx_window = o.offer.rx_window;
   };
   tries = o.tries;
   period = o.period;
@@ -51,8 +51,8 @@ setup_with o (Some role) (Some srej) None = None
 setup_with o (Some role) None check32 = None
 setup_with o None srej check32 = None
 
-abbrev pub setup_of : Offered → Option Setup
-setup_of o = setup_with o (role_of o.role) (flag_of o.srej) (flag_of o.check32)
+abbrev pub setup_of : SetupFields → Option Setup
+setup_of o = setup_with o (role_of o.role) (flag_of o.offer.srej) (flag_of o.offer.check32)
 
 -- what the call answers that makes an end of this setup: it is done, no memory is left, or the setup isn't allowed; only the first changes the handle
 abbrev pub AnswersSetup : Option Setup → Option Machine → Option Machine → ℤ → Type 0

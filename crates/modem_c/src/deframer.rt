@@ -274,7 +274,7 @@ fn lend(octets: &[u8], room: &mut [u8], count: &mut usize) -> i32
     DONE
 }
 
-/// The octets of the piece that ended with the last bit, with their check, where it was whole: as `modem_link_hear` takes them. There are
+/// The octets of the piece that ended with the last bit, with their check, where it was whole: as `modem_link_receive` takes them. There are
 /// at most 1031.
 #[unsafe(no_mangle)]
 pub extern "C" fn modem_deframer_octets(

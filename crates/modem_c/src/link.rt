@@ -16,6 +16,7 @@ use crate::codes::{
 };
 use crate::handle::{Handle, make, put, take};
 use crate::machine::Machine;
+use crate::xid::OfferFields;
 use frame_check::{Check, INFO, Info, WHOLE};
 use gateway::{BreakAsked, Carried, Endpoint, LinkStop, Told};
 use lapm_frames::Seen;
@@ -24,25 +25,15 @@ use std::alloc::Global;
 use std::mem;
 use xid_params::Offer as LinkOffer;
 
-/// What an end offers, and how it is set up.
+/// How an end is set up.
 #[repr(C)]
 #[derive(Clone, Copy)]
-pub struct Offered {
-    /// Turns that an end waits for an answer, 1 to 65,535.
+pub struct SetupFields {
+    /// What it offers.
+    pub offer: OfferFields,
+    /// Turns that it waits for an answer, 1 to 65,535 [T401].
     pub period: u32,
-    /// The longest information that it sends, 1 to 1024 octets.
-    pub tx_len: u16,
-    /// The longest that it receives, 1 to 1024 octets.
-    pub rx_len: u16,
-    /// How many segments it sends unanswered, 1 to 127.
-    pub tx_window: u8,
-    /// How many it receives so, 1 to 127.
-    pub rx_window: u8,
-    /// 1 for selective reject, else 0.
-    pub srej: u8,
-    /// 1 for the check of 32 bits, else 0.
-    pub check32: u8,
-    /// How often it tries, 1 to 20.
+    /// How often it tries, 1 to 20 [N400].
     pub tries: u8,
     /// 0 for the end that called, 1 for the one that answered.
     pub role: u8,
@@ -118,21 +109,21 @@ fn put_end(alloc: Global, handle: &mut Handle, mut block: Box<Machine>, end: End
 }
 
 /// The setup that these numbers say.
-fn setup_of(offered: &Offered) -> Option<Setup>
-    ensures { result ≡ setup_of offered.now }
+fn setup_of(fields: &SetupFields) -> Option<Setup>
+    ensures { result ≡ setup_of fields.now }
 {
     Some(Setup {
-        role: role_of(offered.role)?,
+        role: role_of(fields.role)?,
         offer: LinkOffer {
-            srej: flag_of(offered.srej)?,
-            check32: flag_of(offered.check32)?,
-            tx_len: offered.tx_len,
-            rx_len: offered.rx_len,
-            tx_window: offered.tx_window,
-            rx_window: offered.rx_window,
+            srej: flag_of(fields.offer.srej)?,
+            check32: flag_of(fields.offer.check32)?,
+            tx_len: fields.offer.tx_len,
+            rx_len: fields.offer.rx_len,
+            tx_window: fields.offer.tx_window,
+            rx_window: fields.offer.rx_window,
         },
-        tries: offered.tries,
-        period: offered.period,
+        tries: fields.tries,
+        period: fields.period,
     })
 }
 
@@ -195,10 +186,10 @@ fn code_of(stop: LinkStop, why: &mut Broke) -> i32
 
 /// An end before its first turn. BAD_ARGUMENT where these numbers set up none.
 #[unsafe(no_mangle)]
-pub extern "C" fn modem_link_new(alloc: Global, handle: &mut Handle, offered: &Offered) -> i32
-    ensures { AnswersSetup (setup_of offered.now) handle.old.value handle.new.value result }
+pub extern "C" fn modem_link_new(alloc: Global, handle: &mut Handle, setup: &SetupFields) -> i32
+    ensures { AnswersSetup (setup_of setup.now) handle.old.value handle.new.value result }
 {
-    let Some(setup) = setup_of(offered) else {
+    let Some(setup) = setup_of(setup) else {
         return BAD_ARGUMENT;
     };
     match Endpoint::new(alloc, setup) {
@@ -241,7 +232,7 @@ fn hear(
 /// It hears what came in this turn: 0 nothing, 1 the originator's pattern, 2 the answerer's, 3 a frame's octets with their check; octets that
 /// are no frame are nothing. `given` is the length of the other end's break in units of 10 ms, where one is given, or -1.
 #[unsafe(no_mangle)]
-pub extern "C" fn modem_link_hear(
+pub extern "C" fn modem_link_receive(
     alloc: Global,
     handle: &mut Handle,
     kind: u32,
@@ -483,7 +474,7 @@ fn speak(
 /// What it says in this turn; the turn ends. `release` of 1 tells a connected originator to take the link down. FULL where there is no room for
 /// 1031 octets.
 #[unsafe(no_mangle)]
-pub extern "C" fn modem_link_speak(
+pub extern "C" fn modem_link_send(
     alloc: Global,
     handle: &mut Handle,
     release: u8,

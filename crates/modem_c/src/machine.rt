@@ -1,7 +1,7 @@
 // What a handle leads to.
 
 use gateway::{
-    Endpoint, FrameReader, FrameWriter, LockMeter, SampleDecoder, SampleEncoder,
+    Endpoint, FrameReader, FrameWriter, LockMeter, PatternDetector, SampleDecoder, SampleEncoder,
 };
 
 /// What C keeps by a handle.
@@ -15,6 +15,8 @@ pub enum Machine {
     Meter(LockMeter),
     /// Bits to frames.
     Deframer(FrameReader),
+    /// Bits to patterns.
+    Detector(PatternDetector),
     /// Frames to bits.
     Framer(FrameWriter),
     /// An end of the link.

@@ -8,7 +8,7 @@ ghost use Rattle.xid_params.specs.Faults.{place_of};
 ghost use Rattle.xid_params.specs.Offers.{IsAllowed};
 ghost use Rattle.modem_c.specs.Offers.{Agreed, OfferRead, OfferWritten, fields_of, kind_of, terms_of};
 
-use crate::codes::{BAD_ARGUMENT, DONE, FULL, put_octets};
+use crate::codes::{BAD_ARGUMENT, DONE, FULL, flag_of, put_octets};
 use frame_check::Info;
 use xid_params::{Offer, Terms, XidFault, agree, read_offer, write_offer};
 
@@ -61,24 +61,13 @@ pub struct OfferFault {
     pub kind: u8,
 }
 
-/// A function that is offered or not.
-fn function_of(number: u8) -> Option<bool>
-    ensures { MatchOption result ((b : Bool) → number ≡ bits.number b → ⊥) (λ b. number ≡ bits.number b) }
-{
-    match number {
-        0 => Some(false),
-        1 => Some(true),
-        _ => None,
-    }
-}
-
 /// The offer of these fields; none where a function is neither 0 nor 1.
 fn offer_of(fields: &OfferFields) -> Option<Offer>
     ensures { MatchOption result ((offer : Offer) → fields.now ≡ fields_of offer → ⊥) (λ offer. fields.now ≡ fields_of offer) }
 {
     Some(Offer {
-        srej: function_of(fields.srej)?,
-        check32: function_of(fields.check32)?,
+        srej: flag_of(fields.srej)?,
+        check32: flag_of(fields.check32)?,
         tx_len: fields.tx_len,
         rx_len: fields.rx_len,
         tx_window: fields.tx_window,

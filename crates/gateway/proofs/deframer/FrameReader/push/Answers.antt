@@ -29,7 +29,7 @@ pub loop-place-preserved : goal.loop-place-preserved
 loop-place-preserved c = let k = c.loop-place.place in let bits = c.args.bits.now in record {
   stands = λ past start. subst (λ (all : List Bool). DeframerStands c.push.new.self all) (heard-more past bits k (k + 1) (omega arith))
       (c.push.ensures.stands (past ++ heard k bits) (c.loop-place.invariant.stands past start));
-  quiet = λ past start. none_more past bits k (k + 1) (omega arith) (c.loop-place.invariant.quiet past start)
+  quiet = λ past start. none_more answer_of past bits k (k + 1) (omega arith) (c.loop-place.invariant.quiet past start)
       (ap answer_of (sym (heard-more past bits k (k + 1) (omega arith))) ∙ sym (c.push.ensures.value (past ++ heard k bits) (c.loop-place.invariant.stands past start)) ∙ c.in_default-push.is);
   sender = c.loop-place.invariant.sender;
   check = c.loop-place.invariant.check;

@@ -1,0 +1,26 @@
+//! Laws of the numbers that C sees. The functions do nothing: each law is a contract.
+ghost use Rattle.std.specs.Prelude.{◌≡◌};
+ghost use Rattle.modem_c.specs.CodeNumbers as numbers;
+
+use crate::codes::{
+    BAD_ARGUMENT, BROKEN, DONE, EMPTY, FULL, LATE, LOST, NO_MEMORY, NOTHING, ORDER, WRONG_KIND,
+};
+
+/// The codes are the numbers that `modem.h` gives them.
+pub fn codes_by_number()
+    ensures done { DONE ≡ numbers.done }
+    ensures nothing { NOTHING ≡ numbers.nothing }
+    ensures full { FULL ≡ numbers.full }
+    ensures lost { LOST ≡ numbers.lost }
+    ensures broken { BROKEN ≡ numbers.broken }
+    ensures no_memory { NO_MEMORY ≡ numbers.no_memory }
+    ensures empty { EMPTY ≡ numbers.empty }
+    ensures wrong_kind { WRONG_KIND ≡ numbers.wrong_kind }
+    ensures bad_argument { BAD_ARGUMENT ≡ numbers.bad_argument }
+    ensures order { ORDER ≡ numbers.order }
+    ensures late { LATE ≡ numbers.late }
+{
+    let _codes = [
+        DONE, NOTHING, FULL, LOST, BROKEN, NO_MEMORY, EMPTY, WRONG_KIND, BAD_ARGUMENT, ORDER, LATE,
+    ];
+}
