@@ -31,7 +31,7 @@ extern "C" {
 /* ---- codes ---- */
 
 /* What a call returns: 0 it is done, above 0 something to look at, below 0 a mistake of the caller's, or no memory. A call that returns a code below 0
- * changes nothing. */
+ * leaves the handle as it was. Where more than one would do, that of the handle comes first, then that of the arguments, then that of the room. */
 enum modem_code {
     MODEM_DONE = 0,
     MODEM_NOTHING = 1,      /* there is nothing to give */
@@ -43,7 +43,7 @@ enum modem_code {
     MODEM_WRONG_KIND = -3,  /* the handle leads to something else, or to a decoder that is finished */
     MODEM_BAD_ARGUMENT = -4,
     MODEM_ORDER = -5,       /* it isn't its turn: receive, deliver until MODEM_NOTHING, send */
-    MODEM_LATE = -6         /* no line has more than 2^50 samples, no link more than 2^40 turns, no deframer more than 2^62 bits, no meter more than 2^24 octets */
+    MODEM_LATE = -6         /* no line has more than 2^50 samples, no link more than 2^40 turns, no deframer 2^64 bits, no meter more than 2^24 octets */
 };
 
 /* A code in words, and the library's version, as "1.0.2". Neither is to be freed. */
@@ -57,6 +57,7 @@ typedef struct modem_decoder { void *at; } modem_decoder;
 typedef struct modem_encoder { void *at; } modem_encoder;
 typedef struct modem_meter { void *at; } modem_meter;
 typedef struct modem_deframer { void *at; } modem_deframer;
+typedef struct modem_detector { void *at; } modem_detector;
 typedef struct modem_framer { void *at; } modem_framer;
 typedef struct modem_link { void *at; } modem_link;
 #define MODEM_NONE { NULL }
@@ -86,7 +87,8 @@ int32_t modem_decoder_new(modem_decoder *decoder, uint8_t line, uint8_t mode) MO
 
 /* Samples more: `parts` has real and imaginary parts by turns, and `count` says how many parts; 2048 is one unit of the map of V.32, so that coordinates of
  * points go from -8192 to 8192. Bits come as they are decided, with a delay of up to 128 symbols: none to 516 of them a sample.
- * MODEM_DONE: all samples are read, and no bit waits. MODEM_FULL: fewer than four places are left; call again with the samples behind progress->read. */
+ * MODEM_DONE: all samples are read, and no bit waits. MODEM_FULL: bits wait, and fewer than four places are left; call again with the samples behind
+ * progress->read. MODEM_LOST: all that was decided before is given, and no more samples are read, now and later. */
 int32_t modem_decoder_push(modem_decoder *decoder, const int16_t *parts, size_t count, uint8_t *bits, size_t room, modem_progress *progress) MODEM_CALL;
 
 /* The bits that still waited, at the line's end; of a line from its middle there are none. MODEM_FULL where bits wait that `push` is to give first, or the
@@ -167,7 +169,12 @@ int32_t modem_deframer_push(modem_deframer *deframer, const uint8_t *bits, size_
 /* The octets with their check of the piece that ended with the last bit, as modem_link_receive takes them; MODEM_NOTHING where none is whole. */
 int32_t modem_deframer_octets(modem_deframer *deframer, uint8_t *octets, size_t room, size_t *count) MODEM_CALL;
 
-/* A frame's octets with its check; room for MODEM_WHOLE. MODEM_BAD_ARGUMENT where no frame has these fields and this information. */
+/* The patterns that the ends send before the link is up, MODEM_ODP and MODEM_ADP: bits more, up to the one with which a pattern is seen, that is two whole
+ * ones in a row. MODEM_DONE where one is, MODEM_NOTHING where all bits are read and none was. */
+int32_t modem_detector_new(modem_detector *detector) MODEM_CALL;
+int32_t modem_detector_push(modem_detector *detector, const uint8_t *bits, size_t count, size_t *read, uint32_t *kind) MODEM_CALL;
+
+/* A frame's octets with its check; room for MODEM_WHOLE, else MODEM_FULL. MODEM_BAD_ARGUMENT where no frame has these fields and this information. */
 int32_t modem_frame_write(const modem_frame *frame, const uint8_t *info, size_t info_count, uint8_t sender, uint8_t check32,
                           uint8_t *octets, size_t room, size_t *count) MODEM_CALL;
 
@@ -180,8 +187,9 @@ enum modem_slot {
     MODEM_FLAGS = 4
 };
 
-/* The bits of a frame for a line that isn't cut into slots: four flags, the frame, and its closing flag. Room for MODEM_FRAME_BITS is always enough, and
- * anything less is MODEM_FULL. Send flags (01111110) between frames, as many as you like. */
+/* The bits of a frame for a line that isn't cut into slots: four flags, the frame, and its closing flag. MODEM_FULL where the room is less than
+ * MODEM_FRAME_BITS, which is always enough; MODEM_BAD_ARGUMENT where the octets are fewer than 4 or more than MODEM_WHOLE. Send flags (01111110) between
+ * frames, as many as you like. */
 #define MODEM_FRAME_BITS 10460
 int32_t modem_frame_bits(const uint8_t *octets, size_t count, uint8_t *bits, size_t room, size_t *written) MODEM_CALL;
 
@@ -189,8 +197,8 @@ int32_t modem_frame_bits(const uint8_t *octets, size_t count, uint8_t *bits, siz
  * the next. */
 int32_t modem_framer_new(modem_framer *framer, uint16_t symbols) MODEM_CALL;
 
-/* The bits of the next slot: four times its symbols. Behind a frame there are flags for 128 symbols at least, since a receiver may be so far behind; a frame
- * that doesn't fit so is MODEM_BAD_ARGUMENT. */
+/* The bits of the next slot: four times its symbols. Behind a frame there are flags for 128 symbols at least, since a receiver may be so far behind. A frame
+ * of n octets with 47 + 8n + 8n/5 bits or more than the slot has before these is MODEM_BAD_ARGUMENT, as if each fifth bit had to be stuffed. */
 int32_t modem_framer_slot(modem_framer *framer, uint32_t kind, const uint8_t *octets, size_t count, uint8_t *bits, size_t room, size_t *written) MODEM_CALL;
 
 /* ---- XID ---- */
@@ -212,10 +220,11 @@ typedef struct modem_terms {
 
 /* Why an information field is no offer. */
 typedef struct modem_xid_fault {
-    uint8_t cause; /* 0 it is one, 1 its format, 2 a second group of parameters, 3 a length, 4 a value, 5 a parameter that stands again */
     size_t at;     /* the octet at which, from 0 */
+    uint8_t cause; /* 0 it is one, 1 its format, 2 a second group of parameters, 3 a length, 4 a value below its least, 5 a parameter that stands again */
 } modem_xid_fault;
 
+#define MODEM_XID_OCTETS 23 /* what modem_xid_write writes */
 int32_t modem_xid_read(const uint8_t *info, size_t count, modem_offer *offer, modem_xid_fault *fault) MODEM_CALL;
 int32_t modem_xid_write(const modem_offer *offer, uint8_t *info, size_t room, size_t *count) MODEM_CALL;
 int32_t modem_xid_agree(const modem_offer *originator, const modem_offer *answerer, modem_terms *terms) MODEM_CALL;

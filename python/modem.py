@@ -31,8 +31,8 @@ except ImportError:
     numpy = None
 
 __all__ = [
-    "Decoder", "Encoder", "Meter", "Deframer", "Framer", "Link", "Frame", "Piece", "Offer", "Terms", "Setup", "Slot", "Fault",
-    "ModemError", "LineLost", "LinkBroken", "XidError", "bits_of", "octets_of", "frame_bits", "read_offer", "write_offer", "agree", "version",
+    "Decoder", "Encoder", "Meter", "Deframer", "Detector", "Framer", "Link", "Frame", "Piece", "Offer", "Terms", "Setup", "Slot", "Fault",
+    "ModemError", "LineLost", "LinkBroken", "XidError", "bits_of", "octets_of", "write_frame", "frame_bits", "read_offer", "write_offer", "agree", "version",
 ]  # fmt: skip
 
 UNIT = 2048
@@ -111,7 +111,7 @@ class _Terms(Structure):
 
 
 class _XidFault(Structure):
-    _fields_ = [("cause", c_uint8), ("at", c_size_t)]
+    _fields_ = [("at", c_size_t), ("cause", c_uint8)]
 
 
 class _Setup(Structure):
@@ -145,6 +145,8 @@ for _name, _words in {
     "deframer_set_check": (_HANDLE, c_uint8),
     "deframer_push": (_HANDLE, _OCTETS, _SIZE, _OCTETS, _SIZE, POINTER(_Found)),
     "deframer_octets": (_HANDLE, _OCTETS, _SIZE, POINTER(_SIZE)),
+    "detector_new": (_HANDLE,),
+    "detector_push": (_HANDLE, _OCTETS, _SIZE, POINTER(_SIZE), POINTER(c_uint32)),
     "frame_write": (POINTER(_Frame), _OCTETS, _SIZE, c_uint8, c_uint8, _OCTETS, _SIZE, POINTER(_SIZE)),
     "frame_bits": (_OCTETS, _SIZE, _OCTETS, _SIZE, POINTER(_SIZE)),
     "framer_new": (_HANDLE, c_uint16),
@@ -400,6 +402,25 @@ class Deframer(_Owner):
             frame = _frame_of(found.frame, bytes(info[: found.info])) if what == "frame" else None
             refusal = (REFUSALS[found.fault], found.octet) if what == "refused" else None
             pieces.append(Piece(what, found.ended, frame, whole, refusal))
+
+
+class Detector(_Owner):
+    """Bits to the patterns that the ends send before the link is up."""
+
+    def __init__(self):
+        super().__init__("detector")
+
+    def push(self, bits):
+        """Bits more: the patterns that are seen in them, "odp" or "adp" each, once two whole ones came in a row."""
+        data, count = _octets(bits)
+        read, kind, at, seen = c_size_t(), c_uint32(), 0, []
+        while True:
+            code = _library.modem_detector_push(self._handle, ctypes.cast(ctypes.byref(data, at), _OCTETS), count - at, read, kind)
+            if code == NOTHING:
+                return seen
+            self._check(code)
+            at += read.value
+            seen.append(SLOTS[kind.value])
 
 
 def _frame_of(fields, info):

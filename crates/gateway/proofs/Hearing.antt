@@ -20,5 +20,6 @@ pub none_more : {X : Type 0} (does : List Bool → Option X) (past : List Bool) 
     → ((n : ℕ) → 0 < n → n ≤ k → does (past ++ heard n bits) ≡ None) → does (past ++ heard k' bits) ≡ None
     → (n : ℕ) → 0 < n → n ≤ k' → does (past ++ heard n bits) ≡ None
 none_more does past bits k k' e before last n low high = elim (eq-or-lt_of_le high) [
-    inl same ↦ subst (λ (m : ℕ). does (past ++ heard m bits) ≡ None) (sym same) last
-  | inr less ↦ before n low (omega (arith, less, e)) ]
+  | inl same ↦ subst (λ (m : ℕ). does (past ++ heard m bits) ≡ None) (sym same) last
+  | inr less ↦ before n low (omega (arith, less, e))
+]

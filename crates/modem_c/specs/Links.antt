@@ -88,7 +88,7 @@ why_of (stops.Broken fault) = broke_by fault
 
 -- what this number and these octets say that a line carries
 abbrev pub Carries : ℕ → List ℕ → Carried → Type 0
-Carries kind octets loads.Nothing = kind ≡ 0
+Carries kind octets loads.Nothing = (kind ≡ 0) ⊎ (kind ≡ 4)
 Carries kind octets (loads.Pattern seen.Odp) = kind ≡ 1
 Carries kind octets (loads.Pattern seen.Adp) = kind ≡ 2
 Carries kind octets (loads.Octets lent) = (kind ≡ 3) × (lent.now ≡ octets)
@@ -111,11 +111,11 @@ pub record HearsCarried (kind : ℕ) (octets : List ℕ) (old new : Endpoint) (c
   pub hears : HearsTurn old carried new answer
   pub numbers : HeardNumbers answer code given why
 
--- what the call answers at an end: the kind of what is carried is at most 3
+-- what the call answers at an end: the kind of what is carried is at most 4
 abbrev pub AnswersHearing : ℕ → List ℕ → Endpoint → Endpoint → ℤ → ℤ → Broke → Type 0
 AnswersHearing kind octets old new code given why =
     HearsCarried kind octets old new code given why
-    ⊎ ((3 < kind) × (code ≡ codes.bad_argument) × (new ≡ old) × (given ≡ length_given None) × (why ≡ unbroken))
+    ⊎ ((4 < kind) × (code ≡ codes.bad_argument) × (new ≡ old) × (given ≡ length_given None) × (why ≡ unbroken))
 
 -- ---- between hearing and speaking
 

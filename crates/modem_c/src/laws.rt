@@ -21,6 +21,16 @@ pub fn codes_by_number()
     ensures late { LATE ≡ numbers.late }
 {
     let _codes = [
-        DONE, NOTHING, FULL, LOST, BROKEN, NO_MEMORY, EMPTY, WRONG_KIND, BAD_ARGUMENT, ORDER, LATE,
+        DONE,
+        NOTHING,
+        FULL,
+        LOST,
+        BROKEN,
+        NO_MEMORY,
+        EMPTY,
+        WRONG_KIND,
+        BAD_ARGUMENT,
+        ORDER,
+        LATE,
     ];
 }

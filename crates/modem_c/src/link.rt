@@ -211,7 +211,7 @@ fn hear(
     ensures { AnswersHearing kind octets.now end result.0 result.1 given.new why.new }
 {
     let carried = match kind {
-        0 => Carried::Nothing,
+        0 | 4 => Carried::Nothing,
         1 => Carried::Pattern(Seen::Odp),
         2 => Carried::Pattern(Seen::Adp),
         3 => Carried::Octets(octets),
@@ -229,7 +229,7 @@ fn hear(
     (end, code)
 }
 
-/// It hears what came in this turn: 0 nothing, 1 the originator's pattern, 2 the answerer's, 3 a frame's octets with their check; octets that
+/// It hears what came in this turn: 0 ones, 1 the originator's pattern, 2 the answerer's, 3 a frame's octets with their check, 4 flags; octets that
 /// are no frame are nothing. `given` is the length of the other end's break in units of 10 ms, where one is given, or -1.
 #[unsafe(no_mangle)]
 pub extern "C" fn modem_link_receive(

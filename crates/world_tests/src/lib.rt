@@ -1,4 +1,4 @@
-//! Worked examples of the crates below a run: folders, scripts, and the line of samples; and of those crates in a program of one's own.
+//! Worked examples of the crates below a run: folders, scripts, and the line of samples; and of the library that gateways call.
 //!
 //! It has no call of its own. In their own crates these tests would prove each crate's whole code once more.
 #![tactic(auto)]

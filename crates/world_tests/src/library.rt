@@ -1,4 +1,5 @@
-// What each part of `library_example` does, by values that were worked out elsewhere.
+// What each part of `gateway` does, by values that were worked out elsewhere.
 
+mod frames;
 mod links;
 mod signals;

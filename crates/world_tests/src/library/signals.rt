@@ -1,91 +1,86 @@
-// Samples, bits and frames.
+// Samples to bits and back, and a meter.
 
-use library_example::{FrameEar, Quads, SampleEar};
+use gateway::{DecoderStop, FrameReader, FrameStop, LAST_BITS, LineKind, LockMeter, SampleDecoder, SampleEncoder};
+use bit_stuffing::Piece;
+use frame_check::Check;
 use scramblers::Mode;
 use shared_terms::Role;
 use std::test::Fail;
-use symbol_map::Sample;
 
-/// A symbol of the octet 00, as the modem that called sends it.
-const ZERO: Sample = Sample {
-    re: -8192,
-    im: 2048,
-};
-
-fn push(ear: SampleEar, sample: Sample) -> Result<(SampleEar, Quads), &'static str> {
-    match ear.push(sample) {
-        Ok(both) => Ok(both),
-        Err(_) => Err("the line is lost"),
-    }
-}
-
-#[test]
-fn samples_become_bits(rt: HostRuntime) -> Result<(), Fail> {
-    let ear = SampleEar::new(rt.alloc(), Mode::Call)?;
-    let (ear, first) = push(ear, ZERO)?;
-    let (ear, second) = push(ear, ZERO)?;
-    assert!(rt; first.is_empty() && second.is_empty());
-    assert!(rt; ear.finish().as_slice() == [0, 0].as_slice());
-    Ok(())
-}
-
-#[test]
-fn few_labels_wait(rt: HostRuntime) -> Result<(), Fail> {
-    let mut ear = SampleEar::new(rt.alloc(), Mode::Call)?;
-    let mut released = 0usize;
-    for sample in 1..101usize {
-        let (next, quads) = push(ear, ZERO)?;
-        ear = next;
-        released = released.saturating_add(quads.len());
-        let waiting = sample.saturating_sub(released);
-        assert!(rt; waiting <= 24);
-    }
-    let all = released.saturating_add(ear.finish().len());
-    assert!(rt; all == 100);
-    Ok(())
-}
-
-#[test]
-fn bits_become_frames(rt: HostRuntime) {
-    let mut ear = FrameEar::new(Role::Originator);
-    for octet in b"\x7e\x03\xdf\x3e\xb9\xfa\xf9" {
-        ear.push_low(*octet, 8);
-    }
-    assert!(rt; ear.names() == b"sabme cmd p=1\n".as_slice());
-}
+/// Two symbols of the octet 00, as the modem that called sends them.
+const ZEROS: [i16; 4] = [-8192, 2048, -8192, 2048];
 
 /// The symbols of the octets 7E 03 DF 3E B9 FA F9, as the modem that called sends them: by a program apart from this one.
-const SABME: [(i16, i16); 14] = [
-    (-8192, -2048),
-    (2048, 0),
-    (-8192, 2048),
-    (-8192, 2048),
-    (-2048, 0),
-    (-4096, 6144),
-    (2048, -8192),
-    (-6144, 0),
-    (4096, 6144),
-    (6144, 0),
-    (0, -6144),
-    (2048, -8192),
-    (-8192, -2048),
-    (-6144, -4096),
+const SABME: [i16; 28] = [
+    -8192, -2048, 2048, 0, -8192, 2048, -8192, 2048, -2048, 0, -4096, 6144, 2048, -8192, -6144, 0,
+    4096, 6144, 6144, 0, 0, -6144, 2048, -8192, -8192, -2048, -6144, -4096,
+];
+
+/// Their bits.
+const BITS: [u8; 56] = [
+    0, 1, 1, 1, 1, 1, 1, 0, 1, 1, 0, 0, 0, 0, 0, 0, 1, 1, 1, 1, 1, 0, 1, 1, 0, 1, 1, 1, 1, 1, 0, 0,
+    1, 0, 0, 1, 1, 1, 0, 1, 0, 1, 0, 1, 1, 1, 1, 1, 1, 0, 0, 1, 1, 1, 1, 1,
 ];
 
 #[test]
-fn samples_become_frames(rt: HostRuntime) -> Result<(), Fail> {
-    let mut samples = SampleEar::new(rt.alloc(), Mode::Call)?;
-    let mut frames = FrameEar::new(Role::Originator);
-    for (re, im) in SABME {
-        let (next, quads) = push(samples, Sample { re, im })?;
-        samples = next;
-        for quad in quads.as_slice() {
-            frames.push_low(*quad, 4);
-        }
-    }
-    for quad in samples.finish().as_slice() {
-        frames.push_low(*quad, 4);
-    }
-    assert!(rt; frames.names() == b"sabme cmd p=1\n".as_slice());
+fn samples_become_bits(rt: HostRuntime) -> Result<(), Fail> {
+    let decoder = SampleDecoder::new(rt.alloc(), LineKind::Begun, Mode::Call)?;
+    let mut bits = [9; LAST_BITS];
+    let (decoder, pushed) = decoder.push(&ZEROS, &mut bits);
+    assert!(rt; pushed.read == 2 && pushed.written == 0 && pushed.stop == DecoderStop::All);
+    let Ok(count) = decoder.finish(&mut bits) else {
+        return Err(Fail::new("a line of two symbols doesn't end"));
+    };
+    assert!(rt; count == 8);
+    assert!(rt; bits[..8] == [0; 8]);
+    assert!(rt; bits[8] == 9);
     Ok(())
+}
+
+#[test]
+fn a_push_without_room_is_full(rt: HostRuntime) -> Result<(), Fail> {
+    let decoder = SampleDecoder::new(rt.alloc(), LineKind::Quarters, Mode::Call)?;
+    let mut bits = [9; 4];
+    let (decoder, pushed) = decoder.push(&ZEROS, &mut bits[..3]);
+    assert!(rt; pushed.read == 1 && pushed.written == 0 && pushed.stop == DecoderStop::Full);
+    let (_decoder, pushed) = decoder.push(&ZEROS[2..], &mut bits);
+    assert!(rt; pushed.read == 0 || pushed.written > 0);
+    Ok(())
+}
+
+#[test]
+fn bits_become_samples(rt: HostRuntime) {
+    let mut encoder = SampleEncoder::begun(Mode::Call);
+    let mut parts = [0; 28];
+    let first = encoder.push(&BITS[..30], &mut parts[..14]);
+    assert!(rt; first.read == 28 && first.written == 7 && !first.all);
+    let second = encoder.push(&BITS[28..], &mut parts[14..]);
+    assert!(rt; second.read == 28 && second.written == 7 && second.all);
+    assert!(rt; parts == SABME);
+}
+
+#[test]
+fn samples_become_frames(rt: HostRuntime) -> Result<(), Fail> {
+    let decoder = SampleDecoder::new(rt.alloc(), LineKind::Begun, Mode::Call)?;
+    let mut bits = [9; LAST_BITS];
+    let (decoder, pushed) = decoder.push(&SABME, &mut bits);
+    assert!(rt; pushed.written == 0);
+    let Ok(count) = decoder.finish(&mut bits) else {
+        return Err(Fail::new("the line doesn't end"));
+    };
+    assert!(rt; count == 56);
+    assert!(rt; bits[..56] == BITS);
+    let mut reader = FrameReader::new(Role::Originator, Check::Sixteen);
+    let (read, stop) = reader.push(&bits[..56]);
+    assert!(rt; read == 50 && stop == FrameStop::Piece(Piece::Whole) && reader.heard() == 50);
+    assert!(rt; reader.octets() == b"\x03\x7f\x5f\xae".as_slice());
+    Ok(())
+}
+
+#[test]
+fn what_was_sent_costs_nothing(rt: HostRuntime) {
+    let (meter, octets) = LockMeter::new(Mode::Call).push(&BITS, &SABME);
+    assert!(rt; octets == Some(7));
+    let reading = meter.reading();
+    assert!(rt; reading.cost == 0 && reading.symbols == 14 && reading.sure);
 }

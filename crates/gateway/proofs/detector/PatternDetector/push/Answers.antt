@@ -11,9 +11,12 @@ returns-in-Some-clause-stands c = λ past start. let k = c.loop-place.place in
     (c.push.ensures.stands (past ++ heard k c.args.bits.now) (c.loop-place.invariant.stands past start))
 
 pub returns-in-Some-clause-sees : goal.returns-in-Some-clause-sees
-returns-in-Some-clause-sees c = λ past start. let k = c.loop-place.place in let bits = c.args.bits.now in
-    (k, refl, c.loop-place.invariant.quiet past start,
-    ap seen_at (sym (heard-more past bits k (k + 1) (omega arith))) ∙ sym (c.push.ensures.value (past ++ heard k bits) (c.loop-place.invariant.stands past start)) ∙ c.in-Some.is)
+returns-in-Some-clause-sees c = λ past start. let k = c.loop-place.place in let bits = c.args.bits.now in (
+  k,
+  refl,
+  c.loop-place.invariant.quiet past start,
+  ap seen_at (sym (heard-more past bits k (k + 1) (omega arith))) ∙ sym (c.push.ensures.value (past ++ heard k bits) (c.loop-place.invariant.stands past start)) ∙ c.in-Some.is,
+)
 
 pub loop-place-preserved : goal.loop-place-preserved
 loop-place-preserved c = let k = c.loop-place.place in let bits = c.args.bits.now in record {
