@@ -17,7 +17,7 @@ use Rattle.lapm_link.specs.Stands as stands
 use Rattle.gateway.specs.declared.turns.Carried.{Carried}
 use Rattle.gateway.specs.declared.turns.Told.{Told}
 use Rattle.gateway.specs.Turns.{Arrives, told_as}
-use Rattle.gateway.specs.Endpoints.{Hears, HeardAs, SaysAs}
+use Rattle.gateway.specs.Endpoints.{HeardAs, SaysAs}
 
 -- what arrives, by the check and the sender that the code uses
 pub arrives-as : (check : Check) (sender role : Role) (carried : Carried) (arrived : Arrived) (a : Account) → check ≡ check_of a

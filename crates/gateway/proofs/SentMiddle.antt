@@ -1,5 +1,5 @@
 -- What was sent at 9600 bit/s comes back from the middle of the line, by however many quarters its points are turned.
-use Rattle.std.proofs.Common.{◌≡◌, ◌∙◌, ℕ, zero, suc, ◌+◌, ◌-◌, ◌*◌, ◌<◌, ◌≤◌, Bool, List, [], ◌∷◌, ◌++◌, length, map, take, drop, None, refl, sym, ap, subst, arith, append_assoc, length-append, length-drop, lt-ltb}
+use Rattle.std.proofs.Common.{◌≡◌, ◌∙◌, ℕ, zero, suc, ◌+◌, ◌*◌, ◌<◌, ◌≤◌, Bool, List, [], ◌∷◌, ◌++◌, length, map, take, drop, refl, sym, ap, subst, arith, append_assoc, length-append, length-drop, lt-ltb}
 use Rattle.std.specs.List.{flat_map}
 use Rattle.std.proofs.lemmas.List.{take-append-drop, take-map, drop-map, drop-take, length-map, length-take-le}
 use Rattle.plain_lists.specs.Bits.{low_bits}
@@ -34,7 +34,7 @@ use Rattle.gateway.specs.declared.any_reader.AnyReader.TheVariants as readers
 use Rattle.gateway.specs.declared.any_reader.LineKind.TheVariants as lines
 use Rattle.gateway.specs.Decoding.{decoding_of}
 use Rattle.gateway.specs.Reads.{ReadsAs}
-use Rattle.gateway.specs.SignalLaws.{turned_by, IsHeardBehind, FollowsMiddle, MiddleBitsComeBack}
+use Rattle.gateway.specs.SignalLaws.{turned_by, FollowsMiddle, MiddleBitsComeBack}
 use Rattle.gateway.proofs.Sent.{some-tap, take-front}
 use Rattle.gateway.proofs.SentBegun.{distances-cost, first-labels}
 

@@ -79,7 +79,10 @@ fn turn(end: Endpoint, came: &Carried<'_>, taken: &mut Taken) -> Result<(Endpoin
 
 /// Both files cross, though what is sent in these turns is lost.
 fn assert_crosses(alloc: Global, rt: &impl Abort, lost: &[u64]) -> Result<(), Fail> {
-    let (mut orig, mut answ) = (end_of(alloc, Role::Originator)?, end_of(alloc, Role::Answerer)?);
+    let (mut orig, mut answ) = (
+        end_of(alloc, Role::Originator)?,
+        end_of(alloc, Role::Answerer)?,
+    );
     let (mut orig_left, mut answ_left) = (ORIG.as_slice(), ANSW.as_slice());
     let (mut orig_took, mut answ_took) = (Taken::new(), Taken::new());
     let (mut from_orig, mut from_answ) = (Told::Mark, Told::Mark);

@@ -1,8 +1,11 @@
 // Samples to bits and back, and a meter.
 
-use gateway::{DecoderStop, FrameReader, FrameStop, LAST_BITS, LineKind, LockMeter, SampleDecoder, SampleEncoder};
 use bit_stuffing::Piece;
 use frame_check::Check;
+use gateway::{
+    DecoderStop, FrameReader, FrameStop, LAST_BITS, LineKind, LockMeter, SampleDecoder,
+    SampleEncoder,
+};
 use scramblers::Mode;
 use shared_terms::Role;
 use std::test::Fail;
@@ -32,7 +35,7 @@ fn samples_become_bits(rt: HostRuntime) -> Result<(), Fail> {
         return Err(Fail::new("a line of two symbols doesn't end"));
     };
     assert!(rt; count == 8);
-    assert!(rt; bits[..8] == [0; 8]);
+    assert!(rt; &bits[..8] == [0; 8].as_slice());
     assert!(rt; bits[8] == 9);
     Ok(())
 }
@@ -53,7 +56,8 @@ fn bits_become_samples(rt: HostRuntime) {
     let mut encoder = SampleEncoder::begun(Mode::Call);
     let mut parts = [0; 28];
     let first = encoder.push(&BITS[..30], &mut parts[..14]);
-    assert!(rt; first.read == 28 && first.written == 7 && !first.all);
+    // Two bits make no symbol.
+    assert!(rt; first.read == 28 && first.written == 7 && first.all);
     let second = encoder.push(&BITS[28..], &mut parts[14..]);
     assert!(rt; second.read == 28 && second.written == 7 && second.all);
     assert!(rt; parts == SABME);
@@ -62,14 +66,15 @@ fn bits_become_samples(rt: HostRuntime) {
 #[test]
 fn samples_become_frames(rt: HostRuntime) -> Result<(), Fail> {
     let decoder = SampleDecoder::new(rt.alloc(), LineKind::Begun, Mode::Call)?;
-    let mut bits = [9; LAST_BITS];
+    let mut bits = [9; 1000];
     let (decoder, pushed) = decoder.push(&SABME, &mut bits);
-    assert!(rt; pushed.written == 0);
-    let Ok(count) = decoder.finish(&mut bits) else {
+    assert!(rt; pushed.read == 14 && pushed.stop == DecoderStop::All);
+    let (_given, rest) = bits.split_at_mut(pushed.written);
+    let Ok(count) = decoder.finish(rest) else {
         return Err(Fail::new("the line doesn't end"));
     };
-    assert!(rt; count == 56);
-    assert!(rt; bits[..56] == BITS);
+    assert!(rt; pushed.written.saturating_add(count) == 56);
+    assert!(rt; &bits[..56] == BITS.as_slice());
     let mut reader = FrameReader::new(Role::Originator, Check::Sixteen);
     let (read, stop) = reader.push(&bits[..56]);
     assert!(rt; read == 50 && stop == FrameStop::Piece(Piece::Whole) && reader.heard() == 50);

@@ -1,4 +1,4 @@
-use Rattle.std.proofs.Common.{ℕ, ◌+◌, ◌≡◌, ◌++◌, Bool, List, length, ap, sym, subst, refl, ◌∙◌, arith}
+use Rattle.std.proofs.Common.{◌+◌, ◌++◌, Bool, List, ap, sym, subst, refl, ◌∙◌, arith}
 use Rattle.detection.specs.Reader.{ReaderStands}
 use Rattle.detection.specs.Patterns.{seen_at}
 use Rattle.gateway.specs.Given.{heard}
