@@ -9,6 +9,12 @@ use lapm_frames::{CheckedFault, Seen};
 use shared_terms::Role;
 use std::test::Fail;
 
+/// The first so many bits.
+fn front(bits: &[u8], count: usize) -> &[u8] {
+    let (front, _rest) = bits.split_at(bits.len().min(count));
+    front
+}
+
 /// A SABME command of the originator with its check.
 const SABME: [u8; 4] = [0x03, 0x7f, 0x5f, 0xae];
 
@@ -21,7 +27,7 @@ fn a_frame_alone_is_read_again(rt: HostRuntime) -> Result<(), Fail> {
     // Four flags, 34 bits with two zeros put in, and the closing flag.
     assert!(rt; count == 74);
     let mut reader = FrameReader::new(Role::Originator, Check::Sixteen);
-    let (read, stop) = reader.push(&bits[..74]);
+    let (read, stop) = reader.push(front(&bits, 74));
     assert!(rt; read == 74 && stop == FrameStop::Piece(Piece::Whole));
     assert!(rt; reader.octets() == SABME.as_slice());
     let (read, stop) = reader.push(&[1; 10]);
@@ -36,7 +42,7 @@ fn the_other_end_refuses_its_address(rt: HostRuntime) -> Result<(), Fail> {
         return Err(Fail::new("a frame isn't written"));
     };
     let mut reader = FrameReader::new(Role::Answerer, Check::Sixteen);
-    let (_, stop) = reader.push(&bits[..74]);
+    let (_, stop) = reader.push(front(&bits, 74));
     assert!(rt; stop == FrameStop::Piece(Piece::Whole));
     match reader.frame() {
         Err(CheckedFault::Refused(_)) => Ok(()),

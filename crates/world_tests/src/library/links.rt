@@ -12,6 +12,9 @@ use xid_params::default_offer;
 /// More turns than both files need.
 const TURNS: u64 = 1000;
 
+/// An end takes a window in a turn at most.
+const MOST_A_TURN: u32 = 128;
+
 /// What an end took of the other's file.
 type Taken = Octets<4096>;
 
@@ -44,13 +47,16 @@ fn carried(told: &Told, is_lost: bool) -> Carried<'_> {
 /// The user takes what came.
 fn deliver(end: &mut Endpoint, taken: &mut Taken) -> Result<(), Fail> {
     let mut segment = Info::new();
-    while end.deliver(&mut segment) {
+    for _ in 0..MOST_A_TURN {
+        if !end.deliver(&mut segment) {
+            return Ok(());
+        }
         if 4096 - taken.len() < segment.len() {
             return Err(Fail::new("more came than was sent"));
         }
         taken.extend(segment.as_slice());
     }
-    Ok(())
+    Err(Fail::new("a turn delivers more than a window"))
 }
 
 /// The user offers what the end wants of what is left of the file.

@@ -74,9 +74,10 @@ fn samples_become_frames(rt: HostRuntime) -> Result<(), Fail> {
         return Err(Fail::new("the line doesn't end"));
     };
     assert!(rt; pushed.written.saturating_add(count) == 56);
-    assert!(rt; &bits[..56] == BITS.as_slice());
+    let (bits, _room) = bits.split_at(bits.len().min(56));
+    assert!(rt; bits == BITS.as_slice());
     let mut reader = FrameReader::new(Role::Originator, Check::Sixteen);
-    let (read, stop) = reader.push(&bits[..56]);
+    let (read, stop) = reader.push(bits);
     assert!(rt; read == 50 && stop == FrameStop::Piece(Piece::Whole) && reader.heard() == 50);
     assert!(rt; reader.octets() == b"\x03\x7f\x5f\xae".as_slice());
     Ok(())
