@@ -1,11 +1,13 @@
 /* live FIRST COUNT [trace]: sessions of an end of libmodem with the LAPM of spandsp over a simulated bit line at 9600 bit/s, by seeds FIRST to FIRST+COUNT-1.
  *
- * Both roles; files of 0 to 20,000 octets both ways; delays of up to a quarter of a second; bursts of random bits of 10 to 300 ms; breaks that our end asks for. A line a
- * session that isn't whole, and their number by what ended them. The status is 1 where spandsp ended well, or what it took or gave isn't a beginning of what was sent.
+ * Both roles; files of 0 to 20,000 octets both ways; delays of up to a quarter of a second; bursts of random bits of 10 to 300 ms; breaks that our end asks for. It prints a
+ * line for each session that isn't whole, and how many ended how. The status is 1 where what an end took isn't a beginning of what was sent, or an end isn't explained.
+ * How it is built is in bench/live.
  *
  * How the end is driven is what docs/LIBRARY.md says of a line that isn't cut into slots: a turn is what the end transmits at once. */
 #include "modem.h"
 #include <spandsp.h>
+#include <spandsp/expose.h>
 #include <stdbool.h>
 #include <stdio.h>
 #include <stdlib.h>
@@ -134,7 +136,7 @@ static void transmit(struct ours *end, const modem_sent *sent, const uint8_t *oc
 /* A turn: one thing that was heard, the user, and what is sent. */
 static void turn(struct ours *end)
 {
-    uint8_t octets[MODEM_WHOLE];
+    uint8_t octets[MODEM_WHOLE] = {0};
     modem_sent sent;
     modem_standing standing;
     int32_t given, code;
@@ -226,17 +228,43 @@ static void take(void *user_data, const uint8_t *message, int length)
     end->user.took += (size_t)length;
 }
 
+/* At each SABME it forgets what it had taken from its user, who therefore begins anew. */
 static void note_status(void *user_data, int status)
 {
-    ((struct theirs *)user_data)->status = status;
+    struct theirs *end = user_data;
+    end->status = status;
+    if (status == SIG_STATUS_LINK_CONNECTED)
+        end->user.offered = 0;
     if (traces)
         fprintf(stderr, "spandsp: %s\n", lapm_status_to_str(status));
 }
 
 /* ---- a session ---- */
 
-enum { WHOLE, BROKE, ENDED, TIME, WRONG, ENDS };
-static const char *const ends[ENDS] = {"whole", "our end broke", "spandsp ended", "time is over", "a file isn't a beginning of the other's"};
+/* How a session ended, and whose doing that was. */
+enum { WHOLE, NO_BREAK, NO_PATTERN, TOO_LOSSY, STALLED, WRONG, UNEXPLAINED, ENDS };
+static const char *const ends[ENDS] = {
+    "whole",
+    "theirs: a break isn't answered, so our end gave up its tries",
+    "the line: a burst fell on the ten patterns of the answerer, and there are no others",
+    "the line: bursts fell on all tries",
+    "theirs: a window was lost, and at an answer with F it sends none of it again",
+    "a file isn't a beginning of the other's",
+    "unexplained",
+};
+
+/* Why our end gave up. */
+static int cause_of(const struct ours *ours, const struct line *there, const struct line *back, bool breaks)
+{
+    switch (ours->why.cause) {
+    case 1:
+        return back->bursts > 0 ? NO_PATTERN : UNEXPLAINED;
+    case 2:
+        return breaks ? NO_BREAK : there->bursts + back->bursts > 2 * TRIES ? TOO_LOSSY : UNEXPLAINED;
+    default:
+        return UNEXPLAINED;
+    }
+}
 
 static int session(uint64_t seed)
 {
@@ -275,8 +303,10 @@ static int session(uint64_t seed)
     must(modem_framer_new(&ours.framer, PATTERN), "framer");
     theirs.v42 = v42_init(NULL, role == MODEM_ANSWERER, true, give, take, &theirs);
     v42_set_status_callback(theirs.v42, note_status, &theirs);
+    /* Without it nothing of its line is set up. It counts its timers for 28,800 bit/s, whatever the line. */
+    v42_restart(theirs.v42);
 
-    int how = TIME;
+    int how = UNEXPLAINED;
     long bit = 0;
     for (; bit < LIMIT; bit++) {
         v42_rx_bit(theirs.v42, pass(&there, transmit_bit(&ours)));
@@ -290,15 +320,16 @@ static int session(uint64_t seed)
             break;
         }
         if (ours.is_closed) {
-            how = ours.why.cause == 0 ? ENDED : BROKE;
+            how = cause_of(&ours, &there, &back, breaks);
             break;
         }
     }
+    if (bit == LIMIT && theirs.v42->lapm.va != theirs.v42->lapm.vs)
+        how = STALLED;
     if (how != WHOLE)
-        printf("seed %llu %s: %s after %.1f s, cause %u; sent %zu of %zu, took %zu of %zu; spandsp %s; bursts %ld %ld, delays %zu %zu%s%s\n", (unsigned long long)seed,
-               role == MODEM_ORIGINATOR ? "orig" : "answ", ends[how], (double)bit / RATE, ours.why.cause, theirs.user.took, ours.user.length, ours.user.took, theirs.user.length,
-               theirs.status == 0 ? "says nothing" : lapm_status_to_str(theirs.status), there.bursts, back.bursts, there.delay, back.delay, breaks ? ", a break" : "",
-               ours.overran ? ", more came than was served" : "");
+        printf("seed %llu %s: %s; after %.1f s, sent %zu of %zu, took %zu of %zu, bursts %ld and %ld, delays %zu and %zu%s\n", (unsigned long long)seed,
+               role == MODEM_ORIGINATOR ? "orig" : "answ", ends[how], (double)bit / RATE, theirs.user.took, ours.user.length, ours.user.took, theirs.user.length,
+               there.bursts, back.bursts, there.delay, back.delay, ours.overran ? ", more came than was served" : "");
     modem_free(&ours.link);
     modem_free(&ours.deframer);
     modem_free(&ours.detector);
@@ -320,5 +351,5 @@ int main(int argc, char **argv)
         by[session(seed)]++;
     for (int how = 0; how < ENDS; how++)
         printf("%s: %ld\n", ends[how], by[how]);
-    return by[WRONG] != 0;
+    return by[WRONG] + by[UNEXPLAINED] != 0;
 }

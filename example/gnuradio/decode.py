@@ -17,7 +17,9 @@ class Decode(gr.top_block):
         source = blocks.file_source(gr.sizeof_gr_complex, symbols, False)
         sink = blocks.file_sink(gr.sizeof_char, bits)
         sink.set_unbuffered(True)
-        self.connect(source, Decoder("9600", mode), sink)
+        # A block in Python has to be kept by somebody.
+        self.decoder = Decoder("9600", mode)
+        self.connect(source, self.decoder, sink)
 
 
 def main():
