@@ -103,12 +103,14 @@ deb:
 	gzip -9n out/deb/usr/share/man/man1/modem.1 out/deb/usr/share/man/man3/libmodem.3
 	gzip -9nc CHANGELOG.md >out/deb/usr/share/doc/modem/changelog.gz
 	mkdir out/deb/DEBIAN
+	echo 'activate-noawait ldconfig' >out/deb/DEBIAN/triggers
+	echo 'libmodem 1 modem (>= 1.0.2)' >out/deb/DEBIAN/shlibs
 	printf '%s\n' 'Package: modem' 'Version: $(VERSION)' 'Architecture: amd64' 'Section: comm' 'Priority: optional' 'Depends: libc6 (>= 2.34)' \
 		'Recommends: python3' "Installed-Size: $$(du -sk out/deb/usr | cut -f1)" 'Maintainer: the owner of this project <owner@example.invalid>' \
 		'Description: data mode of an error-correcting telephone modem pair, proved' \
 		' V.42 LAPM over the trellis-coded 9600 bit/s signal of V.32, symbol by symbol:' \
 		' it decodes recordings, explains captures, and runs two modems over a line that' \
-		' a script describes.' >out/deb/DEBIAN/control
+		' a script describes. With it comes libmodem, the same parts for C and Python.' >out/deb/DEBIAN/control
 	cd out && SOURCE_DATE_EPOCH=$(MADE) dpkg-deb --root-owner-group --build deb modem_$(VERSION)_amd64.deb && rm -rf deb
 
 # The pictures of README.md and docs/TEACHING.md, and the manual page as text, made anew.
