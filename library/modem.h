@@ -7,10 +7,11 @@
  * Each call is proved to be safe and to end whatever numbers it is given, and to do what docs/LIBRARY.md says of it. What you owe, since nothing can check it:
  *
  *  - a handle is MODEM_NONE or what these calls left in it, and it isn't copied;
- *  - no pointer is null (one to no octets may be any other address), arrays are as long as you say, and what a call writes is passed to it once;
+ *  - no pointer is null (one to no octets may be any other address), arrays are as long as their counts, and what a call writes is passed to it once;
  *  - malloc, realloc and free are those of one allocator, and no call is made from a signal handler.
  *
  * A bit is an octet of its own, 0 or 1; of what is read the lowest bit counts. The first bit of an octet is its lowest.
+ * Of a room for bits or samples read only what a call counts as written: what stood behind it may be gone.
  */
 #ifndef MODEM_H
 #define MODEM_H
