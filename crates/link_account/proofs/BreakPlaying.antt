@@ -1,52 +1,40 @@
 -- The breaks in a play of two ends of ours, whatever is lost.
-use Rattle.std.proofs.Common.{◌≡◌, ℕ, ◌+◌, ◌-◌, ◌*◌, ◌%◌, ◌<◌, ◌&&◌, ◌||◌, Bool, true, false, cond, nat_eq, nat_le, List, [], ◌∷◌, ◌++◌}
+use Rattle.std.proofs.Common.{◌≡◌, ℕ, ◌+◌, ◌-◌, ◌%◌, ◌<◌, ◌&&◌, Bool, true, false, cond, nat_le, List, [], ◌∷◌, ◌++◌}
 use Rattle.std.proofs.Common.{length, drop, slice_index_or, arith, refl, sym, ◌∙◌, ap, subst, Option, Some, None, Result, Ok, Err}
-use Rattle.std.specs.Option.{option_map}
 use Rattle.std.specs.Prelude.{is_some}
 use Rattle.std.proofs.lemmas.Bool.{false≢true}
 use Rattle.std.proofs.lemmas.List.{take-append-drop, append-nil, append_assoc}
 use Rattle.shared_terms.specs.declared.role.Role.{Role}
 use Rattle.shared_terms.specs.declared.role.Role.TheVariants.{Originator, Answerer}
 use Rattle.lapm_frames.specs.declared.frame.Frame.{Frame}
-use Rattle.lapm_frames.specs.declared.frame.Frame.TheVariants.{I, Rr, Rnr, Rej, Srej, Sabme, Disc, Ua, Dm, Frmr, Ui, Xid}
-use Rattle.xid_params.specs.declared.offer.Offer.{Offer}
-use Rattle.xid_params.specs.Offers.{offer_in, written}
-use Rattle.lapm_sender.specs.Outgoing.{Outgoing, paused_at, resumed, acknowledged, rejected, replied, selected, expired, after_next}
-use Rattle.lapm_receiver.specs.Incoming.{next_expected, asks, after_asked, after_delivered}
+use Rattle.lapm_frames.specs.declared.frame.Frame.TheVariants.{I, Rr, Rnr, Rej, Srej, Ua, Dm, Ui, Xid}
+use Rattle.lapm_receiver.specs.Incoming.{next_expected, after_delivered}
 use Rattle.break_signals.specs.declared.word.BreakWord.{BreakWord}
 use Rattle.break_signals.specs.declared.word.BreakWord.TheVariants.{Brk, Ack}
 use Rattle.break_signals.specs.declared.fault.BreakFault.{BreakFault}
 use Rattle.break_signals.specs.Words.{word_in, spelled, number_of}
 use Rattle.break_signals.proofs.Spelling.{is_read_back_always}
-use Rattle.break_signals.specs.Breaks.{OwnBreaks, TheirBreaks, after_brk, after_ack, after_ask, ticked}
-use Rattle.lapm_frames.specs.declared.seen.Seen.{Seen}
-use Rattle.lapm_frames.specs.declared.seen.Seen.TheVariants as seen
+use Rattle.break_signals.specs.Breaks.{OwnBreaks, TheirBreaks, own_due, after_brk, after_ack, after_ask, ticked}
+use Rattle.lapm_frames.specs.declared.arrived.Arrived.{Arrived}
+use Rattle.lapm_frames.specs.declared.arrived.Arrived.TheVariants as arrivals
 use Rattle.lapm_frames.specs.declared.sent.Sent.{Sent}
 use Rattle.lapm_frames.specs.declared.sent.Sent.TheVariants as slots
 use Rattle.shared_terms.specs.declared.fault.LinkFault.{LinkFault}
-use Rattle.shared_terms.specs.declared.fault.LinkFault.TheVariants.{NotDetected}
-use Rattle.link_account.specs.declared.phase.Phase.{Phase}
-use Rattle.link_account.specs.declared.phase.Phase.TheVariants.{Detecting, Negotiating, Establishing, Connected, Releasing, Closed}
+use Rattle.link_account.specs.declared.phase.Phase.TheVariants.{Releasing}
 use Rattle.link_account.specs.declared.answer.Answer.{Answer}
 use Rattle.link_account.specs.declared.answer.Answer.TheVariants as answers
-use Rattle.link_account.specs.Account.{Account, Wait, fresh, is_connected, after_offer, after_delivery, after_break_asked, wants}
+use Rattle.link_account.specs.Account.{Account, fresh, is_connected, after_offer, after_delivery, after_break_asked, wants}
 use Rattle.link_account.specs.Account.{piece_size, after_busy}
-use Rattle.shared_terms.specs.Role.{is_originator}
-use Rattle.link_account.specs.Hear.{hear, on_frame, on_connected, on_detecting, on_negotiating, on_establishing, on_releasing, on_closed}
-use Rattle.link_account.specs.Hear.{on_xid_command, on_xid_response, on_i, on_ready, on_rej, on_srej, on_number, on_sabme, peer_reset}
-use Rattle.link_account.specs.Hear.{on_disc, on_word, on_seen, on_pattern, then_in, replying, hurrying, taking, ends_wait, owing, trying}
-use Rattle.link_account.specs.Hear.{on_rnr, pausing}
-use Rattle.link_account.specs.Speak.{Said, says, says_frame, says_own, says_break, says_asking, says_segment, else_says, where_says, steps}
-use Rattle.link_account.specs.Speak.{step1, step2, step3, step4, step5, step6, step7, step8, step9, may_send, nr_of, telling, running}
-use Rattle.link_account.specs.Speak.{speak, speak_in, speak_detecting, speak_negotiating, speak_releasing, speak_linked, u_try, tries_frame}
-use Rattle.link_account.specs.Speak.{trying_again, answering, on_timer, on_break_timer, then_tries, after_timers, polling, breaking, spent}
-use Rattle.link_account.specs.Speak.{timer_expires, tells, ready_frame, differs}
+use Rattle.link_account.specs.Hear.{hear, trying}
+use Rattle.link_account.specs.Speak.{Said, says, says_word, frame_for, ready_frame, nr_of, speak}
 use Rattle.link_account.specs.Play.{Slot, Side, Play, Pair, Event, Speaks, Passes, Is_lost, Hears_nothing, Is_offered, Is_asked, Delivers}
 use Rattle.link_account.specs.Play.{Gives_break, arrives, seen_from, play_of, spoken, heard, passes, is_lost, is_offered, happens_at}
 use Rattle.link_account.specs.Play.{role_of, goes_on, happens, play, start, Is_busy}
 use Rattle.link_account.specs.Laws.{played, GivesBreaksInOrder, AnswersGiven, IsBreakOf, SendsBreaksTaken}
 use Rattle.plain_lists.specs.Prefix.{IsPrefixOf}
-use Rattle.link_account.proofs.Linked.{AllSaid, else-says, where-says}
+use Rattle.link_account.proofs.SpeakWays.{OnSaid, Steps, Tries, tries-alike}
+use Rattle.link_account.proofs.SpeakWays as SpeakWays
+use Rattle.link_account.proofs.HearWays as HearWays
 use Rattle.link_account.proofs.Breaking.{BrkOn, AckOn, BreaksGo, Go, OnTicked, go-asked, go-ticked, go-brk, go-ack, go-brk-lost}
 use Rattle.link_account.proofs.Breaking.{go-ack-lost, go-brk-heard, go-ack-heard, IsPending}
 
@@ -122,169 +110,75 @@ slot-lost x y lx ly slots.Odp n h = h
 slot-lost x y lx ly slots.Adp n h = h
 slot-lost x y lx ly slots.Flags n h = h
 
--- what hearing makes
+-- Hearing
+
 abbrev pub OnHeard : (Account → Type 0) → Result Account LinkFault → Type 0
 OnHeard P (Ok a) = P a
 OnHeard P (Err fault) = Unit {0}
 
-abbrev pub Leaves : Account → Account → Type 0
-Leaves a b = (a.own_breaks ≡ b.own_breaks) × (a.their_breaks ≡ b.their_breaks)
+-- what arrives, as it was sent
+abbrev pub carried : Arrived → Sent
+carried (arrivals.Frame frame) = slots.Frame frame
+carried arrived = slots.Flags
 
-number-leaves : (a : Account) (turn nr : ℕ) (o : Option Outgoing) → OnHeard (Leaves a) (on_number turn nr o a)
-number-leaves a turn nr None = tt
-number-leaves a turn nr (Some o) = (refl, refl)
+module _ (x y : Account) (lx ly : List Slot) (n : ℕ) where
+  -- with what arrives first on the other end's line
+  abbrev pub Hears : Sent → Type 0
+  Hears sent = Both x.own_breaks y.own_breaks x.their_breaks y.their_breaks (brks_in lx) (brk_of sent n ++ brks_in ly) (acks_in lx)
+      (ack_of sent n ++ acks_in ly)
 
-i-leaves : (a : Account) (turn ns nr : ℕ) (pf : Bool) (info : List ℕ) → OnHeard (Leaves a) (on_i turn ns nr pf info a)
-i-leaves a turn ns nr pf info = go (acknowledged nr a.outgoing)
-  where
-    go : (o : Option Outgoing) → OnHeard (Leaves a) (then_in (λ b. replying pf (taking ns info b)) (on_number turn nr o a))
-    go None = tt
-    go (Some o) = (refl, refl)
+  read : (w : Result BreakWord BreakFault) (m : Result BreakWord BreakFault) → m ≡ w
+      → Both x.own_breaks y.own_breaks x.their_breaks y.their_breaks (brks_in lx) (brk_of_word m n ++ brks_in ly) (acks_in lx)
+      (ack_of_word m n ++ acks_in ly)
+      → Both x.own_breaks y.own_breaks x.their_breaks y.their_breaks (brks_in lx) (brk_of_word w n ++ brks_in ly) (acks_in lx)
+      (ack_of_word w n ++ acks_in ly)
+  read w m e h = subst (λ w. Both x.own_breaks y.own_breaks x.their_breaks y.their_breaks (brks_in lx) (brk_of_word w n ++ brks_in ly)
+      (acks_in lx) (ack_of_word w n ++ acks_in ly)) e h
 
-used-leaves : (a : Account) (turn nr : ℕ) (asked ended : Bool) (o : Option Outgoing)
-    → OnHeard (Leaves a) (then_in (λ b. hurrying ended (replying asked b)) (on_number turn nr o a))
-used-leaves a turn nr asked ended None = tt
-used-leaves a turn nr asked ended (Some o) = (refl, refl)
+  hear-ways : (turn : ℕ) → HearWays.Ways (λ arrived b. Hears (carried arrived) → BothGo b y lx ly) turn x
+  hear-ways turn = record {
+    nothing = λ h. h;
+    linked = λ e. record {
+      pattern = λ seen h. h;
+      plain = λ frame p h. frame-lost x y lx ly frame n h;
+      numbers = HearWays.numbers-alike _ turn x (λ frame new incoming timer reply urgent k h. frame-lost x y lx ly frame n h);
+      sabme = λ pf m r h. h;
+      disc = λ pf r h. h;
+      brk = λ command pf info number length_octet q h. let k = read _ (word_in info) q h in
+          record { out = k.out; back = go-brk-heard y.own_breaks x.their_breaks n number length_octet (brks_in ly) (acks_in lx) k.back };
+      brkack = λ command pf info number length_octet q h. let k = read _ (word_in info) q h in
+          record { out = go-ack-heard x.own_breaks y.their_breaks turn n number (brks_in lx) (acks_in ly) k.out; back = k.back };
+    };
+    early = λ e. record {
+      ignores = λ arrived f h. slot-lost x y lx ly (carried arrived) n h;
+      detects = λ p r h. h;
+      detected = λ p r h. h;
+      xid = λ p r pf info offer f h. h;
+      agrees = λ p r pf info offer f h. h;
+      sabme_first = λ p r pf h. h;
+      sabme = λ p r pf h. h;
+      ua = λ p h. h;
+      disc = λ p pf h. h;
+      closes = λ p frame f h. frame-lost x y lx ly frame n h;
+    };
+  }
 
-pausing-leaves : (a : Account) (turn nr : ℕ) (asked : Bool) (o : Option Outgoing)
-    → OnHeard (Leaves a) (then_in (λ b. pausing turn (replying asked b)) (on_number turn nr o a))
-pausing-leaves a turn nr asked None = tt
-pausing-leaves a turn nr asked (Some o) = (refl, refl)
-
-xid-leaves : (a : Account) (o : Option Offer) → Leaves a (on_xid_command o a)
-xid-leaves a None = (refl, refl)
-xid-leaves a (Some o) = (refl, refl)
-
-response-leaves : (a : Account) (turn : ℕ) (o : Option Offer) → Leaves a (on_xid_response o turn a)
-response-leaves a turn None = (refl, refl)
-response-leaves a turn (Some o) = (refl, refl)
-
-detecting-leaves : (a : Account) (turn : ℕ) (r : Role) (frame : Frame) → OnHeard (Leaves a) (on_detecting r frame turn a)
-detecting-leaves a turn Originator frame = (refl, refl)
-detecting-leaves a turn Answerer (Xid true pf info) = xid-leaves a (offer_in info)
-detecting-leaves a turn Answerer frame = (refl, refl)
-
-negotiating-leaves : (a : Account) (turn : ℕ) (r : Role) (frame : Frame) → OnHeard (Leaves a) (on_negotiating r frame turn a)
-negotiating-leaves a turn Originator (Xid false pf info) = response-leaves a turn (offer_in info)
-negotiating-leaves a turn Originator (Dm pf) = tt
-negotiating-leaves a turn Originator frame = (refl, refl)
-negotiating-leaves a turn Answerer (Xid true pf info) = xid-leaves a (offer_in info)
-negotiating-leaves a turn Answerer frame = (refl, refl)
-
-establishing-leaves : (a : Account) (turn : ℕ) (frame : Frame) → OnHeard (Leaves a) (on_establishing frame turn a)
-establishing-leaves a turn (Dm true) = tt
-establishing-leaves a turn (Ua true) = (refl, refl)
-establishing-leaves a turn frame = (refl, refl)
-
-releasing-leaves : (a : Account) (frame : Frame) → OnHeard (Leaves a) (on_releasing frame a)
-releasing-leaves a (Ua true) = (refl, refl)
-releasing-leaves a (Dm true) = (refl, refl)
-releasing-leaves a frame = (refl, refl)
-
-closed-leaves : (a : Account) (frame : Frame) → OnHeard (Leaves a) (on_closed frame a)
-closed-leaves a (Disc pf) = (refl, refl)
-closed-leaves a frame = (refl, refl)
-
-disc-leaves : (a : Account) (pf : Bool) (r : Role) → OnHeard (Leaves a) (on_disc r pf a)
-disc-leaves a pf Originator = tt
-disc-leaves a pf Answerer = (refl, refl)
-
-sabme-leaves : (a : Account) (pf b : Bool) → OnHeard (Leaves a) (cond b (Err (peer_reset a)) (Ok (owing (answers.Ua pf) a)))
-sabme-leaves a pf true = tt
-sabme-leaves a pf false = (refl, refl)
-
-leaves-both : (x y : Account) (lx ly : List Slot) → BothGo x y lx ly → (r : Result Account LinkFault) → OnHeard (Leaves x) r
-    → OnHeard (λ b. BothGo b y lx ly) r
-leaves-both x y lx ly h (Err fault) w = tt
-leaves-both x y lx ly h (Ok b) w =
-    subst (λ o. Both o y.own_breaks b.their_breaks y.their_breaks (brks_in lx) (brks_in ly) (acks_in lx) (acks_in ly)) w.0
-    (subst (λ t. Both x.own_breaks y.own_breaks t y.their_breaks (brks_in lx) (brks_in ly) (acks_in lx) (acks_in ly)) w.1 h)
-
--- a word is heard
-word-heard : (x y : Account) (lx ly : List Slot) (turn n : ℕ) (w : Result BreakWord BreakFault)
-    → Both x.own_breaks y.own_breaks x.their_breaks y.their_breaks (brks_in lx) (brk_of_word w n ++ brks_in ly) (acks_in lx)
-    (ack_of_word w n ++ acks_in ly) → BothGo (on_word turn w x) y lx ly
-word-heard x y lx ly turn n (Ok (Brk number length_octet)) h =
-    record { out = h.out; back = go-brk-heard y.own_breaks x.their_breaks n number length_octet (brks_in ly) (acks_in lx) h.back }
-word-heard x y lx ly turn n (Ok (Ack number length_octet)) h =
-    record { out = go-ack-heard x.own_breaks y.their_breaks turn n number (brks_in lx) (acks_in ly) h.out; back = h.back }
-word-heard x y lx ly turn n (Err fault) h = h
-
-connected-both : (x y : Account) (lx ly : List Slot) (turn n : ℕ) (frame : Frame)
-    → Both x.own_breaks y.own_breaks x.their_breaks y.their_breaks (brks_in lx) (brk_of (slots.Frame frame) n ++ brks_in ly) (acks_in lx)
-    (ack_of (slots.Frame frame) n ++ acks_in ly)
-    → OnHeard (λ b. BothGo b y lx ly) (on_connected frame turn x)
-connected-both x y lx ly turn n (I ns nr pf info) h = leaves-both x y lx ly h (on_i turn ns nr pf info x) (i-leaves x turn ns nr pf info)
-connected-both x y lx ly turn n (Rr command nr pf) h =
-    leaves-both x y lx ly h (on_ready turn command nr pf x)
-    (used-leaves x turn nr (command && pf) (ends_wait command pf x)
-    (option_map resumed (cond (ends_wait command pf x) (replied nr x.outgoing) (acknowledged nr x.outgoing))))
-connected-both x y lx ly turn n (Rnr command nr pf) h =
-    leaves-both x y lx ly h (on_rnr turn command nr pf x)
-    (pausing-leaves x turn nr (command && pf)
-    (option_map paused_at (cond (ends_wait command pf x) (replied nr x.outgoing) (acknowledged nr x.outgoing))))
-connected-both x y lx ly turn n (Rej command nr pf) h =
-    leaves-both x y lx ly h (on_rej turn command nr pf x)
-    (used-leaves x turn nr (command && pf) (ends_wait command pf x)
-    (option_map resumed (cond (ends_wait command pf x) (replied nr x.outgoing) (rejected nr x.outgoing))))
-connected-both x y lx ly turn n (Srej command nr pf) h =
-    leaves-both x y lx ly h (on_srej turn nr x) (number-leaves x turn nr (selected nr x.outgoing))
-connected-both x y lx ly turn n (Sabme pf) h =
-    leaves-both x y lx ly h (on_sabme pf x) (sabme-leaves x pf (x.numbered || is_originator x.setup.role))
-connected-both x y lx ly turn n (Disc pf) h = leaves-both x y lx ly h (on_disc x.setup.role pf x) (disc-leaves x pf x.setup.role)
-connected-both x y lx ly turn n (Dm pf) h = tt
-connected-both x y lx ly turn n (Frmr pf info) h = tt
-connected-both x y lx ly turn n (Ui command pf info) h = word-heard x y lx ly turn n (word_in info) h
-connected-both x y lx ly turn n frame h = h
-
-frame-both : (x y : Account) (lx ly : List Slot) (turn n : ℕ) (frame : Frame) (p : Phase)
-    → Both x.own_breaks y.own_breaks x.their_breaks y.their_breaks (brks_in lx) (brk_of (slots.Frame frame) n ++ brks_in ly) (acks_in lx)
-    (ack_of (slots.Frame frame) n ++ acks_in ly)
-    → OnHeard (λ b. BothGo b y lx ly) (on_frame p frame turn x)
-frame-both x y lx ly turn n frame Detecting h =
-    leaves-both x y lx ly (frame-lost x y lx ly frame n h) (on_detecting x.setup.role frame turn x)
-    (detecting-leaves x turn x.setup.role frame)
-frame-both x y lx ly turn n frame Negotiating h =
-    leaves-both x y lx ly (frame-lost x y lx ly frame n h) (on_negotiating x.setup.role frame turn x)
-    (negotiating-leaves x turn x.setup.role frame)
-frame-both x y lx ly turn n frame Establishing h =
-    leaves-both x y lx ly (frame-lost x y lx ly frame n h) (on_establishing frame turn x) (establishing-leaves x turn frame)
-frame-both x y lx ly turn n frame Connected h = connected-both x y lx ly turn n frame h
-frame-both x y lx ly turn n frame Releasing h =
-    leaves-both x y lx ly (frame-lost x y lx ly frame n h) (on_releasing frame x) (releasing-leaves x frame)
-frame-both x y lx ly turn n frame Closed h =
-    leaves-both x y lx ly (frame-lost x y lx ly frame n h) (on_closed frame x) (closed-leaves x frame)
-
-pattern-both : (x y : Account) (lx ly : List Slot) → BothGo x y lx ly → (turn : ℕ) (r : Role) (s : Seen) (p : Phase) → x.setup.role ≡ r
-    → BothGo (on_seen p s turn x) y lx ly
-pattern-both x y lx ly h turn r s Detecting e = subst (λ r. BothGo (on_pattern r s turn x) y lx ly) (sym e) (go r s)
-  where
-    go : (r : Role) (s : Seen) → BothGo (on_pattern r s turn x) y lx ly
-    go Originator seen.Adp = h
-    go Originator seen.Odp = h
-    go Answerer seen.Adp = h
-    go Answerer seen.Odp = h
-pattern-both x y lx ly h turn r s Negotiating e = h
-pattern-both x y lx ly h turn r s Establishing e = h
-pattern-both x y lx ly h turn r s Connected e = h
-pattern-both x y lx ly h turn r s Releasing e = h
-pattern-both x y lx ly h turn r s Closed e = h
-
-pub hear-both : (x y : Account) (lx ly : List Slot) (turn : ℕ) (sent : Sent) (n : ℕ)
-    → Both x.own_breaks y.own_breaks x.their_breaks y.their_breaks (brks_in lx) (brk_of sent n ++ brks_in ly) (acks_in lx)
-    (ack_of sent n ++ acks_in ly)
+pub hear-both : (x y : Account) (lx ly : List Slot) (turn : ℕ) (sent : Sent) (n : ℕ) → Hears x y lx ly n sent
     → OnHeard (λ b. BothGo b y lx ly) (hear turn (arrives sent) x)
-hear-both x y lx ly turn slots.Mark n h = h
-hear-both x y lx ly turn slots.Flags n h = h
-hear-both x y lx ly turn slots.Odp n h = pattern-both x y lx ly h turn x.setup.role seen.Odp x.phase refl
-hear-both x y lx ly turn slots.Adp n h = pattern-both x y lx ly h turn x.setup.role seen.Adp x.phase refl
-hear-both x y lx ly turn (slots.Frame frame) n h = frame-both x y lx ly turn n frame x.phase h
+hear-both x y lx ly turn sent n h = go (hear turn (arrives sent) x) refl
+  where
+    as-sent : (s : Sent) → Hears x y lx ly n s → Hears x y lx ly n (carried (arrives s))
+    as-sent slots.Mark k = k
+    as-sent slots.Flags k = k
+    as-sent slots.Odp k = k
+    as-sent slots.Adp k = k
+    as-sent (slots.Frame frame) k = k
+
+    go : (r : Result Account LinkFault) → hear turn (arrives sent) x ≡ r → OnHeard (λ b. BothGo b y lx ly) r
+    go (Ok b) e = HearWays.by-ways _ turn x (hear-ways x y lx ly n turn) (arrives sent) b e (as-sent sent h)
+    go (Err fault) e = tt
 
 -- Speaking
-
-abbrev pub OnSaying : (Said → Type 0) → Result Said LinkFault → Type 0
-OnSaying P (Ok said) = P said
-OnSaying P (Err fault) = Unit {0}
 
 abbrev pub SaysBoth : Account → List Slot → List Slot → ℕ → Said → Type 0
 SaysBoth y lx ly told said = BothGo said.account y (lx ++ (record { sent = said.sent; number = said.number; told = told }) ∷ []) ly
@@ -310,224 +204,116 @@ plain b y lx ly told sent n h e f =
     (subst (λ k. Both b.own_breaks y.own_breaks b.their_breaks y.their_breaks (brks_in lx) (brks_in ly) k (acks_in ly))
     (sym (ap (λ l. acks_in lx ++ l) f ∙ append-nil (acks_in lx))) h))
 
-answers-both : (x y : Account) (lx ly : List Slot) (told : ℕ) → BothGo x y lx ly → (d : Option Answer)
-    → AllSaid (SaysBoth y lx ly told) (answering d x)
-answers-both x y lx ly told h None = tt
-answers-both x y lx ly told h (Some answers.Adp) =
-    plain (record x { owes = record x.owes { answer = None } }) y lx ly told slots.Adp 0 h refl refl
-answers-both x y lx ly told h (Some answers.Xid) =
-    plain (record x { owes = record x.owes { answer = None } }) y lx ly told
-    (slots.Frame (Xid false false (written x.setup.offer))) 0 h refl refl
-answers-both x y lx ly told h (Some (answers.Ua pf)) =
-    plain (record x { owes = record x.owes { answer = None } }) y lx ly told (slots.Frame (Ua pf)) 0 h refl refl
-answers-both x y lx ly told h (Some (answers.Dm pf)) =
-    plain (record x { owes = record x.owes { answer = None } }) y lx ly told (slots.Frame (Dm pf)) 0 h refl refl
-
-answer-both : (x y : Account) (lx ly : List Slot) (told : ℕ) (sent : Sent) → BothGo x y lx ly → brk_of sent 0 ≡ [] → ack_of sent 0 ≡ []
-    → SaysBoth y lx ly told (else_says (answering x.owes.answer x) (says sent x))
-answer-both x y lx ly told sent h e f =
-    else-says (SaysBoth y lx ly told) (answering x.owes.answer x) (says sent x) (answers-both x y lx ly told h x.owes.answer)
-    (plain x y lx ly told sent 0 h e f)
-
-tries-both : (x y : Account) (lx ly : List Slot) (told turn : ℕ) (frame : Frame) → BothGo x y lx ly → brk_of (slots.Frame frame) 0 ≡ []
-    → ack_of (slots.Frame frame) 0 ≡ [] → OnSaying (SaysBoth y lx ly told) (u_try turn frame x)
-tries-both x y lx ly told turn frame h e f = go (nat_eq turn (x.wait.try_set + x.setup.period)) (nat_eq x.wait.try_count x.setup.tries)
-  where
-    tried : (w : Wait) → SaysBoth y lx ly told (tries_frame frame (record x { wait = w }))
-    tried w = else-says (SaysBoth y lx ly told) (where_says w.try (says_frame frame (record x { wait = record w { try = false } })))
-        (says slots.Flags (record x { wait = w }))
-        (where-says (SaysBoth y lx ly told) w.try (says_frame frame (record x { wait = record w { try = false } }))
-        (plain (record x { wait = record w { try = false } }) y lx ly told (slots.Frame frame) 0 h e f))
-        (plain (record x { wait = w }) y lx ly told slots.Flags 0 h refl refl)
-
-    go : (b c : Bool) → OnSaying (SaysBoth y lx ly told)
-        (cond b (cond c (Err (spent turn x)) (Ok (tries_frame frame (trying_again turn x)))) (Ok (tries_frame frame x)))
-    go true true = tt
-    go true false = tried (record x.wait { try = true; try_set = turn; try_count = x.wait.try_count + 1 })
-    go false c = tried x.wait
-
-segment-both : (x y : Account) (lx ly : List Slot) (told turn : ℕ) → BothGo x y lx ly → (m : Option ℕ)
-    → AllSaid (SaysBoth y lx ly told) (says_segment turn m x)
-segment-both x y lx ly told turn h None = tt
-segment-both x y lx ly told turn h (Some n) =
-    plain (says_account n) y lx ly told (slots.Frame (I (n % 128) (nr_of x) false (slice_index_or x.outgoing.pieces n []))) n h refl refl
-  where
-    says_account : ℕ → Account
-    says_account n = record
-        (telling x) { outgoing = after_next x.outgoing; wait = record x.wait { urgent = false; timer = running turn x.wait.timer } }
-
-urgent-both : (x y : Account) (lx ly : List Slot) (told turn : ℕ) → BothGo x y lx ly → (b : Bool)
-    → AllSaid (SaysBoth y lx ly told) (cond b (says_segment turn (may_send x) x) None)
-urgent-both x y lx ly told turn h true = segment-both x y lx ly told turn h (may_send x)
-urgent-both x y lx ly told turn h false = tt
-
-tells-both : (x y : Account) (lx ly : List Slot) (told : ℕ) → BothGo x y lx ly → (command pf : Bool)
-    → SaysBoth y lx ly told (tells command pf x)
-tells-both x y lx ly told h command pf = go x.owes.busy
-  where
-    go : (busy : Bool) → SaysBoth y lx ly told
-        (says_frame (ready_frame busy command (nr_of x) pf) (telling (record x { owes = record x.owes { busy_told = busy } })))
-    go false = plain (telling (record x { owes = record x.owes { busy_told = false } })) y lx ly told
-        (slots.Frame (Rr command (nr_of x) pf)) 0 h refl refl
-    go true = plain (telling (record x { owes = record x.owes { busy_told = true } })) y lx ly told
-        (slots.Frame (Rnr command (nr_of x) pf)) 0 h refl refl
-
-asking-both : (x y : Account) (lx ly : List Slot) (told : ℕ) → BothGo x y lx ly → (srej special : Bool) (m : Option ℕ)
-    → AllSaid (SaysBoth y lx ly told) (says_asking srej special m x)
-asking-both x y lx ly told h srej special None = tt
-asking-both x y lx ly told h false special (Some n) =
-    plain (telling (record x { incoming = after_asked n x.incoming; owes = record x.owes { busy_told = false } })) y lx ly told
-    (slots.Frame (Rej false (nr_of x) false)) 0 h refl refl
-asking-both x y lx ly told h true true (Some n) = tt
-asking-both x y lx ly told h true false (Some n) =
-    plain (record x { incoming = after_asked n x.incoming; special = true }) y lx ly told
-    (slots.Frame (Srej false (n % 128) false)) n h refl refl
-
 -- a word is said as it is read
 says-read : (word : BreakWord) (n : ℕ) → number_of word < 2
     → (brk_of (slots.Frame (Ui true false (spelled word))) n ≡ brk_of_word (Ok word) n)
     × (ack_of (slots.Frame (Ui true false (spelled word))) n ≡ ack_of_word (Ok word) n)
 says-read word n few = (ap (λ w. brk_of_word w n) (is_read_back_always word few), ap (λ w. ack_of_word w n) (is_read_back_always word few))
 
-own-both : (x y : Account) (lx ly : List Slot) (told : ℕ) → BothGo x y lx ly → (b : Bool) → x.own_breaks.brk ≡ b
-    → AllSaid (SaysBoth y lx ly told)
-    (says_own (cond b (Some (Brk (x.own_breaks.answered % 2) (slice_index_or x.own_breaks.lengths x.own_breaks.answered 0))) None) x)
-own-both x y lx ly told h false e = tt
-own-both x y lx ly told h true e =
-    let word : BreakWord = Brk (x.own_breaks.answered % 2) (slice_index_or x.own_breaks.lengths x.own_breaks.answered 0) in
-    let read = says-read word x.own_breaks.answered (omega arith) in
-    worded (record x { own_breaks = after_brk x.own_breaks; special = true }) y lx ly told
-    (slots.Frame (Ui true false (spelled word))) x.own_breaks.answered
-    (record {
-      out = subst (λ k. Go (after_brk x.own_breaks) y.their_breaks (brks_in lx ++ k) (acks_in ly)) (sym read.0)
-          (go-brk x.own_breaks y.their_breaks (brks_in lx) (acks_in ly) e h.out);
-      back = subst (λ k. Go y.own_breaks x.their_breaks (brks_in ly) k)
-          (sym (ap (λ l. acks_in lx ++ l) read.1 ∙ append-nil (acks_in lx))) h.back;
-    })
+module _ (y : Account) (lx ly : List Slot) (told : ℕ) where
+  abbrev Says : Said → Type 0
+  Says = SaysBoth y lx ly told
 
-word-both : (x y : Account) (lx ly : List Slot) (told : ℕ) → BothGo x y lx ly → (d : Option BreakWord) → x.their_breaks.ack ≡ d
-    → AllSaid (SaysBoth y lx ly told) (says_break d x)
-word-both x y lx ly told h None e = own-both x y lx ly told h x.own_breaks.brk refl
-word-both x y lx ly told h (Some (Brk number length_octet)) e = absurd (subst (IsPending (length x.their_breaks.lengths)) e h.back.pending)
-word-both x y lx ly told h (Some (Ack number length_octet)) e =
-    let pending : IsPending (length x.their_breaks.lengths) (Some (Ack number length_octet)) =
-    subst (IsPending (length x.their_breaks.lengths)) e h.back.pending in
-    let read = says-read (Ack number length_octet) (length x.their_breaks.lengths - 1) (omega (arith, pending.1)) in
-    worded (record x { their_breaks = after_ack x.their_breaks; special = true }) y lx ly told
-    (slots.Frame (Ui true false (spelled (Ack number length_octet)))) (length x.their_breaks.lengths - 1)
-    (record {
-      out = subst (λ k. Go x.own_breaks y.their_breaks k (acks_in ly))
-          (sym (ap (λ l. brks_in lx ++ l) read.0 ∙ append-nil (brks_in lx))) h.out;
-      back = subst (λ k. Go y.own_breaks (after_ack x.their_breaks) (brks_in ly) (acks_in lx ++ k)) (sym read.1)
-          (go-ack y.own_breaks x.their_breaks (brks_in ly) (acks_in lx) number length_octet e h.back);
-    })
+  answer : (d : Answer) (x b : Account) → BothGo b y lx ly → Says (says (frame_for d x) b)
+  answer answers.Adp x b h = plain b y lx ly told slots.Adp 0 h refl refl
+  answer answers.Xid x b h = plain b y lx ly told (frame_for answers.Xid x) 0 h refl refl
+  answer (answers.Ua pf) x b h = plain b y lx ly told (slots.Frame (Ua pf)) 0 h refl refl
+  answer (answers.Dm pf) x b h = plain b y lx ly told (slots.Frame (Dm pf)) 0 h refl refl
 
-special-both : (x y : Account) (lx ly : List Slot) (told : ℕ) → BothGo x y lx ly → (special : Bool)
-    → AllSaid (SaysBoth y lx ly told) (cond special None (says_break x.their_breaks.ack x))
-special-both x y lx ly told h true = tt
-special-both x y lx ly told h false = word-both x y lx ly told h x.their_breaks.ack refl
+  ready : (b : Account) (busy command pf : Bool) (nr : ℕ) → BothGo b y lx ly → Says (says (slots.Frame (ready_frame busy command nr pf)) b)
+  ready b false command pf nr h = plain b y lx ly told (slots.Frame (Rr command nr pf)) 0 h refl refl
+  ready b true command pf nr h = plain b y lx ly told (slots.Frame (Rnr command nr pf)) 0 h refl refl
 
-sixth-both : (x y : Account) (lx ly : List Slot) (told : ℕ) (special : Bool) → BothGo x y lx ly
-    → AllSaid (SaysBoth y lx ly told) (step6 special x)
-sixth-both x y lx ly told special h = go (differs x.owes.busy x.owes.busy_told && (is_originator x.setup.role || x.numbered)) x.owes.busy
-  where
-    go : (b c : Bool) → AllSaid (SaysBoth y lx ly told)
-        (cond b (Some (tells false false x)) (cond c None (says_asking x.incoming.srej special (asks x.incoming) x)))
-    go true c = tells-both x y lx ly told h false false
-    go false true = tt
-    go false false = asking-both x y lx ly told h x.incoming.srej special (asks x.incoming)
+  own : (x : Account) → BothGo x y lx ly → (word : BreakWord) → own_due x.own_breaks ≡ Some word
+      → Says (says_word x.own_breaks.answered word (record x { own_breaks = after_brk x.own_breaks }))
+  own x h word e = go x.own_breaks.brk refl e
+    where
+      due : BreakWord
+      due = Brk (x.own_breaks.answered % 2) (slice_index_or x.own_breaks.lengths x.own_breaks.answered 0)
 
-steps-both : (x y : Account) (lx ly : List Slot) (told turn : ℕ) (special : Bool) → BothGo x y lx ly
-    → SaysBoth y lx ly told (steps turn special x)
-steps-both x y lx ly told turn special h =
-    let P : Said → Type 0 = SaysBoth y lx ly told in
-    else-says P (step1 x)
-    (else_says (step2 x) (else_says (step3 x)
-    (else_says (step4 turn x)
-    (else_says (step5 special x) (else_says (step6 special x) (else_says (step7 turn x) (else_says (step8 x) (step9 x))))))))
-    (answers-both x y lx ly told h x.owes.answer)
-    (else-says P (step2 x)
-    (else_says (step3 x) (else_says (step4 turn x)
-    (else_says (step5 special x) (else_says (step6 special x) (else_says (step7 turn x) (else_says (step8 x) (step9 x)))))))
-    (where-says P x.owes.reply (tells false true (record x { owes = record x.owes { reply = false } }))
-    (tells-both (record x { owes = record x.owes { reply = false } }) y lx ly told h false true))
-    (else-says P (step3 x)
-    (else_says (step4 turn x)
-    (else_says (step5 special x) (else_says (step6 special x) (else_says (step7 turn x) (else_says (step8 x) (step9 x))))))
-    (where-says P x.wait.poll (tells true true (record x { wait = record x.wait { poll = false } }))
-    (tells-both (record x { wait = record x.wait { poll = false } }) y lx ly told h true true))
-    (else-says P (step4 turn x)
-    (else_says (step5 special x) (else_says (step6 special x) (else_says (step7 turn x) (else_says (step8 x) (step9 x)))))
-    (urgent-both x y lx ly told turn h x.wait.urgent)
-    (else-says P (step5 special x) (else_says (step6 special x) (else_says (step7 turn x) (else_says (step8 x) (step9 x))))
-    (special-both x y lx ly told h special)
-    (else-says P (step6 special x) (else_says (step7 turn x) (else_says (step8 x) (step9 x))) (sixth-both x y lx ly told special h)
-    (else-says P (step7 turn x) (else_says (step8 x) (step9 x)) (segment-both x y lx ly told turn h (may_send x))
-    (else-says P (step8 x) (step9 x) (where-says P x.incoming.owed (tells false false x) (tells-both x y lx ly told h false false))
-    (plain x y lx ly told slots.Flags 0 h refl refl))))))))
+      go : (b : Bool) → x.own_breaks.brk ≡ b → cond b (Some due) None ≡ Some word
+          → Says (says_word x.own_breaks.answered word (record x { own_breaks = after_brk x.own_breaks }))
+      go false f e = cc
+      go true f e = let same : due ≡ word = cc in let read = says-read due x.own_breaks.answered (omega arith) in
+          subst (λ w. Says (says_word x.own_breaks.answered w (record x { own_breaks = after_brk x.own_breaks }))) same
+          (worded (record x { own_breaks = after_brk x.own_breaks; special = true }) y lx ly told
+          (slots.Frame (Ui true false (spelled due))) x.own_breaks.answered
+          (record {
+            out = subst (λ k. Go (after_brk x.own_breaks) y.their_breaks (brks_in lx ++ k) (acks_in ly)) (sym read.0)
+                (go-brk x.own_breaks y.their_breaks (brks_in lx) (acks_in ly) f h.out);
+            back = subst (λ k. Go y.own_breaks x.their_breaks (brks_in ly) k)
+                (sym (ap (λ l. acks_in lx ++ l) read.1 ∙ append-nil (acks_in lx))) h.back;
+          }))
 
-timer-both : (x y : Account) (lx ly : List Slot) → BothGo x y lx ly → (turn : ℕ) → OnHeard (λ b. BothGo b y lx ly) (on_timer turn x)
-timer-both x y lx ly h turn = go (timer_expires turn x x.wait.timer) (expired x.outgoing)
-  where
-    go : (b : Bool) (o : Option Outgoing) → OnHeard (λ b. BothGo b y lx ly) (cond b (polling turn o x) (Ok x))
-    go true None = tt
-    go true (Some o) = h
-    go false o = h
+  theirs : (x : Account) → BothGo x y lx ly → (word : BreakWord) → x.their_breaks.ack ≡ Some word
+      → Says (says_word (length x.their_breaks.lengths - 1) word (record x { their_breaks = after_ack x.their_breaks }))
+  theirs x h (Brk number length_octet) e = absurd (subst (IsPending (length x.their_breaks.lengths)) e h.back.pending)
+  theirs x h (Ack number length_octet) e =
+      let pending : IsPending (length x.their_breaks.lengths) (Some (Ack number length_octet)) =
+      subst (IsPending (length x.their_breaks.lengths)) e h.back.pending in
+      let read = says-read (Ack number length_octet) (length x.their_breaks.lengths - 1) (omega (arith, pending.1)) in
+      worded (record x { their_breaks = after_ack x.their_breaks; special = true }) y lx ly told
+      (slots.Frame (Ui true false (spelled (Ack number length_octet)))) (length x.their_breaks.lengths - 1)
+      (record {
+        out = subst (λ k. Go x.own_breaks y.their_breaks k (acks_in ly))
+            (sym (ap (λ l. brks_in lx ++ l) read.0 ∙ append-nil (brks_in lx))) h.out;
+        back = subst (λ k. Go y.own_breaks (after_ack x.their_breaks) (brks_in ly) (acks_in lx ++ k)) (sym read.1)
+            (go-ack y.own_breaks x.their_breaks (brks_in ly) (acks_in lx) number length_octet e h.back);
+      })
 
-break-timer-both : (x y : Account) (lx ly : List Slot) → BothGo x y lx ly → (turn : ℕ)
-    → OnHeard (λ b. BothGo b y lx ly) (on_break_timer turn x)
-break-timer-both x y lx ly h turn =
-    go (ticked turn x.setup.period x.setup.tries x.own_breaks)
-    (go-ticked x.own_breaks y.their_breaks (brks_in lx) (acks_in ly) turn x.setup.period x.setup.tries h.out)
-  where
-    go : (o : Option OwnBreaks) → OnTicked y.their_breaks (brks_in lx) (acks_in ly) o → OnHeard (λ b. BothGo b y lx ly) (breaking turn o x)
-    go None w = tt
-    go (Some b) w = record { out = w; back = h.back }
+  step-ways : (turn : ℕ) (special : Bool) (x : Account) → BothGo x y lx ly → Steps Says turn special x
+  step-ways turn special x h = record {
+    answers = λ d e. answer d x x h;
+    final = λ n e. ready x x.owes.busy false true (nr_of x) h;
+    poll = λ n r e. ready x x.owes.busy true true (nr_of x) h;
+    segment = λ b u n e. plain x y lx ly told (slots.Frame (I (n % 128) (nr_of x) false
+        (slice_index_or x.outgoing.pieces n []))) n h refl refl;
+    brkack = λ b s word e. theirs x h word e;
+    brk = λ b s k word e. own x h word e;
+    tell = λ b w e. ready x x.owes.busy false false (nr_of x) h;
+    rej = λ b w n e. plain x y lx ly told (slots.Frame (Rej false (nr_of x) false)) 0 h refl refl;
+    srej = λ b w s n e. plain x y lx ly told (slots.Frame (Srej false (n % 128) false)) n h refl refl;
+    flags = λ i. plain x y lx ly told slots.Flags 0 h refl refl;
+  }
 
-linked-both : (x y : Account) (lx ly : List Slot) (told turn : ℕ) → BothGo x y lx ly
-    → OnSaying (SaysBoth y lx ly told) (speak_linked turn x)
-linked-both x y lx ly told turn h = go (on_timer turn x) (timer-both x y lx ly h turn)
-  where
-    last : (r : Result Account LinkFault) → OnHeard (λ b. BothGo b y lx ly) r
-        → OnSaying (SaysBoth y lx ly told) (after_timers turn x.special r)
-    last (Err fault) w = tt
-    last (Ok b) w = steps-both (record b { special = false }) y lx ly told turn x.special w
+  ticked-both : (turn : ℕ) (x : Account) → BothGo x y lx ly → (own : OwnBreaks) → ticked turn x.setup.period x.setup.tries x.own_breaks
+      ≡ Some own
+      → BothGo (record x { own_breaks = own }) y lx ly
+  ticked-both turn x h own e = record {
+    out = subst (OnTicked y.their_breaks (brks_in lx) (acks_in ly)) e
+        (go-ticked x.own_breaks y.their_breaks (brks_in lx) (acks_in ly) turn x.setup.period x.setup.tries h.out);
+    back = h.back;
+  }
 
-    go : (r : Result Account LinkFault) → OnHeard (λ b. BothGo b y lx ly) r
-        → OnSaying (SaysBoth y lx ly told) (after_timers turn x.special (then_tries turn r))
-    go (Err fault) w = tt
-    go (Ok b) w = last (on_break_timer turn b) (break-timer-both b y lx ly w turn)
+  tried : (turn : ℕ) (frame : Frame) (x : Account) → BothGo x y lx ly → brk_of (slots.Frame frame) 0 ≡ [] → ack_of (slots.Frame frame) 0 ≡
+      []
+      → Tries Says turn frame x
+  tried turn frame x h e f = tries-alike Says turn frame x (λ w. plain x y lx ly told (slots.Frame frame) 0 h e f)
+      (plain x y lx ly told slots.Flags 0 h refl refl)
 
-detecting-both : (x y : Account) (lx ly : List Slot) (told turn : ℕ) → BothGo x y lx ly → (r : Role)
-    → OnSaying (SaysBoth y lx ly told) (speak_detecting r turn x)
-detecting-both x y lx ly told turn h Answerer = answer-both x y lx ly told slots.Mark h refl refl
-detecting-both x y lx ly told turn h Originator = go (nat_le ((x.setup.tries + 1) * x.setup.period) turn)
-  where
-    go : (b : Bool) → OnSaying (SaysBoth y lx ly told) (cond b (Err NotDetected) (Ok (says slots.Odp x)))
-    go true = tt
-    go false = plain x y lx ly told slots.Odp 0 h refl refl
-
-negotiating-both : (x y : Account) (lx ly : List Slot) (told turn : ℕ) → BothGo x y lx ly → (r : Role)
-    → OnSaying (SaysBoth y lx ly told) (speak_negotiating r turn x)
-negotiating-both x y lx ly told turn h Answerer = answer-both x y lx ly told slots.Flags h refl refl
-negotiating-both x y lx ly told turn h Originator = tries-both x y lx ly told turn (Xid true false (written x.setup.offer)) h refl refl
-
-phase-both : (x y : Account) (lx ly : List Slot) (told turn : ℕ) (release : Bool) → BothGo x y lx ly → (p : Phase)
-    → OnSaying (SaysBoth y lx ly told) (speak_in p turn release x)
-phase-both x y lx ly told turn release h Detecting = detecting-both x y lx ly told turn h x.setup.role
-phase-both x y lx ly told turn release h Negotiating = negotiating-both x y lx ly told turn h x.setup.role
-phase-both x y lx ly told turn release h Establishing = tries-both x y lx ly told turn (Sabme true) h refl refl
-phase-both x y lx ly told turn release h Connected = go (release && is_originator x.setup.role)
-  where
-    go : (b : Bool) → OnSaying (SaysBoth y lx ly told) (cond b (speak_releasing turn (trying Releasing turn x)) (speak_linked turn x))
-    go true = tries-both (trying Releasing turn x) y lx ly told turn (Disc true) h refl refl
-    go false = linked-both x y lx ly told turn h
-phase-both x y lx ly told turn release h Releasing = tries-both x y lx ly told turn (Disc true) h refl refl
-phase-both x y lx ly told turn release h Closed = answer-both x y lx ly told slots.Flags h refl refl
+  speak-ways : (turn : ℕ) (release : Bool) (x : Account) → BothGo x y lx ly → SpeakWays.Ways Says turn release x
+  speak-ways turn release x h = record {
+    answers = λ alone d e. answer d x x h;
+    flags = λ alone e. plain x y lx ly told slots.Flags 0 h refl refl;
+    mark = λ p r e. plain x y lx ly told slots.Mark 0 h refl refl;
+    odp = λ p r l. plain x y lx ly told slots.Odp 0 h refl refl;
+    xid = λ p r. tried turn _ x h refl refl;
+    sabme = λ p. tried turn _ x h refl refl;
+    linked = λ p r. record {
+      stands = λ t own o. step-ways turn x.special _ (ticked-both turn x h own o);
+      expires = λ set t own o. step-ways turn x.special _ (ticked-both turn x h own o);
+    };
+    releases = λ p r. tried turn _ (trying Releasing turn x) h refl refl;
+    disc = λ p. tried turn _ x h refl refl;
+  }
 
 pub speak-both : (x y : Account) (lx ly : List Slot) (told turn : ℕ) (release : Bool) → BothGo x y lx ly
-    → OnSaying (SaysBoth y lx ly told) (speak turn release x)
-speak-both x y lx ly told turn release h = phase-both x y lx ly told turn release h x.phase
+    → OnSaid (SaysBoth y lx ly told) (speak turn release x)
+speak-both x y lx ly told turn release h = go (speak turn release x) refl
+  where
+    go : (r : Result Said LinkFault) → speak turn release x ≡ r → OnSaid (SaysBoth y lx ly told) r
+    go (Ok said) e = SpeakWays.by-ways (SaysBoth y lx ly told) turn release x (speak-ways y lx ly told turn release x h) said e
+    go (Err fault) e = tt
 
 -- Plays
 
@@ -543,7 +329,7 @@ heard-pair x y lx ly (Ok b) h w = w
 heard-pair x y lx ly (Err fault) h w = h
 
 spoken-pair : (q : Pair) (r : Result Said LinkFault) → PairGo q
-    → OnSaying (SaysBoth q.peer.account q.own.line q.peer.line (next_expected q.own.account.incoming)) r
+    → OnSaid (SaysBoth q.peer.account q.own.line q.peer.line (next_expected q.own.account.incoming)) r
     → PairGo (record { own = spoken r q.own; peer = q.peer })
 spoken-pair q (Ok said) h w = w
 spoken-pair q (Err fault) h w = h

@@ -1,3 +1,5 @@
+pub mod SpeakWays
+pub mod HearWays
 mod Flow
 mod Ends
 mod Linked

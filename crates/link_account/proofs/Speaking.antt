@@ -1,5 +1,5 @@
 -- Speaking keeps a play good.
-use Rattle.std.proofs.Common.{◌≡◌, ℕ, ◌+◌, ◌*◌, ◌≤◌, ◌&&◌, Bool, true, false, cond, nat_eq, nat_le, List, [], ◌∷◌, ◌++◌, length, arith}
+use Rattle.std.proofs.Common.{◌≡◌, ℕ, ◌+◌, ◌≤◌, ◌&&◌, Bool, true, false, List, [], ◌∷◌, ◌++◌, length, arith}
 use Rattle.std.proofs.Common.{refl, sym, ◌∙◌, ap, subst, Option, Some, None, Result, Ok, Err, ◌⊎◌, inl, inr}
 use Rattle.std.proofs.lemmas.Bool.{false≢true}
 use Rattle.lapm_frames.specs.declared.frame.Frame.{Frame}
@@ -7,7 +7,9 @@ use Rattle.lapm_frames.specs.declared.frame.Frame.TheVariants.{Sabme, Disc, Ua, 
 use Rattle.xid_params.specs.Offers.{written}
 use Rattle.lapm_sender.specs.Outgoing.{Outgoing}
 use Rattle.lapm_receiver.specs.Incoming.{Incoming, next_expected}
-use Rattle.break_signals.specs.Breaks.{OwnBreaks, ticked}
+use Rattle.shared_terms.specs.declared.role.Role.{Role}
+use Rattle.shared_terms.specs.declared.role.Role.TheVariants.{Originator, Answerer}
+use Rattle.break_signals.specs.Breaks.{OwnBreaks}
 use Rattle.lapm_frames.specs.declared.sent.Sent.{Sent}
 use Rattle.lapm_frames.specs.declared.sent.Sent.TheVariants as slots
 use Rattle.shared_terms.specs.declared.fault.LinkFault.{LinkFault}
@@ -20,13 +22,14 @@ use Rattle.link_account.specs.declared.answer.Answer.TheVariants as answers
 use Rattle.link_account.specs.Account.{Account, Wait}
 use Rattle.shared_terms.specs.Role.{is_originator}
 use Rattle.link_account.specs.Hear.{trying}
-use Rattle.link_account.specs.Speak.{Said, says, says_frame, else_says, where_says, step1, speak, speak_in, speak_detecting}
-use Rattle.link_account.specs.Speak.{speak_negotiating, speak_releasing, speak_linked, u_try, tries_frame, trying_again, answering}
-use Rattle.link_account.specs.Speak.{on_timer, on_break_timer, then_tries, after_timers, polling, breaking, spent, timer_expires}
+use Rattle.link_account.specs.Speak.{Said, says, frame_for, speak}
 use Rattle.link_account.specs.Play.{Slot}
 use Rattle.link_account.proofs.Flow.{IsAskable, all_snoc}
 use Rattle.link_account.proofs.Ends.{segment_of, asked_of, Goes, line-quiet, back-told}
-use Rattle.link_account.proofs.Linked.{Linked, Same, IsNumbered, IsLinked, SaysWell, AllSaid, else-says, where-says, steps-well}
+use Rattle.link_account.proofs.Linked.{Linked, Same, IsNumbered, IsLinked, SaysWell, steps-well}
+use Rattle.link_account.proofs.SpeakWays.{Answers, Tries, ConnectedWays, Ways, by-ways, linked-alike, tries-alike, retimed, Breaks}
+use Rattle.link_account.proofs.SpeakWays.{Undetected, Spends}
+use Rattle.link_account.proofs.SpeakWays.{why-broken}
 use Rattle.link_account.proofs.Good.{rank, FromO, FromA, DueA, NotSabme, SabmeFirst, PlaceO, PlaceA, NoneNumbered, LineO, LineA, terms_of}
 use Rattle.link_account.proofs.Good.{Good, linked-o, linked-a, changed-o, changed-a}
 
@@ -42,6 +45,17 @@ abbrev pub OnSaid : (Said → Type 0) → Result Said LinkFault → Type 0
 OnSaid P (Ok said) = P said
 OnSaid P (Err fault) = IsHarmless fault
 
+by-result : (P : Said → Type 0) (turn : ℕ) (release : Bool) (a : Account) → Ways P turn release a → OnSaid P (speak turn release a)
+by-result P turn release a h = go (speak turn release a) refl
+  where
+    harmless : (fault : LinkFault) → Breaks turn a fault → IsHarmless fault
+    harmless fault (Undetected p r e) = subst IsHarmless (sym e) tt
+    harmless fault (Spends e) = subst IsHarmless (sym e) tt
+
+    go : (r : Result Said LinkFault) → speak turn release a ≡ r → OnSaid P r
+    go (Ok said) e = by-ways P turn release a h said e
+    go (Err fault) e = harmless fault (why-broken turn release a fault e)
+
 abbrev pub slot_of : Said → ℕ → Slot
 slot_of said told = record { sent = said.sent; number = said.number; told = told }
 
@@ -54,77 +68,24 @@ pub record Timed (wo wi : ℕ) (srej : Bool) (a : Account) (po : Outgoing) (pi :
   pub numbered : b.numbered ≡ a.numbered
   pub incoming : b.incoming ≡ a.incoming
 
-abbrev pub OnTimed : (Account → Type 0) → Result Account LinkFault → Type 0
-OnTimed P (Ok b) = P b
-OnTimed P (Err fault) = IsHarmless fault
-
 timed : (wo wi : ℕ) (srej : Bool) (a : Account) (po : Outgoing) (pi : Incoming) (line back : List Slot)
-    → Linked wo wi srej a po pi line back → (turn : ℕ) → OnTimed (Timed wo wi srej a po pi line back) (on_timer turn a)
-timed wo wi srej a po pi line back h turn = go (timer_expires turn a a.wait.timer) (nat_eq a.outgoing.count a.outgoing.tries)
-  where
-    go : (b c : Bool) → OnTimed (Timed wo wi srej a po pi line back)
-        (cond b (polling turn (cond c None (Some (record a.outgoing { count = a.outgoing.count + 1; awaited = true }))) a) (Ok a))
-    go true true = tt
-    go true false = record {
-      linked = record { own = h.own; theirs = h.theirs; own_window = h.own_window; their_window = h.their_window; srej_is = h.srej_is };
-      same = record { setup = refl; phase = refl; answer = refl };
-      numbered = refl;
-      incoming = refl;
-    }
-    go false c = record { linked = h; same = record { setup = refl; phase = refl; answer = refl }; numbered = refl; incoming = refl }
-
-break-timed : (wo wi : ℕ) (srej : Bool) (a : Account) (po : Outgoing) (pi : Incoming) (line back : List Slot) (b : Account)
-    → Timed wo wi srej a po pi line back b → (turn : ℕ) → OnTimed (Timed wo wi srej a po pi line back) (on_break_timer turn b)
-break-timed wo wi srej a po pi line back b h turn = go (ticked turn b.setup.period b.setup.tries b.own_breaks)
-  where
-    go : (o : Option OwnBreaks) → OnTimed (Timed wo wi srej a po pi line back) (breaking turn o b)
-    go None = tt
-    go (Some breaks) = record {
-      linked = record {
-        own = h.linked.own;
-        theirs = h.linked.theirs;
-        own_window = h.linked.own_window;
-        their_window = h.linked.their_window;
-        srej_is = h.linked.srej_is;
-      };
-      same = record { setup = h.same.setup; phase = h.same.phase; answer = h.same.answer };
-      numbered = h.numbered;
-      incoming = h.incoming;
-    }
-
-unspecial : (wo wi : ℕ) (srej : Bool) (a : Account) (po : Outgoing) (pi : Incoming) (line back : List Slot) (b : Account)
-    → Timed wo wi srej a po pi line back b → Timed wo wi srej a po pi line back (record b { special = false })
-unspecial wo wi srej a po pi line back b h = record {
-  linked = record {
-    own = h.linked.own;
-    theirs = h.linked.theirs;
-    own_window = h.linked.own_window;
-    their_window = h.linked.their_window;
-    srej_is = h.linked.srej_is;
-  };
-  same = record { setup = h.same.setup; phase = h.same.phase; answer = h.same.answer };
-  numbered = h.numbered;
-  incoming = h.incoming;
+    → Linked wo wi srej a po pi line back
+    → (count : ℕ) (awaited : Bool) (w : Wait) (own : OwnBreaks) → Timed wo wi srej a po pi line back (retimed a count awaited w own)
+timed wo wi srej a po pi line back h count awaited w own = record {
+  linked = record { own = h.own; theirs = h.theirs; own_window = h.own_window; their_window = h.their_window; srej_is = h.srej_is };
+  same = record { setup = refl; phase = refl; answer = refl };
+  numbered = refl;
+  incoming = refl;
 }
 
 linked-speaks : (wo wi : ℕ) (srej : Bool) (a : Account) (po : Outgoing) (pi : Incoming) (line back : List Slot) (turn : ℕ)
     (P : Said → Type 0) → Linked wo wi srej a po pi line back
-    → ((b : Account) → Timed wo wi srej a po pi line back b → AllSaid P (step1 b))
+    → ((b : Account) → Timed wo wi srej a po pi line back b → Answers P b)
     → ((b : Account) (said : Said) → Timed wo wi srej a po pi line back b
-    → SaysWell wo wi srej b po pi line back (next_expected b.incoming) said → P said) → OnSaid P (speak_linked turn a)
-linked-speaks wo wi srej a po pi line back turn P h first f = go (on_timer turn a) (timed wo wi srej a po pi line back h turn)
-  where
-    last : (r : Result Account LinkFault) → OnTimed (Timed wo wi srej a po pi line back) r → OnSaid P (after_timers turn a.special r)
-    last (Err fault) w = w
-    last (Ok b) w =
-        let w2 = unspecial wo wi srej a po pi line back b w in
-        steps-well wo wi srej (record b { special = false }) po pi line back turn a.special P w2.linked
-        (first (record b { special = false }) w2) (λ said s. f (record b { special = false }) said w2 s)
-
-    go : (r : Result Account LinkFault) → OnTimed (Timed wo wi srej a po pi line back) r
-        → OnSaid P (after_timers turn a.special (then_tries turn r))
-    go (Err fault) w = w
-    go (Ok b) w = last (on_break_timer turn b) (break-timed wo wi srej a po pi line back b w turn)
+    → SaysWell wo wi srej b po pi line back (next_expected b.incoming) said → P said) → ConnectedWays P turn a
+linked-speaks wo wi srej a po pi line back turn P h first f = linked-alike P turn a
+    (λ count awaited w own. let b = retimed a count awaited w own in let t = timed wo wi srej a po pi line back h count awaited w own in
+    steps-well wo wi srej b po pi line back t.linked turn a.special P (first b t) (λ said s. f b said t s))
 
 -- An originator speaks.
 
@@ -205,23 +166,12 @@ o-tries : (so sa : Setup) (o a : Account) (lo la : List Slot) → Good so sa o a
     → segment_of (slots.Frame frame) 0 ≡ [] → asked_of (slots.Frame frame) 0 ≡ None
     → FromO so (rank o.phase) (slots.Frame frame) 0 (next_expected o.incoming) → NotSabme (slots.Frame frame) ⊎ (rank o.phase ≤ 2)
     → (rank o.phase ≤ 2 → IsNumbered (slots.Frame frame) → ⊥)
-    → OnSaid (SaidO so sa (next_expected o.incoming) a lo la) (u_try turn frame o)
-o-tries so sa o a lo la g turn frame none unasked from sabme unnumbered =
-    go (nat_eq turn (o.wait.try_set + o.setup.period)) (nat_eq o.wait.try_count o.setup.tries)
-  where
-    tried : (w : Wait) → SaidO so sa (next_expected o.incoming) a lo la (tries_frame frame (record o { wait = w }))
-    tried w = else-says (SaidO so sa (next_expected o.incoming) a lo la)
-        (where_says w.try (says_frame frame (record o { wait = record w { try = false } }))) (says slots.Flags (record o { wait = w }))
-        (where-says (SaidO so sa (next_expected o.incoming) a lo la) w.try (says_frame frame (record o { wait = record w { try = false } }))
-        (quiet-o so sa (record o { wait = record w { try = false } }) a lo la (o-waits so sa o a lo la g (record w { try = false }))
-        (slots.Frame frame) none unasked from sabme unnumbered))
-        (quiet-o so sa (record o { wait = w }) a lo la (o-waits so sa o a lo la g w) slots.Flags refl refl tt (inl tt) (λ low n. n))
-
-    go : (b c : Bool) → OnSaid (SaidO so sa (next_expected o.incoming) a lo la)
-        (cond b (cond c (Err (spent turn o)) (Ok (tries_frame frame (trying_again turn o)))) (Ok (tries_frame frame o)))
-    go true true = tt
-    go true false = tried (record o.wait { try = true; try_set = turn; try_count = o.wait.try_count + 1 })
-    go false c = tried o.wait
+    → Tries (SaidO so sa (next_expected o.incoming) a lo la) turn frame o
+o-tries so sa o a lo la g turn frame none unasked from sabme unnumbered = tries-alike
+    (SaidO so sa (next_expected o.incoming) a lo la) turn frame o
+    (λ w. quiet-o so sa (record o { wait = w }) a lo la (o-waits so sa o a lo la g w)
+    (slots.Frame frame) none unasked from sabme unnumbered)
+    (quiet-o so sa o a lo la g slots.Flags refl refl tt (inl tt) (λ low n. n))
 
 linked-from-o : (so : Setup) (k : ℕ) (sent : Sent) (n told : ℕ) → IsLinked sent n told → FromO so k sent n told
 linked-from-o so k (slots.Frame (Xid true pf info)) n told h = absurd h
@@ -238,11 +188,11 @@ linked-no-sabme (slots.Frame (Sabme pf)) n told h = h
 linked-no-sabme sent n told h = tt
 
 o-linked-speaks : (so sa : Setup) (o a : Account) (lo la : List Slot) → Good so sa o a lo la → o.phase ≡ Connected → (turn : ℕ)
-    → OnSaid (SaidO so sa (next_expected o.incoming) a lo la) (speak_linked turn o)
+    → ConnectedWays (SaidO so sa (next_expected o.incoming) a lo la) turn o
 o-linked-speaks so sa o a lo la g e turn =
     linked-speaks wo wi srej o a.outgoing a.incoming lo la turn (SaidO so sa (next_expected o.incoming) a lo la)
     (linked-o so sa o a lo la g (subst (λ p. PlaceO (terms_of so sa) p o) e g.place_o))
-    (λ b w. subst (λ d. AllSaid (SaidO so sa (next_expected o.incoming) a lo la) (answering d b)) (sym (sym w.same.answer ∙ g.answer_o)) tt)
+    (λ b w d q. let wrong : None ≡ Some d = sym g.answer_o ∙ (w.same.answer ∙ q) in cc)
     (λ b said w s. subst (λ i. SaidO so sa (next_expected i) a lo la said) w.incoming (well b said w s))
   where
     wo : ℕ
@@ -271,45 +221,27 @@ o-linked-speaks so sa o a lo la g e turn =
         (inl (linked-no-sabme said.sent said.number (next_expected b.incoming) s.spelled))
         (λ low n. omega (arith, low, ap rank at)) s.linked.own s.linked.theirs
 
-o-releases : (so sa : Setup) (o a : Account) (lo la : List Slot) → Good so sa o a lo la → o.phase ≡ Connected → (turn : ℕ)
-    → OnSaid (SaidO so sa (next_expected o.incoming) a lo la) (speak_releasing turn (trying Releasing turn o))
-o-releases so sa o a lo la g e turn =
-    o-tries so sa (trying Releasing turn o) a lo la
-    (changed-o so sa o a lo la g (trying Releasing turn o) refl refl (omega (arith, ap rank e))
-    (subst (λ p. PlaceO (terms_of so sa) p o) e g.place_o) (λ z. absurd (omega (arith, g.met z, ap rank e))) g.flow_oa g.flow_ao)
-    turn (Disc true) refl refl (omega arith) (inl tt) (λ low n. n)
-
-o-in-phase : (so sa : Setup) (o a : Account) (lo la : List Slot) → Good so sa o a lo la → (turn : ℕ) (release : Bool) (p : Phase)
-    → o.phase ≡ p → OnSaid (SaidO so sa (next_expected o.incoming) a lo la) (speak_in p turn release o)
-o-in-phase so sa o a lo la g turn release Detecting e =
-    subst (λ r. OnSaid (SaidO so sa (next_expected o.incoming) a lo la) (speak_detecting r turn o))
-    (sym (ap (λ s. s.role) g.setup_o ∙ g.deal.role_o)) (go (nat_le ((o.setup.tries + 1) * o.setup.period) turn))
-  where
-    go : (b : Bool) → OnSaid (SaidO so sa (next_expected o.incoming) a lo la) (cond b (Err NotDetected) (Ok (says slots.Odp o)))
-    go true = tt
-    go false = quiet-o so sa o a lo la g slots.Odp refl refl tt (inl tt) (λ low n. n)
-o-in-phase so sa o a lo la g turn release Negotiating e =
-    subst (λ r. OnSaid (SaidO so sa (next_expected o.incoming) a lo la) (speak_negotiating r turn o))
-    (sym (ap (λ s. s.role) g.setup_o ∙ g.deal.role_o))
-    (o-tries so sa o a lo la g turn (Xid true false (written o.setup.offer)) refl refl (ap (λ s. written s.offer) g.setup_o) (inl tt)
-    (λ low n. n))
-o-in-phase so sa o a lo la g turn release Establishing e =
-    o-tries so sa o a lo la g turn (Sabme true) refl refl (omega (arith, ap rank e)) (inr (omega (arith, ap rank e))) (λ low n. n)
-o-in-phase so sa o a lo la g turn release Connected e = go (release && is_originator o.setup.role)
-  where
-    go : (b : Bool) → OnSaid (SaidO so sa (next_expected o.incoming) a lo la)
-        (cond b (speak_releasing turn (trying Releasing turn o)) (speak_linked turn o))
-    go true = o-releases so sa o a lo la g e turn
-    go false = o-linked-speaks so sa o a lo la g e turn
-o-in-phase so sa o a lo la g turn release Releasing e =
-    o-tries so sa o a lo la g turn (Disc true) refl refl (omega (arith, ap rank e)) (inl tt) (λ low n. n)
-o-in-phase so sa o a lo la g turn release Closed e =
-    subst (λ d. OnSaid (SaidO so sa (next_expected o.incoming) a lo la) (Ok (else_says (answering d o) (says slots.Flags o))))
-    (sym g.answer_o) (quiet-o so sa o a lo la g slots.Flags refl refl tt (inl tt) (λ low n. n))
+o-ways : (so sa : Setup) (o a : Account) (lo la : List Slot) → Good so sa o a lo la → (turn : ℕ) (release : Bool)
+    → Ways (SaidO so sa (next_expected o.incoming) a lo la) turn release o
+o-ways so sa o a lo la g turn release = record {
+  answers = λ alone d e. let wrong : None ≡ Some d = sym g.answer_o ∙ e in cc;
+  flags = λ alone e. quiet-o so sa o a lo la g slots.Flags refl refl tt (inl tt) (λ low n. n);
+  mark = λ p r e. let wrong : Originator ≡ Answerer = sym (ap (λ s. s.role) g.setup_o ∙ g.deal.role_o) ∙ r in cc;
+  odp = λ p r l. quiet-o so sa o a lo la g slots.Odp refl refl tt (inl tt) (λ low n. n);
+  xid = λ p r. o-tries so sa o a lo la g turn _ refl refl (ap (λ s. written s.offer) g.setup_o) (inl tt) (λ low n. n);
+  sabme = λ p. o-tries so sa o a lo la g turn _ refl refl (omega (arith, ap rank p)) (inr (omega (arith, ap rank p))) (λ low n. n);
+  linked = λ p r. o-linked-speaks so sa o a lo la g p turn;
+  releases = λ p r. o-tries so sa (trying Releasing turn o) a lo la
+      (changed-o so sa o a lo la g (trying Releasing turn o) refl refl (omega (arith, ap rank p))
+      (subst (λ q. PlaceO (terms_of so sa) q o) p g.place_o) (λ z. absurd (omega (arith, g.met z, ap rank p))) g.flow_oa g.flow_ao)
+      turn _ refl refl (omega arith) (inl tt) (λ low n. n);
+  disc = λ p. o-tries so sa o a lo la g turn _ refl refl (omega (arith, ap rank p)) (inl tt) (λ low n. n);
+}
 
 pub o-speaks : (so sa : Setup) (o a : Account) (lo la : List Slot) → Good so sa o a lo la → (turn : ℕ) (release : Bool)
     → OnSaid (SaidO so sa (next_expected o.incoming) a lo la) (speak turn release o)
-o-speaks so sa o a lo la g turn release = o-in-phase so sa o a lo la g turn release o.phase refl
+o-speaks so sa o a lo la g turn release =
+    by-result (SaidO so sa (next_expected o.incoming) a lo la) turn release o (o-ways so sa o a lo la g turn release)
 
 -- An answerer speaks.
 
@@ -379,20 +311,19 @@ a-answered so sa o a lo la g =
     place Releasing k = k
     place Closed k = k
 
-a-answers : (so sa : Setup) (o a : Account) (lo la : List Slot) → Good so sa o a lo la → (d : Option Answer)
-    → DueA (rank o.phase) (rank a.phase) d → AllSaid (SaidA so sa (next_expected a.incoming) o lo la) (answering d a)
-a-answers so sa o a lo la g None due = tt
-a-answers so sa o a lo la g (Some answers.Adp) due =
-    quiet-a so sa o (record a { owes = record a.owes { answer = None } }) lo la (a-answered so sa o a lo la g) slots.Adp refl refl tt
-a-answers so sa o a lo la g (Some answers.Xid) due =
-    quiet-a so sa o (record a { owes = record a.owes { answer = None } }) lo la (a-answered so sa o a lo la g)
-    (slots.Frame (Xid false false (written a.setup.offer))) refl refl (ap (λ s. written s.offer) g.setup_a, due)
-a-answers so sa o a lo la g (Some (answers.Ua pf)) due =
-    quiet-a so sa o (record a { owes = record a.owes { answer = None } }) lo la (a-answered so sa o a lo la g)
-    (slots.Frame (Ua pf)) refl refl tt
-a-answers so sa o a lo la g (Some (answers.Dm pf)) due =
-    quiet-a so sa o (record a { owes = record a.owes { answer = None } }) lo la (a-answered so sa o a lo la g)
-    (slots.Frame (Dm pf)) refl refl due
+a-answers : (so sa : Setup) (o a : Account) (lo la : List Slot) → Good so sa o a lo la → Answers
+    (SaidA so sa (next_expected a.incoming) o lo la) a
+a-answers so sa o a lo la g d e = go d (subst (DueA (rank o.phase) (rank a.phase)) e g.answer_a)
+  where
+    none : Good so sa o (record a { owes = record a.owes { answer = None } }) lo la
+    none = a-answered so sa o a lo la g
+
+    go : (d : Answer) → DueA (rank o.phase) (rank a.phase) (Some d)
+        → SaidA so sa (next_expected a.incoming) o lo la (says (frame_for d a) (record a { owes = record a.owes { answer = None } }))
+    go answers.Adp due = quiet-a so sa o _ lo la none slots.Adp refl refl tt
+    go answers.Xid due = quiet-a so sa o _ lo la none _ refl refl (ap (λ s. written s.offer) g.setup_a, due)
+    go (answers.Ua pf) due = quiet-a so sa o _ lo la none (slots.Frame (Ua pf)) refl refl tt
+    go (answers.Dm pf) due = quiet-a so sa o _ lo la none (slots.Frame (Dm pf)) refl refl due
 
 linked-from-a : (sa : Setup) (k m : ℕ) (sent : Sent) (n told : ℕ) → IsLinked sent n told → FromA sa k m sent n told
 linked-from-a sa k m (slots.Frame (Xid false pf info)) n told h = absurd h
@@ -405,12 +336,11 @@ linked-from-a sa k m slots.Odp n told h = h
 linked-from-a sa k m slots.Adp n told h = tt
 
 a-linked-speaks : (so sa : Setup) (o a : Account) (lo la : List Slot) → Good so sa o a lo la → a.phase ≡ Connected → (turn : ℕ)
-    → OnSaid (SaidA so sa (next_expected a.incoming) o lo la) (speak_linked turn a)
+    → ConnectedWays (SaidA so sa (next_expected a.incoming) o lo la) turn a
 a-linked-speaks so sa o a lo la g e turn =
     linked-speaks wo wi srej a o.outgoing o.incoming la lo turn (SaidA so sa (next_expected a.incoming) o lo la)
     (linked-a so sa o a lo la g (subst (λ p. PlaceA (terms_of so sa) p a) e g.place_a))
-    (λ b w. subst (λ i. AllSaid (SaidA so sa (next_expected i) o lo la) (step1 b)) w.incoming
-    (a-answers so sa o b lo la (now b w) b.owes.answer (now b w).answer_a))
+    (λ b w. subst (λ i. Answers (SaidA so sa (next_expected i) o lo la) b) w.incoming (a-answers so sa o b lo la (now b w)))
     (λ b said w s. subst (λ i. SaidA so sa (next_expected i) o lo la said) w.incoming (well b said w s))
   where
     wo : ℕ
@@ -442,34 +372,29 @@ a-linked-speaks so sa o a lo la g e turn =
         (linked-from-a sa (rank o.phase) (rank b.phase) said.sent said.number (next_expected b.incoming) s.spelled) s.linked.theirs
         s.linked.own
 
-a-says-answer : (so sa : Setup) (o a : Account) (lo la : List Slot) → Good so sa o a lo la → (sent : Sent) → segment_of sent 0 ≡ []
-    → asked_of sent 0 ≡ None → FromA sa (rank o.phase) (rank a.phase) sent 0 (next_expected a.incoming)
-    → SaidA so sa (next_expected a.incoming) o lo la (else_says (answering a.owes.answer a) (says sent a))
-a-says-answer so sa o a lo la g sent none unasked from =
-    else-says (SaidA so sa (next_expected a.incoming) o lo la) (answering a.owes.answer a) (says sent a)
-    (a-answers so sa o a lo la g a.owes.answer g.answer_a) (quiet-a so sa o a lo la g sent none unasked from)
-
-a-in-phase : (so sa : Setup) (o a : Account) (lo la : List Slot) → Good so sa o a lo la → (turn : ℕ) (release : Bool) (p : Phase)
-    → a.phase ≡ p → OnSaid (SaidA so sa (next_expected a.incoming) o lo la) (speak_in p turn release a)
-a-in-phase so sa o a lo la g turn release Detecting e =
-    subst (λ r. OnSaid (SaidA so sa (next_expected a.incoming) o lo la) (speak_detecting r turn a))
-    (sym (ap (λ s. s.role) g.setup_a ∙ g.deal.role_a)) (a-says-answer so sa o a lo la g slots.Mark refl refl tt)
-a-in-phase so sa o a lo la g turn release Negotiating e =
-    subst (λ r. OnSaid (SaidA so sa (next_expected a.incoming) o lo la) (speak_negotiating r turn a))
-    (sym (ap (λ s. s.role) g.setup_a ∙ g.deal.role_a)) (a-says-answer so sa o a lo la g slots.Flags refl refl tt)
-a-in-phase so sa o a lo la g turn release Establishing e = absurd (subst (λ p. PlaceA (terms_of so sa) p a) e g.place_a)
-a-in-phase so sa o a lo la g turn release Connected e =
-    subst (λ r. OnSaid (SaidA so sa (next_expected a.incoming) o lo la)
-    (cond (release && is_originator r) (speak_releasing turn (trying Releasing turn a)) (speak_linked turn a)))
-    (sym (ap (λ s. s.role) g.setup_a ∙ g.deal.role_a)) (go release)
+a-ways : (so sa : Setup) (o a : Account) (lo la : List Slot) → Good so sa o a lo la → (turn : ℕ) (release : Bool)
+    → Ways (SaidA so sa (next_expected a.incoming) o lo la) turn release a
+a-ways so sa o a lo la g turn release = record {
+  answers = λ alone. a-answers so sa o a lo la g;
+  flags = λ alone e. quiet-a so sa o a lo la g slots.Flags refl refl tt;
+  mark = λ p r e. quiet-a so sa o a lo la g slots.Mark refl refl tt;
+  odp = λ p r l. never r;
+  xid = λ p r. never r;
+  sabme = λ p. absurd (subst (λ q. PlaceA (terms_of so sa) q a) p g.place_a);
+  linked = λ p r. a-linked-speaks so sa o a lo la g p turn;
+  releases = λ p r. never (originator a.setup.role release r);
+  disc = λ p. absurd (subst (λ q. PlaceA (terms_of so sa) q a) p g.place_a);
+}
   where
-    go : (b : Bool) → OnSaid (SaidA so sa (next_expected a.incoming) o lo la)
-        (cond (b && false) (speak_releasing turn (trying Releasing turn a)) (speak_linked turn a))
-    go true = a-linked-speaks so sa o a lo la g e turn
-    go false = a-linked-speaks so sa o a lo la g e turn
-a-in-phase so sa o a lo la g turn release Releasing e = absurd (subst (λ p. PlaceA (terms_of so sa) p a) e g.place_a)
-a-in-phase so sa o a lo la g turn release Closed e = a-says-answer so sa o a lo la g slots.Flags refl refl tt
+    never : {A : Type 0} → a.setup.role ≡ Originator → A
+    never r = let wrong : Answerer ≡ Originator = sym (ap (λ s. s.role) g.setup_a ∙ g.deal.role_a) ∙ r in cc
+
+    originator : (r : Role) (b : Bool) → (b && is_originator r) ≡ true → r ≡ Originator
+    originator Originator b e = refl
+    originator Answerer true e = cc
+    originator Answerer false e = cc
 
 pub a-speaks : (so sa : Setup) (o a : Account) (lo la : List Slot) → Good so sa o a lo la → (turn : ℕ) (release : Bool)
     → OnSaid (SaidA so sa (next_expected a.incoming) o lo la) (speak turn release a)
-a-speaks so sa o a lo la g turn release = a-in-phase so sa o a lo la g turn release a.phase refl
+a-speaks so sa o a lo la g turn release =
+    by-result (SaidA so sa (next_expected a.incoming) o lo la) turn release a (a-ways so sa o a lo la g turn release)

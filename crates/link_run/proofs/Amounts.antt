@@ -85,7 +85,8 @@ heard-high a b s (inl g) = g.high
 heard-high a b s (inr g) = ap (λ o. o.high) g.outgoing_is ∙ sym (s.unsent (not-begun a.phase g.was))
 
 -- both ends of a play
-both-in-order : SendsInRange → (link : Link) → MayPlay link.orig.setup link.answ.setup → (ends : Accounts) (line : Role → List (Option Spoken))
+both-in-order : SendsInRange → (link : Link) → MayPlay link.orig.setup link.answ.setup → (ends : Accounts)
+    (line : Role → List (Option Spoken))
     → IsPlayed link ends line → (r : Role) → SendsInOrder (of r ends)
 both-in-order sends link m ends line p Originator =
     subst SendsInOrder (p.is_at Originator).account_is (sends link.orig.setup link.answ.setup p.events m).0

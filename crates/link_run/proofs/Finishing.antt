@@ -170,7 +170,8 @@ idles-over o p a b h i l = record {
   a_breaks = omega (arith, h.a_breaks, ap length (idles-left a b l).lengths, ap (λ z. length z.lengths) i.theirs);
 }
 
-over-heard : (reads : ReadsAllowed) (keeps : KeepsTaken) (turn : ℕ) (before : Accounts) (t : Turn) (mid : Accounts) → 2 ≤ stage before.orig.phase
+over-heard : (reads : ReadsAllowed) (keeps : KeepsTaken) (turn : ℕ) (before : Accounts) (t : Turn) (mid : Accounts)
+    → 2 ≤ stage before.orig.phase
     → Over before.orig before.answ → Hears turn before t mid → Over mid.orig mid.answ
 over-heard reads keeps turn before t mid s h k =
     still-over before.orig mid.orig before.answ mid.answ h
@@ -240,7 +241,8 @@ over-going link turn mid o a going h f e (Keeps_on k) l two =
         go false = refl
 over-going link turn mid o a going h f e (Releases on role linked k stand) l two =
     let s = both_served link turn mid in
-    let both = both-true (finished_at link turn (served_ends link turn mid) Originator) (finished_at link turn (served_ends link turn mid) Answerer) on in
+    let both = both-true (finished_at link turn (served_ends link turn mid) Originator)
+    (finished_at link turn (served_ends link turn mid) Answerer) on in
     let x = finished link.orig.user turn s.orig both.0 in
     let y = finished link.answ.user turn s.answ both.1 in
     still-over s.orig o.account s.answ a.account (record {
@@ -254,7 +256,8 @@ over-going link turn mid o a going h f e (Releases on role linked k stand) l two
     }) stand (spoken-left s.answ a.account l)
 
 pub over-run : (reads : ReadsAllowed) (keeps : KeepsTaken) (laws : PlayLaws) (link : Link) (delay : Role → ℕ)
-    → MayPlay link.orig.setup link.answ.setup → HasDelays delay → (ts : List Turn) (ends : Accounts) → IsCarried delay ts → RunOf link ts ends
+    → MayPlay link.orig.setup link.answ.setup → HasDelays delay → (ts : List Turn) (ends : Accounts) → IsCarried delay ts
+    → RunOf link ts ends
     → 2 ≤ stage ends.orig.phase → Over ends.orig ends.answ
 over-run reads keeps laws link delay m some [] ends c h two = absurd (omega (arith, two, ap (λ (e : Accounts). stage e.orig.phase) h))
 over-run reads keeps laws link delay m some (t ∷ ts) ends c h two =

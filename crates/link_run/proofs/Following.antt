@@ -269,7 +269,8 @@ abbrev pub KnownOf : Link → List Turn → List Turn → Accounts → Type 0
 KnownOf link sent heard ends = Known link.orig.setup link.answ.setup sent heard (course ends.orig) (course ends.answ)
 
 pub known-mid : (reads : ReadsAllowed) (keeps : KeepsTaken) (written : ReadsWritten) (link : Link) (delay : Role → ℕ) (ts : List Turn)
-    (before : Accounts) (t : Turn) (mid : Accounts) → MayPlay link.orig.setup link.answ.setup → RunOf link ts before → KnownOf link ts ts before
+    (before : Accounts) (t : Turn) (mid : Accounts) → MayPlay link.orig.setup link.answ.setup → RunOf link ts before
+    → KnownOf link ts ts before
     → Carries delay ts t → Hears (length ts) before t mid → KnownOf link ts (t ∷ ts) mid
 known-mid reads keeps written link delay ts before t mid p h m c k =
     let s = kept-run reads keeps (HasSetup link) link (setups-kept link) ts before h in

@@ -1,28 +1,20 @@
 -- Which end breaks with which fault, and that each turn is made.
-use Rattle.std.proofs.Common.{◌≡◌, ℕ, ◌+◌, ◌*◌, ◌&&◌, Bool, true, false, cond, nat_eq, nat_le, List, length, refl, sym, ◌∙◌, ap, subst}
+use Rattle.std.proofs.Common.{◌≡◌, ℕ, Bool, true, false, List, length, refl, sym, ◌∙◌, ap, subst}
 use Rattle.std.proofs.Common.{Option, Some, None, Result, Ok, Err}
 use Rattle.std.specs.Prelude.{is_ok}
 use Rattle.std.proofs.lemmas.Bool.{false≢true}
 use Rattle.shared_terms.specs.declared.role.Role.{Role}
 use Rattle.shared_terms.specs.declared.role.Role.TheVariants.{Originator, Answerer}
-use Rattle.lapm_frames.specs.declared.frame.Frame.{Frame}
-use Rattle.lapm_frames.specs.declared.frame.Frame.TheVariants.{Sabme, Disc, Xid}
-use Rattle.xid_params.specs.Offers.{ReadsAllowed, written}
-use Rattle.lapm_sender.specs.Outgoing.{Outgoing, expired}
+use Rattle.xid_params.specs.Offers.{ReadsAllowed}
 use Rattle.lapm_receiver.specs.Incoming.{KeepsTaken}
-use Rattle.break_signals.specs.Breaks.{OwnBreaks, ticked}
 use Rattle.link_account.specs.declared.setup.Setup.{Setup}
-use Rattle.link_account.specs.declared.phase.Phase.{Phase}
-use Rattle.link_account.specs.declared.phase.Phase.TheVariants.{Detecting, Negotiating, Establishing, Connected, Releasing, Closed}
 use Rattle.shared_terms.specs.declared.fault.LinkFault.{LinkFault}
 use Rattle.shared_terms.specs.declared.fault.LinkFault.TheVariants.{NotDetected, Spent, BadAck, PeerReset, PeerRefused}
 use Rattle.link_account.specs.Account.{Account, given_break, check_of}
-use Rattle.link_account.specs.Hear.{hear, trying}
-use Rattle.link_account.specs.Speak.{Said, says, tries_frame, trying_again, spent, speak, speak_in, speak_detecting, speak_negotiating}
-use Rattle.link_account.specs.Speak.{speak_releasing, speak_linked, u_try, on_timer, timer_expires, polling, breaking, then_tries}
-use Rattle.link_account.specs.Speak.{after_timers}
-use Rattle.lapm_frames.specs.declared.sent.Sent.TheVariants as slots
+use Rattle.link_account.specs.Hear.{hear}
+use Rattle.link_account.specs.Speak.{Said, says, spent, speak}
 use Rattle.lapm_frames.specs.declared.heard.Heard.{Heard}
+use Rattle.link_account.proofs.SpeakWays.{Breaks, Undetected, Spends, why-broken}
 use Rattle.link_run.specs.End.{is_closed, is_released}
 use Rattle.link_run.specs.Run.{Link, Accounts, Turn, Spoken, spoken, arrival, served_at, said_at, Hears, Speaks}
 use Rattle.link_run.specs.Outcomes.{Going, Done, Broken}
@@ -33,76 +25,13 @@ use Rattle.shared_terms.specs.Role.{is_originator, other}
 use Rattle.shared_terms.specs.Both.{of}
 use Rattle.link_run.specs.Carried.{sent_ago, Crosses}
 
-abbrev is_undetected : LinkFault → Bool
-is_undetected NotDetected = true
-is_undetected fault = false
-
--- whoever breaks so is an originator
-abbrev IfErr : {A : Type 0} → Account → Result A LinkFault → Type 0
-IfErr a (Ok x) = Unit {0}
-IfErr a (Err fault) = is_undetected fault ≡ true → a.setup.role ≡ Originator
-
-u : (turn : ℕ) (frame : Frame) (a b : Account) → IfErr a (u_try turn frame b)
-u turn frame a b = go (nat_eq turn (b.wait.try_set + b.setup.period)) (nat_eq b.wait.try_count b.setup.tries)
-  where
-    go : (x y : Bool) → IfErr a
-        (cond x (cond y (Err (spent turn b)) (Ok (tries_frame frame (trying_again turn b)))) (Ok (tries_frame frame b)))
-    go true true = λ z. absurd (false≢true z)
-    go true false = tt
-    go false y = tt
-
-detects : (role : Role) (turn : ℕ) (a : Account) → a.setup.role ≡ role → IfErr a (speak_detecting role turn a)
-detects Originator turn a e = go (nat_le ((a.setup.tries + 1) * a.setup.period) turn)
-  where
-    go : (b : Bool) → IfErr a (cond b (Err NotDetected) (Ok (says slots.Odp a)))
-    go true = λ z. e
-    go false = tt
-detects Answerer turn a e = tt
-
-negotiates : (role : Role) (turn : ℕ) (a : Account) → IfErr a (speak_negotiating role turn a)
-negotiates Originator turn a = u turn (Xid true false (written a.setup.offer)) a a
-negotiates Answerer turn a = tt
-
-polled : (turn : ℕ) (o : Option Outgoing) (a b : Account) → IfErr a (polling turn o b)
-polled turn None a b = λ z. absurd (false≢true z)
-polled turn (Some o) a b = tt
-
-timed : (turn : ℕ) (a : Account) → IfErr a (on_timer turn a)
-timed turn a = go (timer_expires turn a a.wait.timer)
-  where
-    go : (b : Bool) → IfErr a (cond b (polling turn (expired a.outgoing) a) (Ok a))
-    go true = polled turn (expired a.outgoing) a a
-    go false = tt
-
-broken : (turn : ℕ) (o : Option OwnBreaks) (a b : Account) → IfErr a (breaking turn o b)
-broken turn None a b = λ z. absurd (false≢true z)
-broken turn (Some o) a b = tt
-
-both-timed : (turn : ℕ) (a : Account) (r : Result Account LinkFault) → IfErr a r → IfErr a (then_tries turn r)
-both-timed turn a (Err fault) h = h
-both-timed turn a (Ok b) h = broken turn (ticked turn b.setup.period b.setup.tries b.own_breaks) a b
-
-links : (turn : ℕ) (a : Account) → IfErr a (speak_linked turn a)
-links turn a = go (then_tries turn (on_timer turn a)) (both-timed turn a (on_timer turn a) (timed turn a))
-  where
-    go : (r : Result Account LinkFault) → IfErr a r → IfErr a (after_timers turn a.special r)
-    go (Ok b) h = tt
-    go (Err fault) h = h
-
-connects : (turn : ℕ) (b : Bool) (a : Account) → IfErr a (cond b (speak_releasing turn (trying Releasing turn a)) (speak_linked turn a))
-connects turn true a = u turn (Disc true) a (trying Releasing turn a)
-connects turn false a = links turn a
-
-in-phase : (p : Phase) (turn : ℕ) (release : Bool) (a : Account) → IfErr a (speak_in p turn release a)
-in-phase Detecting turn release a = detects a.setup.role turn a refl
-in-phase Negotiating turn release a = negotiates a.setup.role turn a
-in-phase Establishing turn release a = u turn (Sabme true) a a
-in-phase Connected turn release a = connects turn (release && is_originator a.setup.role) a
-in-phase Releasing turn release a = u turn (Disc true) a a
-in-phase Closed turn release a = tt
-
+-- whoever breaks because it detected nothing is an originator
 undetected : (turn : ℕ) (release : Bool) (a : Account) → speak turn release a ≡ Err NotDetected → a.setup.role ≡ Originator
-undetected turn release a e = subst (IfErr a) e (in-phase a.phase turn release a) refl
+undetected turn release a e = go NotDetected refl (why-broken turn release a NotDetected e)
+  where
+    go : (fault : LinkFault) → fault ≡ NotDetected → Breaks turn a fault → a.setup.role ≡ Originator
+    go fault n (Undetected p r f) = r
+    go fault n (Spends f) = let wrong : NotDetected ≡ spent turn a = sym n ∙ f in cc
 
 pub each_end_is_named : ReadsAllowed → KeepsTaken → BrokenForWant → EachEndIsNamed
 each_end_is_named reads keeps want link ts before t mid role (Spent segment since) m h b = tt

@@ -48,13 +48,15 @@ same-side s u h c p g =
 abbrev pub HearSame : Turn → Turn → Type 0
 HearSame t u = (r : Role) → (of r t).heard ≡ (of r u).heard
 
-one-mid : (turn : ℕ) (before : Accounts) (t u : Turn) (mid others : Accounts) → Hears turn before t mid → Hears turn before u others → HearSame t u
+one-mid : (turn : ℕ) (before : Accounts) (t u : Turn) (mid others : Accounts) → Hears turn before t mid → Hears turn before u others
+    → HearSame t u
     → mid ≡ others
 one-mid turn before t u mid others h k e =
     same-both mid others (λ r. one-ok (h r).hears (ap (λ x. hear turn (arrival x) (of r before)) (e r) ∙ (k r).hears))
 
 -- a turn by what was heard, the ends that have heard, and what was sent
-one-turn : (turn : ℕ) (before : Accounts) (t u : Turn) (mid others : Accounts) → Hears turn before t mid → Hears turn before u others → HearSame t u
+one-turn : (turn : ℕ) (before : Accounts) (t u : Turn) (mid others : Accounts) → Hears turn before t mid → Hears turn before u others
+    → HearSame t u
     → mid ≡ others
     → ((r : Role) → (of r t).sent ≡ (of r u).sent) → t ≡ u
 one-turn turn before t u mid others h k e m p =
@@ -147,14 +149,16 @@ SameOutcome t u a b = (a ≡ b) × ((r : Role) → (of r t).sent ≡ (of r u).se
 silent-both : (t u : Turn) → IsSilent t → IsSilent u → (r : Role) → (of r t).sent ≡ (of r u).sent
 silent-both t u h k r = h r ∙ sym (k r)
 
-same-role : (link : Link) (turn : ℕ) (mid : Accounts) (r s : Role) (f g : LinkFault) → IsBroken link turn mid r f → IsBroken link turn mid s g
+same-role : (link : Link) (turn : ℕ) (mid : Accounts) (r s : Role) (f g : LinkFault) → IsBroken link turn mid r f
+    → IsBroken link turn mid s g
     → Broken r f ≡ Broken s g
 same-role link turn mid Originator Originator f g h k = ap (Broken Originator) (one-err h k)
 same-role link turn mid Originator Answerer f g h k = absurd (false≢true (sym (ap is_ok h) ∙ k.0))
 same-role link turn mid Answerer Originator f g h k = absurd (false≢true (sym (ap is_ok k) ∙ h.0))
 same-role link turn mid Answerer Answerer f g h k = ap (Broken Answerer) (one-err h.1 k.1)
 
-not-broken : (link : Link) (turn : ℕ) (t : Turn) (mid : Accounts) (r : Role) (f : LinkFault) → Says link turn t mid → IsBroken link turn mid r f
+not-broken : (link : Link) (turn : ℕ) (t : Turn) (mid : Accounts) (r : Role) (f : LinkFault) → Says link turn t mid
+    → IsBroken link turn mid r f
     → ⊥
 not-broken link turn t mid Originator f h k = not-both (h.says Originator) k
 not-broken link turn t mid Answerer f h k = not-both (h.says Answerer) k.1

@@ -41,7 +41,8 @@ use Rattle.link_run.specs.Run.{RunOf, Link, Accounts, Spoken, Turn, spoken, arri
 use Rattle.link_run.specs.Carried.{sent_in, sent_ago, Crosses, HasDelays, IsCarried}
 use Rattle.link_run.specs.Laws.{RunsOver, told_by_play, told_by_turn}
 use Rattle.link_run.specs.Overheard.{has_passed, is_xid, opens, OpensByFrames, agreed_terms, AgreesByXid, agreed_check, SendsAgreedCheck}
-use Rattle.link_run.specs.Overheard.{HearsAgreedCheck, JudgesByItsCheck, JudgesOnceHeard, SegmentsPassLater, IsOld, NothingNew, ReleasesLast}
+use Rattle.link_run.specs.Overheard.{HearsAgreedCheck, JudgesByItsCheck, JudgesOnceHeard, SegmentsPassLater, IsOld, NothingNew}
+use Rattle.link_run.specs.Overheard.{ReleasesLast}
 use Rattle.link_run.specs.Overheard.{EarlyBreaksAreIgnored}
 use Rattle.link_run.proofs.Keeping.{stage, GoesOn, hears, Standing, standing, stands-heard}
 use Rattle.link_run.proofs.Playing.{made, next-first, head-of, none-is-some}

@@ -57,7 +57,8 @@ pub hearing-waits : (reads : ReadsAllowed) (keeps : KeepsTaken) (turn : ℕ) (be
 hearing-waits reads keeps turn before t mid h k r =
     heard-waits (of r before) (of r mid) (h r) (hears reads keeps turn (arrival (of r t).heard) (of r before) (of r mid) (k r).hears)
 
-pub going-handed : (reads : ReadsAllowed) (keeps : KeepsTaken) (link : Link) (ts : List Turn) (before : Accounts) (t : Turn) (after : Accounts)
+pub going-handed : (reads : ReadsAllowed) (keeps : KeepsTaken) (link : Link) (ts : List Turn) (before : Accounts) (t : Turn)
+    (after : Accounts)
     → ((r : Role) → Handed (of r before)) → GoingTurn link ts before t after → (r : Role) → Handed (of r after)
 going-handed reads keeps link ts before t after h g r =
     let w = hearing-waits reads keeps (length ts) before t g.mid h g.hearing r in
@@ -71,13 +72,15 @@ start-handed : (link : Link) (r : Role) → Handed (of r (run.start link))
 start-handed link Originator = record { given = refl; told = refl }
 start-handed link Answerer = record { given = refl; told = refl }
 
-pub run-handed : (reads : ReadsAllowed) (keeps : KeepsTaken) (link : Link) (ts : List Turn) (ends : Accounts) → RunOf link ts ends → (r : Role)
+pub run-handed : (reads : ReadsAllowed) (keeps : KeepsTaken) (link : Link) (ts : List Turn) (ends : Accounts) → RunOf link ts ends →
+    (r : Role)
     → Handed (of r ends)
 run-handed reads keeps link [] ends h r = subst (λ (e : Accounts). Handed (of r e)) (sym h) (start-handed link r)
 run-handed reads keeps link (t ∷ ts) ends h r = going-handed reads keeps link ts h.0 t ends (run-handed reads keeps link ts h.0 h.1) h.2 r
 
 -- hearing
-pub hearing-reaches : (link : Link) (delay : Role → ℕ) (ts : List Turn) (before : Accounts) (turn : ℕ) (t : Turn) (mid : Accounts) → HasDelays delay
+pub hearing-reaches : (link : Link) (delay : Role → ℕ) (ts : List Turn) (before : Accounts) (turn : ℕ) (t : Turn) (mid : Accounts)
+    → HasDelays delay
     → Reaches link before (lines delay ts) → Carries delay ts t → Hears turn before t mid → Reaches link mid (left delay ts)
 hearing-reaches link delay ts before turn t mid some p c k =
     let first = arrives-next Answerer turn (delay Answerer) ts before.answ before.orig mid.orig p.la p.lo t.orig.heard

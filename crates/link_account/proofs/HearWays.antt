@@ -1,0 +1,350 @@
+-- The ways in which an end hears: what holds of each way holds of all that it becomes. So a fact about what it becomes has one line for
+-- each way, and
+-- no case distinction over phases, frames and acknowledgements of its own.
+use Rattle.std.proofs.Common.{◌⊎◌, inl, inr, ◌≡◌, ℕ, ◌-◌, ◌&&◌, ◌||◌, Bool, true, false, cond, refl, sym, ap, subst}
+use Rattle.std.proofs.Common.{List, Option, Some, None, Result, Ok, Err}
+use Rattle.std.specs.Option.{option_map}
+use Rattle.shared_terms.specs.declared.role.Role.{Role}
+use Rattle.shared_terms.specs.declared.role.Role.TheVariants.{Originator, Answerer}
+use Rattle.shared_terms.specs.Role.{is_originator}
+use Rattle.shared_terms.specs.declared.fault.LinkFault.{LinkFault}
+use Rattle.lapm_frames.specs.declared.frame.Frame.{Frame}
+use Rattle.lapm_frames.specs.declared.frame.Frame.TheVariants.{I, Rr, Rnr, Rej, Srej, Sabme, Disc, Ua, Dm, Frmr, Ui, Xid, Test}
+use Rattle.lapm_frames.specs.declared.seen.Seen.{Seen}
+use Rattle.lapm_frames.specs.declared.seen.Seen.TheVariants.{Odp, Adp}
+use Rattle.lapm_frames.specs.declared.arrived.Arrived.{Arrived}
+use Rattle.lapm_frames.specs.declared.arrived.Arrived.TheVariants as arrivals
+use Rattle.xid_params.specs.declared.offer.Offer.{Offer}
+use Rattle.xid_params.specs.Terms.{agree, default_offer}
+use Rattle.xid_params.specs.Offers.{offer_in}
+use Rattle.lapm_sender.specs.Meant.{meant}
+use Rattle.lapm_sender.specs.Numbers.{with_number}
+use Rattle.lapm_sender.specs.Outgoing.{Outgoing, is_outstanding, advanced, gone_back, wait_ended, resumed, paused_at}
+use Rattle.lapm_receiver.specs.Incoming.{Incoming, after_take}
+use Rattle.break_signals.specs.declared.word.BreakWord.{BreakWord}
+use Rattle.break_signals.specs.declared.word.BreakWord.TheVariants.{Brk, Ack}
+use Rattle.break_signals.specs.declared.fault.BreakFault.{BreakFault}
+use Rattle.break_signals.specs.Words.{word_in}
+use Rattle.break_signals.specs.Breaks.{after_answer, after_break}
+use Rattle.link_account.specs.declared.phase.Phase.{Phase}
+use Rattle.link_account.specs.declared.phase.Phase.TheVariants.{Detecting, Negotiating, Establishing, Connected, Releasing, Closed}
+use Rattle.link_account.specs.declared.answer.Answer.TheVariants as answers
+use Rattle.link_account.specs.Account.{Account, is_connected}
+use Rattle.link_account.specs.Hear.{hear, on_frame, on_seen, on_pattern, on_connected, on_nothing, on_number, on_disc, on_word, then_in}
+use Rattle.link_account.specs.Hear.{timer_after, ends_wait}
+use Rattle.link_account.specs.Hear.{replying, taking, hurrying, pausing, peer_reset, owing, trying, connected, on_detecting}
+use Rattle.link_account.specs.Hear.{on_negotiating, on_establishing}
+use Rattle.link_account.specs.Hear.{on_releasing, on_closed, on_xid_command, on_xid_response}
+
+abbrev pub OnHeard : (Account → Type 0) → Result Account LinkFault → Type 0
+OnHeard P (Ok b) = P b
+OnHeard P (Err fault) = Unit {0}
+
+abbrev pub OnFrame : (Arrived → Account → Type 0) → Frame → Result Account LinkFault → Type 0
+OnFrame P frame r = OnHeard (P (arrivals.Frame frame)) r
+
+-- a frame that changes nothing of a Connected end
+pub data Plain (frame : Frame) : Type 0 where
+  IsUa : (pf : Bool) → frame ≡ Ua pf → Plain frame
+  IsXid : (command pf : Bool) (info : List ℕ) → frame ≡ Xid command pf info → Plain frame
+  IsTest : (command pf : Bool) (info : List ℕ) → frame ≡ Test command pf info → Plain frame
+  IsNoWord : (command pf : Bool) (info : List ℕ) (fault : BreakFault) → word_in info ≡ Err fault → frame ≡ Ui command pf info → Plain frame
+
+-- a Connected end that heard a number
+abbrev pub numbered_with : Account → Outgoing → Incoming → Option ℕ → Bool → Bool → Account
+numbered_with a new incoming timer reply urgent = record a {
+  numbered = true;
+  outgoing = new;
+  incoming = incoming;
+  owes = record a.owes { reply = reply };
+  wait = record a.wait { timer = timer; urgent = urgent };
+}
+
+-- the front advances, and where the awaited answer came the wait for it ends
+abbrev pub acked : Bool → Outgoing → ℕ → Outgoing
+acked final o n = cond final (wait_ended (advanced o n)) (advanced o n)
+
+abbrev pub acked_back : Bool → Outgoing → ℕ → Outgoing
+acked_back final o n = cond final (wait_ended (advanced o n)) (gone_back (advanced o n))
+
+-- the five frames with a number, where it is one that was sent
+pub record Numbers (P : Arrived → Account → Type 0) (turn : ℕ) (a : Account) : Type 0 where
+  pub i : (ns nr : ℕ) (pf : Bool) (info : List ℕ) (n : ℕ) → meant a.outgoing.front a.outgoing.high nr ≡ Some n → P
+      (arrivals.Frame (I ns nr pf info))
+      (numbered_with a (advanced a.outgoing n) (after_take ns info a.incoming)
+      (timer_after turn a.outgoing (advanced a.outgoing n) a.wait.timer)
+      (a.owes.reply || pf) a.wait.urgent)
+  pub rr : (command pf : Bool) (nr n : ℕ) (final : Bool) → ends_wait command pf a ≡ final → meant a.outgoing.front a.outgoing.high nr
+      ≡ Some n
+      → P (arrivals.Frame (Rr command nr pf)) (numbered_with a (resumed (acked final a.outgoing n)) a.incoming
+      (timer_after turn a.outgoing (resumed (acked final a.outgoing n)) a.wait.timer) (a.owes.reply || (command && pf))
+      (a.wait.urgent || final))
+  pub rej : (command pf : Bool) (nr n : ℕ) (final : Bool) → ends_wait command pf a ≡ final → meant a.outgoing.front a.outgoing.high nr
+      ≡ Some n
+      → P (arrivals.Frame (Rej command nr pf)) (numbered_with a (resumed (acked_back final a.outgoing n)) a.incoming
+      (timer_after turn a.outgoing (resumed (acked_back final a.outgoing n)) a.wait.timer) (a.owes.reply || (command && pf))
+      (a.wait.urgent || final))
+  pub rnr : (command pf : Bool) (nr n : ℕ) (final : Bool) → ends_wait command pf a ≡ final → meant a.outgoing.front a.outgoing.high nr
+      ≡ Some n
+      → P (arrivals.Frame (Rnr command nr pf)) (numbered_with a (paused_at (acked final a.outgoing n)) a.incoming (Some turn)
+      (a.owes.reply || (command && pf)) a.wait.urgent)
+  pub srej : (command pf : Bool) (nr n : ℕ) → is_outstanding a.outgoing ≡ true → meant a.outgoing.front (a.outgoing.high - 1) nr ≡ Some n
+      → P (arrivals.Frame (Srej command nr pf)) (numbered_with a (record a.outgoing { chosen = with_number n a.outgoing.chosen }) a.incoming
+      (timer_after turn a.outgoing (record a.outgoing
+      { chosen = with_number n a.outgoing.chosen }) a.wait.timer) a.owes.reply a.wait.urgent)
+
+-- All that a Connected end hears, but for nothing.
+pub record ConnectedWays (P : Arrived → Account → Type 0) (turn : ℕ) (a : Account) : Type 0 where
+  pub pattern : (seen : Seen) → P (arrivals.Pattern seen) a
+  pub plain : (frame : Frame) → Plain frame → P (arrivals.Frame frame) a
+  pub numbers : Numbers P turn a
+  pub sabme : (pf : Bool) → a.numbered ≡ false → a.setup.role ≡ Answerer → P (arrivals.Frame (Sabme pf)) (owing (answers.Ua pf) a)
+  pub disc : (pf : Bool) → a.setup.role ≡ Answerer → P (arrivals.Frame (Disc pf)) (owing (answers.Ua pf) (record a { phase = Closed }))
+  pub brk : (command pf : Bool) (info : List ℕ) (number length_octet : ℕ) → word_in info ≡ Ok (Brk number length_octet)
+      → P (arrivals.Frame (Ui command pf info)) (record a { their_breaks = after_break number length_octet a.their_breaks })
+  pub brkack : (command pf : Bool) (info : List ℕ) (number length_octet : ℕ) → word_in info ≡ Ok (Ack number length_octet)
+      → P (arrivals.Frame (Ui command pf info)) (record a { own_breaks = after_answer turn number a.own_breaks })
+
+-- All that an end in another phase hears, but for nothing.
+pub record EarlyWays (P : Arrived → Account → Type 0) (turn : ℕ) (a : Account) : Type 0 where
+  pub ignores : (x : Arrived) → hear turn x a ≡ Ok a → P x a
+  pub detects : a.phase ≡ Detecting → a.setup.role ≡ Originator → P (arrivals.Pattern Adp) (trying Negotiating turn a)
+  pub detected : a.phase ≡ Detecting → a.setup.role ≡ Answerer → P (arrivals.Pattern Odp) (owing answers.Adp a)
+  pub xid : (a.phase ≡ Detecting) ⊎ (a.phase ≡ Negotiating) → a.setup.role ≡ Answerer → (pf : Bool) (info : List ℕ) (offer : Offer)
+      → offer_in info ≡ Some offer
+      → P (arrivals.Frame (Xid true pf info)) (owing answers.Xid (record a { phase = Negotiating; terms = agree offer a.setup.offer }))
+  pub agrees : a.phase ≡ Negotiating → a.setup.role ≡ Originator → (pf : Bool) (info : List ℕ) (offer : Offer) → offer_in info ≡ Some offer
+      → P (arrivals.Frame (Xid false pf info)) (trying Establishing turn (record a { terms = agree a.setup.offer offer }))
+  pub sabme_first : a.phase ≡ Detecting → a.setup.role ≡ Answerer → (pf : Bool)
+      → P (arrivals.Frame (Sabme pf)) (owing (answers.Ua pf) (connected turn (record a { terms = agree default_offer a.setup.offer })))
+  pub sabme : a.phase ≡ Negotiating → a.setup.role ≡ Answerer → (pf : Bool)
+      → P (arrivals.Frame (Sabme pf)) (owing (answers.Ua pf) (connected turn a))
+  pub ua : a.phase ≡ Establishing → P (arrivals.Frame (Ua true)) (connected turn a)
+  pub disc : ((a.phase ≡ Negotiating) × (a.setup.role ≡ Answerer)) ⊎ (a.phase ≡ Closed) → (pf : Bool)
+      → P (arrivals.Frame (Disc pf)) (owing (answers.Dm pf) a)
+  pub closes : a.phase ≡ Releasing → (frame : Frame) → (frame ≡ Ua true) ⊎ (frame ≡ Dm true)
+      → P (arrivals.Frame frame) (record a { phase = Closed })
+
+module _ (P : Arrived → Account → Type 0) (turn : ℕ) (a : Account) (h : ConnectedWays P turn a) where
+  on-linked : (frame : Frame) → OnFrame P frame (on_connected frame turn a)
+  on-linked (I ns nr pf info) = go (meant a.outgoing.front a.outgoing.high nr) refl
+    where
+      go : (m : Option ℕ) → meant a.outgoing.front a.outgoing.high nr ≡ m
+          → OnFrame P (I ns nr pf info) (then_in (λ b. replying pf (taking ns info b))
+          (on_number turn nr (option_map (advanced a.outgoing) m) a))
+      go None e = tt
+      go (Some n) e = h.numbers.i ns nr pf info n e
+  on-linked (Rr command nr pf) = go (ends_wait command pf a) refl (meant a.outgoing.front a.outgoing.high nr) refl
+    where
+      go : (b : Bool) → ends_wait command pf a ≡ b → (m : Option ℕ) → meant a.outgoing.front a.outgoing.high nr ≡ m
+          → OnFrame P (Rr command nr pf) (then_in (λ c. hurrying b (replying (command && pf) c)) (on_number turn nr
+          (option_map resumed (cond b (option_map (λ n. wait_ended (advanced a.outgoing n)) m) (option_map (advanced a.outgoing) m))) a))
+      go true f None e = tt
+      go false f None e = tt
+      go true f (Some n) e = h.numbers.rr command pf nr n true f e
+      go false f (Some n) e = h.numbers.rr command pf nr n false f e
+  on-linked (Rej command nr pf) = go (ends_wait command pf a) refl (meant a.outgoing.front a.outgoing.high nr) refl
+    where
+      go : (b : Bool) → ends_wait command pf a ≡ b → (m : Option ℕ) → meant a.outgoing.front a.outgoing.high nr ≡ m
+          → OnFrame P (Rej command nr pf) (then_in (λ c. hurrying b (replying (command && pf) c)) (on_number turn nr
+          (option_map resumed (cond b (option_map (λ n. wait_ended (advanced a.outgoing n)) m)
+          (option_map (λ n. gone_back (advanced a.outgoing n)) m))) a))
+      go true f None e = tt
+      go false f None e = tt
+      go true f (Some n) e = h.numbers.rej command pf nr n true f e
+      go false f (Some n) e = h.numbers.rej command pf nr n false f e
+  on-linked (Rnr command nr pf) = go (ends_wait command pf a) refl (meant a.outgoing.front a.outgoing.high nr) refl
+    where
+      go : (b : Bool) → ends_wait command pf a ≡ b → (m : Option ℕ) → meant a.outgoing.front a.outgoing.high nr ≡ m
+          → OnFrame P (Rnr command nr pf) (then_in (λ c. pausing turn (replying (command && pf) c)) (on_number turn nr
+          (option_map paused_at (cond b (option_map (λ n. wait_ended (advanced a.outgoing n)) m) (option_map (advanced a.outgoing) m))) a))
+      go true f None e = tt
+      go false f None e = tt
+      go true f (Some n) e = h.numbers.rnr command pf nr n true f e
+      go false f (Some n) e = h.numbers.rnr command pf nr n false f e
+  on-linked (Srej command nr pf) = go (is_outstanding a.outgoing) refl (meant a.outgoing.front (a.outgoing.high - 1) nr) refl
+    where
+      go : (b : Bool) → is_outstanding a.outgoing ≡ b → (m : Option ℕ) → meant a.outgoing.front (a.outgoing.high - 1) nr ≡ m
+          → OnFrame P (Srej command nr pf)
+          (on_number turn nr (cond b (option_map (λ n. record a.outgoing { chosen = with_number n a.outgoing.chosen }) m) None) a)
+      go false f m e = tt
+      go true f None e = tt
+      go true f (Some n) e = h.numbers.srej command pf nr n f e
+  on-linked (Sabme pf) = go a.numbered refl a.setup.role refl
+    where
+      go : (n : Bool) → a.numbered ≡ n → (r : Role) → a.setup.role ≡ r
+          → OnFrame P (Sabme pf) (cond (n || is_originator r) (Err (peer_reset a)) (Ok (owing (answers.Ua pf) a)))
+      go true f r e = tt
+      go false f Originator e = tt
+      go false f Answerer e = h.sabme pf f e
+  on-linked (Disc pf) = go a.setup.role refl
+    where
+      go : (r : Role) → a.setup.role ≡ r → OnFrame P (Disc pf) (on_disc r pf a)
+      go Originator e = tt
+      go Answerer e = h.disc pf e
+  on-linked (Ui command pf info) = go (word_in info) refl
+    where
+      go : (w : Result BreakWord BreakFault) → word_in info ≡ w → OnFrame P (Ui command pf info) (Ok (on_word turn w a))
+      go (Ok (Brk number length_octet)) e = h.brk command pf info number length_octet e
+      go (Ok (Ack number length_octet)) e = h.brkack command pf info number length_octet e
+      go (Err fault) e = h.plain (Ui command pf info) (IsNoWord command pf info fault e refl)
+  on-linked (Dm pf) = tt
+  on-linked (Frmr pf info) = tt
+  on-linked (Ua pf) = h.plain (Ua pf) (IsUa pf refl)
+  on-linked (Xid command pf info) = h.plain (Xid command pf info) (IsXid command pf info refl)
+  on-linked (Test command pf info) = h.plain (Test command pf info) (IsTest command pf info refl)
+
+  linked : P arrivals.Nothing (on_nothing a) → (x : Arrived) → a.phase ≡ Connected → OnHeard (P x) (hear turn x a)
+  linked nothing arrivals.Nothing e = nothing
+  linked nothing (arrivals.Pattern seen) e = subst (λ p. P (arrivals.Pattern seen) (on_seen p seen turn a)) (sym e) (h.pattern seen)
+  linked nothing (arrivals.Frame frame) e = subst (λ p. OnFrame P frame (on_frame p frame turn a)) (sym e) (on-linked frame)
+
+  -- what holds of each way holds of all that a Connected end becomes
+  pub by-linked : P arrivals.Nothing (on_nothing a) → (x : Arrived) (mid : Account) → a.phase ≡ Connected → hear turn x a ≡ Ok mid → P x mid
+  by-linked nothing x mid e f = subst (OnHeard (P x)) f (linked nothing x e)
+
+module _ (P : Arrived → Account → Type 0) (turn : ℕ) (a : Account) (h : EarlyWays P turn a) where
+  commanded : (a.phase ≡ Detecting) ⊎ (a.phase ≡ Negotiating) → a.setup.role ≡ Answerer → (pf : Bool) (info : List ℕ)
+      → hear turn (arrivals.Frame (Xid true pf info)) a ≡ Ok (on_xid_command (offer_in info) a)
+      → P (arrivals.Frame (Xid true pf info)) (on_xid_command (offer_in info) a)
+  commanded p r pf info = go (offer_in info) refl
+    where
+      go : (m : Option Offer) → offer_in info ≡ m → hear turn (arrivals.Frame (Xid true pf info)) a ≡ Ok (on_xid_command m a)
+          → P (arrivals.Frame (Xid true pf info)) (on_xid_command m a)
+      go None e f = h.ignores (arrivals.Frame (Xid true pf info)) f
+      go (Some offer) e f = h.xid p r pf info offer e
+
+  on-detecting : a.phase ≡ Detecting → (r : Role) → a.setup.role ≡ r → (frame : Frame)
+      → hear turn (arrivals.Frame frame) a ≡ on_detecting r frame turn a → OnFrame P frame (on_detecting r frame turn a)
+  on-detecting p Answerer r (Xid true pf info) e = commanded (inl p) r pf info e
+  on-detecting p Answerer r (Sabme pf) e = h.sabme_first p r pf
+  on-detecting p r q frame e = h.ignores (arrivals.Frame frame) e
+
+  on-negotiating : a.phase ≡ Negotiating → (r : Role) → a.setup.role ≡ r → (frame : Frame)
+      → hear turn (arrivals.Frame frame) a ≡ on_negotiating r frame turn a → OnFrame P frame (on_negotiating r frame turn a)
+  on-negotiating p Originator r (Xid false pf info) e = go (offer_in info) refl e
+    where
+      go : (m : Option Offer) → offer_in info ≡ m → hear turn (arrivals.Frame (Xid false pf info)) a ≡ Ok (on_xid_response m turn a)
+          → P (arrivals.Frame (Xid false pf info)) (on_xid_response m turn a)
+      go None e f = h.ignores (arrivals.Frame (Xid false pf info)) f
+      go (Some offer) e f = h.agrees p r pf info offer e
+  on-negotiating p Originator r (Dm pf) e = tt
+  on-negotiating p Answerer r (Xid true pf info) e = commanded (inr p) r pf info e
+  on-negotiating p Answerer r (Sabme pf) e = h.sabme p r pf
+  on-negotiating p Answerer r (Disc pf) e = h.disc (inl (p, r)) pf
+  on-negotiating p r q frame e = h.ignores (arrivals.Frame frame) e
+
+  on-establishing : a.phase ≡ Establishing → (frame : Frame) → hear turn (arrivals.Frame frame) a ≡ on_establishing frame turn a
+      → OnFrame P frame (on_establishing frame turn a)
+  on-establishing p (Ua true) e = h.ua p
+  on-establishing p (Dm true) e = tt
+  on-establishing p frame e = h.ignores (arrivals.Frame frame) e
+
+  on-releasing : a.phase ≡ Releasing → (frame : Frame) → hear turn (arrivals.Frame frame) a ≡ on_releasing frame a
+      → OnFrame P frame (on_releasing frame a)
+  on-releasing p (Ua true) e = h.closes p (Ua true) (inl refl)
+  on-releasing p (Dm true) e = h.closes p (Dm true) (inr refl)
+  on-releasing p frame e = h.ignores (arrivals.Frame frame) e
+
+  on-closed : a.phase ≡ Closed → (frame : Frame) → hear turn (arrivals.Frame frame) a ≡ on_closed frame a → OnFrame P frame
+      (on_closed frame a)
+  on-closed p (Disc pf) e = h.disc (inr p) pf
+  on-closed p frame e = h.ignores (arrivals.Frame frame) e
+
+  on-early : (p : Phase) → a.phase ≡ p → is_connected p ≡ false → (frame : Frame) → OnFrame P frame (on_frame p frame turn a)
+  on-early Detecting e c frame =
+      on-detecting e a.setup.role refl frame (ap (λ p. on_frame p frame turn a) e)
+  on-early Negotiating e c frame = on-negotiating e a.setup.role refl frame (ap (λ p. on_frame p frame turn a) e)
+  on-early Establishing e c frame = on-establishing e frame (ap (λ p. on_frame p frame turn a) e)
+  on-early Connected e c frame = cc
+  on-early Releasing e c frame = on-releasing e frame (ap (λ p. on_frame p frame turn a) e)
+  on-early Closed e c frame = on-closed e frame (ap (λ p. on_frame p frame turn a) e)
+
+  seen-early : (p : Phase) → a.phase ≡ p → is_connected p ≡ false → (seen : Seen) → P (arrivals.Pattern seen) (on_seen p seen turn a)
+  seen-early Detecting e c seen = go a.setup.role refl seen (ap (λ p. Ok (on_seen p seen turn a)) e)
+    where
+      go : (r : Role) → a.setup.role ≡ r → (s : Seen) → hear turn (arrivals.Pattern s) a ≡ Ok (on_pattern r s turn a)
+          → P (arrivals.Pattern s) (on_pattern r s turn a)
+      go Originator f Adp q = h.detects e f
+      go Originator f Odp q = h.ignores (arrivals.Pattern Odp) q
+      go Answerer f Odp q = h.detected e f
+      go Answerer f Adp q = h.ignores (arrivals.Pattern Adp) q
+  seen-early Negotiating e c seen = h.ignores (arrivals.Pattern seen) (ap (λ p. Ok (on_seen p seen turn a)) e)
+  seen-early Establishing e c seen = h.ignores (arrivals.Pattern seen) (ap (λ p. Ok (on_seen p seen turn a)) e)
+  seen-early Connected e c seen = cc
+  seen-early Releasing e c seen = h.ignores (arrivals.Pattern seen) (ap (λ p. Ok (on_seen p seen turn a)) e)
+  seen-early Closed e c seen = h.ignores (arrivals.Pattern seen) (ap (λ p. Ok (on_seen p seen turn a)) e)
+
+  early : P arrivals.Nothing (on_nothing a) → (x : Arrived) → is_connected a.phase ≡ false → OnHeard (P x) (hear turn x a)
+  early nothing arrivals.Nothing c = nothing
+  early nothing (arrivals.Pattern seen) c = seen-early a.phase refl c seen
+  early nothing (arrivals.Frame frame) c = on-early a.phase refl c frame
+
+  -- and an end in another phase
+  pub by-early : P arrivals.Nothing (on_nothing a) → (x : Arrived) (mid : Account) → is_connected a.phase ≡ false → hear turn x a ≡ Ok mid
+      → P x mid
+  by-early nothing x mid c f = subst (OnHeard (P x)) f (early nothing x c)
+
+-- All ways of an end.
+pub record Ways (P : Arrived → Account → Type 0) (turn : ℕ) (a : Account) : Type 0 where
+  pub nothing : P arrivals.Nothing (on_nothing a)
+  pub linked : a.phase ≡ Connected → ConnectedWays P turn a
+  pub early : is_connected a.phase ≡ false → EarlyWays P turn a
+
+pub by-ways : (P : Arrived → Account → Type 0) (turn : ℕ) (a : Account) → Ways P turn a → (x : Arrived) (mid : Account) → hear turn x a
+    ≡ Ok mid
+    → P x mid
+by-ways P turn a h x mid f = go a.phase refl
+  where
+    go : (p : Phase) → a.phase ≡ p → P x mid
+    go Connected e = by-linked P turn a (h.linked e) h.nothing x mid e f
+    go Detecting e = by-early P turn a (h.early (ap is_connected e)) h.nothing x mid (ap is_connected e) f
+    go Negotiating e = by-early P turn a (h.early (ap is_connected e)) h.nothing x mid (ap is_connected e) f
+    go Establishing e = by-early P turn a (h.early (ap is_connected e)) h.nothing x mid (ap is_connected e) f
+    go Releasing e = by-early P turn a (h.early (ap is_connected e)) h.nothing x mid (ap is_connected e) f
+    go Closed e = by-early P turn a (h.early (ap is_connected e)) h.nothing x mid (ap is_connected e) f
+
+-- what hearing a number leaves of the sender's part
+pub record NumberKeeps (o new : Outgoing) : Type 0 where
+  pub window : new.window ≡ o.window
+  pub size : new.size ≡ o.size
+  pub tries : new.tries ≡ o.tries
+  pub pieces : new.pieces ≡ o.pieces
+  pub ended : new.ended ≡ o.ended
+  pub high : new.high ≡ o.high
+
+pub resumed-keeps : (o new : Outgoing) → NumberKeeps o new → NumberKeeps o (resumed new)
+resumed-keeps o new k = go new.paused
+  where
+    go : (b : Bool) → NumberKeeps o (cond b (record new {
+      paused = false;
+      count = cond
+          (is_outstanding new || new.awaited) new.count 0;
+    }) new)
+    go true = record { window = k.window; size = k.size; tries = k.tries; pieces = k.pieces; ended = k.ended; high = k.high }
+    go false = k
+
+pub acked-keeps : (final : Bool) (o : Outgoing) (n : ℕ) → NumberKeeps o (acked final o n)
+acked-keeps true o n = record { window = refl; size = refl; tries = refl; pieces = refl; ended = refl; high = refl }
+acked-keeps false o n = record { window = refl; size = refl; tries = refl; pieces = refl; ended = refl; high = refl }
+
+pub acked_back-keeps : (final : Bool) (o : Outgoing) (n : ℕ) → NumberKeeps o (acked_back final o n)
+acked_back-keeps true o n = record { window = refl; size = refl; tries = refl; pieces = refl; ended = refl; high = refl }
+acked_back-keeps false o n = record { window = refl; size = refl; tries = refl; pieces = refl; ended = refl; high = refl }
+
+pub paused-keeps : (final : Bool) (o : Outgoing) (n : ℕ) → NumberKeeps o (paused_at (acked final o n))
+paused-keeps final o n = let k = acked-keeps final o n in
+    record { window = k.window; size = k.size; tries = k.tries; pieces = k.pieces; ended = k.ended; high = k.high }
+
+-- rows for a number, whichever frame it comes in
+pub numbers-alike : (P : Arrived → Account → Type 0) (turn : ℕ) (a : Account)
+    → ((frame : Frame) (new : Outgoing) (incoming : Incoming) (timer : Option ℕ) (reply urgent : Bool) → NumberKeeps a.outgoing new
+    → P (arrivals.Frame frame) (numbered_with a new incoming timer reply urgent)) → Numbers P turn a
+numbers-alike P turn a h = record {
+  i = λ ns nr pf info n e. h _ _ _ _ _ _ (acked-keeps false a.outgoing n);
+  rr = λ command pf nr n final f e. h _ _ _ _ _ _ (resumed-keeps a.outgoing _ (acked-keeps final a.outgoing n));
+  rej = λ command pf nr n final f e. h _ _ _ _ _ _ (resumed-keeps a.outgoing _ (acked_back-keeps final a.outgoing n));
+  rnr = λ command pf nr n final f e. h _ _ _ _ _ _ (paused-keeps final a.outgoing n);
+  srej = λ command pf nr n f e.
+      h _ _ _ _ _ _ (record { window = refl; size = refl; tries = refl; pieces = refl; ended = refl; high = refl });
+}

@@ -1,0 +1,471 @@
+-- The ways in which an end speaks: what holds of each way holds of all that it sends. So a fact about what is sent has one line for each
+-- way, and
+-- no case distinction over phases, timers and steps of its own.
+use Rattle.std.proofs.Common.{◌⊎◌, inl, inr, arith, ◌≡◌, ℕ, ◌+◌, ◌-◌, ◌*◌, ◌%◌, ◌&&◌, Bool, true, false, cond, nat_eq, nat_le, length, refl}
+use Rattle.std.proofs.Common.{Option, Some, None, Result, Ok, Err, List, [], ◌∷◌, sym, ◌∙◌, ap, subst}
+use Rattle.std.proofs.lemmas.Bool.Decides.{nat_tests}
+use Rattle.shared_terms.specs.declared.role.Role.{Role}
+use Rattle.shared_terms.specs.declared.role.Role.TheVariants.{Originator, Answerer}
+use Rattle.shared_terms.specs.Role.{is_originator}
+use Rattle.shared_terms.specs.Timer.{expires, waited_since}
+use Rattle.shared_terms.specs.declared.fault.LinkFault.{LinkFault}
+use Rattle.shared_terms.specs.declared.fault.LinkFault.TheVariants.{NotDetected, Spent}
+use Rattle.lapm_frames.specs.declared.frame.Frame.{Frame}
+use Rattle.lapm_frames.specs.declared.frame.Frame.TheVariants.{Rej, Srej, Sabme, Disc, Xid}
+use Rattle.lapm_frames.specs.declared.sent.Sent.{Sent}
+use Rattle.lapm_frames.specs.declared.sent.Sent.TheVariants as slots
+use Rattle.xid_params.specs.Offers.{written}
+use Rattle.lapm_sender.specs.Outgoing.{Outgoing, expired, after_next, sent_among}
+use Rattle.lapm_receiver.specs.Incoming.{asks, after_asked}
+use Rattle.break_signals.specs.declared.word.BreakWord.{BreakWord}
+use Rattle.break_signals.specs.Breaks.{OwnBreaks, own_due, after_brk, after_ack, ticked, waits}
+use Rattle.link_account.specs.declared.phase.Phase.{Phase}
+use Rattle.link_account.specs.declared.phase.Phase.TheVariants.{Detecting, Negotiating, Establishing, Connected, Releasing, Closed}
+use Rattle.link_account.specs.declared.answer.Answer.{Answer}
+use Rattle.link_account.specs.Account.{Account, Wait, is_connected}
+use Rattle.link_account.specs.Hear.{trying}
+use Rattle.link_account.specs.Speak.{Said, says, says_frame, says_segment, says_word, says_own, says_break, says_asking, telling}
+use Rattle.link_account.specs.Speak.{frame_for, answering}
+use Rattle.link_account.specs.Speak.{else_says, where_says, tells, nr_of, may_send, has_news, steps, step1, step2, step3, step4, step5}
+use Rattle.link_account.specs.Speak.{step6, step7, step8}
+use Rattle.link_account.specs.Speak.{timer_expires, polling, breaking, then_tries, after_timers, speak_linked, tries_frame, trying_again}
+use Rattle.link_account.specs.Speak.{u_try, spent}
+use Rattle.link_account.specs.Speak.{speak_releasing, speak_detecting, speak_negotiating, speak, speak_in}
+
+abbrev pub AllSaid : (Said → Type 0) → Option Said → Type 0
+AllSaid P None = Unit {0}
+AllSaid P (Some said) = P said
+
+abbrev pub OnSaid : (Said → Type 0) → Result Said LinkFault → Type 0
+OnSaid P (Ok said) = P said
+OnSaid P (Err fault) = Unit {0}
+
+-- the first of two rules that applies; the second where the first doesn't
+pub else-says : (P : Said → Type 0) (first : Option Said) (said : Said) → AllSaid P first → (first ≡ None → P said) → P
+    (else_says first said)
+else-says P None said h k = k refl
+else-says P (Some first) said h k = h
+
+pub where-says : (P : Said → Type 0) (b : Bool) (said : Said) → (b ≡ true → P said) → AllSaid P (where_says b said)
+where-says P true said h = h refl
+where-says P false said h = tt
+
+-- an answer that is due is sent
+abbrev pub Answers : (Said → Type 0) → Account → Type 0
+Answers P a = (d : Answer) → a.owes.answer ≡ Some d → P (says (frame_for d a) (record a { owes = record a.owes { answer = None } }))
+
+-- What went before a step of a Connected end: no answer, no F reply and no poll was due.
+pub record Before (a : Account) : Type 0 where
+  pub answer : a.owes.answer ≡ None
+  pub reply : a.owes.reply ≡ false
+  pub poll : a.wait.poll ≡ false
+
+-- no BRK and no BRKACK was due, or one may not go in this turn
+abbrev pub NoWord : Bool → Account → Type 0
+NoWord special a = (special ≡ true) ⊎ ((own_due a.own_breaks ≡ None) × (a.their_breaks.ack ≡ None))
+
+-- a REJ or an SREJ is due
+pub record Asking (srej : Bool) (a : Account) (n : ℕ) : Type 0 where
+  pub kind : a.incoming.srej ≡ srej
+  pub busy : a.owes.busy ≡ false
+  pub number : asks a.incoming ≡ Some n
+
+-- and last, nothing is due
+pub record Idle (special : Bool) (a : Account) : Type 0 where
+  pub before : Before a
+  pub words : NoWord special a
+  pub segment : may_send a ≡ None
+  pub owed : a.incoming.owed ≡ false
+
+-- The nine steps of a Connected end whose timers are done, in their order but for a segment, which has one row whether it is urgent or not,
+-- and RR or
+-- RNR, which has one row as news and as an acknowledgement that is owed.
+pub record Steps (P : Said → Type 0) (turn : ℕ) (special : Bool) (a : Account) : Type 0 where
+  pub answers : Answers P a
+  pub final : a.owes.answer ≡ None → a.owes.reply ≡ true → P (tells false true (record a { owes = record a.owes { reply = false } }))
+  pub poll : a.owes.answer ≡ None → a.owes.reply ≡ false → a.wait.poll ≡ true
+      → P (tells true true (record a { wait = record a.wait { poll = false } }))
+  pub segment : Before a → (a.wait.urgent ≡ true) ⊎ NoWord special a → (n : ℕ) → may_send a ≡ Some n → AllSaid P
+      (says_segment turn (Some n) a)
+  pub brkack : Before a → special ≡ false → (word : BreakWord) → a.their_breaks.ack ≡ Some word
+      → P (says_word (length a.their_breaks.lengths - 1) word (record a { their_breaks = after_ack a.their_breaks }))
+  pub brk : Before a → special ≡ false → a.their_breaks.ack ≡ None → (word : BreakWord) → own_due a.own_breaks ≡ Some word
+      → P (says_word a.own_breaks.answered word (record a { own_breaks = after_brk a.own_breaks }))
+  pub tell : Before a → NoWord special a → (has_news a ≡ true) ⊎ ((may_send a ≡ None) × (a.incoming.owed ≡ true)) → P (tells false false a)
+  pub rej : Before a → NoWord special a → (n : ℕ) → Asking false a n → P (says_frame (Rej false (nr_of a) false)
+      (telling (record a { incoming = after_asked n a.incoming; owes = record a.owes { busy_told = false } })))
+  pub srej : Before a → NoWord special a → special ≡ false → (n : ℕ) → Asking true a n
+      → P (record {
+        sent = slots.Frame (Srej false (n % 128) false);
+        number = n;
+        account = record a { incoming = after_asked n a.incoming; special = true };
+      })
+  pub flags : Idle special a → P (says slots.Flags a)
+
+-- rows of one fact give those of another that follows from it
+pub steps-so : (P Q : Said → Type 0) (turn : ℕ) (special : Bool) (a : Account) → ((said : Said) → P said → Q said) → Steps P turn special a
+    → Steps Q turn special a
+steps-so P Q turn special a f h = record {
+  answers = λ d e. f _ (h.answers d e);
+  final = λ n e. f _ (h.final n e);
+  poll = λ n r e. f _ (h.poll n r e);
+  segment = λ b u n e. f _ (h.segment b u n e);
+  brkack = λ b s word e. f _ (h.brkack b s word e);
+  brk = λ b s k word e. f _ (h.brk b s k word e);
+  tell = λ b w e. f _ (h.tell b w e);
+  rej = λ b w n e. f _ (h.rej b w n e);
+  srej = λ b w s n e. f _ (h.srej b w s n e);
+  flags = λ i. f _ (h.flags i);
+}
+
+module _ (P : Said → Type 0) (turn : ℕ) (special : Bool) (a : Account) (h : Steps P turn special a) where
+  answered : (o : Option Answer) → a.owes.answer ≡ o → AllSaid P (answering o a)
+  answered None e = tt
+  answered (Some d) e = h.answers d e
+
+  sends : Before a → (a.wait.urgent ≡ true) ⊎ NoWord special a → (o : Option ℕ) → may_send a ≡ o → AllSaid P (says_segment turn o a)
+  sends k u None e = tt
+  sends k u (Some n) e = h.segment k u n e
+
+  urgent : Before a → (b : Bool) → a.wait.urgent ≡ b → AllSaid P (cond b (says_segment turn (may_send a) a) None)
+  urgent k true e = sends k (inl e) (may_send a) refl
+  urgent k false e = tt
+
+  words : Before a → (s : Bool) → special ≡ s → (o : Option BreakWord) → a.their_breaks.ack ≡ o → AllSaid P (cond s None (says_break o a))
+  words k true e o f = tt
+  words k false e (Some word) f = h.brkack k e word f
+  words k false e None f = own (own_due a.own_breaks) refl
+    where
+      own : (o : Option BreakWord) → own_due a.own_breaks ≡ o → AllSaid P (says_own o a)
+      own None g = tt
+      own (Some word) g = h.brk k e f word g
+
+  asked : Before a → NoWord special a → a.owes.busy ≡ false → (srej s : Bool) → a.incoming.srej ≡ srej → special ≡ s → (o : Option ℕ)
+      → asks a.incoming ≡ o → AllSaid P (says_asking srej s o a)
+  asked k w y srej s q e None f = tt
+  asked k w y false s q e (Some n) f = h.rej k w n (record { kind = q; busy = y; number = f })
+  asked k w y true true q e (Some n) f = tt
+  asked k w y true false q e (Some n) f = h.srej k w e n (record { kind = q; busy = y; number = f })
+
+  news : Before a → NoWord special a → (n busy : Bool) → has_news a ≡ n → a.owes.busy ≡ busy
+      → AllSaid P (cond n (Some (tells false false a)) (cond busy None (says_asking a.incoming.srej special (asks a.incoming) a)))
+  news k w true busy e y = h.tell k w (inl e)
+  news k w false true e y = tt
+  news k w false false e y = asked k w y a.incoming.srej special refl refl (asks a.incoming) refl
+
+  not-said : (b : Bool) (said : Said) → where_says b said ≡ None → b ≡ false
+  not-said true said e = cc
+  not-said false said e = refl
+
+  no-answer : (o : Option Answer) → answering o a ≡ None → o ≡ None
+  no-answer None e = refl
+  no-answer (Some d) e = cc
+
+  no-segment : (o : Option ℕ) → says_segment turn o a ≡ None → o ≡ None
+  no-segment None e = refl
+  no-segment (Some n) e = cc
+
+  no-word : (s : Bool) → special ≡ s → (o : Option BreakWord) → a.their_breaks.ack ≡ o → cond s None (says_break o a) ≡ None
+      → NoWord special a
+  no-word true e o f n = inl e
+  no-word false e (Some word) f n = cc
+  no-word false e None f n = inr (own (own_due a.own_breaks) n, f)
+    where
+      own : (o : Option BreakWord) → says_own o a ≡ None → o ≡ None
+      own None g = refl
+      own (Some word) g = cc
+
+  pub by-steps : P (steps turn special a)
+  by-steps =
+      else-says P (step1 a) _ (answered a.owes.answer refl) (λ e1.
+      let d = no-answer a.owes.answer e1 in
+      else-says P (step2 a) _ (where-says P a.owes.reply _ (h.final d)) (λ e2.
+      let r = not-said a.owes.reply _ e2 in
+      else-says P (step3 a) _ (where-says P a.wait.poll _ (h.poll d r)) (λ e3.
+      let k : Before a = record { answer = d; reply = r; poll = not-said a.wait.poll _ e3 } in
+      else-says P (step4 turn a) _ (urgent k a.wait.urgent refl) (λ e4.
+      else-says P (step5 special a) _ (words k special refl a.their_breaks.ack refl) (λ e5.
+      let w = no-word special refl a.their_breaks.ack refl e5 in
+      else-says P (step6 special a) _ (news k w (has_news a) a.owes.busy refl refl) (λ e6.
+      else-says P (step7 turn a) _ (sends k (inr w) (may_send a) refl) (λ e7.
+      let s = no-segment (may_send a) e7 in
+      else-says P (step8 a) _ (where-says P a.incoming.owed _ (λ o. h.tell k w (inr (s, o)))) (λ e8.
+      h.flags (record { before = k; words = w; segment = s; owed = not-said a.incoming.owed _ e8 })))))))))
+
+-- an account as its timers leave it, that of the break by these
+abbrev pub retimed : Account → ℕ → Bool → Wait → OwnBreaks → Account
+retimed a count awaited wait own = record a {
+  outgoing = record a.outgoing { count = count; awaited = awaited };
+  wait = wait;
+  own_breaks = record a.own_breaks { brk = own.brk; set = own.set; count = own.count };
+  special = false;
+}
+
+-- and as the timer of the segments leaves it where it has expired
+abbrev pub polling_at : ℕ → Account → OwnBreaks → Account
+polling_at turn a own = record a {
+  outgoing = record a.outgoing { count = a.outgoing.count + 1; awaited = true };
+  wait = record a.wait { poll = true; timer = Some turn };
+  own_breaks = own;
+  special = false;
+}
+
+-- the timer of the segments expires, and a try is left
+pub record Expired (turn : ℕ) (a : Account) (set : ℕ) : Type 0 where
+  pub timer : a.wait.timer ≡ Some set
+  pub due : turn ≡ set + a.setup.period
+  pub left : nat_eq a.outgoing.count a.outgoing.tries ≡ false
+
+-- Once its timers are done: that of the segments doesn't expire or does, and that of the break does what it does.
+pub record ConnectedWays (P : Said → Type 0) (turn : ℕ) (a : Account) : Type 0 where
+  pub stands : timer_expires turn a a.wait.timer ≡ false → (own : OwnBreaks) → ticked turn a.setup.period a.setup.tries a.own_breaks
+      ≡ Some own
+      → Steps P turn a.special (record a { own_breaks = own; special = false })
+  pub expires : (set : ℕ) → Expired turn a set → (own : OwnBreaks) → ticked turn a.setup.period a.setup.tries a.own_breaks ≡ Some own
+      → Steps P turn a.special (polling_at turn a own)
+
+-- what the timer of a break changes
+ticked-only : (turn period tries : ℕ) (b own : OwnBreaks) → ticked turn period tries b ≡ Some own
+    → record b { brk = own.brk; set = own.set; count = own.count } ≡ own
+ticked-only turn period tries b own e = go (waits b && nat_eq turn (b.set + period)) (nat_eq b.count tries) e
+  where
+    go : (due spent' : Bool) → cond due (cond spent' None (Some (record b { brk = true; set = turn; count = b.count + 1 }))) (Some b)
+        ≡ Some own
+        → record b { brk = own.brk; set = own.set; count = own.count } ≡ own
+    go true true f = cc
+    go true false f = let same : record b { brk = true; set = turn; count = b.count + 1 } ≡ own = cc in
+        ap (λ o. record b { brk = o.brk; set = o.set; count = o.count }) (sym same) ∙ same
+    go false c f = let same : b ≡ own = cc in ap (λ o. record b { brk = o.brk; set = o.set; count = o.count }) (sym same) ∙ same
+
+-- rows for whatever the timers did
+pub linked-alike : (P : Said → Type 0) (turn : ℕ) (a : Account)
+    → ((count : ℕ) (awaited : Bool) (w : Wait) (own : OwnBreaks) → Steps P turn a.special (retimed a count awaited w own))
+    → ConnectedWays P turn a
+linked-alike P turn a h = record {
+  stands = λ e own t. subst (λ o. Steps P turn a.special (record a { own_breaks = o; special = false }))
+      (ticked-only turn a.setup.period a.setup.tries a.own_breaks own t) (h a.outgoing.count a.outgoing.awaited a.wait own);
+  expires = λ set x own t. subst (λ o. Steps P turn a.special (polling_at turn a o))
+      (ticked-only turn a.setup.period a.setup.tries a.own_breaks own t)
+      (h (a.outgoing.count + 1) true (record a.wait { poll = true; timer = Some turn }) own);
+}
+
+module _ (P : Said → Type 0) (turn : ℕ) (a : Account) (h : ConnectedWays P turn a) where
+  second : (b : Account) (o : Option OwnBreaks)
+      → ((own : OwnBreaks) → o ≡ Some own → Steps P turn a.special (record b { own_breaks = own; special = false }))
+      → OnSaid P (after_timers turn a.special (breaking turn o b))
+  second b None k = tt
+  second b (Some own) k = by-steps P turn a.special (record b { own_breaks = own; special = false }) (k own refl)
+
+  by-timers : OnSaid P (speak_linked turn a)
+  by-timers = timed a.wait.timer refl
+    where
+      timed : (m : Option ℕ) → a.wait.timer ≡ m → OnSaid P (after_timers turn a.special (then_tries turn
+          (cond (timer_expires turn a m) (polling turn (expired a.outgoing) a) (Ok a))))
+      timed None e = second a _ (h.stands (ap (timer_expires turn a) e))
+      timed (Some set) e = go (nat_eq turn (set + a.setup.period)) refl (nat_eq a.outgoing.count a.outgoing.tries) refl
+        where
+          go : (b : Bool) → nat_eq turn (set + a.setup.period) ≡ b → (c : Bool) → nat_eq a.outgoing.count a.outgoing.tries ≡ c
+              → OnSaid P (after_timers turn a.special (then_tries turn
+              (cond b (polling turn (cond c None (Some (record a.outgoing { count = a.outgoing.count + 1; awaited = true }))) a) (Ok a))))
+          go true q true n = tt
+          go true q false n = second (record a {
+            outgoing = record a.outgoing { count = a.outgoing.count + 1; awaited = true };
+            wait = record a.wait { poll = true; timer = Some turn };
+          }) _ (h.expires set (record { timer = e; due = grind (arith, nat_tests, q); left = n }))
+          go false q c n = second a _ (h.stands (ap (timer_expires turn a) e ∙ q))
+
+  pub by-linked : (said : Said) → speak_linked turn a ≡ Ok said → P said
+  by-linked said e = subst (OnSaid P) e by-timers
+
+-- A U try: its frame goes where it is due, and again where its timer expires and a try is left.
+pub record Tries (P : Said → Type 0) (turn : ℕ) (frame : Frame) (a : Account) : Type 0 where
+  pub sent : expires a.wait.try_set a.setup.period turn ≡ false → a.wait.try ≡ true
+      → P (says_frame frame (record a { wait = record a.wait { try = false } }))
+  pub again : expires a.wait.try_set a.setup.period turn ≡ true → nat_eq a.wait.try_count a.setup.tries ≡ false
+      → P (says_frame frame (record a { wait = record a.wait { try = false; try_set = turn; try_count = a.wait.try_count + 1 } }))
+  pub flags : expires a.wait.try_set a.setup.period turn ≡ false → a.wait.try ≡ false → P (says slots.Flags a)
+
+-- rows for whatever the timer did
+pub tries-alike : (P : Said → Type 0) (turn : ℕ) (frame : Frame) (a : Account) → ((w : Wait) → P (says_frame frame (record a { wait = w })))
+    → P (says slots.Flags a) → Tries P turn frame a
+tries-alike P turn frame a h k = record { sent = λ x e. h _; again = λ x e. h _; flags = λ x e. k }
+
+pub by-tries : (P : Said → Type 0) (turn : ℕ) (frame : Frame) (a : Account) → Tries P turn frame a → OnSaid P (u_try turn frame a)
+by-tries P turn frame a h =
+    go (expires a.wait.try_set a.setup.period turn) refl (nat_eq a.wait.try_count a.setup.tries) refl a.wait.try refl
+  where
+    go : (b : Bool) → expires a.wait.try_set a.setup.period turn ≡ b → (c : Bool) → nat_eq a.wait.try_count a.setup.tries ≡ c
+        → (d : Bool) → a.wait.try ≡ d
+        → OnSaid P (cond b (cond c (Err (spent turn a)) (Ok (tries_frame frame (trying_again turn a))))
+        (Ok (else_says (where_says d (says_frame frame (record a { wait = record a.wait { try = false } }))) (says slots.Flags a))))
+    go true x true n d e = tt
+    go true x false n d e = h.again x n
+    go false x c n true e = h.sent x e
+    go false x c n false e = h.flags x e
+
+-- an end sends nothing but the answers that it owes: an answerer that isn't Connected yet, and an end that is closed
+abbrev pub answers_alone : Phase → Role → Bool
+answers_alone Detecting Answerer = true
+answers_alone Negotiating Answerer = true
+answers_alone Closed role = true
+answers_alone p role = false
+
+pub answers-unconnected : (p : Phase) (role : Role) → answers_alone p role ≡ true → is_connected p ≡ false
+answers-unconnected Connected role e = cc
+answers-unconnected p role e = refl
+
+-- All ways of an end, by its phase.
+pub record Ways (P : Said → Type 0) (turn : ℕ) (release : Bool) (a : Account) : Type 0 where
+  pub answers : answers_alone a.phase a.setup.role ≡ true → Answers P a
+  pub flags : answers_alone a.phase a.setup.role ≡ true → a.owes.answer ≡ None → P (says slots.Flags a)
+  pub mark : a.phase ≡ Detecting → a.setup.role ≡ Answerer → a.owes.answer ≡ None → P (says slots.Mark a)
+  pub odp : a.phase ≡ Detecting → a.setup.role ≡ Originator → nat_le ((a.setup.tries + 1) * a.setup.period) turn ≡ false → P
+      (says slots.Odp a)
+  pub xid : a.phase ≡ Negotiating → a.setup.role ≡ Originator → Tries P turn (Xid true false (written a.setup.offer)) a
+  pub sabme : a.phase ≡ Establishing → Tries P turn (Sabme true) a
+  pub linked : a.phase ≡ Connected → (release && is_originator a.setup.role) ≡ false → ConnectedWays P turn a
+  pub releases : a.phase ≡ Connected → (release && is_originator a.setup.role) ≡ true → Tries P turn (Disc true) (trying Releasing turn a)
+  pub disc : a.phase ≡ Releasing → Tries P turn (Disc true) a
+
+module _ (P : Said → Type 0) (turn : ℕ) (release : Bool) (a : Account) (h : Ways P turn release a) where
+  due : (slot : Sent) → answers_alone a.phase a.setup.role ≡ true → (a.owes.answer ≡ None → P (says slot a))
+      → P (else_says (answering a.owes.answer a) (says slot a))
+  due slot alone idle = go a.owes.answer refl
+    where
+      go : (o : Option Answer) → a.owes.answer ≡ o → P (else_says (answering o a) (says slot a))
+      go None e = idle e
+      go (Some d) e = h.answers alone d e
+
+  detects : a.phase ≡ Detecting → (r : Role) → a.setup.role ≡ r → OnSaid P (speak_detecting r turn a)
+  detects e Originator f = go (nat_le ((a.setup.tries + 1) * a.setup.period) turn) refl
+    where
+      go : (b : Bool) → nat_le ((a.setup.tries + 1) * a.setup.period) turn ≡ b → OnSaid P (cond b (Err NotDetected) (Ok (says slots.Odp a)))
+      go true l = tt
+      go false l = h.odp e f l
+  detects e Answerer f = due slots.Mark (rw (e, f) refl) (h.mark e f)
+
+  negotiates : a.phase ≡ Negotiating → (r : Role) → a.setup.role ≡ r → OnSaid P (speak_negotiating r turn a)
+  negotiates e Originator f = by-tries P turn _ a (h.xid e f)
+  negotiates e Answerer f = let alone : answers_alone a.phase a.setup.role ≡ true = rw (e, f) refl in due slots.Flags alone (h.flags alone)
+
+  connects : a.phase ≡ Connected → (b : Bool) → (release && is_originator a.setup.role) ≡ b
+      → OnSaid P (cond b (speak_releasing turn (trying Releasing turn a)) (speak_linked turn a))
+  connects e true f = by-tries P turn _ (trying Releasing turn a) (h.releases e f)
+  connects e false f = by-timers P turn a (h.linked e f)
+
+  in-phase : (p : Phase) → a.phase ≡ p → OnSaid P (speak_in p turn release a)
+  in-phase Detecting e = detects e a.setup.role refl
+  in-phase Negotiating e = negotiates e a.setup.role refl
+  in-phase Establishing e = by-tries P turn _ a (h.sabme e)
+  in-phase Connected e = connects e (release && is_originator a.setup.role) refl
+  in-phase Releasing e = by-tries P turn _ a (h.disc e)
+  in-phase Closed e = let alone : answers_alone a.phase a.setup.role ≡ true = ap (λ p. answers_alone p a.setup.role) e in
+      due slots.Flags alone (h.flags alone)
+
+  -- what holds of each way holds of all that is sent
+  pub by-ways : (said : Said) → speak turn release a ≡ Ok said → P said
+  by-ways said e = subst (OnSaid P) e (in-phase a.phase refl)
+
+-- Why an end breaks as it speaks: it detected nothing, or its tries are spent.
+pub data Breaks (turn : ℕ) (a : Account) (fault : LinkFault) : Type 0 where
+  Undetected : a.phase ≡ Detecting → a.setup.role ≡ Originator → fault ≡ NotDetected → Breaks turn a fault
+  Spends : fault ≡ spent turn a → Breaks turn a fault
+
+module _ (turn : ℕ) (release : Bool) (a : Account) where
+  abbrev Broken : {A : Type 0} → Result A LinkFault → Type 0
+  Broken (Ok x) = Unit {0}
+  Broken (Err fault) = Breaks turn a fault
+
+  tries-broken : (frame : Frame) (b : Account) → spent turn b ≡ spent turn a → Broken (u_try turn frame b)
+  tries-broken frame b e = go (expires b.wait.try_set b.setup.period turn) (nat_eq b.wait.try_count b.setup.tries)
+    where
+      go : (x y : Bool) → Broken (cond x (cond y (Err (spent turn b)) (Ok (tries_frame frame (trying_again turn b))))
+          (Ok (tries_frame frame b)))
+      go true true = Spends e
+      go true false = tt
+      go false y = tt
+
+  ticks-broken : (b : Account) → spent turn b ≡ spent turn a → (o : Option OwnBreaks) → Broken
+      (after_timers turn a.special (breaking turn o b))
+  ticks-broken b e None = Spends e
+  ticks-broken b e (Some own) = tt
+
+  linked-broken : (x : Bool) (o : Option Outgoing) → ((new : Outgoing) → o ≡ Some new → new.front ≡ a.outgoing.front)
+      → Broken (after_timers turn a.special (then_tries turn (cond x (polling turn o a) (Ok a))))
+  linked-broken false o f = ticks-broken a refl _
+  linked-broken true None f = Spends refl
+  linked-broken true (Some new) f = ticks-broken (record a { outgoing = new; wait = record a.wait { poll = true; timer = Some turn } })
+      (ap (λ n. Spent n (waited_since a.setup.tries a.setup.period turn)) (f new refl)) _
+
+  expired-front : (b : Bool) (new : Outgoing) → cond b None (Some (record a.outgoing { count = a.outgoing.count + 1; awaited = true }))
+      ≡ Some new
+      → new.front ≡ a.outgoing.front
+  expired-front true new e = cc
+  expired-front false new e =
+      let same : record a.outgoing { count = a.outgoing.count + 1; awaited = true } ≡ new = cc in ap (λ o. o.front) (sym same)
+
+  phase-broken : (p : Phase) → a.phase ≡ p → Broken (speak_in p turn release a)
+  phase-broken Detecting e = go a.setup.role refl
+    where
+      late : (r : a.setup.role ≡ Originator) (b : Bool) → Broken (cond b (Err NotDetected) (Ok (says slots.Odp a)))
+      late r true = Undetected e r refl
+      late r false = tt
+
+      go : (r : Role) → a.setup.role ≡ r → Broken (speak_detecting r turn a)
+      go Originator f = late f _
+      go Answerer f = tt
+  phase-broken Negotiating e = go a.setup.role
+    where
+      go : (r : Role) → Broken (speak_negotiating r turn a)
+      go Originator = tries-broken _ a refl
+      go Answerer = tt
+  phase-broken Establishing e = tries-broken _ a refl
+  phase-broken Connected e = go (release && is_originator a.setup.role)
+    where
+      go : (b : Bool) → Broken (cond b (speak_releasing turn (trying Releasing turn a)) (speak_linked turn a))
+      go true = tries-broken _ (trying Releasing turn a) refl
+      go false = linked-broken (timer_expires turn a a.wait.timer) _ (expired-front _)
+  phase-broken Releasing e = tries-broken _ a refl
+  phase-broken Closed e = tt
+
+  pub why-broken : (fault : LinkFault) → speak turn release a ≡ Err fault → Breaks turn a fault
+  why-broken fault e = subst Broken e (phase-broken a.phase refl)
+
+-- what sending a segment leaves of the sender's part
+pub record NextKeeps (o new : Outgoing) : Type 0 where
+  pub window : new.window ≡ o.window
+  pub size : new.size ≡ o.size
+  pub tries : new.tries ≡ o.tries
+  pub pieces : new.pieces ≡ o.pieces
+  pub ended : new.ended ≡ o.ended
+  pub front : new.front ≡ o.front
+  pub count : new.count ≡ o.count
+  pub awaited : new.awaited ≡ o.awaited
+  pub paused : new.paused ≡ o.paused
+
+pub next-keeps : (o : Outgoing) → NextKeeps o (after_next o)
+next-keeps o = by o.chosen
+  where
+    by : (c : List ℕ) → NextKeeps o (sent_among c o)
+    by [] = record {
+      window = refl;
+      size = refl;
+      tries = refl;
+      pieces = refl;
+      ended = refl;
+      front = refl;
+      count = refl;
+      awaited = refl;
+      paused = refl;
+    }
+    by (n ∷ rest) = record {
+      window = refl;
+      size = refl;
+      tries = refl;
+      pieces = refl;
+      ended = refl;
+      front = refl;
+      count = refl;
+      awaited = refl;
+      paused = refl;
+    }
