@@ -38,7 +38,8 @@ joins link ts [] before after run goes = subst (RunOf link ts) (sym goes) run
 joins link ts (t ∷ us) before after run (ends, goes, g) = (ends, joins link ts us before ends run goes, g)
 
 -- an end that has begun, and that isn't told to release
-begun-on : (delay : Role → ℕ) (link : Link) (ts us : List Turn) (before after : Accounts) (role : Role) → NeverBusy link → RunOf link ts before
+begun-on : (delay : Role → ℕ) (link : Link) (ts us : List Turn) (before after : Accounts) (role : Role) → NeverBusy link
+    → RunOf link ts before
     → GoesOn link ts before us after → IsCarried delay (us ++ ts)
     → is_begun (of role before).phase ≡ true → is_begun (of role after).phase ≡ true
 begun-on delay link ts [] before after role n run goes c e = ap (λ (x : Accounts). is_begun (of role x).phase) goes ∙ e
@@ -72,7 +73,8 @@ abbrev pub Lingers : ℕ → ℕ → ℕ → List Turn → Turn → Role → Acc
 Lingers tries period total ts t role a b =
     Linger (rates tries period) total (length ts) (of_arrived frame_poll (arrival (of role t).heard)) a b
 
-lingers-in : (tries period : ℕ) (delay : Role → ℕ) (link : Link) (ts : List Turn) (before : Accounts) (t : Turn) (after : Accounts) (role : Role)
+lingers-in : (tries period : ℕ) (delay : Role → ℕ) (link : Link) (ts : List Turn) (before : Accounts) (t : Turn) (after : Accounts)
+    (role : Role)
     (total : ℕ)
     → KeepsTime tries period delay link → NeverBusy link → RunOf link ts before → IsCarried delay (t ∷ ts)
     → GoingTurn link ts before t after → Linking (rates tries period) (length ts) role (of role before)
@@ -135,7 +137,8 @@ pub data Stage (z : Rates) (total start n : ℕ) (list : List Turn) (role : Role
 few-held : (h polls e : ℕ) → 3 * h + e ≤ 68 + 8 * polls → 19 * polls ≤ h + 38 → h ≤ 32
 few-held h polls e x y = omega arith
 
-next-stage : (tries period : ℕ) (delay : Role → ℕ) (link : Link) (list : List Turn) (ends : Accounts) (t : Turn) (after : Accounts) (role : Role)
+next-stage : (tries period : ℕ) (delay : Role → ℕ) (link : Link) (list : List Turn) (ends : Accounts) (t : Turn) (after : Accounts)
+    (role : Role)
     (total start n : ℕ)
     → KeepsTime tries period delay link → NeverBusy link → RunOf link list ends → IsCarried delay list → AreRates (rates tries period)
     → (of role after).outgoing.front < total

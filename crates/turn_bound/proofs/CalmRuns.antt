@@ -105,7 +105,8 @@ said-light busy said turn release b e h = by (speak turn release b) e h
     by (Err fault) e h = cc
     by (Ok other) e h = let same : other ≡ said = cc in subst (Light busy) same h
 
-light-turn : (link : Link) (ts : List Turn) (before : Accounts) (t : Turn) (after : Accounts) → NeverBusy link → GoingTurn link ts before t after
+light-turn : (link : Link) (ts : List Turn) (before : Accounts) (t : Turn) (after : Accounts) → NeverBusy link
+    → GoingTurn link ts before t after
     → LightTurn t
 light-turn link ts before t after n g role =
     let o = g.speaking role in
@@ -175,7 +176,8 @@ calm-run delay link (t ∷ ts) ends role n (before, run, g) c =
     })
 
 -- phases don't go back
-pub going-run : (delay : Role → ℕ) (link : Link) (ts : List Turn) (before : Accounts) (t : Turn) (after : Accounts) (role : Role) → NeverBusy link
+pub going-run : (delay : Role → ℕ) (link : Link) (ts : List Turn) (before : Accounts) (t : Turn) (after : Accounts) (role : Role)
+    → NeverBusy link
     → RunOf link ts before → Carries delay ts t → GoingTurn link ts before t after
     → (is_begun (of role before).phase ≡ true → is_begun (of role after).phase ≡ true)
     × (is_released (of role before).phase ≡ true → is_released (of role after).phase ≡ true)
@@ -294,7 +296,8 @@ heard-sent delay (suc d) (suc n) (t ∷ ts) role e some c = go (split d ts) (hea
         gone (suc k) (x ∷ m) p = gone k m p
 
 -- a run's beginning is a run
-pub before-run : (n : ℕ) (link : Link) (ts : List Turn) (ends : Accounts) → RunOf link ts ends → (first : Accounts) × RunOf link (drop n ts) first
+pub before-run : (n : ℕ) (link : Link) (ts : List Turn) (ends : Accounts) → RunOf link ts ends → (first : Accounts) × RunOf link
+    (drop n ts) first
 before-run zero link ts ends run = (ends, run)
 before-run (suc n) link [] ends run = (ends, run)
 before-run (suc n) link (t ∷ ts) ends (before, run, g) = before-run n link ts before run

@@ -6,7 +6,9 @@ use Rattle.std.proofs.lemmas.Bool.Decides.{nat_tests}
 use Rattle.lapm_sender.specs.Meant.{meant}
 use Rattle.lapm_sender.specs.Numbers.{with_number, from_number}
 use Rattle.lapm_sender.specs.Outgoing.{Outgoing, is_outstanding, advanced, gone_back, wait_ended, resumed, paused_at}
-use Rattle.link_account.specs.Hear.{timer_after}
+use Rattle.link_account.specs.Account.{Account}
+use Rattle.link_account.specs.Hear.{timer_after, ends_wait}
+use Rattle.link_account.proofs.HearWays.{acked, acked_back}
 use Rattle.turn_bound.proofs.Clock.{Rates, AreRates, Ticks, left, is_waiting, IsChosen, Sends, is_free, ends, sender_value}
 use Rattle.turn_bound.proofs.Arithmetic.{paid, cond-le, stopped, left-some, ticks-later, ticks-now}
 
@@ -372,3 +374,22 @@ heard-selected z before turn o timer n s low within = record {
   where
     none : (b : Bool) → b ≡ false → (c : ℕ) → c ≡ cond b 0 c
     none b e c = rw e refl
+
+-- an acknowledgement, whether or not it is in the answer that is awaited, and one from which sending goes back
+pub acked-heard : (z : Rates) (before turn : ℕ) (a : Account) (final command pf : Bool) (nr n : ℕ)
+    → Sends z before turn a.outgoing a.wait.timer → ends_wait command pf a ≡ final → meant a.outgoing.front a.outgoing.high nr ≡ Some n
+    → Heard a.outgoing (acked final a.outgoing n) × Heard a.outgoing (acked_back final a.outgoing n)
+acked-heard z before turn a final command pf nr n s e m = go final e
+  where
+    within : (a.outgoing.front ≤ n) × (n ≤ a.outgoing.high)
+    within = meant-range a.outgoing.front a.outgoing.high nr n m
+
+    first : (b c : Bool) → b && c ≡ true → b ≡ true
+    first true c f = refl
+    first false c f = cc
+
+    go : (b : Bool) → ends_wait command pf a ≡ b → Heard a.outgoing (acked b a.outgoing n) × Heard a.outgoing (acked_back b a.outgoing n)
+    go true f = let k = heard-wait_ended z before turn a.outgoing a.wait.timer n s within.0 within.1 (first a.outgoing.awaited (pf && not command) f) in
+        (k, k)
+    go false f = let k = heard-advanced z before turn a.outgoing a.wait.timer n s within.0 within.1 in
+        (k, heard-gone_back a.outgoing (advanced a.outgoing n) k)

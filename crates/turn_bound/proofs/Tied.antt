@@ -187,12 +187,14 @@ forth : (delay : Role → ℕ) (link : Link) (t : Turn) (ts : List Turn) (ends :
 forth delay link t ts ends some h c =
     crossed (delay Originator) Originator ts h.forward t.answ.heard (some Originator) h.lies_forward (c Answerer)
 
-back-again : (delay : Role → ℕ) (link : Link) (t : Turn) (ts : List Turn) (ends : Accounts) → HasDelays delay → (h : Tied delay link ts ends)
+back-again : (delay : Role → ℕ) (link : Link) (t : Turn) (ts : List Turn) (ends : Accounts) → HasDelays delay →
+    (h : Tied delay link ts ends)
     → Carries delay ts t → Crossed (delay Answerer) Answerer ts h.back t.orig.heard
 back-again delay link t ts ends some h c =
     crossed (delay Answerer) Answerer ts h.back t.orig.heard (some Answerer) h.lies_back (c Originator)
 
-tied-turn : (delay : Role → ℕ) (link : Link) (t : Turn) (ts : List Turn) (before after : Accounts) → HasDelays delay → Tied delay link ts before
+tied-turn : (delay : Role → ℕ) (link : Link) (t : Turn) (ts : List Turn) (before after : Accounts) → HasDelays delay
+    → Tied delay link ts before
     → GoingTurn link ts before t after → Carries delay ts t → Tied delay link (t ∷ ts) after
 tied-turn delay link t ts before after some h g c =
     let o = g.speaking Originator in

@@ -222,7 +222,8 @@ told-now z turn role release b said y s e open_ told = go (is_connected b.phase)
             (omega arith) g in
             let wrong : true ≡ false = sym told ∙ ap is_released (p.stepped.same.phase ∙ (p.is_timed.same.phase ∙ linked)) in cc
 
-in-turn : (tries period : ℕ) (delay : Role → ℕ) (link : Link) (ts : List Turn) (before : Accounts) (t : Turn) (after : Accounts) (role : Role)
+in-turn : (tries period : ℕ) (delay : Role → ℕ) (link : Link) (ts : List Turn) (before : Accounts) (t : Turn) (after : Accounts)
+    (role : Role)
     → KeepsTime tries period delay link → NeverBusy link → RunOf link ts before → IsCarried delay (t ∷ ts)
     → (g : GoingTurn link ts before t after) → (release : Bool)
     → speak (length ts) release (served_account (of role link).user (length ts) (is_released g.mid.orig.phase) (of role g.mid)) ≡ Ok
@@ -261,7 +262,8 @@ and-both true false h = cc
 and-both false y h = cc
 
 -- Once the originator is told to release both ends are whole.
-pub released-whole : (tries period : ℕ) (delay : Role → ℕ) (link : Link) (ts : List Turn) (ends : Accounts) → KeepsTime tries period delay link
+pub released-whole : (tries period : ℕ) (delay : Role → ℕ) (link : Link) (ts : List Turn) (ends : Accounts)
+    → KeepsTime tries period delay link
     → NeverBusy link → RunOf link ts ends → IsCarried delay ts
     → is_released ends.orig.phase ≡ true → (role : Role) → IsWhole (of role ends).outgoing
 released-whole tries period delay link [] ends k n run c e role = let wrong : true ≡ false =
@@ -298,8 +300,10 @@ released-whole tries period delay link (t ∷ ts) ends k n (before, run, g) c e 
         (finished-whole (of r link).user turn (served_account (of r link).user turn (is_released g.mid.orig.phase) (of r g.mid))
         (of-both r)))
       where
-        b : (finished_at link turn (served_ends link turn g.mid) Originator ≡ true) × (finished_at link turn (served_ends link turn g.mid) Answerer ≡ true)
-        b = and-both (finished_at link turn (served_ends link turn g.mid) Originator) (finished_at link turn (served_ends link turn g.mid) Answerer) told
+        b : (finished_at link turn (served_ends link turn g.mid) Originator ≡ true) ×
+            (finished_at link turn (served_ends link turn g.mid) Answerer ≡ true)
+        b = and-both (finished_at link turn (served_ends link turn g.mid) Originator)
+            (finished_at link turn (served_ends link turn g.mid) Answerer) told
 
         of-both : (q : Role) → has_finished (of q link).user turn
             (served_account (of q link).user turn (is_released g.mid.orig.phase) (of q g.mid)) ≡ true

@@ -41,7 +41,8 @@ only-connected Connected l r = refl
 only-connected Releasing l r = cc
 only-connected Closed l r = cc
 
-pub answerer-each : Plays → (tries period : ℕ) (delay : Role → ℕ) (link : Link) (ts : List Turn) (before : Accounts) (t : Turn) (mid : Accounts)
+pub answerer-each : Plays → (tries period : ℕ) (delay : Role → ℕ) (link : Link) (ts : List Turn) (before : Accounts) (t : Turn)
+    (mid : Accounts)
     → KeepsTime tries period delay link → RunsOver link delay ts before → Hears (length ts) before t mid
     → is_released mid.orig.phase ≡ false → LastTry tries period (length ts) before.answ → LosesEach period tries (length ts) ts
 answerer-each laws tries period delay link ts before t mid kt run hearing going last =

@@ -40,9 +40,8 @@ pub periods-of : (tries period : ℕ) (delay : Role → ℕ) (link : Link) (ts :
     (end_run delay state deed r) (deeds-of tries period delay link ts state deed kt w r) s
 periods-of tries period delay link ts state deed kt w r l n less =
     break-periods period (length ts) (end_run delay state deed r) (deeds-of tries period delay link ts state deed kt w r)
-    (breaking tries period delay link ts state deed kt w r) (first r) tries (length ts) (number_of (of r (state (length ts))))
-    (omega arith)
-    (record { connected = l.connected; waiting = l.waiting; numbered = refl }) l.count l.now (λ x. absurd (omega (arith, x))) n
+    (breaking tries period delay link ts state deed kt w r) (first r) tries (number_of (of r (state (length ts))))
+    (record { connected = l.connected; waiting = l.waiting; numbered = refl }) l.count l.now n
     (omega (arith, less))
   where
     first : (r : Role) → is_connected (of r (state 0)).phase ≡ false

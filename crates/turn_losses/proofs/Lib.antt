@@ -5,18 +5,22 @@ pub mod TwoEnds
 pub mod Trace
 pub mod KeepsPolls
 pub mod PollsFresh
+pub mod Words
+mod HeardNumber
 pub mod PollHear
 pub mod PollSpeak
 pub mod PollTurn
-pub mod Awaiting
-pub mod HeardCount
 pub mod Answering
 pub mod AnswerTurn
+pub mod Awaiting
+pub mod HeardCount
+pub mod HeardPaused
 pub mod Tracing
 pub mod LineLaw
 pub mod PollLaws
 pub mod PeriodLaws
 pub mod PeriodHolds
+pub mod Clocks
 pub mod Expiries
 pub mod Keeping
 pub mod NumberHear

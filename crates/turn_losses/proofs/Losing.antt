@@ -55,7 +55,8 @@ waits-not : (b : OwnBreaks) → length b.lengths ≤ b.answered → waits b ≡ 
 waits-not b l = grind (arith, nat_tests, l)
 
 -- what one role sent so long before the last turn arrives in it, unless it is lost
-pub last-heard : (kind : Frame → Bool) (period : ℕ) (delay : Role → ℕ) (link : Link) (ts : List Turn) (state : ℕ → Accounts) (deed : ℕ → Deed)
+pub last-heard : (kind : Frame → Bool) (period : ℕ) (delay : Role → ℕ) (link : Link) (ts : List Turn) (state : ℕ → Accounts)
+    (deed : ℕ → Deed)
     → Trace period delay link ts state deed → (t : Turn) → Carries delay ts t → (r : Role) → 1 ≤ delay (other r)
     → (s : ℕ) → s + delay (other r) ≡ length ts → is_lost (of r t).heard ≡ false
     → of_arrived kind (arrival (of r t).heard) ≡ of_frame kind (sent_or (of (other r) (deed s).turn).sent)

@@ -33,7 +33,7 @@ use Rattle.link_account.specs.Hear.{ends_wait, on_disc, on_word, peer_reset, owi
 use Rattle.link_account.specs.Speak.{Said, says, says_frame, else_says, where_says, spent, trying_again, tries_frame, u_try, speak}
 use Rattle.link_account.specs.Speak.{speak_in, speak_detecting, speak_negotiating, speak_releasing, speak_linked, speak_answer}
 use Rattle.turn_bound.proofs.MeetHear.{of_frame, of_arrived}
-use Rattle.turn_bound.proofs.Speaking.{OnOk}
+use Rattle.link_account.proofs.SpeakWays.{by-linked}
 use Rattle.turn_losses.proofs.PollSpeak.{SaidPoll, linked-poll}
 use Rattle.turn_losses.proofs.Detecting.{answer-phase, phase-ok}
 
@@ -260,11 +260,7 @@ try-ok p turn b said (Ok other) e h = let same : other ≡ said = cc in subst
     (λ s. (s.account.phase ≡ b.phase) × (TriesAgain p turn b s ⊎ TryStands p turn b s)) same h
 
 pub linked-phase : (turn : ℕ) (b : Account) (said : Said) → speak_linked turn b ≡ Ok said → said.account.phase ≡ b.phase
-linked-phase turn b said h = go (speak_linked turn b) h (linked-poll turn b)
-  where
-    go : (r : Result Said LinkFault) → r ≡ Ok said → OnOk (SaidPoll turn b) r → said.account.phase ≡ b.phase
-    go (Err fault) q k = cc
-    go (Ok x) q k = let same : x ≡ said = cc in ap (λ y. y.account.phase) (sym same) ∙ k.phase
+linked-phase turn b said h = (by-linked (SaidPoll turn b) turn b (linked-poll turn b) said h).phase
 
 pub try-says : (turn : ℕ) (release : Bool) (b : Account) (said : Said) → b.setup.role ≡ Originator → 1 ≤ b.setup.period
     → is_some (offer_in (written b.setup.offer)) ≡ true → speak turn release b ≡ Ok said

@@ -20,6 +20,7 @@ use Rattle.turn_losses.proofs.PollSpeak.{SpeakPoll, SaidPoll, PollSpeaks, poll-s
 use Rattle.turn_losses.proofs.Polling.{is_linked}
 use Rattle.xid_params.specs.Offers.{IsAllowed}
 use Rattle.turn_losses.proofs.AnswerTurn.{linked-says, connected-is}
+use Rattle.turn_losses.proofs.HeardPaused.{PausedHeard, paused-hears}
 use Rattle.turn_losses.proofs.NumberHear.{nr_sent, ns_sent, NumbersHeard, numbers-heard}
 use Rattle.turn_losses.proofs.NumberSpeak.{NumbersSaid, linked-numbers}
 use Rattle.turn_losses.proofs.Room.{Room, Fits, ServedLeft, served-left, begins-roomy}
@@ -27,6 +28,8 @@ use Rattle.turn_losses.proofs.Room.{Room, Fits, ServedLeft, served-left, begins-
 pub record NumberTurn (arrived : Arrived) (sent : Sent) (a mid c : Account) : Type 0 where
   pub heard : NumbersHeard arrived a mid
   pub front : c.outgoing.front ≡ mid.outgoing.front
+  pub paused : PausedHeard arrived a mid
+  pub paused_on : c.outgoing.paused ≡ mid.outgoing.paused
   pub taken : c.incoming.taken ≡ mid.incoming.taken
   pub numbered : a.numbered ≡ true → mid.numbered ≡ true
   pub numbered_on : c.numbered ≡ mid.numbered
@@ -131,6 +134,8 @@ pub number-turn : (user : User) (turn : ℕ) (role : Role) (arrived : Arrived) (
 number-turn user turn role arrived a mid released release said er none hears speaks ca cc' = record {
   heard = heard;
   front = k.outgoing.front ∙ ap (λ o. o.front) s.longer.outgoing;
+  paused = paused-hears arrived turn a mid ca hears;
+  paused_on = k.outgoing.paused ∙ ap (λ o. o.paused) s.longer.outgoing;
   taken = k.taken ∙ left.taken;
   numbered = polls.heard ca;
   numbered_on = k.numbered ∙ s.numbered;

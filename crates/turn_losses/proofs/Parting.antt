@@ -8,7 +8,7 @@ use Rattle.shared_terms.specs.declared.role.Role.{Role}
 use Rattle.shared_terms.specs.declared.role.Role.TheVariants.{Originator, Answerer}
 use Rattle.shared_terms.specs.Role.{is_originator}
 use Rattle.shared_terms.specs.Both.{of}
-use Rattle.lapm_sender.specs.Outgoing.{Outgoing, is_outstanding, is_whole}
+use Rattle.lapm_sender.specs.Outgoing.{Outgoing, is_whole}
 use Rattle.xid_params.specs.Offers.{ReadsWritten, IsAllowed}
 use Rattle.break_signals.specs.Breaks.{waits}
 use Rattle.lapm_frames.specs.declared.sent.Sent.{Sent}
@@ -27,7 +27,8 @@ use Rattle.link_account.specs.Laws.{MayPlay}
 use Rattle.link_account.specs.Play.{arrives}
 use Rattle.link_account.specs.Speak.{Said, speak, speak_in, speak_linked, speak_releasing, speak_detecting, speak_negotiating}
 use Rattle.link_run.specs.End.{is_busy, is_released, is_closed, is_ready, next_break}
-use Rattle.link_run.specs.Run.{Link, Accounts, Spoken, Turn, RunOf, Hears, BrokenTurn, SpeaksAt, arrival, served_at, said_at, finished_at, served_ends}
+use Rattle.link_run.specs.Run.{Link, Accounts, Spoken, Turn, RunOf, Hears, BrokenTurn, SpeaksAt, arrival, served_at, said_at, finished_at}
+use Rattle.link_run.specs.Run.{served_ends}
 use Rattle.link_run.specs.Run.{releases, spoken}
 use Rattle.link_run.specs.Carried.{Crosses, Carries, IsCarried, has_message, sent_in}
 use Rattle.link_run.specs.Laws.{RunsOver}
@@ -37,31 +38,32 @@ use Rattle.turn_bound.proofs.Clock.{Rates, rates, Sends}
 use Rattle.turn_bound.proofs.Value.{IsOf, Stands, arrived_rnrs}
 use Rattle.turn_bound.proofs.Hearing.{HeardAs}
 use Rattle.turn_bound.proofs.MeetHear.{of_frame, of_arrived}
-use Rattle.turn_bound.proofs.Serving.{serves-all}
+use Rattle.turn_bound.proofs.Serving.{Served, serves-all}
 use Rattle.turn_bound.proofs.Serves.{serves-well}
 use Rattle.turn_bound.proofs.Meeting.{arrives-flag}
 use Rattle.turn_bound.proofs.Tied.{is_lost}
-use Rattle.turn_losses.specs.Polls.{is_poll, is_final}
+use Rattle.turn_losses.specs.Polls.{is_poll}
 use Rattle.turn_losses.specs.Losses.{PeriodLoses, LosesEach, AnswererWantsAnswers}
 use Rattle.turn_losses.proofs.Polling.{is_linked}
 use Rattle.turn_losses.proofs.PollHear.{PollHeard, poll-hears, linked-connected}
 use Rattle.turn_losses.proofs.PollSpeak.{poll-speaks}
-use Rattle.turn_losses.proofs.Answering.{frame_rnr, AnswerHeard, answer-hears}
-use Rattle.turn_losses.proofs.AnswerTurn.{connected-is, linked-sends, linked-says}
-use Rattle.turn_losses.proofs.NumberHear.{ns_sent}
-use Rattle.turn_losses.proofs.NumberSpeak.{linked-numbers}
-use Rattle.turn_losses.proofs.NumberTurn.{NumberTurn, poll-ok, speak-ok}
+use Rattle.turn_losses.proofs.AnswerTurn.{connected-is, linked-sends}
+use Rattle.turn_losses.proofs.NumberTurn.{poll-ok, speak-ok}
 use Rattle.turn_losses.proofs.Trace.{Deed, Happens, Trace, past, sent_or}
 use Rattle.turn_losses.proofs.TwoEnds.{EndRun, TwoEnds, end_run, hears_final}
 use Rattle.turn_losses.proofs.Tracing.{Known, known, Timed, timed, rated, Traced, traced, silent-of, past-all}
 use Rattle.turn_losses.proofs.Numbering.{Plays, allowed, fits-at, counts-of}
 use Rattle.turn_losses.proofs.Numbered.{numbered-linked}
 use Rattle.turn_losses.proofs.LineLaw.{is-heard, looked}
-use Rattle.turn_losses.proofs.PollLaws.{two-ends, turned}
-use Rattle.turn_losses.proofs.PeriodLaws.{linked-on, connected-back, still-awaited, answer-comes, NoneLost, StayConnected}
-use Rattle.turn_losses.proofs.PeriodHolds.{LostIn, lost-or-none}
-use Rattle.turn_losses.proofs.Expiries.{Expired, last-expired, First, first-connected, PeriodBefore, period-before, once-more, no-times}
-use Rattle.turn_losses.proofs.Acknowledged.{Counts, front-or-cleared, acknowledged}
+use Rattle.turn_losses.proofs.PollLaws.{two-ends, turned, due-apart}
+use Rattle.turn_losses.proofs.PeriodLaws.{linked-on, connected-back, answer-comes, NoneLost, StayConnected}
+use Rattle.turn_losses.proofs.PeriodHolds.{LostIn, lost-or-none, period-cleared}
+use Rattle.turn_losses.proofs.Expiries.{Uncleared, expiries}
+use Rattle.turn_losses.proofs.HeardCount.{CountKept, count-hears}
+use Rattle.turn_losses.proofs.HeardPaused.{PausedHeard}
+use Rattle.turn_losses.proofs.Awaiting.{await-hears}
+use Rattle.std.specs.Prelude.{is_some, nat_lt}
+use Rattle.turn_losses.proofs.Acknowledged.{Counts}
 use Rattle.turn_losses.proofs.Keeping.{turn-is}
 use Rattle.turn_losses.proofs.Wanting.{LastTry, last-try, lost-is}
 use Rattle.turn_losses.proofs.Room.{begins-roomy}
@@ -72,69 +74,19 @@ use Rattle.turn_losses.proofs.Setups.{start-setup, heard-as}
 use Rattle.turn_losses.proofs.TryAnswering.{can_answer, answer-due}
 use Rattle.turn_losses.proofs.Trying.{TryTurn, TriesSo, Tried, tried, tries-so}
 
--- The expiries before a turn by their number, each with its period, in which the retry count never is 0.
-pub record Uncleared (period : ℕ) (e : EndRun) (s : ℕ) : Type 0 where
-  pub made : e.made s ≡ true
-  pub connected : is_connected (e.account s).phase ≡ true
-  pub uncleared : (v : ℕ) → s < v → v < s + period → e.count v ≡ 0 → ⊥
+abbrev IsFree : Account → Type 0
+IsFree a = (a.outgoing.awaited ≡ false) × (a.outgoing.paused ≡ false)
 
-pub expiries : (period turns : ℕ) (e o : EndRun) → TwoEnds period turns e o → Counts turns e o → (f : First turns e) → (n t : ℕ)
-    → t ≤ turns → (x : Expired n t e) → x.at + period ≤ t → (i : ℕ) → i ≤ n
-    → (s : ℕ) × (s + i * period ≡ x.at) × Uncleared period e s
-expiries period turns e o k c f n t l x far zero q =
-    let none = no-times period in (
-      x.at,
-      omega (arith, none),
-      record {
-        made = x.made;
-        connected = x.connected;
-        uncleared = λ v a b z. let w = x.since v a
-            (omega (arith, b, far)) in omega (arith, w, z);
-      },
-    )
-expiries period turns e o k c f zero t l x far (suc j) q = absurd (omega (arith, q))
-expiries period turns e o k c f (suc n) t l x far (suc j) q = go
-    (expiries period turns e o k c f n x.at (let b = x.before in omega (arith, b, l)) last.expiry
-    (let r = last.exact in omega (arith, r)) j (omega (arith, q)))
-  where
-    low : f.from ≤ x.at
-    low = f.none_before x.at (let b = x.before in omega (arith, b, l)) x.connected
-
-    last : PeriodBefore period n x.at e
-    last = period-before period turns e o k f.from f.connected f.count n t l (subst (λ m. Expired m t e) (omega arith) x) low
-
-    go : (s : ℕ) × (s + j * period ≡ last.expiry.at) × Uncleared period e s → (s : ℕ) × (s + suc j * period ≡ x.at) × Uncleared period e s
-    go (s, r, w) = let m = once-more j period in let g = last.exact in (s, omega (arith, r, m, g), w)
-
--- what is known of the segments of an end whose peer is told to release in a turn: it has no more to send
-pub record Parts (turns : ℕ) (e : EndRun) (release : ℕ) : Type 0 where
-  pub pieces : (x : ℕ) → x < turns → is_connected (e.account x).phase ≡ true → is_connected (e.account (x + 1)).phase ≡ true
-      → length (e.account x).outgoing.pieces ≤ length (e.account (x + 1)).outgoing.pieces
-  pub outstanding : (u : ℕ) → u < turns → is_connected (e.account u).phase ≡ true → is_connected (e.account (u + 1)).phase ≡ true
-      → (e.account u).outgoing.awaited ≡ true → hears_final e u ≡ true
-      → (e.count u ≡ 0) ⊎ ((e.mid u).outgoing.front < length (e.account (u + 1)).outgoing.pieces)
-  pub whole : is_connected (e.account release).phase ≡ true → length (e.account release).outgoing.pieces ≤ (e.mid release).outgoing.front
-
-pieces-rise : (turns : ℕ) (e : EndRun) (v : ℕ) → Parts turns e v → (s n : ℕ) → s + n ≤ turns → StayConnected e s (s + n)
-    → length (e.account s).outgoing.pieces ≤ length (e.account (s + n)).outgoing.pieces
-pieces-rise turns e v g s zero l h = let q = ap (λ x. length (e.account x).outgoing.pieces) (same s) in omega (arith, q)
-  where
-    same : (x : ℕ) → x + 0 ≡ x
-    same x = omega arith
-pieces-rise turns e v g s (suc n) l h =
-    let before = pieces-rise turns e v g s n (omega (arith, l)) (λ t a b. h t a (omega (arith, b))) in
-    let one = g.pieces (s + n) (omega (arith, l)) (h (s + n) (omega arith) (omega arith)) (h (s + n + 1) (omega arith) (omega arith)) in
-    let there : length (e.account (s + suc n)).outgoing.pieces ≡ length (e.account (s + n + 1)).outgoing.pieces = ap
-    (λ u. length (e.account u).outgoing.pieces) (omega arith) in
-    omega (arith, before, one, there)
-
--- A period in which the peer is told to release so late that its DISC comes after it: where no line is lost in it, the retry count is 0
--- in one of its turns.
-pub parted-cleared : (period turns : ℕ) (e o : EndRun) → TwoEnds period turns e o → Counts turns e o → (s v : ℕ) → s + period ≤ turns
-    → v < turns → Parts turns e v → e.made s ≡ true → StayConnected e s turns → StayConnected o s v → s + period < v + o.delay
-    → NoneLost e o (s + 1) (period - 1) → (w : ℕ) × (s < w) × (w < s + period) × (e.count w ≡ 0)
-parted-cleared period turns e o k c s v within before g m ce co late lost =
-    go (answer-comes period turns e o k s (omega (arith, p, within)) m (λ t l h. ce t l (omega (arith, h, p, within)))
+-- A period in which the peer is told to release, but so late that its DISC comes after it. Where no line is lost in it, the answer to its
+-- poll
+-- came before; so, with nothing outstanding, the clock stops in that turn, unless it was paused since, which made the retry count 0.
+pub parted-stops : (period turns : ℕ) (e o : EndRun) → TwoEnds period turns e o → Counts turns e o → (s v : ℕ) → s + period ≤ turns
+    → v < s + period → s + period < v + o.delay → Uncleared period e s → StayConnected o s v
+    → (e.mid v).outgoing.awaited ≡ cond (hears_final e v) false (e.account v).outgoing.awaited
+    → ((e.mid v).outgoing.awaited ≡ false → (e.mid v).outgoing.paused ≡ false → (e.mid v).wait.timer ≡ None)
+    → CountKept (e.account v) (e.mid v) → NoneLost e o (s + 1) (period - 1) → ⊥
+parted-stops period turns e o k c s v within before late un co waits stops kept lost =
+    go (answer-comes period turns e o k s (omega (arith, p, within)) un.made (λ t l h. un.on t l (omega (arith, h, p)))
     (λ t l h. co t l (omega (arith, h, p, late))) (λ t l h. lost t l (omega (arith, h, p))))
   where
     p : period ≡ 2 * (e.delay + o.delay) + 16
@@ -143,84 +95,67 @@ parted-cleared period turns e o k c s v within before g m ce co late lost =
     d : 1 ≤ e.delay
     d = k.own_delay
 
-    d' : 1 ≤ o.delay
-    d' = k.other_delay
+    counts : (t : ℕ) → s < t → t < s + period → (e.mid t).outgoing.count ≡ 0 → ⊥
+    counts t a b z = un.uncleared t a b (c.count_is t ∙ z)
 
-    go : (u : ℕ) × (s + (e.delay + o.delay) ≤ u) × (u ≤ s + (e.delay + o.delay) + 1) × (hears_final e u ≡ true)
-        → (w : ℕ) × (s < w) × (w < s + period) × (e.count w ≡ 0)
-    go (u, low, high, h) = first
-        (g.outstanding u inside (ce u (omega (arith, low)) (omega (arith, inside)))
-        (ce (u + 1) (omega (arith, low)) (omega (arith, inside))) awaited h)
+    unpaused : (t : ℕ) → s < t → t < s + period → ((e.account t).outgoing.paused ≡ false) ⊎ (hears_final e t ≡ true)
+        → (e.mid t).outgoing.paused ≡ false
+    unpaused t a b from = by (e.mid t).outgoing.paused refl from
       where
-        inside : u < turns
-        inside = omega (arith, p, high, within)
+        q : PausedHeard (e.heard t) (e.account t) (e.mid t)
+        q = (c.own t (omega (arith, b, within)) (un.on t (omega (arith, a)) (omega (arith, b)))
+            (un.on (t + 1) (omega (arith, a)) (omega (arith, b)))).paused
 
-        awaited : (e.account u).outgoing.awaited ≡ true
-        awaited = (still-awaited period turns e o k u inside (ce u (omega (arith, low)) (omega (arith, inside))) h).awaited
-
-        released-later : u + 1 ≤ v
-        released-later = omega (arith, late, high, p)
-
-        clears : (w : ℕ) × (u < w) × (w ≤ u + (e.delay + o.delay) + 1) × ((e.mid w).outgoing.count ≡ 0)
-            → (w : ℕ) × (s < w) × (w < s + period) × (e.count w ≡ 0)
-        clears (w, x, y, z) = (w, omega (arith, x, low), omega (arith, y, high, p), c.count_is w ∙ z)
-
-        -- told to release while the acknowledgement is on its way: the front moved
-        moved : v ≤ u + (e.delay + o.delay) + 1 → (e.mid u).outgoing.front < length (e.account (u + 1)).outgoing.pieces
-            → (w : ℕ) × (u < w) × (w ≤ u + (e.delay + o.delay) + 1) × ((e.mid w).outgoing.count ≡ 0)
-        moved soon more = by (front-or-cleared turns e o c (u + 1) (v - (u + 1)) (omega (arith, released-later, before))
-            (λ t a b. ce t (omega (arith, a, low)) (omega (arith, b, released-later, before))))
-            (numbers v before (ce v (omega (arith, low, released-later)) (omega (arith, before)))
-            (ce (v + 1) (omega (arith, low, released-later)) (omega (arith, before)))).heard.advance
-          where
-            numbers : (t : ℕ) → t < turns → is_connected (e.account t).phase ≡ true → is_connected (e.account (t + 1)).phase ≡ true
-                → NumberTurn (e.heard t) (e.slot t) (e.account t) (e.mid t) (e.account (t + 1))
-            numbers t l a b = c.own t l a b
-
-            at-v : u + 1 + (v - (u + 1)) ≡ v
-            at-v = omega (arith, released-later)
-
-            rises : length (e.account (u + 1)).outgoing.pieces ≤ length (e.account v).outgoing.pieces
-            rises =
-                let r = pieces-rise turns e v g (u + 1) (v - (u + 1)) (omega (arith, released-later, before))
-                (λ t a b. ce t (omega (arith, a, low)) (omega (arith, b, released-later, before))) in
-                let q = ap (λ x. length (e.account x).outgoing.pieces) at-v in omega (arith, r, q)
-
-            all : length (e.account v).outgoing.pieces ≤ (e.mid v).outgoing.front
-            all = g.whole (ce v (omega (arith, low, released-later)) (omega (arith, before)))
-
-            own-front : (e.account (u + 1)).outgoing.front ≡ (e.mid u).outgoing.front
-            own-front = (numbers u inside (ce u (omega (arith, low)) (omega (arith, inside)))
-                (ce (u + 1) (omega (arith, low)) (omega (arith, inside)))).front
-
-            by : ((e.account (u + 1 + (v - (u + 1)))).outgoing.front ≡ (e.account (u + 1)).outgoing.front)
-                ⊎ ((t : ℕ) × (u + 1 ≤ t) × (t < u + 1 + (v - (u + 1))) × ((e.mid t).outgoing.count ≡ 0))
-                → ((e.mid v).outgoing.front ≡ (e.account v).outgoing.front) ⊎ ((e.mid v).outgoing.count ≡ 0)
-                → (w : ℕ) × (u < w) × (w ≤ u + (e.delay + o.delay) + 1) × ((e.mid w).outgoing.count ≡ 0)
-            by (inr (t, a, b, z)) y = (t, omega (arith, a), omega (arith, b, at-v, soon), z)
-            by (inl q) (inr z) = (v, omega (arith, released-later), soon, z)
-            by (inl q) (inl r) =
-                let there = ap (λ x. (e.account x).outgoing.front) at-v in
-                absurd (omega (arith, q, r, there, own-front, all, rises, more))
-
-        second : (e.mid u).outgoing.front < length (e.account (u + 1)).outgoing.pieces
-            → (e.count u ≡ 0) ⊎ (ns_sent (e.slot u) ≡ Some ((e.mid u).outgoing.front % 128))
-            → (w : ℕ) × (s < w) × (w < s + period) × (e.count w ≡ 0)
-        second more (inl z) = (u, omega (arith, low, d), omega (arith, high, p), z)
-        second more (inr sends) = elim (cases_lt v (u + (e.delay + o.delay) + 2)) [
-          | inl l ↦ clears (moved (omega (arith, l)) more)
-          | inr r ↦ clears (acknowledged period turns e o k c u (omega (arith, high, p, within)) h sends
-              (λ t a b. ce t (omega (arith, a, low)) (omega (arith, b, high, p, within)))
-              (λ t a b. co t (omega (arith, a, low)) (omega (arith, b, r)))
-              (λ t a b. lost t (omega (arith, a, low)) (omega (arith, b, high, p))))
+        by : (x : Bool) → (e.mid t).outgoing.paused ≡ x → ((e.account t).outgoing.paused ≡ false) ⊎ (hears_final e t ≡ true)
+            → (e.mid t).outgoing.paused ≡ false
+        by false f g = f
+        by true f (inl g) = elim (q.paused f) [
+          | inl h ↦ (let wrong : true ≡ false = sym h ∙ g in cc)
+          | inr z ↦ absurd (counts t a b z)
         ]
+        by true f (inr g) = elim (q.resumes g) [ inl h ↦ h | inr z ↦ absurd (counts t a b z) ]
 
-        first : (e.count u ≡ 0) ⊎ ((e.mid u).outgoing.front < length (e.account (u + 1)).outgoing.pieces)
-            → (w : ℕ) × (s < w) × (w < s + period) × (e.count w ≡ 0)
-        first (inl z) = (u, omega (arith, low, d), omega (arith, high, p), z)
-        first (inr more) = second more
-            (c.answered u inside (ce u (omega (arith, low)) (omega (arith, inside)))
-            (ce (u + 1) (omega (arith, low)) (omega (arith, inside))) h)
+    unmade : (t : ℕ) → s < t → t < s + period → (x : Bool) → e.made t ≡ x → e.made t ≡ false
+    unmade t a b false f = f
+    unmade t a b true f = let far = due-apart period turns e o k s t a (omega (arith, b, within)) un.made f in absurd
+        (omega (arith, far, b))
+
+    falls : (m f a : Bool) → m ≡ false → (a ≡ false) ⊎ (f ≡ true) → m || cond f false a ≡ false
+    falls true f a q r = cc
+    falls false true a q r = refl
+    falls false false a q (inl r) = r
+    falls false false a q (inr r) = cc
+
+    free-next : (t : ℕ) → s < t → t < s + period → (IsFree (e.account t)) ⊎ (hears_final e t ≡ true) → IsFree (e.account (t + 1))
+    free-next t a b from = (
+      (k.own t (omega (arith, b, within))).awaited ct ct' ∙ falls (e.made t) (hears_final e t) (e.account t).outgoing.awaited
+          (unmade t a b (e.made t) refl) (elim from [ inl x ↦ inl x.0 | inr x ↦ inr x ]),
+      (c.own t (omega (arith, b, within)) ct ct').paused_on ∙ unpaused t a b (elim from [ inl x ↦ inl x.1 | inr x ↦ inr x ]),
+    )
+      where
+        ct : is_connected (e.account t).phase ≡ true
+        ct = un.on t (omega (arith, a)) (omega (arith, b))
+
+        ct' : is_connected (e.account (t + 1)).phase ≡ true
+        ct' = un.on (t + 1) (omega (arith, a)) (omega (arith, b))
+
+    go : (u : ℕ) × (s + (e.delay + o.delay) ≤ u) × (u ≤ s + (e.delay + o.delay) + 1) × (hears_final e u ≡ true) → ⊥
+    go (u, low, high, h) = ends (subst (λ t. IsFree (e.account t)) (omega (arith, high, late, p))
+        (stays (v - (u + 1)) (omega (arith, high, late, p))))
+      where
+        stays : (n : ℕ) → u + 1 + n ≤ v → IsFree (e.account (u + 1 + n))
+        stays zero l = subst (λ t. IsFree (e.account t)) (omega arith)
+            (free-next u (omega (arith, low, d)) (omega (arith, high, p)) (inr h))
+        stays (suc n) l = subst (λ t. IsFree (e.account t)) (omega arith)
+            (free-next (u + 1 + n) (omega (arith, low)) (omega (arith, l, before)) (inl (stays n (omega (arith, l)))))
+
+        ends : IsFree (e.account v) → ⊥
+        ends f = elim kept [
+          | inl z ↦ counts v (omega (arith, late, p)) before z
+          | inr q ↦ (let stopped = stops (waits ∙ falls false (hears_final e v) (e.account v).outgoing.awaited refl (inl f.0))
+              (unpaused v (omega (arith, late, p)) before (inl f.1)) in
+              let wrong : None ≡ Some s = sym stopped ∙ (q.1 ∙ un.timer v (omega (arith, late, p)) (omega (arith, before))) in cc)
+        ]
 
 -- In the turn in which the originator is told to release, the answerer's file is wholly acknowledged and none of its breaks waits.
 pub record Released (link : Link) (t : ℕ) (mid : Accounts) : Type 0 where
@@ -436,13 +371,6 @@ heard-at tries period delay link ts state deed kt w u b =
     heard-as tries period delay link (past ts u) (state u) kt h.run h.carried Answerer (arrival (deed u).turn.answ.heard) (deed u).mid.answ
     (ap (λ m. hear m (arrival (deed u).turn.answ.heard) (state u).answ) h.number ∙ (h.hearing Answerer).hears)
 
-served-pieces : (tries period : ℕ) (delay : Role → ℕ) (link : Link) (ts : List Turn) (state : ℕ → Accounts) (deed : ℕ → Deed)
-    → KeepsTime tries period delay link → Trace period delay link ts state deed → (u : ℕ) → u < length ts
-    → length (state u).answ.outgoing.pieces ≤ length (served_at link u (deed u).mid Answerer).account.outgoing.pieces
-served-pieces tries period delay link ts state deed kt w u b =
-    let q = (serves-all link.answ.user u (is_released (deed u).mid.orig.phase) (deed u).mid.answ).longer.longer in
-    let r = ap length (heard-at tries period delay link ts state deed kt w u b).1.pieces in omega (arith, q, r)
-
 pub mid-connected : (tries period : ℕ) (delay : Role → ℕ) (link : Link) (ts : List Turn) (state : ℕ → Accounts) (deed : ℕ → Deed)
     → KeepsTime tries period delay link → Trace period delay link ts state deed → (u : ℕ) → u < length ts
     → is_connected (state (u + 1)).answ.phase ≡ true → is_connected (deed u).mid.answ.phase ≡ true
@@ -454,74 +382,40 @@ mid-connected tries period delay link ts state deed kt w u b g =
     ∙ ((speak-ok u a s.said (speak u false a) s.says (poll-speaks u false a)).connected
     (ap (λ (y : Account). is_connected y.phase) (sym s.after_is) ∙ g)).0
 
-said-pieces : (tries period : ℕ) (delay : Role → ℕ) (link : Link) (ts : List Turn) (state : ℕ → Accounts) (deed : ℕ → Deed)
-    → KeepsTime tries period delay link → Trace period delay link ts state deed → (u : ℕ) → u < length ts
-    → is_connected (state (u + 1)).answ.phase ≡ true
-    → length (state (u + 1)).answ.outgoing.pieces ≡ length (served_at link u (deed u).mid Answerer).account.outgoing.pieces
-said-pieces tries period delay link ts state deed kt w u b g =
-    let h = w.happens u b in
-    let s = h.speaking Answerer in
-    let a : Account = (served_at link u (deed u).mid Answerer).account in
-    let phase : a.phase ≡ Connected = (serves-all link.answ.user u (is_released (deed u).mid.orig.phase) (deed u).mid.answ).phase
-    ∙ connected-is (deed u).mid.answ.phase (mid-connected tries period delay link ts state deed kt w u b g) in
-    let after : is_connected s.said.account.phase ≡ true = ap (λ (y : Account). is_connected y.phase) (sym s.after_is) ∙ g in
-    ap (λ (y : Account). length y.outgoing.pieces) s.after_is
-    ∙ ap length (linked-numbers u a s.said (linked-says u false a s.said phase after s.says)).outgoing.pieces
-
-outstanding-or : (tries period : ℕ) (delay : Role → ℕ) (link : Link) (ts : List Turn) (state : ℕ → Accounts) (deed : ℕ → Deed)
-    → KeepsTime tries period delay link → Trace period delay link ts state deed → (u : ℕ) → u < length ts
-    → is_connected (state u).answ.phase ≡ true → is_connected (state (u + 1)).answ.phase ≡ true → (state u).answ.outgoing.awaited ≡ true
-    → hears_final (end_run delay state deed Answerer) u ≡ true
-    → ((deed u).mid.answ.outgoing.count ≡ 0) ⊎ ((deed u).mid.answ.outgoing.front < length (state (u + 1)).answ.outgoing.pieces)
-outstanding-or tries period delay link ts state deed kt w u b f g aw fin = framed (arrival (deed u).turn.answ.heard)
-    ((w.happens u b).hearing Answerer).hears fin
-  where
-    framed : (y : Arrived) → hear u y (state u).answ ≡ Ok (deed u).mid.answ → of_arrived is_final y ≡ true
-        → ((deed u).mid.answ.outgoing.count ≡ 0) ⊎ ((deed u).mid.answ.outgoing.front < length (state (u + 1)).answ.outgoing.pieces)
-    framed arrivals.Nothing q i = cc
-    framed (arrivals.Pattern seen) q i = cc
-    framed (arrivals.Frame frame) q i = by (frame_rnr frame) refl (is_outstanding (deed u).mid.answ.outgoing) refl
-      where
-        a : AnswerHeard (frame_rnr frame) (state u).answ (deed u).mid.answ
-        a = answer-hears frame u (state u).answ (deed u).mid.answ (connected-is (state u).answ.phase f) aw i q
-
-        by : (r : Bool) → frame_rnr frame ≡ r → (y : Bool) → is_outstanding (deed u).mid.answ.outgoing ≡ y
-            → ((deed u).mid.answ.outgoing.count ≡ 0) ⊎ ((deed u).mid.answ.outgoing.front < length (state (u + 1)).answ.outgoing.pieces)
-        by true r y j = inl (a.busy r)
-        by false r false j = inl (a.idle r j)
-        by false r true j =
-            let hd = heard-at tries period delay link ts state deed kt w u b in
-            let sends : Sends (rates tries period) (u' + 1) u' (deed u).mid.answ.outgoing (deed u).mid.answ.wait.timer = linked-sends
-            (rates tries period) (u' + 1) u' Answerer hd.0 (deed u).mid.answ hd.1.stands
-            (ap is_connected (sym hd.1.phase) ∙ mid-connected tries period delay link ts state deed kt w u b g) in
-            let less : (deed u).mid.answ.outgoing.front < (deed u).mid.answ.outgoing.high = grind (arith, nat_tests, j) in
-            let high = sends.high_pieces in
-            let longer = (serves-all link.answ.user u (is_released (deed u).mid.orig.phase) (deed u).mid.answ).longer.longer in
-            let after = said-pieces tries period delay link ts state deed kt w u b g in
-            inr (omega (arith, less, high, longer, after))
-          where
-            u' : ℕ
-            u' = length (past ts u)
-
-parts-of : (tries period : ℕ) (delay : Role → ℕ) (link : Link) (ts : List Turn) (state : ℕ → Accounts) (deed : ℕ → Deed)
+-- where the answerer is told in a turn that it is whole, its clock runs for a poll or a pause alone
+whole-stops : (tries period : ℕ) (delay : Role → ℕ) (link : Link) (ts : List Turn) (state : ℕ → Accounts) (deed : ℕ → Deed)
     → KeepsTime tries period delay link → Trace period delay link ts state deed → (v : ℕ) → v < length ts → Released link v (deed v).mid
-    → Parts (length ts) (end_run delay state deed Answerer) v
-parts-of tries period delay link ts state deed kt w v b told = record {
-  pieces = λ m l f g. let q = said-pieces tries period delay link ts state deed kt w m l g in let r = served-pieces tries period delay
-      link ts state deed kt w m l in omega (arith, q, r);
-  outstanding = outstanding-or tries period delay link ts state deed kt w;
-  whole = λ f. whole;
-}
+    → (deed v).mid.answ.outgoing.awaited ≡ false → (deed v).mid.answ.outgoing.paused ≡ false → (deed v).mid.answ.wait.timer ≡ None
+whole-stops tries period delay link ts state deed kt w v b told f g = none m.wait.timer
+    (sends.cause ∙ still (nat_lt m.outgoing.front m.outgoing.high) idle)
   where
-    whole : length (state v).answ.outgoing.pieces ≤ (deed v).mid.answ.outgoing.front
-    whole =
-        let a : Account = (served_at link v (deed v).mid Answerer).account in
-        let q = served-pieces tries period delay link ts state deed kt w v b in
-        let r = ap (λ y. y.front) (serves-all link.answ.user v (is_released (deed v).mid.orig.phase) (deed v).mid.answ).longer.outgoing in
-        let m : a.outgoing.front ≡ length a.outgoing.pieces = whole-is a.outgoing told.done in
-        omega (arith, q, r, m)
+    m : Account
+    m = (deed v).mid.answ
 
--- A DISC that is heard closes the answerer.
+    hd : HeardIn tries period delay ts state deed v
+    hd = heard-at tries period delay link ts state deed kt w v b
+
+    s : Served v (length link.answ.user.breaks) (is_busy v link.answ.user.busy) m (served_at link v (deed v).mid Answerer).account
+    s = serves-all link.answ.user v (is_released (deed v).mid.orig.phase) m
+
+    sends : Sends (rates tries period) (length (past ts v) + 1) (length (past ts v)) m.outgoing m.wait.timer
+    sends = linked-sends (rates tries period) (length (past ts v) + 1) (length (past ts v)) Answerer hd.0 m hd.1.stands
+        (ap is_connected (sym hd.1.phase) ∙ (ap is_connected (sym s.phase) ∙ told.connected))
+
+    idle : nat_lt m.outgoing.front m.outgoing.high ≡ false
+    idle =
+        let all = whole-is (served_at link v (deed v).mid Answerer).account.outgoing told.done in
+        let front = ap (λ o. o.front) s.longer.outgoing in let longer = s.longer.longer in let high = sends.high_pieces in
+        let done : m.outgoing.high ≤ m.outgoing.front = omega (arith, all, front, longer, high) in grind (arith, nat_tests, done)
+
+    still : (x : Bool) → x ≡ false → x || (m.outgoing.awaited || m.outgoing.paused) ≡ false
+    still true q = cc
+    still false q = ap (λ y. y || m.outgoing.paused) f ∙ g
+
+    none : (timer : Option ℕ) → is_some timer ≡ false → timer ≡ None
+    none None q = refl
+    none (Some x) q = cc
+
 disc-heard : (arrived : Arrived) (turn : ℕ) (a mid : Account) → a.setup.role ≡ Answerer → is_connected a.phase ≡ true
     → of_arrived (asks Releasing) arrived ≡ true → hear turn arrived a ≡ Ok mid → is_connected mid.phase ≡ false
 disc-heard arrived turn a mid r c k h = ap is_connected
@@ -575,7 +469,7 @@ pub parted-each : Plays → ReadsWritten → (tries period : ℕ) (delay : Role 
     → Hears (length ts) before t mid → is_connected mid.answ.phase ≡ true → mid.orig.phase ≡ Releasing
     → LastTry tries period (length ts) before.answ → LosesEach period tries (length ts) (t ∷ ts)
 parted-each laws reads tries period delay link ts before t mid kt run cs hearing cm om last n less = at-expiry
-    (expiries period turns e o k c first (tries - 1) turns (omega arith) x far n (omega (arith, less)))
+    (expiries period turns e o k c tries l.set l.connected l.count l.runs l.now n less)
   where
     turns : ℕ
     turns = length ts
@@ -616,29 +510,10 @@ parted-each laws reads tries period delay link ts before t mid kt run cs hearing
     l : LastTry tries period turns (w.state turns).answ
     l = subst (λ (y : Accounts). LastTry tries period turns y.answ) (sym w.last) last
 
-    some-tries : 1 ≤ tries
-    some-tries = kt.some_tries
-
-    first : First turns e
-    first = first-connected period turns e o k c turns (omega arith) l.connected
-
-    low : first.from ≤ turns
-    low = first.none_before turns (omega arith) l.connected
-
-    ce : StayConnected e first.from turns
-    ce u a b = connected-back period turns e o k u turns b (omega arith)
-        (linked-on period turns e o k first.from u a b (linked-connected (w.state first.from).answ.phase first.connected)) l.connected
-
-    x : Expired (tries - 1) turns e
-    x = last-expired period turns e o k first.from first.connected first.count turns low (omega arith) l.connected (tries - 1)
-        (let q = l.count in omega (arith, q, some-tries))
-
-    exact : x.at + period ≡ turns
-    exact = let there : Some x.at ≡ Some l.set = sym x.timer ∙ l.runs in let same : x.at ≡ l.set = cc in let q = l.now in omega
-        (arith, same, q)
-
-    far : x.at + period ≤ turns
-    far = omega (arith, exact)
+    -- from a turn on in which the end is Connected it stays so
+    on-from : (s : ℕ) → is_connected (e.account s).phase ≡ true → StayConnected e s turns
+    on-from s h u lo hi = connected-back period turns e o k u turns hi (omega arith)
+        (linked-on period turns e o k s u lo hi (linked-connected (e.account s).phase h)) l.connected
 
     -- the originator releases as the last turn begins
     releasing : before.orig.phase ≡ Releasing
@@ -664,9 +539,6 @@ parted-each laws reads tries period delay link ts before t mid kt run cs hearing
 
     v : ToldIn link w.deed o turns
     v = told-at reads tries period delay link ts w.state w.deed kt run.may_play w.trace turns (omega arith) releasing-last
-
-    parts : Parts turns e v.turn
-    parts = parts-of tries period delay link ts w.state w.deed kt w.trace v.turn v.before v.told
 
     -- its clock runs once it heard a number, so its peer is Connected or was
     counted : (b : Bool) (y : Accounts) (us : List Turn) → Known z link (length us) y Answerer → is_connected y.answ.phase ≡ true → (s : ℕ)
@@ -705,7 +577,7 @@ parted-each laws reads tries period delay link ts before t mid kt run cs hearing
     disc-lost s q within cs' soon = arrives-at (cases_lt (i.set + o.delay) turns)
       where
         ce-late : (u : ℕ) → s < u → u ≤ turns → is_connected (e.account u).phase ≡ true
-        ce-late u lo hi = ce u (let f = first.none_before s (omega (arith, lo, hi)) cs' in omega (arith, f, lo)) hi
+        ce-late u lo hi = on-from s cs' u (omega (arith, lo)) hi
 
         y : ℕ
         y = s + period - o.delay
@@ -758,15 +630,9 @@ parted-each laws reads tries period delay link ts before t mid kt run cs hearing
                     (setup-role tries period delay link ts before kt run.run run.carried Answerer) last.connected
                     (hearing Answerer).hears cm i.set same i.sends
 
-    at-expiry : (s : ℕ) × (s + n * period ≡ x.at) × Uncleared period e s → PeriodLoses period turns (t ∷ ts) n
-    at-expiry (s, q, un) = by (cases_lt (s + period) (v.turn + o.delay))
+    at-expiry : (s : ℕ) × (s + (n + 1) * period ≡ turns) × Uncleared period e s → PeriodLoses period turns (t ∷ ts) n
+    at-expiry (s, q', un) = by (cases_lt (s + period) (v.turn + o.delay))
       where
-        q' : s + (n + 1) * period ≡ turns
-        q' = let m = once n in omega (arith, q, exact, m)
-          where
-            once : (y : ℕ) → (y + 1) * period ≡ y * period + period
-            once y = omega arith
-
         within : s + period ≤ turns
         within = let m = once n in omega (arith, q', m)
           where
@@ -797,11 +663,24 @@ parted-each laws reads tries period delay link ts before t mid kt run cs hearing
                     → (is_lost (w.deed lost.turn).turn.orig.heard ≡ true) ⊎ (is_lost (w.deed lost.turn).turn.answ.heard ≡ true)
                 swap (inl y) = inr y
                 swap (inr y) = inl y
-            on (inr none) =
-                let r = parted-cleared period turns e o k c s v.turn within before-end parts un.made
-                (λ u lo hi. ce u (let f = first.none_before s (omega (arith, within, long)) un.connected in omega (arith, f, lo)) hi)
-                co late none in
-                absurd (un.uncleared r.0 r.1 r.2 r.3)
+            on (inr none) = absurd (elim (cases_lt v.turn (s + period)) [
+              | inl b ↦ parted-stops period turns e o k c s v.turn within b late un co
+                  (await-hears (e.heard v.turn) v.turn (e.account v.turn) (e.mid v.turn) at-v (h.hearing Answerer).hears)
+                  (whole-stops tries period delay link ts w.state w.deed kt w.trace v.turn before-end v.told)
+                  (count-hears z (e.heard v.turn) (length (past ts v.turn)) (e.account v.turn) (e.mid v.turn) at-v
+                  (linked-sends z (length (past ts v.turn)) (length (past ts v.turn)) Answerer (e.account v.turn).phase (e.account v.turn)
+                  (known tries period delay link (past ts v.turn) (w.state v.turn) kt h.run h.carried Answerer).stands at-v)
+                  (ap (λ x. hear x (e.heard v.turn) (e.account v.turn)) h.number ∙ (h.hearing Answerer).hears)) none
+              | inr g ↦ (let r = period-cleared period turns e o k c s within un.made un.on
+                  (λ u lo hi. co u lo (omega (arith, hi, g))) none in
+                  un.uncleared r.0 r.1 r.2 r.3)
+            ])
+              where
+                h : Happens period delay link (past ts v.turn) v.turn (w.state v.turn) (w.deed v.turn) (w.state (v.turn + 1))
+                h = w.trace.happens v.turn before-end
+
+                at-v : is_connected (e.account v.turn).phase ≡ true
+                at-v = on-from s un.connected v.turn (omega (arith, late, p)) (omega (arith, before-end))
 
 -- over all turns, the last one too
 pub later-loses : (period : ℕ) (t : Turn) (ts : List Turn) (n : ℕ) → PeriodLoses period (length ts) ts n

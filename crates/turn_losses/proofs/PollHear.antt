@@ -1,33 +1,21 @@
-use Rattle.std.proofs.Common.{◌⊎◌, inl, inr, ◌≡◌, ℕ, ◌&&◌, ◌||◌, not, Bool, true, false, cond, nat_lt, refl, sym, ◌∙◌, ap, subst, Option}
+use Rattle.std.proofs.Common.{◌⊎◌, inl, inr, ◌≡◌, ℕ, ◌||◌, Bool, true, false, refl, sym, ◌∙◌, ap, Option}
 use Rattle.std.proofs.Common.{Some, None, Result, Ok, Err}
 use Rattle.shared_terms.specs.declared.role.Role.{Role}
 use Rattle.shared_terms.specs.declared.role.Role.TheVariants.{Originator, Answerer}
-use Rattle.lapm_frames.specs.declared.frame.Frame.{Frame}
-use Rattle.lapm_frames.specs.declared.frame.Frame.TheVariants.{I, Rr, Rnr, Rej, Srej, Sabme, Disc, Ua, Dm, Frmr, Ui, Xid, Test}
-use Rattle.xid_params.specs.declared.offer.Offer.{Offer}
-use Rattle.xid_params.specs.Offers.{offer_in}
-use Rattle.lapm_sender.specs.Outgoing.{Outgoing, is_outstanding, acknowledged, selected}
-use Rattle.break_signals.specs.declared.word.BreakWord.{BreakWord}
-use Rattle.break_signals.specs.declared.word.BreakWord.TheVariants.{Brk, Ack}
-use Rattle.break_signals.specs.declared.fault.BreakFault.{BreakFault}
-use Rattle.break_signals.specs.Words.{word_in}
-use Rattle.lapm_frames.specs.declared.seen.Seen.{Seen}
-use Rattle.lapm_frames.specs.declared.seen.Seen.TheVariants.{Odp, Adp}
 use Rattle.lapm_frames.specs.declared.arrived.Arrived.{Arrived}
-use Rattle.lapm_frames.specs.declared.arrived.Arrived.TheVariants as arrivals
 use Rattle.link_account.specs.declared.phase.Phase.{Phase}
 use Rattle.link_account.specs.declared.phase.Phase.TheVariants.{Detecting, Negotiating, Establishing, Connected, Releasing, Closed}
 use Rattle.shared_terms.specs.declared.fault.LinkFault.{LinkFault}
 use Rattle.link_account.specs.Account.{Account, is_connected}
 use Rattle.shared_terms.specs.Role.{is_originator}
-use Rattle.link_account.specs.declared.answer.Answer.TheVariants as answers
-use Rattle.link_account.specs.Hear.{hear, on_frame, on_seen, on_nothing, on_pattern, on_detecting, on_negotiating, on_establishing}
-use Rattle.link_account.specs.Hear.{on_releasing, on_closed, on_connected, on_number, timer_after, then_in, replying, taking, hurrying}
-use Rattle.link_account.specs.Hear.{pausing, ends_wait, without_adp, on_disc, on_word, peer_reset, owing, on_xid_command, on_xid_response}
+use Rattle.link_account.specs.Hear.{hear, on_nothing}
+use Rattle.link_account.specs.Hear.{without_adp}
 use Rattle.link_account.specs.Hear.{first_wait}
 use Rattle.turn_losses.specs.Polls.{is_poll}
 use Rattle.turn_bound.proofs.MeetHear.{of_arrived}
 use Rattle.turn_losses.proofs.Polling.{SetFrom, is_linked}
+use Rattle.link_account.proofs.HearWays.{ConnectedWays, EarlyWays, by-ways}
+use Rattle.turn_losses.proofs.HeardNumber.{number-rows, plain-frame}
 
 -- what hearing makes of an end's polls and replies
 pub record PollHeard (role : Role) (turn : ℕ) (polled : Bool) (a b : Account) : Type 0 where
@@ -134,84 +122,6 @@ begun-heard role turn polled a b e f r n t w v = record {
 pub set-same : (turn : ℕ) (m : Option ℕ) → SetFrom turn m m
 set-same turn m s k = inr k
 
-set-after : (turn : ℕ) (old new : Outgoing) (timer : Option ℕ) → SetFrom turn timer (timer_after turn old new timer)
-set-after turn old new timer =
-    go (((old.awaited && not new.awaited) || (old.paused && not new.paused)) && not (is_outstanding new || (new.awaited || new.paused)))
-    (nat_lt old.front new.front) (is_outstanding new || (new.awaited || new.paused))
-  where
-    go : (x y w : Bool) → SetFrom turn timer (cond x None (cond y (cond w (Some turn) None) timer))
-    go true y w s k = cc
-    go false true true s k = let same : turn ≡ s = cc in inl (sym same)
-    go false true false s k = cc
-    go false false w s k = inr k
-
--- a number is heard
-number-heard : (role : Role) (turn nr : ℕ) (polled : Bool) (a : Account) (f : Account → Account) (m : Option Outgoing) → a.phase ≡ Connected
-    → ((b : Account) → ((f b).phase ≡ b.phase) × ((f b).wait.poll ≡ b.wait.poll) × SetFrom turn b.wait.timer (f b).wait.timer
-    × ((f b).owes.reply ≡ b.owes.reply || polled) × ((f b).numbered ≡ b.numbered) × ((f b).owes.answer ≡ b.owes.answer))
-    → PollHears role turn polled a (then_in f (on_number turn nr m a))
-number-heard role turn nr polled a f None e same = tt
-number-heard role turn nr polled a f (Some o) e same =
-    let b : Account = record
-    a { numbered = true; outgoing = o; wait = record a.wait { timer = timer_after turn a.outgoing o a.wait.timer } } in
-    let k = same b in
-    connected-heard role turn polled a (f b) e (k.0 ∙ e) k.1
-    (λ s h. both (k.2 s h) s) k.3 (λ h. k.4) (λ h. k.5)
-  where
-    both : {s : ℕ} → (s ≡ turn) ⊎ (timer_after turn a.outgoing o a.wait.timer ≡ Some s) → (r : ℕ) → (s ≡ turn) ⊎ (a.wait.timer ≡ Some s)
-    both (inl q) r = inl q
-    both {s} (inr q) r = set-after turn a.outgoing o a.wait.timer s q
-
-connected-hears : (role : Role) (frame : Frame) (turn : ℕ) (a : Account) → a.phase ≡ Connected → a.setup.role ≡ role
-    → PollHears role turn (is_poll frame) a (on_connected frame turn a)
-connected-hears role (I ns nr pf info) turn a e er =
-    number-heard role turn nr pf a (λ b. replying pf (taking ns info b)) (acknowledged nr a.outgoing) e
-    (λ b. (refl, refl, set-same turn b.wait.timer, refl, refl, refl))
-connected-hears role (Rr command nr pf) turn a e er =
-    number-heard role turn nr (command && pf) a (λ b. hurrying (ends_wait command pf a) (replying (command && pf) b)) _ e
-    (λ b. (refl, refl, set-same turn b.wait.timer, refl, refl, refl))
-connected-hears role (Rnr command nr pf) turn a e er =
-    number-heard role turn nr (command && pf) a (λ b. pausing turn (replying (command && pf) b)) _ e
-    (λ b. (refl, refl, (λ s k. let same : turn ≡ s = cc in inl (sym same)), refl, refl, refl))
-connected-hears role (Rej command nr pf) turn a e er =
-    number-heard role turn nr (command && pf) a (λ b. hurrying (ends_wait command pf a) (replying (command && pf) b)) _ e
-    (λ b. (refl, refl, set-same turn b.wait.timer, refl, refl, refl))
-connected-hears role (Srej command nr pf) turn a e er = go (selected nr a.outgoing)
-  where
-    go : (m : Option Outgoing) → PollHears role turn false a (on_number turn nr m a)
-    go None = tt
-    go (Some o) = connected-heard role turn false a _ e e refl (set-after turn a.outgoing o a.wait.timer) (sym (or-false a.owes.reply))
-        (λ h. refl) (λ h. refl)
-connected-hears role (Sabme pf) turn a e er = go (a.numbered) (is_originator a.setup.role) refl
-  where
-    go : (n o : Bool) → a.numbered ≡ n → PollHears role turn false a (cond (n || o) (Err (peer_reset a)) (Ok (owing (answers.Ua pf) a)))
-    go true o q = tt
-    go false true q = tt
-    go false false q = connected-heard role turn false a _ e e refl (set-same turn a.wait.timer) (sym (or-false a.owes.reply)) (λ h. h)
-        (λ h. let wrong : true ≡ false = sym h ∙ q in cc)
-connected-hears role (Disc pf) turn a e er = go a.setup.role
-  where
-    go : (r : Role) → PollHears role turn false a (on_disc r pf a)
-    go Originator = tt
-    go Answerer = ended-heard role turn false a _ refl refl refl refl
-connected-hears role (Ua pf) turn a e er =
-    connected-heard role turn false a a e e refl (set-same turn a.wait.timer) (sym (or-false a.owes.reply)) (λ h. h) (λ h. refl)
-connected-hears role (Dm pf) turn a e er = tt
-connected-hears role (Frmr pf info) turn a e er = tt
-connected-hears role (Ui command pf info) turn a e er = go (word_in info)
-  where
-    go : (w : Result BreakWord BreakFault) → PollHears role turn false a (Ok (on_word turn w a))
-    go (Ok (Brk number length_octet)) =
-        connected-heard role turn false a _ e e refl (set-same turn a.wait.timer) (sym (or-false a.owes.reply)) (λ h. h) (λ h. refl)
-    go (Ok (Ack number length_octet)) =
-        connected-heard role turn false a _ e e refl (set-same turn a.wait.timer) (sym (or-false a.owes.reply)) (λ h. h) (λ h. refl)
-    go (Err fault) = connected-heard role turn false a a e e refl (set-same turn a.wait.timer) (sym (or-false a.owes.reply)) (λ h. h)
-        (λ h. refl)
-connected-hears role (Xid command pf info) turn a e er =
-    connected-heard role turn false a a e e refl (set-same turn a.wait.timer) (sym (or-false a.owes.reply)) (λ h. h) (λ h. refl)
-connected-hears role (Test command pf info) turn a e er =
-    connected-heard role turn false a a e e refl (set-same turn a.wait.timer) (sym (or-false a.owes.reply)) (λ h. h) (λ h. refl)
-
 -- an end that stays where it was, other than Connected
 stays-heard : (role : Role) (turn : ℕ) (polled : Bool) (p : Phase) (a b : Account) → a.phase ≡ p → b.phase ≡ p → is_connected p ≡ false
     → b.wait ≡ a.wait → b.numbered ≡ a.numbered → PollHeard role turn polled a b
@@ -231,88 +141,57 @@ connected-begins role turn polled a b Originator q e f r n w v =
 connected-begins role turn polled a b Answerer q e f r n w v =
     begun-heard role turn polled a b e f r n (λ s k. inr (ap (λ x. x.timer) (sym w) ∙ k)) (λ h. (ap (λ x. x.poll) w, ap (λ x. x.timer) w)) v
 
-frame-hears : (role : Role) (p : Phase) (frame : Frame) (turn : ℕ) (a : Account) → a.phase ≡ p → a.setup.role ≡ role
-    → PollHears role turn (is_poll frame) a (on_frame p frame turn a)
-frame-hears role Detecting frame turn a e er =
-    subst (λ r. PollHears role turn (is_poll frame) a (on_detecting r frame turn a)) (sym er) (go role refl frame)
+linked-ways : (role : Role) (turn : ℕ) (a : Account) → a.phase ≡ Connected
+    → ConnectedWays (λ x b. PollHeard role turn (of_arrived is_poll x) a b) turn a
+linked-ways role turn a e = record {
+  pattern = λ seen. same a e refl false refl refl refl (λ h. refl);
+  plain = λ frame p. same a e refl (is_poll frame) (plain-frame frame p).poll refl refl (λ h. refl);
+  numbers = number-rows turn a _ (λ frame new incoming timer reply urgent n.
+      connected-heard role turn (is_poll frame) a _ e e refl n.set n.replies (λ h. refl) (λ h. refl));
+  sabme = λ pf n r. same _ e refl false refl refl refl (λ h. let wrong : true ≡ false = sym h ∙ n in cc);
+  disc = λ pf r. ended-heard role turn false a _ refl refl refl refl;
+  brk = λ command pf info number length_octet q. same _ e refl false refl refl refl (λ h. refl);
+  brkack = λ command pf info number length_octet q. same _ e refl false refl refl refl (λ h. refl);
+}
   where
-    commanded : (m : Option Offer) → PollHears role turn false a (Ok (on_xid_command m a))
-    commanded None = stays-heard role turn false Detecting a a e e refl refl refl
-    commanded (Some offer) = unlinked-heard role turn false a _ (ap is_linked e) refl refl refl
+    same : (b : Account) → b.phase ≡ Connected → b.wait ≡ a.wait → (polled : Bool) → polled ≡ false → b.owes.reply ≡ a.owes.reply
+        → b.numbered ≡ a.numbered → (b.numbered ≡ true → b.owes.answer ≡ a.owes.answer) → PollHeard role turn polled a b
+    same b f w polled q r n t = connected-heard role turn polled a b e f (ap (λ x. x.poll) w)
+        (λ s k. inr (ap (λ x. x.timer) (sym w) ∙ k))
+        (r ∙ (sym (or-false a.owes.reply) ∙ ap (λ x. a.owes.reply || x) (sym q))) (λ h. n ∙ h) t
 
-    go : (r : Role) → role ≡ r → (f : Frame) → PollHears role turn (is_poll f) a (on_detecting r f turn a)
-    go Answerer q (Xid true pf info) = commanded (offer_in info)
-    go Answerer q (Sabme pf) =
-        connected-begins role turn false a _ a.setup.role (sym er) (ap is_linked e) refl refl refl refl
-        (λ h. let wrong : Answerer ≡ Originator = sym q ∙ h in cc)
-    go r q f = stays-heard role turn (is_poll f) Detecting a a e e refl refl refl
-frame-hears role Negotiating frame turn a e er =
-    subst (λ r. PollHears role turn (is_poll frame) a (on_negotiating r frame turn a)) (sym er) (go role refl frame)
+early-ways : (role : Role) (turn : ℕ) (a : Account) → a.setup.role ≡ role → is_connected a.phase ≡ false
+    → EarlyWays (λ x b. PollHeard role turn (of_arrived is_poll x) a b) turn a
+early-ways role turn a er c = record {
+  ignores = λ x f. stays-heard role turn (of_arrived is_poll x) a.phase a a refl refl c refl refl;
+  detects = λ p r. unlinked-heard role turn false a _ (ap is_linked p) refl refl refl;
+  detected = λ p r. stays-heard role turn false a.phase a _ refl refl c refl refl;
+  xid = λ p r pf info offer f. unlinked-heard role turn false a _ (elim p [ inl q ↦ ap is_linked q | inr q ↦ ap is_linked q ]) refl refl refl;
+  agrees = λ p r pf info offer f. unlinked-heard role turn false a _ (ap is_linked p) refl refl refl;
+  sabme_first = λ p r pf. connected-begins role turn false a _ a.setup.role (sym er) (ap is_linked p) refl refl refl refl (answers r);
+  sabme = λ p r pf. connected-begins role turn false a _ a.setup.role (sym er) (ap is_linked p) refl refl refl refl (answers r);
+  ua = λ p. connected-begins role turn false a _ a.setup.role (sym er) (ap is_linked p) refl refl refl refl (λ h. ap is_originator (er ∙ h));
+  disc = λ p pf. stays-heard role turn false a.phase a _ refl refl c refl refl;
+  closes = λ p frame f. ended-heard role turn (is_poll frame) a _ refl refl refl refl;
+}
   where
-    commanded : (m : Option Offer) → PollHears role turn false a (Ok (on_xid_command m a))
-    commanded None = stays-heard role turn false Negotiating a a e e refl refl refl
-    commanded (Some offer) = unlinked-heard role turn false a _ (ap is_linked e) refl refl refl
-
-    answered : (m : Option Offer) → PollHears role turn false a (Ok (on_xid_response m turn a))
-    answered None = stays-heard role turn false Negotiating a a e e refl refl refl
-    answered (Some offer) = unlinked-heard role turn false a _ (ap is_linked e) refl refl refl
-
-    go : (r : Role) → role ≡ r → (f : Frame) → PollHears role turn (is_poll f) a (on_negotiating r f turn a)
-    go Originator q (Xid false pf info) = answered (offer_in info)
-    go Originator q (Dm pf) = tt
-    go Answerer q (Xid true pf info) = commanded (offer_in info)
-    go Answerer q (Sabme pf) =
-        connected-begins role turn false a _ a.setup.role (sym er) (ap is_linked e) refl refl refl refl
-        (λ h. let wrong : Answerer ≡ Originator = sym q ∙ h in cc)
-    go Answerer q (Disc pf) = unlinked-heard role turn false a _ (ap is_linked e) (ap is_connected e) refl refl
-    go r q f = stays-heard role turn (is_poll f) Negotiating a a e e refl refl refl
-frame-hears role Establishing frame turn a e er = go frame
-  where
-    go : (f : Frame) → PollHears role turn (is_poll f) a (on_establishing f turn a)
-    go (Ua true) = connected-begins role turn false a _ a.setup.role (sym er) (ap is_linked e) refl refl refl refl
-        (λ h. ap is_originator (er ∙ h))
-    go (Dm true) = tt
-    go f = stays-heard role turn (is_poll f) Establishing a a e e refl refl refl
-frame-hears role Connected frame turn a e er = connected-hears role frame turn a e er
-frame-hears role Releasing frame turn a e er = go frame
-  where
-    go : (f : Frame) → PollHears role turn (is_poll f) a (on_releasing f a)
-    go (Ua true) = ended-heard role turn false a _ refl refl refl refl
-    go (Dm true) = ended-heard role turn false a _ refl refl refl refl
-    go f = stays-heard role turn (is_poll f) Releasing a a e e refl refl refl
-frame-hears role Closed frame turn a e er = go frame
-  where
-    go : (f : Frame) → PollHears role turn (is_poll f) a (on_closed f a)
-    go (Disc pf) = stays-heard role turn false Closed a _ e e refl refl refl
-    go f = stays-heard role turn (is_poll f) Closed a a e e refl refl refl
+    answers : {A : Type 0} → a.setup.role ≡ Answerer → role ≡ Originator → A
+    answers r h = let wrong : Answerer ≡ Originator = sym r ∙ (er ∙ h) in cc
 
 -- every end hears so
 pub poll-hears : (role : Role) (arrived : Arrived) (turn : ℕ) (a : Account) → a.setup.role ≡ role → a.owes.answer ≡ None
     → PollHears role turn (of_arrived is_poll arrived) a (hear turn arrived a)
-poll-hears role arrivals.Nothing turn a er none = go a.phase refl
+poll-hears role arrived turn a er none = go (hear turn arrived a) refl
   where
-    go : (p : Phase) → a.phase ≡ p → PollHeard role turn false a (on_nothing a)
-    go Connected e = connected-heard role turn false a (on_nothing a) e e refl (set-same turn a.wait.timer) (sym (or-false a.owes.reply))
+    nothing : (p : Phase) → a.phase ≡ p → PollHeard role turn false a (on_nothing a)
+    nothing Connected e = connected-heard role turn false a (on_nothing a) e e refl (set-same turn a.wait.timer) (sym (or-false a.owes.reply))
         (λ h. h) (λ h. ap without_adp none ∙ sym none)
-    go Detecting e = stays-heard role turn false Detecting a _ e e refl refl refl
-    go Negotiating e = stays-heard role turn false Negotiating a _ e e refl refl refl
-    go Establishing e = stays-heard role turn false Establishing a _ e e refl refl refl
-    go Releasing e = stays-heard role turn false Releasing a _ e e refl refl refl
-    go Closed e = stays-heard role turn false Closed a _ e e refl refl refl
-poll-hears role (arrivals.Pattern seen) turn a er none = go a.phase refl
-  where
-    go : (p : Phase) → a.phase ≡ p → PollHears role turn false a (Ok (on_seen p seen turn a))
-    go Detecting e = on a.setup.role seen
-      where
-        on : (r : Role) (s : Seen) → PollHeard role turn false a (on_pattern r s turn a)
-        on Originator Adp = unlinked-heard role turn false a _ (ap is_linked e) refl refl refl
-        on Originator Odp = stays-heard role turn false Detecting a a e e refl refl refl
-        on Answerer Odp = stays-heard role turn false Detecting a _ e e refl refl refl
-        on Answerer Adp = stays-heard role turn false Detecting a a e e refl refl refl
-    go Negotiating e = stays-heard role turn false Negotiating a a e e refl refl refl
-    go Establishing e = stays-heard role turn false Establishing a a e e refl refl refl
-    go Connected e = connected-heard role turn false a a e e refl (set-same turn a.wait.timer) (sym (or-false a.owes.reply)) (λ h. h)
-        (λ h. refl)
-    go Releasing e = stays-heard role turn false Releasing a a e e refl refl refl
-    go Closed e = stays-heard role turn false Closed a a e e refl refl refl
-poll-hears role (arrivals.Frame frame) turn a er none = frame-hears role a.phase frame turn a refl er
+    nothing p e = stays-heard role turn false p a (on_nothing a) e e refl refl refl
+
+    go : (r : Result Account LinkFault) → hear turn arrived a ≡ r → PollHears role turn (of_arrived is_poll arrived) a r
+    go (Err fault) q = tt
+    go (Ok b) q = by-ways (λ x b. PollHeard role turn (of_arrived is_poll x) a b) turn a (record {
+      nothing = nothing a.phase refl;
+      linked = linked-ways role turn a;
+      early = early-ways role turn a er;
+    }) arrived b q

@@ -148,7 +148,7 @@ originator-wants-frame reads tries period delay link ts before t mid segment sin
     each n less =
         let wait : (w.state turns).orig.wait ≡ mid.orig.wait = ap (λ (x : Account). x.wait) account-is ∙ sym still.1 in
         let set = ap (λ v. v.try_set) wait in
-        let x = unanswered period turns p e long tries-on none tries turns (omega arith)
+        let x = unanswered period turns p e tries-on none tries turns (omega arith)
         (ap (λ (y : Account). y.phase) account-is ∙ still.0) (ap (λ v. v.try_count) wait ∙ count) (omega (arith, set, due)) n
         (omega (arith, less)) in
         let one = times n in

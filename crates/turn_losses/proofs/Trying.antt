@@ -1,5 +1,5 @@
 -- The tries of an originator by the turn: when each went, and what is lost where none is answered.
-use Rattle.std.proofs.Common.{◌⊎◌, inl, inr, ◌≡◌, ℕ, zero, suc, ◌+◌, ◌-◌, ◌*◌, ◌<◌, ◌≤◌, not, Bool, true, false, List, length, arith, refl}
+use Rattle.std.proofs.Common.{◌⊎◌, inl, inr, ◌≡◌, ℕ, ◌+◌, ◌-◌, ◌*◌, ◌<◌, ◌≤◌, not, Bool, true, false, List, length, arith, refl}
 use Rattle.std.proofs.Common.{sym, ◌∙◌, ap, subst, Some, Ok}
 use Rattle.std.specs.Prelude.{is_some}
 use Rattle.std.proofs.lemmas.Bool.{cases_lt}
@@ -38,6 +38,8 @@ use Rattle.turn_losses.proofs.Moving.{releasing-stays}
 use Rattle.turn_losses.proofs.TryAnswering.{can_answer, AnswerDue, answer-due, says-due}
 use Rattle.turn_losses.proofs.Setups.{start-setup, heard-setup, served-setup, Met, met}
 use Rattle.turn_losses.proofs.Phasing.{is_established, begun-established}
+use Rattle.turn_losses.proofs.Clocks.{Ticked, Unanswered, last, chain}
+use Rattle.turn_losses.proofs.Clocks.Ticked.{Begins, Expires, Stays}
 
 -- A turn after which an end tries: the try begins in it, or goes on unanswered, and goes again or not.
 abbrev pub GoesUnanswered : Phase → Arrived → Account → Type 0
@@ -108,101 +110,73 @@ try-turn user period turn p arrived a mid released release said r r' per long of
     go (inl (f, inr x)) = stands (heard (sym s.phase ∙ f)) x
     go (inr (f, q, set, count, sends)) = inl ((λ x. releasing-stays arrived turn a mid (x ∙ q) hears (sym s.phase ∙ f)), set, count, sends)
 
--- A try between turns: when it last went, and the one before.
-pub record Tried (period : ℕ) (p : Phase) (e : EndRun) (t : ℕ) : Type 0 where
-  pub set : ℕ
-  pub set_is : (e.account t).wait.try_set ≡ set
-  pub before : set < t
-  pub within : t ≤ set + period
-  pub sends : of_frame (asks p) (e.slot set) ≡ true
-  pub since : (u : ℕ) → set < u → u ≤ t → (e.account u).phase ≡ p
-  pub earlier : (n : ℕ) → (e.account t).wait.try_count ≡ n + 1 → ((e.account set).phase ≡ p) × ((e.account set).wait.try_count ≡ n)
-      × ((e.account set).wait.try_set + period ≡ set)
-
 abbrev pub TriesSo : (period turns : ℕ) → Phase → EndRun → Type 0
 TriesSo period turns p e = (t : ℕ) → t < turns → (e.account (t + 1)).phase ≡ p
     → TryTurn period t p (e.heard t) (e.slot t) (e.account t) (e.account (t + 1))
 
-pub tried : (period turns : ℕ) (p : Phase) (e : EndRun) → 1 ≤ period → TriesSo period turns p e → ((e.account 0).phase ≡ p → ⊥) → (t : ℕ)
-    → t ≤ turns → (e.account t).phase ≡ p → Tried period p e t
-tried period turns p e long h none zero l f = absurd (none f)
-tried period turns p e long h none (suc t) l f = subst (Tried period p e) (next t)
-    (go (h t (omega (arith, l)) now) (λ g. tried period turns p e long h none t (omega (arith, l)) g))
+-- The tries of a phase as a clock.
+abbrev IsTrying : Phase → EndRun → ℕ → Type 0
+IsTrying p e u = (e.account u).phase ≡ p
+
+abbrev Unmoved : ℕ → Phase → EndRun → ℕ → Type 0
+Unmoved period p e v = (of_arrived (moves_on p) (e.heard v) ≡ false) × (v ≡ (e.account v).wait.try_set + period → ⊥)
+
+abbrev Asks : Phase → EndRun → ℕ → Type 0
+Asks p e s = of_frame (asks p) (e.slot s) ≡ true
+
+abbrev IsSet : EndRun → ℕ → ℕ → Type 0
+IsSet e u s = (e.account u).wait.try_set ≡ s
+
+abbrev count_of : EndRun → ℕ → ℕ
+count_of e u = (e.account u).wait.try_count
+
+ticks : (period turns : ℕ) (p : Phase) (e : EndRun) → TriesSo period turns p e → (t : ℕ) → t < turns → IsTrying p e (t + 1)
+    → Ticked period t (IsTrying p e) (Unmoved period p e) (Asks p e) (IsSet e) (count_of e)
+ticks period turns p e h t l f = go (h t l f)
   where
-    next : (x : ℕ) → x + 1 ≡ suc x
-    next x = omega arith
-
-    now : (e.account (t + 1)).phase ≡ p
-    now = ap (λ x. (e.account x).phase) (next t) ∙ f
-
-    at : (u : ℕ) → t < u → u ≤ t + 1 → (e.account u).phase ≡ p
-    at u x y = ap (λ v. (e.account v).phase) (omega (arith, x, y)) ∙ now
-
-    go : TryTurn period t p (e.heard t) (e.slot t) (e.account t) (e.account (t + 1)) → ((e.account t).phase ≡ p → Tried period p e t)
-        → Tried period p e (t + 1)
-    go (inl (first, set, count, sends)) again = record {
-      set = t;
-      set_is = set;
-      before = omega arith;
-      within = omega (arith, long);
-      sends = sends;
-      since = at;
-      earlier = λ n q. absurd (omega (arith, q, count));
-    }
-    go (inr (inl ((g, unheard), due, set, count, sends))) again = record {
-      set = t;
-      set_is = set;
-      before = omega arith;
-      within = omega (arith, long);
-      sends = sends;
-      since = at;
-      earlier = λ n q. (g, omega (arith, q, count), omega (arith, due));
-    }
-    go (inr (inr ((g, unheard), due, set, count))) again =
-        let i = again g in let b = i.before in let w = i.within in let s = i.set_is in
-        record {
-          set = i.set;
-          set_is = set ∙ s;
-          before = omega (arith, b);
-          within = strictly i.set (λ q. due (omega (arith, q, s))) w;
-          sends = i.sends;
-          since = λ u x y. elim (cases_lt t u) [ inl z ↦ at u z y | inr z ↦ i.since u x z ];
-          earlier = λ n q. i.earlier n (sym count ∙ q);
-        }
-      where
-        strictly : (s : ℕ) → (t ≡ s + period → ⊥) → t ≤ s + period → t + 1 ≤ s + period
-        strictly s n w = elim (cases_lt t (s + period)) [ inl x ↦ omega (arith, x) | inr x ↦ absurd (n (omega (arith, x, w))) ]
+    go : TryTurn period t p (e.heard t) (e.slot t) (e.account t) (e.account (t + 1))
+        → Ticked period t (IsTrying p e) (Unmoved period p e) (Asks p e) (IsSet e) (count_of e)
+    go (inl (first, set, count, sends)) = Begins set count sends
+    go (inr (inl ((g, unheard), due, set, count, sends))) =
+        Expires (e.account t).wait.try_set g refl (sym due) set (λ n q. omega (arith, q, count)) sends
+    go (inr (inr ((g, unheard), due, set, count))) = Stays g (λ s q. set ∙ q) (λ n q. sym count ∙ q) (unheard, due)
 
 -- A frame that is tried, and isn't answered for a whole period.
-pub record Unanswered (period : ℕ) (p : Phase) (e : EndRun) (s : ℕ) : Type 0 where
-  pub sends : of_frame (asks p) (e.slot s) ≡ true
-  pub stays : (u : ℕ) → s < u → u ≤ s + period → (e.account u).phase ≡ p
+abbrev pub TryUnanswered : ℕ → Phase → EndRun → ℕ → ℕ → Type 0
+TryUnanswered period p e t s = Unanswered period (IsTrying p e) (Unmoved period p e) (Asks p e) (IsSet e) t s
 
-pub times-suc : (j p : ℕ) → (suc j + 1) * p ≡ (j + 1) * p + p
-times-suc j p = grind (arith)
-
-pub one-time : (p : ℕ) → (0 + 1) * p ≡ p
-one-time p = omega arith
-
--- so each of them went a period before the next one, or before the turn in which the last one's timer expires
-pub unanswered : (period turns : ℕ) (p : Phase) (e : EndRun) → 1 ≤ period → TriesSo period turns p e → ((e.account 0).phase ≡ p → ⊥)
+-- each of them went a period before the next one, or before the turn in which the last one's timer expires
+pub unanswered : (period turns : ℕ) (p : Phase) (e : EndRun) → TriesSo period turns p e → ((e.account 0).phase ≡ p → ⊥)
     → (n t : ℕ) → t ≤ turns → (e.account t).phase ≡ p → (e.account t).wait.try_count ≡ n
-    → (e.account t).wait.try_set + period ≡ t → (j : ℕ) → j ≤ n → (s : ℕ) × (s + (j + 1) * period ≡ t) × Unanswered period p e s
-unanswered period turns p e long h none n t l f c due zero less =
-    let i = tried period turns p e long h none t l f in
-    let q = i.set_is in
-    let one = one-time period in
-    (i.set, omega (arith, q, due, one), record { sends = i.sends; stays = λ u x y. i.since u x (omega (arith, y, q, due)) })
-unanswered period turns p e long h none zero t l f c due (suc j) less = absurd (omega (arith, less))
-unanswered period turns p e long h none (suc n) t l f c due (suc j) less =
-    let i = tried period turns p e long h none t l f in
-    let q = i.set_is in
-    let b = i.before in
-    let x = i.earlier n (omega (arith, c)) in
-    let r = unanswered period turns p e long h none n i.set (omega (arith, b, l)) x.0 x.1 x.2 j (omega (arith, less)) in
-    let m = times-suc j period in
-    let d = r.1 in
-    (r.0, omega (arith, d, m, q, due), r.2)
+    → (e.account t).wait.try_set + period ≡ t → (j : ℕ) → j ≤ n → (s : ℕ) × (s + (j + 1) * period ≡ t) × TryUnanswered period p e t s
+unanswered period turns p e h none n t l f c due j less =
+    chain period turns (IsTrying p e) (Unmoved period p e) (Asks p e) (IsSet e) (count_of e) (λ u s r a b. sym a ∙ b) none
+    (ticks period turns p e h) n t (e.account t).wait.try_set l f c refl due j less
+
+-- A try between turns: when it last went.
+pub record Tried (period : ℕ) (p : Phase) (e : EndRun) (t : ℕ) : Type 0 where
+  pub set : ℕ
+  pub before : set < t
+  pub within : t ≤ set + period
+  pub sends : of_frame (asks p) (e.slot set) ≡ true
+  pub since : (u : ℕ) → set < u → u ≤ t → (e.account u).phase ≡ p
+
+pub tried : (period turns : ℕ) (p : Phase) (e : EndRun) → 1 ≤ period → TriesSo period turns p e → ((e.account 0).phase ≡ p → ⊥) → (t : ℕ)
+    → t ≤ turns → (e.account t).phase ≡ p → Tried period p e t
+tried period turns p e long h none t l f =
+    let i = last period turns (IsTrying p e) (Unmoved period p e) (Asks p e) (IsSet e) (count_of e) (λ u s r a b. sym a ∙ b) none
+    (ticks period turns p e h) t l f in
+    record {
+      set = i.at;
+      before = i.before;
+      within = elim (cases_lt (i.at + period) t) [
+        | inl x ↦ absurd ((i.stayed (i.at + period) (omega (arith, long)) x).1
+            (ap (λ n. n + period) (sym (i.set (i.at + period) (omega (arith, long)) (omega (arith, x))))))
+        | inr x ↦ x
+      ];
+      sends = i.asked;
+      since = i.ran;
+    }
 
 -- What both ends of a run are to each other while the originator tries.
 pub tries-so : ReadsWritten → (tries period : ℕ) (delay : Role → ℕ) (link : Link) (ts : List Turn) (state : ℕ → Accounts) (deed : ℕ → Deed)
@@ -265,7 +239,8 @@ not-so true f = absurd (f refl)
 not-so false f = refl
 
 -- The answerer answers in the turn in which it hears.
-pub answers-so : ReadsWritten → (tries period : ℕ) (delay : Role → ℕ) (link : Link) (ts : List Turn) (state : ℕ → Accounts) (deed : ℕ → Deed)
+pub answers-so : ReadsWritten → (tries period : ℕ) (delay : Role → ℕ) (link : Link) (ts : List Turn) (state : ℕ → Accounts)
+    (deed : ℕ → Deed)
     → KeepsTime tries period delay link → MayPlay link.orig.setup link.answ.setup → Trace period delay link ts state deed
     → (p : Phase) → is_trying p ≡ true → (u : ℕ) → u < length ts → (state u).orig.phase ≡ p
     → of_arrived (asks p) (arrival (deed u).turn.answ.heard) ≡ true → of_frame (moves_on p) (sent_or (deed u).turn.answ.sent) ≡ true
@@ -338,7 +313,8 @@ answers-so reads tries period delay link ts state deed kt m w p t u l f k =
 pub unanswered-loses : ReadsWritten → (tries period : ℕ) (delay : Role → ℕ) (link : Link) (ts : List Turn) (state : ℕ → Accounts)
     (deed : ℕ → Deed) → KeepsTime tries period delay link → MayPlay link.orig.setup link.answ.setup
     → Trace period delay link ts state deed
-    → (p : Phase) → is_trying p ≡ true → (s : ℕ) → s + period ≤ length ts → Unanswered period p (end_run delay state deed Originator) s
+    → (p : Phase) → is_trying p ≡ true → (s : ℕ) → s + period ≤ length ts → TryUnanswered period p (end_run delay state deed Originator)
+    (length ts) s
     → LostIn (end_run delay state deed Originator) (end_run delay state deed Answerer) (s + 1) (period - 1)
 unanswered-loses reads tries period delay link ts state deed kt m w p t s within x = go (lost-or-none e o (s + 1) (period - 1))
   where
@@ -360,26 +336,17 @@ unanswered-loses reads tries period delay link ts state deed kt m w p t s within
     d' : 1 ≤ o.delay
     d' = k.other_delay
 
-    unheard : (u : ℕ) → s < u → u + 1 ≤ s + period → of_arrived (moves_on p) (e.heard u) ≡ false
-    unheard u a b = by (tries-so reads tries period delay link ts state deed kt m w p t u (omega (arith, b, within))
-        (x.stays (u + 1) (omega (arith, a)) b))
-      where
-        by : TryTurn period u p (e.heard u) (e.slot u) (e.account u) (e.account (u + 1)) → of_arrived (moves_on p) (e.heard u) ≡ false
-        by (inl (first, _, _, _)) = absurd (first (x.stays u a (omega (arith, b))))
-        by (inr (inl ((_, n), _, _, _, _))) = n
-        by (inr (inr ((_, n), _, _, _))) = n
-
     go : LostIn e o (s + 1) (period - 1) ⊎ NoneLost e o (s + 1) (period - 1) → LostIn e o (s + 1) (period - 1)
     go (inl lost) = lost
     go (inr none) =
         let v : ℕ = s + e.delay in
         let y : ℕ = v + o.delay in
         let reaches : of_arrived (asks p) (o.heard v) ≡ true = is-heard e.delay (length ts) (asks p) e.slot o.heard o.loses k.is_heard s
-        (omega (arith, within, per)) (none v (omega (arith, d)) (omega (arith, per))).1 ∙ x.sends in
+        (omega (arith, within, per)) (none v (omega (arith, d)) (omega (arith, per))).1 ∙ x.asked in
         let answered : of_frame (moves_on p) (o.slot v) ≡ true = answers-so reads tries period delay link ts state deed kt m w p t v
-        (omega (arith, within, per)) (x.stays v (omega (arith, d)) (omega (arith, per))) reaches in
+        (omega (arith, within, per)) (x.ran v (omega (arith, d)) (omega (arith, per))) reaches in
         let hears : of_arrived (moves_on p) (e.heard y) ≡ true = is-heard o.delay (length ts)
         (moves_on p) o.slot e.heard e.loses k.hears v (omega (arith, within, per)) (none y (omega (arith, d)) (omega (arith, per))).0
         ∙ answered in
-        let wrong : true ≡ false = sym hears ∙ unheard y (omega (arith, d)) (omega (arith, per)) in
+        let wrong : true ≡ false = sym hears ∙ (x.stayed y (omega (arith, d)) (omega (arith, per))).0 in
         cc

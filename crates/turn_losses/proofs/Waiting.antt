@@ -1,6 +1,5 @@
 -- A break that waits by the turn: when its BRK became due, and what is lost before it becomes due again.
-use Rattle.std.proofs.Common.{◌⊎◌, inl, inr, ◌≡◌, ℕ, zero, suc, ◌+◌, ◌-◌, ◌*◌, ◌<◌, ◌≤◌, ◌&&◌, Bool, true, false, arith, refl, sym, ◌∙◌, ap}
-use Rattle.std.proofs.Common.{subst}
+use Rattle.std.proofs.Common.{◌⊎◌, inl, inr, ◌≡◌, ℕ, ◌+◌, ◌-◌, ◌*◌, ◌<◌, ◌≤◌, ◌&&◌, Bool, true, false, arith, refl, sym, ◌∙◌, ap}
 use Rattle.std.proofs.lemmas.Bool.{cases_lt}
 use Rattle.break_signals.specs.Breaks.{waits}
 use Rattle.link_account.specs.Account.{Account, is_connected}
@@ -9,7 +8,8 @@ use Rattle.turn_losses.proofs.TwoEnds.{EndRun, TwoEnds}
 use Rattle.turn_losses.proofs.LineLaw.{was-sent, is-heard}
 use Rattle.turn_losses.proofs.PollLaws.{turned}
 use Rattle.turn_losses.proofs.PeriodLaws.{NoneLost}
-use Rattle.turn_losses.proofs.Trying.{times-suc, one-time}
+use Rattle.turn_losses.proofs.Clocks.{Ticked, chain}
+use Rattle.turn_losses.proofs.Clocks.Ticked.{Begins, Expires, Stays}
 use Rattle.turn_losses.proofs.BreakHear.{of_word, brk_of, ack_of, any_brk}
 use Rattle.turn_losses.proofs.BreakTurn.{Deeds, BreakTurn, number_of, brk_due}
 use Rattle.turn_losses.proofs.Windows.{Breaking, off, no-and}
@@ -21,94 +21,46 @@ pub record Waits (number : ℕ) (a : Account) : Type 0 where
   pub waiting : waits a.own_breaks ≡ true
   pub numbered : number_of a ≡ number
 
--- When the BRK of the break that waits became due last, and that it waits since; and when it became due before.
-pub record Waited (period : ℕ) (e : EndRun) (d : ℕ → Deeds) (t : ℕ) : Type 0 where
-  pub set : ℕ
-  pub set_is : (e.account t).own_breaks.set ≡ set
-  pub before : set < t
-  pub made : (d set).made ≡ true
-  pub since : (u : ℕ) → set < u → u ≤ t → Waits (number_of (e.account t)) (e.account u)
-  pub earlier : (n : ℕ) → (e.account t).own_breaks.count ≡ n + 1
-      → Waits (number_of (e.account t)) (e.account set) × ((e.account set).own_breaks.count ≡ n)
-      × ((e.account set).own_breaks.set + period ≡ set)
+-- A break that waits as a clock.
+abbrev Made : (ℕ → Deeds) → ℕ → Type 0
+Made d s = (d s).made ≡ true
 
-pub waited : (period turns : ℕ) (e : EndRun) (d : ℕ → Deeds) → Breaking period turns e d → is_connected (e.account 0).phase ≡ false
-    → (t : ℕ) → t ≤ turns → is_connected (e.account t).phase ≡ true → waits (e.account t).own_breaks ≡ true → Waited period e d t
-waited period turns e d h first zero l c w = off (is_connected (e.account 0).phase) c first
-waited period turns e d h first (suc t) l c w = subst (Waited period e d) (next t)
-    (go (is_connected (e.account t).phase) refl (waits (e.account t).own_breaks) refl (d t).made refl
-    (λ a b. waited period turns e d h first t (omega (arith, l)) a b))
+abbrev IsSet : EndRun → ℕ → ℕ → Type 0
+IsSet e u s = (e.account u).own_breaks.set ≡ s
+
+abbrev count_of : EndRun → ℕ → ℕ
+count_of e u = (e.account u).own_breaks.count
+
+ticks : (period turns number : ℕ) (e : EndRun) (d : ℕ → Deeds) → Breaking period turns e d → (t : ℕ) → t < turns
+    → Waits number (e.account (t + 1))
+    → Ticked period t (λ u. Waits number (e.account u)) (λ v. Unit {0}) (Made d) (IsSet e) (count_of e)
+ticks period turns number e d h t l y =
+    go (is_connected (e.account t).phase) refl (waits (e.account t).own_breaks) refl (d t).made refl
   where
-    next : (x : ℕ) → x + 1 ≡ suc x
-    next x = omega arith
-
-    now : is_connected (e.account (t + 1)).phase ≡ true
-    now = ap (λ x. is_connected (e.account x).phase) (next t) ∙ c
-
-    now-waits : waits (e.account (t + 1)).own_breaks ≡ true
-    now-waits = ap (λ x. waits (e.account x).own_breaks) (next t) ∙ w
-
     x : BreakTurn period t (e.heard t) (e.slot t) (d t) (e.account t) (e.account (t + 1))
-    x = h.turn t (omega (arith, l)) now
+    x = h.turn t l y.connected
 
-    at : (u : ℕ) → t < u → u ≤ t + 1 → Waits (number_of (e.account (t + 1))) (e.account u)
-    at u a b = subst (λ v. Waits (number_of (e.account (t + 1))) (e.account v)) (omega (arith, a, b))
-        (record { connected = now; waiting = now-waits; numbered = refl })
-
-    -- it became due in this turn
-    due-now : (d t).made ≡ true
-        → ((n : ℕ) → (e.account (t + 1)).own_breaks.count ≡ n + 1
-        → Waits (number_of (e.account (t + 1))) (e.account t) × ((e.account t).own_breaks.count ≡ n)
-        × ((e.account t).own_breaks.set + period ≡ t)) → Waited period e d (t + 1)
-    due-now m f = record { set = t; set_is = (x.made_set m).1; before = omega arith; made = m; since = at; earlier = f }
-
-    newly : is_connected (e.account t).phase && waits (e.account t).own_breaks ≡ false → Waited period e d (t + 1)
-    newly f = let y = x.newly now-waits f in due-now y.0 (λ n q. let z = y.1 in absurd (omega (arith, q, z)))
+    newly : (is_connected (e.account t).phase && waits (e.account t).own_breaks) ≡ false
+        → Ticked period t (λ u. Waits number (e.account u)) (λ v. Unit {0}) (Made d) (IsSet e) (count_of e)
+    newly f = let z = x.newly y.waiting f in Begins (x.made_set z.0).1 z.1 z.0
 
     go : (a : Bool) → is_connected (e.account t).phase ≡ a → (b : Bool) → waits (e.account t).own_breaks ≡ b → (m : Bool) → (d t).made ≡ m
-        → (is_connected (e.account t).phase ≡ true → waits (e.account t).own_breaks ≡ true → Waited period e d t)
-        → Waited period e d (t + 1)
-    go false f b g m q again = newly (no-and (is_connected (e.account t).phase) (waits (e.account t).own_breaks) f)
-    go true f false g m q again = newly (and-no (is_connected (e.account t).phase) (waits (e.account t).own_breaks) g)
+        → Ticked period t (λ u. Waits number (e.account u)) (λ v. Unit {0}) (Made d) (IsSet e) (count_of e)
+    go false f b g m q = newly (no-and (is_connected (e.account t).phase) (waits (e.account t).own_breaks) f)
+    go true f false g m q = newly (ap (λ z. is_connected (e.account t).phase && z) g ∙ ap (λ z. z && false) f)
+    go true f true g m q = by m q
       where
-        and-no : (y z : Bool) → z ≡ false → y && z ≡ false
-        and-no true z e = e
-        and-no false z e = refl
-    go true f true g true q again = due-now q
-        (λ n r. (
-          record { connected = f; waiting = g; numbered = sym (x.number f g now-waits) },
-          counted n
-              (x.counts f g now-waits n r),
-          late (x.made_late q f),
-        ))
-      where
-        counted : (n : ℕ) → (((d t).made ≡ true) × ((e.account t).own_breaks.count ≡ n))
-            ⊎ (((d t).made ≡ false) × ((e.account t).own_breaks.count ≡ n + 1)) → (e.account t).own_breaks.count ≡ n
-        counted n (inl y) = y.1
-        counted n (inr y) = off (d t).made q y.0
+        was : Waits number (e.account t)
+        was = record { connected = f; waiting = g; numbered = sym (x.number f g y.waiting) ∙ y.numbered }
 
-        late : ((waits (e.account t).own_breaks ≡ true) × (t ≡ (e.account t).own_breaks.set + period))
-            ⊎ ((waits (e.account t).own_breaks ≡ false) × ((e.account t).own_breaks.rest ≤ t)) → (e.account t).own_breaks.set + period ≡ t
-        late (inl y) = sym y.1
-        late (inr y) = off (waits (e.account t).own_breaks) g y.0
-    go true f true g false q again =
-        let i = again f g in let b = i.before in
-        let same = x.number f g now-waits in
-        record {
-          set = i.set;
-          set_is = (x.kept_set q f now-waits).1 ∙ i.set_is;
-          before = omega (arith, b);
-          made = i.made;
-          since = λ u lo hi. elim
-              (cases_lt t u) [ inl y ↦ at u y hi | inr y ↦ subst (λ n. Waits n (e.account u)) (sym same) (i.since u lo y) ];
-          earlier = λ n r. let y = i.earlier n (counted n (x.counts f g now-waits n r)) in
-              (subst (λ m. Waits m (e.account i.set)) (sym same) y.0, y.1, y.2);
-        }
-      where
-        counted : (n : ℕ) → (((d t).made ≡ true) × ((e.account t).own_breaks.count ≡ n))
-            ⊎ (((d t).made ≡ false) × ((e.account t).own_breaks.count ≡ n + 1)) → (e.account t).own_breaks.count ≡ n + 1
-        counted n (inl y) = off (d t).made y.0 q
-        counted n (inr y) = y.1
+        by : (m : Bool) → (d t).made ≡ m
+            → Ticked period t (λ u. Waits number (e.account u)) (λ v. Unit {0}) (Made d) (IsSet e) (count_of e)
+        by true q = Expires (e.account t).own_breaks.set was refl
+            (elim (x.made_late q f) [ inl z ↦ sym z.1 | inr z ↦ off (waits (e.account t).own_breaks) g z.0 ])
+            (x.made_set q).1
+            (λ n r. elim (x.counts f g y.waiting n r) [ inl z ↦ z.1 | inr z ↦ off (d t).made q z.0 ]) q
+        by false q = Stays was (λ s r. (x.kept_set q f y.waiting).1 ∙ r)
+            (λ n r. elim (x.counts f g y.waiting n r) [ inl z ↦ off (d t).made z.0 q | inr z ↦ z.1 ]) tt
 
 -- a period of a waiting break
 pub record BreakPeriod (period turns number : ℕ) (e : EndRun) (d : ℕ → Deeds) (s : ℕ) : Type 0 where
@@ -117,36 +69,14 @@ pub record BreakPeriod (period turns number : ℕ) (e : EndRun) (d : ℕ → Dee
   pub goes_on : s + period < turns → Waits number (e.account (s + period + 1))
 
 pub break-periods : (period turns : ℕ) (e : EndRun) (d : ℕ → Deeds) → Breaking period turns e d → is_connected (e.account 0).phase ≡ false
-    → (n t number : ℕ) → t ≤ turns → Waits number (e.account t) → (e.account t).own_breaks.count ≡ n
-    → (e.account t).own_breaks.set + period ≡ t → (t < turns → Waits number (e.account (t + 1))) → (j : ℕ) → j ≤ n
-    → (s : ℕ) × (s + (j + 1) * period ≡ t) × BreakPeriod period turns number e d s
-break-periods period turns e d h first n t number l w c due on zero less =
-    let i = waited period turns e d h first t l w.connected w.waiting in
-    let q = i.set_is in let one = one-time period in (
-      i.set,
-      omega (arith, q, due, one),
-      record {
-        made = i.made;
-        stays = λ u a b. subst (λ m. Waits m (e.account u)) w.numbered
-            (i.since u a (omega (arith, b, q, due)));
-        goes_on = λ less'. at-end i.set (omega (arith, q, due))
-            (on (omega (arith, less', q, due)));
-      },
-    )
-  where
-    at-end : (x : ℕ) → x + period ≡ t → Waits number (e.account (t + 1)) → Waits number (e.account (x + period + 1))
-    at-end x f v = subst (λ y. Waits number (e.account (y + 1))) (sym f) v
-break-periods period turns e d h first zero t number l w c due on (suc j) less = absurd (omega (arith, less))
-break-periods period turns e d h first (suc n) t number l w c due on (suc j) less =
-    let i = waited period turns e d h first t l w.connected w.waiting in
-    let q = i.set_is in let b = i.before in
-    let x = i.earlier n (omega (arith, c)) in
-    let r = break-periods period turns e d h first n i.set number (omega (arith, b, l))
-    (subst (λ m. Waits m (e.account i.set)) w.numbered x.0) x.1 x.2
-    (λ g. subst (λ m. Waits m (e.account (i.set + 1))) w.numbered (i.since (i.set + 1) (omega arith) (omega (arith, b)))) j
-    (omega (arith, less)) in
-    let m = times-suc j period in let f = r.1 in
-    (r.0, omega (arith, f, m, q, due), r.2)
+    → (n number : ℕ) → Waits number (e.account turns) → (e.account turns).own_breaks.count ≡ n
+    → (e.account turns).own_breaks.set + period ≡ turns → (j : ℕ) → j ≤ n
+    → (s : ℕ) × (s + (j + 1) * period ≡ turns) × BreakPeriod period turns number e d s
+break-periods period turns e d h first n number w c due j less =
+    let x = chain period turns (λ u. Waits number (e.account u)) (λ v. Unit {0}) (Made d) (IsSet e) (count_of e) (λ u s r a b. sym a ∙ b)
+    (λ z. off (is_connected (e.account 0).phase) z.connected first) (ticks period turns number e d h) n turns
+    (e.account turns).own_breaks.set (omega arith) w c refl due j less in
+    (x.0, x.1, record { made = x.2.asked; stays = x.2.ran; goes_on = x.2.goes_on })
 
 -- Where nothing is lost in it and the other end is Connected, the BRKACK comes in its very last turn, if at all.
 pub break-answered : (period turns number : ℕ) (e o : EndRun) (d d' : ℕ → Deeds) → TwoEnds period turns e o → Breaking period turns e d

@@ -37,15 +37,14 @@ use Rattle.turn_bound.proofs.Serving.{Served, serves-all}
 use Rattle.turn_bound.proofs.Tied.{is_lost}
 use Rattle.turn_losses.specs.Losses.{PeriodLoses, LosesEach}
 use Rattle.turn_losses.proofs.Polling.{is_linked}
-use Rattle.turn_losses.proofs.PollHear.{PollHeard, poll-hears, linked-connected}
+use Rattle.turn_losses.proofs.PollHear.{PollHeard, poll-hears}
 use Rattle.turn_losses.proofs.Trace.{Deed, Trace}
 use Rattle.turn_losses.proofs.TwoEnds.{EndRun, TwoEnds, end_run}
 use Rattle.turn_losses.proofs.AnswerTurn.{linked-sends, connected-is}
 use Rattle.turn_losses.proofs.HeardCount.{CountKept, count-hears}
 use Rattle.turn_losses.proofs.PollLaws.{two-ends}
-use Rattle.turn_losses.proofs.PeriodLaws.{linked-on, connected-back, StayConnected}
-use Rattle.turn_losses.proofs.PeriodHolds.{LostIn}
-use Rattle.turn_losses.proofs.Expiries.{Expired, last-expired, First, first-connected, losses}
+use Rattle.turn_losses.proofs.PeriodHolds.{period-loses}
+use Rattle.turn_losses.proofs.Expiries.{Uncleared, expiries}
 use Rattle.turn_losses.proofs.Acknowledged.{Counts}
 use Rattle.turn_losses.proofs.Keeping.{turn-is}
 
@@ -223,8 +222,8 @@ pub wants-answers : (tries period : ℕ) (delay : Role → ℕ) (link : Link) (t
     → ((s u : ℕ) → s < length ts → s ≤ u → u ≤ length ts → (deed s).made role ≡ true → is_connected (of role (state s)).phase ≡ true
     → is_connected (of role (state u)).phase ≡ true → is_connected (of (other role) (state u)).phase ≡ true)
     → LosesEach period tries (length ts) ts
-wants-answers tries period delay link ts state deed kt w role c l both n less = go
-    (losses period turns e o k c first ce both (tries - 1) turns (omega arith) x far n (omega (arith, less)))
+wants-answers tries period delay link ts state deed kt w role c l both n less =
+    lost-at (expiries period turns e o k c tries l.set l.connected l.count l.runs l.now n less)
   where
     turns : ℕ
     turns = length ts
@@ -238,50 +237,28 @@ wants-answers tries period delay link ts state deed kt w role c l both n less = 
     k : TwoEnds period turns e o
     k = two-ends tries period delay link ts state deed kt w role
 
-    first : First turns e
-    first = first-connected period turns e o k c turns (omega arith) l.connected
+    long : 1 ≤ period
+    long = let p = kt.period_is in omega (arith, p)
 
-    some-tries : 1 ≤ tries
-    some-tries = kt.some_tries
+    some : (t : ℕ) → (is_lost (of role (deed t).turn).heard ≡ true) ⊎ (is_lost (of (other role) (deed t).turn).heard ≡ true)
+        → LosesSome (Some (deed t).turn)
+    some t (inl y) = (role, lost-is (of role (deed t).turn).heard y)
+    some t (inr y) = (other role, lost-is (of (other role) (deed t).turn).heard y)
 
-    low : first.from ≤ turns
-    low = first.none_before turns (omega arith) l.connected
-
-    ce : StayConnected e first.from turns
-    ce u a b = connected-back period turns e o k u turns b (omega arith)
-        (linked-on period turns e o k first.from u a b (linked-connected (of role (state first.from)).phase first.connected)) l.connected
-
-    x : Expired (tries - 1) turns e
-    x = last-expired period turns e o k first.from first.connected first.count turns low (omega arith) l.connected (tries - 1)
-        (let q = l.count in omega (arith, q, some-tries))
-
-    far : x.at + period ≤ turns
-    far = let there : Some x.at ≡ Some l.set = sym x.timer ∙ l.runs in let same : x.at ≡ l.set = cc in let q = l.now in omega
-        (arith, same, q)
-
-    exact : x.at + period ≡ turns
-    exact = let there : Some x.at ≡ Some l.set = sym x.timer ∙ l.runs in let same : x.at ≡ l.set = cc in let q = l.now in omega
-        (arith, same, q)
-
-    go : (s : ℕ) × (s + n * period ≡ x.at) × LostIn e o (s + 1) (period - 1) → PeriodLoses period turns ts n
-    go (s, q, lost) =
-        let same : (n + 1) * period ≡ n * period + period = next n in
-        let a = lost.low in let b = lost.high in let f = exact in
-        let within : lost.turn < turns = omega (arith, b, f, q, long) in
+    lost-at : (s : ℕ) × (s + (n + 1) * period ≡ turns) × Uncleared period e s → PeriodLoses period turns ts n
+    lost-at (s, q, x) =
+        let same = next n in
+        let end : s + period ≤ turns = omega (arith, q, same) in
+        let lost = period-loses period turns e o k c s end x.made x.on
+        (λ u a b. both s u (omega (arith, end, long)) a (omega (arith, b, end)) x.made x.connected (x.on u a b)) x.uncleared in
+        let a = lost.low in let b = lost.high in
+        let within : lost.turn < turns = omega (arith, b, end, long) in
         record {
           turn = lost.turn;
           within = within;
-          in_period = record { behind = omega (arith, a, q, f, same); before = omega (arith, b, q, f, long) };
+          in_period = record { behind = omega (arith, a, q, same); before = omega (arith, b, q, same, long) };
           lost = subst LosesSome (sym (turn-is period delay link ts state deed w lost.turn within)) (some lost.turn lost.loses);
         }
       where
         next : (y : ℕ) → (y + 1) * period ≡ y * period + period
         next y = omega arith
-
-        long : 1 ≤ period
-        long = let p = kt.period_is in omega (arith, p)
-
-        some : (t : ℕ) → (is_lost (of role (deed t).turn).heard ≡ true) ⊎ (is_lost (of (other role) (deed t).turn).heard ≡ true)
-            → LosesSome (Some (deed t).turn)
-        some t (inl y) = (role, lost-is (of role (deed t).turn).heard y)
-        some t (inr y) = (other role, lost-is (of (other role) (deed t).turn).heard y)

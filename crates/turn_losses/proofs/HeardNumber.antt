@@ -1,0 +1,175 @@
+-- What a frame with a number makes of a Connected end: one row for the five of them, with what it makes of the wait for an answer, of the clock, of
+-- replies, of what is urgent and of a pause.
+use Rattle.std.proofs.Common.{◌⊎◌, inl, inr, ◌≡◌, ℕ, ◌-◌, ◌<◌, ◌&&◌, ◌||◌, not, Bool, true, false, cond, nat_lt, arith, refl, sym, ◌∙◌, ap}
+use Rattle.std.proofs.Common.{Option, Some, None}
+use Rattle.std.proofs.lemmas.Bool.Decides.{nat_tests}
+use Rattle.lapm_frames.specs.declared.frame.Frame.{Frame}
+use Rattle.lapm_frames.specs.declared.frame.Frame.TheVariants.{I, Rr, Rnr, Rej, Srej}
+use Rattle.lapm_frames.specs.declared.arrived.Arrived.{Arrived}
+use Rattle.lapm_frames.specs.declared.arrived.Arrived.TheVariants as arrivals
+use Rattle.lapm_sender.specs.Numbers.{with_number}
+use Rattle.lapm_sender.specs.Outgoing.{Outgoing, is_outstanding, advanced, resumed}
+use Rattle.lapm_receiver.specs.Incoming.{Incoming}
+use Rattle.break_signals.specs.declared.word.BreakWord.{BreakWord}
+use Rattle.link_account.specs.Account.{Account}
+use Rattle.link_account.specs.Hear.{timer_after, ends_wait}
+use Rattle.link_account.proofs.HearWays.{Numbers, numbered_with, acked, acked_back, Plain, IsUa, IsXid, IsTest, IsNoWord}
+use Rattle.turn_bound.proofs.Clock.{Rates, Sends, is_waiting}
+use Rattle.turn_bound.proofs.Sender.{Heard, heard-clock, meant-range, heard-advanced, heard-resumed, heard-selected, acked-heard}
+use Rattle.turn_bound.proofs.MeetHear.{resumed-awaited}
+use Rattle.turn_losses.specs.Polls.{is_poll, is_final}
+use Rattle.turn_losses.proofs.Polling.{SetFrom}
+use Rattle.turn_losses.proofs.Words.{is_word, of_word}
+
+-- The retry count and the timer are as they were, or the count is 0.
+abbrev pub CountStays : Outgoing → Option ℕ → Outgoing → Option ℕ → Type 0
+CountStays o timer new timer' = (new.count ≡ 0) ⊎ ((new.count ≡ o.count) × (timer' ≡ timer))
+
+pub record Number (turn : ℕ) (a : Account) (frame : Frame) (new : Outgoing) (timer : Option ℕ) (reply urgent : Bool) : Type 0 where
+  pub awaited : new.awaited ≡ cond (is_final frame) false a.outgoing.awaited
+  pub clock : (z : Rates) → Sends z turn turn a.outgoing a.wait.timer → CountStays a.outgoing a.wait.timer new timer
+  pub set : SetFrom turn a.wait.timer timer
+  pub replies : reply ≡ a.owes.reply || is_poll frame
+  pub hurries : urgent ≡ true → (a.wait.urgent ≡ true) ⊎ (is_final frame ≡ true)
+  pub words : (f : BreakWord → Bool) → of_word f frame ≡ false
+  pub paused : new.paused ≡ true → (a.outgoing.paused ≡ true) ⊎ (new.count ≡ 0)
+  pub resumes : is_final frame ≡ true → (new.paused ≡ false) ⊎ (new.count ≡ 0)
+
+-- what a frame is that changes nothing
+pub record PlainFrame (frame : Frame) : Type 0 where
+  pub poll : is_poll frame ≡ false
+  pub final : is_final frame ≡ false
+  pub words : (f : BreakWord → Bool) → of_word f frame ≡ false
+
+pub plain-frame : (frame : Frame) → Plain frame → PlainFrame frame
+plain-frame frame (IsUa pf e) = record { poll = ap is_poll e; final = ap is_final e; words = λ f. ap (of_word f) e }
+plain-frame frame (IsXid command pf info e) = record { poll = ap is_poll e; final = ap is_final e; words = λ f. ap (of_word f) e }
+plain-frame frame (IsTest command pf info e) = record { poll = ap is_poll e; final = ap is_final e; words = λ f. ap (of_word f) e }
+plain-frame frame (IsNoWord command pf info fault w e) =
+    record { poll = ap is_poll e; final = ap is_final e; words = λ f. ap (of_word f) e ∙ ap (is_word f) w }
+
+or-false : (b : Bool) → b ≡ b || false
+or-false true = refl
+or-false false = refl
+
+never : {A : Type 0} {b : Bool} → b ≡ false → b ≡ true → A
+never e f = let wrong : true ≡ false = sym f ∙ e in cc
+
+resumed-unpaused : (o : Outgoing) → (resumed o).paused ≡ false
+resumed-unpaused o = go o.paused refl
+  where
+    go : (b : Bool) → o.paused ≡ b
+        → (cond b (record o { paused = false; count = cond (is_outstanding o || o.awaited) o.count 0 }) o).paused ≡ false
+    go true e = refl
+    go false e = e
+
+set-after : (turn : ℕ) (old new : Outgoing) (timer : Option ℕ) → SetFrom turn timer (timer_after turn old new timer)
+set-after turn old new timer =
+    go (((old.awaited && not new.awaited) || (old.paused && not new.paused)) && not (is_waiting new))
+    (nat_lt old.front new.front) (is_waiting new)
+  where
+    go : (x y w : Bool) → SetFrom turn timer (cond x None (cond y (cond w (Some turn) None) timer))
+    go true y w s k = cc
+    go false true true s k = let same : turn ≡ s = cc in inl (sym same)
+    go false true false s k = cc
+    go false false w s k = inr k
+
+clock-kept : (z : Rates) (turn : ℕ) (o new : Outgoing) (timer : Option ℕ) → Sends z turn turn o timer → Heard o new
+    → CountStays o timer new (timer_after turn o new timer)
+clock-kept z turn o new timer s h = let k = heard-clock z turn o new timer s h in go (is_waiting new) (nat_lt o.front new.front) k.0 k.1
+  where
+    go : (w advances : Bool) → timer_after turn o new timer ≡ cond w (cond advances (Some turn) timer) None
+        → new.count ≡ cond w (cond advances 0 o.count) 0 → CountStays o timer new (timer_after turn o new timer)
+    go false advances t c = inl c
+    go true true t c = inl c
+    go true false t c = inr (c, t)
+
+module _ (turn : ℕ) (a : Account) where
+  abbrev o : Outgoing
+  o = a.outgoing
+
+  -- a number, as far as it goes to the sender's part
+  facts : (frame : Frame) (new : Outgoing) (reply urgent : Bool) → new.awaited ≡ cond (is_final frame) false o.awaited
+      → ((z : Rates) → Sends z turn turn o a.wait.timer → Heard o new) → reply ≡ a.owes.reply || is_poll frame
+      → (urgent ≡ true → (a.wait.urgent ≡ true) ⊎ (is_final frame ≡ true))
+      → ((f : BreakWord → Bool) → of_word f frame ≡ false) → (new.paused ≡ true → o.paused ≡ true) → (is_final frame ≡ true → new.paused ≡ false)
+      → Number turn a frame new (timer_after turn o new a.wait.timer) reply urgent
+  facts frame new reply urgent w k r u g p q = record {
+    awaited = w;
+    clock = λ z s. clock-kept z turn o new a.wait.timer s (k z s);
+    set = set-after turn o new a.wait.timer;
+    replies = r;
+    hurries = u;
+    words = g;
+    paused = λ e. inl (p e);
+    resumes = λ e. inl (q e);
+  }
+
+  -- whether it is the answer that is awaited
+  awaited-after : (command pf final : Bool) (n : ℕ) → ends_wait command pf a ≡ final
+      → ((acked final o n).awaited ≡ cond (pf && not command) false o.awaited)
+      × ((acked_back final o n).awaited ≡ cond (pf && not command) false o.awaited)
+  awaited-after command pf final n e = go final (pf && not command) e
+    where
+      go : (b f : Bool) → o.awaited && f ≡ b
+          → ((acked b o n).awaited ≡ cond f false o.awaited) × ((acked_back b o n).awaited ≡ cond f false o.awaited)
+      go true true q = (refl, refl)
+      go true false q = both o.awaited q
+        where
+          both : (w : Bool) → w && false ≡ true → (false ≡ o.awaited) × (false ≡ o.awaited)
+          both true r = cc
+          both false r = cc
+      go false true q = let none = left o.awaited q in (none, none)
+        where
+          left : (w : Bool) → w && true ≡ false → w ≡ false
+          left true r = cc
+          left false r = refl
+      go false false q = (refl, refl)
+
+  hurried : (command pf final : Bool) → ends_wait command pf a ≡ final → a.wait.urgent || final ≡ true
+      → (a.wait.urgent ≡ true) ⊎ (pf && not command ≡ true)
+  hurried command pf final e h = go a.wait.urgent refl final (pf && not command) o.awaited e h
+    where
+      go : (u : Bool) → a.wait.urgent ≡ u → (b f w : Bool) → w && f ≡ b → u || b ≡ true → (u ≡ true) ⊎ (f ≡ true)
+      go true q b f w r h = inl refl
+      go false q b true w r h = inr refl
+      go false q b false true r h = let wrong : true ≡ false = sym h ∙ sym r in cc
+      go false q b false false r h = let wrong : true ≡ false = sym h ∙ sym r in cc
+
+  -- RR or REJ
+  ready : (frame : Frame) (command pf final : Bool) (made : Outgoing) → is_poll frame ≡ (command && pf) → is_final frame ≡ (pf && not command)
+      → ((f : BreakWord → Bool) → of_word f frame ≡ false) → ends_wait command pf a ≡ final
+      → made.awaited ≡ cond (pf && not command) false o.awaited → ((z : Rates) → Sends z turn turn o a.wait.timer → Heard o made)
+      → Number turn a frame (resumed made) (timer_after turn o (resumed made) a.wait.timer) (a.owes.reply || (command && pf)) (a.wait.urgent || final)
+  ready frame command pf final made poll is words e w k = facts frame (resumed made) _ _
+      (resumed-awaited made ∙ (w ∙ ap (λ x. cond x false o.awaited) (sym is))) (λ z s. heard-resumed o made (k z s))
+      (ap (λ x. a.owes.reply || x) (sym poll)) (λ h. elim (hurried command pf final e h) [ inl x ↦ inl x | inr x ↦ inr (is ∙ x) ]) words
+      (λ h. never (resumed-unpaused made) h) (λ h. resumed-unpaused made)
+
+  pub number-rows : (P : Arrived → Account → Type 0)
+      → ((frame : Frame) (new : Outgoing) (incoming : Incoming) (timer : Option ℕ) (reply urgent : Bool) → Number turn a frame new timer reply urgent
+      → P (arrivals.Frame frame) (numbered_with a new incoming timer reply urgent)) → Numbers P turn a
+  number-rows P h = record {
+    i = λ ns nr pf info n e. h (I ns nr pf info) _ _ _ _ _ (facts (I ns nr pf info) (advanced o n) _ _ refl
+        (λ z s. let r = meant-range o.front o.high nr n e in heard-advanced z turn turn o a.wait.timer n s r.0 r.1) refl (λ u. inl u) (λ f. refl)
+        (λ u. u) (λ u. cc));
+    rr = λ command pf nr n final f e. h (Rr command nr pf) _ _ _ _ _ (ready (Rr command nr pf) command pf final (acked final o n) refl refl (λ g. refl)
+        f (awaited-after command pf final n f).0 (λ z s. (acked-heard z turn turn a final command pf nr n s f e).0));
+    rej = λ command pf nr n final f e. h (Rej command nr pf) _ _ _ _ _ (ready (Rej command nr pf) command pf final (acked_back final o n) refl refl
+        (λ g. refl) f (awaited-after command pf final n f).1 (λ z s. (acked-heard z turn turn a final command pf nr n s f e).1));
+    rnr = λ command pf nr n final f e. h (Rnr command nr pf) _ _ _ _ _ (record {
+      awaited = (awaited-after command pf final n f).0;
+      clock = λ z s. inl refl;
+      set = λ s k. let same : turn ≡ s = cc in inl (sym same);
+      replies = refl;
+      hurries = λ u. inl u;
+      words = λ g. refl;
+      paused = λ u. inr refl;
+      resumes = λ u. inr refl;
+    });
+    srej = λ command pf nr n f e. h (Srej command nr pf) _ _ _ _ _ (facts (Srej command nr pf)
+        (record o { chosen = with_number n o.chosen }) _ _ refl
+        (λ z s. let r = meant-range o.front (o.high - 1) nr n e in let l : o.front < o.high = grind (arith, nat_tests, f) in
+        heard-selected z turn turn o a.wait.timer n s r.0 (omega (arith, r.1, l))) (or-false a.owes.reply) (λ u. inl u) (λ g. refl) (λ u. u)
+        (λ u. cc));
+  }
