@@ -1,43 +1,49 @@
 -- What is found in a slot of flags is what was sent in it.
-use Rattle.std.proofs.Common.{◌≡◌, ◌∙◌, ℕ, zero, suc, ◌+◌, ◌-◌, ◌*◌, ◌/◌, ◌%◌, ◌<◌, ◌≤◌, Bool, true, false, nat_eq, List, []}
-use Rattle.std.proofs.Common.{◌∷◌, ◌++◌, length, take, drop}
+use Rattle.std.proofs.Common.{◌≡◌, ◌∙◌, inl, inr, ℕ, zero, suc, ◌+◌, ◌-◌, ◌*◌, ◌/◌, ◌%◌, ◌<◌, ◌≤◌, Bool, true, false, nat_eq, List, []}
+use Rattle.std.proofs.Common.{◌∷◌, ◌++◌, All, length, take, drop, map}
 use Rattle.std.proofs.Common.{slice_index, Option, Some, None, refl, sym, ap, subst, arith, append-nil, length-append}
+use Rattle.std.specs.Prelude.{IfSome}
 use Rattle.std.proofs.Math.Seq.{drop-append_seam}
 use Rattle.std.proofs.lemmas.Bool.{false≢true}
-use Rattle.std.proofs.lemmas.Grind.{flat_map-append}
-use Rattle.std.proofs.lemmas.List.{append_assoc, get_or-append-add, length-take-le, take-append-drop, drop-append-le}
+use Rattle.std.proofs.lemmas.List.{append_assoc, drop-drop, get_or-append-add, get_or_append_left, length-take-le, take-append-drop}
 use Rattle.plain_lists.specs.Bits.{low_bits, bits_of}
 use Rattle.frame_check.specs.declared.check.Check.{Check}
 use Rattle.frame_check.specs.Division.{check_of}
 use Rattle.bit_stuffing.specs.declared.slot_writer.TheConstants.{HEAD, TAIL}
 use Rattle.bit_stuffing.specs.BitSlot.{line_bits}
-use Rattle.bit_stuffing.specs.Flags.{flag, bit_of}
+use Rattle.bit_stuffing.specs.Deframer.{Kept}
+use Rattle.bit_stuffing.specs.Flags.{flag, bit_of, FlagEndsAt}
+use Rattle.bit_stuffing.specs.Found.{Found, lent_of, pieces_of}
+use Rattle.bit_stuffing.specs.Pieces.{IsLent}
 use Rattle.bit_stuffing.specs.Stuffing.{stuffed}
-use Rattle.bit_stuffing.specs.Slots.{flags, fill, framed, rest_of_flag, opening, slot_bits}
+use Rattle.bit_stuffing.specs.Slots.{Slot, flags, fill, framed, rest_of_flag, opening, slot_bits, sent_bits, AreSlots, IsSlot}
 use Rattle.bit_stuffing.specs.Slots.Slot.{Flags}
-use Rattle.bit_stuffing.proofs.Written.{length-line_bits}
+use Rattle.bit_stuffing.specs.Sent.{SlotAdds, wholes, whole_at}
+use Rattle.bit_stuffing.specs.Tails.{LastPiecesAreFound, behind}
+use Rattle.bit_stuffing.proofs.Found.{pieces-none}
 use Rattle.shared_terms.specs.declared.role.Role.{Role}
 use Rattle.shared_terms.specs.declared.role.Role.TheVariants.{Originator, Answerer}
 use Rattle.lapm_frames.specs.declared.frame.Frame.{Frame}
 use Rattle.lapm_frames.specs.Parts.{parts_of}
 use Rattle.lapm_frames.specs.Frame.{address_of, control_octet, tail_octets, spelled}
-use Rattle.lapm_frames.specs.Checked.{checked, check_for}
+use Rattle.lapm_frames.specs.Checked.{SpellsFrame, checked, check_for}
 use Rattle.lapm_frames.proofs.Checking.{spells}
 use Rattle.lapm_frames.specs.declared.sent.Sent.TheVariants as sent
 use Rattle.line_run.specs.Laws.{CodableFits, CodableIsSendable, SpelledInOctets}
+use Rattle.sample_line.specs.Signals.{IsCodable}
 use Rattle.line_tap.specs.Reading.{flagged}
-use Rattle.line_tap.specs.Seeking.{FindsSent}
-use Rattle.line_tap.specs.Content.{has_sixth, ReadsContent}
-use Rattle.line_tap.proofs.ContentRead.{content-is, sixth-there}
+use Rattle.line_tap.specs.declared.seeker.Seeker.{Seeker}
+use Rattle.line_tap.specs.Seeking.{AreBitsOf, EndsFirst, FindsSent, IsAt, end_of, part}
 use Rattle.line_tap.proofs.Counted.{rest-bits}
-use Rattle.lapm_frames.specs.Checked.{SpellsFrame}
-use Rattle.lapm_frames.specs.Sendable.{IsSendable}
-use Rattle.plain_lists.specs.Octets.{AreOctets}
+use Rattle.line_tap.proofs.Seeking.{OnePiece, one-whole, first-is, piece-long}
 
 pub record FoundLaws : Type 0 where
   pub fits : CodableFits
   pub sendable : CodableIsSendable
   pub octets : SpelledInOctets
+  pub found : (size : ℕ) (before : List Slot) (slot : Slot) → AreSlots size 0 (before ++ slot ∷ [])
+      → (added : List Found) × SlotAdds size before slot added
+  pub last : LastPiecesAreFound
 
 -- ---- a frame begins with a one
 
@@ -102,25 +108,105 @@ flags-begin size phase low long =
     rest-few : (phase : ℕ) → phase < 8 → length (rest_of_flag phase) < 8
     rest-few phase low = omega (arith, rest-bits phase low, low)
 
--- ---- the content of a frame, and the flag behind it
+-- ---- a slot of a frame, from its fourth flag on
 
-pub record IsBehind (line : List Bool) (octets : List ℕ) : Type 0 where
-  pub tail : List Bool
-  pub is : line ≡ stuffed 5 (bits_of octets) ++ (flag ++ tail)
+split-opening : (phase : ℕ) (frame : Option (List ℕ)) → opening phase frame ≡ rest_of_flag phase ++ (flags 4 ++ framed frame)
+split-opening phase frame = append_assoc (rest_of_flag phase) (flags 4) (framed frame)
 
-content-behind : (size phase : ℕ) (octets : List ℕ)
-    → IsBehind (drop (length (rest_of_flag phase) + 32) (slot_bits size phase (Flags (Some octets)))) octets
-content-behind size phase octets =
-    let front : List Bool = rest_of_flag phase ++ flags 4 in
-    let content : List Bool = stuffed 5 (bits_of octets) in
-    let rest : List Bool = fill (size - length (opening phase (Some octets))) in
-    let all : slot_bits size phase (Flags (Some octets)) ≡ front ++ (content ++ (flag ++ rest)) =
-    append_assoc front (framed (Some octets)) rest ∙ ap (λ xs. front ++ xs) (append_assoc content flag rest) in
-    let count : length (rest_of_flag phase) + 32 ≡ length front = sym (length-append (rest_of_flag phase) (flags 4)) in
+long-opening : (phase : ℕ) (frame : Option (List ℕ))
+    → length (opening phase frame) ≡ length (rest_of_flag phase) + length (opening 0 frame)
+long-opening phase frame =
+    ap length (split-opening phase frame) ∙ length-append (rest_of_flag phase) (flags 4 ++ framed frame)
+
+long-frame : (octets : List ℕ) → length (opening 0 (Some octets)) ≡ 40 + length (stuffed 5 (bits_of octets))
+long-frame octets =
+    let a : length (opening 0 (Some octets)) ≡ 32 + length (framed (Some octets)) = length-append (flags 4) (framed (Some octets)) in
+    let b : length (framed (Some octets)) ≡ length (stuffed 5 (bits_of octets)) + 8 = length-append (stuffed 5 (bits_of octets)) flag in
+    omega (arith, a, b)
+
+-- behind the rest of a flag it is a slot of its own
+behind-rest : (size phase : ℕ) (frame : Option (List ℕ))
+    → drop (length (rest_of_flag phase)) (slot_bits size phase (Flags frame))
+    ≡ slot_bits (size - length (rest_of_flag phase)) 0 (Flags frame)
+behind-rest size phase frame =
+    let n : ℕ = length (opening phase frame) in
+    let r : ℕ = length (rest_of_flag phase) in
+    let left : size - n ≡ size - r - length (opening 0 frame) = omega (arith, long-opening phase frame) in
+    ap (λ xs. drop r (xs ++ fill (size - n))) (split-opening phase frame)
+    ∙ ap (drop r) (append_assoc (rest_of_flag phase) (flags 4 ++ framed frame) (fill (size - n)))
+    ∙ drop-append_seam (rest_of_flag phase) ((flags 4 ++ framed frame) ++ fill (size - n))
+    ∙ ap (λ m. (flags 4 ++ framed frame) ++ fill m) left
+
+behind-rest-of : (bits : List Bool) (size phase : ℕ) (octets : List ℕ) → bits ≡ slot_bits size phase (Flags (Some octets))
+    → drop (length (rest_of_flag phase)) bits ≡ slot_bits (size - length (rest_of_flag phase)) 0 (Flags (Some octets))
+behind-rest-of bits size phase octets e = ap (drop (length (rest_of_flag phase))) e ∙ behind-rest size phase (Some octets)
+
+-- a flag that is heard whole
+flag-first : (line : List Bool) → FlagEndsAt (flag ++ line) 8
+flag-first line = record {
+  room = omega arith;
+  within = omega (arith, length-append flag line);
+  spelled = λ i low. let same : 8 - 8 + i ≡ i = omega arith in ap (bit_of (flag ++ line)) same ∙ get_or_append_left flag line false i low;
+}
+
+-- of a line whose one piece ends behind that flag the same piece is found where it begins with the flag
+only-behind : (missed found : List Found) (count : ℕ) (one : Found) → All (λ f. f.place ≤ count + 8) missed → count + 8 < one.place
+    → missed ++ map (behind count) found ≡ one ∷ [] → (f : Found) × (found ≡ f ∷ []) × (behind count f ≡ one)
+only-behind [] [] count one early far e = absurd cc
+only-behind [] (f ∷ []) count one early far e = let same : behind count f ≡ one = cc in (f, refl, same)
+only-behind [] (f ∷ g ∷ found) count one early far e = absurd cc
+only-behind (m ∷ missed) found count one early far e =
+    let same : m ≡ one = cc in
+    let soon : m.place ≤ count + 8 = early 0 m (omega arith) in
+    absurd (omega (arith, soon, ap (λ (f : Found). f.place) same, far))
+
+-- what is found in such a slot
+slot-alone : FoundLaws → (size : ℕ) (octets : List ℕ) → IsSlot size 0 (Flags (Some octets))
+    → pieces_of (slot_bits size 0 (Flags (Some octets))) ≡ whole_at (length (opening 0 (Some octets))) octets ∷ []
+slot-alone laws size octets is =
+    let line : List Bool = slot_bits size 0 (Flags (Some octets)) in
+    let added = laws.found size [] (Flags (Some octets)) (is, tt) in
+    let all : pieces_of line ≡ added.0 = ap pieces_of (sym (append-nil line)) ∙ added.1.all ∙ ap (λ xs. xs ++ added.0) pieces-none in
+    let none : length (sent_bits size []) ≡ 0 = refl in
+    let at : length (sent_bits size []) + length (opening 0 (Some octets)) ≡ length (opening 0 (Some octets)) = omega (arith, none) in
+    all ∙ (added.1.found ∙ ap (λ n. whole_at n octets ∷ []) at)
+
+-- and in its bits from the fourth flag on
+from-flag : FoundLaws → (size : ℕ) (octets : List ℕ) → IsSlot size 0 (Flags (Some octets))
+    → (f : Found) × (pieces_of (drop 24 (slot_bits size 0 (Flags (Some octets)))) ≡ f ∷ [])
+    × (behind 24 f ≡ whole_at (length (opening 0 (Some octets))) octets)
+from-flag laws size octets is =
+    let line : List Bool = slot_bits size 0 (Flags (Some octets)) in
+    let long : ℕ = length (opening 0 (Some octets)) in
+    let flag_there : FlagEndsAt (drop 24 line) 8 = flag-first (framed (Some octets) ++ fill (size - long)) in
+    let count : length (take 24 line) ≡ 24 =
+    length-take-le 24 line (omega (arith, length-append (opening 0 (Some octets)) (fill (size - long)), long-frame octets)) in
+    let missed = laws.last (take 24 line) (drop 24 line) in
+    let early : All (λ f. f.place ≤ 24 + 8) missed.0 = subst (λ n. All (λ f. f.place ≤ n + 8) missed.0) count (missed.1.early 8 flag_there) in
+    let all : missed.0 ++ map (behind 24) (pieces_of (drop 24 line)) ≡ whole_at long octets ∷ [] =
+    subst (λ n. missed.0 ++ map (behind n) (pieces_of (drop 24 line)) ≡ whole_at long octets ∷ []) count
+    (sym missed.1.all ∙ (ap pieces_of (take-append-drop 24 line) ∙ slot-alone laws size octets is)) in
+    only-behind missed.0 (pieces_of (drop 24 line)) 24 (whole_at long octets) early (omega (arith, long-frame octets)) all
+
+pub sent-piece : FoundLaws → (check : Check) (sender : Role) (dlci symbols phase : ℕ) (bits : List Bool) (frame : Frame) → dlci < 64
+    → IsCodable check sender dlci symbols phase (sent.Frame frame) → AreBitsOf check sender dlci symbols phase (sent.Frame frame) bits
+    → OnePiece bits (length (rest_of_flag phase) + 24) (checked check sender dlci frame) (end_of check sender dlci phase frame)
+sent-piece laws check sender dlci symbols phase bits frame few codable e =
+    let r : ℕ = length (rest_of_flag phase) in
+    let octets : List ℕ = checked check sender dlci frame in
+    let fits = laws.fits check sender dlci symbols phase (sent.Frame frame)
+    (laws.octets check sender dlci (sent.Frame frame) few (laws.sendable check sender dlci symbols phase (sent.Frame frame) codable)) codable in
+    let room : length (opening 0 (Some octets)) ≤ 4 * symbols - r = omega (arith, fits.1, long-opening phase (Some octets)) in
+    let is = from-flag laws (4 * symbols - r) octets (fits.0, room) in
+    let there : drop r bits ≡ slot_bits (4 * symbols - r) 0 (Flags (Some octets)) = behind-rest-of bits (4 * symbols) phase octets e in
+    let from : drop (r + 24) bits ≡ drop 24 (slot_bits (4 * symbols - r) 0 (Flags (Some octets))) =
+    subst (λ xs. drop (r + 24) bits ≡ drop 24 xs) there (sym (drop-drop 24 r bits)) in
     record {
-      tail = rest;
-      is = ap (drop (length (rest_of_flag phase) + 32)) all ∙ ap (λ n. drop n (front ++ (content ++ (flag ++ rest)))) count
-          ∙ drop-append_seam front (content ++ (flag ++ rest));
+      found = is.0;
+      all = ap pieces_of from ∙ is.1;
+      piece = ap (λ (f : Found). f.piece) is.2;
+      octets_are = ap (λ (f : Found). f.octets) is.2;
+      place = omega (arith, ap (λ (f : Found). f.place) is.2, long-opening phase (Some octets));
     }
 
 -- ---- so what is found is what was sent
@@ -135,42 +221,72 @@ finds-none check sender dlci symbols phase bits zero_there (sent.Frame frame) e 
     absurd (false≢true (sym zero_there ∙ ap (λ xs. bit_of xs (length (rest_of_flag phase) + 32)) is
     ∙ frame-begins check sender dlci (4 * symbols) phase frame))
 
--- and else it was a frame, whose content stands there
-pub record FindsThere (check : Check) (sender : Role) (dlci : ℕ) (line : List Bool) (found : Option Frame) : Type 0 where
-  pub frame : (frame : Frame) → IsSendable (sent.Frame frame) → IsBehind line (checked check sender dlci frame) → found ≡ Some frame
+-- and else it was a frame, which is found
+pub record FindsThere (check : Check) (sender : Role) (dlci symbols phase : ℕ) (bits : List Bool) (found : Option Frame) : Type 0 where
+  pub frame : (frame : Frame) → IsCodable check sender dlci symbols phase (sent.Frame frame)
+      → AreBitsOf check sender dlci symbols phase (sent.Frame frame) bits → found ≡ Some frame
 
-pub finds-there : FoundLaws → (check : Check) (sender : Role) (dlci symbols phase : ℕ) (bits : List Bool) (found : Option Frame)
+pub finds-there : (check : Check) (sender : Role) (dlci symbols phase : ℕ) (bits : List Bool) (found : Option Frame)
     → HEAD + TAIL < symbols → phase < 8 → bit_of bits (length (rest_of_flag phase) + 32) ≡ true
-    → FindsThere check sender dlci (drop (length (rest_of_flag phase) + 32) bits) found
-    → FindsSent check sender dlci symbols phase bits found
-finds-there laws check sender dlci symbols phase bits found long low one k sent.Mark e codable is = absurd (false≢true (sym e))
-finds-there laws check sender dlci symbols phase bits found long low one k sent.Odp e codable is = absurd (false≢true (sym e))
-finds-there laws check sender dlci symbols phase bits found long low one k sent.Adp e codable is = absurd (false≢true (sym e))
-finds-there laws check sender dlci symbols phase bits found long low one k sent.Flags e codable is =
+    → FindsThere check sender dlci symbols phase bits found → FindsSent check sender dlci symbols phase bits found
+finds-there check sender dlci symbols phase bits found long low one k sent.Mark e codable is = absurd (false≢true (sym e))
+finds-there check sender dlci symbols phase bits found long low one k sent.Odp e codable is = absurd (false≢true (sym e))
+finds-there check sender dlci symbols phase bits found long low one k sent.Adp e codable is = absurd (false≢true (sym e))
+finds-there check sender dlci symbols phase bits found long low one k sent.Flags e codable is =
     absurd (false≢true (sym (flags-begin (4 * symbols) phase low (omega (arith, long)))
     ∙ ap (λ xs. bit_of xs (length (rest_of_flag phase) + 32)) (sym is) ∙ one))
-finds-there laws check sender dlci symbols phase bits found long low one k (sent.Frame frame) e codable is =
-    let b = content-behind (4 * symbols) phase (checked check sender dlci frame) in
-    ap flagged (k.frame frame codable.sendable (record { tail = b.tail; is = ap (drop (length (rest_of_flag phase) + 32)) is ∙ b.is }))
+finds-there check sender dlci symbols phase bits found long low one k (sent.Frame frame) e codable is = ap flagged (k.frame frame codable is)
 
--- what octets are read there, and what is found where there are none
-pub read-there : FoundLaws → (check : Check) (sender : Role) (dlci : ℕ) (line : List Bool) (octets : List ℕ) (found : Option Frame)
-    → dlci < 64 → AreOctets octets → ReadsContent line octets
-    → ((frame : Frame) → SpellsFrame check sender dlci octets frame → found ≡ Some frame)
-    → FindsThere check sender dlci line found
-read-there laws check sender dlci line octets found few are r k = record {
-  frame = λ frame sendable b.
-      let small : AreOctets (checked check sender dlci frame) = (laws.octets check sender dlci (sent.Frame frame) few sendable) in
-      let same : octets ≡ checked check sender dlci frame =
-      content-is (checked check sender dlci frame) octets b.tail small are (subst (λ xs. ReadsContent xs octets) b.is r) in
-      k frame (subst (λ xs. SpellsFrame check sender dlci xs frame) (sym same) (spells check sender dlci frame sendable.0));
+pub none-there : FoundLaws → (check : Check) (sender : Role) (dlci symbols phase : ℕ) (bits : List Bool) (found : Option Frame) → dlci < 64
+    → wholes (pieces_of (drop (length (rest_of_flag phase) + 24) bits)) ≡ [] → FindsThere check sender dlci symbols phase bits found
+none-there laws check sender dlci symbols phase bits found few none = record {
+  frame = λ frame codable e.
+      absurd (one-whole bits (length (rest_of_flag phase) + 24) (checked check sender dlci frame) (end_of check sender dlci phase frame)
+      (sent-piece laws check sender dlci symbols phase bits frame few codable e) none);
 }
 
-pub none-there : (check : Check) (sender : Role) (dlci : ℕ) (line : List Bool) (found : Option Frame) → has_sixth 5 line ≡ false
-    → FindsThere check sender dlci line found
-none-there check sender dlci line found quiet = record {
-  frame = λ frame sendable b.
-      absurd (sixth-there (bits_of (checked check sender dlci frame)) b.tail (ap (has_sixth 5) (sym b.is) ∙ quiet));
+pub first-there : FoundLaws → (check : Check) (sender : Role) (dlci symbols phase : ℕ) (bits : List Bool) (deframer : Kept) (end : ℕ)
+    (octets : List ℕ) (found : Option Frame) → dlci < 64 → EndsFirst deframer bits (length (rest_of_flag phase) + 24) end
+    → octets ≡ lent_of (part bits (length (rest_of_flag phase) + 24) end)
+    → ((frame : Frame) → SpellsFrame check sender dlci octets frame → found ≡ Some frame)
+    → FindsThere check sender dlci symbols phase bits found
+first-there laws check sender dlci symbols phase bits deframer end octets found few first lent k = record {
+  frame = λ frame codable e.
+      let is = first-is deframer bits (length (rest_of_flag phase) + 24) end (checked check sender dlci frame)
+      (end_of check sender dlci phase frame) first (sent-piece laws check sender dlci symbols phase bits frame few codable e) in
+      k frame (subst (λ xs. SpellsFrame check sender dlci xs frame) (sym (lent ∙ is.0)) (spells check sender dlci frame codable.sendable.0));
+}
+
+-- where its octets are, and where it ends
+some-octets : (check : Check) (sender : Role) (dlci : ℕ) (frame : Frame) → checked check sender dlci frame ≡ [] → ⊥
+some-octets check sender dlci frame none =
+    let z : address_of (parts_of frame).command sender dlci
+    ∷ ((control_octet (parts_of frame) ∷ tail_octets (parts_of frame)) ++ check_of (check_for check frame) (spelled frame sender dlci)) ≡ [] = none in
+    absurd cc
+
+pub found-at : FoundLaws → (check : Check) (sender : Role) (dlci phase : ℕ) (bits : List Bool) (seeker : Seeker) (octets : List ℕ)
+    (found : Option Frame) → dlci < 64 → EndsFirst seeker.deframer bits (length (rest_of_flag phase) + 24) seeker.end
+    → octets ≡ lent_of (part bits (length (rest_of_flag phase) + 24) seeker.end)
+    → IsLent (part bits (length (rest_of_flag phase) + 24) seeker.end) octets
+    → IfSome found (λ frame. octets ≡ checked check sender dlci frame) → IfSome found (IsAt check sender dlci phase bits seeker)
+found-at laws check sender dlci phase bits seeker octets None few first lent is e = tt
+found-at laws check sender dlci phase bits seeker octets (Some frame) few first lent is e = record {
+  lends = record { read = part bits (length (rest_of_flag phase) + 24) seeker.end; stands = first.stands; lent = sym lent ∙ e };
+  by = elim is [
+    | inl whole ↦
+        (let long = piece-long bits (length (rest_of_flag phase) + 24) seeker.end octets (omega (arith, first.later)) first.within whole in
+        omega (
+          arith,
+          long,
+          ap (λ xs. length (stuffed 5 (bits_of xs))) e,
+          long-opening phase (Some (checked check sender dlci frame)),
+          long-frame (checked check sender dlci frame),
+        ))
+    | inr none ↦ absurd (some-octets check sender dlci frame (sym e ∙ none.0))
+  ];
+  at = λ symbols codable same.
+      (first-is seeker.deframer bits (length (rest_of_flag phase) + 24) seeker.end (checked check sender dlci frame)
+      (end_of check sender dlci phase frame) first (sent-piece laws check sender dlci symbols phase bits frame few codable same)).1;
 }
 
 -- ---- bits and quads of a slot
@@ -186,23 +302,3 @@ bit-in zero (suc (suc (suc (suc r)))) (x ∷ quads) h low = absurd (omega (arith
 bit-in (suc k) r (x ∷ quads) h low =
     let place : 4 * suc k + r ≡ suc (suc (suc (suc (4 * k + r)))) = omega arith in
     ap (bit_of (line_bits (x ∷ quads))) place ∙ bit-in k r quads (omega (arith, h)) low
-
--- and one quad more
-pub next-part : (passed place quad : ℕ) (quads : List ℕ) → passed ≤ length (line_bits (take place quads))
-    → line_bits (take place quads) ++ low_bits 4 quad ≡ line_bits (take (place + 1) quads)
-    → drop passed (line_bits (take place quads)) ++ low_bits 4 quad ≡ drop passed (line_bits (take (place + 1) quads))
-next-part passed place quad quads low e =
-    sym (drop-append-le passed (line_bits (take place quads)) (low_bits 4 quad) low) ∙ ap (drop passed) e
-
-pub long-part : (passed place : ℕ) (quads : List ℕ) → passed < 4 * place → place ≤ length quads
-    → passed ≤ length (line_bits (take place quads))
-long-part passed place quads low within =
-    omega (arith, length-line_bits (take place quads), length-take-le place quads within, low)
-
--- all of them
-pub whole-part : (passed place : ℕ) (quads : List ℕ) → passed ≤ length (line_bits (take place quads))
-    → drop passed (line_bits (take place quads)) ++ line_bits (drop place quads) ≡ drop passed (line_bits quads)
-whole-part passed place quads low =
-    sym (drop-append-le passed (line_bits (take place quads)) (line_bits (drop place quads)) low)
-    ∙ ap (drop passed) (sym (flat_map-append (low_bits 4) (take place quads) (drop place quads)))
-    ∙ ap (λ qs. drop passed (line_bits qs)) (take-append-drop place quads)

@@ -1,285 +1,97 @@
 -- Samples that are points, one after another.
-use Rattle.std.proofs.Common.{of_z, w16, ◌≡◌, ◌∙◌, ℕ, zero, suc, ◌+◌, ◌*◌, ◌<◌, ◌≤◌, Bool, List, [], ◌∷◌, ◌++◌, length}
-use Rattle.std.proofs.Common.{take, map, get_or, Option, Some, None, slice_index, refl, sym, ap, subst, arith}
-use Rattle.std.proofs.lemmas.Bool.{eqb-true, ltb-true, leb-true, and_parts, or_cases}
-use Rattle.std.proofs.lemmas.Int.{of_z-to_z}
-use Rattle.std.specs.Prelude.{slice_index_or, nat_eq, nat_lt, nat_le, ◌&&◌, ◌||◌, true}
-use Rattle.std.proofs.Common.{◌⊎◌, inl, inr}
-use Rattle.std.proofs.lemmas.List.{map-append, take-map, length-map, take_more, same_from_push}
+use Rattle.std.proofs.Common.{◌≡◌, ◌∙◌, inl, inr, ℕ, zero, suc, ◌+◌, ◌-◌, ◌*◌, ◌<◌, ◌≤◌, Bool, List, [], ◌∷◌, ◌++◌, length}
+use Rattle.std.proofs.Common.{take, map, get_or, Some, slice_index, refl, sym, ap, subst, arith}
+use Rattle.std.proofs.lemmas.Bool.{cases_lt}
+use Rattle.std.proofs.lemmas.List.{append_assoc, map-append, take-map, length-map, length_push, take_more, same_from_push, flat_map_more}
 use Rattle.std.proofs.lemmas.List.Elements.{All-append, All-cons, All-nil, All-take}
+use Rattle.plain_lists.specs.Bits.{low_bits}
+use Rattle.scramblers.specs.declared.mode.Mode.{Mode}
 use Rattle.symbol_map.specs.declared.sample.Sample.{Sample}
 use Rattle.symbol_map.specs.Points.{point_of}
-use Rattle.symbol_map.specs.Distance.{distance_of}
-use Rattle.symbol_map.proofs.Distances.{equal_from_no_distance}
-use Rattle.symbol_map.specs.Finite.{each_below, at_each}
 use Rattle.symbol_map.specs.Laws.{PointsDiffer}
 use Rattle.trellis_tables.specs.Table.{next_state}
 use Rattle.trellis_tables.specs.Sequences.{Leads}
-use Rattle.trellis_tables.proofs.Sequences.{Leads-front, Leads-take, Leads_once}
-use Rattle.recordings.specs.Samples.{samples_in, sample_at, sample_of, coordinate}
-use Rattle.line_tap.specs.Labels.{AreLabels, NoStep, NoSequence, column_of, height_of, high_of}
+use Rattle.trellis_tables.proofs.Sequences.{Leads-front, Leads-snoc, Leads-take, Leads_once}
+use Rattle.bit_stuffing.specs.BitSlot.{line_bits}
+use Rattle.line_coding.specs.declared.demodulator.Demodulator.{Demodulator}
+use Rattle.line_coding.specs.Demodulates.{DemodulatorStands}
+use Rattle.recordings.specs.Samples.{samples_in, sample_at, sample_of}
+use Rattle.line_tap.specs.Labels.{AreLabels, NoStep, NoSequence, ReadsLabels}
 use Rattle.line_tap.proofs.Coding.{points-tell}
 
--- the labels of the map, by columns and heights
-abbrev pub label_map : List ℕ
-label_map =
-    32 ∷ 32 ∷ 32 ∷ 7 ∷ 32 ∷ 0 ∷ 32 ∷ 32 ∷ 32 ∷ 32
-    ∷ 32 ∷ 32 ∷ 16 ∷ 32 ∷ 25 ∷ 32 ∷ 18 ∷ 32 ∷ 32 ∷ 32
-    ∷ 32 ∷ 14 ∷ 32 ∷ 9 ∷ 32 ∷ 15 ∷ 32 ∷ 8 ∷ 32 ∷ 32
-    ∷ 28 ∷ 32 ∷ 23 ∷ 32 ∷ 30 ∷ 32 ∷ 21 ∷ 32 ∷ 31 ∷ 32
-    ∷ 32 ∷ 1 ∷ 32 ∷ 6 ∷ 32 ∷ 2 ∷ 32 ∷ 5 ∷ 32 ∷ 32
-    ∷ 27 ∷ 32 ∷ 17 ∷ 32 ∷ 26 ∷ 32 ∷ 19 ∷ 32 ∷ 24 ∷ 32
-    ∷ 32 ∷ 12 ∷ 32 ∷ 11 ∷ 32 ∷ 13 ∷ 32 ∷ 10 ∷ 32 ∷ 32
-    ∷ 32 ∷ 32 ∷ 22 ∷ 32 ∷ 29 ∷ 32 ∷ 20 ∷ 32 ∷ 32 ∷ 32
-    ∷ 32 ∷ 32 ∷ 32 ∷ 4 ∷ 32 ∷ 3 ∷ 32 ∷ 32 ∷ 32 ∷ 32
-    ∷ 32 ∷ 32 ∷ 32 ∷ 32 ∷ 32 ∷ 32 ∷ 32 ∷ 32 ∷ 32 ∷ 32
-    ∷ []
+-- ---- the label of a sample, by a sum over all labels
 
-abbrev pub label_there : ℕ → ℕ → ℕ
-label_there column height = slice_index_or label_map (10 * column + height) 0
+-- of so many labels one, if any, is the sample's, and it stands in the sum with one more
+pub record SumsUp (count number : ℕ) (sample : Sample) : Type 0 where
+  pub few : number ≤ count
+  pub point : 0 < number → point_of (number - 1) ≡ sample
+  pub only : (label : ℕ) → label < count → point_of label ≡ sample → number ≡ label + 1
 
--- and columns and heights by octets
-abbrev pub place_map : List ℕ
-place_map =
-    4 ∷ 9 ∷ 9 ∷ 9 ∷ 9 ∷ 9 ∷ 9 ∷ 9 ∷ 5 ∷ 9 ∷ 9 ∷ 9 ∷ 9 ∷ 9 ∷ 9 ∷ 9
-    ∷ 6 ∷ 9 ∷ 9 ∷ 9 ∷ 9 ∷ 9 ∷ 9 ∷ 9 ∷ 7 ∷ 9 ∷ 9 ∷ 9 ∷ 9 ∷ 9 ∷ 9 ∷ 9
-    ∷ 8 ∷ 9 ∷ 9 ∷ 9 ∷ 9 ∷ 9 ∷ 9 ∷ 9 ∷ 9 ∷ 9 ∷ 9 ∷ 9 ∷ 9 ∷ 9 ∷ 9 ∷ 9
-    ∷ 9 ∷ 9 ∷ 9 ∷ 9 ∷ 9 ∷ 9 ∷ 9 ∷ 9 ∷ 9 ∷ 9 ∷ 9 ∷ 9 ∷ 9 ∷ 9 ∷ 9 ∷ 9
-    ∷ 9 ∷ 9 ∷ 9 ∷ 9 ∷ 9 ∷ 9 ∷ 9 ∷ 9 ∷ 9 ∷ 9 ∷ 9 ∷ 9 ∷ 9 ∷ 9 ∷ 9 ∷ 9
-    ∷ 9 ∷ 9 ∷ 9 ∷ 9 ∷ 9 ∷ 9 ∷ 9 ∷ 9 ∷ 9 ∷ 9 ∷ 9 ∷ 9 ∷ 9 ∷ 9 ∷ 9 ∷ 9
-    ∷ 9 ∷ 9 ∷ 9 ∷ 9 ∷ 9 ∷ 9 ∷ 9 ∷ 9 ∷ 9 ∷ 9 ∷ 9 ∷ 9 ∷ 9 ∷ 9 ∷ 9 ∷ 9
-    ∷ 9 ∷ 9 ∷ 9 ∷ 9 ∷ 9 ∷ 9 ∷ 9 ∷ 9 ∷ 9 ∷ 9 ∷ 9 ∷ 9 ∷ 9 ∷ 9 ∷ 9 ∷ 9
-    ∷ 9 ∷ 9 ∷ 9 ∷ 9 ∷ 9 ∷ 9 ∷ 9 ∷ 9 ∷ 9 ∷ 9 ∷ 9 ∷ 9 ∷ 9 ∷ 9 ∷ 9 ∷ 9
-    ∷ 9 ∷ 9 ∷ 9 ∷ 9 ∷ 9 ∷ 9 ∷ 9 ∷ 9 ∷ 9 ∷ 9 ∷ 9 ∷ 9 ∷ 9 ∷ 9 ∷ 9 ∷ 9
-    ∷ 9 ∷ 9 ∷ 9 ∷ 9 ∷ 9 ∷ 9 ∷ 9 ∷ 9 ∷ 9 ∷ 9 ∷ 9 ∷ 9 ∷ 9 ∷ 9 ∷ 9 ∷ 9
-    ∷ 9 ∷ 9 ∷ 9 ∷ 9 ∷ 9 ∷ 9 ∷ 9 ∷ 9 ∷ 9 ∷ 9 ∷ 9 ∷ 9 ∷ 9 ∷ 9 ∷ 9 ∷ 9
-    ∷ 9 ∷ 9 ∷ 9 ∷ 9 ∷ 9 ∷ 9 ∷ 9 ∷ 9 ∷ 9 ∷ 9 ∷ 9 ∷ 9 ∷ 9 ∷ 9 ∷ 9 ∷ 9
-    ∷ 9 ∷ 9 ∷ 9 ∷ 9 ∷ 9 ∷ 9 ∷ 9 ∷ 9 ∷ 9 ∷ 9 ∷ 9 ∷ 9 ∷ 9 ∷ 9 ∷ 9 ∷ 9
-    ∷ 0 ∷ 9 ∷ 9 ∷ 9 ∷ 9 ∷ 9 ∷ 9 ∷ 9 ∷ 1 ∷ 9 ∷ 9 ∷ 9 ∷ 9 ∷ 9 ∷ 9 ∷ 9
-    ∷ 2 ∷ 9 ∷ 9 ∷ 9 ∷ 9 ∷ 9 ∷ 9 ∷ 9 ∷ 3 ∷ 9 ∷ 9 ∷ 9 ∷ 9 ∷ 9 ∷ 9 ∷ 9
-    ∷ []
+pub sums-none : (sample : Sample) → SumsUp 0 0 sample
+sums-none sample = record {
+  few = omega arith;
+  point = λ some. absurd (omega (arith, some));
+  only = λ label low e. absurd (omega (arith, low));
+}
 
-abbrev pub place_at : ℕ → ℕ
-place_at octet = slice_index_or place_map octet 0
+-- a label that is not the sample's
+sums-past : (n number : ℕ) (sample : Sample) → SumsUp n number sample → (point_of n ≡ sample → ⊥) → SumsUp (n + 1) number sample
+sums-past n number sample h none = record {
+  few = omega (arith, h.few);
+  point = h.point;
+  only = λ label low e. elim (cases_lt label n) [
+    | inl less ↦ h.only label less e
+    | inr more ↦ (let same : label ≡ n = omega (arith, low, more) in absurd (none (ap point_of (sym same) ∙ e)))
+  ];
+}
 
-abbrev place_test : ℕ → Bool
-place_test place = nat_eq (place_at (high_of place)) place
+-- and the one that is
+sums-here : PointsDiffer → (n number : ℕ) (sample : Sample) → n < 32 → SumsUp n number sample → point_of n ≡ sample
+    → SumsUp (n + 1) (number + (n + 1)) sample
+sums-here differ n (suc number) sample low h here =
+    let back : number ≡ suc number - 1 = omega arith in
+    let same : number ≡ n = differ number n (omega (arith, h.few, low)) low (ap point_of back ∙ h.point (omega arith) ∙ sym here) in
+    absurd (omega (arith, same, h.few))
+sums-here differ n zero sample low h here = record {
+  few = omega arith;
+  point = λ some. let back : zero + (n + 1) - 1 ≡ n = omega arith in ap point_of back ∙ here;
+  only = λ label within e.
+      let same : label ≡ n = differ label n (omega (arith, within, low)) low (e ∙ sym here) in omega (arith, same);
+}
 
-all_there : each_below 9 place_test ≡ true
-all_there = refl
+pub sums-more : PointsDiffer → (n number share : ℕ) (sample : Sample) → n < 32 → SumsUp n number sample
+    → (0 < share → (point_of n ≡ sample) × (share ≡ n + 1)) → (share ≡ 0 → point_of n ≡ sample → ⊥) → SumsUp (n + 1) (number + share) sample
+sums-more differ n number zero sample low h is none =
+    let same : number ≡ number + zero = omega arith in
+    subst (λ m. SumsUp (n + 1) m sample) same (sums-past n number sample h (none refl))
+sums-more differ n number (suc share) sample low h is none =
+    let here = is (omega arith) in
+    subst (λ m. SumsUp (n + 1) (number + m) sample) (sym here.1) (sums-here differ n number sample low h here.0)
 
-abbrev octet_test : ℕ → Bool
-octet_test octet = nat_le (place_at octet) 9 && (nat_le 9 (place_at octet) || nat_eq (high_of (place_at octet)) octet)
+-- ---- labels and bits, one more of each
 
-all_octets : each_below 256 octet_test ≡ true
-all_octets = refl
-
-pub place-is : (place : ℕ) → place < 9 → place_at (high_of place) ≡ place
-place-is place low = eqb-true (place_at (high_of place)) place (at_each 9 place_test all_there place low)
-
-pub place-few : (octet : ℕ) → octet < 256 → place_at octet ≤ 9
-place-few octet low = leb-true (place_at octet) 9 (and_parts (nat_le (place_at octet) 9) _ (at_each 256 octet_test all_octets octet low)).0
-
-pub place-back : (octet : ℕ) → octet < 256 → place_at octet < 9 → octet ≡ high_of (place_at octet)
-place-back octet low small = go (or_cases (nat_le 9 (place_at octet)) _ (and_parts (nat_le (place_at octet) 9) _ (at_each 256 octet_test all_octets octet low)).1)
-  where
-    go : (nat_le 9 (place_at octet) ≡ true) ⊎ (nat_eq (high_of (place_at octet)) octet ≡ true) → octet ≡ high_of (place_at octet)
-    go (inl e) = absurd (omega (arith, leb-true 9 (place_at octet) e, small))
-    go (inr e) = sym (eqb-true (high_of (place_at octet)) octet e)
-
--- the states behind labels
-abbrev pub state_map : List ℕ
-state_map =
-    0 ∷ 8 ∷ 1 ∷ 8 ∷ 2 ∷ 8 ∷ 3 ∷ 8
-    ∷ 0 ∷ 8 ∷ 1 ∷ 8 ∷ 2 ∷ 8 ∷ 3 ∷ 8
-    ∷ 0 ∷ 8 ∷ 1 ∷ 8 ∷ 2 ∷ 8 ∷ 3 ∷ 8
-    ∷ 0 ∷ 8 ∷ 1 ∷ 8 ∷ 2 ∷ 8 ∷ 3 ∷ 8
-    ∷ 3 ∷ 8 ∷ 2 ∷ 8 ∷ 1 ∷ 8 ∷ 0 ∷ 8
-    ∷ 3 ∷ 8 ∷ 2 ∷ 8 ∷ 1 ∷ 8 ∷ 0 ∷ 8
-    ∷ 3 ∷ 8 ∷ 2 ∷ 8 ∷ 1 ∷ 8 ∷ 0 ∷ 8
-    ∷ 3 ∷ 8 ∷ 2 ∷ 8 ∷ 1 ∷ 8 ∷ 0 ∷ 8
-    ∷ 2 ∷ 8 ∷ 3 ∷ 8 ∷ 0 ∷ 8 ∷ 1 ∷ 8
-    ∷ 2 ∷ 8 ∷ 3 ∷ 8 ∷ 0 ∷ 8 ∷ 1 ∷ 8
-    ∷ 2 ∷ 8 ∷ 3 ∷ 8 ∷ 0 ∷ 8 ∷ 1 ∷ 8
-    ∷ 2 ∷ 8 ∷ 3 ∷ 8 ∷ 0 ∷ 8 ∷ 1 ∷ 8
-    ∷ 1 ∷ 8 ∷ 0 ∷ 8 ∷ 3 ∷ 8 ∷ 2 ∷ 8
-    ∷ 1 ∷ 8 ∷ 0 ∷ 8 ∷ 3 ∷ 8 ∷ 2 ∷ 8
-    ∷ 1 ∷ 8 ∷ 0 ∷ 8 ∷ 3 ∷ 8 ∷ 2 ∷ 8
-    ∷ 1 ∷ 8 ∷ 0 ∷ 8 ∷ 3 ∷ 8 ∷ 2 ∷ 8
-    ∷ 8 ∷ 4 ∷ 8 ∷ 7 ∷ 8 ∷ 6 ∷ 8 ∷ 5
-    ∷ 8 ∷ 4 ∷ 8 ∷ 7 ∷ 8 ∷ 6 ∷ 8 ∷ 5
-    ∷ 8 ∷ 4 ∷ 8 ∷ 7 ∷ 8 ∷ 6 ∷ 8 ∷ 5
-    ∷ 8 ∷ 4 ∷ 8 ∷ 7 ∷ 8 ∷ 6 ∷ 8 ∷ 5
-    ∷ 8 ∷ 5 ∷ 8 ∷ 6 ∷ 8 ∷ 7 ∷ 8 ∷ 4
-    ∷ 8 ∷ 5 ∷ 8 ∷ 6 ∷ 8 ∷ 7 ∷ 8 ∷ 4
-    ∷ 8 ∷ 5 ∷ 8 ∷ 6 ∷ 8 ∷ 7 ∷ 8 ∷ 4
-    ∷ 8 ∷ 5 ∷ 8 ∷ 6 ∷ 8 ∷ 7 ∷ 8 ∷ 4
-    ∷ 8 ∷ 7 ∷ 8 ∷ 4 ∷ 8 ∷ 5 ∷ 8 ∷ 6
-    ∷ 8 ∷ 7 ∷ 8 ∷ 4 ∷ 8 ∷ 5 ∷ 8 ∷ 6
-    ∷ 8 ∷ 7 ∷ 8 ∷ 4 ∷ 8 ∷ 5 ∷ 8 ∷ 6
-    ∷ 8 ∷ 7 ∷ 8 ∷ 4 ∷ 8 ∷ 5 ∷ 8 ∷ 6
-    ∷ 8 ∷ 6 ∷ 8 ∷ 5 ∷ 8 ∷ 4 ∷ 8 ∷ 7
-    ∷ 8 ∷ 6 ∷ 8 ∷ 5 ∷ 8 ∷ 4 ∷ 8 ∷ 7
-    ∷ 8 ∷ 6 ∷ 8 ∷ 5 ∷ 8 ∷ 4 ∷ 8 ∷ 7
-    ∷ 8 ∷ 6 ∷ 8 ∷ 5 ∷ 8 ∷ 4 ∷ 8 ∷ 7
-    ∷ 8 ∷ 8 ∷ 8 ∷ 8 ∷ 8 ∷ 8 ∷ 8 ∷ 8
-    ∷ []
-
-abbrev pub state_at : ℕ → ℕ → ℕ
-state_at label state = slice_index_or state_map (8 * label + state) 0
-
-abbrev pub is_next : Option ℕ → ℕ → Bool
-is_next None found = nat_le 8 found
-is_next (Some to) found = nat_lt found 8 && nat_eq to found
-
-abbrev state_test : ℕ → ℕ → Bool
-state_test label state = is_next (next_state state label) (state_at label state) && (nat_lt label 32 || nat_le 8 (state_at label state))
-
-all_states : each_below 33 (λ label. each_below 8 (state_test label)) ≡ true
-all_states = refl
-
-state-tested : (label state : ℕ) → label ≤ 32 → state < 8 → state_test label state ≡ true
-state-tested label state few low =
-    at_each 8 (state_test label) (at_each 33 (λ l. each_below 8 (state_test l)) all_states label (omega (arith, few))) state low
-
-pub state-some : (label state : ℕ) → label ≤ 32 → state < 8 → state_at label state < 8 → next_state state label ≡ Some (state_at label state)
-state-some label state few low small =
-    go (next_state state label) refl (and_parts (is_next (next_state state label) (state_at label state)) _ (state-tested label state few low)).0
-  where
-    go : (o : Option ℕ) → next_state state label ≡ o → is_next o (state_at label state) ≡ true → next_state state label ≡ Some (state_at label state)
-    go None e k = absurd (omega (arith, leb-true 8 (state_at label state) k, small))
-    go (Some to) e k = e ∙ ap Some (eqb-true to (state_at label state) (and_parts (nat_lt (state_at label state) 8) _ k).1)
-
-pub state-none : (label state : ℕ) → label ≤ 32 → state < 8 → 8 ≤ state_at label state → next_state state label ≡ None
-state-none label state few low large =
-    go (next_state state label) refl (and_parts (is_next (next_state state label) (state_at label state)) _ (state-tested label state few low)).0
-  where
-    go : (o : Option ℕ) → next_state state label ≡ o → is_next o (state_at label state) ≡ true → next_state state label ≡ None
-    go None e k = e
-    go (Some to) e k = absurd (omega (arith, ltb-true (state_at label state) 8 (and_parts (nat_lt (state_at label state) 8) _ k).0, large))
-
-pub state-small : (label state : ℕ) → label ≤ 32 → state < 8 → state_at label state < 8 → label < 32
-state-small label state few low small =
-    go (or_cases (nat_lt label 32) _ (and_parts (is_next (next_state state label) (state_at label state)) _ (state-tested label state few low)).1)
-  where
-    go : (nat_lt label 32 ≡ true) ⊎ (nat_le 8 (state_at label state) ≡ true) → label < 32
-    go (inl e) = ltb-true label 32 e
-    go (inr e) = absurd (omega (arith, leb-true 8 (state_at label state) e, small))
-
--- the point of a label, by its octets
-abbrev there : ℕ → Sample
-there label = sample_of 0 (high_of (column_of label)) 0 (high_of (height_of label))
-
-abbrev label_test : ℕ → Bool
-label_test label =
-    nat_eq (label_there (column_of label) (height_of label)) label && (nat_eq (distance_of (point_of label) (there label)) 0
-    && (nat_lt (column_of label) 9 && nat_lt (height_of label) 9))
-
-all_labels : each_below 32 label_test ≡ true
-all_labels = refl
-
--- and whatever stands at a place is a label of that place
-abbrev back_test : ℕ → Bool
-back_test place =
-    nat_le 32 (slice_index_or label_map place 0) ||
-    nat_eq (10 * column_of (slice_index_or label_map place 0) + height_of (slice_index_or label_map place 0)) place
-
-all_places : each_below 100 back_test ≡ true
-all_places = refl
-
-pub record IsThere (label : ℕ) : Type 0 where
-  pub stands : label_there (column_of label) (height_of label) ≡ label
-  pub point : point_of label ≡ there label
-  pub left : column_of label < 9
-  pub low : height_of label < 9
-
-pub is-there : (label : ℕ) → label < 32 → IsThere label
-is-there label low =
-    let t = and_parts (nat_eq (label_there (column_of label) (height_of label)) label) _ (at_each 32 label_test all_labels label low) in
-    let u = and_parts (nat_eq (distance_of (point_of label) (there label)) 0) _ t.1 in
-    let v = and_parts (nat_lt (column_of label) 9) (nat_lt (height_of label) 9) u.1 in
-    record {
-      stands = eqb-true (label_there (column_of label) (height_of label)) label t.0;
-      point = equal_from_no_distance (point_of label) (there label) (eqb-true (distance_of (point_of label) (there label)) 0 u.0);
-      left = ltb-true (column_of label) 9 v.0;
-      low = ltb-true (height_of label) 9 v.1;
-    }
-
--- a label that is found is that of the place
-pub there-back : (column height : ℕ) → column ≤ 9 → height ≤ 9 → label_there column height < 32
-    → (column ≡ column_of (label_there column height)) × (height ≡ height_of (label_there column height))
-there-back column height left low small =
-    let label : ℕ = label_there column height in
-    let is = is-there label small in
-    go (or_cases (nat_le 32 label) _ (at_each 100 back_test all_places (10 * column + height) (omega (arith, left, low))))
-  where
-    go : (nat_le 32 (label_there column height) ≡ true)
-        ⊎ (nat_eq (10 * column_of (label_there column height) + height_of (label_there column height)) (10 * column + height) ≡ true)
-        → (column ≡ column_of (label_there column height)) × (height ≡ height_of (label_there column height))
-    go (inl e) = absurd (omega (arith, leb-true 32 (label_there column height) e, small))
-    go (inr e) =
-        let is = is-there (label_there column height) small in
-        let same = eqb-true (10 * column_of (label_there column height) + height_of (label_there column height)) (10 * column + height) e in
-        (omega (arith, same, is.left, is.low, left, low), omega (arith, same, is.left, is.low, left, low))
-
-abbrev few_test : ℕ → Bool
-few_test place = nat_le (slice_index_or label_map place 0) 32
-
-all_few : each_below 100 few_test ≡ true
-all_few = refl
-
-pub there-few : (column height : ℕ) → column ≤ 9 → height ≤ 9 → label_there column height ≤ 32
-there-few column height left low =
-    leb-true (label_there column height) 32 (at_each 100 few_test all_few (10 * column + height) (omega (arith, left, low)))
-
--- the octets of a coordinate
-same-octets : (a b c d : ℕ) → a < 256 → b < 256 → c < 256 → d < 256 → coordinate a b ≡ coordinate c d → (a ≡ c) × (b ≡ d)
-same-octets a b c d la lb lc ld e =
-    let same : a + 256 * b ≡ c + 256 * d =
-    sym (of_z-to_z w16 (a + 256 * b) (omega (arith, la, lb))) ∙ ap (of_z w16) e ∙ of_z-to_z w16 (c + 256 * d) (omega (arith, lc, ld)) in
-    (omega (arith, same, la, lb, lc, ld), omega (arith, same, la, lb, lc, ld))
-
-high-small : (place : ℕ) → high_of place < 256
-high-small place = omega arith
-
--- the octets of a point
-pub record AreOctetsOf (label a b c d : ℕ) : Type 0 where
-  pub re_low : a ≡ 0
-  pub re : b ≡ high_of (column_of label)
-  pub im_low : c ≡ 0
-  pub im : d ≡ high_of (height_of label)
-
-octets-of : (label a b c d : ℕ) → label < 32 → a < 256 → b < 256 → c < 256 → d < 256 → point_of label ≡ sample_of a b c d
-    → AreOctetsOf label a b c d
-octets-of label a b c d low la lb lc ld e =
-    let same : sample_of a b c d ≡ there label = sym e ∙ (is-there label low).point in
-    let re = same-octets a b 0 (high_of (column_of label)) la lb (omega arith) (high-small (column_of label))
-    (ap (λ (s : Sample). s.re) same) in
-    let im = same-octets c d 0 (high_of (height_of label)) lc ld (omega arith) (high-small (height_of label))
-    (ap (λ (s : Sample). s.im) same) in
-    record { re_low = re.0; re = re.1; im_low = im.0; im = im.1 }
-
-abbrev pub AreOctetsAt : ℕ → List ℕ → ℕ → Type 0
-AreOctetsAt label octets place =
-    AreOctetsOf label (slice_index octets (4 * place)) (slice_index octets (4 * place + 1)) (slice_index octets (4 * place + 2))
-    (slice_index octets (4 * place + 3))
-
-pub octets-at : (label place : ℕ) (octets : List ℕ) → label < 32 → ((i : ℕ) → slice_index octets i < 256)
-    → point_of label ≡ sample_at octets place → AreOctetsAt label octets place
-octets-at label place octets low small e =
-    octets-of label (slice_index octets (4 * place)) (slice_index octets (4 * place + 1)) (slice_index octets (4 * place + 2))
-    (slice_index octets (4 * place + 3)) low (small (4 * place)) (small (4 * place + 1)) (small (4 * place + 2)) (small (4 * place + 3)) e
-
-pub octets-back : (label a b c d : ℕ) → label < 32 → AreOctetsOf label a b c d → point_of label ≡ sample_of a b c d
-octets-back label a b c d low h = (is-there label low).point ∙ rw (h.re_low, h.re, h.im_low, h.im) refl
-
--- one label more
 pub labels-on : (labels : List ℕ) (samples : List Sample) (label : ℕ) (sample : Sample) → label < 32 → point_of label ≡ sample
     → AreLabels labels samples → AreLabels (labels ++ label ∷ []) (samples ++ sample ∷ [])
 labels-on labels samples label sample low e are = (
   All-append (λ l. l < 32) labels (label ∷ []) are.0 (All-cons (λ l. l < 32) label [] low (All-nil (λ l. l < 32))),
   map-append point_of labels (label ∷ []) ∙ ap (λ xs. xs ++ point_of label ∷ []) are.1 ∙ ap (λ s. samples ++ s ∷ []) e,
 )
+
+pub reads-more : (old mid new : Demodulator) (from state to : ℕ) (samples : List Sample) (quads labels : List ℕ) (sample : Sample) (label quad : ℕ)
+    → label < 32 → point_of label ≡ sample → next_state state label ≡ Some to
+    → ((mode : Mode) (before : List ℕ) (bits : List Bool) → DemodulatorStands mode mid before bits
+    → DemodulatorStands mode new (before ++ label ∷ []) (bits ++ low_bits 4 quad))
+    → ReadsLabels old mid from state samples quads labels
+    → ReadsLabels old new from to (samples ++ sample ∷ []) (quads ++ quad ∷ []) (labels ++ label ∷ [])
+reads-more old mid new from state to samples quads labels sample label quad low e next push h = record {
+  are = labels-on labels samples label sample low e h.are;
+  leads = Leads-snoc next_state from labels state label to h.leads next;
+  count = length_push quads quad ∙ ap (λ n. n + 1) h.count ∙ sym (length_push samples sample);
+  stands = λ mode before bits k.
+      subst (λ (ls : List ℕ). DemodulatorStands mode new ls (bits ++ line_bits (quads ++ quad ∷ []))) (append_assoc before labels (label ∷ []))
+      (subst (λ (xs : List Bool). DemodulatorStands mode new ((before ++ labels) ++ label ∷ []) xs) (flat_map_more (low_bits 4) bits quads quad)
+      (push mode (before ++ labels) (bits ++ line_bits quads) (h.stands mode before bits k)));
+}
 
 -- the samples of whole octets, and each of them
 pub count-samples : (n : ℕ) (octets : List ℕ) → length octets ≡ 4 * n → length (samples_in octets) ≡ n

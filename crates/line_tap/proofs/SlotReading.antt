@@ -1,10 +1,10 @@
 -- A slot that is read: its bits, what is taken for what was sent in it, its samples, and what stands behind it.
-use Rattle.std.proofs.Common.{◌≡◌, ◌∙◌, ℕ, ◌*◌, ◌<◌, ◌≤◌, Bool, List, [], ◌∷◌, ◌++◌, length, map, take, drop, All}
+use Rattle.std.proofs.Common.{◌≡◌, ◌∙◌, ℕ, ◌*◌, ◌<◌, Bool, List, [], ◌∷◌, ◌++◌, length, map, take, drop, All}
 use Rattle.std.proofs.Common.{Option, refl, sym, ap, subst, arith}
+use Rattle.std.specs.Prelude.{IfSome}
 use Rattle.std.proofs.lemmas.List.{map-append, take-map, drop-map, take-append-drop}
 use Rattle.std.proofs.lemmas.List.Elements.{All-append, All-map, All-take, All-drop}
 use Rattle.scramblers.specs.declared.mode.Mode.{Mode}
-use Rattle.scramblers.specs.declared.mode.Mode.TheVariants.{Call, Answer}
 use Rattle.scramblers.specs.Mode.{tap_of}
 use Rattle.scramblers.proofs.Readings.{Scrambles_from_Descrambles}
 use Rattle.shared_terms.specs.Role.{mode_of}
@@ -17,7 +17,7 @@ use Rattle.trellis_tables.specs.Table.{next_state}
 use Rattle.trellis_tables.specs.Sequences.{Leads}
 use Rattle.trellis_tables.proofs.Readings.{Encodes_quads_of}
 use Rattle.trellis_tables.proofs.Sequences.{Leads-split, Leads_once}
-use Rattle.line_coding.specs.Demodulates.{line_of, Demodulates}
+use Rattle.line_coding.specs.Demodulates.{line_of, DemodulatorStands}
 use Rattle.differential.specs.Turned.{unturned_at}
 use Rattle.symbol_map.specs.Labels.{y_of}
 use Rattle.std.specs.List.{range_with_len}
@@ -27,19 +27,25 @@ use Rattle.bit_stuffing.specs.Slots.{Slot, phase_after, next_phase, slot_bits}
 use Rattle.bit_stuffing.specs.SlotWriter.{Writer, WriterStands}
 use Rattle.bit_stuffing.proofs.Fill.{phase-append}
 use Rattle.detection.specs.Slots.{Signal, slot_of, slots_of, signal_bits}
-use Rattle.line_tap.specs.declared.bits.BitReader.{BitReader}
+use Rattle.line_coding.specs.declared.demodulator.Demodulator.{Demodulator}
 use Rattle.line_coding.specs.Modulates.{Modulates}
+use Rattle.line_coding.proofs.Standing.{demodulated}
 use Rattle.lapm_frames.specs.declared.frame.Frame.{Frame}
+use Rattle.frame_check.specs.declared.check.Check.{Check}
+use Rattle.shared_terms.specs.declared.role.Role.{Role}
 use Rattle.lapm_frames.specs.declared.sent.Sent.{Sent}
+use Rattle.lapm_frames.specs.declared.sent.Sent.TheVariants as sent
+use Rattle.lapm_frames.specs.Checked.{checked}
+use Rattle.line_tap.specs.declared.seeker.Seeker.{Seeker}
 use Rattle.sample_line.proofs.Passing.{slot-added}
 use Rattle.sample_line.specs.Signals.{IsCodable}
 use Rattle.sample_line.specs.Line.{bits_behind}
 use Rattle.sample_line.specs.Coder.{IsCodedAs}
 use Rattle.line_tap.specs.declared.reader.SlotReader.{SlotReader}
-use Rattle.line_tap.specs.Labels.{AreLabels, BitsStand, ReadsLabels}
+use Rattle.line_tap.specs.Labels.{AreLabels, ReadsLabels}
 use Rattle.line_tap.specs.Reading.{IsGuess}
 use Rattle.line_tap.specs.Reader.{ReaderStands, IsNext, carries}
-use Rattle.line_tap.specs.Seeking.{FindsSent}
+use Rattle.line_tap.specs.Seeking.{AreBitsOf, EndsAt, EndsBy, FindsSent, IsAt, Lends}
 use Rattle.line_tap.proofs.Coding.{points-tell}
 use Rattle.line_tap.proofs.Coding.{small as few-labels}
 use Rattle.line_tap.proofs.Guessing.{GuessLaws, same-bits, guess-right, phase_of}
@@ -50,14 +56,10 @@ bits_before r sigs = signal_bits (4 * r.symbols) sigs
 abbrev bits_next : SlotReader → List Signal → Sent → List Bool
 bits_next r sigs s = bits_behind (4 * r.symbols) sigs (carries r s)
 
-demodulated : (mode : Mode) (d : BitReader) (labels : List ℕ) (bits : List Bool) → BitsStand mode d labels bits
-    → Demodulates (tap_of mode) labels bits
-demodulated mode d labels bits h = h.past.descrambler.descrambled
-
 -- the bits that were read are those of the slot that these samples are
-pub bits-read : PointsDiffer → (r : SlotReader) (sigs : List Signal) (samples more : List Sample) (s : Sent) (d : BitReader) (to : ℕ)
+pub bits-read : PointsDiffer → (r : SlotReader) (sigs : List Signal) (samples more : List Sample) (s : Sent) (d : Demodulator) (to : ℕ)
     (quads labels : List ℕ)
-    → ReaderStands r sigs samples → ReadsLabels r.bit_reader d r.state to more quads labels → IsNext r sigs samples more s
+    → ReaderStands r sigs samples → ReadsLabels r.demodulator d r.state to more quads labels → IsNext r sigs samples more s
     → line_bits quads ≡ bits_behind (4 * r.symbols) sigs (carries r s)
 bits-read differ r sigs samples more s d to quads labels k h x =
     let mode : Mode = mode_of r.sender.role in
@@ -66,9 +68,9 @@ bits-read differ r sigs samples more s d to quads labels k h x =
     (demodulated mode d (k.labels ++ labels) (bits ++ line_bits quads) (h.stands mode k.labels bits k.read)) x.modulated
 
 -- and what is taken for what was sent is what was sent
-pub guessed : GuessLaws → (r : SlotReader) (sigs : List Signal) (samples more : List Sample) (s guess : Sent) (d : BitReader)
+pub guessed : GuessLaws → (r : SlotReader) (sigs : List Signal) (samples more : List Sample) (s guess : Sent) (d : Demodulator)
     (to : ℕ) (quads labels : List ℕ) (found : Option Frame) → r.phase ≡ phase_of r.symbols sigs → ReaderStands r sigs samples
-    → ReadsLabels r.bit_reader d r.state to more quads labels
+    → ReadsLabels r.demodulator d r.state to more quads labels
     → FindsSent r.sender.check r.sender.role r.sender.dlci r.symbols r.phase (line_bits quads) found
     → IsGuess (4 * r.symbols) (line_bits quads) found guess → IsNext r sigs samples more s → guess ≡ s
 guessed laws r sigs samples more s guess d to quads labels found phase k h finds g x =
@@ -77,9 +79,32 @@ guessed laws r sigs samples more s guess d to quads labels found phase k h finds
     (bits-read laws.points r sigs samples more s d to quads labels k h x)
     (subst (λ p. FindsSent r.sender.check r.sender.role r.sender.dlci r.symbols p (line_bits quads) found) phase finds) g
 
-tap-low : (mode : Mode) → 1 ≤ tap_of mode
-tap-low Call = omega arith
-tap-low Answer = omega arith
+-- where a frame was found it ends, and its octets are lent
+pub found-ends : (check : Check) (role : Role) (dlci symbols phase : ℕ) (bits : List Bool) (seeker : Seeker) (found : Option Frame) (guess : Sent)
+    → IfSome found (IsAt check role dlci phase bits seeker) → IsGuess (4 * symbols) bits found guess → EndsBy check role dlci phase guess seeker.end
+found-ends check role dlci symbols phase bits seeker found guess at g = record {
+  frame = λ frame e.
+      (subst (λ q. IfSome q (IsAt check role dlci phase bits seeker)) (subst (IsGuess (4 * symbols) bits found) e g).0 at).by;
+}
+
+pub found-lent : (check : Check) (role : Role) (dlci symbols phase : ℕ) (bits : List Bool) (seeker : Seeker) (octets : List ℕ)
+    (found : Option Frame) (guess : Sent)
+    → IfSome found (IsAt check role dlci phase bits seeker) → IsGuess (4 * symbols) bits found guess
+    → ((lent : List ℕ) → Lends seeker lent → octets ≡ lent)
+    → (frame : Frame) → guess ≡ sent.Frame frame → octets ≡ checked check role dlci frame
+found-lent check role dlci symbols phase bits seeker octets found guess at g lends = λ frame e.
+    lends (checked check role dlci frame)
+    (subst (λ q. IfSome q (IsAt check role dlci phase bits seeker)) (subst (IsGuess (4 * symbols) bits found) e g).0 at).lends
+
+pub found-sent : (check : Check) (role : Role) (dlci symbols phase : ℕ) (bits : List Bool) (seeker : Seeker) (found : Option Frame) (guess : Sent)
+    → IfSome found (IsAt check role dlci phase bits seeker) → IsGuess (4 * symbols) bits found guess
+    → IsCodable check role dlci symbols phase guess → AreBitsOf check role dlci symbols phase guess bits
+    → EndsAt check role dlci phase guess seeker.end
+found-sent check role dlci symbols phase bits seeker found guess at g codable same = record {
+  frame = λ frame e.
+      (subst (λ q. IfSome q (IsAt check role dlci phase bits seeker)) (subst (IsGuess (4 * symbols) bits found) e g).0 at).at symbols
+      (subst (IsCodable check role dlci symbols phase) e codable) (subst (λ s. AreBitsOf check role dlci symbols phase s bits) e same);
+}
 
 -- ---- labels of a code sequence are the coding of their bits
 
@@ -90,8 +115,8 @@ small-quads labels = All-map (λ quad. quad < 16) (quad_at labels) (range_with_l
     small : (turn q3q4 : ℕ) → turn < 4 → q3q4 < 4 → quad_of turn q3q4 < 16
     small turn q3q4 l m = omega (arith, l, m)
 
-pub sequence-modulates : (mode : Mode) (d : BitReader) (labels : List ℕ) (bits : List Bool) (samples : List Sample) (end : ℕ)
-    → BitsStand mode d labels bits → AreLabels labels samples → Leads next_state 0 labels end → Modulates (tap_of mode) bits samples
+pub sequence-modulates : (mode : Mode) (d : Demodulator) (labels : List ℕ) (bits : List Bool) (samples : List Sample) (end : ℕ)
+    → DemodulatorStands mode d labels bits → AreLabels labels samples → Leads next_state 0 labels end → Modulates (tap_of mode) bits samples
 sequence-modulates mode d labels bits samples end h are leads = record {
   line = line_of labels;
   quads = quads_of labels;
@@ -180,6 +205,6 @@ labels-code r sigs samples more s labels k are next =
     let mode : Mode = mode_of r.sender.role in
     record {
       points = samples;
-      earlier = sequence-modulates mode r.bit_reader k.labels (bits_before r sigs) samples r.state k.read k.are k.leads;
+      earlier = sequence-modulates mode r.demodulator k.labels (bits_before r sigs) samples r.state k.read k.are k.leads;
       modulated = subst (λ xs. Modulates (tap_of mode) (bits_before r sigs ++ bits_next r sigs s) (samples ++ xs)) (sym are.1) next.modulated;
     }

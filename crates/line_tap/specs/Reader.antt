@@ -10,6 +10,7 @@ use Rattle.detection.specs.Slots.{Signal, signal_bits, slots_of}
 use Rattle.trellis_tables.specs.Table.{next_state}
 use Rattle.trellis_tables.specs.Sequences.{Leads}
 use Rattle.line_coding.specs.Modulates.{Modulates}
+use Rattle.line_coding.specs.Demodulates.{DemodulatorStands}
 use Rattle.lapm_frames.specs.declared.sent.Sent.{Sent}
 use Rattle.sample_line.specs.Signals.{signal_of, IsCodable}
 use Rattle.sample_line.specs.Line.{bits_behind}
@@ -19,7 +20,7 @@ use Rattle.line_run.specs.Sampled.{Wire}
 use Rattle.line_tap.specs.declared.seeker.Sender.{Sender}
 use Rattle.line_tap.specs.declared.reader.SlotReader.{SlotReader}
 use Rattle.line_tap.specs.Tapping.{phase_behind}
-use Rattle.line_tap.specs.Labels.{AreLabels, BitsStand}
+use Rattle.line_tap.specs.Labels.{AreLabels}
 
 -- how a role's frames are judged
 abbrev pub sender_for : Check → Role → ℕ → Sender
@@ -40,7 +41,7 @@ pub record IsInStep (r : SlotReader) : Type 0 where
 pub record ReaderStands (reader : SlotReader) (sigs : List Signal) (samples : List Sample) : Type 0 where
   pub labels : List ℕ
   pub are : AreLabels labels samples
-  pub read : BitsStand (mode_of reader.sender.role) reader.bit_reader labels (signal_bits (4 * reader.symbols) sigs)
+  pub read : DemodulatorStands (mode_of reader.sender.role) reader.demodulator labels (signal_bits (4 * reader.symbols) sigs)
   pub leads : Leads next_state 0 labels reader.state
   pub in_step : IsInStep reader
   pub writer : WriterStands reader.writer (slots_of (4 * reader.symbols) sigs)

@@ -11,16 +11,17 @@ use Rattle.trellis_tables.specs.Sequences.{Leads}
 use Rattle.trellis_tables.proofs.Sequences.{Leads-append}
 use Rattle.recordings.specs.Samples.{samples_in}
 use Rattle.lapm_frames.specs.declared.sent.Sent.{Sent}
-use Rattle.lapm_frames.specs.declared.sent.Sent.TheVariants as sent
-use Rattle.lapm_frames.specs.Checked.{checked}
-use Rattle.std.specs.Prelude.{IfSome}
-use Rattle.line_tap.specs.Reading.{IsGuess}
+use Rattle.bit_stuffing.specs.Slots.{slot_bits}
+use Rattle.detection.specs.Slots.{slot_of}
+use Rattle.line_tap.specs.Seeking.{EndsAt, EndsBy}
 use Rattle.sample_line.specs.Signals.{IsCodable}
 use Rattle.sample_line.specs.Line.{bits_behind}
 use Rattle.line_tap.specs.Reader.{IsNext, carries}
 use Rattle.line_tap.proofs.Guessing.{GuessLaws}
-use Rattle.line_tap.specs.Labels.{AreLabels, BitsStand}
+use Rattle.line_coding.specs.Demodulates.{DemodulatorStands}
+use Rattle.line_tap.specs.Labels.{AreLabels}
 use Rattle.line_tap.proofs.PointLabels.{count-samples}
+use Rattle.line_tap.proofs.SlotReading.{found-ends, found-lent, found-sent}
 use Rattle.line_tap.proofs.SlotReading.{bits-read, guessed, labels-next, sequence-modulates}
 use Rattle.line_tap.proofs.SlotReading.{phase-is, written-as, writer-on, phase-next, bits-more, labels-more, labels-code}
 use Rattle.line_tap.proofs.reader.SlotReader.read.Goals as goal
@@ -47,11 +48,20 @@ returns-in_err-phase-clause-none c = λ sigs samples k fit.
     let refuted : (s : Sent) → IsNext r sigs samples more s → ⊥ =
     λ s x.
     let is : c.guess-sent.result ≡ s =
-    guessed laws r sigs samples more s c.guess-sent.result c.read_labels.new.bit_reader c.in_ok-state.state c.read_labels.new.bits
+    guessed laws r sigs samples more s c.guess-sent.result c.read_labels.new.demodulator c.in_ok-state.state c.read_labels.new.bits
     c.read_labels.new.labels c.frame_in-found.result phase k h
     (c.frame_in-found.ensures.found r.symbols r.low) c.guess-sent.ensures.guess x in
+    let codable = subst (λ q. IsCodable r.sender.check r.sender.role r.sender.dlci r.symbols r.phase q) (sym is) x.codable in
+    let same : line_bits c.read_labels.new.bits ≡ slot_bits (4 * r.symbols) r.phase (slot_of (4 * r.symbols) (carries r c.guess-sent.result)) =
+    bits-read c.points_differ.ensures r sigs samples more s c.read_labels.new.demodulator c.in_ok-state.state c.read_labels.new.bits
+    c.read_labels.new.labels k h x
+    ∙ ap (λ q. slot_bits (4 * r.symbols) q (slot_of (4 * r.symbols) (carries r s))) (sym phase)
+    ∙ ap (λ q. slot_bits (4 * r.symbols) r.phase (slot_of (4 * r.symbols) (carries r q))) (sym is) in
     c.in_err-phase.ensures.none
-    (subst (λ q. IsCodable r.sender.check r.sender.role r.sender.dlci r.symbols r.phase q) (sym is) x.codable) in
+    (subst (EndsAt r.sender.check r.sender.role r.sender.dlci r.phase c.guess-sent.result) (sym c.end.ensures)
+    (found-sent r.sender.check r.sender.role r.sender.dlci r.symbols r.phase (line_bits c.read_labels.new.bits) c.frame_in-found.new.self
+    c.frame_in-found.result c.guess-sent.result c.frame_in-found.ensures.at c.guess-sent.ensures.guess codable same))
+    codable in
     subst (λ q. IfNone q ((s : Sent) → IsNext r sigs samples more s → ⊥)) (sym c.from_residual-in_err-phase.ensures) refuted
 
 pub returns-then-not-same_quads-clause-none : goal.returns-then-not-same_quads-clause-none
@@ -65,12 +75,12 @@ returns-then-not-same_quads-clause-none c = λ sigs samples k fit s x.
     } in
     let phase = phase-is r sigs samples k in
     let is : c.guess-sent.result ≡ s =
-    guessed laws r sigs samples more s c.guess-sent.result c.read_labels.new.bit_reader c.in_ok-state.state c.read_labels.new.bits
+    guessed laws r sigs samples more s c.guess-sent.result c.read_labels.new.demodulator c.in_ok-state.state c.read_labels.new.bits
     c.read_labels.new.labels c.frame_in-found.result phase k h
     (c.frame_in-found.ensures.found r.symbols r.low) c.guess-sent.ensures.guess x in
     let coded = written-as r sigs samples c.guess-sent.result (line_bits c.write_again.new.out) k c.write_again.ensures.bits in
     c.same_quads.ensures.no c.if-not-same_quads.true
-    (bits-read c.points_differ.ensures r sigs samples more s c.read_labels.new.bit_reader c.in_ok-state.state c.read_labels.new.bits c.read_labels.new.labels k h x
+    (bits-read c.points_differ.ensures r sigs samples more s c.read_labels.new.demodulator c.in_ok-state.state c.read_labels.new.bits c.read_labels.new.labels k h x
     ∙ ap (λ q. bits_behind (4 * r.symbols) sigs (carries r q)) (sym is) ∙ sym coded)
 
 pub frame_in-found-requires-clause-long : goal.frame_in-found-requires-clause-long
@@ -102,16 +112,23 @@ returns-clause-some c = λ sigs samples k.
     let all : bits ++ line_bits read ≡ signal_bits (4 * r.symbols) (sigs ++ carries r s ∷ []) = bits-more r sigs s read here in
     let labels : List ℕ = k.labels ++ c.read_labels.new.labels in
     let are : AreLabels labels (samples ++ more) = labels-more k.labels c.read_labels.new.labels samples more k.are h.are in
-    let demodulated : BitsStand mode c.read_labels.new.bit_reader labels (bits ++ line_bits read) =
+    let demodulated : DemodulatorStands mode c.read_labels.new.demodulator labels (bits ++ line_bits read) =
     h.stands mode k.labels bits k.read in
     let leads : Leads next_state 0 labels c.in_ok-state.state =
     Leads-append next_state 0 k.labels c.read_labels.new.labels r.state c.in_ok-state.state k.leads h.leads in
     let next : IsNext r sigs samples more s = record {
       codable = c.in_ok-phase.ensures.codable;
       modulated = subst (λ xs. Modulates (tap_of mode) (bits ++ xs) (samples ++ more)) here
-          (sequence-modulates mode c.read_labels.new.bit_reader labels (bits ++ line_bits read) (samples ++ more) c.in_ok-state.state
+          (sequence-modulates mode c.read_labels.new.demodulator labels (bits ++ line_bits read) (samples ++ more) c.in_ok-state.state
           demodulated are leads);
     } in
+    let phase = phase-is r sigs samples k in
+    let same : line_bits read ≡ slot_bits (4 * r.symbols) r.phase (slot_of (4 * r.symbols) (carries r s)) =
+    here ∙ ap (λ q. slot_bits (4 * r.symbols) q (slot_of (4 * r.symbols) (carries r s))) (sym phase) in
+    let ends : EndsAt r.sender.check r.sender.role r.sender.dlci r.phase s c.end.result =
+    subst (EndsAt r.sender.check r.sender.role r.sender.dlci r.phase s) (sym c.end.ensures)
+    (found-sent r.sender.check r.sender.role r.sender.dlci r.symbols r.phase (line_bits read) c.frame_in-found.new.self
+    c.frame_in-found.result s c.frame_in-found.ensures.at c.guess-sent.ensures.guess c.in_ok-phase.ensures.codable same) in
     let writer = writer-on r c.write_again.new.writer sigs samples s k c.write_again.ensures.stands in
     let symbols = c.write_again.ensures.symbols ∙ c.requires.writer.symbols in
     record {
@@ -122,34 +139,29 @@ returns-clause-some c = λ sigs samples k.
       stands = record {
         labels = labels;
         are = are;
-        read = subst (λ (xs : List Bool). BitsStand mode c.read_labels.new.bit_reader labels xs) all demodulated;
+        read = subst (λ (xs : List Bool). DemodulatorStands mode c.read_labels.new.demodulator labels xs) all demodulated;
         leads = leads;
         in_step = record {
           symbols = symbols;
-          phase = phase-next r c.write_again.new.writer sigs s c.in_ok-phase.phase symbols writer (phase-is r sigs samples k)
-              c.in_ok-phase.ensures.next;
+          phase = phase-next r c.write_again.new.writer sigs s c.in_ok-phase.phase symbols writer phase
+              (c.in_ok-phase.ensures.next ends);
         };
         writer = writer;
       };
     }
 
-pub phase_behind-requires-clause-octets : goal.phase_behind-requires-clause-octets
-phase_behind-requires-clause-octets c = λ frame e.
+pub phase_behind-requires-clause-by : goal.phase_behind-requires-clause-by
+phase_behind-requires-clause-by c =
     let r = c.args.self.now in
-    let g : IsGuess (4 * r.symbols) (line_bits c.read_labels.new.bits) c.frame_in-found.result (sent.Frame frame) =
-    subst (IsGuess (4 * r.symbols) (line_bits c.read_labels.new.bits) c.frame_in-found.result) e c.guess-sent.ensures.guess in
-    c.as_slice.ensures.items
-    ∙ subst (λ found. IfSome found (λ f. c.frame_in-found.new.room ≡ checked r.sender.check r.sender.role r.sender.dlci f)) g.0
-    c.frame_in-found.ensures.is
+    subst (EndsBy r.sender.check r.sender.role r.sender.dlci r.phase c.guess-sent.result) (sym c.end.ensures)
+    (found-ends r.sender.check r.sender.role r.sender.dlci r.symbols r.phase (line_bits c.read_labels.new.bits) c.frame_in-found.new.self
+    c.frame_in-found.result c.guess-sent.result c.frame_in-found.ensures.at c.guess-sent.ensures.guess)
 
 pub write_again-requires-clause-octets : goal.write_again-requires-clause-octets
-write_again-requires-clause-octets c = λ frame e.
+write_again-requires-clause-octets c =
     let r = c.args.self.now in
-    let g : IsGuess (4 * r.symbols) (line_bits c.read_labels.new.bits) c.frame_in-found.result (sent.Frame frame) =
-    subst (IsGuess (4 * r.symbols) (line_bits c.read_labels.new.bits) c.frame_in-found.result) e c.guess-sent.ensures.guess in
-    c.as_slice-2.ensures.items
-    ∙ subst (λ found. IfSome found (λ f. c.frame_in-found.new.room ≡ checked r.sender.check r.sender.role r.sender.dlci f)) g.0
-    c.frame_in-found.ensures.is
+    found-lent r.sender.check r.sender.role r.sender.dlci r.symbols r.phase (line_bits c.read_labels.new.bits) c.frame_in-found.new.self
+    c.octets.result.now c.frame_in-found.result c.guess-sent.result c.frame_in-found.ensures.at c.guess-sent.ensures.guess c.octets.ensures
 
 pub returns-in_err-state-clause-some : goal.returns-in_err-state-clause-some
 returns-in_err-state-clause-some c = λ sigs samples k. rw c.from_residual.ensures tt

@@ -1,0 +1,65 @@
+use Rattle.std.proofs.Common.{◌≡◌, ◌∙◌, ◌+◌, List, Bool, [], length, drop, None, sym, ap, subst, arith}
+use Rattle.bit_stuffing.specs.BitSlot.{line_bits}
+use Rattle.bit_stuffing.specs.Flags.{bit_of}
+use Rattle.bit_stuffing.specs.Found.{pieces_of}
+use Rattle.bit_stuffing.specs.Sent.{wholes}
+use Rattle.bit_stuffing.specs.Slots.{rest_of_flag}
+use Rattle.line_tap.specs.Seeking.{EndsFirst, FindsSent}
+use Rattle.line_tap.proofs.FoundSent.{FoundLaws, finds-none, finds-there, none-there, first-there, found-at}
+use Rattle.line_tap.proofs.seeker.Seeker.frame_in.Goals as goal
+
+pub returns-then-not-bit_in-clause-found : goal.returns-then-not-bit_in-clause-found
+returns-then-not-bit_in-clause-found c = λ symbols long.
+    let bits : List Bool = line_bits c.args.slot.now in
+    let place : length (rest_of_flag c.args.phase) + 32 ≡ c.rest_bits-opens.result + 24 + 8 = omega (arith, c.rest_bits-opens.ensures.value) in
+    finds-none c.args.sender.check c.args.sender.role c.args.sender.dlci symbols c.args.phase bits
+    (ap (bit_of bits) place ∙ sym c.bit_in.ensures ∙ c.if-not-bit_in.true)
+
+pub returns-in_err-end-clause-found : goal.returns-in_err-end-clause-found
+returns-in_err-end-clause-found c = λ symbols long.
+    let laws : FoundLaws = record {
+      fits = c.codable_slots_fit.ensures.fits;
+      sendable = c.codable_slots_fit.ensures.sendable;
+      octets = c.codable_slots_fit.ensures.octets;
+      found = c.found_is_sent.ensures;
+      last = c.last_pieces_are_found.ensures;
+    } in
+    let bits : List Bool = line_bits c.args.slot.now in
+    let place : length (rest_of_flag c.args.phase) + 32 ≡ c.rest_bits-opens.result + 24 + 8 = omega (arith, c.rest_bits-opens.ensures.value) in
+    let found : FindsSent c.args.sender.check c.args.sender.role c.args.sender.dlci symbols c.args.phase bits None =
+    finds-there c.args.sender.check c.args.sender.role c.args.sender.dlci symbols c.args.phase bits None long c.requires.phase
+    (ap (bit_of bits) place ∙ sym c.bit_in.ensures ∙ c.if-not-bit_in.false)
+    (none-there laws c.args.sender.check c.args.sender.role c.args.sender.dlci symbols c.args.phase bits None c.requires.channel
+    (subst (λ n. wholes (pieces_of (drop (n + 24) bits)) ≡ []) c.rest_bits-opens.ensures.value c.in_err-end.ensures.none)) in
+    subst (FindsSent c.args.sender.check c.args.sender.role c.args.sender.dlci symbols c.args.phase bits) (sym c.from_residual.ensures) found
+
+pub returns-clause-found : goal.returns-clause-found
+returns-clause-found c = λ symbols long.
+    let laws : FoundLaws = record {
+      fits = c.codable_slots_fit.ensures.fits;
+      sendable = c.codable_slots_fit.ensures.sendable;
+      octets = c.codable_slots_fit.ensures.octets;
+      found = c.found_is_sent.ensures;
+      last = c.last_pieces_are_found.ensures;
+    } in
+    let bits : List Bool = line_bits c.args.slot.now in
+    let place : length (rest_of_flag c.args.phase) + 32 ≡ c.rest_bits-opens.result + 24 + 8 = omega (arith, c.rest_bits-opens.ensures.value) in
+    let first = subst (λ n. EndsFirst c.end_of_piece.new.deframer bits (n + 24) c.in_ok-end.end) c.rest_bits-opens.ensures.value c.in_ok-end.ensures.some in
+    finds-there c.args.sender.check c.args.sender.role c.args.sender.dlci symbols c.args.phase bits c.frame_of.result long c.requires.phase
+    (ap (bit_of bits) place ∙ sym c.bit_in.ensures ∙ c.if-not-bit_in.false)
+    (first-there laws c.args.sender.check c.args.sender.role c.args.sender.dlci symbols c.args.phase bits c.end_of_piece.new.deframer
+    c.in_ok-end.end c.whole.result.now c.frame_of.result c.requires.channel first (c.whole.ensures.value _ first.stands) c.frame_of.ensures.all)
+
+pub returns-clause-at : goal.returns-clause-at
+returns-clause-at c =
+    let laws : FoundLaws = record {
+      fits = c.codable_slots_fit.ensures.fits;
+      sendable = c.codable_slots_fit.ensures.sendable;
+      octets = c.codable_slots_fit.ensures.octets;
+      found = c.found_is_sent.ensures;
+      last = c.last_pieces_are_found.ensures;
+    } in
+    let bits : List Bool = line_bits c.args.slot.now in
+    let first = subst (λ n. EndsFirst c.end_of_piece.new.deframer bits (n + 24) c.in_ok-end.end) c.rest_bits-opens.ensures.value c.in_ok-end.ensures.some in
+    found-at laws c.args.sender.check c.args.sender.role c.args.sender.dlci c.args.phase bits _ c.whole.result.now c.frame_of.result
+    c.requires.channel first (c.whole.ensures.value _ first.stands) (c.whole.ensures.lent _ first.stands) c.frame_of.ensures.is
