@@ -21,10 +21,12 @@ pub(crate) fn put_bits(bits: LabelBits, out: &mut [u8], at: usize) -> usize
     ensures within { result ≤ length out.new }
     ensures given { given result out.new ≡ given at out.old ++ low_bits bits.count bits.number }
 {
-    let mut rest = bits.number;
-    for place in 0..bits.count {
-        out[at + place as usize] = rest % 2;
-        rest /= 2;
-    }
+    // All four places are written, whatever the count: what stands behind it is written over next, or is no bit of the result.
+    let second = bits.number / 2;
+    let third = second / 2;
+    out[at] = bits.number % 2;
+    out[at + 1] = second % 2;
+    out[at + 2] = third % 2;
+    out[at + 3] = third / 2 % 2;
     at + bits.count as usize
 }

@@ -14,8 +14,9 @@ use Rattle.modem_c.specs.declared.link.Said.{Said}
 use Rattle.modem_c.specs.declared.link.Broke.{Broke}
 use Rattle.modem_c.specs.declared.machine.Machine.{Machine}
 use Rattle.modem_c.specs.declared.machine.Machine.TheVariants as machines
+use Rattle.modem_c.specs.Answered.{room_with}
 use Rattle.modem_c.specs.Led.{link_in}
-use Rattle.modem_c.specs.Links.{AnswersSetup, AnswersDelivery, AnswersSpeaking, DeliveredAs, SpokenNumbers, room_with, room_said, said_of}
+use Rattle.modem_c.specs.Links.{AnswersSetup, AnswersDelivery, AnswersSpeaking, DeliveredAs, SpokenNumbers, room_said, said_of}
 
 -- an end is made, as far as there is memory for it
 pub made : (setup : Setup) (end : Endpoint) (old new : Option Machine) (code : ℤ) → IsSetUp setup → IsNew setup end

@@ -34,7 +34,11 @@ AnswersKind None it code = code ≡ EMPTY
 AnswersKind (Some machine) None code = code ≡ WRONG_KIND
 AnswersKind (Some machine) (Some it) code = (code ≢ EMPTY) × (code ≢ WRONG_KIND)
 
--- these octets, so many, are written at the beginning of what was the room before, and nothing behind them
+-- the room where these octets were written at its beginning: behind them it is as it was
+abbrev pub room_with : List ℕ → List ℕ → List ℕ
+room_with octets room = octets ++ drop (length octets) room
+
+-- these octets, so many, are written into what was the room before, and nothing else
 pub record Puts (octets before after : List ℕ) (count : ℕ) : Type 0 where
   pub count_is : count ≡ length octets
-  pub written : after ≡ octets ++ drop (length octets) before
+  pub written : after ≡ room_with octets before

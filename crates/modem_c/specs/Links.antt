@@ -1,5 +1,5 @@
 -- What the calls of an end of the link answer at C's boundary.
-use Rattle.std.specs.Prelude.{◌≡◌, ℕ, ◌<◌, ◌≤◌, ◌⊎◌, ◌++◌, ℤ, pos, negsuc, Bool, true, false, if◌then◌else◌, List, length, drop, Option, Some, None, Result, Ok, Err, IsSomeAnd}
+use Rattle.std.specs.Prelude.{◌≡◌, ℕ, ◌<◌, ◌≤◌, ◌⊎◌, ℤ, pos, negsuc, Bool, true, false, if◌then◌else◌, List, length, Option, Some, None, Result, Ok, Err, IsSomeAnd}
 use Rattle.frame_check.specs.declared.sizes.TheConstants.{INFO, WHOLE}
 use Rattle.shared_terms.specs.declared.role.Role.{Role}
 use Rattle.shared_terms.specs.declared.fault.LinkFault.{LinkFault}
@@ -26,6 +26,7 @@ use Rattle.modem_c.specs.declared.link.Broke.{Broke}
 use Rattle.modem_c.specs.declared.link.Said.{Said}
 use Rattle.modem_c.specs.declared.link.Standing.{Standing}
 use Rattle.modem_c.specs.declared.machine.Machine.{Machine}
+use Rattle.modem_c.specs.Answered.{room_with}
 use Rattle.modem_c.specs.Answers.{flag_of}
 use Rattle.modem_c.specs.Codes.{role_of}
 use Rattle.modem_c.specs.Led.{link_in}
@@ -118,10 +119,6 @@ AnswersHearing kind octets old new code given why =
     ⊎ ((4 < kind) × (code ≡ codes.bad_argument) × (new ≡ old) × (given ≡ length_given None) × (why ≡ unbroken))
 
 -- ---- between hearing and speaking
-
--- these octets were copied to where the room begins
-abbrev pub room_with : List ℕ → List ℕ → List ℕ
-room_with octets room = octets ++ drop (length octets) room
 
 -- what delivery answers and writes, where this is the next segment
 abbrev pub DeliveredAs : Option (List ℕ) → List ℕ → List ℕ → ℕ → ℤ → Type 0

@@ -1,6 +1,6 @@
 use Rattle.std.proofs.Common.{◌≡◌, Bool, List, ℕ, Some, None, if◌then◌else◌, inl, refl, subst}
 use Rattle.gateway.specs.Endpoints.{Delivers}
-use Rattle.modem_c.specs.Links.{room_with}
+use Rattle.modem_c.specs.Answered.{room_with}
 use Rattle.modem_c.proofs.link.deliver.Goals as goal
 
 pub returns : goal.returns
