@@ -5,6 +5,7 @@ pub mod Lines
 pub mod Tells
 pub mod Stops
 pub mod Job
+pub mod Promise
 pub mod Sound
 pub mod Recordings
 pub mod Readings

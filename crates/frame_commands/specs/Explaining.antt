@@ -3,3 +3,4 @@ pub mod Digits
 pub mod OfferLine
 pub mod Ends
 pub mod Completes
+pub mod Promise

@@ -1,16 +1,16 @@
 // The words of a tap.
-ghost use Rattle.std.specs.Prelude.{◌≡◌, true, IfSome, Some, None, if◌then◌else◌, string_bytes, map};
+ghost use Rattle.std.specs.Prelude.{◌≡◌, true, IfSome, string_bytes, map};
 ghost use Rattle.std.specs.Option.{option_map};
 ghost use Rattle.command_base.specs.Apart.{are_apart};
 ghost use Rattle.line_tap.specs.Names.{named, inputs_of, outputs_of};
-ghost use Rattle.line_tap.specs.Words.{names_of};
+ghost use Rattle.line_tap.specs.Words.{names_of, asked_for};
 
 use crate::TapWords;
 use command_base::are_apart;
 
 /// These names, where they are apart.
 fn apart_names(names: TapWords<'_>) -> Option<TapWords<'_>>
-    ensures names { option_map named result ≡ (if are_apart (inputs_of (named names.entry)) (outputs_of (named names.entry)) then Some (named names.entry) else None) }
+    ensures names { option_map named result ≡ asked_for (named names.entry) }
     ensures apart { IfSome result (λ names. are_apart (inputs_of (named names)) (outputs_of (named names)) ≡ true) }
 {
     let inputs = [names.rec_o, names.rec_a, names.script];
@@ -22,17 +22,14 @@ fn apart_names(names: TapWords<'_>) -> Option<TapWords<'_>>
     }
 }
 
-/// The words of `tap`, where these are such words.
+/// What the words behind `tap` name, where these are such words.
 pub fn tap_words(words: &[String]) -> Option<TapWords<'_>>
     ensures names { option_map named result ≡ names_of (map string_bytes words.now) }
     ensures apart { IfSome result (λ names. are_apart (inputs_of (named names)) (outputs_of (named names)) ≡ true) }
 {
-    let [command, rec_o, rec_a, script, got_o, got_a, trace] = words else {
+    let [rec_o, rec_a, script, got_o, got_a, trace] = words else {
         return None;
     };
-    if command.as_str() != "tap" {
-        return None;
-    }
     apart_names(TapWords {
         rec_o: rec_o.as_str(),
         rec_a: rec_a.as_str(),

@@ -1,4 +1,3 @@
-mod Reading
 mod Running
 mod Refusing
 mod Prefixes

@@ -3,6 +3,7 @@ pub mod Answers
 pub mod Ends
 pub mod Headline
 pub mod Completes
+pub mod Promise
 pub mod Isolates
 pub mod Counts
 pub mod Half

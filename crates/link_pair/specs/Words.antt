@@ -1,7 +1,6 @@
 -- The words of a pair, as octets.
-use Rattle.std.specs.Prelude.{ℕ, ◌&&◌, List, [], ◌∷◌, ◌++◌, Option, Some, None, if◌then◌else◌, codes}
-use Rattle.std.specs.Str.{bytes_eq}
-use Rattle.command_base.specs.Apart.{are_apart}
+use Rattle.std.specs.Prelude.{ℕ, List, [], ◌∷◌, ◌++◌, Option, None}
+use Rattle.command_base.specs.Apart.{where_apart}
 use Rattle.run_inputs.specs.Words.{RunNames}
 use Rattle.line_run.specs.Names.{Written, written}
 use Rattle.pair_run.specs.Ends.{Which, First, Second}
@@ -24,15 +23,18 @@ inputs_of n = files_of n ++ n.script ∷ []
 abbrev pub outputs_of : Names → List (List ℕ)
 outputs_of n = all_outputs n.first n.second
 
--- the words `pair O1 A1 O2 A2 SCRIPT GO1 GA1 GO2 GA2 T1 T2`, and no others
+-- these names, where no output is another one or an input
+abbrev pub asked_for : Names → Option Names
+asked_for n = where_apart (inputs_of n) (outputs_of n) n
+
+-- the words behind `pair`: O1 A1 O2 A2 SCRIPT GO1 GA1 GO2 GA2 T1 T2, and no others
 abbrev pub names_of : List (List ℕ) → Option Names
-names_of (command ∷ o ∷ a ∷ p ∷ b ∷ script ∷ go ∷ ga ∷ gp ∷ gb ∷ t ∷ u ∷ []) =
-    let n : Names = record {
+names_of (o ∷ a ∷ p ∷ b ∷ script ∷ go ∷ ga ∷ gp ∷ gb ∷ t ∷ u ∷ []) =
+    asked_for (record {
       script = script;
       first = record { orig = o; answ = a; got_o = go; got_a = ga; trace = t };
       second = record { orig = p; answ = b; got_o = gp; got_a = gb; trace = u };
-    } in
-    if bytes_eq command (codes "pair") && are_apart (inputs_of n) (outputs_of n) then Some n else None
+    })
 names_of words = None
 
 abbrev pub named : PairWords → Names

@@ -17,13 +17,12 @@ pub struct PairWords<'a> {
     pub links: PairNames<'a>,
 }
 
-/// The words of `pair`, where these are such words.
+/// What the words behind `pair` name, where these are such words.
 pub fn pair_words(words: &[String]) -> Option<PairWords<'_>>
     ensures names { option_map named result ≡ names_of (map string_bytes words.now) }
     ensures apart { IfSome result (λ names. are_apart (inputs_of (named names)) (outputs_of (named names)) ≡ true) }
 {
     let [
-        command,
         orig_1,
         answ_1,
         orig_2,
@@ -63,7 +62,7 @@ pub fn pair_words(words: &[String]) -> Option<PairWords<'_>>
         first.trace,
         second.trace,
     ];
-    if command.as_str() != "pair" || !are_apart(&inputs, &outputs) {
+    if !are_apart(&inputs, &outputs) {
         return None;
     }
     let links = PairNames { first, second };

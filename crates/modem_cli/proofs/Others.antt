@@ -1,8 +1,8 @@
 -- Words whose first one is no command's.
-use Rattle.std.proofs.Common.{◌≡◌, ℕ, Bool, true, false, List, [], ◌∷◌, map, slice_index_or, if◌then◌else◌, refl, subst}
+use Rattle.std.proofs.Common.{◌≡◌, ℕ, Bool, true, false, List, [], ◌∷◌, if◌then◌else◌, refl}
 use Rattle.std.specs.Str.{bytes_eq}
 use Rattle.std.proofs.lemmas.Slice.Eq.{bytes_eq-Decides}
-use Rattle.modem_cli.specs.Modem.{Asked, Nothing, Command, commands, asked, asked_by}
+use Rattle.modem_cli.specs.Modem.{Asked, Nothing, Command, commands, asked_by}
 
 -- the word is none of these commands'
 abbrev pub IsNoWord : List Command → List ℕ → Type 0
@@ -13,14 +13,10 @@ unlike : (t : Bool) (a b : Asked) → (t ≡ true → ⊥) → b ≡ Nothing →
 unlike true a b differs e = absurd (differs refl)
 unlike false a b differs e = e
 
-asks-nothing : (commands : List Command) (first : List ℕ) (words : List (List ℕ)) → IsNoWord commands first
-    → asked_by commands first words ≡ Nothing
-asks-nothing [] first words none = refl
-asks-nothing (it ∷ others) first words none =
-    unlike (bytes_eq first it.word) _ _ (λ e. none.0 ((bytes_eq-Decides first it.word).0 e)) (asks-nothing others first words none.1)
+none-of : (rows : List Command) (first : List ℕ) (words : List (List ℕ)) → IsNoWord rows first → asked_by rows first words ≡ Nothing
+none-of [] first words none = refl
+none-of (it ∷ more) first words none =
+    unlike (bytes_eq first it.word) _ _ (λ e. none.0 ((bytes_eq-Decides first it.word).0 e)) (none-of more first words none.1)
 
-pub others : {A : Type 0} (text : A → List ℕ) (words : List A) (first : A) → first ≡ slice_index_or words 0 first
-    → IsNoWord commands (text first) → asked (map text words) ≡ Nothing
-others text [] first is none = refl
-others text (word ∷ words) first is none =
-    asks-nothing commands (text word) (map text (word ∷ words)) (subst (λ (a : _). IsNoWord commands (text a)) is none)
+pub others : (first : List ℕ) (words : List (List ℕ)) → IsNoWord commands first → asked_by commands first words ≡ Nothing
+others first words none = none-of commands first words none

@@ -1,1 +1,2 @@
 pub mod Modem
+pub mod Named

@@ -2,7 +2,8 @@
 ghost use Rattle.std.specs.Prelude.{◌≡◌, ◌≢◌, IfSome, map, string_bytes};
 ghost use Rattle.std.specs.Option.{option_map_or};
 ghost use Rattle.command_base.specs.Status.{PassesNoneOver};
-ghost use Rattle.modem_cli.specs.Modem.{Nothing, named, AreApart, asked, PromisesOf, AnswersBy, CompletesOf, usage};
+ghost use Rattle.modem_cli.specs.Modem.{Nothing, commands, asked, asked_by, promise, usage};
+ghost use Rattle.modem_cli.specs.Named.{named};
 
 use command_base::{Line, Status, tell, usage_line};
 use frame_commands::frames::{FramesWords, frames, frames_words};
@@ -10,8 +11,9 @@ use frame_commands::xid::{xid, xid_words};
 use line_tap::{TapWords, tap, tap_words};
 use link_pair::{PairWords, pair, pair_words};
 use outside_calls::Folder;
+use recordings::Rate;
 use run_commands::peer::{PeerWords, peer, peer_words};
-use run_commands::run::{RunWords, run, run_words};
+use run_commands::run::{RunWords, record_words, run, run_words};
 use run_commands::soak::{soak, soak_words};
 use signal_commands::decode::{DecodeWords, decode, decode_words};
 use signal_commands::encode::{EncodeWords, encode, encode_words};
@@ -37,31 +39,42 @@ enum Asked<'a> {
     Audit(AuditWords<'a>),
 }
 
-/// What words ask for, by the first one.
+/// What is asked for by a command's word and the words behind it.
 #[tactic(auto, using(crate::proofs::Others::others))]
-fn read_words(words: &[String]) -> Option<Asked<'_>>
-    ensures names { asked (map string_bytes words.now) ≡ option_map_or named result Nothing }
-    ensures apart { IfSome result (λ it. AreApart (named it)) }
+fn read_names<'a>(command: &str, names: &'a [String]) -> Option<Asked<'a>>
+    ensures names { asked_by commands command.now (map string_bytes names.now) ≡ option_map_or named result Nothing }
+    ensures apart { IfSome result (λ it. (promise (named it)).Apart) }
 {
-    let [first, ..] = words else {
-        return None;
-    };
-    let asked = match first.as_str() {
-        "run" | "record" => Asked::Run(run_words(words)?),
-        "encode" | "encode4" => Asked::Encode(encode_words(words)?),
-        "decode" | "decode4" => Asked::Decode(decode_words(words)?),
-        "frames" => Asked::Frames(frames_words(words)?),
-        "xid" => Asked::Xid(xid_words(words)?),
-        "soak" => Asked::Soak(soak_words(words)?),
-        "peer" => Asked::Peer(peer_words(words)?),
-        "pickup" => Asked::Pickup(pickup_words(words)?),
-        "margin" => Asked::Margin(margin_words(words)?),
-        "tap" => Asked::Tap(tap_words(words)?),
-        "pair" => Asked::Pair(pair_words(words)?),
-        "audit" => Asked::Audit(audit_words(words)?),
+    let asked = match command {
+        "run" => Asked::Run(run_words(names)?),
+        "record" => Asked::Run(record_words(names)?),
+        "encode" => Asked::Encode(encode_words(Rate::Trellis, names)?),
+        "encode4" => Asked::Encode(encode_words(Rate::Quarters, names)?),
+        "decode" => Asked::Decode(decode_words(Rate::Trellis, names)?),
+        "decode4" => Asked::Decode(decode_words(Rate::Quarters, names)?),
+        "frames" => Asked::Frames(frames_words(names)?),
+        "xid" => Asked::Xid(xid_words(names)?),
+        "soak" => Asked::Soak(soak_words(names)?),
+        "peer" => Asked::Peer(peer_words(names)?),
+        "pickup" => Asked::Pickup(pickup_words(names)?),
+        "margin" => Asked::Margin(margin_words(names)?),
+        "tap" => Asked::Tap(tap_words(names)?),
+        "pair" => Asked::Pair(pair_words(names)?),
+        "audit" => Asked::Audit(audit_words(names)?),
         _ => return None,
     };
     Some(asked)
+}
+
+/// What words ask for.
+fn read_words(words: &[String]) -> Option<Asked<'_>>
+    ensures names { asked (map string_bytes words.now) ≡ option_map_or named result Nothing }
+    ensures apart { IfSome result (λ it. (promise (named it)).Apart) }
+{
+    let [command, names @ ..] = words else {
+        return None;
+    };
+    read_names(command.as_str(), names)
 }
 
 /// How the program is used.
@@ -76,10 +89,10 @@ fn usage() -> Line
 
 /// Does what a command's names say, and answers how it ended. Each answer's line is said last.
 fn answer<F: Folder>(alloc: Global, folder: &mut F, words: &[String], asked: &Asked<'_>) -> Status
-    requires { AreApart (named asked.now) }
-    ensures promises { PromisesOf (named asked.now) (F.state folder.old) (F.state folder.new) result }
-    ensures answer { AnswersBy (named asked.now) (map string_bytes words.now) (F.state folder.old) (F.state folder.new) result }
-    ensures completes { CompletesOf (named asked.now) (F.state folder.old) (F.state folder.new) result }
+    requires { (promise (named asked.now)).Apart }
+    ensures headline { (promise (named asked.now)).Headline (F.state folder.old) (F.state folder.new) result }
+    ensures answer { (promise (named asked.now)).Answer (map string_bytes words.now) (F.state folder.old) (F.state folder.new) result }
+    ensures completes { (promise (named asked.now)).Completes (F.state folder.old) (F.state folder.new) result }
     ensures stand { PassesNoneOver (F.state folder.old) (F.state folder.new) result }
     ensures usage { result ≢ Status.Usage }
 {
@@ -108,13 +121,13 @@ pub fn modem<F: Folder>(alloc: Global, words: &[String], folder: &mut F) -> Stat
     // says that it is sure, what a recording releases begins the labels of the file. What `record` records is what both ends send, and what `tap` writes
     // is what two recordings tell. Each link of a `pair` is a run over the line beside the other link; where the noise is faint it leaves what a run of
     // it alone leaves. A trace that `audit` calls true is that of the run of the files and the script.
-    ensures promises { PromisesOf (asked (map string_bytes words.now)) (F.state folder.old) (F.state folder.new) result }
+    ensures headline { (promise (asked (map string_bytes words.now))).Headline (F.state folder.old) (F.state folder.new) result }
 
     // Each answer comes where it has to, with its line.
-    ensures answer { AnswersBy (asked (map string_bytes words.now)) (map string_bytes words.now) (F.state folder.old) (F.state folder.new) result }
+    ensures answer { (promise (asked (map string_bytes words.now))).Answer (map string_bytes words.now) (F.state folder.old) (F.state folder.new) result }
 
     // Where a command's inputs are right and the folder is sound, nothing but want of memory keeps it from being done.
-    ensures completes { CompletesOf (asked (map string_bytes words.now)) (F.state folder.old) (F.state folder.new) result }
+    ensures completes { (promise (asked (map string_bytes words.now))).Completes (F.state folder.old) (F.state folder.new) result }
 
     // No fault of the folder is passed over.
     ensures stand { PassesNoneOver (F.state folder.old) (F.state folder.new) result }

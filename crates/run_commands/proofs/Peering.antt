@@ -1,4 +1,3 @@
-pub mod Places
 pub mod Slots
 pub mod Reaching
 pub mod Starting

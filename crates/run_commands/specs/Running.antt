@@ -4,3 +4,4 @@ pub mod Ends
 pub mod ReadOff
 pub mod Headline
 pub mod Completes
+pub mod Promise

@@ -6,3 +6,4 @@ pub mod Folder
 pub mod Ends
 pub mod Headline
 pub mod Completes
+pub mod Promise

@@ -1,11 +1,10 @@
 -- The words of a run, as octets.
-use Rattle.std.specs.Prelude.{ℕ, nat_eq, ◌&&◌, List, [], ◌∷◌, length, Option, Some, None, if◌then◌else◌, codes}
-use Rattle.std.specs.Str.{bytes_eq}
+use Rattle.std.specs.Prelude.{ℕ, List, [], ◌∷◌, Option, Some, None}
 use Rattle.std.specs.Option.{option_map}
 use Rattle.line_run.specs.Names as sent
 use Rattle.line_run.specs.Names.{Written, written}
 use Rattle.line_run.specs.Recorded.{Tapes, tapes_of}
-use Rattle.command_base.specs.Apart.{are_apart}
+use Rattle.command_base.specs.Apart.{where_apart}
 use Rattle.run_inputs.specs.declared.words.RunWords.{RunWords}
 
 -- the names of a run; where it is recorded, those of its recordings too
@@ -28,34 +27,29 @@ texts_of n = sent.outputs_of n.names
 abbrev pub outputs_of : RunNames → List (List ℕ)
 outputs_of n = n.names.got_o ∷ n.names.got_a ∷ n.names.trace ∷ tapes_of n.tapes
 
--- these names, where the command is that word and no output is another one or an input
-abbrev pub asked_by : List ℕ → List ℕ → RunNames → Option RunNames
-asked_by command word n = if bytes_eq command word && are_apart (inputs_of n) (outputs_of n) then Some n else None
+-- these names, where no output is another one or an input
+abbrev pub asked_for : RunNames → Option RunNames
+asked_for n = where_apart (inputs_of n) (outputs_of n) n
 
--- the words `run ORIG ANSW SCRIPT GOT_O GOT_A TRACE`, and no others
+-- the words behind `run`: ORIG ANSW SCRIPT GOT_O GOT_A TRACE, and no others
 abbrev pub run_named : List (List ℕ) → Option RunNames
-run_named (command ∷ orig ∷ answ ∷ script ∷ got_o ∷ got_a ∷ trace ∷ []) =
-    asked_by command (codes "run")
-    (record {
+run_named (orig ∷ answ ∷ script ∷ got_o ∷ got_a ∷ trace ∷ []) =
+    asked_for (record {
       names = record { orig = orig; answ = answ; got_o = got_o; got_a = got_a; trace = trace };
       script = script;
       tapes = None;
     })
 run_named words = None
 
--- the words `record ORIG ANSW SCRIPT GOT_O GOT_A TRACE REC_O REC_A`, and no others
+-- the words behind `record`: ORIG ANSW SCRIPT GOT_O GOT_A TRACE REC_O REC_A, and no others
 abbrev pub record_named : List (List ℕ) → Option RunNames
-record_named (command ∷ orig ∷ answ ∷ script ∷ got_o ∷ got_a ∷ trace ∷ rec_o ∷ rec_a ∷ []) =
-    asked_by command (codes "record") (record {
+record_named (orig ∷ answ ∷ script ∷ got_o ∷ got_a ∷ trace ∷ rec_o ∷ rec_a ∷ []) =
+    asked_for (record {
       names = record { orig = orig; answ = answ; got_o = got_o; got_a = got_a; trace = trace };
       script = script;
       tapes = Some (record { orig = rec_o; answ = rec_a });
     })
 record_named words = None
-
--- the words of either, which the number of words tells
-abbrev pub names_of : List (List ℕ) → Option RunNames
-names_of words = if nat_eq (length words) 7 then run_named words else record_named words
 
 abbrev pub named : RunWords → RunNames
 named w = record {

@@ -1,7 +1,7 @@
 //! What a run is made from: the names that its words give, the script that is read, and the files whose lengths are looked at. A pure
 //! function of the words and of the folder that are handed in.
 //!
-//! [`run_words`] reads the words, [`open_inputs`] takes a script and files in order, whatever words name them.
+//! [`run_words`] and [`record_words`] read the words, [`open_inputs`] takes a script and files in order, whatever words name them.
 #![tactic(auto)]
 
 mod inputs;
@@ -13,4 +13,4 @@ mod words;
 
 pub use inputs::open_inputs;
 pub use limits::{LIMITS, Limits};
-pub use words::{RunWords, run_words};
+pub use words::{RunWords, record_words, run_words};

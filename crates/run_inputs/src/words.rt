@@ -1,8 +1,8 @@
 // The words of a run.
-ghost use Rattle.std.specs.Prelude.{◌≡◌, true, if◌then◌else◌, Some, None, IfSome, string_bytes, map};
+ghost use Rattle.std.specs.Prelude.{◌≡◌, true, IfSome, string_bytes, map};
 ghost use Rattle.std.specs.Option.{option_map};
 ghost use Rattle.command_base.specs.Apart.{are_apart};
-ghost use Rattle.run_inputs.specs.Words.{names_of, run_named, record_named, named, inputs_of, outputs_of};
+ghost use Rattle.run_inputs.specs.Words.{run_named, record_named, asked_for, named, inputs_of, outputs_of};
 
 use command_base::are_apart;
 use line_run::Names;
@@ -22,7 +22,7 @@ pub struct RunWords<'a> {
 /// These names, where no output is another one or an input.
 fn apart<'a>(words: RunWords<'a>, outputs: &[&str]) -> Option<RunWords<'a>>
     requires { map (λ name. name.now) outputs.now ≡ outputs_of (named words) }
-    ensures names { option_map named result ≡ (if are_apart (inputs_of (named words.entry)) (outputs_of (named words.entry)) then Some (named words.entry) else None) }
+    ensures names { option_map named result ≡ asked_for (named words.entry) }
     ensures apart { IfSome result (λ it. are_apart (inputs_of (named it)) (outputs_of (named it)) ≡ true) }
 {
     let inputs = [words.names.orig, words.names.answ, words.script];
@@ -33,17 +33,14 @@ fn apart<'a>(words: RunWords<'a>, outputs: &[&str]) -> Option<RunWords<'a>>
     }
 }
 
-/// The words of a run that isn't recorded.
-fn read_run(words: &[String]) -> Option<RunWords<'_>>
+/// What the words behind `run` name, where these are such words.
+pub fn run_words(words: &[String]) -> Option<RunWords<'_>>
     ensures names { option_map named result ≡ run_named (map string_bytes words.now) }
     ensures apart { IfSome result (λ names. are_apart (inputs_of (named names)) (outputs_of (named names)) ≡ true) }
 {
-    let [command, orig, answ, script, got_o, got_a, trace] = words else {
+    let [orig, answ, script, got_o, got_a, trace] = words else {
         return None;
     };
-    if command.as_str() != "run" {
-        return None;
-    }
     let names = Names {
         orig: orig.as_str(),
         answ: answ.as_str(),
@@ -62,28 +59,14 @@ fn read_run(words: &[String]) -> Option<RunWords<'_>>
     apart(words, &outputs)
 }
 
-/// The words of a run that is recorded.
-fn read_record(words: &[String]) -> Option<RunWords<'_>>
+/// What the words behind `record` name, where these are such words.
+pub fn record_words(words: &[String]) -> Option<RunWords<'_>>
     ensures names { option_map named result ≡ record_named (map string_bytes words.now) }
     ensures apart { IfSome result (λ names. are_apart (inputs_of (named names)) (outputs_of (named names)) ≡ true) }
 {
-    let [
-        command,
-        orig,
-        answ,
-        script,
-        got_o,
-        got_a,
-        trace,
-        rec_o,
-        rec_a,
-    ] = words
-    else {
+    let [orig, answ, script, got_o, got_a, trace, rec_o, rec_a] = words else {
         return None;
     };
-    if command.as_str() != "record" {
-        return None;
-    }
     let (rec_o, rec_a) = (rec_o.as_str(), rec_a.as_str());
     let names = Names {
         orig: orig.as_str(),
@@ -104,16 +87,4 @@ fn read_record(words: &[String]) -> Option<RunWords<'_>>
         tapes,
     };
     apart(words, &outputs)
-}
-
-/// The words of `run` and of `record`, where these are such words.
-pub fn run_words(words: &[String]) -> Option<RunWords<'_>>
-    ensures names { option_map named result ≡ names_of (map string_bytes words.now) }
-    ensures apart { IfSome result (λ names. are_apart (inputs_of (named names)) (outputs_of (named names)) ≡ true) }
-{
-    if words.len() == 7 {
-        read_run(words)
-    } else {
-        read_record(words)
-    }
 }

@@ -3,6 +3,7 @@ pub mod Gives
 pub mod Playing
 pub mod Ends
 pub mod Completes
+pub mod Promise
 pub mod Headline
 pub mod Laws
 pub mod Middles

@@ -1,6 +1,5 @@
 -- The words of an audit, as octets.
-use Rattle.std.specs.Prelude.{ℕ, List, [], ◌∷◌, Option, Some, None, if◌then◌else◌, codes}
-use Rattle.std.specs.Str.{bytes_eq}
+use Rattle.std.specs.Prelude.{ℕ, List, [], ◌∷◌, Option, Some, None}
 use Rattle.trace_audit.specs.declared.words.AuditWords.{AuditWords}
 
 -- the names of an audit
@@ -17,10 +16,9 @@ files_of n = n.orig ∷ n.answ ∷ []
 abbrev pub inputs_of : AuditNames → List (List ℕ)
 inputs_of n = n.orig ∷ n.answ ∷ n.script ∷ n.trace ∷ []
 
--- the words `audit ORIG ANSW SCRIPT TRACE`, and no others
+-- the words behind `audit`: ORIG ANSW SCRIPT TRACE, and no others
 abbrev pub names_of : List (List ℕ) → Option AuditNames
-names_of (command ∷ orig ∷ answ ∷ script ∷ trace ∷ []) =
-    if bytes_eq command (codes "audit") then Some (record { orig = orig; answ = answ; script = script; trace = trace }) else None
+names_of (orig ∷ answ ∷ script ∷ trace ∷ []) = Some (record { orig = orig; answ = answ; script = script; trace = trace })
 names_of words = None
 
 abbrev pub named : AuditWords → AuditNames

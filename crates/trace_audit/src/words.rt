@@ -16,16 +16,13 @@ pub struct AuditWords<'a> {
     pub trace: &'a str,
 }
 
-/// The words of `audit`, where these are such words.
+/// What the words behind `audit` name, where these are such words.
 pub fn audit_words(words: &[String]) -> Option<AuditWords<'_>>
     ensures { option_map named result ≡ names_of (map string_bytes words.now) }
 {
-    let [command, orig, answ, script, trace] = words else {
+    let [orig, answ, script, trace] = words else {
         return None;
     };
-    if command.as_str() != "audit" {
-        return None;
-    }
     Some(AuditWords {
         orig: orig.as_str(),
         answ: answ.as_str(),

@@ -1,7 +1,6 @@
 -- The words of a command line, as octets.
-use Rattle.std.specs.Prelude.{ℕ, List, [], ◌∷◌, Option, None, if◌then◌else◌, codes}
+use Rattle.std.specs.Prelude.{ℕ, List, [], ◌∷◌, Option, None}
 use Rattle.std.specs.Option.{option_map}
-use Rattle.std.specs.Str.{bytes_eq}
 use Rattle.shared_terms.specs.declared.role.Role.{Role}
 use Rattle.shared_terms.specs.Role.{role_named}
 use Rattle.frame_commands.specs.declared.frames.words.FramesWords.{FramesWords}
@@ -11,10 +10,9 @@ pub record FramesNames : Type 0 where
   pub sender : Role
   pub bits : List ℕ
 
--- the words `frames SENDER BITS`, and no others
+-- the words behind `frames`: SENDER BITS, and no others
 abbrev pub names_of : List (List ℕ) → Option FramesNames
-names_of (command ∷ sender ∷ bits ∷ []) =
-    if bytes_eq command (codes "frames") then option_map (λ role. record { sender = role; bits = bits }) (role_named sender) else None
+names_of (sender ∷ bits ∷ []) = option_map (λ role. record { sender = role; bits = bits }) (role_named sender)
 names_of words = None
 
 abbrev pub named : FramesWords → FramesNames

@@ -14,16 +14,13 @@ pub struct FramesWords<'a> {
     pub bits: &'a str,
 }
 
-/// The words of `frames`, where these are such words.
+/// What the words behind `frames` name, where these are such words.
 pub fn frames_words(words: &[String]) -> Option<FramesWords<'_>>
     ensures { option_map named result ≡ names_of (map string_bytes words.now) }
 {
-    let [command, sender, bits] = words else {
+    let [sender, bits] = words else {
         return None;
     };
-    if command.as_str() != "frames" {
-        return None;
-    }
     match Role::of_word(sender.as_bytes()) {
         Some(sender) => Some(FramesWords {
             sender,

@@ -1,7 +1,6 @@
 -- The words of a command line, as octets.
-use Rattle.std.specs.Prelude.{ℕ, ◌&&◌, List, [], ◌∷◌, Option, None, if◌then◌else◌, codes}
+use Rattle.std.specs.Prelude.{ℕ, List, [], ◌∷◌, Option, None, if◌then◌else◌}
 use Rattle.std.specs.Option.{option_map}
-use Rattle.std.specs.Str.{bytes_eq}
 use Rattle.shared_terms.specs.declared.role.Role.{Role}
 use Rattle.shared_terms.specs.Role.{role_named}
 use Rattle.command_base.specs.Apart.{are_apart}
@@ -27,10 +26,10 @@ outputs_of n = n.got ∷ n.trace ∷ []
 abbrev pub turn_names : Names → PeerNames
 turn_names n = record { file = n.file; got = n.got; trace = n.trace }
 
--- the words `peer ROLE FILE BITS GOT TRACE`, and no others
+-- the words behind `peer`: ROLE FILE BITS GOT TRACE, and no others
 abbrev pub names_of : List (List ℕ) → Option Names
-names_of (command ∷ role ∷ file ∷ bits ∷ got ∷ trace ∷ []) =
-    if bytes_eq command (codes "peer") && are_apart (file ∷ bits ∷ []) (got ∷ trace ∷ [])
+names_of (role ∷ file ∷ bits ∷ got ∷ trace ∷ []) =
+    if are_apart (file ∷ bits ∷ []) (got ∷ trace ∷ [])
     then option_map (λ r. record { role = r; file = file; bits = bits; got = got; trace = trace }) (role_named role)
     else None
 names_of words = None

@@ -22,17 +22,14 @@ pub struct PeerWords<'a> {
     pub trace: &'a str,
 }
 
-/// The words of `peer`, where these are such words.
+/// What the words behind `peer` name, where these are such words.
 pub fn peer_words(words: &[String]) -> Option<PeerWords<'_>>
     ensures names { option_map named result ≡ names_of (map string_bytes words.now) }
     ensures apart { IfSome result (λ names. are_apart (inputs_of (named names)) (outputs_of (named names)) ≡ true) }
 {
-    let [command, role, file, bits, got, trace] = words else {
+    let [role, file, bits, got, trace] = words else {
         return None;
     };
-    if command.as_str() != "peer" {
-        return None;
-    }
     let (file, bits) = (file.as_str(), bits.as_str());
     let (got, trace) = (got.as_str(), trace.as_str());
     if !are_apart(&[file, bits], &[got, trace]) {

@@ -4,15 +4,12 @@ ghost use Rattle.run_commands.specs.Soaking.Words.{seed_named};
 
 use noise_script::read_plain_number;
 
-/// The seed in the words `soak SEED`, where these are such words.
+/// The seed in the words behind `soak`, where these are such words.
 pub fn soak_words(words: &[String]) -> Option<u64>
     ensures { result ≡ seed_named (map string_bytes words.now) }
 {
-    let [command, seed] = words else {
+    let [seed] = words else {
         return None;
     };
-    if command.as_str() != "soak" {
-        return None;
-    }
     read_plain_number(seed.as_bytes())
 }

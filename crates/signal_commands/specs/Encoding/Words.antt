@@ -5,7 +5,6 @@ use Rattle.std.specs.Str.{bytes_eq}
 use Rattle.scramblers.specs.declared.mode.Mode.{Mode}
 use Rattle.scramblers.specs.declared.mode.Mode.TheVariants.{Call, Answer}
 use Rattle.recordings.specs.declared.rate.Rate.{Rate}
-use Rattle.recordings.specs.declared.rate.Rate.TheVariants.{Trellis, Quarters}
 use Rattle.command_base.specs.Apart.{are_apart}
 use Rattle.signal_commands.specs.declared.encode.words.EncodeWords.{EncodeWords}
 
@@ -15,13 +14,6 @@ pub record EncodeNames : Type 0 where
   pub mode : Mode
   pub file : List ℕ
   pub rec : List ℕ
-
--- the rate that a command's word names
-abbrev pub rate_named : List ℕ → Option Rate
-rate_named word =
-    if bytes_eq word (codes "encode") then Some Trellis
-    else if bytes_eq word (codes "encode4") then Some Quarters
-    else None
 
 -- the mode that a word names
 abbrev pub mode_named : List ℕ → Option Mode
@@ -37,16 +29,11 @@ inputs_of n = n.file ∷ []
 abbrev pub outputs_of : EncodeNames → List (List ℕ)
 outputs_of n = n.rec ∷ []
 
--- where there are both, a rate and a mode with these names
-abbrev pub names_with : List ℕ → List ℕ → Option Rate → Option Mode → Option EncodeNames
-names_with file rec None mode = None
-names_with file rec (Some rate) mode = option_map (λ m. record { rate = rate; mode = m; file = file; rec = rec }) mode
-
--- the words `encode MODE FILE REC` and `encode4 MODE FILE REC`, and no others
-abbrev pub names_of : List (List ℕ) → Option EncodeNames
-names_of (command ∷ mode ∷ file ∷ rec ∷ []) =
-    if are_apart (file ∷ []) (rec ∷ []) then names_with file rec (rate_named command) (mode_named mode) else None
-names_of words = None
+-- the words behind the command of that rate: MODE FILE REC, and no others
+abbrev pub names_of : Rate → List (List ℕ) → Option EncodeNames
+names_of rate (mode ∷ file ∷ rec ∷ []) =
+    if are_apart (file ∷ []) (rec ∷ []) then option_map (λ m. record { rate = rate; mode = m; file = file; rec = rec }) (mode_named mode) else None
+names_of rate words = None
 
 abbrev pub named : EncodeWords → EncodeNames
 named w = record { rate = w.rate; mode = w.mode; file = w.file.now; rec = w.rec.now }

@@ -1,6 +1,5 @@
 -- The words of a command line, as octets.
-use Rattle.std.specs.Prelude.{ℕ, List, [], ◌∷◌, Option, Some, None, if◌then◌else◌, codes}
-use Rattle.std.specs.Str.{bytes_eq}
+use Rattle.std.specs.Prelude.{ℕ, List, [], ◌∷◌, Option, Some, None}
 use Rattle.signal_commands.specs.declared.margin.words.MarginWords.{MarginWords}
 
 -- the names of a recording, and of the octets that it is held against
@@ -8,9 +7,9 @@ pub record MarginNames : Type 0 where
   pub rec : List ℕ
   pub file : List ℕ
 
--- the words `margin REC FILE`, and no others
+-- the words behind `margin`: REC FILE, and no others
 abbrev pub names_of : List (List ℕ) → Option MarginNames
-names_of (command ∷ rec ∷ file ∷ []) = if bytes_eq command (codes "margin") then Some (record { rec = rec; file = file }) else None
+names_of (rec ∷ file ∷ []) = Some (record { rec = rec; file = file })
 names_of words = None
 
 abbrev pub named : MarginWords → MarginNames

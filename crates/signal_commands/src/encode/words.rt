@@ -2,7 +2,7 @@
 ghost use Rattle.std.specs.Prelude.{◌≡◌, true, IfSome, string_bytes, map};
 ghost use Rattle.std.specs.Option.{option_map};
 ghost use Rattle.command_base.specs.Apart.{are_apart};
-ghost use Rattle.signal_commands.specs.Encoding.Words.{rate_named, mode_named, names_of, named, inputs_of, outputs_of};
+ghost use Rattle.signal_commands.specs.Encoding.Words.{mode_named, names_of, named, inputs_of, outputs_of};
 
 use command_base::are_apart;
 use recordings::Rate;
@@ -21,19 +21,6 @@ pub struct EncodeWords<'a> {
     pub rec: &'a str,
 }
 
-/// The rate that a command's word names, where it names one.
-fn rate_of(word: &str) -> Option<Rate>
-    ensures { result ≡ rate_named word.now }
-{
-    if word == "encode" {
-        Some(Rate::Trellis)
-    } else if word == "encode4" {
-        Some(Rate::Quarters)
-    } else {
-        None
-    }
-}
-
 /// The mode that a word names, where it names one.
 fn mode_of(word: &str) -> Option<Mode>
     ensures { result ≡ mode_named word.now }
@@ -47,24 +34,24 @@ fn mode_of(word: &str) -> Option<Mode>
     }
 }
 
-/// The words of `encode` or `encode4`, where these are such words.
-pub fn encode_words(words: &[String]) -> Option<EncodeWords<'_>>
-    ensures names { option_map named result ≡ names_of (map string_bytes words.now) }
+/// What the words behind the command of that rate name, where these are such words.
+pub fn encode_words(rate: Rate, words: &[String]) -> Option<EncodeWords<'_>>
+    ensures names { option_map named result ≡ names_of rate (map string_bytes words.now) }
     ensures apart { IfSome result (λ names. are_apart (inputs_of (named names)) (outputs_of (named names)) ≡ true) }
 {
-    let [command, mode, file, rec] = words else {
+    let [mode, file, rec] = words else {
         return None;
     };
     if !are_apart(&[file.as_str()], &[rec.as_str()]) {
         return None;
     }
-    match (rate_of(command.as_str()), mode_of(mode.as_str())) {
-        (Some(rate), Some(mode)) => Some(EncodeWords {
+    match mode_of(mode.as_str()) {
+        Some(mode) => Some(EncodeWords {
             rate,
             mode,
             file: file.as_str(),
             rec: rec.as_str(),
         }),
-        _ => None,
+        None => None,
     }
 }

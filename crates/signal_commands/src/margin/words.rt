@@ -12,16 +12,13 @@ pub struct MarginWords<'a> {
     pub file: &'a str,
 }
 
-/// The words of `margin`, where these are such words.
+/// What the words behind `margin` name, where these are such words.
 pub fn margin_words(words: &[String]) -> Option<MarginWords<'_>>
     ensures { option_map named result ≡ names_of (map string_bytes words.now) }
 {
-    let [command, rec, file] = words else {
+    let [rec, file] = words else {
         return None;
     };
-    if command.as_str() != "margin" {
-        return None;
-    }
     Some(MarginWords {
         rec: rec.as_str(),
         file: file.as_str(),

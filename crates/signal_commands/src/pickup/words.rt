@@ -3,15 +3,12 @@ ghost use Rattle.std.specs.Prelude.{◌≡◌, map, string_bytes};
 ghost use Rattle.std.specs.Option.{option_map};
 ghost use Rattle.signal_commands.specs.PickingUp.Words.{recording_named};
 
-/// The recording's name in the words `pickup REC`, where these are such words.
+/// The recording's name in the words behind `pickup`, where these are such words.
 pub fn pickup_words(words: &[String]) -> Option<&str>
     ensures { option_map (λ rec. rec.now) result ≡ recording_named (map string_bytes words.now) }
 {
-    let [command, rec] = words else {
+    let [rec] = words else {
         return None;
     };
-    if command.as_str() != "pickup" {
-        return None;
-    }
     Some(rec.as_str())
 }
