@@ -182,11 +182,26 @@ from-flag laws size octets is =
     let count : length (take 24 line) ≡ 24 =
     length-take-le 24 line (omega (arith, length-append (opening 0 (Some octets)) (fill (size - long)), long-frame octets)) in
     let missed = laws.last (take 24 line) (drop 24 line) in
-    let early : All (λ f. f.place ≤ 24 + 8) missed.0 = subst (λ n. All (λ f. f.place ≤ n + 8) missed.0) count (missed.1.early 8 flag_there) in
+    let early : All (λ f. f.place ≤ 24 + 8) missed.0 =
+    subst (λ n. All (λ f. f.place ≤ n + 8) missed.0) count (missed.1.early 8 flag_there) in
     let all : missed.0 ++ map (behind 24) (pieces_of (drop 24 line)) ≡ whole_at long octets ∷ [] =
     subst (λ n. missed.0 ++ map (behind n) (pieces_of (drop 24 line)) ≡ whole_at long octets ∷ []) count
     (sym missed.1.all ∙ (ap pieces_of (take-append-drop 24 line) ∙ slot-alone laws size octets is)) in
     only-behind missed.0 (pieces_of (drop 24 line)) 24 (whole_at long octets) early (omega (arith, long-frame octets)) all
+
+piece-behind : FoundLaws → (bits : List Bool) (rest size : ℕ) (octets : List ℕ) (end : ℕ)
+    → drop rest bits ≡ slot_bits size 0 (Flags (Some octets)) → IsSlot size 0 (Flags (Some octets))
+    → rest + length (opening 0 (Some octets)) ≡ end → OnePiece bits (rest + 24) octets end
+piece-behind laws bits rest size octets end there is at =
+    let one = from-flag laws size octets is in
+    let from : drop (rest + 24) bits ≡ drop 24 (slot_bits size 0 (Flags (Some octets))) = sym (drop-drop 24 rest bits) ∙ ap (drop 24) there in
+    record {
+      found = one.0;
+      all = ap pieces_of from ∙ one.1;
+      piece = ap (λ (f : Found). f.piece) one.2;
+      octets_are = ap (λ (f : Found). f.octets) one.2;
+      place = omega (arith, ap (λ (f : Found). f.place) one.2, at);
+    }
 
 pub sent-piece : FoundLaws → (check : Check) (sender : Role) (dlci symbols phase : ℕ) (bits : List Bool) (frame : Frame) → dlci < 64
     → IsCodable check sender dlci symbols phase (sent.Frame frame) → AreBitsOf check sender dlci symbols phase (sent.Frame frame) bits
@@ -194,20 +209,11 @@ pub sent-piece : FoundLaws → (check : Check) (sender : Role) (dlci symbols pha
 sent-piece laws check sender dlci symbols phase bits frame few codable e =
     let r : ℕ = length (rest_of_flag phase) in
     let octets : List ℕ = checked check sender dlci frame in
-    let fits = laws.fits check sender dlci symbols phase (sent.Frame frame)
-    (laws.octets check sender dlci (sent.Frame frame) few (laws.sendable check sender dlci symbols phase (sent.Frame frame) codable)) codable in
+    let sendable = laws.sendable check sender dlci symbols phase (sent.Frame frame) codable in
+    let fits = laws.fits check sender dlci symbols phase (sent.Frame frame) (laws.octets check sender dlci (sent.Frame frame) few sendable) codable in
     let room : length (opening 0 (Some octets)) ≤ 4 * symbols - r = omega (arith, fits.1, long-opening phase (Some octets)) in
-    let is = from-flag laws (4 * symbols - r) octets (fits.0, room) in
-    let there : drop r bits ≡ slot_bits (4 * symbols - r) 0 (Flags (Some octets)) = behind-rest-of bits (4 * symbols) phase octets e in
-    let from : drop (r + 24) bits ≡ drop 24 (slot_bits (4 * symbols - r) 0 (Flags (Some octets))) =
-    subst (λ xs. drop (r + 24) bits ≡ drop 24 xs) there (sym (drop-drop 24 r bits)) in
-    record {
-      found = is.0;
-      all = ap pieces_of from ∙ is.1;
-      piece = ap (λ (f : Found). f.piece) is.2;
-      octets_are = ap (λ (f : Found). f.octets) is.2;
-      place = omega (arith, ap (λ (f : Found). f.place) is.2, long-opening phase (Some octets));
-    }
+    piece-behind laws bits r (4 * symbols - r) octets (end_of check sender dlci phase frame)
+    (behind-rest-of bits (4 * symbols) phase octets e) (fits.0, room) (sym (long-opening phase (Some octets)))
 
 -- ---- so what is found is what was sent
 
@@ -235,7 +241,8 @@ finds-there check sender dlci symbols phase bits found long low one k sent.Adp e
 finds-there check sender dlci symbols phase bits found long low one k sent.Flags e codable is =
     absurd (false≢true (sym (flags-begin (4 * symbols) phase low (omega (arith, long)))
     ∙ ap (λ xs. bit_of xs (length (rest_of_flag phase) + 32)) (sym is) ∙ one))
-finds-there check sender dlci symbols phase bits found long low one k (sent.Frame frame) e codable is = ap flagged (k.frame frame codable is)
+finds-there check sender dlci symbols phase bits found long low one k (sent.Frame frame) e codable is =
+    ap flagged (k.frame frame codable is)
 
 pub none-there : FoundLaws → (check : Check) (sender : Role) (dlci symbols phase : ℕ) (bits : List Bool) (found : Option Frame) → dlci < 64
     → wholes (pieces_of (drop (length (rest_of_flag phase) + 24) bits)) ≡ [] → FindsThere check sender dlci symbols phase bits found
@@ -254,14 +261,16 @@ first-there laws check sender dlci symbols phase bits deframer end octets found 
   frame = λ frame codable e.
       let is = first-is deframer bits (length (rest_of_flag phase) + 24) end (checked check sender dlci frame)
       (end_of check sender dlci phase frame) first (sent-piece laws check sender dlci symbols phase bits frame few codable e) in
-      k frame (subst (λ xs. SpellsFrame check sender dlci xs frame) (sym (lent ∙ is.0)) (spells check sender dlci frame codable.sendable.0));
+      k frame
+      (subst (λ xs. SpellsFrame check sender dlci xs frame) (sym (lent ∙ is.0)) (spells check sender dlci frame codable.sendable.0));
 }
 
 -- where its octets are, and where it ends
 some-octets : (check : Check) (sender : Role) (dlci : ℕ) (frame : Frame) → checked check sender dlci frame ≡ [] → ⊥
 some-octets check sender dlci frame none =
-    let z : address_of (parts_of frame).command sender dlci
-    ∷ ((control_octet (parts_of frame) ∷ tail_octets (parts_of frame)) ++ check_of (check_for check frame) (spelled frame sender dlci)) ≡ [] = none in
+    let rest : List ℕ =
+    (control_octet (parts_of frame) ∷ tail_octets (parts_of frame)) ++ check_of (check_for check frame) (spelled frame sender dlci) in
+    let z : address_of (parts_of frame).command sender dlci ∷ rest ≡ [] = none in
     absurd cc
 
 pub found-at : FoundLaws → (check : Check) (sender : Role) (dlci phase : ℕ) (bits : List Bool) (seeker : Seeker) (octets : List ℕ)

@@ -77,7 +77,8 @@ labels-on labels samples label sample low e are = (
   map-append point_of labels (label ∷ []) ∙ ap (λ xs. xs ++ point_of label ∷ []) are.1 ∙ ap (λ s. samples ++ s ∷ []) e,
 )
 
-pub reads-more : (old mid new : Demodulator) (from state to : ℕ) (samples : List Sample) (quads labels : List ℕ) (sample : Sample) (label quad : ℕ)
+pub reads-more : (old mid new : Demodulator) (from state to : ℕ) (samples : List Sample) (quads labels : List ℕ) (sample : Sample)
+    (label quad : ℕ)
     → label < 32 → point_of label ≡ sample → next_state state label ≡ Some to
     → ((mode : Mode) (before : List ℕ) (bits : List Bool) → DemodulatorStands mode mid before bits
     → DemodulatorStands mode new (before ++ label ∷ []) (bits ++ low_bits 4 quad))
@@ -88,8 +89,10 @@ reads-more old mid new from state to samples quads labels sample label quad low 
   leads = Leads-snoc next_state from labels state label to h.leads next;
   count = length_push quads quad ∙ ap (λ n. n + 1) h.count ∙ sym (length_push samples sample);
   stands = λ mode before bits k.
-      subst (λ (ls : List ℕ). DemodulatorStands mode new ls (bits ++ line_bits (quads ++ quad ∷ []))) (append_assoc before labels (label ∷ []))
-      (subst (λ (xs : List Bool). DemodulatorStands mode new ((before ++ labels) ++ label ∷ []) xs) (flat_map_more (low_bits 4) bits quads quad)
+      subst (λ (ls : List ℕ). DemodulatorStands mode new ls (bits ++ line_bits (quads ++ quad ∷ [])))
+      (append_assoc before labels (label ∷ []))
+      (subst (λ (xs : List Bool). DemodulatorStands mode new ((before ++ labels) ++ label ∷ []) xs)
+      (flat_map_more (low_bits 4) bits quads quad)
       (push mode (before ++ labels) (bits ++ line_bits quads) (h.stands mode before bits k)));
 }
 

@@ -4,7 +4,7 @@ use Rattle.std.proofs.Common.{slice_index, Option, Some, None, All, refl, sym, a
 use Rattle.std.specs.Option.{option_map, option_map_or}
 use Rattle.std.proofs.lemmas.Grind.{flat_map-append}
 use Rattle.std.proofs.lemmas.List.{append_assoc, length-take-le, take-append-drop, drop-append-le, drop_all, take_at, take_more}
-use Rattle.plain_lists.specs.Bits.{low_bits, bits_of}
+use Rattle.plain_lists.specs.Bits.{low_bits, bits_of, octet_bits}
 use Rattle.bit_stuffing.specs.declared.piece.Piece.{Piece}
 use Rattle.bit_stuffing.specs.declared.piece.Piece.TheVariants.{Whole}
 use Rattle.bit_stuffing.specs.BitSlot.{line_bits}
@@ -64,7 +64,35 @@ quad-more quads from place quad low even within e =
     length-line_bits (take k quads) ∙ ap (λ n. 4 * n) (length-take-le k quads (omega (arith, inside))) in
     ap (λ xs. drop from xs ++ low_bits 4 quad) front ∙ ap (λ q. drop from (line_bits (take k quads)) ++ low_bits 4 q) e
     ∙ sym (drop-append-le from (line_bits (take k quads)) (low_bits 4 (slice_index quads k)) (omega (arith, low, here, long)))
-    ∙ ap (drop from) (slot-part quads k inside ∙ sym (quads-front (k + 1) quads (omega (arith, inside))) ∙ ap (λ n. take n (line_bits quads)) next)
+    ∙ ap (drop from) (slot-part quads k inside)
+    ∙ ap (drop from) (sym (quads-front (k + 1) quads (omega (arith, inside))) ∙ ap (λ n. take n (line_bits quads)) next)
+
+-- an octet is two quads
+two-quads : (octet : ℕ) → low_bits 4 (octet % 16) ++ low_bits 4 (octet / 16) ≡ octet_bits octet
+two-quads octet =
+    let a : octet % 16 % 2 ≡ octet % 2 = omega arith in
+    let b : octet % 16 / 2 % 2 ≡ octet / 2 % 2 = omega arith in
+    let c : octet % 16 / 2 / 2 % 2 ≡ octet / 2 / 2 % 2 = omega arith in
+    let d : octet % 16 / 2 / 2 / 2 % 2 ≡ octet / 2 / 2 / 2 % 2 = omega arith in
+    let e : octet / 16 ≡ octet / 2 / 2 / 2 / 2 = omega arith in
+    rw (a, b, c, d, e) refl
+
+pub octet-more : (quads : List ℕ) (from place first second : ℕ) → from ≤ place → place % 4 ≡ 0 → place + 4 < 4 * length quads
+    → first < 16 → first ≡ slice_index quads (place / 4) → second ≡ slice_index quads (place / 4 + 1)
+    → part (line_bits quads) from place ++ octet_bits (first + 16 * second) ≡ part (line_bits quads) from (place + 8)
+octet-more quads from place first second low even within few e f =
+    let bits : List Bool = part (line_bits quads) from place in
+    let a : (first + 16 * second) % 16 ≡ first = omega (arith, few) in
+    let b : (first + 16 * second) / 16 ≡ second = omega (arith, few) in
+    let octet : octet_bits (first + 16 * second) ≡ low_bits 4 first ++ low_bits 4 second =
+    sym (two-quads (first + 16 * second)) ∙ ap (λ n. low_bits 4 n ++ low_bits 4 ((first + 16 * second) / 16)) a
+    ∙ ap (λ n. low_bits 4 first ++ low_bits 4 n) b in
+    let next : place / 4 + 1 ≡ (place + 4) / 4 = omega (arith, even) in
+    let up : place + 4 + 4 ≡ place + 8 = omega arith in
+    ap (λ xs. bits ++ xs) octet ∙ sym (append_assoc bits (low_bits 4 first) (low_bits 4 second))
+    ∙ ap (λ xs. xs ++ low_bits 4 second) (quad-more quads from place first low even (omega (arith, within)) e)
+    ∙ quad-more quads from (place + 4) second (omega (arith, low)) (omega (arith, even)) within (f ∙ ap (slice_index quads) next)
+    ∙ ap (part (line_bits quads) from) up
 
 -- ---- where nothing whole has ended yet
 
@@ -144,14 +172,15 @@ first-is deframer bits from end octets place h one =
     ∙ sym added.1.all ∙ ap pieces_of (sym whole) ∙ one.all in
     let at : All (λ (f : Found). f.place ≡ length before + 1) (listed (found_at (part bits from end))) =
     subst (λ xs. All (λ (f : Found). f.place ≡ length before + 1) (listed (found_at xs))) last (found-place before bit) in
-    let is = only-one (pieces_of before) (found_at (part bits from end)) added.0 one.found (length before + 1) h.first h.whole at one.piece all in
+    let is =
+    only-one (pieces_of before) (found_at (part bits from end)) added.0 one.found (length before + 1) h.first h.whole at one.piece all in
     let long : length before ≡ end - 1 - from = length-part bits from (end - 1) (omega (arith, within)) in
     (is.0 ∙ one.octets_are, sym one.place ∙ omega (arith, is.1, long, later))
 
 -- ---- a whole piece stands behind a flag
 
-pub piece-long : (bits : List Bool) (from end : ℕ) (octets : List ℕ) → from ≤ end → end ≤ length bits → EndsWhole (part bits from end) octets
-    → length (stuffed 5 (bits_of octets)) + from + 16 ≤ end
+pub piece-long : (bits : List Bool) (from end : ℕ) (octets : List ℕ) → from ≤ end → end ≤ length bits
+    → EndsWhole (part bits from end) octets → length (stuffed 5 (bits_of octets)) + from + 16 ≤ end
 piece-long bits from end octets low within h =
     let all : List Bool = part bits from end in
     let opened : ℕ = h.closes.opened in

@@ -80,8 +80,9 @@ guessed laws r sigs samples more s guess d to quads labels found phase k h finds
     (subst (λ p. FindsSent r.sender.check r.sender.role r.sender.dlci r.symbols p (line_bits quads) found) phase finds) g
 
 -- where a frame was found it ends, and its octets are lent
-pub found-ends : (check : Check) (role : Role) (dlci symbols phase : ℕ) (bits : List Bool) (seeker : Seeker) (found : Option Frame) (guess : Sent)
-    → IfSome found (IsAt check role dlci phase bits seeker) → IsGuess (4 * symbols) bits found guess → EndsBy check role dlci phase guess seeker.end
+pub found-ends : (check : Check) (role : Role) (dlci symbols phase : ℕ) (bits : List Bool) (seeker : Seeker) (found : Option Frame)
+    (guess : Sent) → IfSome found (IsAt check role dlci phase bits seeker) → IsGuess (4 * symbols) bits found guess
+    → EndsBy check role dlci phase guess seeker.end
 found-ends check role dlci symbols phase bits seeker found guess at g = record {
   frame = λ frame e.
       (subst (λ q. IfSome q (IsAt check role dlci phase bits seeker)) (subst (IsGuess (4 * symbols) bits found) e g).0 at).by;
@@ -96,8 +97,8 @@ found-lent check role dlci symbols phase bits seeker octets found guess at g len
     lends (checked check role dlci frame)
     (subst (λ q. IfSome q (IsAt check role dlci phase bits seeker)) (subst (IsGuess (4 * symbols) bits found) e g).0 at).lends
 
-pub found-sent : (check : Check) (role : Role) (dlci symbols phase : ℕ) (bits : List Bool) (seeker : Seeker) (found : Option Frame) (guess : Sent)
-    → IfSome found (IsAt check role dlci phase bits seeker) → IsGuess (4 * symbols) bits found guess
+pub found-sent : (check : Check) (role : Role) (dlci symbols phase : ℕ) (bits : List Bool) (seeker : Seeker) (found : Option Frame)
+    (guess : Sent) → IfSome found (IsAt check role dlci phase bits seeker) → IsGuess (4 * symbols) bits found guess
     → IsCodable check role dlci symbols phase guess → AreBitsOf check role dlci symbols phase guess bits
     → EndsAt check role dlci phase guess seeker.end
 found-sent check role dlci symbols phase bits seeker found guess at g codable same = record {

@@ -26,7 +26,8 @@ loop-place-preserved c =
     let label : ℕ = c.in-Some.step.label in
     let quads : List ℕ = c.loop-place.bits ++ c.push.result ∷ [] in
     record {
-      reads = subst (λ xs. ReadsLabels old new from to xs c.push-in-Some.new.self c.push-in-Some-2.new.self) (sym (one-more n octets within))
+      reads = subst (λ xs. ReadsLabels old new from to xs c.push-in-Some.new.self c.push-in-Some-2.new.self)
+          (sym (one-more n octets within))
           (subst (λ q. ReadsLabels old new from to (take n (samples_in octets) ++ sample_at octets n ∷ []) q c.push-in-Some-2.new.self)
           (sym c.push-in-Some.ensures)
           (subst (λ ls. ReadsLabels old new from to (take n (samples_in octets) ++ sample_at octets n ∷ []) quads ls)
@@ -44,6 +45,7 @@ loop-place-preserved c =
 pub returns-clause-some : goal.returns-clause-some
 returns-clause-some c =
     let count = count-samples c.args.symbols c.args.octets.now c.requires.size in
-    subst (λ xs. ReadsLabels c.args.demodulator.now c.loop-place.demodulator c.args.from c.loop-place.state xs c.loop-place.bits c.loop-place.labels)
+    let end = c.loop-place in
+    subst (λ xs. ReadsLabels c.args.demodulator.now end.demodulator c.args.from end.state xs end.bits end.labels)
     (take_all c.loop-place.place (samples_in c.args.octets.now) (omega (arith, count, c.loop-place-test.false, c.from-place-end.ensures)))
     c.loop-place.invariant.reads

@@ -27,8 +27,8 @@ returns-then-ends_piece-clause-some c =
     let place : ℕ = c.loop-place.place in
     let low : from ≤ place = c.loop-place.invariant.low in
     let within : place < 4 * length c.args.slot.now = omega (arith, c.loop-place-test.true, c.len.ensures.count) in
-    let stands = subst (λ d. DeframerStands d (part bits from place)) (sym (c.passes_quad.ensures.stays c.if-passes_quad.false))
-    c.loop-place.invariant.stands in
+    let stays = c.passes_quad.ensures.stays c.if-passes_quad.false ∙ c.passes_octet.ensures.stays c.if-passes_octet.false in
+    let stands = subst (λ d. DeframerStands d (part bits from place)) (sym stays) c.loop-place.invariant.stands in
     let back : place + 1 - 1 ≡ place = omega arith in
     record {
       later = omega (arith, low);
@@ -45,8 +45,8 @@ loop-place-preserved c =
     let place : ℕ = c.loop-place.place in
     let low : from ≤ place = c.loop-place.invariant.low in
     let within : place < 4 * length c.args.slot.now = omega (arith, c.loop-place-test.true, c.len.ensures.count) in
-    let stands = subst (λ d. DeframerStands d (part bits from place)) (sym (c.passes_quad.ensures.stays c.if-passes_quad.false))
-    c.loop-place.invariant.stands in
+    let stays = c.passes_quad.ensures.stays c.if-passes_quad.false ∙ c.passes_octet.ensures.stays c.if-passes_octet.false in
+    let stands = subst (λ d. DeframerStands d (part bits from place)) (sym stays) c.loop-place.invariant.stands in
     record {
       low = omega (arith, low);
       within = omega (arith, within);

@@ -52,7 +52,8 @@ returns-in_err-phase-clause-none c = λ sigs samples k fit.
     c.read_labels.new.labels c.frame_in-found.result phase k h
     (c.frame_in-found.ensures.found r.symbols r.low) c.guess-sent.ensures.guess x in
     let codable = subst (λ q. IsCodable r.sender.check r.sender.role r.sender.dlci r.symbols r.phase q) (sym is) x.codable in
-    let same : line_bits c.read_labels.new.bits ≡ slot_bits (4 * r.symbols) r.phase (slot_of (4 * r.symbols) (carries r c.guess-sent.result)) =
+    let same : line_bits c.read_labels.new.bits
+    ≡ slot_bits (4 * r.symbols) r.phase (slot_of (4 * r.symbols) (carries r c.guess-sent.result)) =
     bits-read c.points_differ.ensures r sigs samples more s c.read_labels.new.demodulator c.in_ok-state.state c.read_labels.new.bits
     c.read_labels.new.labels k h x
     ∙ ap (λ q. slot_bits (4 * r.symbols) q (slot_of (4 * r.symbols) (carries r s))) (sym phase)
@@ -80,7 +81,8 @@ returns-then-not-same_quads-clause-none c = λ sigs samples k fit s x.
     (c.frame_in-found.ensures.found r.symbols r.low) c.guess-sent.ensures.guess x in
     let coded = written-as r sigs samples c.guess-sent.result (line_bits c.write_again.new.out) k c.write_again.ensures.bits in
     c.same_quads.ensures.no c.if-not-same_quads.true
-    (bits-read c.points_differ.ensures r sigs samples more s c.read_labels.new.demodulator c.in_ok-state.state c.read_labels.new.bits c.read_labels.new.labels k h x
+    (bits-read c.points_differ.ensures r sigs samples more s c.read_labels.new.demodulator c.in_ok-state.state c.read_labels.new.bits
+    c.read_labels.new.labels k h x
     ∙ ap (λ q. bits_behind (4 * r.symbols) sigs (carries r q)) (sym is) ∙ sym coded)
 
 pub frame_in-found-requires-clause-long : goal.frame_in-found-requires-clause-long

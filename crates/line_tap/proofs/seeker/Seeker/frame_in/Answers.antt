@@ -11,7 +11,8 @@ use Rattle.line_tap.proofs.seeker.Seeker.frame_in.Goals as goal
 pub returns-then-not-bit_in-clause-found : goal.returns-then-not-bit_in-clause-found
 returns-then-not-bit_in-clause-found c = λ symbols long.
     let bits : List Bool = line_bits c.args.slot.now in
-    let place : length (rest_of_flag c.args.phase) + 32 ≡ c.rest_bits-opens.result + 24 + 8 = omega (arith, c.rest_bits-opens.ensures.value) in
+    let opens = c.rest_bits-opens in
+    let place : length (rest_of_flag c.args.phase) + 32 ≡ opens.result + 24 + 8 = omega (arith, opens.ensures.value) in
     finds-none c.args.sender.check c.args.sender.role c.args.sender.dlci symbols c.args.phase bits
     (ap (bit_of bits) place ∙ sym c.bit_in.ensures ∙ c.if-not-bit_in.true)
 
@@ -25,13 +26,15 @@ returns-in_err-end-clause-found c = λ symbols long.
       last = c.last_pieces_are_found.ensures;
     } in
     let bits : List Bool = line_bits c.args.slot.now in
-    let place : length (rest_of_flag c.args.phase) + 32 ≡ c.rest_bits-opens.result + 24 + 8 = omega (arith, c.rest_bits-opens.ensures.value) in
+    let opens = c.rest_bits-opens in
+    let place : length (rest_of_flag c.args.phase) + 32 ≡ opens.result + 24 + 8 = omega (arith, opens.ensures.value) in
     let found : FindsSent c.args.sender.check c.args.sender.role c.args.sender.dlci symbols c.args.phase bits None =
     finds-there c.args.sender.check c.args.sender.role c.args.sender.dlci symbols c.args.phase bits None long c.requires.phase
     (ap (bit_of bits) place ∙ sym c.bit_in.ensures ∙ c.if-not-bit_in.false)
     (none-there laws c.args.sender.check c.args.sender.role c.args.sender.dlci symbols c.args.phase bits None c.requires.channel
     (subst (λ n. wholes (pieces_of (drop (n + 24) bits)) ≡ []) c.rest_bits-opens.ensures.value c.in_err-end.ensures.none)) in
-    subst (FindsSent c.args.sender.check c.args.sender.role c.args.sender.dlci symbols c.args.phase bits) (sym c.from_residual.ensures) found
+    subst (FindsSent c.args.sender.check c.args.sender.role c.args.sender.dlci symbols c.args.phase bits) (sym c.from_residual.ensures)
+    found
 
 pub returns-clause-found : goal.returns-clause-found
 returns-clause-found c = λ symbols long.
@@ -43,12 +46,16 @@ returns-clause-found c = λ symbols long.
       last = c.last_pieces_are_found.ensures;
     } in
     let bits : List Bool = line_bits c.args.slot.now in
-    let place : length (rest_of_flag c.args.phase) + 32 ≡ c.rest_bits-opens.result + 24 + 8 = omega (arith, c.rest_bits-opens.ensures.value) in
-    let first = subst (λ n. EndsFirst c.end_of_piece.new.deframer bits (n + 24) c.in_ok-end.end) c.rest_bits-opens.ensures.value c.in_ok-end.ensures.some in
+    let opens = c.rest_bits-opens in
+    let place : length (rest_of_flag c.args.phase) + 32 ≡ opens.result + 24 + 8 = omega (arith, opens.ensures.value) in
+    let first =
+    subst (λ n. EndsFirst c.end_of_piece.new.deframer bits (n + 24) c.in_ok-end.end) c.rest_bits-opens.ensures.value
+    c.in_ok-end.ensures.some in
     finds-there c.args.sender.check c.args.sender.role c.args.sender.dlci symbols c.args.phase bits c.frame_of.result long c.requires.phase
     (ap (bit_of bits) place ∙ sym c.bit_in.ensures ∙ c.if-not-bit_in.false)
     (first-there laws c.args.sender.check c.args.sender.role c.args.sender.dlci symbols c.args.phase bits c.end_of_piece.new.deframer
-    c.in_ok-end.end c.whole.result.now c.frame_of.result c.requires.channel first (c.whole.ensures.value _ first.stands) c.frame_of.ensures.all)
+    c.in_ok-end.end c.whole.result.now c.frame_of.result c.requires.channel first (c.whole.ensures.value _ first.stands)
+    c.frame_of.ensures.all)
 
 pub returns-clause-at : goal.returns-clause-at
 returns-clause-at c =
@@ -60,6 +67,8 @@ returns-clause-at c =
       last = c.last_pieces_are_found.ensures;
     } in
     let bits : List Bool = line_bits c.args.slot.now in
-    let first = subst (λ n. EndsFirst c.end_of_piece.new.deframer bits (n + 24) c.in_ok-end.end) c.rest_bits-opens.ensures.value c.in_ok-end.ensures.some in
+    let first =
+    subst (λ n. EndsFirst c.end_of_piece.new.deframer bits (n + 24) c.in_ok-end.end) c.rest_bits-opens.ensures.value
+    c.in_ok-end.ensures.some in
     found-at laws c.args.sender.check c.args.sender.role c.args.sender.dlci c.args.phase bits _ c.whole.result.now c.frame_of.result
     c.requires.channel first (c.whole.ensures.value _ first.stands) (c.whole.ensures.lent _ first.stands) c.frame_of.ensures.is
