@@ -324,6 +324,14 @@ resumed-keeps o new k = go new.paused
     go true = record { window = k.window; size = k.size; tries = k.tries; pieces = k.pieces; ended = k.ended; high = k.high }
     go false = k
 
+pub resumed-unpaused : (o : Outgoing) → (resumed o).paused ≡ false
+resumed-unpaused o = go o.paused refl
+  where
+    go : (b : Bool) → o.paused ≡ b
+        → (cond b (record o { paused = false; count = cond (is_outstanding o || o.awaited) o.count 0 }) o).paused ≡ false
+    go true e = refl
+    go false e = e
+
 pub acked-keeps : (final : Bool) (o : Outgoing) (n : ℕ) → NumberKeeps o (acked final o n)
 acked-keeps true o n = record { window = refl; size = refl; tries = refl; pieces = refl; ended = refl; high = refl }
 acked-keeps false o n = record { window = refl; size = refl; tries = refl; pieces = refl; ended = refl; high = refl }

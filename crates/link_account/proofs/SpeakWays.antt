@@ -224,6 +224,13 @@ pub record ConnectedWays (P : Said → Type 0) (turn : ℕ) (a : Account) : Type
   pub expires : (set : ℕ) → Expired turn a set → (own : OwnBreaks) → ticked turn a.setup.period a.setup.tries a.own_breaks ≡ Some own
       → Steps P turn a.special (polling_at turn a own)
 
+pub linked-so : (P Q : Said → Type 0) (turn : ℕ) (a : Account) → ((said : Said) → P said → Q said) → ConnectedWays P turn a
+    → ConnectedWays Q turn a
+linked-so P Q turn a f h = record {
+  stands = λ x own t. steps-so P Q turn a.special _ f (h.stands x own t);
+  expires = λ set x own t. steps-so P Q turn a.special _ f (h.expires set x own t);
+}
+
 -- what the timer of a break changes
 ticked-only : (turn period tries : ℕ) (b own : OwnBreaks) → ticked turn period tries b ≡ Some own
     → record b { brk = own.brk; set = own.set; count = own.count } ≡ own

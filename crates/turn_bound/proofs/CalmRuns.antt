@@ -13,7 +13,7 @@ use Rattle.shared_terms.specs.declared.fault.LinkFault.{LinkFault}
 use Rattle.link_account.specs.Account.{Account, is_connected}
 use Rattle.link_account.specs.Speak.{Said, speak}
 use Rattle.link_run.specs.End.{User, BusyLine, is_busy, is_released}
-use Rattle.link_run.specs.Run.{Link, Accounts, Spoken, Turn, GoingTurn, RunOf, said_at, served_at, releases, arrival}
+use Rattle.link_run.specs.Run.{Link, Accounts, Spoken, Turn, GoingTurn, RunOf, said_at, releases, arrival}
 use Rattle.link_run.specs.Run as runs
 use Rattle.link_run.specs.Carried.{Crosses, Carries, IsCarried, sent_in, sent_ago}
 use Rattle.turn_bound.specs.Time.{KeepsTime}
@@ -29,7 +29,7 @@ use Rattle.turn_bound.proofs.Light.{Light, LightSaid, speaks-light}
 use Rattle.turn_bound.proofs.Lines.{arrives-weight, arrives-rnrs}
 use Rattle.turn_bound.proofs.MeetHear.{is_begun, of_frame, of_arrived}
 use Rattle.turn_bound.proofs.MeetSpeak.{speaks-so}
-use Rattle.turn_bound.proofs.Meeting.{arrives-flag, s-ok}
+use Rattle.turn_bound.proofs.Meeting.{arrives-flag}
 use Rattle.turn_bound.proofs.Credits.{frame_poll, poll_value, poll-most}
 use Rattle.turn_bound.proofs.Polling.{nineteen_if}
 use Rattle.turn_bound.proofs.Pausing.{goes-on, says-calm}
@@ -191,7 +191,7 @@ going-run delay link ts before t after role n run c g =
     let h = goes-on turn (arrival (of role t).heard) (of role before) (of role g.mid) light.1 (g.hearing role).hears in
     let s = serves-all user turn released (of role g.mid) in
     let sp = said-speaks link turn g.mid role o.said o.says in
-    let so = s-ok b o.said (speak turn sp.0 b) sp.1 (speaks-so turn sp.0 b) in (
+    let so = speaks-so turn sp.0 b o.said sp.1 in (
       λ e. ap (λ x. is_begun x.phase) o.after_is ∙ (so.begun ∙ (ap is_begun s.phase ∙ h.begun e)),
       λ e. ap (λ x. is_released x.phase) o.after_is ∙ so.released (ap is_released s.phase ∙ h.released e),
     )

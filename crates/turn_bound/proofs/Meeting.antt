@@ -1,5 +1,4 @@
-use Rattle.std.proofs.Common.{◌≡◌, ℕ, ◌||◌, Bool, true, false, cond, nat_lt, List, [], ◌∷◌, ◌++◌, length, refl, sym, ◌∙◌, ap, subst, Result}
-use Rattle.std.proofs.Common.{Ok, Err}
+use Rattle.std.proofs.Common.{◌≡◌, ℕ, ◌||◌, Bool, true, false, cond, nat_lt, List, [], ◌∷◌, ◌++◌, length, refl, sym, ◌∙◌, ap, subst}
 use Rattle.std.specs.List.{AllByRecursion}
 use Rattle.shared_terms.specs.declared.role.Role.TheVariants.{Answerer}
 use Rattle.lapm_frames.specs.declared.frame.Frame.{Frame}
@@ -8,10 +7,7 @@ use Rattle.lapm_frames.specs.declared.sent.Sent.TheVariants as slots
 use Rattle.lapm_frames.specs.declared.arrived.Arrived.TheVariants as arrivals
 use Rattle.link_account.specs.declared.phase.Phase.{Phase}
 use Rattle.link_account.specs.declared.phase.Phase.TheVariants.{Detecting, Negotiating, Establishing, Connected, Releasing, Closed}
-use Rattle.shared_terms.specs.declared.fault.LinkFault.{LinkFault}
 use Rattle.link_account.specs.Account.{Account}
-use Rattle.link_account.specs.Hear.{hear}
-use Rattle.link_account.specs.Speak.{Said, speak}
 use Rattle.link_account.specs.Play.{Slot, arrives}
 use Rattle.turn_bound.proofs.Clock.{Rates}
 use Rattle.turn_bound.proofs.Value.{Stands}
@@ -22,9 +18,9 @@ use Rattle.turn_bound.proofs.Arithmetic.{all_weaker}
 use Rattle.turn_bound.proofs.Serving.{serves-all}
 use Rattle.turn_bound.proofs.Falls.{Sound, Fits, state_after, after-is}
 use Rattle.turn_bound.proofs.Ending.{sound-run}
-use Rattle.turn_bound.proofs.MeetHear.{is_begun, is_ua_due, frame_ua, frame_disc, frame_final, of_frame, of_arrived, OHeard, OHears}
-use Rattle.turn_bound.proofs.MeetHear.{o-hears, AHeard, AHears, a-hears}
-use Rattle.turn_bound.proofs.MeetSpeak.{SaysSo, Says, speaks-so}
+use Rattle.turn_bound.proofs.MeetHear.{is_begun, is_ua_due, frame_ua, frame_disc, frame_final, of_frame, of_arrived}
+use Rattle.turn_bound.proofs.MeetHear.{o-hears, a-hears}
+use Rattle.turn_bound.proofs.MeetSpeak.{speaks-so}
 
 -- each slot of that kind on a line says so
 abbrev pub Tells : (Frame → Bool) → Type 0 → List Slot → Type 0
@@ -109,18 +105,6 @@ not-true : (b : Bool) → (b ≡ true → ⊥) → b ≡ false
 not-true true f = absurd (f refl)
 not-true false f = refl
 
-pub o-ok : (ua final : Bool) (a mid : Account) (r : Result Account LinkFault) → r ≡ Ok mid → OHears ua final a r → OHeard ua final a mid
-o-ok ua final a mid (Err fault) e h = cc
-o-ok ua final a mid (Ok b) e h = let same : b ≡ mid = cc in subst (OHeard ua final a) same h
-
-a-ok : (disc : Bool) (a mid : Account) (r : Result Account LinkFault) → r ≡ Ok mid → AHears disc a r → AHeard disc a mid
-a-ok disc a mid (Err fault) e h = cc
-a-ok disc a mid (Ok b) e h = let same : b ≡ mid = cc in subst (AHeard disc a) same h
-
-pub s-ok : (a : Account) (said : Said) (r : Result Said LinkFault) → r ≡ Ok said → Says a r → SaysSo a said
-s-ok a said (Err fault) e h = cc
-s-ok a said (Ok other) e h = let same : other ≡ said = cc in subst (SaysSo a) same h
-
 meets-start : (link : Link) → Meets (start link)
 meets-start link = record {
   closed = λ e. cc;
@@ -143,14 +127,12 @@ meets-turn z link turn s t u f h m g =
     let ba = served_account link.answ.user turn released g.answ_mid in
     let ro = ap (λ x. x.role) h.orig_setup ∙ f.originates in
     let ra = ap (λ x. x.role) h.answ_setup ∙ f.answers in
-    let ho = o-ok (of_arrived frame_ua back) (of_arrived frame_final back) s.orig g.orig_mid (hear turn back s.orig) g.orig_hears
-    (o-hears back turn s.orig ro) in
-    let ha = a-ok (of_arrived frame_disc forward) s.answ g.answ_mid (hear turn forward s.answ) g.answ_hears
-    (a-hears forward turn s.answ ra) in
+    let ho = o-hears back turn s.orig g.orig_mid ro g.orig_hears in
+    let ha = a-hears forward turn s.answ g.answ_mid ra g.answ_hears in
     let vo = serves-all link.orig.user turn released g.orig_mid in
     let va = serves-all link.answ.user turn released g.answ_mid in
-    let so = s-ok bo g.orig_said (speak turn _ bo) g.orig_says (speaks-so turn _ bo) in
-    let sa = s-ok ba g.answ_said (speak turn false ba) g.answ_says (speaks-so turn false ba) in
+    let so = speaks-so turn _ bo g.orig_said g.orig_says in
+    let sa = speaks-so turn false ba g.answ_said g.answ_says in
     -- each thing from before the turn to after it
     let keeps-begun : is_begun s.answ.phase ≡ true → is_begun g.answ_said.account.phase ≡ true =
     λ e. sa.begun ∙ (ap is_begun va.phase ∙ ha.begun e) in

@@ -26,10 +26,9 @@ use Rattle.turn_bound.proofs.OneTurn.{heard-ok}
 use Rattle.turn_bound.proofs.StillTurn.{linked-stand}
 use Rattle.turn_bound.proofs.MeetHear.{is_begun, of_arrived}
 use Rattle.turn_bound.proofs.MeetSpeak.{SaysSo, speaks-so}
-use Rattle.turn_bound.proofs.Meeting.{s-ok}
 use Rattle.turn_bound.proofs.Credits.{frame_poll, poll_value, poll-most, timer_value}
 use Rattle.turn_bound.proofs.Taking.{Takes, Closes, takes, takes-ok}
-use Rattle.turn_bound.proofs.Polling.{nineteen_if, polls, heard-polls, SaysRated, linked-rated}
+use Rattle.turn_bound.proofs.Polling.{nineteen_if, polls, heard-polls, linked-rated}
 use Rattle.turn_bound.proofs.Pausing.{Goes, goes-on, says-unpolled, releases-unpolled}
 
 late-none : (turn : ℕ) (p : Phase) (a : Account) → is_released p ≡ true → poll_value turn p a ≡ 0
@@ -55,12 +54,6 @@ same-polls turn Establishing b m w = refl
 same-polls turn Connected b m w = omega (arith, ap (λ x. nineteen_if x.poll) w, ap (λ x. timer_value turn x.timer) w)
 same-polls turn Releasing b m w = refl
 same-polls turn Closed b m w = refl
-
-rated-ok : (turn : ℕ) (a : Account) (said : Said) (r : Result Said LinkFault) → r ≡ Ok said → SaysRated turn a r
-    → poll_value (turn + 1) Connected said.account + polls said.sent ≤ poll_value turn Connected a + 1
-rated-ok turn a said (Err fault) e h = cc
-rated-ok turn a said (Ok other) e h = let same : other ≡ said = cc in
-    subst (λ s. poll_value (turn + 1) Connected s.account + polls s.sent ≤ poll_value turn Connected a + 1) same h
 
 abbrev pub InPhase : Phase → Result Said LinkFault → Type 0
 InPhase p (Err fault) = Unit {0}
@@ -124,7 +117,7 @@ poll-turn z user turn role arrived a mid released release said y k h er light qu
     serving = ap (λ q. poll_value turn q b) s.phase ∙ same-polls turn mid.phase b mid s.wait
 
     so : SaysSo b said
-    so = s-ok b said (speak turn release b) speaks (speaks-so turn release b)
+    so = speaks-so turn release b said speaks
 
     first : (q : Phase) × HeardAs z (length a.outgoing.pieces) (length user.breaks) turn
         (z.quota * arrived_rnrs arrived) role a.phase a q mid
@@ -168,6 +161,6 @@ poll-turn z user turn role arrived a mid released release said y k h er light qu
             )
         by false f = omega (
           arith,
-          rated-ok turn b said (speak_linked turn b) f (linked-rated z turn role b y k' linked),
+          linked-rated z turn role b said y k' f,
           begun-most (turn + 1) said.account.phase said.account (so.begun ∙ ap is_begun e),
         )

@@ -389,7 +389,8 @@ acked-heard z before turn a final command pf nr n s e m = go final e
     first false c f = cc
 
     go : (b : Bool) → ends_wait command pf a ≡ b → Heard a.outgoing (acked b a.outgoing n) × Heard a.outgoing (acked_back b a.outgoing n)
-    go true f = let k = heard-wait_ended z before turn a.outgoing a.wait.timer n s within.0 within.1 (first a.outgoing.awaited (pf && not command) f) in
+    go true f = let k = heard-wait_ended z before turn a.outgoing a.wait.timer n s within.0 within.1
+        (first a.outgoing.awaited (pf && not command) f) in
         (k, k)
     go false f = let k = heard-advanced z before turn a.outgoing a.wait.timer n s within.0 within.1 in
         (k, heard-gone_back a.outgoing (advanced a.outgoing n) k)

@@ -1,41 +1,32 @@
 -- Where the originator sees no pattern, something was lost in each period.
-use Rattle.std.proofs.Common.{◌⊎◌, inl, inr, ◌≡◌, ℕ, zero, suc, ◌+◌, ◌-◌, ◌*◌, ◌<◌, ◌≤◌, ◌&&◌, Bool, true, false, cond, nat_eq, nat_le}
+use Rattle.std.proofs.Common.{◌⊎◌, inl, inr, ◌≡◌, ℕ, zero, suc, ◌+◌, ◌-◌, ◌*◌, ◌<◌, ◌≤◌, Bool, true, false, cond, nat_le}
 use Rattle.std.proofs.Common.{List, length, arith, refl, sym, ◌∙◌, ap, subst, Option, Some, None, Result, Ok, Err}
 use Rattle.std.proofs.lemmas.Bool.{cases_lt}
 use Rattle.shared_terms.specs.declared.role.Role.{Role}
 use Rattle.shared_terms.specs.declared.role.Role.TheVariants.{Originator, Answerer}
-use Rattle.shared_terms.specs.Role.{other, is_originator}
 use Rattle.shared_terms.specs.Both.{of}
-use Rattle.lapm_frames.specs.declared.frame.Frame.{Frame}
-use Rattle.lapm_frames.specs.declared.frame.Frame.TheVariants.{Sabme, Disc, Ua, Dm, Xid}
-use Rattle.xid_params.specs.declared.offer.Offer.{Offer}
-use Rattle.xid_params.specs.Offers.{offer_in, written}
-use Rattle.lapm_sender.specs.Outgoing.{Outgoing, expired}
-use Rattle.break_signals.specs.Breaks.{OwnBreaks, ticked}
-use Rattle.lapm_frames.specs.declared.seen.Seen.{Seen}
 use Rattle.lapm_frames.specs.declared.seen.Seen.TheVariants as seens
 use Rattle.lapm_frames.specs.declared.sent.Sent.TheVariants as slots
 use Rattle.lapm_frames.specs.declared.arrived.Arrived.{Arrived}
 use Rattle.lapm_frames.specs.declared.arrived.Arrived.TheVariants as arrivals
 use Rattle.link_account.specs.declared.phase.Phase.{Phase}
-use Rattle.link_account.specs.declared.phase.Phase.TheVariants.{Detecting, Negotiating, Establishing, Connected, Releasing, Closed}
+use Rattle.link_account.specs.declared.phase.Phase.TheVariants.{Detecting, Negotiating, Connected, Releasing}
 use Rattle.shared_terms.specs.declared.fault.LinkFault.{LinkFault}
 use Rattle.shared_terms.specs.declared.fault.LinkFault.TheVariants.{NotDetected}
 use Rattle.link_account.specs.declared.answer.Answer.{Answer}
 use Rattle.link_account.specs.declared.answer.Answer.TheVariants as answers
 use Rattle.link_account.specs.Account.{Account}
-use Rattle.link_account.specs.Hear.{hear, on_frame, on_seen, on_pattern, on_negotiating, on_establishing, on_xid_command, on_xid_response}
+use Rattle.link_account.specs.Hear.{hear, on_seen, on_pattern}
 use Rattle.link_account.specs.Hear.{trying}
 use Rattle.link_account.specs.Play.{arrives}
-use Rattle.link_account.specs.Speak.{Said, says, says_frame, else_says, where_says, spent, answering, trying_again, tries_frame, u_try}
-use Rattle.link_account.specs.Speak.{polling, timer_expires, breaking, after_timers, then_tries, speak_linked, speak, speak_in}
-use Rattle.link_account.specs.Speak.{speak_detecting, speak_answer, speak_negotiating, speak_releasing}
+use Rattle.link_account.specs.Speak.{Said, says, else_says, spent, answering}
+use Rattle.link_account.specs.Speak.{speak, speak_in}
+use Rattle.link_account.specs.Speak.{speak_detecting}
 use Rattle.link_run.specs.End.{User, is_busy, is_released}
 use Rattle.link_run.specs.Run.{Link, Accounts, Turn, Hears, RunOf, arrival, served_at, releases}
 use Rattle.link_run.specs.Carried.{IsCarried}
 use Rattle.link_run.specs.Starved.{LosesSome}
 use Rattle.turn_bound.specs.Time.{KeepsTime}
-use Rattle.turn_bound.specs.Due.{NoneDue}
 use Rattle.turn_bound.specs.Spent.{SpendsOnTime}
 use Rattle.turn_bound.proofs.Clock.{Rates, rates}
 use Rattle.turn_bound.proofs.Value.{IsOf, arrived_rnrs}
@@ -43,13 +34,12 @@ use Rattle.turn_bound.proofs.Run.{served_account}
 use Rattle.turn_bound.proofs.OneTurn.{heard-ok}
 use Rattle.turn_bound.proofs.Phases.{hears-well}
 use Rattle.turn_bound.proofs.Serving.{Served, serves-all}
-use Rattle.turn_bound.proofs.MeetHear.{of_arrived}
-use Rattle.turn_losses.specs.Polls.{is_poll}
 use Rattle.turn_losses.specs.Losses.{PeriodLoses, OriginatorWantsPattern, UndetectedIsStarved}
-use Rattle.turn_losses.proofs.Polling.{is_linked}
-use Rattle.turn_losses.proofs.PollHear.{PollHeard, poll-hears}
-use Rattle.turn_losses.proofs.PollSpeak.{poll-speaks}
-use Rattle.turn_losses.proofs.NumberTurn.{poll-ok, speak-ok}
+use Rattle.link_account.proofs.HearWays as HearWays
+use Rattle.link_account.proofs.HearWays.{numbers-alike}
+use Rattle.link_account.proofs.SpeakWays as SpeakWays
+use Rattle.link_account.proofs.SpeakWays.{tries-alike, linked-so, why-broken, Undetected, Spends}
+use Rattle.turn_losses.proofs.PollSpeak.{linked-poll}
 use Rattle.turn_losses.proofs.Trace.{past, sent_or}
 use Rattle.turn_losses.proofs.TwoEnds.{EndRun, TwoEnds, end_run}
 use Rattle.turn_losses.proofs.Tracing.{known, timed, rated, Traced, traced}
@@ -60,63 +50,20 @@ use Rattle.turn_losses.proofs.Keeping.{turn-is}
 use Rattle.turn_losses.proofs.Wanting.{lost-is}
 use Rattle.turn_losses.proofs.Starving.{all-but-one}
 
--- a try leaves the phase
-abbrev pub InPhase : Phase → Result Said LinkFault → Type 0
-InPhase p (Err fault) = Unit {0}
-InPhase p (Ok said) = said.account.phase ≡ p
-
-pub try-phase : (turn : ℕ) (frame : Frame) (a : Account) → InPhase a.phase (u_try turn frame a)
-try-phase turn frame a = go (nat_eq turn (a.wait.try_set + a.setup.period)) (nat_eq a.wait.try_count a.setup.tries)
-  where
-    by : (c : Account) → c.phase ≡ a.phase → (due : Bool)
-        → (else_says (where_says due (says_frame frame (record c { wait = record c.wait { try = false } })))
-        (says slots.Flags c)).account.phase ≡ a.phase
-    by c e true = e
-    by c e false = e
-
-    go : (due spent' : Bool)
-        → InPhase a.phase (cond due (cond spent' (Err (spent turn a)) (Ok (tries_frame frame (trying_again turn a))))
-        (Ok (tries_frame frame a)))
-    go false s = by a refl a.wait.try
-    go true true = tt
-    go true false = by (trying_again turn a) refl true
-
-pub answer-phase : (a : Account) → InPhase a.phase (speak_answer a)
-answer-phase a = by a.owes.answer
-  where
-    by : (m : Option Answer) → (else_says (answering m a) (says slots.Flags a)).account.phase ≡ a.phase
-    by None = refl
-    by (Some answer) = refl
-
-pub phase-ok : (p : Phase) (said : Said) (r : Result Said LinkFault) → r ≡ Ok said → InPhase p r → said.account.phase ≡ p
-phase-ok p said (Err fault) e h = cc
-phase-ok p said (Ok other) e h = let same : other ≡ said = cc in subst (λ s. s.account.phase ≡ p) same h
-
 -- an end that is Detecting after it spoke was so before
 pub said-from : (turn : ℕ) (release : Bool) (b : Account) (said : Said) → speak turn release b ≡ Ok said → said.account.phase ≡ Detecting
     → b.phase ≡ Detecting
-said-from turn release b said h d = go b.phase refl h
-  where
-    linked : is_linked said.account.phase ≡ is_linked b.phase
-    linked = (speak-ok turn b said (speak turn release b) h (poll-speaks turn release b)).linked
-
-    late : (p : Phase) → b.phase ≡ p → is_linked p ≡ true → p ≡ Detecting
-    late p e l = let wrong : false ≡ true = sym (ap is_linked d) ∙ (linked ∙ (ap is_linked e ∙ l)) in cc
-
-    other-phase : (p : Phase) (r : Result Said LinkFault) → r ≡ Ok said → InPhase p r → p ≡ Detecting
-    other-phase p r q k = sym (phase-ok p said r q k) ∙ d
-
-    negotiating : (r : Role) → b.phase ≡ Negotiating → speak_negotiating r turn b ≡ Ok said → Negotiating ≡ Detecting
-    negotiating Originator e q = sym e ∙ other-phase b.phase _ q (try-phase turn (Xid true false (written b.setup.offer)) b)
-    negotiating Answerer e q = sym e ∙ other-phase b.phase _ q (answer-phase b)
-
-    go : (p : Phase) → b.phase ≡ p → speak_in p turn release b ≡ Ok said → p ≡ Detecting
-    go Detecting e q = refl
-    go Negotiating e q = negotiating b.setup.role e q
-    go Establishing e q = sym e ∙ other-phase b.phase _ q (try-phase turn (Sabme true) b)
-    go Connected e q = late Connected e refl
-    go Releasing e q = late Releasing e refl
-    go Closed e q = late Closed e refl
+said-from turn release b said h = SpeakWays.by-ways (λ s. s.account.phase ≡ Detecting → b.phase ≡ Detecting) turn release b (record {
+  answers = λ alone d e f. f;
+  flags = λ alone e f. f;
+  mark = λ p r e f. f;
+  odp = λ p r l f. f;
+  xid = λ p r. tries-alike _ turn _ b (λ w f. f) (λ f. f);
+  sabme = λ p. tries-alike _ turn _ b (λ w f. f) (λ f. f);
+  linked = λ p r. linked-so _ _ turn b (λ s k f. sym k.phase ∙ f) (linked-poll turn b);
+  releases = λ p r. tries-alike _ turn _ (trying Releasing turn b) (λ w f. cc) (λ f. cc);
+  disc = λ p. tries-alike _ turn _ b (λ w f. f) (λ f. f);
+}) said h
 
 -- an originator that is Detecting sends its pattern
 sends-odp : (turn : ℕ) (release : Bool) (b : Account) (said : Said) → b.phase ≡ Detecting → b.setup.role ≡ Originator
@@ -130,97 +77,50 @@ sends-odp turn release b said e r h =
     go false q = let same : says slots.Odp b ≡ said = cc in ap (λ s. s.sent) (sym same)
 
 -- and hears no pattern of the answerer's
-abbrev DetectsYet : Arrived → Account → Result Account LinkFault → Type 0
-DetectsYet arrived a (Err fault) = Unit {0}
-DetectsYet arrived a (Ok mid) = mid.phase ≡ Detecting → (a.phase ≡ Detecting) × (arrived ≡ arrivals.Pattern seens.Adp → ⊥)
+abbrev hears-ok : Account → Result Account LinkFault
+hears-ok a = Ok a
 
-frame-no-pattern : (frame : Frame) → arrivals.Frame frame ≡ arrivals.Pattern seens.Adp → ⊥
-frame-no-pattern frame e = cc
-
-detects-frame : (p : Phase) (frame : Frame) (turn : ℕ) (a : Account) → a.phase ≡ p → is_linked p ≡ false
-    → DetectsYet (arrivals.Frame frame) a (on_frame p frame turn a)
-detects-frame Detecting frame turn a e l = go (on_frame Detecting frame turn a)
-  where
-    go : (r : Result Account LinkFault) → DetectsYet (arrivals.Frame frame) a r
-    go (Err fault) = tt
-    go (Ok mid) = λ d. (e, frame-no-pattern frame)
-detects-frame Negotiating frame turn a e l = go a.setup.role frame
-  where
-    stays : (f : Frame) (b : Account) → b.phase ≡ Negotiating → b.phase ≡ Detecting
-        → (a.phase ≡ Detecting) × (arrivals.Frame f ≡ arrivals.Pattern seens.Adp → ⊥)
-    stays f b q d = let wrong : Negotiating ≡ Detecting = sym q ∙ d in cc
-
-    commanded : (f : Frame) (m : Option Offer) → (on_xid_command m a).phase ≡ Detecting
-        → (a.phase ≡ Detecting) × (arrivals.Frame f ≡ arrivals.Pattern seens.Adp → ⊥)
-    commanded f None d = stays f a e d
-    commanded f (Some offer) d = cc
-
-    answered : (f : Frame) (m : Option Offer) → (on_xid_response m turn a).phase ≡ Detecting
-        → (a.phase ≡ Detecting) × (arrivals.Frame f ≡ arrivals.Pattern seens.Adp → ⊥)
-    answered f None d = stays f a e d
-    answered f (Some offer) d = cc
-
-    go : (r : Role) (f : Frame) → DetectsYet (arrivals.Frame f) a (on_negotiating r f turn a)
-    go Originator (Xid false pf info) = answered (Xid false pf info) (offer_in info)
-    go Originator (Dm pf) = tt
-    go Answerer (Xid true pf info) = commanded (Xid true pf info) (offer_in info)
-    go Answerer (Sabme pf) = λ d. cc
-    go Answerer (Disc pf) = stays (Disc pf) a e
-    go r f = stays f a e
-detects-frame Establishing frame turn a e l = go frame
-  where
-    stays : (f : Frame) → a.phase ≡ Detecting → (a.phase ≡ Detecting) × (arrivals.Frame f ≡ arrivals.Pattern seens.Adp → ⊥)
-    stays f d = let wrong : Establishing ≡ Detecting = sym e ∙ d in cc
-
-    go : (f : Frame) → DetectsYet (arrivals.Frame f) a (on_establishing f turn a)
-    go (Ua true) = λ d. cc
-    go (Dm true) = tt
-    go f = stays f
-detects-frame Connected frame turn a e l = cc
-detects-frame Releasing frame turn a e l = cc
-detects-frame Closed frame turn a e l = cc
-
-detects-all : (arrived : Arrived) (turn : ℕ) (a : Account) → a.setup.role ≡ Originator → is_linked a.phase ≡ false
-    → DetectsYet arrived a (hear turn arrived a)
-detects-all arrivals.Nothing turn a r l = λ d. (d, λ e. cc)
-detects-all (arrivals.Pattern seen) turn a r l = go a.phase refl l
-  where
-    on : (x : Role) (s : Seen) → x ≡ Originator → a.phase ≡ Detecting → DetectsYet (arrivals.Pattern s) a (Ok (on_pattern x s turn a))
-    on Originator seens.Adp q e = λ d. cc
-    on Originator seens.Odp q e = λ d. (e, λ f. cc)
-    on Answerer s q e = cc
-
-    go : (p : Phase) → a.phase ≡ p → is_linked p ≡ false → DetectsYet (arrivals.Pattern seen) a (Ok (on_seen p seen turn a))
-    go Detecting e f = on a.setup.role seen r e
-    go Negotiating e f = λ d. let wrong : Negotiating ≡ Detecting = sym e ∙ d in cc
-    go Establishing e f = λ d. let wrong : Establishing ≡ Detecting = sym e ∙ d in cc
-    go Connected e f = cc
-    go Releasing e f = cc
-    go Closed e f = cc
-detects-all (arrivals.Frame frame) turn a r l = detects-frame a.phase frame turn a refl l
-
-pub heard-from : (arrived : Arrived) (turn : ℕ) (a mid : Account) → a.setup.role ≡ Originator → NoneDue a → hear turn arrived a ≡ Ok mid
+pub heard-from : (arrived : Arrived) (turn : ℕ) (a mid : Account) → a.setup.role ≡ Originator → hear turn arrived a ≡ Ok mid
     → mid.phase ≡ Detecting → (a.phase ≡ Detecting) × (arrived ≡ arrivals.Pattern seens.Adp → ⊥)
-heard-from arrived turn a mid r none h d = go (is_linked a.phase) refl
+heard-from arrived turn a mid r h = HearWays.by-ways
+    (λ x b. b.phase ≡ Detecting → (a.phase ≡ Detecting) × (x ≡ arrivals.Pattern seens.Adp → ⊥)) turn a (record {
+      nothing = λ d. (d, λ q. cc);
+      linked = λ p. record {
+        pattern = λ seen d. late p d;
+        plain = λ frame k d. late p d;
+        numbers = numbers-alike _ turn a (λ frame new incoming timer reply urgent k d. late p d);
+        sabme = λ pf m q d. late p d;
+        disc = λ pf q d. cc;
+        brk = λ command pf info number length_octet q d. late p d;
+        brkack = λ command pf info number length_octet q d. late p d;
+      };
+      early = λ c. record {
+        ignores = λ x f d. (d, λ q. moved d (ap (λ y. hear turn y a) (sym q) ∙ f));
+        detects = λ p q d. cc;
+        detected = λ p q d. let wrong : Originator ≡ Answerer = sym r ∙ q in cc;
+        xid = λ p q pf info offer f d. cc;
+        agrees = λ p q pf info offer f d. cc;
+        sabme_first = λ p q pf d. cc;
+        sabme = λ p q pf d. cc;
+        ua = λ p d. cc;
+        disc = λ p pf d. (d, λ q. cc);
+        closes = λ p frame f d. cc;
+      };
+    }) arrived mid h
   where
-    polls : PollHeard Originator turn (of_arrived is_poll arrived) a mid
-    polls = poll-ok Originator turn (of_arrived is_poll arrived) a mid (hear turn arrived a) h
-        (poll-hears Originator arrived turn a r none.answer)
+    late : {A : Type 0} → a.phase ≡ Connected → a.phase ≡ Detecting → A
+    late p d = let wrong : Connected ≡ Detecting = sym p ∙ d in cc
 
-    by : (x : Result Account LinkFault) → x ≡ Ok mid → DetectsYet arrived a x
-        → (a.phase ≡ Detecting) × (arrived ≡ arrivals.Pattern seens.Adp → ⊥)
-    by (Err fault) q k = cc
-    by (Ok b) q k = let same : b ≡ mid = cc in k (ap (λ x. x.phase) same ∙ d)
-
-    go : (b : Bool) → is_linked a.phase ≡ b → (a.phase ≡ Detecting) × (arrived ≡ arrivals.Pattern seens.Adp → ⊥)
-    go true q = let wrong : false ≡ true = sym (ap is_linked d) ∙ polls.linked q in cc
-    go false q = by (hear turn arrived a) h (detects-all arrived turn a r q)
+    moved : a.phase ≡ Detecting → hear turn (arrivals.Pattern seens.Adp) a ≡ Ok a → ⊥
+    moved d f =
+        let there : hears-ok (on_seen a.phase seens.Adp turn a) ≡ hears-ok (trying Negotiating turn a) =
+        ap (λ p. hears-ok (on_seen p seens.Adp turn a)) d ∙ ap (λ x. hears-ok (on_pattern x seens.Adp turn a)) r in
+        let back : hears-ok (trying Negotiating turn a) ≡ hears-ok a = sym there ∙ f in
+        let same : trying Negotiating turn a ≡ a = cc in
+        let wrong : Negotiating ≡ Detecting = ap (λ b. b.phase) same ∙ d in cc
 
 abbrev says-ok : Said → Result Said LinkFault
 says-ok said = Ok said
-
-abbrev hears-ok : Account → Result Account LinkFault
-hears-ok a = Ok a
 
 abbrev PhaseOf : Result Account LinkFault → Phase → Type 0
 PhaseOf (Err fault) p = Unit {0}
@@ -286,46 +186,11 @@ answers-odp user turn arrived a mid released release said e r r' only hears spea
 
 -- only an end that is Detecting breaks so
 pub err-detecting : (turn : ℕ) (release : Bool) (b : Account) → speak turn release b ≡ Err NotDetected → b.phase ≡ Detecting
-err-detecting turn release b h = go b.phase refl h
+err-detecting turn release b h = go NotDetected refl (why-broken turn release b NotDetected h)
   where
-    tried : (frame : Frame) (a : Account) → u_try turn frame a ≡ Err NotDetected → ⊥
-    tried frame a q = by (nat_eq turn (a.wait.try_set + a.setup.period)) (nat_eq a.wait.try_count a.setup.tries) q
-      where
-        by : (due s : Bool) → cond due (cond s (Err (spent turn a)) (Ok (tries_frame frame (trying_again turn a))))
-            (Ok (tries_frame frame a)) ≡ Err NotDetected → ⊥
-        by false s q = cc
-        by true true q = cc
-        by true false q = cc
-
-    broke : (c : Account) (m : Option OwnBreaks) → after_timers turn b.special (breaking turn m c) ≡ Err NotDetected → ⊥
-    broke c None q = cc
-    broke c (Some d) q = cc
-
-    linked : speak_linked turn b ≡ Err NotDetected → ⊥
-    linked q = by (timer_expires turn b b.wait.timer) (expired b.outgoing) q
-      where
-        by : (x : Bool) (m : Option Outgoing)
-            → after_timers turn b.special (then_tries turn (cond x (polling turn m b) (Ok b))) ≡ Err NotDetected → ⊥
-        by false m q = broke b (ticked turn b.setup.period b.setup.tries b.own_breaks) q
-        by true None q = cc
-        by true (Some o) q = broke (record b { outgoing = o; wait = record b.wait { poll = true; timer = Some turn } })
-            (ticked turn b.setup.period b.setup.tries b.own_breaks) q
-
-    connected : (x : Bool) → cond x (speak_releasing turn (trying Releasing turn b)) (speak_linked turn b) ≡ Err NotDetected → ⊥
-    connected true q = tried (Disc true) (trying Releasing turn b) q
-    connected false q = linked q
-
-    negotiating : (r : Role) → speak_negotiating r turn b ≡ Err NotDetected → ⊥
-    negotiating Originator q = tried (Xid true false (written b.setup.offer)) b q
-    negotiating Answerer q = cc
-
-    go : (p : Phase) → b.phase ≡ p → speak_in p turn release b ≡ Err NotDetected → b.phase ≡ Detecting
-    go Detecting e q = e
-    go Negotiating e q = absurd (negotiating b.setup.role q)
-    go Establishing e q = absurd (tried (Sabme true) b q)
-    go Connected e q = absurd (connected (release && is_originator b.setup.role) q)
-    go Releasing e q = absurd (tried (Disc true) b q)
-    go Closed e q = cc
+    go : (fault : LinkFault) → fault ≡ NotDetected → SpeakWays.Breaks turn b fault → b.phase ≡ Detecting
+    go fault n (Undetected p r e) = p
+    go fault n (Spends e) = let wrong : NotDetected ≡ spent turn b = sym n ∙ e in cc
 
 -- an end's setup is its link's, also once it has heard
 pub heard-setup : (tries period : ℕ) (delay : Role → ℕ) (link : Link) (ts : List Turn) (before : Accounts) (t : Turn) (mid : Accounts)
@@ -375,7 +240,7 @@ wants-pattern spends tries period delay link ts before t mid kt run c broken num
     last =
         let h = err-detecting turns (releases link turns mid) (served_at link turns mid Originator).account broken.broken in
         (heard-from (arrival t.orig.heard) turns before.orig mid.orig (role-at Originator turns ts before run c)
-        (known tries period delay link ts before kt run c Originator).none_due (broken.hearing Originator).hears
+        (broken.hearing Originator).hears
         (sym (serves-all link.orig.user turns (is_released mid.orig.phase) mid.orig).phase ∙ h)).0
 
     mid-role : (r : Role) (u : ℕ) → u < turns → (of r (w.deed u).mid).setup.role ≡ r
@@ -398,7 +263,7 @@ wants-pattern spends tries period delay link ts before t mid kt run c broken num
         (ap (λ (x : Account). x.phase) (sym s.after_is) ∙ d) in
         let f = heard-from (arrival (w.deed u).turn.orig.heard) u (w.state u).orig (w.deed u).mid.orig
         (role-at Originator u (past ts u) (w.state u) h.run h.carried)
-        (known tries period delay link (past ts u) (w.state u) kt h.run h.carried Originator).none_due (h.hearing Originator).hears
+        (h.hearing Originator).hears
         (sym (serves-all link.orig.user u (is_released (w.deed u).mid.orig.phase) (w.deed u).mid.orig).phase ∙ b-detects) in (
           f.0,
           ap sent_or s.sent_is

@@ -1,4 +1,5 @@
--- What a frame with a number makes of a Connected end: one row for the five of them, with what it makes of the wait for an answer, of the clock, of
+-- What a frame with a number makes of a Connected end: one row for the five of them, with what it makes of the wait for an answer, of the
+-- clock, of
 -- replies, of what is urgent and of a pause.
 use Rattle.std.proofs.Common.{◌⊎◌, inl, inr, ◌≡◌, ℕ, ◌-◌, ◌<◌, ◌&&◌, ◌||◌, not, Bool, true, false, cond, nat_lt, arith, refl, sym, ◌∙◌, ap}
 use Rattle.std.proofs.Common.{Option, Some, None}
@@ -13,7 +14,7 @@ use Rattle.lapm_receiver.specs.Incoming.{Incoming}
 use Rattle.break_signals.specs.declared.word.BreakWord.{BreakWord}
 use Rattle.link_account.specs.Account.{Account}
 use Rattle.link_account.specs.Hear.{timer_after, ends_wait}
-use Rattle.link_account.proofs.HearWays.{Numbers, numbered_with, acked, acked_back, Plain, IsUa, IsXid, IsTest, IsNoWord}
+use Rattle.link_account.proofs.HearWays.{Numbers, numbered_with, resumed-unpaused, acked, acked_back, Plain, IsUa, IsXid, IsTest, IsNoWord}
 use Rattle.turn_bound.proofs.Clock.{Rates, Sends, is_waiting}
 use Rattle.turn_bound.proofs.Sender.{Heard, heard-clock, meant-range, heard-advanced, heard-resumed, heard-selected, acked-heard}
 use Rattle.turn_bound.proofs.MeetHear.{resumed-awaited}
@@ -55,14 +56,6 @@ or-false false = refl
 never : {A : Type 0} {b : Bool} → b ≡ false → b ≡ true → A
 never e f = let wrong : true ≡ false = sym f ∙ e in cc
 
-resumed-unpaused : (o : Outgoing) → (resumed o).paused ≡ false
-resumed-unpaused o = go o.paused refl
-  where
-    go : (b : Bool) → o.paused ≡ b
-        → (cond b (record o { paused = false; count = cond (is_outstanding o || o.awaited) o.count 0 }) o).paused ≡ false
-    go true e = refl
-    go false e = e
-
 set-after : (turn : ℕ) (old new : Outgoing) (timer : Option ℕ) → SetFrom turn timer (timer_after turn old new timer)
 set-after turn old new timer =
     go (((old.awaited && not new.awaited) || (old.paused && not new.paused)) && not (is_waiting new))
@@ -92,7 +85,8 @@ module _ (turn : ℕ) (a : Account) where
   facts : (frame : Frame) (new : Outgoing) (reply urgent : Bool) → new.awaited ≡ cond (is_final frame) false o.awaited
       → ((z : Rates) → Sends z turn turn o a.wait.timer → Heard o new) → reply ≡ a.owes.reply || is_poll frame
       → (urgent ≡ true → (a.wait.urgent ≡ true) ⊎ (is_final frame ≡ true))
-      → ((f : BreakWord → Bool) → of_word f frame ≡ false) → (new.paused ≡ true → o.paused ≡ true) → (is_final frame ≡ true → new.paused ≡ false)
+      → ((f : BreakWord → Bool) → of_word f frame ≡ false) → (new.paused ≡ true → o.paused ≡ true) →
+      (is_final frame ≡ true → new.paused ≡ false)
       → Number turn a frame new (timer_after turn o new a.wait.timer) reply urgent
   facts frame new reply urgent w k r u g p q = record {
     awaited = w;
@@ -137,25 +131,31 @@ module _ (turn : ℕ) (a : Account) where
       go false q b false false r h = let wrong : true ≡ false = sym h ∙ sym r in cc
 
   -- RR or REJ
-  ready : (frame : Frame) (command pf final : Bool) (made : Outgoing) → is_poll frame ≡ (command && pf) → is_final frame ≡ (pf && not command)
+  ready : (frame : Frame) (command pf final : Bool) (made : Outgoing) → is_poll frame ≡ (command && pf) → is_final frame ≡
+      (pf && not command)
       → ((f : BreakWord → Bool) → of_word f frame ≡ false) → ends_wait command pf a ≡ final
       → made.awaited ≡ cond (pf && not command) false o.awaited → ((z : Rates) → Sends z turn turn o a.wait.timer → Heard o made)
-      → Number turn a frame (resumed made) (timer_after turn o (resumed made) a.wait.timer) (a.owes.reply || (command && pf)) (a.wait.urgent || final)
+      → Number turn a frame (resumed made) (timer_after turn o (resumed made) a.wait.timer) (a.owes.reply || (command && pf))
+      (a.wait.urgent || final)
   ready frame command pf final made poll is words e w k = facts frame (resumed made) _ _
       (resumed-awaited made ∙ (w ∙ ap (λ x. cond x false o.awaited) (sym is))) (λ z s. heard-resumed o made (k z s))
       (ap (λ x. a.owes.reply || x) (sym poll)) (λ h. elim (hurried command pf final e h) [ inl x ↦ inl x | inr x ↦ inr (is ∙ x) ]) words
       (λ h. never (resumed-unpaused made) h) (λ h. resumed-unpaused made)
 
   pub number-rows : (P : Arrived → Account → Type 0)
-      → ((frame : Frame) (new : Outgoing) (incoming : Incoming) (timer : Option ℕ) (reply urgent : Bool) → Number turn a frame new timer reply urgent
+      → ((frame : Frame) (new : Outgoing) (incoming : Incoming) (timer : Option ℕ) (reply urgent : Bool)
+      → Number turn a frame new timer reply urgent
       → P (arrivals.Frame frame) (numbered_with a new incoming timer reply urgent)) → Numbers P turn a
   number-rows P h = record {
     i = λ ns nr pf info n e. h (I ns nr pf info) _ _ _ _ _ (facts (I ns nr pf info) (advanced o n) _ _ refl
-        (λ z s. let r = meant-range o.front o.high nr n e in heard-advanced z turn turn o a.wait.timer n s r.0 r.1) refl (λ u. inl u) (λ f. refl)
+        (λ z s. let r = meant-range o.front o.high nr n e in heard-advanced z turn turn o a.wait.timer n s r.0 r.1) refl (λ u. inl u)
+        (λ f. refl)
         (λ u. u) (λ u. cc));
-    rr = λ command pf nr n final f e. h (Rr command nr pf) _ _ _ _ _ (ready (Rr command nr pf) command pf final (acked final o n) refl refl (λ g. refl)
+    rr = λ command pf nr n final f e. h (Rr command nr pf) _ _ _ _ _
+        (ready (Rr command nr pf) command pf final (acked final o n) refl refl (λ g. refl)
         f (awaited-after command pf final n f).0 (λ z s. (acked-heard z turn turn a final command pf nr n s f e).0));
-    rej = λ command pf nr n final f e. h (Rej command nr pf) _ _ _ _ _ (ready (Rej command nr pf) command pf final (acked_back final o n) refl refl
+    rej = λ command pf nr n final f e. h (Rej command nr pf) _ _ _ _ _
+        (ready (Rej command nr pf) command pf final (acked_back final o n) refl refl
         (λ g. refl) f (awaited-after command pf final n f).1 (λ z s. (acked-heard z turn turn a final command pf nr n s f e).1));
     rnr = λ command pf nr n final f e. h (Rnr command nr pf) _ _ _ _ _ (record {
       awaited = (awaited-after command pf final n f).0;

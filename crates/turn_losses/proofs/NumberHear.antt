@@ -1,37 +1,25 @@
 -- What a Connected end makes of the numbers that it hears.
-use Rattle.std.proofs.Common.{◌⊎◌, inl, inr, ◌≡◌, ℕ, ◌-◌, ◌%◌, ◌<◌, ◌≤◌, ◌&&◌, ◌||◌, Bool, true, false, cond, nat_lt, List, length}
-use Rattle.std.proofs.Common.{length-append, arith, refl, sym, ◌∙◌, ap, subst, Option, Some, None, Result, Ok, Err}
+use Rattle.std.proofs.Common.{◌⊎◌, inl, inr, ◌≡◌, ℕ, ◌-◌, ◌%◌, ◌<◌, ◌≤◌, ◌||◌, Bool, true, false, cond, nat_lt, List, length}
+use Rattle.std.proofs.Common.{length-append, arith, refl, sym, ◌∙◌, ap, subst, Option, Some, None, Ok}
 use Rattle.std.proofs.lemmas.Bool.Decides.{nat_tests}
 use Rattle.std.proofs.lemmas.Bool.{cases_lt}
-use Rattle.shared_terms.specs.declared.role.Role.{Role}
-use Rattle.shared_terms.specs.declared.role.Role.TheVariants.{Originator, Answerer}
 use Rattle.lapm_frames.specs.declared.frame.Frame.{Frame}
-use Rattle.lapm_frames.specs.declared.frame.Frame.TheVariants.{I, Rr, Rnr, Rej, Srej, Sabme, Disc, Ua, Dm, Frmr, Ui, Xid, Test}
+use Rattle.lapm_frames.specs.declared.frame.Frame.TheVariants.{I, Rr, Rnr, Rej}
 use Rattle.lapm_sender.specs.Meant.{meant}
-use Rattle.lapm_sender.specs.Numbers.{with_number}
-use Rattle.lapm_sender.specs.Outgoing.{Outgoing, is_outstanding, acknowledged, rejected, replied, advanced, gone_back, wait_ended, resumed}
+use Rattle.lapm_sender.specs.Outgoing.{Outgoing, is_outstanding, advanced, gone_back, wait_ended, resumed}
 use Rattle.lapm_sender.specs.Outgoing.{paused_at}
 use Rattle.lapm_receiver.specs.Incoming.{Incoming, after_take, after_kind, kind_of, kind_at, offset}
 use Rattle.lapm_receiver.specs.declared.took.Took.{Took}
 use Rattle.lapm_receiver.specs.declared.took.Took.TheVariants.{InOrder, Kept, Repeat, Gap}
-use Rattle.std.specs.Option.{option_map}
-use Rattle.break_signals.specs.declared.word.BreakWord.{BreakWord}
-use Rattle.break_signals.specs.declared.word.BreakWord.TheVariants.{Brk, Ack}
-use Rattle.break_signals.specs.declared.fault.BreakFault.{BreakFault}
-use Rattle.break_signals.specs.Words.{word_in}
 use Rattle.lapm_frames.specs.declared.sent.Sent.{Sent}
 use Rattle.lapm_frames.specs.declared.sent.Sent.TheVariants as slots
 use Rattle.lapm_frames.specs.declared.arrived.Arrived.{Arrived}
 use Rattle.lapm_frames.specs.declared.arrived.Arrived.TheVariants as arrivals
-use Rattle.link_account.specs.declared.phase.Phase.{Phase}
-use Rattle.link_account.specs.declared.phase.Phase.TheVariants.{Detecting, Negotiating, Establishing, Connected, Releasing, Closed}
-use Rattle.shared_terms.specs.declared.fault.LinkFault.{LinkFault}
 use Rattle.link_account.specs.Account.{Account, is_connected}
-use Rattle.link_account.specs.declared.answer.Answer.TheVariants as answers
-use Rattle.link_account.specs.Hear.{hear, on_frame, on_seen, on_connected, on_number, timer_after, then_in, replying, taking, hurrying}
-use Rattle.link_account.specs.Hear.{pausing, ends_wait, on_disc, on_word, peer_reset, owing}
-use Rattle.shared_terms.specs.Role.{is_originator}
+use Rattle.link_account.specs.Hear.{hear}
+use Rattle.link_account.proofs.HearWays.{by-linked, acked, acked_back, Plain, IsUa, IsXid, IsTest, IsNoWord}
 use Rattle.turn_bound.proofs.Sender.{meant-range}
+use Rattle.turn_losses.proofs.AnswerTurn.{connected-is}
 
 -- the N(R) of a frame that acknowledges, and the N(S) of an I frame
 abbrev pub frame_nr : Frame → Option ℕ
@@ -76,10 +64,6 @@ pub record NumbersHeard (arrived : Arrived) (a b : Account) : Type 0 where
   pub incoming : TakenOf (ns_heard arrived) a.incoming b.incoming
   pub numbered : (n : ℕ) → ns_heard arrived ≡ Some n → b.numbered ≡ true
   pub special : b.special ≡ a.special
-
-abbrev pub HearsNumbers : Arrived → Account → Result Account LinkFault → Type 0
-HearsNumbers arrived a (Err fault) = Unit {0}
-HearsNumbers arrived a (Ok b) = NumbersHeard arrived a b
 
 same-taken : (i : Incoming) → TakenOf None i i
 same-taken i = record { same = λ e. refl; low = omega arith; in_order = λ n e. cc; owed = λ e. e }
@@ -159,67 +143,9 @@ fronted-resumed n o new h = go new.paused
 fronted-paused : (n : ℕ) (o new : Outgoing) → Fronted n o new → Fronted n o (paused_at new)
 fronted-paused n o new h = record { window = h.window; pieces = h.pieces; front = h.front; advance = inr refl }
 
--- what a rule does besides
-record Besides (ns : Option ℕ) (f : Account → Account) : Type 0 where
-  pub outgoing : (b : Account) → (f b).outgoing ≡ b.outgoing
-  pub incoming : (b : Account) → TakenOf ns b.incoming (f b).incoming
-  pub special : (b : Account) → (f b).special ≡ b.special
-  pub numbered : (b : Account) → (f b).numbered ≡ b.numbered
-
-heard-number : (frame : Frame) (turn nr : ℕ) (a : Account) (f : Account → Account) (made : ℕ → Outgoing) → frame_nr frame ≡ Some nr
-    → ((n : ℕ) → a.outgoing.front ≤ n → Fronted n a.outgoing (made n)) → Besides (frame_ns frame) f
-    → HearsNumbers (arrivals.Frame frame) a (then_in f (on_number turn nr (option_map made (meant a.outgoing.front a.outgoing.high nr)) a))
-heard-number frame turn nr a f made e each k = go (meant a.outgoing.front a.outgoing.high nr) refl
-  where
-    go : (m : Option ℕ) → meant a.outgoing.front a.outgoing.high nr ≡ m
-        → HearsNumbers (arrivals.Frame frame) a (then_in f (on_number turn nr (option_map made m) a))
-    go None q = tt
-    go (Some n) q =
-        let b : Account = record
-        a { numbered = true; outgoing = made n; wait = record a.wait { timer = timer_after turn a.outgoing (made n) a.wait.timer } } in
-        let range = meant-range a.outgoing.front a.outgoing.high nr n q in
-        let w = each n range.0 in
-        let o : (f b).outgoing ≡ made n = k.outgoing b in
-        record {
-          window = ap (λ x. x.window) o ∙ w.window;
-          pieces = ap (λ x. x.pieces) o ∙ w.pieces;
-          front_low = let i = ap (λ x. x.front) o in let j = w.front in let l = range.0 in omega (arith, i, j, l);
-          advance = by (f b).outgoing (made n).count (ap (λ x. x.front) o ∙ w.front) (ap (λ x. x.count) o) w.advance;
-          acked = λ r g. means (f b).outgoing.front r g (ap (λ x. x.front) o ∙ w.front);
-          incoming = k.incoming b;
-          numbered = λ s g. k.numbered b;
-          special = k.special b;
-        }
-      where
-        by : (c : Outgoing) (d : ℕ) → c.front ≡ n → c.count ≡ d → (n ≡ a.outgoing.front) ⊎ (d ≡ 0)
-            → (c.front ≡ a.outgoing.front) ⊎ (c.count ≡ 0)
-        by c d p s (inl x) = inl (p ∙ x)
-        by c d p s (inr x) = inr (s ∙ x)
-
-        means : (c r : ℕ) → frame_nr frame ≡ Some r → c ≡ n → meant a.outgoing.front a.outgoing.high r ≡ Some c
-        means c r g p = let there : Some nr ≡ Some r = sym e ∙ g in let same : nr ≡ r = cc in
-            ap (meant a.outgoing.front a.outgoing.high) (sym same) ∙ (q ∙ ap (λ x. Some x) (sym p))
-
-replies-besides : (ended asked : Bool) → Besides None (λ b. hurrying ended (replying asked b))
-replies-besides ended asked =
-    record { outgoing = λ b. refl; incoming = λ b. same-taken b.incoming; special = λ b. refl; numbered = λ b. refl }
-
-pauses-besides : (turn : ℕ) (asked : Bool) → Besides None (λ b. pausing turn (replying asked b))
-pauses-besides turn asked =
-    record { outgoing = λ b. refl; incoming = λ b. same-taken b.incoming; special = λ b. refl; numbered = λ b. refl }
-
-map-twice : (f g : Outgoing → Outgoing) (h : ℕ → Outgoing) (m : Option ℕ) → option_map f (option_map h m) ≡ option_map (λ n. f (h n)) m
-map-twice f g h None = refl
-map-twice f g h (Some n) = refl
-
-heard-again : (frame : Frame) (turn nr : ℕ) (a : Account) (f : Account → Account) (again : Outgoing → Outgoing) (made : ℕ → Outgoing)
-    → frame_nr frame ≡ Some nr → ((n : ℕ) → a.outgoing.front ≤ n → Fronted n a.outgoing (again (made n))) → Besides (frame_ns frame) f
-    → HearsNumbers (arrivals.Frame frame) a
-    (then_in f (on_number turn nr (option_map again (option_map made (meant a.outgoing.front a.outgoing.high nr))) a))
-heard-again frame turn nr a f again made e each k =
-    subst (λ m. HearsNumbers (arrivals.Frame frame) a (then_in f (on_number turn nr m a)))
-    (sym (map-twice again again made (meant a.outgoing.front a.outgoing.high nr)))
-    (heard-number frame turn nr a f (λ n. again (made n)) e each k)
+fronted-acked : (final : Bool) (o : Outgoing) (n : ℕ) → o.front ≤ n → Fronted n o (acked final o n) × Fronted n o (acked_back final o n)
+fronted-acked true o n l = let k = fronted-ended n o _ (fronted-advanced o n l) in (k, k)
+fronted-acked false o n l = let k = fronted-advanced o n l in (k, fronted-gone n o _ k)
 
 -- nothing of it changes
 heard-same : (arrived : Arrived) (a b : Account) → nr_heard arrived ≡ None → ns_heard arrived ≡ None → b.outgoing ≡ a.outgoing
@@ -235,105 +161,57 @@ heard-same arrived a b x y o i s = record {
   special = s;
 }
 
-connected-numbers : (frame : Frame) (turn : ℕ) (a : Account) → HearsNumbers (arrivals.Frame frame) a (on_connected frame turn a)
-connected-numbers (I ns nr pf info) turn a =
-    heard-number (I ns nr pf info) turn nr a (λ b. replying pf (taking ns info b)) (advanced a.outgoing) refl (fronted-advanced a.outgoing)
-    (record { outgoing = λ b. refl; incoming = λ b. takes-of ns info b.incoming; special = λ b. refl; numbered = λ b. refl })
-connected-numbers (Rr command nr pf) turn a = go (ends_wait command pf a)
-  where
-    go : (b : Bool) → HearsNumbers (arrivals.Frame (Rr command nr pf)) a
-        (then_in (λ c. hurrying b (replying (command && pf) c))
-        (on_number turn nr (option_map resumed (cond b (replied nr a.outgoing) (acknowledged nr a.outgoing))) a))
-    go true = heard-again (Rr command nr pf) turn nr a _ resumed (λ n. wait_ended (advanced a.outgoing n)) refl
-        (λ n l. fronted-resumed n a.outgoing _ (fronted-ended n a.outgoing _ (fronted-advanced a.outgoing n l)))
-        (replies-besides true (command && pf))
-    go false = heard-again (Rr command nr pf) turn nr a _ resumed (advanced a.outgoing) refl
-        (λ n l. fronted-resumed n a.outgoing _ (fronted-advanced a.outgoing n l)) (replies-besides false (command && pf))
-connected-numbers (Rej command nr pf) turn a = go (ends_wait command pf a)
-  where
-    go : (b : Bool) → HearsNumbers (arrivals.Frame (Rej command nr pf)) a
-        (then_in (λ c. hurrying b (replying (command && pf) c))
-        (on_number turn nr (option_map resumed (cond b (replied nr a.outgoing) (rejected nr a.outgoing))) a))
-    go true = heard-again (Rej command nr pf) turn nr a _ resumed (λ n. wait_ended (advanced a.outgoing n)) refl
-        (λ n l. fronted-resumed n a.outgoing _ (fronted-ended n a.outgoing _ (fronted-advanced a.outgoing n l)))
-        (replies-besides true (command && pf))
-    go false = heard-again (Rej command nr pf) turn nr a _ resumed (λ n. gone_back (advanced a.outgoing n)) refl
-        (λ n l. fronted-resumed n a.outgoing _ (fronted-gone n a.outgoing _ (fronted-advanced a.outgoing n l)))
-        (replies-besides false (command && pf))
-connected-numbers (Rnr command nr pf) turn a = go (ends_wait command pf a)
-  where
-    go : (b : Bool) → HearsNumbers (arrivals.Frame (Rnr command nr pf)) a
-        (then_in (λ c. pausing turn (replying (command && pf) c))
-        (on_number turn nr (option_map paused_at (cond b (replied nr a.outgoing) (acknowledged nr a.outgoing))) a))
-    go true = heard-again (Rnr command nr pf) turn nr a _ paused_at (λ n. wait_ended (advanced a.outgoing n)) refl
-        (λ n l. fronted-paused n a.outgoing _ (fronted-ended n a.outgoing _ (fronted-advanced a.outgoing n l)))
-        (pauses-besides turn (command && pf))
-    go false = heard-again (Rnr command nr pf) turn nr a _ paused_at (advanced a.outgoing) refl
-        (λ n l. fronted-paused n a.outgoing _ (fronted-advanced a.outgoing n l)) (pauses-besides turn (command && pf))
-connected-numbers (Srej command nr pf) turn a = go (is_outstanding a.outgoing) (meant a.outgoing.front (a.outgoing.high - 1) nr)
-  where
-    go : (b : Bool) (m : Option ℕ)
-        → HearsNumbers (arrivals.Frame (Srej command nr pf)) a
-        (on_number turn nr (cond b (option_map (λ n. record a.outgoing { chosen = with_number n a.outgoing.chosen }) m) None) a)
-    go false m = tt
-    go true None = tt
-    go true (Some n) = record {
+-- a number is heard
+heard-number : (frame : Frame) (nr n : ℕ) (a b : Account) → frame_nr frame ≡ Some nr → meant a.outgoing.front a.outgoing.high nr ≡ Some n
+    → (a.outgoing.front ≤ n → Fronted n a.outgoing b.outgoing) → TakenOf (frame_ns frame) a.incoming b.incoming → b.numbered ≡ true
+    → b.special ≡ a.special → NumbersHeard (arrivals.Frame frame) a b
+heard-number frame nr n a b e m k taken numbered special =
+    let range = meant-range a.outgoing.front a.outgoing.high nr n m in let w = k range.0 in
+    record {
+      window = w.window;
+      pieces = w.pieces;
+      front_low = let f = w.front in let l = range.0 in omega (arith, f, l);
+      advance = elim w.advance [ inl x ↦ inl (w.front ∙ x) | inr x ↦ inr x ];
+      acked = λ r g. let there : Some nr ≡ Some r = sym e ∙ g in let same : nr ≡ r = cc in
+          ap (meant a.outgoing.front a.outgoing.high) (sym same) ∙ (m ∙ ap (λ x. Some x) (sym w.front));
+      incoming = taken;
+      numbered = λ s g. numbered;
+      special = special;
+    }
+
+plain-none : (frame : Frame) → Plain frame → (frame_nr frame ≡ None) × (frame_ns frame ≡ None)
+plain-none frame (IsUa pf e) = (ap frame_nr e, ap frame_ns e)
+plain-none frame (IsXid command pf info e) = (ap frame_nr e, ap frame_ns e)
+plain-none frame (IsTest command pf info e) = (ap frame_nr e, ap frame_ns e)
+plain-none frame (IsNoWord command pf info fault w e) = (ap frame_nr e, ap frame_ns e)
+
+pub numbers-heard : (arrived : Arrived) (turn : ℕ) (a mid : Account) → is_connected a.phase ≡ true → hear turn arrived a ≡ Ok mid
+    → NumbersHeard arrived a mid
+numbers-heard arrived turn a mid c e = by-linked (λ x b. NumbersHeard x a b) turn a (record {
+  pattern = λ seen. heard-same _ a a refl refl refl refl refl;
+  plain = λ frame p. let k = plain-none frame p in heard-same _ a a k.0 k.1 refl refl refl;
+  numbers = record {
+    i = λ ns nr pf info n m. heard-number (I ns nr pf info) nr n a _ refl m (fronted-advanced a.outgoing n)
+        (takes-of ns info a.incoming) refl refl;
+    rr = λ command pf nr n final f m. heard-number (Rr command nr pf) nr n a _ refl m
+        (λ l. fronted-resumed n a.outgoing _ (fronted-acked final a.outgoing n l).0) (same-taken a.incoming) refl refl;
+    rej = λ command pf nr n final f m. heard-number (Rej command nr pf) nr n a _ refl m
+        (λ l. fronted-resumed n a.outgoing _ (fronted-acked final a.outgoing n l).1) (same-taken a.incoming) refl refl;
+    rnr = λ command pf nr n final f m. heard-number (Rnr command nr pf) nr n a _ refl m
+        (λ l. fronted-paused n a.outgoing _ (fronted-acked final a.outgoing n l).0) (same-taken a.incoming) refl refl;
+    srej = λ command pf nr n f m. record {
       window = refl;
       pieces = refl;
       front_low = omega arith;
       advance = inl refl;
-      acked = λ r e. cc;
+      acked = λ r g. cc;
       incoming = same-taken a.incoming;
-      numbered = λ s e. cc;
+      numbered = λ s g. cc;
       special = refl;
-    }
-connected-numbers (Sabme pf) turn a = go (a.numbered || is_originator a.setup.role)
-  where
-    go : (b : Bool) → HearsNumbers (arrivals.Frame (Sabme pf)) a (cond b (Err (peer_reset a)) (Ok (owing (answers.Ua pf) a)))
-    go true = tt
-    go false = heard-same _ a _ refl refl refl refl refl
-connected-numbers (Disc pf) turn a = go a.setup.role
-  where
-    go : (r : Role) → HearsNumbers (arrivals.Frame (Disc pf)) a (on_disc r pf a)
-    go Originator = tt
-    go Answerer = heard-same _ a _ refl refl refl refl refl
-connected-numbers (Ua pf) turn a = heard-same _ a a refl refl refl refl refl
-connected-numbers (Dm pf) turn a = tt
-connected-numbers (Frmr pf info) turn a = tt
-connected-numbers (Ui command pf info) turn a = go (word_in info)
-  where
-    go : (w : Result BreakWord BreakFault) → HearsNumbers (arrivals.Frame (Ui command pf info)) a (Ok (on_word turn w a))
-    go (Ok (Brk number length_octet)) = heard-same _ a _ refl refl refl refl refl
-    go (Ok (Ack number length_octet)) = heard-same _ a _ refl refl refl refl refl
-    go (Err fault) = heard-same _ a a refl refl refl refl refl
-connected-numbers (Xid command pf info) turn a = heard-same _ a a refl refl refl refl refl
-connected-numbers (Test command pf info) turn a = heard-same _ a a refl refl refl refl refl
-
-all-numbers : (arrived : Arrived) (turn : ℕ) (a : Account) → is_connected a.phase ≡ true → HearsNumbers arrived a (hear turn arrived a)
-all-numbers arrivals.Nothing turn a e = heard-same _ a _ refl refl refl refl refl
-all-numbers (arrivals.Pattern seen) turn a e = go a.phase e
-  where
-    go : (p : Phase) → is_connected p ≡ true → HearsNumbers (arrivals.Pattern seen) a (Ok (on_seen p seen turn a))
-    go Connected e = heard-same _ a a refl refl refl refl refl
-    go Detecting e = cc
-    go Negotiating e = cc
-    go Establishing e = cc
-    go Releasing e = cc
-    go Closed e = cc
-all-numbers (arrivals.Frame frame) turn a e = go a.phase e
-  where
-    go : (p : Phase) → is_connected p ≡ true → HearsNumbers (arrivals.Frame frame) a (on_frame p frame turn a)
-    go Connected e = connected-numbers frame turn a
-    go Detecting e = cc
-    go Negotiating e = cc
-    go Establishing e = cc
-    go Releasing e = cc
-    go Closed e = cc
-
-pub numbers-heard : (arrived : Arrived) (turn : ℕ) (a mid : Account) → is_connected a.phase ≡ true → hear turn arrived a ≡ Ok mid
-    → NumbersHeard arrived a mid
-numbers-heard arrived turn a mid c e = go (hear turn arrived a) e (all-numbers arrived turn a c)
-  where
-    go : (r : Result Account LinkFault) → r ≡ Ok mid → HearsNumbers arrived a r → NumbersHeard arrived a mid
-    go (Err fault) e h = cc
-    go (Ok b) e h = let same : b ≡ mid = cc in subst (NumbersHeard arrived a) same h
+    };
+  };
+  sabme = λ pf n r. heard-same _ a _ refl refl refl refl refl;
+  disc = λ pf r. heard-same _ a _ refl refl refl refl refl;
+  brk = λ command pf info number length_octet q. heard-same _ a _ refl refl refl refl refl;
+  brkack = λ command pf info number length_octet q. heard-same _ a _ refl refl refl refl refl;
+}) (heard-same _ a _ refl refl refl refl refl) arrived mid (connected-is a.phase c) e

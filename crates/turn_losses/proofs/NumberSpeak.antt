@@ -117,7 +117,8 @@ linked-numbers turn a said e = by-linked (NumbersSaid a.special a) turn a (linke
       brk = λ before s k word q. says-special a.special a _ s still refl refl refl refl refl refl;
       tell = λ before x q. ready false false _ still refl refl;
       rej = λ before x n q. says-nr a.special a _ still (asked-taken n a.incoming).0 refl refl refl;
-      srej = λ before x s n q. says-special a.special a _ s still (asked-taken n a.incoming).0 refl (asked-taken n a.incoming).1 refl refl refl;
+      srej = λ before x s n q. says-special a.special a _ s still (asked-taken n a.incoming).0 refl
+          (asked-taken n a.incoming).1 refl refl refl;
       flags = λ i. record {
         outgoing = still;
         taken = refl;
@@ -134,6 +135,7 @@ linked-numbers turn a said e = by-linked (NumbersSaid a.special a) turn a (linke
         still : SameFront a.outgoing b.outgoing
         still = record { window = refl; pieces = refl; front = refl; paused = refl }
 
-        ready : (command pf : Bool) (c : Account) → SameFront a.outgoing c.outgoing → c.incoming.taken ≡ a.incoming.taken → c.numbered ≡ a.numbered
+        ready : (command pf : Bool) (c : Account) → SameFront a.outgoing c.outgoing → c.incoming.taken ≡ a.incoming.taken → c.numbered
+            ≡ a.numbered
             → NumbersSaid a.special a (says_frame (ready_frame a.owes.busy command (nr_of a) pf) c)
         ready command pf c o t n = let k = ready-nr a.owes.busy command pf (nr_of a) in says-nr a.special a _ o t n k.0 k.1

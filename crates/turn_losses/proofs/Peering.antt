@@ -16,8 +16,7 @@ use Rattle.link_run.specs.End.{User, is_released, is_closed}
 use Rattle.link_run.specs.Run.{Link, Accounts, Turn, arrival, served_at}
 use Rattle.turn_bound.specs.Time.{KeepsTime}
 use Rattle.turn_bound.proofs.Run.{served_account}
-use Rattle.turn_bound.proofs.MeetHear.{frame_ua, frame_final, o-hears, of_arrived}
-use Rattle.turn_bound.proofs.Meeting.{o-ok}
+use Rattle.turn_bound.proofs.MeetHear.{o-hears}
 use Rattle.turn_bound.proofs.Serving.{serves-first, before_asking}
 use Rattle.turn_losses.proofs.Polling.{is_linked}
 use Rattle.turn_losses.proofs.PollHear.{linked-connected}
@@ -60,8 +59,7 @@ orig-released tries period delay link ts state deed kt w u l e =
     let h = w.happens u l in
     let arrived : Arrived = arrival (deed u).turn.orig.heard in
     let role = setup-role tries period delay link (past ts u) (state u) kt h.run h.carried Originator in
-    (o-ok (of_arrived frame_ua arrived) (of_arrived frame_final arrived) (state u).orig (deed u).mid.orig (hear u arrived (state u).orig)
-    (h.hearing Originator).hears (o-hears arrived u (state u).orig role)).released e
+    (o-hears arrived u (state u).orig (deed u).mid.orig role (h.hearing Originator).hears).released e
 
 -- so none waits from then on
 unasked : (tries period : ℕ) (delay : Role → ℕ) (link : Link) (ts : List Turn) (state : ℕ → Accounts) (deed : ℕ → Deed)
@@ -124,8 +122,7 @@ unasked tries period delay link ts state deed kt w v l none (suc n) b rel c0 c =
 unclosed : (arrived : Arrived) (turn : ℕ) (a mid : Account) → a.setup.role ≡ Originator → hear turn arrived a ≡ Ok mid
     → is_closed mid.phase ≡ false → a.phase ≡ Closed → mid.phase ≡ Releasing
 unclosed arrived turn a mid r h n e = go mid.phase refl
-    ((o-ok (of_arrived frame_ua arrived) (of_arrived frame_final arrived) a mid (hear turn arrived a) h
-    (o-hears arrived turn a r)).released (ap is_released e)) n
+    ((o-hears arrived turn a mid r h).released (ap is_released e)) n
   where
     go : (p : Phase) → mid.phase ≡ p → is_released p ≡ true → is_closed p ≡ false → p ≡ Releasing
     go Detecting q x y = cc

@@ -1,44 +1,33 @@
 -- An answerer begins only once the originator establishes the link.
-use Rattle.std.proofs.Common.{◌⊎◌, inl, inr, ◌≡◌, ℕ, zero, suc, ◌+◌, ◌-◌, ◌*◌, ◌≤◌, Bool, true, false, cond, nat_eq, nat_le, List, length}
-use Rattle.std.proofs.Common.{arith, refl, sym, ◌∙◌, ap, subst, Option, Some, None, Result, Ok, Err}
+use Rattle.std.proofs.Common.{◌⊎◌, inl, inr, ◌≡◌, ℕ, zero, suc, ◌+◌, ◌-◌, ◌≤◌, Bool, true, false, List, length}
+use Rattle.std.proofs.Common.{arith, refl, sym, ◌∙◌, ap, subst, Ok}
 use Rattle.shared_terms.specs.declared.role.Role.{Role}
 use Rattle.shared_terms.specs.declared.role.Role.TheVariants.{Originator, Answerer}
 use Rattle.lapm_frames.specs.declared.frame.Frame.{Frame}
-use Rattle.lapm_frames.specs.declared.frame.Frame.TheVariants.{Sabme, Disc, Ua, Dm, Xid}
-use Rattle.xid_params.specs.declared.offer.Offer.{Offer}
-use Rattle.xid_params.specs.Offers.{offer_in, written}
-use Rattle.lapm_frames.specs.declared.seen.Seen.{Seen}
-use Rattle.lapm_frames.specs.declared.seen.Seen.TheVariants as seens
-use Rattle.lapm_frames.specs.declared.sent.Sent.{Sent}
+use Rattle.lapm_frames.specs.declared.frame.Frame.TheVariants.{Sabme, Ua, Dm, Xid}
 use Rattle.lapm_frames.specs.declared.sent.Sent.TheVariants as slots
 use Rattle.lapm_frames.specs.declared.arrived.Arrived.{Arrived}
-use Rattle.lapm_frames.specs.declared.arrived.Arrived.TheVariants as arrivals
 use Rattle.link_account.specs.declared.phase.Phase.{Phase}
 use Rattle.link_account.specs.declared.phase.Phase.TheVariants.{Detecting, Negotiating, Establishing, Connected, Releasing, Closed}
-use Rattle.shared_terms.specs.declared.fault.LinkFault.{LinkFault}
-use Rattle.shared_terms.specs.declared.fault.LinkFault.TheVariants.{NotDetected}
 use Rattle.link_account.specs.declared.answer.Answer.{Answer}
 use Rattle.link_account.specs.declared.answer.Answer.TheVariants as answers
 use Rattle.link_account.specs.Account.{Account}
-use Rattle.link_account.specs.Hear.{hear, on_frame, on_seen, on_pattern, on_nothing, on_detecting, on_negotiating, on_establishing}
-use Rattle.link_account.specs.Hear.{on_xid_command, owing}
-use Rattle.link_account.specs.Speak.{Said, says, says_frame, else_says, where_says, spent, answering, trying_again, tries_frame, u_try}
-use Rattle.link_account.specs.Speak.{speak, speak_in, speak_detecting, speak_negotiating}
+use Rattle.link_account.specs.Hear.{hear, trying}
+use Rattle.link_account.specs.Speak.{Said, says}
+use Rattle.link_account.specs.Speak.{speak}
 use Rattle.link_run.specs.End.{is_released}
 use Rattle.link_run.specs.Run.{Link, Accounts, Turn, SpeaksAt, arrival, served_at, said_at}
 use Rattle.turn_bound.specs.Time.{KeepsTime}
 use Rattle.turn_bound.proofs.Clock.{rates}
 use Rattle.turn_bound.proofs.Value.{Stands}
 use Rattle.turn_bound.proofs.MeetHear.{is_begun, of_frame, of_arrived}
-use Rattle.turn_bound.proofs.Meeting.{s-ok}
+use Rattle.link_account.specs.Speak.{frame_for}
+use Rattle.link_account.proofs.HearWays as HearWays
+use Rattle.link_account.proofs.HearWays.{numbers-alike}
+use Rattle.link_account.proofs.SpeakWays as SpeakWays
+use Rattle.link_account.proofs.SpeakWays.{linked-alike, tries-alike}
 use Rattle.turn_bound.proofs.MeetSpeak.{speaks-so}
 use Rattle.turn_bound.proofs.Serving.{serves-all}
-use Rattle.turn_losses.specs.Polls.{is_poll}
-use Rattle.turn_losses.proofs.Polling.{is_linked}
-use Rattle.turn_losses.proofs.PollHear.{poll-hears}
-use Rattle.turn_losses.proofs.PollSpeak.{poll-speaks}
-use Rattle.turn_losses.proofs.NumberTurn.{poll-ok, speak-ok}
-use Rattle.turn_losses.proofs.Detecting.{try-phase, phase-ok}
 use Rattle.turn_losses.proofs.Trace.{Deed, Happens, Trace, past, sent_or}
 use Rattle.turn_losses.proofs.TwoEnds.{EndRun, TwoEnds, end_run}
 use Rattle.turn_losses.proofs.Tracing.{known, timed, release_of, said-as}
@@ -50,71 +39,36 @@ is_sabme (Sabme pf) = true
 is_sabme frame = false
 
 -- only a SABME begins an answerer
-abbrev BegunBy : Bool → Account → Result Account LinkFault → Type 0
-BegunBy sabme a (Err fault) = Unit {0}
-BegunBy sabme a (Ok b) = is_begun b.phase ≡ true → (is_begun a.phase ≡ true) ⊎ (sabme ≡ true)
-
-stays-begun : (sabme : Bool) (a b : Account) → b.phase ≡ a.phase → BegunBy sabme a (Ok b)
-stays-begun sabme a b e = λ h. inl (ap is_begun (sym e) ∙ h)
-
-was-begun : (sabme : Bool) (a : Account) (r : Result Account LinkFault) → is_begun a.phase ≡ true → BegunBy sabme a r
-was-begun sabme a (Err fault) e = tt
-was-begun sabme a (Ok b) e = λ h. inl e
-
-begun-frame : (p : Phase) (frame : Frame) (turn : ℕ) (a : Account) → a.phase ≡ p → a.setup.role ≡ Answerer → (p ≡ Establishing → ⊥)
-    → BegunBy (is_sabme frame) a (on_frame p frame turn a)
-begun-frame Detecting frame turn a e r n = subst (λ x. BegunBy (is_sabme frame) a (on_detecting x frame turn a)) (sym r) (go frame)
-  where
-    commanded : (s : Bool) (m : Option Offer) → BegunBy s a (Ok (on_xid_command m a))
-    commanded s None = stays-begun s a a refl
-    commanded s (Some offer) = λ h. cc
-
-    go : (f : Frame) → BegunBy (is_sabme f) a (on_detecting Answerer f turn a)
-    go (Xid true pf info) = commanded false (offer_in info)
-    go (Sabme pf) = λ h. inr refl
-    go f = stays-begun (is_sabme f) a a refl
-begun-frame Negotiating frame turn a e r n = subst (λ x. BegunBy (is_sabme frame) a (on_negotiating x frame turn a)) (sym r) (go frame)
-  where
-    commanded : (s : Bool) (m : Option Offer) → BegunBy s a (Ok (on_xid_command m a))
-    commanded s None = stays-begun s a a refl
-    commanded s (Some offer) = λ h. cc
-
-    go : (f : Frame) → BegunBy (is_sabme f) a (on_negotiating Answerer f turn a)
-    go (Xid true pf info) = commanded false (offer_in info)
-    go (Sabme pf) = λ h. inr refl
-    go (Disc pf) = stays-begun false a (owing (answers.Dm pf) a) refl
-    go f = stays-begun (is_sabme f) a a refl
-begun-frame Establishing frame turn a e r n = absurd (n refl)
-begun-frame Connected frame turn a e r n = was-begun (is_sabme frame) a _ (ap is_begun e)
-begun-frame Releasing frame turn a e r n = was-begun (is_sabme frame) a _ (ap is_begun e)
-begun-frame Closed frame turn a e r n = was-begun (is_sabme frame) a _ (ap is_begun e)
-
-begun-all : (arrived : Arrived) (turn : ℕ) (a : Account) → a.setup.role ≡ Answerer → (a.phase ≡ Establishing → ⊥)
-    → BegunBy (of_arrived is_sabme arrived) a (hear turn arrived a)
-begun-all arrivals.Nothing turn a r n = stays-begun false a (on_nothing a) refl
-begun-all (arrivals.Pattern seen) turn a r n = go a.phase refl
-  where
-    on : (s : Seen) → BegunBy false a (Ok (on_pattern Answerer s turn a))
-    on seens.Odp = stays-begun false a (owing answers.Adp a) refl
-    on seens.Adp = stays-begun false a a refl
-
-    go : (p : Phase) → a.phase ≡ p → BegunBy false a (Ok (on_seen p seen turn a))
-    go Detecting e = subst (λ x. BegunBy false a (Ok (on_pattern x seen turn a))) (sym r) (on seen)
-    go Negotiating e = stays-begun false a a refl
-    go Establishing e = stays-begun false a a refl
-    go Connected e = stays-begun false a a refl
-    go Releasing e = stays-begun false a a refl
-    go Closed e = stays-begun false a a refl
-begun-all (arrivals.Frame frame) turn a r n = begun-frame a.phase frame turn a refl r n
-
 begun-by : (arrived : Arrived) (turn : ℕ) (a mid : Account) → a.setup.role ≡ Answerer → (a.phase ≡ Establishing → ⊥)
     → hear turn arrived a ≡ Ok mid → is_begun mid.phase ≡ true → (is_begun a.phase ≡ true) ⊎ (of_arrived is_sabme arrived ≡ true)
-begun-by arrived turn a mid r n h c = go (hear turn arrived a) h (begun-all arrived turn a r n)
+begun-by arrived turn a mid er n h = HearWays.by-ways
+    (λ x b. is_begun b.phase ≡ true → (is_begun a.phase ≡ true) ⊎ (of_arrived is_sabme x ≡ true)) turn a (record {
+      nothing = λ c. inl c;
+      linked = λ p. record {
+        pattern = λ seen c. inl c;
+        plain = λ frame k c. inl c;
+        numbers = numbers-alike _ turn a (λ frame new incoming timer reply urgent k c. inl c);
+        sabme = λ pf m r c. inl c;
+        disc = λ pf r c. inl (ap is_begun p);
+        brk = λ command pf info number length_octet q c. inl c;
+        brkack = λ command pf info number length_octet q c. inl c;
+      };
+      early = λ e. record {
+        ignores = λ x f c. inl c;
+        detects = λ p r. never r;
+        detected = λ p r c. inl c;
+        xid = λ p r pf info offer f c. cc;
+        agrees = λ p r pf info offer f. never r;
+        sabme_first = λ p r pf c. inr refl;
+        sabme = λ p r pf c. inr refl;
+        ua = λ p c. absurd (n p);
+        disc = λ p pf c. inl c;
+        closes = λ p frame f c. inl (ap is_begun p);
+      };
+    }) arrived mid h
   where
-    go : (x : Result Account LinkFault) → x ≡ Ok mid → BegunBy (of_arrived is_sabme arrived) a x
-        → (is_begun a.phase ≡ true) ⊎ (of_arrived is_sabme arrived ≡ true)
-    go (Err fault) q k = cc
-    go (Ok b) q k = let same : b ≡ mid = cc in k (ap (λ x. is_begun x.phase) same ∙ c)
+    never : {A : Type 0} → a.setup.role ≡ Originator → A
+    never r = let wrong : Answerer ≡ Originator = sym er ∙ r in cc
 
 -- An originator that establishes the link, or did.
 abbrev pub is_established : Phase → Bool
@@ -125,125 +79,73 @@ is_established Connected = true
 is_established Releasing = true
 is_established Closed = true
 
-linked-established : (p : Phase) → is_linked p ≡ true → is_established p ≡ true
-linked-established Detecting e = cc
-linked-established Negotiating e = cc
-linked-established Establishing e = cc
-linked-established Connected e = refl
-linked-established Releasing e = refl
-linked-established Closed e = refl
-
 -- it goes on so, as it hears
-abbrev EstablishedIn : Result Account LinkFault → Type 0
-EstablishedIn (Err fault) = Unit {0}
-EstablishedIn (Ok b) = is_established b.phase ≡ true
+pub stays-established : (arrived : Arrived) (turn : ℕ) (a mid : Account) → hear turn arrived a ≡ Ok mid → is_established a.phase ≡ true
+    → is_established mid.phase ≡ true
+stays-established arrived turn a mid h c = HearWays.by-ways (λ x b. is_established b.phase ≡ true) turn a (record {
+  nothing = c;
+  linked = λ p. record {
+    pattern = λ seen. c;
+    plain = λ frame k. c;
+    numbers = numbers-alike _ turn a (λ frame new incoming timer reply urgent k. c);
+    sabme = λ pf m r. c;
+    disc = λ pf r. refl;
+    brk = λ command pf info number length_octet q. c;
+    brkack = λ command pf info number length_octet q. c;
+  };
+  early = λ e. record {
+    ignores = λ x f. c;
+    detects = λ p r. let wrong : true ≡ false = sym c ∙ ap is_established p in cc;
+    detected = λ p r. c;
+    xid = λ p r pf info offer f.
+        let wrong : true ≡ false = sym c ∙ elim p [ inl q ↦ ap is_established q | inr q ↦ ap is_established q ] in cc;
+    agrees = λ p r pf info offer f. refl;
+    sabme_first = λ p r pf. refl;
+    sabme = λ p r pf. refl;
+    ua = λ p. refl;
+    disc = λ p pf. c;
+    closes = λ p frame f. refl;
+  };
+}) arrived mid h
 
-establishing-hears : (arrived : Arrived) (turn : ℕ) (a : Account) → a.phase ≡ Establishing → EstablishedIn (hear turn arrived a)
-establishing-hears arrivals.Nothing turn a e = ap is_established e
-establishing-hears (arrivals.Pattern seen) turn a e = subst (λ p. is_established (on_seen p seen turn a).phase ≡ true) (sym e)
-    (ap is_established e)
-establishing-hears (arrivals.Frame frame) turn a e = subst (λ p. EstablishedIn (on_frame p frame turn a)) (sym e) (go frame)
+-- and as it speaks; one that sends a SABME is so
+record Establishes (b : Account) (said : Said) : Type 0 where
+  pub stays : is_established b.phase ≡ true → is_established said.account.phase ≡ true
+  pub sends : of_frame is_sabme said.sent ≡ true → is_established said.account.phase ≡ true
+
+establishes : (turn : ℕ) (release : Bool) (b : Account) (said : Said) → speak turn release b ≡ Ok said → Establishes b said
+establishes turn release b said h = SpeakWays.by-ways (Establishes b) turn release b (record {
+  answers = λ alone d e. record { stays = λ c. c; sends = λ c. let wrong : true ≡ false = sym c ∙ answer-none d in cc };
+  flags = λ alone e. none;
+  mark = λ p r e. record { stays = λ c. c; sends = λ c. cc };
+  odp = λ p r l. record { stays = λ c. c; sends = λ c. cc };
+  xid = λ p r. tries-alike _ turn _ b (λ w. record { stays = λ c. c; sends = λ c. cc }) none;
+  sabme = λ p. tries-alike _ turn _ b (λ w. record { stays = λ c. c; sends = λ c. ap is_established p }) none;
+  linked = λ p r. linked-alike _ turn b (λ count awaited w own. let k = ap is_established p in record {
+    answers = λ d e. record { stays = λ c. c; sends = λ c. k };
+    final = λ n e. record { stays = λ c. c; sends = λ c. k };
+    poll = λ n q e. record { stays = λ c. c; sends = λ c. k };
+    segment = λ x u n e. record { stays = λ c. c; sends = λ c. k };
+    brkack = λ x s word e. record { stays = λ c. c; sends = λ c. k };
+    brk = λ x s y word e. record { stays = λ c. c; sends = λ c. k };
+    tell = λ x y e. record { stays = λ c. c; sends = λ c. k };
+    rej = λ x y n e. record { stays = λ c. c; sends = λ c. k };
+    srej = λ x y s n e. record { stays = λ c. c; sends = λ c. k };
+    flags = λ i. record { stays = λ c. c; sends = λ c. k };
+  });
+  releases = λ p r. tries-alike _ turn _ (trying Releasing turn b) (λ w. record { stays = λ c. refl; sends = λ c. refl })
+      (record { stays = λ c. refl; sends = λ c. refl });
+  disc = λ p. tries-alike _ turn _ b (λ w. record { stays = λ c. c; sends = λ c. cc }) none;
+}) said h
   where
-    go : (f : Frame) → EstablishedIn (on_establishing f turn a)
-    go (Ua true) = refl
-    go (Dm true) = tt
-    go f = ap is_established e
+    none : Establishes b (says slots.Flags b)
+    none = record { stays = λ c. c; sends = λ c. cc }
 
-pub stays-established : (role : Role) (arrived : Arrived) (turn : ℕ) (a mid : Account) → a.setup.role ≡ role → a.owes.answer ≡ None
-    → hear turn arrived a ≡ Ok mid → is_established a.phase ≡ true → is_established mid.phase ≡ true
-stays-established role arrived turn a mid r none h c = go a.phase refl c
-  where
-    linked : is_linked a.phase ≡ true → is_established mid.phase ≡ true
-    linked l = linked-established mid.phase
-        ((poll-ok role turn (of_arrived is_poll arrived) a mid (hear turn arrived a) h (poll-hears role arrived turn a r none)).linked l)
-
-    ok : (x : Result Account LinkFault) → x ≡ Ok mid → EstablishedIn x → is_established mid.phase ≡ true
-    ok (Err fault) q k = cc
-    ok (Ok b) q k = let same : b ≡ mid = cc in ap (λ x. is_established x.phase) (sym same) ∙ k
-
-    go : (p : Phase) → a.phase ≡ p → is_established p ≡ true → is_established mid.phase ≡ true
-    go Detecting e f = cc
-    go Negotiating e f = cc
-    go Establishing e f = ok (hear turn arrived a) h (establishing-hears arrived turn a e)
-    go Connected e f = linked (ap is_linked e)
-    go Releasing e f = linked (ap is_linked e)
-    go Closed e f = linked (ap is_linked e)
-
--- and as it speaks
-said-established : (turn : ℕ) (release : Bool) (b : Account) (said : Said) → speak turn release b ≡ Ok said
-    → is_established b.phase ≡ true → is_established said.account.phase ≡ true
-said-established turn release b said h c = go b.phase refl c h
-  where
-    linked : is_linked b.phase ≡ true → is_established said.account.phase ≡ true
-    linked l = linked-established said.account.phase ((speak-ok turn b said (speak turn release b) h (poll-speaks turn release b)).linked
-        ∙ l)
-
-    go : (p : Phase) → b.phase ≡ p → is_established p ≡ true → speak_in p turn release b ≡ Ok said
-        → is_established said.account.phase ≡ true
-    go Detecting e f u = cc
-    go Negotiating e f u = cc
-    go Establishing e f u = ap is_established (phase-ok b.phase said _ u (try-phase turn (Sabme true) b) ∙ e)
-    go Connected e f u = linked (ap is_linked e)
-    go Releasing e f u = linked (ap is_linked e)
-    go Closed e f u = linked (ap is_linked e)
-
--- one that sends a SABME is so
-abbrev NoSabme : Result Said LinkFault → Type 0
-NoSabme (Err fault) = Unit {0}
-NoSabme (Ok said) = of_frame is_sabme said.sent ≡ false
-
-try-no-sabme : (turn : ℕ) (frame : Frame) (a : Account) → is_sabme frame ≡ false → NoSabme (u_try turn frame a)
-try-no-sabme turn frame a e = go (nat_eq turn (a.wait.try_set + a.setup.period)) (nat_eq a.wait.try_count a.setup.tries)
-  where
-    by : (c : Account) (due : Bool)
-        → of_frame is_sabme (else_says (where_says due (says_frame frame (record c { wait = record c.wait { try = false } })))
-        (says slots.Flags c)).sent ≡ false
-    by c true = e
-    by c false = refl
-
-    go : (due spent' : Bool)
-        → NoSabme (cond due (cond spent' (Err (spent turn a)) (Ok (tries_frame frame (trying_again turn a)))) (Ok (tries_frame frame a)))
-    go false s = by a a.wait.try
-    go true true = tt
-    go true false = by (trying_again turn a) true
-
-answer-no-sabme : (a : Account) (silence : Sent) → of_frame is_sabme silence ≡ false → (m : Option Answer)
-    → of_frame is_sabme (else_says (answering m a) (says silence a)).sent ≡ false
-answer-no-sabme a silence e None = e
-answer-no-sabme a silence e (Some answers.Adp) = refl
-answer-no-sabme a silence e (Some answers.Xid) = refl
-answer-no-sabme a silence e (Some (answers.Ua pf)) = refl
-answer-no-sabme a silence e (Some (answers.Dm pf)) = refl
-
-sends-sabme : (turn : ℕ) (release : Bool) (b : Account) (said : Said) → speak turn release b ≡ Ok said
-    → of_frame is_sabme said.sent ≡ true → is_established said.account.phase ≡ true
-sends-sabme turn release b said h c = go b.phase refl
-  where
-    wrong : (r : Result Said LinkFault) → r ≡ Ok said → NoSabme r → is_established said.account.phase ≡ true
-    wrong (Err fault) q k = cc
-    wrong (Ok x) q k = let same : x ≡ said = cc in let none : true ≡ false = sym c
-        ∙ (ap (λ y. of_frame is_sabme y.sent) (sym same) ∙ k) in cc
-
-    detecting : (r : Role) → NoSabme (speak_detecting r turn b)
-    detecting Originator = by (nat_le ((b.setup.tries + 1) * b.setup.period) turn)
-      where
-        by : (x : Bool) → NoSabme (cond x (Err NotDetected) (Ok (says slots.Odp b)))
-        by true = tt
-        by false = refl
-    detecting Answerer = answer-no-sabme b slots.Mark refl b.owes.answer
-
-    negotiating : (r : Role) → NoSabme (speak_negotiating r turn b)
-    negotiating Originator = try-no-sabme turn (Xid true false (written b.setup.offer)) b refl
-    negotiating Answerer = answer-no-sabme b slots.Flags refl b.owes.answer
-
-    go : (p : Phase) → b.phase ≡ p → is_established said.account.phase ≡ true
-    go Detecting e = wrong (speak_in Detecting turn release b) (ap (λ q. speak_in q turn release b) (sym e) ∙ h) (detecting b.setup.role)
-    go Negotiating e = wrong (speak_in Negotiating turn release b) (ap (λ q. speak_in q turn release b) (sym e) ∙ h)
-        (negotiating b.setup.role)
-    go Establishing e = said-established turn release b said h (ap is_established e)
-    go Connected e = said-established turn release b said h (ap is_established e)
-    go Releasing e = said-established turn release b said h (ap is_established e)
-    go Closed e = said-established turn release b said h (ap is_established e)
+    answer-none : (d : Answer) → of_frame is_sabme (frame_for d b) ≡ false
+    answer-none answers.Adp = refl
+    answer-none answers.Xid = refl
+    answer-none (answers.Ua pf) = refl
+    answer-none (answers.Dm pf) = refl
 
 -- What holds of the two all through a run.
 pub established-on : (tries period : ℕ) (delay : Role → ℕ) (link : Link) (ts : List Turn) (state : ℕ → Accounts) (deed : ℕ → Deed)
@@ -267,17 +169,14 @@ established-on tries period delay link ts state deed kt w s (suc n) l c = ap (λ
 
     heard : is_established (state u).orig.phase ≡ true → is_established (deed u).mid.orig.phase ≡ true
     heard before =
-        let k = known tries period delay link (past ts u) (state u) kt h.run h.carried Originator in
-        stays-established Originator (arrival (deed u).turn.orig.heard) u (state u).orig (deed u).mid.orig
-        (ap (λ x. x.role) k.setup ∙ (timed tries period delay link kt Originator).role_is) k.none_due.answer
-        (h.hearing Originator).hears before
+        stays-established (arrival (deed u).turn.orig.heard) u (state u).orig (deed u).mid.orig (h.hearing Originator).hears before
 
     after : is_established (state u).orig.phase ≡ true → is_established (state (u + 1)).orig.phase ≡ true
     after before =
         let x = h.speaking Originator in
         ap (λ (y : Account). is_established y.phase) x.after_is
-        ∙ said-established u (release_of link u (deed u).mid Originator) (served_at link u (deed u).mid Originator).account x.said
-        (sym (said-as link u (deed u).mid Originator) ∙ x.says)
+        ∙ (establishes u (release_of link u (deed u).mid Originator) (served_at link u (deed u).mid Originator).account x.said
+        (sym (said-as link u (deed u).mid Originator) ∙ x.says)).stays
         (ap is_established (serves-all link.orig.user u (is_released (deed u).mid.orig.phase) (deed u).mid.orig).phase ∙ heard before)
 
 pub begun-established : (tries period : ℕ) (delay : Role → ℕ) (link : Link) (ts : List Turn) (state : ℕ → Accounts) (deed : ℕ → Deed)
@@ -311,9 +210,7 @@ begun-established tries period delay link ts state deed kt w (suc u) l b = go
 
     served-begun : is_begun (served_at link u (deed u).mid Answerer).account.phase ≡ true
     served-begun =
-        let x = s-ok (served_at link u (deed u).mid Answerer).account s.said
-        (speak u false (served_at link u (deed u).mid Answerer).account) s.says
-        (speaks-so u false (served_at link u (deed u).mid Answerer).account) in
+        let x = speaks-so u false (served_at link u (deed u).mid Answerer).account s.said s.says in
         sym x.begun ∙ (ap (λ (y : Account). is_begun y.phase) (sym s.after_is)
         ∙ (ap (λ x. is_begun (state x).answ.phase) (sym (next u)) ∙ b))
 
@@ -333,8 +230,8 @@ begun-established tries period delay link ts state deed kt w (suc u) l b = go
         let v : ℕ = u - o.delay in
         let x = (w.happens v (omega (arith, l))).speaking Originator in
         let first : is_established (state (v + 1)).orig.phase ≡ true = ap (λ (y : Account). is_established y.phase) x.after_is
-        ∙ sends-sabme v (release_of link v (deed v).mid Originator) (served_at link v (deed v).mid Originator).account x.said
-        (sym (said-as link v (deed v).mid Originator) ∙ x.says)
+        ∙ (establishes v (release_of link v (deed v).mid Originator) (served_at link v (deed v).mid Originator).account x.said
+        (sym (said-as link v (deed v).mid Originator) ∙ x.says)).sends
         (ap (λ y. of_frame is_sabme (sent_or y)) (sym x.sent_is) ∙ sent.1) in
         ap (λ n. is_established (state n).orig.phase) (there v (u - v) (omega arith))
         ∙ established-on tries period delay link ts state deed kt w (v + 1) (u - v) (omega (arith, l)) first

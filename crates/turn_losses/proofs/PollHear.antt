@@ -166,11 +166,13 @@ early-ways role turn a er c = record {
   ignores = λ x f. stays-heard role turn (of_arrived is_poll x) a.phase a a refl refl c refl refl;
   detects = λ p r. unlinked-heard role turn false a _ (ap is_linked p) refl refl refl;
   detected = λ p r. stays-heard role turn false a.phase a _ refl refl c refl refl;
-  xid = λ p r pf info offer f. unlinked-heard role turn false a _ (elim p [ inl q ↦ ap is_linked q | inr q ↦ ap is_linked q ]) refl refl refl;
+  xid = λ p r pf info offer f. unlinked-heard role turn false a _
+      (elim p [ inl q ↦ ap is_linked q | inr q ↦ ap is_linked q ]) refl refl refl;
   agrees = λ p r pf info offer f. unlinked-heard role turn false a _ (ap is_linked p) refl refl refl;
   sabme_first = λ p r pf. connected-begins role turn false a _ a.setup.role (sym er) (ap is_linked p) refl refl refl refl (answers r);
   sabme = λ p r pf. connected-begins role turn false a _ a.setup.role (sym er) (ap is_linked p) refl refl refl refl (answers r);
-  ua = λ p. connected-begins role turn false a _ a.setup.role (sym er) (ap is_linked p) refl refl refl refl (λ h. ap is_originator (er ∙ h));
+  ua = λ p. connected-begins role turn false a _ a.setup.role (sym er) (ap is_linked p) refl refl refl refl
+      (λ h. ap is_originator (er ∙ h));
   disc = λ p pf. stays-heard role turn false a.phase a _ refl refl c refl refl;
   closes = λ p frame f. ended-heard role turn (is_poll frame) a _ refl refl refl refl;
 }
@@ -184,7 +186,8 @@ pub poll-hears : (role : Role) (arrived : Arrived) (turn : ℕ) (a : Account) �
 poll-hears role arrived turn a er none = go (hear turn arrived a) refl
   where
     nothing : (p : Phase) → a.phase ≡ p → PollHeard role turn false a (on_nothing a)
-    nothing Connected e = connected-heard role turn false a (on_nothing a) e e refl (set-same turn a.wait.timer) (sym (or-false a.owes.reply))
+    nothing Connected e = connected-heard role turn false a (on_nothing a) e e refl (set-same turn a.wait.timer)
+        (sym (or-false a.owes.reply))
         (λ h. h) (λ h. ap without_adp none ∙ sym none)
     nothing p e = stays-heard role turn false p a (on_nothing a) e e refl refl refl
 

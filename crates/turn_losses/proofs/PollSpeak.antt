@@ -12,7 +12,8 @@ use Rattle.link_account.specs.Hear.{trying}
 use Rattle.link_account.specs.Speak.{Said, frame_for}
 use Rattle.link_account.specs.Speak.{nr_of, running}
 use Rattle.link_account.specs.Speak.{ready_frame, speak}
-use Rattle.link_account.proofs.SpeakWays.{Before, Steps, steps-so, polling_at, ConnectedWays, Tries, Ways, by-ways, answers-unconnected, next-keeps}
+use Rattle.link_account.proofs.SpeakWays.{linked-so, Before, Steps, steps-so, polling_at, ConnectedWays, Tries, Ways, by-ways}
+use Rattle.link_account.proofs.SpeakWays.{answers-unconnected, next-keeps}
 use Rattle.turn_losses.proofs.PollHear.{set-same}
 use Rattle.turn_losses.specs.Polls.{is_poll, is_final}
 use Rattle.turn_bound.proofs.MeetHear.{of_frame}
@@ -193,8 +194,10 @@ linked-poll turn a = ways
 
     ways : ConnectedWays (SaidPoll turn a) turn a
     ways = record {
-      stands = λ x own t. steps-so _ _ turn a.special _ (stands own) (steps-poll turn a.special (record a { own_breaks = own; special = false }));
-      expires = λ set x own t. steps-so _ _ turn a.special _ (expires set x.timer x.due own) (steps-poll turn a.special (polling_at turn a own));
+      stands = λ x own t. steps-so _ _ turn a.special _ (stands own)
+          (steps-poll turn a.special (record a { own_breaks = own; special = false }));
+      expires = λ set x own t. steps-so _ _ turn a.special _ (expires set x.timer x.due own)
+          (steps-poll turn a.special (polling_at turn a own));
     }
 
 -- What any end makes of them as it speaks.
@@ -224,10 +227,7 @@ poll-ways turn release a = record {
   odp = λ p r l. other-speaks turn a _ (ap is_connected p) refl refl refl refl refl;
   xid = λ p r. tries _ a (ap is_connected p) refl refl refl refl refl;
   sabme = λ p. tries _ a (ap is_connected p) refl refl refl refl refl;
-  linked = λ p r. let k = linked-poll turn a in record {
-    stands = λ x own t. steps-so _ _ turn a.special _ (connected p) (k.stands x own t);
-    expires = λ set x own t. steps-so _ _ turn a.special _ (connected p) (k.expires set x own t);
-  };
+  linked = λ p r. linked-so _ _ turn a (connected p) (linked-poll turn a);
   releases = λ p r. tries _ (trying Releasing turn a) refl (sym (ap is_linked p)) refl refl refl refl;
   disc = λ p. tries _ a (ap is_connected p) refl refl refl refl refl;
 }

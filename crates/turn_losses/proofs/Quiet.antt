@@ -18,7 +18,6 @@ use Rattle.turn_bound.proofs.Clock.{rates}
 use Rattle.turn_bound.proofs.Value.{Stands}
 use Rattle.turn_bound.proofs.MeetHear.{is_ua_due, frame_ua, frame_disc, of_frame, of_arrived}
 use Rattle.turn_bound.proofs.MeetSpeak.{speaks-so}
-use Rattle.turn_bound.proofs.Meeting.{s-ok}
 use Rattle.turn_bound.proofs.Serving.{Served, serves-all}
 use Rattle.turn_losses.proofs.Polling.{is_linked}
 use Rattle.turn_losses.proofs.PollSpeak.{poll-speaks}
@@ -142,7 +141,7 @@ meeting-of tries period delay link ts state deed kt w = record {
       let s = h.speaking Answerer in
       let b : Account = (served_at link y (deed y).mid Answerer).account in
       let v = serves-all link.answ.user y (is_released (deed y).mid.orig.phase) (deed y).mid.answ in
-      let x = s-ok b s.said (speak y false b) s.says (speaks-so y false b) in
+      let x = speaks-so y false b s.said s.says in
       let ua : of_frame frame_ua s.said.sent ≡ true = is-ua s.said.sent
       (ap (λ x. of_frame (moves_on Establishing) (sent_or x)) (sym s.sent_is) ∙ e) in
       let none = (known tries period delay link (past ts y) (state y) kt h.run h.carried Answerer).none_due.answer in
@@ -152,8 +151,7 @@ meeting-of tries period delay link ts state deed kt w = record {
       let h = w.happens y l in
       let s = h.speaking Originator in
       let b : Account = (served_at link y (deed y).mid Originator).account in
-      let x = s-ok b s.said (speak y (release_of link y (deed y).mid Originator) b) s.says
-      (speaks-so y (release_of link y (deed y).mid Originator) b) in
+      let x = speaks-so y (release_of link y (deed y).mid Originator) b s.said s.says in
       ap (λ (a : Account). is_linked a.phase) s.after_is
       ∙ released-linked s.said.account.phase (x.disc (ap (λ x. of_frame frame_disc (sent_or x)) (sym s.sent_is) ∙ e));
 }

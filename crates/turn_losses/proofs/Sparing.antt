@@ -247,7 +247,7 @@ unlinked-loses reads tries period delay link ts before t mid kt run cs hearing w
                 let role = setup-role tries period delay link ts before kt run.run run.carried Originator in
                 let none = (known tries period delay link ts before kt run.run run.carried Originator).none_due.answer in
                 let still = only-establishing mid.orig.phase
-                (stays-established Originator (arrival t.orig.heard) turns before.orig mid.orig role none (hearing Originator).hears
+                (stays-established (arrival t.orig.heard) turns before.orig mid.orig (hearing Originator).hears
                 (ap is_established was)) (last border) in
                 absurd (unheard comes
                 (try-heard (arrival t.orig.heard) turns before.orig mid.orig role (hearing Originator).hears Establishing refl still)

@@ -22,7 +22,7 @@ use Rattle.turn_bound.specs.Due.{NoneDue}
 use Rattle.turn_bound.proofs.Serving.{Served, serves-all}
 use Rattle.turn_bound.proofs.Falls.{Sound, Fits}
 use Rattle.turn_bound.proofs.Ending.{fits, sound-run}
-use Rattle.turn_bound.proofs.AtMostOne.{OneDue, one-hears, one-ok}
+use Rattle.turn_bound.proofs.AtMostOne.{OneDue, one-hears}
 use Rattle.turn_losses.proofs.PollHear.{PollHeard, PollHears, poll-hears}
 use Rattle.turn_losses.proofs.PollSpeak.{SpeakPoll, PollSpeaks, poll-speaks}
 use Rattle.turn_losses.proofs.PollTurn.{poll-turn}
@@ -109,7 +109,7 @@ end-polls z user turn role arrived a mid released release said y k h er hears sp
     let s = serves-all user turn released mid in
     let serves = serves-well z (length a.outgoing.pieces) (length user.breaks) turn
     (is_busy turn user.busy) role heard.0 mid b y heard.1.stands heard.1.phase s in
-    let one = one-ok role mid (hear turn arrived a) hears (one-hears role arrived turn a er none) in
+    let one = one-hears role arrived turn a mid er none hears in
     let long = y.period in
     poll-turn z.period turn role (of_arrived is_poll arrived) (of_arrived is_final arrived) a b said (omega (arith, long))
     (served-heard role turn (length user.breaks) (is_busy turn user.busy) (of_arrived is_poll arrived) a mid b s

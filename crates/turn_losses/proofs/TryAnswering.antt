@@ -8,8 +8,6 @@ use Rattle.lapm_frames.specs.declared.frame.Frame.{Frame}
 use Rattle.lapm_frames.specs.declared.frame.Frame.TheVariants.{Sabme, Disc, Xid}
 use Rattle.xid_params.specs.declared.offer.Offer.{Offer}
 use Rattle.xid_params.specs.Offers.{offer_in, written}
-use Rattle.lapm_sender.specs.Outgoing.{Outgoing, expired}
-use Rattle.break_signals.specs.Breaks.{OwnBreaks, ticked}
 use Rattle.lapm_frames.specs.declared.sent.Sent.{Sent}
 use Rattle.lapm_frames.specs.declared.sent.Sent.TheVariants as slots
 use Rattle.lapm_frames.specs.declared.arrived.Arrived.{Arrived}
@@ -21,10 +19,10 @@ use Rattle.link_account.specs.declared.answer.Answer.{Answer}
 use Rattle.link_account.specs.declared.answer.Answer.TheVariants as answers
 use Rattle.link_account.specs.Account.{Account}
 use Rattle.link_account.specs.Hear.{hear, on_frame, on_detecting, on_negotiating, on_disc, on_xid_command, peer_reset, owing}
-use Rattle.link_account.specs.Speak.{Said, says, else_says, answering, frame_for, polling, timer_expires, on_timer, breaking, steps}
-use Rattle.link_account.specs.Speak.{after_timers, then_tries, speak_linked, speak, speak_in, speak_answer, speak_negotiating}
+use Rattle.link_account.specs.Speak.{Said, says, else_says, answering, frame_for}
+use Rattle.link_account.specs.Speak.{speak_linked, speak, speak_in, speak_answer, speak_negotiating}
 use Rattle.turn_bound.proofs.MeetHear.{of_frame, of_arrived}
-use Rattle.turn_bound.proofs.Speaking.{OnOk}
+use Rattle.link_account.proofs.SpeakWays.{by-linked, linked-alike, retimed}
 use Rattle.turn_losses.proofs.Moving.{asks, moves_on}
 
 -- whether an answerer in this phase answers what is tried
@@ -91,38 +89,25 @@ says-answer : (b : Account) (silence : Sent) (answer : Answer) → b.owes.answer
     → (else_says (answering b.owes.answer b) (says silence b)).sent ≡ frame_for answer b
 says-answer b silence answer e = ap (λ m. (else_says (answering m b) (says silence b)).sent) e
 
--- the timers leave what is owed
-timers-owe : (turn : ℕ) (a : Account) → OnOk (λ b. b.owes ≡ a.owes) (then_tries turn (on_timer turn a))
-timers-owe turn a = timed (timer_expires turn a a.wait.timer) (expired a.outgoing)
-  where
-    by : (b : Account) → b.owes ≡ a.owes → (m : Option OwnBreaks) → OnOk (λ x. x.owes ≡ a.owes) (breaking turn m b)
-    by b h None = tt
-    by b h (Some c) = h
-
-    timed : (x : Bool) (m : Option Outgoing) → OnOk (λ b. b.owes ≡ a.owes) (then_tries turn (cond x (polling turn m a) (Ok a)))
-    timed false m = by a refl (ticked turn a.setup.period a.setup.tries a.own_breaks)
-    timed true None = tt
-    timed true (Some o) = by (record a { outgoing = o; wait = record a.wait { poll = true; timer = Some turn } }) refl
-        (ticked turn a.setup.period a.setup.tries a.own_breaks)
-
-steps-answer : (turn : ℕ) (special : Bool) (c : Account) (answer : Answer) → c.owes.answer ≡ Some answer
-    → (steps turn special c).sent ≡ frame_for answer c
-steps-answer turn special c answer e = go c.owes.answer _ e
-  where
-    go : (m : Option Answer) (rest : Said) → m ≡ Some answer → (else_says (answering m c) rest).sent ≡ frame_for answer c
-    go None rest q = cc
-    go (Some x) rest q = let same : x ≡ answer = cc in ap (λ y. frame_for y c) same
-
 linked-answers : (turn : ℕ) (b : Account) (said : Said) (pf : Bool) → b.owes.answer ≡ Some (answers.Ua pf) → speak_linked turn b ≡ Ok said
     → said.sent ≡ frame_for (answers.Ua pf) b
-linked-answers turn b said pf e h = go (then_tries turn (on_timer turn b)) (timers-owe turn b) h
+linked-answers turn b said pf e = by-linked (λ s. s.sent ≡ frame_for (answers.Ua pf) b) turn b (linked-alike _ turn b
+    (λ count awaited w own. record {
+      answers = λ d f. let there : Some d ≡ Some (answers.Ua pf) = sym f ∙ e in let same : d ≡ answers.Ua pf = cc in
+          ap (λ x. frame_for x (retimed b count awaited w own)) same;
+      final = λ n f. due n;
+      poll = λ n q f. due n;
+      segment = λ x u n f. due x.answer;
+      brkack = λ x s word f. due x.answer;
+      brk = λ x s y word f. due x.answer;
+      tell = λ x y f. due x.answer;
+      rej = λ x y n f. due x.answer;
+      srej = λ x y s n f. due x.answer;
+      flags = λ i. due i.before.answer;
+    })) said
   where
-    go : (r : Result Account LinkFault) → OnOk (λ x. x.owes ≡ b.owes) r → after_timers turn b.special r ≡ Ok said
-        → said.sent ≡ frame_for (answers.Ua pf) b
-    go (Err fault) t q = cc
-    go (Ok c) t q =
-        let same : steps turn b.special (record c { special = false }) ≡ said = cc in
-        ap (λ s. s.sent) (sym same) ∙ steps-answer turn b.special (record c { special = false }) (answers.Ua pf) (ap (λ o. o.answer) t ∙ e)
+    due : {A : Type 0} → b.owes.answer ≡ None → A
+    due n = let wrong : None ≡ Some (answers.Ua pf) = sym n ∙ e in cc
 
 pub says-due : (p : Phase) (turn : ℕ) (b : Account) (said : Said) → b.setup.role ≡ Answerer
     → is_some (offer_in (written b.setup.offer)) ≡ true → AnswerDue p b → speak turn false b ≡ Ok said

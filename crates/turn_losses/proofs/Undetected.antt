@@ -55,7 +55,7 @@ early tries period delay link (t ∷ ts) ends kt (before, run, g) (c, carried) d
     served.setup ∙ heard-setup tries period delay link ts before t g.mid kt run carried g.hearing Originator in
     let kn = known tries period delay link ts before kt run carried Originator in
     let tm = timed tries period delay link kt Originator in
-    let f = heard-from (arrival t.orig.heard) turn before.orig g.mid.orig (ap (λ s. s.role) kn.setup ∙ tm.role_is) kn.none_due
+    let f = heard-from (arrival t.orig.heard) turn before.orig g.mid.orig (ap (λ s. s.role) kn.setup ∙ tm.role_is)
     (g.hearing Originator).hears (sym served.phase ∙ detects) in
     let p = early tries period delay link ts before kt run carried f.0 in
     let late : turn < (b.setup.tries + 1) * b.setup.period =
@@ -71,7 +71,7 @@ undetected-on-time spends tries period delay link ts before t mid kt run c broke
     let detects = err-detecting turn (releases link turn mid) (served_at link turn mid Originator).account broken.broken in
     let kn = known tries period delay link ts before kt run c Originator in
     let f = heard-from (arrival t.orig.heard) turn before.orig mid.orig
-    (ap (λ s. s.role) kn.setup ∙ (timed tries period delay link kt Originator).role_is) kn.none_due (broken.hearing Originator).hears
+    (ap (λ s. s.role) kn.setup ∙ (timed tries period delay link kt Originator).role_is) (broken.hearing Originator).hears
     (sym (serves-all link.orig.user turn (is_released mid.orig.phase) mid.orig).phase ∙ detects) in
     let p = early tries period delay link ts before kt run c f.0 in
     let whole : (tries + 1) * period ≤ turn = spends tries period delay link ts before t mid Originator NotDetected kt run c broken in
