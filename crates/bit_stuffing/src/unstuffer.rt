@@ -59,7 +59,7 @@ fn room_behind_four(four: u8) -> u8
 pub(crate) struct Unstuffer {
     /// How many ones may still follow before a zero has to.
     room: u8,
-    /// Those that are whole.
+    /// The octets that are whole.
     octets: Whole,
     /// The low bits of the next octet, and how many they are.
     part: u8,

@@ -27,7 +27,7 @@ struct Waiting {
 }
 
 impl Waiting {
-    /// The same break where its timer has expired in this turn.
+    /// The waiting break once its timer has expired in this turn.
     fn again(self, turn: u64) -> Waiting
         ensures { result ≡ record { units = self.units; due = true; set = turn; count = min (self.count + 1) 65535 } }
     {

@@ -13,7 +13,7 @@ pub fn limits_in_octets()
     ensures hex { HEX_LIMIT ≡ 512 }
 {}
 
-/// Of names that are apart no two outputs are one, and none is an input.
+/// No two outputs whose names are apart are one, and none is an input.
 pub fn apart_names_differ()
     ensures outputs { (inputs outputs : List (List ℕ)) → are_apart inputs outputs ≡ true → AreApart outputs }
     ensures inputs { (inputs outputs : List (List ℕ)) → are_apart inputs outputs ≡ true → AreNoneOf outputs inputs }

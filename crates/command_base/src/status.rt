@@ -43,13 +43,13 @@ pub enum Status {
     NotDetected {
         turn: u64,
     },
-    /// That end asked as often as it may, and heard no answer: for a segment, its XID, SABME or DISC, a poll, or a break.
+    /// The end of that role asked as often as it may, and nothing that it heard acknowledged more: a segment, its XID, SABME or DISC, a poll, or a break.
     LinkLost {
         role: Role,
         segment: u64,
         turn: u64,
     },
-    /// That end received in that turn what was not sent, by a chance of the noise.
+    /// The end of that role received in that turn what was not sent, by a chance of the noise.
     ChanceMatch {
         role: Role,
         turn: u64,
@@ -71,14 +71,14 @@ pub enum Status {
         role: Role,
         turn: u64,
     },
-    /// Of two links over one line this one, 1 or 2, was given up, for that end's segment.
+    /// The link of that number, 1 or 2, of two over one line was given up, for the segment of the end of that role.
     PairLinkLost {
         link: u8,
         role: Role,
         segment: u64,
         turn: u64,
     },
-    /// Of two links over one line this one, 1 or 2, saw no pattern of its answerer's.
+    /// The originator of the link of that number, 1 or 2, of two over one line saw no pattern of its answerer's.
     PairNotDetected {
         link: u8,
         turn: u64,

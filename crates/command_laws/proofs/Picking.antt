@@ -20,7 +20,7 @@ use Rattle.bit_stuffing.proofs.Sent.{all-expected}
 use Rattle.detection.specs.Slots.{Signal, slots_of, signal_bits}
 use Rattle.shared_terms.specs.declared.role.Role.{Role}
 use Rattle.shared_terms.specs.declared.role.Role.TheVariants.{Originator, Answerer}
-use Rattle.shared_terms.specs.Role.{mode_of}
+use Rattle.sample_line.specs.Mode.{mode_of}
 use Rattle.shared_terms.specs.Both.{of}
 use Rattle.outside_calls.specs.Folder.{FolderState, octets_at, Said}
 use Rattle.line_coding.specs.Modulates.{Modulates}

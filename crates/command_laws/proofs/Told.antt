@@ -10,7 +10,7 @@ use Rattle.bit_stuffing.specs.Slots.Slot.{Plain, Flags}
 use Rattle.bit_stuffing.specs.Slots as slots
 use Rattle.detection.specs.Slots.{Signal, slot_of, slots_of}
 use Rattle.shared_terms.specs.declared.role.Role.{Role}
-use Rattle.shared_terms.specs.Role.{mode_of}
+use Rattle.sample_line.specs.Mode.{mode_of}
 use Rattle.shared_terms.specs.Both.{of}
 use Rattle.line_coding.specs.Modulates.{Modulates}
 use Rattle.recordings.specs.Samples.{samples_in}

@@ -57,7 +57,7 @@ fn ends_pattern(latest: u128, seen: Seen) -> bool
     }
 }
 
-/// The same four bits in turned order.
+/// Four bits in turned order.
 fn turned(four: u8) -> u8
     requires { four < 16 }
     ensures bits { low_bits 4 result ≡ reverse (low_bits 4 four) }

@@ -14,7 +14,7 @@ pub fn lesser(a: u32x4, b: u32x4) -> u32x4
     a.simd_min(b)
 }
 
-/// So many times a coordinate in each lane, and a number more.
+/// In each lane a coordinate so many times, and a number more.
 #[inline(always)]
 fn line(x: u32x4, times: u32x4, more: u32x4) -> u32x4
     ensures { (a b c d p q r s k l m n : ℕ) → x ≡ (a ∷ b ∷ c ∷ d ∷ []) → times ≡ (p ∷ q ∷ r ∷ s ∷ []) → more ≡ (k ∷ l ∷ m ∷ n ∷ [])

@@ -26,7 +26,7 @@ use lapm_frames::Seen;
 /// Why a slot isn't written.
 #[derive(Clone, Copy, PartialEq, Eq)]
 pub enum SlotStop {
-    /// It would carry a frame that no deframer takes, or one that is too long for the slot.
+    /// The slot would carry a frame that no deframer takes, or one that is too long for it.
     BadFrame,
     /// There is no room for its bits.
     Full,

@@ -22,7 +22,7 @@ const MOST_PIECES: u64 = 1 << 56;
 /// Why an end doesn't hear or speak, or ends its link.
 #[derive(Clone, Copy, PartialEq, Eq)]
 pub enum LinkStop {
-    /// It isn't its turn: an end hears, all that it took is delivered, and it speaks.
+    /// A call is out of turn: an end hears, all that it took is delivered, and it speaks.
     Order,
     /// No end has more turns than 2^40.
     Late,
@@ -33,11 +33,11 @@ pub enum LinkStop {
 /// What an end answers that is asked for a break.
 #[derive(Clone, Copy, PartialEq, Eq)]
 pub enum BreakAsked {
-    /// It will tell the other end.
+    /// The end takes the break, and will signal it to the other one.
     Taken,
-    /// It isn't connected, a break waits for its answer, or the rest after the last one isn't over.
+    /// The end isn't connected, a break waits for its answer, or the rest after the last one isn't over.
     Refused,
-    /// It has no turn left.
+    /// The end has no turn left.
     Late,
 }
 

@@ -27,7 +27,7 @@ pub struct LockMeter {
 pub struct LockReading {
     /// The sum of the squared distances between what was sent and what was heard, in squares of 1/2048 of a unit of the map.
     pub cost: u64,
-    /// Of so many samples.
+    /// How many samples the costs are of.
     pub symbols: u64,
     /// Whether this is so little that the bits were sent for certain.
     pub sure: bool,
@@ -75,7 +75,7 @@ impl LockMeter {
         )
     }
 
-    /// What it reads now.
+    /// What the meter reads now.
     pub fn reading(&self) -> LockReading
         ensures cost { (mode : Mode) (bits : List Bool) (samples : List Sample) → HasMeasured mode self.now bits samples
             → BitsCost mode bits samples result.cost × (result.symbols ≡ length samples) }

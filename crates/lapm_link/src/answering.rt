@@ -31,7 +31,7 @@ impl Answering {
     ghost use Rattle.link_account.specs.Speak.{speak_answer};
     ghost use Rattle.lapm_link.specs.Stands.{IsUnlinked, IsAnswering, StandsFor, Hears, Speaks, TakesNothing, taken_of};
 
-    /// It has heard this offer, and owes its own.
+    /// An end that has heard this offer, and owes its own.
     pub(crate) fn new(memory: Unlinked, theirs: &Offer) -> Answering
         requires { IsAllowed theirs.now }
         ensures { (a : Account) → a.setup.role ≡ Role.Answerer → IsUnlinked memory.setup memory.answer a

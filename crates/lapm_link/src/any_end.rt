@@ -27,7 +27,7 @@ pub enum AnyEnd {
     Connected(Connected),
     /// Takes it down.
     Releasing(Releasing),
-    /// It is over.
+    /// The link is over.
     Closed(Closed),
 }
 

@@ -17,9 +17,9 @@ use lapm_frames::Frame;
 /// An originator that sends its offer until the other one comes.
 #[derive(Drop)]
 pub(crate) struct Asking {
-    /// What it will need once it is connected.
+    /// What the end will need once it is connected.
     pub(crate) memory: Unlinked,
-    /// Its XID command.
+    /// The tries of the end's XID command.
     pub(crate) attempt: Attempt,
 }
 
@@ -32,7 +32,7 @@ impl Asking {
     ghost use Rattle.link_account.specs.Speak.{speak_negotiating};
     ghost use Rattle.lapm_link.specs.Stands.{IsUnlinked, IsAsking, StandsFor, Hears, Speaks, TakesNothing, taken_of};
 
-    /// It begins in this turn.
+    /// An end that begins to ask in this turn.
     pub(crate) fn new(memory: Unlinked, turn: u64) -> Asking
         ensures { (a : Account) → a.setup.role ≡ Role.Originator → IsUnlinked memory.setup memory.answer a → a.terms ≡ first_terms
             → IsAsking result (trying Phase.Negotiating turn a) }

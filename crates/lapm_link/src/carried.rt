@@ -5,7 +5,7 @@ ghost use Rattle.frame_check.specs.declared.sizes.TheConstants.{INFO};
 
 use frame_check::Info;
 
-/// The same information. That it is octets, and at most so many, is said by its type, and here by a contract.
+/// Information as it was. That it is octets, and at most so many, its type says, and here a contract.
 pub(crate) fn carried(info: Info) -> Info
     ensures same { result ≡ info }
     ensures short { length result ≤ INFO }

@@ -13,7 +13,7 @@ use xid_params::Terms;
 /// An end whose link is over. It answers a DISC.
 #[derive(Drop)]
 pub struct Closed {
-    /// What it was made with.
+    /// The setup that the end was made with.
     pub(crate) setup: Setup,
     /// The answer that it owes.
     pub(crate) answer: Option<Answer>,

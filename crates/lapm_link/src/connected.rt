@@ -12,7 +12,7 @@ use xid_params::Terms;
 
 /// An end whose link is up.
 pub struct Connected {
-    /// What it was made with.
+    /// The setup that the end was made with.
     pub(crate) setup: Setup,
     /// The terms that were agreed on.
     pub(crate) terms: Terms,
@@ -22,9 +22,9 @@ pub struct Connected {
     pub(crate) receiver: Receiver,
     /// Breaks both ways.
     pub(crate) breaks: Breaks,
-    /// What it owes at once.
+    /// What the end owes at once.
     pub(crate) owes: Owes,
-    /// What it waits for.
+    /// What the end waits for.
     pub(crate) wait: Wait,
     /// Whether an I frame or a supervisory frame was heard.
     pub(crate) numbered: bool,
@@ -57,7 +57,7 @@ impl Drop for Connected {
 /// Breaks both ways.
 #[derive(Drop)]
 pub(crate) struct Breaks {
-    /// Its own user's.
+    /// The breaks of the end's own user.
     pub(crate) own: BreakSender,
     /// The other user's.
     pub(crate) their: BreakReceiver,

@@ -23,7 +23,7 @@ use xid_params::default_offer;
 /// An end that looks for the other one: the originator sends its pattern, and the answerer waits for it.
 #[derive(Drop)]
 pub struct Detecting {
-    /// What it will need once it is connected.
+    /// What the end will need once it is connected.
     pub(crate) memory: Unlinked,
 }
 

@@ -12,7 +12,7 @@ use lapm_frames::Frame;
 pub struct Establishing {
     /// With the terms of both offers.
     pub(crate) agreed: Agreed,
-    /// Its SABME.
+    /// The tries of the end's SABME.
     pub(crate) attempt: Attempt,
 }
 
@@ -24,7 +24,7 @@ impl Establishing {
     ghost use Rattle.lapm_link.specs.Stands.{IsUnlinked, StandsFor, Hears, Speaks, TakesNothing, taken_of};
     ghost use Rattle.link_account.specs.Numbers.{IsNumbered};
 
-    /// It begins in this turn.
+    /// An end that begins to establish the link in this turn.
     pub(crate) fn new(agreed: Agreed, turn: u64) -> Establishing
         ensures { (a : Account) → IsUnlinked agreed.memory.setup agreed.memory.answer a → agreed.terms ≡ a.terms
             → StandsFor (AnyEnd.Establishing result) (trying Phase.Establishing turn a) }

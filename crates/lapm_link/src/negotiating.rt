@@ -9,7 +9,7 @@ use crate::{AnyEnd, Arrived, Broken, Sent};
 /// An end that negotiates: the originator sends its offer until the other one comes, and the answerer has heard one.
 #[derive(Drop)]
 pub struct Negotiating {
-    /// Its side of it.
+    /// The end's side of the negotiation.
     pub(crate) talk: Talk,
 }
 

@@ -11,11 +11,11 @@ use lapm_sender::{BadAck, Sender};
 pub(crate) enum Meaning {
     /// All segments before it came.
     Acknowledges,
-    /// They came, and it answers the poll that is awaited.
+    /// The segments below the number came, and the poll that is awaited is answered.
     Replies,
-    /// They came, and sending goes on from it.
+    /// The segments below the number came, and sending goes on from it.
     Rejects,
-    /// It alone is to be sent again.
+    /// The segment of the number alone is to be sent again.
     Selects,
 }
 
@@ -24,9 +24,9 @@ pub(crate) enum Meaning {
 pub(crate) enum Readiness {
     /// Nothing.
     Unsaid,
-    /// It takes segments.
+    /// The other end takes segments.
     Ready,
-    /// It asks for a pause.
+    /// The other end asks for a pause.
     Busy,
 }
 

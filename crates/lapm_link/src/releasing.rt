@@ -13,7 +13,7 @@ use xid_params::Terms;
 /// An originator that sends its DISC until it is answered.
 #[derive(Drop)]
 pub struct Releasing {
-    /// What it was made with.
+    /// The setup that the end was made with.
     pub(crate) setup: Setup,
     /// The answer that it owes.
     pub(crate) answer: Option<Answer>,
@@ -21,7 +21,7 @@ pub struct Releasing {
     pub(crate) terms: Terms,
     /// How many segments were acknowledged.
     pub(crate) front: u64,
-    /// Its DISC.
+    /// The tries of the end's DISC.
     pub(crate) attempt: Attempt,
     ghost set_up: { IsSetUp setup },
 }

@@ -33,7 +33,7 @@ fn bad_ack(bad: BadAck) -> LinkFault
 struct Waits {
     /// The answer to a poll.
     awaiting: bool,
-    /// That the other end is no longer busy.
+    /// The end of the other one's pause.
     paused: bool,
 }
 

@@ -18,7 +18,7 @@ use xid_params::{Offer, Terms};
 
 /// An end that isn't connected yet, with all the memory that it will need.
 pub(crate) struct Unlinked {
-    /// What it was made with.
+    /// The setup that the end was made with.
     pub(crate) setup: Setup,
     /// The answer that it owes.
     pub(crate) answer: Option<Answer>,
@@ -45,10 +45,10 @@ impl Drop for Unlinked {
     }
 }
 
-/// The same, and it has agreed on these terms.
+/// An end that isn't connected yet, and has agreed on these terms.
 #[derive(Drop)]
 pub(crate) struct Agreed {
-    /// What it will need once it is connected.
+    /// What the end will need once it is connected.
     pub(crate) memory: Unlinked,
     /// Windows, lengths, selective reject and check.
     pub(crate) terms: Terms,

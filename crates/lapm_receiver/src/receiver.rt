@@ -20,7 +20,7 @@ pub struct Receiver {
     window: u8,
     /// Whether later segments are kept, and missing ones asked for one by one.
     srej: bool,
-    /// Of the numbers that are missing those below this one were asked for.
+    /// The numbers below this one that are missing were asked for.
     asked_below: u64,
     /// Whether a REJ is due.
     rej: bool,
@@ -208,7 +208,7 @@ impl Receiver {
         Some((number % 128) as u8)
     }
 
-    /// That number was asked for.
+    /// Notes that the missing number was asked for.
     pub fn asked(&mut self)
         requires { IsSome (asked_by self.old) }
         ensures stands { (i : Incoming) (n : ℕ) → StandsIn self.old i → asks i ≡ Some n → StandsIn self.new (after_asked n i) }

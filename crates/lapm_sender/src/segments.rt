@@ -15,9 +15,9 @@ use std::marker::Model;
 /// A segment that isn't acknowledged.
 #[derive(Drop)]
 struct Segment {
-    /// Its octets.
+    /// The segment's octets.
     info: Info,
-    /// It alone is to be sent again.
+    /// Whether the segment alone is to be sent again.
     again: bool,
 }
 
@@ -123,7 +123,7 @@ impl Segments {
         Some(self.front + place as u64)
     }
 
-    /// This number alone is to be sent again.
+    /// Marks the segment of this number alone to be sent again.
     pub(crate) fn choose(&mut self, number: u64)
         requires low { self.old.front ≤ number }
         requires high { number < self.old.front + length self.old.kept }

@@ -14,7 +14,7 @@ use std::marker::Model;
 /// end has acknowledged it.
 #[derive(Drop)]
 pub struct Sender {
-    /// Those offered and not acknowledged.
+    /// The segments that were offered and aren't acknowledged.
     segments: Segments,
     /// In segments [k]; 0 before it has begun.
     window: u8,
@@ -226,7 +226,7 @@ impl Sender {
         }
     }
 
-    /// The same, and sending goes on from that number.
+    /// Takes an acknowledgement by REJ: sending goes on from its number.
     pub fn rejected(&mut self, nr: u8) -> Result<bool, BadAck>
         ensures answer { (o : Outgoing) → StandsOut self.old o
             → MatchResult result (Advances self.new o (rejected nr o)) (RefusesAck nr o (rejected nr o)) }
@@ -301,7 +301,7 @@ impl Sender {
         Ok(advances)
     }
 
-    /// The same without an acknowledgement, behind an answer to a poll that says so.
+    /// Pauses without an acknowledgement, behind an answer to a poll that asks for it.
     pub fn pause(&mut self)
         ensures stands { (o : Outgoing) → StandsOut self.old o → StandsOut self.new (paused_at o) }
         ensures terms { SameTerms self.old self.new }

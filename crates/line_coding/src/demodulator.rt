@@ -35,7 +35,7 @@ pub trait Demodulate<const LABELS: usize>: Drop {
 pub struct Demodulator {
     /// The quads of the labels.
     reader: LabelReader,
-    /// Their bits.
+    /// The bits of the labels so far.
     descrambler: ModeDescrambler,
 }
 

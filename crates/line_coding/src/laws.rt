@@ -11,7 +11,7 @@ pub fn one_reading()
     ensures length { IsFourTimes }
 {}
 
-/// Of the labels that a modulator coded, the bits are those that it was given.
+/// The labels that a modulator coded give back the bits that it was given.
 pub fn bits_come_back()
     ensures { ComesBack }
 {}
@@ -26,7 +26,7 @@ pub fn depth_of_a_line()
     ensures { DEPTH ≡ line_depth }
 {}
 
-/// Of a line that is picked up in its middle, labels give one list of bits.
+/// The labels of a line that is picked up in its middle give one list of bits.
 pub fn one_list_is_picked_up()
     ensures { PickedUpOnce }
 {}
@@ -36,7 +36,7 @@ pub fn turned_labels_give_the_same()
     ensures { TurnedAreAlike }
 {}
 
-/// Of the last labels of a line the bits are those that the line carries there.
+/// The last labels of a line give the bits that the line carries there.
 pub fn bits_in_the_middle_are_those_sent()
     ensures { MiddleIsSent }
 {}

@@ -16,7 +16,7 @@ use trellis_tables::Encoder;
 pub struct Modulator {
     /// The bits of the next quad.
     scrambler: ModeScrambler,
-    /// Their labels.
+    /// The labels of the bits so far.
     encoder: Encoder,
 }
 

@@ -16,7 +16,7 @@ use Rattle.survivors.specs.V32.{line_depth, line_trellis}
 use Rattle.survivors.proofs.V32.{line-has-laws}
 use Rattle.line_coding.specs.Demodulates.{line_of}
 use Rattle.shared_terms.specs.declared.role.Role.{Role}
-use Rattle.shared_terms.specs.Role.{mode_of}
+use Rattle.sample_line.specs.Mode.{mode_of}
 use Rattle.lapm_frames.specs.declared.seen.Seen.{Seen}
 use Rattle.detection.specs.Sights.{Sight, SightsAdded}
 use Rattle.noise_script.specs.Script.{ScriptValue}

@@ -20,7 +20,7 @@ use Rattle.noise_bound.specs.Near.{only, sure, IsNear}
 use Rattle.noise_bound.proofs.Near.{few-unreleased, never-lost, releases-near}
 use Rattle.line_coding.proofs.Readings.{four-each}
 use Rattle.shared_terms.specs.declared.role.Role.{Role}
-use Rattle.shared_terms.specs.Role.{mode_of}
+use Rattle.sample_line.specs.Mode.{mode_of}
 use Rattle.noise_script.specs.declared.offset.Offset.{Offset}
 use Rattle.noise_script.specs.Script.{ScriptValue, offset_of}
 use Rattle.sample_line.specs.Recorded.{displaced, displaced_from, saturated, Records}

@@ -37,7 +37,7 @@ use Rattle.lapm_frames.specs.declared.heard.Heard.{Heard}
 use Rattle.lapm_frames.specs.declared.heard.Heard.TheVariants.{Chance}
 use Rattle.sample_line.specs.Outcomes.{IsPattern, IsOutcome}
 use Rattle.sample_line.specs.Recorded.{Records}
-use Rattle.shared_terms.specs.Role.{mode_of}
+use Rattle.sample_line.specs.Mode.{mode_of}
 use Rattle.sample_line.specs.Received.{PassTheCheck, FoundBetween, Gives, Receives}
 use Rattle.sample_line.specs.Signals.{signal_of}
 use Rattle.lapm_frames.specs.Sendable.{IsSendable}

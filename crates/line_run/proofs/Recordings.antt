@@ -27,7 +27,7 @@ use Rattle.shared_terms.specs.declared.role.Role.{Role}
 use Rattle.shared_terms.specs.declared.role.Role.TheVariants.{Originator, Answerer}
 use Rattle.noise_script.specs.Script.{ScriptValue}
 use Rattle.sample_line.specs.Recorded.{displaced_from, Records}
-use Rattle.shared_terms.specs.Role.{mode_of}
+use Rattle.sample_line.specs.Mode.{mode_of}
 use Rattle.sample_line.specs.Path.{LosesAt, LosesWithin}
 use Rattle.sample_line.proofs.Once.{recordings-grow}
 use Rattle.detection.specs.Slots.{Signal, signal_bits}

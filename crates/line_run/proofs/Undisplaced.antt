@@ -23,7 +23,7 @@ use Rattle.shared_terms.specs.Role.{same_role}
 use Rattle.noise_script.specs.Offsets as offsets
 use Rattle.noise_script.specs.Script.{ScriptValue}
 use Rattle.sample_line.specs.Recorded.{displaced, displaced_from, Records}
-use Rattle.shared_terms.specs.Role.{mode_of}
+use Rattle.sample_line.specs.Mode.{mode_of}
 use Rattle.sample_line.specs.Path.{LosesAt}
 use Rattle.line_run.specs.Unhindered.{DisplacesNoneBefore}
 use Rattle.line_run.proofs.Following.{Follows, all-of}

@@ -14,7 +14,7 @@ use Rattle.bit_stuffing.specs.Slots.{opening}
 use Rattle.bit_stuffing.specs.BitSlot.{line_bits}
 use Rattle.bit_stuffing.proofs.Written.{length-line_bits}
 use Rattle.shared_terms.specs.declared.role.Role.{Role}
-use Rattle.shared_terms.specs.Role.{mode_of}
+use Rattle.sample_line.specs.Mode.{mode_of}
 use Rattle.lapm_frames.specs.declared.frame.Frame.{Frame}
 use Rattle.lapm_frames.specs.Frame.{information_of}
 use Rattle.lapm_frames.specs.Checked.{checked}

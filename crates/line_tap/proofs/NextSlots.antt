@@ -4,7 +4,7 @@ use Rattle.std.proofs.Math.Seq.{take-add}
 use Rattle.std.proofs.lemmas.Grind.{common_steps}
 use Rattle.frame_check.specs.declared.check.Check.{Check}
 use Rattle.shared_terms.specs.declared.role.Role.{Role}
-use Rattle.shared_terms.specs.Role.{mode_of}
+use Rattle.sample_line.specs.Mode.{mode_of}
 use Rattle.scramblers.specs.Mode.{tap_of}
 use Rattle.symbol_map.specs.declared.sample.Sample.{Sample}
 use Rattle.detection.specs.Slots.{Signal, signal_bits}

@@ -11,7 +11,8 @@ use Rattle.bit_stuffing.proofs.Fill.{phase-low}
 use Rattle.detection.specs.Slots.{slots_of}
 use Rattle.shared_terms.specs.declared.role.Role.{Role}
 use Rattle.shared_terms.specs.declared.role.Role.TheVariants.{Originator, Answerer}
-use Rattle.shared_terms.specs.Role.{other, mode_of}
+use Rattle.shared_terms.specs.Role.{other}
+use Rattle.sample_line.specs.Mode.{mode_of}
 use Rattle.shared_terms.specs.Both.{of}
 use Rattle.symbol_map.specs.Laws.{PointsDiffer}
 use Rattle.lapm_frames.specs.declared.sent.Sent.{Sent}

@@ -15,7 +15,8 @@ use Rattle.bit_stuffing.specs.Slots.{opening, phase_after}
 use Rattle.sample_line.specs.Line.{bits_behind}
 use Rattle.shared_terms.specs.declared.role.Role.{Role}
 use Rattle.shared_terms.specs.declared.role.Role.TheVariants.{Originator, Answerer}
-use Rattle.shared_terms.specs.Role.{other, mode_of}
+use Rattle.shared_terms.specs.Role.{other}
+use Rattle.sample_line.specs.Mode.{mode_of}
 use Rattle.shared_terms.specs.Both.{Both, of}
 use Rattle.symbol_map.specs.Laws.{NoDistanceIsEqual}
 use Rattle.line_coding.specs.Modulates.{Modulates}

@@ -11,7 +11,7 @@ use Rattle.outside_calls.proofs.Putting.{OnlyPuts-trans, OnlyPuts-reads, OnlyPut
 use Rattle.outside_calls.proofs.Putting.{AddEach-next, AddPart-next, AddPart-longer}
 use Rattle.shared_terms.specs.declared.role.Role.{Role}
 use Rattle.shared_terms.specs.declared.role.Role.TheVariants.{Originator, Answerer}
-use Rattle.shared_terms.specs.Role.{mode_of}
+use Rattle.sample_line.specs.Mode.{mode_of}
 use Rattle.shared_terms.specs.Both.{Both, of}
 use Rattle.recordings.specs.declared.header.TheConstants.{HEADER}
 use Rattle.recordings.specs.Recording.{header_of}

@@ -47,7 +47,7 @@ impl Drop for TappedEnd {
     }
 }
 
-/// So many octets, each 0.
+/// A vector of so many octets, each 0.
 fn zeros(alloc: Global, count: usize) -> Result<Vec<u8>, NoMemory>
     requires { count < 2 ^ 20 }
     ensures { IfOk result (λ octets. length octets.items ≡ count) }

@@ -34,9 +34,9 @@ pub struct Listener {
     check: Check,
     /// By which it does once an XID frame has passed to it.
     agreed: Check,
-    /// Its segments.
+    /// The segments that the end took.
     receiver: Receiver,
-    /// Its breaks.
+    /// The breaks that the end took.
     breaks: BreakReceiver,
     /// The frame has passed by which it becomes Connected: from then on a break counts.
     connected: bool,

@@ -8,7 +8,7 @@ ghost use Rattle.line_tap.specs.Words.{names_of, asked_for};
 use crate::TapWords;
 use command_base::are_apart;
 
-/// These names, where they are apart.
+/// What words name, where no output is another one or an input.
 fn apart_names(names: TapWords<'_>) -> Option<TapWords<'_>>
     ensures names { option_map named result ≡ asked_for (named names.entry) }
     ensures apart { IfSome result (λ names. are_apart (inputs_of (named names)) (outputs_of (named names)) ≡ true) }

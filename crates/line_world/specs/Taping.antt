@@ -6,7 +6,7 @@ use Rattle.outside_calls.specs.Outputs.{Holds}
 use Rattle.scramblers.specs.declared.mode.Mode.{Mode}
 use Rattle.shared_terms.specs.declared.role.Role.{Role}
 use Rattle.shared_terms.specs.declared.role.Role.TheVariants.{Originator, Answerer}
-use Rattle.shared_terms.specs.Role.{mode_of}
+use Rattle.sample_line.specs.Mode.{mode_of}
 use Rattle.shared_terms.specs.Both.{Both}
 use Rattle.symbol_map.specs.declared.sample.Sample.{Sample}
 use Rattle.line_coding.specs.Modulates.{ModulatorStands}

@@ -20,7 +20,7 @@ use shared_terms::Role;
 pub struct EndCoder {
     /// From what is sent to bits and labels.
     coder: Coder,
-    /// Those bits, in a room that isn't cleared for each slot anew.
+    /// The bits of the latest slot, in a room that isn't cleared for each slot anew.
     newest: BitSlot,
 }
 

@@ -31,7 +31,7 @@ pub struct Lines {
     pub directions: Directions,
     /// What codes what the originator sends.
     orig: EndCoder,
-    /// And the answerer.
+    /// The coder of the answerer.
     answ: EndCoder,
 }
 

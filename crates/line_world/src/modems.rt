@@ -46,7 +46,7 @@ pub struct Modems {
     dlci: u8,
     /// How many turns were made.
     turn: u64,
-    /// What they show in numbers.
+    /// What the turns so far show in numbers.
     tally: Tally,
     /// The checks of both ends once they had heard in the last turn.
     heard_by: Both<Check>,

@@ -18,7 +18,7 @@ pub struct Station {
     end: AnyEnd,
     /// How many of its user's breaks the end has taken.
     breaks: usize,
-    /// What it was made with.
+    /// The setup that the end was made with.
     setup: Setup,
     ghost set_up: { IsSetUp setup },
 }

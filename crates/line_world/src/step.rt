@@ -24,7 +24,7 @@ pub enum RunFault {
     ChanceMatch { role: Role, turn: u64 },
     /// The originator saw no pattern of the answerer's.
     NotDetected { turn: u64 },
-    /// That end's tries are spent, with this segment the first that wasn't acknowledged.
+    /// The tries of the end of that role are spent; its first segment that wasn't acknowledged is this one.
     LinkLost { role: Role, segment: u64, turn: u64 },
     /// The folder had no memory.
     NoMemory,

@@ -23,6 +23,7 @@ use frame_check::Octets;
 use line_coding::Modulator;
 use outside_calls::Folder;
 use recordings::octets_of;
+use sample_line::mode_of;
 use shared_terms::{Both, Role};
 
 /// The octets of the samples of the largest slot: four for each of its symbols.
@@ -33,9 +34,9 @@ const SLOT_OCTETS: usize = 10_460;
 pub struct Tape<'a> {
     /// The recording's name.
     name: &'a str,
-    /// It has made the samples of all slots so far.
+    /// The modulator that has made the samples of all slots so far.
     modulator: Modulator,
-    /// Those of the latest slot, in a room that isn't cleared for each slot anew.
+    /// The samples of the latest slot, in a room that isn't cleared for each slot anew.
     octets: Octets<SLOT_OCTETS>,
 }
 
@@ -61,7 +62,7 @@ impl<'a> Tape<'a> {
     {
         Tape {
             name,
-            modulator: Modulator::new(role.mode()),
+            modulator: Modulator::new(mode_of(role)),
             octets: Octets::new(),
         }
     }

@@ -10,6 +10,6 @@ pub enum Answer {
     Xid,
     /// To SABME or DISC, with the P bit of the command.
     Ua { pf: bool },
-    /// The same, where the end is not connected.
+    /// To a command that finds the end not connected, with its P bit.
     Dm { pf: bool },
 }

@@ -11,6 +11,6 @@ pub struct Owes {
     pub reply: bool,
     /// Whether the user asks for a pause.
     pub busy: bool,
-    /// The same, as the other end was last told: no at first.
+    /// Whether the end is busy, as the other end was last told: no at first.
     pub busy_told: bool,
 }

@@ -8,7 +8,7 @@ use xid_params::Offer;
 pub struct Setup {
     /// Which end it is.
     pub role: Role,
-    /// What it offers.
+    /// What the end offers.
     pub offer: Offer,
     /// N400, 1 to 20.
     pub tries: u8,

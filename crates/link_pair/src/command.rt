@@ -33,9 +33,9 @@ const SCRIPT: usize = 5;
 /// The last turns of two links that are done.
 #[derive(Clone, Copy)]
 pub(crate) struct LastTurns {
-    /// Of the first one.
+    /// The last turn of the first link.
     pub first: u64,
-    /// Of the second one.
+    /// The last turn of the second link.
     pub second: u64,
 }
 

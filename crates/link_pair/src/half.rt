@@ -31,7 +31,7 @@ use std::alloc::Global;
 pub enum LinkEnd {
     /// Both files have crossed.
     Done { turn: u64 },
-    /// That end's tries are spent, with this segment the first that wasn't acknowledged.
+    /// The tries of the end of that role are spent; its first segment that wasn't acknowledged is this one.
     LinkLost { role: Role, segment: u64, turn: u64 },
     /// The originator saw no pattern of the answerer's.
     NotDetected { turn: u64 },
@@ -54,7 +54,7 @@ pub enum PairFault {
 
 /// A link of a pair: its ends, and how it ended where it has.
 pub(crate) struct Half {
-    /// Its ends with their users.
+    /// The link's ends with their users.
     modems: Modems,
     /// The channel of its frames.
     dlci: u8,

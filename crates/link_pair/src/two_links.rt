@@ -19,9 +19,9 @@ use std::alloc::Global;
 /// The names of a pair's files: those of the first link, and those of the second.
 #[derive(Clone, Copy)]
 pub struct PairNames<'a> {
-    /// Those of the link on channel 0.
+    /// The files of the link on channel 0.
     pub first: Names<'a>,
-    /// Those of the link on channel 32.
+    /// The files of the link on channel 32.
     pub second: Names<'a>,
 }
 

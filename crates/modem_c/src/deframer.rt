@@ -164,7 +164,7 @@ fn hear(reader: &mut FrameReader, bits: &[u8], room: &mut [u8], found: &mut Foun
     }
 }
 
-/// The same for what a handle leads to.
+/// Pushes bits into what a handle leads to.
 fn push(machine: &mut Machine, bits: &[u8], room: &mut [u8], found: &mut Found) -> i32
     requires read { found.old.read ≡ 0 }
     requires info { found.old.info ≡ 0 }

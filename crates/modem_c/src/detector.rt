@@ -50,7 +50,7 @@ fn tell(count: usize, seen: Option<Seen>, read: &mut usize, kind: &mut u32) -> i
     }
 }
 
-/// The same for what a handle leads to.
+/// Pushes bits into what a handle leads to.
 fn push(machine: &mut Machine, bits: &[u8], read: &mut usize, kind: &mut u32) -> i32
     requires { read.old ≡ 0 }
     ensures detects { (past : List Bool) → Detects (Some machine.old) past → Detects (Some machine.new) (past ++ heard read.new bits.now) }

@@ -80,7 +80,7 @@ fn write(
     }
 }
 
-/// The same for what a handle leads to.
+/// Writes a slot by what a handle leads to.
 fn write_to(
     machine: &mut Machine,
     kind: u32,

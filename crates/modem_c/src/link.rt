@@ -29,7 +29,7 @@ use xid_params::Offer as LinkOffer;
 #[repr(C)]
 #[derive(Clone, Copy)]
 pub struct SetupFields {
-    /// What it offers.
+    /// What the end offers.
     pub offer: OfferFields,
     /// Turns that it waits for an answer, 1 to 65,535 [T401].
     pub period: u32,
@@ -46,17 +46,17 @@ pub struct Broke {
     /// 0 it didn't, 1 the other end answered no pattern, 2 all tries are spent, 3 an acknowledgement of a number that wasn't sent, 4 the other
     /// end began anew, 5 it refused or hung up.
     pub cause: u32,
-    /// Of a bad acknowledgement: the number, below 128.
+    /// The number of a bad acknowledgement, below 128.
     pub nr: u8,
     /// The lowest number that it could have been, modulo 128.
     pub low: u8,
     /// The highest, modulo 128.
     pub high: u8,
-    /// Of spent tries, and of an end that began anew: how many segments are acknowledged.
+    /// How many segments are acknowledged, where tries are spent or an end began anew.
     pub acknowledged: u64,
-    /// Of an end that began anew: how many segments were taken.
+    /// How many segments were taken, where an end began anew.
     pub taken: u64,
-    /// Of spent tries: the turn in which the first of the periods began.
+    /// The turn in which the first of the periods began, where tries are spent.
     pub since: u64,
 }
 

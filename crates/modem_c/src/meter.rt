@@ -27,7 +27,7 @@ use std::mem;
 pub struct Reading {
     /// The sum of the squared distances between what was sent and what was heard, in squares of 1/2048 of a unit of the map.
     pub cost: u64,
-    /// Of so many samples.
+    /// How many samples the costs are of.
     pub symbols: u64,
     /// 1 where this is so little that the bits were sent for certain, else 0.
     pub sure: u8,

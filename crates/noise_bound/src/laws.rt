@@ -34,7 +34,7 @@ pub fn one_list_begins_the_other()
     ensures pieces { OneListOfPiecesBegins }
 {}
 
-/// So it is of what two readers pick up of both.
+/// Two readers find in both recordings pieces of which one list begins the other.
 pub fn readers_pick_up_the_same_pieces()
     ensures { ReadersPiecesBegin }
 {}

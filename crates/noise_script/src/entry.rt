@@ -40,7 +40,7 @@ pub struct Noise {
     pub count: u32,
     /// Units of a sample.
     pub amplitude: u16,
-    /// That of the generator, which also knows the role.
+    /// The seed of the generator, which also knows the role.
     pub seed: u64,
 }
 
@@ -80,7 +80,7 @@ pub(crate) struct Window {
 pub(crate) struct Length {
     /// The end that offers it, both ways.
     pub(crate) role: Role,
-    /// Of a segment [N401].
+    /// The longest segment, in octets [N401].
     pub(crate) octets: u16,
 }
 

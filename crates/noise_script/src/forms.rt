@@ -41,7 +41,7 @@ pub(crate) enum Bound {
     Once,
     /// Once for each role.
     OnceEach,
-    /// So many, of both roles together.
+    /// At most so many lines, of both roles together.
     AtMost(usize),
 }
 

@@ -20,11 +20,11 @@ fn stream_of(sender: Role) -> u64
 /// A generator before one of its words.
 #[derive(Clone, Copy)]
 pub(crate) struct Generator {
-    /// What it was started from.
+    /// The seed that the generator was started from.
     seed: u64,
     /// Whose noise it makes.
     sender: Role,
-    /// Of the next word, counted from 0.
+    /// The place of the next word, counted from 0.
     place: u32,
     /// Before the next word.
     state: u64,

@@ -18,7 +18,7 @@ pub struct Script {
     pub(crate) delay_orig: u8,
     /// From the answerer to the originator, 1 to 60 turns.
     pub(crate) delay_answ: u8,
-    /// Of both ends, 1 to 20 [N400].
+    /// How often both ends ask, 1 to 20 [N400].
     pub(crate) tries: u8,
     /// The originator's.
     pub(crate) offer_orig: Offer,

@@ -52,7 +52,7 @@ impl<T: Drop> From<AllocFailed<T>> for NoMemory {
 /// count of memory refusals; no count ever falls. A call that answers `Ok` counts nothing, and one that finds no memory counts no
 /// fault.
 pub trait Folder {
-    /// What it stands for.
+    /// The names and octets that the folder represents.
     ghost state: { Self → FolderState };
 
     /// What calls leave of an object, in whatever number and order they are made. A caller that lends a folder which passes calls on

@@ -22,11 +22,11 @@ pub struct MemoryFolder {
     calls: u64,
     /// The numbers of the calls that are to fail, from 1.
     fails: Vec<u64>,
-    /// Of all names.
+    /// How many reads failed, of all names.
     read_faults: u64,
-    /// Of all names and of what is said.
+    /// How many writes failed, of all names and of printed lines.
     write_faults: u64,
-    /// Of memory.
+    /// How many times memory was refused.
     refusals: u64,
     /// Where its memory comes from.
     alloc: Global,

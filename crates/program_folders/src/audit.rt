@@ -27,7 +27,7 @@ pub struct AuditFolder<'a, F> {
     trace: &'a str,
     /// The octets of the trace.
     text: Octets<HELD>,
-    /// Of memory for the trace; stands still at its last value.
+    /// How many times memory was refused for the trace; it stands still at its last value.
     refusals: u64,
 }
 

@@ -18,11 +18,11 @@ use std::rt::Files;
 pub struct DiskFolder<R> {
     /// The files and the standard output of the process.
     rt: R,
-    /// Of all names; stands still at its last value.
+    /// How many reads failed, of all names; it stands still at its last value.
     read_faults: u64,
-    /// Of all names and of what is said; stands still at its last value.
+    /// How many writes failed, of all names and of printed lines; it stands still at its last value.
     write_faults: u64,
-    /// Of memory; stands still at its last value.
+    /// How many times memory was refused; it stands still at its last value.
     refusals: u64,
 }
 

@@ -19,7 +19,7 @@ pub struct SureFolder {
     said: Vec<u8>,
     /// How many calls of a folder were made.
     calls: u64,
-    /// Of memory.
+    /// How many times memory was refused.
     refusals: u64,
 }
 

@@ -13,7 +13,7 @@ use scramblers::Mode;
 pub struct Demodulator {
     /// The turns between labels.
     unturner: Unturner,
-    /// Their bits.
+    /// The bits of the labels so far.
     descrambler: ModeDescrambler,
 }
 

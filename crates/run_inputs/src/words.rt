@@ -19,7 +19,7 @@ pub struct RunWords<'a> {
     pub tapes: Option<Both<&'a str>>,
 }
 
-/// These names, where no output is another one or an input.
+/// What words name, where no output is another one or an input.
 fn apart<'a>(words: RunWords<'a>, outputs: &[&str]) -> Option<RunWords<'a>>
     requires { map (λ name. name.now) outputs.now ≡ outputs_of (named words) }
     ensures names { option_map named result ≡ asked_for (named words.entry) }

@@ -33,7 +33,7 @@ use Rattle.lapm_frames.specs.declared.heard.Heard.{Heard}
 use Rattle.lapm_frames.specs.declared.heard.Heard.TheVariants as heard
 use Rattle.sample_line.specs.Outcomes.{IsSilent, IsWhatWasSent, IsOutcome}
 use Rattle.sample_line.specs.Recorded.{displaced, displaced_from, Records}
-use Rattle.shared_terms.specs.Role.{mode_of}
+use Rattle.sample_line.specs.Mode.{mode_of}
 use Rattle.lapm_frames.specs.Checked.{check_heard}
 use Rattle.sample_line.specs.Received.{PassTheCheck, FoundBetween, Gives, Receives}
 

@@ -11,7 +11,7 @@ use Rattle.line_coding.proofs.Standing.{modulated}
 use Rattle.bit_stuffing.specs.Slots.{Slot, slot_bits}
 use Rattle.bit_stuffing.specs.SlotWriter.{Writer, WriterStands}
 use Rattle.detection.specs.Slots.{Signal, signal_bits, slot_of, slots_of}
-use Rattle.shared_terms.specs.Role.{mode_of}
+use Rattle.sample_line.specs.Mode.{mode_of}
 use Rattle.sample_line.specs.Line.{bits_behind}
 use Rattle.sample_line.specs.Coder.{Coding, CoderStands, IsCodedAs, bits_in}
 use Rattle.sample_line.proofs.Passing.{slot-added}

@@ -17,7 +17,7 @@ use Rattle.sample_line.specs.declared.transmitter.Transmitter.{Transmitter}
 use Rattle.sample_line.specs.declared.hearer.Hearer.{Hearer}
 use Rattle.line_coding.proofs.Standing.{demodulated}
 use Rattle.sample_line.specs.Recorded.{saturated, displaced, displaced_from, Records}
-use Rattle.shared_terms.specs.Role.{mode_of}
+use Rattle.sample_line.specs.Mode.{mode_of}
 use Rattle.sample_line.specs.Received.{Gives}
 use Rattle.sample_line.specs.Transmits.{Transmits}
 use Rattle.sample_line.specs.Hears.{Hears}

@@ -8,7 +8,7 @@ use Rattle.line_coding.specs.Modulates.{Modulates, ModulatorStands}
 use Rattle.bit_stuffing.specs.SlotWriter.{Writer, WriterStands}
 use Rattle.detection.specs.Slots.{Signal, signal_bits, slots_of}
 use Rattle.shared_terms.specs.declared.role.Role.{Role}
-use Rattle.shared_terms.specs.Role.{mode_of}
+use Rattle.sample_line.specs.Mode.{mode_of}
 use Rattle.sample_line.specs.Line.{bits_behind}
 
 -- what a coder keeps

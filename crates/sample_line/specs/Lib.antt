@@ -1,3 +1,4 @@
+pub mod Mode
 pub mod Signals
 pub mod Recorded
 pub mod Received

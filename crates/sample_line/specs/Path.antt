@@ -11,7 +11,7 @@ use Rattle.noise_script.specs.Script.{ScriptValue}
 use Rattle.sample_line.specs.declared.path.Path.{Path}
 use Rattle.sample_line.specs.declared.tally.Tally.{Tally}
 use Rattle.sample_line.specs.Recorded.{displaced_from, Records}
-use Rattle.shared_terms.specs.Role.{mode_of}
+use Rattle.sample_line.specs.Mode.{mode_of}
 use Rattle.sample_line.specs.Transmits.{Transmits}
 use Rattle.sample_line.specs.Hears.{Hears}
 use Rattle.sample_line.specs.Tallies.{TalliesBetween}

@@ -13,7 +13,7 @@ use Rattle.lapm_frames.specs.declared.seen.Seen.{Seen}
 use Rattle.detection.specs.Sights.{Sight, sights_of}
 use Rattle.shared_terms.specs.declared.role.Role.{Role}
 use Rattle.lapm_frames.specs.Checked.{check_heard}
-use Rattle.shared_terms.specs.Role.{mode_of}
+use Rattle.sample_line.specs.Mode.{mode_of}
 
 -- The bits that these samples give: those of the labels that they release.
 pub record Gives (sender : Role) (samples : List Sample) (bits : List Bool) : Type 0 where

@@ -6,7 +6,7 @@ use Rattle.line_coding.specs.Modulates.{Modulates}
 use Rattle.shared_terms.specs.declared.role.Role.{Role}
 use Rattle.noise_script.specs.declared.offset.Offset.{Offset}
 use Rattle.noise_script.specs.Script.{ScriptValue, offset_of}
-use Rattle.shared_terms.specs.Role.{mode_of}
+use Rattle.sample_line.specs.Mode.{mode_of}
 
 -- a coordinate is held at the ends of 16 bits
 abbrev pub saturated : ℤ → ℤ

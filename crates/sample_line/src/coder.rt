@@ -12,8 +12,8 @@ ghost use Rattle.sample_line.specs.Signals.{signal_of, IsCodable};
 ghost use Rattle.sample_line.specs.Line.{bits_behind};
 ghost use Rattle.sample_line.specs.Coder.{CoderStands, IsCodedAs, bits_in};
 
-use crate::LabelSlot;
 use crate::coding::write_sent;
+use crate::{LabelSlot, mode_of};
 use bit_stuffing::{BitSlot, SlotWriter};
 use frame_check::Check;
 use lapm_frames::Sent;
@@ -29,7 +29,7 @@ pub struct Coder {
     symbols: u16,
     /// What makes bits of what is sent.
     writer: SlotWriter,
-    /// And labels of these.
+    /// The labels of the slots' bits.
     modulator: Modulator,
 }
 
@@ -82,7 +82,7 @@ impl Coder {
             sender,
             symbols,
             writer: SlotWriter::new(symbols),
-            modulator: Modulator::new(sender.mode()),
+            modulator: Modulator::new(mode_of(sender)),
         }
     }
 

@@ -6,11 +6,11 @@ ghost use Rattle.symbol_map.specs.Points.{point_of};
 ghost use Rattle.noise_script.specs.Script.{ScriptValue};
 ghost use Rattle.sample_line.specs.Path.{Carries, CarriesBetween, Arrives, PassesPoints};
 
-use crate::LabelSlot;
 use crate::hearer::Hearer;
 use crate::receiver::Slot;
 use crate::tally::Tally;
 use crate::transmitter::Transmitter;
+use crate::{LabelSlot, mode_of};
 use exact_decoder::Lost;
 use noise_script::Script;
 use outside_calls::NoMemory;
@@ -38,7 +38,7 @@ impl Path {
     {
         Ok(Path {
             transmitter: Transmitter::new(sender),
-            hearer: Hearer::new(alloc, sender.mode())?,
+            hearer: Hearer::new(alloc, mode_of(sender))?,
         })
     }
 

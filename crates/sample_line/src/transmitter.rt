@@ -41,7 +41,7 @@ fn displaced(offset: Offset, point: Sample) -> Sample
 pub(crate) struct Transmitter {
     /// The end that sends.
     pub sender: Role,
-    /// Of the noise on what is sent.
+    /// The generators of the noise on what is sent.
     generators: Generators,
     /// The number of the next symbol.
     pub symbol: u64,

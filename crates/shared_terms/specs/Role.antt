@@ -1,8 +1,6 @@
 -- What follows from the role of an end.
 use Rattle.std.specs.Prelude.{ℕ, Bool, true, false, if◌then◌else◌, List, Option, Some, None, codes}
 use Rattle.std.specs.Str.{bytes_eq}
-use Rattle.scramblers.specs.declared.mode.Mode.{Mode}
-use Rattle.scramblers.specs.declared.mode.Mode.TheVariants.{Call, Answer}
 use Rattle.shared_terms.specs.declared.role.Role.{Role}
 use Rattle.shared_terms.specs.declared.role.Role.TheVariants.{Originator, Answerer}
 
@@ -34,8 +32,3 @@ role_named word =
     if bytes_eq word (codes "orig") then Some Originator
     else if bytes_eq word (codes "answ") then Some Answerer
     else None
-
--- the originator called
-abbrev pub mode_of : Role → Mode
-mode_of Originator = Call
-mode_of Answerer = Answer

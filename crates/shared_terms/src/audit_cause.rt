@@ -9,7 +9,7 @@ pub enum AuditCause {
     End,
     /// The run has no such line.
     Beyond,
-    /// It is no line of a trace.
+    /// The line is no line of a trace.
     Spelling,
     /// The turn.
     Turn,

@@ -1,5 +1,5 @@
-//! The terms that all above share: the two ends of a link ([`Role`]), with the word that names each and the mode in which its modem
-//! sends; why a run is refused or given up, as values ([`Cause`], [`LinkFault`]); in what a trace is not that of a run
+//! The terms that all above share: the two ends of a link ([`Role`]), with the word that names each;
+//! why a run is refused or given up, as values ([`Cause`], [`LinkFault`]); in what a trace is not that of a run
 //! ([`AuditCause`]); and the timers that count an end's turns without an answer. Who finds a cause gives it, who says lines prints it.
 #![tactic(auto)]
 

@@ -1,8 +1,6 @@
 // Which of the two ends an end is.
 ghost use Rattle.std.specs.Prelude.{◌≡◌, ◌≤◌, length, IfSome};
-ghost use Rattle.shared_terms.specs.Role.{is_originator, other, role_word, role_named, mode_of};
-
-use scramblers::Mode;
+ghost use Rattle.shared_terms.specs.Role.{is_originator, other, role_word, role_named};
 
 /// An end of the link: the one that called, or the one that answered.
 #[derive(Clone, Copy, PartialEq, Eq)]
@@ -60,15 +58,5 @@ impl Role {
             return Some(Role::Answerer);
         }
         None
-    }
-
-    /// The mode in which the end's modem sends: that of the end that called, or of the end that answered.
-    pub fn mode(self) -> Mode
-        ensures { result ≡ mode_of self }
-    {
-        match self {
-            Role::Originator => Mode::Call,
-            Role::Answerer => Mode::Answer,
-        }
     }
 }

@@ -13,7 +13,7 @@ use crate::laws::{differences_are_one, texts_have_one_cut};
 use line_run::laws::one_result;
 use noise_script::laws::one_answer;
 
-/// Of octets beside a text one thing is found: that they are it, or one first difference.
+/// An audit of octets beside a text finds one thing: that they are it, or one first difference.
 pub fn one_verdict()
     ensures { VerdictsAreOne }
 {

@@ -41,9 +41,9 @@ fn segments_of(value: &[u8]) -> u8
 /// What each parameter said, where it stood.
 #[derive(Clone, Copy)]
 pub(crate) struct Given {
-    /// Of the functions.
+    /// Whether SREJ is offered, where the field says it.
     srej: Option<bool>,
-    /// Of the functions.
+    /// Whether the 32-bit check is offered, where the field says it.
     check32: Option<bool>,
     /// In octets.
     tx_len: Option<u16>,

@@ -8,12 +8,12 @@ pub struct Offer {
     pub srej: bool,
     /// The 32-bit check.
     pub check32: bool,
-    /// Of what it sends, in octets [N401].
+    /// The longest segment that is sent, in octets [N401].
     pub tx_len: u16,
-    /// Of what it receives, in octets [N401].
+    /// The longest segment that is received, in octets [N401].
     pub rx_len: u16,
-    /// Of what it sends, in segments [k].
+    /// The window of what is sent, in segments [k].
     pub tx_window: u8,
-    /// Of what it receives, in segments [k].
+    /// The window of what is received, in segments [k].
     pub rx_window: u8,
 }

@@ -54,7 +54,7 @@ impl Drop for Single {
 /// An end that breaks as it hears: what it heard, and why.
 #[derive(Drop)]
 pub(crate) struct Breaking {
-    /// What it heard in that turn.
+    /// What the end heard in that turn.
     pub arrived: Arrived,
     /// Why it breaks.
     pub fault: LinkFault,

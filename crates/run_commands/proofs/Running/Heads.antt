@@ -10,7 +10,7 @@ use Rattle.outside_calls.proofs.OnlyOutputs.{OnlyOutputs-trans}
 use Rattle.command_base.specs.Stops.{WriteFails}
 use Rattle.command_base.proofs.Jobs.{write-earlier}
 use Rattle.shared_terms.specs.declared.role.Role.{Role}
-use Rattle.shared_terms.specs.Role.{mode_of}
+use Rattle.sample_line.specs.Mode.{mode_of}
 use Rattle.recordings.specs.Recording.{header_of}
 use Rattle.line_run.specs.Recorded.{tapes_of}
 use Rattle.line_run.specs.Sampled.{Wire}

@@ -7,7 +7,7 @@ use Rattle.outside_calls.proofs.Steps.{KeepsName-trans}
 use Rattle.outside_calls.proofs.Holding.{Holds-kept, HoldsFront-part, HoldsFront-all, HoldsFront-kept}
 use Rattle.shared_terms.specs.declared.role.Role.{Role}
 use Rattle.shared_terms.specs.declared.role.Role.TheVariants.{Originator, Answerer}
-use Rattle.shared_terms.specs.Role.{mode_of}
+use Rattle.sample_line.specs.Mode.{mode_of}
 use Rattle.shared_terms.specs.Both.{Both}
 use Rattle.recordings.specs.Recording.{header_of}
 use Rattle.noise_script.specs.Script.{ScriptValue}

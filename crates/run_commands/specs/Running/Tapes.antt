@@ -4,7 +4,7 @@ use Rattle.outside_calls.specs.Folder.{FolderState, KeepsName}
 use Rattle.outside_calls.specs.Outputs.{Holds, HoldsFront}
 use Rattle.shared_terms.specs.declared.role.Role.{Role}
 use Rattle.shared_terms.specs.declared.role.Role.TheVariants.{Originator, Answerer}
-use Rattle.shared_terms.specs.Role.{mode_of}
+use Rattle.sample_line.specs.Mode.{mode_of}
 use Rattle.shared_terms.specs.Both.{Both}
 use Rattle.recordings.specs.Recording.{header_of}
 use Rattle.noise_script.specs.Script.{ScriptValue, IsInLimits}

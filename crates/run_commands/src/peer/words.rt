@@ -18,7 +18,7 @@ pub struct PeerWords<'a> {
     pub bits: &'a str,
     /// What the end's user is given.
     pub got: &'a str,
-    /// What it hears and sends, a line a turn.
+    /// What the end hears and sends, a line a turn.
     pub trace: &'a str,
 }
 

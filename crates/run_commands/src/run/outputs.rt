@@ -4,7 +4,7 @@ ghost use Rattle.outside_calls.specs.Folder.{CountsStand, OnlyWrites};
 ghost use Rattle.outside_calls.specs.Outputs.{AreApart, Creates, CreatesPart, Holds, HoldsFront, OnlyOutputs, SaysNothing};
 ghost use Rattle.line_run.specs.Recorded.{tapes_of};
 ghost use Rattle.line_run.specs.Sampled.{Wire};
-ghost use Rattle.shared_terms.specs.Role.{mode_of};
+ghost use Rattle.sample_line.specs.Mode.{mode_of};
 ghost use Rattle.recordings.specs.Recording.{header_of};
 ghost use Rattle.command_base.specs.Stops.{WriteFails};
 ghost use Rattle.command_base.specs.Apart.{are_apart};
@@ -17,6 +17,7 @@ use line_world::Tape;
 use outside_calls::{Folder, FolderFault};
 use recordings::{Rate, header_octets};
 use run_inputs::RunWords;
+use sample_line::mode_of;
 use shared_terms::{Both, Role};
 
 /// The outputs are made, in the order of the words.
@@ -63,7 +64,7 @@ fn begin_tape<'a, F: Folder>(
     match append_output(
         folder,
         name,
-        header_octets(Rate::Trellis, role.mode()).as_slice(),
+        header_octets(Rate::Trellis, mode_of(role)).as_slice(),
     ) {
         Ok(()) => Ok(Tape::new(name, role)),
         Err(fault) => Err(fault),

@@ -34,7 +34,7 @@ fn put_word(octets: &mut Vec<u8>, word: u32) -> Result<(), NoMemory>
     )
 }
 
-/// So many words of a seed from a place on, as octets.
+/// The octets of a seed's words from a place on, so many words.
 fn drawn_octets(alloc: Global, seed: u64, from: u64, count: u64) -> Result<Vec<u8>, NoMemory>
     requires { from + count < 2 ^ 32 }
     ensures { IfOk result (λ octets. octets.items ≡ drawn_octets seed from count) }

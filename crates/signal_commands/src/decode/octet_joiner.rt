@@ -28,7 +28,7 @@ fn joined(low: Bits, high: Bits) -> u16
 /// Puts octets together of bits, the first ones lowest.
 #[derive(Drop)]
 pub(crate) struct OctetJoiner {
-    /// Those of an octet whose others are not there yet.
+    /// The bits of an octet whose others are not there yet.
     waiting: Bits,
 }
 

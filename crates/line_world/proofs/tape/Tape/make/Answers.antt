@@ -1,5 +1,5 @@
 use Rattle.std.proofs.Common.{option_copied, subst}
-use Rattle.shared_terms.specs.Role.{mode_of}
+use Rattle.sample_line.specs.Mode.{mode_of}
 use Rattle.line_run.specs.Sampled.{bits_of}
 use Rattle.line_run.specs.Scripted.{wire_of}
 use Rattle.line_world.specs.World.{HasSent}

@@ -1,7 +1,7 @@
 use Rattle.std.proofs.Common.{List, ℕ, [], ◌∙◌, ap, subst}
 use Rattle.outside_calls.specs.Folder.{FolderState, Appended, PartlyAppended}
 use Rattle.outside_calls.proofs.Holding.{HoldsFront-more}
-use Rattle.shared_terms.specs.Role.{mode_of}
+use Rattle.sample_line.specs.Mode.{mode_of}
 use Rattle.recordings.specs.Recording.{header_of}
 use Rattle.run_commands.proofs.Running.Heads.{begins, heads}
 use Rattle.run_commands.proofs.run.outputs.begin_tape.Goals as goal
@@ -14,7 +14,7 @@ returns-in-Ok-clause-ok g c =
       λ channel. begins c.new.result a b channel c.args.role c.args.name.now (c.new.ensures.stands channel) c.new.ensures.name
           c.in-Ok.ensures.only.goes_on c.requires
           (subst (λ (o : List ℕ). Appended a b c.args.name.now o)
-          (c.as_slice.ensures.items ∙ c.header_octets.ensures ∙ ap header_of c.mode.ensures) c.in-Ok.ensures.ok),
+          (c.as_slice.ensures.items ∙ c.header_octets.ensures ∙ ap header_of c.mode_of.ensures) c.in-Ok.ensures.ok),
     )
 
 pub returns-in-Ok-clause-head : goal.returns-in-Ok-clause-head
@@ -23,7 +23,7 @@ returns-in-Ok-clause-head g c =
     let b : FolderState = g.F.Folder.state c.append_output.new.folder in
     heads a b c.args.name.now (header_of (mode_of c.args.role)) c.in-Ok.ensures.only.goes_on c.requires
     (subst (λ (o : List ℕ). Appended a b c.args.name.now o)
-    (c.as_slice.ensures.items ∙ c.header_octets.ensures ∙ ap header_of c.mode.ensures) c.in-Ok.ensures.ok)
+    (c.as_slice.ensures.items ∙ c.header_octets.ensures ∙ ap header_of c.mode_of.ensures) c.in-Ok.ensures.ok)
 
 pub returns-in-Ok-clause-only : goal.returns-in-Ok-clause-only
 returns-in-Ok-clause-only g c = c.in-Ok.ensures.only
@@ -37,7 +37,7 @@ returns-in-Err-clause-err g c =
     let b : FolderState = g.F.Folder.state c.append_output.new.folder in
     HoldsFront-more a b c.args.name.now [] (header_of (mode_of c.args.role)) c.in-Err.ensures.only.goes_on c.requires
     (subst (λ (o : List ℕ). PartlyAppended a b c.args.name.now o)
-    (c.as_slice.ensures.items ∙ c.header_octets.ensures ∙ ap header_of c.mode.ensures) c.in-Err.ensures.err)
+    (c.as_slice.ensures.items ∙ c.header_octets.ensures ∙ ap header_of c.mode_of.ensures) c.in-Err.ensures.err)
 
 pub returns-in-Err-clause-only : goal.returns-in-Err-clause-only
 returns-in-Err-clause-only g c = c.in-Err.ensures.only

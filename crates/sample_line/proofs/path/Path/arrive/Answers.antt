@@ -1,7 +1,7 @@
 use Rattle.std.proofs.Common.{◌++◌, ◌∷◌, [], sym, subst}
 use Rattle.symbol_map.specs.Points.{point_of}
 use Rattle.shared_terms.specs.declared.role.Role.{Role}
-use Rattle.shared_terms.specs.Role.{mode_of}
+use Rattle.sample_line.specs.Mode.{mode_of}
 use Rattle.sample_line.specs.Hears.{HearsSample}
 use Rattle.sample_line.proofs.Arriving.{arrived}
 use Rattle.sample_line.proofs.path.Path.arrive.Goals as goal

@@ -1,6 +1,6 @@
 use Rattle.std.proofs.Common.{◌∙◌, [], subst, sym, ap}
 use Rattle.scramblers.specs.declared.mode.Mode.{Mode}
-use Rattle.shared_terms.specs.Role.{mode_of}
+use Rattle.sample_line.specs.Mode.{mode_of}
 use Rattle.sample_line.specs.Hears.{Hears}
 use Rattle.sample_line.proofs.path.Path.new.Goals as goal
 
@@ -9,5 +9,5 @@ returns-clause-stands c = λ script. record {
   samples = [];
   transmits = c.new.ensures.stands script;
   hears = subst (λ (mode : Mode). Hears mode c.in_ok-new.field-0 [] [])
-      (c.mode.ensures ∙ ap mode_of (sym c.new.ensures.sender)) c.in_ok-new.ensures.stands;
+      (c.mode_of.ensures ∙ ap mode_of (sym c.new.ensures.sender)) c.in_ok-new.ensures.stands;
 }
