@@ -1,3 +1,4 @@
+mod Reading
 mod Running
 mod Refusing
 mod Prefixes
