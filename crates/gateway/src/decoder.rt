@@ -78,13 +78,11 @@ fn take_bits(reader: &mut AnyReader, bits: &mut [u8], at: usize) -> usize
     next
 }
 
-/// Why no sample more can be read, if that is so. Labels wait only where no more places are left than one takes, so that mostly the
-/// reader isn't asked for them.
-fn stop_of(reader: &AnyReader, room: usize) -> Option<DecoderStop>
-    requires { (decoding_of reader.now).pending ≢ [] → room < 4 }
+/// Why no sample more can be read, if that is so.
+fn stop_of(reader: &AnyReader) -> Option<DecoderStop>
     ensures { MatchOption result (IsIdle (decoding_of reader.now)) (λ stop. IsStopped stop (decoding_of reader.now)) }
 {
-    if room < 4 && reader.pending() > 0 {
+    if reader.pending() > 0 {
         return Some(DecoderStop::Full);
     }
     match reader.lost() {
@@ -157,7 +155,7 @@ impl SampleDecoder {
         let mut written = 0;
         for read in 0..count {
             written = take_bits(&mut reader, bits, written);
-            if let Some(stop) = stop_of(&reader, bits.len() - written) {
+            if let Some(stop) = stop_of(&reader) {
                 let pushed = Pushed {
                     read,
                     written,
@@ -169,7 +167,7 @@ impl SampleDecoder {
             samples += 1;
         }
         written = take_bits(&mut reader, bits, written);
-        let stop = match stop_of(&reader, bits.len() - written) {
+        let stop = match stop_of(&reader) {
             Some(stop) => stop,
             None => DecoderStop::All,
         };
@@ -191,7 +189,7 @@ impl SampleDecoder {
         ensures length { length bits.new ≡ length bits.old }
         ensures written { IfOk result (λ written. written ≤ length bits.new) }
     {
-        if let Some(stop) = stop_of(&self.reader, 0) {
+        if let Some(stop) = stop_of(&self.reader) {
             return Err((self, stop));
         }
         if bits.len() < LAST_BITS {
