@@ -8,6 +8,7 @@ use Rattle.shared_terms.specs.declared.role.Role.{Role}
 use Rattle.shared_terms.specs.declared.role.Role.TheVariants.{Originator, Answerer}
 use Rattle.shared_terms.specs.Role.{is_originator}
 use Rattle.shared_terms.specs.declared.fault.LinkFault.{LinkFault}
+use Rattle.shared_terms.specs.declared.fault.LinkFault.TheVariants.{NotDetected, Spent}
 use Rattle.lapm_frames.specs.declared.frame.Frame.{Frame}
 use Rattle.lapm_frames.specs.declared.frame.Frame.TheVariants.{I, Rr, Rnr, Rej, Srej, Sabme, Disc, Ua, Dm, Frmr, Ui, Xid, Test}
 use Rattle.lapm_frames.specs.declared.seen.Seen.{Seen}
@@ -36,9 +37,15 @@ use Rattle.link_account.specs.Hear.{replying, taking, hurrying, pausing, peer_re
 use Rattle.link_account.specs.Hear.{on_negotiating, on_establishing}
 use Rattle.link_account.specs.Hear.{on_releasing, on_closed, on_xid_command, on_xid_response}
 
+-- an end that breaks as it hears doesn't break for want of answers
+abbrev pub IsRefusal : LinkFault → Type 0
+IsRefusal NotDetected = ⊥
+IsRefusal (Spent segment since) = ⊥
+IsRefusal fault = Unit {0}
+
 abbrev pub OnHeard : (Account → Type 0) → Result Account LinkFault → Type 0
 OnHeard P (Ok b) = P b
-OnHeard P (Err fault) = Unit {0}
+OnHeard P (Err fault) = IsRefusal fault
 
 abbrev pub OnFrame : (Arrived → Account → Type 0) → Frame → Result Account LinkFault → Type 0
 OnFrame P frame r = OnHeard (P (arrivals.Frame frame)) r
@@ -303,6 +310,49 @@ by-ways P turn a h x mid f = go a.phase refl
     go Establishing e = by-early P turn a (h.early (ap is_connected e)) h.nothing x mid (ap is_connected e) f
     go Releasing e = by-early P turn a (h.early (ap is_connected e)) h.nothing x mid (ap is_connected e) f
     go Closed e = by-early P turn a (h.early (ap is_connected e)) h.nothing x mid (ap is_connected e) f
+
+-- why an end breaks as it hears
+any-linked : (turn : ℕ) (a : Account) → ConnectedWays (λ x b. Unit {0}) turn a
+any-linked turn a = record {
+  pattern = λ seen. tt;
+  plain = λ frame p. tt;
+  numbers = record {
+    i = λ ns nr pf info n e. tt;
+    rr = λ command pf nr n final g e. tt;
+    rej = λ command pf nr n final g e. tt;
+    rnr = λ command pf nr n final g e. tt;
+    srej = λ command pf nr n g e. tt;
+  };
+  sabme = λ pf n r. tt;
+  disc = λ pf r. tt;
+  brk = λ command pf info number length_octet q. tt;
+  brkack = λ command pf info number length_octet q. tt;
+}
+
+any-early : (turn : ℕ) (a : Account) → EarlyWays (λ x b. Unit {0}) turn a
+any-early turn a = record {
+  ignores = λ x f. tt;
+  detects = λ p r. tt;
+  detected = λ p r. tt;
+  xid = λ p r pf info offer f. tt;
+  agrees = λ p r pf info offer f. tt;
+  sabme_first = λ p r pf. tt;
+  sabme = λ p r pf. tt;
+  ua = λ p. tt;
+  disc = λ p pf. tt;
+  closes = λ p frame f. tt;
+}
+
+pub refused : (turn : ℕ) (x : Arrived) (a : Account) (fault : LinkFault) → hear turn x a ≡ Err fault → IsRefusal fault
+refused turn x a fault f = subst (OnHeard (λ b. Unit {0})) f (go a.phase refl)
+  where
+    go : (p : Phase) → a.phase ≡ p → OnHeard (λ b. Unit {0}) (hear turn x a)
+    go Connected e = linked (λ x b. Unit {0}) turn a (any-linked turn a) tt x e
+    go Detecting e = early (λ x b. Unit {0}) turn a (any-early turn a) tt x (ap is_connected e)
+    go Negotiating e = early (λ x b. Unit {0}) turn a (any-early turn a) tt x (ap is_connected e)
+    go Establishing e = early (λ x b. Unit {0}) turn a (any-early turn a) tt x (ap is_connected e)
+    go Releasing e = early (λ x b. Unit {0}) turn a (any-early turn a) tt x (ap is_connected e)
+    go Closed e = early (λ x b. Unit {0}) turn a (any-early turn a) tt x (ap is_connected e)
 
 -- what hearing a number leaves of the sender's part
 pub record NumberKeeps (o new : Outgoing) : Type 0 where

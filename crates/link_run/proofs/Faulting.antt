@@ -78,7 +78,7 @@ well-heard reads keeps law link m role turn x y (slot ∷ rest) ly (Some t) left
     (passes-breaks role turn x y slot rest ly fault (subst (λ z. hear turn (arrives z) y ≡ Err fault) d.0 k))) in
     let wants = subst (λ (z : Play). WantsAnswers z.originator.fault × WantsAnswers z.answerer.fault) q.led
     (law link.orig.setup link.answ.setup q.events m) in
-    absurd (breaks-not reads keeps turn (arrival (Passed s)) y fault k (wants-of role x y rest ly fault wants))
+    absurd (breaks-not turn (arrival (Passed s)) y fault k (wants-of role x y rest ly fault wants))
 
 pub hearings_are_well : ReadsAllowed → KeepsTaken → BreaksForWantAlone → HearingsAreWell
 hearings_are_well reads keeps law link delay ts ends t v n role = at-role role

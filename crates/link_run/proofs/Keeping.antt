@@ -1,35 +1,24 @@
 -- What an end keeps of its books as it hears and speaks.
-use Rattle.std.proofs.Common.{◌≡◌, ◌≢◌, ◌⊎◌, inl, inr, ℕ, ◌+◌, ◌-◌, ◌%◌, ◌≤◌, ◌&&◌, ◌||◌, Bool, true, false, cond, nat_eq, List, [], ◌∷◌}
-use Rattle.std.proofs.Common.{◌++◌, length, arith, lit≤, refl, sym, ◌∙◌, ap, subst, Option, Some, None, Result, Ok, Err}
-use Rattle.std.specs.Option.{option_map}
+use Rattle.std.proofs.Common.{◌≡◌, ◌≢◌, ◌⊎◌, inl, inr, ℕ, ◌+◌, ◌-◌, ◌%◌, ◌≤◌, ◌&&◌, Bool, true, false, cond, nat_eq, List, [], ◌∷◌}
+use Rattle.std.proofs.Common.{◌++◌, length, arith, lit≤, refl, sym, ◌∙◌, ap, subst, Option, Some, None, Ok, Err}
 use Rattle.std.proofs.lemmas.Bool.{false≢true}
 use Rattle.std.proofs.lemmas.List.{append-nil}
 use Rattle.shared_terms.specs.declared.role.Role.{Role}
 use Rattle.shared_terms.specs.declared.role.Role.TheVariants.{Originator, Answerer}
-use Rattle.lapm_frames.specs.declared.frame.Frame.{Frame}
-use Rattle.lapm_frames.specs.declared.frame.Frame.TheVariants.{I, Rr, Rnr, Rej, Srej, Sabme, Disc, Ua, Dm, Frmr, Ui, Xid, Test}
+use Rattle.lapm_frames.specs.declared.frame.Frame.TheVariants.{Ua, Dm}
 use Rattle.xid_params.specs.declared.offer.Offer.{Offer}
 use Rattle.xid_params.specs.declared.terms.Terms.{Terms}
 use Rattle.xid_params.specs.Terms.{agree, default_offer}
-use Rattle.xid_params.specs.Offers.{offer_in, IsAllowed, ReadsAllowed}
-use Rattle.lapm_sender.specs.Meant.{meant}
-use Rattle.lapm_sender.specs.Numbers.{with_number}
-use Rattle.lapm_sender.specs.Outgoing.{Outgoing, acknowledged, rejected, replied, selected, advanced, gone_back, wait_ended, is_outstanding}
-use Rattle.lapm_sender.specs.Outgoing.{after_next, sent_among, expired, paused_at, resumed}
+use Rattle.xid_params.specs.Offers.{IsAllowed, ReadsAllowed}
+use Rattle.lapm_sender.specs.Outgoing.{Outgoing}
 use Rattle.lapm_sender.specs.Outgoing as outgoing
-use Rattle.lapm_receiver.specs.Incoming.{Incoming, after_take, after_kind, kind_of, offset, KeepsTaken, asks, after_asked}
+use Rattle.lapm_receiver.specs.Incoming.{Incoming, after_take, after_kind, kind_of, offset, KeepsTaken}
 use Rattle.lapm_receiver.specs.Incoming as incoming
 use Rattle.lapm_receiver.specs.declared.took.Took.{Took}
 use Rattle.lapm_receiver.specs.declared.took.Took.TheVariants.{InOrder, Kept, Repeat, Gap}
-use Rattle.break_signals.specs.declared.word.BreakWord.{BreakWord}
-use Rattle.break_signals.specs.declared.word.BreakWord.TheVariants.{Brk, Ack}
-use Rattle.break_signals.specs.declared.fault.BreakFault.{BreakFault}
-use Rattle.break_signals.specs.Words.{word_in}
 use Rattle.break_signals.specs.Breaks.{OwnBreaks, TheirBreaks, with_given, gives, waits, after_answer}
-use Rattle.lapm_frames.specs.declared.seen.Seen.{Seen}
-use Rattle.lapm_frames.specs.declared.seen.Seen.TheVariants.{Odp, Adp}
+use Rattle.lapm_frames.specs.declared.seen.Seen.TheVariants.{Adp}
 use Rattle.lapm_frames.specs.declared.arrived.Arrived.{Arrived}
-use Rattle.lapm_frames.specs.declared.arrived.Arrived.TheVariants as arrivals
 use Rattle.link_account.specs.declared.setup.Setup.{Setup}
 use Rattle.link_account.specs.declared.phase.Phase.{Phase}
 use Rattle.link_account.specs.declared.phase.Phase.TheVariants.{Detecting, Negotiating, Establishing, Connected, Releasing, Closed}
@@ -37,10 +26,13 @@ use Rattle.shared_terms.specs.declared.fault.LinkFault.{LinkFault}
 use Rattle.link_account.specs.declared.answer.Answer.TheVariants as answers
 use Rattle.link_account.specs.Account.{Account, size_for, window_for}
 use Rattle.link_account.specs.Laws.{WantsAnswers}
-use Rattle.link_account.specs.Hear.{hear, on_frame, on_seen, on_pattern, on_detecting, on_negotiating, on_establishing, on_connected}
-use Rattle.link_account.specs.Hear.{on_releasing, on_closed, on_nothing, on_xid_command, on_xid_response, connected, on_number, on_sabme}
-use Rattle.link_account.specs.Hear.{on_disc, on_word, then_in, taking, replying, hurrying, ends_wait, owing, trying, timer_after}
-use Rattle.link_account.specs.Hear.{peer_reset, pausing}
+use Rattle.link_account.specs.Hear.{hear}
+use Rattle.link_account.specs.Hear.{on_nothing, connected}
+use Rattle.link_account.specs.Hear.{owing, trying}
+use Rattle.shared_terms.specs.declared.fault.LinkFault.TheVariants.{NotDetected, Spent, BadAck, PeerReset, PeerRefused}
+use Rattle.break_signals.specs.Breaks.{after_break}
+use Rattle.link_account.proofs.HearWays.{NumberKeeps, numbered_with, acked-keeps, acked_back-keeps, resumed-keeps, paused-keeps, Ways}
+use Rattle.link_account.proofs.HearWays.{by-ways, IsRefusal, refused}
 use Rattle.shared_terms.specs.Role.{is_originator}
 
 -- what neither hearing nor speaking changes
@@ -110,11 +102,6 @@ pub record Enters (a b : Account) : Type 0 where
 
 abbrev pub GoesOn : Account → Account → Type 0
 GoesOn a b = Stays a b ⊎ Enters a b
-
--- an end that hears breaks for no want of answers
-abbrev pub OnHearing : Account → Result Account LinkFault → Type 0
-OnHearing a (Ok b) = GoesOn a b
-OnHearing a (Err fault) = WantsAnswers (Some fault) → ⊥
 
 -- nothing that counts changes
 same : (a b : Account) → books b ≡ books a → (b.outgoing.size ≡ a.outgoing.size) × (b.outgoing.high ≡ a.outgoing.high)
@@ -202,102 +189,8 @@ enters turn a b was setup own their told terms f e = subst (λ (c : Account). Go
   terms = terms;
 }))
 
-command-terms : (a : Account) (o : Option Offer) → ((p : Offer) → o ≡ Some p → IsAllowed p) → stage a.phase ≡ 0
-    → GoesOn a (on_xid_command o a)
-command-terms a None h was = same a a refl (refl, refl) refl refl refl (λ o t. t)
-command-terms a (Some p) h was =
-    same a (on_xid_command (Some p) a) refl (refl, refl) refl refl (sym was) (λ o t. agreed p a.setup.offer (h p refl) o)
-
-response-terms : (a : Account) (turn : ℕ) (o : Option Offer) → ((p : Offer) → o ≡ Some p → IsAllowed p) → stage a.phase ≡ 0
-    → GoesOn a (on_xid_response o turn a)
-response-terms a turn None h was = same a a refl (refl, refl) refl refl refl (λ o t. t)
-response-terms a turn (Some p) h was =
-    same a (on_xid_response (Some p) turn a) refl (refl, refl) refl refl (sym was) (λ o t. agreed a.setup.offer p o (h p refl))
-
 kept : (a : Account) → GoesOn a a
 kept a = same a a refl (refl, refl) refl refl refl (λ o t. t)
-
-detecting : (reads : ReadsAllowed) (role : Role) (frame : Frame) (turn : ℕ) (a : Account) → stage a.phase ≡ 0
-    → OnHearing a (on_detecting role frame turn a)
-detecting reads Answerer (Xid true pf info) turn a e = command-terms a (offer_in info) (λ p. reads info p) e
-detecting reads Answerer (Sabme pf) turn a e =
-    enters turn a (record a { terms = agree default_offer a.setup.offer }) e refl refl refl refl
-    (λ o t. agreed default_offer a.setup.offer allowed-default o) (owing (answers.Ua pf)) refl
-detecting reads role frame turn a e = kept a
-
-negotiating : (reads : ReadsAllowed) (role : Role) (frame : Frame) (turn : ℕ) (a : Account) → stage a.phase ≡ 0
-    → OnHearing a (on_negotiating role frame turn a)
-negotiating reads Originator (Xid false pf info) turn a e = response-terms a turn (offer_in info) (λ p. reads info p) e
-negotiating reads Originator (Dm pf) turn a e = λ z. z
-negotiating reads Answerer (Xid true pf info) turn a e = command-terms a (offer_in info) (λ p. reads info p) e
-negotiating reads Answerer (Sabme pf) turn a e = enters turn a a e refl refl refl refl (λ o t. t) (owing (answers.Ua pf)) refl
-negotiating reads Answerer (Disc pf) turn a e = same a (owing (answers.Dm pf) a) refl (refl, refl) refl refl refl (λ o t. t)
-negotiating reads role frame turn a e = kept a
-
-establishing : (frame : Frame) (turn : ℕ) (a : Account) → stage a.phase ≡ 0 → OnHearing a (on_establishing frame turn a)
-establishing (Ua true) turn a e = enters turn a a e refl refl refl refl (λ o t. t) (λ b. b) refl
-establishing (Dm true) turn a e = λ z. z
-establishing frame turn a e = kept a
-
-releasing : (frame : Frame) (a : Account) → a.phase ≡ Releasing → OnHearing a (on_releasing frame a)
-releasing (Ua true) a e =
-    closes a (record a { phase = Closed }) refl (refl, refl) refl refl (omega (arith, ap stage e)) refl refl
-    (λ o. omega (arith, ap stage e))
-releasing (Dm true) a e =
-    closes a (record a { phase = Closed }) refl (refl, refl) refl refl (omega (arith, ap stage e)) refl refl
-    (λ o. omega (arith, ap stage e))
-releasing frame a e = kept a
-
-closed : (frame : Frame) (a : Account) → OnHearing a (on_closed frame a)
-closed (Disc pf) a = same a (owing (answers.Dm pf) a) refl (refl, refl) refl refl refl (λ o t. t)
-closed frame a = kept a
-
--- Connected: what an N(R) makes of the sender's part
-pub record SameOut (o p : Outgoing) : Type 0 where
-  pub pieces : p.pieces ≡ o.pieces
-  pub ended : p.ended ≡ o.ended
-  pub size : p.size ≡ o.size
-  pub high : p.high ≡ o.high
-
-abbrev pub IfOut : Outgoing → Option Outgoing → Type 0
-IfOut o None = Unit {0}
-IfOut o (Some p) = SameOut o p
-
-same-out : (o : Outgoing) (f : ℕ → Outgoing) → ((n : ℕ) → SameOut o (f n)) → (m : Option ℕ) → IfOut o (option_map f m)
-same-out o f h None = tt
-same-out o f h (Some n) = h n
-
-out-acknowledged : (nr : ℕ) (o : Outgoing) → IfOut o (acknowledged nr o)
-out-acknowledged nr o =
-    same-out o (advanced o) (λ n. record { pieces = refl; ended = refl; size = refl; high = refl }) (meant o.front o.high nr)
-
-out-rejected : (nr : ℕ) (o : Outgoing) → IfOut o (rejected nr o)
-out-rejected nr o = same-out o (λ n. gone_back (advanced o n)) (λ n. record { pieces = refl; ended = refl; size = refl; high = refl })
-    (meant o.front o.high nr)
-
-out-replied : (nr : ℕ) (o : Outgoing) → IfOut o (replied nr o)
-out-replied nr o = same-out o (λ n. wait_ended (advanced o n)) (λ n. record { pieces = refl; ended = refl; size = refl; high = refl })
-    (meant o.front o.high nr)
-
-out-selected : (nr : ℕ) (o : Outgoing) → IfOut o (selected nr o)
-out-selected nr o = go (is_outstanding o)
-  where
-    go : (b : Bool) → IfOut o (cond b (option_map (λ n. record o { chosen = with_number n o.chosen }) (meant o.front (o.high - 1) nr)) None)
-    go true = same-out o (λ n. record o { chosen = with_number n o.chosen })
-        (λ n. record { pieces = refl; ended = refl; size = refl; high = refl }) (meant o.front (o.high - 1) nr)
-    go false = tt
-
-out-paused : (o : Outgoing) (m : Option Outgoing) → IfOut o m → IfOut o (option_map paused_at m)
-out-paused o None h = tt
-out-paused o (Some p) h = record { pieces = h.pieces; ended = h.ended; size = h.size; high = h.high }
-
-out-resumed : (o : Outgoing) (m : Option Outgoing) → IfOut o m → IfOut o (option_map resumed m)
-out-resumed o None h = tt
-out-resumed o (Some p) h = go p.paused
-  where
-    go : (b : Bool) → SameOut o (cond b (record p { paused = false; count = cond (is_outstanding p || p.awaited) p.count 0 }) p)
-    go true = record { pieces = h.pieces; ended = h.ended; size = h.size; high = h.high }
-    go false = h
 
 out-books : (a : Account) (ps : List (List ℕ)) (e : Bool) → ps ≡ a.outgoing.pieces → e ≡ a.outgoing.ended
     → record {
@@ -310,25 +203,11 @@ out-books : (a : Account) (ps : List (List ℕ)) (e : Bool) → ps ≡ a.outgoin
     } ≡ books a
 out-books a ps e p q = rw (p, q) refl
 
-numbered : (turn nr : ℕ) (a : Account) (m : Option Outgoing) (asked ended : Bool) → IfOut a.outgoing m
-    → OnHearing a (then_in (λ b. hurrying ended (replying asked b)) (on_number turn nr m a))
-numbered turn nr a None asked ended h = λ z. z
-numbered turn nr a (Some new) asked ended h = same a
-    (hurrying ended (replying asked
-    (record a { numbered = true; outgoing = new; wait = record a.wait { timer = timer_after turn a.outgoing new a.wait.timer } })))
-    (out-books a new.pieces new.ended h.pieces h.ended) (h.size, h.high) refl refl refl (λ o t. t)
-
-hushed : (turn nr : ℕ) (a : Account) (m : Option Outgoing) (asked : Bool) → IfOut a.outgoing m
-    → OnHearing a (then_in (λ b. pausing turn (replying asked b)) (on_number turn nr m a))
-hushed turn nr a None asked h = λ z. z
-hushed turn nr a (Some new) asked h = same a
-    (pausing turn (replying asked
-    (record a { numbered = true; outgoing = new; wait = record a.wait { timer = timer_after turn a.outgoing new a.wait.timer } })))
-    (out-books a new.pieces new.ended h.pieces h.ended) (h.size, h.high) refl refl refl (λ o t. t)
-
-out-cond : (b : Bool) (o : Outgoing) (m n : Option Outgoing) → IfOut o m → IfOut o n → IfOut o (cond b m n)
-out-cond true o m n h k = h
-out-cond false o m n h k = k
+-- a number is heard
+numbered : (a : Account) (new : Outgoing) (timer : Option ℕ) (reply urgent : Bool) → NumberKeeps a.outgoing new
+    → GoesOn a (numbered_with a new a.incoming timer reply urgent)
+numbered a new timer reply urgent k = same a (numbered_with a new a.incoming timer reply urgent)
+    (out-books a new.pieces new.ended k.pieces k.ended) (k.size, k.high) refl refl refl (λ o t. t)
 
 kind-given : (kind : Took) (o : ℕ) (info : List ℕ) (i : Incoming) → (after_kind kind o info i).given ≡ i.given
 kind-given InOrder o info i = refl
@@ -340,17 +219,15 @@ take-books : (a : Account) (ps : List (List ℕ)) (e : Bool) (g : ℕ) → ps �
     → record { setup = a.setup; pieces = ps; ended = e; given = g; told = a.breaks_told; lengths = a.own_breaks.lengths } ≡ books a
 take-books a ps e g p q r = rw (p, q, r) refl
 
-segment : (keeps : KeepsTaken) (turn ns nr : ℕ) (info : List ℕ) (a : Account) (m : Option Outgoing) (asked : Bool) → a.phase ≡ Connected
-    → IfOut a.outgoing m
-    → OnHearing a (then_in (λ b. replying asked (taking ns info b)) (on_number turn nr m a))
-segment keeps turn ns nr info a None asked e h = λ z. z
-segment keeps turn ns nr info a (Some new) asked e h =
+segment : (keeps : KeepsTaken) (ns : ℕ) (info : List ℕ) (a : Account) (new : Outgoing) (timer : Option ℕ) (reply urgent : Bool)
+    → a.phase ≡ Connected → NumberKeeps a.outgoing new → GoesOn a (numbered_with a new (after_take ns info a.incoming) timer reply urgent)
+segment keeps ns info a new timer reply urgent e k =
     let more = keeps ns info a.incoming in
     inl (record {
-      books_are = take-books a new.pieces new.ended (after_take ns info a.incoming).given h.pieces h.ended
+      books_are = take-books a new.pieces new.ended (after_take ns info a.incoming).given k.pieces k.ended
           (kind-given (kind_of ns a.incoming) (offset a.incoming ns) info a.incoming);
-      size = h.size;
-      high = h.high;
+      size = k.size;
+      high = k.high;
       taken = more.0;
       taken_are = more.1;
       theirs = [];
@@ -375,8 +252,9 @@ given-more : (o : Option ℕ) (lengths : List ℕ) → (more : List ℕ) × (wit
 given-more None lengths = ([], sym (append-nil lengths), omega arith)
 given-more (Some n) lengths = (n ∷ [], refl, omega arith)
 
-word : (turn : ℕ) (w : Result BreakWord BreakFault) (a : Account) → a.phase ≡ Connected → GoesOn a (on_word turn w a)
-word turn (Ok (Brk number length_octet)) a e =
+their-word : (number length_octet : ℕ) (a : Account) → a.phase ≡ Connected
+    → GoesOn a (record a { their_breaks = after_break number length_octet a.their_breaks })
+their-word number length_octet a e =
     let more = given-more (gives number length_octet a.their_breaks) a.their_breaks.lengths in
     inl (record {
       books_are = refl;
@@ -394,8 +272,10 @@ word turn (Ok (Brk number length_octet)) a e =
       idle = λ z. absurd (z (ap stage e));
       terms = λ o t. t;
     })
-word turn (Ok (Ack number length_octet)) a e =
-    same a (on_word turn (Ok (Ack number length_octet)) a)
+
+own-word : (turn number : ℕ) (a : Account) → GoesOn a (record a { own_breaks = after_answer turn number a.own_breaks })
+own-word turn number a =
+    same a (record a { own_breaks = after_answer turn number a.own_breaks })
     (ap (λ l. record {
       setup = a.setup;
       pieces = a.outgoing.pieces;
@@ -404,92 +284,63 @@ word turn (Ok (Ack number length_octet)) a e =
       told = a.breaks_told;
       lengths = l;
     }) (answer-lengths turn number a.own_breaks)) (refl, refl) refl refl refl (λ o t. t)
-word turn (Err fault) a e = kept a
 
 answers-not : {r : Role} → r ≡ Answerer → r ≡ Originator → ⊥
 answers-not a o = false≢true (ap is_originator (sym a ∙ o))
 
-sabme : (pf : Bool) (a : Account) → OnHearing a (on_sabme pf a)
-sabme pf a = go (a.numbered || is_originator a.setup.role)
-  where
-    go : (b : Bool) → OnHearing a (cond b (Err (peer_reset a)) (Ok (owing (answers.Ua pf) a)))
-    go true = λ z. z
-    go false = same a (owing (answers.Ua pf) a) refl (refl, refl) refl refl refl (λ o t. t)
-
-disc : (role : Role) (pf : Bool) (a : Account) → a.phase ≡ Connected → a.setup.role ≡ role → OnHearing a (on_disc role pf a)
-disc Originator pf a e role = λ z. z
-disc Answerer pf a e role =
-    closes a (owing (answers.Ua pf) (record a { phase = Closed })) refl (refl, refl) refl refl (omega (arith, ap stage e)) refl refl
-    (λ o. absurd (answers-not role o))
-
-linked : (keeps : KeepsTaken) (frame : Frame) (turn : ℕ) (a : Account) → a.phase ≡ Connected → OnHearing a (on_connected frame turn a)
-linked keeps (I ns nr pf info) turn a e = segment keeps turn ns nr info a (acknowledged nr a.outgoing) pf e (out-acknowledged nr a.outgoing)
-linked keeps (Rr command nr pf) turn a e =
-    let m = cond (ends_wait command pf a) (replied nr a.outgoing) (acknowledged nr a.outgoing) in
-    let h = out-cond (ends_wait command pf a) a.outgoing (replied nr a.outgoing) (acknowledged nr a.outgoing) (out-replied nr a.outgoing)
-    (out-acknowledged nr a.outgoing) in
-    numbered turn nr a (option_map resumed m) (command && pf) (ends_wait command pf a) (out-resumed a.outgoing m h)
-linked keeps (Rnr command nr pf) turn a e =
-    let m = cond (ends_wait command pf a) (replied nr a.outgoing) (acknowledged nr a.outgoing) in
-    let h = out-cond (ends_wait command pf a) a.outgoing (replied nr a.outgoing) (acknowledged nr a.outgoing) (out-replied nr a.outgoing)
-    (out-acknowledged nr a.outgoing) in
-    hushed turn nr a (option_map paused_at m) (command && pf) (out-paused a.outgoing m h)
-linked keeps (Rej command nr pf) turn a e =
-    let m = cond (ends_wait command pf a) (replied nr a.outgoing) (rejected nr a.outgoing) in
-    let h = out-cond (ends_wait command pf a) a.outgoing (replied nr a.outgoing) (rejected nr a.outgoing) (out-replied nr a.outgoing)
-    (out-rejected nr a.outgoing) in
-    numbered turn nr a (option_map resumed m) (command && pf) (ends_wait command pf a) (out-resumed a.outgoing m h)
-linked keeps (Srej command nr pf) turn a e = chosen (selected nr a.outgoing) (out-selected nr a.outgoing)
-  where
-    chosen : (m : Option Outgoing) → IfOut a.outgoing m → OnHearing a (on_number turn nr m a)
-    chosen None h = λ z. z
-    chosen (Some new) h =
-        same a (record a { numbered = true; outgoing = new; wait = record a.wait { timer = timer_after turn a.outgoing new a.wait.timer } })
-        (out-books a new.pieces new.ended h.pieces h.ended) (h.size, h.high) refl refl refl (λ o t. t)
-linked keeps (Sabme pf) turn a e = sabme pf a
-linked keeps (Disc pf) turn a e = disc a.setup.role pf a e refl
-linked keeps (Ua pf) turn a e = kept a
-linked keeps (Dm pf) turn a e = λ z. z
-linked keeps (Frmr pf info) turn a e = λ z. z
-linked keeps (Ui command pf info) turn a e = word turn (word_in info) a e
-linked keeps (Xid command pf info) turn a e = kept a
-linked keeps (Test command pf info) turn a e = kept a
-
-framed : (reads : ReadsAllowed) (keeps : KeepsTaken) (p : Phase) (frame : Frame) (turn : ℕ) (a : Account) → a.phase ≡ p
-    → OnHearing a (on_frame p frame turn a)
-framed reads keeps Detecting frame turn a e = detecting reads a.setup.role frame turn a (ap stage e)
-framed reads keeps Negotiating frame turn a e = negotiating reads a.setup.role frame turn a (ap stage e)
-framed reads keeps Establishing frame turn a e = establishing frame turn a (ap stage e)
-framed reads keeps Connected frame turn a e = linked keeps frame turn a e
-framed reads keeps Releasing frame turn a e = releasing frame a e
-framed reads keeps Closed frame turn a e = closed frame a
-
-patterned : (role : Role) (seen : Seen) (turn : ℕ) (a : Account) → stage a.phase ≡ 0 → GoesOn a (on_pattern role seen turn a)
-patterned Originator Adp turn a e = same a (trying Negotiating turn a) refl (refl, refl) refl refl (sym e) (λ o t. t)
-patterned Originator Odp turn a e = kept a
-patterned Answerer Odp turn a e = same a (owing answers.Adp a) refl (refl, refl) refl refl refl (λ o t. t)
-patterned Answerer Adp turn a e = kept a
-
-sighted : (p : Phase) (seen : Seen) (turn : ℕ) (a : Account) → a.phase ≡ p → GoesOn a (on_seen p seen turn a)
-sighted Detecting seen turn a e = patterned a.setup.role seen turn a (ap stage e)
-sighted Negotiating seen turn a e = kept a
-sighted Establishing seen turn a e = kept a
-sighted Connected seen turn a e = kept a
-sighted Releasing seen turn a e = kept a
-sighted Closed seen turn a e = kept a
-
-pub hearing : (reads : ReadsAllowed) (keeps : KeepsTaken) (turn : ℕ) (arrived : Arrived) (a : Account) → OnHearing a (hear turn arrived a)
-hearing reads keeps turn arrivals.Nothing a = same a (on_nothing a) refl (refl, refl) refl refl refl (λ o t. t)
-hearing reads keeps turn (arrivals.Pattern seen) a = sighted a.phase seen turn a refl
-hearing reads keeps turn (arrivals.Frame frame) a = framed reads keeps a.phase frame turn a refl
+ways : (reads : ReadsAllowed) (keeps : KeepsTaken) (turn : ℕ) (a : Account) → Ways (λ x b. GoesOn a b) turn a
+ways reads keeps turn a = record {
+  nothing = same a (on_nothing a) refl (refl, refl) refl refl refl (λ o t. t);
+  linked = λ e. record {
+    pattern = λ seen. kept a;
+    plain = λ frame p. kept a;
+    numbers = record {
+      i = λ ns nr pf info n m. segment keeps ns info a _ _ _ _ e (acked-keeps false a.outgoing n);
+      rr = λ command pf nr n final f m. numbered a _ _ _ _ (resumed-keeps a.outgoing _ (acked-keeps final a.outgoing n));
+      rej = λ command pf nr n final f m. numbered a _ _ _ _ (resumed-keeps a.outgoing _ (acked_back-keeps final a.outgoing n));
+      rnr = λ command pf nr n final f m. numbered a _ _ _ _ (paused-keeps final a.outgoing n);
+      srej = λ command pf nr n f m.
+          numbered a _ _ _ _ (record { window = refl; size = refl; tries = refl; pieces = refl; ended = refl; high = refl });
+    };
+    sabme = λ pf n r. same a (owing (answers.Ua pf) a) refl (refl, refl) refl refl refl (λ o t. t);
+    disc = λ pf r. closes a (owing (answers.Ua pf) (record a { phase = Closed })) refl (refl, refl) refl refl
+        (omega (arith, ap stage e)) refl
+        refl (λ o. absurd (answers-not r o));
+    brk = λ command pf info number length_octet q. their-word number length_octet a e;
+    brkack = λ command pf info number length_octet q. own-word turn number a;
+  };
+  early = λ c. record {
+    ignores = λ x f. kept a;
+    detects = λ p r. same a (trying Negotiating turn a) refl (refl, refl) refl refl (sym (ap stage p)) (λ o t. t);
+    detected = λ p r. same a (owing answers.Adp a) refl (refl, refl) refl refl refl (λ o t. t);
+    xid = λ p r pf info offer f. same a _ refl (refl, refl) refl refl
+        (sym (elim p [ inl q ↦ ap stage q | inr q ↦ ap stage q ])) (λ o t. agreed offer a.setup.offer (reads info offer f) o);
+    agrees = λ p r pf info offer f.
+        same a _ refl (refl, refl) refl refl (sym (ap stage p)) (λ o t. agreed a.setup.offer offer o (reads info offer f));
+    sabme_first = λ p r pf. enters turn a (record a { terms = agree default_offer a.setup.offer }) (ap stage p) refl refl refl refl
+        (λ o t. agreed default_offer a.setup.offer allowed-default o) (owing (answers.Ua pf)) refl;
+    sabme = λ p r pf. enters turn a a (ap stage p) refl refl refl refl (λ o t. t) (owing (answers.Ua pf)) refl;
+    ua = λ p. enters turn a a (ap stage p) refl refl refl refl (λ o t. t) (λ b. b) refl;
+    disc = λ p pf. same a (owing (answers.Dm pf) a) refl (refl, refl) refl refl refl (λ o t. t);
+    closes = λ p frame f. closes a (record a { phase = Closed }) refl (refl, refl) refl refl (omega (arith, ap stage p)) refl refl
+        (λ o. omega (arith, ap stage p));
+  };
+}
 
 pub hears : (reads : ReadsAllowed) (keeps : KeepsTaken) (turn : ℕ) (arrived : Arrived) (a b : Account) → hear turn arrived a ≡ Ok b
     → GoesOn a b
-hears reads keeps turn arrived a b e = subst (OnHearing a) e (hearing reads keeps turn arrived a)
+hears reads keeps turn arrived a b e = by-ways (λ x b. GoesOn a b) turn a (ways reads keeps turn a) arrived b e
 
-pub breaks-not : (reads : ReadsAllowed) (keeps : KeepsTaken) (turn : ℕ) (arrived : Arrived) (a : Account) (fault : LinkFault)
-    → hear turn arrived a ≡ Err fault → WantsAnswers (Some fault) → ⊥
-breaks-not reads keeps turn arrived a fault e = subst (OnHearing a) e (hearing reads keeps turn arrived a)
+pub breaks-not : (turn : ℕ) (arrived : Arrived) (a : Account) (fault : LinkFault) → hear turn arrived a ≡ Err fault
+    → WantsAnswers (Some fault) → ⊥
+breaks-not turn arrived a fault e w = go fault (refused turn arrived a fault e) w
+  where
+    go : (f : LinkFault) → IsRefusal f → WantsAnswers (Some f) → ⊥
+    go NotDetected r w = r
+    go (Spent segment since) r w = r
+    go (BadAck nr va high) r w = w
+    go (PeerReset va vr) r w = w
+    go PeerRefused r w = w
 
 -- an originator that was told to release, or a closed end: nothing of this changes any more
 pub record Standing : Type 0 where
@@ -501,39 +352,20 @@ pub record Standing : Type 0 where
 abbrev pub standing : Account → Standing
 standing a = record { outgoing = a.outgoing; incoming = a.incoming; own_breaks = a.own_breaks; their_breaks = a.their_breaks }
 
-abbrev OnStanding : Account → Result Account LinkFault → Type 0
-OnStanding a (Ok b) = standing b ≡ standing a
-OnStanding a (Err fault) = Unit {0}
-
-stands-releasing : (frame : Frame) (a : Account) → OnStanding a (on_releasing frame a)
-stands-releasing (Ua true) a = refl
-stands-releasing (Dm true) a = refl
-stands-releasing frame a = refl
-
-stands-closed : (frame : Frame) (a : Account) → OnStanding a (on_closed frame a)
-stands-closed (Disc pf) a = refl
-stands-closed frame a = refl
-
-stands-framed : (p : Phase) (frame : Frame) (turn : ℕ) (a : Account) → 2 ≤ stage p → OnStanding a (on_frame p frame turn a)
-stands-framed Detecting frame turn a h = absurd (omega (arith, h))
-stands-framed Negotiating frame turn a h = absurd (omega (arith, h))
-stands-framed Establishing frame turn a h = absurd (omega (arith, h))
-stands-framed Connected frame turn a h = absurd (omega (arith, h))
-stands-framed Releasing frame turn a h = stands-releasing frame a
-stands-framed Closed frame turn a h = stands-closed frame a
-
-stands-sighted : (p : Phase) (seen : Seen) (turn : ℕ) (a : Account) → 2 ≤ stage p → standing (on_seen p seen turn a) ≡ standing a
-stands-sighted Detecting seen turn a h = absurd (omega (arith, h))
-stands-sighted Negotiating seen turn a h = refl
-stands-sighted Establishing seen turn a h = refl
-stands-sighted Connected seen turn a h = refl
-stands-sighted Releasing seen turn a h = refl
-stands-sighted Closed seen turn a h = refl
-
-stands-hearing : (turn : ℕ) (arrived : Arrived) (a : Account) → 2 ≤ stage a.phase → OnStanding a (hear turn arrived a)
-stands-hearing turn arrivals.Nothing a h = refl
-stands-hearing turn (arrivals.Pattern seen) a h = stands-sighted a.phase seen turn a h
-stands-hearing turn (arrivals.Frame frame) a h = stands-framed a.phase frame turn a h
-
 pub stands-heard : (turn : ℕ) (arrived : Arrived) (a b : Account) → 2 ≤ stage a.phase → hear turn arrived a ≡ Ok b → standing b ≡ standing a
-stands-heard turn arrived a b h e = subst (OnStanding a) e (stands-hearing turn arrived a h)
+stands-heard turn arrived a b h e = by-ways (λ x b. standing b ≡ standing a) turn a (record {
+  nothing = refl;
+  linked = λ p. absurd (omega (arith, h, ap stage p));
+  early = λ c. record {
+    ignores = λ x f. refl;
+    detects = λ p r. refl;
+    detected = λ p r. refl;
+    xid = λ p r pf info offer f. refl;
+    agrees = λ p r pf info offer f. refl;
+    sabme_first = λ p r pf. absurd (omega (arith, h, ap stage p));
+    sabme = λ p r pf. absurd (omega (arith, h, ap stage p));
+    ua = λ p. absurd (omega (arith, h, ap stage p));
+    disc = λ p pf. refl;
+    closes = λ p frame f. refl;
+  };
+}) arrived b e

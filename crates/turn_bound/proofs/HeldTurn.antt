@@ -25,7 +25,7 @@ use Rattle.turn_bound.proofs.OneTurn.{heard-ok}
 use Rattle.turn_bound.proofs.StillTurn.{Stays, stays, Spoke, spoke, stand-linked, linked-stand}
 use Rattle.turn_bound.proofs.MeetHear.{of_arrived}
 use Rattle.turn_bound.proofs.Credits.{own_value, held_value, frame_poll}
-use Rattle.turn_bound.proofs.Taking.{owed_by, may_send_at, TakesNumber, Takes, Closes, takes, takes-ok}
+use Rattle.turn_bound.proofs.Taking.{owed_by, may_send_at, TakesNumber, Takes, Closes, takes}
 use Rattle.turn_bound.proofs.Asking.{served-own, served-owes}
 use Rattle.turn_bound.proofs.Pausing.{Calm, says-calm}
 use Rattle.turn_bound.proofs.Holding.{TicksOnly, ticks-only, Ready, base_value, Pays, Replies, Much, Srejs, Goes, steps-go}
@@ -84,7 +84,7 @@ pub lingers : (z : Rates) (total : ℕ) (user : User) (turn : ℕ) (role : Role)
     → length (served_account user turn released mid).outgoing.pieces ≤ total → length a.outgoing.pieces ≤ total
     → Linger z total turn (of_arrived frame_poll arrived) a said.account
 lingers z total user turn role arrived a mid released release said y l calm light quiet hears speaks after offered all before =
-    result (takes-ok turn polled a mid (hear turn arrived a) hears (takes z turn role arrived a l.linked l.phase light quiet))
+    result (takes z turn role a l.linked l.phase arrived mid light quiet hears)
   where
     polled : Bool
     polled = of_arrived frame_poll arrived

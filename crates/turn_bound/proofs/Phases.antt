@@ -5,15 +5,13 @@ use Rattle.std.proofs.lemmas.Bool.Decides.{nat_tests}
 use Rattle.shared_terms.specs.declared.role.Role.{Role}
 use Rattle.shared_terms.specs.declared.role.Role.TheVariants.{Originator, Answerer}
 use Rattle.lapm_frames.specs.declared.frame.Frame.{Frame}
-use Rattle.lapm_frames.specs.declared.frame.Frame.TheVariants.{I, Rr, Rnr, Rej, Srej, Sabme, Disc, Ua, Dm, Frmr, Ui, Xid, Test}
+use Rattle.lapm_frames.specs.declared.frame.Frame.TheVariants.{Sabme, Disc, Ui, Ua, Xid}
 use Rattle.shared_terms.specs.Role.{is_originator, other}
 use Rattle.xid_params.specs.declared.offer.Offer.{Offer}
 use Rattle.xid_params.specs.Terms.{agree, default_offer}
 use Rattle.xid_params.specs.Offers.{offer_in}
 use Rattle.lapm_sender.specs.Outgoing as outgoing
-use Rattle.lapm_sender.specs.Outgoing.{Outgoing}
 use Rattle.lapm_receiver.specs.Incoming as incoming
-use Rattle.break_signals.specs.Words.{word_in}
 use Rattle.break_signals.specs.Breaks.{OwnBreaks, no_breaks, waits}
 use Rattle.lapm_frames.specs.declared.seen.Seen.{Seen}
 use Rattle.lapm_frames.specs.declared.seen.Seen.TheVariants.{Odp, Adp}
@@ -24,9 +22,8 @@ use Rattle.link_account.specs.declared.phase.Phase.TheVariants.{Detecting, Negot
 use Rattle.shared_terms.specs.declared.fault.LinkFault.{LinkFault}
 use Rattle.link_account.specs.Account.{Account, window_for, size_for}
 use Rattle.link_account.specs.declared.answer.Answer.TheVariants as answers
-use Rattle.link_account.specs.Hear.{hear, on_frame, on_seen, on_nothing, on_pattern, on_detecting, on_negotiating, on_establishing}
-use Rattle.link_account.specs.Hear.{on_releasing, on_closed, on_connected, on_i, on_ready, on_rnr, on_rej, on_srej, on_sabme, on_disc}
-use Rattle.link_account.specs.Hear.{on_word, peer_reset, connected, trying, owing, on_xid_command, on_xid_response, first_wait}
+use Rattle.link_account.specs.Hear.{hear, on_nothing, on_pattern}
+use Rattle.link_account.specs.Hear.{connected, trying, owing, on_xid_command, on_xid_response, first_wait}
 use Rattle.turn_bound.proofs.Clock.{Rates, AreRates, Ticks, left, is_waiting, ends, worth, Breaks, is_breaking, break_left}
 use Rattle.turn_bound.proofs.Value.{time_left, linked_left, value, linked_lives, lives, IsOf, Unlinked, IsAck, Linked, Tries, Stands}
 use Rattle.turn_bound.proofs.Value.{frame_rnrs, arrived_rnrs}
@@ -34,7 +31,9 @@ use Rattle.turn_bound.proofs.Arithmetic.{tries_fit, left-some, ticks-now}
 use Rattle.turn_bound.proofs.Sender.{ends-is}
 use Rattle.turn_bound.proofs.Offers.{read-windows, agreed-windows}
 use Rattle.turn_bound.proofs.Breaking.{or-false, ends-same}
-use Rattle.turn_bound.proofs.Hearing.{HeardAs, HearsWell, quiet-well, hears-i, hears-ready, hears-rnr, hears-rej, hears-srej, hears-word}
+use Rattle.std.proofs.Common.{inl, inr}
+use Rattle.link_account.proofs.HearWays.{ConnectedWays, EarlyWays, Ways, by-ways}
+use Rattle.turn_bound.proofs.Hearing.{HeardAs, HearsWell, more-as, quiet-well, number-well, answer-well}
 
 -- what lives counts
 pub linked-some : (z : Rates) (before turn : ℕ) (role : Role) (a : Account) → AreRates z → Linked z before turn role a
@@ -335,22 +334,6 @@ a-sabme-default z total breaks turn a pf y k u er =
     let h = a-sabme z total breaks turn Detecting b pf tt y k (same-unlinked a b u refl refl refl refl (default-windows a z k)) er in
     record { phase = h.phase; stands = h.stands; setup = h.setup; pieces = h.pieces; ended = h.ended; lengths = h.lengths; falls = h.falls }
 
-more-well : (z : Rates) (total breaks turn more : ℕ) (role : Role) (p : Phase) (a : Account) (r : Result Account LinkFault)
-    → HearsWell z total breaks turn 0 role p a r → HearsWell z total breaks turn more role p a r
-more-well z total breaks turn more role p a (Err fault) h = tt
-more-well z total breaks turn more role p a (Ok b) h = (
-  h.0,
-  record {
-    phase = h.1.phase;
-    stands = h.1.stands;
-    setup = h.1.setup;
-    pieces = h.1.pieces;
-    ended = h.1.ended;
-    lengths = h.1.lengths;
-    falls = omega (arith, h.1.falls);
-  },
-)
-
 closes : (z : Rates) (total breaks turn : ℕ) (a b : Account) → AreRates z → Linked z turn turn Answerer a → b.phase ≡ Closed
     → b.setup ≡ a.setup → b.outgoing ≡ a.outgoing → b.own_breaks ≡ a.own_breaks
     → HeardAs z total breaks turn 0 Answerer Connected a Closed b
@@ -380,178 +363,6 @@ closes z total breaks turn a b y h phase setup outgoing own = record {
       ap (λ o. z.quota * (breaks - length o.lengths)) own,
       ap (λ l. ends z.room l false) e,
     )
-
-hears-disc : (z : Rates) (total breaks turn : ℕ) (role : Role) (pf : Bool) (a : Account) → AreRates z → Linked z turn turn role a
-    → HearsWell z total breaks turn 0 role Connected a (on_disc role pf a)
-hears-disc z total breaks turn Originator pf a y h = tt
-hears-disc z total breaks turn Answerer pf a y h = (Closed, closes z total breaks turn a _ y h refl refl refl refl)
-
-hears-sabme : (z : Rates) (total breaks turn : ℕ) (role : Role) (pf : Bool) (a : Account) → Linked z turn turn role a → a.phase ≡ Connected
-    → HearsWell z total breaks turn 0 role Connected a (on_sabme pf a)
-hears-sabme z total breaks turn role pf a h e = go (a.numbered || is_originator a.setup.role)
-  where
-    go : (b : Bool) → HearsWell z total breaks turn 0 role Connected a (cond b (Err (peer_reset a)) (Ok (owing (answers.Ua pf) a)))
-    go true = tt
-    go false = (Connected, quiet-well z total breaks turn role a _ h e refl refl refl h.ack refl refl refl)
-
--- a Connected end hears a frame
-pub hears-connected : (z : Rates) (total breaks turn : ℕ) (role : Role) (frame : Frame) (a : Account) → AreRates z
-    → Linked z turn turn role a → a.phase ≡ Connected → a.setup.role ≡ role → length a.outgoing.pieces ≤ total
-    → HearsWell z total breaks turn (z.quota * frame_rnrs frame) role Connected a (on_connected frame turn a)
-hears-connected z total breaks turn role (I ns nr pf info) a y h e er all =
-    more-well z total breaks turn (z.quota * 0) role Connected a (on_i turn ns nr pf info a)
-    (hears-i z total breaks turn role a ns nr pf info y h e all)
-hears-connected z total breaks turn role (Rr command nr pf) a y h e er all =
-    more-well z total breaks turn (z.quota * 0) role Connected a (on_ready turn command nr pf a)
-    (hears-ready z total breaks turn role a command nr pf y h e all)
-hears-connected z total breaks turn role (Rnr command nr pf) a y h e er all =
-    subst (λ m. HearsWell z total breaks turn m role Connected a (on_rnr turn command nr pf a)) (omega arith)
-    (hears-rnr z total breaks turn role a command nr pf y h e all)
-hears-connected z total breaks turn role (Rej command nr pf) a y h e er all =
-    more-well z total breaks turn (z.quota * 0) role Connected a (on_rej turn command nr pf a)
-    (hears-rej z total breaks turn role a command nr pf y h e all)
-hears-connected z total breaks turn role (Srej command nr pf) a y h e er all =
-    more-well z total breaks turn (z.quota * 0) role Connected a (on_srej turn nr a) (hears-srej z total breaks turn role a nr y h e all)
-hears-connected z total breaks turn role (Sabme pf) a y h e er all =
-    more-well z total breaks turn (z.quota * 0) role Connected a (on_sabme pf a) (hears-sabme z total breaks turn role pf a h e)
-hears-connected z total breaks turn role (Disc pf) a y h e er all =
-    more-well z total breaks turn (z.quota * 0) role Connected a (on_disc a.setup.role pf a)
-    (subst (λ r. HearsWell z total breaks turn 0 role Connected a (on_disc r pf a)) (sym er)
-    (hears-disc z total breaks turn role pf a y h))
-hears-connected z total breaks turn role (Ua pf) a y h e er all =
-    more-well z total breaks turn (z.quota * 0) role Connected a (Ok a)
-    (Connected, quiet-well z total breaks turn role a a h e refl refl refl h.ack refl refl refl)
-hears-connected z total breaks turn role (Dm pf) a y h e er all = tt
-hears-connected z total breaks turn role (Frmr pf info) a y h e er all = tt
-hears-connected z total breaks turn role (Ui command pf info) a y h e er all =
-    more-well z total breaks turn (z.quota * 0) role Connected a (Ok (on_word turn (word_in info) a))
-    (hears-word z total breaks turn role a (word_in info) y h e)
-hears-connected z total breaks turn role (Xid command pf info) a y h e er all =
-    more-well z total breaks turn (z.quota * 0) role Connected a (Ok a)
-    (Connected, quiet-well z total breaks turn role a a h e refl refl refl h.ack refl refl refl)
-hears-connected z total breaks turn role (Test command pf info) a y h e er all =
-    more-well z total breaks turn (z.quota * 0) role Connected a (Ok a)
-    (Connected, quiet-well z total breaks turn role a a h e refl refl refl h.ack refl refl refl)
-
--- an originator in its other phases
-hears-o : (z : Rates) (total breaks turn : ℕ) (p : Phase) (frame : Frame) (a : Account) → AreRates z → IsOf z a.setup
-    → Stands z turn turn Originator p a → a.phase ≡ p → a.setup.role ≡ Originator → length a.outgoing.pieces ≤ total
-    → HearsWell z total breaks turn (z.quota * frame_rnrs frame) Originator p a (on_frame p frame turn a)
-hears-o z total breaks turn Detecting frame a y k h e er all =
-    subst (λ r. HearsWell z total breaks turn (z.quota * frame_rnrs frame) Originator Detecting a (on_detecting r frame turn a)) (sym er)
-    (go frame)
-  where
-    go : (f : Frame) → HearsWell z total breaks turn (z.quota * frame_rnrs f) Originator Detecting a (on_detecting Originator f turn a)
-    go f = more-well z total breaks turn (z.quota * frame_rnrs f) Originator Detecting a (Ok a)
-        (Detecting, idle-well z total breaks turn Originator Detecting a a h e refl refl refl refl refl)
-hears-o z total breaks turn Negotiating frame a y k h e er all =
-    subst (λ r. HearsWell z total breaks turn (z.quota * frame_rnrs frame) Originator Negotiating a (on_negotiating r frame turn a))
-    (sym er) (go frame)
-  where
-    stays : HearsWell z total breaks turn 0 Originator Negotiating a (Ok a)
-    stays = (
-      Negotiating,
-      idle-well z total breaks turn Originator Negotiating a a (h.0, later-tries z turn a h.1) e refl refl refl refl refl,
-    )
-
-    go : (f : Frame) → HearsWell z total breaks turn (z.quota * frame_rnrs f) Originator Negotiating a (on_negotiating Originator f turn a)
-    go (Xid false pf info) =
-        more-well z total breaks turn (z.quota * 0) Originator Negotiating a (Ok (on_xid_response (offer_in info) turn a))
-        (o-negotiating z total breaks turn a (offer_in info) info y k h.0 h.1 e refl)
-    go (Dm pf) = tt
-    go f = more-well z total breaks turn (z.quota * frame_rnrs f) Originator Negotiating a (Ok a) stays
-hears-o z total breaks turn Establishing frame a y k h e er all = go frame
-  where
-    stays : HearsWell z total breaks turn 0 Originator Establishing a (Ok a)
-    stays = (
-      Establishing,
-      idle-well z total breaks turn Originator Establishing a a (h.0, later-tries z turn a h.1) e refl refl refl refl refl,
-    )
-
-    go : (f : Frame) → HearsWell z total breaks turn (z.quota * frame_rnrs f) Originator Establishing a (on_establishing f turn a)
-    go (Ua true) = more-well z total breaks turn (z.quota * 0) Originator Establishing a (Ok (connected turn a)) (
-      Connected,
-      subst (λ r. HeardAs z total breaks turn 0 Originator Establishing a Connected (connected_as r turn a)) (sym er)
-          (begins-o z total breaks turn a y k h.0),
-    )
-    go (Dm true) = tt
-    go f = more-well z total breaks turn (z.quota * frame_rnrs f) Originator Establishing a (Ok a) stays
-hears-o z total breaks turn Connected frame a y k h e er all = hears-connected z total breaks turn Originator frame a y h e er all
-hears-o z total breaks turn Releasing frame a y k h e er all = go frame
-  where
-    stays : HearsWell z total breaks turn 0 Originator Releasing a (Ok a)
-    stays = (Releasing, idle-well z total breaks turn Originator Releasing a a (later-tries z turn a h) e refl refl refl refl refl)
-
-    ends-here : HearsWell z total breaks turn 0 Originator Releasing a (Ok (record a { phase = Closed }))
-    ends-here = (
-      Closed,
-      record {
-        phase = refl;
-        stands = tt;
-        setup = refl;
-        pieces = refl;
-        ended = refl;
-        lengths = refl;
-        falls = omega (arith, tries_fit z a.wait.try_count y h.tried, h.within);
-      },
-    )
-
-    go : (f : Frame) → HearsWell z total breaks turn (z.quota * frame_rnrs f) Originator Releasing a (on_releasing f a)
-    go (Ua true) = more-well z total breaks turn (z.quota * 0) Originator Releasing a (Ok (record a { phase = Closed })) ends-here
-    go (Dm true) = more-well z total breaks turn (z.quota * 0) Originator Releasing a (Ok (record a { phase = Closed })) ends-here
-    go f = more-well z total breaks turn (z.quota * frame_rnrs f) Originator Releasing a (Ok a) stays
-hears-o z total breaks turn Closed frame a y k h e er all = go frame
-  where
-    go : (f : Frame) → HearsWell z total breaks turn (z.quota * frame_rnrs f) Originator Closed a (on_closed f a)
-    go (Disc pf) = more-well z total breaks turn (z.quota * 0) Originator Closed a (Ok (owing (answers.Dm pf) a))
-        (Closed, idle-well z total breaks turn Originator Closed a _ tt e refl refl refl refl refl)
-    go f = more-well z total breaks turn (z.quota * frame_rnrs f) Originator Closed a (Ok a)
-        (Closed, idle-well z total breaks turn Originator Closed a a tt e refl refl refl refl refl)
-
--- an answerer
-hears-a : (z : Rates) (total breaks turn : ℕ) (p : Phase) (frame : Frame) (a : Account) → AreRates z → IsOf z a.setup
-    → Stands z turn turn Answerer p a → a.phase ≡ p → a.setup.role ≡ Answerer → length a.outgoing.pieces ≤ total
-    → HearsWell z total breaks turn (z.quota * frame_rnrs frame) Answerer p a (on_frame p frame turn a)
-hears-a z total breaks turn Detecting frame a y k h e er all =
-    subst (λ r. HearsWell z total breaks turn (z.quota * frame_rnrs frame) Answerer Detecting a (on_detecting r frame turn a)) (sym er)
-    (go frame)
-  where
-    go : (f : Frame) → HearsWell z total breaks turn (z.quota * frame_rnrs f) Answerer Detecting a (on_detecting Answerer f turn a)
-    go (Xid true pf info) =
-        more-well z total breaks turn (z.quota * 0) Answerer Detecting a (Ok (on_xid_command (offer_in info) a))
-        (a-xid z total breaks turn Detecting a (offer_in info) info tt y k h e refl)
-    go (Sabme pf) = more-well z total breaks turn (z.quota * 0) Answerer Detecting a
-        (Ok (owing (answers.Ua pf) (connected turn (record a { terms = agree default_offer a.setup.offer }))))
-        (Connected, a-sabme-default z total breaks turn a pf y k h er)
-    go f = more-well z total breaks turn (z.quota * frame_rnrs f) Answerer Detecting a (Ok a)
-        (Detecting, early-idle z total breaks turn Detecting Detecting a a tt tt h e refl refl refl)
-hears-a z total breaks turn Negotiating frame a y k h e er all =
-    subst (λ r. HearsWell z total breaks turn (z.quota * frame_rnrs frame) Answerer Negotiating a (on_negotiating r frame turn a)) (sym er)
-    (go frame)
-  where
-    go : (f : Frame) → HearsWell z total breaks turn (z.quota * frame_rnrs f) Answerer Negotiating a (on_negotiating Answerer f turn a)
-    go (Xid true pf info) =
-        more-well z total breaks turn (z.quota * 0) Answerer Negotiating a (Ok (on_xid_command (offer_in info) a))
-        (a-xid z total breaks turn Negotiating a (offer_in info) info tt y k h e refl)
-    go (Sabme pf) = more-well z total breaks turn (z.quota * 0) Answerer Negotiating a (Ok (owing (answers.Ua pf) (connected turn a)))
-        (Connected, a-sabme z total breaks turn Negotiating a pf tt y k h er)
-    go (Disc pf) = more-well z total breaks turn (z.quota * 0) Answerer Negotiating a (Ok (owing (answers.Dm pf) a)) (
-      Negotiating,
-      early-idle z total breaks turn Negotiating Negotiating a _ tt tt
-          (same-unlinked a _ h refl refl refl refl (h.window_o, h.window_a)) e refl refl refl,
-    )
-    go f = more-well z total breaks turn (z.quota * frame_rnrs f) Answerer Negotiating a (Ok a)
-        (Negotiating, early-idle z total breaks turn Negotiating Negotiating a a tt tt h e refl refl refl)
-hears-a z total breaks turn Establishing frame a y k h e er all = absurd h
-hears-a z total breaks turn Connected frame a y k h e er all = hears-connected z total breaks turn Answerer frame a y h e er all
-hears-a z total breaks turn Releasing frame a y k h e er all = absurd h
-hears-a z total breaks turn Closed frame a y k h e er all = go frame
-  where
-    go : (f : Frame) → HearsWell z total breaks turn (z.quota * frame_rnrs f) Answerer Closed a (on_closed f a)
-    go (Disc pf) = more-well z total breaks turn (z.quota * 0) Answerer Closed a (Ok (owing (answers.Dm pf) a))
-        (Closed, idle-well z total breaks turn Answerer Closed a _ tt e refl refl refl refl refl)
-    go f = more-well z total breaks turn (z.quota * frame_rnrs f) Answerer Closed a (Ok a)
-        (Closed, idle-well z total breaks turn Answerer Closed a a tt e refl refl refl refl refl)
 
 -- nothing is heard
 nothing-well : (z : Rates) (total breaks turn : ℕ) (role : Role) (p : Phase) (a : Account) → Stands z turn turn role p a → a.phase ≡ p
@@ -616,41 +427,167 @@ same-well z total breaks turn Answerer Connected a h e = quiet-well z total brea
 same-well z total breaks turn Answerer Releasing a h e = absurd h
 same-well z total breaks turn Answerer Closed a h e = idle-well z total breaks turn Answerer Closed a a tt e refl refl refl refl refl
 
--- a pattern
-pattern-well : (z : Rates) (total breaks turn : ℕ) (role : Role) (p : Phase) (seen : Seen) (a : Account) → AreRates z
-    → Stands z turn turn role p a → a.phase ≡ p → a.setup.role ≡ role
-    → (q : Phase) × HeardAs z total breaks turn 0 role p a q (on_seen p seen turn a)
-pattern-well z total breaks turn role Detecting seen a y h e er =
-    subst (λ r. (q : Phase) × HeardAs z total breaks turn 0 role Detecting a q (on_pattern r seen turn a)) (sym er) (go role seen h)
-  where
-    go : (r : Role) (s : Seen) → Stands z turn turn r Detecting a
-        → (q : Phase) × HeardAs z total breaks turn 0 r Detecting a q (on_pattern r s turn a)
-    go Originator s k = o-detecting z total breaks turn a s y k e
-    go Answerer Odp k = (
+-- Hearing: whatever the role, the phase and what arrives.
+module _ (z : Rates) (total breaks turn : ℕ) (role : Role) (a : Account) (y : AreRates z) (k : IsOf z a.setup)
+    (s : Stands z turn turn role a.phase a)
+    (er : a.setup.role ≡ role) (all : length a.outgoing.pieces ≤ total) where
+  abbrev P : Arrived → Account → Type 0
+  P x b = (q : Phase) × HeardAs z total breaks turn (z.quota * arrived_rnrs x) role a.phase a q b
+
+  -- in this phase
+  now : (x : Arrived) (b : Account) (p : Phase) → a.phase ≡ p → (q : Phase) × HeardAs z total breaks turn 0 role p a q b → P x b
+  now x b p e w = (
+    w.0,
+    more-as z total breaks turn _ role a.phase a w.0 b
+        (subst (λ p. HeardAs z total breaks turn 0 role p a w.0 b) (sym e) w.1),
+  )
+
+  same : (x : Arrived) → P x a
+  same x = now x a a.phase refl (a.phase, same-well z total breaks turn role a.phase a s refl)
+
+  stands : (p : Phase) → a.phase ≡ p → Stands z turn turn role p a
+  stands p e = subst (λ p. Stands z turn turn role p a) e s
+
+  linked : (r : Role) → Stands z turn turn r Connected a → Linked z turn turn r a
+  linked Originator h = h
+  linked Answerer h = h
+
+  linked-ways : a.phase ≡ Connected → ConnectedWays P turn a
+  linked-ways e = let h = linked role (stands Connected e) in record {
+    pattern = λ seen. same (arrivals.Pattern seen);
+    plain = λ frame p. same (arrivals.Frame frame);
+    numbers = number-well z total breaks turn role a y h e all P
+        (λ frame b w. (Connected, subst (λ p. HeardAs z total breaks turn (z.quota * frame_rnrs frame) role p a Connected b) (sym e) w));
+    sabme = λ pf n r. now (arrivals.Frame (Sabme pf)) _ Connected e
+        (Connected, quiet-well z total breaks turn role a _ h e refl refl refl h.ack refl refl refl);
+    disc = λ pf r. now (arrivals.Frame (Disc pf)) _ Connected e (Closed, closed role (sym er ∙ r) h pf);
+    brk = λ command pf info number length_octet q.
+        now (arrivals.Frame (Ui command pf info)) _ Connected e
+        (Connected, quiet-well z total breaks turn role a _ h e refl refl refl tt refl refl refl);
+    brkack = λ command pf info number length_octet q.
+        now (arrivals.Frame (Ui command pf info)) _ Connected e (Connected, answer-well z total breaks turn role a y h e all number);
+  }
+    where
+      closed : (r : Role) → r ≡ Answerer → Linked z turn turn r a → (pf : Bool)
+          → HeardAs z total breaks turn 0 r Connected a Closed (owing (answers.Ua pf) (record a { phase = Closed }))
+      closed Answerer q h pf = closes z total breaks turn a _ y h refl refl refl refl
+      closed Originator q h pf = cc
+
+module _ (z : Rates) (total breaks turn : ℕ) (a : Account) (y : AreRates z) (k : IsOf z a.setup)
+    (s : Stands z turn turn Originator a.phase a)
+    (er : a.setup.role ≡ Originator) (all : length a.outgoing.pieces ≤ total) where
+  o-now : (x : Arrived) (b : Account) (p : Phase) → a.phase ≡ p → (q : Phase) × HeardAs z total breaks turn 0 Originator p a q b
+      → P z total breaks turn Originator a y k s er all x b
+  o-now = now z total breaks turn Originator a y k s er all
+
+  o-stands : (p : Phase) → a.phase ≡ p → Stands z turn turn Originator p a
+  o-stands = stands z total breaks turn Originator a y k s er all
+
+  o-early : EarlyWays (P z total breaks turn Originator a y k s er all) turn a
+  o-early = record {
+    ignores = λ x f. same z total breaks turn Originator a y k s er all x;
+    detects = λ p r. o-now (arrivals.Pattern Adp) _ Detecting p (o-detecting z total breaks turn a Adp y (o-stands Detecting p) p);
+    detected = λ p r. wrong r;
+    xid = λ p r pf info offer f. wrong r;
+    agrees = λ p r pf info offer f. let h = o-stands Negotiating p in
+        o-now (arrivals.Frame (Xid false pf info)) _ Negotiating p (o-negotiating z total breaks turn a (Some offer) info y k h.0 h.1 p f);
+    sabme_first = λ p r pf. wrong r;
+    sabme = λ p r pf. wrong r;
+    ua = λ p. o-now (arrivals.Frame (Ua true)) _ Establishing p (
+      Connected,
+      subst (λ r. HeardAs z total breaks turn 0 Originator Establishing a Connected (connected_as r turn a))
+          (sym er) (begins-o z total breaks turn a y k (o-stands Establishing p).0),
+    );
+    disc = λ p pf. elim p [
+      | inl q ↦ wrong q.1
+      | inr q ↦ o-now (arrivals.Frame (Disc pf)) _ Closed q
+          (Closed, idle-well z total breaks turn Originator Closed a _ tt q refl refl refl refl refl)
+    ];
+    closes = λ p frame f. let h = o-stands Releasing p in o-now (arrivals.Frame frame) _ Releasing p (
+      Closed,
+      record {
+        phase = refl;
+        stands = tt;
+        setup = refl;
+        pieces = refl;
+        ended = refl;
+        lengths = refl;
+        falls = omega (arith, tries_fit z a.wait.try_count y h.tried, h.within);
+      },
+    );
+  }
+    where
+      wrong : {A : Type 0} → a.setup.role ≡ Answerer → A
+      wrong r = let other-role : Originator ≡ Answerer = sym er ∙ r in cc
+
+module _ (z : Rates) (total breaks turn : ℕ) (a : Account) (y : AreRates z) (k : IsOf z a.setup) (s : Stands z turn turn Answerer a.phase a)
+    (er : a.setup.role ≡ Answerer) (all : length a.outgoing.pieces ≤ total) where
+  a-now : (x : Arrived) (b : Account) (p : Phase) → a.phase ≡ p → (q : Phase) × HeardAs z total breaks turn 0 Answerer p a q b
+      → P z total breaks turn Answerer a y k s er all x b
+  a-now = now z total breaks turn Answerer a y k s er all
+
+  a-stands : (p : Phase) → a.phase ≡ p → Stands z turn turn Answerer p a
+  a-stands = stands z total breaks turn Answerer a y k s er all
+
+  a-early : EarlyWays (P z total breaks turn Answerer a y k s er all) turn a
+  a-early = record {
+    ignores = λ x f. same z total breaks turn Answerer a y k s er all x;
+    detects = λ p r. wrong r;
+    detected = λ p r. a-now (arrivals.Pattern Odp) _ Detecting p (
       Detecting,
       early-idle z total breaks turn Detecting Detecting a _ tt tt
-          (same-unlinked a _ k refl refl refl refl (k.window_o, k.window_a)) e refl refl refl,
-    )
-    go Answerer Adp k = (Detecting, early-idle z total breaks turn Detecting Detecting a a tt tt k e refl refl refl)
-pattern-well z total breaks turn role Negotiating seen a y h e er = (Negotiating, same-well z total breaks turn role Negotiating a h e)
-pattern-well z total breaks turn role Establishing seen a y h e er = (Establishing, same-well z total breaks turn role Establishing a h e)
-pattern-well z total breaks turn role Connected seen a y h e er = (Connected, same-well z total breaks turn role Connected a h e)
-pattern-well z total breaks turn role Releasing seen a y h e er = (Releasing, same-well z total breaks turn role Releasing a h e)
-pattern-well z total breaks turn role Closed seen a y h e er = (Closed, same-well z total breaks turn role Closed a h e)
+          (let u = a-stands Detecting p in same-unlinked a _ u refl refl refl refl (u.window_o, u.window_a)) p refl refl refl,
+    );
+    xid = λ p r pf info offer f. elim p [
+      | inl q ↦ a-now (arrivals.Frame (Xid true pf info)) _ Detecting q
+          (a-xid z total breaks turn Detecting a (Some offer) info tt y k (a-stands Detecting q) q f)
+      | inr q ↦ a-now (arrivals.Frame (Xid true pf info)) _ Negotiating q
+          (a-xid z total breaks turn Negotiating a (Some offer) info tt y k (a-stands Negotiating q) q f)
+    ];
+    agrees = λ p r pf info offer f. wrong r;
+    sabme_first = λ p r pf. a-now (arrivals.Frame (Sabme pf)) _ Detecting p
+        (Connected, a-sabme-default z total breaks turn a pf y k (a-stands Detecting p) er);
+    sabme = λ p r pf. a-now (arrivals.Frame (Sabme pf)) _ Negotiating p
+        (Connected, a-sabme z total breaks turn Negotiating a pf tt y k (a-stands Negotiating p) er);
+    ua = λ p. absurd (a-stands Establishing p);
+    disc = λ p pf. elim p [
+      | inl q ↦ a-now (arrivals.Frame (Disc pf)) _ Negotiating q.0 (
+        Negotiating,
+        early-idle z total breaks turn Negotiating Negotiating a _ tt tt
+            (let u = a-stands Negotiating q.0 in same-unlinked a _ u refl refl refl refl (u.window_o, u.window_a)) q.0 refl refl refl,
+      )
+      | inr q ↦ a-now (arrivals.Frame (Disc pf)) _ Closed q
+          (Closed, idle-well z total breaks turn Answerer Closed a _ tt q refl refl refl refl refl)
+    ];
+    closes = λ p frame f. absurd (a-stands Releasing p);
+  }
+    where
+      wrong : {A : Type 0} → a.setup.role ≡ Originator → A
+      wrong r = let other-role : Answerer ≡ Originator = sym er ∙ r in cc
 
--- Hearing: whatever the role, the phase and what arrives.
 pub hears-well : (z : Rates) (total breaks turn : ℕ) (role : Role) (p : Phase) (arrived : Arrived) (a : Account) → AreRates z
     → IsOf z a.setup → Stands z turn turn role p a → a.phase ≡ p → a.setup.role ≡ role
     → length a.outgoing.pieces ≤ total → HearsWell z total breaks turn (z.quota * arrived_rnrs arrived) role p a (hear turn arrived a)
-hears-well z total breaks turn role p arrivals.Nothing a y k h e er all =
-    more-well z total breaks turn (z.quota * 0) role p a (Ok (on_nothing a)) (nothing-well z total breaks turn role p a h e)
-hears-well z total breaks turn role p (arrivals.Pattern seen) a y k h e er all =
-    more-well z total breaks turn (z.quota * 0) role p a (Ok (on_seen a.phase seen turn a))
-    (subst (λ r. HearsWell z total breaks turn 0 role p a (Ok (on_seen r seen turn a))) (sym e)
-    (pattern-well z total breaks turn role p seen a y h e er))
-hears-well z total breaks turn Originator p (arrivals.Frame frame) a y k h e er all =
-    subst (λ r. HearsWell z total breaks turn (z.quota * frame_rnrs frame) Originator p a (on_frame r frame turn a)) (sym e)
-    (hears-o z total breaks turn p frame a y k h e er all)
-hears-well z total breaks turn Answerer p (arrivals.Frame frame) a y k h e er all =
-    subst (λ r. HearsWell z total breaks turn (z.quota * frame_rnrs frame) Answerer p a (on_frame r frame turn a)) (sym e)
-    (hears-a z total breaks turn p frame a y k h e er all)
+hears-well z total breaks turn role p arrived a y k h e er all = go (hear turn arrived a) refl
+  where
+    s : Stands z turn turn role a.phase a
+    s = subst (λ q. Stands z turn turn role q a) (sym e) h
+
+    early : (r : Role) (t : Stands z turn turn r a.phase a) (f : a.setup.role ≡ r) → EarlyWays
+        (P z total breaks turn r a y k t f all) turn a
+    early Originator t f = o-early z total breaks turn a y k t f all
+    early Answerer t f = a-early z total breaks turn a y k t f all
+
+    ways : Ways (P z total breaks turn role a y k s er all) turn a
+    ways = record {
+      nothing = now z total breaks turn role a y k s er all arrivals.Nothing (on_nothing a) a.phase refl
+          (nothing-well z total breaks turn role a.phase a s refl);
+      linked = linked-ways z total breaks turn role a y k s er all;
+      early = λ c. early role s er;
+    }
+
+    go : (r : Result Account LinkFault) → hear turn arrived a ≡ r → HearsWell z total breaks turn
+        (z.quota * arrived_rnrs arrived) role p a r
+    go (Err fault) f = tt
+    go (Ok b) f = subst (λ q. (r : Phase) × HeardAs z total breaks turn (z.quota * arrived_rnrs arrived) role q a r b) e
+        (by-ways (P z total breaks turn role a y k s er all) turn a ways arrived b f)

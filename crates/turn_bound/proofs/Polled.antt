@@ -27,7 +27,7 @@ use Rattle.turn_bound.proofs.StillTurn.{linked-stand}
 use Rattle.turn_bound.proofs.MeetHear.{is_begun, of_arrived}
 use Rattle.turn_bound.proofs.MeetSpeak.{SaysSo, speaks-so}
 use Rattle.turn_bound.proofs.Credits.{frame_poll, poll_value, poll-most, timer_value}
-use Rattle.turn_bound.proofs.Taking.{Takes, Closes, takes, takes-ok}
+use Rattle.turn_bound.proofs.Taking.{Takes, Closes, takes}
 use Rattle.turn_bound.proofs.Polling.{nineteen_if, polls, heard-polls, linked-rated}
 use Rattle.turn_bound.proofs.Pausing.{Goes, goes-on, says-unpolled, releases-unpolled}
 
@@ -100,8 +100,8 @@ poll-turn z user turn role arrived a mid released release said y k h er light qu
     hearing Negotiating e = poll-most turn mid.phase mid
     hearing Establishing e = poll-most turn mid.phase mid
     hearing Connected e =
-        by (takes-ok turn (of_arrived frame_poll arrived) a mid (hear turn arrived a) hears
-        (takes z turn role arrived a (linked-stand z turn turn role a (subst (λ q. Stands z turn turn role q a) e h)) e light quiet))
+        by (takes z turn role a (linked-stand z turn turn role a
+        (subst (λ q. Stands z turn turn role q a) e h)) e arrived mid light quiet hears)
       where
         by : Closes a mid ⊎ ((mid.phase ≡ Connected) × Takes turn (of_arrived frame_poll arrived) a mid)
             → poll_value turn mid.phase mid ≤ poll_value turn Connected a

@@ -30,7 +30,7 @@ use Rattle.turn_bound.proofs.OneTurn.{heard-ok, said-ok}
 use Rattle.turn_bound.proofs.StillTurn.{linked-stand, spoke}
 use Rattle.turn_bound.proofs.MeetHear.{is_begun, of_arrived}
 use Rattle.turn_bound.proofs.Credits.{frame_poll}
-use Rattle.turn_bound.proofs.Taking.{TakesNumber, Takes, Closes, takes, takes-ok}
+use Rattle.turn_bound.proofs.Taking.{TakesNumber, Takes, Closes, takes}
 use Rattle.turn_bound.proofs.Pausing.{goes-on, says-calm}
 use Rattle.turn_bound.proofs.Falls.{Fits}
 use Rattle.turn_bound.proofs.Ending.{fits}
@@ -163,8 +163,7 @@ whole-stays z user turn role arrived a mid released release said i w =
     hearing Releasing e = late (ap is_released e)
     hearing Closed e = late (ap is_released e)
     hearing Connected e =
-        by (takes-ok turn (of_arrived frame_poll arrived) a mid (hear turn arrived a) i.hears
-        (takes z turn role arrived a linked e i.light i.quiet))
+        by (takes z turn role a linked e arrived mid i.light i.quiet i.hears)
       where
         linked : Linked z turn turn role a
         linked = linked-stand z turn turn role a (subst (λ q. Stands z turn turn role q a) e i.stands)
@@ -335,11 +334,10 @@ released-whole tries period delay link (t ∷ ts) ends k n (before, run, g) c e 
         heard-open Releasing h = let wrong : true ≡ false = sym (ap is_released h) ∙ open_ in cc
         heard-open Closed h = let wrong : true ≡ false = sym (ap is_released h) ∙ open_ in cc
         heard-open Connected h =
-            by (takes-ok turn (of_arrived frame_poll (arrival t.orig.heard)) before.orig g.mid.orig
-            (hear turn (arrival t.orig.heard) before.orig) x.hears
-            (takes (rates tries period) turn Originator (arrival t.orig.heard) before.orig
+            by (takes (rates tries period) turn Originator before.orig
             (linked-stand (rates tries period) turn turn Originator before.orig
-            (subst (λ q. Stands (rates tries period) turn turn Originator q before.orig) h x.stands)) h x.light x.quiet))
+            (subst (λ q. Stands (rates tries period) turn turn Originator q before.orig) h x.stands)) h (arrival t.orig.heard) g.mid.orig
+            x.light x.quiet x.hears)
           where
             by : Closes before.orig g.mid.orig
                 ⊎ ((g.mid.orig.phase ≡ Connected) × Takes turn (of_arrived frame_poll (arrival t.orig.heard)) before.orig g.mid.orig)
