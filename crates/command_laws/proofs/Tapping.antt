@@ -24,8 +24,8 @@ use Rattle.line_run.specs.Scripted.{wire_of, link_of, ScriptsMayPlay, ScriptsHav
 use Rattle.line_run.specs.Stream.{AllSendable}
 use Rattle.line_ends.specs.Completes.{OctetsAreSendable}
 use Rattle.line_tap.specs.Tapping.{tapping, phase_behind}
-use Rattle.line_tap.specs.Ends.{TapOf}
-use Rattle.line_tap.specs.Laws.{AreCoded, RecordingsTellRuns, told_end}
+use Rattle.line_tap.specs.Ends.{TapOf, told_end}
+use Rattle.line_tap.specs.Laws.{AreCoded, RecordingsTellRuns}
 use Rattle.command_base.specs.declared.status.Status.TheVariants.{NoMemory}
 use Rattle.line_world.specs.Tapes.{HoldTapes}
 use Rattle.line_tap.specs.Completes.{AreRight, Answered}

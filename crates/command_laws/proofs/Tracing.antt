@@ -16,7 +16,8 @@ use Rattle.run_inputs.specs.Words.{RunNames, inputs_of, outputs_of}
 use Rattle.run_commands.specs.Running.Headline as run
 use Rattle.trace_audit.specs.Words as audit
 use Rattle.trace_audit.specs.Completes.{AreRight, InputsRunTo, Completes}
-use Rattle.command_laws.specs.Traces.{audit_of, IsRunEnd, TracesOfRunsAreTrue}
+use Rattle.run_inputs.specs.Answers.{EndsRun}
+use Rattle.command_laws.specs.Traces.{audit_of, TracesOfRunsAreTrue}
 
 -- names that are apart
 abbrev pub ApartNames : Type 0
@@ -64,7 +65,7 @@ module _ (one : ScriptsAreOne) (old mid new : FolderState) (n : RunNames) (r s :
 
 by-answer : ScriptsAreOne → ApartNames → (old mid new : FolderState) (n : RunNames) (ran s : Status) (script : ScriptValue)
     → are_apart (inputs_of n) (outputs_of n) ≡ true → ((name : List ℕ) → mid.tells name ≡ old.tells name)
-    → (r : Status) → r ≡ ran → run.Headline old mid n ran → run.RanBy old mid n r → IsRunEnd r
+    → (r : Status) → r ≡ ran → run.Headline old mid n ran → run.RanBy old mid n r → EndsRun r
     → Completes mid new (audit_of n) s → IsSound mid new (audit.inputs_of (audit_of n)) [] → AreRight mid (audit_of n) script
     → DoneUnlessMemory s
 by-answer one names old mid new n ran s script apart same Done e h b x c sound right =

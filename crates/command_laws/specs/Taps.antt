@@ -3,7 +3,6 @@ use Rattle.std.specs.Prelude.{◌≡◌, ◌⊎◌, ℕ, ◌≤◌, IsTrue, List
 use Rattle.outside_calls.specs.Folder.{FolderState, held_at, octets_at}
 use Rattle.shared_terms.specs.Both.{Both}
 use Rattle.line_run.specs.Ends.{RunEnd}
-use Rattle.line_tap.specs.Laws.{told_end}
 use Rattle.command_base.specs.declared.status.Status.{Status}
 use Rattle.command_base.specs.declared.status.Status.TheVariants.{NoMemory}
 use Rattle.command_base.specs.Sound.{IsSound}
@@ -12,6 +11,7 @@ use Rattle.run_commands.specs.Running.Headline.{Ran}
 use Rattle.line_tap.specs.Names.{TapNames, inputs_of, outputs_of}
 use Rattle.line_tap.specs.Answers.{answer_of}
 use Rattle.line_tap.specs.Completes.{Completes}
+use Rattle.line_tap.specs.Ends.{told_end}
 
 -- The files and the script of a run are told before it.
 pub record AreTold (f : FolderState) (m : RunNames) : Type 0 where

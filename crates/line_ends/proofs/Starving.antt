@@ -16,10 +16,10 @@ use Rattle.turn_losses.specs.Breaks.{GivesUpStarved}
 use Rattle.line_run.specs.Sampled.{Wire, LineRun}
 use Rattle.line_run.specs.Scripted.{period_of, link_of, break_line, ScriptsMayPlay, ScriptsHaveDelays}
 use Rattle.line_run.specs.LineLaws.{SamplesAreCarried, OneIsCarried}
-use Rattle.line_run.specs.Ends.{IsDone, LinkLost, NotDetected, LineLost, ChanceMatch, Left, RunsTo, turns_heard}
+use Rattle.line_run.specs.Ends.{IsDone, LinkLost, NotDetected, Left, RunsTo, turns_heard, GivesUp}
 use Rattle.line_run.specs.Scripts.{ScriptsKeepTime}
 use Rattle.line_run.specs.Ends.{RunEnd}
-use Rattle.line_ends.specs.Causes.{LostLinksWereStarved, LosesInPeriods, WaitsForNoBreak, GivesUp, FewLossesKeepLinks}
+use Rattle.line_ends.specs.Causes.{LostLinksWereStarved, LosesInPeriods, WaitsForNoBreak, FewLossesKeepLinks}
 use Rattle.line_ends.specs.Causes.{GivesUpOnTime, GivesEachBreak, EndsHaveCauses}
 
 pub record Laws : Type 0 where
@@ -53,9 +53,7 @@ lost-links-were-starved laws c files (NotDetected turn) left h r g =
     laws.starves c.script.tries (period_of c.script) (delay_of c.script)
     (link_of c.script files) r.turns r.ends e.last e.mid Originator faults.NotDetected (laws.time c.script files h)
     (over laws c files r.turns r.ends h r.run) (laws.one c r.turns e.last e.heard) e.is
-lost-links-were-starved laws c files (IsDone turn) left h r g = absurd g
-lost-links-were-starved laws c files (LineLost role symbol) left h r g = absurd g
-lost-links-were-starved laws c files (ChanceMatch role turn) left h r g = absurd g
+lost-links-were-starved laws c files end left h r g = absurd g
 
 undetected : Laws → (c : Wire) (files : Both (List ℕ)) (turn : ℕ) (left : Left) → IsInLimits c.script
     → (r : RunsTo c (link_of c.script files) (NotDetected turn) left) → LosesInPeriods c files (NotDetected turn) left r
@@ -75,9 +73,7 @@ loses-without-break laws c files (LinkLost role segment turn) left h r g quiet =
     (faults.Spent segment r.ended.0) (laws.time c.script files h)
     (over laws c files r.turns r.ends h r.run) (laws.one c r.turns e.last e.heard) e.is quiet).each
 loses-without-break laws c files (NotDetected turn) left h r g quiet = undetected laws c files turn left h r
-loses-without-break laws c files (IsDone turn) left h r g quiet = absurd g
-loses-without-break laws c files (LineLost role symbol) left h r g quiet = absurd g
-loses-without-break laws c files (ChanceMatch role turn) left h r g quiet = absurd g
+loses-without-break laws c files end left h r g quiet = absurd g
 
 no-breaks : (script : ScriptValue) (files : Both (List ℕ)) → script.breaks ≡ [] → (role : Role)
     → (of role (link_of script files)).user.breaks ≡ []
@@ -92,9 +88,7 @@ loses-unasked laws c files (LinkLost role segment turn) left h r g none =
     (faults.Spent segment r.ended.0) (laws.time c.script files h)
     (no-breaks c.script files none role) (over laws c files r.turns r.ends h r.run) (laws.one c r.turns e.last e.heard) e.is).each
 loses-unasked laws c files (NotDetected turn) left h r g none = undetected laws c files turn left h r
-loses-unasked laws c files (IsDone turn) left h r g none = absurd g
-loses-unasked laws c files (LineLost role symbol) left h r g none = absurd g
-loses-unasked laws c files (ChanceMatch role turn) left h r g none = absurd g
+loses-unasked laws c files end left h r g none = absurd g
 
 gives-up-on-time : Laws → (c : Wire) (files : Both (List ℕ)) (end : RunEnd) (left : Left) → IsInLimits c.script
     → (r : RunsTo c (link_of c.script files) end left) → GivesUpOnTime c (link_of c.script files) r.turns r.ends end left r.ended
@@ -104,10 +98,7 @@ gives-up-on-time laws c files (NotDetected turn) left h r =
     let told = laws.on_time c.script.tries (period_of c.script) (delay_of c.script) (link_of c.script files) r.turns r.ends e.last e.mid
     (laws.time c.script files h) run.run run.carried e.is in
     (e.number ∙ told.0, told.1)
-gives-up-on-time laws c files (LinkLost role segment turn) left h r = tt
-gives-up-on-time laws c files (IsDone turn) left h r = tt
-gives-up-on-time laws c files (LineLost role symbol) left h r = tt
-gives-up-on-time laws c files (ChanceMatch role turn) left h r = tt
+gives-up-on-time laws c files end left h r = tt
 
 gives-each-break : Laws → (c : Wire) (files : Both (List ℕ)) (end : RunEnd) (left : Left) → IsInLimits c.script
     → (r : RunsTo c (link_of c.script files) end left) → GivesEachBreak c (link_of c.script files) r.turns r.ends end left r.ended
@@ -117,10 +108,7 @@ gives-each-break laws c files (IsDone turn) left h r =
     λ role. laws.given link r.turns r.ends e.last e.mid r.run.run e.is.hearing role
     ∙ (laws.whole link (delay_of c.script) r.turns r.ends e.last e.mid (over laws c files r.turns r.ends h r.run)
     (laws.one c r.turns e.last e.heard) e.is role).breaks_are
-gives-each-break laws c files (LinkLost role segment turn) left h r = tt
-gives-each-break laws c files (NotDetected turn) left h r = tt
-gives-each-break laws c files (LineLost role symbol) left h r = tt
-gives-each-break laws c files (ChanceMatch role turn) left h r = tt
+gives-each-break laws c files end left h r = tt
 
 pub ends-have-causes : Laws → EndsHaveCauses
 ends-have-causes laws c files end left h r = record {

@@ -12,8 +12,8 @@ use Rattle.link_run.specs.Outcomes.{Outcome, Going, Done, Broken, TurnIs}
 use Rattle.line_run.specs.Sampled.{Wire, IsHeardOf, HeardIn, LineRun}
 use Rattle.line_run.specs.Sampled as lines
 use Rattle.line_run.specs.Scripted.{wire_of, link_of, ScriptsMayPlay, ScriptsHaveDelays}
-use Rattle.line_run.specs.Ends.{RunEnd, IsDone, LinkLost, NotDetected, LineLost, ChanceMatch, Left, EndsInTurn, DoneLeavesWhole}
-use Rattle.line_ends.specs.Completes.{ScriptRunsTo, heard_turns, LineEnds, IsFaint, IsQuiet, DisplacesNoneIsFaint}
+use Rattle.line_run.specs.Ends.{RunEnd, IsDone, LinkLost, NotDetected, LineLost, ChanceMatch, Left, EndsInTurn, DoneLeavesWhole, LineEnds}
+use Rattle.line_ends.specs.Completes.{ScriptRunsTo, heard_turns, IsFaint, IsQuiet, DisplacesNoneIsFaint}
 use Rattle.line_run.specs.Stream.{AllSendable}
 use Rattle.line_ends.specs.Completes.{OctetsAreSendable, FaintGoOn, LosesWhatIsNamed, CompletesWithFewLosses, CompletesWithFewNamed}
 use Rattle.line_ends.specs.Completes.{CompletesQuiet, CompletesUndisturbed, slots_named}
@@ -62,8 +62,7 @@ all-named laws script files (LinkLost role segment turn) left h d r s =
     last-named laws script files r.turns r.ends (Broken role (faults.Spent segment r.ended.0)) turn left h d r.run s r.ended.1
 all-named laws script files (NotDetected turn) left h d r s =
     last-named laws script files r.turns r.ends (Broken Originator faults.NotDetected) turn left h d r.run s r.ended
-all-named laws script files (LineLost role symbol) left h d r s = run-named laws script files r.turns r.ends h d r.run s
-all-named laws script files (ChanceMatch role turn) left h d r s = run-named laws script files r.turns r.ends h d r.run s
+all-named laws script files end left h d r s = run-named laws script files r.turns r.ends h d r.run s
 
 pub loses-what-is-named : HearLaws → LosesWhatIsNamed
 loses-what-is-named laws script files end left h d r s =
@@ -75,9 +74,7 @@ line-ends-not law script files (LineLost role symbol) left h d r s x =
     law script files r.turns r.ends (lines.LineLost role symbol) h d r.run s r.ended.is
 line-ends-not law script files (ChanceMatch role turn) left h d r s x =
     law script files r.turns r.ends (lines.ChanceMatch role) h d r.run s r.ended.1.is
-line-ends-not law script files (IsDone turn) left h d r s x = x
-line-ends-not law script files (LinkLost role segment turn) left h d r s x = x
-line-ends-not law script files (NotDetected turn) left h d r s x = x
+line-ends-not law script files end left h d r s x = x
 
 pub completes-with-few-named : CompletesWithFewLosses → FaintGoOn → LosesWhatIsNamed → OctetsAreSendable → CompletesWithFewNamed
 completes-with-few-named few goes named octets script files end left h d o l r =

@@ -2,9 +2,8 @@
 use Rattle.std.specs.Prelude.{List, ℕ}
 use Rattle.shared_terms.specs.Both.{Both}
 use Rattle.noise_script.specs.Script.{ScriptValue}
-use Rattle.line_run.specs.Ends.{RunEnd, Left, StarvedBy}
-use Rattle.line_ends.specs.Causes.{GivesUp}
-use Rattle.line_ends.specs.Completes.{ScriptRunsTo, heard_turns, LineEnds}
+use Rattle.line_run.specs.Ends.{RunEnd, Left, StarvedBy, GivesUp, LineEnds}
+use Rattle.line_ends.specs.Completes.{ScriptRunsTo, heard_turns}
 
 -- The line doesn't end the run of a script and two files: it isn't lost, and nothing received is a chance match.
 abbrev pub LineStays : ScriptValue → Both (List ℕ) → Type 0

@@ -12,33 +12,20 @@ use Rattle.link_run.specs.Laws.{given_breaks}
 use Rattle.turn_losses.specs.Losses.{LosesEach, PassesNoPattern}
 use Rattle.line_run.specs.Sampled.{Wire, HeardIn, IsHeardWell, LineRun}
 use Rattle.line_run.specs.Scripted.{period_of, link_of}
-use Rattle.line_run.specs.Ends.{RunEnd, IsDone, LinkLost, NotDetected, LineLost, ChanceMatch, Left, EndsBy, RunsTo, turns_heard, StarvedBy}
+use Rattle.line_run.specs.Ends.{RunEnd, IsDone, LinkLost, NotDetected, Left, GivesUp, EndsBy, RunsTo, turns_heard, StarvedBy}
 
 -- how many of the latest periods lose something: as many as there are tries, and one more where no pattern is detected; none of a run that
 -- ends otherwise
 abbrev pub periods_lost : RunEnd → ℕ → ℕ
 periods_lost (LinkLost role segment turn) tries = tries
 periods_lost (NotDetected turn) tries = tries + 1
-periods_lost (IsDone turn) tries = 0
-periods_lost (LineLost role symbol) tries = 0
-periods_lost (ChanceMatch role turn) tries = 0
-
--- An end gives the link up.
-abbrev pub GivesUp : RunEnd → Type 0
-GivesUp (LinkLost role segment turn) = Unit {0}
-GivesUp (NotDetected turn) = Unit {0}
-GivesUp (IsDone turn) = ⊥
-GivesUp (LineLost role symbol) = ⊥
-GivesUp (ChanceMatch role turn) = ⊥
+periods_lost end tries = 0
 
 -- No break waits at the end whose tries are spent.
 abbrev pub WaitsForNoBreak : (c : Wire) (link : Link) (ts : List Turn) (ends : Accounts) (end : RunEnd) (left : Left)
     → EndsBy c link ts ends end left → Type 0
 WaitsForNoBreak c link ts ends (LinkLost role segment turn) left e = break_waits (served_at link (length ts) e.1.mid role).account ≡ false
-WaitsForNoBreak c link ts ends (NotDetected turn) left e = Unit {0}
-WaitsForNoBreak c link ts ends (IsDone turn) left e = Unit {0}
-WaitsForNoBreak c link ts ends (LineLost role symbol) left e = Unit {0}
-WaitsForNoBreak c link ts ends (ChanceMatch role turn) left e = Unit {0}
+WaitsForNoBreak c link ts ends end left e = Unit {0}
 
 -- A run that ends by a lost link or undetected was starved, whatever the end that gives up waits for.
 abbrev pub LostLinksWereStarved : Type 0
@@ -59,20 +46,14 @@ abbrev pub GivesUpOnTime : (c : Wire) (link : Link) (ts : List Turn) (ends : Acc
     → EndsBy c link ts ends end left → Type 0
 GivesUpOnTime c link ts ends (NotDetected turn) left e =
     (turn ≡ (c.script.tries + 1) * period_of c.script) × PassesNoPattern (e.last ∷ ts)
-GivesUpOnTime c link ts ends (LinkLost role segment turn) left e = Unit {0}
-GivesUpOnTime c link ts ends (IsDone turn) left e = Unit {0}
-GivesUpOnTime c link ts ends (LineLost role symbol) left e = Unit {0}
-GivesUpOnTime c link ts ends (ChanceMatch role turn) left e = Unit {0}
+GivesUpOnTime c link ts ends end left e = Unit {0}
 
 -- In a run that is done the breaks that a user was given are those that the other end took of its user, in their order.
 abbrev pub GivesEachBreak : (c : Wire) (link : Link) (ts : List Turn) (ends : Accounts) (end : RunEnd) (left : Left)
     → EndsBy c link ts ends end left → Type 0
 GivesEachBreak c link ts ends (IsDone turn) left e =
     (role : Role) → given_breaks role (e.last ∷ ts) ≡ (of (other role) e.mid).own_breaks.lengths
-GivesEachBreak c link ts ends (LinkLost role segment turn) left e = Unit {0}
-GivesEachBreak c link ts ends (NotDetected turn) left e = Unit {0}
-GivesEachBreak c link ts ends (LineLost role symbol) left e = Unit {0}
-GivesEachBreak c link ts ends (ChanceMatch role turn) left e = Unit {0}
+GivesEachBreak c link ts ends end left e = Unit {0}
 
 -- What the end of a run says of its turns. An end that gave the link up did so for losses that went on; where no break waited there, in each
 -- of its latest periods.

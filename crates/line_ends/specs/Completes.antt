@@ -12,7 +12,7 @@ use Rattle.link_run.specs.Counts.{lost_slots}
 use Rattle.line_run.specs.Sampled.{Wire, LineRun, LineEnd, EndsLine}
 use Rattle.line_run.specs.Scripted.{wire_of, link_of}
 use Rattle.line_run.specs.Stream.{AllSendable}
-use Rattle.line_run.specs.Ends.{RunEnd, IsDone, LinkLost, NotDetected, LineLost, ChanceMatch, Left, RunsTo, turns_heard, StarvedBy}
+use Rattle.line_run.specs.Ends.{RunEnd, IsDone, Left, LineEnds, RunsTo, turns_heard, StarvedBy}
 
 -- a script's run, over two users' files, that ends so
 abbrev pub ScriptRunsTo : ScriptValue → Both (List ℕ) → RunEnd → Left → Type 0
@@ -26,14 +26,6 @@ heard_turns script files end left r = turns_heard (wire_of script) (link_of scri
 -- both files are whole, and the link is released
 abbrev pub EndsDone : RunEnd → Type 0
 EndsDone end = (turn : ℕ) × (end ≡ IsDone turn)
-
--- The line ends the run, and no end of the link does: the line is lost, or what is received of a slot is a chance match.
-abbrev pub LineEnds : RunEnd → Type 0
-LineEnds (LineLost role symbol) = Unit {0}
-LineEnds (ChanceMatch role turn) = Unit {0}
-LineEnds (IsDone turn) = ⊥
-LineEnds (LinkLost role segment turn) = ⊥
-LineEnds (NotDetected turn) = ⊥
 
 -- A run that isn't starved is done, unless the line ends it.
 abbrev pub CompletesUnstarved : Type 0

@@ -1,5 +1,5 @@
 -- How a run over the line of samples ends, and what it then leaves: the octets of both users and the trace.
-use Rattle.std.specs.Prelude.{◌≡◌, ℕ, List, ◌++◌, ◌∷◌, length}
+use Rattle.std.specs.Prelude.{◌≡◌, ℕ, List, ◌++◌, ◌∷◌, length, Option, Some, None}
 use Rattle.std.specs.List.{concat}
 use Rattle.shared_terms.specs.declared.role.Role.{Role}
 use Rattle.shared_terms.specs.declared.role.Role.TheVariants.{Originator}
@@ -29,6 +29,27 @@ pub data RunEnd : Type 0 where
   LineLost : (role : Role) (symbol : ℕ) → RunEnd  -- the role of the end that hears
   ChanceMatch : (role : Role) (turn : ℕ) → RunEnd  -- likewise
 
+-- An end gives the link up.
+abbrev pub GivesUp : RunEnd → Type 0
+GivesUp (LinkLost role segment turn) = Unit {0}
+GivesUp (NotDetected turn) = Unit {0}
+GivesUp end = ⊥
+
+-- The line ends the run, and no end of the link does: the line is lost, or what is received of a slot is a chance match.
+abbrev pub LineEnds : RunEnd → Type 0
+LineEnds (LineLost role symbol) = Unit {0}
+LineEnds (ChanceMatch role turn) = Unit {0}
+LineEnds end = ⊥
+
+-- What holds of a run by its end: this of the outcome of its last turn and of that turn's number, where one is made, else this of a lost line,
+-- or this of a chance match. A link is lost where an end's tries are spent, at its front's segment.
+abbrev pub ByEnd : (Outcome → ℕ → Type 0) → (Role → ℕ → Type 0) → (Role → ℕ → Type 0) → RunEnd → Type 0
+ByEnd InTurn Lost Chance (IsDone turn) = InTurn Done turn
+ByEnd InTurn Lost Chance (LinkLost role segment turn) = (since : ℕ) × InTurn (Broken role (faults.Spent segment since)) turn
+ByEnd InTurn Lost Chance (NotDetected turn) = InTurn (Broken Originator faults.NotDetected) turn
+ByEnd InTurn Lost Chance (LineLost role symbol) = Lost role symbol
+ByEnd InTurn Lost Chance (ChanceMatch role turn) = Chance role turn
+
 -- What a run leaves.
 pub record Left : Type 0 where
   pub got : Both (List ℕ)  -- the octets that each end's user was given
@@ -53,15 +74,13 @@ pub record EndsOnLine (c : Wire) (ts : List Turn) (ends : Accounts) (end : LineE
   pub is : EndsLine c ts ends end
   pub leaves : Leaves ends text left
 
--- The ends by their causes. A link is lost where an end's tries are spent, at its front's segment.
+-- the ends by their causes
 abbrev pub EndsBy : Wire → Link → List Turn → Accounts → RunEnd → Left → Type 0
-EndsBy c link ts ends (IsDone turn) left = EndsInTurn c link ts ends Done turn left
-EndsBy c link ts ends (LinkLost role segment turn) left =
-    (since : ℕ) × EndsInTurn c link ts ends (Broken role (faults.Spent segment since)) turn left
-EndsBy c link ts ends (NotDetected turn) left = EndsInTurn c link ts ends (Broken Originator faults.NotDetected) turn left
-EndsBy c link ts ends (LineLost role symbol) left = EndsOnLine c ts ends (lines.LineLost role symbol) (trace_text ts) left
-EndsBy c link ts ends (ChanceMatch role turn) left =
-    (turn ≡ length ts) × EndsOnLine c ts ends (lines.ChanceMatch role) (trace_text ts ++ chance_line (length ts) role) left
+EndsBy c link ts ends end left =
+    ByEnd (λ outcome turn. EndsInTurn c link ts ends outcome turn left)
+    (λ role symbol. EndsOnLine c ts ends (lines.LineLost role symbol) (trace_text ts) left)
+    (λ role turn. (turn ≡ length ts) × EndsOnLine c ts ends (lines.ChanceMatch role) (trace_text ts ++ chance_line (length ts) role) left)
+    end
 
 -- A run goes on for some turns, and ends.
 pub record RunsTo (c : Wire) (link : Link) (end : RunEnd) (left : Left) : Type 0 where
@@ -85,14 +104,27 @@ abbrev pub DoneLeavesWhole : Type 0
 DoneLeavesWhole = (c : Wire) (link : Link) (turn : ℕ) (left : Left) → MayRun c link → RunsTo c link (IsDone turn) left
     → (role : Role) → of role left.got ≡ (of (other role) link).user.file
 
+-- A last turn that was made, and both ends once they have heard in it.
+pub record LastTurn : Type 0 where
+  pub turn : Turn
+  pub mid : Accounts
+
+-- the last turn of a run, where one was made
+abbrev pub last_turn : (c : Wire) (link : Link) (ts : List Turn) (ends : Accounts) (end : RunEnd) (left : Left)
+    → EndsBy c link ts ends end left → Option LastTurn
+last_turn c link ts ends (IsDone turn) left e = Some (record { turn = e.last; mid = e.mid })
+last_turn c link ts ends (LinkLost role segment turn) left e = Some (record { turn = e.1.last; mid = e.1.mid })
+last_turn c link ts ends (NotDetected turn) left e = Some (record { turn = e.last; mid = e.mid })
+last_turn c link ts ends end left e = None
+
+abbrev pub and_last : List Turn → Option LastTurn → List Turn
+and_last ts None = ts
+and_last ts (Some last) = last.turn ∷ ts
+
 -- the turns in which something was heard: the last one too, where one was made
 abbrev pub turns_heard : (c : Wire) (link : Link) (ts : List Turn) (ends : Accounts) (end : RunEnd) (left : Left)
     → EndsBy c link ts ends end left → List Turn
-turns_heard c link ts ends (IsDone turn) left e = e.last ∷ ts
-turns_heard c link ts ends (LinkLost role segment turn) left e = e.1.last ∷ ts
-turns_heard c link ts ends (NotDetected turn) left e = e.last ∷ ts
-turns_heard c link ts ends (LineLost role symbol) left e = ts
-turns_heard c link ts ends (ChanceMatch role turn) left e = ts
+turns_heard c link ts ends end left e = and_last ts (last_turn c link ts ends end left e)
 
 -- What was given is what passed, by the numbers that were meant.
 abbrev pub RunsLeaveWhatPassed : Type 0

@@ -131,3 +131,11 @@ EndsLineBy c ts checks (ChanceMatch Answerer) =
 -- so it ends the run with these ends
 abbrev pub EndsLine : Wire → List Turn → Accounts → LineEnd → Type 0
 EndsLine c ts ends end = EndsLineBy c ts (λ role. check_of (of role ends)) end
+
+-- that role can't follow what it receives in that turn from this symbol on
+abbrev pub LineIsLost : Wire → List Turn → Accounts → Role → ℕ → Type 0
+LineIsLost c ts ends role symbol = EndsLine c ts ends (LineLost role symbol)
+
+-- what it receives of a slot of that turn is a chance match
+abbrev pub IsChanceMatch : Wire → List Turn → Accounts → Role → Type 0
+IsChanceMatch c ts ends role = EndsLine c ts ends (ChanceMatch role)

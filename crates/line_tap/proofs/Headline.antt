@@ -1,25 +1,21 @@
 -- From every answer to the headline, and to the answer that right inputs have.
-use Rattle.std.proofs.Common.{◌≡◌, ◌⊎◌, inl, inr, ℕ, Bool, true, false, List, [], ◌∷◌, ◌++◌, Result, Ok, Err, refl, sym, ◌∙◌, ap, subst}
+use Rattle.std.proofs.Common.{◌≡◌, ◌⊎◌, inl, inr, ℕ, Bool, true, List, [], ◌∷◌, ◌++◌, is_some, refl, ◌∙◌, ap, subst}
 use Rattle.std.specs.Option.{option_map}
-use Rattle.std.proofs.lemmas.Bool.{false≢true}
 use Rattle.scramblers.specs.declared.mode.Mode.{Mode}
 use Rattle.scramblers.specs.declared.mode.Mode.TheVariants.{Call, Answer}
 use Rattle.outside_calls.specs.Folder.{FolderState}
-use Rattle.outside_calls.specs.declared.folder.FolderFault.{FolderFault}
-use Rattle.outside_calls.specs.declared.folder.FolderFault.TheVariants as folder
 use Rattle.outside_calls.specs.Outputs.{KeepsAll, KeepsEach, OnlyOutputs}
 use Rattle.outside_calls.proofs.Putting.{HoldEach-kept}
+use Rattle.line_tap.specs.Answers.{stop_by}
 use Rattle.line_tap.specs.Ends.{TapEnd, TapOf}
 use Rattle.line_tap.specs.Ends as ends
 use Rattle.command_base.specs.declared.status.Status.{Status}
-use Rattle.command_base.specs.declared.status.Status.TheVariants.{Done, ReadFault, WriteFault, LineLost, ChanceMatch, BadTap}
-use Rattle.command_base.specs.declared.stop.Stop.{Stop}
+use Rattle.command_base.specs.declared.status.Status.TheVariants.{Done, LineLost, ChanceMatch, BadTap}
 use Rattle.command_base.specs.declared.stop.Stop.TheVariants as stops
-use Rattle.command_base.specs.Stops.{fault_status, end_status}
 use Rattle.command_base.specs.Job.{Answers}
 use Rattle.command_base.specs.Lines.{turns_line}
-use Rattle.command_base.proofs.Answering.{IsPlain}
-use Rattle.command_base.proofs.Jobs.{last-only, last-plain, done-of, shared-of}
+use Rattle.command_base.proofs.Jobs.{last-only, done-of, shared-of}
+use Rattle.run_inputs.proofs.Answering.{stopped-so}
 use Rattle.run_inputs.specs.Inputs.{RefusesOwn}
 use Rattle.line_tap.specs.Names.{TapNames, outputs_of, recordings_of}
 use Rattle.line_tap.specs.Turn.{held_of}
@@ -48,31 +44,14 @@ told-of old before new n end last e = record {
 
 -- answers by which a tap itself ends
 abbrev is_tap_end : Status → Bool
-is_tap_end (LineLost role symbol) = true
-is_tap_end (ChanceMatch role turn) = true
-is_tap_end (BadTap role turn) = true
-is_tap_end answer = false
-
-plain-end : (s : Status) → is_tap_end s ≡ true → IsPlain s
-plain-end s e = record { write = λ f. false≢true (ap is_tap_end (sym f) ∙ e); memory = λ f. false≢true (ap is_tap_end (sym f) ∙ e) }
-
-no-fault : (failed : Status) (fault : FolderFault) → is_tap_end failed ≡ false → is_tap_end (fault_status failed fault) ≡ true → ⊥
-no-fault failed folder.Failed f e = false≢true (sym f ∙ e)
-no-fault failed folder.NoMemory f e = false≢true e
-
-own-end : (end : Result ℕ Stop) (s : Status) → is_tap_end s ≡ true → end_status end ≡ s → end ≡ Err (stops.Own s)
-own-end (Ok turns) s e f = absurd (false≢true (ap is_tap_end f ∙ e))
-own-end (Err (stops.Own answer)) s e f = ap (λ x. Err (stops.Own x)) f
-own-end (Err (stops.Read fault)) s e f = absurd (no-fault ReadFault fault refl (ap is_tap_end f ∙ e))
-own-end (Err (stops.Write fault)) s e f = absurd (no-fault WriteFault fault refl (ap is_tap_end f ∙ e))
-own-end (Err (stops.Say fault)) s e f = absurd (no-fault WriteFault fault refl (ap is_tap_end f ∙ e))
-own-end (Err stops.NoMemory) s e f = absurd (false≢true (ap is_tap_end f ∙ e))
+is_tap_end answer = is_some (stop_by answer)
 
 -- the answer is that of the reading's end
 own-ends : (words : List (List ℕ)) (old new : FolderState) (n : TapNames) (s t : Status) (a : Answers (tap_job n) words old new s)
     → is_tap_end t ≡ true → s ≡ t → EndsBy LIMITS old a.before n (stops.Own t)
 own-ends words old new n s t a e f =
-    let is = own-end a.end t e (last-plain turns_line words a.before new a.end s t a.says f (plain-end t e)) in
+    let is = stopped-so is_tap_end (record { done = refl; read = refl; write = refl; memory = refl }) turns_line words a.before new a.end
+    s t a.says f e in
     subst (Ends LIMITS old a.before n) is a.ends.0
 
 -- inputs aren't refused by these answers

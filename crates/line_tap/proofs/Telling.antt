@@ -48,10 +48,10 @@ use Rattle.line_run.specs.Scripted.{wire_of, link_of, ScriptsMayPlay, ScriptsHav
 use Rattle.line_run.specs.Ends.{RunEnd, Left, RunsTo}
 use Rattle.line_run.specs.Ends as runs
 use Rattle.line_tap.specs.Tapping.{tapping, phase_behind, next_bits, octets_of, HoldsNext, Hears, Tells}
-use Rattle.line_tap.specs.Ends.{EndsWhole, EndsLine, EndsOnLine, EndsBy}
+use Rattle.line_tap.specs.Ends.{EndsWhole, EndsLine, EndsOnLine, EndsBy, told_end}
 use Rattle.line_run.specs.Recorded.{IsRecorded}
 use Rattle.line_run.proofs.Bits.{signals-more, bits-more}
-use Rattle.line_tap.specs.Laws.{AreCoded, told_end, RecordingsTellRuns}
+use Rattle.line_tap.specs.Laws.{AreCoded, RecordingsTellRuns}
 use Rattle.line_tap.proofs.Plain.{plain_slot, plain, plains, plain-heard, plain-check, plain-given, plain-sent, plain-judged}
 use Rattle.line_tap.proofs.Plain.{plain-received, plain-given_to, plain-text, AllChecked, plain-signal, plain-signals}
 use Rattle.line_tap.proofs.Plain.{heard_of-plain, well-plain, heard_in-plain, loses-plain}

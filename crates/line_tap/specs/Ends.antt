@@ -11,7 +11,8 @@ use Rattle.link_run.specs.Trace.{trace_text}
 use Rattle.link_run.specs.Listened.{check_by, judged_by, received}
 use Rattle.line_run.specs.Sampled.{IsHeardOf, IsHeardWell, LosesLine, LineEnd}
 use Rattle.line_run.specs.Sampled as lines
-use Rattle.line_run.specs.Ends.{Left}
+use Rattle.line_run.specs.Ends.{RunEnd, Left}
+use Rattle.line_run.specs.Ends as runs
 use Rattle.line_tap.specs.Tapping.{Tapping, line_of, terms_of, octets_of, HoldsNext, Hears, Tells}
 
 -- How the reading ends.
@@ -20,6 +21,14 @@ pub data TapEnd : Type 0 where
   LineLost : (role : Role) (symbol : ℕ) → TapEnd  -- the role of the end that hears
   ChanceMatch : (role : Role) (turn : ℕ) → TapEnd  -- likewise
   BadTap : (role : Role) (turn : ℕ) → TapEnd  -- the role that sent the slot
+
+-- the end of the reading of what was recorded of a run that ended so: a turn more than the last one's number, where one was made
+abbrev pub told_end : RunEnd → TapEnd
+told_end (runs.LineLost role symbol) = LineLost role symbol
+told_end (runs.ChanceMatch role turn) = ChanceMatch role turn
+told_end (runs.IsDone turn) = IsDone (turn + 1)
+told_end (runs.LinkLost role segment turn) = IsDone (turn + 1)
+told_end (runs.NotDetected turn) = IsDone (turn + 1)
 
 -- What is left of turns in which something was heard, with this text: what the receivers took of the I frames that passed.
 pub record Leaves (x : Tapping) (ts : List Turn) (text : List ℕ) (left : Left) : Type 0 where
@@ -62,7 +71,11 @@ pub record EndsBadly (x : Tapping) (ts : List Turn) (role : Role) (turn : ℕ) (
 abbrev pub EndsLine : Tapping → List Turn → LineEnd → Type 0
 EndsLine x ts end = lines.EndsLineBy (line_of x) ts (λ role. judged_by (terms_of x) role ts) end
 
--- it does so, and this is left
+-- what that role receives of a slot of that turn is a chance match
+abbrev pub IsChanceMatch : Tapping → List Turn → Role → Type 0
+IsChanceMatch x ts role = EndsLine x ts (lines.ChanceMatch role)
+
+-- the line ends the reading so, and this is left
 pub record EndsOnLine (x : Tapping) (ts : List Turn) (end : LineEnd) (text : List ℕ) (left : Left) : Type 0 where
   pub is : EndsLine x ts end
   pub leaves : Leaves x ts text left

@@ -1,5 +1,6 @@
 -- What a tap promises, over the folder before and after it. What is said of a name's octets holds where the folder tells that name.
 use Rattle.std.specs.Prelude.{ℕ, IsTrue, List}
+use Rattle.std.specs.Option.{MatchOption}
 use Rattle.shared_terms.specs.Both.{Both}
 use Rattle.outside_calls.specs.Folder.{FolderState, octets_at, Said}
 use Rattle.outside_calls.specs.Outputs.{HoldEach}
@@ -10,9 +11,10 @@ use Rattle.line_tap.specs.Tapping.{tapping}
 use Rattle.line_tap.specs.Ends.{TapEnd, TapOf}
 use Rattle.line_tap.specs.Ends as ends
 use Rattle.command_base.specs.declared.status.Status.{Status}
-use Rattle.command_base.specs.declared.status.Status.TheVariants.{Done, LineLost, ChanceMatch, BadTap}
+use Rattle.command_base.specs.declared.status.Status.TheVariants.{Done}
 use Rattle.command_base.specs.Job.{Shared}
 use Rattle.command_base.specs.Lines.{turns_line}
+use Rattle.line_tap.specs.Answers.{stop_by}
 use Rattle.line_tap.specs.Names.{TapNames, inputs_of, outputs_of}
 use Rattle.line_tap.specs.Turn.{held_of}
 use Rattle.line_tap.specs.Turns.{KnowsBodies}
@@ -35,10 +37,7 @@ pub record Told (old new : FolderState) (n : TapNames) (end : TapEnd) : Type 0 w
 -- where the answer is one by which a tap itself ends; done says how many turns there were
 abbrev pub ToldBy : FolderState → FolderState → TapNames → Status → Type 0
 ToldBy old new n Done = (turns : ℕ) × Said old new (turns_line turns) × Told old new n (ends.IsDone turns)
-ToldBy old new n (LineLost role symbol) = Told old new n (ends.LineLost role symbol)
-ToldBy old new n (ChanceMatch role turn) = Told old new n (ends.ChanceMatch role turn)
-ToldBy old new n (BadTap role turn) = Told old new n (ends.BadTap role turn)
-ToldBy old new n status = Unit {0}
+ToldBy old new n status = MatchOption (stop_by status) (Unit {0}) (Told old new n)
 
 -- What is written is what the script and the recordings tell, and the answer is how that ends.
 pub record Headline (old new : FolderState) (n : TapNames) (s : Status) : Type 0 where

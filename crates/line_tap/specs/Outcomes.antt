@@ -1,6 +1,7 @@
 -- How a tap ends, before its line is said: by its answer, which tap it was, and what the outputs then hold. What is said of a name's octets
 -- holds where the folder tells that name.
 use Rattle.std.specs.Prelude.{◌⊎◌, ℕ, [], ◌∷◌, Result, Ok, Err}
+use Rattle.std.specs.Option.{MatchOption}
 use Rattle.scramblers.specs.declared.mode.Mode.TheVariants.{Call, Answer}
 use Rattle.outside_calls.specs.Folder.{FolderState, OnlyReads, CountsStand}
 use Rattle.outside_calls.specs.declared.folder.FolderFault.{FolderFault}
@@ -9,7 +10,7 @@ use Rattle.noise_script.specs.Script.{ScriptValue, IsInLimits}
 use Rattle.line_tap.specs.Ends.{TapEnd}
 use Rattle.line_tap.specs.Ends as ends
 use Rattle.command_base.specs.declared.status.Status.{Status}
-use Rattle.command_base.specs.declared.status.Status.TheVariants.{LineLost, ChanceMatch, BadTap}
+use Rattle.line_tap.specs.Answers.{stop_by}
 use Rattle.command_base.specs.declared.stop.Stop.{Stop}
 use Rattle.command_base.specs.declared.stop.Stop.TheVariants.{Own, Read, Write, Say, NoMemory}
 use Rattle.command_base.specs.Inputs.{IsWithin}
@@ -81,10 +82,7 @@ pub record StopsCreating (l : Limits) (old new : FolderState) (n : TapNames) : T
 
 -- the answers by which a tap itself ends, each by its cause
 abbrev pub TappedBy : Limits → FolderState → FolderState → TapNames → Status → Type 0
-TappedBy l old new n (LineLost role symbol) = Tapped l old new n (ends.LineLost role symbol)
-TappedBy l old new n (ChanceMatch role turn) = Tapped l old new n (ends.ChanceMatch role turn)
-TappedBy l old new n (BadTap role turn) = Tapped l old new n (ends.BadTap role turn)
-TappedBy l old new n answer = ⊥
+TappedBy l old new n answer = MatchOption (stop_by answer) ⊥ (Tapped l old new n)
 
 -- why a tap stops: for its inputs, before any output is created, for what they tell, or for the folder
 abbrev pub EndsBy : Limits → FolderState → FolderState → TapNames → Stop → Type 0

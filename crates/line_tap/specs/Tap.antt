@@ -1,5 +1,6 @@
 -- For which turns a tap stands, and what a turn of it answers.
 use Rattle.std.specs.Prelude.{◌≡◌, ◌≢◌, ◌⊎◌, ℕ, ◌+◌, ◌*◌, ◌<◌, ◌≤◌, IsTrue, List, [], ◌∷◌, ◌++◌, length, take, Option, Some, None, Result, Ok, Err}
+use Rattle.std.specs.Option.{MatchOption}
 use Rattle.outside_calls.specs.Folder.{FolderState, octets_at}
 use Rattle.outside_calls.specs.Outputs.{AddEach, AddPart}
 use Rattle.frame_check.specs.declared.check.Check.{Check}
@@ -23,12 +24,12 @@ use Rattle.line_run.specs.Sampled.{Wire, signals, IsHeardOf}
 use Rattle.line_run.specs.Ends.{Left}
 use Rattle.line_run.specs.Stream.{both_sent_by}
 use Rattle.line_world.specs.declared.directions.LineEnd.{LineEnd}
-use Rattle.line_world.specs.Lines.{AreWaiting, HaveRoom, end_of}
+use Rattle.line_world.specs.Lines.{AreWaiting, HaveRoom}
 use Rattle.line_tap.specs.declared.reader.SlotReader.{SlotReader}
 use Rattle.line_tap.specs.Tapping.{Tapping, tapping, line_of, terms_of, octets_of, HoldsNext, Tells, told}
 use Rattle.line_tap.specs.Ends.{TapEnd, EndsBy, EndsLine, HoldsNone, IsFirstRefused}
 use Rattle.line_tap.specs.Ends as ends
-use Rattle.command_base.specs.declared.status.Status.TheVariants.{LineLost, ChanceMatch, BadTap}
+use Rattle.command_base.specs.declared.status.Status.TheVariants.{BadTap}
 use Rattle.command_base.specs.declared.stop.Stop.{Stop}
 use Rattle.command_base.specs.declared.stop.Stop.TheVariants.{Own, Read, Write, Say, NoMemory}
 use Rattle.command_base.specs.Inputs.{ReadTo}
@@ -39,8 +40,10 @@ use Rattle.line_tap.specs.declared.tapping.Tap.{Tap}
 use Rattle.line_tap.specs.declared.tapping.Hearing.{Hearing}
 use Rattle.line_tap.specs.End.{ReadsOn, Slot, slot_as}
 use Rattle.line_tap.specs.Listener.{IsIdle, ListensFor, ListensToo}
+use Rattle.line_tap.specs.Answers.{stop_by}
 use Rattle.line_tap.specs.Names.{TapNames, recording_of, outputs_of}
 use Rattle.line_tap.specs.Turn.{held_of, left_of, added, AddsGot, AddsTurn, AddsChance}
+use Rattle.line_world.specs.Faults.{end_of}
 
 -- ---- what was read of the recordings
 
@@ -194,10 +197,8 @@ pub record StopsReadingIn (start old now : FolderState) (n : TapNames) (x : Tapp
 
 -- why the reading stops in this turn
 abbrev pub TurnStops : FolderState → FolderState → FolderState → TapNames → Tapping → List Turn → Stop → Type 0
-TurnStops start old now n x ts (Own (LineLost role symbol)) = EndsInTurn start old now n x ts (ends.LineLost role symbol)
-TurnStops start old now n x ts (Own (ChanceMatch role turn)) = EndsInTurn start old now n x ts (ends.ChanceMatch role turn)
 TurnStops start old now n x ts (Own (BadTap role turn)) = EndsReading start old now n x ts (ends.BadTap role turn)
-TurnStops start old now n x ts (Own answer) = ⊥
+TurnStops start old now n x ts (Own answer) = MatchOption (stop_by answer) ⊥ (EndsInTurn start old now n x ts)
 TurnStops start old now n x ts (Read fault) = StopsReadingIn start old now n x ts
 TurnStops start old now n x ts (Write fault) = StopsInTurn start old now n x ts
 TurnStops start old now n x ts (Say fault) = ⊥

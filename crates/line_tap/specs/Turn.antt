@@ -10,10 +10,9 @@ use Rattle.line_texts.specs.LineText.{chance_line}
 use Rattle.link_run.specs.Run.{Turn, IsSilent}
 use Rattle.link_run.specs.Trace.{trace_text, turn_text}
 use Rattle.link_run.specs.Listened.{received}
-use Rattle.line_run.specs.Sampled as lines
 use Rattle.line_run.specs.Ends.{Left}
 use Rattle.line_tap.specs.Tapping.{Tapping, line_of, terms_of, octets_of, Hears, GoesOn, Tells}
-use Rattle.line_tap.specs.Ends.{EndsLine}
+use Rattle.line_tap.specs.Ends.{IsChanceMatch}
 use Rattle.line_tap.specs.Names.{TapNames, outputs_of}
 
 -- what is left of each output
@@ -66,7 +65,7 @@ nothing_got = record { orig = []; answ = [] }
 -- or the line of a chance match alone.
 pub record AddsChance (x : Tapping) (ts : List Turn) (more : Left) : Type 0 where
   pub role : Role
-  pub ends : EndsLine x ts (lines.ChanceMatch role)
+  pub ends : IsChanceMatch x ts role
   pub is : more ≡ record { got = nothing_got; trace = chance_line (length ts) role }
 
 -- what the turn after these adds, as far as it was made

@@ -1,5 +1,6 @@
 -- What the turns of a tap come to that are made over a folder.
 use Rattle.std.specs.Prelude.{◌≡◌, ℕ, IsTrue, List, [], ◌++◌, Result, Ok, Err}
+use Rattle.std.specs.Option.{MatchOption}
 use Rattle.outside_calls.specs.Folder.{FolderState, octets_at}
 use Rattle.outside_calls.specs.Outputs.{HoldEach}
 use Rattle.shared_terms.specs.declared.role.Role.{Role}
@@ -11,7 +12,7 @@ use Rattle.line_run.specs.Ends.{Left}
 use Rattle.line_tap.specs.Tapping.{tapping}
 use Rattle.line_tap.specs.Ends.{TapEnd, TapOf}
 use Rattle.line_tap.specs.Ends as ends
-use Rattle.command_base.specs.declared.status.Status.TheVariants.{LineLost, ChanceMatch, BadTap}
+use Rattle.line_tap.specs.Answers.{stop_by}
 use Rattle.command_base.specs.declared.stop.Stop.{Stop}
 use Rattle.command_base.specs.declared.stop.Stop.TheVariants.{Own, Read, Write, Say, NoMemory}
 use Rattle.line_tap.specs.Names.{TapNames, recording_of, outputs_of}
@@ -42,10 +43,7 @@ TapStopsReading script start now n = (s : TapStops script start now n) × StopsR
 
 -- why turns stop
 abbrev pub StopsBy : ScriptValue → FolderState → FolderState → TapNames → Stop → Type 0
-StopsBy script start now n (Own (LineLost role symbol)) = TapEnds script start now n (ends.LineLost role symbol)
-StopsBy script start now n (Own (ChanceMatch role turn)) = TapEnds script start now n (ends.ChanceMatch role turn)
-StopsBy script start now n (Own (BadTap role turn)) = TapEnds script start now n (ends.BadTap role turn)
-StopsBy script start now n (Own answer) = ⊥
+StopsBy script start now n (Own answer) = MatchOption (stop_by answer) ⊥ (TapEnds script start now n)
 StopsBy script start now n (Read fault) = TapStopsReading script start now n
 StopsBy script start now n (Write fault) = TapStops script start now n
 StopsBy script start now n (Say fault) = ⊥

@@ -36,21 +36,13 @@ pub counts-later : (a b c : FolderState) (n : Written) (fault : RunFault) → Co
 counts-later a b c n run_faults.ReadFault s h = SomeRose-earlier a.read_faults b.read_faults c.read_faults (inputs_of n) s.faults.reads h
 counts-later a b c n run_faults.WriteFault s h = SomeRose-earlier a.write_faults b.write_faults c.write_faults (outputs_of n) s.faults.writes h
 counts-later a b c n run_faults.NoMemory s h = (FaultsStand-trans s.faults h.0, subst (λ x. Rose x c.refusals) s.refusals h.1)
-counts-later a b c n (run_faults.LineLost role symbol) s h = CountsStand-trans s h
-counts-later a b c n (run_faults.ChanceMatch role turn) s h = CountsStand-trans s h
-counts-later a b c n (run_faults.NotDetected turn) s h = CountsStand-trans s h
-counts-later a b c n (run_faults.LinkLost role segment turn) s h = CountsStand-trans s h
+counts-later a b c n fault s h = CountsStand-trans s h
 
 -- the outputs are some of all that is written
 pub counts-front : (a b : FolderState) (inputs outputs others : List (List ℕ)) (fault : RunFault) → FaultCountsOver a b inputs outputs fault
     → FaultCountsOver a b inputs (outputs ++ others) fault
-counts-front a b inputs outputs others run_faults.ReadFault h = h
 counts-front a b inputs outputs others run_faults.WriteFault h = rose-front a.write_faults b.write_faults outputs others h
-counts-front a b inputs outputs others run_faults.NoMemory h = h
-counts-front a b inputs outputs others (run_faults.LineLost role symbol) h = h
-counts-front a b inputs outputs others (run_faults.ChanceMatch role turn) h = h
-counts-front a b inputs outputs others (run_faults.NotDetected turn) h = h
-counts-front a b inputs outputs others (run_faults.LinkLost role segment turn) h = h
+counts-front a b inputs outputs others fault h = h
 
 -- and so are those behind them
 pub counts-behind : (a b c : FolderState) (inputs outputs others : List (List ℕ)) (fault : RunFault) → IsWriting fault → CountsStand a b
@@ -58,11 +50,7 @@ pub counts-behind : (a b c : FolderState) (inputs outputs others : List (List �
 counts-behind a b c inputs outputs others run_faults.WriteFault w s h =
     rose-behind a.write_faults c.write_faults outputs others (SomeRose-earlier a.write_faults b.write_faults c.write_faults others s.faults.writes h)
 counts-behind a b c inputs outputs others run_faults.NoMemory w s h = (FaultsStand-trans s.faults h.0, subst (λ x. Rose x c.refusals) s.refusals h.1)
-counts-behind a b c inputs outputs others run_faults.ReadFault w s h = absurd w
-counts-behind a b c inputs outputs others (run_faults.LineLost role symbol) w s h = absurd w
-counts-behind a b c inputs outputs others (run_faults.ChanceMatch role turn) w s h = absurd w
-counts-behind a b c inputs outputs others (run_faults.NotDetected turn) w s h = absurd w
-counts-behind a b c inputs outputs others (run_faults.LinkLost role segment turn) w s h = absurd w
+counts-behind a b c inputs outputs others fault w s h = absurd w
 
 -- ---- which files are known
 

@@ -22,13 +22,14 @@ use Rattle.turn_bound.specs.Limits.{file_limit}
 use Rattle.line_world.specs.declared.lines.Lines.{Lines}
 use Rattle.line_world.specs.Link.{LinkStands, AreIdle, AreCounted, HearsBoth, HearsWell}
 use Rattle.line_run.specs.Stream.{Carried}
-use Rattle.line_world.specs.Lines.{ArrivesBoth, HaveArrived, end_of}
+use Rattle.line_world.specs.Lines.{ArrivesBoth, HaveArrived}
 use Rattle.line_world.specs.declared.directions.LineEnd.{LineEnd}
 use Rattle.line_world.specs.declared.modems.Modems.{Modems}
 use Rattle.line_world.specs.declared.tally.Tally.{Tally}
 use Rattle.line_world.specs.Modems.{AreKept, AreReady, ModemsAfter}
 use Rattle.line_world.specs.Tally.{Tallies}
 use Rattle.line_world.specs.Mid.{Overhears, TalliesHeard, HasHeard, turn_in}
+use Rattle.line_world.specs.Faults.{end_of}
 
 pub few-turns : NoLineRunIsLong → (m : Modems) (script : ScriptValue) (l : Lines) → AreReady m script l → m.turn < 2 ^ 39
 few-turns law m script l h = subst (λ n. n < 2 ^ 39) (sym h.after.turn)

@@ -20,7 +20,9 @@ use Rattle.line_run.specs.Names.{Written, inputs_of, outputs_of}
 use Rattle.outside_calls.specs.Outputs.{SomeCause}
 use Rattle.line_world.specs.declared.step.RunFault.{RunFault}
 use Rattle.line_world.specs.declared.step.RunFault.TheVariants.{ReadFault, WriteFault}
-use Rattle.line_world.specs.Turn.{IsReading, IsWriting, FaultCounts, fault_of}
+use Rattle.line_world.specs.declared.step.RunFault.TheVariants as faults
+use Rattle.line_world.specs.Faults.{fault_of}
+use Rattle.line_world.specs.Turn.{IsReading, IsWriting, FaultCounts}
 use Rattle.line_world.specs.Mid.{Overhears, ReadsBoth, handed, served, turn_in}
 
 -- handing segments over hands no break over
@@ -96,11 +98,11 @@ served-is script files turn mid = ap (λ r. record {
 
 -- ---- a file that is not read
 
-pub reading-fault : (x : RunFault) (fault : FolderFault) → x ≡ fault_of ReadFault fault → IsReading x
+pub reading-fault : (x : RunFault) (fault : FolderFault) → x ≡ fault_of ReadFault faults.NoMemory fault → IsReading x
 reading-fault x Failed e = subst IsReading (sym e) tt
 reading-fault x NoMemory e = subst IsReading (sym e) tt
 
-pub reading-counts : (old new : FolderState) (n : Written) (x : RunFault) (fault : FolderFault) → x ≡ fault_of ReadFault fault
+pub reading-counts : (old new : FolderState) (n : Written) (x : RunFault) (fault : FolderFault) → x ≡ fault_of ReadFault faults.NoMemory fault
     → SomeCause {T = Unit {0}} old.read_faults new.read_faults (inputs_of n) old.refusals new.refusals (Err fault) → (IsErrOf {T = Unit {0}} {E = FolderFault} (Err fault) NoMemory → FaultsStand old new)
     → FaultCounts old new n x
 reading-counts old new n x Failed e cause spared = subst (FaultCounts old new n) (sym e) (cause.failed refl)
@@ -108,11 +110,11 @@ reading-counts old new n x NoMemory e cause spared = subst (FaultCounts old new 
 
 -- ---- an output that isn't written
 
-pub writing-fault : (x : RunFault) (fault : FolderFault) → x ≡ fault_of WriteFault fault → IsWriting x
+pub writing-fault : (x : RunFault) (fault : FolderFault) → x ≡ fault_of WriteFault faults.NoMemory fault → IsWriting x
 writing-fault x Failed e = subst IsWriting (sym e) tt
 writing-fault x NoMemory e = subst IsWriting (sym e) tt
 
-pub writing-counts : (old new : FolderState) (n : Written) (x : RunFault) (fault : FolderFault) → x ≡ fault_of WriteFault fault
+pub writing-counts : (old new : FolderState) (n : Written) (x : RunFault) (fault : FolderFault) → x ≡ fault_of WriteFault faults.NoMemory fault
     → SomeCause {T = Unit {0}} old.write_faults new.write_faults (outputs_of n) old.refusals new.refusals (Err fault)
     → (IsErrOf {T = Unit {0}} {E = FolderFault} (Err fault) NoMemory → FaultsStand old new)
     → FaultCounts old new n x
@@ -120,7 +122,7 @@ writing-counts old new n x Failed e cause spared = subst (FaultCounts old new n)
 writing-counts old new n x NoMemory e cause spared = subst (FaultCounts old new n) (sym e) (spared refl, cause.memory refl)
 
 -- it is the trace
-pub trace-counts : (old new : FolderState) (n : Written) (x : RunFault) (fault : FolderFault) → x ≡ fault_of WriteFault fault
+pub trace-counts : (old new : FolderState) (n : Written) (x : RunFault) (fault : FolderFault) → x ≡ fault_of WriteFault faults.NoMemory fault
     → HasCause {T = Unit {0}} (old.write_faults n.trace) (new.write_faults n.trace) old.refusals new.refusals (Err fault)
     → (IsErrOf {T = Unit {0}} {E = FolderFault} (Err fault) NoMemory → FaultsStand old new)
     → FaultCounts old new n x

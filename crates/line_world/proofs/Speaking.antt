@@ -40,9 +40,10 @@ use Rattle.line_world.specs.declared.step.RunFault.{RunFault}
 use Rattle.line_world.specs.declared.step.RunFault.TheVariants as run_faults
 use Rattle.line_world.specs.Tally.{Tallies}
 use Rattle.line_world.specs.Turn.{IsWriting, FaultCounts}
-use Rattle.line_world.specs.Mid.{HearsThese, Overhears, TalliesHeard, HasGone, AddsPart, SpeaksLast, fault_named, served, side_of, turn_in}
+use Rattle.line_world.specs.Mid.{HearsThese, Overhears, TalliesHeard, HasGone, AddsPart, SpeaksLast, served, side_of, turn_in}
 use Rattle.line_world.proofs.Hearing.{heard-in, none-sent, runs-over}
 use Rattle.line_world.proofs.Serving.{hears-in, served-is}
+use Rattle.line_world.specs.Faults.{fault_named}
 
 -- ---- what is made of what both say
 
@@ -293,18 +294,20 @@ ends-so c f new n files ts ends heard mid turn role faults.NotDetected number na
   },
 )
 ends-so c f new n files ts ends heard mid turn role (faults.Spent segment since) number named o b trace = (
-  number,
   since,
-  record {
-    turn = turn_in heard ends mid none-sent;
-    hears = hears-these heard ends mid none-sent;
-    makes = record {
-      run = o.run;
-      heard = heard-in c files ts ends heard mid none-sent o;
-      is = b;
-    };
-    trace = trace;
-  },
+  (
+    number,
+    record {
+      turn = turn_in heard ends mid none-sent;
+      hears = hears-these heard ends mid none-sent;
+      makes = record {
+        run = o.run;
+        heard = heard-in c files ts ends heard mid none-sent o;
+        is = b;
+      };
+      trace = trace;
+    },
+  ),
 )
 ends-so c f new n files ts ends heard mid turn role (faults.BadAck nr va high) number named o b trace = absurd named
 ends-so c f new n files ts ends heard mid turn role (faults.PeerReset va vr) number named o b trace = absurd named
@@ -326,11 +329,7 @@ pub stops-so : (c : Wire) (f new : FolderState) (n : Written) (files : Both (Lis
     → AddsPart c f new n files ts ends heard mid → SpeaksLast c f new n files ts ends heard mid fault
 stops-so c f new n files ts ends heard mid run_faults.WriteFault w h = h
 stops-so c f new n files ts ends heard mid run_faults.NoMemory w h = h
-stops-so c f new n files ts ends heard mid run_faults.ReadFault w h = absurd w
-stops-so c f new n files ts ends heard mid (run_faults.LineLost role symbol) w h = absurd w
-stops-so c f new n files ts ends heard mid (run_faults.ChanceMatch role turn) w h = absurd w
-stops-so c f new n files ts ends heard mid (run_faults.NotDetected turn) w h = absurd w
-stops-so c f new n files ts ends heard mid (run_faults.LinkLost role segment turn) w h = absurd w
+stops-so c f new n files ts ends heard mid fault w h = absurd w
 
 pub adds-part : (c : Wire) (f new : FolderState) (n : Written) (files : Both (List ℕ)) (ts : List Turn) (ends : Accounts)
     (heard : Both Heard) (mid : Accounts) (sents : Both (Option Spoken))

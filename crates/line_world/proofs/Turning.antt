@@ -254,12 +254,10 @@ speaks-last m l c links streams a b z n files others ts ends heard mid run_fault
 speaks-last m l c links streams a b z n files others ts ends heard mid run_faults.NoMemory apart known only d lines halts checked h =
     stops-writing m l c links streams a b z n files others ts ends heard mid apart known only d lines halts h
 speaks-last m l c links streams a b z n files others ts ends heard mid (run_faults.LinkLost role segment turn) apart known only d lines halts checked h =
-    (h.1, ends-in m l c links streams a b z n files others ts ends heard mid (Broken role (faults.Spent segment h.1)) turn apart h.0 known only d lines halts checked h.2)
+    (h.0, ends-in m l c links streams a b z n files others ts ends heard mid (Broken role (faults.Spent segment h.0)) turn apart h.1.0 known only d lines halts checked h.1.1)
 speaks-last m l c links streams a b z n files others ts ends heard mid (run_faults.NotDetected turn) apart known only d lines halts checked h =
     ends-in m l c links streams a b z n files others ts ends heard mid (Broken Originator faults.NotDetected) turn apart h.0 known only d lines halts checked h.1
-speaks-last m l c links streams a b z n files others ts ends heard mid run_faults.ReadFault apart known only d lines halts checked h = absurd h
-speaks-last m l c links streams a b z n files others ts ends heard mid (run_faults.LineLost role symbol) apart known only d lines halts checked h = absurd h
-speaks-last m l c links streams a b z n files others ts ends heard mid (run_faults.ChanceMatch role turn) apart known only d lines halts checked h = absurd h
+speaks-last m l c links streams a b z n files others ts ends heard mid fault apart known only d lines halts checked h = absurd h
 
 -- ---- the run goes on
 

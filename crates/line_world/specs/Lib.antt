@@ -1,4 +1,5 @@
 pub use Rattle.turn_bound.specs.Limits
+pub mod Faults
 pub mod Tally
 pub mod Modems
 pub mod World

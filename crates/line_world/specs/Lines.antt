@@ -15,7 +15,6 @@ use Rattle.noise_script.specs.Script.{delay_of}
 use Rattle.sample_line.specs.Signals.{IsCodable}
 use Rattle.link_run.specs.Run.{Turn}
 use Rattle.line_run.specs.Sampled.{Wire, IsHeardOf, EndsLineBy}
-use Rattle.line_run.specs.Sampled as line_ends
 use Rattle.line_run.specs.Stream.{Carried, carried_signal, IsDue}
 use Rattle.line_world.specs.Way.{WaitsFor, HasRoom}
 use Rattle.line_world.specs.declared.direction.DelayedLine.{DelayedLine}
@@ -23,7 +22,7 @@ use Rattle.line_world.specs.declared.directions.Directions.{Directions}
 use Rattle.line_world.specs.declared.end_coder.EndCoder.{EndCoder}
 use Rattle.line_world.specs.declared.lines.Lines.{Lines}
 use Rattle.line_world.specs.declared.directions.LineEnd.{LineEnd}
-use Rattle.line_world.specs.declared.directions.LineEnd.TheVariants as ways
+use Rattle.line_world.specs.Faults.{end_of}
 
 -- the direction in which a role sends
 abbrev pub from : Role → Directions → DelayedLine
@@ -78,11 +77,6 @@ pub record ArrivesBoth (left : Type 0) (c : Wire) (ts : List Turn) (checks : Bot
   pub heard_of : (role : Role) → IsHeardOf c (other role) ts (of role checks) (of role heard)
   pub well : (role : Role) → of role heard ≢ Chance
   pub lines : left
-
--- how the line ends a run
-abbrev pub end_of : LineEnd → line_ends.LineEnd
-end_of (ways.Lost role symbol) = line_ends.LineLost role symbol
-end_of (ways.Chance role) = line_ends.ChanceMatch role
 
 -- what arriving answers
 abbrev pub ArrivesSo : Type 0 → Wire → List Turn → Both Check → Result (Both Heard) LineEnd → Type 0

@@ -1,24 +1,23 @@
 -- A turn of a link in its middle: both ends have heard, and the rest of the turn is to come.
 use Rattle.std.specs.Prelude.{◌≡◌, ◌≢◌, ℕ, ◌+◌, false, ◌∷◌, List, length, Option, Result, Ok, Err}
+use Rattle.std.specs.Option.{MatchOption}
 use Rattle.outside_calls.specs.Folder.{FolderState, Appended, PartlyAppended}
 use Rattle.outside_calls.specs.Outputs.{AddEach}
 use Rattle.shared_terms.specs.declared.role.Role.{Role}
-use Rattle.shared_terms.specs.declared.role.Role.TheVariants.{Originator}
 use Rattle.shared_terms.specs.Role.{other}
 use Rattle.shared_terms.specs.Both.{Both, of}
 use Rattle.noise_script.specs.Script.{ScriptValue}
 use Rattle.lapm_frames.specs.declared.heard.Heard.{Heard}
 use Rattle.lapm_frames.specs.declared.heard.Heard.TheVariants.{Chance}
-use Rattle.shared_terms.specs.declared.fault.LinkFault.{LinkFault}
-use Rattle.shared_terms.specs.declared.fault.LinkFault.TheVariants as faults
 use Rattle.link_account.specs.Account.{Account, after_given, given_break, check_of}
 use Rattle.link_account.specs.Hear.{hear}
 use Rattle.link_run.specs.End.{delivered, offered, is_closed}
 use Rattle.link_run.specs.Run.{Accounts, Side, Spoken, Turn, GoingTurn, arrival}
-use Rattle.link_run.specs.Outcomes.{Outcome, Broken}
+use Rattle.link_run.specs.Outcomes.{Outcome}
 use Rattle.link_run.specs.Trace.{turn_text}
 use Rattle.link_run.specs.Counts.{lost_in, lost_slots, sent_again}
 use Rattle.line_run.specs.Sampled.{Wire, IsHeardOf, HeardIn, LineRun, EndsLine}
+use Rattle.line_run.specs.Ends.{ByEnd}
 use Rattle.line_run.specs.Scripted.{link_of}
 use Rattle.line_world.specs.declared.directions.LineEnd.{LineEnd}
 use Rattle.turn_bound.specs.Limits.{file_limit}
@@ -26,7 +25,8 @@ use Rattle.line_world.specs.Station.{ReadsOn}
 use Rattle.line_run.specs.Names.{Written, outputs_of}
 use Rattle.line_world.specs.Link.{LinkStands, both_ends, octets_of, served_on}
 use Rattle.line_run.specs.Stream.{Carried, and_sent}
-use Rattle.line_world.specs.Lines.{LinesWait, HaveArrived, end_of}
+use Rattle.line_world.specs.Faults.{end_of, fault_end}
+use Rattle.line_world.specs.Lines.{LinesWait, HaveArrived}
 use Rattle.line_world.specs.declared.lines.Lines.{Lines}
 use Rattle.line_world.specs.declared.modems.Modems.{Modems}
 use Rattle.line_world.specs.declared.tally.Tally.{Tally}
@@ -160,13 +160,8 @@ pub record HasGone (m : Modems) (l : Lines) (c : Wire) (links : ℕ) (streams : 
 abbrev pub SpeaksLast : Wire → FolderState → FolderState → Written → Both (List ℕ) → List Turn → Accounts → Both Heard → Accounts → RunFault → Type 0
 SpeaksLast c old new n files ts ends heard mid run_faults.WriteFault = AddsPart c old new n files ts ends heard mid
 SpeaksLast c old new n files ts ends heard mid run_faults.NoMemory = AddsPart c old new n files ts ends heard mid
-SpeaksLast c old new n files ts ends heard mid (run_faults.LinkLost role segment turn) =
-    (turn ≡ length ts) × (since : ℕ) × AddsLines c old new n files ts ends heard mid (Broken role (faults.Spent segment since))
-SpeaksLast c old new n files ts ends heard mid (run_faults.NotDetected turn) =
-    (turn ≡ length ts) × AddsLines c old new n files ts ends heard mid (Broken Originator faults.NotDetected)
-SpeaksLast c old new n files ts ends heard mid run_faults.ReadFault = ⊥
-SpeaksLast c old new n files ts ends heard mid (run_faults.LineLost role symbol) = ⊥
-SpeaksLast c old new n files ts ends heard mid (run_faults.ChanceMatch role turn) = ⊥
+SpeaksLast c old new n files ts ends heard mid fault = MatchOption (fault_end fault) ⊥
+    (ByEnd (λ outcome turn. (turn ≡ length ts) × AddsLines c old new n files ts ends heard mid outcome) (λ role symbol. ⊥) (λ role turn. ⊥))
 
 -- what speaking answers
 abbrev pub SpeaksTurn : Modems → Lines → Wire → ℕ → Both (List Carried) → FolderState → FolderState → Written → Both (List ℕ) → List Turn → Accounts → Both Heard → Accounts → Result (Unit {0}) RunFault
@@ -178,9 +173,3 @@ SpeaksTurn m l c links streams old new n files ts ends heard mid (Err fault) = S
 pub record IsToSpeak (m : Modems) (c : Wire) (files : Both (List ℕ)) (ts : List Turn) (ends : Accounts) (heard : Both Heard) (mid : Accounts) : Type 0 where
   pub stands : InTurn m c files ts ends heard mid (served c.script files (length ts) mid)
   pub going : is_closed mid.orig.phase ≡ false
-
--- why a run ends in which an end breaks; in a run an end has no fault but these two, so the last row is for none
-abbrev pub fault_named : ℕ → Role → LinkFault → RunFault
-fault_named turn role faults.NotDetected = run_faults.NotDetected turn
-fault_named turn role (faults.Spent segment since) = run_faults.LinkLost role segment turn
-fault_named turn role fault = run_faults.NoMemory

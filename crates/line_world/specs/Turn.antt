@@ -1,26 +1,24 @@
 -- What a turn answers, what it adds to each output, and what is left where the folder doesn't take that.
 use Rattle.std.specs.Prelude.{◌≡◌, ◌⊎◌, ℕ, ◌+◌, Bool, true, false, ◌∷◌, [], ◌++◌, List, length, Result, Ok, Err}
+use Rattle.std.specs.Option.{MatchOption}
 use Rattle.outside_calls.specs.Folder.{FolderState, Appended, PartlyAppended, Rose, FaultsStand, CountsStand}
-use Rattle.outside_calls.specs.declared.folder.FolderFault.{FolderFault}
-use Rattle.outside_calls.specs.declared.folder.FolderFault.TheVariants.{Failed, NoMemory}
 use Rattle.outside_calls.specs.Outputs.{KeepsEach}
 use Rattle.outside_calls.specs.Outputs.{AddEach, AddPart, SomeRose}
 use Rattle.shared_terms.specs.declared.role.Role.{Role}
-use Rattle.shared_terms.specs.declared.role.Role.TheVariants.{Originator}
 use Rattle.shared_terms.specs.Both.{Both, of}
 use Rattle.link_account.specs.Account.{check_of}
 use Rattle.line_texts.specs.LineText.{chance_line}
-use Rattle.shared_terms.specs.declared.fault.LinkFault.TheVariants as faults
 use Rattle.link_run.specs.Run.{Accounts, Turn, GoingTurn}
-use Rattle.link_run.specs.Outcomes.{Outcome, Done, Broken, TurnIs}
+use Rattle.link_run.specs.Outcomes.{Outcome, Done, TurnIs}
 use Rattle.link_run.specs.Trace.{turn_text}
 use Rattle.link_run.specs.Counts.{lost_slots, sent_again}
-use Rattle.line_run.specs.Sampled.{Wire, HeardIn, LineRun, EndsLine}
-use Rattle.line_run.specs.Sampled as lines
+use Rattle.line_run.specs.Sampled.{Wire, HeardIn, LineRun, LineIsLost, IsChanceMatch}
+use Rattle.line_run.specs.Ends.{ByEnd}
 use Rattle.line_run.specs.Scripted.{link_of}
 use Rattle.line_run.specs.Names.{Written, inputs_of, outputs_of, received_of}
 use Rattle.line_world.specs.Link.{octets_of}
 use Rattle.line_run.specs.Stream.{Carried, and_sent}
+use Rattle.line_world.specs.Faults.{fault_end}
 use Rattle.line_world.specs.Lines.{LinesWait, HaveArrived}
 use Rattle.line_world.specs.declared.lines.Lines.{Lines}
 use Rattle.line_world.specs.declared.modems.Modems.{Modems}
@@ -82,7 +80,7 @@ pub record EndsInTurn (m : Modems) (l : Lines) (c : Wire) (links : ℕ) (streams
 -- The line is lost as this turn begins: nothing is written.
 pub record LosesLine (m : Modems) (c : Wire) (old new : FolderState) (n : Written) (ts : List Turn) (ends : Accounts) (role : Role)
     (symbol : ℕ) : Type 0 where
-  pub is : EndsLine c ts ends (lines.LineLost role symbol)
+  pub is : LineIsLost c ts ends role symbol
   pub halts : HearsNone m ts
   pub kept : KeepsEach old new (outputs_of n)
 
@@ -90,7 +88,7 @@ pub record LosesLine (m : Modems) (c : Wire) (old new : FolderState) (n : Writte
 pub record MeetsChance (m : Modems) (c : Wire) (old new : FolderState) (n : Written) (ts : List Turn) (ends : Accounts) (role : Role)
     (number : ℕ) : Type 0 where
   pub number_is : number ≡ length ts
-  pub is : EndsLine c ts ends (lines.ChanceMatch role)
+  pub is : IsChanceMatch c ts ends role
   pub halts : HearsNone m ts
   pub received : KeepsEach old new (received_of n)
   pub trace : Appended old new n.trace (chance_line (length ts) role)
@@ -110,7 +108,7 @@ pub record StopsInTurn (m : Modems) (l : Lines) (c : Wire) (links : ℕ) (stream
 -- or where a slot is a chance match.
 pub record StopsAtChance (m : Modems) (c : Wire) (old new : FolderState) (n : Written) (ts : List Turn) (ends : Accounts) : Type 0 where
   pub role : Role
-  pub is : EndsLine c ts ends (lines.ChanceMatch role)
+  pub is : IsChanceMatch c ts ends role
   pub halts : HearsNone m ts
   pub received : KeepsEach old new (received_of n)
   pub trace : PartlyAppended old new n.trace (chance_line (length ts) role)
@@ -122,21 +120,13 @@ StopsReading m l c links streams old new n files ts ends = (stops : StopsInTurn 
 abbrev pub Stops : Modems → Lines → Wire → ℕ → Both (List Carried) → FolderState → FolderState → Written → Both (List ℕ) → List Turn → Accounts → Type 0
 Stops m l c links streams old new n files ts ends = StopsInTurn m l c links streams old new n files ts ends ⊎ StopsAtChance m c old new n ts ends
 
--- an end's tries are spent, at its front
-abbrev pub LosesLink : Modems → Lines → Wire → ℕ → Both (List Carried) → FolderState → FolderState → Written → Both (List ℕ) → List Turn → Accounts → Role → ℕ → ℕ → Type 0
-LosesLink m l c links streams old new n files ts ends role segment number =
-    (since : ℕ) × EndsInTurn m l c links streams old new n files ts ends (Broken role (faults.Spent segment since)) number
-
 -- why a run ends in this turn with less than both files
 abbrev pub EndsBy : Modems → Lines → Wire → ℕ → Both (List Carried) → FolderState → FolderState → Written → Both (List ℕ) → List Turn → Accounts → RunFault → Type 0
 EndsBy m l c links streams old new n files ts ends run_faults.ReadFault = StopsReading m l c links streams old new n files ts ends
 EndsBy m l c links streams old new n files ts ends run_faults.WriteFault = Stops m l c links streams old new n files ts ends
-EndsBy m l c links streams old new n files ts ends (run_faults.LineLost role symbol) = LosesLine m c old new n ts ends role symbol
-EndsBy m l c links streams old new n files ts ends (run_faults.ChanceMatch role turn) = MeetsChance m c old new n ts ends role turn
-EndsBy m l c links streams old new n files ts ends (run_faults.NotDetected turn) =
-    EndsInTurn m l c links streams old new n files ts ends (Broken Originator faults.NotDetected) turn
-EndsBy m l c links streams old new n files ts ends (run_faults.LinkLost role segment turn) = LosesLink m l c links streams old new n files ts ends role segment turn
 EndsBy m l c links streams old new n files ts ends run_faults.NoMemory = Stops m l c links streams old new n files ts ends
+EndsBy m l c links streams old new n files ts ends fault = MatchOption (fault_end fault) ⊥
+    (ByEnd (EndsInTurn m l c links streams old new n files ts ends) (LosesLine m c old new n ts ends) (MeetsChance m c old new n ts ends))
 
 -- what a turn answers, after these turns
 abbrev pub TurnAnswers : Modems → Lines → Wire → ℕ → Both (List Carried) → FolderState → FolderState → Written → Both (List ℕ) → List Turn → Accounts → Result Step RunFault → Type 0
@@ -153,11 +143,6 @@ turns_made turn answer = turn
 abbrev pub goes_on : Result Step RunFault → Bool
 goes_on (Ok steps.Going) = true
 goes_on answer = false
-
--- why a run ends where a call of the folder is not done: this, where it failed
-abbrev pub fault_of : RunFault → FolderFault → RunFault
-fault_of failed Failed = failed
-fault_of failed NoMemory = run_faults.NoMemory
 
 -- an output was not written
 abbrev pub IsWriting : RunFault → Type 0
@@ -176,10 +161,7 @@ abbrev pub FaultCountsOver : FolderState → FolderState → List (List ℕ) →
 FaultCountsOver old new inputs outputs run_faults.ReadFault = SomeRose old.read_faults new.read_faults inputs
 FaultCountsOver old new inputs outputs run_faults.WriteFault = SomeRose old.write_faults new.write_faults outputs
 FaultCountsOver old new inputs outputs run_faults.NoMemory = FaultsStand old new × Rose old.refusals new.refusals
-FaultCountsOver old new inputs outputs (run_faults.LineLost role symbol) = CountsStand old new
-FaultCountsOver old new inputs outputs (run_faults.ChanceMatch role turn) = CountsStand old new
-FaultCountsOver old new inputs outputs (run_faults.NotDetected turn) = CountsStand old new
-FaultCountsOver old new inputs outputs (run_faults.LinkLost role segment turn) = CountsStand old new
+FaultCountsOver old new inputs outputs fault = CountsStand old new
 
 -- of the run's own names
 abbrev pub FaultCounts : FolderState → FolderState → Written → RunFault → Type 0

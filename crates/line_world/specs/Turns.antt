@@ -1,6 +1,7 @@
 -- What the outputs hold of a run: what its turns left, and a part of what the next turn adds where the folder fails in it.
 use Rattle.std.specs.Prelude.{◌≡◌, ◌⊎◌, ℕ, List, [], ◌∷◌, length, Result, Ok, Err}
 use Rattle.std.specs.List.{concat}
+use Rattle.std.specs.Option.{MatchOption}
 use Rattle.outside_calls.specs.Folder.{FolderState}
 use Rattle.shared_terms.specs.declared.role.Role.{Role}
 use Rattle.shared_terms.specs.Both.{Both, of}
@@ -10,8 +11,7 @@ use Rattle.link_run.specs.End.{deliveries}
 use Rattle.link_run.specs.Run.{Link, Accounts, Turn}
 use Rattle.link_run.specs.Outcomes.{Outcome, Going, TurnIs}
 use Rattle.link_run.specs.Trace.{trace_text, turn_text}
-use Rattle.line_run.specs.Sampled.{Wire, HeardIn, LineRun, EndsLine}
-use Rattle.line_run.specs.Sampled as lines
+use Rattle.line_run.specs.Sampled.{Wire, HeardIn, LineRun, IsChanceMatch}
 use Rattle.line_run.specs.Ends.{RunEnd, Left, Leaves, RunsTo}
 use Rattle.line_run.specs.Ends as runs
 use Rattle.line_run.specs.Scripted.{wire_of, link_of}
@@ -20,6 +20,7 @@ use Rattle.outside_calls.specs.Outputs.{HoldEach, HoldPart, joined}
 use Rattle.line_run.specs.Names.{Written, outputs_of}
 use Rattle.line_run.specs.Recorded.{Tapes}
 use Rattle.line_world.specs.Tapes.{HoldTapes, HoldTapesPartly}
+use Rattle.line_world.specs.Faults.{fault_end}
 use Rattle.line_world.specs.World.{KnowsFiles}
 use Rattle.line_world.specs.declared.step.RunFault.{RunFault}
 use Rattle.line_world.specs.declared.step.RunFault.TheVariants as faults
@@ -41,7 +42,7 @@ pub record AddsTurn (c : Wire) (link : Link) (ts : List Turn) (ends : Accounts) 
 -- What is added where a slot of that turn is a chance match: one line of the trace.
 pub record AddsChance (c : Wire) (ts : List Turn) (ends : Accounts) (more : Left) : Type 0 where
   pub role : Role
-  pub is : EndsLine c ts ends (lines.ChanceMatch role)
+  pub is : IsChanceMatch c ts ends role
   pub got_is : (side : Role) → of side more.got ≡ []
   pub trace_is : more.trace ≡ chance_line (length ts) role
 
@@ -108,11 +109,8 @@ RunStopsReading script f n tapes =
 abbrev pub FaultEnds : ScriptValue → FolderState → Written → Tapes → RunFault → Type 0
 FaultEnds script f n tapes faults.ReadFault = RunStopsReading script f n tapes
 FaultEnds script f n tapes faults.WriteFault = RunStops script f n tapes
-FaultEnds script f n tapes (faults.LineLost role symbol) = RunEnds script f n tapes (runs.LineLost role symbol)
-FaultEnds script f n tapes (faults.ChanceMatch role turn) = RunEnds script f n tapes (runs.ChanceMatch role turn)
-FaultEnds script f n tapes (faults.NotDetected turn) = RunEnds script f n tapes (runs.NotDetected turn)
-FaultEnds script f n tapes (faults.LinkLost role segment turn) = RunEnds script f n tapes (runs.LinkLost role segment turn)
 FaultEnds script f n tapes faults.NoMemory = RunStops script f n tapes
+FaultEnds script f n tapes fault = MatchOption (fault_end fault) ⊥ (RunEnds script f n tapes)
 
 -- how turns end
 abbrev pub TurnsEnd : ScriptValue → FolderState → Written → Tapes → Result ℕ RunFault → Type 0

@@ -16,6 +16,7 @@
 mod direction;
 mod directions;
 mod end_coder;
+mod fault;
 mod heard;
 pub mod laws;
 mod limit;
@@ -49,5 +50,6 @@ pub use station::Station;
 pub use step::{RunFault, Step};
 pub use tape::Tape;
 pub use trace::{append_chance, append_line, append_lines, sent_in, turn_lines};
+pub use turn_text::write_chance;
 pub use turns::run_turns;
 pub use world::World;

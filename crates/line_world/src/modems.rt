@@ -20,9 +20,10 @@ ghost use Rattle.outside_calls.specs.Outputs.{AddPart, AreApartFrom, OnlyPuts};
 ghost use Rattle.link_account.specs.Account.{check_of, given_break};
 ghost use Rattle.noise_script.specs.Script.{IsInLimits};
 
+use crate::fault::folder_fault;
 use crate::step::{RunFault, Step};
 use crate::tally::Tally;
-use crate::turn_text::{folder_fault, link_fault, write_chance, write_turn};
+use crate::turn_text::{link_fault, write_chance, write_turn};
 use crate::{LineEnd, Lines, Link, Names, arrived, sent_in, turn_lines};
 use frame_check::Check;
 use line_run::laws::{
@@ -146,7 +147,7 @@ impl Modems {
     {
         match self.link.deliver(folder, names) {
             Ok(()) => Ok(self.link.given_breaks()),
-            Err(fault) => Err(folder_fault(RunFault::WriteFault, fault)),
+            Err(fault) => Err(folder_fault(RunFault::WriteFault, RunFault::NoMemory, fault)),
         }
     }
 
@@ -176,7 +177,7 @@ impl Modems {
         files_count_as_far_as_they_were_read();
         match self.link.supply(folder, names) {
             Ok(()) => {}
-            Err(fault) => return Err(folder_fault(RunFault::ReadFault, fault)),
+            Err(fault) => return Err(folder_fault(RunFault::ReadFault, RunFault::NoMemory, fault)),
         }
         self.link.serve(script, self.turn);
         Ok(())

@@ -16,8 +16,8 @@ ghost use Rattle.line_world.specs.Taping.{RecordsBits, TapeStands, KeepsTape, Ta
 ghost use Rattle.line_world.specs.Turn.{CountsOver, IsWriting};
 
 use crate::World;
+use crate::fault::folder_fault;
 use crate::step::RunFault;
-use crate::turn_text::folder_fault;
 use bit_stuffing::BitSlot;
 use frame_check::Octets;
 use line_coding::Modulator;
@@ -95,7 +95,7 @@ impl<'a> Tape<'a> {
         self.make(slot);
         match folder.append(self.name, self.octets.as_slice()) {
             Ok(()) => Ok(()),
-            Err(fault) => Err(folder_fault(RunFault::WriteFault, fault)),
+            Err(fault) => Err(folder_fault(RunFault::WriteFault, RunFault::NoMemory, fault)),
         }
     }
 }

@@ -3,26 +3,17 @@ ghost use Rattle.std.specs.Prelude.{◌≡◌, ◌++◌, OnOk, OnErr, IfErr};
 ghost use Rattle.outside_calls.specs.Folder.{Appended, OnlyWrites, PartlyAppended};
 ghost use Rattle.line_texts.specs.LineText.{chance_line, line_text};
 ghost use Rattle.line_run.specs.Names.{written};
-ghost use Rattle.line_world.specs.Turn.{IsWriting, TurnCounts, fault_of};
-ghost use Rattle.line_world.specs.Mid.{fault_named};
+ghost use Rattle.line_world.specs.Turn.{IsWriting, TurnCounts};
+ghost use Rattle.line_world.specs.Faults.{fault_named};
 ghost use Rattle.link_run.specs.Laws.{IsNamed};
 
+use crate::fault::folder_fault;
 use crate::step::RunFault;
 use crate::{Breaking, Names, append_chance, append_lines};
 use lapm_link::LinkFault;
 use line_texts::TraceLine;
-use outside_calls::{Folder, FolderFault};
+use outside_calls::Folder;
 use shared_terms::{Both, Role};
-
-/// Why a run ends whose folder doesn't do a call: this, where it failed.
-pub(crate) fn folder_fault(failed: RunFault, fault: FolderFault) -> RunFault
-    ensures { result ≡ fault_of failed fault }
-{
-    match fault {
-        FolderFault::Failed => failed,
-        FolderFault::NoMemory => RunFault::NoMemory,
-    }
-}
 
 /// Appends both lines of a turn to the trace.
 pub(crate) fn write_turn<F: Folder>(
@@ -39,12 +30,12 @@ pub(crate) fn write_turn<F: Folder>(
 {
     match append_lines(folder, names.trace, &lines.orig, &lines.answ) {
         Ok(()) => Ok(()),
-        Err(fault) => Err(folder_fault(RunFault::WriteFault, fault)),
+        Err(fault) => Err(folder_fault(RunFault::WriteFault, RunFault::NoMemory, fault)),
     }
 }
 
 /// Appends the one line of a turn in which that role's slot is a chance match.
-pub(crate) fn write_chance<F: Folder>(
+pub fn write_chance<F: Folder>(
     folder: &mut F,
     names: &Names<'_>,
     turn: u64,
@@ -59,7 +50,7 @@ pub(crate) fn write_chance<F: Folder>(
 {
     match append_chance(folder, names.trace, turn, role) {
         Ok(()) => Ok(()),
-        Err(fault) => Err(folder_fault(RunFault::WriteFault, fault)),
+        Err(fault) => Err(folder_fault(RunFault::WriteFault, RunFault::NoMemory, fault)),
     }
 }
 

@@ -12,10 +12,10 @@ use Rattle.line_run.specs.Names.{Written}
 use Rattle.line_world.proofs.Reached.{files_at, knows-told}
 use Rattle.pair_run.specs.Pair.{Goes}
 use Rattle.pair_run.specs.Ends.{First}
-use Rattle.link_pair.specs.declared.half.PairFault.{PairFault}
-use Rattle.link_pair.specs.declared.half.PairFault.TheVariants as faults
+use Rattle.line_world.specs.declared.step.RunFault.{RunFault}
+use Rattle.line_world.specs.declared.step.RunFault.TheVariants as faults
 use Rattle.link_pair.specs.declared.two_links.Pair.{Pair}
-use Rattle.link_pair.specs.Counts.{CountsBy, FaultCounts}
+use Rattle.line_world.specs.Turn.{CountsOver, FaultCountsOver}
 use Rattle.link_pair.specs.Pair.{all_outputs, IsFirst, Awaits, FaultEnds, FaultEndsIn}
 
 pub begins : (x : Pair) (f : FolderState) (n m : Written) → IsFirst x → Creates f (all_outputs n m) → Awaits x f n m First
@@ -50,26 +50,26 @@ pub nearer : (round next : ℕ) → round < 2 ^ 39 → next ≡ round + 1 → 2 
 nearer round next h e = omega (arith, h, e)
 
 -- why it ended, whatever the round
-pub fault-ends : (script : ScriptValue) (f : FolderState) (n m : Written) (round : ℕ) (fault : PairFault)
+pub fault-ends : (script : ScriptValue) (f : FolderState) (n m : Written) (round : ℕ) (fault : RunFault)
     → FaultEndsIn script f n m round fault → FaultEnds script f n m fault
 fault-ends script f n m round faults.ReadFault e = e.stops
 fault-ends script f n m round faults.WriteFault e = e.stops
 fault-ends script f n m round faults.NoMemory e = e.stops
 fault-ends script f n m round (faults.LineLost role symbol) e = e.ended
 fault-ends script f n m round (faults.ChanceMatch role turn) e = e.ended
+fault-ends script f n m round fault e = absurd e
 
 -- a fault behind rounds that counted nothing
-pub counts-later : (a b c : FolderState) (inputs outputs : List (List ℕ)) (fault : PairFault) → CountsStand a b
-    → FaultCounts b c inputs outputs fault → FaultCounts a c inputs outputs fault
+pub counts-later : (a b c : FolderState) (inputs outputs : List (List ℕ)) (fault : RunFault) → CountsStand a b
+    → FaultCountsOver b c inputs outputs fault → FaultCountsOver a c inputs outputs fault
 counts-later a b c inputs outputs faults.ReadFault s h = SomeRose-earlier a.read_faults b.read_faults c.read_faults inputs s.faults.reads h
 counts-later a b c inputs outputs faults.WriteFault s h =
     SomeRose-earlier a.write_faults b.write_faults c.write_faults outputs s.faults.writes h
 counts-later a b c inputs outputs faults.NoMemory s h =
     (FaultsStand-trans s.faults h.0, subst (λ x. Rose x c.refusals) s.refusals h.1)
-counts-later a b c inputs outputs (faults.LineLost role symbol) s h = CountsStand-trans s h
-counts-later a b c inputs outputs (faults.ChanceMatch role turn) s h = CountsStand-trans s h
+counts-later a b c inputs outputs fault s h = CountsStand-trans s h
 
-pub counts-behind : {T : Type 0} (a b c : FolderState) (inputs outputs : List (List ℕ)) (result : Result T PairFault) → CountsStand a b
-    → CountsBy b c inputs outputs result → CountsBy a c inputs outputs result
+pub counts-behind : {T : Type 0} (a b c : FolderState) (inputs outputs : List (List ℕ)) (result : Result T RunFault) → CountsStand a b
+    → CountsOver b c inputs outputs result → CountsOver a c inputs outputs result
 counts-behind a b c inputs outputs (Ok done) s h = CountsStand-trans s h
 counts-behind a b c inputs outputs (Err fault) s h = counts-later a b c inputs outputs fault s h

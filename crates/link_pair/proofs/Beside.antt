@@ -12,9 +12,9 @@ use Rattle.line_run.specs.Names.{Written, inputs_of, outputs_of}
 use Rattle.line_world.specs.Turns.{held_of}
 use Rattle.line_world.specs.World.{KnowsFiles}
 use Rattle.pair_run.specs.Pair.{Progress}
-use Rattle.link_pair.specs.declared.half.PairFault.{PairFault}
-use Rattle.link_pair.specs.declared.half.PairFault.TheVariants as faults
-use Rattle.link_pair.specs.Counts.{FaultCounts}
+use Rattle.line_world.specs.declared.step.RunFault.{RunFault}
+use Rattle.line_world.specs.declared.step.RunFault.TheVariants as faults
+use Rattle.line_world.specs.Turn.{FaultCountsOver}
 use Rattle.link_pair.specs.Half.{left_by, HoldLeft}
 use Rattle.link_pair.specs.Pair.{all_inputs, all_outputs}
 
@@ -128,18 +128,14 @@ some-inputs before now n m (inr (inr never)) = absurd never
 more-inputs : (before now : List ℕ → ℕ) (n m : Written) → SomeRose before now (inputs_of m) → SomeRose before now (all_inputs n m)
 more-inputs before now n m r = inr (inr r)
 
-pub first-counts : (a b : FolderState) (n m : Written) (fault : PairFault) → FaultCounts a b (inputs_of n) (outputs_of n) fault
-    → FaultCounts a b (all_inputs n m) (all_outputs n m) fault
+pub first-counts : (a b : FolderState) (n m : Written) (fault : RunFault) → FaultCountsOver a b (inputs_of n) (outputs_of n) fault
+    → FaultCountsOver a b (all_inputs n m) (all_outputs n m) fault
 first-counts a b n m faults.ReadFault h = some-inputs a.read_faults b.read_faults n m h
 first-counts a b n m faults.WriteFault h = some-outputs a.write_faults b.write_faults n m h
-first-counts a b n m faults.NoMemory h = h
-first-counts a b n m (faults.LineLost role symbol) h = h
-first-counts a b n m (faults.ChanceMatch role turn) h = h
+first-counts a b n m fault h = h
 
-pub second-counts : (a b : FolderState) (n m : Written) (fault : PairFault) → FaultCounts a b (inputs_of m) (outputs_of m) fault
-    → FaultCounts a b (all_inputs n m) (all_outputs n m) fault
+pub second-counts : (a b : FolderState) (n m : Written) (fault : RunFault) → FaultCountsOver a b (inputs_of m) (outputs_of m) fault
+    → FaultCountsOver a b (all_inputs n m) (all_outputs n m) fault
 second-counts a b n m faults.ReadFault h = more-inputs a.read_faults b.read_faults n m h
 second-counts a b n m faults.WriteFault h = more-outputs a.write_faults b.write_faults n m h
-second-counts a b n m faults.NoMemory h = h
-second-counts a b n m (faults.LineLost role symbol) h = h
-second-counts a b n m (faults.ChanceMatch role turn) h = h
+second-counts a b n m fault h = h

@@ -37,6 +37,7 @@ use Rattle.line_run.specs.Names.{Written, inputs_of, outputs_of}
 use Rattle.line_world.specs.Link.{AreWithin, octets_of}
 use Rattle.line_world.specs.Modems.{AreKept, AreReady, ModemsAfter}
 use Rattle.line_world.specs.Turn.{added, GoesOnBy, LosesLine, MeetsChance, StopsInTurn, StopsReading, Stops, TurnAnswers, TurnCounts}
+use Rattle.line_world.specs.Turn.{CountsOver}
 use Rattle.line_world.specs.Turn as turns
 use Rattle.line_world.specs.Turns.{AddsTurn, held_of}
 use Rattle.line_world.specs.World.{KnowsFiles}
@@ -47,8 +48,6 @@ use Rattle.pair_run.specs.Pair.{Progress, Goes, Ended, turns_on_line, last_ends,
 use Rattle.link_pair.specs.declared.half.Half.{Half}
 use Rattle.link_pair.specs.declared.half.LinkEnd.{LinkEnd}
 use Rattle.link_pair.specs.declared.half.LinkEnd.TheVariants as link_ends
-use Rattle.link_pair.specs.declared.half.PairFault.{PairFault}
-use Rattle.link_pair.specs.Counts.{CountsBy}
 use Rattle.link_pair.specs.Half.{run_end, sorted, MayGoOn, StandsFor, left_by, HoldLeft, HalfAt, HalfIsReady, HasCome}
 use Rattle.link_pair.specs.Half.{IsEndedByLine, LinkStops, LinkStopsReading, IsStopped, HalfEnds}
 
@@ -131,7 +130,7 @@ pub record EndedNow (m : Modems) (l : Lines) (c : Wire) (links : ℕ) (streams :
   pub holds : HoldEach f (outputs_of n) (held_of left)
 
 abbrev pub Comes : Modems → Lines → Wire → ℕ → Both (List Carried) → FolderState → Written → Both (List ℕ) → List Turn → Accounts
-    → Result (Option LinkEnd) PairFault → Type 0
+    → Result (Option LinkEnd) RunFault → Type 0
 Comes m l c links streams f n files ts ends (Ok None) = GoneOn m l c links streams f n ts
 Comes m l c links streams f n files ts ends (Ok (Some found)) = EndedNow m l c links streams f n ts found
 Comes m l c links streams f n files ts ends (Err fault) = HalfEnds c f n files (length ts) (Goes ts ends) fault
@@ -229,7 +228,8 @@ ended-undetected delivers m l c links streams old new n files ts ends turn a run
 ended-lost : HearingsDeliver
     → (m : Modems) (l : Lines) (c : Wire) (links : ℕ) (streams : Both (List Carried)) (old new : FolderState) (n : Written)
     (files : Both (List ℕ)) (ts : List Turn) (ends : Accounts) (role : Role) (segment turn : ℕ) → Around old new n files ts ends
-    → LineRun c (link_of c.script files) ts ends → turns.LosesLink m l c links streams old new n files ts ends role segment turn
+    → LineRun c (link_of c.script files) ts ends
+    → (since : ℕ) × turns.EndsInTurn m l c links streams old new n files ts ends (Broken role (causes.Spent segment since)) turn
     → EndedNow m l c links streams new n ts (link_ends.LinkLost role segment turn)
 unfolding last-turn
 ended-lost delivers m l c links streams old new n files ts ends role segment turn a run (since, e) =
@@ -454,7 +454,7 @@ AnswersSo m m' l l' script old new n answer =
     → TurnAnswers m' l' (wire_at script m.dlci beside) links streams old new n files ts ends answer
 
 pub record CameTo (m : Modems) (l : Lines) (c : Wire) (links : ℕ) (streams : Both (List Carried)) (f : FolderState) (n : Written)
-    (files : Both (List ℕ)) (round : ℕ) (p : Progress) (o : Result (Option LinkEnd) PairFault) : Type 0 where
+    (files : Both (List ℕ)) (round : ℕ) (p : Progress) (o : Result (Option LinkEnd) RunFault) : Type 0 where
   pub ts : List Turn
   pub ends : Accounts
   pub is : p ≡ Goes ts ends
@@ -464,7 +464,7 @@ pub record CameTo (m : Modems) (l : Lines) (c : Wire) (links : ℕ) (streams : B
 pub came-to : HearingsDeliver → SpeakingTakesNothing
     → (h : Half) (m : Modems) (l l' : Lines) (script : ScriptValue) (beside : Role → ℕ → Option Signal) (links : ℕ)
     (streams : Both (List Carried)) (old new : FolderState) (n : Written) (files : Both (List ℕ)) (round : ℕ) (p : Progress)
-    (answer : Result Step RunFault) (o : Result (Option LinkEnd) PairFault) → sorted answer ≡ o → h.ended ≡ None → IsApart n
+    (answer : Result Step RunFault) (o : Result (Option LinkEnd) RunFault) → sorted answer ≡ o → h.ended ≡ None → IsApart n
     → OnlyPuts old new (outputs_of n) → HalfAt h l old n script beside links streams files round p → (answer ≡ Ok steps.Going → AreKept m)
     → AnswersSo h.modems m l l' script old new n answer
     → CameTo m l' (wire_at script h.dlci beside) links streams new n files round p o
@@ -508,24 +508,19 @@ came-ended h l m c links streams f n files round p found is channel waits a =
     (has-ended h l m c links streams f n files a.ts a.ends found is channel waits a.comes))
 
 pub came-halted : (m : Modems) (l : Lines) (c : Wire) (links : ℕ) (streams : Both (List Carried)) (f : FolderState) (n : Written)
-    (files : Both (List ℕ)) (round : ℕ) (p : Progress) (fault : PairFault) → CameTo m l c links streams f n files round p (Err fault)
+    (files : Both (List ℕ)) (round : ℕ) (p : Progress) (fault : RunFault) → CameTo m l c links streams f n files round p (Err fault)
     → HalfEnds c f n files round p fault
 came-halted m l c links streams f n files round p fault a =
     subst (λ x. HalfEnds c f n files round x fault) (sym a.is)
     (subst (λ k. HalfEnds c f n files k (Goes a.ts a.ends) fault) a.count a.comes)
 
 -- what a turn counted is what the pair counts by it
-pub sorted-counts : (a b : FolderState) (n : Written) (answer : Result Step RunFault) (r : Result (Option LinkEnd) PairFault)
-    → r ≡ sorted answer → TurnCounts a b n answer → CountsBy a b (inputs_of n) (outputs_of n) r
-sorted-counts a b n answer r e h = subst (CountsBy a b (inputs_of n) (outputs_of n)) (sym e) (go answer h)
+pub sorted-counts : (a b : FolderState) (n : Written) (answer : Result Step RunFault) (r : Result (Option LinkEnd) RunFault)
+    → r ≡ sorted answer → TurnCounts a b n answer → CountsOver a b (inputs_of n) (outputs_of n) r
+sorted-counts a b n answer r e h = subst (CountsOver a b (inputs_of n) (outputs_of n)) (sym e) (go answer h)
   where
-    go : (answer : Result Step RunFault) → TurnCounts a b n answer → CountsBy a b (inputs_of n) (outputs_of n) (sorted answer)
+    go : (answer : Result Step RunFault) → TurnCounts a b n answer → CountsOver a b (inputs_of n) (outputs_of n) (sorted answer)
     go (Ok steps.Going) h = h
     go (Ok (steps.Done turn)) h = h
     go (Err (run_faults.LinkLost role segment turn)) h = h
-    go (Err (run_faults.NotDetected turn)) h = h
-    go (Err (run_faults.LineLost role symbol)) h = h
-    go (Err (run_faults.ChanceMatch role turn)) h = h
-    go (Err run_faults.ReadFault) h = h
-    go (Err run_faults.WriteFault) h = h
-    go (Err run_faults.NoMemory) h = h
+    go (Err fault) h = h

@@ -1,12 +1,9 @@
 -- From every answer to the headline.
-use Rattle.std.proofs.Common.{◌≡◌, ◌⊎◌, inl, inr, ℕ, Bool, true, false, List, [], ◌++◌, Some, Result, Ok, Err, refl, sym, ◌∙◌, ap, subst}
+use Rattle.std.proofs.Common.{◌≡◌, ◌⊎◌, inl, inr, ℕ, Bool, true, false, List, [], ◌++◌, Some, Err, refl, sym, ◌∙◌, ap, subst}
 use Rattle.std.specs.Option.{option_map}
-use Rattle.std.proofs.lemmas.Bool.{false≢true}
 use Rattle.plain_lists.specs.Octets.{AreOctets}
 use Rattle.outside_calls.specs.Folder.{FolderState, GoesOn, octets_at}
 use Rattle.outside_calls.proofs.Steps.{told_later}
-use Rattle.outside_calls.specs.declared.folder.FolderFault.{FolderFault}
-use Rattle.outside_calls.specs.declared.folder.FolderFault.TheVariants as folder
 use Rattle.outside_calls.specs.Outputs.{Holds, HoldEach, KeepsAll, OnlyOutputs}
 use Rattle.outside_calls.proofs.Holding.{Holds-kept}
 use Rattle.shared_terms.specs.declared.role.Role.{Role}
@@ -24,11 +21,10 @@ use Rattle.command_base.specs.declared.status.Status.{Status}
 use Rattle.command_base.specs.declared.status.Status.TheVariants as status
 use Rattle.command_base.specs.declared.stop.Stop.{Stop}
 use Rattle.command_base.specs.declared.stop.Stop.TheVariants as stops
-use Rattle.command_base.specs.Stops.{fault_status, end_status}
 use Rattle.command_base.specs.Job.{Answers}
 use Rattle.command_base.specs.Lines.{both_done_line}
-use Rattle.command_base.proofs.Answering.{IsPlain}
-use Rattle.command_base.proofs.Jobs.{last-only, last-plain, done-of, shared-of}
+use Rattle.command_base.proofs.Jobs.{last-only, done-of, shared-of}
+use Rattle.run_inputs.proofs.Answering.{stopped-so}
 use Rattle.run_inputs.specs.declared.limits.TheConstants.{LIMITS}
 use Rattle.run_inputs.specs.Inputs.{RefusesOwn}
 use Rattle.line_run.specs.Names.{Written}
@@ -170,27 +166,12 @@ is_pair_end (status.LinkLost role segment turn) = true
 is_pair_end (status.NotDetected turn) = true
 is_pair_end answer = false
 
-plain-end : (s : Status) → is_pair_end s ≡ true → IsPlain s
-plain-end s e = record { write = λ f. false≢true (ap is_pair_end (sym f) ∙ e); memory = λ f. false≢true (ap is_pair_end (sym f) ∙ e) }
-
-no-fault : (failed : Status) (fault : FolderFault) → is_pair_end failed ≡ false → is_pair_end (fault_status failed fault) ≡ true → ⊥
-no-fault failed folder.Failed f e = false≢true (sym f ∙ e)
-no-fault failed folder.NoMemory f e = false≢true e
-
-own-end : (end : Result LastTurns Stop) (s : Status) → is_pair_end s ≡ true → end_status end ≡ s → end ≡ Err (stops.Own s)
-own-end (Ok turns) s e f = absurd (false≢true (ap is_pair_end f ∙ e))
-own-end (Err (stops.Own answer)) s e f = ap (λ x. Err (stops.Own x)) f
-own-end (Err (stops.Read fault)) s e f = absurd (no-fault status.ReadFault fault refl (ap is_pair_end f ∙ e))
-own-end (Err (stops.Write fault)) s e f = absurd (no-fault status.WriteFault fault refl (ap is_pair_end f ∙ e))
-own-end (Err (stops.Say fault)) s e f = absurd (no-fault status.WriteFault fault refl (ap is_pair_end f ∙ e))
-own-end (Err stops.NoMemory) s e f = absurd (false≢true (ap is_pair_end f ∙ e))
-
 -- the answer is that of the pair's end
 pub own-ends : (words : List (List ℕ)) (old new : FolderState) (n : Names) (s t : Status) (a : Answers (pair_job n) words old new s)
     → is_pair_end t ≡ true → s ≡ t → EndsBy LIMITS old a.before n (stops.Own t)
 own-ends words old new n s t a e f =
-    let is = own-end a.end t e
-    (last-plain (λ (turns : LastTurns). both_done_line turns.first turns.second) words a.before new a.end s t a.says f (plain-end t e)) in
+    let is = stopped-so is_pair_end (record { done = refl; read = refl; write = refl; memory = refl })
+    (λ (turns : LastTurns). both_done_line turns.first turns.second) words a.before new a.end s t a.says f e in
     subst (ends.Ends LIMITS old a.before n) is a.ends.0
 
 pub not-refused : {P : Type 0} → (old before : FolderState) (n : Names) (answer : Status)

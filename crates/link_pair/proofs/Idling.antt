@@ -4,7 +4,7 @@ use Rattle.std.proofs.Common.{Option, Some, None, append-nil}
 use Rattle.std.specs.Prelude.{is_some, true}
 use Rattle.std.proofs.lemmas.Bool.{false≢true}
 use Rattle.outside_calls.specs.Folder.{FolderState, Appended, PartlyAppended, OnlyWrites}
-use Rattle.outside_calls.specs.Outputs.{Holds, HoldEach, KeepsEach, SomeRose}
+use Rattle.outside_calls.specs.Outputs.{Holds, HoldEach, KeepsEach}
 use Rattle.outside_calls.proofs.Holding.{Holds-kept, Holds-more, HoldsPart-more}
 use Rattle.frame_check.specs.declared.check.Check.{Check}
 use Rattle.frame_check.specs.declared.check.Check.TheVariants.{Sixteen}
@@ -27,7 +27,7 @@ use Rattle.line_run.specs.Scripted.{wire_at, link_of}
 use Rattle.line_run.specs.Stream.{Carried, and_sent}
 use Rattle.line_world.specs.Lines.{LinesWait, HaveArrived, ArrivesBoth, ArePut}
 use Rattle.line_world.specs.declared.lines.Lines.{Lines}
-use Rattle.line_run.specs.Names.{Written, inputs_of, outputs_of, received_of}
+use Rattle.line_run.specs.Names.{Written, outputs_of, received_of}
 use Rattle.line_world.specs.Turns.{held_of}
 use Rattle.line_world.specs.World.{KnowsFiles}
 use Rattle.line_world.proofs.Folders.{IsApart, receives-none, lines-only}
@@ -37,9 +37,9 @@ use Rattle.pair_run.specs.Pair.{Progress, Goes, Ended, turns_on_line, HearsIdly,
 use Rattle.pair_run.proofs.Agreeing.{length-lasting}
 use Rattle.link_pair.specs.declared.half.Half.{Half}
 use Rattle.link_pair.specs.declared.half.LinkEnd.{LinkEnd}
-use Rattle.link_pair.specs.declared.half.PairFault.{PairFault}
-use Rattle.link_pair.specs.declared.half.PairFault.TheVariants as faults
-use Rattle.link_pair.specs.Counts.{FaultCounts, IsWriting}
+use Rattle.line_world.specs.declared.step.RunFault.{RunFault}
+use Rattle.line_world.specs.declared.step.RunFault.TheVariants as faults
+use Rattle.line_world.specs.Turn.{IsWriting}
 use Rattle.link_pair.specs.Half.{HasStopped, StandsFor, HoldLeft, HasCome, IsEndedByLine, LinkStops, IsStopped, HalfEnds}
 use Rattle.link_pair.proofs.Going.{kept-none}
 
@@ -266,22 +266,8 @@ stopped-idly h script beside old new n files round p checks role a apart knows h
     none Answerer = refl
 
 -- so the folder ends the pair
-pub writes-ends : (c : Wire) (f : FolderState) (n : Written) (files : Both (List ℕ)) (round : ℕ) (p : Progress) (fault : PairFault)
+pub writes-ends : (c : Wire) (f : FolderState) (n : Written) (files : Both (List ℕ)) (round : ℕ) (p : Progress) (fault : RunFault)
     → IsWriting fault → IsStopped LinkStops c f n round p → HalfEnds c f n files round p fault
 writes-ends c f n files round p faults.WriteFault is h = h
 writes-ends c f n files round p faults.NoMemory is h = h
-writes-ends c f n files round p faults.ReadFault is h = absurd is
-writes-ends c f n files round p (faults.LineLost role symbol) is h = absurd is
-writes-ends c f n files round p (faults.ChanceMatch role turn) is h = absurd is
-
-trace-rose : (before now : List ℕ → ℕ) (n : Written) → SomeRose before now (n.trace ∷ []) → SomeRose before now (outputs_of n)
-trace-rose before now n (inl r) = inr (inr (inl r))
-trace-rose before now n (inr never) = absurd never
-
-pub writes-counts : (old new : FolderState) (n : Written) (fault : PairFault) → IsWriting fault
-    → FaultCounts old new (inputs_of n) (n.trace ∷ []) fault → FaultCounts old new (inputs_of n) (outputs_of n) fault
-writes-counts old new n faults.WriteFault is h = trace-rose old.write_faults new.write_faults n h
-writes-counts old new n faults.NoMemory is h = h
-writes-counts old new n faults.ReadFault is h = absurd is
-writes-counts old new n (faults.LineLost role symbol) is h = absurd is
-writes-counts old new n (faults.ChanceMatch role turn) is h = absurd is
+writes-ends c f n files round p fault is h = absurd is

@@ -32,7 +32,9 @@ use Rattle.pair_run.specs.Laws.{AreIsolated, FaintPairsAreIsolated}
 use Rattle.link_pair.specs.declared.command.LastTurns.{LastTurns}
 use Rattle.link_pair.specs.Words.{Names, inputs_of, run_of}
 use Rattle.link_pair.specs.Ends.{RanTo, pair_job}
-use Rattle.link_pair.specs.Isolates.{EndsPair, EndsRun, AreTold, HoldSame, AreLeftAlike, FaintLinksAreAlone, UndisplacedLinksAreAlone}
+use Rattle.run_inputs.specs.Answers.{EndsRun}
+use Rattle.link_pair.specs.Answers.{EndsPair}
+use Rattle.link_pair.specs.Isolates.{AreTold, HoldSame, AreLeftAlike, FaintLinksAreAlone, UndisplacedLinksAreAlone}
 use Rattle.link_pair.proofs.Headline.{isolated-of, own-ends, not-refused}
 
 pub record AloneLaws : Type 0 where

@@ -10,7 +10,7 @@ use Rattle.command_base.specs.Status.{IsRefusal}
 use Rattle.command_base.specs.Stops.{end_status}
 use Rattle.command_base.proofs.Jobs.{refusal-own}
 use Rattle.run_inputs.specs.declared.limits.TheConstants.{LIMITS}
-use Rattle.pair_run.specs.Ends.{PairEnd, BothDone, LinkLost, NotDetected, LineLost, ChanceMatch}
+use Rattle.pair_run.specs.Ends.{PairEnd, BothDone}
 use Rattle.link_pair.specs.declared.command.LastTurns.{LastTurns}
 use Rattle.link_pair.specs.Words.{Names}
 use Rattle.link_pair.specs.Answers.{answer_of, result_of}
@@ -19,18 +19,12 @@ use Rattle.link_pair.specs.Ends.{EndsBy, Ends}
 -- the answer of a pair that ended is that of its end
 pub answer-is : (end : PairEnd) → end_status (result_of end) ≡ answer_of end
 answer-is (BothDone first second) = λ k. status.Done
-answer-is (LinkLost link role segment turn) = λ k. answer_of (LinkLost link role segment turn)
-answer-is (NotDetected link turn) = λ k. answer_of (NotDetected link turn)
-answer-is (LineLost role symbol) = λ k. answer_of (LineLost role symbol)
-answer-is (ChanceMatch role round) = λ k. answer_of (ChanceMatch role round)
+answer-is end = λ k. answer_of end
 
 -- and is no refusal
 no-refusal : (end : PairEnd) → IsRefusal (answer_of end) → ⊥
 no-refusal (BothDone first second) r = r
-no-refusal (LinkLost link role segment turn) r = r
-no-refusal (NotDetected link turn) r = r
-no-refusal (LineLost role symbol) r = r
-no-refusal (ChanceMatch role round) r = r
+no-refusal end r = r
 
 -- the answer by which a pair stopped is that of its end
 pub own-answer : (answer : Status) (end : PairEnd) (result : Result LastTurns Stop) → result ≡ Err (stops.Own answer)

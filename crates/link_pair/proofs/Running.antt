@@ -22,14 +22,15 @@ use Rattle.run_inputs.specs.Inputs.{Refuses}
 use Rattle.run_commands.proofs.Running.Runs.{file-is}
 use Rattle.pair_run.specs.Beside.{first_wire, second_wire}
 use Rattle.pair_run.specs.Pair.{Progress, Goes, Ended, turns_in, Lasts}
-use Rattle.pair_run.specs.Ends.{PairEnd, BothDone, LinkLost, NotDetected, LineLost, ChanceMatch}
-use Rattle.link_pair.specs.declared.half.PairFault.{PairFault}
-use Rattle.link_pair.specs.declared.half.PairFault.TheVariants as faults
-use Rattle.link_pair.specs.Counts.{FaultCounts}
+use Rattle.pair_run.specs.Ends.{PairEnd, BothDone, LineLost, ChanceMatch}
+use Rattle.line_world.specs.declared.step.RunFault.{RunFault}
+use Rattle.line_world.specs.declared.step.RunFault.TheVariants as faults
+use Rattle.line_world.specs.Turn.{FaultCountsOver}
 use Rattle.link_pair.specs.Half.{LinkStops, LinkStopsReading}
 use Rattle.link_pair.specs.Pair.{PairEnded, PairStops, FaultEnds}
 use Rattle.link_pair.specs.Words.{Names, files_of, inputs_of, outputs_of}
-use Rattle.link_pair.specs.Answers.{result_of, fault_stop}
+use Rattle.run_inputs.specs.Answers.{fault_stop}
+use Rattle.link_pair.specs.Answers.{result_of}
 use Rattle.link_pair.specs.Ends.{IsBegun, Takes, RanTo, IsFew, StopsInRound, StopsCreating, EndsBy, Ends}
 
 -- the inputs were not taken
@@ -128,8 +129,8 @@ stops-in S soon old mid now next n script p s = record {
 }
 
 -- a fault ended the rounds
-pub ends-in-round : LineRunsEndSoon → (old mid now next : FolderState) (n : Names) (script : ScriptValue) (fault : PairFault)
-    → Phases LIMITS old mid now next n script → FaultCounts now next (files_of n) (outputs_of n) fault
+pub ends-in-round : LineRunsEndSoon → (old mid now next : FolderState) (n : Names) (script : ScriptValue) (fault : RunFault)
+    → Phases LIMITS old mid now next n script → FaultCountsOver now next (files_of n) (outputs_of n) fault
     → FaultEnds script next n.first n.second fault → EndsBy LIMITS old next n (fault_stop fault)
 ends-in-round soon old mid now next n script faults.ReadFault p counts e =
     inr (
@@ -144,9 +145,10 @@ ends-in-round soon old mid now next n script (faults.LineLost role symbol) p cou
     inr (record { end = LineLost role symbol; result_is = refl; ran = ran-to old mid now next n script (LineLost role symbol) p e })
 ends-in-round soon old mid now next n script (faults.ChanceMatch role turn) p counts e =
     inr (record { end = ChanceMatch role turn; result_is = refl; ran = ran-to old mid now next n script (ChanceMatch role turn) p e })
+ends-in-round soon old mid now next n script fault p counts e = absurd e
 
 -- what a fault counts
-pub round-counts : (now next : FolderState) (n : Names) (fault : PairFault) → FaultCounts now next (files_of n) (outputs_of n) fault
+pub round-counts : (now next : FolderState) (n : Names) (fault : RunFault) → FaultCountsOver now next (files_of n) (outputs_of n) fault
     → StopCounts now next (inputs_of n) (outputs_of n) (fault_stop fault)
 round-counts now next n faults.ReadFault (inl r) = inl r
 round-counts now next n faults.ReadFault (inr (inl r)) = inr (inl r)
@@ -155,21 +157,14 @@ round-counts now next n faults.ReadFault (inr (inr (inr (inl r)))) = inr (inr (i
 round-counts now next n faults.ReadFault (inr (inr (inr (inr never)))) = absurd never
 round-counts now next n faults.WriteFault r = r
 round-counts now next n faults.NoMemory r = r
-round-counts now next n (faults.LineLost role symbol) stand = (tt, stand)
-round-counts now next n (faults.ChanceMatch role turn) stand = (tt, stand)
+round-counts now next n fault stand = (tt, stand)
 
 -- both links ended
 pub ends-of : (l : Limits) (old new : FolderState) (n : Names) (end : PairEnd) → RanTo l old new n end → Ends l old new n (result_of end)
 ends-of l old new n (BothDone first second) e = e
-ends-of l old new n (LinkLost link role segment turn) e = inr (record { end = LinkLost link role segment turn; result_is = refl; ran = e })
-ends-of l old new n (NotDetected link turn) e = inr (record { end = NotDetected link turn; result_is = refl; ran = e })
-ends-of l old new n (LineLost role symbol) e = inr (record { end = LineLost role symbol; result_is = refl; ran = e })
-ends-of l old new n (ChanceMatch role round) e = inr (record { end = ChanceMatch role round; result_is = refl; ran = e })
+ends-of l old new n end e = inr (record { end = end; result_is = refl; ran = e })
 
 pub result-counts : (old new : FolderState) (inputs outputs : List (List ℕ)) (end : PairEnd) → CountsStand old new
     → EndCounts old new inputs outputs (result_of end)
 result-counts old new inputs outputs (BothDone first second) stand = stand
-result-counts old new inputs outputs (LinkLost link role segment turn) stand = (tt, stand)
-result-counts old new inputs outputs (NotDetected link turn) stand = (tt, stand)
-result-counts old new inputs outputs (LineLost role symbol) stand = (tt, stand)
-result-counts old new inputs outputs (ChanceMatch role round) stand = (tt, stand)
+result-counts old new inputs outputs end stand = (tt, stand)

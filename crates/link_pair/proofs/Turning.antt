@@ -28,8 +28,8 @@ use Rattle.pair_run.proofs.Placing.{length-on-line}
 use Rattle.link_pair.specs.declared.half.Half.{Half}
 use Rattle.link_pair.specs.declared.half.LinkEnd.{LinkEnd}
 use Rattle.link_pair.specs.declared.half.LinkEnd.TheVariants as link_ends
-use Rattle.link_pair.specs.declared.half.PairFault.{PairFault}
-use Rattle.link_pair.specs.declared.half.PairFault.TheVariants as faults
+use Rattle.line_world.specs.declared.step.RunFault.{RunFault}
+use Rattle.line_world.specs.declared.step.RunFault.TheVariants as faults
 use Rattle.link_pair.specs.declared.two_links.Pair.{Pair}
 use Rattle.link_pair.specs.declared.two_links.Endings.{Endings}
 use Rattle.link_pair.specs.Half.{run_end, last_turn, left_by, HoldLeft, Follows, HasCome, IsEndedByLine, LinkStops, LinkStopsReading, IsStopped}
@@ -53,7 +53,7 @@ pub record Leaves (old new : FolderState) (n m : Written) (own : Written) : Type
 
 -- what a link's turn answers, whatever goes beside it
 abbrev pub Answers : Half → Lines → ScriptValue → FolderState → FolderState → Written → ℕ → Half → Lines
-    → Result (Unit {0}) PairFault → Type 0
+    → Result (Unit {0}) RunFault → Type 0
 Answers half lines script old new n round h l answer =
     (beside : Beside) (links : ℕ) (streams : Both (List Carried)) (files : Both (List ℕ)) (p : Progress)
     → HalfAt half lines old n script beside links streams files round p
@@ -416,12 +416,12 @@ stops-second S x old new n m a around e =
     }
 
 pub fault-first : PairLaws
-    → (x : Pair) (h : Half) (l : Lines) (old new : FolderState) (n m : Written) (a : Awaits x old n m First) (fault : PairFault)
+    → (x : Pair) (h : Half) (l : Lines) (old new : FolderState) (n m : Written) (a : Awaits x old n m First) (fault : RunFault)
     → Leaves old new n m n → Answers x.first x.lines x.script old new n x.round h l (Err fault) → FaultEndsIn x.script new n m x.round fault
 fault-first laws x h l old new n m a fault around answers =
     go fault (answers (after_second (turns_in a.q)) 2 (streams_at First x.round a.p a.q) a.files a.p (first-at laws x old n m a))
   where
-    go : (fault : PairFault) → HalfEnds (wire_at x.script x.first.dlci (after_second (turns_in a.q))) new n a.files x.round a.p fault
+    go : (fault : RunFault) → HalfEnds (wire_at x.script x.first.dlci (after_second (turns_in a.q))) new n a.files x.round a.p fault
         → FaultEndsIn x.script new n m x.round fault
     go faults.ReadFault e = stops-first LinkStopsReading x old new n m a around e
     go faults.WriteFault e = stops-first LinkStops x old new n m a around e
@@ -430,14 +430,15 @@ fault-first laws x h l old new n m a fault around answers =
     go (faults.ChanceMatch role turn) e =
         subst (λ t. EndedIn x.script new n m x.round (pairs.ChanceMatch role t)) (sym e.0)
         (line-first x old new n m a (lines.ChanceMatch role) around e.1)
+    go fault e = absurd e
 
 pub fault-second : PairLaws
-    → (x : Pair) (h : Half) (l : Lines) (old new : FolderState) (n m : Written) (a : Awaits x old n m Second) (fault : PairFault)
+    → (x : Pair) (h : Half) (l : Lines) (old new : FolderState) (n m : Written) (a : Awaits x old n m Second) (fault : RunFault)
     → Leaves old new n m m → Answers x.second x.lines x.script old new m x.round h l (Err fault) → FaultEndsIn x.script new n m x.round fault
 fault-second laws x h l old new n m a fault around answers =
     go fault (answers (after_first (turns_in a.p)) 2 (streams_at Second x.round a.p a.q) a.others a.q (second-at laws x old n m a))
   where
-    go : (fault : PairFault) → HalfEnds (wire_at x.script x.second.dlci (after_first (turns_in a.p))) new m a.others x.round a.q fault
+    go : (fault : RunFault) → HalfEnds (wire_at x.script x.second.dlci (after_first (turns_in a.p))) new m a.others x.round a.q fault
         → FaultEndsIn x.script new n m x.round fault
     go faults.ReadFault e = stops-second LinkStopsReading x old new n m a around e
     go faults.WriteFault e = stops-second LinkStops x old new n m a around e
@@ -446,13 +447,14 @@ fault-second laws x h l old new n m a fault around answers =
     go (faults.ChanceMatch role turn) e =
         subst (λ t. EndedIn x.script new n m x.round (pairs.ChanceMatch role t)) (sym e.0)
         (line-second x old new n m a (lines.ChanceMatch role) around e.1)
+    go fault e = absurd e
 
 -- ---- what is answered of both links
 
-abbrev answered : Option Endings → Result (Option Endings) PairFault
+abbrev answered : Option Endings → Result (Option Endings) RunFault
 answered o = Ok o
 
-value : Option Endings → Result (Option Endings) PairFault → Option Endings
+value : Option Endings → Result (Option Endings) RunFault → Option Endings
 value other (Ok z) = z
 value other (Err fault) = other
 
@@ -469,5 +471,5 @@ pub some-not-none : {P : Type 0} {endings : Endings} → answered (Some endings)
 some-not-none e = absurd cc
 
 -- a fault is no answer
-pub fault-not-done : {P : Type 0} {fault : PairFault} {o : Option Endings} → Err fault ≡ answered o → P
+pub fault-not-done : {P : Type 0} {fault : RunFault} {o : Option Endings} → Err fault ≡ answered o → P
 fault-not-done e = absurd cc

@@ -7,9 +7,8 @@ use Rattle.noise_script.specs.Script.{ScriptValue}
 use Rattle.noise_script.specs.Grammar.{ScriptSpelling}
 use Rattle.link_run.specs.Counts.{lost_slots}
 use Rattle.link_run.specs.Run.{Turn}
-use Rattle.line_run.specs.Ends.{RunEnd, Left, turns_heard, StarvedBy}
+use Rattle.line_run.specs.Ends.{RunEnd, Left, turns_heard, StarvedBy, GivesUp}
 use Rattle.line_run.specs.Scripted.{link_of}
-use Rattle.line_ends.specs.Causes.{GivesUp}
 use Rattle.line_ends.specs.Completes.{IsQuiet}
 use Rattle.command_base.specs.declared.status.Status.{Status}
 use Rattle.command_base.specs.declared.status.Status.TheVariants.{NoMemory}
@@ -19,17 +18,9 @@ use Rattle.line_run.specs.Names as written
 use Rattle.line_world.specs.Turns.{held_of}
 use Rattle.run_commands.specs.Running.Completes.{NamesFew, IsUndisturbed}
 use Rattle.pair_run.specs.Beside.{first_wire, second_wire}
-use Rattle.pair_run.specs.Ends.{PairEnd, BothDone, LinkLost, NotDetected, LineLost, ChanceMatch, BothEnd, PairRunsTo}
+use Rattle.pair_run.specs.Ends.{PairEnd, IsByLine, BothEnd, PairRunsTo}
 use Rattle.link_pair.specs.Words.{Names, inputs_of, outputs_of}
 use Rattle.link_pair.specs.Answers.{answer_of}
-
--- The line ends the pair, and no link does.
-abbrev pub IsByLine : PairEnd → Type 0
-IsByLine (LineLost role symbol) = Unit {0}
-IsByLine (ChanceMatch role round) = Unit {0}
-IsByLine (BothDone first second) = ⊥
-IsByLine (LinkLost link role segment turn) = ⊥
-IsByLine (NotDetected link turn) = ⊥
 
 -- The line doesn't end the pair of a script and these files: it isn't lost, and nothing received is a chance match.
 abbrev pub LineStays : ScriptValue → Both (List ℕ) → Both (List ℕ) → Type 0

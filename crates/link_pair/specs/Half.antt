@@ -22,7 +22,7 @@ use Rattle.line_world.specs.declared.modems.Modems.{Modems}
 use Rattle.line_world.specs.declared.step.Step.{Step}
 use Rattle.line_world.specs.declared.step.Step.TheVariants as steps
 use Rattle.line_world.specs.declared.step.RunFault.{RunFault}
-use Rattle.line_world.specs.declared.step.RunFault.TheVariants as run_faults
+use Rattle.line_world.specs.declared.step.RunFault.TheVariants as faults
 use Rattle.line_run.specs.Names.{Written, outputs_of}
 use Rattle.line_world.specs.Link.{LinkStands}
 use Rattle.line_world.specs.Modems.{AreKept, has_turns}
@@ -34,8 +34,6 @@ use Rattle.pair_run.specs.Ends.{LeavesOf, text_of}
 use Rattle.link_pair.specs.declared.half.Half.{Half}
 use Rattle.link_pair.specs.declared.half.LinkEnd.{LinkEnd}
 use Rattle.link_pair.specs.declared.half.LinkEnd.TheVariants as link_ends
-use Rattle.link_pair.specs.declared.half.PairFault.{PairFault}
-use Rattle.link_pair.specs.declared.half.PairFault.TheVariants as faults
 
 -- how a link's run ended
 abbrev pub run_end : LinkEnd → RunEnd
@@ -50,16 +48,12 @@ last_turn (link_ends.LinkLost role segment turn) = turn
 last_turn (link_ends.NotDetected turn) = turn
 
 -- what a turn comes to for a pair
-abbrev pub sorted : Result Step RunFault → Result (Option LinkEnd) PairFault
+abbrev pub sorted : Result Step RunFault → Result (Option LinkEnd) RunFault
 sorted (Ok steps.Going) = Ok None
 sorted (Ok (steps.Done turn)) = Ok (Some (link_ends.Done turn))
-sorted (Err (run_faults.LinkLost role segment turn)) = Ok (Some (link_ends.LinkLost role segment turn))
-sorted (Err (run_faults.NotDetected turn)) = Ok (Some (link_ends.NotDetected turn))
-sorted (Err (run_faults.LineLost role symbol)) = Err (faults.LineLost role symbol)
-sorted (Err (run_faults.ChanceMatch role turn)) = Err (faults.ChanceMatch role turn)
-sorted (Err run_faults.ReadFault) = Err faults.ReadFault
-sorted (Err run_faults.WriteFault) = Err faults.WriteFault
-sorted (Err run_faults.NoMemory) = Err faults.NoMemory
+sorted (Err (faults.LinkLost role segment turn)) = Ok (Some (link_ends.LinkLost role segment turn))
+sorted (Err (faults.NotDetected turn)) = Ok (Some (link_ends.NotDetected turn))
+sorted (Err fault) = Err fault
 
 -- ---- how far a link has come
 
@@ -180,16 +174,17 @@ pub record IsStopped (Stops : Wire → Link → FolderState → Written → ℕ 
   pub lasts : Lasts c (link_of c.script others) round p
   pub stops : Stops c (link_of c.script others) f n round p
 
--- why the pair ends in it
-abbrev pub HalfEnds : Wire → FolderState → Written → Both (List ℕ) → ℕ → Progress → PairFault → Type 0
+-- why the pair ends in it: for the folder, or by the line
+abbrev pub HalfEnds : Wire → FolderState → Written → Both (List ℕ) → ℕ → Progress → RunFault → Type 0
 HalfEnds c f n files round p faults.ReadFault = IsStopped LinkStopsReading c f n round p
 HalfEnds c f n files round p faults.WriteFault = IsStopped LinkStops c f n round p
 HalfEnds c f n files round p faults.NoMemory = IsStopped LinkStops c f n round p
 HalfEnds c f n files round p (faults.LineLost role symbol) = IsEndedByLine c f n files round p (lines.LineLost role symbol)
 HalfEnds c f n files round p (faults.ChanceMatch role turn) =
     (turn ≡ round) × IsEndedByLine c f n files round p (lines.ChanceMatch role)
+HalfEnds c f n files round p fault = ⊥
 
 abbrev pub HalfAnswers : Half → Lines → Wire → ℕ → Both (List Carried) → FolderState → Written → Both (List ℕ) → ℕ → Progress
-    → Result (Unit {0}) PairFault → Type 0
+    → Result (Unit {0}) RunFault → Type 0
 HalfAnswers h l c links streams f n files round p (Ok done) = HasCome h l c links streams f n round p
 HalfAnswers h l c links streams f n files round p (Err fault) = HalfEnds c f n files round p fault

@@ -23,11 +23,11 @@ use Rattle.run_commands.specs.Running.Headline.{KeptOrPrefix, HoldsWhole}
 use Rattle.run_commands.specs.Running.ReadOff.{AreReadOff}
 use Rattle.pair_run.specs.Beside.{first_wire, second_wire}
 use Rattle.pair_run.specs.Pair.{Progress, Goes, Ended, turns_in, Lasts, PairAt}
-use Rattle.pair_run.specs.Ends.{Which, PairEnd, BothDone, LinkLost, NotDetected, LineLost, ChanceMatch, firsts_at, PairRunsTo}
+use Rattle.pair_run.specs.Ends.{PairEnd, BothDone, firsts_at, PairRunsTo}
 use Rattle.pair_run.specs.Ends.{by_links, by_line}
 use Rattle.pair_run.specs.Laws.{AreIsolated}
 use Rattle.link_pair.specs.Words.{Names, inputs_of, outputs_of}
-use Rattle.link_pair.specs.Answers.{number_of}
+use Rattle.link_pair.specs.Answers.{ByAnswer}
 use Rattle.link_pair.specs.Ends.{AreFiles, IsFew}
 use Rattle.link_pair.specs.Isolates.{AreTold}
 
@@ -103,14 +103,7 @@ pub record Ran (old new : FolderState) (n : Names) (end : PairEnd) : Type 0 wher
 abbrev pub RanBy : FolderState → FolderState → Names → Status → Type 0
 RanBy old new n status.Done = (first : ℕ) × (second : ℕ) × Said old new (both_done_line first second) × Ran old new n
     (BothDone first second)
-RanBy old new n (status.PairLinkLost link role segment turn) =
-    (which : Which) × (link ≡ number_of which) × Ran old new n (LinkLost which role segment turn)
-RanBy old new n (status.PairNotDetected link turn) = (which : Which) × (link ≡ number_of which) × Ran old new n (NotDetected which turn)
-RanBy old new n (status.LineLost role symbol) = Ran old new n (LineLost role symbol)
-RanBy old new n (status.ChanceMatch role turn) = Ran old new n (ChanceMatch role turn)
-RanBy old new n (status.LinkLost role segment turn) = ⊥
-RanBy old new n (status.NotDetected turn) = ⊥
-RanBy old new n s = Unit {0}
+RanBy old new n s = ByAnswer (Ran old new n) (Unit {0}) s
 
 -- Whatever the line does, each end receives a prefix of the file of the other end of its link; done means all four whole; every other end
 -- has its cause.

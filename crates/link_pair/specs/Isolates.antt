@@ -5,32 +5,15 @@ use Rattle.noise_script.specs.Script.{ScriptValue}
 use Rattle.noise_script.specs.Grammar.{ScriptSpelling}
 use Rattle.line_ends.specs.Completes.{IsFaint, DisplacesNone}
 use Rattle.command_base.specs.declared.status.Status.{Status}
-use Rattle.command_base.specs.declared.status.Status.TheVariants as status
 use Rattle.command_base.specs.Job.{Answers}
+use Rattle.run_inputs.specs.Answers.{EndsRun}
 use Rattle.run_inputs.specs.Words.{RunNames}
 use Rattle.run_inputs.specs.Words as alone
 use Rattle.run_commands.specs.Running.Ends.{run_job}
 use Rattle.pair_run.specs.Ends.{Which}
 use Rattle.link_pair.specs.Words.{Names, inputs_of, run_of}
+use Rattle.link_pair.specs.Answers.{EndsPair}
 use Rattle.link_pair.specs.Ends.{pair_job}
-
--- An answer by which a pair itself ends: no input is refused, the folder doesn't fail, and memory is found.
-abbrev pub EndsPair : Status → Type 0
-EndsPair status.Done = Unit {0}
-EndsPair (status.LineLost role symbol) = Unit {0}
-EndsPair (status.ChanceMatch role turn) = Unit {0}
-EndsPair (status.PairLinkLost link role segment turn) = Unit {0}
-EndsPair (status.PairNotDetected link turn) = Unit {0}
-EndsPair answer = ⊥
-
--- and a run
-abbrev pub EndsRun : Status → Type 0
-EndsRun status.Done = Unit {0}
-EndsRun (status.LineLost role symbol) = Unit {0}
-EndsRun (status.ChanceMatch role turn) = Unit {0}
-EndsRun (status.LinkLost role segment turn) = Unit {0}
-EndsRun (status.NotDetected turn) = Unit {0}
-EndsRun answer = ⊥
 
 -- the folder tells each of these names
 abbrev pub AreTold : FolderState → List (List ℕ) → Type 0

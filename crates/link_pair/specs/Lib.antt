@@ -5,6 +5,5 @@ pub mod Headline
 pub mod Completes
 pub mod Promise
 pub mod Isolates
-pub mod Counts
 pub mod Half
 pub mod Pair

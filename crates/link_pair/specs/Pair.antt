@@ -1,5 +1,6 @@
 -- How far a pair has come, and how it ends.
 use Rattle.std.specs.Prelude.{◌≡◌, ℕ, max, true, ◌||◌, List, [], ◌∷◌, length, Option, Some, None}
+use Rattle.std.specs.Option.{MatchOption}
 use Rattle.outside_calls.specs.Folder.{FolderState}
 use Rattle.outside_calls.specs.Outputs.{HoldEach}
 use Rattle.shared_terms.specs.declared.role.Role.TheVariants.{Originator, Answerer}
@@ -16,14 +17,15 @@ use Rattle.line_world.specs.Turns.{held_of}
 use Rattle.line_world.specs.World.{KnowsFiles}
 use Rattle.pair_run.specs.Beside.{first_dlci, second_dlci, first_wire, second_wire}
 use Rattle.pair_run.specs.Pair.{Progress, turns_in, turns_on_line, PairAt}
-use Rattle.pair_run.specs.Ends.{Which, First, Second, PairEnd, LineLost, ChanceMatch, end_of, is_going, firsts_at, PairRunsTo, by_links, by_line}
+use Rattle.pair_run.specs.Ends.{Which, First, Second, PairEnd, end_of, is_going, firsts_at, PairRunsTo, by_links, by_line}
 use Rattle.pair_run.specs.Stream.{both_sent, first_sent}
 use Rattle.link_pair.specs.declared.half.LinkEnd.{LinkEnd}
-use Rattle.link_pair.specs.declared.half.PairFault.{PairFault}
-use Rattle.link_pair.specs.declared.half.PairFault.TheVariants as faults
+use Rattle.line_world.specs.declared.step.RunFault.{RunFault}
+use Rattle.line_world.specs.declared.step.RunFault.TheVariants as faults
 use Rattle.link_pair.specs.declared.two_links.Pair.{Pair}
 use Rattle.link_pair.specs.declared.two_links.Endings.{Endings}
 use Rattle.link_pair.specs.declared.two_links.PairNames.{PairNames}
+use Rattle.link_pair.specs.Answers.{end_by_line}
 use Rattle.link_pair.specs.Half.{run_end, last_turn, StandsFor, StandsFirst, HoldLeft, LinkStops, LinkStopsReading}
 
 -- the files that are sent over both links, and all that is written, in the order of a pair's words
@@ -161,17 +163,15 @@ pub record StopsIn (Stops : Wire → Link → FolderState → Written → ℕ �
   pub in_round : stops.round ≡ round
 
 -- why a pair ends before both links have ended
-abbrev pub FaultEnds : ScriptValue → FolderState → Written → Written → PairFault → Type 0
+abbrev pub FaultEnds : ScriptValue → FolderState → Written → Written → RunFault → Type 0
 FaultEnds script f n m faults.ReadFault = PairStops LinkStopsReading script f n m
 FaultEnds script f n m faults.WriteFault = PairStops LinkStops script f n m
 FaultEnds script f n m faults.NoMemory = PairStops LinkStops script f n m
-FaultEnds script f n m (faults.LineLost role symbol) = PairEnded script f n m (LineLost role symbol)
-FaultEnds script f n m (faults.ChanceMatch role turn) = PairEnded script f n m (ChanceMatch role turn)
+FaultEnds script f n m fault = MatchOption (end_by_line fault) ⊥ (PairEnded script f n m)
 
 -- and in which round
-abbrev pub FaultEndsIn : ScriptValue → FolderState → Written → Written → ℕ → PairFault → Type 0
+abbrev pub FaultEndsIn : ScriptValue → FolderState → Written → Written → ℕ → RunFault → Type 0
 FaultEndsIn script f n m round faults.ReadFault = StopsIn LinkStopsReading script f n m round
 FaultEndsIn script f n m round faults.WriteFault = StopsIn LinkStops script f n m round
 FaultEndsIn script f n m round faults.NoMemory = StopsIn LinkStops script f n m round
-FaultEndsIn script f n m round (faults.LineLost role symbol) = EndedIn script f n m round (LineLost role symbol)
-FaultEndsIn script f n m round (faults.ChanceMatch role turn) = EndedIn script f n m round (ChanceMatch role turn)
+FaultEndsIn script f n m round fault = MatchOption (end_by_line fault) ⊥ (EndedIn script f n m round)

@@ -9,19 +9,19 @@ ghost use Rattle.link_pair.specs.Pair.{IsFirst, script_of};
 ghost use Rattle.link_pair.specs.Words.{named, inputs_of, outputs_of};
 ghost use Rattle.pair_run.specs.Ends.{end_of};
 ghost use Rattle.link_pair.specs.Half.{run_end};
-ghost use Rattle.link_pair.specs.Answers.{fault_stop, last_turn_of, result_of};
+ghost use Rattle.link_pair.specs.Answers.{last_turn_of, result_of};
 ghost use Rattle.link_pair.specs.Ends.{Ends, IsBegun, pair_job};
 ghost use Rattle.link_pair.specs.Headline.{Headline};
 ghost use Rattle.link_pair.specs.Completes.{Completes};
 
 use crate::laws::{answers_keep_the_headline, right_pairs_are_done};
-use crate::{Endings, LinkEnd, Pair, PairFault, PairWords, pair_rounds};
+use crate::{Endings, LinkEnd, Pair, PairWords, pair_rounds};
 use command_base::{
     Status, Stop, apart_names_differ, both_done_line, create_outputs, tell, tell_stop,
 };
 use line_run::laws::line_runs_end_soon;
 use outside_calls::{Folder, FolderFault};
-use run_inputs::{LIMITS, open_inputs};
+use run_inputs::{LIMITS, open_inputs, stop_of};
 use std::alloc::Global;
 
 /// The place of the first file's name among the words.
@@ -70,19 +70,6 @@ fn last_turns(endings: Endings) -> Result<LastTurns, Stop>
     match last_turn(2, endings.second) {
         Ok(second) => Ok(LastTurns { first, second }),
         Err(stop) => Err(stop),
-    }
-}
-
-/// Why a pair stops that ends by this fault.
-fn stop_of(fault: PairFault) -> Stop
-    ensures { result ≡ fault_stop fault }
-{
-    match fault {
-        PairFault::ReadFault => Stop::Read(FolderFault::Failed),
-        PairFault::WriteFault => Stop::Write(FolderFault::Failed),
-        PairFault::LineLost { role, symbol } => Stop::Own(Status::LineLost { role, symbol }),
-        PairFault::ChanceMatch { role, turn } => Stop::Own(Status::ChanceMatch { role, turn }),
-        PairFault::NoMemory => Stop::Write(FolderFault::NoMemory),
     }
 }
 

@@ -3,26 +3,24 @@ ghost use Rattle.std.specs.Prelude.{◌≡◌, ℕ, ◌<◌, [], ◌∷◌, is_s
 ghost use Rattle.shared_terms.specs.declared.role.Role.{Role};
 ghost use Rattle.shared_terms.specs.Both.{Both};
 ghost use Rattle.detection.specs.Slots.{Signal};
-ghost use Rattle.line_texts.specs.LineText.{chance_line};
 ghost use Rattle.line_run.specs.Sampled.{Wire};
 ghost use Rattle.line_run.specs.Scripted.{wire_at};
 ghost use Rattle.line_run.specs.Stream.{Carried, and_sent};
-ghost use Rattle.outside_calls.specs.Folder.{Appended, PartlyAppended, OnlyWrites};
 ghost use Rattle.outside_calls.specs.Outputs.{AreApartFrom, OnlyPuts};
 ghost use Rattle.line_world.specs.Lines.{LinesWait, HaveArrived};
+ghost use Rattle.line_world.specs.Turn.{CountsOver};
 ghost use Rattle.line_run.specs.Names.{inputs_of, outputs_of, written};
 ghost use Rattle.pair_run.specs.Beside.{idle_turn};
 ghost use Rattle.pair_run.specs.Pair.{Progress};
-ghost use Rattle.link_pair.specs.Counts.{CountsBy, IsWriting, writing_fault};
 ghost use Rattle.link_pair.specs.Half as halves;
 
 use frame_check::Check;
 use lapm_frames::Sent;
 use line_run::laws::scripts_make_links;
-use line_world::{LineEnd, Lines, Modems, Names, RunFault, Step, append_chance};
+use line_world::{LineEnd, Lines, Modems, Names, RunFault, Step, write_chance};
 use link_run::laws::turns_deliver_what_came;
 use noise_script::Script;
-use outside_calls::{Folder, FolderFault, NoMemory};
+use outside_calls::{Folder, NoMemory};
 use shared_terms::{Both, Role};
 use std::alloc::Global;
 
@@ -35,21 +33,6 @@ pub enum LinkEnd {
     LinkLost { role: Role, segment: u64, turn: u64 },
     /// The originator saw no pattern of the answerer's.
     NotDetected { turn: u64 },
-}
-
-/// Why a pair ends before both links have ended. Where the line ends it, the role is that of the end that hears.
-#[derive(Clone, Copy, PartialEq, Eq)]
-pub enum PairFault {
-    /// A file that is sent was not read.
-    ReadFault,
-    /// An output was not written.
-    WriteFault,
-    /// The symbol counts all of that direction from 0, of both links.
-    LineLost { role: Role, symbol: u64 },
-    /// Something else than what was sent was received. The turn is the round.
-    ChanceMatch { role: Role, turn: u64 },
-    /// The folder had no memory.
-    NoMemory,
 }
 
 /// A link of a pair: its ends, and how it ended where it has.
@@ -73,8 +56,8 @@ impl Drop for Half {
     }
 }
 
-/// What a turn comes to for a pair: nothing where the link goes on, how the link ended, or why the pair ends.
-fn sorted(answer: Result<Step, RunFault>) -> Result<Option<LinkEnd>, PairFault>
+/// What a turn comes to for a pair: nothing where the link goes on, how the link ended, or why the pair ends, by the folder or the line.
+fn sorted(answer: Result<Step, RunFault>) -> Result<Option<LinkEnd>, RunFault>
     ensures { result ≡ halves.sorted answer }
 {
     match answer {
@@ -92,21 +75,7 @@ fn sorted(answer: Result<Step, RunFault>) -> Result<Option<LinkEnd>, PairFault>
             turn,
         })),
         Err(RunFault::NotDetected { turn }) => Ok(Some(LinkEnd::NotDetected { turn })),
-        Err(RunFault::LineLost { role, symbol }) => Err(PairFault::LineLost { role, symbol }),
-        Err(RunFault::ChanceMatch { role, turn }) => Err(PairFault::ChanceMatch { role, turn }),
-        Err(RunFault::ReadFault) => Err(PairFault::ReadFault),
-        Err(RunFault::WriteFault) => Err(PairFault::WriteFault),
-        Err(RunFault::NoMemory) => Err(PairFault::NoMemory),
-    }
-}
-
-/// Why a pair ends whose folder wrote no line.
-fn writing_fault(fault: FolderFault) -> PairFault
-    ensures { result ≡ writing_fault fault }
-{
-    match fault {
-        FolderFault::Failed => PairFault::WriteFault,
-        FolderFault::NoMemory => PairFault::NoMemory,
+        Err(fault) => Err(fault),
     }
 }
 
@@ -126,26 +95,6 @@ fn send_flags(lines: &mut Lines, dlci: u8)
         answ: Check::Sixteen,
     };
     lines.send(flags, &checks, dlci);
-}
-
-/// Appends the one line of a round in which that role's slot is a chance match.
-fn write_chance<F: Folder>(
-    folder: &mut F,
-    name: &str,
-    turn: u64,
-    role: Role,
-) -> Result<(), PairFault>
-    ensures ok { OnOk result (Appended (F.state folder.old) (F.state folder.new) name.now (chance_line turn role)) }
-    ensures err { OnErr result (PartlyAppended (F.state folder.old) (F.state folder.new) name.now (chance_line turn role)) }
-    ensures only { OnlyWrites (F.state folder.old) (F.state folder.new) name.now }
-    ensures counts { (names : List (List ℕ)) → CountsBy (F.state folder.old) (F.state folder.new) names (name.now ∷ []) result }
-    ensures write { IfErr result IsWriting }
-    ensures came { F.came folder.old folder.new }
-{
-    match append_chance(folder, name, turn, role) {
-        Ok(()) => Ok(()),
-        Err(fault) => Err(writing_fault(fault)),
-    }
 }
 
 impl Half {
@@ -179,7 +128,7 @@ impl Half {
         script: &Script,
         folder: &mut F,
         names: &Names<'_>,
-    ) -> Result<(), PairFault>
+    ) -> Result<(), RunFault>
         requires going { self.old.ended ≡ None }
         requires ready { (round : ℕ) × HalfIsReady self.old lines.old script.now (F.state folder.old) (written names.now) round }
         requires apart { AreApartFrom (inputs_of (written names.now)) (outputs_of (written names.now)) }
@@ -189,7 +138,7 @@ impl Half {
         ensures channel { self.new.dlci ≡ self.old.dlci }
         ensures only { OnlyPuts (F.state folder.old) (F.state folder.new) (outputs_of (written names.now)) }
         ensures came { F.came folder.old folder.new }
-        ensures counts { CountsBy (F.state folder.old) (F.state folder.new) (inputs_of (written names.now)) (outputs_of (written names.now)) result }
+        ensures counts { CountsOver (F.state folder.old) (F.state folder.new) (inputs_of (written names.now)) (outputs_of (written names.now)) result }
     {
         turns_deliver_what_came();
         scripts_make_links();
@@ -212,7 +161,7 @@ impl Half {
         round: u64,
         folder: &mut F,
         names: &Names<'_>,
-    ) -> Result<(), PairFault>
+    ) -> Result<(), RunFault>
         requires ended { is_some self.old.ended ≡ true }
         requires ready { HalfIsReady self.old lines.old script.now (F.state folder.old) (written names.now) round }
         requires apart { AreApartFrom (inputs_of (written names.now)) (outputs_of (written names.now)) }
@@ -222,17 +171,17 @@ impl Half {
         ensures channel { self.new.dlci ≡ self.old.dlci }
         ensures only { OnlyPuts (F.state folder.old) (F.state folder.new) (outputs_of (written names.now)) }
         ensures came { F.came folder.old folder.new }
-        ensures counts { CountsBy (F.state folder.old) (F.state folder.new) (inputs_of (written names.now)) (outputs_of (written names.now)) result }
+        ensures counts { CountsOver (F.state folder.old) (F.state folder.new) (inputs_of (written names.now)) (outputs_of (written names.now)) result }
     {
         match lines.arrive(script, round, self.modems.heard_by(), self.dlci) {
             Ok(_) => {
                 send_flags(lines, self.dlci);
                 Ok(())
             }
-            Err(LineEnd::Lost { role, symbol }) => Err(PairFault::LineLost { role, symbol }),
+            Err(LineEnd::Lost { role, symbol }) => Err(RunFault::LineLost { role, symbol }),
             Err(LineEnd::Chance { role }) => {
-                match write_chance(folder, names.trace, round, role) {
-                    Ok(()) => Err(PairFault::ChanceMatch { role, turn: round }),
+                match write_chance(folder, names, round, role) {
+                    Ok(()) => Err(RunFault::ChanceMatch { role, turn: round }),
                     Err(fault) => Err(fault),
                 }
             }
@@ -247,7 +196,7 @@ impl Half {
         round: u64,
         folder: &mut F,
         names: &Names<'_>,
-    ) -> Result<(), PairFault>
+    ) -> Result<(), RunFault>
         requires ready { HalfIsReady self.old lines.old script.now (F.state folder.old) (written names.now) round }
         requires apart { AreApartFrom (inputs_of (written names.now)) (outputs_of (written names.now)) }
 
@@ -261,7 +210,7 @@ impl Half {
         // It touches its outputs alone, and a fault has its cause.
         ensures only { OnlyPuts (F.state folder.old) (F.state folder.new) (outputs_of (written names.now)) }
         ensures came { F.came folder.old folder.new }
-        ensures counts { CountsBy (F.state folder.old) (F.state folder.new) (inputs_of (written names.now)) (outputs_of (written names.now)) result }
+        ensures counts { CountsOver (F.state folder.old) (F.state folder.new) (inputs_of (written names.now)) (outputs_of (written names.now)) result }
     {
         match self.ended {
             None => self.go_on(lines, script, folder, names),

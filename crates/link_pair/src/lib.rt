@@ -19,7 +19,7 @@ mod words;
 
 pub use command::pair;
 use half::Half;
-pub use half::{LinkEnd, PairFault};
+pub use half::LinkEnd;
 pub use rounds::pair_rounds;
 pub use two_links::{Endings, Pair, PairNames};
 pub use words::{PairWords, pair_words};

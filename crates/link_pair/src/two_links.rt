@@ -4,13 +4,13 @@ ghost use Rattle.outside_calls.specs.Folder.{FolderState};
 ghost use Rattle.outside_calls.specs.Outputs.{AreApartFrom, Creates, OnlyPuts};
 ghost use Rattle.shared_terms.specs.Both.{Both};
 ghost use Rattle.line_run.specs.Names.{written};
+ghost use Rattle.line_world.specs.Turn.{CountsOver};
 ghost use Rattle.pair_run.specs.Beside.{first_dlci, second_dlci};
 ghost use Rattle.pair_run.specs.Ends.{First, Second};
-ghost use Rattle.link_pair.specs.Counts.{CountsBy};
 
-use crate::{Half, LinkEnd, PairFault};
+use crate::{Half, LinkEnd};
 use line_run::laws::scripts_make_links;
-use line_world::{Lines, Names};
+use line_world::{Lines, Names, RunFault};
 use noise_script::Script;
 use outside_calls::{Folder, NoMemory};
 use pair_run::laws::{paired_links_run, pairs_have_few_rounds, slots_are_due};
@@ -96,7 +96,7 @@ impl Pair {
         &mut self,
         folder: &mut F,
         names: &PairNames<'_>,
-    ) -> Result<Option<Endings>, PairFault>
+    ) -> Result<Option<Endings>, RunFault>
         requires ready { Awaits self.old (F.state folder.old) (written names.now.first) (written names.now.second) First }
         requires apart { AreApartFrom (inputs_in names.now) (outputs_in names.now) }
         ensures going { result ≡ Ok None → Awaits self.new (F.state folder.new) (written names.now.first) (written names.now.second) Second }
@@ -108,7 +108,7 @@ impl Pair {
         ensures round { round_of self.new ≡ round_of self.old }
         ensures only { OnlyPuts (F.state folder.old) (F.state folder.new) (outputs_in names.now) }
         ensures came { F.came folder.old folder.new }
-        ensures counts { CountsBy (F.state folder.old) (F.state folder.new) (inputs_in names.now) (outputs_in names.now) result }
+        ensures counts { CountsOver (F.state folder.old) (F.state folder.new) (inputs_in names.now) (outputs_in names.now) result }
     {
         scripts_make_links();
         slots_are_due();
@@ -130,7 +130,7 @@ impl Pair {
         &mut self,
         folder: &mut F,
         names: &PairNames<'_>,
-    ) -> Result<Option<Endings>, PairFault>
+    ) -> Result<Option<Endings>, RunFault>
         requires ready { Awaits self.old (F.state folder.old) (written names.now.first) (written names.now.second) Second }
         requires apart { AreApartFrom (inputs_in names.now) (outputs_in names.now) }
         ensures going { result ≡ Ok None → Awaits self.new (F.state folder.new) (written names.now.first) (written names.now.second) First }
@@ -142,7 +142,7 @@ impl Pair {
         ensures round { result ≡ Ok None → round_of self.new ≡ round_of self.old + 1 }
         ensures only { OnlyPuts (F.state folder.old) (F.state folder.new) (outputs_in names.now) }
         ensures came { F.came folder.old folder.new }
-        ensures counts { CountsBy (F.state folder.old) (F.state folder.new) (inputs_in names.now) (outputs_in names.now) result }
+        ensures counts { CountsOver (F.state folder.old) (F.state folder.new) (inputs_in names.now) (outputs_in names.now) result }
     {
         scripts_make_links();
         slots_are_due();
@@ -168,7 +168,7 @@ impl Pair {
         &mut self,
         folder: &mut F,
         names: &PairNames<'_>,
-    ) -> Result<Option<Endings>, PairFault>
+    ) -> Result<Option<Endings>, RunFault>
         requires ready { Awaits self.old (F.state folder.old) (written names.now.first) (written names.now.second) First }
         requires apart { AreApartFrom (inputs_in names.now) (outputs_in names.now) }
 
@@ -184,7 +184,7 @@ impl Pair {
         // It touches the outputs alone, and a fault has its cause.
         ensures only { OnlyPuts (F.state folder.old) (F.state folder.new) (outputs_in names.now) }
         ensures came { F.came folder.old folder.new }
-        ensures counts { CountsBy (F.state folder.old) (F.state folder.new) (inputs_in names.now) (outputs_in names.now) result }
+        ensures counts { CountsOver (F.state folder.old) (F.state folder.new) (inputs_in names.now) (outputs_in names.now) result }
     {
         match self.first_turn(folder, names) {
             Ok(None) => self.second_turn(folder, names),

@@ -17,7 +17,7 @@ use Rattle.link_run.specs.Carried.{sent_ago}
 use Rattle.link_run.specs.Outcomes.{Outcome}
 use Rattle.line_run.specs.Sampled.{and_then, signal_in, signals, signals_before, ArrivesAs, IsHeardOf}
 use Rattle.line_run.specs.Sampled.{HeardIn, IsHeardOver, LineRun}
-use Rattle.line_run.specs.Ends.{RunEnd, IsDone, LinkLost, NotDetected, LineLost, ChanceMatch, Left, EndsInTurn, EndsBy}
+use Rattle.line_run.specs.Ends.{RunEnd, IsDone, LinkLost, NotDetected, Left, EndsInTurn, EndsBy}
 use Rattle.line_run.proofs.Slots.{SentAgo, sent-ago}
 use Rattle.pair_run.specs.Beside.{signal_or_flags, slot_in, lasting}
 use Rattle.line_run.specs.Scripted.{wire_at}
@@ -126,8 +126,7 @@ same-end script dlci b d delays link ts ends (LinkLost role segment turn) left s
     record { ended = (e.0, same-last script dlci b d delays link ts ends _ turn left s e.1); mid_is = refl }
 same-end script dlci b d delays link ts ends (NotDetected turn) left s by e =
     record { ended = same-last script dlci b d delays link ts ends _ turn left s e; mid_is = refl }
-same-end script dlci b d delays link ts ends (LineLost role symbol) left s by e = absurd by
-same-end script dlci b d delays link ts ends (ChanceMatch role turn) left s by e = absurd by
+same-end script dlci b d delays link ts ends end left s by e = absurd by
 
 -- rounds in which a link is idle
 pub length-lasting : (n : ℕ) (ts : List Turn) → length (lasting n ts) ≡ n + length ts

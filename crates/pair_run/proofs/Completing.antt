@@ -1,7 +1,7 @@
 -- Which pairs are done.
 use Rattle.std.proofs.Common.{◌≡◌, ℕ, refl, ◌∙◌, ap}
-use Rattle.line_run.specs.Ends.{RunEnd, IsDone, LinkLost, NotDetected, LineLost, ChanceMatch}
-use Rattle.line_ends.specs.Causes.{GivesUp, LostLinksWereStarved}
+use Rattle.line_run.specs.Ends.{RunEnd, IsDone, LinkLost, NotDetected, GivesUp}
+use Rattle.line_ends.specs.Causes.{LostLinksWereStarved}
 use Rattle.line_ends.specs.Completes.{CompletesQuiet}
 use Rattle.pair_run.specs.Beside.{first_wire, second_wire}
 use Rattle.pair_run.specs.Pair.{IsByLink}
@@ -13,8 +13,7 @@ not-given-up : (end : RunEnd) → IsByLink end → (GivesUp end → ⊥) → (tu
 not-given-up (IsDone turn) b h = (turn, refl)
 not-given-up (LinkLost role segment turn) b h = absurd (h tt)
 not-given-up (NotDetected turn) b h = absurd (h tt)
-not-given-up (LineLost role symbol) b h = absurd b
-not-given-up (ChanceMatch role turn) b h = absurd b
+not-given-up end b h = absurd b
 
 both-so : (a b : RunEnd) → (turn : ℕ) × (a ≡ IsDone turn) → (turn : ℕ) × (b ≡ IsDone turn) → EndsDone (end_of a b)
 both-so a b x y = (x.0, y.0, ap (λ z. end_of z b) x.1 ∙ ap (end_of (IsDone x.0)) y.1)

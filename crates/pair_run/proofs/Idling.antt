@@ -17,7 +17,7 @@ use Rattle.link_run.specs.Outcomes.{Outcome}
 use Rattle.line_run.specs.Sampled.{LineRun}
 use Rattle.line_run.specs.Scripted.{link_of}
 use Rattle.line_run.specs.LineLaws.{OneIsCarried}
-use Rattle.line_run.specs.Ends.{RunEnd, IsDone, LinkLost, NotDetected, LineLost, ChanceMatch, Left, EndsInTurn, EndsBy}
+use Rattle.line_run.specs.Ends.{RunEnd, IsDone, LinkLost, NotDetected, Left, EndsInTurn, EndsBy}
 use Rattle.line_ends.proofs.Hearing.{agree-on}
 use Rattle.pair_run.specs.Beside.{lasting}
 use Rattle.line_run.specs.Scripted.{wire_at}
@@ -73,5 +73,4 @@ judges-last laws one heard script files dlci beside ts ends h r (LinkLost role s
     judges-in-turn laws one heard script files dlci beside ts ends h r _ turn left e.1
 judges-last laws one heard script files dlci beside ts ends h r (NotDetected turn) left b e =
     judges-in-turn laws one heard script files dlci beside ts ends h r _ turn left e
-judges-last laws one heard script files dlci beside ts ends h r (LineLost role symbol) left b e = absurd b
-judges-last laws one heard script files dlci beside ts ends h r (ChanceMatch role turn) left b e = absurd b
+judges-last laws one heard script files dlci beside ts ends h r end left b e = absurd b

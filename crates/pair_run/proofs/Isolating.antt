@@ -12,7 +12,7 @@ use Rattle.link_run.specs.Overheard.{JudgesByItsCheck}
 use Rattle.line_run.specs.Sampled.{IsHeardOf, HeardIn, LineRun}
 use Rattle.line_run.specs.Scripted.{link_of, ScriptsMayPlay, ScriptsHaveDelays, SlotsAreCodable}
 use Rattle.line_run.specs.LineLaws.{SamplesAreCarried}
-use Rattle.line_run.specs.Ends.{RunEnd, IsDone, LinkLost, NotDetected, LineLost, ChanceMatch, Left, EndsInTurn, RunsTo}
+use Rattle.line_run.specs.Ends.{RunEnd, IsDone, LinkLost, NotDetected, Left, EndsInTurn, RunsTo}
 use Rattle.line_ends.specs.Completes.{IsFaint, AreOfOctets, OctetsAreSendable}
 use Rattle.line_ends.proofs.Hearing.{agree-on}
 use Rattle.line_run.specs.Scripted.{wire_at}
@@ -165,5 +165,4 @@ runs-move laws script files dlci beside at near m v (NotDetected turn) left b r 
   run = run-moves laws script files dlci beside at near m v r.turns r.ends r.run;
   ended = last-moves laws script files dlci beside at near m v r.turns r.ends r.run _ turn left r.ended;
 }
-runs-move laws script files dlci beside at near m v (LineLost role symbol) left b r = absurd b
-runs-move laws script files dlci beside at near m v (ChanceMatch role turn) left b r = absurd b
+runs-move laws script files dlci beside at near m v end left b r = absurd b

@@ -16,7 +16,7 @@ use Rattle.line_run.specs.LineLaws.{HeardOnce, OneLineRun, EndsOrIsHeard}
 use Rattle.line_run.proofs.Leaving.{hearing-in}
 use Rattle.line_run.proofs.WhatIsLeft.{left_of, left-is}
 use Rattle.line_run.proofs.Resulting.{done-not, broken-not, Cut, cut, compare}
-use Rattle.line_run.specs.Ends.{RunEnd, IsDone, LinkLost, NotDetected, LineLost, ChanceMatch, Left, Leaves, EndsBy}
+use Rattle.line_run.specs.Ends.{RunEnd, IsDone, LinkLost, NotDetected, Left, Leaves, EndsBy}
 use Rattle.pair_run.specs.Pair.{Progress, Goes, Ended, last_ends, IsByLink, HearsIdly, HasEnded, Lasts}
 
 pub record SameLaws : Type 0 where
@@ -98,8 +98,7 @@ last-turn c link ts before (NotDetected turn) left b e = record {
   named_is = ap NotDetected (sym e.number);
   leaves = e.leaves;
 }
-last-turn c link ts before (LineLost role symbol) left b e = absurd b
-last-turn c link ts before (ChanceMatch role turn) left b e = absurd b
+last-turn c link ts before end left b e = absurd b
 
 -- an ended link, by the turns before its last one
 pub record EndedIs (c : Wire) (link : Link) (ts : List Turn) (ends : Accounts) (end : RunEnd) (left : Left) : Type 0 where

@@ -26,6 +26,12 @@ pub data PairEnd : Type 0 where
   LineLost : (role : Role) (symbol : ℕ) → PairEnd  -- the symbol of all that this role hears, of both links
   ChanceMatch : (role : Role) (round : ℕ) → PairEnd
 
+-- The line ends the pair, and no link does.
+abbrev pub IsByLine : PairEnd → Type 0
+IsByLine (LineLost role symbol) = Unit {0}
+IsByLine (ChanceMatch role round) = Unit {0}
+IsByLine end = ⊥
+
 -- the pair's end where both links have ended: the first that isn't done counts
 abbrev pub end_of : RunEnd → RunEnd → PairEnd
 end_of (runs.IsDone turn) (runs.IsDone last) = BothDone turn last

@@ -207,14 +207,11 @@ module _ (laws : LineLaws) (w v : World) (old new : FolderState) (n : Written) (
   by-step (Err faults.WriteFault) goes_on e a = absurd cc
   by-step (Err faults.NoMemory) goes_on e a = absurd cc
   by-step (Err (faults.LineLost role symbol)) false e a = loses role symbol a
-  by-step (Err (faults.LineLost role symbol)) true e a = absurd cc
   by-step (Err (faults.ChanceMatch role turn)) false e a = meets role turn a
-  by-step (Err (faults.ChanceMatch role turn)) true e a = absurd cc
   by-step (Err (faults.NotDetected turn)) false e a = ended (runs.NotDetected turn) (Broken Originator causes.NotDetected) turn a (λ x. x)
-  by-step (Err (faults.NotDetected turn)) true e a = absurd cc
   by-step (Err (faults.LinkLost role segment turn)) false e a =
       ended (runs.LinkLost role segment turn) (Broken role (causes.Spent segment a.0)) turn a.1 (λ x. (a.0, x))
-  by-step (Err (faults.LinkLost role segment turn)) true e a = absurd cc
+  by-step (Err fault) true e a = absurd cc
 
 -- a turn that was watched is made
 pub made : LineLaws → (w v : World) (old new : FolderState) (n : Written) (step : Result Step RunFault) (text : List ℕ) (goes_on : Bool)
@@ -230,12 +227,7 @@ pub going-step : (step : Result Step RunFault) → step_end step ≡ Ok true →
 going-step (Ok steps.Going) e = refl
 going-step (Ok (steps.Done turn)) e = absurd cc
 going-step (Err faults.ReadFault) e = absurd cc
-going-step (Err faults.WriteFault) e = absurd cc
-going-step (Err faults.NoMemory) e = absurd cc
-going-step (Err (faults.LineLost role symbol)) e = absurd cc
-going-step (Err (faults.ChanceMatch role turn)) e = absurd cc
-going-step (Err (faults.NotDetected turn)) e = absurd cc
-going-step (Err (faults.LinkLost role segment turn)) e = absurd cc
+going-step (Err fault) e = absurd cc
 
 -- nothing is written but what the audit keeps
 never-wrote : (names : List (List ℕ)) → SomeRose (λ name. 0) (λ name. 0) names → ⊥
@@ -249,13 +241,8 @@ module _ (w v : World) (old new : FolderState) (n : Written) (text : List ℕ) w
       → IfErr (step_end step) IsReading
   step-reading r (Ok steps.Going) k = tt
   step-reading r (Ok (steps.Done turn)) k = tt
-  step-reading r (Err faults.ReadFault) k = tt
   step-reading r (Err faults.WriteFault) k = absurd (never-wrote (outputs_of n) k)
-  step-reading r (Err faults.NoMemory) k = tt
-  step-reading r (Err (faults.LineLost role symbol)) k = tt
-  step-reading r (Err (faults.ChanceMatch role turn)) k = tt
-  step-reading r (Err (faults.NotDetected turn)) k = tt
-  step-reading r (Err (faults.LinkLost role segment turn)) k = tt
+  step-reading r (Err fault) k = tt
 
   pub stops-reading : (step : Result Step RunFault) (end : Result Bool Stop) → Watched w v old new n step text → step_end step ≡ end
       → IfErr end IsReading
@@ -269,10 +256,7 @@ module _ (w v : World) (old new : FolderState) (n : Written) (text : List ℕ) w
   step-counts r p (Err faults.ReadFault) k = k
   step-counts r p (Err faults.WriteFault) k = absurd (never-wrote (outputs_of n) k)
   step-counts r p (Err faults.NoMemory) k = faults-stand-inside old new _ _ [] text 0 r p k.0
-  step-counts r p (Err (faults.LineLost role symbol)) k = stands-inside old new _ _ [] text 0 r p k
-  step-counts r p (Err (faults.ChanceMatch role turn)) k = stands-inside old new _ _ [] text 0 r p k
-  step-counts r p (Err (faults.NotDetected turn)) k = stands-inside old new _ _ [] text 0 r p k
-  step-counts r p (Err (faults.LinkLost role segment turn)) k = stands-inside old new _ _ [] text 0 r p k
+  step-counts r p (Err fault) k = stands-inside old new _ _ [] text 0 r p k
 
   pub end-counts : (step : Result Step RunFault) (end : Result Bool Stop) → Watched w v old new n step text → step_end step ≡ end
       → EndCounts old new (inputs_of n) [] end

@@ -37,10 +37,7 @@ step_end (Ok (steps.Done turn)) = Ok false
 step_end (Err faults.ReadFault) = Err (Read folder.Failed)
 step_end (Err faults.WriteFault) = Err (Write folder.Failed)
 step_end (Err faults.NoMemory) = Err NoMemory
-step_end (Err (faults.LineLost role symbol)) = Ok false
-step_end (Err (faults.ChanceMatch role turn)) = Ok false
-step_end (Err (faults.NotDetected turn)) = Ok false
-step_end (Err (faults.LinkLost role segment turn)) = Ok false
+step_end (Err fault) = Ok false
 
 -- the folder of an audit over that folder, with so many refusals of its own
 abbrev pub held_by : FolderState → Written → List ℕ → ℕ → FolderState

@@ -12,7 +12,8 @@ use Rattle.link_account.specs.Account.{Account}
 use Rattle.line_world.specs.declared.one_end.step.SingleFault.{SingleFault}
 use Rattle.line_world.specs.declared.one_end.step.SingleFault.TheVariants as faults
 use Rattle.line_world.specs.OneEnd.Single.{PeerNames, StaysKnown, file_limit, inputs_of, outputs_of}
-use Rattle.line_world.specs.OneEnd.Turn.{FaultCounts, fault_of}
+use Rattle.line_world.specs.Faults.{fault_of}
+use Rattle.line_world.specs.OneEnd.Turn.{FaultCounts}
 use Rattle.line_world.specs.OneEnd.Mid.{IsReading, IsWriting}
 
 -- no output is the other one, nor the file
@@ -57,24 +58,24 @@ read-counts a b n faults.NoMemory h = h
 read-counts a b n (faults.Link fault) h = h
 
 -- where a call that writes one name is not done
-pub write-fault : (fault : FolderFault) → IsWriting (fault_of faults.WriteFault fault)
+pub write-fault : (fault : FolderFault) → IsWriting (fault_of faults.WriteFault faults.NoMemory fault)
 write-fault folder.Failed = tt
 write-fault folder.NoMemory = tt
 
 pub write-fault-counts : (a b : FolderState) (name : List ℕ) (fault : FolderFault)
     → HasCause (a.write_faults name) (b.write_faults name) a.refusals b.refusals (answer fault)
-    → (IsErrOf (answer fault) folder.NoMemory → FaultsStand a b) → FaultCounts a b [] (name ∷ []) (fault_of faults.WriteFault fault)
+    → (IsErrOf (answer fault) folder.NoMemory → FaultsStand a b) → FaultCounts a b [] (name ∷ []) (fault_of faults.WriteFault faults.NoMemory fault)
 write-fault-counts a b name folder.Failed cause spared = inl (cause.failed refl)
 write-fault-counts a b name folder.NoMemory cause spared = (spared refl, cause.memory refl)
 
 -- or one that reads one
-pub read-fault : (fault : FolderFault) → IsReading (fault_of faults.ReadFault fault)
+pub read-fault : (fault : FolderFault) → IsReading (fault_of faults.ReadFault faults.NoMemory fault)
 read-fault folder.Failed = tt
 read-fault folder.NoMemory = tt
 
 pub read-fault-counts : (a b : FolderState) (name : List ℕ) (fault : FolderFault)
     → HasCause (a.read_faults name) (b.read_faults name) a.refusals b.refusals (answer fault)
-    → (IsErrOf (answer fault) folder.NoMemory → FaultsStand a b) → FaultCounts a b (name ∷ []) [] (fault_of faults.ReadFault fault)
+    → (IsErrOf (answer fault) folder.NoMemory → FaultsStand a b) → FaultCounts a b (name ∷ []) [] (fault_of faults.ReadFault faults.NoMemory fault)
 read-fault-counts a b name folder.Failed cause spared = inl (cause.failed refl)
 read-fault-counts a b name folder.NoMemory cause spared = (spared refl, cause.memory refl)
 

@@ -1,8 +1,6 @@
 -- What a turn answers, what it adds to both outputs, and what is left where the folder doesn't take that.
 use Rattle.std.specs.Prelude.{ℕ, ◌+◌, List, [], ◌∷◌, length, Result, Ok, Err}
 use Rattle.outside_calls.specs.Folder.{FolderState, Rose, FaultsStand, CountsStand}
-use Rattle.outside_calls.specs.declared.folder.FolderFault.{FolderFault}
-use Rattle.outside_calls.specs.declared.folder.FolderFault.TheVariants as folder
 use Rattle.outside_calls.specs.Outputs.{AddEach, AddPart, SomeRose}
 use Rattle.shared_terms.specs.declared.role.Role.{Role}
 use Rattle.link_run.specs.Alone.{LoneTurn}
@@ -62,11 +60,6 @@ TurnAnswers s old new n p slot (Err fault) = EndsBy s.role old new n p slot faul
 abbrev pub turns_made : ℕ → Result SingleStep SingleFault → ℕ
 turns_made turn (Ok steps.Going) = turn + 1
 turns_made turn answer = turn
-
--- why there is no further turn where a call of the folder is not done: this, where it failed
-abbrev pub fault_of : SingleFault → FolderFault → SingleFault
-fault_of failed folder.Failed = failed
-fault_of failed folder.NoMemory = faults.NoMemory
 
 -- what was counted where there is none: a fault of one of these names, a refusal of memory by the folder, or nothing
 abbrev pub FaultCounts : FolderState → FolderState → List (List ℕ) → List (List ℕ) → SingleFault → Type 0

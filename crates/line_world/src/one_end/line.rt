@@ -1,24 +1,11 @@
-// The line of a turn in the trace, and the faults of a turn's calls.
+// The line of a turn in the trace.
 ghost use Rattle.std.specs.Prelude.{◌≡◌};
 ghost use Rattle.line_texts.specs.LineText.{line_text, trace_line};
 ghost use Rattle.line_world.specs.OneEnd.Peer.{heard_as};
-ghost use Rattle.line_world.specs.OneEnd.Turn.{fault_of};
 
-use crate::one_end::step::SingleFault;
 use lapm_frames::{Arrived, Heard, Seen, Sent};
 use line_texts::TraceLine;
-use outside_calls::FolderFault;
 use shared_terms::Role;
-
-/// Why there is no further turn where a call of the folder is not done: `failed`, where it failed.
-pub(crate) fn folder_fault(failed: SingleFault, fault: FolderFault) -> SingleFault
-    ensures { result ≡ fault_of failed fault }
-{
-    match fault {
-        FolderFault::Failed => failed,
-        FolderFault::NoMemory => SingleFault::NoMemory,
-    }
-}
 
 /// What is heard of a peer, as a trace names it.
 fn heard_as(arrived: Arrived) -> Heard

@@ -13,9 +13,10 @@ ghost use Rattle.line_world.specs.Station.{IsIdle, IsCounted};
 ghost use Rattle.line_world.specs.declared.one_end.limits.TheConstants.{SLOT_OCTETS};
 ghost use Rattle.line_world.specs.OneEnd.Peer.{Past, Closed, heard_as, setup_of};
 
+use crate::fault::folder_fault;
 use crate::one_end::ear::hear_slot;
 use crate::one_end::limits::{FILE_LIMIT, SLOT_OCTETS};
-use crate::one_end::line::{TurnWords, folder_fault, line_of};
+use crate::one_end::line::{TurnWords, line_of};
 use crate::one_end::step::{SingleFault, SingleStep};
 use crate::{Station, append_line};
 use detection::Ear;
@@ -154,7 +155,7 @@ impl Single {
     {
         match self.station.deliver(folder, got) {
             Ok(()) => Ok(self.station.given_break()),
-            Err(fault) => Err(folder_fault(SingleFault::WriteFault, fault)),
+            Err(fault) => Err(folder_fault(SingleFault::WriteFault, SingleFault::NoMemory, fault)),
         }
     }
 
@@ -190,7 +191,11 @@ impl Single {
         the_file_of_one_counts_as_far_as_it_was_read();
         match self.station.supply(folder, file, FILE_LIMIT) {
             Ok(()) => {}
-            Err(fault) => return Err(folder_fault(SingleFault::ReadFault, fault)),
+            Err(fault) => return Err(folder_fault(
+                SingleFault::ReadFault,
+                SingleFault::NoMemory,
+                fault,
+            )),
         }
         self.station.set_busy(false);
         Ok(())
@@ -217,7 +222,7 @@ impl Single {
         let line = line_of(self.turn, self.role, words);
         match append_line(folder, trace, &line) {
             Ok(()) => Ok(()),
-            Err(fault) => Err(folder_fault(SingleFault::WriteFault, fault)),
+            Err(fault) => Err(folder_fault(SingleFault::WriteFault, SingleFault::NoMemory, fault)),
         }
     }
 

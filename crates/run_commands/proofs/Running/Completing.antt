@@ -1,5 +1,5 @@
 -- Where the inputs are right and the line carries their run to its end, the run is done, but for want of memory.
-use Rattle.std.proofs.Common.{◌≡◌, ◌⊎◌, inl, inr, ℕ, ◌≤◌, ◌<◌, List, [], ◌∷◌, length, refl, sym, ◌∙◌, ap, subst, arith, Result}
+use Rattle.std.proofs.Common.{◌≡◌, ◌⊎◌, inl, inr, ℕ, ◌≤◌, ◌<◌, List, [], ◌∷◌, length, sym, ◌∙◌, ap, subst, arith, Result}
 use Rattle.plain_lists.specs.Octets.{AreOctets}
 use Rattle.shared_terms.specs.declared.role.Role.{Role}
 use Rattle.shared_terms.specs.declared.role.Role.TheVariants.{Originator, Answerer}
@@ -8,14 +8,15 @@ use Rattle.outside_calls.specs.Folder.{FolderState, octets_at}
 use Rattle.noise_script.specs.Script.{ScriptValue}
 use Rattle.noise_script.specs.Grammar.{ScriptSpelling}
 use Rattle.noise_script.specs.Laws.{ScriptsAreOne, NoFaultInScripts, SpelledIsInLimits, BreaksAreOctets}
-use Rattle.line_run.specs.Ends.{RunEnd, Left, OneResult}
+use Rattle.line_run.specs.Ends.{RunEnd, Left, OneResult, GivesUp, LineEnds}
 use Rattle.line_run.specs.Ends as runs
 use Rattle.line_run.specs.Scripted.{wire_of, link_of}
-use Rattle.line_ends.specs.Causes.{GivesUp, LostLinksWereStarved}
-use Rattle.line_ends.specs.Completes.{ScriptRunsTo, IsQuiet, EndsDone, LineEnds, AreOfOctets, CompletesWithFewLosses, CompletesWithFewNamed, CompletesQuiet}
+use Rattle.line_ends.specs.Causes.{LostLinksWereStarved}
+use Rattle.line_ends.specs.Completes.{ScriptRunsTo, IsQuiet, EndsDone, AreOfOctets}
+use Rattle.line_ends.specs.Completes.{CompletesWithFewLosses, CompletesWithFewNamed, CompletesQuiet}
 use Rattle.line_ends.specs.Completes.{CompletesUndisturbed}
 use Rattle.command_base.specs.declared.status.Status.{Status}
-use Rattle.command_base.specs.declared.status.Status.TheVariants.{BadScript, TooLong, LineLost, NotDetected, LinkLost, ChanceMatch, NoMemory}
+use Rattle.command_base.specs.declared.status.Status.TheVariants.{BadScript, TooLong, NoMemory}
 use Rattle.command_base.specs.declared.stop.Stop.{Stop}
 use Rattle.command_base.specs.declared.stop.Stop.TheVariants.{Own}
 use Rattle.command_base.specs.Inputs.{IsWithin, IsLonger}
@@ -30,6 +31,7 @@ use Rattle.run_inputs.specs.Words.{RunNames, files_of, texts_of}
 use Rattle.run_inputs.specs.Answers.{answer_of}
 use Rattle.line_world.specs.Turns.{held_of}
 use Rattle.run_inputs.specs.Inputs.{RefusesOwn}
+use Rattle.run_inputs.proofs.Answering.{stopped-by, stopped-how}
 use Rattle.run_commands.specs.Running.Ends.{RanTo, RanBy, EndsBy, Ends, run_job}
 use Rattle.line_ends.specs.Carried.{IsCarried}
 use Rattle.run_commands.specs.Running.Completes.{LosesFew, NamesFew, IsUndisturbed, AreRight, files_at, DoneWhere, Answered, AnsweredByItsEnd, Completes}
@@ -105,15 +107,9 @@ never-line one old before n script end r c x e =
 never-ran : ScriptsAreOne → LostLinksWereStarved → (old before : FolderState) (n : RunNames) (script : ScriptValue) (answer : Status)
     → AreRight old n script
     → (AreOfOctetsAt old n → IsCarried script (files_at old n)) → RanBy LIMITS old before n answer → ⊥
-never-ran one starved old before n script (LinkLost role segment turn) r c e =
-    never-up one starved old before n script (runs.LinkLost role segment turn) r c tt e
-never-ran one starved old before n script (NotDetected turn) r c e =
-    never-up one starved old before n script (runs.NotDetected turn) r c tt e
-never-ran one starved old before n script (LineLost role symbol) r c e =
-    never-line one old before n script (runs.LineLost role symbol) r c tt e
-never-ran one starved old before n script (ChanceMatch role turn) r c e =
-    never-line one old before n script (runs.ChanceMatch role turn) r c tt e
-never-ran one starved old before n script answer r c e = e
+never-ran one starved old before n script answer r c e =
+    stopped-how (RanTo LIMITS old before n) answer e (λ end g h. never-up one starved old before n script end r c g h)
+    (λ end l h. never-line one old before n script end r c l h)
 
 never-own : DoneLaws → (old before : FolderState) (n : RunNames) (script : ScriptValue) (answer : Status) → AreRight old n script
     → (AreOfOctetsAt old n → IsCarried script (files_at old n)) → EndsBy LIMITS old before n (Own answer) → ⊥
@@ -205,11 +201,7 @@ answered laws old before new n s script found end left last r e run is =
 -- the end of the run that an answer names
 own-ran : (old before : FolderState) (n : RunNames) (answer : Status) → RanBy LIMITS old before n answer
     → (found : RunEnd) × (answer ≡ answer_of found) × RanTo LIMITS old before n found
-own-ran old before n (LinkLost role segment turn) e = (runs.LinkLost role segment turn, refl, e)
-own-ran old before n (NotDetected turn) e = (runs.NotDetected turn, refl, e)
-own-ran old before n (LineLost role symbol) e = (runs.LineLost role symbol, refl, e)
-own-ran old before n (ChanceMatch role turn) e = (runs.ChanceMatch role turn, refl, e)
-own-ran old before n answer e = absurd e
+own-ran old before n answer e = stopped-by (RanTo LIMITS old before n) answer e
 
 exact-of : DoneLaws → (words : List (List ℕ)) (old new : FolderState) (n : RunNames) (s : Status) → Answers (run_job n) words old new s
     → AnsweredByItsEnd old new n s

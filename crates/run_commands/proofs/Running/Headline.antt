@@ -1,11 +1,8 @@
 -- From every answer to the headline, and to when a run is done.
-use Rattle.std.proofs.Common.{◌≡◌, ◌⊎◌, inl, inr, ℕ, Bool, true, false, List, [], ◌++◌, Some, Result, Ok, Err, refl, sym, ◌∙◌, ap, subst}
+use Rattle.std.proofs.Common.{◌≡◌, ◌⊎◌, inl, inr, ℕ, true, List, [], ◌++◌, Some, refl, ◌∙◌, ap, subst}
 use Rattle.std.specs.Option.{option_map}
-use Rattle.std.proofs.lemmas.Bool.{false≢true}
 use Rattle.outside_calls.specs.Folder.{FolderState, GoesOn, KeepsName}
 use Rattle.outside_calls.proofs.Steps.{KeepsName-trans, told_later}
-use Rattle.outside_calls.specs.declared.folder.FolderFault.{FolderFault}
-use Rattle.outside_calls.specs.declared.folder.FolderFault.TheVariants as folder
 use Rattle.shared_terms.specs.declared.role.Role.TheVariants.{Originator, Answerer}
 use Rattle.noise_script.specs.Script.{delay_of}
 use Rattle.link_run.specs.Laws.{agreed_srej}
@@ -14,17 +11,15 @@ use Rattle.line_run.specs.Ends.{RunEnd, RunsTo, turns_heard}
 use Rattle.line_run.specs.Ends as runs
 use Rattle.line_run.specs.Scripted.{wire_of, link_of}
 use Rattle.command_base.specs.declared.status.Status.{Status}
-use Rattle.command_base.specs.declared.status.Status.TheVariants.{Done, ReadFault, WriteFault}
+use Rattle.command_base.specs.declared.status.Status.TheVariants.{Done}
 use Rattle.command_base.specs.declared.status.Status.TheVariants.{LineLost, NotDetected, LinkLost, ChanceMatch}
-use Rattle.command_base.specs.declared.stop.Stop.{Stop}
 use Rattle.command_base.specs.declared.stop.Stop.TheVariants as stops
-use Rattle.command_base.specs.Stops.{fault_status, end_status}
 use Rattle.command_base.specs.Job.{Answers}
 use Rattle.command_base.specs.Lines.{done_line}
 use Rattle.outside_calls.specs.Outputs.{Holds, KeepsAll, OnlyOutputs}
-use Rattle.command_base.proofs.Answering.{IsPlain}
 use Rattle.outside_calls.proofs.Holding.{Holds-kept}
-use Rattle.command_base.proofs.Jobs.{last-only, last-plain, done-of, shared-of}
+use Rattle.command_base.proofs.Jobs.{last-only, done-of, shared-of}
+use Rattle.run_inputs.proofs.Answering.{is_run_end, run-ends-own, stopped-so}
 use Rattle.run_inputs.specs.declared.limits.TheConstants.{LIMITS}
 use Rattle.run_inputs.specs.Words.{RunNames, files_of}
 use Rattle.run_inputs.specs.Inputs.{RefusesOwn}
@@ -81,34 +76,11 @@ ran-of laws old before new n end last e =
       cause = laws.causes c e.files end e.left e.takes.limits e.run;
     }
 
--- answers by which a run itself ends
-abbrev pub is_run_end : Status → Bool
-is_run_end (LineLost role symbol) = true
-is_run_end (NotDetected turn) = true
-is_run_end (LinkLost role segment turn) = true
-is_run_end (ChanceMatch role turn) = true
-is_run_end answer = false
-
-plain-end : (s : Status) → is_run_end s ≡ true → IsPlain s
-plain-end s e = record { write = λ f. false≢true (ap is_run_end (sym f) ∙ e); memory = λ f. false≢true (ap is_run_end (sym f) ∙ e) }
-
-no-fault : (failed : Status) (fault : FolderFault) → is_run_end failed ≡ false → is_run_end (fault_status failed fault) ≡ true → ⊥
-no-fault failed folder.Failed f e = false≢true (sym f ∙ e)
-no-fault failed folder.NoMemory f e = false≢true e
-
-own-end : (end : Result ℕ Stop) (s : Status) → is_run_end s ≡ true → end_status end ≡ s → end ≡ Err (stops.Own s)
-own-end (Ok turn) s e f = absurd (false≢true (ap is_run_end f ∙ e))
-own-end (Err (stops.Own answer)) s e f = ap (λ x. Err (stops.Own x)) f
-own-end (Err (stops.Read fault)) s e f = absurd (no-fault ReadFault fault refl (ap is_run_end f ∙ e))
-own-end (Err (stops.Write fault)) s e f = absurd (no-fault WriteFault fault refl (ap is_run_end f ∙ e))
-own-end (Err (stops.Say fault)) s e f = absurd (no-fault WriteFault fault refl (ap is_run_end f ∙ e))
-own-end (Err stops.NoMemory) s e f = absurd (false≢true (ap is_run_end f ∙ e))
-
 -- the answer is that of the run's end
 pub own-ends : (words : List (List ℕ)) (old new : FolderState) (n : RunNames) (s t : Status) (a : Answers (run_job n) words old new s)
     → is_run_end t ≡ true → s ≡ t → EndsBy LIMITS old a.before n (stops.Own t)
 own-ends words old new n s t a e f =
-    let is = own-end a.end t e (last-plain done_line words a.before new a.end s t a.says f (plain-end t e)) in
+    let is = stopped-so is_run_end run-ends-own done_line words a.before new a.end s t a.says f e in
     subst (ends.Ends LIMITS old a.before n) is a.ends.0
 
 pub not-refused : {P : Type 0} → (old before : FolderState) (n : RunNames) (answer : Status)

@@ -24,7 +24,6 @@ use Rattle.line_run.proofs.Leaving.{hearing-in}
 use Rattle.line_ends.specs.Scripts.{LineRunsEndSoon}
 use Rattle.line_ends.specs.Causes.{EndsHaveCauses}
 use Rattle.command_base.specs.declared.status.Status.{Status}
-use Rattle.command_base.specs.declared.status.Status.TheVariants.{LineLost, NotDetected, LinkLost, ChanceMatch}
 use Rattle.command_base.specs.declared.stop.Stop.{Stop}
 use Rattle.command_base.specs.declared.stop.Stop.TheVariants as stops
 use Rattle.outside_calls.specs.Outputs.{Holds, HoldsPart, KeptOrEmpty, KeepsAll, CreatesPart}
@@ -32,6 +31,7 @@ use Rattle.run_inputs.specs.declared.limits.TheConstants.{LIMITS}
 use Rattle.run_inputs.specs.Words.{RunNames, texts_of, outputs_of}
 use Rattle.line_world.specs.Turns.{AddsTurn, AddsChance, StopsAfter, held_of}
 use Rattle.outside_calls.specs.Outputs.{HoldPart}
+use Rattle.run_inputs.proofs.Answering.{stopped-by}
 use Rattle.run_commands.specs.Running.Ends.{RanTo, StopsInTurn, StopsHeading, RanBy, EndsBy, Ends as EndsSo}
 use Rattle.run_commands.specs.Running.Headline.{KeptOrPrefix}
 
@@ -186,11 +186,9 @@ both-kept old before n kept = record { got_o = inl (kept n.names.got_o); got_a =
 
 both-own : RunLaws → (old before : FolderState) (n : RunNames) (answer : Status) → GoesOn old before → RanBy LIMITS old before n answer
     → BothPrefix old before n
-both-own laws old before n (LinkLost role segment turn) g e = both-ran laws old before n _ g e
-both-own laws old before n (NotDetected turn) g e = both-ran laws old before n _ g e
-both-own laws old before n (LineLost role symbol) g e = both-ran laws old before n _ g e
-both-own laws old before n (ChanceMatch role turn) g e = both-ran laws old before n _ g e
-both-own laws old before n answer g e = absurd e
+both-own laws old before n answer g e =
+    let by = stopped-by (RanTo LIMITS old before n) answer e in
+    both-ran laws old before n by.0 g by.2
 
 both-by : RunLaws → (old before : FolderState) (n : RunNames) (stop : Stop) → GoesOn old before → EndsBy LIMITS old before n stop
     → BothPrefix old before n

@@ -12,7 +12,7 @@ use Rattle.noise_script.specs.Script.{delay_of}
 use Rattle.link_run.specs.Run.{Link, Accounts, Spoken, Turn}
 use Rattle.link_run.specs.Carried.{sent_ago}
 use Rattle.line_run.specs.Sampled.{Wire, Arrives, ArrivesAs, HeardIn, IsHeardOver, LineRun}
-use Rattle.line_run.specs.Ends.{RunEnd, IsDone, LinkLost, NotDetected, LineLost, ChanceMatch, Left, EndsBy, turns_heard}
+use Rattle.line_run.specs.Ends.{RunEnd, IsDone, LinkLost, NotDetected, Left, EndsBy, turns_heard}
 use Rattle.run_commands.specs.Running.ReadOff.{IsReadOff, AreReadOff}
 
 slot-read : OfEachCode ReleasedIsLeast
@@ -46,5 +46,4 @@ run-read least c link ts ends (IsDone turn) left run e = (turn-read least c ts e
 run-read least c link ts ends (LinkLost role segment turn) left run e =
     (turn-read least c ts e.1.last e.1.heard, turns-read least c ts run.heard)
 run-read least c link ts ends (NotDetected turn) left run e = (turn-read least c ts e.last e.heard, turns-read least c ts run.heard)
-run-read least c link ts ends (LineLost role symbol) left run e = turns-read least c ts run.heard
-run-read least c link ts ends (ChanceMatch role turn) left run e = turns-read least c ts run.heard
+run-read least c link ts ends end left run e = turns-read least c ts run.heard

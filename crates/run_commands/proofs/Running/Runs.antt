@@ -6,7 +6,6 @@ use Rattle.outside_calls.proofs.Steps.{GoesOn-trans, octets-kept, told_later}
 use Rattle.shared_terms.specs.Both.{Both}
 use Rattle.noise_script.specs.Script.{ScriptValue}
 use Rattle.line_run.specs.Ends.{RunEnd}
-use Rattle.line_run.specs.Ends as runs
 use Rattle.line_run.specs.Scripted.{wire_of}
 use Rattle.line_run.specs.Scripts.{LineRunsEndSoon}
 use Rattle.line_world.specs.Limits.{file_limit}
@@ -27,7 +26,8 @@ use Rattle.run_inputs.specs.declared.limits.TheConstants.{LIMITS}
 use Rattle.run_inputs.specs.Words.{RunNames, files_of, texts_of, inputs_of, outputs_of}
 use Rattle.run_inputs.specs.Inputs.{Refuses}
 use Rattle.line_world.specs.Turns.{RunEnds, RunStops, RunStopsReading, FaultEnds}
-use Rattle.run_commands.specs.Running.Ends.{IsBegun, Takes, RanTo, StopsInTurn, StopsInReading, StopsCreating, StopsHeading, EndsBy, fault_stop}
+use Rattle.run_commands.specs.Running.Ends.{IsBegun, Takes, RanTo, StopsInTurn, StopsInReading, StopsCreating, StopsHeading, EndsBy}
+use Rattle.run_inputs.specs.Answers.{fault_stop}
 use Rattle.run_commands.specs.Running.Tapes.{HeadsPartly}
 
 -- the inputs were not taken
@@ -140,14 +140,7 @@ ends-in-turn soon old mid now next n script faults.ReadFault p counts e =
     )
 ends-in-turn soon old mid now next n script faults.WriteFault p counts e = inr (inr (stops-in soon old mid now next n script p e))
 ends-in-turn soon old mid now next n script faults.NoMemory p counts e = inr (inr (stops-in soon old mid now next n script p e))
-ends-in-turn soon old mid now next n script (faults.LineLost role symbol) p counts e =
-    inr (ran-to old mid now next n script (runs.LineLost role symbol) p e)
-ends-in-turn soon old mid now next n script (faults.ChanceMatch role turn) p counts e =
-    inr (ran-to old mid now next n script (runs.ChanceMatch role turn) p e)
-ends-in-turn soon old mid now next n script (faults.NotDetected turn) p counts e =
-    inr (ran-to old mid now next n script (runs.NotDetected turn) p e)
-ends-in-turn soon old mid now next n script (faults.LinkLost role segment turn) p counts e =
-    inr (ran-to old mid now next n script (runs.LinkLost role segment turn) p e)
+ends-in-turn soon old mid now next n script fault p counts e = inr (ran-to old mid now next n script _ p e)
 
 -- what a turn's fault counts
 pub turn-counts : (now next : FolderState) (n : RunNames) (fault : RunFault) → FaultCountsOver now next (files_of n) (outputs_of n) fault
@@ -157,7 +150,4 @@ turn-counts now next n faults.ReadFault (inr (inl rose)) = inr (inl rose)
 turn-counts now next n faults.ReadFault (inr (inr never)) = absurd never
 turn-counts now next n faults.WriteFault rose = rose
 turn-counts now next n faults.NoMemory counts = counts
-turn-counts now next n (faults.LineLost role symbol) stand = (tt, stand)
-turn-counts now next n (faults.ChanceMatch role turn) stand = (tt, stand)
-turn-counts now next n (faults.NotDetected turn) stand = (tt, stand)
-turn-counts now next n (faults.LinkLost role segment turn) stand = (tt, stand)
+turn-counts now next n fault stand = (tt, stand)

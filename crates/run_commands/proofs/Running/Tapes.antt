@@ -18,7 +18,6 @@ use Rattle.line_run.specs.Ends.{RunEnd}
 use Rattle.line_run.specs.Recorded.{Tapes, tapes_of}
 use Rattle.line_run.specs.Scripted.{wire_of, link_of}
 use Rattle.command_base.specs.declared.status.Status.{Status}
-use Rattle.command_base.specs.declared.status.Status.TheVariants.{LineLost, NotDetected, LinkLost, ChanceMatch}
 use Rattle.command_base.specs.declared.stop.Stop.{Stop}
 use Rattle.command_base.specs.declared.stop.Stop.TheVariants as stops
 use Rattle.run_inputs.specs.declared.limits.TheConstants.{LIMITS}
@@ -26,6 +25,7 @@ use Rattle.run_inputs.specs.Words.{RunNames, outputs_of}
 use Rattle.line_world.specs.Tapes.{HoldsTape, HoldsTapePart, HoldTapes, HoldTapesPartly}
 use Rattle.line_world.specs.Turns.{TapesStop}
 use Rattle.run_commands.specs.Running.Files.{AreOf}
+use Rattle.run_inputs.proofs.Answering.{stopped-by}
 use Rattle.run_commands.specs.Running.Ends.{Takes, RanTo, StopsInTurn, RanBy, EndsBy, Ends as EndsSo}
 use Rattle.run_commands.specs.Running.Tapes.{HeadsPartly, TapeBegun, TapesBegun}
 
@@ -182,11 +182,9 @@ all-kept old before n None kept = tt
 all-kept old before n (Some names) kept = (inl (kept names.orig), inl (kept names.answ))
 
 tapes-own : (old before : FolderState) (n : RunNames) (answer : Status) → RanBy LIMITS old before n answer → TapesBegun old before n n.tapes
-tapes-own old before n (LinkLost role segment turn) e = tapes-ran old before n _ e
-tapes-own old before n (NotDetected turn) e = tapes-ran old before n _ e
-tapes-own old before n (LineLost role symbol) e = tapes-ran old before n _ e
-tapes-own old before n (ChanceMatch role turn) e = tapes-ran old before n _ e
-tapes-own old before n answer e = absurd e
+tapes-own old before n answer e =
+    let by = stopped-by (RanTo LIMITS old before n) answer e in
+    tapes-ran old before n by.0 by.2
 
 tapes-by : (old before : FolderState) (n : RunNames) (stop : Stop) → EndsBy LIMITS old before n stop → TapesBegun old before n n.tapes
 tapes-by old before n (stops.Own answer) (inl refused) = all-kept old before n n.tapes refused.0

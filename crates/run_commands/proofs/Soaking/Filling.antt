@@ -13,7 +13,6 @@ use Rattle.line_world.specs.declared.step.RunFault.{RunFault}
 use Rattle.line_world.specs.declared.step.RunFault.TheVariants as faults
 use Rattle.line_world.specs.Turn.{FaultCounts}
 use Rattle.run_commands.specs.Soaking.Soak.{soak_file}
-use Rattle.run_commands.specs.Soaking.Ends.{IsTurnEnd}
 use Rattle.run_commands.specs.Soaking.Folder.{HoldsFiles, soak_names}
 
 -- lists with another number at a place are others
@@ -63,12 +62,14 @@ none-rose [] rose = rose
 none-rose (name ∷ names) (inl rose) = omega (arith, rose)
 none-rose (name ∷ names) (inr rose) = none-rose names rose
 
+-- a fault by which turns end over a folder that never fails
+abbrev pub IsTurnEnd : RunFault → Type 0
+IsTurnEnd faults.ReadFault = ⊥
+IsTurnEnd faults.WriteFault = ⊥
+IsTurnEnd fault = Unit {0}
+
 -- so turns don't end by one
 pub turn-end : (a b : SureState) (fault : RunFault) → FaultCounts (sure_folder a) (sure_folder b) soak_names fault → IsTurnEnd fault
 turn-end a b faults.ReadFault rose = absurd (none-rose (inputs_of soak_names) rose)
 turn-end a b faults.WriteFault rose = absurd (none-rose (outputs_of soak_names) rose)
-turn-end a b faults.NoMemory counts = tt
-turn-end a b (faults.LineLost role symbol) counts = tt
-turn-end a b (faults.ChanceMatch role turn) counts = tt
-turn-end a b (faults.NotDetected turn) counts = tt
-turn-end a b (faults.LinkLost role segment turn) counts = tt
+turn-end a b fault counts = tt

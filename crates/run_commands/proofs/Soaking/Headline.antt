@@ -1,5 +1,5 @@
 -- From every answer to the headline, and to when a soak is done.
-use Rattle.std.proofs.Common.{◌≡◌, ◌≢◌, ◌∙◌, ◌⊎◌, inl, inr, ℕ, List, [], ◌++◌, Result, Ok, Err, refl, sym, ap, subst}
+use Rattle.std.proofs.Common.{◌≡◌, ◌∙◌, ◌⊎◌, inl, inr, ℕ, true, List, [], ◌++◌, Result, Ok, Err, refl, ap, subst}
 use Rattle.std.specs.Option.{option_map}
 use Rattle.outside_calls.specs.Folder.{FolderState}
 use Rattle.outside_calls.proofs.Steps.{CountsStand-refl, FaultsStand-refl}
@@ -7,28 +7,28 @@ use Rattle.shared_terms.specs.declared.role.Role.{Role}
 use Rattle.shared_terms.specs.declared.role.Role.TheVariants.{Originator, Answerer}
 use Rattle.shared_terms.specs.Role.{other}
 use Rattle.shared_terms.specs.Both.{of}
-use Rattle.line_run.specs.Ends.{RunEnd, Left, MayRun, RunsLeavePrefixes, DoneLeavesWhole, OneResult}
+use Rattle.line_run.specs.Ends.{RunEnd, Left, MayRun, RunsLeavePrefixes, DoneLeavesWhole, OneResult, GivesUp}
 use Rattle.line_run.specs.Ends as runs
 use Rattle.line_run.specs.Scripted.{ScriptsMayPlay, ScriptsHaveDelays}
 use Rattle.line_ends.specs.Scripts.{LineRunsEndSoon}
-use Rattle.line_ends.specs.Causes.{GivesUp, LostLinksWereStarved, EndsHaveCauses}
+use Rattle.line_ends.specs.Causes.{LostLinksWereStarved, EndsHaveCauses}
 use Rattle.command_base.specs.declared.status.Status.{Status}
 use Rattle.command_base.specs.declared.status.Status.TheVariants.{Done, LineLost, NotDetected, LinkLost, ChanceMatch, NoMemory}
 use Rattle.command_base.specs.declared.stop.Stop.{Stop}
 use Rattle.command_base.specs.declared.stop.Stop.TheVariants as stops
-use Rattle.command_base.specs.Stops.{IsOwn, StopCounts, end_status}
+use Rattle.command_base.specs.Stops.{IsOwn, StopCounts}
 use Rattle.command_base.specs.Job.{Answers, SaysStop}
 use Rattle.command_base.specs.Lines.{soak_line}
 use Rattle.command_base.specs.Tells.{Tells}
-use Rattle.command_base.proofs.Answering.{IsPlain}
 use Rattle.command_base.specs.Sound.{IsSound}
-use Rattle.command_base.proofs.Jobs.{last-plain, done-of, done-unless-memory, shared-of, Comes, is_done, is_own, is_memory, comes-to}
+use Rattle.command_base.proofs.Jobs.{done-of, done-unless-memory, shared-of, Comes, is_done, is_own, is_memory, comes-to}
 use Rattle.run_inputs.specs.Answers.{answer_of}
 use Rattle.line_ends.specs.Completes.{ScriptRunsTo}
 use Rattle.outside_calls.proofs.OnlyOutputs.{OnlyOutputs-refl}
 use Rattle.line_ends.specs.Carried.{IsCarried}
 use Rattle.run_commands.specs.Soaking.Soak.{soak_file, soak_script}
 use Rattle.run_commands.specs.declared.soak.counts.SoakCounts.{SoakCounts}
+use Rattle.run_inputs.proofs.Answering.{is_run_end, run-ends-own, stopped-so, stopped-by, stopped-own, stopped-how}
 use Rattle.run_commands.specs.Soaking.Ends.{Ends, SoakEnds, IsSoaked, soak_wire, soak_link, soak_files, soak_job}
 use Rattle.run_commands.specs.Soaking.Ends as ends
 use Rattle.run_commands.specs.Soaking.Headline.{Soaks, RanBy, Headline}
@@ -38,11 +38,7 @@ use Rattle.run_commands.specs.Soaking.Completes.{Completes}
 
 -- what a soak ends by is the command's own answer, and no refusal
 own-answer : (seed : ℕ) (answer : Status) → ends.RanBy seed answer → IsOwn answer
-own-answer seed (LinkLost role segment turn) e = tt
-own-answer seed (NotDetected turn) e = tt
-own-answer seed (LineLost role symbol) e = tt
-own-answer seed (ChanceMatch role turn) e = tt
-own-answer seed answer e = absurd e
+own-answer seed answer e = stopped-own (SoakEnds seed) answer e
 
 stop-counts : (seed : ℕ) (f : FolderState) (stop : Stop) → Ends seed (Err stop) → StopCounts f f [] [] stop
 stop-counts seed f (stops.Own answer) e = (own-answer seed answer e, CountsStand-refl f)
@@ -107,19 +103,11 @@ soaks-of laws seed end e = record {
 }
 
 -- the answer is that of the run's end
-own-ran : (seed : ℕ) (end : Result SoakCounts Stop) (t : Status) → IsPlain t → Done ≢ t → Ends seed end → end_status end ≡ t
-    → ends.RanBy seed t
-own-ran seed (Ok counts) t p d e f = absurd (d f)
-own-ran seed (Err (stops.Own answer)) t p d e f = subst (ends.RanBy seed) f e
-own-ran seed (Err stops.NoMemory) t p d e f = absurd (p.memory (sym f))
-own-ran seed (Err (stops.Read fault)) t p d e f = absurd e
-own-ran seed (Err (stops.Write fault)) t p d e f = absurd e
-own-ran seed (Err (stops.Say fault)) t p d e f = absurd e
-
 ran-of : (words : List (List ℕ)) (old new : FolderState) (seed : ℕ) (s t : Status) → Answers (soak_job seed) words old new s → s ≡ t
-    → IsPlain t → Done ≢ t → ends.RanBy seed t
-ran-of words old new seed s t a e p d =
-    own-ran seed a.end t p d a.ends.0 (last-plain (soak_job seed).line_of words a.before new a.end s t a.says e p)
+    → is_run_end t ≡ true → ends.RanBy seed t
+ran-of words old new seed s t a e k =
+    let is = stopped-so is_run_end run-ends-own (soak_job seed).line_of words a.before new a.end s t a.says e k in
+    subst (Ends seed) is a.ends.0
 
 ran-by : SoakLaws → (words : List (List ℕ)) (old new : FolderState) (seed : ℕ) (s t : Status) → Answers (soak_job seed) words old new s
     → s ≡ t → RanBy old new seed t
@@ -135,14 +123,13 @@ ran-by laws words old new seed s Done a e =
       soaks = soaks-of laws seed (runs.IsDone d.done.turn) i.ends;
     }
 ran-by laws words old new seed s (LinkLost role segment turn) a e =
-    soaks-of laws seed _ (ran-of words old new seed s (LinkLost role segment turn) a e (record { write = λ f. cc; memory = λ f. cc })
-    (λ f. cc))
+    soaks-of laws seed _ (ran-of words old new seed s (LinkLost role segment turn) a e refl)
 ran-by laws words old new seed s (NotDetected turn) a e =
-    soaks-of laws seed _ (ran-of words old new seed s (NotDetected turn) a e (record { write = λ f. cc; memory = λ f. cc }) (λ f. cc))
+    soaks-of laws seed _ (ran-of words old new seed s (NotDetected turn) a e refl)
 ran-by laws words old new seed s (LineLost role symbol) a e =
-    soaks-of laws seed _ (ran-of words old new seed s (LineLost role symbol) a e (record { write = λ f. cc; memory = λ f. cc }) (λ f. cc))
+    soaks-of laws seed _ (ran-of words old new seed s (LineLost role symbol) a e refl)
 ran-by laws words old new seed s (ChanceMatch role turn) a e =
-    soaks-of laws seed _ (ran-of words old new seed s (ChanceMatch role turn) a e (record { write = λ f. cc; memory = λ f. cc }) (λ f. cc))
+    soaks-of laws seed _ (ran-of words old new seed s (ChanceMatch role turn) a e refl)
 ran-by laws words old new seed s t a e = tt
 
 pub headline-of : SoakLaws → (words : List (List ℕ)) (old new : FolderState) (seed : ℕ) (s : Status)
@@ -162,19 +149,12 @@ never-up starved seed end c g e =
 
 never-ran : LostLinksWereStarved → (seed : ℕ) (answer : Status) → IsCarried (soak_script seed) (soak_files seed) → ends.RanBy seed answer
     → ⊥
-never-ran starved seed (LinkLost role segment turn) c e = never-up starved seed (runs.LinkLost role segment turn) c tt e
-never-ran starved seed (NotDetected turn) c e = never-up starved seed (runs.NotDetected turn) c tt e
-never-ran starved seed (LineLost role symbol) c e = c.stays (runs.LineLost role symbol) e.left e.run tt
-never-ran starved seed (ChanceMatch role turn) c e = c.stays (runs.ChanceMatch role turn) e.left e.run tt
-never-ran starved seed answer c e = e
+never-ran starved seed answer c e =
+    stopped-how (SoakEnds seed) answer e (λ end g h. never-up starved seed end c g h) (λ end l h. c.stays end h.left h.run l)
 
 -- the end of the run that an answer names
 own-end : (seed : ℕ) (answer : Status) → ends.RanBy seed answer → (found : RunEnd) × (answer ≡ answer_of found) × SoakEnds seed found
-own-end seed (LinkLost role segment turn) e = (runs.LinkLost role segment turn, refl, e)
-own-end seed (NotDetected turn) e = (runs.NotDetected turn, refl, e)
-own-end seed (LineLost role symbol) e = (runs.LineLost role symbol, refl, e)
-own-end seed (ChanceMatch role turn) e = (runs.ChanceMatch role turn, refl, e)
-own-end seed answer e = absurd e
+own-end seed answer e = stopped-by (SoakEnds seed) answer e
 
 exact-of : OneResult → (words : List (List ℕ)) (old new : FolderState) (seed : ℕ) (s : Status) → Answers (soak_job seed) words old new s
     → IsSound old new [] [] → (end : RunEnd) (left : Left) → ScriptRunsTo (soak_script seed) (soak_files seed) end left

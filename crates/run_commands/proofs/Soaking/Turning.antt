@@ -21,9 +21,9 @@ use Rattle.outside_calls.specs.Outputs.{KeepsEach, OnlyOutputs, OnlyPuts}
 use Rattle.outside_calls.proofs.Putting.{inputs-kept}
 use Rattle.line_world.specs.Turns.{RunEnds, RunCounts, FaultEnds}
 use Rattle.run_commands.specs.Soaking.Soak.{soak_file, soak_script}
-use Rattle.run_commands.specs.Soaking.Ends.{Ends, SoakEnds, IsTurnEnd, fault_stop, soak_wire, soak_files}
+use Rattle.run_commands.specs.Soaking.Ends.{Ends, SoakEnds, soak_stop, soak_wire, soak_files}
 use Rattle.run_commands.specs.Soaking.Folder.{HoldsFiles, soak_names, soak_outputs}
-use Rattle.run_commands.proofs.Soaking.Filling.{apart, turn-end}
+use Rattle.run_commands.proofs.Soaking.Filling.{IsTurnEnd, apart, turn-end}
 
 -- A soak's turns were made in its folder: it held the files, the outputs were made, and turns touched these alone.
 pub record Made (seed : ℕ) (a b d : SureState) : Type 0 where
@@ -85,14 +85,11 @@ soaked seed a b d turn lost again m c =
 
 -- or it ends otherwise
 ended : (seed : ℕ) (a b d : SureState) (fault : RunFault) → Made seed a b d → IsTurnEnd fault
-    → FaultEnds (soak_script seed) (sure_folder d) soak_names None fault → Ends seed (Err (fault_stop fault))
+    → FaultEnds (soak_script seed) (sure_folder d) soak_names None fault → Ends seed (Err (soak_stop fault))
 ended seed a b d faults.ReadFault m t e = absurd t
 ended seed a b d faults.WriteFault m t e = absurd t
 ended seed a b d faults.NoMemory m t e = tt
-ended seed a b d (faults.LineLost role symbol) m t e = ends-so seed a b d (runs.LineLost role symbol) m e
-ended seed a b d (faults.ChanceMatch role turn) m t e = ends-so seed a b d (runs.ChanceMatch role turn) m e
-ended seed a b d (faults.NotDetected turn) m t e = ends-so seed a b d (runs.NotDetected turn) m e
-ended seed a b d (faults.LinkLost role segment turn) m t e = ends-so seed a b d (runs.LinkLost role segment turn) m e
+ended seed a b d fault m t e = ends-so seed a b d _ m e
 
 -- ---- over the script of the world, and the names as they are written
 
@@ -123,7 +120,7 @@ soaked-over seed a b d script n turn lost again m c =
 
 pub ended-over : (seed : ℕ) (a b d : SureState) (script : ScriptValue) (n : Written) (fault : RunFault) → MadeOver seed a b d script n
     → FaultCounts (sure_folder b) (sure_folder d) n fault → FaultEnds script (sure_folder d) n None fault
-    → Ends seed (Err (fault_stop fault))
+    → Ends seed (Err (soak_stop fault))
 ended-over seed a b d script n fault m counts e =
     ended seed a b d fault (made seed a b d script n m)
     (turn-end b d fault (subst (λ (w : Written). FaultCounts (sure_folder b) (sure_folder d) w fault) m.names_are counts))

@@ -1,6 +1,7 @@
 -- How a run ends, before its line is said: by its answer, which run it was, and what the outputs then hold. What is said of a name's octets
 -- holds where the folder tells that name.
 use Rattle.std.specs.Prelude.{◌≡◌, ◌⊎◌, ℕ, IsTrue, List, Result, Ok, Err}
+use Rattle.std.specs.Option.{MatchOption}
 use Rattle.outside_calls.specs.Folder.{FolderState, OnlyReads, CountsStand, octets_at}
 use Rattle.outside_calls.specs.declared.folder.FolderFault.TheVariants as folder
 use Rattle.shared_terms.specs.Both.{Both}
@@ -10,10 +11,7 @@ use Rattle.line_run.specs.Ends as runs
 use Rattle.line_run.specs.Scripted.{wire_of, link_of}
 use Rattle.line_run.specs.Scripts.{HasFewTurns}
 use Rattle.line_world.specs.Link.{AreWithin}
-use Rattle.line_world.specs.declared.step.RunFault.{RunFault}
-use Rattle.line_world.specs.declared.step.RunFault.TheVariants as faults
 use Rattle.command_base.specs.declared.status.Status.{Status}
-use Rattle.command_base.specs.declared.status.Status.TheVariants.{LineLost, NotDetected, LinkLost, ChanceMatch}
 use Rattle.command_base.specs.declared.stop.Stop.{Stop}
 use Rattle.command_base.specs.declared.stop.Stop.TheVariants.{Own, Read, Write, Say, NoMemory}
 use Rattle.command_base.specs.Inputs.{IsWithin}
@@ -23,6 +21,7 @@ use Rattle.outside_calls.specs.Outputs.{KeepsAll, SaysNothing, Creates, CreatesP
 use Rattle.run_inputs.specs.declared.limits.Limits.{Limits}
 use Rattle.run_inputs.specs.declared.limits.TheConstants.{LIMITS}
 use Rattle.run_inputs.specs.Words.{RunNames, files_of, texts_of, inputs_of, outputs_of}
+use Rattle.run_inputs.specs.Answers.{stop_by}
 use Rattle.run_inputs.specs.Inputs.{Opens, RefusesOwn, FailsToRead}
 use Rattle.outside_calls.specs.Outputs.{HoldEach, SomeRose}
 use Rattle.line_world.specs.Tapes.{HoldTapes}
@@ -83,11 +82,7 @@ pub record StopsHeading (l : Limits) (old new : FolderState) (n : RunNames) : Ty
 
 -- the answers by which a run itself ends, each by its cause
 abbrev pub RanBy : Limits → FolderState → FolderState → RunNames → Status → Type 0
-RanBy l old new n (LinkLost role segment turn) = RanTo l old new n (runs.LinkLost role segment turn)
-RanBy l old new n (NotDetected turn) = RanTo l old new n (runs.NotDetected turn)
-RanBy l old new n (LineLost role symbol) = RanTo l old new n (runs.LineLost role symbol)
-RanBy l old new n (ChanceMatch role turn) = RanTo l old new n (runs.ChanceMatch role turn)
-RanBy l old new n answer = ⊥
+RanBy l old new n answer = MatchOption (stop_by answer) ⊥ (RanTo l old new n)
 
 -- why a run stops with less than both files: for its inputs, before any output is created, for what becomes of it, or for the folder
 abbrev pub EndsBy : Limits → FolderState → FolderState → RunNames → Stop → Type 0
@@ -103,16 +98,6 @@ EndsBy l old new n NoMemory = KeepsAll old new × IsWithin old n.script l.script
 abbrev pub Ends : Limits → FolderState → FolderState → RunNames → Result ℕ Stop → Type 0
 Ends l old new n (Ok turn) = RanTo l old new n (runs.IsDone turn)
 Ends l old new n (Err stop) = EndsBy l old new n stop
-
--- why a run stops whose turns end by this fault
-abbrev pub fault_stop : RunFault → Stop
-fault_stop faults.ReadFault = Read folder.Failed
-fault_stop faults.WriteFault = Write folder.Failed
-fault_stop (faults.LineLost role symbol) = Own (LineLost role symbol)
-fault_stop (faults.ChanceMatch role turn) = Own (ChanceMatch role turn)
-fault_stop (faults.NotDetected turn) = Own (NotDetected turn)
-fault_stop (faults.LinkLost role segment turn) = Own (LinkLost role segment turn)
-fault_stop faults.NoMemory = Write folder.NoMemory
 
 -- The job of the command: done, its line says the last turn.
 abbrev pub run_job : RunNames → Job ℕ

@@ -1,5 +1,6 @@
 -- What a run promises, over the folder before and after it. What is said of a name's octets holds where the folder tells that name.
 use Rattle.std.specs.Prelude.{◌≡◌, ◌⊎◌, ℕ, IsTrue, List, Some}
+use Rattle.std.specs.Option.{MatchOption}
 use Rattle.plain_lists.specs.Prefix.{IsPrefixOf}
 use Rattle.outside_calls.specs.Folder.{FolderState, held_at, octets_at, KeepsName, Said}
 use Rattle.shared_terms.specs.declared.role.Role.TheVariants.{Originator, Answerer}
@@ -14,10 +15,11 @@ use Rattle.line_run.specs.Scripted.{wire_of, link_of}
 use Rattle.line_ends.specs.Scripts.{HasFewTurns}
 use Rattle.line_ends.specs.Causes.{HasCause}
 use Rattle.command_base.specs.declared.status.Status.{Status}
-use Rattle.command_base.specs.declared.status.Status.TheVariants.{Done, LineLost, NotDetected, LinkLost, ChanceMatch}
+use Rattle.command_base.specs.declared.status.Status.TheVariants.{Done}
 use Rattle.command_base.specs.Job.{Shared}
 use Rattle.command_base.specs.Lines.{done_line}
 use Rattle.outside_calls.specs.Outputs.{Holds}
+use Rattle.run_inputs.specs.Answers.{stop_by}
 use Rattle.run_inputs.specs.Words.{RunNames, inputs_of, outputs_of}
 use Rattle.line_world.specs.Tapes.{HoldTapes}
 use Rattle.run_commands.specs.Running.Files.{AreOf}
@@ -62,11 +64,7 @@ pub record Ran (old new : FolderState) (n : RunNames) (end : RunEnd) : Type 0 wh
 -- the run, where the answer is one by which a run itself ends; done says its last turn
 abbrev pub RanBy : FolderState → FolderState → RunNames → Status → Type 0
 RanBy old new n Done = (turn : ℕ) × Said old new (done_line turn) × Ran old new n (runs.IsDone turn)
-RanBy old new n (LinkLost role segment turn) = Ran old new n (runs.LinkLost role segment turn)
-RanBy old new n (NotDetected turn) = Ran old new n (runs.NotDetected turn)
-RanBy old new n (LineLost role symbol) = Ran old new n (runs.LineLost role symbol)
-RanBy old new n (ChanceMatch role turn) = Ran old new n (runs.ChanceMatch role turn)
-RanBy old new n status = Unit {0}
+RanBy old new n status = MatchOption (stop_by status) (Unit {0}) (Ran old new n)
 
 -- Whatever the line does, each end receives a prefix of the other's file; done means both whole; every other end has its cause. Where the run is
 -- recorded, each recording holds the beginning of what its end sends.

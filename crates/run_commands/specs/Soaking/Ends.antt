@@ -1,5 +1,6 @@
 -- How a soak ends, before its line is said: by its answer, the run of its seed ended so.
 use Rattle.std.specs.Prelude.{◌≡◌, ℕ, List, [], ◌∷◌, Result, Ok, Err}
+use Rattle.std.specs.Option.{MatchOption}
 use Rattle.shared_terms.specs.declared.role.Role.TheVariants.{Originator, Answerer}
 use Rattle.shared_terms.specs.Both.{Both}
 use Rattle.noise_script.specs.Script.{IsInLimits}
@@ -12,9 +13,9 @@ use Rattle.line_run.specs.Scripted.{wire_of, link_of}
 use Rattle.line_world.specs.declared.step.RunFault.{RunFault}
 use Rattle.line_world.specs.declared.step.RunFault.TheVariants as faults
 use Rattle.command_base.specs.declared.status.Status.{Status}
-use Rattle.command_base.specs.declared.status.Status.TheVariants.{LineLost, NotDetected, LinkLost, ChanceMatch}
 use Rattle.command_base.specs.declared.stop.Stop.{Stop}
 use Rattle.command_base.specs.declared.stop.Stop.TheVariants.{Own, NoMemory}
+use Rattle.run_inputs.specs.Answers.{stop_by, fault_stop}
 use Rattle.command_base.specs.Job.{Job}
 use Rattle.command_base.specs.Lines.{soak_line}
 use Rattle.run_commands.specs.Soaking.Soak.{soak_file, soak_script}
@@ -45,11 +46,7 @@ pub record IsSoaked (seed : ℕ) (counts : SoakCounts) : Type 0 where
 
 -- the answers by which the run itself ends, each by its cause
 abbrev pub RanBy : ℕ → Status → Type 0
-RanBy seed (LinkLost role segment turn) = SoakEnds seed (runs.LinkLost role segment turn)
-RanBy seed (NotDetected turn) = SoakEnds seed (runs.NotDetected turn)
-RanBy seed (LineLost role symbol) = SoakEnds seed (runs.LineLost role symbol)
-RanBy seed (ChanceMatch role turn) = SoakEnds seed (runs.ChanceMatch role turn)
-RanBy seed answer = ⊥
+RanBy seed answer = MatchOption (stop_by answer) ⊥ (SoakEnds seed)
 
 -- how a soak ends: done, or as its run does; there may be no memory at any time, and no call of its folder fails
 abbrev pub Ends : ℕ → Result SoakCounts Stop → Type 0
@@ -58,19 +55,10 @@ Ends seed (Err (Own answer)) = RanBy seed answer
 Ends seed (Err NoMemory) = Unit {0}
 Ends seed (Err stop) = ⊥
 
--- a fault by which turns end over a folder that never fails
-abbrev pub IsTurnEnd : RunFault → Type 0
-IsTurnEnd faults.ReadFault = ⊥
-IsTurnEnd faults.WriteFault = ⊥
-IsTurnEnd fault = Unit {0}
-
--- why a soak stops whose turns end by this fault: its folder never fails, so that all that is left is want of memory
-abbrev pub fault_stop : RunFault → Stop
-fault_stop (faults.LineLost role symbol) = Own (LineLost role symbol)
-fault_stop (faults.ChanceMatch role turn) = Own (ChanceMatch role turn)
-fault_stop (faults.NotDetected turn) = Own (NotDetected turn)
-fault_stop (faults.LinkLost role segment turn) = Own (LinkLost role segment turn)
-fault_stop fault = NoMemory
+-- why a soak stops whose turns end by this fault: all that its folder can lack is memory, which no folder of the user's refused
+abbrev pub soak_stop : RunFault → Stop
+soak_stop faults.NoMemory = NoMemory
+soak_stop fault = fault_stop fault
 
 -- The job of the command: it reads and writes no name, and its line says the last turn and what the turns show.
 abbrev pub soak_job : ℕ → Job SoakCounts

@@ -1,5 +1,6 @@
 -- What a soak promises, over the folder before and after it.
 use Rattle.std.specs.Prelude.{◌≡◌, ℕ, []}
+use Rattle.std.specs.Option.{MatchOption}
 use Rattle.plain_lists.specs.Prefix.{IsPrefixOf}
 use Rattle.outside_calls.specs.Folder.{FolderState, Said}
 use Rattle.shared_terms.specs.declared.role.Role.{Role}
@@ -10,7 +11,8 @@ use Rattle.line_run.specs.Ends as runs
 use Rattle.line_ends.specs.Scripts.{HasFewTurns}
 use Rattle.line_ends.specs.Causes.{HasCause}
 use Rattle.command_base.specs.declared.status.Status.{Status}
-use Rattle.command_base.specs.declared.status.Status.TheVariants.{Done, LineLost, NotDetected, LinkLost, ChanceMatch}
+use Rattle.command_base.specs.declared.status.Status.TheVariants.{Done}
+use Rattle.run_inputs.specs.Answers.{stop_by}
 use Rattle.command_base.specs.Job.{Shared}
 use Rattle.command_base.specs.Lines.{soak_line}
 use Rattle.run_commands.specs.Soaking.Soak.{soak_file, soak_script}
@@ -36,11 +38,7 @@ pub record SoaksWhole (old new : FolderState) (seed : ℕ) : Type 0 where
 -- the run, where the answer is one by which it ends
 abbrev pub RanBy : FolderState → FolderState → ℕ → Status → Type 0
 RanBy old new seed Done = SoaksWhole old new seed
-RanBy old new seed (LinkLost role segment turn) = Soaks seed (runs.LinkLost role segment turn)
-RanBy old new seed (NotDetected turn) = Soaks seed (runs.NotDetected turn)
-RanBy old new seed (LineLost role symbol) = Soaks seed (runs.LineLost role symbol)
-RanBy old new seed (ChanceMatch role turn) = Soaks seed (runs.ChanceMatch role turn)
-RanBy old new seed status = Unit {0}
+RanBy old new seed status = MatchOption (stop_by status) (Unit {0}) (Soaks seed)
 
 -- No name changes, and each end of the run has its cause.
 pub record Headline (old new : FolderState) (seed : ℕ) (s : Status) : Type 0 where

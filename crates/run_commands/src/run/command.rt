@@ -10,7 +10,7 @@ ghost use Rattle.outside_calls.specs.Outputs.{OnlyOutputs, SaysNothing};
 ghost use Rattle.command_base.specs.Stops.{EndCounts};
 ghost use Rattle.command_base.specs.Apart.{are_apart};
 ghost use Rattle.run_inputs.specs.Words.{named, inputs_of, outputs_of};
-ghost use Rattle.run_commands.specs.Running.Ends.{Ends, IsBegun, fault_stop, run_job};
+ghost use Rattle.run_commands.specs.Running.Ends.{Ends, IsBegun, run_job};
 ghost use Rattle.run_commands.specs.Running.Headline.{Headline};
 ghost use Rattle.run_commands.specs.Running.Completes.{Completes};
 
@@ -18,9 +18,9 @@ use crate::run::laws::{answers_keep_the_headline, right_runs_are_done};
 use crate::run::outputs::make_outputs;
 use command_base::{Status, Stop, apart_names_differ, done_line, tell, tell_stop};
 use line_run::laws::line_runs_end_soon;
-use line_world::{RunFault, World, run_turns};
-use outside_calls::{Folder, FolderFault};
-use run_inputs::{LIMITS, RunWords, open_inputs};
+use line_world::{World, run_turns};
+use outside_calls::Folder;
+use run_inputs::{LIMITS, RunWords, open_inputs, stop_of};
 use std::alloc::Global;
 
 /// The place of the first file's name among the words.
@@ -28,29 +28,6 @@ const ORIG: usize = 1;
 
 /// The place of the script's name.
 const SCRIPT: usize = 3;
-
-/// Why a run stops whose turns end by this fault.
-fn stop_of(fault: RunFault) -> Stop
-    ensures { result ≡ fault_stop fault }
-{
-    match fault {
-        RunFault::ReadFault => Stop::Read(FolderFault::Failed),
-        RunFault::WriteFault => Stop::Write(FolderFault::Failed),
-        RunFault::LineLost { role, symbol } => Stop::Own(Status::LineLost { role, symbol }),
-        RunFault::ChanceMatch { role, turn } => Stop::Own(Status::ChanceMatch { role, turn }),
-        RunFault::NotDetected { turn } => Stop::Own(Status::NotDetected { turn }),
-        RunFault::LinkLost {
-            role,
-            segment,
-            turn,
-        } => Stop::Own(Status::LinkLost {
-            role,
-            segment,
-            turn,
-        }),
-        RunFault::NoMemory => Stop::Write(FolderFault::NoMemory),
-    }
-}
 
 /// The run of a world, once its inputs are opened: the outputs are made, and turns follow to its end.
 fn run_world<F: Folder>(

@@ -7,37 +7,25 @@ ghost use Rattle.line_world.specs.World.{IsReady, WorldAfter, script_of};
 ghost use Rattle.noise_script.specs.Script.{IsInLimits};
 ghost use Rattle.program_folders.specs.Sure.{sure_folder};
 ghost use Rattle.run_commands.specs.Soaking.Soak.{soak_script};
-ghost use Rattle.run_commands.specs.Soaking.Ends.{Ends, IsTurnEnd, fault_stop};
+ghost use Rattle.run_commands.specs.Soaking.Ends.{Ends, soak_stop};
 ghost use Rattle.run_commands.specs.Soaking.Folder.{HoldsFiles};
 
 use crate::soak::counts::SoakCounts;
 use crate::soak::folder::{make_outputs, soak_folder, soak_names};
 use crate::soak::script::soak_script;
-use command_base::{Status, Stop};
+use command_base::Stop;
 use line_world::{RunFault, World, run_turns};
 use program_folders::SureFolder;
+use run_inputs::stop_of;
 use std::alloc::Global;
 
-/// Why a soak stops whose turns end by this fault. Its folder never fails.
-fn stop_of(fault: RunFault) -> Stop
-    requires { IsTurnEnd fault }
-    ensures { result ≡ fault_stop fault }
+/// Why a soak stops whose turns end by this fault: all that its folder can lack is memory.
+fn soak_stop(fault: RunFault) -> Stop
+    ensures { result ≡ soak_stop fault }
 {
     match fault {
-        RunFault::ReadFault | RunFault::WriteFault => unreachable!(),
-        RunFault::LineLost { role, symbol } => Stop::Own(Status::LineLost { role, symbol }),
-        RunFault::ChanceMatch { role, turn } => Stop::Own(Status::ChanceMatch { role, turn }),
-        RunFault::NotDetected { turn } => Stop::Own(Status::NotDetected { turn }),
-        RunFault::LinkLost {
-            role,
-            segment,
-            turn,
-        } => Stop::Own(Status::LinkLost {
-            role,
-            segment,
-            turn,
-        }),
         RunFault::NoMemory => Stop::NoMemory,
+        fault => stop_of(fault),
     }
 }
 
@@ -59,7 +47,7 @@ fn soak_world(world: &mut World, folder: &mut SureFolder) -> Result<SoakCounts, 
             lost: world.lost(),
             again: world.again(),
         }),
-        Err(fault) => Err(stop_of(fault)),
+        Err(fault) => Err(soak_stop(fault)),
     }
 }
 

@@ -6,12 +6,12 @@ use Rattle.lapm_frames.specs.declared.heard.Heard.{Heard}
 use Rattle.noise_script.specs.Script.{IsInLimits}
 use Rattle.line_run.specs.Stream.{both_sent_by}
 use Rattle.link_run.specs.Listened.{judged_by}
-use Rattle.line_world.specs.Lines.{end_of}
 use Rattle.line_tap.specs.Tapping.{line_of, terms_of}
 use Rattle.line_tap.specs.declared.tapping.Tap.{Tap}
 use Rattle.line_tap.specs.Tap.{silent_in}
 use Rattle.line_tap.proofs.HeardSo.{LoneLaws, are-due, are-few, listens-too, ends-by, checks-so, hears-these, behind-on}
 use Rattle.line_tap.proofs.tapping.Tap.hear.Goals as goal
+use Rattle.line_world.specs.Faults.{end_of}
 
 pub arrive-requires-clause-few : goal.arrive-requires-clause-few
 arrive-requires-clause-few c =

@@ -4,7 +4,6 @@ use Rattle.outside_calls.specs.Folder.{FolderState}
 use Rattle.outside_calls.proofs.Steps.{CountsStand-refl, CountsStand-trans}
 use Rattle.outside_calls.proofs.Putting.{OnlyPuts-refl}
 use Rattle.line_world.specs.declared.directions.LineEnd.{LineEnd}
-use Rattle.line_world.specs.Lines.{end_of}
 use Rattle.line_tap.specs.Ends.{EndsLine}
 use Rattle.command_base.specs.declared.stop.Stop.TheVariants.{Read, Write}
 use Rattle.command_base.proofs.Jobs.{stop-earlier}
@@ -15,6 +14,7 @@ use Rattle.line_tap.proofs.Turning.{so-heard, has-pieces, only-read}
 use Rattle.line_tap.proofs.Turning.{is-stopped, is-done, within-still, early-still, nearer-by, within-by}
 use Rattle.line_tap.proofs.Turning.{to-go, goes-on-by, stops-going, only-written, whole-orig, some-octets, ready-again}
 use Rattle.line_tap.proofs.tapping.Tap.turn.Goals as goal
+use Rattle.line_world.specs.Faults.{end_of}
 
 pub returns-in-Err-Lost-clause-turn : goal.returns-in-Err-Lost-clause-turn
 returns-in-Err-Lost-clause-turn g c = λ start x ts h read.

@@ -7,7 +7,7 @@ use Rattle.line_world.specs.Link.{AreCounted, octets_of}
 use Rattle.line_world.specs.declared.directions.LineEnd.{LineEnd}
 use Rattle.line_run.specs.Sampled.{EndsLine}
 use Rattle.line_run.specs.Scripted.{wire_at}
-use Rattle.line_world.specs.Lines.{HaveArrived, end_of}
+use Rattle.line_world.specs.Lines.{HaveArrived}
 use Rattle.link_run.specs.Outcomes.{Done}
 use Rattle.line_world.specs.Mid.{handed, served}
 use Rattle.line_world.proofs.Hearing.{early-turns}
@@ -19,6 +19,7 @@ use Rattle.outside_calls.proofs.Steps.{CountsStand-refl}
 use Rattle.outside_calls.proofs.Putting.{OnlyPuts-refl}
 use Rattle.line_world.proofs.Turning.{no-step, done-no-step}
 use Rattle.line_world.proofs.modems.Modems.turn.Goals as goal
+use Rattle.line_world.specs.Faults.{end_of}
 
 pub returns-in-Err-Lost-clause-turn : goal.returns-in-Err-Lost-clause-turn
 returns-in-Err-Lost-clause-turn g c = λ beside links streams files ts ends h within waits due.

@@ -2,15 +2,15 @@ use Rattle.std.proofs.Common.{refl, subst}
 use Rattle.shared_terms.specs.Both.{of}
 use Rattle.line_run.specs.Sampled.{EndsLineBy}
 use Rattle.line_run.specs.Scripted.{wire_at}
-use Rattle.line_world.specs.Lines.{end_of}
 use Rattle.line_world.specs.declared.directions.LineEnd.{LineEnd}
-use Rattle.line_run.specs.Names.{inputs_of, outputs_of, written}
+use Rattle.line_run.specs.Names.{outputs_of, written}
 use Rattle.pair_run.specs.Pair.{turns_on_line}
-use Rattle.link_pair.proofs.Idling.{at-end, count-at, has-idled, lost-idly, met-idly, stopped-idly, writes-ends, writes-counts}
+use Rattle.link_pair.proofs.Idling.{at-end, count-at, has-idled, lost-idly, met-idly, stopped-idly, writes-ends}
 use Rattle.std.proofs.Common.{[], ◌∷◌}
 use Rattle.outside_calls.proofs.Steps.{CountsStand-refl}
 use Rattle.outside_calls.proofs.Putting.{OnlyPuts-one, OnlyPuts-refl}
 use Rattle.link_pair.proofs.half.Half.idle.Goals as goal
+use Rattle.line_world.specs.Faults.{end_of}
 
 pub arrive-requires-clause-due : goal.arrive-requires-clause-due
 arrive-requires-clause-due g c =
@@ -85,7 +85,7 @@ returns-in-Ok-write_chance-clause-turn g c = λ beside links streams files p h.
     )
 
 pub returns-in-Ok-write_chance-clause-counts : goal.returns-in-Ok-write_chance-clause-counts
-returns-in-Ok-write_chance-clause-counts g c = c.in-Ok-write_chance.ensures.counts (inputs_of (written c.args.names.now))
+returns-in-Ok-write_chance-clause-counts g c = c.in-Ok-write_chance.ensures.counts
 
 pub returns-in-Err-clause-turn : goal.returns-in-Err-clause-turn
 returns-in-Err-clause-turn g c = λ beside links streams files p h.
@@ -105,10 +105,7 @@ returns-in-Err-clause-turn g c = λ beside links streams files p h.
     c.in-Err-Chance.field-0-is e))
 
 pub returns-in-Err-clause-counts : goal.returns-in-Err-clause-counts
-returns-in-Err-clause-counts g c =
-    writes-counts (g.F.Folder.state c.args.folder.now) (g.F.Folder.state c.write_chance.new.folder)
-    (written c.args.names.now) c.in-Err.fault
-    c.in-Err.ensures.write (c.in-Err.ensures.counts (inputs_of (written c.args.names.now)))
+returns-in-Err-clause-counts g c = c.in-Err.ensures.counts
 
 pub arrive-requires-clause-channel : goal.arrive-requires-clause-channel
 arrive-requires-clause-channel g c = c.requires.ready.low

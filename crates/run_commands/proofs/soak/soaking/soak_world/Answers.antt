@@ -35,7 +35,7 @@ returns-in-Ok-run_turns c = λ seed same holds.
 
 pub returns-in-Err-run_turns : goal.returns-in-Err-run_turns
 returns-in-Err-run_turns c = λ seed same holds.
-    subst (λ (stop : Stop). Ends seed (Err stop)) (sym c.stop_of.ensures)
+    subst (λ (stop : Stop). Ends seed (Err stop)) (sym c.soak_stop.ensures)
     (ended-over seed c.args.folder.now c.make_outputs.new.folder c.run_turns.new.folder (script_of c.args.world.now)
     (written c.soak_names.result) c.in-Err-run_turns.fault
     (record {
