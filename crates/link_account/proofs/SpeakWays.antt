@@ -7,9 +7,9 @@ use Rattle.std.proofs.lemmas.Bool.Decides.{nat_tests}
 use Rattle.shared_terms.specs.declared.role.Role.{Role}
 use Rattle.shared_terms.specs.declared.role.Role.TheVariants.{Originator, Answerer}
 use Rattle.shared_terms.specs.Role.{is_originator}
-use Rattle.shared_terms.specs.Timer.{expires, waited_since}
+use Rattle.shared_terms.specs.Timer.{expires}
 use Rattle.shared_terms.specs.declared.fault.LinkFault.{LinkFault}
-use Rattle.shared_terms.specs.declared.fault.LinkFault.TheVariants.{NotDetected, Spent}
+use Rattle.shared_terms.specs.declared.fault.LinkFault.TheVariants.{NotDetected}
 use Rattle.lapm_frames.specs.declared.frame.Frame.{Frame}
 use Rattle.lapm_frames.specs.declared.frame.Frame.TheVariants.{Rej, Srej, Sabme, Disc, Xid}
 use Rattle.lapm_frames.specs.declared.sent.Sent.{Sent}
@@ -373,69 +373,96 @@ module _ (P : Said → Type 0) (turn : ℕ) (release : Bool) (a : Account) (h : 
   pub by-ways : (said : Said) → speak turn release a ≡ Ok said → P said
   by-ways said e = subst (OnSaid P) e (in-phase a.phase refl)
 
+-- Whose tries are spent: of a U try, of the segments' timer, of a break that waits. An end that is told to release begins a U try, whose
+-- timer doesn't
+-- expire in that turn but where a period is 0.
+pub data Ended (turn : ℕ) (release : Bool) (a : Account) : Type 0 where
+  TryEnds : ((a.phase ≡ Negotiating) × (a.setup.role ≡ Originator)) ⊎ ((a.phase ≡ Establishing) ⊎ (a.phase ≡ Releasing))
+      → expires a.wait.try_set a.setup.period turn ≡ true → nat_eq a.wait.try_count a.setup.tries ≡ true → Ended turn release a
+  ReleaseEnds : a.phase ≡ Connected → expires turn a.setup.period turn ≡ true → Ended turn release a
+  TimerEnds : a.phase ≡ Connected → (set : ℕ) → a.wait.timer ≡ Some set → expires set a.setup.period turn ≡ true
+      → nat_eq a.outgoing.count a.outgoing.tries ≡ true → Ended turn release a
+  BreakEnds : a.phase ≡ Connected → waits a.own_breaks ≡ true → expires a.own_breaks.set a.setup.period turn ≡ true
+      → nat_eq a.own_breaks.count a.setup.tries ≡ true → Ended turn release a
+
 -- Why an end breaks as it speaks: it detected nothing, or its tries are spent.
-pub data Breaks (turn : ℕ) (a : Account) (fault : LinkFault) : Type 0 where
-  Undetected : a.phase ≡ Detecting → a.setup.role ≡ Originator → fault ≡ NotDetected → Breaks turn a fault
-  Spends : fault ≡ spent turn a → Breaks turn a fault
+pub data Breaks (turn : ℕ) (release : Bool) (a : Account) (fault : LinkFault) : Type 0 where
+  Undetected : a.phase ≡ Detecting → a.setup.role ≡ Originator → nat_le ((a.setup.tries + 1) * a.setup.period) turn ≡ true → fault
+      ≡ NotDetected
+      → Breaks turn release a fault
+  Spends : Ended turn release a → fault ≡ spent turn a → Breaks turn release a fault
 
 module _ (turn : ℕ) (release : Bool) (a : Account) where
   abbrev Broken : {A : Type 0} → Result A LinkFault → Type 0
   Broken (Ok x) = Unit {0}
-  Broken (Err fault) = Breaks turn a fault
+  Broken (Err fault) = Breaks turn release a fault
 
-  tries-broken : (frame : Frame) (b : Account) → spent turn b ≡ spent turn a → Broken (u_try turn frame b)
-  tries-broken frame b e = go (expires b.wait.try_set b.setup.period turn) (nat_eq b.wait.try_count b.setup.tries)
+  tries-broken : (frame : Frame) (b : Account) → spent turn b ≡ spent turn a
+      → (expires b.wait.try_set b.setup.period turn ≡ true → nat_eq b.wait.try_count b.setup.tries ≡ true → Ended turn release a)
+      → Broken (u_try turn frame b)
+  tries-broken frame b e f = go (expires b.wait.try_set b.setup.period turn) refl (nat_eq b.wait.try_count b.setup.tries) refl
     where
-      go : (x y : Bool) → Broken (cond x (cond y (Err (spent turn b)) (Ok (tries_frame frame (trying_again turn b))))
-          (Ok (tries_frame frame b)))
-      go true true = Spends e
-      go true false = tt
-      go false y = tt
+      go : (x : Bool) → expires b.wait.try_set b.setup.period turn ≡ x → (y : Bool) → nat_eq b.wait.try_count b.setup.tries ≡ y
+          → Broken (cond x (cond y (Err (spent turn b)) (Ok (tries_frame frame (trying_again turn b)))) (Ok (tries_frame frame b)))
+      go true x true y = Spends (f x y) e
+      go true x false y = tt
+      go false x c y = tt
 
-  ticks-broken : (b : Account) → spent turn b ≡ spent turn a → (o : Option OwnBreaks) → Broken
-      (after_timers turn a.special (breaking turn o b))
-  ticks-broken b e None = Spends e
-  ticks-broken b e (Some own) = tt
+  ticks-broken : a.phase ≡ Connected → (b : Account) → spent turn b ≡ spent turn a
+      → Broken (after_timers turn a.special (breaking turn (ticked turn a.setup.period a.setup.tries a.own_breaks) b))
+  ticks-broken p b e = go (waits a.own_breaks) refl (expires a.own_breaks.set a.setup.period turn) refl
+      (nat_eq a.own_breaks.count a.setup.tries) refl
+    where
+      go : (w : Bool) → waits a.own_breaks ≡ w → (x : Bool) → expires a.own_breaks.set a.setup.period turn ≡ x
+          → (y : Bool) → nat_eq a.own_breaks.count a.setup.tries ≡ y
+          → Broken (after_timers turn a.special (breaking turn (cond (w && x)
+          (cond y None (Some (record a.own_breaks { brk = true; set = turn; count = a.own_breaks.count + 1 }))) (Some a.own_breaks)) b))
+      go false w x d y n = tt
+      go true w false d y n = tt
+      go true w true d true n = Spends (BreakEnds p w d n) e
+      go true w true d false n = tt
 
-  linked-broken : (x : Bool) (o : Option Outgoing) → ((new : Outgoing) → o ≡ Some new → new.front ≡ a.outgoing.front)
-      → Broken (after_timers turn a.special (then_tries turn (cond x (polling turn o a) (Ok a))))
-  linked-broken false o f = ticks-broken a refl _
-  linked-broken true None f = Spends refl
-  linked-broken true (Some new) f = ticks-broken (record a { outgoing = new; wait = record a.wait { poll = true; timer = Some turn } })
-      (ap (λ n. Spent n (waited_since a.setup.tries a.setup.period turn)) (f new refl)) _
-
-  expired-front : (b : Bool) (new : Outgoing) → cond b None (Some (record a.outgoing { count = a.outgoing.count + 1; awaited = true }))
-      ≡ Some new
-      → new.front ≡ a.outgoing.front
-  expired-front true new e = cc
-  expired-front false new e =
-      let same : record a.outgoing { count = a.outgoing.count + 1; awaited = true } ≡ new = cc in ap (λ o. o.front) (sym same)
+  linked-broken : a.phase ≡ Connected → (m : Option ℕ) → a.wait.timer ≡ m → Broken (after_timers turn a.special (then_tries turn
+      (cond (timer_expires turn a m) (polling turn (expired a.outgoing) a) (Ok a))))
+  linked-broken p None e = ticks-broken p a refl
+  linked-broken p (Some set) e = go (nat_eq turn (set + a.setup.period)) refl (nat_eq a.outgoing.count a.outgoing.tries) refl
+    where
+      go : (x : Bool) → nat_eq turn (set + a.setup.period) ≡ x → (y : Bool) → nat_eq a.outgoing.count a.outgoing.tries ≡ y
+          → Broken (after_timers turn a.special (then_tries turn
+          (cond x (polling turn (cond y None (Some (record a.outgoing { count = a.outgoing.count + 1; awaited = true }))) a) (Ok a))))
+      go true q true n = Spends (TimerEnds p set e q n) refl
+      go true q false n = ticks-broken p (record a {
+        outgoing = record a.outgoing { count = a.outgoing.count + 1; awaited = true };
+        wait = record a.wait { poll = true; timer = Some turn };
+      }) refl
+      go false q c n = ticks-broken p a refl
 
   phase-broken : (p : Phase) → a.phase ≡ p → Broken (speak_in p turn release a)
   phase-broken Detecting e = go a.setup.role refl
     where
-      late : (r : a.setup.role ≡ Originator) (b : Bool) → Broken (cond b (Err NotDetected) (Ok (says slots.Odp a)))
-      late r true = Undetected e r refl
-      late r false = tt
+      late : a.setup.role ≡ Originator → (b : Bool) → nat_le ((a.setup.tries + 1) * a.setup.period) turn ≡ b
+          → Broken (cond b (Err NotDetected) (Ok (says slots.Odp a)))
+      late r true l = Undetected e r l refl
+      late r false l = tt
 
       go : (r : Role) → a.setup.role ≡ r → Broken (speak_detecting r turn a)
-      go Originator f = late f _
+      go Originator f = late f _ refl
       go Answerer f = tt
-  phase-broken Negotiating e = go a.setup.role
+  phase-broken Negotiating e = go a.setup.role refl
     where
-      go : (r : Role) → Broken (speak_negotiating r turn a)
-      go Originator = tries-broken _ a refl
-      go Answerer = tt
-  phase-broken Establishing e = tries-broken _ a refl
+      go : (r : Role) → a.setup.role ≡ r → Broken (speak_negotiating r turn a)
+      go Originator f = tries-broken _ a refl (λ x y. TryEnds (inl (e, f)) x y)
+      go Answerer f = tt
+  phase-broken Establishing e = tries-broken _ a refl (λ x y. TryEnds (inr (inl e)) x y)
   phase-broken Connected e = go (release && is_originator a.setup.role)
     where
       go : (b : Bool) → Broken (cond b (speak_releasing turn (trying Releasing turn a)) (speak_linked turn a))
-      go true = tries-broken _ (trying Releasing turn a) refl
-      go false = linked-broken (timer_expires turn a a.wait.timer) _ (expired-front _)
-  phase-broken Releasing e = tries-broken _ a refl
+      go true = tries-broken _ (trying Releasing turn a) refl (λ x y. ReleaseEnds e x)
+      go false = linked-broken e a.wait.timer refl
+  phase-broken Releasing e = tries-broken _ a refl (λ x y. TryEnds (inr (inr e)) x y)
   phase-broken Closed e = tt
 
-  pub why-broken : (fault : LinkFault) → speak turn release a ≡ Err fault → Breaks turn a fault
+  pub why-broken : (fault : LinkFault) → speak turn release a ≡ Err fault → Breaks turn release a fault
   why-broken fault e = subst Broken e (phase-broken a.phase refl)
 
 -- what sending a segment leaves of the sender's part

@@ -1,5 +1,5 @@
 -- Speaking keeps a play good.
-use Rattle.std.proofs.Common.{◌≡◌, ℕ, ◌+◌, ◌≤◌, ◌&&◌, Bool, true, false, List, [], ◌∷◌, ◌++◌, length, arith}
+use Rattle.std.proofs.Common.{◌≡◌, ℕ, ◌≤◌, ◌&&◌, Bool, true, false, List, [], ◌∷◌, ◌++◌, length, arith}
 use Rattle.std.proofs.Common.{refl, sym, ◌∙◌, ap, subst, Option, Some, None, Result, Ok, Err, ◌⊎◌, inl, inr}
 use Rattle.std.proofs.lemmas.Bool.{false≢true}
 use Rattle.lapm_frames.specs.declared.frame.Frame.{Frame}
@@ -48,9 +48,9 @@ OnSaid P (Err fault) = IsHarmless fault
 by-result : (P : Said → Type 0) (turn : ℕ) (release : Bool) (a : Account) → Ways P turn release a → OnSaid P (speak turn release a)
 by-result P turn release a h = go (speak turn release a) refl
   where
-    harmless : (fault : LinkFault) → Breaks turn a fault → IsHarmless fault
-    harmless fault (Undetected p r e) = subst IsHarmless (sym e) tt
-    harmless fault (Spends e) = subst IsHarmless (sym e) tt
+    harmless : (fault : LinkFault) → Breaks turn release a fault → IsHarmless fault
+    harmless fault (Undetected p r l e) = subst IsHarmless (sym e) tt
+    harmless fault (Spends x e) = subst IsHarmless (sym e) tt
 
     go : (r : Result Said LinkFault) → speak turn release a ≡ r → OnSaid P r
     go (Ok said) e = by-ways P turn release a h said e

@@ -12,7 +12,7 @@ use Rattle.shared_terms.specs.declared.fault.LinkFault.{LinkFault}
 use Rattle.shared_terms.specs.declared.fault.LinkFault.TheVariants.{NotDetected, Spent, BadAck, PeerReset, PeerRefused}
 use Rattle.link_account.specs.Account.{Account, given_break, check_of}
 use Rattle.link_account.specs.Hear.{hear}
-use Rattle.link_account.specs.Speak.{Said, says, spent, speak}
+use Rattle.link_account.specs.Speak.{Said, spent, speak}
 use Rattle.lapm_frames.specs.declared.heard.Heard.{Heard}
 use Rattle.link_account.proofs.SpeakWays.{Breaks, Undetected, Spends, why-broken}
 use Rattle.link_run.specs.End.{is_closed, is_released}
@@ -29,9 +29,9 @@ use Rattle.link_run.specs.Carried.{sent_ago, Crosses}
 undetected : (turn : ℕ) (release : Bool) (a : Account) → speak turn release a ≡ Err NotDetected → a.setup.role ≡ Originator
 undetected turn release a e = go NotDetected refl (why-broken turn release a NotDetected e)
   where
-    go : (fault : LinkFault) → fault ≡ NotDetected → Breaks turn a fault → a.setup.role ≡ Originator
-    go fault n (Undetected p r f) = r
-    go fault n (Spends f) = let wrong : NotDetected ≡ spent turn a = sym n ∙ f in cc
+    go : (fault : LinkFault) → fault ≡ NotDetected → Breaks turn release a fault → a.setup.role ≡ Originator
+    go fault n (Undetected p r l f) = r
+    go fault n (Spends x f) = let wrong : NotDetected ≡ spent turn a = sym n ∙ f in cc
 
 pub each_end_is_named : ReadsAllowed → KeepsTaken → BrokenForWant → EachEndIsNamed
 each_end_is_named reads keeps want link ts before t mid role (Spent segment since) m h b = tt

@@ -1,5 +1,5 @@
 -- What an end keeps as it speaks.
-use Rattle.std.proofs.Common.{◌≡◌, ℕ, ◌+◌, Bool, true, false, cond, ◌&&◌, List, [], ◌∷◌, ◌++◌, arith, ◌≤◌, refl}
+use Rattle.std.proofs.Common.{◌≡◌, ℕ, Bool, true, false, cond, ◌&&◌, List, [], ◌∷◌, ◌++◌, arith, ◌≤◌, refl}
 use Rattle.std.proofs.Common.{sym, ap, subst, Some, Ok, Err}
 use Rattle.std.proofs.lemmas.Bool.{false≢true}
 use Rattle.shared_terms.specs.declared.role.Role.{Role}
@@ -156,6 +156,6 @@ pub breaks-for-want : (turn : ℕ) (release : Bool) (a : Account) (fault : LinkF
     → WantsAnswers (Some fault)
 breaks-for-want turn release a fault e = go (why-broken turn release a fault e)
   where
-    go : Breaks turn a fault → WantsAnswers (Some fault)
-    go (Undetected p r f) = subst (λ x. WantsAnswers (Some x)) (sym f) tt
-    go (Spends f) = subst (λ x. WantsAnswers (Some x)) (sym f) tt
+    go : Breaks turn release a fault → WantsAnswers (Some fault)
+    go (Undetected p r l f) = subst (λ x. WantsAnswers (Some x)) (sym f) tt
+    go (Spends x f) = subst (λ x. WantsAnswers (Some x)) (sym f) tt

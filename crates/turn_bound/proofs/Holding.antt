@@ -6,21 +6,19 @@ use Rattle.std.specs.List.{AllByRecursion}
 use Rattle.std.proofs.lemmas.Bool.Decides.{nat_tests}
 use Rattle.shared_terms.specs.Role.{is_originator}
 use Rattle.lapm_sender.specs.Outgoing.{Outgoing, is_outstanding, next_number, next_among, expired}
-use Rattle.lapm_receiver.specs.Held.{first_outside, missing_from}
-use Rattle.lapm_receiver.specs.Incoming.{Incoming, asks}
+use Rattle.lapm_receiver.specs.Incoming.{Incoming}
 use Rattle.break_signals.specs.declared.word.BreakWord.{BreakWord}
 use Rattle.break_signals.specs.declared.word.BreakWord.TheVariants.{Brk}
 use Rattle.break_signals.specs.Breaks.{OwnBreaks, waits, ticked}
 use Rattle.link_account.specs.Account.{Account}
-use Rattle.link_account.specs.declared.answer.Answer.{Answer}
-use Rattle.link_account.specs.Speak.{Said, answering, polling, timer_expires, on_timer, breaking, may_send, says_segment, says_own}
-use Rattle.link_account.specs.Speak.{says_break, says_asking, step1, step2, step3, step4, step5, step6, step7, steps, tells, differs}
+use Rattle.link_account.specs.Speak.{Said, polling, timer_expires, on_timer, breaking, may_send}
+use Rattle.link_account.specs.Speak.{steps, differs}
 use Rattle.link_account.specs.Speak.{then_tries}
 use Rattle.turn_bound.proofs.Clock.{Rates, AreRates, is_waiting, IsChosen, Sends}
 use Rattle.turn_bound.proofs.Value.{IsOf}
 use Rattle.turn_bound.proofs.Sending.{sent-well}
-use Rattle.turn_bound.proofs.Speaking.{AllSaid}
-use Rattle.turn_bound.proofs.SpeakStill.{else-by, where-by, none-said}
+use Rattle.link_account.proofs.SpeakWays.{NoWord, by-steps}
+use Rattle.turn_bound.proofs.SpeakStill.{asks-rej}
 use Rattle.turn_bound.proofs.Credits.{own_value, held_value}
 use Rattle.turn_bound.proofs.Taking.{owed_by, may_send_at}
 
@@ -97,22 +95,6 @@ pub record Held (turn : ℕ) (special : Bool) (a b : Account) : Type 0 where
 abbrev pub Goes : ℕ → Bool → Account → Said → Type 0
 Goes turn special a said = (is_waiting said.account.outgoing ≡ true) ⊎ Held turn special a said.account
 
-four-most : (b : Bool) → cond b 0 4 ≤ 4
-four-most true = omega arith
-four-most false = omega arith
-
-segment-goes : (z : Rates) (turn : ℕ) (special : Bool) (a : Account) → AreRates z → Ready z turn a
-    → AllSaid (Goes turn special a) (says_segment turn (may_send a) a)
-segment-goes z turn special a y h = go (may_send a) (allowed (is_originator a.setup.role || a.numbered))
-  where
-    allowed : (b : Bool) (n : ℕ) → cond b (next_number a.outgoing) None ≡ Some n → next_number a.outgoing ≡ Some n
-    allowed true n e = e
-    allowed false n e = cc
-
-    go : (m : Option ℕ) → ((n : ℕ) → m ≡ Some n → next_number a.outgoing ≡ Some n) → AllSaid (Goes turn special a) (says_segment turn m a)
-    go None f = tt
-    go (Some n) f = inl (sent-well z (length a.outgoing.pieces) turn a.outgoing a.wait.timer n y h.sends (omega arith) (f n refl)).waits
-
 -- there is one to send
 some-free : (z : Rates) (turn : ℕ) (a : Account) → Ready z turn a → may_send a ≡ None → ⊥
 some-free z turn a h e = clash (may_send a) e (ap (λ b. cond b (next_number o) None) h.may ∙ next)
@@ -157,121 +139,74 @@ some-free z turn a h e = clash (may_send a) e (ap (λ b. cond b (next_number o) 
     next = ap (λ b. cond b None (next_among o.chosen o)) parts.1 ∙ among
 
 -- the steps
-pub steps-go : (z : Rates) (turn : ℕ) (special : Bool) (a : Account) → AreRates z → Ready z turn a → a.special ≡ false
-    → Goes turn special a (steps turn special a)
-steps-go z turn special a y h s =
-    let P : Said → Type 0 = Goes turn special a in
-    else-by P (step1 a) _ (answered a.owes.answer h.answer) (λ e1.
-    else-by P (step2 a) _ (where-by P a.owes.reply _ reply) (λ e2.
-    else-by P (step3 a) _ (where-by P a.wait.poll _ poll) (λ e3.
-    else-by P (step4 turn a) _ (urgent a.wait.urgent) (λ e4.
-    else-by P (step5 special a) _ (breaks special refl a.their_breaks.ack refl) (λ e5.
-    else-by P (step6 special a) _
-    (news (differs a.owes.busy a.owes.busy_told && (is_originator a.setup.role || a.numbered)) none-new a.owes.busy h.busy e5) (λ e6.
-    else-by P (step7 turn a) _ (segment-goes z turn special a y h)
-    (λ e7. absurd (some-free z turn a h (none-said turn (may_send a) a e7)))))))))
-  where
-    answered : (m : Option Answer) → m ≡ None → AllSaid (Goes turn special a) (answering m a)
-    answered None e = tt
-    answered (Some answer) e = cc
+module _ (z : Rates) (turn : ℕ) (special : Bool) (a : Account) (y : AreRates z) (h : Ready z turn a) (s : a.special ≡ false) where
+  -- of the same sender's part
+  holds : (b : Account) → b.outgoing ≡ a.outgoing → b.wait.timer ≡ a.wait.timer → Pays turn special a b
+      → (is_waiting b.outgoing ≡ true) ⊎ Held turn special a b
+  holds b e f p = inr (record { outgoing = e; timer = f; pays = p })
 
-    fresh4 : cond {A = ℕ} a.special 0 4 ≡ 4
-    fresh4 = ap (λ b. cond {A = ℕ} b 0 4) s
+  fresh4 : cond {A = ℕ} a.special 0 4 ≡ 4
+  fresh4 = ap (λ b. cond {A = ℕ} b 0 4) s
 
-    reply : a.owes.reply ≡ true → Goes turn special a (tells false true (record a { owes = record a.owes { reply = false } }))
-    reply e = inr (record { outgoing = refl; timer = refl; pays = Replies e (omega (arith, fresh4)) })
+  four : special ≡ false → cond {A = ℕ} special 0 4 ≡ 4
+  four e = ap (λ b. cond {A = ℕ} b 0 4) e
 
-    poll : a.wait.poll ≡ true → Goes turn special a (tells true true (record a { wait = record a.wait { poll = false } }))
-    poll e = inr (record { outgoing = refl; timer = refl; pays = Much (omega (arith, fresh4, ap (λ b. cond {A = ℕ} b 16 0) e)) })
+  due : (b : Bool) (word : BreakWord)
+      → cond b (Some (Brk (a.own_breaks.answered % 2) (slice_index_or a.own_breaks.lengths a.own_breaks.answered 0))) None ≡ Some word
+      → cond {A = ℕ} b 8 0 ≡ 8
+  due true word e = refl
+  due false word e = cc
 
-    urgent : (b : Bool) → AllSaid (Goes turn special a) (cond b (says_segment turn (may_send a) a) None)
-    urgent true = segment-goes z turn special a y h
-    urgent false = tt
+  none-new : (x y : Bool) → x ≡ false → y ≡ false → differs x y && (is_originator a.setup.role || a.numbered) ≡ true → ⊥
+  none-new true y e f g = cc
+  none-new false true e f g = cc
+  none-new false false e f g = cc
 
-    breaks : (b : Bool) → special ≡ b → (m : Option BreakWord) → a.their_breaks.ack ≡ m
-        → AllSaid (Goes turn special a) (cond b None (says_break m a))
-    breaks true e m f = tt
-    breaks false e (Some word) f =
-        let four : cond {A = ℕ} special 0 4 ≡ 4 = ap (λ b. cond {A = ℕ} b 0 4) e in
-        let eight : cond {A = ℕ} (is_some a.their_breaks.ack) 8 0 ≡ 8 = ap (λ m. cond {A = ℕ} (is_some m) 8 0) f in
-        inr (record { outgoing = refl; timer = refl; pays = Much (omega (arith, four, eight)) })
-    breaks false e None f = own a.own_breaks.brk refl
-      where
-        own : (d : Bool) → a.own_breaks.brk ≡ d
-            → AllSaid (Goes turn special a)
-            (says_own (cond d (Some (Brk (a.own_breaks.answered % 2) (slice_index_or a.own_breaks.lengths a.own_breaks.answered 0))) None)
-            a)
-        own false g = tt
-        own true g =
-            let four : cond {A = ℕ} special 0 4 ≡ 4 = ap (λ b. cond {A = ℕ} b 0 4) e in
-            let eight : cond {A = ℕ} a.own_breaks.brk 8 0 ≡ 8 = ap (λ b. cond {A = ℕ} b 8 0) g in
-            inr (record { outgoing = refl; timer = refl; pays = Much (omega (arith, four, eight)) })
+  -- where no word is to be said no break is to be answered
+  unasked : special ≡ false → NoWord special a → is_some a.their_breaks.ack ≡ false
+  unasked e (inl f) = let wrong : false ≡ true = sym e ∙ f in cc
+  unasked e (inr f) = ap is_some f.1
 
-    none-new : differs a.owes.busy a.owes.busy_told && (is_originator a.setup.role || a.numbered) ≡ false
-    none-new = by a.owes.busy a.owes.busy_told h.busy h.told
-      where
-        by : (x y : Bool) → x ≡ false → y ≡ false → differs x y && (is_originator a.setup.role || a.numbered) ≡ false
-        by true y e f = cc
-        by false true e f = cc
-        by false false e f = refl
+  rejected : (i : Incoming) (x : ℕ) → i.srej ≡ false → i.rej ≡ true
+      → cond (cond i.srej (record i { asked = i.asked ++ x ∷ [] }) (record i { rej = false })).srej 0
+      (cond (cond i.srej (record i { asked = i.asked ++ x ∷ [] }) (record i { rej = false })).rej 16 0 + cond
+      (cond i.srej (record i { asked = i.asked ++ x ∷ [] }) (record i { rej = false })).gapped 0 8) + 16
+      ≡ cond i.srej 0 (cond i.rej 16 0 + cond i.gapped 0 8)
+  rejected i x e f =
+      ap (λ j. cond j.srej 0 (cond j.rej 16 0 + cond j.gapped 0 8) + 16)
+      (ap (λ b. cond b (record i { asked = i.asked ++ x ∷ [] }) (record i { rej = false })) e)
+      ∙ (ap (λ b. cond b 0 (0 + cond i.gapped 0 8) + 16) e
+      ∙ (sums (cond i.gapped 0 8)
+      ∙ sym (ap (λ b. cond b 0 (cond i.rej 16 0 + cond i.gapped 0 8)) e ∙ ap (λ b. cond b 16 0 + cond i.gapped 0 8) f)))
+    where
+      sums : (n : ℕ) → 0 + n + 16 ≡ 16 + n
+      sums n = omega arith
 
-    -- where step 5 has nothing to say no break is to be answered
-    unasked : special ≡ false → step5 special a ≡ None → is_some a.their_breaks.ack ≡ false
-    unasked e f = by a.their_breaks.ack (ap (λ b. cond b None (says_break a.their_breaks.ack a)) (sym e) ∙ f)
-      where
-        by : (m : Option BreakWord) → says_break m a ≡ None → is_some m ≡ false
-        by None g = refl
-        by (Some word) g = cc
+  kept : (i : Incoming) (x : ℕ) → i.srej ≡ true
+      → cond (cond i.srej (record i { asked = i.asked ++ x ∷ [] }) (record i { rej = false })).srej 0
+      (cond (cond i.srej (record i { asked = i.asked ++ x ∷ [] }) (record i { rej = false })).rej 16 0 + cond
+      (cond i.srej (record i { asked = i.asked ++ x ∷ [] }) (record i { rej = false })).gapped 0 8)
+      ≡ 0
+  kept i x e =
+      ap (λ j. cond j.srej 0 (cond j.rej 16 0 + cond j.gapped 0 8))
+      (ap (λ b. cond b (record i { asked = i.asked ++ x ∷ [] }) (record i { rej = false })) e)
+      ∙ ap (λ b. cond b 0 (cond i.rej 16 0 + cond i.gapped 0 8)) e
 
-    asks-rej : (i : Incoming) (n : ℕ) → i.srej ≡ false → asks i ≡ Some n → i.rej ≡ true
-    asks-rej i n e f = by i.srej e i.rej f
-      where
-        by : (b : Bool) → b ≡ false → (r : Bool)
-            → cond b (first_outside i.asked (missing_from (length i.taken) i.held)) (cond r (Some (length i.taken)) None) ≡ Some n
-            → r ≡ true
-        by true e r g = cc
-        by false e true g = refl
-        by false e false g = cc
-
-    asking : (srej special' : Bool) → a.incoming.srej ≡ srej → special ≡ special' → step5 special a ≡ None → (m : Option ℕ)
-        → asks a.incoming ≡ m → AllSaid (Goes turn special a) (says_asking srej special' m a)
-    asking srej special' e g n None k = tt
-    asking true true e g n (Some x) k = tt
-    asking false special' e g n (Some x) k =
-        let due : a.incoming.rej ≡ true = asks-rej a.incoming x e k in
-        inr (record { outgoing = refl; timer = refl; pays = Much (omega (arith, fresh4, rejected a.incoming e due)) })
-      where
-        rejected : (i : Incoming) → i.srej ≡ false → i.rej ≡ true
-            → cond (cond i.srej (record i { asked = i.asked ++ x ∷ [] }) (record i { rej = false })).srej 0
-            (cond (cond i.srej (record i { asked = i.asked ++ x ∷ [] }) (record i { rej = false })).rej 16 0 + cond
-            (cond i.srej (record i { asked = i.asked ++ x ∷ [] }) (record i { rej = false })).gapped 0 8) + 16
-            ≡ cond i.srej 0 (cond i.rej 16 0 + cond i.gapped 0 8)
-        rejected i e f =
-            ap (λ j. cond j.srej 0 (cond j.rej 16 0 + cond j.gapped 0 8) + 16)
-            (ap (λ b. cond b (record i { asked = i.asked ++ x ∷ [] }) (record i { rej = false })) e)
-            ∙ (ap (λ b. cond b 0 (0 + cond i.gapped 0 8) + 16) e
-            ∙ (sums (cond i.gapped 0 8)
-            ∙ sym (ap (λ b. cond b 0 (cond i.rej 16 0 + cond i.gapped 0 8)) e ∙ ap (λ b. cond b 16 0 + cond i.gapped 0 8) f)))
-          where
-            sums : (n : ℕ) → 0 + n + 16 ≡ 16 + n
-            sums n = omega arith
-    asking true false e g n (Some x) k =
-        let four : cond {A = ℕ} special 0 4 ≡ 4 = ap (λ b. cond {A = ℕ} b 0 4) g in
-        inr (record { outgoing = refl; timer = refl; pays = Srejs e (unasked g n) (omega (arith, four, kept a.incoming e)) })
-      where
-        kept : (i : Incoming) → i.srej ≡ true
-            → cond (cond i.srej (record i { asked = i.asked ++ x ∷ [] }) (record i { rej = false })).srej 0
-            (cond (cond i.srej (record i { asked = i.asked ++ x ∷ [] }) (record i { rej = false })).rej 16 0 + cond
-            (cond i.srej (record i { asked = i.asked ++ x ∷ [] }) (record i { rej = false })).gapped 0 8)
-            ≡ 0
-        kept i e =
-            ap (λ j. cond j.srej 0 (cond j.rej 16 0 + cond j.gapped 0 8))
-            (ap (λ b. cond b (record i { asked = i.asked ++ x ∷ [] }) (record i { rej = false })) e)
-            ∙ ap (λ b. cond b 0 (cond i.rej 16 0 + cond i.gapped 0 8)) e
-
-    news : (b : Bool) → b ≡ false → (c : Bool) → c ≡ false → step5 special a ≡ None
-        → AllSaid (Goes turn special a)
-        (cond b (Some (tells false false a)) (cond c None (says_asking a.incoming.srej special (asks a.incoming) a)))
-    news true e c f n = cc
-    news false e true f n = cc
-    news false e false f n = asking a.incoming.srej special refl refl n (asks a.incoming) refl
+  pub steps-go : Goes turn special a (steps turn special a)
+  steps-go = by-steps (Goes turn special a) turn special a (record {
+    answers = λ d e. let wrong : None ≡ Some d = sym h.answer ∙ e in cc;
+    final = λ n e. holds _ refl refl (Replies e (omega (arith, fresh4)));
+    poll = λ n r e. holds _ refl refl (Much (omega (arith, fresh4, ap (λ b. cond {A = ℕ} b 16 0) e)));
+    segment = λ b u n e. inl (sent-well z (length a.outgoing.pieces) turn a.outgoing a.wait.timer n y h.sends (omega arith)
+        (sym (ap (λ b. cond b (next_number a.outgoing) None) h.may) ∙ e)).waits;
+    brkack = λ b e word f. holds _ refl refl (Much (omega (arith, four e, ap (λ m. cond {A = ℕ} (is_some m) 8 0) f)));
+    brk = λ b e n word f. holds _ refl refl (Much (omega (arith, four e, due a.own_breaks.brk word f)));
+    tell = λ b w e. elim e [
+      | inl n ↦ absurd (none-new a.owes.busy a.owes.busy_told h.busy h.told n)
+      | inr o ↦ absurd (some-free z turn a h o.0)
+    ];
+    rej = λ b w n k. holds _ refl refl
+        (Much (omega (arith, fresh4, rejected a.incoming n k.kind (asks-rej a.incoming n k.kind k.number))));
+    srej = λ b w e n k. holds _ refl refl (Srejs k.kind (unasked e w) (omega (arith, four e, kept a.incoming n k.kind)));
+    flags = λ i. absurd (some-free z turn a h i.segment);
+  })

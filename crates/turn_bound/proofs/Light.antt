@@ -1,6 +1,5 @@
 use Rattle.std.proofs.Common.{◌≡◌, ℕ, ◌≤◌, ◌&&◌, ap, Bool, true, false, arith, refl, subst}
 use Rattle.std.proofs.Common.{Result, Ok, Err}
-use Rattle.lapm_frames.specs.declared.frame.Frame.TheVariants.{Xid}
 use Rattle.break_signals.specs.declared.word.BreakWord.{BreakWord}
 use Rattle.break_signals.specs.declared.fault.BreakFault.{BreakFault}
 use Rattle.break_signals.specs.declared.word.BreakWord.TheVariants.{Brk, Ack}

@@ -1,9 +1,8 @@
 -- Where no user is busy no end tells that it is, and none counts the other as busy.
-use Rattle.std.proofs.Common.{◌≡◌, ℕ, ◌-◌, Bool, true, false, arith, refl, sym}
+use Rattle.std.proofs.Common.{◌≡◌, ℕ, Bool, true, false, arith, refl, sym}
 use Rattle.std.proofs.Common.{◌∙◌, ap, subst, Option, Ok}
-use Rattle.lapm_frames.specs.declared.frame.Frame.TheVariants.{Disc, Ua, Dm, Xid}
+use Rattle.lapm_frames.specs.declared.frame.Frame.TheVariants.{Disc}
 use Rattle.lapm_sender.specs.Outgoing.{Outgoing}
-use Rattle.lapm_frames.specs.declared.seen.Seen.TheVariants.{Adp}
 use Rattle.lapm_frames.specs.declared.arrived.Arrived.{Arrived}
 use Rattle.link_account.specs.declared.phase.Phase.{Phase}
 use Rattle.link_account.specs.declared.phase.Phase.TheVariants.{Detecting, Negotiating, Establishing, Connected, Releasing, Closed}

@@ -7,7 +7,6 @@ use Rattle.link_account.specs.declared.phase.Phase.TheVariants.{Releasing}
 use Rattle.link_account.specs.Account.{Account, is_connected, wants, after_offer, after_given, after_busy, after_break_asked}
 use Rattle.link_account.specs.Hear.{hear}
 use Rattle.link_account.specs.Hear.{trying}
-use Rattle.lapm_receiver.specs.Incoming.{asks}
 use Rattle.break_signals.specs.Breaks.{after_ask}
 use Rattle.link_account.specs.Speak.{Said}
 use Rattle.link_account.specs.Speak.{speak}

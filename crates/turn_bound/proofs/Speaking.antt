@@ -1,20 +1,18 @@
-use Rattle.std.proofs.Common.{◌≡◌, ℕ, ◌+◌, ◌-◌, ◌*◌, ◌≤◌, ◌&&◌, ◌||◌, Bool, true, false, cond, nat_eq, List, [], ◌∷◌, length, arith, refl}
+use Rattle.std.proofs.Common.{◌≡◌, ℕ, ◌+◌, ◌-◌, ◌*◌, ◌≤◌, ◌||◌, Bool, true, false, cond, nat_eq, List, [], ◌∷◌, length, arith, refl}
 use Rattle.std.proofs.Common.{sym, ◌∙◌, ap, subst, Option, Some, None, Result, Ok, Err}
 use Rattle.shared_terms.specs.declared.role.Role.{Role}
 use Rattle.shared_terms.specs.declared.role.Role.TheVariants.{Originator, Answerer}
 use Rattle.lapm_sender.specs.Outgoing.{Outgoing, next_number, after_next, sent_among, expired}
-use Rattle.lapm_receiver.specs.Incoming.{asks}
-use Rattle.break_signals.specs.declared.word.BreakWord.{BreakWord}
-use Rattle.break_signals.specs.Breaks.{OwnBreaks, own_due, after_brk, ticked}
+use Rattle.break_signals.specs.Breaks.{OwnBreaks, after_brk, ticked}
 use Rattle.link_account.specs.declared.phase.Phase.{Phase}
 use Rattle.link_account.specs.declared.phase.Phase.TheVariants.{Connected}
 use Rattle.shared_terms.specs.declared.fault.LinkFault.{LinkFault}
 use Rattle.link_account.specs.Account.{Account, is_connected}
-use Rattle.link_account.specs.declared.answer.Answer.{Answer}
 use Rattle.shared_terms.specs.Role.{is_originator}
-use Rattle.link_account.specs.Speak.{Said, else_says, where_says, answering, polling, timer_expires, on_timer, breaking, on_break_timer}
-use Rattle.link_account.specs.Speak.{may_send, running, says_segment, says_own, says_break, says_asking, step1, step2, step3, step4, step5}
-use Rattle.link_account.specs.Speak.{step6, step7, step8, step9, steps, tells, differs, after_timers, then_tries, speak_linked}
+use Rattle.link_account.specs.Speak.{Said, polling, timer_expires, on_timer, breaking, on_break_timer}
+use Rattle.link_account.specs.Speak.{may_send, running, says_segment}
+use Rattle.link_account.specs.Speak.{steps, after_timers, then_tries, speak_linked}
+use Rattle.link_account.proofs.SpeakWays.{AllSaid, by-steps}
 use Rattle.turn_bound.proofs.Clock.{Rates, AreRates, is_waiting, Sends, lasts, one_if, sender_value, Breaks, is_breaking, break_left}
 use Rattle.link_run.specs.End.{is_closed}
 use Rattle.turn_bound.proofs.Value.{value, linked_lives, lives, IsOf, IsAck, IsSilent, Linked, Stands}
@@ -51,133 +49,97 @@ pub record Stepped (z : Rates) (total breaks turn : ℕ) (role : Role) (a b : Ac
   pub silent : IsSilent role b
   pub same : Same a b
 
-abbrev pub AllSaid : (Said → Type 0) → Option Said → Type 0
-AllSaid P None = Unit {0}
-AllSaid P (Some said) = P said
-
-pub else-says : (P : Said → Type 0) (first : Option Said) (said : Said) → AllSaid P first → P said → P (else_says first said)
-else-says P None said h k = k
-else-says P (Some first) said h k = h
-
-pub where-says : (P : Said → Type 0) (b : Bool) (said : Said) → P said → AllSaid P (where_says b said)
-where-says P true said h = h
-where-says P false said h = tt
-
 nothing-falls : (v k : ℕ) (w : Bool) → v + cond w 0 (cond w (k + 1) 0) ≤ v
 nothing-falls v k true = omega arith
 nothing-falls v k false = omega arith
 
--- a frame that leaves the sender's part and the breaks as they are
-quiet-step : (z : Rates) (total breaks turn : ℕ) (role : Role) (a b : Account) → Linked z (turn + 1) (turn + 1) role a
-    → b.outgoing ≡ a.outgoing → b.wait.timer ≡ a.wait.timer → b.own_breaks ≡ a.own_breaks → IsAck b.their_breaks.ack
-    → b.numbered ≡ a.numbered → b.phase ≡ a.phase → b.setup ≡ a.setup → Stepped z total breaks turn role a b
-quiet-step z total breaks turn role a b h outgoing timer own ack numbered phase setup = record {
-  sends = subst (λ o. Sends z (turn + 1) (turn + 1) o b.wait.timer) (sym outgoing)
-      (subst (Sends z (turn + 1) (turn + 1) a.outgoing) (sym timer) h.sends);
-  waits = λ w. ap is_waiting outgoing ∙ w;
-  falls = subst (λ o. sender_value z total (turn + 1) o b.wait.timer + cond (is_waiting a.outgoing) 0
-      (cond (is_waiting o) (z.room + 1) 0) ≤ sender_value z total (turn + 1) a.outgoing a.wait.timer) (sym outgoing)
-      (subst (λ r. sender_value z total (turn + 1) a.outgoing r + cond (is_waiting a.outgoing) 0
-      (cond (is_waiting a.outgoing) (z.room + 1) 0) ≤ sender_value z total (turn + 1) a.outgoing a.wait.timer) (sym timer)
-      (nothing-falls (sender_value z total (turn + 1) a.outgoing a.wait.timer) z.room (is_waiting a.outgoing)));
-  own = subst (Breaks z (turn + 1) (turn + 1)) (sym own) h.breaks;
-  breaking = ap (is_breaking (turn + 1)) own;
-  left = ap (break_left z (turn + 1)) own;
-  ack = ack;
-  silent = silent-same role h.silent;
-  same = record {
-    setup = setup;
-    phase = phase;
-    numbered = numbered;
-    pieces = ap (λ o. o.pieces) outgoing;
-    ended = ap (λ o. o.ended) outgoing;
-    lengths = ap (λ o. o.lengths) own;
-  };
-}
-  where
-    silent-same : (r : Role) → IsSilent r a → IsSilent r b
-    silent-same Originator s = tt
-    silent-same Answerer s = λ n. let k = s (sym numbered ∙ n) in (ap (λ o. o.high) outgoing ∙ k.0, timer ∙ k.1)
+-- The steps of a Connected end.
+module _ (z : Rates) (total breaks turn : ℕ) (role : Role) (a : Account) (y : AreRates z) (h : Linked z (turn + 1) (turn + 1) role a)
+    (er : a.setup.role ≡ role) (all : length a.outgoing.pieces ≤ total) where
+  -- a frame that leaves the sender's part and the breaks as they are
+  quiet : (b : Account) → b.outgoing ≡ a.outgoing → b.wait.timer ≡ a.wait.timer → b.own_breaks ≡ a.own_breaks → IsAck b.their_breaks.ack
+      → b.numbered ≡ a.numbered → b.phase ≡ a.phase → b.setup ≡ a.setup → Stepped z total breaks turn role a b
+  quiet b outgoing timer own ack numbered phase setup = record {
+    sends = subst (λ o. Sends z (turn + 1) (turn + 1) o b.wait.timer) (sym outgoing)
+        (subst (Sends z (turn + 1) (turn + 1) a.outgoing) (sym timer) h.sends);
+    waits = λ w. ap is_waiting outgoing ∙ w;
+    falls = subst (λ o. sender_value z total (turn + 1) o b.wait.timer + cond (is_waiting a.outgoing) 0
+        (cond (is_waiting o) (z.room + 1) 0) ≤ sender_value z total (turn + 1) a.outgoing a.wait.timer) (sym outgoing)
+        (subst (λ r. sender_value z total (turn + 1) a.outgoing r + cond (is_waiting a.outgoing) 0
+        (cond (is_waiting a.outgoing) (z.room + 1) 0) ≤ sender_value z total (turn + 1) a.outgoing a.wait.timer) (sym timer)
+        (nothing-falls (sender_value z total (turn + 1) a.outgoing a.wait.timer) z.room (is_waiting a.outgoing)));
+    own = subst (Breaks z (turn + 1) (turn + 1)) (sym own) h.breaks;
+    breaking = ap (is_breaking (turn + 1)) own;
+    left = ap (break_left z (turn + 1)) own;
+    ack = ack;
+    silent = silent-same role h.silent;
+    same = record {
+      setup = setup;
+      phase = phase;
+      numbered = numbered;
+      pieces = ap (λ o. o.pieces) outgoing;
+      ended = ap (λ o. o.ended) outgoing;
+      lengths = ap (λ o. o.lengths) own;
+    };
+  }
+    where
+      silent-same : (r : Role) → IsSilent r a → IsSilent r b
+      silent-same Originator s = tt
+      silent-same Answerer s = λ n. let k = s (sym numbered ∙ n) in (ap (λ o. o.high) outgoing ∙ k.0, timer ∙ k.1)
 
--- an I frame
-segment-step : (z : Rates) (total breaks turn : ℕ) (role : Role) (a : Account) → AreRates z → Linked z (turn + 1) (turn + 1) role a
-    → a.setup.role ≡ role → length a.outgoing.pieces ≤ total
-    → AllSaid (λ s. Stepped z total breaks turn role a s.account) (says_segment turn (may_send a) a)
-segment-step z total breaks turn role a y h er all = go (may_send a) (λ n e. allowed (is_originator a.setup.role || a.numbered) refl n e)
-  where
-    allowed : (b : Bool) → is_originator a.setup.role || a.numbered ≡ b → (n : ℕ) → cond b (next_number a.outgoing) None ≡ Some n
-        → (next_number a.outgoing ≡ Some n) × (is_originator a.setup.role || a.numbered ≡ true)
-    allowed true f n e = (e, f)
-    allowed false f n e = cc
+  -- an I frame
+  segment : (n : ℕ) → may_send a ≡ Some n → AllSaid (λ s. Stepped z total breaks turn role a s.account) (says_segment turn (Some n) a)
+  segment n e =
+      let g = allowed (is_originator a.setup.role || a.numbered) refl e in
+      let s = sent-well z total turn a.outgoing a.wait.timer n y h.sends all g.0 in
+      record {
+        sends = s.sends;
+        waits = λ w. s.waits;
+        falls = subst (λ l. sender_value z total (turn + 1) (after_next a.outgoing) (running turn a.wait.timer) + cond
+            (is_waiting a.outgoing) 0 (cond l (z.room + 1) 0) ≤ sender_value z total (turn + 1) a.outgoing a.wait.timer)
+            (sym s.waits) s.falls;
+        own = h.breaks;
+        breaking = refl;
+        left = refl;
+        ack = h.ack;
+        silent = heard-of role er g.1 _ refl;
+        same = record {
+          setup = refl;
+          phase = refl;
+          numbered = refl;
+          pieces = (sent-pieces a.outgoing).0;
+          ended = (sent-pieces a.outgoing).1;
+          lengths = refl;
+        };
+      }
+    where
+      allowed : (b : Bool) → is_originator a.setup.role || a.numbered ≡ b → cond b (next_number a.outgoing) None ≡ Some n
+          → (next_number a.outgoing ≡ Some n) × (is_originator a.setup.role || a.numbered ≡ true)
+      allowed true f e = (e, f)
+      allowed false f e = cc
 
-    heard-of : (r : Role) → a.setup.role ≡ r → is_originator a.setup.role || a.numbered ≡ true → (b : Account) → b.numbered ≡ a.numbered
-        → IsSilent r b
-    heard-of Originator f g b e = tt
-    heard-of Answerer f g b e = λ n. let none : is_originator a.setup.role ≡ false = ap is_originator f in
-        let wrong : false || false ≡ true =
-        subst (λ k. k || false ≡ true) none (subst (λ k. is_originator a.setup.role || k ≡ true) (sym e ∙ n) g) in cc
+      heard-of : (r : Role) → a.setup.role ≡ r → is_originator a.setup.role || a.numbered ≡ true → (b : Account) → b.numbered ≡ a.numbered
+          → IsSilent r b
+      heard-of Originator f g b e = tt
+      heard-of Answerer f g b e = λ n. let none : is_originator a.setup.role ≡ false = ap is_originator f in
+          let wrong : false || false ≡ true =
+          subst (λ k. k || false ≡ true) none (subst (λ k. is_originator a.setup.role || k ≡ true) (sym e ∙ n) g) in cc
 
-    sent-pieces : (o : Outgoing) → ((after_next o).pieces ≡ o.pieces) × ((after_next o).ended ≡ o.ended)
-    sent-pieces o = by o.chosen
-      where
-        by : (l : List ℕ) → ((sent_among l o).pieces ≡ o.pieces) × ((sent_among l o).ended ≡ o.ended)
-        by [] = (refl, refl)
-        by (n ∷ l) = (refl, refl)
+      sent-pieces : (o : Outgoing) → ((after_next o).pieces ≡ o.pieces) × ((after_next o).ended ≡ o.ended)
+      sent-pieces o = by o.chosen
+        where
+          by : (l : List ℕ) → ((sent_among l o).pieces ≡ o.pieces) × ((sent_among l o).ended ≡ o.ended)
+          by [] = (refl, refl)
+          by (n ∷ l) = (refl, refl)
 
-    go : (m : Option ℕ) → ((n : ℕ) → m ≡ Some n → (next_number a.outgoing ≡ Some n) × (is_originator a.setup.role || a.numbered ≡ true))
-        → AllSaid (λ s. Stepped z total breaks turn role a s.account) (says_segment turn m a)
-    go None f = tt
-    go (Some n) f =
-        let g = f n refl in
-        let s = sent-well z total turn a.outgoing a.wait.timer n y h.sends all g.0 in
-        record {
-          sends = s.sends;
-          waits = λ w. s.waits;
-          falls = subst (λ l. sender_value z total (turn + 1) (after_next a.outgoing) (running turn a.wait.timer) + cond
-              (is_waiting a.outgoing) 0 (cond l (z.room + 1) 0) ≤ sender_value z total (turn + 1) a.outgoing a.wait.timer)
-              (sym s.waits) s.falls;
-          own = h.breaks;
-          breaking = refl;
-          left = refl;
-          ack = h.ack;
-          silent = heard-of role er g.1 _ refl;
-          same = record {
-            setup = refl;
-            phase = refl;
-            numbered = refl;
-            pieces = (sent-pieces a.outgoing).0;
-            ended = (sent-pieces a.outgoing).1;
-            lengths = refl;
-          };
-        }
-
--- the steps
-abbrev pub Steps : Rates → ℕ → ℕ → ℕ → Role → Account → Said → Type 0
-Steps z total breaks turn role a s = Stepped z total breaks turn role a s.account
-
-step-1 : (z : Rates) (total breaks turn : ℕ) (role : Role) (a : Account) → Linked z (turn + 1) (turn + 1) role a
-    → AllSaid (Steps z total breaks turn role a) (step1 a)
-step-1 z total breaks turn role a h = go a.owes.answer
-  where
-    go : (m : Option Answer) → AllSaid (Steps z total breaks turn role a) (answering m a)
-    go None = tt
-    go (Some answer) = quiet-step z total breaks turn role a _ h refl refl refl h.ack refl refl refl
-
-step-4 : (z : Rates) (total breaks turn : ℕ) (role : Role) (a : Account) → AreRates z → Linked z (turn + 1) (turn + 1) role a
-    → a.setup.role ≡ role → length a.outgoing.pieces ≤ total → AllSaid (Steps z total breaks turn role a) (step4 turn a)
-step-4 z total breaks turn role a y h er all = go a.wait.urgent
-  where
-    go : (b : Bool) → AllSaid (Steps z total breaks turn role a) (cond b (says_segment turn (may_send a) a) None)
-    go true = segment-step z total breaks turn role a y h er all
-    go false = tt
-
-step-5 : (z : Rates) (total breaks turn : ℕ) (role : Role) (a : Account) (special : Bool) → Linked z (turn + 1) (turn + 1) role a
-    → AllSaid (Steps z total breaks turn role a) (step5 special a)
-step-5 z total breaks turn role a special h = go special a.their_breaks.ack
-  where
-    own : (m : Option BreakWord) → AllSaid (Steps z total breaks turn role a) (says_own m a)
-    own None = tt
-    own (Some word) = record {
+  pub steps-well : (special : Bool) → Stepped z total breaks turn role a (steps turn special a).account
+  steps-well special = by-steps (λ s. Stepped z total breaks turn role a s.account) turn special a (record {
+    answers = λ d e. quiet _ refl refl refl h.ack refl refl refl;
+    final = λ n e. quiet _ refl refl refl h.ack refl refl refl;
+    poll = λ n r e. quiet _ refl refl refl h.ack refl refl refl;
+    segment = λ b u n e. segment n e;
+    brkack = λ b s word e. quiet _ refl refl refl tt refl refl refl;
+    brk = λ b s k word e. record {
       sends = h.sends;
       waits = λ w. w;
       falls = nothing-falls (sender_value z total (turn + 1) a.outgoing a.wait.timer) z.room (is_waiting a.outgoing);
@@ -187,49 +149,16 @@ step-5 z total breaks turn role a special h = go special a.their_breaks.ack
       ack = h.ack;
       silent = silent-same role h.silent;
       same = record { setup = refl; phase = refl; numbered = refl; pieces = refl; ended = refl; lengths = refl };
-    }
-      where
-        silent-same : (r : Role) → IsSilent r a → IsSilent r (record a { own_breaks = after_brk a.own_breaks; special = true })
-        silent-same Originator s = tt
-        silent-same Answerer s = s
-
-    go : (b : Bool) (m : Option BreakWord) → AllSaid (Steps z total breaks turn role a) (cond b None (says_break m a))
-    go true m = tt
-    go false None = own (own_due a.own_breaks)
-    go false (Some word) = quiet-step z total breaks turn role a _ h refl refl refl tt refl refl refl
-
-step-6 : (z : Rates) (total breaks turn : ℕ) (role : Role) (a : Account) (special : Bool) → Linked z (turn + 1) (turn + 1) role a
-    → AllSaid (Steps z total breaks turn role a) (step6 special a)
-step-6 z total breaks turn role a special h =
-    go (differs a.owes.busy a.owes.busy_told && (is_originator a.setup.role || a.numbered)) a.owes.busy
-  where
-    asking : (srej special : Bool) (m : Option ℕ) → AllSaid (Steps z total breaks turn role a) (says_asking srej special m a)
-    asking srej special None = tt
-    asking false special (Some n) = quiet-step z total breaks turn role a _ h refl refl refl h.ack refl refl refl
-    asking true true (Some n) = tt
-    asking true false (Some n) = quiet-step z total breaks turn role a _ h refl refl refl h.ack refl refl refl
-
-    go : (b c : Bool) → AllSaid (Steps z total breaks turn role a)
-        (cond b (Some (tells false false a)) (cond c None (says_asking a.incoming.srej special (asks a.incoming) a)))
-    go true c = quiet-step z total breaks turn role a _ h refl refl refl h.ack refl refl refl
-    go false true = tt
-    go false false = asking a.incoming.srej special (asks a.incoming)
-
-pub steps-well : (z : Rates) (total breaks turn : ℕ) (role : Role) (a : Account) (special : Bool) → AreRates z
-    → Linked z (turn + 1) (turn + 1) role a → a.setup.role ≡ role → length a.outgoing.pieces ≤ total
-    → Steps z total breaks turn role a (steps turn special a)
-steps-well z total breaks turn role a special y h er all =
-    let P : Said → Type 0 = Steps z total breaks turn role a in
-    else-says P (step1 a) _ (step-1 z total breaks turn role a h)
-    (else-says P (step2 a) _ (where-says P a.owes.reply _ (quiet-step z total breaks turn role a _ h refl refl refl h.ack refl refl refl))
-    (else-says P (step3 a) _ (where-says P a.wait.poll _ (quiet-step z total breaks turn role a _ h refl refl refl h.ack refl refl refl))
-    (else-says P (step4 turn a) _ (step-4 z total breaks turn role a y h er all)
-    (else-says P (step5 special a) _ (step-5 z total breaks turn role a special h)
-    (else-says P (step6 special a) _ (step-6 z total breaks turn role a special h)
-    (else-says P (step7 turn a) _ (segment-step z total breaks turn role a y h er all)
-    (else-says P (step8 a) (step9 a)
-    (where-says P a.incoming.owed _ (quiet-step z total breaks turn role a _ h refl refl refl h.ack refl refl refl))
-    (quiet-step z total breaks turn role a _ h refl refl refl h.ack refl refl refl))))))))
+    };
+    tell = λ b w e. quiet _ refl refl refl h.ack refl refl refl;
+    rej = λ b w n k. quiet _ refl refl refl h.ack refl refl refl;
+    srej = λ b w s n k. quiet _ refl refl refl h.ack refl refl refl;
+    flags = λ i. quiet _ refl refl refl h.ack refl refl refl;
+  })
+    where
+      silent-same : (r : Role) → IsSilent r a → IsSilent r (record a { own_breaks = after_brk a.own_breaks; special = true })
+      silent-same Originator s = tt
+      silent-same Answerer s = s
 
 -- The timers come first.
 
@@ -386,6 +315,6 @@ speaks-linked z total breaks turn role a y k h e er all =
     go (Ok b) t = (
       Connected,
       linked-step z total breaks turn role a b _ e t
-          (steps-well z total breaks turn role (record b { special = false }) a.special y (timed-linked z total breaks turn role a b t)
-          (ap (λ s. s.role) t.same.setup ∙ er) (omega (arith, all, ap (λ l. length l) t.same.pieces))),
+          (steps-well z total breaks turn role (record b { special = false }) y (timed-linked z total breaks turn role a b t)
+          (ap (λ s. s.role) t.same.setup ∙ er) (omega (arith, all, ap (λ l. length l) t.same.pieces)) a.special),
     )

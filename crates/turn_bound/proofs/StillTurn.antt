@@ -81,8 +81,8 @@ spoke z total breaks turn role b said y k h er all e =
           timers = f;
           said_is = same;
           stepped = subst (λ s. Stepped z total breaks turn role (record c { special = false }) s.account) same
-              (steps-well z total breaks turn role (record c { special = false }) b.special y (timed-linked z total breaks turn role b c t)
-              (ap (λ s. s.role) t.same.setup ∙ er) (omega (arith, all, ap (λ l. length l) t.same.pieces)));
+              (steps-well z total breaks turn role (record c { special = false }) y (timed-linked z total breaks turn role b c t)
+              (ap (λ s. s.role) t.same.setup ∙ er) (omega (arith, all, ap (λ l. length l) t.same.pieces)) b.special);
         }
 
 -- what waits goes on waiting
@@ -138,7 +138,7 @@ speaks-still z total breaks turn role b said y k h er all e dead busy may more =
       may = may;
       more = more;
       all = all;
-    }) refl)
+    }))
     (or-false-both (is_waiting said.account.outgoing) (is_breaking (turn + 1) said.account.own_breaks) dead).0
 
 heard-still-ok : (total more : ℕ) (a mid : Account) (r : Result Account LinkFault) → r ≡ Ok mid → StaysStill total more a r

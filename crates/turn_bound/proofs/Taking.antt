@@ -20,7 +20,7 @@ use Rattle.lapm_frames.specs.declared.arrived.Arrived.{Arrived}
 use Rattle.link_account.specs.declared.phase.Phase.TheVariants.{Connected, Closed}
 use Rattle.link_account.specs.Account.{Account}
 use Rattle.link_account.specs.Hear.{hear}
-use Rattle.link_account.specs.Hear.{timer_after, owing, without_adp}
+use Rattle.link_account.specs.Hear.{timer_after, without_adp}
 use Rattle.turn_bound.proofs.Clock.{Rates, Breaks}
 use Rattle.turn_bound.proofs.Value.{Linked, frame_weight, arrived_weight, arrived_rnrs}
 use Rattle.lapm_receiver.specs.Incoming.{after_take}

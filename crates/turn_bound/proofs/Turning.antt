@@ -12,14 +12,15 @@ use Rattle.link_account.specs.declared.phase.Phase.{Phase}
 use Rattle.link_account.specs.declared.phase.Phase.TheVariants.{Detecting, Negotiating, Establishing, Connected, Releasing, Closed}
 use Rattle.shared_terms.specs.declared.fault.LinkFault.{LinkFault}
 use Rattle.shared_terms.specs.declared.fault.LinkFault.TheVariants.{NotDetected}
-use Rattle.link_account.specs.Account.{Account}
+use Rattle.link_account.specs.Account.{Account, is_connected}
+use Rattle.link_run.specs.End.{is_closed}
 use Rattle.link_account.specs.declared.answer.Answer.{Answer}
 use Rattle.shared_terms.specs.Role.{is_originator}
 use Rattle.link_account.specs.Hear.{trying}
 use Rattle.link_account.specs.Speak.{Said, says, says_frame, else_says, where_says, spent, answering, trying_again, tries_frame, u_try}
 use Rattle.link_account.specs.Speak.{speak_linked, speak, speak_in, speak_detecting, speak_answer, speak_negotiating, speak_releasing}
 use Rattle.turn_bound.proofs.Clock.{Rates, AreRates, lasts, worth}
-use Rattle.turn_bound.proofs.Value.{time_left, try_left, linked_lives, lives, IsOf, Unlinked, Tries, Stands}
+use Rattle.turn_bound.proofs.Value.{value, time_left, try_left, linked_lives, lives, IsOf, Unlinked, Tries, Stands}
 use Rattle.turn_bound.proofs.Arithmetic.{tries_fit}
 use Rattle.turn_bound.proofs.Phases.{IsEarly, early, same-unlinked}
 use Rattle.turn_bound.proofs.Speaking.{SpeaksAs, SpeaksWell, speaks-linked}
@@ -107,85 +108,64 @@ tries-well z turn frame a y k h = go (nat_eq turn (a.wait.try_set + a.setup.peri
           ack = refl;
         })
 
--- an originator in a U try
-negotiates : (z : Rates) (total breaks turn : ℕ) (a : Account) (r : Result Said LinkFault) → Unlinked a → a.phase ≡ Negotiating
-    → OnSaid (Tried z turn a) r → SpeaksWell z total breaks turn Originator Negotiating a r
-negotiates z total breaks turn a (Err fault) u e t = tt
-negotiates z total breaks turn a (Ok said) u e t = (
-  Negotiating,
-  record {
+-- An originator in a U try, also one that is told to release now.
+module _ (z : Rates) (total breaks turn : ℕ) (a : Account) where
+  tried : (p q : Phase) (c b : Account) → Tried z turn c b → c.phase ≡ q → (is_connected p ≡ false → q ≡ p) → is_closed q ≡ false
+      → Stands z (turn + 1) (turn + 1) Originator q b → c.setup ≡ a.setup → c.outgoing ≡ a.outgoing → c.own_breaks ≡ a.own_breaks
+      → value z total breaks (turn + 1) Originator q b + lasts z.room (lives turn Originator p a) (lives (turn + 1) Originator q b)
+      ≤ value z total breaks turn Originator p a
+      → SpeaksAs z total breaks turn Originator p a q b
+  tried p q c b t e keeps opens stands setup outgoing own falls = record {
     phase = t.phase ∙ e;
-    keeps = λ x. refl;
-    opens = λ x. refl;
-    stands = (
-      same-unlinked a said.account u t.outgoing t.timer t.own t.ack
-          (subst (λ x. (1 ≤ x.window_o) × (1 ≤ x.window_a)) (sym t.terms) (u.window_o, u.window_a)),
-      t.tries,
-    );
-    setup = t.setup;
-    pieces = ap (λ o. o.pieces) t.outgoing;
-    ended = ap (λ o. o.ended) t.outgoing;
-    lengths = ap (λ o. o.lengths) t.own;
-    falls = omega (arith, t.falls, ap (worth z total) t.outgoing, ap (λ o. z.quota * (breaks - length o.lengths)) t.own);
-  },
-)
+    keeps = keeps;
+    opens = λ x. opens;
+    stands = stands;
+    setup = t.setup ∙ setup;
+    pieces = ap (λ o. o.pieces) (t.outgoing ∙ outgoing);
+    ended = ap (λ o. o.ended) (t.outgoing ∙ outgoing);
+    lengths = ap (λ o. o.lengths) (t.own ∙ own);
+    falls = falls;
+  }
 
-establishes : (z : Rates) (total breaks turn : ℕ) (a : Account) (r : Result Said LinkFault) → Unlinked a → a.phase ≡ Establishing
-    → OnSaid (Tried z turn a) r → SpeaksWell z total breaks turn Originator Establishing a r
-establishes z total breaks turn a (Err fault) u e t = tt
-establishes z total breaks turn a (Ok said) u e t = (
-  Establishing,
-  record {
-    phase = t.phase ∙ e;
-    keeps = λ x. refl;
-    opens = λ x. refl;
-    stands = (
-      same-unlinked a said.account u t.outgoing t.timer t.own t.ack
-          (subst (λ x. (1 ≤ x.window_o) × (1 ≤ x.window_a)) (sym t.terms) (u.window_o, u.window_a)),
-      t.tries,
-    );
-    setup = t.setup;
-    pieces = ap (λ o. o.pieces) t.outgoing;
-    ended = ap (λ o. o.ended) t.outgoing;
-    lengths = ap (λ o. o.lengths) t.own;
-    falls = omega (arith, t.falls, ap (worth z total) t.outgoing, ap (λ o. z.quota * (breaks - length o.lengths)) t.own);
-  },
-)
+  unlinked : (b : Account) → Unlinked a → Tried z turn a b → Unlinked b
+  unlinked b u t = same-unlinked a b u t.outgoing t.timer t.own t.ack
+      (subst (λ x. (1 ≤ x.window_o) × (1 ≤ x.window_a)) (sym t.terms) (u.window_o, u.window_a))
 
-releases : (z : Rates) (total breaks turn : ℕ) (a : Account) (r : Result Said LinkFault) → a.phase ≡ Releasing → OnSaid (Tried z turn a) r
-    → SpeaksWell z total breaks turn Originator Releasing a r
-releases z total breaks turn a (Err fault) e t = tt
-releases z total breaks turn a (Ok said) e t = (
-  Releasing,
-  record {
-    phase = t.phase ∙ e;
-    keeps = λ x. refl;
-    opens = λ x. refl;
-    stands = t.tries;
-    setup = t.setup;
-    pieces = ap (λ o. o.pieces) t.outgoing;
-    ended = ap (λ o. o.ended) t.outgoing;
-    lengths = ap (λ o. o.lengths) t.own;
-    falls = omega (arith, t.falls, ap (worth z total) t.outgoing, ap (λ o. z.quota * (breaks - length o.lengths)) t.own);
-  },
-)
+  negotiates : (r : Result Said LinkFault) → Unlinked a → a.phase ≡ Negotiating → OnSaid (Tried z turn a) r
+      → SpeaksWell z total breaks turn Originator Negotiating a r
+  negotiates (Err fault) u e t = tt
+  negotiates (Ok said) u e t = (
+    Negotiating,
+    tried Negotiating Negotiating a said.account t e (λ x. refl) refl
+        (unlinked said.account u t, t.tries) refl refl refl
+        (omega (arith, t.falls, ap (worth z total) t.outgoing, ap (λ o. z.quota * (breaks - length o.lengths)) t.own)),
+  )
 
--- it is told to release
-told-now : (z : Rates) (total breaks turn : ℕ) (a : Account) (r : Result Said LinkFault) → AreRates z
-    → OnSaid (Tried z turn (trying Releasing turn a)) r → SpeaksWell z total breaks turn Originator Connected a r
-told-now z total breaks turn a (Err fault) y t = tt
-told-now z total breaks turn a (Ok said) y t = (
-  Releasing,
-  record {
-    phase = t.phase;
-    keeps = λ x. cc;
-    opens = λ x. refl;
-    stands = t.tries;
-    setup = t.setup;
-    pieces = ap (λ o. o.pieces) t.outgoing;
-    ended = ap (λ o. o.ended) t.outgoing;
-    lengths = ap (λ o. o.lengths) t.own;
-    falls = omega (
+  establishes : (r : Result Said LinkFault) → Unlinked a → a.phase ≡ Establishing → OnSaid (Tried z turn a) r
+      → SpeaksWell z total breaks turn Originator Establishing a r
+  establishes (Err fault) u e t = tt
+  establishes (Ok said) u e t = (
+    Establishing,
+    tried Establishing Establishing a said.account t e (λ x. refl) refl
+        (unlinked said.account u t, t.tries) refl refl refl
+        (omega (arith, t.falls, ap (worth z total) t.outgoing, ap (λ o. z.quota * (breaks - length o.lengths)) t.own)),
+  )
+
+  releases : (r : Result Said LinkFault) → a.phase ≡ Releasing → OnSaid (Tried z turn a) r
+      → SpeaksWell z total breaks turn Originator Releasing a r
+  releases (Err fault) e t = tt
+  releases (Ok said) e t = (
+    Releasing,
+    tried Releasing Releasing a said.account t e (λ x. refl) refl t.tries refl refl refl
+        (omega (arith, t.falls, ap (worth z total) t.outgoing, ap (λ o. z.quota * (breaks - length o.lengths)) t.own)),
+  )
+
+  told-now : (r : Result Said LinkFault) → AreRates z → OnSaid (Tried z turn (trying Releasing turn a)) r
+      → SpeaksWell z total breaks turn Originator Connected a r
+  told-now (Err fault) y t = tt
+  told-now (Ok said) y t = (
+    Releasing,
+    tried Connected Releasing (trying Releasing turn a) said.account t refl (λ x. cc) refl t.tries refl refl refl (omega (
       arith,
       t.falls,
       ap (worth z total) t.outgoing,
@@ -193,13 +173,12 @@ told-now z total breaks turn a (Ok said) y t = (
       y.quota,
       y.first,
       lasts-most (linked_lives turn a),
-    );
-  },
-)
-  where
-    lasts-most : (l : Bool) → lasts z.room l true ≤ z.room + 1
-    lasts-most true = omega arith
-    lasts-most false = omega arith
+    )),
+  )
+    where
+      lasts-most : (l : Bool) → lasts z.room l true ≤ z.room + 1
+      lasts-most true = omega arith
+      lasts-most false = omega arith
 
 -- what changes nothing of what counts
 same-speaks : (z : Rates) (total breaks turn : ℕ) (role : Role) (p : Phase) (a b : Account) → Stands z (turn + 1) (turn + 1) role p b

@@ -13,7 +13,8 @@ use Rattle.shared_terms.specs.declared.fault.LinkFault.{LinkFault}
 use Rattle.link_account.specs.Account.{Account, is_connected}
 use Rattle.shared_terms.specs.Role.{is_originator}
 use Rattle.link_account.specs.Hear.{hear, trying}
-use Rattle.link_account.specs.Speak.{Said, spent, trying_again, tries_frame, timer_expires, speak_linked, speak, speak_in, speak_releasing}
+use Rattle.link_account.specs.Speak.{Said, timer_expires, speak_linked, speak, speak_in, speak_releasing}
+use Rattle.link_account.proofs.SpeakWays.{OnSaid, tries-alike, by-tries}
 use Rattle.turn_bound.proofs.Clock.{Rates, AreRates}
 use Rattle.turn_bound.proofs.Value.{IsOf, Stands, arrived_rnrs}
 use Rattle.link_run.specs.End.{User, is_busy, is_released}
@@ -57,20 +58,11 @@ not-expires turn a (Some s) h = let less = h s refl in apart turn (s + a.setup.p
 
 released-says : (turn : ℕ) (a : Account) (said : Said) → speak_releasing turn (trying Releasing turn a) ≡ Ok said
     → is_connected said.account.phase ≡ false
-released-says turn a said h = go (nat_eq turn (turn + a.setup.period)) (nat_eq 0 a.setup.tries) h
+released-says turn a said h = subst (OnSaid P) h
+    (by-tries P turn (Disc true) (trying Releasing turn a) (tries-alike P turn (Disc true) (trying Releasing turn a) (λ w. refl) refl))
   where
-    of-said : (r : Result Said LinkFault) (x : Said) → r ≡ Ok x → is_connected x.account.phase ≡ false → r ≡ Ok said
-        → is_connected said.account.phase ≡ false
-    of-said r x f e q = let same : x ≡ said = cc in ap (λ y. is_connected y.account.phase) (sym same) ∙ e
-
-    go : (due spent' : Bool)
-        → cond due (cond spent' (Err (spent turn (trying Releasing turn a)))
-        (Ok (tries_frame (Disc true) (trying_again turn (trying Releasing turn a)))))
-        (Ok (tries_frame (Disc true) (trying Releasing turn a))) ≡ Ok said
-        → is_connected said.account.phase ≡ false
-    go false s q = of-said _ _ refl refl q
-    go true true q = cc
-    go true false q = of-said _ _ refl refl q
+    P : Said → Type 0
+    P s = is_connected s.account.phase ≡ false
 
 pub linked-says : (turn : ℕ) (release : Bool) (a : Account) (said : Said) → a.phase ≡ Connected → is_connected said.account.phase ≡ true
     → speak turn release a ≡ Ok said → speak_linked turn a ≡ Ok said
@@ -104,7 +96,7 @@ end-answers z user turn role arrived a mid released release said y k h er hears 
     framed (arrivals.Frame frame) q f = by (frame_rnr frame) refl
       where
         t : AnswerHeard (frame_rnr frame) a mid
-        t = answer-hears frame turn a mid (connected-is a.phase c) w f q
+        t = answer-hears turn a w frame mid (connected-is a.phase c) f q
 
         s : Served turn (length user.breaks) (is_busy turn user.busy) mid b
         s = serves-all user turn released mid

@@ -1,21 +1,22 @@
-use Rattle.std.proofs.Common.{◌≡◌, ℕ, ◌+◌, ◌%◌, ◌<◌, ◌&&◌, ◌||◌, Bool, true, false, cond, nat_lt, List, [], ◌∷◌, length, arith, refl, sym}
-use Rattle.std.proofs.Common.{◌∙◌, ap, subst, Option, Some, None, Result, Ok, Err, slice_index_or}
+use Rattle.std.proofs.Common.{◌≡◌, ℕ, ◌+◌, ◌%◌, ◌<◌, ◌&&◌, ◌||◌, not, Bool, true, false, cond, nat_lt, List, [], ◌∷◌, length, arith, refl}
+use Rattle.std.proofs.Common.{sym}
+use Rattle.std.proofs.Common.{◌∙◌, ap, subst, Option, Some, None, Ok, slice_index_or}
 use Rattle.std.proofs.lemmas.Bool.Decides.{nat_tests}
 use Rattle.lapm_frames.specs.declared.frame.Frame.{Frame}
-use Rattle.lapm_frames.specs.declared.frame.Frame.TheVariants.{I, Rr, Rnr, Rej, Srej, Sabme, Disc, Ua, Dm, Frmr, Ui, Xid, Test}
-use Rattle.lapm_sender.specs.Meant.{meant}
-use Rattle.lapm_sender.specs.Outgoing.{Outgoing, is_outstanding, acknowledged, rejected, replied, advanced, wait_ended, resumed, paused_at}
+use Rattle.lapm_frames.specs.declared.frame.Frame.TheVariants.{I, Rnr}
+use Rattle.lapm_sender.specs.Outgoing.{Outgoing, is_outstanding, advanced, wait_ended, resumed, paused_at}
 use Rattle.lapm_sender.specs.Outgoing.{next_number, after_next, expired}
-use Rattle.std.specs.Option.{option_map}
 use Rattle.break_signals.specs.Breaks.{OwnBreaks, ticked}
 use Rattle.lapm_frames.specs.declared.arrived.Arrived.TheVariants as arrivals
 use Rattle.link_account.specs.declared.phase.Phase.TheVariants.{Connected}
-use Rattle.shared_terms.specs.declared.fault.LinkFault.{LinkFault}
 use Rattle.lapm_frames.specs.declared.sent.Sent.TheVariants as slots
 use Rattle.link_account.specs.Account.{Account}
 use Rattle.shared_terms.specs.Role.{is_originator}
 use Rattle.link_account.specs.declared.answer.Answer.{Answer}
-use Rattle.link_account.specs.Hear.{hear, on_frame, on_connected, on_number, then_in, replying, hurrying, pausing}
+use Rattle.link_account.specs.Hear.{hear, ends_wait}
+use Rattle.link_account.proofs.HearWays.{Plain, IsUa, IsXid, IsTest, IsNoWord, ConnectedWays, numbered_with, acked, acked_back, by-linked}
+use Rattle.lapm_frames.specs.declared.arrived.Arrived.{Arrived}
+use Rattle.turn_bound.proofs.MeetHear.{of_arrived}
 use Rattle.link_account.specs.Speak.{Said, else_says, where_says, answering, polling, timer_expires, breaking, nr_of, may_send}
 use Rattle.link_account.specs.Speak.{says_segment, steps, after_timers, then_tries, speak_linked}
 use Rattle.turn_bound.proofs.Clock.{Rates}
@@ -42,10 +43,6 @@ pub record AnswerHeard (rnr : Bool) (a b : Account) : Type 0 where
   pub reply : b.owes.reply ≡ a.owes.reply
   pub answer : b.owes.answer ≡ a.owes.answer
   pub poll : b.wait.poll ≡ a.wait.poll
-
-abbrev pub AnswerHears : Bool → Account → Result Account LinkFault → Type 0
-AnswerHears rnr a (Err fault) = Unit {0}
-AnswerHears rnr a (Ok b) = AnswerHeard rnr a b
 
 record Ended (n : Outgoing) : Type 0 where
   pub awaited : n.awaited ≡ false
@@ -84,96 +81,81 @@ or-none : (b : Bool) → b || false ≡ b
 or-none true = refl
 or-none false = refl
 
-ready-answers : (turn : ℕ) (a : Account) (m : Option ℕ)
-    → AnswerHears false a
-    (then_in (λ b. hurrying true (replying false b))
-    (on_number turn 0 (option_map resumed (option_map (λ n. wait_ended (advanced a.outgoing n)) m)) a))
-ready-answers turn a None = tt
-ready-answers turn a (Some n) = let k = ended-resumed (advanced a.outgoing n) in record {
-  phase = refl;
-  numbered = refl;
-  awaited = k.awaited;
-  from = k.from;
-  chosen = k.chosen;
-  paused = λ r. k.paused;
-  urgent = λ r. or-true a.wait.urgent;
-  busy = λ r. cc;
-  idle = λ r h. k.idle h;
-  reply = or-none a.owes.reply;
-  answer = refl;
-  poll = refl;
-}
+-- what arrived is the answer
+module _ (turn : ℕ) (a : Account) (w : a.outgoing.awaited ≡ true) where
+  abbrev P : Arrived → Account → Type 0
+  P x mid = of_arrived is_final x ≡ true → AnswerHeard (of_arrived frame_rnr x) a mid
 
--- a fault of the number is as good with another number
-same-number : (rnr : Bool) (turn nr : ℕ) (f : Account → Account) (m : Option Outgoing) (a : Account)
-    → AnswerHears rnr a (then_in f (on_number turn 0 m a)) → AnswerHears rnr a (then_in f (on_number turn nr m a))
-same-number rnr turn nr f None a h = tt
-same-number rnr turn nr f (Some o) a h = h
+  resumes : (n : ℕ) (new : Outgoing) (timer : Option ℕ) (command pf final : Bool) → ends_wait command pf a ≡ final
+      → (final ≡ true → new ≡ wait_ended (advanced a.outgoing n)) → pf && not command ≡ true
+      → AnswerHeard false a
+      (numbered_with a (resumed new) a.incoming timer (a.owes.reply || (command && pf)) (a.wait.urgent || final))
+  resumes n new timer false true true g h f =
+      let k : Ended (resumed new) = subst (λ o. Ended (resumed o)) (sym (h refl)) (ended-resumed (advanced a.outgoing n)) in record {
+        phase = refl;
+        numbered = refl;
+        awaited = k.awaited;
+        from = k.from;
+        chosen = k.chosen;
+        paused = λ r. k.paused;
+        urgent = λ r. or-true a.wait.urgent;
+        busy = λ r. cc;
+        idle = λ r e. k.idle e;
+        reply = or-none a.owes.reply;
+        answer = refl;
+        poll = refl;
+      }
+  resumes n new timer false true false g h f = let wrong : true ≡ false = sym (ap (λ b. b && true) w) ∙ g in cc
+  resumes n new timer true true final g h f = cc
+  resumes n new timer command false final g h f = cc
 
-paused-answers : (turn : ℕ) (a : Account) (m : Option ℕ)
-    → AnswerHears true a (then_in (λ b. pausing turn (replying false b))
-    (on_number turn 0 (option_map paused_at (option_map (λ n. wait_ended (advanced a.outgoing n)) m)) a))
-paused-answers turn a None = tt
-paused-answers turn a (Some n) = record {
-  phase = refl;
-  numbered = refl;
-  awaited = refl;
-  from = refl;
-  chosen = refl;
-  paused = λ r. cc;
-  urgent = λ r. cc;
-  busy = λ r. refl;
-  idle = λ r. cc;
-  reply = or-none a.owes.reply;
-  answer = refl;
-  poll = refl;
-}
+  pauses : (n : ℕ) (command pf final : Bool) → ends_wait command pf a ≡ final → pf && not command ≡ true
+      → AnswerHeard true a
+      (numbered_with a (paused_at (acked final a.outgoing n)) a.incoming (Some turn) (a.owes.reply || (command && pf)) a.wait.urgent)
+  pauses n false true true g f = record {
+    phase = refl;
+    numbered = refl;
+    awaited = refl;
+    from = refl;
+    chosen = refl;
+    paused = λ r. cc;
+    urgent = λ r. cc;
+    busy = λ r. refl;
+    idle = λ r. cc;
+    reply = or-none a.owes.reply;
+    answer = refl;
+    poll = refl;
+  }
+  pauses n false true false g f = let wrong : true ≡ false = sym (ap (λ b. b && true) w) ∙ g in cc
+  pauses n true true final g f = cc
+  pauses n command false final g f = cc
 
-answer-connected : (frame : Frame) (turn : ℕ) (a : Account) → a.outgoing.awaited ≡ true → is_final frame ≡ true
-    → AnswerHears (frame_rnr frame) a (on_connected frame turn a)
-answer-connected (Rr false nr true) turn a w e =
-    subst (λ x. AnswerHears false a
-    (then_in (λ b. hurrying (x && true) (replying false b))
-    (on_number turn nr (option_map resumed (cond (x && true) (replied nr a.outgoing) (acknowledged nr a.outgoing))) a))) (sym w)
-    (same-number false turn nr (λ b. hurrying true (replying false b)) _ a
-    (ready-answers turn a (meant a.outgoing.front a.outgoing.high nr)))
-answer-connected (Rej false nr true) turn a w e =
-    subst (λ x. AnswerHears false a
-    (then_in (λ b. hurrying (x && true) (replying false b))
-    (on_number turn nr (option_map resumed (cond (x && true) (replied nr a.outgoing) (rejected nr a.outgoing))) a))) (sym w)
-    (same-number false turn nr (λ b. hurrying true (replying false b)) _ a
-    (ready-answers turn a (meant a.outgoing.front a.outgoing.high nr)))
-answer-connected (Rnr false nr true) turn a w e =
-    subst (λ x. AnswerHears true a
-    (then_in (λ b. pausing turn (replying false b))
-    (on_number turn nr (option_map paused_at (cond (x && true) (replied nr a.outgoing) (acknowledged nr a.outgoing))) a))) (sym w)
-    (same-number true turn nr (λ b. pausing turn (replying false b)) _ a
-    (paused-answers turn a (meant a.outgoing.front a.outgoing.high nr)))
-answer-connected (Rr true nr true) turn a w e = cc
-answer-connected (Rej true nr true) turn a w e = cc
-answer-connected (Rnr true nr true) turn a w e = cc
-answer-connected (Rr c nr false) turn a w e = cc
-answer-connected (Rej c nr false) turn a w e = cc
-answer-connected (Rnr c nr false) turn a w e = cc
-answer-connected (I ns nr pf info) turn a w e = cc
-answer-connected (Srej c nr pf) turn a w e = cc
-answer-connected (Sabme pf) turn a w e = cc
-answer-connected (Disc pf) turn a w e = cc
-answer-connected (Ua pf) turn a w e = cc
-answer-connected (Dm pf) turn a w e = cc
-answer-connected (Frmr pf info) turn a w e = cc
-answer-connected (Ui c pf info) turn a w e = cc
-answer-connected (Xid c pf info) turn a w e = cc
-answer-connected (Test c pf info) turn a w e = cc
+  plain : (frame : Frame) → Plain frame → P (arrivals.Frame frame) a
+  plain frame (IsUa pf q) f = let wrong : true ≡ false = sym f ∙ ap is_final q in cc
+  plain frame (IsXid command pf info q) f = let wrong : true ≡ false = sym f ∙ ap is_final q in cc
+  plain frame (IsTest command pf info q) f = let wrong : true ≡ false = sym f ∙ ap is_final q in cc
+  plain frame (IsNoWord command pf info fault e q) f = let wrong : true ≡ false = sym f ∙ ap is_final q in cc
 
-pub answer-hears : (frame : Frame) (turn : ℕ) (a mid : Account) → a.phase ≡ Connected → a.outgoing.awaited ≡ true → is_final frame ≡ true
-    → hear turn (arrivals.Frame frame) a ≡ Ok mid → AnswerHeard (frame_rnr frame) a mid
-answer-hears frame turn a mid e w f h =
-    go (on_connected frame turn a) (sym (ap (λ p. on_frame p frame turn a) e) ∙ h) (answer-connected frame turn a w f)
-  where
-    go : (r : Result Account LinkFault) → r ≡ Ok mid → AnswerHears (frame_rnr frame) a r → AnswerHeard (frame_rnr frame) a mid
-    go (Err fault) q k = cc
-    go (Ok b) q k = let same : b ≡ mid = cc in subst (AnswerHeard (frame_rnr frame) a) same k
+  answer-ways : ConnectedWays P turn a
+  answer-ways = record {
+    pattern = λ seen f. cc;
+    plain = plain;
+    numbers = record {
+      i = λ ns nr pf info n m f. cc;
+      rr = λ command pf nr n final g m f. resumes n _ _ command pf final g (ap (λ b. acked b a.outgoing n)) f;
+      rej = λ command pf nr n final g m f. resumes n _ _ command pf final g (ap (λ b. acked_back b a.outgoing n)) f;
+      rnr = λ command pf nr n final g m f. pauses n command pf final g f;
+      srej = λ command pf nr n g m f. cc;
+    };
+    sabme = λ pf n r f. cc;
+    disc = λ pf r f. cc;
+    brk = λ command pf info number length_octet q f. cc;
+    brkack = λ command pf info number length_octet q f. cc;
+  }
+
+  pub answer-hears : (frame : Frame) (mid : Account) → a.phase ≡ Connected → is_final frame ≡ true
+      → hear turn (arrivals.Frame frame) a ≡ Ok mid → AnswerHeard (frame_rnr frame) a mid
+  answer-hears frame mid e f h = by-linked P turn a answer-ways (λ f. cc) (arrivals.Frame frame) mid e h f
 
 -- The first segment goes at once where it is urgent and nothing comes before it.
 pub record Segment (n : ℕ) (a : Account) (said : Said) : Type 0 where

@@ -5,9 +5,7 @@ use Rattle.shared_terms.specs.declared.role.Role.{Role}
 use Rattle.shared_terms.specs.declared.role.Role.TheVariants.{Originator, Answerer}
 use Rattle.shared_terms.specs.Both.{of}
 use Rattle.lapm_frames.specs.declared.frame.Frame.{Frame}
-use Rattle.lapm_frames.specs.declared.frame.Frame.TheVariants.{Dm}
 use Rattle.break_signals.specs.declared.word.BreakWord.{BreakWord}
-use Rattle.lapm_frames.specs.declared.seen.Seen.TheVariants.{Adp}
 use Rattle.lapm_frames.specs.declared.arrived.Arrived.{Arrived}
 use Rattle.lapm_frames.specs.declared.arrived.Arrived.TheVariants as arrivals
 use Rattle.link_account.specs.declared.phase.Phase.{Phase}
@@ -16,7 +14,7 @@ use Rattle.link_account.specs.declared.answer.Answer.TheVariants as answers
 use Rattle.link_account.specs.Account.{Account, is_connected}
 use Rattle.link_account.specs.Hear.{hear, on_nothing}
 use Rattle.link_account.specs.Hear.{owing, first_wait}
-use Rattle.link_account.specs.Speak.{Said, says}
+use Rattle.link_account.specs.Speak.{Said}
 use Rattle.link_account.specs.Speak.{speak}
 use Rattle.link_account.proofs.HearWays as HearWays
 use Rattle.link_account.proofs.SpeakWays as SpeakWays

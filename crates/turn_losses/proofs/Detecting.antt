@@ -188,9 +188,9 @@ answers-odp user turn arrived a mid released release said e r r' only hears spea
 pub err-detecting : (turn : ℕ) (release : Bool) (b : Account) → speak turn release b ≡ Err NotDetected → b.phase ≡ Detecting
 err-detecting turn release b h = go NotDetected refl (why-broken turn release b NotDetected h)
   where
-    go : (fault : LinkFault) → fault ≡ NotDetected → SpeakWays.Breaks turn b fault → b.phase ≡ Detecting
-    go fault n (Undetected p r e) = p
-    go fault n (Spends e) = let wrong : NotDetected ≡ spent turn b = sym n ∙ e in cc
+    go : (fault : LinkFault) → fault ≡ NotDetected → SpeakWays.Breaks turn release b fault → b.phase ≡ Detecting
+    go fault n (Undetected p r l e) = p
+    go fault n (Spends x e) = let wrong : NotDetected ≡ spent turn b = sym n ∙ e in cc
 
 -- an end's setup is its link's, also once it has heard
 pub heard-setup : (tries period : ℕ) (delay : Role → ℕ) (link : Link) (ts : List Turn) (before : Accounts) (t : Turn) (mid : Accounts)

@@ -9,7 +9,7 @@ use Rattle.lapm_frames.specs.declared.frame.Frame.TheVariants.{I, Rr, Rnr, Rej, 
 use Rattle.lapm_frames.specs.declared.arrived.Arrived.{Arrived}
 use Rattle.lapm_frames.specs.declared.arrived.Arrived.TheVariants as arrivals
 use Rattle.lapm_sender.specs.Numbers.{with_number}
-use Rattle.lapm_sender.specs.Outgoing.{Outgoing, is_outstanding, advanced, resumed}
+use Rattle.lapm_sender.specs.Outgoing.{Outgoing, advanced, resumed}
 use Rattle.lapm_receiver.specs.Incoming.{Incoming}
 use Rattle.break_signals.specs.declared.word.BreakWord.{BreakWord}
 use Rattle.link_account.specs.Account.{Account}

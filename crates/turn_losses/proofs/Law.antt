@@ -20,14 +20,14 @@ use Rattle.turn_losses.proofs.AnswerTurn.{connected-is}
 use Rattle.turn_losses.proofs.Tracing.{Known, known, Timed, timed, rated, release_of}
 use Rattle.turn_losses.proofs.Numbering.{Plays, allowed, fits-at}
 use Rattle.turn_losses.proofs.Room.{begins-roomy}
-use Rattle.turn_losses.proofs.Wanting.{SpendsTries, LastTry, last-try-of}
+use Rattle.turn_losses.proofs.Wanting.{SpendsTries, LastTry, last-try-of, SpendsBreak, connected-spends}
 use Rattle.turn_losses.proofs.Starving.{originator-each, all-but-one}
 use Rattle.turn_losses.proofs.Answerer.{answerer-each}
 use Rattle.turn_losses.specs.Tries.{GivesUpForLosses}
 use Rattle.turn_losses.proofs.Setups.{heard-setup, served-setup}
 use Rattle.turn_losses.proofs.Parting.{parted-each, all-but-last}
 use Rattle.turn_losses.specs.Breaks.{GivesUpStarved}
-use Rattle.turn_losses.proofs.Spending.{SpendsBreak, connected-spends, LastWait, last-wait}
+use Rattle.turn_losses.proofs.Spending.{LastWait, last-wait}
 use Rattle.turn_losses.proofs.Ending.{originator-breaks}
 use Rattle.turn_losses.proofs.Sparing.{answerer-breaks, of-period}
 

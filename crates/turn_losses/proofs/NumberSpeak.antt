@@ -1,5 +1,5 @@
 -- What a Connected end tells as it speaks.
-use Rattle.std.proofs.Common.{◌⊎◌, inl, inr, ◌≡◌, ℕ, ◌+◌, ◌++◌, ◌%◌, ◌||◌, Bool, true, false, cond, [], ◌∷◌, length}
+use Rattle.std.proofs.Common.{◌⊎◌, inl, inr, ◌≡◌, ℕ, ◌++◌, ◌%◌, ◌||◌, Bool, true, false, cond, [], ◌∷◌, length}
 use Rattle.std.proofs.Common.{refl, sym, ◌∙◌, ap, Option, Some, None, Ok}
 use Rattle.std.specs.Prelude.{is_some}
 use Rattle.shared_terms.specs.Role.{is_originator}

@@ -6,14 +6,14 @@ use Rattle.shared_terms.specs.declared.role.Role.TheVariants.{Originator, Answer
 use Rattle.shared_terms.specs.Role.{other}
 use Rattle.shared_terms.specs.Both.{of}
 use Rattle.lapm_frames.specs.declared.frame.Frame.{Frame}
-use Rattle.lapm_frames.specs.declared.frame.Frame.TheVariants.{I, Rr, Rnr, Rej, Srej, Ua, Dm, Xid}
+use Rattle.lapm_frames.specs.declared.frame.Frame.TheVariants.{I, Rr, Rnr, Rej, Srej}
 use Rattle.lapm_frames.specs.declared.arrived.Arrived.{Arrived}
 use Rattle.link_account.specs.declared.phase.Phase.TheVariants.{Releasing}
 use Rattle.link_account.specs.declared.answer.Answer.{Answer}
 use Rattle.link_account.specs.declared.answer.Answer.TheVariants as answers
 use Rattle.link_account.specs.Account.{Account}
 use Rattle.link_account.specs.Hear.{hear}
-use Rattle.link_account.specs.Speak.{Said, says}
+use Rattle.link_account.specs.Speak.{Said}
 use Rattle.link_account.specs.Speak.{speak}
 use Rattle.link_account.specs.Hear.{trying}
 use Rattle.link_account.specs.Speak.{frame_for}

@@ -4,7 +4,7 @@ use Rattle.std.proofs.Common.{arith, refl, sym, ◌∙◌, ap, subst, Ok}
 use Rattle.shared_terms.specs.declared.role.Role.{Role}
 use Rattle.shared_terms.specs.declared.role.Role.TheVariants.{Originator, Answerer}
 use Rattle.lapm_frames.specs.declared.frame.Frame.{Frame}
-use Rattle.lapm_frames.specs.declared.frame.Frame.TheVariants.{Sabme, Ua, Dm, Xid}
+use Rattle.lapm_frames.specs.declared.frame.Frame.TheVariants.{Sabme}
 use Rattle.lapm_frames.specs.declared.sent.Sent.TheVariants as slots
 use Rattle.lapm_frames.specs.declared.arrived.Arrived.{Arrived}
 use Rattle.link_account.specs.declared.phase.Phase.{Phase}

@@ -1,7 +1,6 @@
 use Rattle.std.proofs.Common.{◌⊎◌, inl, inr, ◌≡◌, ℕ, ◌+◌, ◌&&◌, ◌||◌, not, Bool, true, false}
 use Rattle.std.proofs.Common.{arith, refl, sym, ◌∙◌, ap, Option, Some, None, Result, Ok, Err}
 use Rattle.lapm_frames.specs.declared.frame.Frame.{Frame}
-use Rattle.lapm_frames.specs.declared.frame.Frame.TheVariants.{Xid}
 use Rattle.break_signals.specs.Breaks.{OwnBreaks}
 use Rattle.link_account.specs.declared.phase.Phase.TheVariants.{Connected, Releasing}
 use Rattle.shared_terms.specs.declared.fault.LinkFault.{LinkFault}

@@ -2,9 +2,7 @@
 use Rattle.std.proofs.Common.{◌⊎◌, inl, inr, ◌≡◌, ℕ, Bool, true, false, refl, sym, ◌∙◌, ap, None}
 use Rattle.std.proofs.Common.{Ok}
 use Rattle.std.specs.Prelude.{is_some}
-use Rattle.lapm_frames.specs.declared.frame.Frame.{Frame}
-use Rattle.lapm_frames.specs.declared.frame.Frame.TheVariants.{Sabme, Disc, Dm}
-use Rattle.lapm_frames.specs.declared.seen.Seen.TheVariants.{Adp}
+use Rattle.lapm_frames.specs.declared.frame.Frame.TheVariants.{Sabme, Disc}
 use Rattle.lapm_frames.specs.declared.arrived.Arrived.{Arrived}
 use Rattle.lapm_frames.specs.declared.arrived.Arrived.TheVariants as arrivals
 use Rattle.link_account.specs.declared.phase.Phase.TheVariants.{Negotiating, Closed}

@@ -1,5 +1,5 @@
 -- A break that waits by the turn: when its BRK became due, and what is lost before it becomes due again.
-use Rattle.std.proofs.Common.{◌⊎◌, inl, inr, ◌≡◌, ℕ, ◌+◌, ◌-◌, ◌*◌, ◌<◌, ◌≤◌, ◌&&◌, Bool, true, false, arith, refl, sym, ◌∙◌, ap}
+use Rattle.std.proofs.Common.{inl, inr, ◌≡◌, ℕ, ◌+◌, ◌-◌, ◌*◌, ◌<◌, ◌≤◌, ◌&&◌, Bool, true, false, arith, refl, sym, ◌∙◌, ap}
 use Rattle.std.proofs.lemmas.Bool.{cases_lt}
 use Rattle.break_signals.specs.Breaks.{waits}
 use Rattle.link_account.specs.Account.{Account, is_connected}

@@ -1,12 +1,10 @@
 -- Why a Connected end breaks, and what was lost then.
-use Rattle.std.proofs.Common.{◌⊎◌, inl, inr, ◌≡◌, ℕ, ◌+◌, ◌-◌, ◌*◌, ◌<◌, ◌≤◌, ◌&&◌, Bool, true, false, cond, nat_eq, List, length, arith}
-use Rattle.std.proofs.Common.{refl, sym, ◌∙◌, ap, subst, Option, Some, None, Ok, Err}
+use Rattle.std.proofs.Common.{◌⊎◌, inl, inr, ◌≡◌, ℕ, ◌+◌, ◌*◌, ◌<◌, ◌≤◌, Bool, true, false, List, length, arith}
+use Rattle.std.proofs.Common.{refl, sym, ◌∙◌, ap, subst, Some, Ok, Err}
 use Rattle.std.proofs.lemmas.Bool.Decides.{nat_tests}
 use Rattle.shared_terms.specs.declared.role.Role.{Role}
-use Rattle.shared_terms.specs.Role.{other, is_originator}
+use Rattle.shared_terms.specs.Role.{other}
 use Rattle.shared_terms.specs.Both.{of}
-use Rattle.lapm_frames.specs.declared.frame.Frame.TheVariants.{Disc}
-use Rattle.lapm_sender.specs.Outgoing.{expired}
 use Rattle.break_signals.specs.Breaks.{waits}
 use Rattle.lapm_frames.specs.declared.arrived.Arrived.{Arrived}
 use Rattle.lapm_frames.specs.declared.heard.Heard.{Heard}
@@ -14,9 +12,8 @@ use Rattle.lapm_frames.specs.declared.heard.Heard.TheVariants.{Nothing, Passed, 
 use Rattle.link_account.specs.declared.phase.Phase.TheVariants.{Connected, Releasing}
 use Rattle.shared_terms.specs.declared.fault.LinkFault.{LinkFault}
 use Rattle.link_account.specs.Account.{Account, is_connected}
-use Rattle.link_account.specs.Hear.{hear, trying}
-use Rattle.link_account.specs.Speak.{spent, trying_again, tries_frame, polling, timer_expires, breaking, on_break_timer, after_timers}
-use Rattle.link_account.specs.Speak.{then_tries, speak_linked, speak, speak_in, speak_releasing}
+use Rattle.link_account.specs.Hear.{hear}
+use Rattle.link_account.specs.Speak.{speak}
 use Rattle.link_run.specs.End.{User, is_busy}
 use Rattle.link_run.specs.Run.{Link, Accounts, Turn}
 use Rattle.link_run.specs.Starved.{IsLost, LosesSome}
@@ -41,6 +38,10 @@ use Rattle.turn_losses.proofs.PollHear.{PollHeard, poll-hears}
 use Rattle.turn_losses.proofs.Trace.{Deed, Trace}
 use Rattle.turn_losses.proofs.TwoEnds.{EndRun, TwoEnds, end_run}
 use Rattle.turn_losses.proofs.AnswerTurn.{linked-sends, connected-is}
+use Rattle.std.proofs.lemmas.Bool.{false≢true}
+use Rattle.link_account.specs.declared.phase.Phase.{Phase}
+use Rattle.link_account.specs.declared.phase.Phase.TheVariants.{Detecting, Negotiating, Establishing, Connected, Releasing}
+use Rattle.link_account.proofs.SpeakWays.{Ended, TryEnds, ReleaseEnds, TimerEnds, BreakEnds, Breaks, Undetected, Spends, why-broken}
 use Rattle.turn_losses.proofs.HeardCount.{CountKept, count-hears}
 use Rattle.turn_losses.proofs.PollLaws.{two-ends}
 use Rattle.turn_losses.proofs.PeriodHolds.{period-loses}
@@ -48,68 +49,49 @@ use Rattle.turn_losses.proofs.Expiries.{Uncleared, expiries}
 use Rattle.turn_losses.proofs.Acknowledged.{Counts}
 use Rattle.turn_losses.proofs.Keeping.{turn-is}
 
--- where a Connected end breaks though no break waits: its clock expires with the last try
+-- the segments' clock expires with the last try
 pub record SpendsTries (turn : ℕ) (b : Account) : Type 0 where
   pub set : ℕ
   pub runs : b.wait.timer ≡ Some set
   pub now : turn ≡ set + b.setup.period
   pub count : b.outgoing.count ≡ b.outgoing.tries
 
-linked-why : (turn : ℕ) (b : Account) (fault : LinkFault) → waits b.own_breaks ≡ false → speak_linked turn b ≡ Err fault
-    → SpendsTries turn b
-linked-why turn b fault none h = timed b.wait.timer refl h
-  where
-    well : (c : Account) → c.own_breaks ≡ b.own_breaks → after_timers turn b.special (on_break_timer turn c) ≡ Err fault → ⊥
-    well c own q = by (waits c.own_breaks) (ap waits own ∙ none) (nat_eq turn (c.own_breaks.set + c.setup.period))
-        (nat_eq c.own_breaks.count c.setup.tries) q
-      where
-        by : (w : Bool) → w ≡ false → (due s : Bool)
-            → after_timers turn b.special
-            (breaking turn (cond (w && due)
-            (cond s None (Some (record c.own_breaks { brk = true; set = turn; count = c.own_breaks.count + 1 }))) (Some c.own_breaks))
-            c) ≡ Err fault → ⊥
-        by false e due s q = cc
-        by true e due s q = cc
+-- the break's clock expires with the last try
+pub record SpendsBreak (turn : ℕ) (b : Account) : Type 0 where
+  pub waiting : waits b.own_breaks ≡ true
+  pub now : turn ≡ b.own_breaks.set + b.setup.period
+  pub count : b.own_breaks.count ≡ b.setup.tries
 
-    timed : (timer : Option ℕ) → b.wait.timer ≡ timer
-        → after_timers turn b.special
-        (then_tries turn (cond (timer_expires turn b timer) (polling turn (expired b.outgoing) b) (Ok b))) ≡ Err fault
-        → SpendsTries turn b
-    timed None e q = absurd (well b refl q)
-    timed (Some set) e q = go (nat_eq turn (set + b.setup.period)) refl (nat_eq b.outgoing.count b.outgoing.tries) refl q
-      where
-        go : (due : Bool) → nat_eq turn (set + b.setup.period) ≡ due → (s : Bool) → nat_eq b.outgoing.count b.outgoing.tries ≡ s
-            → after_timers turn b.special
-            (then_tries turn (cond due
-            (polling turn (cond s None (Some (record b.outgoing { count = b.outgoing.count + 1; awaited = true }))) b) (Ok b))) ≡ Err
-            fault → SpendsTries turn b
-        go false d s f q = absurd (well b refl q)
-        go true d false f q = absurd
-            (well (record b {
-              outgoing = record b.outgoing { count = b.outgoing.count + 1; awaited = true };
-              wait = record b.wait
-                  { poll = true; timer = Some turn };
-            }) refl q)
-        go true d true f q = record { set = set; runs = e; now = grind (arith, nat_tests, d); count = grind (arith, nat_tests, f) }
+-- why a Connected end breaks
+pub connected-spends : (turn : ℕ) (release : Bool) (b : Account) (fault : LinkFault) → b.phase ≡ Connected → 1 ≤ b.setup.period
+    → speak turn release b ≡ Err fault → SpendsTries turn b ⊎ SpendsBreak turn b
+connected-spends turn release b fault e long h = go (why-broken turn release b fault h)
+  where
+    other : {A : Type 0} (p : Phase) → b.phase ≡ p → (Connected ≡ p → ⊥) → A
+    other p f n = absurd (n (sym e ∙ f))
+
+    by : Ended turn release b → SpendsTries turn b ⊎ SpendsBreak turn b
+    by (TryEnds (inl p) x n) = other Negotiating p.0 (λ q. cc)
+    by (TryEnds (inr (inl p)) x n) = other Establishing p (λ q. cc)
+    by (TryEnds (inr (inr p)) x n) = other Releasing p (λ q. cc)
+    by (ReleaseEnds p x) = let wrong : ⊥ = grind (arith, nat_tests, long, x) in absurd wrong
+    by (TimerEnds p set r x n) = inl (record {
+      set = set;
+      runs = r;
+      now = grind (arith, nat_tests, x);
+      count = grind
+          (arith, nat_tests, n);
+    })
+    by (BreakEnds p w x n) = inr (record { waiting = w; now = grind (arith, nat_tests, x); count = grind (arith, nat_tests, n) })
+
+    go : Breaks turn release b fault → SpendsTries turn b ⊎ SpendsBreak turn b
+    go (Undetected p r l f) = other Detecting p (λ q. cc)
+    go (Spends x f) = by x
 
 pub connected-why : (turn : ℕ) (release : Bool) (b : Account) (fault : LinkFault) → b.phase ≡ Connected → 1 ≤ b.setup.period
     → waits b.own_breaks ≡ false → speak turn release b ≡ Err fault → SpendsTries turn b
-connected-why turn release b fault e long none h = go (release && is_originator b.setup.role)
-    (sym (ap (λ p. speak_in p turn release b) e) ∙ h)
-  where
-    later : nat_eq turn (turn + b.setup.period) ≡ false
-    later = grind (arith, nat_tests, long)
-
-    by : (due : Bool) → due ≡ false
-        → cond due (cond (nat_eq 0 b.setup.tries) (Err (spent turn (trying Releasing turn b)))
-        (Ok (tries_frame (Disc true) (trying_again turn (trying Releasing turn b)))))
-        (Ok (tries_frame (Disc true) (trying Releasing turn b))) ≡ Err fault → SpendsTries turn b
-    by false f q = cc
-    by true f q = cc
-
-    go : (x : Bool) → cond x (speak_releasing turn (trying Releasing turn b)) (speak_linked turn b) ≡ Err fault → SpendsTries turn b
-    go false q = linked-why turn b fault none q
-    go true q = by (nat_eq turn (turn + b.setup.period)) later q
+connected-why turn release b fault e long none h =
+    elim (connected-spends turn release b fault e long h) [ inl x ↦ x | inr x ↦ absurd (false≢true (sym none ∙ x.waiting)) ]
 
 -- what is known of its account before that turn
 pub record LastTry (tries period turn : ℕ) (a : Account) : Type 0 where
