@@ -41,8 +41,8 @@ LineEnds (LineLost role symbol) = Unit {0}
 LineEnds (ChanceMatch role turn) = Unit {0}
 LineEnds end = ⊥
 
--- What holds of a run by its end: this of the outcome of its last turn and of that turn's number, where one is made, else this of a lost line,
--- or this of a chance match. A link is lost where an end's tries are spent, at its front's segment.
+-- What holds of a run by its end: this of the outcome of its last turn and of that turn's number, where one is made, else this of a lost
+-- line, or this of a chance match. A link is lost where an end's tries are spent, at its front's segment.
 abbrev pub ByEnd : (Outcome → ℕ → Type 0) → (Role → ℕ → Type 0) → (Role → ℕ → Type 0) → RunEnd → Type 0
 ByEnd InTurn Lost Chance (IsDone turn) = InTurn Done turn
 ByEnd InTurn Lost Chance (LinkLost role segment turn) = (since : ℕ) × InTurn (Broken role (faults.Spent segment since)) turn

@@ -102,7 +102,8 @@ pub reading-fault : (x : RunFault) (fault : FolderFault) → x ≡ fault_of Read
 reading-fault x Failed e = subst IsReading (sym e) tt
 reading-fault x NoMemory e = subst IsReading (sym e) tt
 
-pub reading-counts : (old new : FolderState) (n : Written) (x : RunFault) (fault : FolderFault) → x ≡ fault_of ReadFault faults.NoMemory fault
+pub reading-counts : (old new : FolderState) (n : Written) (x : RunFault) (fault : FolderFault)
+    → x ≡ fault_of ReadFault faults.NoMemory fault
     → SomeCause {T = Unit {0}} old.read_faults new.read_faults (inputs_of n) old.refusals new.refusals (Err fault) → (IsErrOf {T = Unit {0}} {E = FolderFault} (Err fault) NoMemory → FaultsStand old new)
     → FaultCounts old new n x
 reading-counts old new n x Failed e cause spared = subst (FaultCounts old new n) (sym e) (cause.failed refl)
@@ -114,7 +115,8 @@ pub writing-fault : (x : RunFault) (fault : FolderFault) → x ≡ fault_of Writ
 writing-fault x Failed e = subst IsWriting (sym e) tt
 writing-fault x NoMemory e = subst IsWriting (sym e) tt
 
-pub writing-counts : (old new : FolderState) (n : Written) (x : RunFault) (fault : FolderFault) → x ≡ fault_of WriteFault faults.NoMemory fault
+pub writing-counts : (old new : FolderState) (n : Written) (x : RunFault) (fault : FolderFault)
+    → x ≡ fault_of WriteFault faults.NoMemory fault
     → SomeCause {T = Unit {0}} old.write_faults new.write_faults (outputs_of n) old.refusals new.refusals (Err fault)
     → (IsErrOf {T = Unit {0}} {E = FolderFault} (Err fault) NoMemory → FaultsStand old new)
     → FaultCounts old new n x
@@ -122,7 +124,8 @@ writing-counts old new n x Failed e cause spared = subst (FaultCounts old new n)
 writing-counts old new n x NoMemory e cause spared = subst (FaultCounts old new n) (sym e) (spared refl, cause.memory refl)
 
 -- it is the trace
-pub trace-counts : (old new : FolderState) (n : Written) (x : RunFault) (fault : FolderFault) → x ≡ fault_of WriteFault faults.NoMemory fault
+pub trace-counts : (old new : FolderState) (n : Written) (x : RunFault) (fault : FolderFault)
+    → x ≡ fault_of WriteFault faults.NoMemory fault
     → HasCause {T = Unit {0}} (old.write_faults n.trace) (new.write_faults n.trace) old.refusals new.refusals (Err fault)
     → (IsErrOf {T = Unit {0}} {E = FolderFault} (Err fault) NoMemory → FaultsStand old new)
     → FaultCounts old new n x

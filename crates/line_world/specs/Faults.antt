@@ -31,7 +31,8 @@ fault_named turn role link.NotDetected = faults.NotDetected turn
 fault_named turn role (link.Spent segment since) = faults.LinkLost role segment turn
 fault_named turn role fault = faults.NoMemory
 
--- why there is no further turn where a call of the folder is not done: the first of these where it failed, the second where it had no memory
+-- why there is no further turn where a call of the folder is not done: the first of these where it failed, the second where it had no
+-- memory
 abbrev pub fault_of : {T : Type 0} → T → T → FolderFault → T
 fault_of failed no_memory folder.Failed = failed
 fault_of failed no_memory folder.NoMemory = no_memory

@@ -64,7 +64,8 @@ write-fault folder.NoMemory = tt
 
 pub write-fault-counts : (a b : FolderState) (name : List ℕ) (fault : FolderFault)
     → HasCause (a.write_faults name) (b.write_faults name) a.refusals b.refusals (answer fault)
-    → (IsErrOf (answer fault) folder.NoMemory → FaultsStand a b) → FaultCounts a b [] (name ∷ []) (fault_of faults.WriteFault faults.NoMemory fault)
+    → (IsErrOf (answer fault) folder.NoMemory → FaultsStand a b)
+    → FaultCounts a b [] (name ∷ []) (fault_of faults.WriteFault faults.NoMemory fault)
 write-fault-counts a b name folder.Failed cause spared = inl (cause.failed refl)
 write-fault-counts a b name folder.NoMemory cause spared = (spared refl, cause.memory refl)
 
@@ -75,7 +76,8 @@ read-fault folder.NoMemory = tt
 
 pub read-fault-counts : (a b : FolderState) (name : List ℕ) (fault : FolderFault)
     → HasCause (a.read_faults name) (b.read_faults name) a.refusals b.refusals (answer fault)
-    → (IsErrOf (answer fault) folder.NoMemory → FaultsStand a b) → FaultCounts a b (name ∷ []) [] (fault_of faults.ReadFault faults.NoMemory fault)
+    → (IsErrOf (answer fault) folder.NoMemory → FaultsStand a b)
+    → FaultCounts a b (name ∷ []) [] (fault_of faults.ReadFault faults.NoMemory fault)
 read-fault-counts a b name folder.Failed cause spared = inl (cause.failed refl)
 read-fault-counts a b name folder.NoMemory cause spared = (spared refl, cause.memory refl)
 
