@@ -121,10 +121,6 @@ quiet-well z total breaks turn role a b h e outgoing timer own ack numbered phas
     ack (same-silent role a b numbered outgoing timer h.silent) (phase ∙ e) setup (ap (λ o. o.pieces) outgoing) (ap (λ o. o.ended) outgoing)
     (ap (λ o. o.lengths) own)
 
-pub and-true : (b c : Bool) → b && c ≡ true → b ≡ true
-and-true true c e = refl
-and-true false c e = cc
-
 answered-lengths : (turn number : ℕ) (b : OwnBreaks) → (after_answer turn number b).lengths ≡ b.lengths
 answered-lengths turn number b = by (waits b && nat_eq number (b.answered % 2))
   where

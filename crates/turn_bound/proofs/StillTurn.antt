@@ -26,7 +26,7 @@ use Rattle.turn_bound.proofs.Serves.{serves-well}
 use Rattle.turn_bound.proofs.Speaking.{OnOk, Timed, Stepped, timers-well, steps-well, timed-linked}
 use Rattle.turn_bound.proofs.Turning.{speaks-well, tries-well, Tried, OnSaid}
 use Rattle.turn_bound.proofs.OneTurn.{heard-ok, said-ok}
-use Rattle.turn_bound.proofs.Still.{StaysStill, HeardStill, still-hears}
+use Rattle.turn_bound.proofs.Still.{still-hears}
 use Rattle.turn_bound.proofs.SpeakStill.{steps-pay}
 
 pub or-false-both : (b c : Bool) → b || c ≡ false → (b ≡ false) × (c ≡ false)
@@ -141,11 +141,6 @@ speaks-still z total breaks turn role b said y k h er all e dead busy may more =
     }))
     (or-false-both (is_waiting said.account.outgoing) (is_breaking (turn + 1) said.account.own_breaks) dead).0
 
-heard-still-ok : (total more : ℕ) (a mid : Account) (r : Result Account LinkFault) → r ≡ Ok mid → StaysStill total more a r
-    → is_waiting mid.outgoing ≡ false → mid.phase ≡ Connected → HeardStill total more a mid
-heard-still-ok total more a mid (Err fault) e h w p = cc
-heard-still-ok total more a mid (Ok b) e h w p = let same : b ≡ mid = cc in subst (StaysStill total more a) (ap Ok same) h w p
-
 pub only-connected : (p : Phase) → is_connected p ≡ true → p ≡ Connected
 only-connected Connected e = refl
 only-connected Detecting e = cc
@@ -254,8 +249,7 @@ stilled z total user turn role arrived a mid b release said y k h e er hears all
     let before = or-false-both (is_waiting a.outgoing) (is_breaking turn a.own_breaks) dead in
     let waits-a : waits a.own_breaks ≡ false = (or-false-both (waits a.own_breaks) (nat_lt turn a.own_breaks.rest) before.1).0 in
     let same : is_waiting b.outgoing ≡ is_waiting mid.outgoing = ap is_waiting s.serves.longer.outgoing in
-    let heard = heard-still-ok total (arrived_weight arrived) a mid (hear turn arrived a) hears
-    (still-hears z total turn role arrived a h e before.0) (sym same ∙ idle.0) s.mid_phase in
+    let heard = still-hears z total turn role a h before.0 arrived mid e hears (sym same ∙ idle.0) s.mid_phase in
     let free : is_free total b.outgoing ≡ is_free total mid.outgoing = ap (is_free total) s.serves.longer.outgoing in
     let due : dues total b ≡ dues total mid = served-dues turn (length user.breaks) total (is_busy turn user.busy) mid b s.serves free in
     let may' : is_originator b.setup.role || b.numbered ≡ true =

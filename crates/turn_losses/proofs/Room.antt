@@ -1,30 +1,24 @@
 -- What a Connected end was offered fits into its window, which is one of seven bits.
 use Rattle.std.proofs.Common.{◌≡◌, ℕ, zero, suc, ◌+◌, ◌<◌, ◌≤◌, ◌&&◌, not, min, Bool, true, false, cond, nat_lt, nat_le, List, [], ◌∷◌}
-use Rattle.std.proofs.Common.{length, length-append, arith, refl, sym, ◌∙◌, ap, subst, Option, Some, None, Result, Ok, Err}
+use Rattle.std.proofs.Common.{length, length-append, arith, refl, sym, ◌∙◌, ap, Option, Some, None, Ok}
 use Rattle.std.proofs.lemmas.Bool.Decides.{nat_tests}
 use Rattle.shared_terms.specs.declared.role.Role.{Role}
 use Rattle.shared_terms.specs.declared.role.Role.TheVariants.{Originator, Answerer}
-use Rattle.lapm_frames.specs.declared.frame.Frame.{Frame}
-use Rattle.lapm_frames.specs.declared.frame.Frame.TheVariants.{Sabme, Disc, Ua, Dm, Xid}
 use Rattle.xid_params.specs.declared.offer.Offer.{Offer}
 use Rattle.xid_params.specs.declared.terms.Terms.{Terms}
-use Rattle.xid_params.specs.Offers.{IsAllowed, offer_in}
+use Rattle.xid_params.specs.Offers.{IsAllowed}
 use Rattle.xid_params.specs.Terms.{agree, default_offer, lowered}
 use Rattle.lapm_sender.specs.Outgoing.{Outgoing, with_piece}
 use Rattle.break_signals.specs.Breaks.{after_ask}
-use Rattle.lapm_frames.specs.declared.seen.Seen.{Seen}
-use Rattle.lapm_frames.specs.declared.seen.Seen.TheVariants.{Odp, Adp}
 use Rattle.lapm_frames.specs.declared.arrived.Arrived.{Arrived}
-use Rattle.lapm_frames.specs.declared.arrived.Arrived.TheVariants as arrivals
 use Rattle.link_account.specs.declared.phase.Phase.{Phase}
 use Rattle.link_account.specs.declared.phase.Phase.TheVariants.{Detecting, Negotiating, Establishing, Connected, Releasing, Closed}
-use Rattle.shared_terms.specs.declared.fault.LinkFault.{LinkFault}
 use Rattle.link_account.specs.Account.{Account, is_connected, window_for, wants, piece_size, after_given}
-use Rattle.link_account.specs.Hear.{hear, on_frame, on_seen, on_pattern, on_detecting, on_negotiating, on_establishing, on_xid_command}
-use Rattle.link_account.specs.Hear.{on_xid_response, on_nothing, owing}
-use Rattle.link_account.specs.declared.answer.Answer.TheVariants as answers
+use Rattle.link_account.specs.Hear.{hear}
+use Rattle.link_account.specs.Hear.{on_nothing}
 use Rattle.link_run.specs.End.{User, BreakLine, delivered, offered_at, offered_times, offered, room_for, piece_at, is_busy, next_break}
 use Rattle.link_run.specs.End.{asked_at}
+use Rattle.link_account.proofs.HearWays.{by-early}
 use Rattle.turn_bound.proofs.Run.{served_account}
 use Rattle.turn_bound.proofs.Serving.{before_asking, offers-well}
 use Rattle.turn_losses.proofs.Polling.{is_linked}
@@ -58,58 +52,8 @@ fits-for Answerer terms h = h.1
 pub record BeginsWith (b : Account) : Type 0 where
   pub so : is_connected b.phase ≡ true → (b.outgoing.window ≤ 127) × (length b.outgoing.pieces ≡ 0) × (b.outgoing.count ≡ 0)
 
-abbrev pub BeginsSo : Result Account LinkFault → Type 0
-BeginsSo (Err fault) = Unit {0}
-BeginsSo (Ok b) = BeginsWith b
-
 not-connected : (b : Account) (p : Phase) → b.phase ≡ p → is_connected p ≡ false → BeginsWith b
 not-connected b p e f = record { so = λ h. let wrong : true ≡ false = sym h ∙ (ap is_connected e ∙ f) in cc }
-
-begins-frame : (p : Phase) (frame : Frame) (turn : ℕ) (a : Account) → a.phase ≡ p → is_linked p ≡ false → Fits a.terms
-    → IsAllowed a.setup.offer → BeginsSo (on_frame p frame turn a)
-begins-frame Detecting frame turn a e l h own = go a.setup.role frame
-  where
-    commanded : (m : Option Offer) → BeginsWith (on_xid_command m a)
-    commanded None = not-connected a Detecting e refl
-    commanded (Some offer) = not-connected _ Negotiating refl refl
-
-    go : (r : Role) (f : Frame) → BeginsSo (on_detecting r f turn a)
-    go Answerer (Xid true pf info) = commanded (offer_in info)
-    go Answerer (Sabme pf) =
-        record {
-          so = λ c. (
-            fits-for a.setup.role (agree default_offer a.setup.offer) (fits-second default_offer a.setup.offer own),
-            refl,
-            refl,
-          );
-        }
-    go r f = not-connected a Detecting e refl
-begins-frame Negotiating frame turn a e l h own = go a.setup.role frame
-  where
-    commanded : (m : Option Offer) → BeginsWith (on_xid_command m a)
-    commanded None = not-connected a Negotiating e refl
-    commanded (Some offer) = not-connected _ Negotiating refl refl
-
-    answered : (m : Option Offer) → BeginsWith (on_xid_response m turn a)
-    answered None = not-connected a Negotiating e refl
-    answered (Some offer) = not-connected _ Establishing refl refl
-
-    go : (r : Role) (f : Frame) → BeginsSo (on_negotiating r f turn a)
-    go Originator (Xid false pf info) = answered (offer_in info)
-    go Originator (Dm pf) = tt
-    go Answerer (Xid true pf info) = commanded (offer_in info)
-    go Answerer (Sabme pf) = record { so = λ c. (fits-for a.setup.role a.terms h, refl, refl) }
-    go Answerer (Disc pf) = not-connected (owing (answers.Dm pf) a) Negotiating e refl
-    go r f = not-connected a Negotiating e refl
-begins-frame Establishing frame turn a e l h own = go frame
-  where
-    go : (f : Frame) → BeginsSo (on_establishing f turn a)
-    go (Ua true) = record { so = λ c. (fits-for a.setup.role a.terms h, refl, refl) }
-    go (Dm true) = tt
-    go f = not-connected a Establishing e refl
-begins-frame Connected frame turn a e l h own = cc
-begins-frame Releasing frame turn a e l h own = cc
-begins-frame Closed frame turn a e l h own = cc
 
 unlinked-connected : (p : Phase) → is_linked p ≡ false → is_connected p ≡ false
 unlinked-connected Detecting e = refl
@@ -119,33 +63,25 @@ unlinked-connected Connected e = cc
 unlinked-connected Releasing e = refl
 unlinked-connected Closed e = refl
 
-begins-all : (arrived : Arrived) (turn : ℕ) (a : Account) → is_linked a.phase ≡ false → Fits a.terms → IsAllowed a.setup.offer
-    → BeginsSo (hear turn arrived a)
-begins-all arrivals.Nothing turn a l h own = not-connected (on_nothing a) a.phase refl (unlinked-connected a.phase l)
-begins-all (arrivals.Pattern seen) turn a l h own = go a.phase refl l
-  where
-    on : (r : Role) (s : Seen) → a.phase ≡ Detecting → BeginsWith (on_pattern r s turn a)
-    on Originator Adp e = not-connected _ Negotiating refl refl
-    on Originator Odp e = not-connected a Detecting e refl
-    on Answerer Odp e = not-connected (owing answers.Adp a) Detecting e refl
-    on Answerer Adp e = not-connected a Detecting e refl
-
-    go : (p : Phase) → a.phase ≡ p → is_linked p ≡ false → BeginsWith (on_seen p seen turn a)
-    go Detecting e f = on a.setup.role seen e
-    go Negotiating e f = not-connected a Negotiating e refl
-    go Establishing e f = not-connected a Establishing e refl
-    go Connected e f = cc
-    go Releasing e f = cc
-    go Closed e f = cc
-begins-all (arrivals.Frame frame) turn a l h own = begins-frame a.phase frame turn a refl l h own
-
 pub begins-roomy : (arrived : Arrived) (turn : ℕ) (a mid : Account) → is_linked a.phase ≡ false → Fits a.terms → IsAllowed a.setup.offer
     → hear turn arrived a ≡ Ok mid → BeginsWith mid
-begins-roomy arrived turn a mid l h own e = go (hear turn arrived a) e (begins-all arrived turn a l h own)
+begins-roomy arrived turn a mid l h own e = by-early (λ x b. BeginsWith b) turn a (record {
+  ignores = λ x f. stays a refl;
+  detects = λ p r. not-connected _ Negotiating refl refl;
+  detected = λ p r. stays _ refl;
+  xid = λ p r pf info offer f. not-connected _ Negotiating refl refl;
+  agrees = λ p r pf info offer f. not-connected _ Establishing refl refl;
+  sabme_first = λ p r pf. record {
+    so = λ c. (fits-for a.setup.role (agree default_offer a.setup.offer) (fits-second default_offer a.setup.offer own), refl, refl);
+  };
+  sabme = λ p r pf. record { so = λ c. (fits-for a.setup.role a.terms h, refl, refl) };
+  ua = λ p. record { so = λ c. (fits-for a.setup.role a.terms h, refl, refl) };
+  disc = λ p pf. stays _ refl;
+  closes = λ p frame f. not-connected _ Closed refl refl;
+}) (stays (on_nothing a) refl) arrived mid (unlinked-connected a.phase l) e
   where
-    go : (r : Result Account LinkFault) → r ≡ Ok mid → BeginsSo r → BeginsWith mid
-    go (Err fault) q k = cc
-    go (Ok b) q k = let same : b ≡ mid = cc in subst BeginsWith same k
+    stays : (b : Account) → b.phase ≡ a.phase → BeginsWith b
+    stays b f = not-connected b a.phase f (unlinked-connected a.phase l)
 
 -- offers go on while there is room
 abbrev HasRoom : Outgoing → Type 0
