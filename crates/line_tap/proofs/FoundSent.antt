@@ -34,7 +34,6 @@ use Rattle.sample_line.specs.Signals.{IsCodable}
 use Rattle.line_tap.specs.Reading.{flagged}
 use Rattle.line_tap.specs.declared.seeker.Seeker.{Seeker}
 use Rattle.line_tap.specs.Seeking.{AreBitsOf, EndsFirst, FindsSent, IsAt, end_of, part}
-use Rattle.line_tap.proofs.Counted.{rest-bits}
 use Rattle.line_tap.proofs.Seeking.{OnePiece, one-whole, first-is, piece-long}
 
 pub record FoundLaws : Type 0 where
@@ -91,6 +90,17 @@ fill-first n some = go (n / 8) refl (n % 8) refl
     go zero e zero f = absurd (omega (arith, e, f, some))
     go zero e (suc r) f = ap (λ k. bit_of (flags k ++ take (n % 8) flag) 0) e ∙ ap (λ k. bit_of (take k flag) 0) f
     go (suc q) e r f = ap (λ k. bit_of (flags k ++ take (n % 8) flag) 0) e
+
+rest-bits : (phase : ℕ) → phase < 8 → length (rest_of_flag phase) ≡ (8 - phase) - 8 * (1 - phase)
+rest-bits zero h = refl
+rest-bits (suc zero) h = refl
+rest-bits (suc (suc zero)) h = refl
+rest-bits (suc (suc (suc zero))) h = refl
+rest-bits (suc (suc (suc (suc zero)))) h = refl
+rest-bits (suc (suc (suc (suc (suc zero))))) h = refl
+rest-bits (suc (suc (suc (suc (suc (suc zero)))))) h = refl
+rest-bits (suc (suc (suc (suc (suc (suc (suc zero))))))) h = refl
+rest-bits (suc (suc (suc (suc (suc (suc (suc (suc n)))))))) h = absurd (omega (arith, h))
 
 pub flags-begin : (size phase : ℕ) → phase < 8 → 40 < size
     → bit_of (slot_bits size phase (Flags None)) (length (rest_of_flag phase) + 32) ≡ false
