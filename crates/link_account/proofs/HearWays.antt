@@ -1,6 +1,5 @@
 -- The ways in which an end hears: what holds of each way holds of all that it becomes. So a fact about what it becomes has one line for
--- each way, and
--- no case distinction over phases, frames and acknowledgements of its own.
+-- each way, and no case distinction over phases, frames and acknowledgements of its own.
 use Rattle.std.proofs.Common.{◌⊎◌, inl, inr, ◌≡◌, ℕ, ◌-◌, ◌&&◌, ◌||◌, Bool, true, false, cond, refl, sym, ap, subst}
 use Rattle.std.proofs.Common.{List, Option, Some, None, Result, Ok, Err}
 use Rattle.std.specs.Option.{option_map}

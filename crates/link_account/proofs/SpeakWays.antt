@@ -1,6 +1,5 @@
 -- The ways in which an end speaks: what holds of each way holds of all that it sends. So a fact about what is sent has one line for each
--- way, and
--- no case distinction over phases, timers and steps of its own.
+-- way, and no case distinction over phases, timers and steps of its own.
 use Rattle.std.proofs.Common.{◌⊎◌, inl, inr, arith, ◌≡◌, ℕ, ◌+◌, ◌-◌, ◌*◌, ◌%◌, ◌&&◌, Bool, true, false, cond, nat_eq, nat_le, length, refl}
 use Rattle.std.proofs.Common.{Option, Some, None, Result, Ok, Err, List, [], ◌∷◌, sym, ◌∙◌, ap, subst}
 use Rattle.std.proofs.lemmas.Bool.Decides.{nat_tests}
@@ -77,9 +76,8 @@ pub record Idle (special : Bool) (a : Account) : Type 0 where
   pub segment : may_send a ≡ None
   pub owed : a.incoming.owed ≡ false
 
--- The nine steps of a Connected end whose timers are done, in their order but for a segment, which has one row whether it is urgent or not,
--- and RR or
--- RNR, which has one row as news and as an acknowledgement that is owed.
+-- The nine steps of a Connected end whose timers are done, in their order but for a segment, which has one row whether it is urgent or
+-- not, and RR or RNR, which has one row as news and as an acknowledgement that is owed.
 pub record Steps (P : Said → Type 0) (turn : ℕ) (special : Bool) (a : Account) : Type 0 where
   pub answers : Answers P a
   pub final : a.owes.answer ≡ None → a.owes.reply ≡ true → P (tells false true (record a { owes = record a.owes { reply = false } }))
@@ -374,8 +372,7 @@ module _ (P : Said → Type 0) (turn : ℕ) (release : Bool) (a : Account) (h : 
   by-ways said e = subst (OnSaid P) e (in-phase a.phase refl)
 
 -- Whose tries are spent: of a U try, of the segments' timer, of a break that waits. An end that is told to release begins a U try, whose
--- timer doesn't
--- expire in that turn but where a period is 0.
+-- timer doesn't expire in that turn but where a period is 0.
 pub data Ended (turn : ℕ) (release : Bool) (a : Account) : Type 0 where
   TryEnds : ((a.phase ≡ Negotiating) × (a.setup.role ≡ Originator)) ⊎ ((a.phase ≡ Establishing) ⊎ (a.phase ≡ Releasing))
       → expires a.wait.try_set a.setup.period turn ≡ true → nat_eq a.wait.try_count a.setup.tries ≡ true → Ended turn release a

@@ -1,6 +1,5 @@
 -- What a frame with a number makes of a Connected end: one row for the five of them, with what it makes of the wait for an answer, of the
--- clock, of
--- replies, of what is urgent and of a pause.
+-- clock, of replies, of what is urgent and of a pause.
 use Rattle.std.proofs.Common.{◌⊎◌, inl, inr, ◌≡◌, ℕ, ◌-◌, ◌<◌, ◌&&◌, ◌||◌, not, Bool, true, false, cond, nat_lt, arith, refl, sym, ◌∙◌, ap}
 use Rattle.std.proofs.Common.{Option, Some, None}
 use Rattle.std.proofs.lemmas.Bool.Decides.{nat_tests}

@@ -78,8 +78,7 @@ abbrev IsFree : Account → Type 0
 IsFree a = (a.outgoing.awaited ≡ false) × (a.outgoing.paused ≡ false)
 
 -- A period in which the peer is told to release, but so late that its DISC comes after it. Where no line is lost in it, the answer to its
--- poll
--- came before; so, with nothing outstanding, the clock stops in that turn, unless it was paused since, which made the retry count 0.
+-- poll came before; so, with nothing outstanding, the clock stops in that turn, unless it was paused since, which made the retry count 0.
 pub parted-stops : (period turns : ℕ) (e o : EndRun) → TwoEnds period turns e o → Counts turns e o → (s v : ℕ) → s + period ≤ turns
     → v < s + period → s + period < v + o.delay → Uncleared period e s → StayConnected o s v
     → (e.mid v).outgoing.awaited ≡ cond (hears_final e v) false (e.account v).outgoing.awaited
