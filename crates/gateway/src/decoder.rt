@@ -131,52 +131,45 @@ impl SampleDecoder {
 
     /// Samples more, a real and an imaginary part each, and the bits of the labels that they release, an octet each. Once the line is lost
     /// no sample more is read: what waits is given, and `Lost` comes again.
-    pub fn push(self, parts: &[i16], bits: &mut [u8]) -> (SampleDecoder, Pushed)
-        ensures decodes { (line : LineKind) (mode : Mode) (samples : List Sample) (before : List Bool) → HasDecoded line mode self samples before
-            → HasDecoded line mode result.0 (samples ++ samples_in result.1.read parts.now) (before ++ given result.1.written bits.new) }
-        ensures stops { StopsSo result.1.stop self (length parts.now) (length bits.new) result.1.read result.1.written result.0 }
+    pub fn push(&mut self, parts: &[i16], bits: &mut [u8]) -> Pushed
+        ensures decodes { (line : LineKind) (mode : Mode) (samples : List Sample) (before : List Bool) → HasDecoded line mode self.old samples before
+            → HasDecoded line mode self.new (samples ++ samples_in result.read parts.now) (before ++ given result.written bits.new) }
+        ensures stops { StopsSo result.stop self.old (length parts.now) (length bits.new) result.read result.written self.new }
         ensures length { length bits.new ≡ length bits.old }
-        ensures read { 2 * result.1.read ≤ length parts.now }
-        ensures written { result.1.written ≤ length bits.new }
+        ensures read { 2 * result.read ≤ length parts.now }
+        ensures written { result.written ≤ length bits.new }
     {
-        let SampleDecoder {
-            mut reader,
-            mut samples,
-        } = self;
         let count = parts.len() / 2;
-        if count as u64 > MOST - samples {
-            let pushed = Pushed {
+        if count as u64 > MOST - self.samples {
+            return Pushed {
                 read: 0,
                 written: 0,
                 stop: DecoderStop::Late,
             };
-            return (SampleDecoder { reader, samples }, pushed);
         }
         let mut written = 0;
         for read in 0..count {
-            written = take_bits(&mut reader, bits, written);
-            if let Some(stop) = stop_of(&reader) {
-                let pushed = Pushed {
+            written = take_bits(&mut self.reader, bits, written);
+            if let Some(stop) = stop_of(&self.reader) {
+                return Pushed {
                     read,
                     written,
                     stop,
                 };
-                return (SampleDecoder { reader, samples }, pushed);
             }
-            reader.push(sample_at(parts, read));
-            samples += 1;
+            self.reader.push(sample_at(parts, read));
+            self.samples += 1;
         }
-        written = take_bits(&mut reader, bits, written);
-        let stop = match stop_of(&reader) {
+        written = take_bits(&mut self.reader, bits, written);
+        let stop = match stop_of(&self.reader) {
             Some(stop) => stop,
             None => DecoderStop::All,
         };
-        let pushed = Pushed {
+        Pushed {
             read: count,
             written,
             stop,
-        };
-        (SampleDecoder { reader, samples }, pushed)
+        }
     }
 
     /// The bits of the labels that still waited, at the line's end: how many. Where bits wait that weren't given, where the line is lost,

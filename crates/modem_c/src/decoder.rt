@@ -73,6 +73,32 @@ fn take_decoder(alloc: Global, handle: &mut Handle) -> Result<(SampleDecoder, Bo
     }
 }
 
+/// Pushes samples into what a handle leads to.
+fn push(machine: &mut Machine, parts: &[i16], bits: &mut [u8], progress: &mut Progress) -> i32
+    requires { progress.old ≡ nothing_done }
+    ensures decodes { (line : LineKind) (mode : Mode) (samples : List Sample) (before : List Bool) → Decodes line mode (Some machine.old) samples before
+        → Decodes line mode (Some machine.new) (samples ++ samples_in progress.new.read parts.now) (before ++ given progress.new.written bits.new) }
+    ensures answer { Answered (decoder_in (Some machine.old)) (Some machine.old) (Some machine.new) result
+        (λ old. IsSomeAnd (decoder_in (Some machine.new)) (PushAnswers old (length parts.now) (length bits.new) result progress.new)) }
+    ensures none { decoder_in (Some machine.old) ≡ None → progress.new ≡ nothing_done }
+    ensures length { length bits.new ≡ length bits.old }
+    ensures read { 2 * progress.new.read ≤ length parts.now }
+    ensures written { progress.new.written ≤ length bits.new }
+{
+    match machine {
+        Machine::Decoder(decoder) => {
+            let pushed = decoder.push(parts, bits);
+            *progress = Progress {
+                read: pushed.read,
+                written: pushed.written,
+                lost: lost_of(pushed.stop),
+            };
+            code_of(pushed.stop)
+        }
+        _ => WRONG_KIND,
+    }
+}
+
 /// A decoder before the first sample of a line of this kind, sent by the modem of that mode.
 #[unsafe(no_mangle)]
 pub extern "C" fn modem_decoder_new(alloc: Global, handle: &mut Handle, line: u8, mode: u8) -> i32
@@ -108,19 +134,12 @@ pub extern "C" fn modem_decoder_push(
     ensures written { progress.new.written ≤ length bits.new }
 {
     *progress = Progress::none();
-    let (decoder, mut machine) = match take_decoder(alloc, handle) {
-        Ok(taken) => taken,
-        Err(code) => return code,
+    let Some(mut machine) = take(alloc, handle) else {
+        return EMPTY;
     };
-    let (decoder, pushed) = decoder.push(parts, bits);
-    *machine = Machine::Decoder(decoder);
+    let code = push(machine.as_mut(), parts, bits, progress);
     put(alloc, handle, machine);
-    *progress = Progress {
-        read: pushed.read,
-        written: pushed.written,
-        lost: lost_of(pushed.stop),
-    };
-    code_of(pushed.stop)
+    code
 }
 
 /// The bits of the labels that aren't released at the line's end. The decoder is spent then. `FULL`: released ones wait, which a push without

@@ -27,9 +27,9 @@ const BITS: [u8; 56] = [
 
 #[test]
 fn samples_become_bits(rt: HostRuntime) -> Result<(), Fail> {
-    let decoder = SampleDecoder::new(rt.alloc(), LineKind::Begun, Mode::Call)?;
+    let mut decoder = SampleDecoder::new(rt.alloc(), LineKind::Begun, Mode::Call)?;
     let mut bits = [9; LAST_BITS];
-    let (decoder, pushed) = decoder.push(&ZEROS, &mut bits);
+    let pushed = decoder.push(&ZEROS, &mut bits);
     assert!(rt; pushed.read == 2 && pushed.written == 0 && pushed.stop == DecoderStop::All);
     let Ok(count) = decoder.finish(&mut bits) else {
         return Err(Fail::new("a line of two symbols doesn't end"));
@@ -42,11 +42,11 @@ fn samples_become_bits(rt: HostRuntime) -> Result<(), Fail> {
 
 #[test]
 fn a_push_without_room_is_full(rt: HostRuntime) -> Result<(), Fail> {
-    let decoder = SampleDecoder::new(rt.alloc(), LineKind::Quarters, Mode::Call)?;
+    let mut decoder = SampleDecoder::new(rt.alloc(), LineKind::Quarters, Mode::Call)?;
     let mut bits = [9; 4];
-    let (decoder, pushed) = decoder.push(&ZEROS, &mut bits[..3]);
+    let pushed = decoder.push(&ZEROS, &mut bits[..3]);
     assert!(rt; pushed.read == 1 && pushed.written == 0 && pushed.stop == DecoderStop::Full);
-    let (_decoder, pushed) = decoder.push(&ZEROS[2..], &mut bits);
+    let pushed = decoder.push(&ZEROS[2..], &mut bits);
     assert!(rt; pushed.read == 0 || pushed.written > 0);
     Ok(())
 }
@@ -65,9 +65,9 @@ fn bits_become_samples(rt: HostRuntime) {
 
 #[test]
 fn samples_become_frames(rt: HostRuntime) -> Result<(), Fail> {
-    let decoder = SampleDecoder::new(rt.alloc(), LineKind::Begun, Mode::Call)?;
+    let mut decoder = SampleDecoder::new(rt.alloc(), LineKind::Begun, Mode::Call)?;
     let mut bits = [9; 1000];
-    let (decoder, pushed) = decoder.push(&SABME, &mut bits);
+    let pushed = decoder.push(&SABME, &mut bits);
     assert!(rt; pushed.read == 14 && pushed.stop == DecoderStop::All);
     let (_given, rest) = bits.split_at_mut(pushed.written);
     let Ok(count) = decoder.finish(rest) else {

@@ -1,7 +1,10 @@
-use Rattle.std.proofs.Common.{ℕ, ◌∷◌, ◌*◌, ◌+◌, ◌/◌, ◌≡◌, ◌++◌, Bool, List, [], length, suc, sym, subst, append_assoc, ◌∙◌, arith, ℤ, pos, get_or, length-append}
+use Rattle.std.proofs.Common.{ℕ, ◌∷◌, ◌*◌, ◌+◌, ◌/◌, ◌≡◌, ◌++◌, Bool, List, [], length, suc, sym, subst, append_assoc, ◌∙◌, arith, ℤ, pos, get_or, length-append, Some}
 use Rattle.scramblers.specs.declared.mode.Mode.{Mode}
 use Rattle.symbol_map.specs.declared.sample.Sample.{Sample}
 use Rattle.gateway.specs.declared.any_reader.LineKind.{LineKind}
+use Rattle.gateway.specs.declared.decoder.SampleDecoder.{SampleDecoder}
+use Rattle.gateway.specs.Decoded.{HasDecoded}
+use Rattle.gateway.specs.Decoding.{decoding_of}
 use Rattle.gateway.specs.Given.{given, samples_in}
 use Rattle.gateway.specs.Reads.{ReadsAs}
 use Rattle.gateway.specs.declared.any_reader.AnyReader.{AnyReader}
@@ -16,11 +19,20 @@ one_more line mode r samples parts k k' s bits ek re im h =
     subst (λ (n : ℕ). ReadsAs line mode r (samples ++ samples_in n parts) bits) (sym ek)
     (subst (λ (all : List Sample). ReadsAs line mode r all bits) (append_assoc samples (samples_in k parts) _ ∙ (λ i. samples ++ (samples_in k parts ++ record { re = re i; im = im i } ∷ []))) h)
 
+-- all samples were read
+all-read : (line : LineKind) (mode : Mode) (d : SampleDecoder) (samples : List Sample) (bits : List Bool) (parts : List ℤ) (old k count : ℕ)
+    → k ≡ count → old ≡ length samples → d.samples ≡ old + k → ReadsAs line mode d.reader (samples ++ samples_in k parts) bits
+    → ((symbol : ℕ) → (decoding_of d.reader).lost ≡ Some symbol → length (samples ++ samples_in k parts) ≡ symbol + 1)
+    → HasDecoded line mode d (samples ++ samples_in count parts) bits
+all-read line mode d samples bits parts old k count e counted more reads ended =
+    subst (λ (n : ℕ). HasDecoded line mode d (samples ++ samples_in n parts) bits) e
+    (record { reads = reads; counted = length-more samples k parts old d.samples counted more; ended = ended })
+
 pub returns-in-Some-clause-decodes : goal.returns-in-Some-clause-decodes
 returns-in-Some-clause-decodes c = λ line mode samples before start. record {
   reads = c.take_bits-written.ensures.reads line mode (samples ++ samples_in c.loop-read.read c.args.parts.now) before
       (c.loop-read.invariant.reads line mode samples before start.reads);
-  counted = length-more samples c.loop-read.read c.args.parts.now c.args.self.samples c.loop-read.samples start.counted c.loop-read.invariant.samples;
+  counted = length-more samples c.loop-read.read c.args.parts.now c.args.self.now.samples c.loop-read.self.samples start.counted c.loop-read.invariant.samples;
   ended = λ symbol e. c.loop-read.invariant.ended line mode samples before start symbol (sym c.take_bits-written.ensures.lost ∙ e);
 }
 
@@ -50,17 +62,20 @@ loop-read-preserved c = record {
       );
 }
 
-pub returns-clause-decodes : goal.returns-clause-decodes
-returns-clause-decodes c = λ line mode samples before start.
-    let count = length c.args.parts.now / 2 in
-    let all : c.loop-read.read ≡ count = omega (arith, c.loop-read-test.false) in
-    let bits = before ++ given c.take_bits-written-2.result c.take_bits-written-2.new.bits in
-    record {
-      reads = subst (λ (n : ℕ). ReadsAs line mode c.take_bits-written-2.new.reader (samples ++ samples_in n c.args.parts.now) bits) all
-          (c.take_bits-written-2.ensures.reads line mode (samples ++ samples_in c.loop-read.read c.args.parts.now) before
-          (c.loop-read.invariant.reads line mode samples before start.reads));
-      counted = length-more samples count c.args.parts.now c.args.self.samples c.loop-read.samples start.counted
-          (subst (λ (n : ℕ). c.loop-read.samples ≡ c.args.self.samples + n) all c.loop-read.invariant.samples);
-      ended = λ symbol e. subst (λ (n : ℕ). length (samples ++ samples_in n c.args.parts.now) ≡ symbol + 1) all
-          (c.loop-read.invariant.ended line mode samples before start symbol (sym c.take_bits-written-2.ensures.lost ∙ e));
-    }
+pub returns-in-Some-stop_of-clause-decodes : goal.returns-in-Some-stop_of-clause-decodes
+returns-in-Some-stop_of-clause-decodes c = λ line mode samples before start.
+    all-read line mode _ samples (before ++ given c.take_bits-written-2.result c.take_bits-written-2.new.bits) c.args.parts.now
+    c.args.self.now.samples c.loop-read.read (length c.args.parts.now / 2) (omega (arith, c.loop-read-test.false)) start.counted
+    c.loop-read.invariant.samples
+    (c.take_bits-written-2.ensures.reads line mode (samples ++ samples_in c.loop-read.read c.args.parts.now) before
+    (c.loop-read.invariant.reads line mode samples before start.reads))
+    (λ symbol e. c.loop-read.invariant.ended line mode samples before start symbol (sym c.take_bits-written-2.ensures.lost ∙ e))
+
+pub returns-in-None-clause-decodes : goal.returns-in-None-clause-decodes
+returns-in-None-clause-decodes c = λ line mode samples before start.
+    all-read line mode _ samples (before ++ given c.take_bits-written-2.result c.take_bits-written-2.new.bits) c.args.parts.now
+    c.args.self.now.samples c.loop-read.read (length c.args.parts.now / 2) (omega (arith, c.loop-read-test.false)) start.counted
+    c.loop-read.invariant.samples
+    (c.take_bits-written-2.ensures.reads line mode (samples ++ samples_in c.loop-read.read c.args.parts.now) before
+    (c.loop-read.invariant.reads line mode samples before start.reads))
+    (λ symbol e. c.loop-read.invariant.ended line mode samples before start symbol (sym c.take_bits-written-2.ensures.lost ∙ e))

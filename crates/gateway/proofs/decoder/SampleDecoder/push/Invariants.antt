@@ -12,10 +12,10 @@ abbrev pub invariant-loop-read : goal.invariant-loop-read
 invariant-loop-read l = record {
   same : length l.bits ≡ length l.fn.bits;
   written : l.written ≤ length l.bits;
-  few : (decoding_of l.reader).count ≤ l.samples;
-  samples : l.samples ≡ l.fn.self.samples + l.read;
+  few : (decoding_of l.self.reader).count ≤ l.self.samples;
+  samples : l.self.samples ≡ l.fn.self.samples + l.read;
   reads : (line : LineKind) (mode : Mode) (samples : List Sample) (before : List Bool) → ReadsAs line mode l.fn.self.reader samples before
-      → ReadsAs line mode l.reader (samples ++ samples_in l.read l.parts) (before ++ given l.written l.bits);
+      → ReadsAs line mode l.self.reader (samples ++ samples_in l.read l.parts) (before ++ given l.written l.bits);
   ended : (line : LineKind) (mode : Mode) (samples : List Sample) (before : List Bool) → HasDecoded line mode l.fn.self samples before
-      → (symbol : ℕ) → (decoding_of l.reader).lost ≡ Some symbol → length (samples ++ samples_in l.read l.parts) ≡ symbol + 1;
+      → (symbol : ℕ) → (decoding_of l.self.reader).lost ≡ Some symbol → length (samples ++ samples_in l.read l.parts) ≡ symbol + 1;
 }
