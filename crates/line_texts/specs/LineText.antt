@@ -54,10 +54,13 @@ is_chance (Passed s) = false
 is_chance (Lost s) = false
 is_chance Chance = true
 
--- a line's text: that of a chance match says nothing more
+-- the line of what arrived, which may be a chance match: then it says nothing more
+abbrev pub line_of : ℕ → Role → Heard → Option Sent → Option ℕ → List ℕ
+line_of turn role heard sent given = if is_chance heard then chance_line turn role else trace_line turn role heard sent given
+
+-- a line's text
 abbrev pub line_text : TraceLine → List ℕ
-line_text line =
-    if is_chance line.arrived then chance_line line.turn line.role else trace_line line.turn line.role line.arrived line.sent line.given
+line_text line = line_of line.turn line.role line.arrived line.sent line.given
 
 -- a slot with a frame whose numbers are octets
 abbrev pub IsPrintableSlot : Sent → Type 0

@@ -3,7 +3,7 @@
 //!
 //! [`put_decimal`] puts a number behind a list of octets, and [`put_frame_text`] the text of a frame whose information is lent;
 //! [`write_frame_text`] writes a frame's text into a [`FrameText`], and [`write_line`] the text of a [`TraceLine`] into a
-//! [`LineText`]. None takes memory.
+//! [`LineText`], or [`write_parts`] by its parts, which are lent. None takes memory.
 #![tactic(auto)]
 
 mod decimal;
@@ -15,5 +15,5 @@ mod words;
 
 pub use decimal::put_decimal;
 pub use text::{put_frame_text, write_frame_text};
-pub use trace_line::{TraceLine, write_line};
+pub use trace_line::{TraceLine, write_line, write_parts};
 pub use words::{FrameText, LineText, TEXT};

@@ -1,6 +1,7 @@
 // The lines of a trace.
 ghost use Rattle.std.specs.Prelude.{◌≡◌, ◌≤◌, ◌+◌, ◌++◌, [], length, codes};
-ghost use Rattle.line_texts.specs.LineText.{break_word, line_begins, line_text, sent_word};
+ghost use Rattle.std.specs.Option.{option_map};
+ghost use Rattle.line_texts.specs.LineText.{break_word, line_begins, line_of, line_text, sent_word};
 ghost use Rattle.line_texts.specs.declared.words.TheConstants.{TEXT};
 
 use crate::slots::{is_chance, put_given, put_heard, put_sent};
@@ -36,26 +37,49 @@ fn put_beginning(turn: u64, role: Role, out: &mut LineText)
 }
 
 /// Puts what was sent and which break was given.
-fn put_reply(line: &TraceLine, out: &mut LineText)
+fn put_reply(sent: Option<&Sent>, given: Option<u8>, out: &mut LineText)
     requires room { length out.old + 75 ≤ TEXT }
-    ensures text { out.new ≡ out.old ++ codes " > " ++ sent_word line.now.sent ++ break_word line.now.given }
+    ensures text { out.new ≡ out.old ++ codes " > " ++ sent_word (option_map (λ slot. slot.now) sent.entry) ++ break_word given }
     ensures short { length out.new ≤ length out.old + 58 }
 {
     out.extend(b" > ");
-    put_sent(line.sent.as_ref(), out);
-    put_given(line.given, out);
+    put_sent(sent, out);
+    put_given(given, out);
 }
 
-/// Writes the text of a line with its line feed. After a chance match the line says nothing more.
+/// Writes the text of a line with its line feed, by the line's parts. After a chance match the line says nothing more.
+pub fn write_parts(
+    turn: u64,
+    role: Role,
+    arrived: &Heard,
+    sent: Option<&Sent>,
+    given: Option<u8>,
+    out: &mut LineText,
+)
+    requires { out.old ≡ [] }
+    ensures text { out.new ≡ line_of turn role arrived.now (option_map (λ slot. slot.now) sent.entry) given }
+    ensures short { length out.new ≤ TEXT }
+{
+    put_beginning(turn, role, out);
+    put_heard(arrived, out);
+    if !is_chance(arrived) {
+        put_reply(sent, given, out);
+    }
+    out.push(b'\n');
+}
+
+/// Writes the text of a line with its line feed, as [`write_parts`] does.
 pub fn write_line(line: &TraceLine, out: &mut LineText)
     requires { out.old ≡ [] }
     ensures text { out.new ≡ line_text line.now }
     ensures short { length out.new ≤ TEXT }
 {
-    put_beginning(line.turn, line.role, out);
-    put_heard(&line.arrived, out);
-    if !is_chance(&line.arrived) {
-        put_reply(line, out);
-    }
-    out.push(b'\n');
+    write_parts(
+        line.turn,
+        line.role,
+        &line.arrived,
+        line.sent.as_ref(),
+        line.given,
+        out,
+    );
 }

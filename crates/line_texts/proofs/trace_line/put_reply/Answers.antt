@@ -1,9 +1,10 @@
 use Rattle.std.proofs.Common.{◌++◌, ◌∙◌, ap}
+use Rattle.std.specs.Option.{option_map}
 use Rattle.line_texts.specs.LineText.{sent_word, break_word}
 use Rattle.line_texts.proofs.trace_line.put_reply.Goals as goal
 
 pub returns-clause-text : goal.returns-clause-text
 returns-clause-text c =
     c.put_given.ensures.text
-    ∙ ap (λ l. l ++ break_word c.args.line.now.given)
-    (c.put_sent.ensures.text ∙ (λ k. c.extend.ensures k ++ sent_word (c.as_ref.ensures.value k)))
+    ∙ ap (λ l. l ++ break_word c.args.given)
+    (c.put_sent.ensures.text ∙ (λ k. c.extend.ensures k ++ sent_word (option_map (λ slot. slot.now) c.args.sent)))
