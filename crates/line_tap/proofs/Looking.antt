@@ -29,7 +29,7 @@ reads-too r x check role ts body slot k = record { holds = k.holds; reads = on; 
         record {
           reads = record {
             symbols = k.symbols;
-            sender = k.sender;
+            framing = k.framing;
             phase = sym k.stands.in_step.phase ∙ k.stands.writer.phase_is
                 ∙ ap (λ n. phase_after (4 * n) (slots_of (4 * r.symbols) all)) (k.stands.in_step.symbols ∙ k.symbols)
                 ∙ ap (λ n. phase_after (4 * (line_of x).symbols) (slots_of (4 * n) all)) k.symbols

@@ -15,7 +15,7 @@ use Rattle.sample_line.specs.Signals.{signal_of, IsCodable}
 use Rattle.sample_line.specs.Line.{bits_behind}
 use Rattle.link_run.specs.Run.{Turn}
 use Rattle.line_run.specs.Sampled.{Wire, signals, bits_of}
-use Rattle.line_tap.specs.declared.seeker.Sender.{Sender}
+use Rattle.sample_line.specs.declared.framing.Framing.{Framing}
 use Rattle.line_tap.specs.declared.reader.SlotReader.{SlotReader}
 use Rattle.line_tap.specs.Reader.{IsNext, ReadsFor, carries}
 use Rattle.line_tap.specs.Tapping.{HoldsNext, next_bits, octets_of}
@@ -69,7 +69,7 @@ same-bits : (r : SlotReader) (c : Wire) (check : Check) (role : Role) (ts : List
 same-bits r c check role ts s h =
     let sigs : List Signal = signals c role ts in
     ap (λ n. signal_bits (4 * n) sigs ++ bits_behind (4 * n) sigs (carries r s)) h.symbols
-    ∙ ap (λ (w : Sender). bits_of c role ts ++ bits_behind (4 * c.symbols) sigs (signal_of w.check w.role w.dlci s)) h.sender
+    ∙ ap (λ (w : Framing). bits_of c role ts ++ bits_behind (4 * c.symbols) sigs (signal_of w.check w.sender w.dlci s)) h.framing
 
 pub held-is-next : (r : SlotReader) (c : Wire) (check : Check) (role : Role) (ts : List Turn) (body : List ℕ) (s : Sent)
     → ReadsFor r c check role ts → HoldsNext c check role ts body s
@@ -79,11 +79,11 @@ held-is-next r c check role ts body s h k =
     let front : List Sample = take (c.symbols * length ts) (samples_in body) in
     let more : List Sample = samples_in (piece_of c (length ts) body) in
     record {
-      codable = subst (λ (w : Sender). IsCodable w.check w.role w.dlci r.symbols r.phase s) (sym h.sender)
+      codable = subst (λ (w : Framing). IsCodable w.check w.sender w.dlci r.symbols r.phase s) (sym h.framing)
           (subst (λ n. IsCodable check role c.dlci n r.phase s) (sym h.symbols)
           (subst (λ p. IsCodable check role c.dlci c.symbols p s) (sym h.phase) k.codable));
-      modulated = subst (λ (w : Sender). Modulates (tap_of (mode_of w.role))
-          (signal_bits (4 * r.symbols) sigs ++ bits_behind (4 * r.symbols) sigs (carries r s)) (front ++ more)) (sym h.sender)
+      modulated = subst (λ (w : Framing). Modulates (tap_of (mode_of w.sender))
+          (signal_bits (4 * r.symbols) sigs ++ bits_behind (4 * r.symbols) sigs (carries r s)) (front ++ more)) (sym h.framing)
           (subst (λ bits. Modulates (tap_of (mode_of role)) bits (front ++ more)) (sym (same-bits r c check role ts s h))
           (subst (Modulates (tap_of (mode_of role)) (bits_of c role ts ++ next_bits c check role ts s))
           (one-slot-more c (length ts) body k.whole) k.modulated));
@@ -101,10 +101,10 @@ next-is-held r c check role ts body s h whole k =
       whole = whole;
       codable = subst (λ p. IsCodable check role c.dlci c.symbols p s) h.phase
           (subst (λ n. IsCodable check role c.dlci n r.phase s) h.symbols
-          (subst (λ (w : Sender). IsCodable w.check w.role w.dlci r.symbols r.phase s) h.sender k.codable));
+          (subst (λ (w : Framing). IsCodable w.check w.sender w.dlci r.symbols r.phase s) h.framing k.codable));
       modulated = subst (Modulates (tap_of (mode_of role)) (bits_of c role ts ++ next_bits c check role ts s))
           (sym (one-slot-more c (length ts) body whole))
           (subst (λ bits. Modulates (tap_of (mode_of role)) bits (front ++ more)) (same-bits r c check role ts s h)
-          (subst (λ (w : Sender). Modulates (tap_of (mode_of w.role))
-          (signal_bits (4 * r.symbols) sigs ++ bits_behind (4 * r.symbols) sigs (carries r s)) (front ++ more)) h.sender k.modulated));
+          (subst (λ (w : Framing). Modulates (tap_of (mode_of w.sender))
+          (signal_bits (4 * r.symbols) sigs ++ bits_behind (4 * r.symbols) sigs (carries r s)) (front ++ more)) h.framing k.modulated));
     }

@@ -12,7 +12,7 @@ use Rattle.sample_line.specs.Signals.{signal_of}
 use Rattle.sample_line.specs.Coder.{IsCodedAs}
 use Rattle.link_run.specs.Run.{Turn}
 use Rattle.line_run.specs.Sampled.{Wire, signals}
-use Rattle.line_tap.specs.declared.seeker.Sender.{Sender}
+use Rattle.sample_line.specs.declared.framing.Framing.{Framing}
 use Rattle.line_tap.specs.declared.reader.SlotReader.{SlotReader}
 use Rattle.line_tap.specs.Reader.{ReadsFor, ReaderStands, ReadsSlot, IsNext, carries}
 use Rattle.line_tap.specs.Tapping.{octets_of, HoldsNext}
@@ -94,18 +94,18 @@ reads-next old new c check role ts body piece slot h size k = record {
   holds = held-of old c check role ts body piece slot.sent h.reads h.count size k.next;
   count = count-next c (length ts) body piece h.count size;
   symbols = k.symbols ∙ h.reads.symbols;
-  sender = k.sender ∙ h.reads.sender;
+  framing = k.framing ∙ h.reads.framing;
   stands = subst (λ x. ReaderStands new (signals c role ts ++ x ∷ []) (samples_in (body ++ piece))) carried
       (subst (λ (l : List Sample). ReaderStands new (signals c role ts ++ carries old slot.sent ∷ []) l)
       (samples-behind c (length ts) body piece h.count size) k.stands);
   coded = subst (λ x. IsCodedAs role (4 * c.symbols) (signals c role ts) x slot.labels) carried
       (subst (λ n. IsCodedAs role (4 * n) (signals c role ts) (carries old slot.sent) slot.labels) h.reads.symbols
       (subst (λ r. IsCodedAs r (4 * old.symbols) (signals c role ts) (carries old slot.sent) slot.labels)
-      (ap (λ (w : Sender). w.role) h.reads.sender) k.coded));
+      (ap (λ (w : Framing). w.sender) h.reads.framing) k.coded));
 }
   where
     carried : carries old slot.sent ≡ signal_of check role c.dlci slot.sent
-    carried = ap (λ (w : Sender). signal_of w.check w.role w.dlci slot.sent) h.reads.sender
+    carried = ap (λ (w : Framing). signal_of w.check w.sender w.dlci slot.sent) h.reads.framing
 
 -- less than a slot's octets hold none
 pub short-held : (r : SlotReader) (c : Wire) (check : Check) (role : Role) (ts : List Turn) (body piece : List ℕ) (count : ℕ)

@@ -62,7 +62,7 @@ pub bits-read : PointsDiffer → (r : SlotReader) (sigs : List Signal) (samples 
     → ReaderStands r sigs samples → ReadsLabels r.demodulator d r.state to more quads labels → IsNext r sigs samples more s
     → line_bits quads ≡ bits_behind (4 * r.symbols) sigs (carries r s)
 bits-read differ r sigs samples more s d to quads labels k h x =
-    let mode : Mode = mode_of r.sender.role in
+    let mode : Mode = mode_of r.framing.sender in
     let bits : List Bool = bits_before r sigs in
     same-bits differ (tap_of mode) bits (bits_next r sigs s) (line_bits quads) samples more k.labels labels k.are h.are
     (demodulated mode d (k.labels ++ labels) (bits ++ line_bits quads) (h.stands mode k.labels bits k.read)) x.modulated
@@ -71,13 +71,13 @@ bits-read differ r sigs samples more s d to quads labels k h x =
 pub guessed : GuessLaws → (r : SlotReader) (sigs : List Signal) (samples more : List Sample) (s guess : Sent) (d : Demodulator)
     (to : ℕ) (quads labels : List ℕ) (found : Option Frame) → r.phase ≡ phase_of r.symbols sigs → ReaderStands r sigs samples
     → ReadsLabels r.demodulator d r.state to more quads labels
-    → FindsSent r.sender.check r.sender.role r.sender.dlci r.symbols r.phase (line_bits quads) found
+    → FindsSent r.framing.check r.framing.sender r.framing.dlci r.symbols r.phase (line_bits quads) found
     → IsGuess (4 * r.symbols) (line_bits quads) found guess → IsNext r sigs samples more s → guess ≡ s
 guessed laws r sigs samples more s guess d to quads labels found phase k h finds g x =
-    guess-right laws r.sender.check r.sender.role r.sender.dlci r.symbols sigs s guess found (line_bits quads) r.low r.channel
-    (subst (λ p. IsCodable r.sender.check r.sender.role r.sender.dlci r.symbols p s) phase x.codable)
+    guess-right laws r.framing.check r.framing.sender r.framing.dlci r.symbols sigs s guess found (line_bits quads) r.low r.channel
+    (subst (λ p. IsCodable r.framing.check r.framing.sender r.framing.dlci r.symbols p s) phase x.codable)
     (bits-read laws.points r sigs samples more s d to quads labels k h x)
-    (subst (λ p. FindsSent r.sender.check r.sender.role r.sender.dlci r.symbols p (line_bits quads) found) phase finds) g
+    (subst (λ p. FindsSent r.framing.check r.framing.sender r.framing.dlci r.symbols p (line_bits quads) found) phase finds) g
 
 -- where a frame was found it ends, and its octets are lent
 pub found-ends : (check : Check) (role : Role) (dlci symbols phase : ℕ) (bits : List Bool) (seeker : Seeker) (found : Option Frame)
@@ -136,7 +136,7 @@ pub labels-next : PointsDiffer → (r : SlotReader) (sigs : List Signal) (sample
 labels-next differ r sigs samples more s k x =
     let m = x.modulated in
     let n : ℕ = length samples in
-    let tap : ℕ = tap_of (mode_of r.sender.role) in
+    let tap : ℕ = tap_of (mode_of r.framing.sender) in
     let bits : List Bool = bits_before r sigs ++ bits_next r sigs s in
     let low = few-labels tap bits (samples ++ more) m in
     let points : map point_of (take n m.labels) ≡ map point_of k.labels =
@@ -201,9 +201,9 @@ labels-more labels more samples others h k = (
 
 -- the labels of the next slot code it
 pub labels-code : (r : SlotReader) (sigs : List Signal) (samples more : List Sample) (s : Sent) (labels : List ℕ) → ReaderStands r sigs samples
-    → AreLabels labels more → IsNext r sigs samples more s → IsCodedAs r.sender.role (4 * r.symbols) sigs (carries r s) labels
+    → AreLabels labels more → IsNext r sigs samples more s → IsCodedAs r.framing.sender (4 * r.symbols) sigs (carries r s) labels
 labels-code r sigs samples more s labels k are next =
-    let mode : Mode = mode_of r.sender.role in
+    let mode : Mode = mode_of r.framing.sender in
     record {
       points = samples;
       earlier = sequence-modulates mode r.demodulator k.labels (bits_before r sigs) samples r.state k.read k.are k.leads;

@@ -8,7 +8,7 @@ use Rattle.sample_line.specs.Coder.{IsCodedAs}
 use Rattle.link_run.specs.Run.{Turn}
 use Rattle.line_run.specs.Sampled.{Wire, signals}
 use Rattle.line_tap.specs.declared.reader.SlotReader.{SlotReader}
-use Rattle.line_tap.specs.Reader.{ReadsFor, ReaderStands, sender_for}
+use Rattle.line_tap.specs.Reader.{ReadsFor, ReaderStands, framing_for}
 use Rattle.line_tap.specs.Tapping.{octets_of, HoldsNext}
 use Rattle.lapm_frames.specs.declared.sent.Sent.{Sent}
 
@@ -31,6 +31,6 @@ pub record ReadsNext (r : SlotReader) (c : Wire) (check : Check) (role : Role) (
   pub holds : HoldsNext c check role ts body slot.sent
   pub count : length body ≡ octets_of c (length ts + 1)
   pub symbols : r.symbols ≡ c.symbols
-  pub sender : r.sender ≡ sender_for check role c.dlci
+  pub framing : r.framing ≡ framing_for check role c.dlci
   pub stands : ReaderStands r (signals c role ts ++ signal_of check role c.dlci slot.sent ∷ []) (samples_in body)
   pub coded : IsCodedAs role (4 * c.symbols) (signals c role ts) (signal_of check role c.dlci slot.sent) slot.labels

@@ -17,19 +17,19 @@ use Rattle.sample_line.specs.Line.{bits_behind}
 use Rattle.sample_line.specs.Coder.{IsCodedAs}
 use Rattle.link_run.specs.Run.{Turn}
 use Rattle.line_run.specs.Sampled.{Wire}
-use Rattle.line_tap.specs.declared.seeker.Sender.{Sender}
+use Rattle.sample_line.specs.declared.framing.Framing.{Framing}
 use Rattle.line_tap.specs.declared.reader.SlotReader.{SlotReader}
 use Rattle.line_tap.specs.Tapping.{phase_behind}
 use Rattle.line_tap.specs.Labels.{AreLabels}
 
 -- how a role's frames are judged
-abbrev pub sender_for : Check → Role → ℕ → Sender
-sender_for check role dlci = record { check = check; role = role; dlci = dlci }
+abbrev pub framing_for : Check → Role → ℕ → Framing
+framing_for check sender dlci = record { check = check; sender = sender; dlci = dlci }
 
 -- The reader reads what this role sends, frames with numbers by this check, and it stands behind these turns.
 pub record ReadsFor (r : SlotReader) (c : Wire) (check : Check) (role : Role) (ts : List Turn) : Type 0 where
   pub symbols : r.symbols ≡ c.symbols
-  pub sender : r.sender ≡ sender_for check role c.dlci
+  pub framing : r.framing ≡ framing_for check role c.dlci
   pub phase : r.phase ≡ phase_behind c role ts
 
 -- Its writer is where the reader is.
@@ -41,25 +41,25 @@ pub record IsInStep (r : SlotReader) : Type 0 where
 pub record ReaderStands (reader : SlotReader) (sigs : List Signal) (samples : List Sample) : Type 0 where
   pub labels : List ℕ
   pub are : AreLabels labels samples
-  pub read : DemodulatorStands (mode_of reader.sender.role) reader.demodulator labels (signal_bits (4 * reader.symbols) sigs)
+  pub read : DemodulatorStands (mode_of reader.framing.sender) reader.demodulator labels (signal_bits (4 * reader.symbols) sigs)
   pub leads : Leads next_state 0 labels reader.state
   pub in_step : IsInStep reader
   pub writer : WriterStands reader.writer (slots_of (4 * reader.symbols) sigs)
 
 -- what a reader's slot of this carries
 abbrev pub carries : SlotReader → Sent → Signal
-carries reader s = signal_of reader.sender.check reader.sender.role reader.sender.dlci s
+carries reader s = signal_of reader.framing.check reader.framing.sender reader.framing.dlci s
 
 -- These samples follow those that were read, and they are those of a slot in which this is sent.
 pub record IsNext (reader : SlotReader) (sigs : List Signal) (samples more : List Sample) (s : Sent) : Type 0 where
-  pub codable : IsCodable reader.sender.check reader.sender.role reader.sender.dlci reader.symbols reader.phase s
-  pub modulated : Modulates (tap_of (mode_of reader.sender.role))
+  pub codable : IsCodable reader.framing.check reader.framing.sender reader.framing.dlci reader.symbols reader.phase s
+  pub modulated : Modulates (tap_of (mode_of reader.framing.sender))
       (signal_bits (4 * reader.symbols) sigs ++ bits_behind (4 * reader.symbols) sigs (carries reader s)) (samples ++ more)
 
 -- The slot was read, as these labels, and the reader stands for it too.
 pub record ReadsSlot (old new : SlotReader) (sigs : List Signal) (samples more : List Sample) (labels : List ℕ) (s : Sent) : Type 0 where
   pub next : IsNext old sigs samples more s
-  pub coded : IsCodedAs old.sender.role (4 * old.symbols) sigs (carries old s) labels
-  pub sender : new.sender ≡ old.sender
+  pub coded : IsCodedAs old.framing.sender (4 * old.symbols) sigs (carries old s) labels
+  pub framing : new.framing ≡ old.framing
   pub symbols : new.symbols ≡ old.symbols
   pub stands : ReaderStands new (sigs ++ carries old s ∷ []) (samples ++ more)

@@ -14,14 +14,14 @@ ghost use Rattle.line_run.specs.Sampled.{Wire, signals};
 ghost use Rattle.line_tap.specs.Reader.{IsInStep};
 ghost use Rattle.line_tap.specs.Tapping.{HoldsNext};
 
+use crate::SlotReader;
 use crate::limits::DLCI;
 use crate::listener::{Listener, agreed_check};
-use crate::{Sender, SlotReader};
 use bit_stuffing::{HEAD, TAIL};
 use frame_check::SLOT;
 use lapm_frames::Sent;
 use outside_calls::NoMemory;
-use sample_line::LabelSlot;
+use sample_line::{Framing, LabelSlot};
 use shared_terms::Role;
 use std::alloc::Global;
 use xid_params::Terms;
@@ -80,14 +80,14 @@ impl TappedEnd {
         ensures reads { IfOk result (λ end. (c : Wire) → c.symbols ≡ symbols → c.dlci ≡ 0 → ReadsOn end.reader c (check_by terms.now) role [] []) }
         ensures room { IfOk result (λ end. length end.piece.items ≡ 4 * symbols) }
     {
-        let sender = Sender {
+        let framing = Framing {
             check: agreed_check(terms),
-            role,
+            sender: role,
             dlci: DLCI,
         };
         Ok(TappedEnd {
             listener: Listener::new(alloc, role, terms)?,
-            reader: SlotReader::new(sender, symbols),
+            reader: SlotReader::new(framing, symbols),
             piece: zeros(alloc, 4 * usize::from(symbols))?,
         })
     }

@@ -21,13 +21,12 @@ use crate::limits::{DLCI, TAP_LIMIT};
 use crate::names::TapWords;
 use crate::pieces::read_pieces;
 use crate::step::Step;
-use crate::texts::{write_chance, write_turn};
 use command_base::{Status, Stop};
 use lapm_frames::{Heard, Sent};
 use lapm_receiver::laws::keeps_taken;
 use line_run::direction::{codable_slots_fit, slots_that_fit_follow_one_another};
 use line_run::laws::{scripts_make_links, slots_are_due_alone, slots_have_room};
-use line_world::{Directions, LineEnd, sent_in, slot_symbols, turn_lines};
+use line_world::{Directions, LineEnd, append_chance, append_turn, slot_symbols};
 use noise_script::Script;
 use outside_calls::{Folder, FolderFault, NoMemory};
 use recordings::HEADER;
@@ -247,22 +246,24 @@ impl Tap {
         &self,
         folder: &mut F,
         names: &TapWords<'_>,
-        hearing: Hearing,
+        hearing: &Hearing,
     ) -> Result<(), FolderFault>
-        ensures ok { OnOk result ((x : Tapping) (ts : List Turn) → self.now.turn ≡ length ts → HearsSo x ts hearing
-            → Appended (F.state folder.old) (F.state folder.new) (named names.now).trace (turn_text (length ts) (silent_in x ts hearing.heard))) }
-        ensures err { OnErr result ((x : Tapping) (ts : List Turn) → self.now.turn ≡ length ts → HearsSo x ts hearing
-            → PartlyAppended (F.state folder.old) (F.state folder.new) (named names.now).trace (turn_text (length ts) (silent_in x ts hearing.heard))) }
+        ensures ok { OnOk result ((x : Tapping) (ts : List Turn) → self.now.turn ≡ length ts → HearsSo x ts hearing.now
+            → Appended (F.state folder.old) (F.state folder.new) (named names.now).trace (turn_text (length ts) (silent_in x ts hearing.now.heard))) }
+        ensures err { OnErr result ((x : Tapping) (ts : List Turn) → self.now.turn ≡ length ts → HearsSo x ts hearing.now
+            → PartlyAppended (F.state folder.old) (F.state folder.new) (named names.now).trace (turn_text (length ts) (silent_in x ts hearing.now.heard))) }
         ensures only { OnlyWrites (F.state folder.old) (F.state folder.new) (named names.now).trace }
         ensures stand { OnOk result (CountsStand (F.state folder.old) (F.state folder.new)) }
         ensures fails { IfErr result (WriteFails (F.state folder.old) (F.state folder.new) (outputs_of (named names.now))) }
     {
-        let silent = Both {
-            orig: None,
-            answ: None,
-        };
-        let lines = turn_lines(self.turn, hearing.heard, &hearing.given, silent);
-        match write_turn(folder, names.trace, &lines) {
+        match append_turn(
+            folder,
+            names.trace,
+            self.turn,
+            &hearing.heard,
+            &hearing.given,
+            None,
+        ) {
             Ok(()) => Ok(()),
             Err(fault) => Err(fault),
         }
@@ -273,18 +274,18 @@ impl Tap {
         &mut self,
         folder: &mut F,
         names: &TapWords<'_>,
-        hearing: Hearing,
+        hearing: &Hearing,
         sent: Both<Sent>,
         labels: Both<LabelSlot>,
     ) -> Result<(), FolderFault>
         requires early { self.old.turn < 2 ^ 40 }
         requires within { self.old.at ≤ TAP_LIMIT }
-        requires stands { (x : Tapping) × (ts : List Turn) × IsToGo self.old x ts hearing (slots_as sent labels) }
-        ensures ok { OnOk result ((x : Tapping) (ts : List Turn) → IsToGo self.old x ts hearing (slots_as sent labels)
-            → TapAfter self.new x (going_in x ts hearing.heard (slots_as sent labels) ∷ ts)
-            × Appended (F.state folder.old) (F.state folder.new) (named names.now).trace (turn_text (length ts) (going_in x ts hearing.heard (slots_as sent labels)))) }
-        ensures err { OnErr result ((x : Tapping) (ts : List Turn) → IsToGo self.old x ts hearing (slots_as sent labels)
-            → PartlyAppended (F.state folder.old) (F.state folder.new) (named names.now).trace (turn_text (length ts) (going_in x ts hearing.heard (slots_as sent labels)))) }
+        requires stands { (x : Tapping) × (ts : List Turn) × IsToGo self.old x ts hearing.now (slots_as sent labels) }
+        ensures ok { OnOk result ((x : Tapping) (ts : List Turn) → IsToGo self.old x ts hearing.now (slots_as sent labels)
+            → TapAfter self.new x (going_in x ts hearing.now.heard (slots_as sent labels) ∷ ts)
+            × Appended (F.state folder.old) (F.state folder.new) (named names.now).trace (turn_text (length ts) (going_in x ts hearing.now.heard (slots_as sent labels)))) }
+        ensures err { OnErr result ((x : Tapping) (ts : List Turn) → IsToGo self.old x ts hearing.now (slots_as sent labels)
+            → PartlyAppended (F.state folder.old) (F.state folder.new) (named names.now).trace (turn_text (length ts) (going_in x ts hearing.now.heard (slots_as sent labels)))) }
         ensures orig { self.new.orig.listener ≡ self.old.orig.listener }
         ensures answ { self.new.answ.listener ≡ self.old.answ.listener }
         ensures turn { OnOk result (self.new.turn ≡ self.old.turn + 1) }
@@ -295,16 +296,17 @@ impl Tap {
         ensures fails { IfErr result (WriteFails (F.state folder.old) (F.state folder.new) (outputs_of (named names.now))) }
     {
         codable_slots_fit();
-        let sent = Both {
-            orig: Some(sent.orig),
-            answ: Some(sent.answ),
-        };
-        let lines = turn_lines(self.turn, hearing.heard, &hearing.given, sent);
-        match write_turn(folder, names.trace, &lines) {
+        match append_turn(
+            folder,
+            names.trace,
+            self.turn,
+            &hearing.heard,
+            &hearing.given,
+            Some(&sent),
+        ) {
             Ok(()) => {}
             Err(fault) => return Err(fault),
         }
-        let sent = sent_in(lines);
         self.lines.from_orig.put(sent.orig, labels.orig);
         self.lines.from_answ.put(sent.answ, labels.answ);
         self.turn += 1;
@@ -321,7 +323,7 @@ impl Tap {
         ensures only { OnlyPuts (F.state folder.old) (F.state folder.new) (outputs_of (named names.now)) }
         ensures counts { StopCounts (F.state folder.old) (F.state folder.new) (recordings_of (named names.now)) (outputs_of (named names.now)) result }
     {
-        match write_chance(folder, names.trace, self.turn, role) {
+        match append_chance(folder, names.trace, self.turn, role) {
             Ok(()) => Stop::Own(Status::ChanceMatch {
                 role,
                 turn: self.turn,
@@ -369,7 +371,7 @@ impl Tap {
             Err(fault) => return Err(Stop::Read(fault)),
         };
         if are_none(&counts) {
-            return match self.finish(folder, names, hearing) {
+            return match self.finish(folder, names, &hearing) {
                 Ok(()) => Ok(Step::Done {
                     turns: self.turn + 1,
                 }),
@@ -385,7 +387,7 @@ impl Tap {
                 }));
             }
         };
-        match self.go_on(folder, names, hearing, sent, labels) {
+        match self.go_on(folder, names, &hearing, sent, labels) {
             Ok(()) => Ok(Step::Going),
             Err(fault) => Err(Stop::Write(fault)),
         }

@@ -1,6 +1,6 @@
 -- Both ends speak, and a turn is made.
 use Rattle.std.proofs.Common.{◌≡◌, ◌≢◌, ℕ, ◌+◌, true, false, List, ◌∷◌, ◌++◌, length, arith}
-use Rattle.std.proofs.Common.{refl, sym, ◌∙◌, ap, subst, Option, Some, None, unwrap_or, Ok}
+use Rattle.std.proofs.Common.{refl, sym, ◌∙◌, subst, Option, Some, None, Ok}
 use Rattle.std.specs.Option.{option_map}
 use Rattle.outside_calls.specs.Folder.{FolderState, Appended, PartlyAppended, CountsStand}
 use Rattle.frame_check.specs.declared.check.Check.{Check}
@@ -12,8 +12,7 @@ use Rattle.lapm_frames.specs.declared.sent.Sent.{Sent}
 use Rattle.lapm_frames.specs.declared.heard.Heard.{Heard}
 use Rattle.lapm_frames.specs.declared.heard.Heard.TheVariants.{Nothing, Passed, Lost, Chance}
 use Rattle.lapm_frames.specs.Sendable.{IsSendable}
-use Rattle.line_texts.specs.LineText.{line_text, trace_line}
-use Rattle.line_texts.specs.declared.trace_line.TraceLine.{TraceLine}
+use Rattle.line_texts.specs.LineText.{line_of, trace_line}
 use Rattle.sample_line.specs.Signals.{IsCodable}
 use Rattle.shared_terms.specs.declared.fault.LinkFault.{LinkFault}
 use Rattle.shared_terms.specs.declared.fault.LinkFault.TheVariants as faults
@@ -39,6 +38,7 @@ use Rattle.line_world.specs.declared.tally.Tally.{Tally}
 use Rattle.line_world.specs.declared.step.RunFault.{RunFault}
 use Rattle.line_world.specs.declared.step.RunFault.TheVariants as run_faults
 use Rattle.line_world.specs.Tally.{Tallies}
+use Rattle.line_world.specs.Texts.{lines_of}
 use Rattle.line_world.specs.Turn.{IsWriting, FaultCounts}
 use Rattle.line_world.specs.Mid.{HearsThese, Overhears, TalliesHeard, HasGone, AddsPart, SpeaksLast, served, side_of, turn_in}
 use Rattle.line_world.proofs.Hearing.{heard-in, none-sent, runs-over}
@@ -127,41 +127,30 @@ hears-these heard ends mid sent Answerer = refl
 
 -- ---- its text
 
-line-of : (turn : ℕ) (role : Role) (heard : Heard) (sent : Option Sent) (given : Option ℕ) → heard ≢ Chance
-    → line_text (record { turn = turn; role = role; arrived = heard; sent = sent; given = given }) ≡ trace_line turn role heard sent given
-line-of turn role Nothing sent given well = refl
-line-of turn role (Passed s) sent given well = refl
-line-of turn role (Lost s) sent given well = refl
-line-of turn role Chance sent given well = absurd (well refl)
-
-side-text : (line : TraceLine) (number t : ℕ) (role : Role) (heard : Heard) (sent : Option Sent) (given : Option ℕ) (s : Side)
-    → line ≡ record { turn = number; role = role; arrived = heard; sent = sent; given = given } → heard ≢ Chance → number ≡ t
+line-of : (turn t : ℕ) (role : Role) (heard : Heard) (sent : Option Sent) (given : Option ℕ) (s : Side) → heard ≢ Chance → turn ≡ t
     → heard ≡ s.heard
-    → sent ≡ option_map (λ (slot : Spoken). slot.sent) s.sent → given ≡ s.given → line_text line ≡ side_line t role s
-side-text line number t role heard sent given s e well n h x g =
-    ap line_text e ∙ line-of number role heard sent given well ∙ (λ k. trace_line (n k) role (h k) (x k) (g k))
+    → sent ≡ option_map (λ (slot : Spoken). slot.sent) s.sent → given ≡ s.given → line_of turn role heard sent given ≡ side_line t role s
+line-of turn t role heard sent given s well n h x g =
+    plain heard well ∙ (λ k. trace_line (n k) role (h k) (x k) (g k))
+  where
+    plain : (heard : Heard) → heard ≢ Chance → line_of turn role heard sent given ≡ trace_line turn role heard sent given
+    plain Nothing well = refl
+    plain (Passed s) well = refl
+    plain (Lost s) well = refl
+    plain Chance well = absurd (well refl)
 
-pub text-is : (lines : Both TraceLine) (number : ℕ) (ts : List Turn) (ends mid : Accounts) (heard : Both Heard) (given : Both (Option ℕ))
-    (sent : Both (Option Sent)) (sents : Both (Option Spoken))
-    → lines ≡ record {
-      orig = record { turn = number; role = Originator; arrived = heard.orig; sent = sent.orig; given = given.orig };
-      answ = record { turn = number; role = Answerer; arrived = heard.answ; sent = sent.answ; given = given.answ };
-    }
+pub text-is : (number : ℕ) (ts : List Turn) (ends mid : Accounts) (heard : Both Heard) (given : Both (Option ℕ))
+    (sent : Option (Both Sent)) (sents : Both (Option Spoken))
     → heard.orig ≢ Chance → heard.answ ≢ Chance → number ≡ length ts → given.orig ≡ given_break mid.orig → given.answ ≡ given_break mid.answ
-    → sent.orig ≡ option_map (λ (slot : Spoken). slot.sent) sents.orig → sent.answ ≡ option_map (λ (slot : Spoken). slot.sent) sents.answ
-    → line_text lines.orig ++ line_text lines.answ ≡ turn_text (length ts) (turn_in heard ends mid sents)
-text-is lines number ts ends mid heard given sent sents e wo wa n go ga so sa =
-    let o : line_text lines.orig ≡ side_line (length ts) Originator (side_of heard.orig ends.orig mid.orig sents.orig) =
-    side-text lines.orig number (length ts) Originator heard.orig sent.orig given.orig (side_of heard.orig ends.orig mid.orig sents.orig)
-    (ap (λ (l : Both TraceLine). l.orig) e) wo n refl so go in
-    let a : line_text lines.answ ≡ side_line (length ts) Answerer (side_of heard.answ ends.answ mid.answ sents.answ) =
-    side-text lines.answ number (length ts) Answerer heard.answ sent.answ given.answ (side_of heard.answ ends.answ mid.answ sents.answ)
-    (ap (λ (l : Both TraceLine). l.answ) e) wa n refl sa ga in
+    → option_map (of Originator) sent ≡ option_map (λ (slot : Spoken). slot.sent) sents.orig
+    → option_map (of Answerer) sent ≡ option_map (λ (slot : Spoken). slot.sent) sents.answ
+    → lines_of number heard given sent ≡ turn_text (length ts) (turn_in heard ends mid sents)
+text-is number ts ends mid heard given sent sents wo wa n go ga so sa =
+    let o = line-of number (length ts) Originator heard.orig (option_map (of Originator) sent) given.orig
+    (side_of heard.orig ends.orig mid.orig sents.orig) wo n refl so go in
+    let a = line-of number (length ts) Answerer heard.answ (option_map (of Answerer) sent) given.answ
+    (side_of heard.answ ends.answ mid.answ sents.answ) wa n refl sa ga in
     λ k. o k ++ a k
-
--- what was taken back of the lines is what was put there
-pub taken-back : {A : Type 0} (x y : A) (a b : Option A) → a ≡ Some x → b ≡ Some y → a ≡ b → x ≡ y
-taken-back x y a b e f g = ap (λ o. unwrap_or o x) (sym e ∙ g ∙ f)
 
 -- ---- what is sent can be coded
 
@@ -212,11 +201,6 @@ pub record CountsSent (old new : Tally) (from_orig from_answ : Sent) : Type 0 wh
   pub again : new.again ≡ old.again + again_in (sequence_in from_orig) old.orig + again_in (sequence_in from_answ) old.answ
   pub orig : new.orig ≡ next_count (sequence_in from_orig) old.orig
   pub answ : new.answ ≡ next_count (sequence_in from_answ) old.answ
-
-pub counts-what : (old new : Tally) (sent said : Both Sent) → sent.orig ≡ said.orig → sent.answ ≡ said.answ
-    → CountsSent old new sent.orig sent.answ → CountsSent old new said.orig said.answ
-counts-what old new sent said o a h =
-    subst (λ (x : Sent). CountsSent old new x said.answ) o (subst (λ (y : Sent). CountsSent old new sent.orig y) a h)
 
 pub tallies-on : GoingLaws → (c : Wire) (files : Both (List ℕ)) (ts : List Turn) (ends : Accounts) (heard : Both Heard) (mid : Accounts)
     (from_orig from_answ : Sent) (k : Link)

@@ -3,6 +3,7 @@ pub mod Faults
 pub mod Tally
 pub mod Modems
 pub mod World
+pub mod Texts
 pub mod Turn
 pub mod Mid
 pub mod Turns

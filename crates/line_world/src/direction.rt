@@ -107,8 +107,9 @@ impl DelayedLine {
             None => Ok(Heard::Nothing),
             Some(slot) => {
                 let loses = script.loses(self.sender, turn - u64::from(self.delay));
+                let sent = slot.sent;
                 self.line
-                    .pass(script, &slot.labels, &slot.sent, loses, check, dlci)
+                    .hear(script, &slot.labels, sent, loses, check, dlci)
             }
         }
     }
@@ -124,6 +125,7 @@ impl DelayedLine {
         ensures lag { self.new.lag ≡ self.old.lag }
         ensures line { self.new.line ≡ self.old.line }
     {
+        // It is taken: fewer slots are on their way than the ring was made for.
         let _ = self.slots.push_back(Slot { labels, sent });
     }
 

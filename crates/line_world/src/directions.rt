@@ -13,6 +13,7 @@ ghost use Rattle.line_run.specs.Stream.{Carried};
 ghost use Rattle.line_world.specs.Lines.{AreWaiting, HaveRoom, AreDue, ArrivesSo, PassedFew, from, none_sent};
 
 use crate::DelayedLine;
+use bit_stuffing::{HEAD, TAIL};
 use frame_check::Check;
 use line_run::laws::{scripts_make_links, slots_have_room};
 use noise_script::Script;
@@ -61,7 +62,8 @@ fn longest(script: &Script) -> u16
     )
 }
 
-/// The symbols of a slot: room for the longest frame that the ends may send, and 128 symbols behind it.
+/// The symbols of a slot: room for flags, the longest frame that the ends may send with a zero behind each five ones, a closing flag, and
+/// [`TAIL`] symbols behind that.
 pub fn slot_symbols(script: &Script) -> u16
     ensures value { result ≡ (wire_of script.now).symbols }
     ensures low { HEAD + TAIL < result }
@@ -70,7 +72,7 @@ pub fn slot_symbols(script: &Script) -> u16
     slots_have_room();
     script.is_in_limits();
     let octets = longest(script) + 7;
-    10 + (8 * octets + 8 * octets / 5 + 8 + 3) / 4 + 128
+    HEAD + (8 * octets + 8 * octets / 5 + 8 + 3) / 4 + TAIL
 }
 
 impl Directions {

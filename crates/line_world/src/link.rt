@@ -54,6 +54,9 @@ pub struct Breaking {
     pub fault: LinkFault,
 }
 
+/// How many turns a timer's period has beside twice the way there and back, for an answer that waits at its sender behind others.
+const WAIT: u32 = 16;
+
 /// How an end of that role is set up, whose timer has so many turns.
 fn setup(script: &Script, role: Role) -> Setup
     ensures value { result ≡ setup_of script.now role }
@@ -65,7 +68,7 @@ fn setup(script: &Script, role: Role) -> Setup
         role,
         offer: script.offer(role),
         tries: script.tries(),
-        period: 2 * delays + 16,
+        period: 2 * delays + WAIT,
     }
 }
 

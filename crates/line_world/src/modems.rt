@@ -24,7 +24,7 @@ use crate::fault::folder_fault;
 use crate::step::{RunFault, Step};
 use crate::tally::Tally;
 use crate::turn_text::{link_fault, write_chance, write_turn};
-use crate::{LineEnd, Lines, Link, Names, arrived, sent_in, turn_lines};
+use crate::{LineEnd, Lines, Link, Names, arrived};
 use frame_check::Check;
 use line_run::laws::{
     line_runs_end_soon, samples_are_carried, scripts_make_links, slots_have_room,
@@ -191,7 +191,7 @@ impl Modems {
         script: &Script,
         folder: &mut F,
         names: &Names<'_>,
-        heard: Both<Heard>,
+        heard: &Both<Heard>,
         given: &Both<Option<u8>>,
     ) -> Result<(), RunFault>
         requires early { self.old.turn < 2 ^ 40 }
@@ -199,11 +199,11 @@ impl Modems {
         requires limits { IsInLimits script.now }
         requires few { IsFew self.old.tally (self.old.turn + 1) self.old.turn }
         requires stands { (c : Wire) × (links : ℕ) × (streams : Both (List Carried)) × (files : Both (List ℕ)) × (ts : List Turn) × (ends : Accounts) × (mid : Accounts)
-            × IsWireOf c script.now self.old.dlci × IsToSpeak self.old c files ts ends heard mid × HaveArrived lines.old c links streams }
+            × IsWireOf c script.now self.old.dlci × IsToSpeak self.old c files ts ends heard.now mid × HaveArrived lines.old c links streams }
         ensures speaks { (c : Wire) (links : ℕ) (streams : Both (List Carried)) (files : Both (List ℕ)) (ts : List Turn) (ends mid : Accounts)
-            → IsWireOf c script.now self.old.dlci → IsToSpeak self.old c files ts ends heard mid → HaveArrived lines.old c links streams
+            → IsWireOf c script.now self.old.dlci → IsToSpeak self.old c files ts ends heard.now mid → HaveArrived lines.old c links streams
             → given.now.orig ≡ given_break mid.orig → given.now.answ ≡ given_break mid.answ
-            → SpeaksTurn self.new lines.new c links streams (F.state folder.old) (F.state folder.new) (written names.now) files ts ends heard mid result }
+            → SpeaksTurn self.new lines.new c links streams (F.state folder.old) (F.state folder.new) (written names.now) files ts ends heard.now mid result }
         ensures idle { OnOk result (AreIdle self.old.link → AreIdle self.new.link) }
         ensures counted { OnOk result ((heard asked : ℕ) → AreCounted self.old.link heard asked → AreCounted self.new.link heard asked) }
         ensures few { OnOk result (IsFew self.new.tally (self.old.turn + 1) (self.old.turn + 1)) }
@@ -224,33 +224,20 @@ impl Modems {
         match self.link.speak(script, self.turn) {
             Ok(sent) => {
                 let checks = self.link.checks();
-                let sent = Both {
-                    orig: Some(sent.orig),
-                    answ: Some(sent.answ),
-                };
-                let texts = turn_lines(self.turn, heard, given, sent);
-                match write_turn(folder, names, &texts) {
+                match write_turn(folder, names, self.turn, heard, given, Some(&sent)) {
                     Ok(()) => {}
                     Err(fault) => return Err(fault),
                 }
-                let sent = sent_in(texts);
                 self.tally.send(&sent);
                 lines.send(sent, &checks, self.dlci);
                 self.turn += 1;
                 self.spoke = true;
                 Ok(())
             }
-            Err(breaking) => {
-                let silent = Both {
-                    orig: None,
-                    answ: None,
-                };
-                let texts = turn_lines(self.turn, heard, given, silent);
-                match write_turn(folder, names, &texts) {
-                    Ok(()) => Err(link_fault(self.turn, breaking)),
-                    Err(fault) => Err(fault),
-                }
-            }
+            Err(breaking) => match write_turn(folder, names, self.turn, heard, given, None) {
+                Ok(()) => Err(link_fault(self.turn, breaking)),
+                Err(fault) => Err(fault),
+            },
         }
     }
 
@@ -259,26 +246,21 @@ impl Modems {
         &self,
         folder: &mut F,
         names: &Names<'_>,
-        heard: Both<Heard>,
+        heard: &Both<Heard>,
         given: &Both<Option<u8>>,
     ) -> Result<(), RunFault>
-        ensures adds { OnOk result ((c : Wire) (files : Both (List ℕ)) (ts : List Turn) (ends mid : Accounts) → InTurn self.now c files ts ends heard mid (handed mid) → is_closed mid.orig.phase ≡ true
+        ensures adds { OnOk result ((c : Wire) (files : Both (List ℕ)) (ts : List Turn) (ends mid : Accounts) → InTurn self.now c files ts ends heard.now mid (handed mid) → is_closed mid.orig.phase ≡ true
             → given.now.orig ≡ given_break mid.orig → given.now.answ ≡ given_break mid.answ
-            → AddsLines c (F.state folder.old) (F.state folder.new) (written names.now) files ts ends heard mid Done) }
-        ensures part { OnErr result ((c : Wire) (files : Both (List ℕ)) (ts : List Turn) (ends mid : Accounts) → InTurn self.now c files ts ends heard mid (handed mid) → is_closed mid.orig.phase ≡ true
+            → AddsLines c (F.state folder.old) (F.state folder.new) (written names.now) files ts ends heard.now mid Done) }
+        ensures part { OnErr result ((c : Wire) (files : Both (List ℕ)) (ts : List Turn) (ends mid : Accounts) → InTurn self.now c files ts ends heard.now mid (handed mid) → is_closed mid.orig.phase ≡ true
             → given.now.orig ≡ given_break mid.orig → given.now.answ ≡ given_break mid.answ
-            → AddsPart c (F.state folder.old) (F.state folder.new) (written names.now) files ts ends heard mid) }
+            → AddsPart c (F.state folder.old) (F.state folder.new) (written names.now) files ts ends heard.now mid) }
         ensures only { OnlyWrites (F.state folder.old) (F.state folder.new) (written names.now).trace }
         ensures came { F.came folder.old folder.new }
         ensures counts { TurnCounts (F.state folder.old) (F.state folder.new) (written names.now) result }
         ensures write { IfErr result IsWriting }
     {
-        let silent = Both {
-            orig: None,
-            answ: None,
-        };
-        let texts = turn_lines(self.turn, heard, given, silent);
-        match write_turn(folder, names, &texts) {
+        match write_turn(folder, names, self.turn, heard, given, None) {
             Ok(()) => Ok(()),
             Err(fault) => Err(fault),
         }
@@ -348,7 +330,7 @@ impl Modems {
             Err(fault) => return Err(fault),
         };
         if self.link.is_closed() {
-            return match self.finish(folder, names, heard, &given) {
+            return match self.finish(folder, names, &heard, &given) {
                 Ok(()) => Ok(Step::Done { turn: self.turn }),
                 Err(fault) => Err(fault),
             };
@@ -357,7 +339,7 @@ impl Modems {
             Ok(()) => {}
             Err(fault) => return Err(fault),
         }
-        match self.speak(lines, script, folder, names, heard, &given) {
+        match self.speak(lines, script, folder, names, &heard, &given) {
             Ok(()) => Ok(Step::Going),
             Err(fault) => Err(fault),
         }

@@ -1,34 +1,39 @@
 // The lines of a turn.
-ghost use Rattle.std.specs.Prelude.{◌≡◌, ◌++◌, OnOk, OnErr, IfErr};
+ghost use Rattle.std.specs.Prelude.{◌≡◌, OnOk, OnErr, IfErr};
+ghost use Rattle.std.specs.Option.{option_map};
 ghost use Rattle.outside_calls.specs.Folder.{Appended, OnlyWrites, PartlyAppended};
-ghost use Rattle.line_texts.specs.LineText.{chance_line, line_text};
+ghost use Rattle.line_texts.specs.LineText.{chance_line};
 ghost use Rattle.line_run.specs.Names.{written};
+ghost use Rattle.line_world.specs.Texts.{lines_of};
 ghost use Rattle.line_world.specs.Turn.{IsWriting, TurnCounts};
 ghost use Rattle.line_world.specs.Faults.{fault_named};
 ghost use Rattle.link_run.specs.Laws.{IsNamed};
 
 use crate::fault::folder_fault;
 use crate::step::RunFault;
-use crate::{Breaking, Names, append_chance, append_lines};
+use crate::{Breaking, Names, append_chance, append_turn};
+use lapm_frames::{Heard, Sent};
 use lapm_link::LinkFault;
-use line_texts::TraceLine;
 use outside_calls::Folder;
 use shared_terms::{Both, Role};
 
-/// Appends both lines of a turn to the trace.
+/// Appends both lines of a turn, in which both ends send or neither does, to the trace.
 pub(crate) fn write_turn<F: Folder>(
     folder: &mut F,
     names: &Names<'_>,
-    lines: &Both<TraceLine>,
+    turn: u64,
+    heard: &Both<Heard>,
+    given: &Both<Option<u8>>,
+    sent: Option<&Both<Sent>>,
 ) -> Result<(), RunFault>
-    ensures ok { OnOk result (Appended (F.state folder.old) (F.state folder.new) (written names.now).trace (line_text lines.now.orig ++ line_text lines.now.answ)) }
-    ensures err { OnErr result (PartlyAppended (F.state folder.old) (F.state folder.new) (written names.now).trace (line_text lines.now.orig ++ line_text lines.now.answ)) }
+    ensures ok { OnOk result (Appended (F.state folder.old) (F.state folder.new) (written names.now).trace (lines_of turn heard.now given.now (option_map (λ both. both.now) sent.entry))) }
+    ensures err { OnErr result (PartlyAppended (F.state folder.old) (F.state folder.new) (written names.now).trace (lines_of turn heard.now given.now (option_map (λ both. both.now) sent.entry))) }
     ensures only { OnlyWrites (F.state folder.old) (F.state folder.new) (written names.now).trace }
     ensures counts { TurnCounts (F.state folder.old) (F.state folder.new) (written names.now) result }
     ensures write { IfErr result IsWriting }
     ensures came { F.came folder.old folder.new }
 {
-    match append_lines(folder, names.trace, &lines.orig, &lines.answ) {
+    match append_turn(folder, names.trace, turn, heard, given, sent) {
         Ok(()) => Ok(()),
         Err(fault) => Err(folder_fault(RunFault::WriteFault, RunFault::NoMemory, fault)),
     }

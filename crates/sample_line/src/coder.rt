@@ -13,7 +13,7 @@ ghost use Rattle.sample_line.specs.Line.{bits_behind};
 ghost use Rattle.sample_line.specs.Coder.{CoderStands, IsCodedAs, bits_in};
 
 use crate::coding::write_sent;
-use crate::{LabelSlot, mode_of};
+use crate::{Framing, LabelSlot, mode_of};
 use bit_stuffing::{BitSlot, SlotWriter};
 use frame_check::Check;
 use lapm_frames::Sent;
@@ -112,9 +112,11 @@ impl Coder {
             &mut self.writer,
             self.symbols,
             sent,
-            check,
-            self.sender,
-            dlci,
+            Framing {
+                check,
+                sender: self.sender,
+                dlci,
+            },
             bits,
         );
         labels.clear();

@@ -9,11 +9,10 @@ ghost use Rattle.detection.specs.Slots.{slot_of};
 ghost use Rattle.detection.specs.Slots.Signal.{MarkSlot, PatternSlot};
 ghost use Rattle.sample_line.specs.Signals.{signal_of, IsCodable};
 
+use crate::Framing;
 use bit_stuffing::{BitSlot, SlotWriter};
 use detection::{mark_slot, pattern_slot};
-use frame_check::Check;
 use lapm_frames::{Seen, Sent, write_checked};
-use shared_terms::Role;
 
 /// Writes a slot of ones.
 fn write_mark(writer: &mut SlotWriter, symbols: u16, out: &mut BitSlot)
@@ -45,26 +44,24 @@ fn write_patterns(writer: &mut SlotWriter, symbols: u16, seen: Seen, out: &mut B
     writer.restart();
 }
 
-/// Writes the slot of what is sent. A frame has the check that its kind has where the ends use `check`.
+/// Writes the slot of what is sent. A frame has the check that its kind has where the ends use the framing's.
 pub fn write_sent(
     writer: &mut SlotWriter,
     symbols: u16,
     sent: &Sent,
-    check: Check,
-    sender: Role,
-    dlci: u8,
+    framing: Framing,
     out: &mut BitSlot,
 )
     requires symbols { symbols ≡ writer.old.symbols }
     requires low { HEAD + TAIL < symbols }
     requires high { symbols ≤ SLOT }
-    requires channel { dlci < 64 }
+    requires channel { framing.dlci < 64 }
     requires empty { out.old ≡ [] }
-    requires codable { IsCodable check sender dlci writer.old.symbols writer.old.phase sent.now }
-    ensures bits { line_bits out.new ≡ slot_bits (4 * writer.old.symbols) writer.old.phase (slot_of (4 * writer.old.symbols) (signal_of check sender dlci sent.now)) }
+    requires codable { IsCodable framing.check framing.sender framing.dlci writer.old.symbols writer.old.phase sent.now }
+    ensures bits { line_bits out.new ≡ slot_bits (4 * writer.old.symbols) writer.old.phase (slot_of (4 * writer.old.symbols) (signal_of framing.check framing.sender framing.dlci sent.now)) }
     ensures symbols { writer.new.symbols ≡ writer.old.symbols }
     ensures stands { (slots : List Slot) → WriterStands writer.old slots
-        → WriterStands writer.new (slots ++ slot_of (4 * writer.old.symbols) (signal_of check sender dlci sent.now) ∷ []) }
+        → WriterStands writer.new (slots ++ slot_of (4 * writer.old.symbols) (signal_of framing.check framing.sender framing.dlci sent.now) ∷ []) }
 {
     match sent {
         Sent::Mark => write_mark(writer, symbols, out),
@@ -72,7 +69,7 @@ pub fn write_sent(
         Sent::Adp => write_patterns(writer, symbols, Seen::Adp, out),
         Sent::Flags => writer.slot(None, out),
         Sent::Frame(frame) => {
-            let octets = write_checked(frame, check, sender, dlci);
+            let octets = write_checked(frame, framing.check, framing.sender, framing.dlci);
             writer.slot(Some(octets.as_slice()), out);
         }
     }

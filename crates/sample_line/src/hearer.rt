@@ -43,10 +43,10 @@ impl Hearer {
 
     /// The tally once the oldest label that the decoder released was read, if there is one.
     fn read_label(&mut self, slot: Slot<'_>, tally: Tally) -> Tally
-        requires { slot.dlci < 64 }
+        requires { slot.framing.dlci < 64 }
         ensures stands { (mode : Mode) (samples : List Sample) (earlier : List Bool)
-            → HearsBetween mode self.old samples slot.entry.check slot.entry.sender slot.entry.dlci slot.entry.sent.now earlier tally
-            → HearsBetween mode self.new samples slot.entry.check slot.entry.sender slot.entry.dlci slot.entry.sent.now earlier result }
+            → HearsBetween mode self.old samples slot.entry.framing.check slot.entry.framing.sender slot.entry.framing.dlci slot.entry.sent.now earlier tally
+            → HearsBetween mode self.new samples slot.entry.framing.check slot.entry.framing.sender slot.entry.framing.dlci slot.entry.sent.now earlier result }
         ensures pending { self.new.reader.decoder.pending ≡ drop 1 self.old.reader.decoder.pending }
         ensures count { self.new.reader.decoder.count ≡ self.old.reader.decoder.count }
         ensures lost { self.new.reader.decoder.lost ≡ self.old.reader.decoder.lost }
@@ -59,10 +59,10 @@ impl Hearer {
 
     /// The tally once all labels that the decoder released were read.
     fn read_labels(&mut self, slot: Slot<'_>, tally: Tally) -> Tally
-        requires { slot.dlci < 64 }
+        requires { slot.framing.dlci < 64 }
         ensures stands { (mode : Mode) (samples : List Sample) (earlier : List Bool)
-            → HearsBetween mode self.old samples slot.entry.check slot.entry.sender slot.entry.dlci slot.entry.sent.now earlier tally
-            → HearsBetween mode self.new samples slot.entry.check slot.entry.sender slot.entry.dlci slot.entry.sent.now earlier result }
+            → HearsBetween mode self.old samples slot.entry.framing.check slot.entry.framing.sender slot.entry.framing.dlci slot.entry.sent.now earlier tally
+            → HearsBetween mode self.new samples slot.entry.framing.check slot.entry.framing.sender slot.entry.framing.dlci slot.entry.sent.now earlier result }
         ensures pending { self.new.reader.decoder.pending ≡ [] }
         ensures count { self.new.reader.decoder.count ≡ self.old.reader.decoder.count }
         ensures lost { self.new.reader.decoder.lost ≡ self.old.reader.decoder.lost }
@@ -76,12 +76,12 @@ impl Hearer {
 
     /// The tally once one sample more was heard, and each label that it releases was read.
     pub fn hear(&mut self, sample: Sample, slot: Slot<'_>, tally: Tally) -> Result<Tally, Lost>
-        requires channel { slot.dlci < 64 }
+        requires channel { slot.framing.dlci < 64 }
         requires pending { self.old.reader.decoder.pending ≡ [] }
         requires count { self.old.reader.decoder.count < 2 ^ 56 }
         ensures stands { (mode : Mode) (samples : List Sample) (earlier : List Bool)
-            → HearsBetween mode self.old samples slot.entry.check slot.entry.sender slot.entry.dlci slot.entry.sent.now earlier tally
-            → HearsSample mode self.new (samples ++ sample ∷ []) slot.entry.check slot.entry.sender slot.entry.dlci slot.entry.sent.now earlier result }
+            → HearsBetween mode self.old samples slot.entry.framing.check slot.entry.framing.sender slot.entry.framing.dlci slot.entry.sent.now earlier tally
+            → HearsSample mode self.new (samples ++ sample ∷ []) slot.entry.framing.check slot.entry.framing.sender slot.entry.framing.dlci slot.entry.sent.now earlier result }
         ensures pending { OnOk result (self.new.reader.decoder.pending ≡ []) }
         ensures lost { OnOk result (self.new.reader.decoder.lost ≡ None) }
         ensures taken { self.new.reader.decoder.lost ≡ None → self.new.reader.decoder.pending ≡ [] }

@@ -5,6 +5,7 @@
 
 mod coder;
 mod coding;
+mod framing;
 mod hearer;
 mod label_slot;
 pub mod laws;
@@ -12,11 +13,13 @@ mod line;
 mod mode;
 mod path;
 mod receiver;
+mod same_frame;
 mod tally;
 mod transmitter;
 
 pub use coder::Coder;
 pub use coding::write_sent;
+pub use framing::Framing;
 pub use hearer::LineDecoder;
 pub use label_slot::LabelSlot;
 pub use lapm_frames::Heard;

@@ -14,7 +14,8 @@ ghost use Rattle.sample_line.specs.Coder.{IsCodedAs};
 use crate::hearer::LineDecoder;
 use crate::path::Path;
 use crate::receiver::Slot;
-use crate::{Heard, LabelSlot};
+use crate::tally::copy_of;
+use crate::{Framing, Heard, LabelSlot};
 use exact_decoder::Lost;
 use frame_check::Check;
 use lapm_frames::Sent;
@@ -76,8 +77,43 @@ impl Line {
         })
     }
 
-    /// Passes the next slot, as the labels that it was coded as, and answers what becomes of it. `Lost` comes with the symbol, counted from 0 over
-    /// all slots, at which the line is lost.
+    /// Passes the next slot, as the labels that it was coded as, and answers what becomes of it, with what was sent itself. `Lost` comes with the
+    /// symbol, counted from 0 over all slots, at which the line is lost.
+    pub fn hear(
+        &mut self,
+        script: &Script,
+        labels: &LabelSlot,
+        sent: Sent,
+        loses: bool,
+        check: Check,
+        dlci: u8,
+    ) -> Result<Heard, Lost>
+        requires channel { dlci < 64 }
+        requires few { self.old.passed < 2 ^ 40 }
+        requires not_lost { (decoder_of self.old).lost ≡ None }
+        ensures passes { (passed : List Signal) (signal : Signal) → LineStands self.old script.now passed
+            → IsCodedAs (sender_of self.old) (size_of self.old) passed signal labels.now
+            → Passes self.new script.now passed signal check dlci loses sent result }
+        ensures sender { sender_of self.new ≡ sender_of self.old }
+        ensures symbols { self.new.symbols ≡ self.old.symbols }
+        ensures count { self.new.passed ≡ self.old.passed + 1 }
+        ensures not_lost { OnOk result ((decoder_of self.new).lost ≡ None) }
+        ensures taken { OnOk result ((decoder_of self.new).pending ≡ []) }
+    {
+        let slot = Slot {
+            sent: &sent,
+            framing: Framing {
+                check,
+                sender: self.path.transmitter.sender,
+                dlci,
+            },
+        };
+        self.passed += 1;
+        let tally = self.path.pass(script, labels, slot)?;
+        Ok(tally.outcome(sent, loses))
+    }
+
+    /// As [`Line::hear`], for a caller that keeps what was sent.
     pub fn pass(
         &mut self,
         script: &Script,
@@ -99,15 +135,7 @@ impl Line {
         ensures not_lost { OnOk result ((decoder_of self.new).lost ≡ None) }
         ensures taken { OnOk result ((decoder_of self.new).pending ≡ []) }
     {
-        let slot = Slot {
-            sent,
-            check,
-            sender: self.path.transmitter.sender,
-            dlci,
-        };
-        self.passed += 1;
-        let tally = self.path.pass(script, labels, slot)?;
-        Ok(tally.outcome(sent, loses))
+        self.hear(script, labels, copy_of(sent), loses, check, dlci)
     }
 
     /// The decoder of this direction.

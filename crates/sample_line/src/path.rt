@@ -50,14 +50,14 @@ impl Path {
         slot: Slot<'_>,
         tally: Tally,
     ) -> Result<Tally, Lost>
-        requires channel { slot.dlci < 64 }
+        requires channel { slot.framing.dlci < 64 }
         requires label { label < 32 }
         requires symbol { self.old.transmitter.symbol < 2 ^ 55 }
         requires count { self.old.hearer.reader.decoder.count < 2 ^ 55 }
         requires pending { self.old.hearer.reader.decoder.pending ≡ [] }
         ensures arrives { (points : List Sample) (earlier : List Bool)
-            → CarriesBetween self.old script.now points slot.entry.check slot.entry.sender slot.entry.dlci slot.entry.sent.now earlier tally
-            → Arrives self.new script.now (points ++ point_of label ∷ []) slot.entry.check slot.entry.sender slot.entry.dlci slot.entry.sent.now earlier result }
+            → CarriesBetween self.old script.now points slot.entry.framing.check slot.entry.framing.sender slot.entry.framing.dlci slot.entry.sent.now earlier tally
+            → Arrives self.new script.now (points ++ point_of label ∷ []) slot.entry.framing.check slot.entry.framing.sender slot.entry.framing.dlci slot.entry.sent.now earlier result }
         ensures sender { self.new.transmitter.sender ≡ self.old.transmitter.sender }
         ensures symbol { self.new.transmitter.symbol ≡ self.old.transmitter.symbol + 1 }
         ensures count { self.new.hearer.reader.decoder.count ≤ self.old.hearer.reader.decoder.count + 1 }
@@ -76,13 +76,13 @@ impl Path {
         labels: &LabelSlot,
         slot: Slot<'_>,
     ) -> Result<Tally, Lost>
-        requires channel { slot.dlci < 64 }
+        requires channel { slot.framing.dlci < 64 }
         requires symbol { self.old.transmitter.symbol < 2 ^ 54 }
         requires count { self.old.hearer.reader.decoder.count < 2 ^ 54 }
         requires pending { self.old.hearer.reader.decoder.pending ≡ [] }
         requires lost { self.old.hearer.reader.decoder.lost ≡ None }
         ensures passes { (before : List Sample) (earlier : List Bool) → Carries self.old script.now before earlier
-            → PassesPoints self.new script.now before (map point_of labels.now) slot.entry.check slot.entry.sender slot.entry.dlci slot.entry.sent.now earlier result }
+            → PassesPoints self.new script.now before (map point_of labels.now) slot.entry.framing.check slot.entry.framing.sender slot.entry.framing.dlci slot.entry.sent.now earlier result }
         ensures sender { self.new.transmitter.sender ≡ self.old.transmitter.sender }
         ensures symbol { self.new.transmitter.symbol ≤ self.old.transmitter.symbol + SLOT }
         ensures count { self.new.hearer.reader.decoder.count ≤ self.old.hearer.reader.decoder.count + SLOT }

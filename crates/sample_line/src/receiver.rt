@@ -9,24 +9,19 @@ ghost use Rattle.detection.specs.Reader.{ReaderStands};
 ghost use Rattle.sample_line.specs.Tallies.{PatternsAreTallied, PiecesAreTallied, Tallies, TalliesBetween, WholeIsTallied};
 ghost use Rattle.detection.specs.Ear.{HasHeard};
 
+use crate::Framing;
 use crate::tally::{Tally, carries_frame};
 use bit_stuffing::{Deframer, Piece};
 use detection::{Ear, PatternReader};
-use frame_check::Check;
-use lapm_frames::{CheckedFault, Sent, read_checked};
-use shared_terms::Role;
+use lapm_frames::{CheckedFault, Sent, read_checked_lent};
 
 /// What is known of the slot that is received: what was sent in it, and how its receiver judges frames.
 #[derive(Clone, Copy)]
 pub(crate) struct Slot<'a> {
     /// What was sent in it.
     pub sent: &'a Sent,
-    /// The hearer's.
-    pub check: Check,
-    /// The end that sent it.
-    pub sender: Role,
-    /// The channel, below 64.
-    pub dlci: u8,
+    /// By the hearer's check.
+    pub framing: Framing,
 }
 
 /// Whether a whole piece ends here.
@@ -40,11 +35,16 @@ fn is_whole(piece: Option<Piece>) -> bool
 /// The tally once a whole piece was received: its octets count where they pass the check, whether they are a frame or not. A frame has room for the
 /// longest information: what each bit goes through has no part in that.
 fn with_whole(whole: &[u8], slot: Slot<'_>, tally: Tally) -> Tally
-    requires { slot.dlci < 64 }
-    ensures { (octets : List (List ℕ)) (patterns : List Seen) → Tallies slot.entry.sender slot.entry.dlci slot.entry.sent.now octets patterns tally
-        → WholeIsTallied slot.entry.check slot.entry.sender slot.entry.dlci slot.entry.sent.now whole.now octets patterns result }
+    requires { slot.framing.dlci < 64 }
+    ensures { (octets : List (List ℕ)) (patterns : List Seen) → Tallies slot.entry.framing.sender slot.entry.framing.dlci slot.entry.sent.now octets patterns tally
+        → WholeIsTallied slot.entry.framing.check slot.entry.framing.sender slot.entry.framing.dlci slot.entry.sent.now whole.now octets patterns result }
 {
-    match read_checked(whole, slot.check, slot.sender, slot.dlci) {
+    match read_checked_lent(
+        whole,
+        slot.framing.check,
+        slot.framing.sender,
+        slot.framing.dlci,
+    ) {
         Ok(frame) => tally.after_octets(carries_frame(slot.sent, &frame)),
         Err(CheckedFault::Refused(_)) => tally.after_octets(false),
         Err(CheckedFault::BadCheck) => tally,
@@ -53,11 +53,11 @@ fn with_whole(whole: &[u8], slot: Slot<'_>, tally: Tally) -> Tally
 
 /// The tally once the deframer took one bit more: with the piece that ends there, if one does.
 fn with_bit(deframer: &mut Deframer, bit: bool, slot: Slot<'_>, tally: Tally) -> Tally
-    requires { slot.dlci < 64 }
+    requires { slot.framing.dlci < 64 }
     ensures stands { (bits : List Bool) → DeframerStands deframer.old bits → DeframerStands deframer.new (bits ++ bit ∷ []) }
     ensures tallied { (bits : List Bool) (octets : List (List ℕ)) (patterns : List Seen) → DeframerStands deframer.old bits
-        → Tallies slot.entry.sender slot.entry.dlci slot.entry.sent.now octets patterns tally
-        → PiecesAreTallied slot.entry.check slot.entry.sender slot.entry.dlci slot.entry.sent.now bits (bits ++ bit ∷ []) octets patterns result }
+        → Tallies slot.entry.framing.sender slot.entry.framing.dlci slot.entry.sent.now octets patterns tally
+        → PiecesAreTallied slot.entry.framing.check slot.entry.framing.sender slot.entry.framing.dlci slot.entry.sent.now bits (bits ++ bit ∷ []) octets patterns result }
 {
     if is_whole(deframer.push(bit)) {
         with_whole(deframer.whole(), slot, tally)
@@ -68,12 +68,12 @@ fn with_bit(deframer: &mut Deframer, bit: bool, slot: Slot<'_>, tally: Tally) ->
 
 /// The tally once the deframer took four bits more: with the pieces that end there.
 fn with_four(deframer: &mut Deframer, four: u8, slot: Slot<'_>, tally: Tally) -> Tally
-    requires channel { slot.dlci < 64 }
+    requires channel { slot.framing.dlci < 64 }
     requires four { four < 16 }
     ensures stands { (bits : List Bool) → DeframerStands deframer.old bits → DeframerStands deframer.new (bits ++ low_bits 4 four) }
     ensures tallied { (bits : List Bool) (octets : List (List ℕ)) (patterns : List Seen) → DeframerStands deframer.old bits
-        → Tallies slot.entry.sender slot.entry.dlci slot.entry.sent.now octets patterns tally
-        → PiecesAreTallied slot.entry.check slot.entry.sender slot.entry.dlci slot.entry.sent.now bits (bits ++ low_bits 4 four) octets patterns result }
+        → Tallies slot.entry.framing.sender slot.entry.framing.dlci slot.entry.sent.now octets patterns tally
+        → PiecesAreTallied slot.entry.framing.check slot.entry.framing.sender slot.entry.framing.dlci slot.entry.sent.now bits (bits ++ low_bits 4 four) octets patterns result }
 {
     if deframer.pass_four(four) {
         return tally;
@@ -114,12 +114,12 @@ fn with_four_seen(reader: &mut PatternReader, four: u8, sent: &Sent, tally: Tall
 
 /// The tally once four bits more were read.
 pub(crate) fn push_four(ear: &mut Ear, four: u8, slot: Slot<'_>, tally: Tally) -> Tally
-    requires channel { slot.dlci < 64 }
+    requires channel { slot.framing.dlci < 64 }
     requires four { four < 16 }
     ensures stands { (bits : List Bool) → HasHeard ear.old bits → HasHeard ear.new (bits ++ low_bits 4 four) }
     ensures tallies { (earlier bits : List Bool) → HasHeard ear.old bits
-        → TalliesBetween slot.entry.check slot.entry.sender slot.entry.dlci slot.entry.sent.now earlier bits tally
-        → TalliesBetween slot.entry.check slot.entry.sender slot.entry.dlci slot.entry.sent.now earlier (bits ++ low_bits 4 four) result }
+        → TalliesBetween slot.entry.framing.check slot.entry.framing.sender slot.entry.framing.dlci slot.entry.sent.now earlier bits tally
+        → TalliesBetween slot.entry.framing.check slot.entry.framing.sender slot.entry.framing.dlci slot.entry.sent.now earlier (bits ++ low_bits 4 four) result }
 {
     let tally = with_four_seen(&mut ear.reader, four, slot.sent, tally);
     with_four(&mut ear.deframer, four, slot, tally)

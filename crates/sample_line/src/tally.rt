@@ -7,7 +7,8 @@ ghost use Rattle.sample_line.specs.Outcomes.{is_message, IsLostAs, IsOutcome};
 ghost use Rattle.sample_line.specs.Tallies.{Tallies, carries, after_octets, after_pattern};
 
 use crate::Heard;
-use lapm_frames::{Frame, Seen, Sent};
+use crate::same_frame::is_same;
+use lapm_frames::{LentFrame, Seen, Sent};
 
 /// What was received in a slot so far.
 #[derive(Clone, Copy)]
@@ -20,13 +21,13 @@ pub(crate) enum Tally {
     Other,
 }
 
-/// Whether the slot carries this frame.
-pub(crate) fn carries_frame(sent: &Sent, frame: &Frame) -> bool
+/// Whether the slot carries this frame, which was read.
+pub(crate) fn carries_frame(sent: &Sent, frame: &LentFrame<'_>) -> bool
     ensures yes { result ≡ true → sent.now ≡ Sent.Frame frame.now }
     ensures no { result ≡ false → sent.now ≡ Sent.Frame frame.now → ⊥ }
 {
     match sent {
-        Sent::Frame(other) => other == frame,
+        Sent::Frame(other) => is_same(other, frame),
         _ => false,
     }
 }
@@ -52,7 +53,8 @@ fn is_message(sent: &Sent) -> bool
     }
 }
 
-fn copy_of(sent: &Sent) -> Sent
+/// What is sent, once more.
+pub(crate) fn copy_of(sent: &Sent) -> Sent
     ensures { result ≡ sent.now }
 {
     match sent {
@@ -65,11 +67,11 @@ fn copy_of(sent: &Sent) -> Sent
 }
 
 /// What becomes of a slot in which nothing is heard.
-fn unheard(sent: &Sent) -> Heard
-    ensures { IsLostAs sent.now result }
+fn unheard(sent: Sent) -> Heard
+    ensures { IsLostAs sent result }
 {
-    if is_message(sent) {
-        Heard::Lost(copy_of(sent))
+    if is_message(&sent) {
+        Heard::Lost(sent)
     } else {
         Heard::Nothing
     }
@@ -108,16 +110,16 @@ impl Tally {
     }
 
     /// What becomes of the slot.
-    pub fn outcome(self, sent: &Sent, loses: bool) -> Heard
-        ensures { (sender : Role) (dlci : ℕ) (octets : List (List ℕ)) (patterns : List Seen) → Tallies sender dlci sent.now octets patterns self
-            → IsOutcome loses sender dlci sent.now octets patterns result }
+    pub fn outcome(self, sent: Sent, loses: bool) -> Heard
+        ensures { (sender : Role) (dlci : ℕ) (octets : List (List ℕ)) (patterns : List Seen) → Tallies sender dlci sent octets patterns self
+            → IsOutcome loses sender dlci sent octets patterns result }
     {
         if loses {
             return unheard(sent);
         }
         match self {
             Tally::Silent => unheard(sent),
-            Tally::AsSent => Heard::Passed(copy_of(sent)),
+            Tally::AsSent => Heard::Passed(sent),
             Tally::Other => Heard::Chance,
         }
     }

@@ -13,12 +13,12 @@ returns-clause-all c = λ frame k. c.ok.ensures.value ∙ ap result_ok (c.read_c
 pub returns-clause-sendable : goal.returns-clause-sendable
 returns-clause-sendable c =
     subst CanBeSent (sym c.ok.ensures.value)
-    (ok-sendable c.args.sender.check c.args.sender.role c.args.sender.dlci c.args.octets.now c.read_checked.result
+    (ok-sendable c.args.framing.check c.args.framing.sender c.args.framing.dlci c.args.octets.now c.read_checked.result
     (All-from_get_or (λ octet. octet < 256) c.args.octets.now 0 (λ i within. omega (arith, c.type_inv.octets i)))
     c.read_checked.ensures.ok)
 
 pub returns-clause-is : goal.returns-clause-is
 returns-clause-is c =
-    subst (λ found. IfSome found (λ frame. c.args.octets.now ≡ checked c.args.sender.check c.args.sender.role c.args.sender.dlci frame))
+    subst (λ found. IfSome found (λ frame. c.args.octets.now ≡ checked c.args.framing.check c.args.framing.sender c.args.framing.dlci frame))
     (sym c.ok.ensures.value)
-    (ok-spelled c.args.sender.check c.args.sender.role c.args.sender.dlci c.args.octets.now c.read_checked.result c.read_checked.ensures.ok)
+    (ok-spelled c.args.framing.check c.args.framing.sender c.args.framing.dlci c.args.octets.now c.read_checked.result c.read_checked.ensures.ok)

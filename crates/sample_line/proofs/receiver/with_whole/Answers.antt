@@ -12,11 +12,11 @@ returns-in-Ok c = λ octets patterns h.
     record {
       front = Some own.octets;
       passes = inr (own.octets, [], own.passes, refl, refl);
-      tallies = subst (Tallies slot.sender slot.dlci slot.sent.now (octets ++ option_to_list (Some own.octets)) patterns)
+      tallies = subst (Tallies slot.framing.sender slot.framing.dlci slot.sent.now (octets ++ option_to_list (Some own.octets)) patterns)
           (sym c.after_octets.ensures)
-          (octets-more slot.sender slot.dlci slot.sent.now octets patterns own.octets c.carries_frame.result c.args.tally
-          (λ e. spells-sent slot.sender slot.dlci slot.sent.now c.in-Ok.frame own.octets own.spelling (c.carries_frame.ensures.yes e))
-          (λ e. another-sent slot.sender slot.dlci slot.sent.now c.in-Ok.frame own.octets own.spelling (c.carries_frame.ensures.no e)) h);
+          (octets-more slot.framing.sender slot.framing.dlci slot.sent.now octets patterns own.octets c.carries_frame.result c.args.tally
+          (λ e. spells-sent slot.framing.sender slot.framing.dlci slot.sent.now c.in-Ok.frame own.octets own.spelling (c.carries_frame.ensures.yes e))
+          (λ e. another-sent slot.framing.sender slot.framing.dlci slot.sent.now c.in-Ok.frame own.octets own.spelling (c.carries_frame.ensures.no e)) h);
     }
 
 pub returns-in-Err-Refused : goal.returns-in-Err-Refused
@@ -26,10 +26,10 @@ returns-in-Err-Refused c = λ octets patterns h.
     record {
       front = Some fault.octets;
       passes = inr (fault.octets, [], fault.passes, refl, refl);
-      tallies = subst (Tallies slot.sender slot.dlci slot.sent.now (octets ++ option_to_list (Some fault.octets)) patterns)
+      tallies = subst (Tallies slot.framing.sender slot.framing.dlci slot.sent.now (octets ++ option_to_list (Some fault.octets)) patterns)
           (sym c.after_octets-in-Err-Refused.ensures)
-          (octets-more slot.sender slot.dlci slot.sent.now octets patterns fault.octets false c.args.tally (λ e. absurd cc)
-          (λ e. refused-sent slot.sender slot.dlci slot.sent.now c.in-Err-Refused.field-0-0 fault.octets fault.is_first) h);
+          (octets-more slot.framing.sender slot.framing.dlci slot.sent.now octets patterns fault.octets false c.args.tally (λ e. absurd cc)
+          (λ e. refused-sent slot.framing.sender slot.framing.dlci slot.sent.now c.in-Err-Refused.field-0-0 fault.octets fault.is_first) h);
     }
 
 pub returns-in-Err-BadCheck : goal.returns-in-Err-BadCheck
@@ -37,6 +37,6 @@ returns-in-Err-BadCheck c = λ octets patterns h.
     record {
       front = None;
       passes = inl ((c.in-Err-BadCheck.ensures.fault BadCheck).0 (ap Err c.in-Err-BadCheck.field-0-is), refl);
-      tallies = subst (λ (xs : List (List ℕ)). Tallies c.args.slot.sender c.args.slot.dlci c.args.slot.sent.now xs patterns c.args.tally)
+      tallies = subst (λ (xs : List (List ℕ)). Tallies c.args.slot.framing.sender c.args.slot.framing.dlci c.args.slot.sent.now xs patterns c.args.tally)
           (sym (append-nil octets)) h;
     }

@@ -51,7 +51,7 @@ returns-in_err-phase-clause-none c = λ sigs samples k fit.
     guessed laws r sigs samples more s c.guess-sent.result c.read_labels.new.demodulator c.in_ok-state.state c.read_labels.new.bits
     c.read_labels.new.labels c.frame_in-found.result phase k h
     (c.frame_in-found.ensures.found r.symbols r.low) c.guess-sent.ensures.guess x in
-    let codable = subst (λ q. IsCodable r.sender.check r.sender.role r.sender.dlci r.symbols r.phase q) (sym is) x.codable in
+    let codable = subst (λ q. IsCodable r.framing.check r.framing.sender r.framing.dlci r.symbols r.phase q) (sym is) x.codable in
     let same : line_bits c.read_labels.new.bits
     ≡ slot_bits (4 * r.symbols) r.phase (slot_of (4 * r.symbols) (carries r c.guess-sent.result)) =
     bits-read c.points_differ.ensures r sigs samples more s c.read_labels.new.demodulator c.in_ok-state.state c.read_labels.new.bits
@@ -59,8 +59,8 @@ returns-in_err-phase-clause-none c = λ sigs samples k fit.
     ∙ ap (λ q. slot_bits (4 * r.symbols) q (slot_of (4 * r.symbols) (carries r s))) (sym phase)
     ∙ ap (λ q. slot_bits (4 * r.symbols) r.phase (slot_of (4 * r.symbols) (carries r q))) (sym is) in
     c.in_err-phase.ensures.none
-    (subst (EndsAt r.sender.check r.sender.role r.sender.dlci r.phase c.guess-sent.result) (sym c.end.ensures)
-    (found-sent r.sender.check r.sender.role r.sender.dlci r.symbols r.phase (line_bits c.read_labels.new.bits) c.frame_in-found.new.self
+    (subst (EndsAt r.framing.check r.framing.sender r.framing.dlci r.phase c.guess-sent.result) (sym c.end.ensures)
+    (found-sent r.framing.check r.framing.sender r.framing.dlci r.symbols r.phase (line_bits c.read_labels.new.bits) c.frame_in-found.new.self
     c.frame_in-found.result c.guess-sent.result c.frame_in-found.ensures.at c.guess-sent.ensures.guess codable same))
     codable in
     subst (λ q. IfNone q ((s : Sent) → IsNext r sigs samples more s → ⊥)) (sym c.from_residual-in_err-phase.ensures) refuted
@@ -94,15 +94,15 @@ frame_in-found-requires-clause-long c =
 pub write_again-requires-clause-codable : goal.write_again-requires-clause-codable
 write_again-requires-clause-codable c =
     let r = c.args.self.now in
-    subst (λ n. IsCodable r.sender.check r.sender.role r.sender.dlci n r.writer.phase c.guess-sent.result) (sym c.requires.writer.symbols)
-    (subst (λ p. IsCodable r.sender.check r.sender.role r.sender.dlci r.symbols p c.guess-sent.result) (sym c.requires.writer.phase)
+    subst (λ n. IsCodable r.framing.check r.framing.sender r.framing.dlci n r.writer.phase c.guess-sent.result) (sym c.requires.writer.symbols)
+    (subst (λ p. IsCodable r.framing.check r.framing.sender r.framing.dlci r.symbols p c.guess-sent.result) (sym c.requires.writer.phase)
     c.in_ok-phase.ensures.codable)
 
 pub returns-clause-some : goal.returns-clause-some
 returns-clause-some c = λ sigs samples k.
     let r = c.args.self.now in
     let s : Sent = c.guess-sent.result in
-    let mode : Mode = mode_of r.sender.role in
+    let mode : Mode = mode_of r.framing.sender in
     let more : List Sample = samples_in c.args.octets.now in
     let bits : List Bool = signal_bits (4 * r.symbols) sigs in
     let read : List ℕ = c.read_labels.new.bits in
@@ -127,16 +127,16 @@ returns-clause-some c = λ sigs samples k.
     let phase = phase-is r sigs samples k in
     let same : line_bits read ≡ slot_bits (4 * r.symbols) r.phase (slot_of (4 * r.symbols) (carries r s)) =
     here ∙ ap (λ q. slot_bits (4 * r.symbols) q (slot_of (4 * r.symbols) (carries r s))) (sym phase) in
-    let ends : EndsAt r.sender.check r.sender.role r.sender.dlci r.phase s c.end.result =
-    subst (EndsAt r.sender.check r.sender.role r.sender.dlci r.phase s) (sym c.end.ensures)
-    (found-sent r.sender.check r.sender.role r.sender.dlci r.symbols r.phase (line_bits read) c.frame_in-found.new.self
+    let ends : EndsAt r.framing.check r.framing.sender r.framing.dlci r.phase s c.end.result =
+    subst (EndsAt r.framing.check r.framing.sender r.framing.dlci r.phase s) (sym c.end.ensures)
+    (found-sent r.framing.check r.framing.sender r.framing.dlci r.symbols r.phase (line_bits read) c.frame_in-found.new.self
     c.frame_in-found.result s c.frame_in-found.ensures.at c.guess-sent.ensures.guess c.in_ok-phase.ensures.codable same) in
     let writer = writer-on r c.write_again.new.writer sigs samples s k c.write_again.ensures.stands in
     let symbols = c.write_again.ensures.symbols ∙ c.requires.writer.symbols in
     record {
       next = next;
       coded = labels-code r sigs samples more s c.read_labels.new.labels k h.are next;
-      sender = refl;
+      framing = refl;
       symbols = refl;
       stands = record {
         labels = labels;
@@ -155,14 +155,14 @@ returns-clause-some c = λ sigs samples k.
 pub phase_behind-requires-clause-by : goal.phase_behind-requires-clause-by
 phase_behind-requires-clause-by c =
     let r = c.args.self.now in
-    subst (EndsBy r.sender.check r.sender.role r.sender.dlci r.phase c.guess-sent.result) (sym c.end.ensures)
-    (found-ends r.sender.check r.sender.role r.sender.dlci r.symbols r.phase (line_bits c.read_labels.new.bits) c.frame_in-found.new.self
+    subst (EndsBy r.framing.check r.framing.sender r.framing.dlci r.phase c.guess-sent.result) (sym c.end.ensures)
+    (found-ends r.framing.check r.framing.sender r.framing.dlci r.symbols r.phase (line_bits c.read_labels.new.bits) c.frame_in-found.new.self
     c.frame_in-found.result c.guess-sent.result c.frame_in-found.ensures.at c.guess-sent.ensures.guess)
 
 pub write_again-requires-clause-octets : goal.write_again-requires-clause-octets
 write_again-requires-clause-octets c =
     let r = c.args.self.now in
-    found-lent r.sender.check r.sender.role r.sender.dlci r.symbols r.phase (line_bits c.read_labels.new.bits) c.frame_in-found.new.self
+    found-lent r.framing.check r.framing.sender r.framing.dlci r.symbols r.phase (line_bits c.read_labels.new.bits) c.frame_in-found.new.self
     c.octets.result.now c.frame_in-found.result c.guess-sent.result c.frame_in-found.ensures.at c.guess-sent.ensures.guess c.octets.ensures
 
 pub returns-in_err-state-clause-some : goal.returns-in_err-state-clause-some
@@ -177,26 +177,26 @@ returns-then-not-same_quads-clause-some c = λ sigs samples k. tt
 pub returns-clause-none : goal.returns-clause-none
 returns-clause-none c = λ sigs samples k fit. tt
 
-pub returns-in_err-state-clause-sender : goal.returns-in_err-state-clause-sender
-returns-in_err-state-clause-sender c = refl
+pub returns-in_err-state-clause-framing : goal.returns-in_err-state-clause-framing
+returns-in_err-state-clause-framing c = refl
 
 pub returns-in_err-state-clause-size : goal.returns-in_err-state-clause-size
 returns-in_err-state-clause-size c = refl
 
-pub returns-in_err-phase-clause-sender : goal.returns-in_err-phase-clause-sender
-returns-in_err-phase-clause-sender c = refl
+pub returns-in_err-phase-clause-framing : goal.returns-in_err-phase-clause-framing
+returns-in_err-phase-clause-framing c = refl
 
 pub returns-in_err-phase-clause-size : goal.returns-in_err-phase-clause-size
 returns-in_err-phase-clause-size c = refl
 
-pub returns-then-not-same_quads-clause-sender : goal.returns-then-not-same_quads-clause-sender
-returns-then-not-same_quads-clause-sender c = refl
+pub returns-then-not-same_quads-clause-framing : goal.returns-then-not-same_quads-clause-framing
+returns-then-not-same_quads-clause-framing c = refl
 
 pub returns-then-not-same_quads-clause-size : goal.returns-then-not-same_quads-clause-size
 returns-then-not-same_quads-clause-size c = refl
 
-pub returns-clause-sender : goal.returns-clause-sender
-returns-clause-sender c = refl
+pub returns-clause-framing : goal.returns-clause-framing
+returns-clause-framing c = refl
 
 pub returns-clause-size : goal.returns-clause-size
 returns-clause-size c = refl

@@ -1,11 +1,8 @@
-use Rattle.std.proofs.Common.{◌+◌, [], ◌∷◌, refl, subst, sym, ap, ◌∙◌, Some}
+use Rattle.std.proofs.Common.{◌+◌, [], ◌∷◌, refl, subst, ap, ◌∙◌, Some}
 use Rattle.outside_calls.specs.Folder.{Appended, PartlyAppended}
 use Rattle.shared_terms.specs.Both.{Both}
 use Rattle.shared_terms.specs.declared.role.Role.TheVariants.{Originator, Answerer}
-use Rattle.std.specs.Prelude.{is_some}
 use Rattle.lapm_frames.specs.declared.sent.Sent.{Sent}
-use Rattle.lapm_frames.specs.Sendable.{IsSendable}
-use Rattle.line_texts.specs.declared.trace_line.TraceLine.{TraceLine}
 use Rattle.link_run.specs.Listened.{check_by}
 use Rattle.line_run.specs.Stream.{sent_by}
 use Rattle.line_world.proofs.Waiting.{room-of}
@@ -14,18 +11,17 @@ use Rattle.line_tap.specs.End.{Slot}
 use Rattle.line_tap.specs.declared.tapping.Tap.{Tap}
 use Rattle.line_tap.specs.Tap.{slots_as}
 use Rattle.line_tap.specs.Names.{TapNames, named}
-use Rattle.line_tap.proofs.TurnTexts.{text-is, taken-back}
+use Rattle.line_tap.proofs.TurnTexts.{text-is}
 use Rattle.line_tap.proofs.Going.{after-going}
-use Rattle.line_tap.proofs.Causes.{write-among}
+use Rattle.line_tap.proofs.Causes.{write-among, writes-fail}
 use Rattle.line_tap.proofs.tapping.Tap.go_on.Goals as goal
 
 pub returns-in-Err-clause-err : goal.returns-in-Err-clause-err
 returns-in-Err-clause-err g c = λ x ts k.
-    subst (PartlyAppended (g.F.Folder.state c.args.folder.now) (g.F.Folder.state c.write_turn.new.folder) (named c.args.names.now).trace)
-    (text-is c.turn_lines-lines.result c.args.self.now.turn x ts c.args.hearing
-    (record { orig = Some c.args.sent.orig; answ = Some c.args.sent.answ })
+    subst (PartlyAppended (g.F.Folder.state c.args.folder.now) (g.F.Folder.state c.append_turn.new.folder) (named c.args.names.now).trace)
+    (text-is c.args.self.now.turn x ts c.args.hearing.now (Some c.args.sent)
     (record { orig = Some (told (check_by (terms_of x)) c.args.sent.orig); answ = Some (told (check_by (terms_of x)) c.args.sent.answ) })
-    c.turn_lines-lines.ensures k.turn k.hears refl refl) c.in-Err.ensures.err
+    k.turn k.hears refl refl) c.in-Err.ensures.err
 
 pub put-requires-clause-room : goal.put-requires-clause-room
 put-requires-clause-room g c =
@@ -40,14 +36,14 @@ put-requires-2-clause-room g c =
 pub returns-clause-ok : goal.returns-clause-ok
 returns-clause-ok g c = λ x ts k.
     let slots : Both Slot = slots_as c.args.sent c.args.labels in
-    let sent : Both Sent = c.sent_in-sent.result in
+    let sent : Both Sent = c.args.sent in
     let tap : Tap = c.args.self.now in
     let new : Tap = record tap {
       lines = record { from_orig = c.put.new.self; from_answ = c.put-2.new.self };
       at = tap.at + c.len.result;
       turn = tap.turn + 1;
     } in (
-      after-going x ts tap new c.args.hearing slots sent k (record {
+      after-going x ts tap new c.args.hearing.now slots sent k (record {
         script = refl;
         orig = refl;
         answ = refl;
@@ -67,15 +63,13 @@ returns-clause-ok g c = λ x ts k.
           lag = c.put-2.ensures.lag;
           line = c.put-2.ensures.line;
         };
-        orig_sent = sym (taken-back sent.orig slots.orig.sent c.turn_lines-lines.result.orig.sent (Some slots.orig.sent) c.sent_in-sent.ensures.orig
-            (λ i. (c.turn_lines-lines.ensures i).orig.sent) refl);
-        answ_sent = sym (taken-back sent.answ slots.answ.sent c.turn_lines-lines.result.answ.sent (Some slots.answ.sent) c.sent_in-sent.ensures.answ
-            (λ i. (c.turn_lines-lines.ensures i).answ.sent) refl);
+        orig_sent = refl;
+        answ_sent = refl;
       }),
-      subst (Appended (g.F.Folder.state c.args.folder.now) (g.F.Folder.state c.write_turn.new.folder) (named c.args.names.now).trace)
-          (text-is c.turn_lines-lines.result tap.turn x ts c.args.hearing (record { orig = Some slots.orig.sent; answ = Some slots.answ.sent })
+      subst (Appended (g.F.Folder.state c.args.folder.now) (g.F.Folder.state c.append_turn.new.folder) (named c.args.names.now).trace)
+          (text-is tap.turn x ts c.args.hearing.now (Some c.args.sent)
           (record { orig = Some (told (check_by (terms_of x)) slots.orig.sent); answ = Some (told (check_by (terms_of x)) slots.answ.sent) })
-          c.turn_lines-lines.ensures k.turn k.hears refl refl) c.in-Ok.ensures.ok,
+          k.turn k.hears refl refl) c.in-Ok.ensures.ok,
     )
 
 pub returns-in-Err-clause-ok : goal.returns-in-Err-clause-ok
@@ -105,8 +99,10 @@ returns-in-Err-clause-only g c = c.in-Err.ensures.only
 pub returns-in-Err-clause-fails : goal.returns-in-Err-clause-fails
 returns-in-Err-clause-fails g c =
     let n : TapNames = named c.args.names.now in
-    write-among (g.F.Folder.state c.args.folder.now) (g.F.Folder.state c.write_turn.new.folder) (n.got_o ∷ n.got_a ∷ []) n.trace []
-    c.in-Err.fault c.in-Err.ensures.fails
+    let old = g.F.Folder.state c.args.folder.now in
+    let new = g.F.Folder.state c.append_turn.new.folder in
+    write-among old new (n.got_o ∷ n.got_a ∷ []) n.trace [] c.in-Err.fault
+    (writes-fail old new n.trace c.in-Err.fault c.in-Err.ensures.cause c.in-Err.ensures.spared)
 
 pub returns-clause-err : goal.returns-clause-err
 returns-clause-err g c = tt
@@ -138,21 +134,9 @@ returns-clause-fails g c = tt
 pub put-requires-clause-sendable : goal.put-requires-clause-sendable
 put-requires-clause-sendable g c =
     let h = c.requires.stands in
-    subst IsSendable
-    (sym (taken-back c.sent_in-sent.result.orig c.args.sent.orig c.turn_lines-lines.result.orig.sent (Some c.args.sent.orig) c.sent_in-sent.ensures.orig
-    (λ i. (c.turn_lines-lines.ensures i).orig.sent) refl))
-    (c.codable_slots_fit.ensures.sendable _ Originator _ _ _ c.args.sent.orig h.2.read.orig.holds.codable)
+    c.codable_slots_fit.ensures.sendable _ Originator _ _ _ c.args.sent.orig h.2.read.orig.holds.codable
 
 pub put-requires-2-clause-sendable : goal.put-requires-2-clause-sendable
 put-requires-2-clause-sendable g c =
     let h = c.requires.stands in
-    subst IsSendable
-    (sym (taken-back c.sent_in-sent.result.answ c.args.sent.answ c.turn_lines-lines.result.answ.sent (Some c.args.sent.answ) c.sent_in-sent.ensures.answ
-    (λ i. (c.turn_lines-lines.ensures i).answ.sent) refl))
-    (c.codable_slots_fit.ensures.sendable _ Answerer _ _ _ c.args.sent.answ h.2.read.answ.holds.codable)
-
-pub sent_in-sent-requires-clause-orig : goal.sent_in-sent-requires-clause-orig
-sent_in-sent-requires-clause-orig g c = ap (λ (lines : Both TraceLine). is_some lines.orig.sent) c.turn_lines-lines.ensures
-
-pub sent_in-sent-requires-clause-answ : goal.sent_in-sent-requires-clause-answ
-sent_in-sent-requires-clause-answ g c = ap (λ (lines : Both TraceLine). is_some lines.answ.sent) c.turn_lines-lines.ensures
+    c.codable_slots_fit.ensures.sendable _ Answerer _ _ _ c.args.sent.answ h.2.read.answ.holds.codable

@@ -22,7 +22,7 @@ pub returns-in-Some-clause-arrives : goal.returns-in-Some-clause-arrives
 returns-in-Some-clause-arrives c = λ passed way h.
     let d : DelayedLine = c.args.self.now in
     let new : DelayedLine =
-    record { line = c.pass.new.self; sender = d.sender; delay = d.delay; lag = d.lag; slots = c.pop_front.new.self } in
+    record { line = c.hear.new.self; sender = d.sender; delay = d.delay; lag = d.lag; slots = c.pop_front.new.self } in
     let o : Oldest (size_of d.line) d.sender passed c.in-Some.slot (drop 1 d.slots.items) way =
     oldest (size_of d.line) d.sender passed c.in-Some.slot (drop 1 d.slots.items) way
     (subst (λ xs. AreOnWay (size_of d.line) d.sender passed xs way) (first-of d.slots.items c.in-Some.slot c.in-Some.ensures.value) h.slots) in
@@ -32,29 +32,29 @@ returns-in-Some-clause-arrives c = λ passed way h.
     let lost = c.loses-loses.ensures ∙ ap (λ n. loses c.args.script.now d.sender (c.args.turn - n)) c.from-in-Some.ensures in
     Due o.x o.rest o.way_is full
     (passes-oldest c.recordings_grow.ensures.once c.losses_stay.ensures.stays d new c.args.script.now passed way c.in-Some.slot
-    (drop 1 d.slots.items) number c.args.check c.args.dlci c.pass.result o h
+    (drop 1 d.slots.items) number c.args.check c.args.dlci c.hear.result o h
     (record {
       sender = refl;
       lag = refl;
       items_are = ap (λ b. b.items) c.in-Some.ensures.items;
       capacity = ap (λ b. b.capacity) c.in-Some.ensures.items;
-      from = c.pass.ensures.sender;
-      symbols = c.pass.ensures.symbols;
+      from = c.hear.ensures.sender;
+      symbols = c.hear.ensures.symbols;
     })
-    (subst (λ b. PassesAll d new c.in-Some.slot c.args.check c.args.script.now c.args.dlci b c.pass.result) lost
-    (λ passed signal. c.pass.ensures.passes passed signal)))
+    (subst (λ b. PassesAll d new c.in-Some.slot c.args.check c.args.script.now c.args.dlci b c.hear.result) lost
+    (λ passed signal. c.hear.ensures.passes passed signal)))
 
 pub returns-in-Some-clause-numbered : goal.returns-in-Some-clause-numbered
 returns-in-Some-clause-numbered c =
     let w = c.requires.stands in
     let d : DelayedLine = c.args.self.now in
     let new : DelayedLine =
-    record { line = c.pass.new.self; sender = d.sender; delay = d.delay; lag = d.lag; slots = c.pop_front.new.self } in
+    record { line = c.hear.new.self; sender = d.sender; delay = d.delay; lag = d.lag; slots = c.pop_front.new.self } in
     let o : Oldest (size_of d.line) d.sender w.0 c.in-Some.slot (drop 1 d.slots.items) w.1 =
     oldest (size_of d.line) d.sender w.0 c.in-Some.slot (drop 1 d.slots.items) w.1
     (subst (λ xs. AreOnWay (size_of d.line) d.sender w.0 xs w.1) (first-of d.slots.items c.in-Some.slot c.in-Some.ensures.value) w.2.slots) in
     let lost = c.loses-loses.ensures ∙ ap (λ n. loses c.args.script.now d.sender (c.args.turn - n)) c.from-in-Some.ensures in
     numbered-by d new c.args.script.now w.0 w.1 c.in-Some.slot (drop 1 d.slots.items) (c.args.turn - d.delay) c.args.check c.args.dlci
-    c.pass.result o w.2
-    (subst (λ b. PassesAll d new c.in-Some.slot c.args.check c.args.script.now c.args.dlci b c.pass.result) lost
-    (λ passed signal. c.pass.ensures.passes passed signal))
+    c.hear.result o w.2
+    (subst (λ b. PassesAll d new c.in-Some.slot c.args.check c.args.script.now c.args.dlci b c.hear.result) lost
+    (λ passed signal. c.hear.ensures.passes passed signal))

@@ -14,16 +14,16 @@ returns-in-Ok-clause-adds g c = λ channel files ts ends mid h closed go ga.
     let f = g.F.Folder.state c.args.folder.now in
     let new = g.F.Folder.state c.write_turn.new.folder in
     let n = written c.args.names.now in
-    let text = text-is c.turn_lines-texts.result c.args.self.now.turn ts ends mid c.args.heard c.args.given.now
-    (record { orig = None; answ = None }) none-sent
-    c.turn_lines-texts.ensures (o.well Originator) (o.well Answerer) h.turn go ga refl refl in
+    let text = text-is c.args.self.now.turn ts ends mid c.args.heard.now c.args.given.now
+    None none-sent
+    (o.well Originator) (o.well Answerer) h.turn go ga refl refl in
     record {
-      turn = turn_in c.args.heard ends mid none-sent;
-      hears = hears-these c.args.heard ends mid none-sent;
+      turn = turn_in c.args.heard.now ends mid none-sent;
+      hears = hears-these c.args.heard.now ends mid none-sent;
       makes = record {
         run = o.run;
-        heard = heard-in channel files ts ends c.args.heard mid none-sent o;
-        is = last-turn channel files ts ends c.args.heard mid o closed;
+        heard = heard-in channel files ts ends c.args.heard.now mid none-sent o;
+        is = last-turn channel files ts ends c.args.heard.now mid o closed;
       };
       trace = subst (Appended f new n.trace) text c.in-Ok.ensures.ok;
     }
@@ -34,8 +34,8 @@ returns-in-Err-clause-part g c = λ channel files ts ends mid h closed go ga.
     let f = g.F.Folder.state c.args.folder.now in
     let new = g.F.Folder.state c.write_turn.new.folder in
     let n = written c.args.names.now in
-    let text = text-is c.turn_lines-texts.result c.args.self.now.turn ts ends mid c.args.heard c.args.given.now
-    (record { orig = None; answ = None }) none-sent
-    c.turn_lines-texts.ensures (o.well Originator) (o.well Answerer) h.turn go ga refl refl in
-    adds-part channel f new n files ts ends c.args.heard mid none-sent Done o (last-turn channel files ts ends c.args.heard mid o closed)
+    let text = text-is c.args.self.now.turn ts ends mid c.args.heard.now c.args.given.now
+    None none-sent
+    (o.well Originator) (o.well Answerer) h.turn go ga refl refl in
+    adds-part channel f new n files ts ends c.args.heard.now mid none-sent Done o (last-turn channel files ts ends c.args.heard.now mid o closed)
     (subst (PartlyAppended f new n.trace) text c.in-Err.ensures.err)

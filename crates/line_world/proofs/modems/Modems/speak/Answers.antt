@@ -1,7 +1,4 @@
-use Rattle.std.proofs.Common.{◌≡◌, ◌+◌, length, refl, sym, ◌∙◌, ap, subst, Some, None, is_some, arith}
-use Rattle.shared_terms.specs.Both.{Both}
-use Rattle.lapm_frames.specs.Sendable.{IsSendable}
-use Rattle.line_texts.specs.declared.trace_line.TraceLine.{TraceLine}
+use Rattle.std.proofs.Common.{◌+◌, length, refl, sym, ◌∙◌, ap, subst, Some, None, arith}
 use Rattle.outside_calls.specs.Folder.{Appended, PartlyAppended}
 use Rattle.shared_terms.specs.declared.role.Role.TheVariants.{Originator, Answerer}
 use Rattle.noise_script.specs.Script.{ScriptValue, IsInLimits}
@@ -13,7 +10,7 @@ use Rattle.link_run.specs.Outcomes.{Going, Broken}
 use Rattle.line_run.specs.Names.{written}
 use Rattle.line_world.specs.Mid.{served, turn_in}
 use Rattle.line_world.proofs.Hearing.{none-sent}
-use Rattle.line_world.proofs.Speaking.{SpokenTurn, GoingLaws, spoken_by, ends_of, spoken-turn, broken-turn, text-is, taken-back, all-codable, put_by, are-put, counts-what}
+use Rattle.line_world.proofs.Speaking.{SpokenTurn, GoingLaws, spoken_by, ends_of, spoken-turn, broken-turn, text-is, all-codable, put_by, are-put}
 use Rattle.line_world.proofs.Speaking.{goes-on, ends-so, counts-so, stops-so, adds-part}
 use Rattle.line_world.proofs.modems.Modems.speak.Goals as goal
 
@@ -25,17 +22,17 @@ returns-in-Err-write_turn-clause-speaks g c = λ channel links streams files ts 
     let n = written c.args.names.now in
     let f = g.F.Folder.state c.args.folder.now in
     let new = g.F.Folder.state c.write_turn.new.folder in
-    let t : SpokenTurn channel files ts ends c.args.heard mid c.in-Ok.sent.orig c.in-Ok.sent.answ c.speak.new.self =
-    spoken-turn channel files ts ends c.args.heard mid c.in-Ok.sent.orig c.in-Ok.sent.answ c.speak.new.self c.args.self.now.turn
+    let t : SpokenTurn channel files ts ends c.args.heard.now mid c.in-Ok.sent.orig c.in-Ok.sent.answ c.speak.new.self =
+    spoken-turn channel files ts ends c.args.heard.now mid c.in-Ok.sent.orig c.in-Ok.sent.answ c.speak.new.self c.args.self.now.turn
     h.stands.turn o h.going
     (subst (λ x. SaysBoth c.speak.new.self files (link_of x files) c.args.self.now.turn (served v files (length ts) mid) c.in-Ok.sent.orig
     c.in-Ok.sent.answ) (sym is.script_is) (c.in-Ok.ensures.speaks files (served v files (length ts) mid) h.stands.link)) in
     let sents = spoken_by t.orig t.answ in
-    let text = text-is c.turn_lines-texts.result c.args.self.now.turn ts ends mid c.args.heard c.args.given.now
-    (record { orig = Some c.in-Ok.sent.orig; answ = Some c.in-Ok.sent.answ }) sents
-    c.turn_lines-texts.ensures (o.well Originator) (o.well Answerer) h.stands.turn go ga (λ k. Some (t.orig_sent k)) (λ k. Some (t.answ_sent k)) in
-    stops-so channel f new n files ts ends c.args.heard mid c.in-Err-write_turn.fault c.in-Err-write_turn.ensures.write
-    (adds-part channel f new n files ts ends c.args.heard mid sents Going o (ends_of t.orig t.answ, t.going, t.mid_is)
+    let text = text-is c.args.self.now.turn ts ends mid c.args.heard.now c.args.given.now
+    (Some c.in-Ok.sent) sents
+    (o.well Originator) (o.well Answerer) h.stands.turn go ga (λ k. Some (t.orig_sent k)) (λ k. Some (t.answ_sent k)) in
+    stops-so channel f new n files ts ends c.args.heard.now mid c.in-Err-write_turn.fault c.in-Err-write_turn.ensures.write
+    (adds-part channel f new n files ts ends c.args.heard.now mid sents Going o (ends_of t.orig t.answ, t.going, t.mid_is)
     (subst (PartlyAppended f new n.trace) text c.in-Err-write_turn.ensures.err))
 
 pub send-requires-in-Ok-clause-codable : goal.send-requires-in-Ok-clause-codable
@@ -50,17 +47,16 @@ send-requires-in-Ok-clause-codable g c =
     let is = w.7 in
     let h = w.8 in
     let o = h.stands.overhears in
-    let t : SpokenTurn channel files ts ends c.args.heard mid c.in-Ok.sent.orig c.in-Ok.sent.answ c.speak.new.self =
-    spoken-turn channel files ts ends c.args.heard mid c.in-Ok.sent.orig c.in-Ok.sent.answ c.speak.new.self c.args.self.now.turn
+    let t : SpokenTurn channel files ts ends c.args.heard.now mid c.in-Ok.sent.orig c.in-Ok.sent.answ c.speak.new.self =
+    spoken-turn channel files ts ends c.args.heard.now mid c.in-Ok.sent.orig c.in-Ok.sent.answ c.speak.new.self c.args.self.now.turn
     h.stands.turn o h.going
     (subst (λ x. SaysBoth c.speak.new.self files (link_of x files) c.args.self.now.turn (served v files (length ts) mid) c.in-Ok.sent.orig
     c.in-Ok.sent.answ) (sym is.script_is) (c.in-Ok.ensures.speaks files (served v files (length ts) mid) h.stands.link)) in
-    all-codable c.slots_have_room.ensures.codable channel files ts ends c.args.heard mid c.in-Ok.sent.orig c.in-Ok.sent.answ
-    c.sent_in-sent.result c.speak.new.self c.args.lines.now w.1 w.2 c.args.self.now.dlci c.checks-checks.result
+    all-codable c.slots_have_room.ensures.codable channel files ts ends c.args.heard.now mid c.in-Ok.sent.orig c.in-Ok.sent.answ
+    c.in-Ok.sent c.speak.new.self c.args.lines.now w.1 w.2 c.args.self.now.dlci c.checks-checks.result
     (is.symbols_are ∙ ap (λ x. slot_symbols (longest_of x)) (sym is.script_is)) (subst IsInLimits (sym is.script_is) c.requires.limits) o t w.9
     c.in-Ok.ensures.orig_sendable c.in-Ok.ensures.answ_sendable
-    (taken-back c.sent_in-sent.result.orig c.in-Ok.sent.orig _ _ c.sent_in-sent.ensures.orig (λ k. (c.turn_lines-texts.ensures k).orig.sent) refl)
-    (taken-back c.sent_in-sent.result.answ c.in-Ok.sent.answ _ _ c.sent_in-sent.ensures.answ (λ k. (c.turn_lines-texts.ensures k).answ.sent) refl)
+    refl refl
     (c.checks-checks.ensures files (ends_of t.orig t.answ) t.stands Originator)
     (c.checks-checks.ensures files (ends_of t.orig t.answ) t.stands Answerer)
 
@@ -76,11 +72,11 @@ link_fault-requires g c =
     let is = w.7 in
     let h = w.8 in
     let o = h.stands.overhears in
-    let b = broken-turn channel files ts ends c.args.heard mid c.args.self.now.turn c.in-Err.breaking.role c.in-Err.breaking.fault
+    let b = broken-turn channel files ts ends c.args.heard.now mid c.args.self.now.turn c.in-Err.breaking.role c.in-Err.breaking.fault
     h.stands.turn o h.going
     (subst (λ x. BreaksAt (link_of x files) c.args.self.now.turn (served v files (length ts) mid) c.in-Err.breaking.role c.in-Err.breaking.fault)
     (sym is.script_is) (c.in-Err.ensures.speaks files (served v files (length ts) mid) h.stands.link)) in
-    c.each_turn_is_made.ensures.named _ ts ends (turn_in c.args.heard ends mid none-sent) mid c.in-Err.breaking.role c.in-Err.breaking.fault
+    c.each_turn_is_made.ensures.named _ ts ends (turn_in c.args.heard.now ends mid none-sent) mid c.in-Err.breaking.role c.in-Err.breaking.fault
     (c.scripts_make_links.ensures.ends v files (subst IsInLimits (sym is.script_is) c.requires.limits)) o.run.run b
 
 pub returns-in-Ok-write_turn-clause-speaks : goal.returns-in-Ok-write_turn-clause-speaks
@@ -90,15 +86,15 @@ returns-in-Ok-write_turn-clause-speaks g c = λ channel links streams files ts e
     let n = written c.args.names.now in
     let f = g.F.Folder.state c.args.folder.now in
     let new = g.F.Folder.state c.write_turn.new.folder in
-    let t : SpokenTurn channel files ts ends c.args.heard mid c.in-Ok.sent.orig c.in-Ok.sent.answ c.speak.new.self =
-    spoken-turn channel files ts ends c.args.heard mid c.in-Ok.sent.orig c.in-Ok.sent.answ c.speak.new.self c.args.self.now.turn
+    let t : SpokenTurn channel files ts ends c.args.heard.now mid c.in-Ok.sent.orig c.in-Ok.sent.answ c.speak.new.self =
+    spoken-turn channel files ts ends c.args.heard.now mid c.in-Ok.sent.orig c.in-Ok.sent.answ c.speak.new.self c.args.self.now.turn
     h.stands.turn o h.going
     (subst (λ x. SaysBoth c.speak.new.self files (link_of x files) c.args.self.now.turn (served v files (length ts) mid) c.in-Ok.sent.orig
     c.in-Ok.sent.answ) (sym is.script_is) (c.in-Ok.ensures.speaks files (served v files (length ts) mid) h.stands.link)) in
     let sents = spoken_by t.orig t.answ in
-    let text = text-is c.turn_lines-texts.result c.args.self.now.turn ts ends mid c.args.heard c.args.given.now
-    (record { orig = Some c.in-Ok.sent.orig; answ = Some c.in-Ok.sent.answ }) sents
-    c.turn_lines-texts.ensures (o.well Originator) (o.well Answerer) h.stands.turn go ga (λ k. Some (t.orig_sent k)) (λ k. Some (t.answ_sent k)) in
+    let text = text-is c.args.self.now.turn ts ends mid c.args.heard.now c.args.given.now
+    (Some c.in-Ok.sent) sents
+    (o.well Originator) (o.well Answerer) h.stands.turn go ga (λ k. Some (t.orig_sent k)) (λ k. Some (t.answ_sent k)) in
     let laws : GoingLaws = record {
       play = c.scripts_make_links.ensures.ends;
       delays = c.scripts_make_links.ensures.delays;
@@ -106,17 +102,12 @@ returns-in-Ok-write_turn-clause-speaks g c = λ channel links streams files ts e
       one = c.samples_are_carried.ensures.turn;
       counted = c.segments_are_counted_by_their_numbers.ensures.turn;
     } in
-    let so : c.sent_in-sent.result.orig ≡ c.in-Ok.sent.orig =
-    taken-back c.sent_in-sent.result.orig c.in-Ok.sent.orig _ _ c.sent_in-sent.ensures.orig (λ k. (c.turn_lines-texts.ensures k).orig.sent) refl in
-    let sa : c.sent_in-sent.result.answ ≡ c.in-Ok.sent.answ =
-    taken-back c.sent_in-sent.result.answ c.in-Ok.sent.answ _ _ c.sent_in-sent.ensures.answ (λ k. (c.turn_lines-texts.ensures k).answ.sent) refl in
-    goes-on laws channel c.args.self.now.tally _ c.send-in-Ok.new.self links streams f new n files ts ends c.args.heard mid c.in-Ok.sent.orig
+    goes-on laws channel c.args.self.now.tally _ c.send-in-Ok.new.self links streams f new n files ts ends c.args.heard.now mid c.in-Ok.sent.orig
     c.in-Ok.sent.answ (subst IsInLimits (sym is.script_is) c.requires.limits) (λ k. h.stands.turn k + 1) refl o t h.stands.tally
-    (counts-what c.args.self.now.tally c.send.new.self c.sent_in-sent.result c.in-Ok.sent so sa
-    (record { lost = c.send.ensures.lost; again = c.send.ensures.again; orig = c.send.ensures.orig; answ = c.send.ensures.answ }))
+    (record { lost = c.send.ensures.lost; again = c.send.ensures.again; orig = c.send.ensures.orig; answ = c.send.ensures.answ })
     (c.send-in-Ok.ensures.waits channel links streams (put_by channel.dlci t.orig t.answ) arrived
-    (subst (ArePut (put_by channel.dlci t.orig t.answ) c.sent_in-sent.result c.checks-checks.result) is.dlci_is
-    (are-put channel.dlci t.orig t.answ c.sent_in-sent.result c.checks-checks.result (sym t.orig_sent ∙ sym so) (sym t.answ_sent ∙ sym sa)
+    (subst (ArePut (put_by channel.dlci t.orig t.answ) c.in-Ok.sent c.checks-checks.result) is.dlci_is
+    (are-put channel.dlci t.orig t.answ c.in-Ok.sent c.checks-checks.result (sym t.orig_sent) (sym t.answ_sent)
     (sym (c.checks-checks.ensures files (ends_of t.orig t.answ) t.stands Originator))
     (sym (c.checks-checks.ensures files (ends_of t.orig t.answ) t.stands Answerer)))))
     (subst (Appended f new n.trace) text c.in-Ok-write_turn.ensures.ok)
@@ -133,15 +124,15 @@ returns-in-Ok-write_turn-2-clause-speaks g c = λ channel links streams files ts
     let new = g.F.Folder.state c.write_turn-in-Err.new.folder in
     let role = c.in-Err.breaking.role in
     let fault = c.in-Err.breaking.fault in
-    let b = broken-turn channel files ts ends c.args.heard mid c.args.self.now.turn role fault h.stands.turn o h.going
+    let b = broken-turn channel files ts ends c.args.heard.now mid c.args.self.now.turn role fault h.stands.turn o h.going
     (subst (λ x. BreaksAt (link_of x files) c.args.self.now.turn (served v files (length ts) mid) c.in-Err.breaking.role c.in-Err.breaking.fault)
     (sym is.script_is) (c.in-Err.ensures.speaks files (served v files (length ts) mid) h.stands.link)) in
-    let named = c.each_turn_is_made.ensures.named _ ts ends (turn_in c.args.heard ends mid none-sent) mid role fault
+    let named = c.each_turn_is_made.ensures.named _ ts ends (turn_in c.args.heard.now ends mid none-sent) mid role fault
     (c.scripts_make_links.ensures.ends v files (subst IsInLimits (sym is.script_is) c.requires.limits)) o.run.run b in
-    let text = text-is c.turn_lines-texts-in-Err.result c.args.self.now.turn ts ends mid c.args.heard c.args.given.now
-    (record { orig = None; answ = None }) none-sent
-    c.turn_lines-texts-in-Err.ensures (o.well Originator) (o.well Answerer) h.stands.turn go ga refl refl in
-    rw c.link_fault.ensures (ends-so channel f new n files ts ends c.args.heard mid c.args.self.now.turn role fault h.stands.turn named o b
+    let text = text-is c.args.self.now.turn ts ends mid c.args.heard.now c.args.given.now
+    None none-sent
+    (o.well Originator) (o.well Answerer) h.stands.turn go ga refl refl in
+    rw c.link_fault.ensures (ends-so channel f new n files ts ends c.args.heard.now mid c.args.self.now.turn role fault h.stands.turn named o b
     (subst (Appended f new n.trace) text c.in-Ok-write_turn-2.ensures.ok))
 
 pub returns-in-Ok-write_turn-2-clause-counts : goal.returns-in-Ok-write_turn-2-clause-counts
@@ -156,12 +147,12 @@ returns-in-Ok-write_turn-2-clause-counts g c =
     let is = w.7 in
     let h = w.8 in
     let o = h.stands.overhears in
-    let b = broken-turn channel files ts ends c.args.heard mid c.args.self.now.turn c.in-Err.breaking.role c.in-Err.breaking.fault
+    let b = broken-turn channel files ts ends c.args.heard.now mid c.args.self.now.turn c.in-Err.breaking.role c.in-Err.breaking.fault
     h.stands.turn o h.going
     (subst (λ x. BreaksAt (link_of x files) c.args.self.now.turn (served v files (length ts) mid) c.in-Err.breaking.role c.in-Err.breaking.fault)
     (sym is.script_is) (c.in-Err.ensures.speaks files (served v files (length ts) mid) h.stands.link)) in
     let named = c.each_turn_is_made.ensures.named _ ts ends
-    (turn_in c.args.heard ends mid none-sent) mid c.in-Err.breaking.role c.in-Err.breaking.fault
+    (turn_in c.args.heard.now ends mid none-sent) mid c.in-Err.breaking.role c.in-Err.breaking.fault
     (c.scripts_make_links.ensures.ends v files (subst IsInLimits (sym is.script_is) c.requires.limits)) o.run.run b in
     rw c.link_fault.ensures (counts-so _ _
     (written c.args.names.now) c.args.self.now.turn c.in-Err.breaking.role c.in-Err.breaking.fault named
@@ -176,14 +167,14 @@ returns-in-Err-write_turn-2-clause-speaks g c = λ channel links streams files t
     let new = g.F.Folder.state c.write_turn-in-Err.new.folder in
     let role = c.in-Err.breaking.role in
     let fault = c.in-Err.breaking.fault in
-    let b = broken-turn channel files ts ends c.args.heard mid c.args.self.now.turn role fault h.stands.turn o h.going
+    let b = broken-turn channel files ts ends c.args.heard.now mid c.args.self.now.turn role fault h.stands.turn o h.going
     (subst (λ x. BreaksAt (link_of x files) c.args.self.now.turn (served v files (length ts) mid) c.in-Err.breaking.role c.in-Err.breaking.fault)
     (sym is.script_is) (c.in-Err.ensures.speaks files (served v files (length ts) mid) h.stands.link)) in
-    let text = text-is c.turn_lines-texts-in-Err.result c.args.self.now.turn ts ends mid c.args.heard c.args.given.now
-    (record { orig = None; answ = None }) none-sent
-    c.turn_lines-texts-in-Err.ensures (o.well Originator) (o.well Answerer) h.stands.turn go ga refl refl in
-    stops-so channel f new n files ts ends c.args.heard mid c.in-Err-write_turn-2.fault c.in-Err-write_turn-2.ensures.write
-    (adds-part channel f new n files ts ends c.args.heard mid none-sent (Broken role fault) o b
+    let text = text-is c.args.self.now.turn ts ends mid c.args.heard.now c.args.given.now
+    None none-sent
+    (o.well Originator) (o.well Answerer) h.stands.turn go ga refl refl in
+    stops-so channel f new n files ts ends c.args.heard.now mid c.in-Err-write_turn-2.fault c.in-Err-write_turn-2.ensures.write
+    (adds-part channel f new n files ts ends c.args.heard.now mid none-sent (Broken role fault) o b
     (subst (PartlyAppended f new n.trace) text c.in-Err-write_turn-2.ensures.err))
 
 pub returns-in-Ok-write_turn-clause-idle : goal.returns-in-Ok-write_turn-clause-idle
@@ -213,12 +204,6 @@ returns-in-Err-write_turn-2-clause-only g c = c.write_turn-in-Err.ensures.only
 pub returns-in-Err-write_turn-2-clause-counts : goal.returns-in-Err-write_turn-2-clause-counts
 returns-in-Err-write_turn-2-clause-counts g c = c.in-Err-write_turn-2.ensures.counts
 
-pub sent_in-sent-requires-clause-orig : goal.sent_in-sent-requires-clause-orig
-sent_in-sent-requires-clause-orig g c = ap (λ (x : Both TraceLine). is_some x.orig.sent) c.turn_lines-texts.ensures
-
-pub sent_in-sent-requires-clause-answ : goal.sent_in-sent-requires-clause-answ
-sent_in-sent-requires-clause-answ g c = ap (λ (x : Both TraceLine). is_some x.answ.sent) c.turn_lines-texts.ensures
-
 pub send-requires-clause-again : goal.send-requires-clause-again
 send-requires-clause-again g c = omega (arith, c.requires.few.again, c.requires.early)
 
@@ -229,16 +214,10 @@ pub send-requires-clause-answ : goal.send-requires-clause-answ
 send-requires-clause-answ g c = omega (arith, c.requires.few.answ, c.requires.early)
 
 pub send-requires-in-Ok-clause-orig_sendable : goal.send-requires-in-Ok-clause-orig_sendable
-send-requires-in-Ok-clause-orig_sendable g c =
-    subst IsSendable
-    (sym (taken-back c.sent_in-sent.result.orig c.in-Ok.sent.orig _ _ c.sent_in-sent.ensures.orig (λ k. (c.turn_lines-texts.ensures k).orig.sent) refl))
-    c.in-Ok.ensures.orig_sendable
+send-requires-in-Ok-clause-orig_sendable g c = c.in-Ok.ensures.orig_sendable
 
 pub send-requires-in-Ok-clause-answ_sendable : goal.send-requires-in-Ok-clause-answ_sendable
-send-requires-in-Ok-clause-answ_sendable g c =
-    subst IsSendable
-    (sym (taken-back c.sent_in-sent.result.answ c.in-Ok.sent.answ _ _ c.sent_in-sent.ensures.answ (λ k. (c.turn_lines-texts.ensures k).answ.sent) refl))
-    c.in-Ok.ensures.answ_sendable
+send-requires-in-Ok-clause-answ_sendable g c = c.in-Ok.ensures.answ_sendable
 
 pub send-requires-in-Ok-clause-room : goal.send-requires-in-Ok-clause-room
 send-requires-in-Ok-clause-room g c =

@@ -15,7 +15,7 @@ returns-in_err-push-clause-stands c = λ mode samples earlier h.
     let p = err_from_is_err_and c.from_residual.result c.from_residual.ensures.1 in
     let stands = c.in_err-push.ensures.stands mode at_beginning samples h.read h.hears.reader in
     let hearer : Hearer = record { reader = c.push.new.self; ear = c.args.self.now.ear } in
-    subst (λ (r : Result Tally Lost). HearsSample mode hearer all c.args.slot.check c.args.slot.sender c.args.slot.dlci c.args.slot.sent.now
+    subst (λ (r : Result Tally Lost). HearsSample mode hearer all c.args.slot.framing.check c.args.slot.framing.sender c.args.slot.framing.dlci c.args.slot.sent.now
     earlier r) (sym (p.1 ∙ ap Err p.2))
     (subst (λ (l : Option ℕ). LostIs line_trellis line_depth all l) c.in_err-push.ensures.answer stands.decoder.lost)
 

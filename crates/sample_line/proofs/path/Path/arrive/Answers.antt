@@ -14,7 +14,7 @@ returns-clause-arrives c = λ points earlier h.
     let heard = c.hear.ensures.stands (mode_of c.args.self.now.transmitter.sender) h.carries.samples earlier
     (record { read = h.read; hears = h.carries.hears; tallies = h.tallies }) in
     arrived c.send-sample.new.self c.hear.new.self c.args.script.now
-    (points ++ point_of c.args.label ∷ []) samples slot.check slot.sender slot.dlci slot.sent.now earlier c.hear.result sent
+    (points ++ point_of c.args.label ∷ []) samples slot.framing.check slot.framing.sender slot.framing.dlci slot.sent.now earlier c.hear.result sent
     (subst (λ (r : Role). HearsSample
-    (mode_of r) c.hear.new.self samples slot.check slot.sender slot.dlci slot.sent.now earlier c.hear.result)
+    (mode_of r) c.hear.new.self samples slot.framing.check slot.framing.sender slot.framing.dlci slot.sent.now earlier c.hear.result)
     (sym c.send-sample.ensures.sender) heard)

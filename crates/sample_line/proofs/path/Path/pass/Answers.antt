@@ -12,7 +12,7 @@ use Rattle.sample_line.proofs.path.Path.pass.Goals as goal
 
 pub loop-place-init : goal.loop-place-init
 loop-place-init c = record {
-  carries = λ before earlier h. begun c.args.self.now c.args.script.now before earlier c.args.slot.check c.args.slot.sender c.args.slot.dlci
+  carries = λ before earlier h. begun c.args.self.now c.args.script.now before earlier c.args.slot.framing.check c.args.slot.framing.sender c.args.slot.framing.dlci
       c.args.slot.sent.now h;
   sender = refl;
   symbol = omega arith;
@@ -29,9 +29,9 @@ loop-place-preserved c = record {
       let came = c.arrive.ensures.arrives (before ++ map point_of (take place c.args.labels.now)) earlier
       (c.loop-place.invariant.carries before earlier h) in
       let now = subst (λ (r : Result Tally Lost). Arrives c.arrive.new.self c.args.script.now
-      ((before ++ map point_of (take place c.args.labels.now)) ++ point_of c.label.result ∷ []) c.args.slot.check c.args.slot.sender
-      c.args.slot.dlci c.args.slot.sent.now earlier r) c.in_ok-tally.was came in
-      subst (λ (xs : List Sample). CarriesBetween c.arrive.new.self c.args.script.now xs c.args.slot.check c.args.slot.sender c.args.slot.dlci
+      ((before ++ map point_of (take place c.args.labels.now)) ++ point_of c.label.result ∷ []) c.args.slot.framing.check c.args.slot.framing.sender
+      c.args.slot.framing.dlci c.args.slot.sent.now earlier r) c.in_ok-tally.was came in
+      subst (λ (xs : List Sample). CarriesBetween c.arrive.new.self c.args.script.now xs c.args.slot.framing.check c.args.slot.framing.sender c.args.slot.framing.dlci
       c.args.slot.sent.now earlier c.in_ok-tally.tally)
       (points-part before c.args.labels.now place c.label.result within c.label.ensures.value) now;
   sender = c.arrive.ensures.sender ∙ c.loop-place.invariant.sender;
@@ -49,7 +49,7 @@ returns-in_err-tally-clause-passes c = λ before earlier h.
     let came = c.in_err-tally.ensures.arrives (before ++ map point_of (take place c.args.labels.now)) earlier
     (c.loop-place.invariant.carries before earlier h) in
     subst (λ (r : Result Tally Lost). PassesPoints c.arrive.new.self c.args.script.now before
-    (map point_of c.args.labels.now) c.args.slot.check c.args.slot.sender c.args.slot.dlci c.args.slot.sent.now earlier r)
+    (map point_of c.args.labels.now) c.args.slot.framing.check c.args.slot.framing.sender c.args.slot.framing.dlci c.args.slot.sent.now earlier r)
     (sym (p.1 ∙ ap Err p.2))
     (lost-among c.arrive.new.self.transmitter.sender c.args.script.now before _ c.args.labels.now (place + 1) c.in_err-tally.field-0.0.symbol
     (points-part before c.args.labels.now place c.label.result within c.label.ensures.value) came)
@@ -59,5 +59,5 @@ returns-clause-passes c = λ before earlier h.
     let all : take c.loop-place.place c.args.labels.now ≡ c.args.labels.now =
     take_all c.loop-place.place c.args.labels.now (omega (arith, c.loop-place-test.false, c.len-place-end.ensures.count)) in
     subst (λ (xs : List ℕ). CarriesBetween c.loop-place.self c.args.script.now
-    (before ++ map point_of xs) c.args.slot.check c.args.slot.sender c.args.slot.dlci c.args.slot.sent.now earlier c.loop-place.tally) all
+    (before ++ map point_of xs) c.args.slot.framing.check c.args.slot.framing.sender c.args.slot.framing.dlci c.args.slot.sent.now earlier c.loop-place.tally) all
     (c.loop-place.invariant.carries before earlier h)

@@ -8,7 +8,7 @@ abbrev pub invariant-loop-place : goal.invariant-loop-place
 invariant-loop-place l = record {
   carries : (before : List Sample) (earlier : List Bool) → Carries l.fn.self l.script before earlier
       → CarriesBetween l.self l.script
-      (before ++ map point_of (take l.place l.labels)) l.slot.check l.slot.sender l.slot.dlci l.slot.sent.now earlier l.tally;
+      (before ++ map point_of (take l.place l.labels)) l.slot.framing.check l.slot.framing.sender l.slot.framing.dlci l.slot.sent.now earlier l.tally;
   sender : l.self.transmitter.sender ≡ l.fn.self.transmitter.sender;
   symbol : l.self.transmitter.symbol ≡ l.fn.self.transmitter.symbol + l.place;
   count : l.self.hearer.reader.decoder.count ≤ l.fn.self.hearer.reader.decoder.count + l.place;

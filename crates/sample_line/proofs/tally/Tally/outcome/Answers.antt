@@ -1,4 +1,4 @@
-use Rattle.std.proofs.Common.{sym, subst}
+use Rattle.std.proofs.Common.{refl, sym, subst}
 use Rattle.lapm_frames.specs.declared.heard.Heard.TheVariants.{Passed}
 use Rattle.sample_line.specs.Outcomes.{IsOutcome}
 use Rattle.sample_line.specs.Tallies.{Tallies}
@@ -6,6 +6,6 @@ use Rattle.sample_line.proofs.tally.Tally.outcome.Goals as goal
 
 pub returns-in-AsSent : goal.returns-in-AsSent
 returns-in-AsSent c sender dlci octets patterns tallies =
-    let sent = c.args.sent.now in
-    subst (λ loses. IsOutcome loses sender dlci sent octets patterns (Passed c.copy_of.result)) (sym c.if-loses.false)
-    (c.copy_of.ensures, subst (Tallies sender dlci sent octets patterns) c.in-AsSent.is tallies)
+    let sent = c.args.sent in
+    subst (λ loses. IsOutcome loses sender dlci sent octets patterns (Passed sent)) (sym c.if-loses.false)
+    (refl, subst (Tallies sender dlci sent octets patterns) c.in-AsSent.is tallies)
