@@ -10,13 +10,10 @@ use crate::transfer::copy_from;
 use frame_check::Octets;
 use outside_calls::{Folder, FolderFault};
 
-/// The most octets of a turn's trace: two lines, each of at most 160 octets with its line feed.
-pub const HELD: usize = 320;
-
-/// A folder over another one, for an audit. Reads go on to that one. Of what is written to the outputs of a run only the trace is held, as
-/// much as one turn writes.
+/// A folder over another one, for an audit. Reads go on to that one. Of what is written to the outputs of a run only the trace is held, up to
+/// HELD octets, which are as many as one turn writes.
 #[derive(Drop)]
-pub struct AuditFolder<'a, F> {
+pub struct AuditFolder<'a, F, const HELD: usize> {
     /// The folder handed in.
     inner: &'a mut F,
     /// What the originator received: not held.
@@ -31,14 +28,14 @@ pub struct AuditFolder<'a, F> {
     refusals: u64,
 }
 
-impl<'a, F: Folder> AuditFolder<'a, F> {
+impl<'a, F: Folder, const HELD: usize> AuditFolder<'a, F, HELD> {
     /// A folder over that one which holds no octet.
     pub fn new(
         inner: &'a mut F,
         got_o: &'a str,
         got_a: &'a str,
         trace: &'a str,
-    ) -> AuditFolder<'a, F>
+    ) -> AuditFolder<'a, F, HELD>
         ensures same_reference { result.inner.ghost_name ≡ inner.entry.ghost_name }
         ensures inner { result.inner.now ≡ inner.old }
         ensures got_o { result.got_o.now ≡ got_o.now }
@@ -75,7 +72,7 @@ fn refused(refusals: &mut u64) -> FolderFault
     FolderFault::NoMemory
 }
 
-impl<F: Folder> Folder for AuditFolder<'_, F> {
+impl<F: Folder, const HELD: usize> Folder for AuditFolder<'_, F, HELD> {
     ghost state = { λ f. audit_state (F.state f.inner.now)
         (swallowed f.got_o.now f.got_a.now f.trace.now) f.text f.refusals };
 

@@ -15,7 +15,7 @@ mod store;
 mod sure;
 mod transfer;
 
-pub use audit::{AuditFolder, HELD};
+pub use audit::AuditFolder;
 pub use disk::DiskFolder;
 pub use store::Store;
 pub use sure::SureFolder;

@@ -13,9 +13,9 @@ use crate::readable::{traces_are_read, traces_have_lines};
 use command_base::Stop;
 use frame_check::Octets;
 use line_world::laws::turns_are_few;
-use line_world::{Names, RunFault, Step, World};
+use line_world::{Names, RunFault, Step, TURN_TEXT, World};
 use outside_calls::{Folder, FolderFault};
-use program_folders::{AuditFolder, HELD};
+use program_folders::AuditFolder;
 
 /// A turn that was made.
 #[derive(Drop)]
@@ -23,31 +23,30 @@ pub(crate) struct MadeTurn {
     /// Whether the run goes on behind it.
     pub(crate) goes_on: bool,
     /// The lines that it adds to the trace.
-    pub(crate) text: Octets<HELD>,
+    pub(crate) text: Octets<TURN_TEXT>,
 }
 
 /// What a turn answers over a folder of an audit, and the text that this then holds.
-#[derive(Drop)]
-struct Watching {
-    step: Result<Step, RunFault>,
-    text: Octets<HELD>,
-}
-
-/// A turn over a folder of an audit.
-fn watch_turn<F: Folder>(world: &mut World, folder: &mut F, names: &Names<'_>) -> Watching
+fn watch_turn<F: Folder>(
+    world: &mut World,
+    folder: &mut F,
+    names: &Names<'_>,
+) -> (Result<Step, RunFault>, Octets<TURN_TEXT>)
     requires ready { IsReady world.old }
     requires apart { AreApartFrom (inputs_of (written names.now)) (outputs_of (written names.now)) }
-    ensures watched { Watched world.old world.new (F.state folder.old) (F.state folder.new) (written names.now) result.step result.text }
+    ensures watched { Watched world.old world.new (F.state folder.old) (F.state folder.new) (written names.now) result.0 result.1 }
     ensures script { script_of world.new ≡ script_of world.old }
-    ensures ready { result.step ≡ Ok Step.Going → IsReady world.new }
-    ensures number { turn_of world.new ≡ turns_made (turn_of world.old) result.step }
+    ensures ready { result.0 ≡ Ok Step.Going → IsReady world.new }
+    ensures number { turn_of world.new ≡ turns_made (turn_of world.old) result.0 }
 {
-    let mut watching = AuditFolder::new(folder, names.got_o, names.got_a, names.trace);
+    let mut watching = AuditFolder::<_, TURN_TEXT>::new(
+        folder,
+        names.got_o,
+        names.got_a,
+        names.trace,
+    );
     let step = world.turn(&mut watching, names);
-    Watching {
-        step,
-        text: watching.text(),
-    }
+    (step, watching.text())
 }
 
 /// Whether the run goes on behind a turn, or why the audit stops in it.
@@ -88,12 +87,9 @@ pub(crate) fn make_turn<F: Folder>(
     turns_are_few();
     traces_are_read();
     traces_have_lines();
-    let watching = watch_turn(world, folder, names);
-    match step_end(watching.step) {
-        Ok(goes_on) => Ok(MadeTurn {
-            goes_on,
-            text: watching.text,
-        }),
+    let (step, text) = watch_turn(world, folder, names);
+    match step_end(step) {
+        Ok(goes_on) => Ok(MadeTurn { goes_on, text }),
         Err(stop) => Err(stop),
     }
 }

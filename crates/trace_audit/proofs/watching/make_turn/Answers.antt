@@ -18,42 +18,42 @@ returns-in-Ok-clause-made g c = λ before s.
       };
     } in
     let w = c.args.world.now in
-    let v = c.watch_turn-watching.new.world in
+    let v = c.watch_turn-step.new.world in
     let old : FolderState = g.F.Folder.state c.args.folder.now in
-    let new : FolderState = g.F.Folder.state c.watch_turn-watching.new.folder in
-    let watching = c.watch_turn-watching.result in
-    made laws w v old new (written c.args.names.now) watching.step watching.text c.in-Ok.goes_on c.requires.apart c.requires.ready.limits
-    c.requires.asks c.watch_turn-watching.ensures.script (c.turns_are_few.ensures w c.requires.ready)
-    c.watch_turn-watching.ensures.watched (sym c.step_end.ensures ∙ c.in-Ok.is) before s
+    let new : FolderState = g.F.Folder.state c.watch_turn-step.new.folder in
+    let watching = c.watch_turn-step.result in
+    made laws w v old new (written c.args.names.now) watching.0 watching.1 c.in-Ok.goes_on c.requires.apart c.requires.ready.limits
+    c.requires.asks c.watch_turn-step.ensures.script (c.turns_are_few.ensures w c.requires.ready)
+    c.watch_turn-step.ensures.watched (sym c.step_end.ensures ∙ c.in-Ok.is) before s
 
 pub returns-in-Ok-clause-ready : goal.returns-in-Ok-clause-ready
 returns-in-Ok-clause-ready g c = λ on.
-    c.watch_turn-watching.ensures.ready
-    (going-step c.watch_turn-watching.result.step (sym c.step_end.ensures ∙ c.in-Ok.is ∙ ap (λ (b : Bool). Ok b) on))
+    c.watch_turn-step.ensures.ready
+    (going-step c.watch_turn-step.result.0 (sym c.step_end.ensures ∙ c.in-Ok.is ∙ ap (λ (b : Bool). Ok b) on))
 
 pub returns-in-Ok-clause-counts : goal.returns-in-Ok-clause-counts
 returns-in-Ok-clause-counts g c =
-    let watching = c.watch_turn-watching.result in
-    end-counts c.args.world.now c.watch_turn-watching.new.world (g.F.Folder.state c.args.folder.now)
-    (g.F.Folder.state c.watch_turn-watching.new.folder) (written c.args.names.now) watching.text watching.step (Ok c.in-Ok.goes_on)
-    c.watch_turn-watching.ensures.watched (sym c.step_end.ensures ∙ c.in-Ok.is)
+    let watching = c.watch_turn-step.result in
+    end-counts c.args.world.now c.watch_turn-step.new.world (g.F.Folder.state c.args.folder.now)
+    (g.F.Folder.state c.watch_turn-step.new.folder) (written c.args.names.now) watching.1 watching.0 (Ok c.in-Ok.goes_on)
+    c.watch_turn-step.ensures.watched (sym c.step_end.ensures ∙ c.in-Ok.is)
 
 pub returns-in-Ok-clause-number : goal.returns-in-Ok-clause-number
 returns-in-Ok-clause-number g c = λ on.
-    c.watch_turn-watching.ensures.number
+    c.watch_turn-step.ensures.number
     ∙ ap (turns_made (turn_of c.args.world.now))
-    (going-step c.watch_turn-watching.result.step (sym c.step_end.ensures ∙ c.in-Ok.is ∙ ap (λ (b : Bool). Ok b) on))
+    (going-step c.watch_turn-step.result.0 (sym c.step_end.ensures ∙ c.in-Ok.is ∙ ap (λ (b : Bool). Ok b) on))
 
 pub returns-in-Err-clause-stops : goal.returns-in-Err-clause-stops
 returns-in-Err-clause-stops g c =
-    let watching = c.watch_turn-watching.result in
-    stops-reading c.args.world.now c.watch_turn-watching.new.world (g.F.Folder.state c.args.folder.now)
-    (g.F.Folder.state c.watch_turn-watching.new.folder) (written c.args.names.now) watching.text watching.step (Err c.in-Err.stop)
-    c.watch_turn-watching.ensures.watched (sym c.step_end.ensures ∙ c.in-Err.is)
+    let watching = c.watch_turn-step.result in
+    stops-reading c.args.world.now c.watch_turn-step.new.world (g.F.Folder.state c.args.folder.now)
+    (g.F.Folder.state c.watch_turn-step.new.folder) (written c.args.names.now) watching.1 watching.0 (Err c.in-Err.stop)
+    c.watch_turn-step.ensures.watched (sym c.step_end.ensures ∙ c.in-Err.is)
 
 pub returns-in-Err-clause-counts : goal.returns-in-Err-clause-counts
 returns-in-Err-clause-counts g c =
-    let watching = c.watch_turn-watching.result in
-    end-counts c.args.world.now c.watch_turn-watching.new.world (g.F.Folder.state c.args.folder.now)
-    (g.F.Folder.state c.watch_turn-watching.new.folder) (written c.args.names.now) watching.text watching.step (Err c.in-Err.stop)
-    c.watch_turn-watching.ensures.watched (sym c.step_end.ensures ∙ c.in-Err.is)
+    let watching = c.watch_turn-step.result in
+    end-counts c.args.world.now c.watch_turn-step.new.world (g.F.Folder.state c.args.folder.now)
+    (g.F.Folder.state c.watch_turn-step.new.folder) (written c.args.names.now) watching.1 watching.0 (Err c.in-Err.stop)
+    c.watch_turn-step.ensures.watched (sym c.step_end.ensures ∙ c.in-Err.is)
