@@ -15,7 +15,8 @@ use Rattle.outside_calls.specs.Folder.{FolderState, held_at, octets_at}
 use Rattle.outside_calls.proofs.Steps.{octets-held}
 use Rattle.recordings.specs.declared.rate.Rate.{Rate}
 use Rattle.recordings.specs.declared.rate.Rate.TheVariants.{Trellis, Quarters}
-use Rattle.recordings.specs.Recording.{mode_number, header_at, sample_octets, IsRecordingOf}
+use Rattle.recordings.specs.Recording.{mode_number, header_at, sample_octets}
+use Rattle.signal_commands.specs.Encoding.Recorder.{IsRecordingOf}
 use Rattle.recordings.specs.Samples.{samples_in}
 use Rattle.command_base.specs.declared.status.Status.{Status}
 use Rattle.command_base.specs.declared.status.Status.TheVariants.{Done, NoMemory}

@@ -23,7 +23,8 @@ use Rattle.rate_4800.specs.Code as quarters
 use Rattle.rate_4800.proofs.Twos as quarter_bits
 use Rattle.recordings.specs.declared.rate.Rate.{Rate}
 use Rattle.recordings.specs.declared.rate.Rate.TheVariants.{Trellis, Quarters}
-use Rattle.recordings.specs.Recording.{sample_octets, ModulatesAt}
+use Rattle.recordings.specs.Recording.{sample_octets}
+use Rattle.signal_commands.specs.Encoding.Recorder.{ModulatesAt}
 use Rattle.recordings.specs.Samples.{samples_in}
 use Rattle.recordings.proofs.Samples.{samples_in-append}
 use Rattle.signal_commands.specs.Decoding.Rates.{trellis_at, DemodulatesAt}

@@ -3,7 +3,7 @@ use Rattle.plain_lists.specs.Bits.{bits_of}
 use Rattle.symbol_map.specs.declared.sample.Sample.{Sample}
 use Rattle.line_coding.specs.Modulates.{ModulatorStands}
 use Rattle.recordings.proofs.Octets.{bits-more, two-more, count-more, length-more}
-use Rattle.recordings.proofs.recorder.put_two.Goals as goal
+use Rattle.signal_commands.proofs.encode.recorder.put_two.Goals as goal
 
 pub returns-clause-stands : goal.returns-clause-stands
 returns-clause-stands g c = λ mode octets recorded s.

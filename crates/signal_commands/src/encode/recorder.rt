@@ -4,13 +4,12 @@ ghost use Rattle.scramblers.specs.declared.mode.Mode.{Mode};
 ghost use Rattle.line_coding.specs.Modulates.{ModulatorStands};
 ghost use Rattle.rate_4800.specs.Modulates.{ModulatorStands as QuarterModulatorStands};
 ghost use Rattle.recordings.specs.declared.rate.Rate.{Rate};
-ghost use Rattle.recordings.specs.Recording.{Records, RecorderStands};
+ghost use Rattle.signal_commands.specs.Encoding.Recorder.{Records, RecorderStands};
 
-use crate::rate::Rate;
-use crate::sample::octets_of_two;
 use frame_check::Octets;
 use line_coding::Modulator;
 use rate_4800::Modulator as QuarterModulator;
+use recordings::{Rate, octets_of_two};
 use scramblers::Mode;
 
 /// How many octets of a recording one octet that is sent becomes at most.

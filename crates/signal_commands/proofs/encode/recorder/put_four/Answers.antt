@@ -4,7 +4,7 @@ use Rattle.symbol_map.specs.declared.sample.Sample.{Sample}
 use Rattle.rate_4800.specs.Modulates.{ModulatorStands}
 use Rattle.recordings.specs.Recording.{sample_octets}
 use Rattle.recordings.proofs.Octets.{bits-by-twos, two-more, count-more, length-more}
-use Rattle.recordings.proofs.recorder.put_four.Goals as goal
+use Rattle.signal_commands.proofs.encode.recorder.put_four.Goals as goal
 
 pub returns-clause-stands : goal.returns-clause-stands
 returns-clause-stands g c = λ mode octets recorded s.
