@@ -30,10 +30,10 @@ use Rattle.run_inputs.specs.Inputs.{RefusesOwn}
 use Rattle.line_run.specs.Names.{Written}
 use Rattle.line_run.specs.Names as written
 use Rattle.line_world.specs.Turns.{held_of}
-use Rattle.run_commands.specs.Running.Headline.{HoldsWhole}
-use Rattle.run_commands.specs.Running.ReadOff.{AreReadOff}
-use Rattle.run_commands.proofs.Running.Headline.{prefix-later}
-use Rattle.run_commands.proofs.Running.ReadingOff.{run-read, turns-read}
+use Rattle.run_inputs.specs.Files.{HoldsWhole}
+use Rattle.line_ends.specs.ReadOff.{AreReadOff}
+use Rattle.run_inputs.proofs.Files.{prefix-later}
+use Rattle.line_ends.proofs.ReadingOff.{run-read, turns-read}
 use Rattle.pair_run.specs.Beside.{first_wire, second_wire}
 use Rattle.pair_run.specs.Pair.{Progress, Goes, Ended, turns_in, Lasts}
 use Rattle.pair_run.specs.Ends.{PairEnd, BothDone, LinkLost, NotDetected, LineLost, ChanceMatch, LeavesOf, PairRunsTo, by_links, by_line}
@@ -44,7 +44,6 @@ use Rattle.link_pair.specs.Words.{Names, files_of, inputs_of}
 use Rattle.link_pair.specs.Answers.{answer_of, result_of}
 use Rattle.link_pair.specs.Ends.{AreFiles, RanTo, EndsBy, pair_job}
 use Rattle.link_pair.specs.Ends as ends
-use Rattle.link_pair.specs.Isolates.{AreTold}
 use Rattle.link_pair.specs.Headline.{heard_in, CauseIn, LinkRan, Came, came_of, Ran, RanBy, Headline}
 use Rattle.link_pair.proofs.Running.{few-of}
 use Rattle.link_pair.proofs.Refusing.{own-answer}

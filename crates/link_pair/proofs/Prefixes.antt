@@ -25,8 +25,9 @@ use Rattle.run_inputs.specs.declared.limits.TheConstants.{LIMITS}
 use Rattle.line_run.specs.Names.{Written}
 use Rattle.line_run.specs.Names as written
 use Rattle.line_world.specs.Turns.{AddsTurn, held_of}
-use Rattle.run_commands.specs.Running.Headline.{KeptOrPrefix}
-use Rattle.run_commands.proofs.Running.Prefixes.{RunLaws, prefix-of, part-of, empty-of}
+use Rattle.run_inputs.specs.Files.{KeptOrPrefix}
+use Rattle.line_ends.proofs.RunLaws.{RunLaws}
+use Rattle.run_inputs.proofs.Files.{prefix-of, part-of, empty-of}
 use Rattle.pair_run.specs.Beside.{first_wire, second_wire}
 use Rattle.pair_run.specs.Pair.{Progress, Goes, Ended, turns_in, Lasts, PairAt}
 use Rattle.pair_run.specs.Ends.{Which, First, Second, BothDone, firsts_at}

@@ -10,6 +10,8 @@ use Rattle.link_run.specs.Taken.{taken_octets}
 use Rattle.line_run.specs.Ends.{RunEnd, RunsTo, turns_heard}
 use Rattle.line_run.specs.Ends as runs
 use Rattle.line_run.specs.Scripted.{wire_of, link_of}
+use Rattle.line_ends.proofs.ReadingOff.{run-read}
+use Rattle.line_ends.proofs.RunLaws.{RunLaws, may-run}
 use Rattle.command_base.specs.declared.status.Status.{Status}
 use Rattle.command_base.specs.declared.status.Status.TheVariants.{Done}
 use Rattle.command_base.specs.declared.status.Status.TheVariants.{LineLost, NotDetected, LinkLost, ChanceMatch}
@@ -20,20 +22,16 @@ use Rattle.outside_calls.specs.Outputs.{Holds, KeepsAll, OnlyOutputs}
 use Rattle.outside_calls.proofs.Holding.{Holds-kept}
 use Rattle.command_base.proofs.Jobs.{last-only, done-of, shared-of}
 use Rattle.run_inputs.proofs.Answering.{is_run_end, run-ends-own, stopped-so}
+use Rattle.run_inputs.proofs.Files.{prefix-later}
 use Rattle.run_inputs.specs.declared.limits.TheConstants.{LIMITS}
+use Rattle.run_inputs.specs.Files.{HoldsWhole}
 use Rattle.run_inputs.specs.Words.{RunNames, files_of}
 use Rattle.run_inputs.specs.Inputs.{RefusesOwn}
 use Rattle.run_commands.specs.Running.Ends.{RanTo, EndsBy, run_job}
 use Rattle.run_commands.specs.Running.Ends as ends
-use Rattle.run_commands.specs.Running.Headline.{KeptOrPrefix, HoldsWhole, Ran, RanBy, Headline}
-use Rattle.run_commands.proofs.Running.Prefixes.{RunLaws, BothPrefix, may-run, both-of}
-use Rattle.run_commands.proofs.Running.ReadingOff.{run-read}
+use Rattle.run_commands.specs.Running.Headline.{Ran, RanBy, Headline}
+use Rattle.run_commands.proofs.Running.Prefixes.{BothPrefix, both-of}
 use Rattle.run_commands.proofs.Running.Tapes.{are-of, tapes-last, begun-last, tapes-of}
-
-pub prefix-later : (old before new : FolderState) (got sent : List ℕ) → GoesOn old before → KeepsName before new got
-    → KeptOrPrefix old before got sent → KeptOrPrefix old new got sent
-prefix-later old before new got sent g k (inl h) = inl (KeepsName-trans old before new got g h k)
-prefix-later old before new got sent g k (inr h) = inr (λ ts tg. let p = h ts tg in (p.0, k (told_later g got tg) ∙ p.1, p.2))
 
 -- a run that is done
 whole-of : RunLaws → (old before new : FolderState) (n : RunNames) (turn : ℕ) → GoesOn old before → KeepsAll before new

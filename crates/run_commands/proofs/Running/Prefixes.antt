@@ -31,63 +31,11 @@ use Rattle.run_inputs.specs.declared.limits.TheConstants.{LIMITS}
 use Rattle.run_inputs.specs.Words.{RunNames, texts_of, outputs_of}
 use Rattle.line_world.specs.Turns.{AddsTurn, AddsChance, StopsAfter, held_of}
 use Rattle.outside_calls.specs.Outputs.{HoldPart}
+use Rattle.run_inputs.specs.Files.{KeptOrPrefix}
 use Rattle.run_inputs.proofs.Answering.{stopped-by}
+use Rattle.run_inputs.proofs.Files.{prefix-of, part-of, empty-of}
+use Rattle.line_ends.proofs.RunLaws.{RunLaws, may-run, runs-over}
 use Rattle.run_commands.specs.Running.Ends.{RanTo, StopsInTurn, StopsHeading, RanBy, EndsBy, Ends as EndsSo}
-use Rattle.run_commands.specs.Running.Headline.{KeptOrPrefix}
-
--- the laws of runs that the headline rests on
-pub record RunLaws : Type 0 where
-  pub play : ScriptsMayPlay
-  pub delays : ScriptsHaveDelays
-  pub carried : SamplesAreCarried
-  pub one : OneIsCarried
-  pub takes : TakesPrefixes
-  pub hears : HearsPrefixes
-  pub delivers : HearingsDeliver
-  pub prefixes : RunsLeavePrefixes
-  pub whole : DoneLeavesWhole
-  pub passed : RunsLeaveWhatPassed
-  pub soon : LineRunsEndSoon
-  pub causes : EndsHaveCauses
-  pub least : OfEachCode ReleasedIsLeast
-
-pub may-run : RunLaws → (script : ScriptValue) (files : Both (List ℕ)) → IsInLimits script
-    → MayRun (wire_of script) (link_of script files)
-may-run laws script files limits = record { may_play = laws.play script files limits; delays = laws.delays script limits }
-
-runs-over : RunLaws → (script : ScriptValue) (files : Both (List ℕ)) (ts : List Turn) (ends : Accounts) → IsInLimits script
-    → LineRun (wire_of script) (link_of script files) ts ends
-    → RunsOver (link_of script files) (delay_of script) ts ends
-runs-over laws script files ts ends limits r =
-    record {
-      may_play = laws.play script files limits;
-      delays = laws.delays script limits;
-      carried = laws.carried (wire_of script) ts r.heard;
-      run = r.run;
-    }
-
--- what a received file holds begins the file that was read
-pub prefix-of : (old before : FolderState) (got sent file taken : List ℕ) → GoesOn old before
-    → (IsTrue (old.tells sent) → file ≡ octets_at old sent) → Holds before got taken → IsPrefixOf taken file
-    → KeptOrPrefix old before got sent
-prefix-of old before got sent file taken g reads holds p = inr (λ ts tg. (taken, holds (told_later g got tg), (p.0, p.1 ∙ reads ts)))
-
--- and so it does with a part of what comes behind it
-pub part-of : (old before : FolderState) (got sent file taken more : List ℕ) → GoesOn old before
-    → (IsTrue (old.tells sent) → file ≡ octets_at old sent) → HoldsPart before got taken more → IsPrefixOf (taken ++ more) file
-    → KeptOrPrefix old before got sent
-part-of old before got sent file taken more g reads holds p =
-    inr (λ ts tg. let h = holds (told_later g got tg) in
-    (taken ++ h.0, h.2, (h.1.0 ++ p.0, regroup h.0 h.1.0 h.1.1 ∙ p.1 ∙ reads ts)))
-  where
-    regroup : (part rest : List ℕ) → part ++ rest ≡ more → (taken ++ part) ++ (rest ++ p.0) ≡ (taken ++ more) ++ p.0
-    regroup part rest e = sym (append_assoc (taken ++ part) rest p.0)
-        ∙ ap (λ x. x ++ p.0) (append_assoc taken part rest ∙ ap (λ x. taken ++ x) e)
-
-pub empty-of : (old before : FolderState) (got sent : List ℕ) → GoesOn old before → KeptOrEmpty old before got
-    → KeptOrPrefix old before got sent
-empty-of old before got sent g (inl k) = inl k
-empty-of old before got sent g (inr h) = inr (λ ts tg. ([], h (told_later g got tg), (octets_at old sent, refl)))
 
 -- both received files
 pub record BothPrefix (old before : FolderState) (n : RunNames) : Type 0 where

@@ -13,7 +13,7 @@ use Rattle.link_run.specs.Run.{Link, Accounts, Spoken, Turn}
 use Rattle.link_run.specs.Carried.{sent_ago}
 use Rattle.line_run.specs.Sampled.{Wire, Arrives, ArrivesAs, HeardIn, IsHeardOver, LineRun}
 use Rattle.line_run.specs.Ends.{RunEnd, IsDone, LinkLost, NotDetected, Left, EndsBy, turns_heard}
-use Rattle.run_commands.specs.Running.ReadOff.{IsReadOff, AreReadOff}
+use Rattle.line_ends.specs.ReadOff.{IsReadOff, AreReadOff}
 
 slot-read : OfEachCode ReleasedIsLeast
     → (c : Wire) (sender : Role) (earlier upto : List Turn) (hearing : Check) (slot : Spoken) (heard : Heard)

@@ -16,7 +16,7 @@ use Rattle.line_ends.specs.Completes.{ScriptRunsTo, DisplacesNoneIsFaint}
 use Rattle.command_base.specs.declared.status.Status.{Status}
 use Rattle.command_base.specs.declared.status.Status.TheVariants as status
 use Rattle.command_base.specs.Job.{Answers}
-use Rattle.command_base.specs.Lines.{done_line, both_done_line}
+use Rattle.command_base.specs.Lines.{done_line}
 use Rattle.command_base.proofs.Jobs.{last-only, done-of}
 use Rattle.run_inputs.specs.declared.limits.TheConstants.{LIMITS}
 use Rattle.run_inputs.specs.Words.{RunNames}
@@ -29,12 +29,12 @@ use Rattle.run_commands.specs.Running.Ends as run_ends
 use Rattle.run_commands.proofs.Running.Headline as run_answers
 use Rattle.pair_run.specs.Ends.{Which, First, Second, PairEnd, BothDone}
 use Rattle.pair_run.specs.Laws.{AreIsolated, FaintPairsAreIsolated}
-use Rattle.link_pair.specs.declared.command.LastTurns.{LastTurns}
 use Rattle.link_pair.specs.Words.{Names, inputs_of, run_of}
 use Rattle.link_pair.specs.Ends.{RanTo, pair_job}
 use Rattle.run_inputs.specs.Answers.{EndsRun}
 use Rattle.link_pair.specs.Answers.{EndsPair}
-use Rattle.link_pair.specs.Isolates.{AreTold, HoldSame, AreLeftAlike, FaintLinksAreAlone, UndisplacedLinksAreAlone}
+use Rattle.link_pair.specs.Headline.{AreTold}
+use Rattle.command_laws.specs.Isolates.{HoldSame, AreLeftAlike, FaintLinksAreAlone, UndisplacedLinksAreAlone}
 use Rattle.link_pair.proofs.Headline.{isolated-of, own-ends, not-refused}
 
 pub record AloneLaws : Type 0 where
@@ -140,7 +140,7 @@ links-are-alone laws words others old new was then n link s r b faint = by link 
     i = isolated-of laws.isolated laws.breaks old b.pair.before n a.0 e told (faint e.script spelled)
 
     last : OnlyOutputs b.pair.before new []
-    last = last-only (λ (turns : LastTurns). both_done_line turns.first turns.second) words b.pair.before new b.pair.end s b.pair.says
+    last = last-only _ words b.pair.before new b.pair.end s b.pair.says
 
     by : (link : Which) → Answers (run_job (run_of link n)) others was then r → AreTold was (alone.inputs_of (run_of link n))
         → HoldSame old was (alone.inputs_of (run_of link n)) → AreLeftAlike new then (alone.texts_of (run_of link n))

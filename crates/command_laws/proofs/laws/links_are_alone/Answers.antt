@@ -1,5 +1,5 @@
-use Rattle.link_pair.proofs.Isolating.{AloneLaws, links-are-alone, undisplaced-links-are-alone}
-use Rattle.link_pair.proofs.laws.links_are_alone.Goals as goal
+use Rattle.command_laws.proofs.Isolating.{AloneLaws, links-are-alone, undisplaced-links-are-alone}
+use Rattle.command_laws.proofs.laws.links_are_alone.Goals as goal
 
 pub returns-clause-faint : goal.returns-clause-faint
 returns-clause-faint c =

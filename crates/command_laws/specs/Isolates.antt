@@ -12,13 +12,9 @@ use Rattle.run_inputs.specs.Words as alone
 use Rattle.run_commands.specs.Running.Ends.{run_job}
 use Rattle.pair_run.specs.Ends.{Which}
 use Rattle.link_pair.specs.Words.{Names, inputs_of, run_of}
+use Rattle.link_pair.specs.Headline.{AreTold}
 use Rattle.link_pair.specs.Answers.{EndsPair}
 use Rattle.link_pair.specs.Ends.{pair_job}
-
--- the folder tells each of these names
-abbrev pub AreTold : FolderState → List (List ℕ) → Type 0
-AreTold f [] = Unit {0}
-AreTold f (name ∷ names) = IsTrue (f.tells name) × AreTold f names
 
 -- two folders hold the same of each
 abbrev pub HoldSame : FolderState → FolderState → List (List ℕ) → Type 0
