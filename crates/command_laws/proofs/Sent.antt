@@ -14,8 +14,8 @@ use Rattle.trellis_tables.specs.Sequences.{Leads}
 use Rattle.trellis_tables.specs.Table.{next_state}
 use Rattle.trellis_tables.specs.V32Laws.{v32_bounded}
 use Rattle.trellis_tables.proofs.Sequences.{Leads-below}
-use Rattle.survivors.specs.Survivors.{LostIs}
-use Rattle.survivors.specs.V32.{line_depth}
+use Rattle.exact_decoder.specs.Surviving.Survivors.{LostIs}
+use Rattle.exact_decoder.specs.Surviving.V32.{line_depth}
 use Rattle.exact_decoder.specs.Laws.{IsOnlyLeast, OnlySentIsLeast}
 use Rattle.noise_bound.specs.NoiselessLaws.{NeverLost}
 use Rattle.line_coding.proofs.Readings as line

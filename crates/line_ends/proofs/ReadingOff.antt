@@ -4,9 +4,9 @@ use Rattle.frame_check.specs.declared.check.Check.{Check}
 use Rattle.shared_terms.specs.declared.role.Role.{Role}
 use Rattle.shared_terms.specs.Role.{other}
 use Rattle.shared_terms.specs.Both.{of}
-use Rattle.survivors.specs.Laws.{ReleasedIsLeast, OfEachCode}
-use Rattle.survivors.proofs.V32.{line-has-laws}
-use Rattle.survivors.specs.V32.{line_trellis}
+use Rattle.exact_decoder.specs.Surviving.Laws.{ReleasedIsLeast, OfEachCode}
+use Rattle.exact_decoder.proofs.Surviving.V32.{line-has-laws}
+use Rattle.exact_decoder.specs.Surviving.V32.{line_trellis}
 use Rattle.lapm_frames.specs.declared.heard.Heard.{Heard}
 use Rattle.noise_script.specs.Script.{delay_of}
 use Rattle.link_run.specs.Run.{Link, Accounts, Spoken, Turn}

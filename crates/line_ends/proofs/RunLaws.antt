@@ -2,7 +2,7 @@
 use Rattle.std.proofs.Common.{ℕ, List}
 use Rattle.shared_terms.specs.Both.{Both}
 use Rattle.noise_script.specs.Script.{ScriptValue, IsInLimits, delay_of}
-use Rattle.survivors.specs.Laws.{ReleasedIsLeast, OfEachCode}
+use Rattle.exact_decoder.specs.Surviving.Laws.{ReleasedIsLeast, OfEachCode}
 use Rattle.link_run.specs.Run.{Accounts, Turn}
 use Rattle.link_run.specs.Laws.{RunsOver, TakesPrefixes, HearsPrefixes, HearingsDeliver}
 use Rattle.line_run.specs.Sampled.{LineRun}

@@ -2,8 +2,8 @@
 use Rattle.std.specs.Prelude.{◌≡◌, ℕ, ◌-◌, List, [], ◌∷◌, ◌++◌, drop, Some}
 use Rattle.frame_check.specs.declared.check.Check.{Check}
 use Rattle.symbol_map.specs.declared.sample.Sample.{Sample}
-use Rattle.survivors.specs.Survivors.{IsLeast}
-use Rattle.survivors.specs.V32.{line_trellis}
+use Rattle.exact_decoder.specs.Surviving.Survivors.{IsLeast}
+use Rattle.exact_decoder.specs.Surviving.V32.{line_trellis}
 use Rattle.shared_terms.specs.declared.role.Role.{Role}
 use Rattle.shared_terms.specs.Role.{other}
 use Rattle.shared_terms.specs.Both.{of}

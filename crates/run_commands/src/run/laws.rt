@@ -14,7 +14,7 @@ use line_ends::laws::{
 use line_run::laws::{one_result, runs_leave_prefixes, samples_are_carried, scripts_make_links};
 use link_run::laws::{prefixes, turns_deliver_what_came};
 use noise_script::laws::{one_answer, spelled_scripts_are_in_limits};
-use survivors::laws::released_labels_begin_a_least_sequence;
+use exact_decoder::survivors::released_labels_begin_a_least_sequence;
 
 /// Whatever a run answers, its headline holds.
 pub(crate) fn answers_keep_the_headline()
