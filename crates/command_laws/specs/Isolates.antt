@@ -7,7 +7,6 @@ use Rattle.line_ends.specs.Completes.{IsFaint, DisplacesNone}
 use Rattle.command_base.specs.declared.status.Status.{Status}
 use Rattle.command_base.specs.Job.{Answers}
 use Rattle.run_inputs.specs.Answers.{EndsRun}
-use Rattle.run_inputs.specs.Words.{RunNames}
 use Rattle.run_inputs.specs.Words as alone
 use Rattle.run_commands.specs.Running.Ends.{run_job}
 use Rattle.pair_run.specs.Ends.{Which}

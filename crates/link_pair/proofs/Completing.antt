@@ -36,7 +36,7 @@ use Rattle.pair_run.specs.Laws.{OnePairResult, FaintPairsAreIsolated, EndsDone, 
 use Rattle.link_pair.specs.declared.command.LastTurns.{LastTurns}
 use Rattle.link_pair.specs.Words.{Names, files_of}
 use Rattle.link_pair.specs.Answers.{answer_of, result_of}
-use Rattle.link_pair.specs.Ends.{AreFiles, RanTo, RanBy, EndsBy, pair_job}
+use Rattle.link_pair.specs.Ends.{AreFiles, RanTo, EndsBy, pair_job}
 use Rattle.link_pair.specs.Ends as ends
 use Rattle.link_pair.specs.Completes.{IsCarried, LosesFew, AreRight, files_at, DoneWhere, Answered, AnsweredByItsEnd}
 use Rattle.link_pair.specs.Completes.{Completes}

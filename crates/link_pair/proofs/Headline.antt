@@ -42,9 +42,9 @@ use Rattle.link_pair.specs.Half.{left_by}
 use Rattle.link_pair.specs.declared.command.LastTurns.{LastTurns}
 use Rattle.link_pair.specs.Words.{Names, files_of, inputs_of}
 use Rattle.link_pair.specs.Answers.{answer_of, result_of}
-use Rattle.link_pair.specs.Ends.{AreFiles, RanTo, EndsBy, pair_job}
+use Rattle.link_pair.specs.Ends.{RanTo, EndsBy, pair_job}
 use Rattle.link_pair.specs.Ends as ends
-use Rattle.link_pair.specs.Headline.{heard_in, CauseIn, LinkRan, Came, came_of, Ran, RanBy, Headline}
+use Rattle.link_pair.specs.Headline.{AreTold, heard_in, CauseIn, LinkRan, Came, came_of, Ran, RanBy, Headline}
 use Rattle.link_pair.proofs.Running.{few-of}
 use Rattle.link_pair.proofs.Refusing.{own-answer}
 use Rattle.link_pair.proofs.Prefixes.{HeadLaws, BothPrefix, may-run, runs-over, given-is, both-of}

@@ -1,5 +1,5 @@
 -- What a pair promises, over the folder before and after it. What is said of a name's octets holds where the folder tells that name.
-use Rattle.std.specs.Prelude.{◌≡◌, ℕ, suc, max, IsTrue, List, length}
+use Rattle.std.specs.Prelude.{◌≡◌, ℕ, suc, max, IsTrue, List, [], ◌∷◌, length}
 use Rattle.outside_calls.specs.Folder.{FolderState, octets_at, Said}
 use Rattle.outside_calls.specs.Outputs.{Holds}
 use Rattle.shared_terms.specs.declared.role.Role.TheVariants.{Originator, Answerer}

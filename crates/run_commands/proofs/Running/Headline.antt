@@ -1,13 +1,13 @@
 -- From every answer to the headline, and to when a run is done.
 use Rattle.std.proofs.Common.{◌≡◌, ◌⊎◌, inl, inr, ℕ, true, List, [], ◌++◌, Some, refl, ◌∙◌, ap, subst}
 use Rattle.std.specs.Option.{option_map}
-use Rattle.outside_calls.specs.Folder.{FolderState, GoesOn, KeepsName}
-use Rattle.outside_calls.proofs.Steps.{KeepsName-trans, told_later}
+use Rattle.outside_calls.specs.Folder.{FolderState, GoesOn}
+use Rattle.outside_calls.proofs.Steps.{told_later}
 use Rattle.shared_terms.specs.declared.role.Role.TheVariants.{Originator, Answerer}
 use Rattle.noise_script.specs.Script.{delay_of}
 use Rattle.link_run.specs.Laws.{agreed_srej}
 use Rattle.link_run.specs.Taken.{taken_octets}
-use Rattle.line_run.specs.Ends.{RunEnd, RunsTo, turns_heard}
+use Rattle.line_run.specs.Ends.{RunEnd, turns_heard}
 use Rattle.line_run.specs.Ends as runs
 use Rattle.line_run.specs.Scripted.{wire_of, link_of}
 use Rattle.line_ends.proofs.ReadingOff.{run-read}

@@ -1,21 +1,18 @@
 -- From the phases of a run to how it ends.
-use Rattle.std.proofs.Common.{◌≡◌, inl, inr, ℕ, ◌≤◌, IsTrue, List, [], ◌∷◌, refl, ◌∙◌, ap, take, arith}
-use Rattle.std.proofs.lemmas.List.{take_all}
-use Rattle.outside_calls.specs.Folder.{FolderState, octets_at, GoesOn, KeepsName, OnlyReads, CountsStand}
-use Rattle.outside_calls.proofs.Steps.{GoesOn-trans, octets-kept, told_later}
+use Rattle.std.proofs.Common.{inl, inr, ℕ, List, [], ◌∷◌, refl, ◌∙◌, arith}
+use Rattle.outside_calls.specs.Folder.{FolderState, GoesOn, OnlyReads, CountsStand}
+use Rattle.outside_calls.proofs.Steps.{GoesOn-trans}
 use Rattle.shared_terms.specs.Both.{Both}
 use Rattle.noise_script.specs.Script.{ScriptValue}
 use Rattle.line_run.specs.Ends.{RunEnd}
 use Rattle.line_run.specs.Scripted.{wire_of}
 use Rattle.line_run.specs.Scripts.{LineRunsEndSoon}
-use Rattle.line_world.specs.Limits.{file_limit}
 use Rattle.line_world.specs.declared.step.RunFault.{RunFault}
 use Rattle.line_world.specs.declared.step.RunFault.TheVariants as faults
 use Rattle.line_world.specs.World.{KnowsFiles}
 use Rattle.line_world.specs.Turn.{FaultCountsOver}
 use Rattle.command_base.specs.declared.stop.Stop.{Stop}
 use Rattle.command_base.specs.declared.stop.Stop.TheVariants as stops
-use Rattle.command_base.specs.Inputs.{IsWithin}
 use Rattle.outside_calls.specs.Outputs.{AreNoneOf, OnlyOutputs, Creates, CreatesPart, AreApart, KeepsEach}
 use Rattle.outside_calls.specs.Outputs.{AreApartFrom, OnlyPuts}
 use Rattle.outside_calls.proofs.Putting.{KeepsEach-reads, KeepsEach-trans, SomeRose-earlier, none-fronts, inputs-kept}

@@ -1,5 +1,5 @@
 -- Which answer the inputs have over a sound folder, and when nothing but want of memory keeps a run from being done.
-use Rattle.std.specs.Prelude.{◌≡◌, ◌⊎◌, ℕ, ◌*◌, ◌<◌, ◌≤◌, IsTrue, List, [], length}
+use Rattle.std.specs.Prelude.{◌≡◌, ◌⊎◌, ℕ, ◌*◌, ◌<◌, ◌≤◌, IsTrue, List, length}
 use Rattle.outside_calls.specs.Folder.{FolderState, octets_at}
 use Rattle.shared_terms.specs.Both.{Both}
 use Rattle.noise_script.specs.Script.{ScriptValue}
