@@ -1,14 +1,14 @@
 -- The laws of runs that the promises of commands rest on.
 use Rattle.std.proofs.Common.{ℕ, List}
 use Rattle.shared_terms.specs.Both.{Both}
-use Rattle.noise_script.specs.Script.{ScriptValue, IsInLimits, delay_of}
+use Rattle.noise_script.specs.Script.{IsInLimits, delay_of}
 use Rattle.exact_decoder.specs.Surviving.Laws.{ReleasedIsLeast, OfEachCode}
 use Rattle.link_run.specs.Run.{Accounts, Turn}
 use Rattle.link_run.specs.Laws.{RunsOver, TakesPrefixes, HearsPrefixes, HearingsDeliver}
-use Rattle.line_run.specs.Sampled.{LineRun}
+use Rattle.line_run.specs.Sampled.{Wire, LineRun}
 use Rattle.line_run.specs.LineLaws.{SamplesAreCarried, OneIsCarried}
 use Rattle.line_run.specs.Ends.{MayRun, RunsLeavePrefixes, DoneLeavesWhole, RunsLeaveWhatPassed}
-use Rattle.line_run.specs.Scripted.{wire_of, link_of, ScriptsMayPlay, ScriptsHaveDelays}
+use Rattle.line_run.specs.Scripted.{link_of, ScriptsMayPlay, ScriptsHaveDelays}
 use Rattle.line_run.specs.Scripts.{LineRunsEndSoon}
 use Rattle.line_ends.specs.Causes.{EndsHaveCauses}
 
@@ -27,17 +27,14 @@ pub record RunLaws : Type 0 where
   pub causes : EndsHaveCauses
   pub least : OfEachCode ReleasedIsLeast
 
-pub may-run : RunLaws → (script : ScriptValue) (files : Both (List ℕ)) → IsInLimits script
-    → MayRun (wire_of script) (link_of script files)
-may-run laws script files limits = record { may_play = laws.play script files limits; delays = laws.delays script limits }
+pub may-run : RunLaws → (c : Wire) (files : Both (List ℕ)) → IsInLimits c.script → MayRun c (link_of c.script files)
+may-run laws c files h = record { may_play = laws.play c.script files h; delays = laws.delays c.script h }
 
-pub runs-over : RunLaws → (script : ScriptValue) (files : Both (List ℕ)) (ts : List Turn) (ends : Accounts) → IsInLimits script
-    → LineRun (wire_of script) (link_of script files) ts ends
-    → RunsOver (link_of script files) (delay_of script) ts ends
-runs-over laws script files ts ends limits r =
-    record {
-      may_play = laws.play script files limits;
-      delays = laws.delays script limits;
-      carried = laws.carried (wire_of script) ts r.heard;
-      run = r.run;
-    }
+pub runs-over : RunLaws → (c : Wire) (files : Both (List ℕ)) (ts : List Turn) (ends : Accounts) → IsInLimits c.script
+    → LineRun c (link_of c.script files) ts ends → RunsOver (link_of c.script files) (delay_of c.script) ts ends
+runs-over laws c files ts ends h r = record {
+  may_play = laws.play c.script files h;
+  delays = laws.delays c.script h;
+  carried = laws.carried c ts r.heard;
+  run = r.run;
+}

@@ -39,7 +39,7 @@ whole-of : RunLaws → (old before new : FolderState) (n : RunNames) (turn : ℕ
     → HoldsWhole old new n.names.got_o n.names.answ × HoldsWhole old new n.names.got_a n.names.orig
 whole-of laws old before new n turn g kept e =
     let w =
-    laws.whole (wire_of e.script) (link_of e.script e.files) turn e.left (may-run laws e.script e.files e.takes.limits) e.run in (
+    laws.whole (wire_of e.script) (link_of e.script e.files) turn e.left (may-run laws (wire_of e.script) e.files e.takes.limits) e.run in (
       (λ ts tg. kept n.names.got_o (told_later g n.names.got_o tg) ∙ e.holds.0 (told_later g n.names.got_o tg)
           ∙ ap Some (w Originator ∙ e.takes.answ ts)),
       (λ ts tg. kept n.names.got_a (told_later g n.names.got_a tg) ∙ e.holds.1.0 (told_later g n.names.got_a tg) ∙ ap Some (w Answerer ∙ e.takes.orig ts)),
@@ -52,7 +52,7 @@ ran-of laws old before new n end last e =
     let c = wire_of e.script in
     let link = link_of e.script e.files in
     let heard = turns_heard c link e.run.turns e.run.ends end e.left e.run.ended in
-    let passed = laws.passed c link end e.left (may-run laws e.script e.files e.takes.limits) e.run in record {
+    let passed = laws.passed c link end e.left (may-run laws (wire_of e.script) e.files e.takes.limits) e.run in record {
       script = e.script;
       limits = e.takes.limits;
       files = e.files;

@@ -41,7 +41,7 @@ both-ran : RunLaws → (old before : FolderState) (n : RunNames) (end : RunEnd) 
 both-ran laws old before n end g e =
     let c = wire_of e.script in
     let link = link_of e.script e.files in
-    let may = may-run laws e.script e.files e.takes.limits in record {
+    let may = may-run laws (wire_of e.script) e.files e.takes.limits in record {
       got_o = prefix-of old before n.names.got_o n.names.answ e.files.answ e.left.got.orig g e.takes.answ e.holds.0
           (laws.prefixes c link end e.left may e.run Originator);
       got_a = prefix-of old before n.names.got_a n.names.orig e.files.orig e.left.got.answ g e.takes.orig e.holds.1.0
@@ -76,7 +76,7 @@ stopped-prefix laws script files f n limits s role = by s.adds
     link = link_of script files
 
     over : RunsOver link (delay_of script) s.turns s.ends
-    over = runs-over laws script files s.turns s.ends limits s.run
+    over = runs-over laws (wire_of script) files s.turns s.ends limits s.run
 
     by : AddsTurn (wire_of script) link s.turns s.ends s.more ⊎ AddsChance (wire_of script) s.turns s.ends s.more
         → IsPrefixOf (of role s.left.got ++ of role s.more.got) (of (other role) link).user.file
