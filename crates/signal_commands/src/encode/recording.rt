@@ -13,7 +13,7 @@ ghost use Rattle.signal_commands.specs.Encoding.Words.{named, inputs_of, outputs
 ghost use Rattle.signal_commands.specs.Encoding.Ends.{WritesAll, EndsBy, Ends};
 ghost use Rattle.signal_commands.specs.Encoding.Recorded.{Begun, RecordedTo};
 
-use crate::encode::recorder::Recorder;
+use crate::encode::recorder::{RECORDED, Recorder};
 use crate::encode::words::EncodeWords;
 use command_base::{FILE_LIMIT, Stop, append_output, create_output, read_piece, within_limit};
 use frame_check::Octets;
@@ -26,8 +26,8 @@ const FILE: usize = 2;
 /// How many octets are read at a time.
 const PIECE: usize = 512;
 
-/// How many octets of a recording a piece becomes at most, sixteen for each of its own.
-const RECORDED_PIECE: usize = 8192;
+/// How many octets of a recording a piece becomes at most.
+const RECORDED_PIECE: usize = PIECE * RECORDED;
 
 /// Leaves the octets of the samples of a piece.
 fn record_piece(recorder: &mut Recorder, piece: &[u8], recorded: &mut Octets<RECORDED_PIECE>)
