@@ -12,7 +12,7 @@ use Rattle.command_base.specs.Status.{IsRefusal, IsFolderFault, PassesNoneOver}
 use Rattle.outside_calls.specs.Outputs.{KeepsAll, OnlyOutputs, SomeRose}
 use Rattle.command_base.specs.Inputs.{FailsToHold}
 use Rattle.command_base.specs.Stops.{IsOwn, ReadFails, WriteFails, SayFails, StopCounts, EndCounts, fault_status, stop_status, end_status}
-use Rattle.command_base.specs.Job.{Job, SaysLast, Answers, Shared}
+use Rattle.command_base.specs.Job.{Job, SaysLast, SaysStop, Answers, Shared}
 use Rattle.command_base.specs.Sound.{NoneRose, IsSound, DoneUnlessMemory}
 use Rattle.command_base.specs.Tells.{Tells}
 use Rattle.outside_calls.proofs.OnlyOutputs.{OnlyOutputs-refl, OnlyOutputs-says}
@@ -62,6 +62,36 @@ pub end-earlier : {D : Type 0} (old mid new : FolderState) (inputs outputs : Lis
     → EndCounts mid new inputs outputs end → EndCounts old new inputs outputs end
 end-earlier old mid new inputs outputs (Ok done) stand counts = CountsStand-trans stand counts
 end-earlier old mid new inputs outputs (Err stop) stand counts = stop-earlier old mid new inputs outputs stop stand counts
+
+-- ---- from a job and its line to the answer
+
+-- of a job that is done
+pub answers-done : {D : Type 0} (j : Job D) (words : List (List ℕ)) (old before new : FolderState) (done : D) (line : List ℕ) (s : Status)
+    → j.Ends old before (Ok done) → OnlyOutputs old before j.outputs → CountsStand old before
+    → line ≡ j.line_of done → Tells before new line status.Done s → Answers j words old new s
+answers-done j words old before new done line s ends only counts is tells = record {
+  end = Ok done;
+  before = before;
+  ends = ends;
+  only = only;
+  refused = λ never. absurd never;
+  counts = counts;
+  says = subst (λ (l : List ℕ). Tells before new l status.Done s) is tells;
+}
+
+-- and of one that stopped
+pub answers-stopped : {D : Type 0} (j : Job D) (words : List (List ℕ)) (old before new : FolderState) (stop : Stop) (s : Status)
+    → j.Ends old before (Err stop) → OnlyOutputs old before j.outputs → (IsRefusal (stop_status stop) → KeepsAll old before)
+    → StopCounts old before j.inputs j.outputs stop → SaysStop words before new stop s → Answers j words old new s
+answers-stopped j words old before new stop s ends only refused counts says = record {
+  end = Err stop;
+  before = before;
+  ends = ends;
+  only = only;
+  refused = refused;
+  counts = counts;
+  says = says;
+}
 
 -- ---- what is said last
 

@@ -8,6 +8,9 @@ use crate::{Status, Stop};
 use outside_calls::{Folder, FolderFault};
 use std::alloc::Global;
 
+/// How many octets of a file that is held whole are read at a time.
+const READ: usize = 1024;
+
 /// Looks whether an input is within its limit: one octet is read there. Where it is longer, the answer names this word.
 pub fn within_limit<F: Folder>(
     folder: &mut F,
@@ -121,7 +124,7 @@ fn read_more<F: Folder>(
     ensures fault { IfErr result (FailsToHold (F.state folder.old) (F.state folder.new) name.now) }
     ensures stand { OnOk result (CountsStand (F.state folder.old) (F.state folder.new)) }
 {
-    let mut piece = [0u8; 1024];
+    let mut piece = [0u8; READ];
     let count = match read_part(folder, name, limit, file.len() as u64, &mut piece) {
         Ok(count) => count,
         Err(fault) => return Err(Stop::Read(fault)),

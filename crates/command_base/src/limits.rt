@@ -1,8 +1,5 @@
 // The limits of inputs, in octets.
 
-/// The most octets of each file that `run` sends.
-pub const RUN_FILE_LIMIT: u64 = 16_777_216;
-
 /// The most octets of the file of `encode` and of the bits of `frames`.
 pub const FILE_LIMIT: u64 = 1_048_576;
 

@@ -10,12 +10,13 @@ use Rattle.scramblers.specs.declared.mode.Mode.TheVariants.{Call, Answer}
 use Rattle.scramblers.specs.Mode.{tap_of}
 use Rattle.scramblers.proofs.Readings.{Descrambles_once}
 use Rattle.symbol_map.specs.declared.sample.Sample.{Sample}
-use Rattle.survivors.specs.Survivors.{IsLeast, LostIs}
+use Rattle.exact_decoder.specs.Surviving.Survivors.{IsLeast, LostIs}
 use Rattle.outside_calls.specs.Folder.{FolderState, held_at, octets_at}
 use Rattle.outside_calls.proofs.Steps.{octets-held}
 use Rattle.recordings.specs.declared.rate.Rate.{Rate}
 use Rattle.recordings.specs.declared.rate.Rate.TheVariants.{Trellis, Quarters}
-use Rattle.recordings.specs.Recording.{mode_number, header_at, sample_octets, IsRecordingOf}
+use Rattle.recordings.specs.Recording.{mode_number, header_at, sample_octets}
+use Rattle.signal_commands.specs.Encoding.Recorder.{IsRecordingOf}
 use Rattle.recordings.specs.Samples.{samples_in}
 use Rattle.command_base.specs.declared.status.Status.{Status}
 use Rattle.command_base.specs.declared.status.Status.TheVariants.{Done, NoMemory}

@@ -6,3 +6,4 @@ mod Told
 mod Named
 mod Picking
 mod Decoding
+mod Isolating

@@ -14,8 +14,8 @@ use Rattle.trellis_tables.specs.Sequences.{Leads}
 use Rattle.trellis_tables.specs.Table.{next_state}
 use Rattle.trellis_tables.specs.V32Laws.{v32_bounded}
 use Rattle.trellis_tables.proofs.Sequences.{Leads-below}
-use Rattle.survivors.specs.Survivors.{LostIs}
-use Rattle.survivors.specs.V32.{line_depth}
+use Rattle.exact_decoder.specs.Surviving.Survivors.{LostIs}
+use Rattle.exact_decoder.specs.Surviving.V32.{line_depth}
 use Rattle.exact_decoder.specs.Laws.{IsOnlyLeast, OnlySentIsLeast}
 use Rattle.noise_bound.specs.NoiselessLaws.{NeverLost}
 use Rattle.line_coding.proofs.Readings as line
@@ -23,7 +23,8 @@ use Rattle.rate_4800.specs.Code as quarters
 use Rattle.rate_4800.proofs.Twos as quarter_bits
 use Rattle.recordings.specs.declared.rate.Rate.{Rate}
 use Rattle.recordings.specs.declared.rate.Rate.TheVariants.{Trellis, Quarters}
-use Rattle.recordings.specs.Recording.{sample_octets, ModulatesAt}
+use Rattle.recordings.specs.Recording.{sample_octets}
+use Rattle.signal_commands.specs.Encoding.Recorder.{ModulatesAt}
 use Rattle.recordings.specs.Samples.{samples_in}
 use Rattle.recordings.proofs.Samples.{samples_in-append}
 use Rattle.signal_commands.specs.Decoding.Rates.{trellis_at, DemodulatesAt}

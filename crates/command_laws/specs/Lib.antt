@@ -2,3 +2,4 @@ pub mod Taps
 pub mod Traces
 pub mod Files
 pub mod Pickups
+pub mod Isolates

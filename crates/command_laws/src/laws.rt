@@ -1,5 +1,6 @@
 //! Laws over what several commands promise. The functions do nothing but name the laws that they rest on: each law is a contract.
 ghost use Rattle.command_laws.specs.Files.{FilesComeBack};
+ghost use Rattle.command_laws.specs.Isolates.{FaintLinksAreAlone, UndisplacedLinksAreAlone};
 ghost use Rattle.command_laws.specs.Pickups.{PickupsFindWhatIsTold, PickupsFindWhatTapsName, FramesAreNamed};
 ghost use Rattle.command_laws.specs.Taps.{TapsLeaveWhatRunsLeft};
 ghost use Rattle.command_laws.specs.Traces.{TracesOfRunsAreTrue};
@@ -7,12 +8,13 @@ ghost use Rattle.command_laws.specs.Traces.{TracesOfRunsAreTrue};
 use bit_stuffing::laws::last_pieces_are_found;
 use command_base::apart_names_differ;
 use exact_decoder::laws::sent_labels_are_decoded;
-use line_ends::laws::octets_are_sendable;
+use line_ends::laws::{octets_are_sendable, undisplaced_runs_have_faint_noise};
 use line_run::direction::{codable_slots_fit, slots_that_fit_follow_one_another};
-use line_run::laws::{runs_leave_prefixes, scripts_make_links, slots_have_room};
+use line_run::laws::{one_result, runs_leave_prefixes, scripts_make_links, slots_have_room};
 use line_tap::laws::recordings_tell_runs;
 use noise_bound::noiseless::few_labels_are_unreleased;
 use noise_script::laws::{one_answer, spelled_scripts_are_in_limits};
+use pair_run::laws::pairs_are_isolated;
 use rate_4800::Rate4800;
 use signal_commands::pickup::laws::{
     later_pieces_stand_behind, middles_give_what_was_sent, samples_give_one_list,
@@ -64,4 +66,17 @@ pub fn pickups_find_what_taps_name()
     samples_give_one_list();
     later_pieces_stand_behind();
     middles_give_what_was_sent();
+}
+
+/// Where the noise of a script is faint, or no line of it displaces a symbol, a pair leaves of each link what `run` leaves of that link
+/// alone, where both end by themselves.
+pub fn links_are_alone()
+    ensures faint { FaintLinksAreAlone }
+    ensures undisplaced { UndisplacedLinksAreAlone }
+{
+    pairs_are_isolated();
+    one_result();
+    one_answer();
+    spelled_scripts_are_in_limits();
+    undisplaced_runs_have_faint_noise();
 }

@@ -10,11 +10,11 @@ use Rattle.trellis_tables.specs.Sequences.{Leads, IsCodeSequence, cost}
 use Rattle.trellis_tables.specs.Codes.{IsBounded, StaysWithin, EntersOnce, Reaches, PointsDiffer}
 use Rattle.trellis_tables.proofs.Sequences.{Leads-take}
 use Rattle.plain_lists.specs.Prefix.{IsPrefixOf}
-use Rattle.survivors.specs.Orders.{Beats}
-use Rattle.survivors.specs.Trellises.{Trellis, trellis_of, IsSequence, HasLaws}
-use Rattle.survivors.specs.Survivors.{IsSurvivor, IsReleased, IsLost, LostIs}
-use Rattle.survivors.proofs.Fronts.{stays-prefix, released-once, lost-once, lost-stays, over-before}
-use Rattle.survivors.proofs.Least.{some-released, released-is_least}
+use Rattle.exact_decoder.specs.Surviving.Orders.{Beats}
+use Rattle.exact_decoder.specs.Surviving.Trellises.{Trellis, trellis_of, IsSequence, HasLaws}
+use Rattle.exact_decoder.specs.Surviving.Survivors.{IsSurvivor, IsReleased, IsLost, LostIs}
+use Rattle.exact_decoder.proofs.Surviving.Fronts.{stays-prefix, released-once, lost-once, lost-stays, over-before}
+use Rattle.exact_decoder.proofs.Surviving.Least.{some-released, released-is_least}
 use Rattle.exact_decoder.specs.Decoder.{heard}
 use Rattle.exact_decoder.specs.Laws.{AreStarts, IsOnlyLeast, OnlySentIsLeast, ReleasesSent, DecoderReleasesLeast, DecoderReleasesStay}
 use Rattle.exact_decoder.specs.Laws.{DecodersAgree, FewUnreleased}

@@ -15,8 +15,8 @@ use Rattle.symbol_map.specs.declared.sample.Sample.{Sample}
 use Rattle.symbol_map.specs.Distance.{distance_of}
 use Rattle.trellis_tables.specs.Sequences.{Leads}
 use Rattle.trellis_tables.specs.Codes.{Reaches}
-use Rattle.survivors.specs.Trellises.{trellis_of}
-use Rattle.survivors.specs.Steps.{Chooses}
+use Rattle.exact_decoder.specs.Surviving.Trellises.{trellis_of}
+use Rattle.exact_decoder.specs.Surviving.Steps.{Chooses}
 use Rattle.exact_decoder.specs.declared.choice.Choice.{Choice}
 use Rattle.exact_decoder.specs.Settled.{IsLeastKeyOf, far_key, leveled, settled, chosen, choice_in, choice_at}
 use Rattle.exact_decoder.specs.Advances.{Advances}

@@ -1,3 +1,4 @@
+pub mod Surviving
 pub mod Rings
 pub mod Subsets
 pub mod Settling

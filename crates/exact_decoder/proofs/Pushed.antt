@@ -7,12 +7,12 @@ use Rattle.symbol_map.specs.declared.sample.Sample.{Sample}
 use Rattle.trellis_tables.specs.Sequences.{cost}
 use Rattle.trellis_tables.specs.Codes.{IsBounded, EntersOnce}
 use Rattle.plain_lists.specs.Prefix.{IsPrefixOf}
-use Rattle.survivors.specs.Trellises.{Trellis, trellis_of}
-use Rattle.survivors.specs.Survivors.{IsSurvivor, IsCommon, IsReleased, IsOver, IsLost, LostIs}
-use Rattle.survivors.specs.Steps.{KnowsState, Keeps, GoesOn}
-use Rattle.survivors.proofs.Columns.{Keeps-more, kept, known}
-use Rattle.survivors.proofs.Release.{survivor-one, prefix-parted}
-use Rattle.survivors.proofs.Fronts.{released-once, over-before, lost-stays}
+use Rattle.exact_decoder.specs.Surviving.Trellises.{Trellis, trellis_of}
+use Rattle.exact_decoder.specs.Surviving.Survivors.{IsSurvivor, IsCommon, IsReleased, IsOver, IsLost, LostIs}
+use Rattle.exact_decoder.specs.Surviving.Steps.{KnowsState, Keeps, GoesOn}
+use Rattle.exact_decoder.proofs.Surviving.Columns.{Keeps-more, kept, known}
+use Rattle.exact_decoder.proofs.Surviving.Release.{survivor-one, prefix-parted}
+use Rattle.exact_decoder.proofs.Surviving.Fronts.{released-once, over-before, lost-stays}
 use Rattle.exact_decoder.specs.Columns.{Entry, entry_at, branch_of, sums_at, branches_at, new_sums_at, tail_at}
 use Rattle.exact_decoder.specs.Kept.{Kept, IsParted, KeepsSurvivors, Stepped, Released}
 use Rattle.exact_decoder.specs.Memory.{opened}

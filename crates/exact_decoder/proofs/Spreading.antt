@@ -8,9 +8,9 @@ use Rattle.symbol_map.specs.Distance.{distance_of}
 use Rattle.trellis_tables.specs.Sequences.{Leads}
 use Rattle.trellis_tables.specs.Codes.{IsBounded, StaysWithin, Reaches}
 use Rattle.trellis_tables.proofs.Sequences.{Leads-front}
-use Rattle.survivors.specs.Trellises.{Trellis, trellis_of}
-use Rattle.survivors.specs.Steps.{Enters, Chooses}
-use Rattle.survivors.proofs.Snoc.{snoc_of}
+use Rattle.exact_decoder.specs.Surviving.Trellises.{Trellis, trellis_of}
+use Rattle.exact_decoder.specs.Surviving.Steps.{Enters, Chooses}
+use Rattle.exact_decoder.proofs.Surviving.Snoc.{snoc_of}
 use Rattle.exact_decoder.specs.Columns.{Entry, branch_of, sum_of, sums_at, entry_at, new_sums_at}
 use Rattle.exact_decoder.specs.Kept.{Kept, AllChosen, Stepped, Released}
 use Rattle.exact_decoder.specs.Memory.{opened}

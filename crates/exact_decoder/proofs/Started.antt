@@ -6,10 +6,10 @@ use Rattle.std.proofs.lemmas.Bool.{cases_lt, lt-ltb, le-ltb}
 use Rattle.std.proofs.lemmas.Bool.Decides.{nat_tests}
 use Rattle.std.proofs.lemmas.List.{length-replicate}
 use Rattle.symbol_map.specs.declared.sample.Sample.{Sample}
-use Rattle.survivors.specs.Trellises.{Trellis, trellis_of}
-use Rattle.survivors.specs.Survivors.{IsReleased, LostIs}
-use Rattle.survivors.specs.Steps.{Keeps}
-use Rattle.survivors.proofs.Columns.{Keeps-start}
+use Rattle.exact_decoder.specs.Surviving.Trellises.{Trellis, trellis_of}
+use Rattle.exact_decoder.specs.Surviving.Survivors.{IsReleased, LostIs}
+use Rattle.exact_decoder.specs.Surviving.Steps.{Keeps}
+use Rattle.exact_decoder.proofs.Surviving.Columns.{Keeps-start}
 use Rattle.exact_decoder.specs.Columns.{sums_at, tail_at}
 use Rattle.exact_decoder.specs.Kept.{Kept, KeepsSurvivors}
 use Rattle.exact_decoder.specs.Memory.{opened}

@@ -4,8 +4,8 @@ use Rattle.std.proofs.Common.{option_to_list, append_assoc, refl, sym, ◌∙◌
 use Rattle.std.proofs.lemmas.List.{append-nil, reverse-append}
 use Rattle.std.proofs.lemmas.List.Elements.{All-head, All-tail, All-same}
 use Rattle.symbol_map.specs.declared.sample.Sample.{Sample}
-use Rattle.survivors.specs.Trellises.{trellis_of}
-use Rattle.survivors.specs.Survivors.{IsReleased, IsFirstLeast}
+use Rattle.exact_decoder.specs.Surviving.Trellises.{trellis_of}
+use Rattle.exact_decoder.specs.Surviving.Survivors.{IsReleased, IsFirstLeast}
 use Rattle.exact_decoder.specs.Columns.{tail_at}
 use Rattle.exact_decoder.specs.Kept.{Kept, KeepsSurvivors, IsLeastSum}
 use Rattle.exact_decoder.specs.Memory.{opened}

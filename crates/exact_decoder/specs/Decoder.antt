@@ -1,8 +1,8 @@
 -- For which past a decoder stands: the samples that were pushed and the labels that were taken.
 use Rattle.std.specs.Prelude.{◌≡◌, ℕ, ◌+◌, ◌*◌, ◌^◌, ◌<◌, ◌≤◌, Bool, List, ◌++◌, length, take, reverse, min, All, Option, Some, None}
 use Rattle.symbol_map.specs.declared.sample.Sample.{Sample}
-use Rattle.survivors.specs.Trellises.{trellis_of}
-use Rattle.survivors.specs.Survivors.{IsReleased, LostIs}
+use Rattle.exact_decoder.specs.Surviving.Trellises.{trellis_of}
+use Rattle.exact_decoder.specs.Surviving.Survivors.{IsReleased, LostIs}
 use Rattle.exact_decoder.specs.Columns.{sums_at}
 use Rattle.trellis_tables.specs.Sequences.{Leads}
 use Rattle.exact_decoder.specs.Kept.{Kept, KeepsSurvivors}

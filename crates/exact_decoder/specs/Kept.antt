@@ -3,8 +3,8 @@ use Rattle.std.specs.Prelude.{◌≡◌, ◌⊎◌, ◌≢◌, ℕ, ◌+◌, ◌
 use Rattle.std.specs.List.{range_with_len}
 use Rattle.symbol_map.specs.declared.sample.Sample.{Sample}
 use Rattle.symbol_map.specs.Distance.{distance_of}
-use Rattle.survivors.specs.Trellises.{Trellis, trellis_of}
-use Rattle.survivors.specs.Steps.{Keeps, Chooses}
+use Rattle.exact_decoder.specs.Surviving.Trellises.{Trellis, trellis_of}
+use Rattle.exact_decoder.specs.Surviving.Steps.{Keeps, Chooses}
 use Rattle.exact_decoder.specs.declared.choice.Choice.{Choice}
 use Rattle.exact_decoder.specs.Settled.{far_key}
 use Rattle.exact_decoder.specs.Columns.{Entry, sum_in, sums_at, tail_at, entry_at, branches_at, new_sums_at}

@@ -3,8 +3,8 @@ use Rattle.std.specs.Prelude.{◌≡◌, ℕ, ◌+◌, ◌<◌, ◌≤◌, Bool,
 use Rattle.plain_lists.specs.Prefix.{IsPrefixOf}
 use Rattle.symbol_map.specs.declared.sample.Sample.{Sample}
 use Rattle.trellis_tables.specs.Sequences.{IsCodeSequence}
-use Rattle.survivors.specs.Trellises.{Trellis, trellis_of}
-use Rattle.survivors.specs.Survivors.{IsReleased, IsLeast}
+use Rattle.exact_decoder.specs.Surviving.Trellises.{Trellis, trellis_of}
+use Rattle.exact_decoder.specs.Surviving.Survivors.{IsReleased, IsLeast}
 use Rattle.exact_decoder.specs.Decoder.{Decoding, DecoderStands, heard}
 
 -- one state of the code or more

@@ -1,9 +1,7 @@
 pub use Rattle.symbol_map.specs.Distance
 pub use Rattle.trellis_tables.specs.Sequences
-pub use Rattle.survivors.specs.Trellises
-pub use Rattle.survivors.specs.Survivors
-pub use Rattle.survivors.specs.Steps
-pub use Rattle.survivors.specs.Laws as SurvivorLaws
+pub use Rattle.trellis_tables.specs.Codes
+pub mod Surviving
 pub mod Keys
 pub mod Settled
 pub mod Advances

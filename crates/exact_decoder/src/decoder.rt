@@ -1,8 +1,8 @@
 // The decoder: samples in, labels out.
 ghost use Rattle.std.specs.Prelude.{◌≡◌, ℕ, IfOk, IfSome, ◌↔◌, nat_eq, nat_lt, option_to_list, Bool, List, All, ◌+◌, ◌<◌, ◌≤◌, ◌^◌, length, drop, Some, None, [], ◌∷◌, ◌++◌, MatchResult, MatchOption};
 ghost use Rattle.symbol_map.specs.declared.sample.Sample.{Sample};
-ghost use Rattle.survivors.specs.Trellises.{trellis_of};
-ghost use Rattle.survivors.specs.Survivors.{IsFirstLeast};
+ghost use Rattle.exact_decoder.specs.Surviving.Trellises.{trellis_of};
+ghost use Rattle.exact_decoder.specs.Surviving.Survivors.{IsFirstLeast};
 ghost use Rattle.exact_decoder.specs.Decoder.{DecoderStands};
 
 use crate::kept::Survivors;

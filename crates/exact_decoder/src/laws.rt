@@ -1,8 +1,8 @@
 //! Laws of the decoders of each code, whatever its states, labels and starts: they rest on the laws of [`TrellisCode`]
 //! alone. Each function's contract is a law.
 ghost use Rattle.std.specs.Prelude.{ℕ, Bool};
-ghost use Rattle.survivors.specs.Trellises.{trellis_of, HasLaws};
-ghost use Rattle.survivors.specs.Laws.{EachReachedSurvives, SomeSurvives, SurvivesOnce, SomeIsReleased, ReleasedOnce, ReleasedStays, ReleasedIsLeast, FirstLeastOnce, LostOnce, LostStays};
+ghost use Rattle.exact_decoder.specs.Surviving.Trellises.{trellis_of, HasLaws};
+ghost use Rattle.exact_decoder.specs.Surviving.Laws.{EachReachedSurvives, SomeSurvives, SurvivesOnce, SomeIsReleased, ReleasedOnce, ReleasedStays, ReleasedIsLeast, FirstLeastOnce, LostOnce, LostStays};
 ghost use Rattle.exact_decoder.specs.Laws.{AreStarts, FromAnyStarts, OnlySentIsLeast, ReleasesSent, DecoderReleasesLeast, DecoderReleasesStay, DecodersAgree, FewUnreleased};
 
 use trellis_tables::TrellisCode;

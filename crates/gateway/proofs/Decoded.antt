@@ -4,8 +4,8 @@ use Rattle.std.proofs.lemmas.Bool.{cases_lt}
 use Rattle.std.proofs.lemmas.List.{take-append-le}
 use Rattle.scramblers.specs.declared.mode.Mode.{Mode}
 use Rattle.symbol_map.specs.declared.sample.Sample.{Sample}
-use Rattle.survivors.specs.Trellises.{Trellis}
-use Rattle.survivors.specs.Survivors.{IsReleased, IsLost, LostIs}
+use Rattle.exact_decoder.specs.Surviving.Trellises.{Trellis}
+use Rattle.exact_decoder.specs.Surviving.Survivors.{IsReleased, IsLost, LostIs}
 use Rattle.gateway.specs.declared.any_reader.AnyReader.{AnyReader}
 use Rattle.gateway.specs.declared.any_reader.AnyReader.TheVariants as readers
 use Rattle.gateway.specs.declared.any_reader.LineKind.{LineKind}

@@ -4,7 +4,7 @@ use Rattle.scramblers.specs.declared.mode.Mode.{Mode}
 use Rattle.symbol_map.specs.declared.sample.Sample.{Sample}
 use Rattle.symbol_map.specs.Points.{point_of}
 use Rattle.trellis_tables.specs.Table.{next_state}
-use Rattle.survivors.specs.V32.{at_beginning, line_depth}
+use Rattle.exact_decoder.specs.Surviving.V32.{at_beginning, line_depth}
 use Rattle.line_coding.specs.Reading.{Reading, SamplesRead, IsFinished}
 use Rattle.line_coding.specs.Demodulates.{DemodulatorStands}
 use Rattle.line_coding.specs.declared.demodulator.Demodulator.{Demodulator}

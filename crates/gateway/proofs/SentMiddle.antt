@@ -16,7 +16,7 @@ use Rattle.trellis_tables.specs.Laws.{far_from}
 use Rattle.trellis_tables.specs.Sequences.{Leads, cost}
 use Rattle.trellis_tables.specs.Table.{next_state}
 use Rattle.trellis_tables.proofs.Sequences.{Leads-split}
-use Rattle.survivors.specs.V32.{at_any}
+use Rattle.exact_decoder.specs.Surviving.V32.{at_any}
 use Rattle.line_coding.specs.Demodulates.{Demodulates}
 use Rattle.line_coding.specs.Laws.{ReadersPickUp, MiddleIsSent}
 use Rattle.line_coding.specs.PickedUp.{IsPickedUp}

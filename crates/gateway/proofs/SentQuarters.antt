@@ -9,8 +9,8 @@ use Rattle.scramblers.proofs.Readings.{Descrambles_once}
 use Rattle.symbol_map.specs.declared.sample.Sample.{Sample}
 use Rattle.differential.specs.Turned.{turned, turned_at}
 use Rattle.differential.proofs.Places.{length-unturned}
-use Rattle.survivors.specs.Survivors.{IsReleased, LostIs}
-use Rattle.survivors.proofs.Least.{some-released}
+use Rattle.exact_decoder.specs.Surviving.Survivors.{IsReleased, LostIs}
+use Rattle.exact_decoder.proofs.Surviving.Least.{some-released}
 use Rattle.exact_decoder.specs.Decoder.{heard}
 use Rattle.rate_4800.specs.Code.{point_of}
 use Rattle.rate_4800.specs.Demodulates.{Demodulates, line_of}

@@ -2,9 +2,9 @@
 use Rattle.std.specs.Prelude.{◌≡◌, ℕ, Bool, List, [], ◌++◌, Option}
 use Rattle.scramblers.specs.declared.mode.Mode.{Mode}
 use Rattle.symbol_map.specs.declared.sample.Sample.{Sample}
-use Rattle.survivors.specs.Survivors.{IsFirstLeast}
-use Rattle.survivors.specs.Trellises.{trellis_of}
-use Rattle.survivors.specs.V32.{at_beginning, line_depth}
+use Rattle.exact_decoder.specs.Surviving.Survivors.{IsFirstLeast}
+use Rattle.exact_decoder.specs.Surviving.Trellises.{trellis_of}
+use Rattle.exact_decoder.specs.Surviving.V32.{at_beginning, line_depth}
 use Rattle.symbol_map.specs.Points.{point_of}
 use Rattle.trellis_tables.specs.Table.{next_state}
 use Rattle.line_coding.specs.Reading.{SamplesRead}

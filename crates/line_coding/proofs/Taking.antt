@@ -7,7 +7,7 @@ use Rattle.std.proofs.lemmas.List.{drop-append-le}
 use Rattle.plain_lists.specs.Bits.{low_bits}
 use Rattle.scramblers.specs.declared.mode.Mode.{Mode}
 use Rattle.symbol_map.specs.declared.sample.Sample.{Sample}
-use Rattle.survivors.specs.V32.{at_any}
+use Rattle.exact_decoder.specs.Surviving.V32.{at_any}
 use Rattle.line_coding.specs.V32.{LineReading, LineRead}
 use Rattle.line_coding.specs.MiddleReading.{Middle, MiddleRead}
 

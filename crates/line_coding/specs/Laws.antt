@@ -8,7 +8,7 @@ use Rattle.symbol_map.specs.Laws.{turned_label}
 use Rattle.trellis_tables.specs.Table.{next_state}
 use Rattle.exact_decoder.specs.Decoder.{DecoderStands}
 use Rattle.line_coding.specs.Demodulates.{Demodulates}
-use Rattle.survivors.specs.V32.{at_any}
+use Rattle.exact_decoder.specs.Surviving.V32.{at_any}
 use Rattle.line_coding.specs.PickedUp.{IsPickedUp}
 use Rattle.line_coding.specs.MiddleReading.{Middle, MiddleRead}
 

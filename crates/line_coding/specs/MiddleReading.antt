@@ -3,7 +3,7 @@ use Rattle.std.specs.Prelude.{◌≡◌, ℕ, ◌*◌, min, Bool, List, [], ◌�
 use Rattle.plain_lists.specs.Bits.{low_bits}
 use Rattle.scramblers.specs.declared.mode.Mode.{Mode}
 use Rattle.symbol_map.specs.declared.sample.Sample.{Sample}
-use Rattle.survivors.specs.V32.{at_any}
+use Rattle.exact_decoder.specs.Surviving.V32.{at_any}
 use Rattle.line_coding.specs.V32.{LineReading, LineRead}
 use Rattle.line_coding.specs.declared.middle_reader.Taken.{Taken}
 use Rattle.line_coding.specs.declared.middle_reader.Taken.TheVariants as taken

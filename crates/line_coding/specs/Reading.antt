@@ -2,8 +2,8 @@
 use Rattle.std.specs.Prelude.{ℕ, Bool, List, [], ◌++◌, Option, Some, None}
 use Rattle.plain_lists.specs.Bits.{low_bits}
 use Rattle.symbol_map.specs.declared.sample.Sample.{Sample}
-use Rattle.survivors.specs.Trellises.{trellis_of}
-use Rattle.survivors.specs.Survivors.{IsFirstLeast}
+use Rattle.exact_decoder.specs.Surviving.Trellises.{trellis_of}
+use Rattle.exact_decoder.specs.Surviving.Survivors.{IsFirstLeast}
 use Rattle.exact_decoder.specs.Decoder.{Decoding, DecoderStands}
 
 -- what a reader keeps

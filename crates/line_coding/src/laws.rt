@@ -1,6 +1,6 @@
 //! Laws over all lists of labels and bits. The functions do nothing: each law is a contract.
 ghost use Rattle.std.specs.Prelude.{◌≡◌};
-ghost use Rattle.survivors.specs.V32.{line_depth};
+ghost use Rattle.exact_decoder.specs.Surviving.V32.{line_depth};
 ghost use Rattle.line_coding.specs.Demodulates.{OneReading, ComesBack, FirstBitsStay, IsFourTimes};
 ghost use Rattle.line_coding.specs.Laws.{PickedUpOnce, TurnedAreAlike, MiddleIsSent, ReadersPickUp};
 ghost use Rattle.line_coding.specs.declared.line.TheConstants.{DEPTH};

@@ -14,3 +14,5 @@ mod EachEnds
 mod Starving
 mod Making
 pub mod Slots
+pub mod ReadingOff
+pub mod RunLaws

@@ -9,11 +9,11 @@ use Rattle.scramblers.specs.Mode.{tap_of}
 use Rattle.scramblers.specs.Scrambles.{Descrambles}
 use Rattle.scramblers.proofs.Streams.{Descrambles-more}
 use Rattle.symbol_map.specs.declared.sample.Sample.{Sample}
-use Rattle.survivors.specs.Survivors.{IsReleased, IsOver, LostIs}
-use Rattle.survivors.proofs.Fronts.{released-once}
-use Rattle.survivors.proofs.Least.{some-released}
-use Rattle.survivors.specs.V32.{line_depth, line_trellis}
-use Rattle.survivors.proofs.V32.{line-has-laws}
+use Rattle.exact_decoder.specs.Surviving.Survivors.{IsReleased, IsOver, LostIs}
+use Rattle.exact_decoder.proofs.Surviving.Fronts.{released-once}
+use Rattle.exact_decoder.proofs.Surviving.Least.{some-released}
+use Rattle.exact_decoder.specs.Surviving.V32.{line_depth, line_trellis}
+use Rattle.exact_decoder.proofs.Surviving.V32.{line-has-laws}
 use Rattle.line_coding.specs.Demodulates.{line_of}
 use Rattle.shared_terms.specs.declared.role.Role.{Role}
 use Rattle.sample_line.specs.Mode.{mode_of}

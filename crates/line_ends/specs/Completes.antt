@@ -100,3 +100,14 @@ abbrev pub CompletesUndisturbed : Type 0
 CompletesUndisturbed = (script : ScriptValue) (files : Both (List ℕ)) (end : RunEnd) (left : Left) → IsInLimits script
     → script.losses ≡ [] → script.hits ≡ [] → script.noises ≡ [] → AreOfOctets script files
     → ScriptRunsTo script files end left → EndsDone end
+
+-- The noise of the script is faint, as it is where no symbol is displaced, and its lose lines name fewer slots than one for each two tries.
+pub record NamesFew (script : ScriptValue) : Type 0 where
+  pub faint : IsFaint script
+  pub few : 2 * slots_named script.losses < script.tries
+
+-- No line of the script loses, hits or displaces.
+pub record IsUndisturbed (script : ScriptValue) : Type 0 where
+  pub no_losses : script.losses ≡ []
+  pub no_hits : script.hits ≡ []
+  pub no_noises : script.noises ≡ []

@@ -13,8 +13,8 @@ use Rattle.trellis_tables.specs.Laws.{far_from}
 use Rattle.trellis_tables.specs.Sequences.{Leads, cost}
 use Rattle.trellis_tables.specs.Table.{next_state}
 use Rattle.trellis_tables.proofs.Tables.{branch_of}
-use Rattle.survivors.proofs.Fronts.{lost-once}
-use Rattle.survivors.specs.V32.{line_depth, line_trellis}
+use Rattle.exact_decoder.proofs.Surviving.Fronts.{lost-once}
+use Rattle.exact_decoder.specs.Surviving.V32.{line_depth, line_trellis}
 use Rattle.noise_bound.proofs.NoiselessCosts.{length-points}
 use Rattle.noise_bound.specs.Near.{only, sure, IsNear}
 use Rattle.noise_bound.proofs.Near.{few-unreleased, never-lost, releases-near}

@@ -9,11 +9,11 @@ use Rattle.frame_check.specs.declared.check.Check.{Check}
 use Rattle.scramblers.specs.Mode.{tap_of}
 use Rattle.scramblers.proofs.Readings.{Descrambles_once}
 use Rattle.symbol_map.specs.declared.sample.Sample.{Sample}
-use Rattle.survivors.specs.Survivors.{IsReleased}
-use Rattle.survivors.proofs.Least.{some-released}
-use Rattle.survivors.specs.V32.{line_trellis}
+use Rattle.exact_decoder.specs.Surviving.Survivors.{IsReleased}
+use Rattle.exact_decoder.proofs.Surviving.Least.{some-released}
+use Rattle.exact_decoder.specs.Surviving.V32.{line_trellis}
 use Rattle.exact_decoder.specs.declared.decoder.Lost.{Lost}
-use Rattle.survivors.proofs.V32.{line-has-laws}
+use Rattle.exact_decoder.proofs.Surviving.V32.{line-has-laws}
 use Rattle.line_coding.specs.Demodulates.{Demodulates, line_of}
 use Rattle.line_coding.proofs.Readings.{first-stay, four-each}
 use Rattle.bit_stuffing.specs.Found.{Found, pieces_of}

@@ -20,9 +20,9 @@ use Rattle.trellis_tables.specs.Encoder.{Encodes}
 use Rattle.trellis_tables.specs.Table.{next_by_y}
 use Rattle.trellis_tables.proofs.Tables.{next_by_y-lt}
 use Rattle.trellis_tables.proofs.Codings.{Encodes-more}
-use Rattle.survivors.specs.Survivors.{LostIs}
-use Rattle.survivors.proofs.Fronts.{lost-stays}
-use Rattle.survivors.specs.V32.{line_depth, line_trellis}
+use Rattle.exact_decoder.specs.Surviving.Survivors.{LostIs}
+use Rattle.exact_decoder.proofs.Surviving.Fronts.{lost-stays}
+use Rattle.exact_decoder.specs.Surviving.V32.{line_depth, line_trellis}
 use Rattle.shared_terms.specs.declared.role.Role.{Role}
 use Rattle.shared_terms.specs.declared.role.Role.TheVariants.{Originator, Answerer}
 use Rattle.noise_script.specs.Script.{ScriptValue}

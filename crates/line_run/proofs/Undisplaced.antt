@@ -8,8 +8,8 @@ use Rattle.symbol_map.specs.declared.sample.Sample.{Sample}
 use Rattle.symbol_map.specs.Points.{map_points, point_of, plus}
 use Rattle.std.specs.Prelude.{slice_index_or}
 use Rattle.scramblers.specs.Mode.{tap_of}
-use Rattle.survivors.proofs.Fronts.{lost-once}
-use Rattle.survivors.specs.V32.{line_depth, line_trellis}
+use Rattle.exact_decoder.proofs.Surviving.Fronts.{lost-once}
+use Rattle.exact_decoder.specs.Surviving.V32.{line_depth, line_trellis}
 use Rattle.noise_bound.specs.Noiseless.{IsNoiseless}
 use Rattle.noise_bound.proofs.NoiselessCosts.{length-points}
 use Rattle.noise_bound.proofs.Followed.{few-unreleased_at, never-lost, released-sent_at}

@@ -29,14 +29,14 @@ use Rattle.run_inputs.specs.Lengths.{IsFirstLong}
 use Rattle.line_run.specs.Names.{Written}
 use Rattle.line_run.specs.Names as written
 use Rattle.line_world.specs.Turns.{held_of}
-use Rattle.run_commands.specs.Running.Completes.{NamesFew, IsUndisturbed}
+use Rattle.line_ends.specs.Completes.{NamesFew, IsUndisturbed}
 use Rattle.pair_run.specs.Beside.{first_wire, second_wire}
 use Rattle.pair_run.specs.Ends.{IsByLine, PairEnd, BothDone, end_of, line_end, PairRunsTo, by_links, by_line}
 use Rattle.pair_run.specs.Laws.{OnePairResult, FaintPairsAreIsolated, EndsDone, UnstarvedPairsAreDone, QuietPairsAreDone}
 use Rattle.link_pair.specs.declared.command.LastTurns.{LastTurns}
 use Rattle.link_pair.specs.Words.{Names, files_of}
 use Rattle.link_pair.specs.Answers.{answer_of, result_of}
-use Rattle.link_pair.specs.Ends.{AreFiles, RanTo, RanBy, EndsBy, pair_job}
+use Rattle.link_pair.specs.Ends.{AreFiles, RanTo, EndsBy, pair_job}
 use Rattle.link_pair.specs.Ends as ends
 use Rattle.link_pair.specs.Completes.{IsCarried, LosesFew, AreRight, files_at, DoneWhere, Answered, AnsweredByItsEnd}
 use Rattle.link_pair.specs.Completes.{Completes}

@@ -30,10 +30,11 @@ use Rattle.run_inputs.specs.Inputs.{RefusesOwn}
 use Rattle.line_run.specs.Names.{Written}
 use Rattle.line_run.specs.Names as written
 use Rattle.line_world.specs.Turns.{held_of}
-use Rattle.run_commands.specs.Running.Headline.{HoldsWhole}
-use Rattle.run_commands.specs.Running.ReadOff.{AreReadOff}
-use Rattle.run_commands.proofs.Running.Headline.{prefix-later}
-use Rattle.run_commands.proofs.Running.ReadingOff.{run-read, turns-read}
+use Rattle.run_inputs.specs.Files.{HoldsWhole}
+use Rattle.line_ends.specs.ReadOff.{AreReadOff}
+use Rattle.run_inputs.proofs.Files.{prefix-later}
+use Rattle.line_ends.proofs.ReadingOff.{run-read, turns-read}
+use Rattle.line_ends.proofs.RunLaws.{may-run, runs-over}
 use Rattle.pair_run.specs.Beside.{first_wire, second_wire}
 use Rattle.pair_run.specs.Pair.{Progress, Goes, Ended, turns_in, Lasts}
 use Rattle.pair_run.specs.Ends.{PairEnd, BothDone, LinkLost, NotDetected, LineLost, ChanceMatch, LeavesOf, PairRunsTo, by_links, by_line}
@@ -42,13 +43,12 @@ use Rattle.link_pair.specs.Half.{left_by}
 use Rattle.link_pair.specs.declared.command.LastTurns.{LastTurns}
 use Rattle.link_pair.specs.Words.{Names, files_of, inputs_of}
 use Rattle.link_pair.specs.Answers.{answer_of, result_of}
-use Rattle.link_pair.specs.Ends.{AreFiles, RanTo, EndsBy, pair_job}
+use Rattle.link_pair.specs.Ends.{RanTo, EndsBy, pair_job}
 use Rattle.link_pair.specs.Ends as ends
-use Rattle.link_pair.specs.Isolates.{AreTold}
-use Rattle.link_pair.specs.Headline.{heard_in, CauseIn, LinkRan, Came, came_of, Ran, RanBy, Headline}
+use Rattle.link_pair.specs.Headline.{AreTold, heard_in, CauseIn, LinkRan, Came, came_of, Ran, RanBy, Headline}
 use Rattle.link_pair.proofs.Running.{few-of}
 use Rattle.link_pair.proofs.Refusing.{own-answer}
-use Rattle.link_pair.proofs.Prefixes.{HeadLaws, BothPrefix, may-run, runs-over, given-is, both-of}
+use Rattle.link_pair.proofs.Prefixes.{HeadLaws, BothPrefix, given-is, both-of}
 
 -- ---- one link of a pair that ended
 
@@ -58,9 +58,9 @@ passed : HeadLaws → (c : Wire) (files : Both (List ℕ)) (rounds : ℕ) (p : P
     → of role (left_by p).got ≡ taken_octets (agreed_srej (link_of c.script files)) (delay_of c.script) role (heard_in c files rounds p l)
 passed laws c files rounds (Goes ts ends) h l role =
     given-is ts ends role ∙ sym (laws.took (link_of c.script files) (delay_of c.script) ts ends
-    (runs-over laws c files ts ends h l.run) role)
+    (runs-over laws.runs c files ts ends h l.run) role)
 passed laws c files rounds (Ended ts ends end left) h l role =
-    laws.runs.passed c (link_of c.script files) end left (may-run laws c files h) l.ran role
+    laws.runs.passed c (link_of c.script files) end left (may-run laws.runs c files h) l.ran role
 
 read-off : HeadLaws → (c : Wire) (files : Both (List ℕ)) (rounds : ℕ) (p : Progress) → (l : Lasts c (link_of c.script files) rounds p)
     → AreReadOff c (heard_in c files rounds p l)

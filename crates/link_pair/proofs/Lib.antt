@@ -2,9 +2,8 @@ mod Reading
 mod Running
 mod Refusing
 mod Prefixes
-mod Headline
+pub mod Headline
 mod Completing
-mod Isolating
 mod Going
 mod Idling
 mod Beside

@@ -14,9 +14,9 @@ use Rattle.noise_script.specs.Script.{ScriptValue, IsInLimits, delay_of}
 use Rattle.noise_script.specs.Laws.{BreaksAreOctets}
 use Rattle.link_run.specs.End.{deliveries}
 use Rattle.link_run.specs.Run.{Link, Accounts, Turn}
-use Rattle.link_run.specs.Laws.{RunsOver, HoldPrefixes, TakesWhatPassed}
+use Rattle.link_run.specs.Laws.{HoldPrefixes, TakesWhatPassed}
 use Rattle.line_run.specs.Sampled.{Wire, LineRun}
-use Rattle.line_run.specs.Ends.{Left, MayRun}
+use Rattle.line_run.specs.Ends.{Left}
 use Rattle.line_run.specs.Scripted.{link_of}
 use Rattle.line_run.proofs.Leaving.{hearing-in}
 use Rattle.command_base.specs.declared.stop.Stop.{Stop}
@@ -25,8 +25,9 @@ use Rattle.run_inputs.specs.declared.limits.TheConstants.{LIMITS}
 use Rattle.line_run.specs.Names.{Written}
 use Rattle.line_run.specs.Names as written
 use Rattle.line_world.specs.Turns.{AddsTurn, held_of}
-use Rattle.run_commands.specs.Running.Headline.{KeptOrPrefix}
-use Rattle.run_commands.proofs.Running.Prefixes.{RunLaws, prefix-of, part-of, empty-of}
+use Rattle.run_inputs.specs.Files.{KeptOrPrefix}
+use Rattle.line_ends.proofs.RunLaws.{RunLaws, may-run, runs-over}
+use Rattle.run_inputs.proofs.Files.{prefix-of, part-of, empty-of}
 use Rattle.pair_run.specs.Beside.{first_wire, second_wire}
 use Rattle.pair_run.specs.Pair.{Progress, Goes, Ended, turns_in, Lasts, PairAt}
 use Rattle.pair_run.specs.Ends.{Which, First, Second, BothDone, firsts_at}
@@ -48,18 +49,6 @@ pub record HeadLaws : Type 0 where
   pub isolated : FaintPairsAreIsolated
   pub breaks : BreaksAreOctets
 
-pub may-run : HeadLaws → (c : Wire) (files : Both (List ℕ)) → IsInLimits c.script → MayRun c (link_of c.script files)
-may-run laws c files h = record { may_play = laws.runs.play c.script files h; delays = laws.runs.delays c.script h }
-
-pub runs-over : HeadLaws → (c : Wire) (files : Both (List ℕ)) (ts : List Turn) (ends : Accounts) → IsInLimits c.script
-    → LineRun c (link_of c.script files) ts ends → RunsOver (link_of c.script files) (delay_of c.script) ts ends
-runs-over laws c files ts ends h r = record {
-  may_play = laws.runs.play c.script files h;
-  delays = laws.runs.delays c.script h;
-  carried = laws.runs.carried c ts r.heard;
-  run = r.run;
-}
-
 -- the files of the link are those
 same-prefix : (script : ScriptValue) (files : Both (List ℕ)) (role : Role) (got : List ℕ)
     → IsPrefixOf got (of (other role) (link_of script files)).user.file → IsPrefixOf got (of (other role) files)
@@ -77,10 +66,10 @@ pub left-prefixes : HeadLaws → (c : Wire) (files : Both (List ℕ)) (rounds : 
 left-prefixes laws c files rounds (Goes ts ends) h l role =
     same-prefix c.script files role (of role (left_by (Goes ts ends)).got)
     (subst (λ g. IsPrefixOf g (of (other role) (link_of c.script files)).user.file) (sym (given-is ts ends role))
-    (laws.runs.takes (link_of c.script files) (delay_of c.script) ts ends (runs-over laws c files ts ends h l.run) role))
+    (laws.runs.takes (link_of c.script files) (delay_of c.script) ts ends (runs-over laws.runs c files ts ends h l.run) role))
 left-prefixes laws c files rounds (Ended ts ends end left) h l role =
     same-prefix c.script files role (of role left.got)
-    (laws.runs.prefixes c (link_of c.script files) end left (may-run laws c files h) l.ran role)
+    (laws.runs.prefixes c (link_of c.script files) end left (may-run laws.runs c files h) l.ran role)
 
 -- and of it with what a turn adds
 turn-prefix : HeadLaws → (c : Wire) (files : Both (List ℕ)) (ts : List Turn) (ends : Accounts) (more : Left) → IsInLimits c.script
@@ -90,7 +79,7 @@ turn-prefix laws c files ts ends more h run a role =
     let link : Link = link_of c.script files in
     let hears = hearing-in link ts ends a.turn a.mid a.outcome a.is in
     let whole : HoldPrefixes link a.mid =
-    laws.runs.hears link (delay_of c.script) ts ends a.turn a.mid (runs-over laws c files ts ends h run)
+    laws.runs.hears link (delay_of c.script) ts ends a.turn a.mid (runs-over laws.runs c files ts ends h run)
     (laws.runs.one c ts a.turn a.heard) hears
     in
     let all : of role (left_by (Goes ts ends)).got ++ of role more.got ≡ concat (of role a.mid).incoming.taken =

@@ -19,7 +19,7 @@ use Rattle.command_base.proofs.Creating.{CreatesPart-earlier}
 use Rattle.run_inputs.specs.declared.limits.Limits.{Limits}
 use Rattle.run_inputs.specs.declared.limits.TheConstants.{LIMITS}
 use Rattle.run_inputs.specs.Inputs.{Refuses}
-use Rattle.run_commands.proofs.Running.Runs.{file-is}
+use Rattle.run_inputs.proofs.Files.{file-is}
 use Rattle.pair_run.specs.Beside.{first_wire, second_wire}
 use Rattle.pair_run.specs.Pair.{Progress, Goes, Ended, turns_in, Lasts}
 use Rattle.pair_run.specs.Ends.{PairEnd, BothDone, LineLost, ChanceMatch}

@@ -34,7 +34,7 @@ use Rattle.link_pair.specs.declared.two_links.Pair.{Pair}
 use Rattle.link_pair.specs.declared.two_links.Endings.{Endings}
 use Rattle.link_pair.specs.Half.{run_end, last_turn, left_by, HoldLeft, Follows, HasCome, IsEndedByLine, LinkStops, LinkStopsReading, IsStopped}
 use Rattle.link_pair.specs.Half.{HalfEnds, HalfAt, HalfAnswers}
-use Rattle.link_pair.specs.Pair.{both_ended, streams_at, Awaits, HaveEnded, last_round, EndedIn, StopsIn, FaultEndsIn}
+use Rattle.link_pair.specs.Pair.{both_ended, streams_at, Awaits, HaveEnded, last_round, EndedIn, StopsIn, FaultEndsIn, Comes}
 use Rattle.link_pair.proofs.Beside.{AllApart, first-beside, second-beside, known-beside, held-beside}
 use Rattle.link_pair.proofs.Pairing.{PairLaws, AreOver, either, counted, waits-over, at-first, at-second, after-first-turn}
 use Rattle.link_pair.proofs.Pairing.{after-second-turn, first-at, second-at, stands-going, stands-over}
@@ -69,7 +69,7 @@ first-come laws x h l old new n m a answers =
     a.first_dlci_is
     (answers (after_second (turns_in a.q)) 2 (streams_at First x.round a.p a.q) a.files a.p (first-at laws x old n m a))
 
-pub goes-to-second : PairLaws
+goes-to-second : PairLaws
     → (x : Pair) (h : Half) (l : Lines) (old new : FolderState) (n m : Written) (a : Awaits x old n m First) → Leaves old new n m n
     → h.dlci ≡ x.first.dlci → both_ended h.ended x.second.ended ≡ None
     → Answers x.first x.lines x.script old new n x.round h l (Ok tt)
@@ -137,7 +137,7 @@ over-pair script files others firsts seconds p q endings at o e f =
           (subst (λ z. PairAt script files others firsts seconds z q) o.first_is at)));
     }
 
-pub ends-first : PairLaws
+ends-first : PairLaws
     → (x : Pair) (h : Half) (l : Lines) (old new : FolderState) (n m : Written) (a : Awaits x old n m First) (endings : Endings)
     → Leaves old new n m n → both_ended h.ended x.second.ended ≡ Some endings
     → Answers x.first x.lines x.script old new n x.round h l (Ok tt) → HaveEnded x.script new n m endings × (last_round endings ≡ x.round)
@@ -208,7 +208,7 @@ second-come laws x h l old new n m a answers =
 one-more : (round : ℕ) → suc round ≡ round + 1
 one-more round = omega arith
 
-pub goes-to-first : PairLaws
+goes-to-first : PairLaws
     → (x : Pair) (h : Half) (l : Lines) (old new : FolderState) (n m : Written) (a : Awaits x old n m Second) → Leaves old new n m m
     → h.dlci ≡ x.second.dlci → both_ended x.first.ended h.ended ≡ None
     → Answers x.second x.lines x.script old new m x.round h l (Ok tt)
@@ -243,7 +243,7 @@ goes-to-first laws x h l old new n m a around same none answers =
       second_holds = k.holds;
     }
 
-pub ends-second : PairLaws
+ends-second : PairLaws
     → (x : Pair) (h : Half) (l : Lines) (old new : FolderState) (n m : Written) (a : Awaits x old n m Second) (endings : Endings)
     → Leaves old new n m m → both_ended x.first.ended h.ended ≡ Some endings
     → Answers x.second x.lines x.script old new m x.round h l (Ok tt) → HaveEnded x.script new n m endings × (last_round endings ≡ x.round)
@@ -449,27 +449,24 @@ fault-second laws x h l old new n m a fault around answers =
         (line-second x old new n m a (lines.ChanceMatch role) around e.1)
     go fault e = absurd e
 
--- ---- what is answered of both links
+-- ---- what it comes to
 
-abbrev answered : Option Endings → Result (Option Endings) RunFault
-answered o = Ok o
+pub comes-first : PairLaws
+    → (x : Pair) (h : Half) (l : Lines) (old new : FolderState) (n m : Written) (a : Awaits x old n m First) → Leaves old new n m n
+    → h.dlci ≡ x.first.dlci → (o : Option Endings) → both_ended h.ended x.second.ended ≡ o
+    → Answers x.first x.lines x.script old new n x.round h l (Ok tt)
+    → Comes x.script x.round First (first_moved x h l) new n m (Ok o)
+comes-first laws x h l old new n m a around same None none answers =
+    (goes-to-second laws x h l old new n m a around same none answers, refl)
+comes-first laws x h l old new n m a around same (Some endings) some answers =
+    ends-first laws x h l old new n m a endings around some answers
 
-value : Option Endings → Result (Option Endings) RunFault → Option Endings
-value other (Ok z) = z
-value other (Err fault) = other
-
-pub none-of : (o : Option Endings) → answered o ≡ answered None → o ≡ None
-unfolding value
-none-of o e = ap (value o) e
-
-pub some-of : (o : Option Endings) (endings : Endings) → answered o ≡ answered (Some endings) → o ≡ Some endings
-unfolding value
-some-of o endings e = ap (value o) e
-
--- where both have ended there is an answer
-pub some-not-none : {P : Type 0} {endings : Endings} → answered (Some endings) ≡ answered None → P
-some-not-none e = absurd cc
-
--- a fault is no answer
-pub fault-not-done : {P : Type 0} {fault : RunFault} {o : Option Endings} → Err fault ≡ answered o → P
-fault-not-done e = absurd cc
+pub comes-second : PairLaws
+    → (x : Pair) (h : Half) (l : Lines) (old new : FolderState) (n m : Written) (a : Awaits x old n m Second) → Leaves old new n m m
+    → h.dlci ≡ x.second.dlci → (o : Option Endings) → both_ended x.first.ended h.ended ≡ o
+    → Answers x.second x.lines x.script old new m x.round h l (Ok tt)
+    → Comes x.script x.round Second (second_moved x h l) new n m (Ok o)
+comes-second laws x h l old new n m a around same None none answers =
+    (goes-to-first laws x h l old new n m a around same none answers, refl)
+comes-second laws x h l old new n m a around same (Some endings) some answers =
+    ends-second laws x h l old new n m a endings around some answers

@@ -16,7 +16,7 @@ use Rattle.command_base.specs.Sound.{IsSound, DoneUnlessMemory}
 use Rattle.line_run.specs.Names.{Written}
 use Rattle.line_run.specs.Names as written
 use Rattle.line_world.specs.Turns.{held_of}
-use Rattle.run_commands.specs.Running.Completes.{NamesFew, IsUndisturbed}
+use Rattle.line_ends.specs.Completes.{NamesFew, IsUndisturbed}
 use Rattle.pair_run.specs.Beside.{first_wire, second_wire}
 use Rattle.pair_run.specs.Ends.{PairEnd, IsByLine, BothEnd, PairRunsTo}
 use Rattle.link_pair.specs.Words.{Names, inputs_of, outputs_of}

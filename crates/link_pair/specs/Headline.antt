@@ -1,5 +1,5 @@
 -- What a pair promises, over the folder before and after it. What is said of a name's octets holds where the folder tells that name.
-use Rattle.std.specs.Prelude.{◌≡◌, ℕ, suc, max, IsTrue, List, length}
+use Rattle.std.specs.Prelude.{◌≡◌, ℕ, suc, max, IsTrue, List, [], ◌∷◌, length}
 use Rattle.outside_calls.specs.Folder.{FolderState, octets_at, Said}
 use Rattle.outside_calls.specs.Outputs.{Holds}
 use Rattle.shared_terms.specs.declared.role.Role.TheVariants.{Originator, Answerer}
@@ -19,8 +19,8 @@ use Rattle.command_base.specs.declared.status.Status.TheVariants as status
 use Rattle.command_base.specs.Job.{Shared}
 use Rattle.command_base.specs.Lines.{both_done_line}
 use Rattle.line_run.specs.Names.{Written}
-use Rattle.run_commands.specs.Running.Headline.{KeptOrPrefix, HoldsWhole}
-use Rattle.run_commands.specs.Running.ReadOff.{AreReadOff}
+use Rattle.run_inputs.specs.Files.{KeptOrPrefix, HoldsWhole}
+use Rattle.line_ends.specs.ReadOff.{AreReadOff}
 use Rattle.pair_run.specs.Beside.{first_wire, second_wire}
 use Rattle.pair_run.specs.Pair.{Progress, Goes, Ended, turns_in, Lasts, PairAt}
 use Rattle.pair_run.specs.Ends.{PairEnd, BothDone, firsts_at, PairRunsTo}
@@ -29,7 +29,6 @@ use Rattle.pair_run.specs.Laws.{AreIsolated}
 use Rattle.link_pair.specs.Words.{Names, inputs_of, outputs_of}
 use Rattle.link_pair.specs.Answers.{ByAnswer}
 use Rattle.link_pair.specs.Ends.{AreFiles, IsFew}
-use Rattle.link_pair.specs.Isolates.{AreTold}
 
 -- ---- one link
 
@@ -58,6 +57,11 @@ pub record LinkRan (c : Wire) (files : Both (List ℕ)) (f : FolderState) (n : W
   pub cause : CauseIn c files rounds p l
 
 -- ---- both
+
+-- the folder tells each of these names
+abbrev pub AreTold : FolderState → List (List ℕ) → Type 0
+AreTold f [] = Unit {0}
+AreTold f (name ∷ names) = IsTrue (f.tells name) × AreTold f names
 
 -- How far both links came.
 pub record Came (script : ScriptValue) (files others : Both (List ℕ)) : Type 0 where

@@ -4,6 +4,5 @@ pub mod Ends
 pub mod Headline
 pub mod Completes
 pub mod Promise
-pub mod Isolates
 pub mod Half
 pub mod Pair

@@ -1,5 +1,5 @@
 -- How far a pair has come, and how it ends.
-use Rattle.std.specs.Prelude.{◌≡◌, ℕ, max, true, ◌||◌, List, [], ◌∷◌, length, Option, Some, None}
+use Rattle.std.specs.Prelude.{◌≡◌, ℕ, ◌+◌, max, true, ◌||◌, List, [], ◌∷◌, length, Option, Some, None, Result, Ok, Err}
 use Rattle.std.specs.Option.{MatchOption}
 use Rattle.outside_calls.specs.Folder.{FolderState}
 use Rattle.outside_calls.specs.Outputs.{HoldEach}
@@ -25,6 +25,8 @@ use Rattle.line_world.specs.declared.step.RunFault.TheVariants as faults
 use Rattle.link_pair.specs.declared.two_links.Pair.{Pair}
 use Rattle.link_pair.specs.declared.two_links.Endings.{Endings}
 use Rattle.link_pair.specs.declared.two_links.PairNames.{PairNames}
+use Rattle.link_pair.specs.declared.two_links.WhichLink.{WhichLink}
+use Rattle.link_pair.specs.declared.two_links.WhichLink.TheVariants as links
 use Rattle.link_pair.specs.Answers.{end_by_line}
 use Rattle.link_pair.specs.Half.{run_end, last_turn, StandsFor, StandsFirst, HoldLeft, LinkStops, LinkStopsReading}
 
@@ -175,3 +177,25 @@ FaultEndsIn script f n m round faults.ReadFault = StopsIn LinkStopsReading scrip
 FaultEndsIn script f n m round faults.WriteFault = StopsIn LinkStops script f n m round
 FaultEndsIn script f n m round faults.NoMemory = StopsIn LinkStops script f n m round
 FaultEndsIn script f n m round fault = MatchOption (end_by_line fault) ⊥ (EndedIn script f n m round)
+
+-- ---- a turn
+
+-- the link that the code names so
+abbrev pub which : WhichLink → Which
+which links.First = First
+which links.Second = Second
+
+-- whose turn comes behind that of a link, and in which round
+abbrev pub next_of : Which → Which
+next_of First = Second
+next_of Second = First
+
+abbrev pub round_behind : Which → ℕ → ℕ
+round_behind First round = round
+round_behind Second round = round + 1
+
+-- What the turn of this link in a round comes to: the other one's is next, or the pair ended in it, by both links or by a fault.
+abbrev pub Comes : ScriptValue → ℕ → Which → Pair → FolderState → Written → Written → Result (Option Endings) RunFault → Type 0
+Comes script round link x f n m (Ok None) = Awaits x f n m (next_of link) × (round_of x ≡ round_behind link round)
+Comes script round link x f n m (Ok (Some endings)) = HaveEnded script f n m endings × (last_round endings ≡ round)
+Comes script round link x f n m (Err fault) = FaultEndsIn script f n m round fault

@@ -1,5 +1,4 @@
-//! What every answer of a pair promises, and how a pair and a run of one of its links alone compare. The functions do nothing but name the
-//! laws that they rest on: each law is a contract.
+//! What every answer of a pair promises. The functions do nothing but name the laws that they rest on: each law is a contract.
 ghost use Rattle.std.specs.Prelude.{List, ℕ};
 ghost use Rattle.outside_calls.specs.Folder.{FolderState};
 ghost use Rattle.command_base.specs.declared.status.Status.{Status};
@@ -8,19 +7,18 @@ ghost use Rattle.link_pair.specs.Words.{Names};
 ghost use Rattle.link_pair.specs.Ends.{pair_job};
 ghost use Rattle.link_pair.specs.Headline.{Headline};
 ghost use Rattle.link_pair.specs.Completes.{Completes};
-ghost use Rattle.link_pair.specs.Isolates.{FaintLinksAreAlone, UndisplacedLinksAreAlone};
 
+use exact_decoder::survivors::released_labels_begin_a_least_sequence;
 use line_ends::laws::{
     few_losses_keep_links, lost_links_were_starved, undisplaced_runs_have_faint_noise,
     undisturbed_runs_complete,
 };
 use line_run::laws::{
-    line_runs_end_soon, one_result, runs_leave_prefixes, samples_are_carried, scripts_make_links,
+    line_runs_end_soon, runs_leave_prefixes, samples_are_carried, scripts_make_links,
 };
 use link_run::laws::{prefixes, turns_deliver_what_came, what_passed_is_taken};
 use noise_script::laws::{one_answer, spelled_scripts_are_in_limits};
 use pair_run::laws::{one_pair_result, pairs_are_isolated, pairs_complete, pairs_leave_prefixes};
-use survivors::laws::released_labels_begin_a_least_sequence;
 
 /// Whatever a pair answers, its headline holds.
 pub(crate) fn answers_keep_the_headline()
@@ -53,17 +51,4 @@ pub(crate) fn right_pairs_are_done()
     few_losses_keep_links();
     undisplaced_runs_have_faint_noise();
     undisturbed_runs_complete();
-}
-
-/// Where the noise of a script is faint, or no line of it displaces a symbol, a pair leaves of each link what `run` leaves of that link
-/// alone, where both end by themselves.
-pub fn links_are_alone()
-    ensures faint { FaintLinksAreAlone }
-    ensures undisplaced { UndisplacedLinksAreAlone }
-{
-    pairs_are_isolated();
-    one_result();
-    one_answer();
-    spelled_scripts_are_in_limits();
-    undisplaced_runs_have_faint_noise();
 }

@@ -12,7 +12,7 @@
 
 mod command;
 mod half;
-pub mod laws;
+mod laws;
 mod rounds;
 mod two_links;
 mod words;

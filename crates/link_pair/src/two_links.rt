@@ -1,11 +1,8 @@
 // Both links of a pair, and a round of them.
-ghost use Rattle.std.specs.Prelude.{◌≡◌, ℕ, ◌+◌, Ok, Some, None, Option, Result, List, IfOk, IfErr};
-ghost use Rattle.outside_calls.specs.Folder.{FolderState};
-ghost use Rattle.outside_calls.specs.Outputs.{AreApartFrom, Creates, OnlyPuts};
-ghost use Rattle.shared_terms.specs.Both.{Both};
+ghost use Rattle.std.specs.Prelude.{◌≡◌, Option, Result, IfOk};
+ghost use Rattle.outside_calls.specs.Outputs.{AreApartFrom, OnlyPuts};
 ghost use Rattle.line_run.specs.Names.{written};
 ghost use Rattle.line_world.specs.Turn.{CountsOver};
-ghost use Rattle.pair_run.specs.Beside.{first_dlci, second_dlci};
 ghost use Rattle.pair_run.specs.Ends.{First, Second};
 
 use crate::{Half, LinkEnd};
@@ -13,7 +10,7 @@ use line_run::laws::scripts_make_links;
 use line_world::{Lines, Names, RunFault};
 use noise_script::Script;
 use outside_calls::{Folder, NoMemory};
-use pair_run::laws::{paired_links_run, pairs_have_few_rounds, slots_are_due};
+use pair_run::laws::{pairs_have_few_rounds, slots_are_due};
 use std::alloc::Global;
 
 /// The names of a pair's files: those of the first link, and those of the second.
@@ -23,6 +20,15 @@ pub struct PairNames<'a> {
     pub first: Names<'a>,
     /// The files of the link on channel 32.
     pub second: Names<'a>,
+}
+
+/// One of the two links.
+#[derive(Clone, Copy)]
+enum WhichLink {
+    /// The link on channel 0.
+    First,
+    /// The link on channel 32.
+    Second,
 }
 
 /// How both links of a pair ended.
@@ -63,7 +69,7 @@ impl Drop for Pair {
 
 impl Pair {
     ghost use Rattle.link_pair.specs.declared.two_links.Pair.{Pair};
-    ghost use Rattle.link_pair.specs.Pair.{Awaits, FaultEndsIn, HaveEnded, IsFirst, inputs_in, outputs_in, ended_of, last_round, script_of, round_of};
+    ghost use Rattle.link_pair.specs.Pair.{Awaits, Comes, IsFirst, inputs_in, outputs_in, ended_of, script_of, round_of, which};
 
     /// A pair before its first round. It takes all memory of its ends and its lines.
     pub fn new(alloc: Global, script: Script) -> Result<Pair, NoMemory>
@@ -91,21 +97,17 @@ impl Pair {
         }
     }
 
-    /// The first link's turn of a round, which is the pair's last one where both have ended then.
-    fn first_turn<F: Folder>(
+    /// A link's turn of a round, and with the second one's the round. The pair ends in it where both have ended then.
+    fn turn_of<F: Folder>(
         &mut self,
+        link: WhichLink,
         folder: &mut F,
         names: &PairNames<'_>,
     ) -> Result<Option<Endings>, RunFault>
-        requires ready { Awaits self.old (F.state folder.old) (written names.now.first) (written names.now.second) First }
+        requires ready { Awaits self.old (F.state folder.old) (written names.now.first) (written names.now.second) (which link) }
         requires apart { AreApartFrom (inputs_in names.now) (outputs_in names.now) }
-        ensures going { result ≡ Ok None → Awaits self.new (F.state folder.new) (written names.now.first) (written names.now.second) Second }
-        ensures ended { (endings : Endings) → result ≡ Ok (Some endings)
-            → HaveEnded (script_of self.old) (F.state folder.new) (written names.now.first) (written names.now.second) endings }
-        ensures ended_round { (endings : Endings) → result ≡ Ok (Some endings) → last_round endings ≡ round_of self.old }
-        ensures fault { IfErr result (FaultEndsIn (script_of self.old) (F.state folder.new) (written names.now.first) (written names.now.second) (round_of self.old)) }
+        ensures comes { Comes (script_of self.old) (round_of self.old) (which link) self.new (F.state folder.new) (written names.now.first) (written names.now.second) result }
         ensures script { script_of self.new ≡ script_of self.old }
-        ensures round { round_of self.new ≡ round_of self.old }
         ensures only { OnlyPuts (F.state folder.old) (F.state folder.new) (outputs_in names.now) }
         ensures came { F.came folder.old folder.new }
         ensures counts { CountsOver (F.state folder.old) (F.state folder.new) (inputs_in names.now) (outputs_in names.now) result }
@@ -113,52 +115,30 @@ impl Pair {
         scripts_make_links();
         slots_are_due();
         pairs_have_few_rounds();
-        match self.first.turn(
-            &mut self.lines,
-            &self.script,
-            self.round,
-            folder,
-            &names.first,
-        ) {
-            Ok(()) => Ok(self.endings()),
-            Err(fault) => Err(fault),
-        }
-    }
-
-    /// The second link's turn of a round, and with it the round.
-    fn second_turn<F: Folder>(
-        &mut self,
-        folder: &mut F,
-        names: &PairNames<'_>,
-    ) -> Result<Option<Endings>, RunFault>
-        requires ready { Awaits self.old (F.state folder.old) (written names.now.first) (written names.now.second) Second }
-        requires apart { AreApartFrom (inputs_in names.now) (outputs_in names.now) }
-        ensures going { result ≡ Ok None → Awaits self.new (F.state folder.new) (written names.now.first) (written names.now.second) First }
-        ensures ended { (endings : Endings) → result ≡ Ok (Some endings)
-            → HaveEnded (script_of self.old) (F.state folder.new) (written names.now.first) (written names.now.second) endings }
-        ensures ended_round { (endings : Endings) → result ≡ Ok (Some endings) → last_round endings ≡ round_of self.old }
-        ensures fault { IfErr result (FaultEndsIn (script_of self.old) (F.state folder.new) (written names.now.first) (written names.now.second) (round_of self.old)) }
-        ensures script { script_of self.new ≡ script_of self.old }
-        ensures round { result ≡ Ok None → round_of self.new ≡ round_of self.old + 1 }
-        ensures only { OnlyPuts (F.state folder.old) (F.state folder.new) (outputs_in names.now) }
-        ensures came { F.came folder.old folder.new }
-        ensures counts { CountsOver (F.state folder.old) (F.state folder.new) (inputs_in names.now) (outputs_in names.now) result }
-    {
-        scripts_make_links();
-        slots_are_due();
-        pairs_have_few_rounds();
-        match self.second.turn(
-            &mut self.lines,
-            &self.script,
-            self.round,
-            folder,
-            &names.second,
-        ) {
-            Ok(()) => {
-                self.round += 1;
-                Ok(self.endings())
-            }
-            Err(fault) => Err(fault),
+        match link {
+            WhichLink::First => match self.first.turn(
+                &mut self.lines,
+                &self.script,
+                self.round,
+                folder,
+                &names.first,
+            ) {
+                Ok(()) => Ok(self.endings()),
+                Err(fault) => Err(fault),
+            },
+            WhichLink::Second => match self.second.turn(
+                &mut self.lines,
+                &self.script,
+                self.round,
+                folder,
+                &names.second,
+            ) {
+                Ok(()) => {
+                    self.round += 1;
+                    Ok(self.endings())
+                }
+                Err(fault) => Err(fault),
+            },
         }
     }
 
@@ -173,21 +153,16 @@ impl Pair {
         requires apart { AreApartFrom (inputs_in names.now) (outputs_in names.now) }
 
         // The round is that of the pair which the script and the files make, and the outputs hold what its turns leave.
-        ensures going { result ≡ Ok None → Awaits self.new (F.state folder.new) (written names.now.first) (written names.now.second) First }
-        ensures ended { (endings : Endings) → result ≡ Ok (Some endings)
-            → HaveEnded (script_of self.old) (F.state folder.new) (written names.now.first) (written names.now.second) endings }
-        ensures ended_round { (endings : Endings) → result ≡ Ok (Some endings) → last_round endings ≡ round_of self.old }
-        ensures fault { IfErr result (FaultEndsIn (script_of self.old) (F.state folder.new) (written names.now.first) (written names.now.second) (round_of self.old)) }
+        ensures comes { Comes (script_of self.old) (round_of self.old) Second self.new (F.state folder.new) (written names.now.first) (written names.now.second) result }
         ensures script { script_of self.new ≡ script_of self.old }
-        ensures round { result ≡ Ok None → round_of self.new ≡ round_of self.old + 1 }
 
         // It touches the outputs alone, and a fault has its cause.
         ensures only { OnlyPuts (F.state folder.old) (F.state folder.new) (outputs_in names.now) }
         ensures came { F.came folder.old folder.new }
         ensures counts { CountsOver (F.state folder.old) (F.state folder.new) (inputs_in names.now) (outputs_in names.now) result }
     {
-        match self.first_turn(folder, names) {
-            Ok(None) => self.second_turn(folder, names),
+        match self.turn_of(WhichLink::First, folder, names) {
+            Ok(None) => self.turn_of(WhichLink::Second, folder, names),
             Ok(Some(endings)) => Ok(Some(endings)),
             Err(fault) => Err(fault),
         }

@@ -11,11 +11,11 @@ use Rattle.trellis_tables.specs.Table.{next_state}
 use Rattle.trellis_tables.specs.Laws.{far_from}
 use Rattle.trellis_tables.specs.V32Laws.{v32_bounded, v32_within}
 use Rattle.trellis_tables.proofs.Sequences.{Leads-split, Leads_once}
-use Rattle.survivors.specs.Trellises.{Trellis, IsSequence}
-use Rattle.survivors.specs.Survivors.{IsSurvivor, IsReleased}
-use Rattle.survivors.proofs.Release.{survivor-one}
-use Rattle.survivors.proofs.Bellman.{least_cost, sequence-more, survivor-front}
-use Rattle.survivors.specs.V32.{v32_code}
+use Rattle.exact_decoder.specs.Surviving.Trellises.{Trellis, IsSequence}
+use Rattle.exact_decoder.specs.Surviving.Survivors.{IsSurvivor, IsReleased}
+use Rattle.exact_decoder.proofs.Surviving.Release.{survivor-one}
+use Rattle.exact_decoder.proofs.Surviving.Bellman.{least_cost, sequence-more, survivor-front}
+use Rattle.exact_decoder.specs.Surviving.V32.{v32_code}
 use Rattle.noise_bound.proofs.NoiselessCosts.{length-points, cost-append}
 use Rattle.noise_bound.proofs.Meetings.{Parted, Meeting, meets, parted-now, parted-cost, behind-cost}
 use Rattle.noise_bound.proofs.Detours.{other-end}

@@ -9,13 +9,13 @@ use Rattle.trellis_tables.specs.Sequences.{Leads, cost}
 use Rattle.trellis_tables.specs.Table.{next_state}
 use Rattle.trellis_tables.specs.Laws.{far_from}
 use Rattle.trellis_tables.proofs.Sequences.{Leads-take}
-use Rattle.survivors.specs.Trellises.{IsSequence, HasLaws}
+use Rattle.exact_decoder.specs.Surviving.Trellises.{IsSequence, HasLaws}
 use Rattle.plain_lists.specs.Prefix.{IsPrefixOf}
-use Rattle.survivors.specs.Orders.{Beats}
-use Rattle.survivors.specs.Survivors.{IsSurvivor, IsReleased, LostIs}
-use Rattle.survivors.proofs.Fronts.{lost-once}
-use Rattle.survivors.proofs.V32.{v32-has-laws}
-use Rattle.survivors.specs.V32.{v32_code}
+use Rattle.exact_decoder.specs.Surviving.Orders.{Beats}
+use Rattle.exact_decoder.specs.Surviving.Survivors.{IsSurvivor, IsReleased, LostIs}
+use Rattle.exact_decoder.proofs.Surviving.Fronts.{lost-once}
+use Rattle.exact_decoder.proofs.Surviving.V32.{v32-has-laws}
+use Rattle.exact_decoder.specs.Surviving.V32.{v32_code}
 use Rattle.exact_decoder.specs.Decoder.{Decoding, DecoderStands, heard}
 use Rattle.noise_bound.specs.Noiseless.{v32_from, IsNoiseless}
 use Rattle.exact_decoder.specs.Laws.{IsOnlyLeast}

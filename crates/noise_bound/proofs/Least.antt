@@ -9,9 +9,9 @@ use Rattle.symbol_map.specs.Laws.{turned_label}
 use Rattle.trellis_tables.specs.Sequences.{cost}
 use Rattle.trellis_tables.specs.Rotation.{rotated}
 use Rattle.trellis_tables.proofs.Rotations.{four_turns_are_none, rotated-lt, turn_takes_sequences, turn_keeps_cost, all_starts_turn}
-use Rattle.survivors.specs.Trellises.{IsSequence}
-use Rattle.survivors.specs.Survivors.{IsLeast}
-use Rattle.survivors.specs.V32.{at_any, v32_code}
+use Rattle.exact_decoder.specs.Surviving.Trellises.{IsSequence}
+use Rattle.exact_decoder.specs.Surviving.Survivors.{IsLeast}
+use Rattle.exact_decoder.specs.Surviving.V32.{at_any, v32_code}
 use Rattle.noise_bound.specs.QuarterTurns.{StartsTurn}
 use Rattle.noise_bound.specs.TurnedLaws.{StatesComeBack, CostStays, SequencesTurn, LeastTurns, AllStatesTurn, LeastTurnsOfAll}
 use Rattle.noise_bound.proofs.Lists.{turned_back, labels-small, leads-within, turned-again, back-small}

@@ -8,8 +8,8 @@ use Rattle.symbol_map.specs.Distance.{distance_of}
 use Rattle.symbol_map.specs.Points.{point_of}
 use Rattle.trellis_tables.specs.Laws.{far_from}
 use Rattle.trellis_tables.specs.Sequences.{cost}
-use Rattle.survivors.specs.Survivors.{IsReleased}
-use Rattle.survivors.specs.V32.{v32_code}
+use Rattle.exact_decoder.specs.Surviving.Survivors.{IsReleased}
+use Rattle.exact_decoder.specs.Surviving.V32.{v32_code}
 use Rattle.noise_bound.proofs.NoiselessCosts.{length-points}
 use Rattle.noise_bound.specs.Near.{only}
 use Rattle.noise_bound.proofs.Near.{releases-near, never-lost}

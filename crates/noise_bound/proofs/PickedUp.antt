@@ -16,7 +16,7 @@ use Rattle.scramblers.proofs.Readings.{depends_on_three}
 use Rattle.symbol_map.specs.declared.sample.Sample.{Sample}
 use Rattle.symbol_map.specs.Distance.{quarter_turned}
 use Rattle.symbol_map.specs.Laws.{turned_label}
-use Rattle.survivors.specs.V32.{at_any}
+use Rattle.exact_decoder.specs.Surviving.V32.{at_any}
 use Rattle.noise_bound.proofs.Least.{all_states_turn}
 use Rattle.noise_bound.specs.Near.{sure_of_any, IsNear}
 use Rattle.line_coding.specs.PickedUp.{IsPickedUp, line_behind}

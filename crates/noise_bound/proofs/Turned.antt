@@ -8,8 +8,8 @@ use Rattle.symbol_map.specs.Distance.{quarter_turned}
 use Rattle.symbol_map.specs.Laws.{turned_label}
 use Rattle.trellis_tables.specs.Rotation.{rotated}
 use Rattle.trellis_tables.proofs.Rotations.{rotated-lt, one_start_turns, turn_keeps_cost}
-use Rattle.survivors.specs.Survivors.{IsReleased}
-use Rattle.survivors.specs.V32.{at_any, v32_code}
+use Rattle.exact_decoder.specs.Surviving.Survivors.{IsReleased}
+use Rattle.exact_decoder.specs.Surviving.V32.{at_any, v32_code}
 use Rattle.noise_bound.specs.QuarterTurns.{StartsTurn}
 use Rattle.noise_bound.proofs.Lists.{labels-small, leads-within}
 use Rattle.noise_bound.proofs.Least.{sequences_turn, all_states_turn}

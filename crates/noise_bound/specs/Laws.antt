@@ -8,8 +8,8 @@ use Rattle.symbol_map.specs.Distance.{quarter_turned}
 use Rattle.symbol_map.specs.Laws.{turned_label}
 use Rattle.trellis_tables.specs.LabelReader.{quads_of}
 use Rattle.trellis_tables.specs.Rotation.{rotated}
-use Rattle.survivors.specs.Survivors.{IsReleased, LostIs}
-use Rattle.survivors.specs.V32.{at_any, v32_code}
+use Rattle.exact_decoder.specs.Surviving.Survivors.{IsReleased, LostIs}
+use Rattle.exact_decoder.specs.Surviving.V32.{at_any, v32_code}
 use Rattle.noise_bound.specs.QuarterTurns.{StartsTurn}
 use Rattle.noise_bound.specs.Near.{only, sure, sure_of_any, IsNear}
 use Rattle.line_coding.specs.Demodulates.{Demodulates}

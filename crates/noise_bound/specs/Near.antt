@@ -4,8 +4,8 @@ use Rattle.plain_lists.specs.Prefix.{IsPrefixOf}
 use Rattle.symbol_map.specs.declared.sample.Sample.{Sample}
 use Rattle.trellis_tables.specs.Laws.{far_from}
 use Rattle.trellis_tables.specs.Sequences.{cost}
-use Rattle.survivors.specs.Trellises.{IsSequence}
-use Rattle.survivors.specs.V32.{v32_code}
+use Rattle.exact_decoder.specs.Surviving.Trellises.{IsSequence}
+use Rattle.exact_decoder.specs.Surviving.V32.{v32_code}
 use Rattle.exact_decoder.specs.Decoder.{Decoding}
 
 -- one state alone

@@ -4,8 +4,8 @@ use Rattle.symbol_map.specs.declared.sample.Sample.{Sample}
 use Rattle.symbol_map.specs.Points.{point_of}
 use Rattle.trellis_tables.specs.Sequences.{Leads}
 use Rattle.trellis_tables.specs.Table.{next_state}
-use Rattle.survivors.specs.Trellises.{Trellis}
-use Rattle.survivors.specs.V32.{v32_code}
+use Rattle.exact_decoder.specs.Surviving.Trellises.{Trellis}
+use Rattle.exact_decoder.specs.Surviving.V32.{v32_code}
 
 -- the eight-state code's sequences from one state
 abbrev pub v32_from : ℕ → Trellis Sample

@@ -4,8 +4,8 @@ use Rattle.plain_lists.specs.Prefix.{IsPrefixOf}
 use Rattle.symbol_map.specs.declared.sample.Sample.{Sample}
 use Rattle.symbol_map.specs.Points.{point_of}
 use Rattle.trellis_tables.specs.Table.{next_state}
-use Rattle.survivors.specs.Survivors.{IsReleased, LostIs}
-use Rattle.survivors.specs.V32.{v32_code}
+use Rattle.exact_decoder.specs.Surviving.Survivors.{IsReleased, LostIs}
+use Rattle.exact_decoder.specs.Surviving.V32.{v32_code}
 use Rattle.exact_decoder.specs.Decoder.{Decoding, DecoderStands}
 use Rattle.noise_bound.specs.Near.{only, sure, sure_of_any, IsNear, Follows}
 

@@ -5,9 +5,9 @@ use Rattle.symbol_map.specs.Distance.{quarter_turned}
 use Rattle.symbol_map.specs.Laws.{turned_label}
 use Rattle.trellis_tables.specs.Sequences.{cost}
 use Rattle.trellis_tables.specs.Rotation.{rotated}
-use Rattle.survivors.specs.Trellises.{IsSequence}
-use Rattle.survivors.specs.Survivors.{IsLeast}
-use Rattle.survivors.specs.V32.{at_any, v32_code}
+use Rattle.exact_decoder.specs.Surviving.Trellises.{IsSequence}
+use Rattle.exact_decoder.specs.Surviving.Survivors.{IsLeast}
+use Rattle.exact_decoder.specs.Surviving.V32.{at_any, v32_code}
 use Rattle.noise_bound.specs.QuarterTurns.{StartsTurn, AreInner}
 
 -- a sample that is none of -32768 stays one

@@ -4,8 +4,8 @@ use Rattle.std.proofs.Common.{refl, sym, subst, Option, Some, None, append-nil}
 use Rattle.frame_check.specs.declared.check.Check.{Check}
 use Rattle.bit_stuffing.specs.declared.slot_writer.TheConstants.{HEAD, TAIL}
 use Rattle.symbol_map.specs.declared.sample.Sample.{Sample}
-use Rattle.survivors.specs.Survivors.{LostIs}
-use Rattle.survivors.specs.V32.{line_depth, line_trellis}
+use Rattle.exact_decoder.specs.Surviving.Survivors.{LostIs}
+use Rattle.exact_decoder.specs.Surviving.V32.{line_depth, line_trellis}
 use Rattle.shared_terms.specs.declared.role.Role.{Role}
 use Rattle.shared_terms.specs.Both.{of}
 use Rattle.detection.specs.Slots.{Signal, signal_bits}

@@ -7,12 +7,12 @@ use Rattle.symbol_map.specs.Distance.{distance_of}
 use Rattle.symbol_map.proofs.Distances.{near_is_near, distance_of-swap}
 use Rattle.trellis_tables.specs.Sequences.{Leads, cost}
 use Rattle.trellis_tables.proofs.Sequences.{Leads-split, Leads-append}
-use Rattle.survivors.specs.Trellises.{IsSequence, HasLaws}
-use Rattle.survivors.specs.Survivors.{IsSurvivor, IsCommon, IsReleased}
-use Rattle.survivors.proofs.Existence.{some-survives, ends-within}
-use Rattle.survivors.proofs.Release.{survivor-one}
-use Rattle.survivors.proofs.Fronts.{released-once}
-use Rattle.survivors.proofs.Bellman.{least_cost}
+use Rattle.exact_decoder.specs.Surviving.Trellises.{IsSequence, HasLaws}
+use Rattle.exact_decoder.specs.Surviving.Survivors.{IsSurvivor, IsCommon, IsReleased}
+use Rattle.exact_decoder.proofs.Surviving.Existence.{some-survives, ends-within}
+use Rattle.exact_decoder.proofs.Surviving.Release.{survivor-one}
+use Rattle.exact_decoder.proofs.Surviving.Fronts.{released-once}
+use Rattle.exact_decoder.proofs.Surviving.Bellman.{least_cost}
 use Rattle.rate_4800.specs.Code.{next_state, point_of}
 use Rattle.rate_4800.specs.CodeLaws.{some_if, bounded, within, enters_once, reaches, points_lie_apart}
 use Rattle.rate_4800.specs.Laws.{quarters}

@@ -5,8 +5,8 @@ use Rattle.plain_lists.specs.Bits.{low_bits}
 use Rattle.scramblers.specs.Scrambles.{Scrambles}
 use Rattle.symbol_map.specs.declared.sample.Sample.{Sample}
 use Rattle.symbol_map.specs.Distance.{distance_of}
-use Rattle.survivors.specs.Trellises.{Trellis, trellis_of}
-use Rattle.survivors.specs.Survivors.{IsReleased}
+use Rattle.exact_decoder.specs.Surviving.Trellises.{Trellis, trellis_of}
+use Rattle.exact_decoder.specs.Surviving.Survivors.{IsReleased}
 use Rattle.differential.specs.Turned.{turned}
 use Rattle.rate_4800.specs.Code.{next_state, point_of}
 use Rattle.rate_4800.specs.Demodulates.{Demodulates}

@@ -20,7 +20,7 @@ pub fn octets_of(sample: Sample) -> [u8; 4]
 }
 
 /// The octets of two samples.
-pub(crate) fn octets_of_two(first: Sample, second: Sample) -> [u8; 8]
+pub fn octets_of_two(first: Sample, second: Sample) -> [u8; 8]
     ensures { result ≡ sample_octets first ++ sample_octets second }
 {
     let mut octets = [0; 8];

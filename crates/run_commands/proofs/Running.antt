@@ -1,6 +1,5 @@
 pub mod Runs
 pub mod Refusing
-pub mod ReadingOff
 pub mod Prefixes
 pub mod Tapes
 pub mod Headline

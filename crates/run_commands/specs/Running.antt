@@ -1,7 +1,6 @@
 pub mod Files
 pub mod Tapes
 pub mod Ends
-pub mod ReadOff
 pub mod Headline
 pub mod Completes
 pub mod Promise

@@ -1,3 +1,4 @@
 pub mod Answering
+pub mod Files
 mod Looking
 mod Places

@@ -3,3 +3,4 @@ pub mod Scripts
 pub mod Lengths
 pub mod Inputs
 pub mod Answers
+pub mod Files

@@ -1,6 +1,6 @@
 // The limits of a run's inputs.
 
-use command_base::RUN_FILE_LIMIT;
+use line_world::FILE_LIMIT;
 use noise_script::SCRIPT_OCTETS;
 
 /// The most octets of a script and of a file that is sent.
@@ -15,5 +15,5 @@ pub struct Limits {
 /// The limits of a run.
 pub const LIMITS: Limits = Limits {
     script: SCRIPT_OCTETS as u64,
-    file: RUN_FILE_LIMIT,
+    file: FILE_LIMIT,
 };

@@ -4,8 +4,8 @@ use Rattle.std.proofs.lemmas.List.{append-nil, map-append, take-append-drop}
 use Rattle.frame_check.specs.declared.check.Check.{Check}
 use Rattle.symbol_map.specs.declared.sample.Sample.{Sample}
 use Rattle.symbol_map.specs.Points.{point_of}
-use Rattle.survivors.specs.Survivors.{LostIs}
-use Rattle.survivors.specs.V32.{line_depth, line_trellis}
+use Rattle.exact_decoder.specs.Surviving.Survivors.{LostIs}
+use Rattle.exact_decoder.specs.Surviving.V32.{line_depth, line_trellis}
 use Rattle.exact_decoder.specs.declared.decoder.Lost.{Lost}
 use Rattle.shared_terms.specs.declared.role.Role.{Role}
 use Rattle.lapm_frames.specs.declared.sent.Sent.{Sent}

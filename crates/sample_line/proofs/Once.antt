@@ -15,8 +15,8 @@ use Rattle.symbol_map.specs.declared.sample.Sample.{Sample}
 use Rattle.symbol_map.specs.Points.{point_of}
 use Rattle.trellis_tables.specs.Encoder.{Encodes}
 use Rattle.trellis_tables.proofs.Codings.{Encodes_once, Encodes-take}
-use Rattle.survivors.proofs.Fronts.{released-once, stays-prefix}
-use Rattle.survivors.specs.V32.{line_trellis}
+use Rattle.exact_decoder.proofs.Surviving.Fronts.{released-once, stays-prefix}
+use Rattle.exact_decoder.specs.Surviving.V32.{line_trellis}
 use Rattle.line_coding.specs.Modulates.{Modulates}
 use Rattle.line_coding.specs.Demodulates.{line_of, Demodulates}
 use Rattle.line_coding.proofs.Readings.{comes-back, first-stay, four-each}

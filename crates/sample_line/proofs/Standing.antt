@@ -8,8 +8,8 @@ use Rattle.scramblers.specs.Mode.{tap_of}
 use Rattle.symbol_map.specs.declared.sample.Sample.{Sample}
 use Rattle.symbol_map.specs.Points.{point_of}
 use Rattle.line_coding.specs.Modulates.{Modulates}
-use Rattle.survivors.specs.Survivors.{IsReleased}
-use Rattle.survivors.specs.V32.{line_trellis}
+use Rattle.exact_decoder.specs.Surviving.Survivors.{IsReleased}
+use Rattle.exact_decoder.specs.Surviving.V32.{line_trellis}
 use Rattle.exact_decoder.specs.Decoder.{heard}
 use Rattle.shared_terms.specs.declared.role.Role.{Role}
 use Rattle.noise_script.specs.Script.{ScriptValue, offset_of}

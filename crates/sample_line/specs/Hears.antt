@@ -3,8 +3,8 @@ use Rattle.std.specs.Prelude.{ℕ, Bool, List, Result, Ok, Err, Some}
 use Rattle.frame_check.specs.declared.check.Check.{Check}
 use Rattle.scramblers.specs.declared.mode.Mode.{Mode}
 use Rattle.symbol_map.specs.declared.sample.Sample.{Sample}
-use Rattle.survivors.specs.Survivors.{LostIs}
-use Rattle.survivors.specs.V32.{at_beginning, line_depth, line_trellis}
+use Rattle.exact_decoder.specs.Surviving.Survivors.{LostIs}
+use Rattle.exact_decoder.specs.Surviving.V32.{at_beginning, line_depth, line_trellis}
 use Rattle.line_coding.specs.V32.{LineRead}
 use Rattle.exact_decoder.specs.declared.decoder.Lost.{Lost}
 use Rattle.shared_terms.specs.declared.role.Role.{Role}

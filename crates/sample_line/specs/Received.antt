@@ -4,8 +4,8 @@ use Rattle.frame_check.specs.declared.check.Check.{Check}
 use Rattle.frame_check.specs.FrameCheck.{IsChecked, Passes}
 use Rattle.scramblers.specs.Mode.{tap_of}
 use Rattle.symbol_map.specs.declared.sample.Sample.{Sample}
-use Rattle.survivors.specs.Survivors.{IsReleased}
-use Rattle.survivors.specs.V32.{line_trellis}
+use Rattle.exact_decoder.specs.Surviving.Survivors.{IsReleased}
+use Rattle.exact_decoder.specs.Surviving.V32.{line_trellis}
 use Rattle.line_coding.specs.Demodulates.{Demodulates}
 use Rattle.bit_stuffing.specs.Found.{Found, pieces_of}
 use Rattle.bit_stuffing.specs.Sent.{wholes}

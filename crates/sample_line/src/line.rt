@@ -7,7 +7,7 @@ ghost use Rattle.trellis_tables.specs.Table.{next_state};
 ghost use Rattle.exact_decoder.specs.Decoder.{DecoderStands};
 ghost use Rattle.noise_script.specs.Script.{ScriptValue};
 ghost use Rattle.sample_line.specs.Recorded.{Records};
-ghost use Rattle.survivors.specs.V32.{line_depth};
+ghost use Rattle.exact_decoder.specs.Surviving.V32.{line_depth};
 ghost use Rattle.sample_line.specs.Line.{LineStands, Passes, size_of, sender_of, decoder_of};
 ghost use Rattle.sample_line.specs.Coder.{IsCodedAs};
 

@@ -1,5 +1,6 @@
 pub mod Words
 pub mod Ends
+pub mod Recorder
 pub mod Recorded
 pub mod Completes
 pub mod Promise

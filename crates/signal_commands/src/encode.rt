@@ -2,8 +2,10 @@
 //! folder that are handed in. [`encode_words`] reads the words, and [`encode`] does what they say.
 
 mod command;
+mod recorder;
 mod recording;
 mod words;
 
 pub use command::encode;
+pub use recorder::{RECORDED, Recorder};
 pub use words::{EncodeWords, encode_words};

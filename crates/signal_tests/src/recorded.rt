@@ -1,7 +1,8 @@
 // Recordings of an octet in both modes, at both rates.
 use super::assert_row;
-use recordings::{Rate, Recorder, header_octets};
+use recordings::{Rate, header_octets};
 use scramblers::Mode;
+use signal_commands::encode::Recorder;
 
 /// The headers of recordings.
 const HEADERS: &[(&str, Rate, Mode, &[u8])] = &[

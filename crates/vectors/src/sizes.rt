@@ -1,7 +1,7 @@
 // The sizes and limits of all crates.
 use super::assert_row;
 use bit_stuffing::{HEAD, SHORTEST, TAIL};
-use command_base::{FILE_LIMIT, HEX_LIMIT, RECORDING_LIMIT, RUN_FILE_LIMIT};
+use command_base::{FILE_LIMIT, HEX_LIMIT, RECORDING_LIMIT};
 use frame_check::{INFO, SLOT, WHOLE};
 use line_tap::TAP_LIMIT;
 use noise_script::{BREAK_LINES, BUSY_LINES, HIT_LINES, LOSE_LINES, NOISE_LINES, SCRIPT_OCTETS};
@@ -16,7 +16,6 @@ const SIZES: &[(&str, u64, u64)] = &[
     ("SHORTEST", SHORTEST as u64, 4),
     ("HEAD", HEAD as u64, 10),
     ("TAIL", TAIL as u64, 128),
-    ("RUN_FILE_LIMIT", RUN_FILE_LIMIT, 16_777_216),
     ("LIMITS.file", LIMITS.file, 16_777_216),
     ("LIMITS.script", LIMITS.script, 65_536),
     ("TAP_LIMIT", TAP_LIMIT, 268_435_456),

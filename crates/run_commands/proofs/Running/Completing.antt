@@ -12,7 +12,7 @@ use Rattle.line_run.specs.Ends.{RunEnd, Left, OneResult, GivesUp, LineEnds}
 use Rattle.line_run.specs.Ends as runs
 use Rattle.line_run.specs.Scripted.{wire_of, link_of}
 use Rattle.line_ends.specs.Causes.{LostLinksWereStarved}
-use Rattle.line_ends.specs.Completes.{ScriptRunsTo, IsQuiet, EndsDone, AreOfOctets}
+use Rattle.line_ends.specs.Completes.{ScriptRunsTo, IsQuiet, EndsDone, AreOfOctets, NamesFew, IsUndisturbed}
 use Rattle.line_ends.specs.Completes.{CompletesWithFewLosses, CompletesWithFewNamed, CompletesQuiet}
 use Rattle.line_ends.specs.Completes.{CompletesUndisturbed}
 use Rattle.command_base.specs.declared.status.Status.{Status}
@@ -34,7 +34,7 @@ use Rattle.run_inputs.specs.Inputs.{RefusesOwn}
 use Rattle.run_inputs.proofs.Answering.{stopped-by, stopped-how}
 use Rattle.run_commands.specs.Running.Ends.{RanTo, RanBy, EndsBy, Ends, run_job}
 use Rattle.line_ends.specs.Carried.{IsCarried}
-use Rattle.run_commands.specs.Running.Completes.{LosesFew, NamesFew, IsUndisturbed, AreRight, files_at, DoneWhere, Answered, AnsweredByItsEnd, Completes}
+use Rattle.run_commands.specs.Running.Completes.{LosesFew, AreRight, files_at, DoneWhere, Answered, AnsweredByItsEnd, Completes}
 
 script-fits : (count : ℕ) → count ≤ 65536 → LIMITS.script < count → ⊥
 script-fits count within longer = omega (arith, within, longer)

@@ -1,15 +1,17 @@
 -- From every answer to the headline, and to when a run is done.
 use Rattle.std.proofs.Common.{◌≡◌, ◌⊎◌, inl, inr, ℕ, true, List, [], ◌++◌, Some, refl, ◌∙◌, ap, subst}
 use Rattle.std.specs.Option.{option_map}
-use Rattle.outside_calls.specs.Folder.{FolderState, GoesOn, KeepsName}
-use Rattle.outside_calls.proofs.Steps.{KeepsName-trans, told_later}
+use Rattle.outside_calls.specs.Folder.{FolderState, GoesOn}
+use Rattle.outside_calls.proofs.Steps.{told_later}
 use Rattle.shared_terms.specs.declared.role.Role.TheVariants.{Originator, Answerer}
 use Rattle.noise_script.specs.Script.{delay_of}
 use Rattle.link_run.specs.Laws.{agreed_srej}
 use Rattle.link_run.specs.Taken.{taken_octets}
-use Rattle.line_run.specs.Ends.{RunEnd, RunsTo, turns_heard}
+use Rattle.line_run.specs.Ends.{RunEnd, turns_heard}
 use Rattle.line_run.specs.Ends as runs
 use Rattle.line_run.specs.Scripted.{wire_of, link_of}
+use Rattle.line_ends.proofs.ReadingOff.{run-read}
+use Rattle.line_ends.proofs.RunLaws.{RunLaws, may-run}
 use Rattle.command_base.specs.declared.status.Status.{Status}
 use Rattle.command_base.specs.declared.status.Status.TheVariants.{Done}
 use Rattle.command_base.specs.declared.status.Status.TheVariants.{LineLost, NotDetected, LinkLost, ChanceMatch}
@@ -20,20 +22,16 @@ use Rattle.outside_calls.specs.Outputs.{Holds, KeepsAll, OnlyOutputs}
 use Rattle.outside_calls.proofs.Holding.{Holds-kept}
 use Rattle.command_base.proofs.Jobs.{last-only, done-of, shared-of}
 use Rattle.run_inputs.proofs.Answering.{is_run_end, run-ends-own, stopped-so}
+use Rattle.run_inputs.proofs.Files.{prefix-later}
 use Rattle.run_inputs.specs.declared.limits.TheConstants.{LIMITS}
+use Rattle.run_inputs.specs.Files.{HoldsWhole}
 use Rattle.run_inputs.specs.Words.{RunNames, files_of}
 use Rattle.run_inputs.specs.Inputs.{RefusesOwn}
 use Rattle.run_commands.specs.Running.Ends.{RanTo, EndsBy, run_job}
 use Rattle.run_commands.specs.Running.Ends as ends
-use Rattle.run_commands.specs.Running.Headline.{KeptOrPrefix, HoldsWhole, Ran, RanBy, Headline}
-use Rattle.run_commands.proofs.Running.Prefixes.{RunLaws, BothPrefix, may-run, both-of}
-use Rattle.run_commands.proofs.Running.ReadingOff.{run-read}
+use Rattle.run_commands.specs.Running.Headline.{Ran, RanBy, Headline}
+use Rattle.run_commands.proofs.Running.Prefixes.{BothPrefix, both-of}
 use Rattle.run_commands.proofs.Running.Tapes.{are-of, tapes-last, begun-last, tapes-of}
-
-pub prefix-later : (old before new : FolderState) (got sent : List ℕ) → GoesOn old before → KeepsName before new got
-    → KeptOrPrefix old before got sent → KeptOrPrefix old new got sent
-prefix-later old before new got sent g k (inl h) = inl (KeepsName-trans old before new got g h k)
-prefix-later old before new got sent g k (inr h) = inr (λ ts tg. let p = h ts tg in (p.0, k (told_later g got tg) ∙ p.1, p.2))
 
 -- a run that is done
 whole-of : RunLaws → (old before new : FolderState) (n : RunNames) (turn : ℕ) → GoesOn old before → KeepsAll before new
@@ -41,7 +39,7 @@ whole-of : RunLaws → (old before new : FolderState) (n : RunNames) (turn : ℕ
     → HoldsWhole old new n.names.got_o n.names.answ × HoldsWhole old new n.names.got_a n.names.orig
 whole-of laws old before new n turn g kept e =
     let w =
-    laws.whole (wire_of e.script) (link_of e.script e.files) turn e.left (may-run laws e.script e.files e.takes.limits) e.run in (
+    laws.whole (wire_of e.script) (link_of e.script e.files) turn e.left (may-run laws (wire_of e.script) e.files e.takes.limits) e.run in (
       (λ ts tg. kept n.names.got_o (told_later g n.names.got_o tg) ∙ e.holds.0 (told_later g n.names.got_o tg)
           ∙ ap Some (w Originator ∙ e.takes.answ ts)),
       (λ ts tg. kept n.names.got_a (told_later g n.names.got_a tg) ∙ e.holds.1.0 (told_later g n.names.got_a tg) ∙ ap Some (w Answerer ∙ e.takes.orig ts)),
@@ -54,7 +52,7 @@ ran-of laws old before new n end last e =
     let c = wire_of e.script in
     let link = link_of e.script e.files in
     let heard = turns_heard c link e.run.turns e.run.ends end e.left e.run.ended in
-    let passed = laws.passed c link end e.left (may-run laws e.script e.files e.takes.limits) e.run in record {
+    let passed = laws.passed c link end e.left (may-run laws (wire_of e.script) e.files e.takes.limits) e.run in record {
       script = e.script;
       limits = e.takes.limits;
       files = e.files;

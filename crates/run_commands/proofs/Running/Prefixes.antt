@@ -1,93 +1,34 @@
 -- However a run ends, each received file is as it was, or holds the beginning of the other end's file.
-use Rattle.std.proofs.Common.{◌≡◌, ◌⊎◌, inl, inr, ℕ, List, [], ◌++◌, IsTrue, Some, Result, Ok, Err, refl, sym, ◌∙◌, ap, subst}
-use Rattle.std.proofs.Common.{append_assoc}
+use Rattle.std.proofs.Common.{◌≡◌, ◌⊎◌, inl, inr, ℕ, List, [], ◌++◌, Some, Result, Ok, Err, refl, sym, ◌∙◌, ap, subst}
 use Rattle.std.proofs.lemmas.List.{append-nil}
 use Rattle.std.proofs.lemmas.List.Folds.{concat-append}
 use Rattle.std.specs.List.{concat}
 use Rattle.plain_lists.specs.Prefix.{IsPrefixOf}
-use Rattle.outside_calls.specs.Folder.{FolderState, octets_at, GoesOn}
-use Rattle.outside_calls.proofs.Steps.{told_later}
+use Rattle.outside_calls.specs.Folder.{FolderState, GoesOn}
 use Rattle.shared_terms.specs.declared.role.Role.{Role}
 use Rattle.shared_terms.specs.declared.role.Role.TheVariants.{Originator, Answerer}
 use Rattle.shared_terms.specs.Role.{other}
 use Rattle.shared_terms.specs.Both.{Both, of}
 use Rattle.noise_script.specs.Script.{ScriptValue, IsInLimits, delay_of}
-use Rattle.survivors.specs.Laws.{ReleasedIsLeast, OfEachCode}
 use Rattle.link_run.specs.End.{deliveries}
-use Rattle.link_run.specs.Run.{Link, Accounts, Turn}
-use Rattle.link_run.specs.Laws.{RunsOver, TakesPrefixes, HearsPrefixes, HearingsDeliver, HoldPrefixes}
-use Rattle.line_run.specs.Sampled.{LineRun}
-use Rattle.line_run.specs.LineLaws.{SamplesAreCarried, OneIsCarried}
-use Rattle.line_run.specs.Ends.{RunEnd, Left, MayRun, RunsLeavePrefixes, DoneLeavesWhole, RunsLeaveWhatPassed}
-use Rattle.line_run.specs.Scripted.{wire_of, link_of, ScriptsMayPlay, ScriptsHaveDelays}
+use Rattle.link_run.specs.Run.{Link}
+use Rattle.link_run.specs.Laws.{RunsOver, HoldPrefixes}
+use Rattle.line_run.specs.Ends.{RunEnd, Left}
+use Rattle.line_run.specs.Scripted.{wire_of, link_of}
 use Rattle.line_run.proofs.Leaving.{hearing-in}
-use Rattle.line_ends.specs.Scripts.{LineRunsEndSoon}
-use Rattle.line_ends.specs.Causes.{EndsHaveCauses}
 use Rattle.command_base.specs.declared.status.Status.{Status}
 use Rattle.command_base.specs.declared.stop.Stop.{Stop}
 use Rattle.command_base.specs.declared.stop.Stop.TheVariants as stops
-use Rattle.outside_calls.specs.Outputs.{Holds, HoldsPart, KeptOrEmpty, KeepsAll, CreatesPart}
+use Rattle.outside_calls.specs.Outputs.{Holds, HoldsPart, KeepsAll, CreatesPart}
 use Rattle.run_inputs.specs.declared.limits.TheConstants.{LIMITS}
 use Rattle.run_inputs.specs.Words.{RunNames, texts_of, outputs_of}
 use Rattle.line_world.specs.Turns.{AddsTurn, AddsChance, StopsAfter, held_of}
 use Rattle.outside_calls.specs.Outputs.{HoldPart}
+use Rattle.run_inputs.specs.Files.{KeptOrPrefix}
 use Rattle.run_inputs.proofs.Answering.{stopped-by}
+use Rattle.run_inputs.proofs.Files.{prefix-of, part-of, empty-of}
+use Rattle.line_ends.proofs.RunLaws.{RunLaws, may-run, runs-over}
 use Rattle.run_commands.specs.Running.Ends.{RanTo, StopsInTurn, StopsHeading, RanBy, EndsBy, Ends as EndsSo}
-use Rattle.run_commands.specs.Running.Headline.{KeptOrPrefix}
-
--- the laws of runs that the headline rests on
-pub record RunLaws : Type 0 where
-  pub play : ScriptsMayPlay
-  pub delays : ScriptsHaveDelays
-  pub carried : SamplesAreCarried
-  pub one : OneIsCarried
-  pub takes : TakesPrefixes
-  pub hears : HearsPrefixes
-  pub delivers : HearingsDeliver
-  pub prefixes : RunsLeavePrefixes
-  pub whole : DoneLeavesWhole
-  pub passed : RunsLeaveWhatPassed
-  pub soon : LineRunsEndSoon
-  pub causes : EndsHaveCauses
-  pub least : OfEachCode ReleasedIsLeast
-
-pub may-run : RunLaws → (script : ScriptValue) (files : Both (List ℕ)) → IsInLimits script
-    → MayRun (wire_of script) (link_of script files)
-may-run laws script files limits = record { may_play = laws.play script files limits; delays = laws.delays script limits }
-
-runs-over : RunLaws → (script : ScriptValue) (files : Both (List ℕ)) (ts : List Turn) (ends : Accounts) → IsInLimits script
-    → LineRun (wire_of script) (link_of script files) ts ends
-    → RunsOver (link_of script files) (delay_of script) ts ends
-runs-over laws script files ts ends limits r =
-    record {
-      may_play = laws.play script files limits;
-      delays = laws.delays script limits;
-      carried = laws.carried (wire_of script) ts r.heard;
-      run = r.run;
-    }
-
--- what a received file holds begins the file that was read
-pub prefix-of : (old before : FolderState) (got sent file taken : List ℕ) → GoesOn old before
-    → (IsTrue (old.tells sent) → file ≡ octets_at old sent) → Holds before got taken → IsPrefixOf taken file
-    → KeptOrPrefix old before got sent
-prefix-of old before got sent file taken g reads holds p = inr (λ ts tg. (taken, holds (told_later g got tg), (p.0, p.1 ∙ reads ts)))
-
--- and so it does with a part of what comes behind it
-pub part-of : (old before : FolderState) (got sent file taken more : List ℕ) → GoesOn old before
-    → (IsTrue (old.tells sent) → file ≡ octets_at old sent) → HoldsPart before got taken more → IsPrefixOf (taken ++ more) file
-    → KeptOrPrefix old before got sent
-part-of old before got sent file taken more g reads holds p =
-    inr (λ ts tg. let h = holds (told_later g got tg) in
-    (taken ++ h.0, h.2, (h.1.0 ++ p.0, regroup h.0 h.1.0 h.1.1 ∙ p.1 ∙ reads ts)))
-  where
-    regroup : (part rest : List ℕ) → part ++ rest ≡ more → (taken ++ part) ++ (rest ++ p.0) ≡ (taken ++ more) ++ p.0
-    regroup part rest e = sym (append_assoc (taken ++ part) rest p.0)
-        ∙ ap (λ x. x ++ p.0) (append_assoc taken part rest ∙ ap (λ x. taken ++ x) e)
-
-pub empty-of : (old before : FolderState) (got sent : List ℕ) → GoesOn old before → KeptOrEmpty old before got
-    → KeptOrPrefix old before got sent
-empty-of old before got sent g (inl k) = inl k
-empty-of old before got sent g (inr h) = inr (λ ts tg. ([], h (told_later g got tg), (octets_at old sent, refl)))
 
 -- both received files
 pub record BothPrefix (old before : FolderState) (n : RunNames) : Type 0 where
@@ -100,7 +41,7 @@ both-ran : RunLaws → (old before : FolderState) (n : RunNames) (end : RunEnd) 
 both-ran laws old before n end g e =
     let c = wire_of e.script in
     let link = link_of e.script e.files in
-    let may = may-run laws e.script e.files e.takes.limits in record {
+    let may = may-run laws (wire_of e.script) e.files e.takes.limits in record {
       got_o = prefix-of old before n.names.got_o n.names.answ e.files.answ e.left.got.orig g e.takes.answ e.holds.0
           (laws.prefixes c link end e.left may e.run Originator);
       got_a = prefix-of old before n.names.got_a n.names.orig e.files.orig e.left.got.answ g e.takes.orig e.holds.1.0
@@ -135,7 +76,7 @@ stopped-prefix laws script files f n limits s role = by s.adds
     link = link_of script files
 
     over : RunsOver link (delay_of script) s.turns s.ends
-    over = runs-over laws script files s.turns s.ends limits s.run
+    over = runs-over laws (wire_of script) files s.turns s.ends limits s.run
 
     by : AddsTurn (wire_of script) link s.turns s.ends s.more ⊎ AddsChance (wire_of script) s.turns s.ends s.more
         → IsPrefixOf (of role s.left.got ++ of role s.more.got) (of (other role) link).user.file

@@ -1,21 +1,18 @@
 -- From the phases of a run to how it ends.
-use Rattle.std.proofs.Common.{◌≡◌, inl, inr, ℕ, ◌≤◌, IsTrue, List, [], ◌∷◌, refl, ◌∙◌, ap, take, arith}
-use Rattle.std.proofs.lemmas.List.{take_all}
-use Rattle.outside_calls.specs.Folder.{FolderState, octets_at, GoesOn, KeepsName, OnlyReads, CountsStand}
-use Rattle.outside_calls.proofs.Steps.{GoesOn-trans, octets-kept, told_later}
+use Rattle.std.proofs.Common.{inl, inr, ℕ, List, [], ◌∷◌, refl, ◌∙◌, arith}
+use Rattle.outside_calls.specs.Folder.{FolderState, GoesOn, OnlyReads, CountsStand}
+use Rattle.outside_calls.proofs.Steps.{GoesOn-trans}
 use Rattle.shared_terms.specs.Both.{Both}
 use Rattle.noise_script.specs.Script.{ScriptValue}
 use Rattle.line_run.specs.Ends.{RunEnd}
 use Rattle.line_run.specs.Scripted.{wire_of}
 use Rattle.line_run.specs.Scripts.{LineRunsEndSoon}
-use Rattle.line_world.specs.Limits.{file_limit}
 use Rattle.line_world.specs.declared.step.RunFault.{RunFault}
 use Rattle.line_world.specs.declared.step.RunFault.TheVariants as faults
 use Rattle.line_world.specs.World.{KnowsFiles}
 use Rattle.line_world.specs.Turn.{FaultCountsOver}
 use Rattle.command_base.specs.declared.stop.Stop.{Stop}
 use Rattle.command_base.specs.declared.stop.Stop.TheVariants as stops
-use Rattle.command_base.specs.Inputs.{IsWithin}
 use Rattle.outside_calls.specs.Outputs.{AreNoneOf, OnlyOutputs, Creates, CreatesPart, AreApart, KeepsEach}
 use Rattle.outside_calls.specs.Outputs.{AreApartFrom, OnlyPuts}
 use Rattle.outside_calls.proofs.Putting.{KeepsEach-reads, KeepsEach-trans, SomeRose-earlier, none-fronts, inputs-kept}
@@ -28,6 +25,7 @@ use Rattle.run_inputs.specs.Inputs.{Refuses}
 use Rattle.line_world.specs.Turns.{RunEnds, RunStops, RunStopsReading, FaultEnds}
 use Rattle.run_commands.specs.Running.Ends.{IsBegun, Takes, RanTo, StopsInTurn, StopsInReading, StopsCreating, StopsHeading, EndsBy}
 use Rattle.run_inputs.specs.Answers.{fault_stop}
+use Rattle.run_inputs.proofs.Files.{file-is}
 use Rattle.run_commands.specs.Running.Tapes.{HeadsPartly}
 
 -- the inputs were not taken
@@ -66,14 +64,6 @@ pub record Phases (l : Limits) (old mid now next : FolderState) (n : RunNames) (
   pub turns : OnlyPuts now next (outputs_of n)
   pub apart : AreNoneOf (outputs_of n) (files_of n)
   pub stand : CountsStand mid now
-
--- a file as it was before all of them
-pub file-is : (old next : FolderState) (name file : List ℕ) (limit : ℕ) → GoesOn old next → KeepsName old next name → IsWithin old name limit
-    → limit ≤ file_limit
-    → (IsTrue (next.tells name) → file ≡ take file_limit (octets_at next name)) → IsTrue (old.tells name) → file ≡ octets_at old name
-file-is old next name file limit on kept within few known told =
-    let same : octets_at next name ≡ octets_at old name = octets-kept old next name kept told in
-    known (told_later on name told) ∙ ap (take file_limit) same ∙ take_all file_limit (octets_at old name) (omega (arith, within told, few))
 
 takes : (old mid now next : FolderState) (n : RunNames) (script : ScriptValue) (files : Both (List ℕ))
     → Phases LIMITS old mid now next n script → KnowsFiles next n.names files → Takes LIMITS old n script files

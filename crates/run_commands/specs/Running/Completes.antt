@@ -1,12 +1,12 @@
 -- Which answer the inputs have over a sound folder, and when nothing but want of memory keeps a run from being done.
-use Rattle.std.specs.Prelude.{◌≡◌, ◌⊎◌, ℕ, ◌*◌, ◌<◌, ◌≤◌, IsTrue, List, [], length}
+use Rattle.std.specs.Prelude.{◌≡◌, ◌⊎◌, ℕ, ◌*◌, ◌<◌, ◌≤◌, IsTrue, List, length}
 use Rattle.outside_calls.specs.Folder.{FolderState, octets_at}
 use Rattle.shared_terms.specs.Both.{Both}
 use Rattle.noise_script.specs.Script.{ScriptValue}
 use Rattle.noise_script.specs.Grammar.{ScriptSpelling}
 use Rattle.link_run.specs.Counts.{lost_slots}
 use Rattle.line_run.specs.Ends.{RunEnd, Left}
-use Rattle.line_ends.specs.Completes.{ScriptRunsTo, heard_turns, IsFaint, IsQuiet, slots_named}
+use Rattle.line_ends.specs.Completes.{ScriptRunsTo, heard_turns, IsQuiet, NamesFew, IsUndisturbed}
 use Rattle.line_ends.specs.Carried.{LineStays, IsCarried}
 use Rattle.command_base.specs.declared.status.Status.{Status}
 use Rattle.command_base.specs.declared.status.Status.TheVariants.{NoMemory}
@@ -21,17 +21,6 @@ pub record LosesFew (script : ScriptValue) (files : Both (List ℕ)) : Type 0 wh
   pub stays : LineStays script files
   pub few : (end : RunEnd) (left : Left) (r : ScriptRunsTo script files end left)
       → 2 * lost_slots (heard_turns script files end left r) < script.tries
-
--- The noise of the script is faint, as it is where no symbol is displaced, and its lose lines name fewer slots than one for each two tries.
-pub record NamesFew (script : ScriptValue) : Type 0 where
-  pub faint : IsFaint script
-  pub few : 2 * slots_named script.losses < script.tries
-
--- No line of the script loses, hits or displaces.
-pub record IsUndisturbed (script : ScriptValue) : Type 0 where
-  pub no_losses : script.losses ≡ []
-  pub no_hits : script.hits ≡ []
-  pub no_noises : script.noises ≡ []
 
 -- The inputs are told: a script of at most 65,536 octets, and two files of at most 16,777,216.
 pub record AreRight (f : FolderState) (n : RunNames) (script : ScriptValue) : Type 0 where

@@ -1,8 +1,7 @@
 -- What a run promises, over the folder before and after it. What is said of a name's octets holds where the folder tells that name.
-use Rattle.std.specs.Prelude.{◌≡◌, ◌⊎◌, ℕ, IsTrue, List, Some}
+use Rattle.std.specs.Prelude.{◌≡◌, ℕ, List}
 use Rattle.std.specs.Option.{MatchOption}
-use Rattle.plain_lists.specs.Prefix.{IsPrefixOf}
-use Rattle.outside_calls.specs.Folder.{FolderState, held_at, octets_at, KeepsName, Said}
+use Rattle.outside_calls.specs.Folder.{FolderState, Said}
 use Rattle.shared_terms.specs.declared.role.Role.TheVariants.{Originator, Answerer}
 use Rattle.shared_terms.specs.Both.{Both}
 use Rattle.noise_script.specs.Script.{ScriptValue, IsInLimits, delay_of}
@@ -14,28 +13,18 @@ use Rattle.line_run.specs.Ends as runs
 use Rattle.line_run.specs.Scripted.{wire_of, link_of}
 use Rattle.line_ends.specs.Scripts.{HasFewTurns}
 use Rattle.line_ends.specs.Causes.{HasCause}
+use Rattle.line_ends.specs.ReadOff.{AreReadOff}
 use Rattle.command_base.specs.declared.status.Status.{Status}
 use Rattle.command_base.specs.declared.status.Status.TheVariants.{Done}
 use Rattle.command_base.specs.Job.{Shared}
 use Rattle.command_base.specs.Lines.{done_line}
 use Rattle.outside_calls.specs.Outputs.{Holds}
 use Rattle.run_inputs.specs.Answers.{stop_by}
+use Rattle.run_inputs.specs.Files.{KeptOrPrefix, HoldsWhole}
 use Rattle.run_inputs.specs.Words.{RunNames, inputs_of, outputs_of}
 use Rattle.line_world.specs.Tapes.{HoldTapes}
 use Rattle.run_commands.specs.Running.Files.{AreOf}
-use Rattle.run_commands.specs.Running.ReadOff.{AreReadOff}
 use Rattle.run_commands.specs.Running.Tapes.{TapesBegun}
-
--- a received file is as it was, or holds the beginning of the other end's file
-abbrev pub KeptOrPrefix : FolderState → FolderState → List ℕ → List ℕ → Type 0
-KeptOrPrefix old new got sent =
-    KeepsName old new got
-    ⊎ (IsTrue (old.tells sent) → IsTrue (old.tells got)
-    → (front : List ℕ) × (held_at new got ≡ Some front) × IsPrefixOf front (octets_at old sent))
-
--- a received file holds the whole of the other end's file
-abbrev pub HoldsWhole : FolderState → FolderState → List ℕ → List ℕ → Type 0
-HoldsWhole old new got sent = IsTrue (old.tells sent) → IsTrue (old.tells got) → held_at new got ≡ Some (octets_at old sent)
 
 -- The received files hold what passed in these turns, by the numbers that were meant.
 pub record HoldWhatPassed (f : FolderState) (n : RunNames) (script : ScriptValue) (link : Link) (ts : List Turn) : Type 0 where

@@ -8,13 +8,13 @@ ghost use Rattle.run_commands.specs.Running.Ends.{run_job};
 ghost use Rattle.run_commands.specs.Running.Headline.{Headline};
 ghost use Rattle.run_commands.specs.Running.Completes.{Completes};
 
+use exact_decoder::survivors::released_labels_begin_a_least_sequence;
 use line_ends::laws::{
     line_runs_end_soon, lost_links_were_starved, undisturbed_runs_complete, unstarved_runs_complete,
 };
 use line_run::laws::{one_result, runs_leave_prefixes, samples_are_carried, scripts_make_links};
 use link_run::laws::{prefixes, turns_deliver_what_came};
 use noise_script::laws::{one_answer, spelled_scripts_are_in_limits};
-use survivors::laws::released_labels_begin_a_least_sequence;
 
 /// Whatever a run answers, its headline holds.
 pub(crate) fn answers_keep_the_headline()

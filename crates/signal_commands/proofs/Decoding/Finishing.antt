@@ -1,7 +1,7 @@
 -- What a playback gives in the end.
 use Rattle.std.proofs.Common.{ℕ, Bool, List, ◌++◌}
 use Rattle.symbol_map.specs.declared.sample.Sample.{Sample}
-use Rattle.survivors.specs.Survivors.{IsFirstLeast}
+use Rattle.exact_decoder.specs.Surviving.Survivors.{IsFirstLeast}
 use Rattle.recordings.specs.declared.rate.Rate.{Rate}
 use Rattle.signal_commands.specs.declared.decode.octet_joiner.Bits.{Bits}
 use Rattle.signal_commands.specs.Decoding.Playing.{Finishes, LabelsJoined, ReadToEnd}

@@ -11,9 +11,9 @@ use Rattle.plain_lists.specs.Prefix.{IsPrefixOf}
 use Rattle.outside_calls.specs.Folder.{FolderState, octets_at, GoesOn, KeepsName}
 use Rattle.outside_calls.proofs.Steps.{KeepsName-trans, told_later}
 use Rattle.outside_calls.specs.declared.folder.FolderFault.TheVariants as folder
-use Rattle.survivors.specs.Survivors.{IsReleased, IsLeast, LostIs}
-use Rattle.survivors.proofs.Least.{released-is_least}
-use Rattle.survivors.specs.V32.{line_depth}
+use Rattle.exact_decoder.specs.Surviving.Survivors.{IsReleased, IsLeast, LostIs}
+use Rattle.exact_decoder.proofs.Surviving.Least.{released-is_least}
+use Rattle.exact_decoder.specs.Surviving.V32.{line_depth}
 use Rattle.command_base.specs.declared.limits.TheConstants.{RECORDING_LIMIT}
 use Rattle.command_base.specs.declared.status.Status.{Status}
 use Rattle.command_base.specs.declared.status.Status.TheVariants.{Done, Usage, BadScript, BadRecording, BadHex, BadXid, TooLong, ReadFault}

@@ -14,9 +14,9 @@ use Rattle.scramblers.specs.Stream.{bit_at_place, earlier}
 use Rattle.plain_lists.specs.Xor.{xor}
 use Rattle.scramblers.specs.Scrambles.{Scrambles, Descrambles}
 use Rattle.symbol_map.specs.declared.sample.Sample.{Sample}
-use Rattle.survivors.specs.Survivors.{IsReleased}
-use Rattle.survivors.proofs.Least.{some-released}
-use Rattle.survivors.proofs.Fronts.{stays-prefix}
+use Rattle.exact_decoder.specs.Surviving.Survivors.{IsReleased}
+use Rattle.exact_decoder.proofs.Surviving.Least.{some-released}
+use Rattle.exact_decoder.proofs.Surviving.Fronts.{stays-prefix}
 use Rattle.scramblers.proofs.Readings.{Descrambles_once, Descrambles_from_Scrambles, Scrambles_from_Descrambles, Scrambles-take}
 use Rattle.recordings.specs.declared.rate.Rate.{Rate}
 use Rattle.signal_commands.specs.Decoding.Octets.{AreWholeOctets, Carries}

@@ -7,9 +7,9 @@ use Rattle.scramblers.specs.declared.mode.Mode.{Mode}
 use Rattle.scramblers.specs.declared.mode.Mode.TheVariants.{Call, Answer}
 use Rattle.scramblers.specs.Mode.{tap_of}
 use Rattle.symbol_map.specs.declared.sample.Sample.{Sample}
-use Rattle.survivors.specs.Survivors.{IsReleased, LostIs}
-use Rattle.survivors.proofs.Fronts.{lost-stays}
-use Rattle.survivors.specs.V32.{line_depth}
+use Rattle.exact_decoder.specs.Surviving.Survivors.{IsReleased, LostIs}
+use Rattle.exact_decoder.proofs.Surviving.Fronts.{lost-stays}
+use Rattle.exact_decoder.specs.Surviving.V32.{line_depth}
 use Rattle.exact_decoder.specs.Decoder.{heard}
 use Rattle.exact_decoder.specs.declared.decoder.Lost.{Lost}
 use Rattle.outside_calls.specs.Outputs.{Holds, HoldsFront}

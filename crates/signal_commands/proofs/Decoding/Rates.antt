@@ -12,10 +12,10 @@ use Rattle.differential.proofs.Inverses.{unturned-take}
 use Rattle.symbol_map.specs.declared.sample.Sample.{Sample}
 use Rattle.trellis_tables.specs.LabelReader.{quads_of}
 use Rattle.trellis_tables.proofs.Readings.{quads_of-take}
-use Rattle.survivors.specs.Trellises.{Trellis, HasLaws}
-use Rattle.survivors.specs.Survivors.{IsReleased, LostIs}
-use Rattle.survivors.proofs.V32.{line-has-laws}
-use Rattle.survivors.specs.V32.{line_depth}
+use Rattle.exact_decoder.specs.Surviving.Trellises.{Trellis, HasLaws}
+use Rattle.exact_decoder.specs.Surviving.Survivors.{IsReleased, LostIs}
+use Rattle.exact_decoder.proofs.Surviving.V32.{line-has-laws}
+use Rattle.exact_decoder.specs.Surviving.V32.{line_depth}
 use Rattle.exact_decoder.specs.Decoder.{Decoding, heard}
 use Rattle.line_coding.proofs.Standing.{demodulated}
 use Rattle.rate_4800.proofs.Standing.{demodulated as quarters-demodulated}

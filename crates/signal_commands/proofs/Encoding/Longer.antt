@@ -27,7 +27,8 @@ use Rattle.line_coding.proofs.Fours.{fours-more}
 use Rattle.rate_4800.specs.Modulates.{Modulates as QuarterModulates}
 use Rattle.recordings.specs.declared.rate.Rate.{Rate}
 use Rattle.recordings.specs.declared.rate.Rate.TheVariants.{Trellis, Quarters}
-use Rattle.recordings.specs.Recording.{header_at, sample_octets, recording_octets, ModulatesAt, IsRecordingOf}
+use Rattle.recordings.specs.Recording.{header_at, sample_octets, recording_octets}
+use Rattle.signal_commands.specs.Encoding.Recorder.{ModulatesAt, IsRecordingOf}
 use Rattle.signal_commands.proofs.Encoding.Quarters.{sent_for, bit-lt, two-more, twos-behind}
 
 -- a code sequence stays among the states

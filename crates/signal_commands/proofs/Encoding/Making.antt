@@ -10,9 +10,10 @@ use Rattle.line_coding.proofs.Standing.{modulated}
 use Rattle.rate_4800.proofs.Standing.{modulated as quarters-modulated}
 use Rattle.recordings.specs.declared.rate.Rate.{Rate}
 use Rattle.recordings.specs.declared.rate.Rate.TheVariants.{Trellis, Quarters}
-use Rattle.recordings.specs.declared.recorder.Recorder.TheVariants as recorders
-use Rattle.recordings.specs.declared.recorder.Recorder.{Recorder}
-use Rattle.recordings.specs.Recording.{header_at, samples_each, IsRecordingOf, RecorderStands}
+use Rattle.signal_commands.specs.declared.encode.recorder.Recorder.TheVariants as recorders
+use Rattle.signal_commands.specs.declared.encode.recorder.Recorder.{Recorder}
+use Rattle.recordings.specs.Recording.{header_at, samples_each}
+use Rattle.signal_commands.specs.Encoding.Recorder.{IsRecordingOf, RecorderStands}
 use Rattle.command_base.specs.declared.limits.TheConstants.{FILE_LIMIT}
 use Rattle.command_base.specs.declared.stop.Stop.{Stop}
 use Rattle.command_base.specs.declared.stop.Stop.TheVariants.{Own, Read, Write, Say, NoMemory}

@@ -2,10 +2,10 @@
 use Rattle.std.proofs.Common.{◌≡◌, ◌∙◌, ℕ, Bool, List, drop, refl, sym, ap, subst}
 use Rattle.scramblers.specs.Mode.{tap_of}
 use Rattle.bit_stuffing.specs.Found.{pieces_of}
-use Rattle.survivors.specs.V32.{any_trellis}
-use Rattle.survivors.proofs.Fronts.{released-once}
-use Rattle.survivors.proofs.Least.{some-released}
-use Rattle.survivors.proofs.V32.{any-has-laws}
+use Rattle.exact_decoder.specs.Surviving.V32.{any_trellis}
+use Rattle.exact_decoder.proofs.Surviving.Fronts.{released-once}
+use Rattle.exact_decoder.proofs.Surviving.Least.{some-released}
+use Rattle.exact_decoder.proofs.Surviving.V32.{any-has-laws}
 use Rattle.line_coding.specs.PickedUp.{IsPickedUp, line_behind}
 use Rattle.line_coding.proofs.Middle.{picked_up_once}
 use Rattle.line_coding.proofs.Readers.{descrambled, descrambles}

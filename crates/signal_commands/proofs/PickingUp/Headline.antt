@@ -1,10 +1,10 @@
 -- From every answer to what the command promises.
 use Rattle.std.proofs.Common.{◌≡◌, ◌∙◌, ℕ, ◌+◌, ◌%◌, IsTrue, List, [], ◌++◌, length, take, Some, Result, sym, subst, arith}
 use Rattle.outside_calls.specs.Folder.{FolderState, octets_at, Said}
-use Rattle.survivors.specs.Survivors.{LostIs}
-use Rattle.survivors.proofs.Least.{released-is_least}
-use Rattle.survivors.proofs.V32.{any-has-laws}
-use Rattle.survivors.specs.V32.{any_trellis, line_depth}
+use Rattle.exact_decoder.specs.Surviving.Survivors.{LostIs}
+use Rattle.exact_decoder.proofs.Surviving.Least.{released-is_least}
+use Rattle.exact_decoder.proofs.Surviving.V32.{any-has-laws}
+use Rattle.exact_decoder.specs.Surviving.V32.{any_trellis, line_depth}
 use Rattle.command_base.specs.declared.status.Status.{Status}
 use Rattle.command_base.specs.declared.stop.Stop.{Stop}
 use Rattle.command_base.specs.Job.{Answers}

@@ -12,8 +12,8 @@ use Rattle.scramblers.specs.Scrambles.{Descrambles}
 use Rattle.scramblers.proofs.Readings.{Descrambles_once, Descrambles_from_Scrambles, Scrambles_from_Descrambles, Scrambles-take}
 use Rattle.trellis_tables.specs.LabelReader.{quads_of}
 use Rattle.trellis_tables.proofs.Readings.{quads_of-take}
-use Rattle.survivors.proofs.Fronts.{stays-prefix}
-use Rattle.survivors.specs.V32.{any_trellis}
+use Rattle.exact_decoder.proofs.Surviving.Fronts.{stays-prefix}
+use Rattle.exact_decoder.specs.Surviving.V32.{any_trellis}
 use Rattle.bit_stuffing.specs.Found.{Found, pieces_of}
 use Rattle.bit_stuffing.proofs.Sent.{pieces-stay}
 use Rattle.line_coding.specs.PickedUp.{line_behind, IsPickedUp}

@@ -19,8 +19,8 @@ use Rattle.trellis_tables.specs.Table.{next_state}
 use Rattle.trellis_tables.specs.Laws.{far_from}
 use Rattle.trellis_tables.specs.Sequences.{Leads, cost}
 use Rattle.trellis_tables.proofs.Sequences.{Leads-split}
-use Rattle.survivors.specs.Survivors.{IsReleased, LostIs}
-use Rattle.survivors.specs.V32.{any_trellis, at_any, line_depth}
+use Rattle.exact_decoder.specs.Surviving.Survivors.{IsReleased, LostIs}
+use Rattle.exact_decoder.specs.Surviving.V32.{any_trellis, at_any, line_depth}
 use Rattle.bit_stuffing.specs.Found.{Found}
 use Rattle.line_coding.specs.Modulates.{Modulates}
 use Rattle.line_coding.specs.Demodulates.{Demodulates}

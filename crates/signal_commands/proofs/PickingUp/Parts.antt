@@ -3,8 +3,8 @@ use Rattle.std.proofs.Common.{◌≡◌, ◌≢◌, inl, inr, ℕ, ◌+◌, ◌%
 use Rattle.scramblers.specs.declared.mode.Mode.{Mode}
 use Rattle.symbol_map.specs.declared.sample.Sample.{Sample}
 use Rattle.outside_calls.specs.Folder.{FolderState, OnlyReads}
-use Rattle.survivors.specs.Survivors.{LostIs}
-use Rattle.survivors.specs.V32.{any_trellis, line_depth}
+use Rattle.exact_decoder.specs.Surviving.Survivors.{LostIs}
+use Rattle.exact_decoder.specs.Surviving.V32.{any_trellis, line_depth}
 use Rattle.exact_decoder.specs.Decoder.{heard}
 use Rattle.command_base.specs.declared.stop.Stop.{Stop}
 use Rattle.command_base.specs.declared.stop.Stop.TheVariants.{Own, Read, Write, Say, NoMemory}

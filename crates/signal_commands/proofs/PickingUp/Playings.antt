@@ -7,9 +7,9 @@ use Rattle.scramblers.specs.Mode.{tap_of}
 use Rattle.symbol_map.specs.declared.sample.Sample.{Sample}
 use Rattle.shared_terms.specs.declared.role.Role.{Role}
 use Rattle.outside_calls.specs.Folder.{FolderState, OnlyReads}
-use Rattle.survivors.specs.Survivors.{IsReleased, LostIs}
-use Rattle.survivors.proofs.Fronts.{lost-stays, over-before}
-use Rattle.survivors.specs.V32.{any_trellis, line_depth}
+use Rattle.exact_decoder.specs.Surviving.Survivors.{IsReleased, LostIs}
+use Rattle.exact_decoder.proofs.Surviving.Fronts.{lost-stays, over-before}
+use Rattle.exact_decoder.specs.Surviving.V32.{any_trellis, line_depth}
 use Rattle.exact_decoder.specs.Decoder.{heard}
 use Rattle.bit_stuffing.specs.Found.{pieces_of}
 use Rattle.bit_stuffing.proofs.Sent.{pieces-stay}

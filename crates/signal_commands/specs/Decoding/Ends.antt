@@ -11,8 +11,8 @@ use Rattle.recordings.specs.declared.header.TheConstants.{HEADER}
 use Rattle.recordings.specs.declared.rate.Rate.{Rate}
 use Rattle.recordings.specs.declared.rate.Rate.TheVariants as rates
 use Rattle.recordings.specs.Recording.{header_at}
-use Rattle.survivors.specs.Survivors.{IsReleased, LostIs}
-use Rattle.survivors.specs.V32.{line_depth}
+use Rattle.exact_decoder.specs.Surviving.Survivors.{IsReleased, LostIs}
+use Rattle.exact_decoder.specs.Surviving.V32.{line_depth}
 use Rattle.command_base.specs.declared.limits.TheConstants.{RECORDING_LIMIT}
 use Rattle.command_base.specs.Inputs.{IsWithin, IsLonger}
 use Rattle.outside_calls.specs.Outputs.{KeepsAll, Holds, HoldsFront, SaysNothing}

@@ -10,7 +10,7 @@ use Rattle.outside_calls.specs.Folder.{FolderState, held_at, octets_at, KeepsNam
 use Rattle.recordings.specs.declared.rate.Rate.{Rate}
 use Rattle.recordings.specs.declared.rate.Rate.TheVariants as rates
 use Rattle.recordings.specs.Recording.{header_at}
-use Rattle.survivors.specs.Survivors.{IsLeast}
+use Rattle.exact_decoder.specs.Surviving.Survivors.{IsLeast}
 use Rattle.command_base.specs.declared.status.Status.{Status}
 use Rattle.command_base.specs.declared.status.Status.TheVariants.{Done, LineLost}
 use Rattle.command_base.specs.Job.{Shared}

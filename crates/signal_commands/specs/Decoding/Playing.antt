@@ -2,8 +2,8 @@
 use Rattle.std.specs.Prelude.{◌≡◌, ℕ, ◌≤◌, Bool, List, [], None}
 use Rattle.scramblers.specs.declared.mode.Mode.{Mode}
 use Rattle.symbol_map.specs.declared.sample.Sample.{Sample}
-use Rattle.survivors.specs.Survivors.{IsFirstLeast}
-use Rattle.survivors.specs.V32.{at_beginning, line_depth}
+use Rattle.exact_decoder.specs.Surviving.Survivors.{IsFirstLeast}
+use Rattle.exact_decoder.specs.Surviving.V32.{at_beginning, line_depth}
 use Rattle.exact_decoder.specs.Decoder.{Decoding}
 use Rattle.line_coding.specs.Reading.{SamplesRead}
 use Rattle.line_coding.specs.V32.{LineRead}

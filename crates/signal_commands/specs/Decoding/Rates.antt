@@ -2,8 +2,8 @@
 use Rattle.std.specs.Prelude.{ℕ, Bool, List}
 use Rattle.symbol_map.specs.declared.sample.Sample.{Sample}
 use Rattle.scramblers.specs.Scrambles.{Descrambles}
-use Rattle.survivors.specs.Trellises.{Trellis}
-use Rattle.survivors.specs.V32.{line_trellis}
+use Rattle.exact_decoder.specs.Surviving.Trellises.{Trellis}
+use Rattle.exact_decoder.specs.Surviving.V32.{line_trellis}
 use Rattle.line_coding.specs.Demodulates.{line_of}
 use Rattle.rate_4800.specs.Demodulates.{line_of as quarter_line_of}
 use Rattle.rate_4800.specs.Laws.{quarters}

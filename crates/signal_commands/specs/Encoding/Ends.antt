@@ -3,7 +3,7 @@
 use Rattle.std.specs.Prelude.{◌≡◌, ◌⊎◌, ℕ, IsTrue, List, Result, Ok, Err}
 use Rattle.plain_lists.specs.Prefix.{IsPrefixOf}
 use Rattle.outside_calls.specs.Folder.{FolderState, octets_at, KeepsName}
-use Rattle.recordings.specs.Recording.{IsRecordingOf}
+use Rattle.signal_commands.specs.Encoding.Recorder.{IsRecordingOf}
 use Rattle.command_base.specs.declared.limits.TheConstants.{FILE_LIMIT}
 use Rattle.command_base.specs.Inputs.{IsWithin, IsLonger}
 use Rattle.outside_calls.specs.Outputs.{Holds, HoldsFront, KeepsAll, SaysNothing}

@@ -2,7 +2,7 @@
 -- folder tells that name.
 use Rattle.std.specs.Prelude.{◌≡◌, ◌⊎◌, ℕ, IsTrue, List}
 use Rattle.outside_calls.specs.Folder.{FolderState, octets_at, KeepsName, Said}
-use Rattle.recordings.specs.Recording.{IsRecordingOf}
+use Rattle.signal_commands.specs.Encoding.Recorder.{IsRecordingOf}
 use Rattle.command_base.specs.declared.status.Status.{Status}
 use Rattle.command_base.specs.declared.status.Status.TheVariants.{Done}
 use Rattle.command_base.specs.Job.{Shared}

@@ -1,8 +1,9 @@
 -- How far a file is recorded.
 use Rattle.std.specs.Prelude.{ℕ, List, [], ◌++◌}
 use Rattle.outside_calls.specs.Folder.{FolderState}
-use Rattle.recordings.specs.declared.recorder.Recorder.{Recorder}
-use Rattle.recordings.specs.Recording.{header_at, RecorderStands}
+use Rattle.signal_commands.specs.declared.encode.recorder.Recorder.{Recorder}
+use Rattle.recordings.specs.Recording.{header_at}
+use Rattle.signal_commands.specs.Encoding.Recorder.{RecorderStands}
 use Rattle.command_base.specs.declared.limits.TheConstants.{FILE_LIMIT}
 use Rattle.command_base.specs.Inputs.{IsWithin, ReadTo}
 use Rattle.outside_calls.specs.Outputs.{Holds, OnlyOutput}

@@ -4,8 +4,8 @@ use Rattle.std.specs.Prelude.{◌≡◌, ℕ, ◌*◌, ◌<◌, nat_lt, IsTrue, 
 use Rattle.scramblers.specs.declared.mode.Mode.{Mode}
 use Rattle.symbol_map.specs.declared.sample.Sample.{Sample}
 use Rattle.plain_lists.specs.Prefix.{IsPrefixOf}
-use Rattle.survivors.specs.Survivors.{IsReleased, LostIs}
-use Rattle.survivors.specs.V32.{line_trellis, line_depth}
+use Rattle.exact_decoder.specs.Surviving.Survivors.{IsReleased, LostIs}
+use Rattle.exact_decoder.specs.Surviving.V32.{line_trellis, line_depth}
 use Rattle.outside_calls.specs.Folder.{FolderState, octets_at, Said}
 use Rattle.noise_bound.specs.Margins.{IsCostOf}
 use Rattle.recordings.specs.Recording.{header_of}

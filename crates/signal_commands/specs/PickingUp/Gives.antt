@@ -4,8 +4,8 @@ use Rattle.scramblers.specs.declared.mode.Mode.{Mode}
 use Rattle.scramblers.specs.Mode.{tap_of}
 use Rattle.symbol_map.specs.declared.sample.Sample.{Sample}
 use Rattle.plain_lists.specs.Prefix.{IsPrefixOf}
-use Rattle.survivors.specs.Survivors.{IsReleased, IsOver}
-use Rattle.survivors.specs.V32.{any_trellis, line_depth}
+use Rattle.exact_decoder.specs.Surviving.Survivors.{IsReleased, IsOver}
+use Rattle.exact_decoder.specs.Surviving.V32.{any_trellis, line_depth}
 use Rattle.bit_stuffing.specs.Found.{Found, pieces_of}
 use Rattle.outside_calls.specs.Folder.{FolderState, Said, PartlySaid}
 use Rattle.line_coding.specs.PickedUp.{IsPickedUp}

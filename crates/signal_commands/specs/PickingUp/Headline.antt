@@ -6,8 +6,8 @@ use Rattle.bit_stuffing.specs.Found.{Found}
 use Rattle.outside_calls.specs.Folder.{FolderState, octets_at, Said}
 use Rattle.recordings.specs.Recording.{header_of}
 use Rattle.recordings.specs.Samples.{samples_in}
-use Rattle.survivors.specs.Survivors.{IsLeast, LostIs}
-use Rattle.survivors.specs.V32.{any_trellis, line_depth}
+use Rattle.exact_decoder.specs.Surviving.Survivors.{IsLeast, LostIs}
+use Rattle.exact_decoder.specs.Surviving.V32.{any_trellis, line_depth}
 use Rattle.command_base.specs.declared.status.Status.{Status}
 use Rattle.command_base.specs.declared.status.Status.TheVariants.{Done}
 use Rattle.command_base.specs.Job.{Shared}

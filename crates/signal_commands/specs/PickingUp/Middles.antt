@@ -4,8 +4,8 @@ use Rattle.scramblers.specs.declared.mode.Mode.{Mode}
 use Rattle.scramblers.specs.Mode.{tap_of}
 use Rattle.symbol_map.specs.declared.sample.Sample.{Sample}
 use Rattle.symbol_map.specs.Distance.{distance_of, quarter_turned}
-use Rattle.survivors.specs.Survivors.{LostIs}
-use Rattle.survivors.specs.V32.{any_trellis, line_depth}
+use Rattle.exact_decoder.specs.Surviving.Survivors.{LostIs}
+use Rattle.exact_decoder.specs.Surviving.V32.{any_trellis, line_depth}
 use Rattle.bit_stuffing.specs.Found.{Found}
 use Rattle.line_coding.specs.Modulates.{Modulates}
 use Rattle.noise_bound.specs.Near.{sure_of_any}

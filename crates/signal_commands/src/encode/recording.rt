@@ -3,7 +3,8 @@ ghost use Rattle.std.specs.Prelude.{◌≡◌, ◌≤◌, ◌+◌, ◌*◌, ◌+
 ghost use Rattle.outside_calls.specs.Folder.{FolderState};
 ghost use Rattle.scramblers.specs.declared.mode.Mode.{Mode};
 ghost use Rattle.recordings.specs.declared.rate.Rate.{Rate};
-ghost use Rattle.recordings.specs.Recording.{samples_each, RecorderStands};
+ghost use Rattle.recordings.specs.Recording.{samples_each};
+ghost use Rattle.signal_commands.specs.Encoding.Recorder.{RecorderStands};
 ghost use Rattle.command_base.specs.declared.limits.TheConstants.{FILE_LIMIT};
 ghost use Rattle.outside_calls.specs.Outputs.{OnlyOutput};
 ghost use Rattle.command_base.specs.Stops.{EndCounts};
@@ -12,11 +13,12 @@ ghost use Rattle.signal_commands.specs.Encoding.Words.{named, inputs_of, outputs
 ghost use Rattle.signal_commands.specs.Encoding.Ends.{WritesAll, EndsBy, Ends};
 ghost use Rattle.signal_commands.specs.Encoding.Recorded.{Begun, RecordedTo};
 
+use crate::encode::recorder::{RECORDED, Recorder};
 use crate::encode::words::EncodeWords;
 use command_base::{FILE_LIMIT, Stop, append_output, create_output, read_piece, within_limit};
 use frame_check::Octets;
 use outside_calls::Folder;
-use recordings::{Recorder, header_octets};
+use recordings::header_octets;
 
 /// The place of the file's name among the words.
 const FILE: usize = 2;
@@ -24,8 +26,8 @@ const FILE: usize = 2;
 /// How many octets are read at a time.
 const PIECE: usize = 512;
 
-/// How many octets of a recording a piece becomes at most, sixteen for each of its own.
-const RECORDED_PIECE: usize = 8192;
+/// How many octets of a recording a piece becomes at most.
+const RECORDED_PIECE: usize = PIECE * RECORDED;
 
 /// Leaves the octets of the samples of a piece.
 fn record_piece(recorder: &mut Recorder, piece: &[u8], recorded: &mut Octets<RECORDED_PIECE>)

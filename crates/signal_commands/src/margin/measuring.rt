@@ -26,8 +26,8 @@ const RECORDED: usize = 2 * SAMPLE;
 /// How many octets of the file are read at a time.
 const PIECE: usize = 512;
 
-/// How many octets of the recording are read at a time, eight for each of the file.
-const RECORDED_PIECE: usize = 4_096;
+/// How many octets of the recording are read at a time.
+const RECORDED_PIECE: usize = PIECE * RECORDED;
 
 /// Measures the octets of a piece against their samples.
 fn measure_piece(margin: &mut Margin, octets: &[u8], recorded: &[u8])

@@ -1,6 +1,7 @@
 use Rattle.std.proofs.Common.{◌≡◌, ◌∙◌, ◌≤◌, ◌+◌, ◌++◌, [], sym, ap, subst, take, drop, vec_len, arith}
 use Rattle.std.proofs.lemmas.List.{length-take-le}
 use Rattle.outside_calls.specs.Folder.{octets_at}
+use Rattle.command_base.specs.declared.input.TheConstants.{READ}
 use Rattle.command_base.proofs.Reading.{none-left}
 use Rattle.command_base.proofs.input.read_more.Goals as goal
 
@@ -22,7 +23,7 @@ returns-in-Ok-extend_from_slice g c =
             c.in-Ok-extend_from_slice.ensures.items),
         λ none.
             subst (λ n. drop n octets ≡ []) c.len.ensures
-            (none-left octets 1024 c.args.limit c.len.result c.in-Ok.count (omega arith) (omega (arith, c.requires, c.len.ensures))
+            (none-left octets READ c.args.limit c.len.result c.in-Ok.count (omega arith) (omega (arith, c.requires, c.len.ensures))
             (c.in-Ok.ensures.count told) none),
       );
       reads = c.read_part.ensures.reads;

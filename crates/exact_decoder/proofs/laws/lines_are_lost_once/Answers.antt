@@ -1,5 +1,5 @@
-use Rattle.survivors.specs.Trellises.{trellis_of}
-use Rattle.survivors.proofs.Fronts.{lost-once, lost-stays}
+use Rattle.exact_decoder.specs.Surviving.Trellises.{trellis_of}
+use Rattle.exact_decoder.proofs.Surviving.Fronts.{lost-once, lost-stays}
 use Rattle.exact_decoder.proofs.laws.lines_are_lost_once.Goals as goal
 
 pub returns : goal.returns

@@ -1,7 +1,7 @@
-use Rattle.survivors.specs.Trellises.{trellis_of}
-use Rattle.survivors.proofs.Release.{first-least-once}
-use Rattle.survivors.proofs.Fronts.{released-once, stays-prefix}
-use Rattle.survivors.proofs.Least.{some-released, released-is_least}
+use Rattle.exact_decoder.specs.Surviving.Trellises.{trellis_of}
+use Rattle.exact_decoder.proofs.Surviving.Release.{first-least-once}
+use Rattle.exact_decoder.proofs.Surviving.Fronts.{released-once, stays-prefix}
+use Rattle.exact_decoder.proofs.Surviving.Least.{some-released, released-is_least}
 use Rattle.exact_decoder.proofs.AnyCode.{IsCodeTable, has-laws}
 use Rattle.exact_decoder.proofs.laws.one_least_beginning_is_released.Goals as goal
 

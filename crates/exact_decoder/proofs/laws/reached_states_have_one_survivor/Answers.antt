@@ -1,6 +1,6 @@
-use Rattle.survivors.specs.Trellises.{trellis_of}
-use Rattle.survivors.proofs.Release.{survivor-one}
-use Rattle.survivors.proofs.Existence.{reached-survives, some-survives}
+use Rattle.exact_decoder.specs.Surviving.Trellises.{trellis_of}
+use Rattle.exact_decoder.proofs.Surviving.Release.{survivor-one}
+use Rattle.exact_decoder.proofs.Surviving.Existence.{reached-survives, some-survives}
 use Rattle.exact_decoder.proofs.AnyCode.{IsCodeTable, has-laws}
 use Rattle.exact_decoder.proofs.laws.reached_states_have_one_survivor.Goals as goal
 

@@ -1,11 +1,11 @@
-use Rattle.std.proofs.Common.{refl, ◌∙◌, ap, subst, Ok}
+use Rattle.std.proofs.Common.{refl, ◌∙◌, subst, Ok}
 use Rattle.outside_calls.specs.Folder.{FolderState}
 use Rattle.outside_calls.proofs.Steps.{CountsStand-refl, CountsStand-trans}
 use Rattle.outside_calls.proofs.Putting.{OnlyPuts-refl, OnlyPuts-trans}
 use Rattle.noise_script.specs.Script.{ScriptValue}
 use Rattle.line_run.specs.Names.{Written, written}
-use Rattle.pair_run.specs.Ends.{First}
-use Rattle.link_pair.specs.Pair.{FaultEnds, HaveEnded, all_inputs, all_outputs}
+use Rattle.pair_run.specs.Ends.{First, Second}
+use Rattle.link_pair.specs.Pair.{Comes, FaultEnds, HaveEnded, all_inputs, all_outputs, round_of, script_of}
 use Rattle.link_pair.proofs.Pairing.{few-rounds}
 use Rattle.link_pair.proofs.Beginning.{begins, nearer, fault-ends, counts-later}
 use Rattle.link_pair.proofs.rounds.pair_rounds.Goals as goal
@@ -28,8 +28,10 @@ loop-endings-smaller g c =
     let now : FolderState = g.F.Folder.state c.loop-endings.folder in
     let n : Written = written c.args.names.now.first in
     let m : Written = written c.args.names.now.second in
-    nearer _ _ (few-rounds c.pairs_have_few_rounds.ensures c.loop-endings.pair now n m First c.loop-endings.invariant.ready)
-    (c.in-Ok-None.ensures.round (ap Ok c.in-Ok-None.field-0-is))
+    let next : FolderState = g.F.Folder.state c.round.new.folder in
+    let come = subst (λ o. Comes (script_of c.loop-endings.pair) (round_of c.loop-endings.pair) Second c.round.new.self next n m (Ok o))
+    c.in-Ok-None.field-0-is c.in-Ok-None.ensures.comes in
+    nearer _ _ (few-rounds c.pairs_have_few_rounds.ensures c.loop-endings.pair now n m First c.loop-endings.invariant.ready) come.1
 
 pub loop-endings-preserved : goal.loop-endings-preserved
 loop-endings-preserved g c =
@@ -38,8 +40,10 @@ loop-endings-preserved g c =
     let next : FolderState = g.F.Folder.state c.round.new.folder in
     let n : Written = written c.args.names.now.first in
     let m : Written = written c.args.names.now.second in
+    let come = subst (λ o. Comes (script_of c.loop-endings.pair) (round_of c.loop-endings.pair) Second c.round.new.self next n m (Ok o))
+    c.in-Ok-None.field-0-is c.in-Ok-None.ensures.comes in
     record {
-      ready = c.in-Ok-None.ensures.going (ap Ok c.in-Ok-None.field-0-is);
+      ready = come.0;
       script_is = c.in-Ok-None.ensures.script ∙ c.loop-endings.invariant.script_is;
       only = OnlyPuts-trans old now next (all_outputs n m) c.loop-endings.invariant.only c.in-Ok-None.ensures.only;
       stand = CountsStand-trans c.loop-endings.invariant.stand c.in-Ok-None.ensures.counts;
@@ -51,8 +55,9 @@ returns-in-Ok-Some-clause-ended g c =
     let next : FolderState = g.F.Folder.state c.round.new.folder in
     let n : Written = written c.args.names.now.first in
     let m : Written = written c.args.names.now.second in
-    subst (λ (s : ScriptValue). HaveEnded s next n m c.in-Ok-Some.endings) c.loop-endings.invariant.script_is
-    (c.in-Ok-Some.ensures.ended c.in-Ok-Some.endings (ap Ok c.in-Ok-Some.field-0-is))
+    let come = subst (λ o. Comes (script_of c.loop-endings.pair) (round_of c.loop-endings.pair) Second c.round.new.self next n m (Ok o))
+    c.in-Ok-Some.field-0-is c.in-Ok-Some.ensures.comes in
+    subst (λ (s : ScriptValue). HaveEnded s next n m c.in-Ok-Some.endings) c.loop-endings.invariant.script_is come.0
 
 pub returns-in-Ok-Some-clause-only : goal.returns-in-Ok-Some-clause-only
 returns-in-Ok-Some-clause-only g c =
@@ -73,7 +78,7 @@ returns-in-Err-clause-fault g c =
     let n : Written = written c.args.names.now.first in
     let m : Written = written c.args.names.now.second in
     subst (λ (s : ScriptValue). FaultEnds s next n m c.in-Err.fault) c.loop-endings.invariant.script_is
-    (fault-ends _ next n m _ c.in-Err.fault c.in-Err.ensures.fault)
+    (fault-ends _ next n m _ c.in-Err.fault c.in-Err.ensures.comes)
 
 pub returns-in-Err-clause-only : goal.returns-in-Err-clause-only
 returns-in-Err-clause-only g c =

@@ -1,7 +1,7 @@
 use Rattle.std.proofs.Common.{ℕ, ◌++◌, List, subst}
 use Rattle.line_coding.specs.Demodulates.{DemodulatorStands}
 use Rattle.rate_4800.specs.Demodulates.{DemodulatorStands as QuarterDemodulatorStands}
-use Rattle.survivors.specs.V32.{at_beginning}
+use Rattle.exact_decoder.specs.Surviving.V32.{at_beginning}
 use Rattle.gateway.specs.declared.any_reader.AnyReader.{AnyReader}
 use Rattle.gateway.specs.Given.{given}
 use Rattle.gateway.specs.Reads.{Read, ReadsAs}

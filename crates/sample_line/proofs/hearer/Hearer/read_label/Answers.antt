@@ -1,7 +1,7 @@
 use Rattle.std.proofs.Common.{◌++◌, subst, append-nil}
 use Rattle.plain_lists.specs.Bits.{low_bits}
 use Rattle.line_coding.specs.V32.{LineRead}
-use Rattle.survivors.specs.V32.{at_beginning, line_depth}
+use Rattle.exact_decoder.specs.Surviving.V32.{at_beginning, line_depth}
 use Rattle.sample_line.proofs.hearer.Hearer.read_label.Goals as goal
 
 pub returns-in-Some-clause-stands : goal.returns-in-Some-clause-stands

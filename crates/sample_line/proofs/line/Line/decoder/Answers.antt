@@ -5,7 +5,7 @@ use Rattle.trellis_tables.specs.Table.{next_state}
 use Rattle.exact_decoder.specs.Decoder.{Decoding, DecoderStands}
 use Rattle.detection.specs.Slots.{signal_bits}
 use Rattle.sample_line.specs.Recorded.{Records}
-use Rattle.survivors.specs.V32.{line_depth}
+use Rattle.exact_decoder.specs.Surviving.V32.{line_depth}
 use Rattle.sample_line.specs.Line.{Kept, size_of, sender_of, decoder_of}
 use Rattle.sample_line.proofs.Passing.{line-heard}
 use Rattle.sample_line.proofs.line.Line.decoder.Goals as goal

@@ -4,8 +4,8 @@ use Rattle.outside_calls.specs.Folder.{FolderState, octets_at, Appended, PartlyA
 use Rattle.outside_calls.proofs.Steps.{CountsStand-trans}
 use Rattle.outside_calls.proofs.OnlyOutputs.{OnlyOutput-reads}
 use Rattle.command_base.proofs.Jobs.{write-earlier}
-use Rattle.recordings.specs.declared.recorder.Recorder.{Recorder}
-use Rattle.recordings.specs.Recording.{RecorderStands}
+use Rattle.signal_commands.specs.declared.encode.recorder.Recorder.{Recorder}
+use Rattle.signal_commands.specs.Encoding.Recorder.{RecorderStands}
 use Rattle.signal_commands.specs.Encoding.Words.{EncodeNames, named}
 use Rattle.signal_commands.proofs.Encoding.Making.{recorded-front, recorded-read, recorded-more, recorded-whole, piece-part, writes-only}
 use Rattle.signal_commands.proofs.encode.recording.record_next.Goals as goal

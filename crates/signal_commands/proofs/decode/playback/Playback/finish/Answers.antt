@@ -2,7 +2,7 @@ use Rattle.std.proofs.Common.{◌++◌, List, ℕ, subst}
 use Rattle.scramblers.specs.Mode.{tap_of}
 use Rattle.line_coding.specs.Demodulates.{DemodulatorStands}
 use Rattle.line_coding.proofs.Standing.{demodulated}
-use Rattle.survivors.specs.V32.{at_beginning}
+use Rattle.exact_decoder.specs.Surviving.V32.{at_beginning}
 use Rattle.rate_4800.specs.Demodulates.{DemodulatorStands as QuarterDemodulatorStands}
 use Rattle.rate_4800.proofs.Standing.{demodulated as quarters-demodulated}
 use Rattle.recordings.specs.declared.rate.Rate.TheVariants as rates

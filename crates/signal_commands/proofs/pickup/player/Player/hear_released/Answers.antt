@@ -2,7 +2,7 @@ use Rattle.std.proofs.Common.{◌∙◌, ◌++◌, Bool, List, length, drop, sym
 use Rattle.outside_calls.specs.Folder.{FolderState}
 use Rattle.outside_calls.proofs.Steps.{GoesOn-refl, CountsStand-refl, CountsStand-trans}
 use Rattle.line_coding.specs.MiddleReading.{MiddleRead, bits_of_taken}
-use Rattle.survivors.specs.V32.{line_depth}
+use Rattle.exact_decoder.specs.Surviving.V32.{line_depth}
 use Rattle.command_base.proofs.Hearing.{says-trans}
 use Rattle.signal_commands.specs.PickingUp.Playing.{Playing, Plays}
 use Rattle.signal_commands.proofs.PickingUp.Playings.{plays-taken, says-some}

@@ -1,0 +1,49 @@
+-- What is received of a slot is read off labels that begin a nearest code sequence.
+use Rattle.std.proofs.Common.{◌≡◌, ◌-◌, List, [], ◌∷◌, drop, Some, subst}
+use Rattle.frame_check.specs.declared.check.Check.{Check}
+use Rattle.shared_terms.specs.declared.role.Role.{Role}
+use Rattle.shared_terms.specs.Role.{other}
+use Rattle.shared_terms.specs.Both.{of}
+use Rattle.exact_decoder.specs.Surviving.Laws.{ReleasedIsLeast, OfEachCode}
+use Rattle.exact_decoder.proofs.Surviving.V32.{line-has-laws}
+use Rattle.exact_decoder.specs.Surviving.V32.{line_trellis}
+use Rattle.lapm_frames.specs.declared.heard.Heard.{Heard}
+use Rattle.noise_script.specs.Script.{delay_of}
+use Rattle.link_run.specs.Run.{Link, Accounts, Spoken, Turn}
+use Rattle.link_run.specs.Carried.{sent_ago}
+use Rattle.line_run.specs.Sampled.{Wire, Arrives, ArrivesAs, HeardIn, IsHeardOver, LineRun}
+use Rattle.line_run.specs.Ends.{RunEnd, IsDone, LinkLost, NotDetected, Left, EndsBy, turns_heard}
+use Rattle.line_ends.specs.ReadOff.{IsReadOff, AreReadOff}
+
+slot-read : OfEachCode ReleasedIsLeast
+    → (c : Wire) (sender : Role) (earlier upto : List Turn) (hearing : Check) (slot : Spoken) (heard : Heard)
+    → Arrives c sender earlier upto hearing slot heard
+    → IsReadOff c sender earlier upto hearing slot heard
+slot-read least c sender earlier upto hearing slot heard a = record {
+  arrives = a;
+  nearest = least line_trellis 8 32 2 line-has-laws a.samples a.received.gives.labels a.received.gives.released;
+}
+
+turn-read : OfEachCode ReleasedIsLeast → (c : Wire) (ts : List Turn) (t : Turn) → HeardIn c ts t → (role : Role) (slot : Spoken)
+    → sent_ago (delay_of c.script (other role)) (other role) ts ≡ Some slot
+    → IsReadOff c (other role) (drop (delay_of c.script (other role)) ts) (drop (delay_of c.script (other role) - 1) ts)
+    (of role t).check slot (of role t).heard
+turn-read least c ts t h role slot e =
+    let earlier = drop (delay_of c.script (other role)) ts in
+    let upto = drop (delay_of c.script (other role) - 1) ts in
+    slot-read least c (other role) earlier upto (of role t).check slot (of role t).heard
+    (subst (λ o. ArrivesAs c (other role) earlier upto (of role t).check o (of role t).heard) e (h role).heard_of)
+
+pub turns-read : OfEachCode ReleasedIsLeast → (c : Wire) (ts : List Turn) → IsHeardOver c ts → AreReadOff c ts
+turns-read least c [] h = tt
+turns-read least c (t ∷ ts) h = (turn-read least c ts t h.0, turns-read least c ts h.1)
+
+-- of all turns in which something was heard
+pub run-read : OfEachCode ReleasedIsLeast → (c : Wire) (link : Link) (ts : List Turn) (ends : Accounts) (end : RunEnd) (left : Left)
+    → LineRun c link ts ends → (e : EndsBy c link ts ends end left)
+    → AreReadOff c (turns_heard c link ts ends end left e)
+run-read least c link ts ends (IsDone turn) left run e = (turn-read least c ts e.last e.heard, turns-read least c ts run.heard)
+run-read least c link ts ends (LinkLost role segment turn) left run e =
+    (turn-read least c ts e.1.last e.1.heard, turns-read least c ts run.heard)
+run-read least c link ts ends (NotDetected turn) left run e = (turn-read least c ts e.last e.heard, turns-read least c ts run.heard)
+run-read least c link ts ends end left run e = turns-read least c ts run.heard

@@ -1,0 +1,40 @@
+-- The laws of runs that the promises of commands rest on.
+use Rattle.std.proofs.Common.{ℕ, List}
+use Rattle.shared_terms.specs.Both.{Both}
+use Rattle.noise_script.specs.Script.{IsInLimits, delay_of}
+use Rattle.exact_decoder.specs.Surviving.Laws.{ReleasedIsLeast, OfEachCode}
+use Rattle.link_run.specs.Run.{Accounts, Turn}
+use Rattle.link_run.specs.Laws.{RunsOver, TakesPrefixes, HearsPrefixes, HearingsDeliver}
+use Rattle.line_run.specs.Sampled.{Wire, LineRun}
+use Rattle.line_run.specs.LineLaws.{SamplesAreCarried, OneIsCarried}
+use Rattle.line_run.specs.Ends.{MayRun, RunsLeavePrefixes, DoneLeavesWhole, RunsLeaveWhatPassed}
+use Rattle.line_run.specs.Scripted.{link_of, ScriptsMayPlay, ScriptsHaveDelays}
+use Rattle.line_run.specs.Scripts.{LineRunsEndSoon}
+use Rattle.line_ends.specs.Causes.{EndsHaveCauses}
+
+pub record RunLaws : Type 0 where
+  pub play : ScriptsMayPlay
+  pub delays : ScriptsHaveDelays
+  pub carried : SamplesAreCarried
+  pub one : OneIsCarried
+  pub takes : TakesPrefixes
+  pub hears : HearsPrefixes
+  pub delivers : HearingsDeliver
+  pub prefixes : RunsLeavePrefixes
+  pub whole : DoneLeavesWhole
+  pub passed : RunsLeaveWhatPassed
+  pub soon : LineRunsEndSoon
+  pub causes : EndsHaveCauses
+  pub least : OfEachCode ReleasedIsLeast
+
+pub may-run : RunLaws → (c : Wire) (files : Both (List ℕ)) → IsInLimits c.script → MayRun c (link_of c.script files)
+may-run laws c files h = record { may_play = laws.play c.script files h; delays = laws.delays c.script h }
+
+pub runs-over : RunLaws → (c : Wire) (files : Both (List ℕ)) (ts : List Turn) (ends : Accounts) → IsInLimits c.script
+    → LineRun c (link_of c.script files) ts ends → RunsOver (link_of c.script files) (delay_of c.script) ts ends
+runs-over laws c files ts ends h r = record {
+  may_play = laws.play c.script files h;
+  delays = laws.delays c.script h;
+  carried = laws.carried c ts r.heard;
+  run = r.run;
+}

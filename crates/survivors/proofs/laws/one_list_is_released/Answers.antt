@@ -1,9 +1,0 @@
-use Rattle.survivors.proofs.Least.{some-released}
-use Rattle.survivors.proofs.Fronts.{released-once}
-use Rattle.survivors.proofs.laws.one_list_is_released.Goals as goal
-
-pub returns : goal.returns
-returns c = record {
-  some = λ t states labels steps laws samples. some-released t states labels steps samples laws;
-  once = λ t samples a b h k. released-once t samples a b h k;
-}

@@ -1,8 +1,0 @@
-use Rattle.survivors.proofs.Existence.{reached-survives, some-survives}
-use Rattle.survivors.proofs.laws.reached_states_have_survivors.Goals as goal
-
-pub returns : goal.returns
-returns c = record {
-  each = λ t states labels steps laws samples sequence end q. reached-survives t states labels steps samples sequence end laws q;
-  some = λ t states labels steps laws samples. some-survives t states labels steps samples laws;
-}
