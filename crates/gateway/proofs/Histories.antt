@@ -439,7 +439,7 @@ heard-side : HistoryLaws → (check : Check) (role : Role) (turn : ℕ) (arrived
     → StandsFor new.end.link (after_given b) → IsSide check role (after_given b) slots new
 heard-side laws check role turn arrived x b slots old new h e is role_is stands =
     side-of check role (after_given b) slots new (record old { end = new.end }) is stands (role_is ∙ h.role_is) h.line
-    (book-grows old.offered old.delivered x b (grows-heard laws.keeps turn arrived x b e) h.book)
+    (book-grows old.offered old.delivered x b (grows-heard laws.keeps turn x arrived b e) h.book)
 
 -- what arrives as nothing arrives as nothing else
 one-nothing : (check : Check) (role : Role) (carried : Carried) (arrived : Arrived) → Arrives check role carried arrived
@@ -576,7 +576,7 @@ speaks-step so sa reads role release own peer new h m =
                 can = s.1;
                 numbered = check-sent role so sa h.x h.lx h.y h.ly own.end.state.turn release said e h.known;
               }))
-              (subst (IsBook own.offered own.delivered) (sym (kept-spoken own.end.state.turn release h.x said e)) h.own_side.book);
+              (subst (IsBook own.offered own.delivered) (sym (kept-spoken own.end.state.turn h.x release said e)) h.own_side.book);
           peer_side = h.peer_side;
           known = knows-spoken role so sa reads h.x h.lx h.y h.ly own.end.state.turn release said (slot_of h.x said) refl e h.known;
         }
@@ -813,7 +813,7 @@ hearing_never_breaks laws wants_alone so sa steps ends m hist role said rest car
             → hear (of (other role) ends).end.state.turn (arrives slot.sent) h.y ≡ r → HeardAs r h.y new.link (Err fault) → ⊥
         go h slot left led (Ok b) e k = absurd k
         go h slot left led (Err broken) e k =
-            breaks-not laws.keeps (of (other role) ends).end.state.turn (arrives slot.sent) h.y broken e
+            breaks-not (of (other role) ends).end.state.turn (arrives slot.sent) h.y broken e
             (wanted-fault wants_alone so sa m (other role) h.events (plays.Passes role (of (other role) ends).end.state.turn)
             (at role h.x (slot ∷ left) h.y h.ly) broken led
             (passing-fault role (of (other role) ends).end.state.turn h.x h.y slot left h.ly broken e))
