@@ -1,32 +1,24 @@
 -- Hearing keeps a play good.
 use Rattle.std.proofs.Common.{◌≡◌, ℕ, ◌≤◌, ◌||◌, Bool, true, false, cond, List, ◌∷◌, arith, refl, sym, ◌∙◌, ap, subst, Option, Some, None}
 use Rattle.std.proofs.Common.{Result, Ok, Err}
-use Rattle.shared_terms.specs.declared.role.Role.{Role}
-use Rattle.shared_terms.specs.declared.role.Role.TheVariants.{Originator, Answerer}
-use Rattle.shared_terms.specs.Role.{other}
-use Rattle.lapm_frames.specs.declared.frame.Frame.{Frame}
-use Rattle.lapm_frames.specs.declared.frame.Frame.TheVariants.{I, Rr, Rnr, Rej, Srej, Sabme, Disc, Ua, Dm, Frmr, Xid, Test}
-use Rattle.xid_params.specs.Terms.{agree}
-use Rattle.xid_params.specs.Offers.{offer_in, written}
-use Rattle.lapm_frames.specs.declared.sent.Sent.{Sent}
-use Rattle.lapm_frames.specs.declared.sent.Sent.TheVariants as slots
-use Rattle.lapm_frames.specs.declared.seen.Seen.TheVariants as seen
-use Rattle.shared_terms.specs.declared.fault.LinkFault.{LinkFault}
+use Rattle.link_account.proofs.Names.{Role, Originator, Answerer, other, Frame, I, Rr, Rnr, Rej, Srej, Sabme, Disc, Ua, Dm, Xid, agree}
+use Rattle.link_account.proofs.Names.{offer_in, written, Sent, LinkFault, Account, is_originator, hear, on_frame, owing, trying, on_nothing}
+use Rattle.link_account.proofs.Names.{without_adp, Slot, arrives}
+use Rattle.lapm_frames.specs.declared.frame.Frame.TheVariants.{Frmr, Test}
 use Rattle.link_account.specs.declared.setup.Setup.{Setup}
 use Rattle.link_account.specs.declared.phase.Phase.{Phase}
 use Rattle.link_account.specs.declared.phase.Phase.TheVariants.{Detecting, Negotiating, Establishing, Connected, Releasing, Closed}
 use Rattle.link_account.specs.declared.answer.Answer.{Answer}
-use Rattle.link_account.specs.declared.answer.Answer.TheVariants as answers
-use Rattle.link_account.specs.Account.{Account, window_for}
-use Rattle.shared_terms.specs.Role.{is_originator}
-use Rattle.link_account.specs.Hear.{hear, on_frame, on_connected, on_detecting, on_negotiating, on_establishing, on_releasing, on_closed}
-use Rattle.link_account.specs.Hear.{on_xid_command, on_xid_response, on_sabme, peer_reset, on_disc, on_seen, on_pattern, owing, connected}
-use Rattle.link_account.specs.Hear.{trying, on_nothing, without_adp}
-use Rattle.link_account.specs.Play.{Slot, arrives}
+use Rattle.link_account.specs.Account.{window_for}
+use Rattle.link_account.specs.Hear.{on_connected, on_detecting, on_negotiating, on_establishing, on_releasing, on_closed, on_xid_command}
+use Rattle.link_account.specs.Hear.{on_xid_response, on_sabme, peer_reset, on_disc, on_seen, on_pattern, connected}
 use Rattle.link_account.proofs.Ends.{Goes}
 use Rattle.link_account.proofs.Linked.{IsNumbered, IsLinked, HearsWell, hears-linked, counts_as_numbered}
 use Rattle.link_account.proofs.Good.{rank, DueA, IsFresh, PlaceO, PlaceA, NoSabme, terms_of, Good, linked-o, linked-a, lost-o, lost-a}
 use Rattle.link_account.proofs.Good.{changed-o, changed-a}
+use Rattle.lapm_frames.specs.declared.sent.Sent.TheVariants as slots
+use Rattle.lapm_frames.specs.declared.seen.Seen.TheVariants as seen
+use Rattle.link_account.specs.declared.answer.Answer.TheVariants as answers
 
 -- what an answerer hears leaves all well
 abbrev pub WellA : Setup → Setup → Account → List Slot → List Slot → Result Account LinkFault → Type 0

@@ -1,3 +1,4 @@
+pub mod Names
 pub mod SpeakWays
 pub mod HearWays
 mod Flow

@@ -1,15 +1,12 @@
 -- What is kept of the segments that pass, by their numbers alone, is what a receiver's part takes and holds.
 use Rattle.std.proofs.Common.{◌≡◌, ◌≢◌, ℕ, zero, suc, ◌+◌, ◌-◌, ◌%◌, ◌<◌, ◌≤◌, ◌||◌, max, Bool, true, false, cond, nat_eq, nat_lt, List, []}
 use Rattle.std.proofs.Common.{◌∷◌, ◌++◌, length, slice_index_or, arith, length-append, refl, sym, ◌∙◌, ap, subst}
-use Rattle.std.proofs.lemmas.Bool.{false≢true}
-use Rattle.std.proofs.lemmas.Bool.Decides.{nat_tests}
+use Rattle.link_account.proofs.Names.{false≢true, nat_tests, append_assoc, AllByRecursion, Incoming, kind_of, offset, after_kind}
+use Rattle.link_account.proofs.Names.{after_take, next_expected, Took, InOrder, Kept, Repeat, Gap}
 use borrow.Author.Tests.{eqb-true}
-use Rattle.std.proofs.lemmas.List.{append_assoc}
-use Rattle.std.specs.List.{AllByRecursion, concat}
+use Rattle.std.specs.List.{concat}
 use Rattle.lapm_receiver.specs.Held.{Held, is_held, with_held, run_from, rest_from}
-use Rattle.lapm_receiver.specs.Incoming.{Incoming, kind_at, kind_of, offset, after_kind, after_take, next_expected}
-use Rattle.lapm_receiver.specs.declared.took.Took.{Took}
-use Rattle.lapm_receiver.specs.declared.took.Took.TheVariants.{InOrder, Kept, Repeat, Gap}
+use Rattle.lapm_receiver.specs.Incoming.{kind_at}
 use Rattle.link_account.specs.Laws.{IsTakenBy}
 use Rattle.link_run.specs.Taken.{Segment, is_among, beyond, missing_from, missing, keeping, info_of, infos_from, octets_in}
 

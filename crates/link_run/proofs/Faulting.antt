@@ -1,29 +1,20 @@
 -- No end breaks as it hears, and as it speaks it breaks for want of answers alone.
 use Rattle.std.proofs.Common.{◌≡◌, ℕ, ◌-◌, true, false, List, [], ◌∷◌, ◌++◌, length, map, refl, sym, ap, subst, Option, Some, None, Result}
 use Rattle.std.proofs.Common.{Ok, Err, slice_get}
+use Rattle.link_account.proofs.Names.{false≢true, Role, Originator, Answerer, ReadsAllowed, KeepsTaken, LinkFault, Account, hear, Slot}
+use Rattle.link_account.proofs.Names.{Play, arrives, MayPlay, Heard, Nothing, Passed, Lost, Chance, of}
+use Rattle.link_run.proofs.Names.{Link, Turn, arrival, served_at, releases, sent_in, Crosses}
 use Rattle.std.specs.Prelude.{is_ok}
-use Rattle.std.proofs.lemmas.Bool.{false≢true}
 use Rattle.frame_check.specs.declared.check.Check.TheVariants.{Sixteen}
-use Rattle.shared_terms.specs.declared.role.Role.{Role}
-use Rattle.shared_terms.specs.declared.role.Role.TheVariants.{Originator, Answerer}
-use Rattle.xid_params.specs.Offers.{ReadsAllowed}
-use Rattle.lapm_receiver.specs.Incoming.{KeepsTaken}
-use Rattle.shared_terms.specs.declared.fault.LinkFault.{LinkFault}
-use Rattle.link_account.specs.Account.{Account}
-use Rattle.link_account.specs.Hear.{hear}
-use Rattle.link_account.specs.Play.{Slot, Play, Passes, arrives, heard, happens}
-use Rattle.link_account.specs.Laws.{MayPlay, WantsAnswers, BreaksForWantAlone}
-use Rattle.lapm_frames.specs.declared.heard.Heard.{Heard}
-use Rattle.lapm_frames.specs.declared.heard.Heard.TheVariants.{Nothing, Passed, Lost, Chance}
-use Rattle.link_run.specs.Run.{Link, Turn, arrival, served_at, releases}
-use Rattle.link_run.specs.Run as run
-use Rattle.link_run.specs.Carried.{sent_in, Crosses, on_line}
+use Rattle.link_account.specs.Play.{Passes, heard, happens}
+use Rattle.link_account.specs.Laws.{WantsAnswers, BreaksForWantAlone}
+use Rattle.link_run.specs.Carried.{on_line}
 use Rattle.link_run.specs.Laws.{told_by_play, told_by_turn, HearingsAreWell, BrokenForWant}
 use Rattle.link_run.proofs.Keeping.{breaks-not}
 use Rattle.link_run.proofs.Speaking.{breaks-for-want}
 use Rattle.link_run.proofs.Playing.{at, Leads, then-leads, one, made, next-first, head-of, none-is-some, told-slot}
 use Rattle.link_run.proofs.Running.{begun, Reaches, lines, run-reaches}
-use Rattle.shared_terms.specs.Both.{of}
+use Rattle.link_run.specs.Run as run
 
 -- the other end of this role breaks
 abbrev broken : Role → Account → List Slot → Account → List Slot → LinkFault → Play

@@ -1,29 +1,12 @@
 -- All through a run the frames that passed tell how far both ends are.
 use Rattle.std.proofs.Common.{◌≡◌, ◌≢◌, ◌⊎◌, inl, inr, ℕ, ◌≤◌, ◌||◌, Bool, true, false, cond, nat_le, List, [], ◌∷◌, length, arith, refl}
 use Rattle.std.proofs.Common.{sym, ◌∙◌, ap, subst, Option, Some, None, Ok}
-use Rattle.std.proofs.lemmas.Bool.{false≢true}
-use Rattle.std.proofs.lemmas.Bool.Decides.{nat_tests}
-use Rattle.shared_terms.specs.declared.role.Role.{Role}
-use Rattle.shared_terms.specs.declared.role.Role.TheVariants.{Originator, Answerer}
-use Rattle.shared_terms.specs.Role.{is_originator}
-use Rattle.shared_terms.specs.Both.{of}
-use Rattle.lapm_frames.specs.declared.frame.Frame.{Frame}
-use Rattle.lapm_frames.specs.declared.frame.Frame.TheVariants.{I, Rr, Rnr, Rej, Srej, Sabme, Disc, Ua, Xid}
-use Rattle.xid_params.specs.Offers.{ReadsAllowed, ReadsWritten}
-use Rattle.lapm_receiver.specs.Incoming.{KeepsTaken}
-use Rattle.lapm_frames.specs.declared.sent.Sent.{Sent}
-use Rattle.lapm_frames.specs.declared.sent.Sent.TheVariants as slots
-use Rattle.link_account.specs.declared.setup.Setup.{Setup}
-use Rattle.link_account.specs.declared.phase.Phase.{Phase}
-use Rattle.link_account.specs.declared.phase.Phase.TheVariants.{Detecting, Negotiating, Establishing, Connected, Releasing, Closed}
-use Rattle.link_account.specs.declared.answer.Answer.{Answer}
-use Rattle.link_account.specs.Account.{Account, is_connected, first_terms}
-use Rattle.link_account.specs.Hear.{hear}
-use Rattle.link_account.specs.Speak.{Said}
-use Rattle.link_account.specs.Laws.{MayPlay}
-use Rattle.link_run.specs.End.{User, delivered, served}
-use Rattle.link_run.specs.Run.{Link, Accounts, Turn, Spoken, spoken, arrival, Hears, RunOf, served_at}
-use Rattle.link_run.specs.Carried.{Carries, IsCarried}
+use Rattle.link_account.proofs.Names.{false≢true, nat_tests, Role, Originator, Answerer, is_originator, of, Frame, I, Rr, Rnr, Rej, Srej}
+use Rattle.link_account.proofs.Names.{Sabme, Disc, Ua, Xid, ReadsAllowed, ReadsWritten, KeepsTaken, Sent, Account, is_connected, hear, Said}
+use Rattle.link_account.proofs.Names.{MayPlay}
+use Rattle.link_run.proofs.Names.{Setup, Phase, Detecting, Negotiating, Establishing, Connected, Releasing, Closed, Answer, User, delivered}
+use Rattle.link_run.proofs.Names.{served, Link, Accounts, Turn, Spoken, spoken, arrival, Hears, RunOf, served_at, Carries, IsCarried}
+use Rattle.link_account.specs.Account.{first_terms}
 use Rattle.link_run.specs.Overheard.{has_passed, is_xid, opens}
 use Rattle.link_run.proofs.Keeping.{stage}
 use Rattle.link_run.proofs.Speaking.{Ledger, Speaks, Keeps_on, Releases}
@@ -34,8 +17,9 @@ use Rattle.link_run.proofs.Meeting.{is_disc, is_counted, carries, brings}
 use Rattle.link_run.proofs.Saying.{Says, is-said}
 use Rattle.link_run.proofs.Joining.{serving}
 use Rattle.link_run.proofs.Declaring.{OwnFrame, OwnSent, Declares, is-declared}
-use Rattle.link_run.proofs.Knowing.{Course, course, rank, OnSent, IfSent, AllSent, all-weaker, came-all, passed-brings, SentO, SentA, sent_o-later}
-use Rattle.link_run.proofs.Knowing.{sent_a-later, DueO, DueA, due_a-later, terms_of, Reads, o-hears, a-hears}
+use Rattle.link_run.proofs.Knowing.{Course, course, rank, OnSent, IfSent, AllSent, all-weaker, came-all, passed-brings, SentO, SentA}
+use Rattle.link_run.proofs.Knowing.{sent_o-later, sent_a-later, DueO, DueA, due_a-later, terms_of, Reads, o-hears, a-hears}
+use Rattle.lapm_frames.specs.declared.sent.Sent.TheVariants as slots
 
 -- what was sent in some turns and heard in some tells how far both ends are
 pub record Known (so sa : Setup) (sent heard : List Turn) (o a : Course) : Type 0 where

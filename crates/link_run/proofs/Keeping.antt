@@ -1,37 +1,22 @@
 -- What an end keeps of its books as it hears and speaks.
-use Rattle.std.proofs.Common.{◌≡◌, ◌≢◌, ◌⊎◌, inl, inr, ℕ, ◌+◌, ◌%◌, ◌≤◌, ◌&&◌, Bool, true, false, cond, nat_eq, List, [], ◌∷◌}
-use Rattle.std.proofs.Common.{◌++◌, length, arith, lit≤, refl, sym, ◌∙◌, ap, subst, Option, Some, None, Ok, Err}
-use Rattle.std.proofs.lemmas.Bool.{false≢true}
-use Rattle.std.proofs.lemmas.List.{append-nil}
-use Rattle.shared_terms.specs.declared.role.Role.{Role}
-use Rattle.shared_terms.specs.declared.role.Role.TheVariants.{Originator, Answerer}
-use Rattle.xid_params.specs.declared.offer.Offer.{Offer}
-use Rattle.xid_params.specs.declared.terms.Terms.{Terms}
-use Rattle.xid_params.specs.Terms.{agree, default_offer}
-use Rattle.xid_params.specs.Offers.{IsAllowed, ReadsAllowed}
-use Rattle.lapm_sender.specs.Outgoing.{Outgoing}
-use Rattle.lapm_sender.specs.Outgoing as outgoing
-use Rattle.lapm_receiver.specs.Incoming.{Incoming, after_take, after_kind, kind_of, offset, KeepsTaken}
-use Rattle.lapm_receiver.specs.Incoming as incoming
-use Rattle.lapm_receiver.specs.declared.took.Took.{Took}
-use Rattle.lapm_receiver.specs.declared.took.Took.TheVariants.{InOrder, Kept, Repeat, Gap}
-use Rattle.break_signals.specs.Breaks.{OwnBreaks, TheirBreaks, with_given, gives, waits, after_answer}
-use Rattle.lapm_frames.specs.declared.arrived.Arrived.{Arrived}
-use Rattle.link_account.specs.declared.setup.Setup.{Setup}
-use Rattle.link_account.specs.declared.phase.Phase.{Phase}
-use Rattle.link_account.specs.declared.phase.Phase.TheVariants.{Detecting, Negotiating, Establishing, Connected, Releasing, Closed}
-use Rattle.shared_terms.specs.declared.fault.LinkFault.{LinkFault}
-use Rattle.link_account.specs.declared.answer.Answer.TheVariants as answers
-use Rattle.link_account.specs.Account.{Account, size_for, window_for}
+use Rattle.std.proofs.Common.{◌≡◌, ◌≢◌, ◌⊎◌, inl, inr, ℕ, ◌+◌, ◌%◌, ◌≤◌, ◌&&◌, Bool, true, false, cond, nat_eq, List, [], ◌∷◌, ◌++◌, length}
+use Rattle.std.proofs.Common.{arith, lit≤, refl, sym, ◌∙◌, ap, subst, Option, Some, None, Ok, Err}
+use Rattle.link_account.proofs.Names.{false≢true, append-nil, Role, Originator, Answerer, Offer, Terms, agree, IsAllowed, ReadsAllowed}
+use Rattle.link_account.proofs.Names.{Outgoing, Incoming, after_take, after_kind, kind_of, offset, KeepsTaken, Took, InOrder, Kept, Repeat}
+use Rattle.link_account.proofs.Names.{Gap, OwnBreaks, waits, after_answer, Arrived, LinkFault, Account, hear, on_nothing, owing, trying}
+use Rattle.link_account.proofs.Names.{NotDetected, Spent, is_originator}
+use Rattle.link_run.proofs.Names.{Setup, Phase, Detecting, Negotiating, Establishing, Connected, Releasing, Closed}
+use Rattle.xid_params.specs.Terms.{default_offer}
+use Rattle.break_signals.specs.Breaks.{TheirBreaks, with_given, gives, after_break}
+use Rattle.link_account.specs.Account.{size_for, window_for}
 use Rattle.link_account.specs.Laws.{WantsAnswers}
-use Rattle.link_account.specs.Hear.{hear}
-use Rattle.link_account.specs.Hear.{on_nothing, connected}
-use Rattle.link_account.specs.Hear.{owing, trying}
-use Rattle.shared_terms.specs.declared.fault.LinkFault.TheVariants.{NotDetected, Spent, BadAck, PeerReset, PeerRefused}
-use Rattle.break_signals.specs.Breaks.{after_break}
+use Rattle.link_account.specs.Hear.{connected}
+use Rattle.shared_terms.specs.declared.fault.LinkFault.TheVariants.{BadAck, PeerReset, PeerRefused}
 use Rattle.link_account.proofs.HearWays.{NumberKeeps, numbered_with, acked-keeps, acked_back-keeps, resumed-keeps, paused-keeps, Ways}
 use Rattle.link_account.proofs.HearWays.{by-ways, IsRefusal, refused}
-use Rattle.shared_terms.specs.Role.{is_originator}
+use Rattle.lapm_sender.specs.Outgoing as outgoing
+use Rattle.lapm_receiver.specs.Incoming as incoming
+use Rattle.link_account.specs.declared.answer.Answer.TheVariants as answers
 
 -- what neither hearing nor speaking changes
 pub record Books : Type 0 where

@@ -1,39 +1,20 @@
 -- What is known of both ends by the frames that passed: who has heard an XID frame has agreed, and who has heard a UA or a SABME is
 -- Connected.
-use Rattle.std.proofs.Common.{inl, inr, ◌≡◌, ◌≢◌, ℕ, zero, suc, ◌-◌, ◌≤◌, ◌||◌, Bool, true, false, cond, nat_le, List, [], ◌∷◌, arith, refl, sym, ◌∙◌}
-use Rattle.std.proofs.Common.{ap, subst, Option, Some, None, Result, Ok, Err, slice_get}
-use Rattle.std.proofs.lemmas.Bool.{false≢true}
-use Rattle.shared_terms.specs.declared.role.Role.{Role}
-use Rattle.shared_terms.specs.declared.role.Role.TheVariants.{Originator, Answerer}
-use Rattle.shared_terms.specs.Both.{of}
-use Rattle.lapm_frames.specs.declared.frame.Frame.{Frame}
-use Rattle.lapm_frames.specs.declared.frame.Frame.TheVariants.{I, Rr, Rnr, Rej, Srej, Sabme, Disc, Ua, Xid}
-use Rattle.xid_params.specs.declared.terms.Terms.{Terms}
-use Rattle.xid_params.specs.Terms.{agree}
-use Rattle.xid_params.specs.Offers.{offer_in, written}
-use Rattle.lapm_frames.specs.declared.arrived.Arrived.{Arrived}
-use Rattle.lapm_frames.specs.declared.arrived.Arrived.TheVariants as arrivals
-use Rattle.lapm_frames.specs.declared.sent.Sent.{Sent}
-use Rattle.lapm_frames.specs.declared.sent.Sent.TheVariants as slots
-use Rattle.lapm_frames.specs.declared.heard.Heard.{Heard}
-use Rattle.lapm_frames.specs.declared.heard.Heard.TheVariants.{Nothing, Passed, Lost, Chance}
-use Rattle.link_account.specs.declared.setup.Setup.{Setup}
-use Rattle.link_account.specs.declared.phase.Phase.{Phase}
-use Rattle.link_account.specs.declared.phase.Phase.TheVariants.{Detecting, Negotiating, Establishing, Connected, Releasing, Closed}
-use Rattle.link_account.specs.declared.answer.Answer.{Answer}
-use Rattle.link_account.specs.declared.answer.Answer.TheVariants as answers
-use Rattle.shared_terms.specs.declared.fault.LinkFault.{LinkFault}
-use Rattle.shared_terms.specs.Role.{is_originator}
-use Rattle.xid_params.specs.declared.offer.Offer.{Offer}
-use Rattle.link_account.specs.Account.{Account, first_terms}
-use Rattle.link_account.specs.Hear.{hear, on_frame, on_detecting, on_negotiating, on_establishing, on_xid_command, on_xid_response}
-use Rattle.link_account.specs.Hear.{without_adp}
+use Rattle.std.proofs.Common.{inl, inr, ◌≡◌, ◌≢◌, ℕ, zero, suc, ◌-◌, ◌≤◌, ◌||◌, Bool, true, false, cond, nat_le, List, [], ◌∷◌, arith, refl}
+use Rattle.std.proofs.Common.{sym, ◌∙◌, ap, subst, Option, Some, None, Result, Ok, Err, slice_get}
+use Rattle.link_account.proofs.Names.{false≢true, Role, Originator, Answerer, of, Frame, I, Rr, Rnr, Rej, Srej, Sabme, Disc, Ua, Xid, Terms}
+use Rattle.link_account.proofs.Names.{agree, offer_in, written, Arrived, Sent, Heard, Nothing, Passed, Lost, Chance, LinkFault}
+use Rattle.link_account.proofs.Names.{is_originator, Offer, Account, hear, on_frame, without_adp, arrives}
+use Rattle.link_run.proofs.Names.{Setup, Phase, Detecting, Negotiating, Establishing, Connected, Releasing, Closed, Answer, Spoken, Turn}
+use Rattle.link_run.proofs.Names.{arrival, sent_in, sent_ago, Crosses}
+use Rattle.link_account.specs.Account.{first_terms}
+use Rattle.link_account.specs.Hear.{on_detecting, on_negotiating, on_establishing, on_xid_command, on_xid_response}
 use Rattle.link_account.proofs.HearWays.{ConnectedWays, EarlyWays, by-ways, numbers-alike}
-use Rattle.link_account.specs.Play.{arrives}
-use Rattle.link_run.specs.Run.{Spoken, Turn, arrival}
-use Rattle.link_run.specs.Carried.{sent_in, sent_ago, Crosses}
 use Rattle.link_run.specs.Overheard.{passes_in, is_xid, opens}
 use Rattle.link_run.proofs.Meeting.{brings}
+use Rattle.lapm_frames.specs.declared.arrived.Arrived.TheVariants as arrivals
+use Rattle.lapm_frames.specs.declared.sent.Sent.TheVariants as slots
+use Rattle.link_account.specs.declared.answer.Answer.TheVariants as answers
 
 -- how far an end has come
 pub record Course : Type 0 where

@@ -1,18 +1,11 @@
 -- What is heard determines a run.
 use Rattle.std.proofs.Common.{◌≡◌, ℕ, true, false, List, [], ◌∷◌, length, map, arith, refl, sym, ◌∙◌, ap, subst, Some, Result, Ok, Err}
+use Rattle.link_account.proofs.Names.{false≢true, Role, Originator, Answerer, Both, of, Heard, LinkFault, hear, Said}
+use Rattle.link_run.proofs.Names.{is_closed, Link, Accounts, Turn, spoken, arrival, Hears, GoingTurn, said_at, Outcome, Going, Done, Broken}
+use Rattle.link_run.proofs.Names.{TurnIs}
 use Rattle.std.specs.Prelude.{is_ok}
-use Rattle.std.proofs.lemmas.Bool.{false≢true}
-use Rattle.shared_terms.specs.declared.role.Role.{Role}
-use Rattle.shared_terms.specs.declared.role.Role.TheVariants.{Originator, Answerer}
-use Rattle.shared_terms.specs.Both.{Both, of}
-use Rattle.lapm_frames.specs.declared.heard.Heard.{Heard}
-use Rattle.shared_terms.specs.declared.fault.LinkFault.{LinkFault}
 use Rattle.link_account.specs.Account.{given_break}
-use Rattle.link_account.specs.Hear.{hear}
-use Rattle.link_account.specs.Speak.{Said}
-use Rattle.link_run.specs.End.{is_closed}
-use Rattle.link_run.specs.Run.{Link, Accounts, Side, Turn, spoken, arrival, Hears, IsSilent, IsBroken, GoingTurn, said_at}
-use Rattle.link_run.specs.Outcomes.{Outcome, Going, Done, Broken, TurnIs}
+use Rattle.link_run.specs.Run.{Side, IsSilent, IsBroken}
 use Rattle.link_run.specs.Laws.{heard_in, OneRun, OneOutcome}
 
 abbrev ok-or : {A E : Type 0} → A → Result A E → A

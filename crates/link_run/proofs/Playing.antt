@@ -1,33 +1,21 @@
 -- Each run is a play: the events of each turn, one after another.
 use Rattle.std.proofs.Common.{◌≡◌, ℕ, zero, suc, ◌+◌, ◌-◌, ◌*◌, ◌<◌, ◌≤◌, ◌&&◌, Bool, true, false, cond, nat_lt, nat_le, List, [], ◌∷◌}
 use Rattle.std.proofs.Common.{◌++◌, length, map, take, drop, arith, refl, sym, ◌∙◌, ap, subst, Option, Some, None, Ok, slice_get}
-use Rattle.std.specs.Prelude.{is_some}
-use Rattle.std.proofs.lemmas.Bool.{false≢true}
-use Rattle.std.proofs.lemmas.Bool.Decides.{nat_tests}
-use Rattle.std.proofs.lemmas.List.{append_assoc}
-use Rattle.frame_check.specs.declared.check.Check.{Check}
+use Rattle.link_account.proofs.Names.{is_some, false≢true, nat_tests, append_assoc, Check, Role, Originator, Answerer, next_expected, Sent}
+use Rattle.link_account.proofs.Names.{Account, is_connected, wants, piece_size, after_offer, after_break_asked, after_given, after_busy}
+use Rattle.link_account.proofs.Names.{hear, Said, speak, Slot, Play, arrives, Heard, Nothing, Passed, Lost, Chance, of}
+use Rattle.link_run.proofs.Names.{User, BreakLine, delivered, piece_at, offered_at, offered_times, room_for, offered, is_busy, next_break}
+use Rattle.link_run.proofs.Names.{served, Turn, arrival, sent_in, sent_ago, Crosses}
 use Rattle.frame_check.specs.declared.check.Check.TheVariants.{Sixteen}
-use Rattle.shared_terms.specs.declared.role.Role.{Role}
-use Rattle.shared_terms.specs.declared.role.Role.TheVariants.{Originator, Answerer}
-use Rattle.lapm_receiver.specs.Incoming.{next_expected}
-use Rattle.lapm_frames.specs.declared.arrived.Arrived.TheVariants as arrivals
-use Rattle.lapm_frames.specs.declared.sent.Sent.{Sent}
-use Rattle.link_account.specs.Account.{Account, is_connected, wants, piece_size, after_offer, after_delivery, after_break_asked}
-use Rattle.link_account.specs.Account.{after_given, after_busy}
-use Rattle.link_account.specs.Hear.{hear}
-use Rattle.link_account.specs.Speak.{Said, speak}
-use Rattle.link_account.specs.Play.{Slot, Play, Event, Speaks, Passes, Is_lost, Hears_nothing, Is_offered, Is_asked, Delivers, Gives_break}
-use Rattle.link_account.specs.Play.{Is_busy, arrives, heard, spoken, happens, play}
-use Rattle.lapm_frames.specs.declared.heard.Heard.{Heard}
-use Rattle.lapm_frames.specs.declared.heard.Heard.TheVariants.{Nothing, Passed, Lost, Chance}
-use Rattle.link_run.specs.End.{User, BreakLine, delivered, piece_at, offered_at, offered_times, room_for, offered, is_busy, next_break}
-use Rattle.link_run.specs.End.{asked_at, asked, served}
-use Rattle.link_run.specs.Run.{Turn, arrival}
-use Rattle.link_run.specs.Run as run
-use Rattle.link_run.specs.Carried.{sent_in, sent_ago, Crosses, on_line}
+use Rattle.link_account.specs.Account.{after_delivery}
+use Rattle.link_account.specs.Play.{Event, Speaks, Passes, Is_lost, Hears_nothing, Is_offered, Is_asked, Delivers, Gives_break, Is_busy}
+use Rattle.link_account.specs.Play.{heard, spoken, happens, play}
+use Rattle.link_run.specs.End.{asked_at, asked}
+use Rattle.link_run.specs.Carried.{on_line}
 use Rattle.link_run.proofs.Serving.{Waiting}
 use Rattle.link_run.specs.Laws.{told_by_play, told_by_turn}
-use Rattle.shared_terms.specs.Both.{of}
+use Rattle.lapm_frames.specs.declared.arrived.Arrived.TheVariants as arrivals
+use Rattle.link_run.specs.Run as run
 
 -- a play where neither end is broken; the first account and line are those of the role
 abbrev pub at : Role → Account → List Slot → Account → List Slot → Play

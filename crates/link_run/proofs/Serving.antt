@@ -1,13 +1,10 @@
 -- What an end has handed to its user, between turns and once it has heard.
 use Rattle.std.proofs.Common.{◌≡◌, ◌≢◌, inl, inr, ℕ, zero, suc, ◌+◌, ◌≤◌, Bool, true, false, cond, nat_le, List, length, arith}
 use Rattle.std.proofs.Common.{length-append, refl, sym, ◌∙◌, ap, subst, Option, Some, None}
-use Rattle.std.proofs.lemmas.Bool.{false≢true}
-use Rattle.break_signals.specs.Breaks.{after_ask}
-use Rattle.link_account.specs.declared.phase.Phase.{Phase}
-use Rattle.link_account.specs.declared.phase.Phase.TheVariants.{Detecting, Negotiating, Establishing, Connected, Releasing, Closed}
-use Rattle.link_account.specs.Account.{Account, is_connected, wants, after_given, after_busy}
-use Rattle.link_run.specs.End.{User, BreakLine, delivered, offered_at, offered_times, room_for, offered, is_busy, next_break, asked_at}
-use Rattle.link_run.specs.End.{asked, served}
+use Rattle.link_account.proofs.Names.{false≢true, after_ask, Account, is_connected, wants, after_given, after_busy}
+use Rattle.link_run.proofs.Names.{Phase, Detecting, Negotiating, Establishing, Connected, Releasing, Closed, User, BreakLine, delivered}
+use Rattle.link_run.proofs.Names.{offered_at, offered_times, room_for, offered, is_busy, next_break, served}
+use Rattle.link_run.specs.End.{asked_at, asked}
 use Rattle.link_run.proofs.Keeping.{Books, stage, GoesOn}
 use Rattle.link_run.proofs.Speaking.{Ledger, Speaks, Keeps_on, Releases}
 

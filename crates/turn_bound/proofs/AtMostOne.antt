@@ -1,33 +1,23 @@
-use Rattle.std.proofs.Common.{◌⊎◌, inl, inr, ◌≡◌, ℕ, ◌+◌, ◌*◌, ◌&&◌, Bool, true, false, List, [], ◌∷◌, length}
-use Rattle.std.proofs.Common.{arith, refl, sym, ◌∙◌, ap, subst, Some, None, Ok}
-use Rattle.shared_terms.specs.declared.role.Role.{Role}
-use Rattle.shared_terms.specs.declared.role.Role.TheVariants.{Originator, Answerer}
-use Rattle.lapm_frames.specs.declared.frame.Frame.{Frame}
-use Rattle.shared_terms.specs.Role.{is_originator}
-use Rattle.lapm_frames.specs.declared.arrived.Arrived.{Arrived}
-use Rattle.link_account.specs.declared.phase.Phase.{Phase}
-use Rattle.link_account.specs.declared.phase.Phase.TheVariants.{Detecting, Negotiating, Establishing, Connected, Releasing, Closed}
-use Rattle.link_account.specs.Account.{Account, is_connected}
-use Rattle.link_account.specs.declared.answer.Answer.{Answer}
-use Rattle.link_account.specs.Hear.{hear}
-use Rattle.link_account.specs.Hear.{without_adp, trying}
-use Rattle.link_account.specs.Speak.{Said}
-use Rattle.link_account.specs.Speak.{speak}
+use Rattle.std.proofs.Common.{◌⊎◌, inl, inr, ◌≡◌, ℕ, ◌+◌, ◌*◌, ◌&&◌, Bool, true, false, List, [], ◌∷◌, length, arith, refl, sym, ◌∙◌, ap}
+use Rattle.std.proofs.Common.{subst, Some, None, Ok}
+use Rattle.link_account.proofs.Names.{Role, Originator, Answerer, Frame, is_originator, Arrived, Account, is_connected, hear, without_adp}
+use Rattle.link_account.proofs.Names.{trying, Said, speak}
+use Rattle.link_run.proofs.Names.{Phase, Detecting, Negotiating, Establishing, Connected, Releasing, Closed, Answer, User, is_busy}
+use Rattle.link_run.proofs.Names.{is_closed, is_released}
 use Rattle.turn_bound.proofs.Clock.{Rates, AreRates}
 use Rattle.turn_bound.proofs.Value.{IsOf, Stands, arrived_rnrs}
-use Rattle.link_run.specs.End.{User, is_busy, is_closed, is_released}
 use Rattle.turn_bound.proofs.OneTurn.{heard-ok}
 use Rattle.turn_bound.proofs.Phases.{hears-well}
 use Rattle.turn_bound.proofs.Serves.{serves-well}
 use Rattle.turn_bound.proofs.Run.{served_account, Link, State, Turn, RunOf, arrival}
 use Rattle.turn_bound.specs.Due.{NoneDue}
 use Rattle.turn_bound.proofs.Serving.{Served, serves-all}
-use Rattle.link_account.proofs.HearWays as HearWays
 use Rattle.link_account.proofs.HearWays.{numbers-alike}
-use Rattle.link_account.proofs.SpeakWays as SpeakWays
 use Rattle.link_account.proofs.SpeakWays.{Steps, Tries, answers-unconnected, linked-alike, tries-alike, retimed}
 use Rattle.turn_bound.proofs.Falls.{Fits, after-is}
 use Rattle.turn_bound.proofs.Ending.{sound-run}
+use Rattle.link_account.proofs.HearWays as HearWays
+use Rattle.link_account.proofs.SpeakWays as SpeakWays
 
 -- what hearing makes due: an answer, or an F reply
 pub record OneDue (role : Role) (b : Account) : Type 0 where

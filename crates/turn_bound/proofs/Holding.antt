@@ -1,19 +1,10 @@
 -- A Connected end with a segment to send and nothing outstanding sends it, or something else goes first that it pays for.
 use Rattle.std.proofs.Common.{◌≡◌, ℕ, ◌+◌, ◌-◌, ◌%◌, ◌<◌, ◌≤◌, ◌&&◌, ◌||◌, ◌⊎◌, min, Bool, true, false, cond, nat_eq, nat_lt, List, [], ◌∷◌}
 use Rattle.std.proofs.Common.{◌++◌, length, slice_index_or, inl, inr, arith, refl, sym, ◌∙◌, ap, Option, Some, None, Ok}
-use Rattle.std.specs.Prelude.{is_some}
-use Rattle.std.specs.List.{AllByRecursion}
-use Rattle.std.proofs.lemmas.Bool.Decides.{nat_tests}
-use Rattle.shared_terms.specs.Role.{is_originator}
-use Rattle.lapm_sender.specs.Outgoing.{Outgoing, is_outstanding, next_number, next_among, expired}
-use Rattle.lapm_receiver.specs.Incoming.{Incoming}
-use Rattle.break_signals.specs.declared.word.BreakWord.{BreakWord}
-use Rattle.break_signals.specs.declared.word.BreakWord.TheVariants.{Brk}
-use Rattle.break_signals.specs.Breaks.{OwnBreaks, waits, ticked}
-use Rattle.link_account.specs.Account.{Account}
-use Rattle.link_account.specs.Speak.{Said, polling, timer_expires, on_timer, breaking, may_send}
-use Rattle.link_account.specs.Speak.{steps, differs}
-use Rattle.link_account.specs.Speak.{then_tries}
+use Rattle.link_account.proofs.Names.{is_some, AllByRecursion, nat_tests, is_originator, Outgoing, is_outstanding, next_number, Incoming}
+use Rattle.link_account.proofs.Names.{BreakWord, Brk, OwnBreaks, waits, ticked, Account, Said, may_send, steps}
+use Rattle.lapm_sender.specs.Outgoing.{next_among, expired}
+use Rattle.link_account.specs.Speak.{polling, timer_expires, on_timer, breaking, differs, then_tries}
 use Rattle.turn_bound.proofs.Clock.{Rates, AreRates, is_waiting, IsChosen, Sends}
 use Rattle.turn_bound.proofs.Value.{IsOf}
 use Rattle.turn_bound.proofs.Sending.{sent-well}

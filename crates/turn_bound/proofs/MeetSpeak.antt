@@ -1,18 +1,11 @@
-use Rattle.std.proofs.Common.{◌≡◌, ℕ, ◌&&◌, not, Bool, true, false, refl, sym, ◌∙◌, ap}
-use Rattle.std.proofs.Common.{Some, None, Ok}
-use Rattle.lapm_frames.specs.declared.frame.Frame.{Frame}
-use Rattle.lapm_frames.specs.declared.frame.Frame.TheVariants.{Disc}
-use Rattle.lapm_frames.specs.declared.sent.Sent.{Sent}
-use Rattle.lapm_frames.specs.declared.sent.Sent.TheVariants as slots
-use Rattle.link_account.specs.declared.phase.Phase.TheVariants.{Connected, Releasing}
-use Rattle.link_account.specs.Account.{Account, Wait}
-use Rattle.link_account.specs.declared.answer.Answer.{Answer}
-use Rattle.link_account.specs.declared.answer.Answer.TheVariants as answers
-use Rattle.link_account.specs.Hear.{trying}
-use Rattle.link_account.specs.Speak.{Said, says, frame_for, ready_frame, nr_of, speak}
+use Rattle.std.proofs.Common.{◌≡◌, ℕ, ◌&&◌, not, Bool, true, false, refl, sym, ◌∙◌, ap, Some, None, Ok}
+use Rattle.link_account.proofs.Names.{Frame, Disc, Sent, Account, trying, Said, says, frame_for, ready_frame, nr_of, speak}
+use Rattle.link_run.proofs.Names.{Connected, Releasing, Answer, is_closed, is_released}
+use Rattle.link_account.specs.Account.{Wait}
 use Rattle.link_account.proofs.SpeakWays.{Steps, Tries, Ways, by-ways, steps-so, tries-alike, next-keeps, polling_at}
-use Rattle.link_run.specs.End.{is_closed, is_released}
 use Rattle.turn_bound.proofs.MeetHear.{is_begun, is_ua_due, frame_ua, frame_disc, frame_final, of_frame}
+use Rattle.lapm_frames.specs.declared.sent.Sent.TheVariants as slots
+use Rattle.link_account.specs.declared.answer.Answer.TheVariants as answers
 
 -- What an end says, of either role.
 pub record SaysSo (a : Account) (said : Said) : Type 0 where

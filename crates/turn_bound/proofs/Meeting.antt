@@ -1,26 +1,18 @@
 use Rattle.std.proofs.Common.{◌≡◌, ℕ, ◌||◌, Bool, true, false, cond, nat_lt, List, [], ◌∷◌, ◌++◌, length, refl, sym, ◌∙◌, ap, subst}
-use Rattle.std.specs.List.{AllByRecursion}
-use Rattle.shared_terms.specs.declared.role.Role.TheVariants.{Answerer}
-use Rattle.lapm_frames.specs.declared.frame.Frame.{Frame}
-use Rattle.lapm_frames.specs.declared.sent.Sent.{Sent}
-use Rattle.lapm_frames.specs.declared.sent.Sent.TheVariants as slots
-use Rattle.lapm_frames.specs.declared.arrived.Arrived.TheVariants as arrivals
-use Rattle.link_account.specs.declared.phase.Phase.{Phase}
-use Rattle.link_account.specs.declared.phase.Phase.TheVariants.{Detecting, Negotiating, Establishing, Connected, Releasing, Closed}
-use Rattle.link_account.specs.Account.{Account}
-use Rattle.link_account.specs.Play.{Slot, arrives}
+use Rattle.link_account.proofs.Names.{AllByRecursion, Answerer, Frame, Sent, Account, Slot, arrives}
+use Rattle.link_run.proofs.Names.{Phase, Detecting, Negotiating, Establishing, Connected, Releasing, Closed, is_closed, is_released}
 use Rattle.turn_bound.proofs.Clock.{Rates}
 use Rattle.turn_bound.proofs.Value.{Stands}
-use Rattle.link_run.specs.End.{is_closed, is_released}
 use Rattle.turn_bound.proofs.Run.{served_account, Link, State, Turn, GoingTurn, RunOf, start, arrival, left_on, slot_of}
 use Rattle.turn_bound.proofs.Potential.{AreTogether}
 use Rattle.turn_bound.proofs.Arithmetic.{all_weaker}
 use Rattle.turn_bound.proofs.Serving.{serves-all}
 use Rattle.turn_bound.proofs.Falls.{Sound, Fits, state_after, after-is}
 use Rattle.turn_bound.proofs.Ending.{sound-run}
-use Rattle.turn_bound.proofs.MeetHear.{is_begun, is_ua_due, frame_ua, frame_disc, frame_final, of_frame, of_arrived}
-use Rattle.turn_bound.proofs.MeetHear.{o-hears, a-hears}
+use Rattle.turn_bound.proofs.MeetHear.{is_begun, is_ua_due, frame_ua, frame_disc, frame_final, of_frame, of_arrived, o-hears, a-hears}
 use Rattle.turn_bound.proofs.MeetSpeak.{speaks-so}
+use Rattle.lapm_frames.specs.declared.sent.Sent.TheVariants as slots
+use Rattle.lapm_frames.specs.declared.arrived.Arrived.TheVariants as arrivals
 
 -- each slot of that kind on a line says so
 abbrev pub Tells : (Frame → Bool) → Type 0 → List Slot → Type 0

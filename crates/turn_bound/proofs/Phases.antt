@@ -1,28 +1,14 @@
 use Rattle.std.proofs.Common.{◌≡◌, ℕ, ◌+◌, ◌-◌, ◌*◌, ◌<◌, ◌≤◌, ◌||◌, Bool, true, false, cond, nat_lt, List, length, arith, refl, sym, ◌∙◌}
-use Rattle.std.proofs.Common.{ap, subst, Option, Some, None, Result, Ok, Err}
-use Rattle.std.specs.Prelude.{is_some}
-use Rattle.std.proofs.lemmas.Bool.Decides.{nat_tests}
-use Rattle.shared_terms.specs.declared.role.Role.{Role}
-use Rattle.shared_terms.specs.declared.role.Role.TheVariants.{Originator, Answerer}
-use Rattle.lapm_frames.specs.declared.frame.Frame.TheVariants.{Sabme, Disc, Ui, Ua, Xid}
-use Rattle.shared_terms.specs.Role.{is_originator, other}
-use Rattle.xid_params.specs.declared.offer.Offer.{Offer}
-use Rattle.xid_params.specs.Terms.{agree, default_offer}
-use Rattle.xid_params.specs.Offers.{offer_in}
-use Rattle.lapm_sender.specs.Outgoing as outgoing
-use Rattle.lapm_receiver.specs.Incoming as incoming
-use Rattle.break_signals.specs.Breaks.{OwnBreaks, no_breaks, waits}
+use Rattle.std.proofs.Common.{ap, subst, Option, Some, None, Result, Ok, Err, inl, inr}
+use Rattle.link_account.proofs.Names.{is_some, nat_tests, Role, Originator, Answerer, Sabme, Disc, Ui, Ua, Xid, is_originator, other, Offer}
+use Rattle.link_account.proofs.Names.{agree, offer_in, OwnBreaks, waits, Arrived, LinkFault, Account, hear, on_nothing, trying, owing}
+use Rattle.link_run.proofs.Names.{Phase, Detecting, Negotiating, Establishing, Connected, Releasing, Closed}
+use Rattle.xid_params.specs.Terms.{default_offer}
+use Rattle.break_signals.specs.Breaks.{no_breaks}
 use Rattle.lapm_frames.specs.declared.seen.Seen.{Seen}
 use Rattle.lapm_frames.specs.declared.seen.Seen.TheVariants.{Odp, Adp}
-use Rattle.lapm_frames.specs.declared.arrived.Arrived.{Arrived}
-use Rattle.lapm_frames.specs.declared.arrived.Arrived.TheVariants as arrivals
-use Rattle.link_account.specs.declared.phase.Phase.{Phase}
-use Rattle.link_account.specs.declared.phase.Phase.TheVariants.{Detecting, Negotiating, Establishing, Connected, Releasing, Closed}
-use Rattle.shared_terms.specs.declared.fault.LinkFault.{LinkFault}
-use Rattle.link_account.specs.Account.{Account, window_for, size_for}
-use Rattle.link_account.specs.declared.answer.Answer.TheVariants as answers
-use Rattle.link_account.specs.Hear.{hear, on_nothing, on_pattern}
-use Rattle.link_account.specs.Hear.{connected, trying, owing, on_xid_command, on_xid_response, first_wait}
+use Rattle.link_account.specs.Account.{window_for, size_for}
+use Rattle.link_account.specs.Hear.{on_pattern, connected, on_xid_command, on_xid_response, first_wait}
 use Rattle.turn_bound.proofs.Clock.{Rates, AreRates, Ticks, left, is_waiting, ends, worth, Breaks, is_breaking, break_left}
 use Rattle.turn_bound.proofs.Value.{time_left, linked_left, value, linked_lives, lives, IsOf, Unlinked, IsAck, Linked, Tries, Stands}
 use Rattle.turn_bound.proofs.Value.{frame_rnrs, arrived_rnrs}
@@ -30,9 +16,12 @@ use Rattle.turn_bound.proofs.Arithmetic.{tries_fit, left-some, ticks-now}
 use Rattle.turn_bound.proofs.Sender.{ends-is}
 use Rattle.turn_bound.proofs.Offers.{read-windows, agreed-windows}
 use Rattle.turn_bound.proofs.Breaking.{or-false, ends-same}
-use Rattle.std.proofs.Common.{inl, inr}
 use Rattle.link_account.proofs.HearWays.{ConnectedWays, EarlyWays, Ways, by-ways}
 use Rattle.turn_bound.proofs.Hearing.{HeardAs, HearsWell, more-as, quiet-well, number-well, answer-well}
+use Rattle.lapm_sender.specs.Outgoing as outgoing
+use Rattle.lapm_receiver.specs.Incoming as incoming
+use Rattle.lapm_frames.specs.declared.arrived.Arrived.TheVariants as arrivals
+use Rattle.link_account.specs.declared.answer.Answer.TheVariants as answers
 
 -- what lives counts
 pub linked-some : (z : Rates) (before turn : ℕ) (role : Role) (a : Account) → AreRates z → Linked z before turn role a

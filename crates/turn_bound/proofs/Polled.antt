@@ -1,20 +1,10 @@
 -- How many polls an end sends: in a turn, and in the last turns of a run where no user is busy.
 use Rattle.std.proofs.Common.{◌≡◌, ℕ, ◌+◌, ◌*◌, ◌≤◌, ◌&&◌, ◌⊎◌, Bool, true, false, cond, nat_eq, length, inl, inr, arith, refl, sym, ◌∙◌}
 use Rattle.std.proofs.Common.{ap, subst, Result, Ok, Err}
-use Rattle.shared_terms.specs.declared.role.Role.{Role}
-use Rattle.shared_terms.specs.Role.{is_originator}
-use Rattle.lapm_frames.specs.declared.frame.Frame.{Frame}
-use Rattle.lapm_frames.specs.declared.frame.Frame.TheVariants.{Disc}
-use Rattle.lapm_frames.specs.declared.sent.Sent.TheVariants as slots
-use Rattle.lapm_frames.specs.declared.arrived.Arrived.{Arrived}
-use Rattle.link_account.specs.declared.phase.Phase.{Phase}
-use Rattle.link_account.specs.declared.phase.Phase.TheVariants.{Detecting, Negotiating, Establishing, Connected, Releasing, Closed}
-use Rattle.shared_terms.specs.declared.fault.LinkFault.{LinkFault}
-use Rattle.link_account.specs.Account.{Account, is_connected}
-use Rattle.link_account.specs.Hear.{hear, trying}
-use Rattle.link_account.specs.Speak.{Said, says, says_frame, else_says, where_says, spent, trying_again, tries_frame, u_try, speak_linked}
-use Rattle.link_account.specs.Speak.{speak, speak_in, speak_releasing}
-use Rattle.link_run.specs.End.{User, is_busy, is_released}
+use Rattle.link_account.proofs.Names.{Role, is_originator, Frame, Disc, Arrived, LinkFault, Account, is_connected, hear, trying, Said, says}
+use Rattle.link_account.proofs.Names.{spent, speak_linked, speak, speak_in, speak_releasing}
+use Rattle.link_run.proofs.Names.{Phase, Detecting, Negotiating, Establishing, Connected, Releasing, Closed, User, is_busy, is_released}
+use Rattle.link_account.specs.Speak.{says_frame, else_says, where_says, trying_again, tries_frame, u_try}
 use Rattle.turn_bound.proofs.Clock.{Rates, AreRates}
 use Rattle.turn_bound.proofs.Value.{IsOf, Linked, Stands, arrived_weight, arrived_rnrs}
 use Rattle.turn_bound.proofs.Run.{served_account}
@@ -30,6 +20,7 @@ use Rattle.turn_bound.proofs.Credits.{frame_poll, poll_value, poll-most, timer_v
 use Rattle.turn_bound.proofs.Taking.{Takes, Closes, takes}
 use Rattle.turn_bound.proofs.Polling.{nineteen_if, polls, heard-polls, linked-rated}
 use Rattle.turn_bound.proofs.Pausing.{Goes, goes-on, says-unpolled, releases-unpolled}
+use Rattle.lapm_frames.specs.declared.sent.Sent.TheVariants as slots
 
 late-none : (turn : ℕ) (p : Phase) (a : Account) → is_released p ≡ true → poll_value turn p a ≡ 0
 late-none turn Detecting a e = cc

@@ -1,24 +1,18 @@
-use Rattle.std.proofs.Common.{take, drop, ◌++◌, length-take, length-drop, ◌≡◌, ℕ, ◌-◌, ◌&&◌, not, Bool, true, false, cond, refl, sym}
-use Rattle.std.proofs.Common.{ap, subst, Option, Some, None, Ok, ◌+◌, ◌*◌, nat_le, List, [], ◌∷◌, ◌⊎◌, inl, inr}
-use Rattle.std.proofs.Common.{length, arith, ◌<◌, ◌≤◌, zero, suc, nat_lt, length-append}
-use Rattle.lapm_sender.specs.Outgoing.{Outgoing}
-use Rattle.lapm_frames.specs.declared.arrived.Arrived.{Arrived}
-use Rattle.link_account.specs.declared.phase.Phase.TheVariants.{Releasing}
-use Rattle.link_account.specs.Account.{Account, is_connected, wants, after_offer, after_given, after_busy, after_break_asked}
-use Rattle.link_account.specs.Hear.{hear}
-use Rattle.link_account.specs.Hear.{trying}
-use Rattle.break_signals.specs.Breaks.{after_ask}
-use Rattle.link_account.specs.Speak.{Said}
-use Rattle.link_account.specs.Speak.{speak}
+use Rattle.std.proofs.Common.{take, drop, ◌++◌, length-take, length-drop, ◌≡◌, ℕ, ◌-◌, ◌&&◌, not, Bool, true, false, cond, refl, sym, ap}
+use Rattle.std.proofs.Common.{subst, Option, Some, None, Ok, ◌+◌, ◌*◌, nat_le, List, [], ◌∷◌, ◌⊎◌, inl, inr, length, arith, ◌<◌, ◌≤◌, zero}
+use Rattle.std.proofs.Common.{suc, nat_lt, length-append}
+use Rattle.link_account.proofs.Names.{Outgoing, Arrived, Account, is_connected, wants, after_offer, after_given, after_busy}
+use Rattle.link_account.proofs.Names.{after_break_asked, hear, trying, after_ask, Said, speak}
+use Rattle.link_run.proofs.Names.{Releasing, User, BreakLine, delivered, offered_at, offered_times, room_for, offered, is_busy, next_break}
+use Rattle.link_run.proofs.Names.{is_released}
 use Rattle.turn_bound.proofs.Run.{served_account, Link, State, Turn, RunOf, start, arrival}
-use Rattle.link_run.specs.End.{User, BreakLine, delivered, offered_at, offered_times, room_for, offered, is_busy, next_break, asked_at}
-use Rattle.link_run.specs.End.{asked, is_released}
+use Rattle.link_run.specs.End.{asked_at, asked}
 use Rattle.turn_bound.specs.Offered.{IsWithin}
-use Rattle.link_account.proofs.HearWays as HearWays
 use Rattle.link_account.proofs.HearWays.{numbers-alike}
-use Rattle.link_account.proofs.SpeakWays as SpeakWays
 use Rattle.link_account.proofs.SpeakWays.{linked-alike, tries-alike, next-keeps, retimed}
 use Rattle.turn_bound.proofs.Falls.{after-is}
+use Rattle.link_account.proofs.HearWays as HearWays
+use Rattle.link_account.proofs.SpeakWays as SpeakWays
 
 -- the segments and their length, as hearing leaves them
 abbrev pub SameCut : Account → Account → Type 0

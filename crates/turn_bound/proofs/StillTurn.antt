@@ -1,25 +1,17 @@
 use Rattle.std.proofs.Common.{◌≡◌, ℕ, ◌+◌, ◌*◌, ◌<◌, ◌≤◌, ◌&&◌, ◌||◌, not, Bool, true, false, cond, nat_eq, nat_lt, nat_le, [], ◌∷◌, ◌++◌}
 use Rattle.std.proofs.Common.{length, length-append, arith, refl, sym, ◌∙◌, ap, subst, Option, Some, None, Result, Ok, Err}
-use Rattle.std.specs.Prelude.{is_some}
-use Rattle.std.proofs.lemmas.Bool.Decides.{nat_tests}
-use Rattle.shared_terms.specs.declared.role.Role.{Role}
-use Rattle.shared_terms.specs.declared.role.Role.TheVariants.{Originator, Answerer}
-use Rattle.lapm_sender.specs.Outgoing.{expired, Outgoing, is_outstanding, wanted, is_whole}
-use Rattle.break_signals.specs.Breaks.{OwnBreaks, after_ask, waits}
-use Rattle.lapm_frames.specs.declared.arrived.Arrived.{Arrived}
-use Rattle.link_account.specs.declared.phase.Phase.{Phase}
-use Rattle.link_account.specs.declared.phase.Phase.TheVariants.{Detecting, Negotiating, Establishing, Connected, Releasing, Closed}
-use Rattle.shared_terms.specs.declared.fault.LinkFault.{LinkFault}
-use Rattle.link_account.specs.Account.{Account, is_connected, is_done, break_waits, after_break_asked}
-use Rattle.shared_terms.specs.Role.{is_originator}
-use Rattle.link_account.specs.Hear.{hear, trying}
-use Rattle.lapm_frames.specs.declared.frame.Frame.TheVariants.{Disc}
-use Rattle.link_account.specs.Speak.{Said, speak, speak_linked, steps, then_tries, on_timer, after_timers, speak_in, speak_releasing}
-use Rattle.link_account.specs.Speak.{timer_expires, polling, breaking, u_try}
+use Rattle.link_account.proofs.Names.{is_some, nat_tests, Role, Originator, Answerer, Outgoing, is_outstanding, wanted, OwnBreaks}
+use Rattle.link_account.proofs.Names.{after_ask, waits, Arrived, LinkFault, Account, is_connected, after_break_asked, is_originator, hear}
+use Rattle.link_account.proofs.Names.{trying, Disc, Said, speak, speak_linked, steps, speak_in, speak_releasing}
+use Rattle.link_run.proofs.Names.{Phase, Detecting, Negotiating, Establishing, Connected, Releasing, Closed, User, BreakLine, is_busy}
+use Rattle.link_run.proofs.Names.{has_finished, next_break}
+use Rattle.lapm_sender.specs.Outgoing.{expired, is_whole}
+use Rattle.link_account.specs.Account.{is_done, break_waits}
+use Rattle.link_account.specs.Speak.{then_tries, on_timer, after_timers, timer_expires, polling, breaking, u_try}
 use Rattle.turn_bound.proofs.Clock.{Rates, AreRates, is_waiting, Sends, is_free, one_if, Breaks, is_breaking}
 use Rattle.turn_bound.proofs.Value.{two_if, four_if, linked_lives, IsOf, Linked, Stands, dues, weight, arrived_weight, arrived_rnrs}
 use Rattle.turn_bound.proofs.Run.{served_account}
-use Rattle.link_run.specs.End.{User, BreakLine, asked_at, is_busy, has_finished, is_ready, next_break}
+use Rattle.link_run.specs.End.{asked_at, is_ready}
 use Rattle.turn_bound.proofs.Phases.{hears-well}
 use Rattle.turn_bound.proofs.Serving.{Served, serves-all, serves-first, serves-own, before_asking}
 use Rattle.turn_bound.proofs.Serves.{serves-well}

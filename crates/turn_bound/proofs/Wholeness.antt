@@ -1,21 +1,13 @@
 -- An end that is whole stays so, and the link is released once both ends are.
 use Rattle.std.proofs.Common.{◌≡◌, ℕ, ◌+◌, ◌*◌, ◌≤◌, ◌&&◌, ◌⊎◌, nat_eq, Bool, true, false, cond, List, [], ◌∷◌, map, length, inl, inr}
 use Rattle.std.proofs.Common.{arith, refl, sym, ◌∙◌, ap, subst, Ok}
-use Rattle.std.proofs.lemmas.Bool.Decides.{nat_tests}
-use Rattle.shared_terms.specs.declared.role.Role.{Role}
-use Rattle.shared_terms.specs.declared.role.Role.TheVariants.{Originator, Answerer}
-use Rattle.shared_terms.specs.Role.{is_originator}
-use Rattle.shared_terms.specs.Both.{of}
-use Rattle.lapm_sender.specs.Outgoing.{Outgoing, is_whole}
-use Rattle.lapm_frames.specs.declared.arrived.Arrived.{Arrived}
-use Rattle.link_account.specs.declared.phase.Phase.{Phase}
-use Rattle.link_account.specs.declared.phase.Phase.TheVariants.{Detecting, Negotiating, Establishing, Connected, Releasing, Closed}
-use Rattle.link_account.specs.Account.{Account, is_connected, is_done}
-use Rattle.link_account.specs.Hear.{hear, trying}
-use Rattle.link_account.specs.Speak.{Said, speak, speak_in, speak_linked, speak_releasing}
-use Rattle.link_run.specs.End.{User, is_busy, is_released, has_finished}
-use Rattle.link_run.specs.Run.{Link, Accounts, Turn, GoingTurn, RunOf, arrival, releases, finished_at, served_ends}
-use Rattle.link_run.specs.Carried.{IsCarried}
+use Rattle.link_account.proofs.Names.{nat_tests, Role, Originator, Answerer, is_originator, of, Outgoing, Arrived, Account, is_connected}
+use Rattle.link_account.proofs.Names.{hear, trying, Said, speak, speak_in, speak_linked, speak_releasing}
+use Rattle.link_run.proofs.Names.{Phase, Detecting, Negotiating, Establishing, Connected, Releasing, Closed, User, is_busy, is_released}
+use Rattle.link_run.proofs.Names.{has_finished, Link, Accounts, Turn, GoingTurn, RunOf, arrival, releases, IsCarried}
+use Rattle.lapm_sender.specs.Outgoing.{is_whole}
+use Rattle.link_account.specs.Account.{is_done}
+use Rattle.link_run.specs.Run.{finished_at, served_ends}
 use Rattle.turn_bound.specs.Time.{KeepsTime}
 use Rattle.turn_bound.specs.Advance.{NeverBusy}
 use Rattle.turn_bound.proofs.Clock.{Rates, rates, AreRates}

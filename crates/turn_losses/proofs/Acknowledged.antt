@@ -1,18 +1,9 @@
 -- What an end sends at the answer to its poll is acknowledged, where no line is lost.
 use Rattle.std.proofs.Common.{◌⊎◌, inl, inr, ◌≡◌, ℕ, zero, suc, ◌+◌, ◌-◌, ◌%◌, ◌<◌, ◌≤◌, ◌&&◌, Bool, true, false, cond, nat_lt, nat_le}
 use Rattle.std.proofs.Common.{length, arith, refl, sym, ◌∙◌, ap, Option, Some, None}
-use Rattle.std.specs.Prelude.{is_some}
-use Rattle.std.proofs.lemmas.Bool.{cases_lt}
-use Rattle.std.proofs.lemmas.Bool.Decides.{nat_tests}
-use Rattle.lapm_frames.specs.declared.frame.Frame.{Frame}
-use Rattle.lapm_frames.specs.declared.frame.Frame.TheVariants.{I, Rr, Rnr, Rej, Srej, Sabme, Disc, Ua, Dm, Frmr, Ui, Xid, Test}
-use Rattle.lapm_sender.specs.Meant.{meant}
-use Rattle.lapm_frames.specs.declared.sent.Sent.{Sent}
-use Rattle.lapm_frames.specs.declared.sent.Sent.TheVariants as slots
-use Rattle.lapm_frames.specs.declared.arrived.Arrived.{Arrived}
-use Rattle.lapm_frames.specs.declared.arrived.Arrived.TheVariants as arrivals
-use Rattle.link_account.specs.Account.{is_connected}
-use Rattle.link_account.specs.Play.{arrives}
+use Rattle.link_account.proofs.Names.{is_some, cases_lt, nat_tests, Frame, I, Rr, Rnr, Rej, Srej, Sabme, Disc, Ua, Dm, Ui, Xid, meant, Sent}
+use Rattle.link_account.proofs.Names.{Arrived, is_connected, arrives}
+use Rattle.lapm_frames.specs.declared.frame.Frame.TheVariants.{Frmr, Test}
 use Rattle.turn_bound.proofs.MeetHear.{of_arrived}
 use Rattle.turn_losses.specs.Polls.{is_final}
 use Rattle.turn_losses.proofs.Polling.{is_linked}
@@ -23,6 +14,8 @@ use Rattle.turn_losses.proofs.NumberTurn.{NumberTurn}
 use Rattle.turn_losses.proofs.Room.{Room}
 use Rattle.turn_losses.proofs.PollLaws.{reply-matches}
 use Rattle.turn_losses.proofs.PeriodLaws.{linked-on, connected-back, awaits-on, NoneLost, StayConnected}
+use Rattle.lapm_frames.specs.declared.sent.Sent.TheVariants as slots
+use Rattle.lapm_frames.specs.declared.arrived.Arrived.TheVariants as arrivals
 
 -- What is known of the numbers of two ends: of e's segments, which o takes.
 pub record Counts (turns : ℕ) (e o : EndRun) : Type 0 where

@@ -1,33 +1,24 @@
 -- A Connected answerer that gives up was starved.
 use Rattle.std.proofs.Common.{◌⊎◌, inl, inr, ◌≡◌, ℕ, ◌<◌, ◌≤◌, Bool, true, false, List, length, arith, refl, sym, ◌∙◌, ap, subst, Some}
 use Rattle.std.proofs.Common.{None}
-use Rattle.shared_terms.specs.declared.role.Role.{Role}
-use Rattle.shared_terms.specs.declared.role.Role.TheVariants.{Originator, Answerer}
-use Rattle.link_account.specs.declared.phase.Phase.{Phase}
-use Rattle.link_account.specs.declared.phase.Phase.TheVariants.{Connected}
-use Rattle.link_account.specs.Account.{is_connected}
-use Rattle.link_run.specs.End.{is_released}
-use Rattle.link_run.specs.Run.{Link, Accounts, Turn, Hears, arrival}
-use Rattle.link_run.specs.Laws.{RunsOver}
+use Rattle.link_account.proofs.Names.{Role, Originator, Answerer, is_connected, IsAllowed, hear}
+use Rattle.link_run.proofs.Names.{Phase, Connected, is_released, Link, Accounts, Turn, Hears, arrival, RunsOver, Detecting, Negotiating}
+use Rattle.link_run.proofs.Names.{Establishing, Releasing, Closed}
 use Rattle.turn_bound.specs.Time.{KeepsTime}
 use Rattle.turn_bound.proofs.Clock.{Rates, rates}
 use Rattle.turn_bound.proofs.Value.{IsOf}
-use Rattle.xid_params.specs.Offers.{IsAllowed}
 use Rattle.turn_losses.specs.Losses.{LosesEach, AnswererWantsAnswers}
 use Rattle.turn_losses.proofs.Room.{begins-roomy}
 use Rattle.turn_losses.proofs.Trace.{past}
-use Rattle.turn_losses.proofs.Tracing.{Known, known, Timed, timed, rated, Traced, traced}
+use Rattle.turn_losses.proofs.Tracing.{Known, known, Timed, timed, rated, Traced, traced, silent-of}
 use Rattle.turn_losses.proofs.Numbering.{Plays, allowed, fits-at, counts-of}
 use Rattle.turn_losses.proofs.Wanting.{LastTry, last-try, wants-answers}
-use Rattle.link_account.specs.declared.phase.Phase.TheVariants.{Detecting, Negotiating, Establishing, Releasing, Closed}
-use Rattle.link_account.specs.Hear.{hear}
 use Rattle.turn_bound.proofs.MeetHear.{of_arrived}
 use Rattle.turn_losses.specs.Polls.{is_poll}
 use Rattle.turn_losses.proofs.Polling.{is_linked}
 use Rattle.turn_losses.proofs.PollHear.{PollHeard, poll-hears, linked-connected}
 use Rattle.turn_losses.proofs.NumberTurn.{poll-ok}
 use Rattle.turn_losses.proofs.TwoEnds.{EndRun, TwoEnds, end_run}
-use Rattle.turn_losses.proofs.Tracing.{silent-of}
 use Rattle.turn_losses.proofs.PollLaws.{two-ends, turned}
 use Rattle.turn_losses.proofs.PeriodLaws.{linked-on, connected-back}
 use Rattle.turn_losses.proofs.Numbered.{numbered-linked}

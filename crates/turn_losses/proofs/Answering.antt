@@ -1,28 +1,18 @@
 use Rattle.std.proofs.Common.{◌≡◌, ℕ, ◌+◌, ◌%◌, ◌<◌, ◌&&◌, ◌||◌, not, Bool, true, false, cond, nat_lt, List, [], ◌∷◌, length, arith, refl}
-use Rattle.std.proofs.Common.{sym}
-use Rattle.std.proofs.Common.{◌∙◌, ap, subst, Option, Some, None, Ok, slice_index_or}
-use Rattle.std.proofs.lemmas.Bool.Decides.{nat_tests}
-use Rattle.lapm_frames.specs.declared.frame.Frame.{Frame}
-use Rattle.lapm_frames.specs.declared.frame.Frame.TheVariants.{I, Rnr}
-use Rattle.lapm_sender.specs.Outgoing.{Outgoing, is_outstanding, advanced, wait_ended, resumed, paused_at}
-use Rattle.lapm_sender.specs.Outgoing.{next_number, after_next, expired}
-use Rattle.break_signals.specs.Breaks.{OwnBreaks, ticked}
-use Rattle.lapm_frames.specs.declared.arrived.Arrived.TheVariants as arrivals
-use Rattle.link_account.specs.declared.phase.Phase.TheVariants.{Connected}
-use Rattle.lapm_frames.specs.declared.sent.Sent.TheVariants as slots
-use Rattle.link_account.specs.Account.{Account}
-use Rattle.shared_terms.specs.Role.{is_originator}
-use Rattle.link_account.specs.declared.answer.Answer.{Answer}
-use Rattle.link_account.specs.Hear.{hear, ends_wait}
+use Rattle.std.proofs.Common.{sym, ◌∙◌, ap, subst, Option, Some, None, Ok, slice_index_or}
+use Rattle.link_account.proofs.Names.{nat_tests, Frame, I, Rnr, Outgoing, is_outstanding, advanced, resumed, next_number, OwnBreaks, ticked}
+use Rattle.link_account.proofs.Names.{Account, is_originator, hear, Arrived, Said, nr_of, may_send, steps, speak_linked}
+use Rattle.link_run.proofs.Names.{Connected, Answer}
+use Rattle.lapm_sender.specs.Outgoing.{wait_ended, paused_at, after_next, expired, next_among}
+use Rattle.link_account.specs.Hear.{ends_wait}
 use Rattle.link_account.proofs.HearWays.{Plain, IsUa, IsXid, IsTest, IsNoWord, ConnectedWays, numbered_with, acked, acked_back, by-linked}
-use Rattle.lapm_frames.specs.declared.arrived.Arrived.{Arrived}
 use Rattle.turn_bound.proofs.MeetHear.{of_arrived}
-use Rattle.link_account.specs.Speak.{Said, else_says, where_says, answering, polling, timer_expires, breaking, nr_of, may_send}
-use Rattle.link_account.specs.Speak.{says_segment, steps, after_timers, then_tries, speak_linked}
-use Rattle.turn_bound.proofs.Clock.{Rates}
-use Rattle.turn_bound.proofs.Clock.{Sends}
-use Rattle.lapm_sender.specs.Outgoing.{next_among}
+use Rattle.link_account.specs.Speak.{else_says, where_says, answering, polling, timer_expires, breaking, says_segment, after_timers}
+use Rattle.link_account.specs.Speak.{then_tries}
+use Rattle.turn_bound.proofs.Clock.{Rates, Sends}
 use Rattle.turn_losses.specs.Polls.{is_final}
+use Rattle.lapm_frames.specs.declared.arrived.Arrived.TheVariants as arrivals
+use Rattle.lapm_frames.specs.declared.sent.Sent.TheVariants as slots
 
 -- RNR
 abbrev pub frame_rnr : Frame → Bool

@@ -1,8 +1,6 @@
 -- What hearing makes of the wait for a poll's answer, at a Connected end: a response with F = 1 ends it, and nothing else.
 use Rattle.std.proofs.Common.{◌≡◌, ℕ, true, false, cond, refl, sym, ap, Ok}
-use Rattle.lapm_frames.specs.declared.arrived.Arrived.{Arrived}
-use Rattle.link_account.specs.Account.{Account, is_connected}
-use Rattle.link_account.specs.Hear.{hear}
+use Rattle.link_account.proofs.Names.{Arrived, Account, is_connected, hear}
 use Rattle.turn_bound.proofs.MeetHear.{of_arrived}
 use Rattle.turn_losses.specs.Polls.{is_final}
 use Rattle.turn_losses.proofs.AnswerTurn.{connected-is}

@@ -1,26 +1,10 @@
 -- An end that isn't Connected yet has no break, owes none an answer, and has nothing urgent; and it becomes Connected so.
-use Rattle.std.proofs.Common.{◌≡◌, ℕ, zero, suc, ◌+◌, ◌≤◌, Bool, true, false, List, length, arith, refl, sym}
-use Rattle.std.proofs.Common.{◌∙◌, ap, subst, Ok}
-use Rattle.shared_terms.specs.declared.role.Role.{Role}
-use Rattle.shared_terms.specs.declared.role.Role.TheVariants.{Originator, Answerer}
-use Rattle.shared_terms.specs.Both.{of}
-use Rattle.lapm_frames.specs.declared.frame.Frame.{Frame}
-use Rattle.break_signals.specs.declared.word.BreakWord.{BreakWord}
-use Rattle.lapm_frames.specs.declared.arrived.Arrived.{Arrived}
-use Rattle.lapm_frames.specs.declared.arrived.Arrived.TheVariants as arrivals
-use Rattle.link_account.specs.declared.phase.Phase.{Phase}
-use Rattle.link_account.specs.declared.phase.Phase.TheVariants.{Connected}
-use Rattle.link_account.specs.declared.answer.Answer.TheVariants as answers
-use Rattle.link_account.specs.Account.{Account, is_connected}
-use Rattle.link_account.specs.Hear.{hear, on_nothing}
-use Rattle.link_account.specs.Hear.{owing, first_wait}
-use Rattle.link_account.specs.Speak.{Said}
-use Rattle.link_account.specs.Speak.{speak}
-use Rattle.link_account.proofs.HearWays as HearWays
-use Rattle.link_account.proofs.SpeakWays as SpeakWays
+use Rattle.std.proofs.Common.{◌≡◌, ℕ, zero, suc, ◌+◌, ◌≤◌, Bool, true, false, List, length, arith, refl, sym, ◌∙◌, ap, subst, Ok}
+use Rattle.link_account.proofs.Names.{Role, Originator, Answerer, of, Frame, BreakWord, Arrived, Account, is_connected, hear, on_nothing}
+use Rattle.link_account.proofs.Names.{owing, Said, speak}
+use Rattle.link_run.proofs.Names.{Phase, Connected, is_released, Link, Accounts, Turn, SpeaksAt, arrival, served_at, said_at}
+use Rattle.link_account.specs.Hear.{first_wait}
 use Rattle.link_account.proofs.SpeakWays.{Tries}
-use Rattle.link_run.specs.End.{is_released}
-use Rattle.link_run.specs.Run.{Link, Accounts, Turn, SpeaksAt, arrival, served_at, said_at}
 use Rattle.turn_bound.specs.Time.{KeepsTime}
 use Rattle.turn_bound.proofs.Clock.{rates}
 use Rattle.turn_bound.proofs.MeetHear.{of_arrived}
@@ -33,6 +17,10 @@ use Rattle.turn_losses.proofs.NumberTurn.{poll-ok, speak-ok}
 use Rattle.turn_losses.proofs.Trace.{Deed, Happens, Trace, past}
 use Rattle.turn_losses.proofs.Tracing.{Known, known, timed, release_of, said-as}
 use Rattle.turn_losses.proofs.BreakHear.{of_word}
+use Rattle.lapm_frames.specs.declared.arrived.Arrived.TheVariants as arrivals
+use Rattle.link_account.specs.declared.answer.Answer.TheVariants as answers
+use Rattle.link_account.proofs.HearWays as HearWays
+use Rattle.link_account.proofs.SpeakWays as SpeakWays
 
 pub record SameOld (arrived : Arrived) (a b : Account) : Type 0 where
   pub own : b.own_breaks ≡ a.own_breaks

@@ -1,31 +1,12 @@
 -- Where the originator sees no pattern, something was lost in each period.
-use Rattle.std.proofs.Common.{◌⊎◌, inl, inr, ◌≡◌, ℕ, zero, suc, ◌+◌, ◌-◌, ◌*◌, ◌<◌, ◌≤◌, Bool, true, false, cond, nat_le}
-use Rattle.std.proofs.Common.{List, length, arith, refl, sym, ◌∙◌, ap, subst, Option, Some, None, Result, Ok, Err}
-use Rattle.std.proofs.lemmas.Bool.{cases_lt}
-use Rattle.shared_terms.specs.declared.role.Role.{Role}
-use Rattle.shared_terms.specs.declared.role.Role.TheVariants.{Originator, Answerer}
-use Rattle.shared_terms.specs.Both.{of}
-use Rattle.lapm_frames.specs.declared.seen.Seen.TheVariants as seens
-use Rattle.lapm_frames.specs.declared.sent.Sent.TheVariants as slots
-use Rattle.lapm_frames.specs.declared.arrived.Arrived.{Arrived}
-use Rattle.lapm_frames.specs.declared.arrived.Arrived.TheVariants as arrivals
-use Rattle.link_account.specs.declared.phase.Phase.{Phase}
-use Rattle.link_account.specs.declared.phase.Phase.TheVariants.{Detecting, Negotiating, Connected, Releasing}
-use Rattle.shared_terms.specs.declared.fault.LinkFault.{LinkFault}
-use Rattle.shared_terms.specs.declared.fault.LinkFault.TheVariants.{NotDetected}
-use Rattle.link_account.specs.declared.answer.Answer.{Answer}
-use Rattle.link_account.specs.declared.answer.Answer.TheVariants as answers
-use Rattle.link_account.specs.Account.{Account}
-use Rattle.link_account.specs.Hear.{hear, on_seen, on_pattern}
-use Rattle.link_account.specs.Hear.{trying}
-use Rattle.link_account.specs.Play.{arrives}
-use Rattle.link_account.specs.Speak.{Said, says, else_says, spent, answering}
-use Rattle.link_account.specs.Speak.{speak, speak_in}
-use Rattle.link_account.specs.Speak.{speak_detecting}
-use Rattle.link_run.specs.End.{User, is_busy, is_released}
-use Rattle.link_run.specs.Run.{Link, Accounts, Turn, Hears, RunOf, arrival, served_at, releases}
-use Rattle.link_run.specs.Carried.{IsCarried}
-use Rattle.link_run.specs.Starved.{LosesSome}
+use Rattle.std.proofs.Common.{◌⊎◌, inl, inr, ◌≡◌, ℕ, zero, suc, ◌+◌, ◌-◌, ◌*◌, ◌<◌, ◌≤◌, Bool, true, false, cond, nat_le, List, length}
+use Rattle.std.proofs.Common.{arith, refl, sym, ◌∙◌, ap, subst, Option, Some, None, Result, Ok, Err}
+use Rattle.link_account.proofs.Names.{cases_lt, Role, Originator, Answerer, of, Arrived, LinkFault, NotDetected, Account, hear, trying}
+use Rattle.link_account.proofs.Names.{arrives, Said, says, spent, speak, speak_in}
+use Rattle.link_run.proofs.Names.{Phase, Detecting, Negotiating, Connected, Releasing, Answer, User, is_busy, is_released, Link, Accounts}
+use Rattle.link_run.proofs.Names.{Turn, Hears, RunOf, arrival, served_at, releases, IsCarried, LosesSome}
+use Rattle.link_account.specs.Hear.{on_seen, on_pattern}
+use Rattle.link_account.specs.Speak.{else_says, answering, speak_detecting}
 use Rattle.turn_bound.specs.Time.{KeepsTime}
 use Rattle.turn_bound.specs.Spent.{SpendsOnTime}
 use Rattle.turn_bound.proofs.Clock.{Rates, rates}
@@ -35,9 +16,7 @@ use Rattle.turn_bound.proofs.OneTurn.{heard-ok}
 use Rattle.turn_bound.proofs.Phases.{hears-well}
 use Rattle.turn_bound.proofs.Serving.{Served, serves-all}
 use Rattle.turn_losses.specs.Losses.{PeriodLoses, OriginatorWantsPattern, UndetectedIsStarved}
-use Rattle.link_account.proofs.HearWays as HearWays
 use Rattle.link_account.proofs.HearWays.{numbers-alike}
-use Rattle.link_account.proofs.SpeakWays as SpeakWays
 use Rattle.link_account.proofs.SpeakWays.{tries-alike, linked-so, why-broken, Undetected, Spends}
 use Rattle.turn_losses.proofs.PollSpeak.{linked-poll}
 use Rattle.turn_losses.proofs.Trace.{past, sent_or}
@@ -49,6 +28,12 @@ use Rattle.turn_losses.proofs.PeriodHolds.{LostIn, lost-or-none}
 use Rattle.turn_losses.proofs.Keeping.{turn-is}
 use Rattle.turn_losses.proofs.Wanting.{lost-is}
 use Rattle.turn_losses.proofs.Starving.{all-but-one}
+use Rattle.lapm_frames.specs.declared.seen.Seen.TheVariants as seens
+use Rattle.lapm_frames.specs.declared.sent.Sent.TheVariants as slots
+use Rattle.lapm_frames.specs.declared.arrived.Arrived.TheVariants as arrivals
+use Rattle.link_account.specs.declared.answer.Answer.TheVariants as answers
+use Rattle.link_account.proofs.HearWays as HearWays
+use Rattle.link_account.proofs.SpeakWays as SpeakWays
 
 -- an end that is Detecting after it spoke was so before
 pub said-from : (turn : ℕ) (release : Bool) (b : Account) (said : Said) → speak turn release b ≡ Ok said → said.account.phase ≡ Detecting

@@ -1,17 +1,8 @@
 -- An end that gives up while a break waits was starved.
 use Rattle.std.proofs.Common.{inl, inr, ◌≡◌, ℕ, ◌+◌, ◌-◌, ◌*◌, ◌%◌, ◌<◌, ◌≤◌, true, false, List, ◌∷◌, length, arith, refl, sym, ◌∙◌, ap}
 use Rattle.std.proofs.Common.{subst}
-use Rattle.std.proofs.lemmas.Bool.{cases_lt}
-use Rattle.shared_terms.specs.declared.role.Role.{Role}
-use Rattle.shared_terms.specs.declared.role.Role.TheVariants.{Originator, Answerer}
-use Rattle.shared_terms.specs.Both.{of}
-use Rattle.xid_params.specs.Offers.{ReadsWritten}
-use Rattle.break_signals.specs.Breaks.{waits}
-use Rattle.link_account.specs.Account.{is_connected}
-use Rattle.link_run.specs.End.{is_released}
-use Rattle.link_run.specs.Run.{Link, Accounts, Turn, Hears, arrival, served_at}
-use Rattle.link_run.specs.Carried.{Carries}
-use Rattle.link_run.specs.Laws.{RunsOver}
+use Rattle.link_account.proofs.Names.{cases_lt, Role, Originator, Answerer, of, ReadsWritten, waits, is_connected}
+use Rattle.link_run.proofs.Names.{is_released, Link, Accounts, Turn, Hears, arrival, served_at, Carries, RunsOver}
 use Rattle.turn_bound.specs.Time.{KeepsTime}
 use Rattle.turn_bound.specs.Together.{Together, StandTogether}
 use Rattle.turn_bound.proofs.MeetHear.{of_arrived}

@@ -1,16 +1,10 @@
 -- Once an originator is Connected, its peer hears no SABME any more: each one was answered, or is lost, before the next goes.
 use Rattle.std.proofs.Common.{◌⊎◌, inl, inr, ◌≡◌, ℕ, zero, suc, ◌+◌, ◌-◌, ◌*◌, ◌<◌, ◌≤◌, Bool, true, false, arith, refl, sym, ◌∙◌, ap, Ok}
-use Rattle.std.proofs.lemmas.Bool.{cases_lt}
-use Rattle.lapm_frames.specs.declared.frame.Frame.{Frame}
-use Rattle.lapm_frames.specs.declared.frame.Frame.TheVariants.{I, Rr, Rnr, Rej, Srej, Sabme, Disc, Ua, Dm, Frmr, Ui, Xid, Test}
-use Rattle.lapm_frames.specs.declared.sent.Sent.{Sent}
-use Rattle.lapm_frames.specs.declared.sent.Sent.TheVariants as slots
-use Rattle.lapm_frames.specs.declared.arrived.Arrived.{Arrived}
-use Rattle.lapm_frames.specs.declared.arrived.Arrived.TheVariants as arrivals
-use Rattle.link_account.specs.declared.phase.Phase.{Phase}
-use Rattle.link_account.specs.declared.phase.Phase.TheVariants.{Detecting, Negotiating, Establishing, Connected, Releasing, Closed}
-use Rattle.link_account.specs.Account.{Account}
-use Rattle.link_account.specs.Hear.{hear, on_frame, on_seen, on_establishing, on_nothing}
+use Rattle.link_account.proofs.Names.{cases_lt, Frame, I, Rr, Rnr, Rej, Srej, Sabme, Disc, Ua, Dm, Ui, Xid, Sent, Arrived, Account, hear}
+use Rattle.link_account.proofs.Names.{on_frame, on_nothing}
+use Rattle.link_run.proofs.Names.{Phase, Detecting, Negotiating, Establishing, Connected, Releasing, Closed}
+use Rattle.lapm_frames.specs.declared.frame.Frame.TheVariants.{Frmr, Test}
+use Rattle.link_account.specs.Hear.{on_seen, on_establishing}
 use Rattle.turn_bound.proofs.MeetHear.{frame_ua, frame_disc, of_frame, of_arrived}
 use Rattle.turn_losses.proofs.Polling.{is_linked}
 use Rattle.turn_losses.proofs.TwoEnds.{EndRun, TwoEnds}
@@ -19,6 +13,8 @@ use Rattle.turn_losses.proofs.PeriodLaws.{linked-on}
 use Rattle.turn_losses.proofs.Moving.{moves_on}
 use Rattle.turn_losses.proofs.Phasing.{is_sabme, is_established}
 use Rattle.turn_losses.proofs.Trying.{TryTurn}
+use Rattle.lapm_frames.specs.declared.sent.Sent.TheVariants as slots
+use Rattle.lapm_frames.specs.declared.arrived.Arrived.TheVariants as arrivals
 
 -- an end that is Establishing, and is linked once it has heard, heard UA
 pub heard-ua : (arrived : Arrived) (turn : ℕ) (a mid : Account) → a.phase ≡ Establishing → hear turn arrived a ≡ Ok mid

@@ -1,9 +1,7 @@
 -- What hearing makes of the other end's pause, at a Connected end: where it begins the retry count is 0, and an answer to a poll ends it or
 -- begins it.
 use Rattle.std.proofs.Common.{◌⊎◌, inl, ◌≡◌, ℕ, true, false, refl, sym, ◌∙◌, Ok}
-use Rattle.lapm_frames.specs.declared.arrived.Arrived.{Arrived}
-use Rattle.link_account.specs.Account.{Account, is_connected}
-use Rattle.link_account.specs.Hear.{hear}
+use Rattle.link_account.proofs.Names.{Arrived, Account, is_connected, hear}
 use Rattle.turn_bound.proofs.MeetHear.{of_arrived}
 use Rattle.turn_losses.specs.Polls.{is_final}
 use Rattle.turn_losses.proofs.AnswerTurn.{connected-is}

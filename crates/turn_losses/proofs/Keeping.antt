@@ -1,18 +1,8 @@
 use Rattle.std.proofs.Common.{◌≡◌, ℕ, ◌+◌, ◌-◌, ◌<◌, ◌&&◌, Bool, true, false, List, ◌∷◌, length, arith, refl, sym, ◌∙◌, ap, Option, Some}
 use Rattle.std.proofs.Common.{None}
-use Rattle.std.specs.Prelude.{slice_get}
-use Rattle.shared_terms.specs.declared.role.Role.{Role}
-use Rattle.shared_terms.specs.declared.role.Role.TheVariants.{Originator, Answerer}
-use Rattle.shared_terms.specs.Role.{other}
-use Rattle.shared_terms.specs.Both.{of}
-use Rattle.lapm_frames.specs.declared.frame.Frame.{Frame}
-use Rattle.lapm_frames.specs.declared.sent.Sent.{Sent}
-use Rattle.lapm_frames.specs.declared.sent.Sent.TheVariants as slots
-use Rattle.lapm_frames.specs.declared.heard.Heard.{Heard}
-use Rattle.lapm_frames.specs.declared.heard.Heard.TheVariants.{Nothing, Passed, Lost, Chance}
-use Rattle.link_account.specs.Account.{is_connected}
-use Rattle.link_run.specs.Run.{Link, Accounts, Spoken, Turn, arrival}
-use Rattle.link_run.specs.Carried.{sent_in, sent_ago}
+use Rattle.link_account.proofs.Names.{slice_get, Role, Originator, Answerer, other, of, Frame, Sent, Heard, Nothing, Passed, Lost, Chance}
+use Rattle.link_account.proofs.Names.{is_connected}
+use Rattle.link_run.proofs.Names.{Link, Accounts, Spoken, Turn, arrival, sent_in, sent_ago}
 use Rattle.link_run.specs.Overheard.{passes_in}
 use Rattle.link_run.specs.Starved.{turn_at}
 use Rattle.turn_bound.proofs.MeetHear.{of_frame, of_arrived}
@@ -26,6 +16,7 @@ use Rattle.turn_losses.proofs.LineLaw.{looked}
 use Rattle.turn_losses.proofs.PollLaws.{two-ends, due-apart, poll-fresh, poll-held-up, polls-apart, reply-from, reply-at-once}
 use Rattle.turn_losses.proofs.PollLaws.{reply-matches}
 use Rattle.turn_losses.proofs.PeriodLaws.{still-awaited}
+use Rattle.lapm_frames.specs.declared.sent.Sent.TheVariants as slots
 
 keeps-polls : (period turns : ℕ) (e o : EndRun) → TwoEnds period turns e o → KeepsPolls period turns e o
 keeps-polls period turns e o k = record {

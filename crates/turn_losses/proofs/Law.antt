@@ -1,16 +1,10 @@
 -- Whatever an end gives up for, the run was starved.
 use Rattle.std.proofs.Common.{◌⊎◌, inl, inr, ◌≡◌, ℕ, ◌+◌, ◌≤◌, Bool, true, false, cond, ◌∷◌, length, arith, refl, sym, ◌∙◌, ap, subst}
-use Rattle.shared_terms.specs.declared.role.Role.{Role}
-use Rattle.shared_terms.specs.declared.role.Role.TheVariants.{Originator, Answerer}
-use Rattle.shared_terms.specs.Both.{of}
-use Rattle.xid_params.specs.Offers.{ReadsWritten, IsAllowed}
-use Rattle.break_signals.specs.Breaks.{waits}
-use Rattle.link_account.specs.declared.phase.Phase.{Phase}
-use Rattle.link_account.specs.declared.phase.Phase.TheVariants.{Detecting, Negotiating, Establishing, Connected, Releasing, Closed}
-use Rattle.shared_terms.specs.declared.fault.LinkFault.{LinkFault}
-use Rattle.link_account.specs.Account.{Account, is_connected, break_waits}
-use Rattle.link_run.specs.End.{is_released, is_closed}
-use Rattle.link_run.specs.Run.{BrokenTurn, arrival, served_at}
+use Rattle.link_account.proofs.Names.{Role, Originator, Answerer, of, ReadsWritten, IsAllowed, waits, LinkFault, Account, is_connected}
+use Rattle.link_run.proofs.Names.{Phase, Detecting, Negotiating, Establishing, Connected, Releasing, Closed, is_released, is_closed}
+use Rattle.link_run.proofs.Names.{arrival, served_at}
+use Rattle.link_account.specs.Account.{break_waits}
+use Rattle.link_run.specs.Run.{BrokenTurn}
 use Rattle.link_run.specs.Starved.{IsStarved}
 use Rattle.turn_bound.specs.Together.{StandTogether}
 use Rattle.turn_bound.proofs.Clock.{Rates, rates}

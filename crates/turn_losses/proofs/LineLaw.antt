@@ -1,27 +1,17 @@
 use Rattle.std.proofs.Common.{◌⊎◌, inl, inr, ◌≡◌, ℕ, zero, suc, ◌+◌, ◌-◌, ◌<◌, ◌≤◌, Bool, true, false, cond, List, [], ◌∷◌, length, arith}
 use Rattle.std.proofs.Common.{refl, sym, ◌∙◌, ap, subst, Some, None}
-use Rattle.std.proofs.lemmas.Bool.{cases_lt}
-use Rattle.shared_terms.specs.declared.role.Role.{Role}
-use Rattle.lapm_frames.specs.declared.frame.Frame.{Frame}
-use Rattle.lapm_frames.specs.declared.sent.Sent.{Sent}
-use Rattle.lapm_frames.specs.declared.arrived.Arrived.{Arrived}
-use Rattle.lapm_frames.specs.declared.arrived.Arrived.TheVariants as arrivals
-use Rattle.link_account.specs.Account.{Account, is_connected}
-use Rattle.link_account.specs.Play.{arrives}
-use Rattle.std.specs.Prelude.{slice_get}
-use Rattle.shared_terms.specs.Role.{other}
-use Rattle.shared_terms.specs.Both.{of}
-use Rattle.link_run.specs.Run.{Link, Accounts, Turn, arrival}
-use Rattle.link_run.specs.Carried.{Crosses, HasDelays, sent_in}
+use Rattle.link_account.proofs.Names.{cases_lt, Role, Frame, Sent, Arrived, Account, is_connected, arrives, slice_get, other, of}
+use Rattle.link_run.proofs.Names.{Link, Accounts, Turn, arrival, Crosses, sent_in}
+use Rattle.link_run.specs.Carried.{HasDelays}
 use Rattle.turn_bound.proofs.Tied.{is_lost, sent_of, none-heard, one-heard}
-use Rattle.turn_losses.proofs.Trace.{past, sent_or}
+use Rattle.turn_losses.proofs.Trace.{past, sent_or, Deed, Happens, Trace}
 use Rattle.turn_losses.specs.Polls.{is_poll}
 use Rattle.turn_bound.proofs.MeetHear.{of_frame, of_arrived}
 use Rattle.turn_losses.proofs.Polling.{is_linked, poll_due, PollTurn}
 use Rattle.turn_losses.proofs.Polls.{Polls, WasSent}
-use Rattle.turn_losses.proofs.Trace.{Deed, Happens, Trace}
 use Rattle.turn_losses.proofs.TwoEnds.{ArrivesLate}
 use Rattle.turn_bound.proofs.Meeting.{arrives-flag}
+use Rattle.lapm_frames.specs.declared.arrived.Arrived.TheVariants as arrivals
 
 -- the turn so many turns ago
 pub looked : (period : ℕ) (delay : Role → ℕ) (link : Link) (ts : List Turn) (state : ℕ → Accounts) (deed : ℕ → Deed)

@@ -1,28 +1,11 @@
 -- An answerer that heard a number has a peer that is Connected, or was.
-use Rattle.std.proofs.Common.{◌⊎◌, inl, inr, ◌≡◌, ℕ, zero, suc, ◌+◌, ◌-◌, ◌<◌, ◌≤◌, Bool, true, false}
-use Rattle.std.proofs.Common.{List, length, arith, refl, sym, ◌∙◌, ap, subst, Ok}
-use Rattle.shared_terms.specs.declared.role.Role.{Role}
-use Rattle.shared_terms.specs.declared.role.Role.TheVariants.{Originator, Answerer}
-use Rattle.shared_terms.specs.Role.{other}
-use Rattle.shared_terms.specs.Both.{of}
-use Rattle.lapm_frames.specs.declared.frame.Frame.{Frame}
-use Rattle.lapm_frames.specs.declared.frame.Frame.TheVariants.{I, Rr, Rnr, Rej, Srej}
-use Rattle.lapm_frames.specs.declared.arrived.Arrived.{Arrived}
-use Rattle.link_account.specs.declared.phase.Phase.TheVariants.{Releasing}
-use Rattle.link_account.specs.declared.answer.Answer.{Answer}
-use Rattle.link_account.specs.declared.answer.Answer.TheVariants as answers
-use Rattle.link_account.specs.Account.{Account}
-use Rattle.link_account.specs.Hear.{hear}
-use Rattle.link_account.specs.Speak.{Said}
-use Rattle.link_account.specs.Speak.{speak}
-use Rattle.link_account.specs.Hear.{trying}
-use Rattle.link_account.specs.Speak.{frame_for}
-use Rattle.link_account.proofs.HearWays as HearWays
-use Rattle.link_account.proofs.SpeakWays as SpeakWays
+use Rattle.std.proofs.Common.{◌⊎◌, inl, inr, ◌≡◌, ℕ, zero, suc, ◌+◌, ◌-◌, ◌<◌, ◌≤◌, Bool, true, false, List, length, arith, refl, sym, ◌∙◌}
+use Rattle.std.proofs.Common.{ap, subst, Ok}
+use Rattle.link_account.proofs.Names.{Role, Originator, Answerer, other, of, Frame, I, Rr, Rnr, Rej, Srej, Arrived, Account, hear, Said}
+use Rattle.link_account.proofs.Names.{speak, trying, frame_for}
+use Rattle.link_run.proofs.Names.{Releasing, Answer, is_released, Link, Accounts, Turn, arrival, served_at}
 use Rattle.link_account.proofs.SpeakWays.{tries-alike, linked-so}
 use Rattle.turn_losses.proofs.PollSpeak.{linked-poll}
-use Rattle.link_run.specs.End.{is_released}
-use Rattle.link_run.specs.Run.{Link, Accounts, Turn, arrival, served_at}
 use Rattle.turn_bound.specs.Time.{KeepsTime}
 use Rattle.turn_bound.proofs.MeetHear.{of_frame, of_arrived}
 use Rattle.turn_bound.proofs.Serving.{serves-all}
@@ -33,6 +16,9 @@ use Rattle.turn_losses.proofs.Tracing.{release_of, said-as}
 use Rattle.turn_losses.proofs.LineLaw.{was-sent}
 use Rattle.turn_losses.proofs.PollLaws.{two-ends, turned}
 use Rattle.turn_losses.proofs.PeriodLaws.{linked-on}
+use Rattle.link_account.specs.declared.answer.Answer.TheVariants as answers
+use Rattle.link_account.proofs.HearWays as HearWays
+use Rattle.link_account.proofs.SpeakWays as SpeakWays
 
 -- I frames and supervisory frames
 abbrev pub is_counted : Frame → Bool

@@ -1,38 +1,19 @@
 -- An answerer that gives up, also while the originator releases.
 use Rattle.std.proofs.Common.{◌⊎◌, inl, inr, ◌≡◌, ◌≢◌, ℕ, zero, suc, ◌+◌, ◌-◌, ◌*◌, ◌<◌, ◌≤◌, ◌&&◌, ◌||◌, not, Bool, true, false, cond}
 use Rattle.std.proofs.Common.{nat_eq, max, List, ◌∷◌, length, arith, refl, sym, ◌∙◌, ap, subst, Option, Some, None, Ok, Err}
-use Rattle.std.specs.Prelude.{slice_get}
-use Rattle.std.proofs.lemmas.Bool.{cases_lt}
-use Rattle.std.proofs.lemmas.Bool.Decides.{nat_tests}
-use Rattle.shared_terms.specs.declared.role.Role.{Role}
-use Rattle.shared_terms.specs.declared.role.Role.TheVariants.{Originator, Answerer}
-use Rattle.shared_terms.specs.Role.{is_originator}
-use Rattle.shared_terms.specs.Both.{of}
-use Rattle.lapm_sender.specs.Outgoing.{Outgoing, is_whole}
-use Rattle.xid_params.specs.Offers.{ReadsWritten, IsAllowed}
-use Rattle.break_signals.specs.Breaks.{waits}
-use Rattle.lapm_frames.specs.declared.sent.Sent.{Sent}
-use Rattle.lapm_frames.specs.declared.sent.Sent.TheVariants as slots
-use Rattle.lapm_frames.specs.declared.heard.Heard.{Heard}
-use Rattle.lapm_frames.specs.declared.heard.Heard.TheVariants.{Nothing, Passed, Lost, Chance}
-use Rattle.lapm_frames.specs.declared.arrived.Arrived.{Arrived}
-use Rattle.lapm_frames.specs.declared.arrived.Arrived.TheVariants as arrivals
-use Rattle.link_account.specs.declared.phase.Phase.{Phase}
-use Rattle.link_account.specs.declared.phase.Phase.TheVariants.{Detecting, Negotiating, Establishing, Connected, Releasing, Closed}
-use Rattle.shared_terms.specs.declared.fault.LinkFault.{LinkFault}
-use Rattle.shared_terms.specs.declared.fault.LinkFault.TheVariants.{Spent}
-use Rattle.link_account.specs.Account.{Account, is_connected}
-use Rattle.link_account.specs.Hear.{hear, trying}
-use Rattle.link_account.specs.Laws.{MayPlay}
-use Rattle.link_account.specs.Play.{arrives}
-use Rattle.link_account.specs.Speak.{Said, speak, speak_in, speak_linked, speak_releasing, speak_detecting, speak_negotiating}
-use Rattle.link_run.specs.End.{is_busy, is_released, is_closed, is_ready, next_break}
-use Rattle.link_run.specs.Run.{Link, Accounts, Spoken, Turn, RunOf, Hears, BrokenTurn, SpeaksAt, arrival, served_at, said_at, finished_at}
-use Rattle.link_run.specs.Run.{served_ends}
-use Rattle.link_run.specs.Run.{releases, spoken}
-use Rattle.link_run.specs.Carried.{Crosses, Carries, IsCarried, has_message, sent_in}
-use Rattle.link_run.specs.Laws.{RunsOver}
-use Rattle.link_run.specs.Starved.{LosesSome, SpanLoses, IsStarved, turn_at}
+use Rattle.link_account.proofs.Names.{slice_get, cases_lt, nat_tests, Role, Originator, Answerer, is_originator, of, Outgoing, ReadsWritten}
+use Rattle.link_account.proofs.Names.{IsAllowed, waits, Sent, Heard, Nothing, Passed, Lost, Chance, Arrived, LinkFault, Spent, Account}
+use Rattle.link_account.proofs.Names.{is_connected, hear, trying, MayPlay, arrives, Said, speak, speak_in, speak_linked, speak_releasing}
+use Rattle.link_account.proofs.Names.{is_some}
+use Rattle.link_run.proofs.Names.{Phase, Detecting, Negotiating, Establishing, Connected, Releasing, Closed, is_busy, is_released}
+use Rattle.link_run.proofs.Names.{is_closed, next_break, Link, Accounts, Spoken, Turn, RunOf, Hears, SpeaksAt, arrival, served_at, said_at}
+use Rattle.link_run.proofs.Names.{releases, spoken, Crosses, Carries, IsCarried, sent_in, RunsOver, LosesSome}
+use Rattle.lapm_sender.specs.Outgoing.{is_whole}
+use Rattle.link_account.specs.Speak.{speak_detecting, speak_negotiating}
+use Rattle.link_run.specs.End.{is_ready}
+use Rattle.link_run.specs.Run.{BrokenTurn, finished_at, served_ends}
+use Rattle.link_run.specs.Carried.{has_message}
+use Rattle.link_run.specs.Starved.{SpanLoses, IsStarved, turn_at}
 use Rattle.turn_bound.specs.Time.{KeepsTime}
 use Rattle.turn_bound.proofs.Clock.{Rates, rates, Sends}
 use Rattle.turn_bound.proofs.Value.{IsOf, Stands, arrived_rnrs}
@@ -62,7 +43,7 @@ use Rattle.turn_losses.proofs.Expiries.{Uncleared, expiries}
 use Rattle.turn_losses.proofs.HeardCount.{CountKept, count-hears}
 use Rattle.turn_losses.proofs.HeardPaused.{PausedHeard}
 use Rattle.turn_losses.proofs.Awaiting.{await-hears}
-use Rattle.std.specs.Prelude.{is_some, nat_lt}
+use Rattle.std.specs.Prelude.{nat_lt}
 use Rattle.turn_losses.proofs.Acknowledged.{Counts}
 use Rattle.turn_losses.proofs.Keeping.{turn-is}
 use Rattle.turn_losses.proofs.Wanting.{LastTry, last-try, lost-is}
@@ -73,6 +54,8 @@ use Rattle.turn_losses.proofs.Moving.{asks, TryGoesOn, TryBegins, try-heard, lin
 use Rattle.turn_losses.proofs.Setups.{start-setup, heard-as}
 use Rattle.turn_losses.proofs.TryAnswering.{can_answer, answer-due}
 use Rattle.turn_losses.proofs.Trying.{TryTurn, TriesSo, Tried, tried, tries-so}
+use Rattle.lapm_frames.specs.declared.sent.Sent.TheVariants as slots
+use Rattle.lapm_frames.specs.declared.arrived.Arrived.TheVariants as arrivals
 
 abbrev IsFree : Account → Type 0
 IsFree a = (a.outgoing.awaited ≡ false) × (a.outgoing.paused ≡ false)

@@ -1,19 +1,10 @@
 -- While an answerer's break waits, the originator isn't told to release.
 use Rattle.std.proofs.Common.{◌⊎◌, inl, inr, ◌≡◌, ℕ, zero, suc, ◌+◌, ◌-◌, ◌<◌, ◌≤◌, Bool, true, false, List, length, arith, refl, sym, ◌∙◌}
 use Rattle.std.proofs.Common.{ap, Ok}
-use Rattle.shared_terms.specs.declared.role.Role.{Role}
-use Rattle.shared_terms.specs.declared.role.Role.TheVariants.{Originator, Answerer}
-use Rattle.xid_params.specs.Offers.{ReadsWritten}
-use Rattle.break_signals.specs.Breaks.{waits, after_ask}
-use Rattle.lapm_frames.specs.declared.arrived.Arrived.{Arrived}
-use Rattle.link_account.specs.declared.phase.Phase.{Phase}
-use Rattle.link_account.specs.declared.phase.Phase.TheVariants.{Detecting, Negotiating, Establishing, Connected, Releasing, Closed}
-use Rattle.link_account.specs.Account.{Account, is_connected}
-use Rattle.link_account.specs.Laws.{MayPlay}
-use Rattle.link_account.specs.Hear.{hear}
-use Rattle.link_account.specs.Speak.{speak}
-use Rattle.link_run.specs.End.{User, is_released, is_closed}
-use Rattle.link_run.specs.Run.{Link, Accounts, Turn, arrival, served_at}
+use Rattle.link_account.proofs.Names.{Role, Originator, Answerer, ReadsWritten, waits, after_ask, Arrived, Account, is_connected, MayPlay}
+use Rattle.link_account.proofs.Names.{hear, speak}
+use Rattle.link_run.proofs.Names.{Phase, Detecting, Negotiating, Establishing, Connected, Releasing, Closed, User, is_released, is_closed}
+use Rattle.link_run.proofs.Names.{Link, Accounts, Turn, arrival, served_at}
 use Rattle.turn_bound.specs.Time.{KeepsTime}
 use Rattle.turn_bound.proofs.Run.{served_account}
 use Rattle.turn_bound.proofs.MeetHear.{o-hears}

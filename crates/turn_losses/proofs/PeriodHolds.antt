@@ -1,23 +1,15 @@
 use Rattle.std.proofs.Common.{◌⊎◌, inl, inr, ◌≡◌, ℕ, zero, suc, ◌+◌, ◌*◌, ◌<◌, ◌≤◌, ◌&&◌, Bool, true, false, arith, refl, sym, ◌∙◌, ap}
-use Rattle.std.proofs.Common.{Some}
-use Rattle.std.proofs.lemmas.Bool.{cases_lt}
-use Rattle.link_account.specs.Account.{Account, is_connected}
-use Rattle.link_account.specs.Speak.{Said}
-use Rattle.std.proofs.Common.{List, length}
-use Rattle.shared_terms.specs.declared.role.Role.{Role}
-use Rattle.shared_terms.specs.Role.{other}
-use Rattle.shared_terms.specs.Both.{of}
-use Rattle.link_run.specs.Run.{Link, Accounts, Turn, served_at}
+use Rattle.std.proofs.Common.{Some, List, length, ◌%◌, ◌-◌}
+use Rattle.link_account.proofs.Names.{cases_lt, Account, is_connected, Said, Role, other, of}
+use Rattle.link_run.proofs.Names.{Link, Accounts, Turn, served_at}
 use Rattle.turn_bound.specs.Time.{KeepsTime}
-use Rattle.turn_losses.proofs.Trace.{past}
+use Rattle.turn_losses.proofs.Trace.{past, Deed, Happens, Trace}
 use Rattle.turn_losses.proofs.Answered.{SendsSegment, AnswerTurn}
-use Rattle.turn_losses.proofs.Trace.{Deed, Happens, Trace}
 use Rattle.turn_losses.proofs.TwoEnds.{EndRun, TwoEnds, end_run, hears_poll, hears_final}
 use Rattle.turn_losses.proofs.KeepsPolls.{Answers, StillAwaited}
 use Rattle.turn_losses.proofs.LineLaw.{SetSince, set-since}
 use Rattle.turn_losses.proofs.PollLaws.{two-ends, reply-matches}
 use Rattle.turn_losses.proofs.PeriodLaws.{still-awaited, answer-comes, NoneLost, StayConnected}
-use Rattle.std.proofs.Common.{◌%◌, ◌-◌}
 use Rattle.turn_losses.proofs.NumberHear.{ns_sent}
 use Rattle.turn_losses.proofs.Acknowledged.{Counts, acknowledged}
 

@@ -1,7 +1,6 @@
 use Rattle.std.proofs.Common.{◌⊎◌, inl, inr, ◌≡◌, ℕ, zero, suc, ◌+◌, ◌*◌, ◌<◌, ◌≤◌, ◌||◌, Bool, true, false, cond, arith, refl, sym, ◌∙◌}
 use Rattle.std.proofs.Common.{ap, subst}
-use Rattle.std.proofs.lemmas.Bool.{cases_lt}
-use Rattle.link_account.specs.Account.{is_connected}
+use Rattle.link_account.proofs.Names.{cases_lt, is_connected}
 use Rattle.turn_losses.specs.Polls.{is_poll, is_final}
 use Rattle.turn_losses.proofs.Polling.{is_linked, poll_due, PollTurn}
 use Rattle.turn_losses.proofs.TwoEnds.{EndRun, TwoEnds, sends_poll, hears_poll, sends_final, hears_final}

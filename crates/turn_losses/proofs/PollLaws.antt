@@ -1,18 +1,12 @@
-use Rattle.std.proofs.Common.{◌⊎◌, inl, inr, ◌≡◌, ℕ, ◌+◌, ◌-◌, ◌*◌, ◌<◌, ◌≤◌, true, false, arith, ap}
-use Rattle.link_account.specs.Account.{is_connected}
-use Rattle.std.proofs.Common.{List, length}
-use Rattle.shared_terms.specs.declared.role.Role.{Role}
-use Rattle.shared_terms.specs.declared.role.Role.TheVariants.{Originator, Answerer}
-use Rattle.shared_terms.specs.Role.{other}
-use Rattle.shared_terms.specs.Both.{of}
-use Rattle.link_run.specs.Run.{Link, Accounts, Turn, arrival}
+use Rattle.std.proofs.Common.{◌⊎◌, inl, inr, ◌≡◌, ℕ, ◌+◌, ◌-◌, ◌*◌, ◌<◌, ◌≤◌, true, false, arith, ap, List, length}
+use Rattle.link_account.proofs.Names.{is_connected, Role, Originator, Answerer, other, of}
+use Rattle.link_run.proofs.Names.{Link, Accounts, Turn, arrival}
 use Rattle.turn_bound.specs.Time.{KeepsTime}
 use Rattle.turn_bound.proofs.Tied.{is_lost}
-use Rattle.turn_losses.proofs.Trace.{sent_or}
+use Rattle.turn_losses.proofs.Trace.{sent_or, Deed, Trace}
 use Rattle.turn_losses.specs.Polls.{is_poll, is_final}
 use Rattle.turn_losses.proofs.Polling.{poll_due}
 use Rattle.turn_losses.proofs.Polls.{Polls, WasSent, Fresh}
-use Rattle.turn_losses.proofs.Trace.{Deed, Trace}
 use Rattle.turn_losses.proofs.TwoEnds.{EndRun, ArrivesLate, TwoEnds, end_run, sends_poll, hears_poll, sends_final, hears_final}
 use Rattle.turn_losses.proofs.KeepsPolls.{Answers}
 use Rattle.turn_losses.proofs.LineLaw.{arrives-late, was-sent, are-polls}

@@ -1,18 +1,8 @@
 -- What a run's two ends make of SABME, and that no UA is due while a break waits.
 use Rattle.std.proofs.Common.{◌⊎◌, inl, inr, ◌≡◌, ℕ, zero, suc, ◌+◌, ◌<◌, ◌≤◌, true, false, List, length, arith, refl, sym, ◌∙◌, ap, subst}
-use Rattle.std.specs.Prelude.{is_some}
-use Rattle.shared_terms.specs.declared.role.Role.{Role}
-use Rattle.shared_terms.specs.declared.role.Role.TheVariants.{Originator, Answerer}
-use Rattle.shared_terms.specs.Both.{of}
-use Rattle.xid_params.specs.Offers.{ReadsWritten}
-use Rattle.link_account.specs.declared.phase.Phase.{Phase}
-use Rattle.link_account.specs.declared.phase.Phase.TheVariants.{Detecting, Negotiating, Establishing, Connected, Releasing, Closed}
-use Rattle.link_account.specs.Account.{Account, is_connected}
-use Rattle.link_account.specs.Laws.{MayPlay}
-use Rattle.link_account.specs.Hear.{hear}
-use Rattle.link_account.specs.Speak.{speak}
-use Rattle.link_run.specs.End.{is_busy, is_released}
-use Rattle.link_run.specs.Run.{Link, Accounts, Turn, SpeaksAt, arrival, served_at, said_at}
+use Rattle.link_account.proofs.Names.{is_some, Role, Originator, Answerer, of, ReadsWritten, Account, is_connected, MayPlay, hear, speak}
+use Rattle.link_run.proofs.Names.{Phase, Detecting, Negotiating, Establishing, Connected, Releasing, Closed, is_busy, is_released, Link}
+use Rattle.link_run.proofs.Names.{Accounts, Turn, SpeaksAt, arrival, served_at, said_at}
 use Rattle.turn_bound.specs.Time.{KeepsTime}
 use Rattle.turn_bound.proofs.Clock.{rates}
 use Rattle.turn_bound.proofs.Value.{Stands}

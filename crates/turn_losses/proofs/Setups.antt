@@ -1,14 +1,7 @@
 -- An end keeps its setup as it hears, and how both ends' phases stand together.
 use Rattle.std.proofs.Common.{◌≡◌, ℕ, ◌*◌, true, List, length, map, arith, refl, sym, ◌∙◌, ap, subst, Ok}
-use Rattle.shared_terms.specs.declared.role.Role.{Role}
-use Rattle.shared_terms.specs.Both.{of}
-use Rattle.lapm_frames.specs.declared.arrived.Arrived.{Arrived}
-use Rattle.link_account.specs.declared.phase.Phase.{Phase}
-use Rattle.link_account.specs.Account.{Account}
-use Rattle.link_account.specs.Hear.{hear}
-use Rattle.link_run.specs.End.{User, is_released, is_closed}
-use Rattle.link_run.specs.Run.{Link, Accounts, Turn, RunOf}
-use Rattle.link_run.specs.Carried.{IsCarried}
+use Rattle.link_account.proofs.Names.{Role, of, Arrived, Account, hear}
+use Rattle.link_run.proofs.Names.{Phase, User, is_released, is_closed, Link, Accounts, Turn, RunOf, IsCarried}
 use Rattle.turn_bound.specs.Time.{KeepsTime}
 use Rattle.turn_bound.proofs.Clock.{Rates, rates}
 use Rattle.turn_bound.proofs.Value.{IsOf, arrived_rnrs}

@@ -1,10 +1,7 @@
 -- A BRK goes within fourteen turns, and the BRKACK that answers it within six.
 use Rattle.std.proofs.Common.{◌⊎◌, inl, inr, ◌≡◌, ℕ, zero, suc, ◌+◌, ◌-◌, ◌*◌, ◌<◌, ◌≤◌, ◌&&◌, Bool, true, false, arith, refl, sym, ◌∙◌, ap}
 use Rattle.std.proofs.Common.{subst, Option, Some, None}
-use Rattle.std.proofs.lemmas.Bool.{cases_lt}
-use Rattle.break_signals.specs.declared.word.BreakWord.{BreakWord}
-use Rattle.break_signals.specs.Breaks.{waits}
-use Rattle.link_account.specs.Account.{Account, is_connected}
+use Rattle.link_account.proofs.Names.{cases_lt, BreakWord, waits, Account, is_connected}
 use Rattle.turn_bound.proofs.MeetHear.{of_frame, of_arrived}
 use Rattle.turn_losses.proofs.TwoEnds.{EndRun, TwoEnds, sends_poll, sends_final}
 use Rattle.turn_losses.proofs.BreakHear.{of_word, brk_of, ack_of, any_brk, pends, pends_of}

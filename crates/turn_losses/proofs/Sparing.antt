@@ -1,21 +1,10 @@
 -- An answerer that gives up while its break waits was starved: one period is let off, that in which the originator becomes Connected.
 use Rattle.std.proofs.Common.{◌⊎◌, inl, inr, ◌≡◌, ◌≢◌, ℕ, zero, suc, ◌+◌, ◌-◌, ◌*◌, ◌<◌, ◌≤◌, Bool, true, false, max, List, ◌∷◌, length}
 use Rattle.std.proofs.Common.{arith, refl, sym, ◌∙◌, ap, subst}
-use Rattle.std.proofs.lemmas.Bool.{cases_lt}
-use Rattle.shared_terms.specs.declared.role.Role.{Role}
-use Rattle.shared_terms.specs.declared.role.Role.TheVariants.{Originator, Answerer}
-use Rattle.shared_terms.specs.Both.{of}
-use Rattle.xid_params.specs.Offers.{ReadsWritten}
-use Rattle.break_signals.specs.Breaks.{waits}
-use Rattle.link_account.specs.declared.phase.Phase.{Phase}
-use Rattle.link_account.specs.declared.phase.Phase.TheVariants.{Detecting, Negotiating, Establishing, Connected, Releasing, Closed}
-use Rattle.link_account.specs.Account.{is_connected}
-use Rattle.link_account.specs.Hear.{hear}
-use Rattle.link_run.specs.End.{is_closed}
-use Rattle.link_run.specs.Run.{Link, Accounts, Turn, RunOf, Hears, arrival, served_at}
-use Rattle.link_run.specs.Carried.{Carries, IsCarried}
-use Rattle.link_run.specs.Laws.{RunsOver}
-use Rattle.link_run.specs.Starved.{LosesSome, SpanLoses, IsStarved, turn_at}
+use Rattle.link_account.proofs.Names.{cases_lt, Role, Originator, Answerer, of, ReadsWritten, waits, is_connected, hear}
+use Rattle.link_run.proofs.Names.{Phase, Detecting, Negotiating, Establishing, Connected, Releasing, Closed, is_closed, Link, Accounts}
+use Rattle.link_run.proofs.Names.{Turn, RunOf, Hears, arrival, served_at, Carries, IsCarried, RunsOver, LosesSome}
+use Rattle.link_run.specs.Starved.{SpanLoses, IsStarved, turn_at}
 use Rattle.turn_bound.specs.Time.{KeepsTime}
 use Rattle.turn_bound.proofs.MeetHear.{is_begun, of_frame, of_arrived}
 use Rattle.turn_bound.proofs.Tied.{is_lost}

@@ -1,16 +1,7 @@
 -- An end that gives up while a break waits: by the clock of its segments, or by that of the break.
-use Rattle.std.proofs.Common.{◌⊎◌, inl, inr, ◌≡◌, ℕ, ◌+◌, ◌<◌, ◌≤◌, Bool, true, false, List, length, arith, refl, sym}
-use Rattle.std.proofs.Common.{◌∙◌, ap, Ok}
-use Rattle.std.proofs.lemmas.Bool.Decides.{nat_tests}
-use Rattle.shared_terms.specs.declared.role.Role.{Role}
-use Rattle.shared_terms.specs.Both.{of}
-use Rattle.break_signals.specs.Breaks.{waits}
-use Rattle.lapm_frames.specs.declared.arrived.Arrived.{Arrived}
-use Rattle.link_account.specs.Account.{Account, is_connected}
-use Rattle.link_account.specs.Hear.{hear}
-use Rattle.link_run.specs.End.{is_busy}
-use Rattle.link_run.specs.Run.{Link, Accounts, Turn, RunOf}
-use Rattle.link_run.specs.Carried.{IsCarried}
+use Rattle.std.proofs.Common.{◌⊎◌, inl, inr, ◌≡◌, ℕ, ◌+◌, ◌<◌, ◌≤◌, Bool, true, false, List, length, arith, refl, sym, ◌∙◌, ap, Ok}
+use Rattle.link_account.proofs.Names.{nat_tests, Role, of, waits, Arrived, Account, is_connected, hear}
+use Rattle.link_run.proofs.Names.{is_busy, Link, Accounts, Turn, RunOf, IsCarried}
 use Rattle.turn_bound.specs.Time.{KeepsTime}
 use Rattle.turn_bound.proofs.Clock.{rates}
 use Rattle.turn_bound.proofs.Value.{Linked}

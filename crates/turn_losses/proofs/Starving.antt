@@ -1,20 +1,12 @@
 -- An end that gives up was starved.
 use Rattle.std.proofs.Common.{inl, inr, ◌≡◌, ◌≢◌, ℕ, suc, ◌-◌, ◌<◌, ◌≤◌, true, max, List, ◌∷◌, length, arith, sym, ◌∙◌, ap, subst}
-use Rattle.std.specs.Prelude.{slice_get}
-use Rattle.std.proofs.lemmas.Bool.{cases_lt}
-use Rattle.shared_terms.specs.declared.role.Role.{Role}
-use Rattle.shared_terms.specs.declared.role.Role.TheVariants.{Originator, Answerer}
-use Rattle.shared_terms.specs.Role.{other}
-use Rattle.link_account.specs.Account.{is_connected}
-use Rattle.link_run.specs.End.{is_released}
-use Rattle.link_run.specs.Run.{Link, Accounts, Turn, arrival, releases}
-use Rattle.link_run.specs.Laws.{RunsOver}
+use Rattle.link_account.proofs.Names.{slice_get, cases_lt, Role, Originator, Answerer, other, is_connected, IsAllowed}
+use Rattle.link_run.proofs.Names.{is_released, Link, Accounts, Turn, arrival, releases, RunsOver, LosesSome}
 use Rattle.turn_bound.specs.Time.{KeepsTime}
-use Rattle.link_run.specs.Starved.{SpanLoses, IsStarved, LosesSome, turn_at}
+use Rattle.link_run.specs.Starved.{SpanLoses, IsStarved, turn_at}
 use Rattle.turn_bound.specs.Together.{Together, StandTogether}
 use Rattle.turn_bound.proofs.Clock.{Rates, rates}
 use Rattle.turn_bound.proofs.Value.{IsOf}
-use Rattle.xid_params.specs.Offers.{IsAllowed}
 use Rattle.turn_losses.specs.Losses.{PeriodLoses, LosesEach, OriginatorWantsAnswers, OriginatorIsStarved}
 use Rattle.turn_losses.proofs.AnswerTurn.{connected-is}
 use Rattle.turn_losses.proofs.Room.{begins-roomy}

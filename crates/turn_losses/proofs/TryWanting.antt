@@ -1,21 +1,11 @@
 -- An originator that gives up while it tries a frame.
 use Rattle.std.proofs.Common.{◌⊎◌, inl, inr, ◌≡◌, ℕ, ◌+◌, ◌-◌, ◌*◌, ◌<◌, ◌≤◌, Bool, true, false, cond, nat_le, List, length, arith, refl}
 use Rattle.std.proofs.Common.{sym, ◌∙◌, ap, subst, Some, Ok, Err}
-use Rattle.shared_terms.specs.declared.role.Role.{Role}
-use Rattle.shared_terms.specs.declared.role.Role.TheVariants.{Originator, Answerer}
-use Rattle.shared_terms.specs.Both.{of}
-use Rattle.lapm_frames.specs.declared.frame.Frame.{Frame}
-use Rattle.lapm_frames.specs.declared.frame.Frame.TheVariants.{Sabme, Disc, Xid}
-use Rattle.xid_params.specs.Offers.{written, ReadsWritten}
-use Rattle.lapm_frames.specs.declared.sent.Sent.TheVariants as slots
-use Rattle.link_account.specs.declared.phase.Phase.{Phase}
-use Rattle.link_account.specs.declared.phase.Phase.TheVariants.{Detecting, Negotiating, Establishing, Connected, Releasing, Closed}
-use Rattle.shared_terms.specs.declared.fault.LinkFault.TheVariants.{Spent, NotDetected}
-use Rattle.link_account.specs.Account.{Account, is_connected}
-use Rattle.link_account.specs.Speak.{says, speak, speak_in, speak_detecting, speak_negotiating, u_try}
-use Rattle.link_run.specs.End.{is_busy, is_released, is_closed}
-use Rattle.link_run.specs.Run.{Link, Accounts, Turn, arrival, served_at, releases}
-use Rattle.link_run.specs.Starved.{LosesSome}
+use Rattle.link_account.proofs.Names.{Role, Originator, Answerer, of, Frame, Sabme, Disc, Xid, written, ReadsWritten, Spent, NotDetected}
+use Rattle.link_account.proofs.Names.{Account, is_connected, says, speak, speak_in}
+use Rattle.link_run.proofs.Names.{Phase, Detecting, Negotiating, Establishing, Connected, Releasing, Closed, is_busy, is_released}
+use Rattle.link_run.proofs.Names.{is_closed, Link, Accounts, Turn, arrival, served_at, releases, LosesSome}
+use Rattle.link_account.specs.Speak.{speak_detecting, speak_negotiating, u_try}
 use Rattle.turn_bound.proofs.Serving.{Served, serves-all}
 use Rattle.turn_bound.proofs.Tied.{is_lost}
 use Rattle.turn_losses.specs.Losses.{PeriodLoses, LosesEach}
@@ -30,6 +20,7 @@ use Rattle.turn_losses.specs.Tries.{OriginatorWantsFrame}
 use Rattle.turn_losses.proofs.Moving.{is_trying, try-heard, TryGoesOn, TryBegins, try-spent}
 use Rattle.turn_losses.proofs.Setups.{start-setup, heard-setup, served-setup}
 use Rattle.turn_losses.proofs.Trying.{TriesSo, tries-so, unanswered, unanswered-loses}
+use Rattle.lapm_frames.specs.declared.sent.Sent.TheVariants as slots
 
 -- something lost in a period of turns, as a period's loss
 pub lost-in-period : (period : ℕ) (delay : Role → ℕ) (link : Link) (ts : List Turn) (state : ℕ → Accounts) (deed : ℕ → Deed)

@@ -1,20 +1,10 @@
 -- Where a user asks for no break, none waits.
 use Rattle.std.proofs.Common.{◌⊎◌, inl, inr, ◌≡◌, ℕ, ◌<◌, Bool, true, false, cond, List, [], ◌∷◌, length, arith, refl, sym, ◌∙◌, ap, subst}
 use Rattle.std.proofs.Common.{Result, Ok, Err}
-use Rattle.std.proofs.lemmas.Bool.Decides.{nat_tests}
-use Rattle.shared_terms.specs.declared.role.Role.{Role}
-use Rattle.shared_terms.specs.declared.role.Role.TheVariants.{Originator, Answerer}
-use Rattle.shared_terms.specs.Both.{of}
-use Rattle.break_signals.specs.Breaks.{OwnBreaks, waits, after_ask}
-use Rattle.lapm_frames.specs.declared.arrived.Arrived.{Arrived}
-use Rattle.link_account.specs.declared.phase.Phase.{Phase}
-use Rattle.shared_terms.specs.declared.fault.LinkFault.{LinkFault}
-use Rattle.link_account.specs.Account.{Account, is_connected}
-use Rattle.link_account.specs.Hear.{hear}
-use Rattle.link_account.specs.Speak.{Said, speak}
-use Rattle.link_run.specs.End.{BreakLine, is_busy, is_released}
-use Rattle.link_run.specs.Run.{Link, Accounts, Turn, RunOf, SpeaksAt, arrival, served_at, said_at}
-use Rattle.link_run.specs.Carried.{IsCarried}
+use Rattle.link_account.proofs.Names.{nat_tests, Role, Originator, Answerer, of, OwnBreaks, waits, after_ask, Arrived, LinkFault, Account}
+use Rattle.link_account.proofs.Names.{is_connected, hear, Said, speak}
+use Rattle.link_run.proofs.Names.{Phase, BreakLine, is_busy, is_released, Link, Accounts, Turn, RunOf, SpeaksAt, arrival, served_at}
+use Rattle.link_run.proofs.Names.{said_at, IsCarried}
 use Rattle.turn_bound.specs.Time.{KeepsTime}
 use Rattle.turn_bound.proofs.Clock.{Rates, rates}
 use Rattle.turn_bound.proofs.Value.{IsOf}

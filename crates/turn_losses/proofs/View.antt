@@ -1,22 +1,11 @@
 -- Each turn of a run after which an end is Connected, by its breaks.
 use Rattle.std.proofs.Common.{◌⊎◌, inl, inr, ◌≡◌, ℕ, ◌+◌, ◌<◌, ◌≤◌, ◌&&◌, Bool, true, false, nat_lt, List, length, arith, refl, sym, ◌∙◌}
 use Rattle.std.proofs.Common.{ap, subst, None, Ok}
-use Rattle.std.specs.Prelude.{is_some}
-use Rattle.std.proofs.lemmas.Bool.{cases_lt}
-use Rattle.shared_terms.specs.declared.role.Role.{Role}
-use Rattle.shared_terms.specs.declared.role.Role.TheVariants.{Originator, Answerer}
-use Rattle.shared_terms.specs.Both.{of}
-use Rattle.break_signals.specs.Breaks.{waits, after_ask, no_breaks}
-use Rattle.lapm_frames.specs.declared.sent.Sent.{Sent}
-use Rattle.lapm_frames.specs.declared.arrived.Arrived.{Arrived}
-use Rattle.lapm_frames.specs.declared.arrived.Arrived.TheVariants as arrivals
-use Rattle.link_account.specs.declared.phase.Phase.{Phase}
-use Rattle.link_account.specs.declared.phase.Phase.TheVariants.{Detecting, Negotiating, Establishing, Connected, Releasing, Closed}
-use Rattle.link_account.specs.Account.{Account, is_connected}
-use Rattle.link_account.specs.Hear.{hear}
-use Rattle.link_account.specs.Speak.{speak}
-use Rattle.link_run.specs.End.{is_busy, is_released}
-use Rattle.link_run.specs.Run.{Link, Accounts, Turn, SpeaksAt, arrival, served_at, said_at}
+use Rattle.link_account.proofs.Names.{is_some, cases_lt, Role, Originator, Answerer, of, waits, after_ask, Sent, Arrived, Account}
+use Rattle.link_account.proofs.Names.{is_connected, hear, speak}
+use Rattle.link_run.proofs.Names.{Phase, Detecting, Negotiating, Establishing, Connected, Releasing, Closed, is_busy, is_released, Link}
+use Rattle.link_run.proofs.Names.{Accounts, Turn, SpeaksAt, arrival, served_at, said_at}
+use Rattle.break_signals.specs.Breaks.{no_breaks}
 use Rattle.turn_bound.specs.Time.{KeepsTime}
 use Rattle.turn_bound.proofs.Clock.{Rates, rates}
 use Rattle.turn_bound.proofs.Value.{Stands, Linked, Unlinked, IsAck}
@@ -39,6 +28,7 @@ use Rattle.turn_losses.proofs.Begun.{SameOld, old-heard, blank}
 use Rattle.turn_losses.proofs.Windows.{Breaking}
 use Rattle.turn_losses.proofs.Establishing.{word-connected}
 use Rattle.turn_losses.proofs.TwoEnds.{end_run}
+use Rattle.lapm_frames.specs.declared.arrived.Arrived.TheVariants as arrivals
 
 pub linked-of : (z : Rates) (before turn : ℕ) (r : Role) (p : Phase) (a : Account) → Stands z before turn r p a → is_connected p ≡ true
     → Linked z before turn r a

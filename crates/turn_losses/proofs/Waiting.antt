@@ -1,8 +1,6 @@
 -- A break that waits by the turn: when its BRK became due, and what is lost before it becomes due again.
 use Rattle.std.proofs.Common.{inl, inr, ◌≡◌, ℕ, ◌+◌, ◌-◌, ◌*◌, ◌<◌, ◌≤◌, ◌&&◌, Bool, true, false, arith, refl, sym, ◌∙◌, ap}
-use Rattle.std.proofs.lemmas.Bool.{cases_lt}
-use Rattle.break_signals.specs.Breaks.{waits}
-use Rattle.link_account.specs.Account.{Account, is_connected}
+use Rattle.link_account.proofs.Names.{cases_lt, waits, Account, is_connected}
 use Rattle.turn_bound.proofs.MeetHear.{of_frame, of_arrived}
 use Rattle.turn_losses.proofs.TwoEnds.{EndRun, TwoEnds}
 use Rattle.turn_losses.proofs.LineLaw.{was-sent, is-heard}

@@ -1,22 +1,11 @@
 -- Why a Connected end breaks, and what was lost then.
-use Rattle.std.proofs.Common.{◌⊎◌, inl, inr, ◌≡◌, ℕ, ◌+◌, ◌*◌, ◌<◌, ◌≤◌, Bool, true, false, List, length, arith}
-use Rattle.std.proofs.Common.{refl, sym, ◌∙◌, ap, subst, Some, Ok, Err}
-use Rattle.std.proofs.lemmas.Bool.Decides.{nat_tests}
-use Rattle.shared_terms.specs.declared.role.Role.{Role}
-use Rattle.shared_terms.specs.Role.{other}
-use Rattle.shared_terms.specs.Both.{of}
-use Rattle.break_signals.specs.Breaks.{waits}
-use Rattle.lapm_frames.specs.declared.arrived.Arrived.{Arrived}
-use Rattle.lapm_frames.specs.declared.heard.Heard.{Heard}
-use Rattle.lapm_frames.specs.declared.heard.Heard.TheVariants.{Nothing, Passed, Lost, Chance}
-use Rattle.link_account.specs.declared.phase.Phase.TheVariants.{Connected, Releasing}
-use Rattle.shared_terms.specs.declared.fault.LinkFault.{LinkFault}
-use Rattle.link_account.specs.Account.{Account, is_connected}
-use Rattle.link_account.specs.Hear.{hear}
-use Rattle.link_account.specs.Speak.{speak}
-use Rattle.link_run.specs.End.{User, is_busy}
-use Rattle.link_run.specs.Run.{Link, Accounts, Turn}
-use Rattle.link_run.specs.Starved.{IsLost, LosesSome}
+use Rattle.std.proofs.Common.{◌⊎◌, inl, inr, ◌≡◌, ℕ, ◌+◌, ◌*◌, ◌<◌, ◌≤◌, Bool, true, false, List, length, arith, refl, sym, ◌∙◌, ap, subst}
+use Rattle.std.proofs.Common.{Some, Ok, Err}
+use Rattle.link_account.proofs.Names.{nat_tests, Role, other, of, waits, Arrived, Heard, Nothing, Passed, Lost, Chance, LinkFault, Account}
+use Rattle.link_account.proofs.Names.{is_connected, hear, speak, false≢true}
+use Rattle.link_run.proofs.Names.{Connected, Releasing, User, is_busy, Link, Accounts, Turn, LosesSome, Phase, Detecting, Negotiating}
+use Rattle.link_run.proofs.Names.{Establishing}
+use Rattle.link_run.specs.Starved.{IsLost}
 use Rattle.turn_bound.specs.Time.{KeepsTime}
 use Rattle.turn_bound.specs.Due.{NoneDue}
 use Rattle.turn_bound.proofs.Clock.{Rates, rates, AreRates, Sends}
@@ -27,7 +16,6 @@ use Rattle.turn_bound.proofs.MeetHear.{of_arrived}
 use Rattle.turn_bound.proofs.OneTurn.{heard-ok}
 use Rattle.turn_losses.specs.Polls.{is_poll}
 use Rattle.turn_losses.proofs.NumberTurn.{poll-ok}
-use Rattle.link_account.specs.declared.phase.Phase.{Phase}
 use Rattle.turn_bound.proofs.Phases.{hears-well}
 use Rattle.turn_bound.proofs.Serves.{serves-well}
 use Rattle.turn_bound.proofs.Serving.{Served, serves-all}
@@ -38,9 +26,6 @@ use Rattle.turn_losses.proofs.PollHear.{PollHeard, poll-hears}
 use Rattle.turn_losses.proofs.Trace.{Deed, Trace}
 use Rattle.turn_losses.proofs.TwoEnds.{EndRun, TwoEnds, end_run}
 use Rattle.turn_losses.proofs.AnswerTurn.{linked-sends, connected-is}
-use Rattle.std.proofs.lemmas.Bool.{false≢true}
-use Rattle.link_account.specs.declared.phase.Phase.{Phase}
-use Rattle.link_account.specs.declared.phase.Phase.TheVariants.{Detecting, Negotiating, Establishing, Connected, Releasing}
 use Rattle.link_account.proofs.SpeakWays.{Ended, TryEnds, ReleaseEnds, TimerEnds, BreakEnds, Breaks, Undetected, Spends, why-broken}
 use Rattle.turn_losses.proofs.HeardCount.{CountKept, count-hears}
 use Rattle.turn_losses.proofs.PollLaws.{two-ends}

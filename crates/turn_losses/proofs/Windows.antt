@@ -1,10 +1,7 @@
 -- How soon a BRK goes, and the BRKACK that answers it.
 use Rattle.std.proofs.Common.{◌⊎◌, inl, inr, ◌≡◌, ℕ, zero, suc, ◌+◌, ◌-◌, ◌*◌, ◌<◌, ◌≤◌, ◌&&◌, Bool, true, false, nat_le, arith, refl, sym}
 use Rattle.std.proofs.Common.{◌∙◌, ap, subst}
-use Rattle.std.proofs.lemmas.Bool.{cases_lt}
-use Rattle.std.proofs.lemmas.Bool.Decides.{nat_tests}
-use Rattle.break_signals.specs.Breaks.{waits}
-use Rattle.link_account.specs.Account.{Account, is_connected}
+use Rattle.link_account.proofs.Names.{cases_lt, nat_tests, waits, Account, is_connected}
 use Rattle.turn_bound.proofs.MeetHear.{of_frame, of_arrived}
 use Rattle.turn_losses.specs.Polls.{is_poll}
 use Rattle.turn_losses.proofs.PollHear.{linked-connected}
