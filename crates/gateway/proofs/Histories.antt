@@ -27,8 +27,10 @@ use Rattle.link_account.specs.declared.setup.Setup.{Setup}
 use Rattle.link_account.specs.Account.{Account, fresh, check_of, wants, piece_size, after_given, after_offer, after_delivery, after_break_asked, after_busy, is_connected, delivers}
 use Rattle.link_account.specs.Hear.{hear}
 use Rattle.link_account.specs.Speak.{Said, speak}
-use Rattle.link_account.specs.Play.{Slot, Play, Event, arrives, spoken, heard, happens, play, start, seen_from}
+use Rattle.link_account.specs.Play.{Slot, Side, Play, Event, arrives, spoken, heard, happens, play, start, seen_from}
 use Rattle.link_account.specs.Play as plays
+use Rattle.link_account.proofs.Events.{side, at, slot_of, play-append, hears-event, passes-event, loses-event, speaks-event, gives-event}
+use Rattle.link_account.proofs.Events.{delivers-event, asked-event, busy-event, offered-event}
 use Rattle.link_account.specs.declared.phase.Phase.{Phase}
 use Rattle.link_account.specs.declared.phase.Phase.TheVariants as phases
 use Rattle.link_account.specs.Laws.{MayPlay, played, TakesInOrder, has_begun, WantsAnswers, BreaksForWantAlone}
@@ -49,7 +51,8 @@ use Rattle.gateway.specs.Endpoints.{HeardAs, SaysAs, OfferedAs, AnswersBreak, lo
 use Rattle.gateway.specs.Histories.{EndSide, Move, Speaks, Passes, Is_lost, Hears_nothing, Is_offered, Is_asked, Is_delivered, Is_busy}
 use Rattle.gateway.specs.Histories.{CarriesTold, HearsNothing, SpeaksOf, LosesOf, PassesOf, OfferedOf, AskedOf, DeliveredOf}
 use Rattle.gateway.specs.Histories.{SpeakingBreaksForWant, HearingNeverBreaks, IsMade, Step, Begins, History, HistoriesArePlays, HistoriesKeepPrefixes, with_offered, with_delivered}
-use Rattle.gateway.proofs.Lists.{Lists, lists, Grows, grows-heard, kept-spoken, breaks-not}
+use Rattle.gateway.proofs.Lists.{Lists, lists, Grows, grows-heard, kept-spoken}
+use Rattle.link_account.proofs.HearWays.{breaks-not}
 use Rattle.gateway.proofs.Agreeing.{OnSent, Reads, face, KnowsAt, knows-turned, knows-as, nothing-arrives, first-arrives, knows-less, knows-heard, knows-spoken, agreed_check, check-sent, check-heard, knows-first}
 
 -- what is known of frames and their octets, of receivers and of offers
@@ -63,101 +66,9 @@ pub record HistoryLaws : Type 0 where
 
 -- ---- plays
 
--- a play where neither end is broken; the first account and line are those of the role
-abbrev pub at : Role → Account → List Slot → Account → List Slot → Play
-at Originator x lx y ly =
-    record { originator = record { account = x; line = lx; fault = None }; answerer = record { account = y; line = ly; fault = None } }
-at Answerer x lx y ly =
-    record { originator = record { account = y; line = ly; fault = None }; answerer = record { account = x; line = lx; fault = None } }
-
 at-other : (role : Role) (x : Account) (lx : List Slot) (y : Account) (ly : List Slot) → at role x lx y ly ≡ at (other role) y ly x lx
 at-other Originator x lx y ly = refl
 at-other Answerer x lx y ly = refl
-
-play-append : (es fs : List Event) (p : Play) → play (es ++ fs) p ≡ play fs (play es p)
-play-append [] fs p = refl
-play-append (e ∷ es) fs p = play-append es fs (happens e p)
-
-hears-event : (role : Role) (turn : ℕ) (x b y : Account) (lx ly : List Slot) → hear turn arrivals.Nothing x ≡ Ok b
-    → happens (plays.Hears_nothing role turn) (at role x lx y ly) ≡ at role b lx y ly
-hears-event Originator turn x b y lx ly e =
-    ap (λ r. record {
-      originator = heard r (record { account = x; line = lx; fault = None });
-      answerer = record { account = y; line = ly; fault = None };
-    }) e
-hears-event Answerer turn x b y lx ly e =
-    ap (λ r. record {
-      originator = record { account = y; line = ly; fault = None };
-      answerer = heard r (record { account = x; line = lx; fault = None });
-    }) e
-
-passes-event : (role : Role) (turn : ℕ) (x y b : Account) (slot : Slot) (rest ly : List Slot) → hear turn (arrives slot.sent) y ≡ Ok b
-    → happens (plays.Passes role turn) (at role x (slot ∷ rest) y ly) ≡ at role x rest b ly
-passes-event Originator turn x y b slot rest ly e =
-    ap (λ r. record {
-      originator = record { account = x; line = rest; fault = None };
-      answerer = heard r (record { account = y; line = ly; fault = None });
-    }) e
-passes-event Answerer turn x y b slot rest ly e =
-    ap (λ r. record {
-      originator = heard r (record { account = y; line = ly; fault = None });
-      answerer = record { account = x; line = rest; fault = None };
-    }) e
-
-loses-event : (role : Role) (x y : Account) (slot : Slot) (rest ly : List Slot)
-    → happens (plays.Is_lost role) (at role x (slot ∷ rest) y ly) ≡ at role x rest y ly
-loses-event Originator x y slot rest ly = refl
-loses-event Answerer x y slot rest ly = refl
-
-abbrev slot_of : Account → Said → Slot
-slot_of x said = record { sent = said.sent; number = said.number; told = length x.incoming.taken }
-
-speaks-event : (role : Role) (turn : ℕ) (release : Bool) (x y : Account) (lx ly : List Slot) (said : Said) → speak turn release x ≡ Ok said
-    → happens (plays.Speaks role turn release) (at role x lx y ly) ≡ at role said.account (lx ++ slot_of x said ∷ []) y ly
-speaks-event Originator turn release x y lx ly said e =
-    ap (λ r. record {
-      originator = spoken r (record { account = x; line = lx; fault = None });
-      answerer = record { account = y; line = ly; fault = None };
-    }) e
-speaks-event Answerer turn release x y lx ly said e =
-    ap (λ r. record {
-      originator = record { account = y; line = ly; fault = None };
-      answerer = spoken r (record { account = x; line = lx; fault = None });
-    }) e
-
-gives-event : (role : Role) (x y : Account) (lx ly : List Slot)
-    → happens (plays.Gives_break role) (at role x lx y ly) ≡ at role (after_given x) lx y ly
-gives-event Originator x y lx ly = refl
-gives-event Answerer x y lx ly = refl
-
-delivers-event : (role : Role) (x y : Account) (lx ly : List Slot)
-    → happens (plays.Delivers role) (at role x lx y ly) ≡ at role (after_delivery x) lx y ly
-delivers-event Originator x y lx ly = refl
-delivers-event Answerer x y lx ly = refl
-
-asked-event : (role : Role) (turn units : ℕ) (x y : Account) (lx ly : List Slot)
-    → happens (plays.Is_asked role turn units) (at role x lx y ly) ≡ at role (after_break_asked turn units x) lx y ly
-asked-event Originator turn units x y lx ly = refl
-asked-event Answerer turn units x y lx ly = refl
-
-busy-event : (role : Role) (busy : Bool) (x y : Account) (lx ly : List Slot)
-    → happens (plays.Is_busy role busy) (at role x lx y ly) ≡ at role (after_busy busy x) lx y ly
-busy-event Originator busy x y lx ly = refl
-busy-event Answerer busy x y lx ly = refl
-
-offered-event : (role : Role) (piece : List ℕ) (x y : Account) (lx ly : List Slot)
-    → (is_some (wants x) && nat_le (length piece) (piece_size x)) ≡ true
-    → happens (plays.Is_offered role piece) (at role x lx y ly) ≡ at role (after_offer piece x) lx y ly
-offered-event Originator piece x y lx ly e =
-    ap (λ (c : Bool). record {
-      originator = cond c (record { account = after_offer piece x; line = lx; fault = None }) (record { account = x; line = lx; fault = None });
-      answerer = record { account = y; line = ly; fault = None };
-    }) e
-offered-event Answerer piece x y lx ly e =
-    ap (λ (c : Bool). record {
-      originator = record { account = y; line = ly; fault = None };
-      answerer = cond c (record { account = after_offer piece x; line = lx; fault = None }) (record { account = x; line = lx; fault = None });
-    }) e
 
 -- a piece that is taken is wanted
 taken-wanted : (count size : ℕ) (number : Option ℕ) → true ≡ is_taken count (longest_wanted number size)
@@ -762,15 +673,15 @@ speaking-fault : (role : Role) (turn : ℕ) (release : Bool) (x y : Account) (lx
     → speak turn release x ≡ Err fault
     → (seen_from role (happens (plays.Speaks role turn release) (at role x lx y ly))).own.fault ≡ Some fault
 speaking-fault Originator turn release x y lx ly fault e =
-    ap (λ r. (spoken r (record { account = x; line = lx; fault = None })).fault) e
+    ap (λ r. (spoken r (side x lx)).fault) e
 speaking-fault Answerer turn release x y lx ly fault e =
-    ap (λ r. (spoken r (record { account = x; line = lx; fault = None })).fault) e
+    ap (λ r. (spoken r (side x lx)).fault) e
 
 passing-fault : (role : Role) (turn : ℕ) (x y : Account) (slot : Slot) (rest ly : List Slot) (fault : LinkFault)
     → hear turn (arrives slot.sent) y ≡ Err fault
     → (seen_from (other role) (happens (plays.Passes role turn) (at role x (slot ∷ rest) y ly))).own.fault ≡ Some fault
-passing-fault Originator turn x y slot rest ly fault e = ap (λ r. (heard r (record { account = y; line = ly; fault = None })).fault) e
-passing-fault Answerer turn x y slot rest ly fault e = ap (λ r. (heard r (record { account = y; line = ly; fault = None })).fault) e
+passing-fault Originator turn x y slot rest ly fault e = ap (λ r. (heard r (side y ly)).fault) e
+passing-fault Answerer turn x y slot rest ly fault e = ap (λ r. (heard r (side y ly)).fault) e
 
 pub speaking_breaks_for_want : HistoryLaws → BreaksForWantAlone → SpeakingBreaksForWant
 speaking_breaks_for_want laws wants_alone so sa steps ends m hist role release new fault s =

@@ -108,18 +108,6 @@ module _ (keeps : KeepsTaken) (turn : ℕ) (a : Account) where
   grows-heard arrived b e =
       hears.by-ways Hears turn a (record { nothing = same a refl; linked = connected; early = λ c. early }) arrived b e
 
--- an end that hears breaks for no want of answers
-pub breaks-not : (turn : ℕ) (arrived : Arrived) (a : Account) (fault : LinkFault) → hear turn arrived a ≡ Err fault
-    → WantsAnswers (Some fault) → ⊥
-breaks-not turn arrived a fault e = go fault (refused turn arrived a fault e)
-  where
-    go : (fault : LinkFault) → hears.IsRefusal fault → WantsAnswers (Some fault) → ⊥
-    go NotDetected r w = r
-    go (Spent segment since) r w = r
-    go (BadAck nr va high) r w = w
-    go (PeerReset va vr) r w = w
-    go PeerRefused r w = w
-
 -- ---- speaking
 
 asked-in : (n : ℕ) (a : Account)

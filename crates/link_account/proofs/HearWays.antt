@@ -21,6 +21,8 @@ use Rattle.link_account.specs.Hear.{replying, taking, hurrying, pausing, peer_re
 use Rattle.link_account.specs.Hear.{on_establishing, on_releasing, on_closed, on_xid_command, on_xid_response}
 use Rattle.lapm_frames.specs.declared.arrived.Arrived.TheVariants as arrivals
 use Rattle.link_account.specs.declared.answer.Answer.TheVariants as answers
+use Rattle.link_account.specs.Laws.{WantsAnswers}
+use Rattle.shared_terms.specs.declared.fault.LinkFault.TheVariants.{BadAck, PeerReset, PeerRefused}
 
 -- an end that breaks as it hears doesn't break for want of answers
 abbrev pub IsRefusal : LinkFault → Type 0
@@ -338,6 +340,18 @@ refused turn x a fault f = subst (OnHeard (λ b. Unit {0})) f (go a.phase refl)
     go Establishing e = early (λ x b. Unit {0}) turn a (any-early turn a) tt x (ap is_connected e)
     go Releasing e = early (λ x b. Unit {0}) turn a (any-early turn a) tt x (ap is_connected e)
     go Closed e = early (λ x b. Unit {0}) turn a (any-early turn a) tt x (ap is_connected e)
+
+-- so it doesn't break for want of answers
+pub breaks-not : (turn : ℕ) (arrived : Arrived) (a : Account) (fault : LinkFault) → hear turn arrived a ≡ Err fault
+    → WantsAnswers (Some fault) → ⊥
+breaks-not turn arrived a fault e w = go fault (refused turn arrived a fault e) w
+  where
+    go : (f : LinkFault) → IsRefusal f → WantsAnswers (Some f) → ⊥
+    go NotDetected r w = r
+    go (Spent segment since) r w = r
+    go (BadAck nr va high) r w = w
+    go (PeerReset va vr) r w = w
+    go PeerRefused r w = w
 
 -- what hearing a number leaves of the sender's part
 pub record NumberKeeps (o new : Outgoing) : Type 0 where

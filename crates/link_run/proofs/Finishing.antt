@@ -16,7 +16,8 @@ use Rattle.link_run.specs.Laws.{HoldWhole, DoneIsWhole}
 use Rattle.link_run.proofs.Keeping.{Books, stage, GoesOn, hears, Standing, standing, stands-heard}
 use Rattle.link_run.proofs.Speaking.{Ledger, Speaks, Keeps_on, Releases, stands-spoken}
 use Rattle.link_run.proofs.Serving.{Waiting, served-alone, busy-alone}
-use Rattle.link_run.proofs.Playing.{at, then-leads, serves}
+use Rattle.link_run.proofs.Playing.{then-leads, serves}
+use Rattle.link_account.proofs.Events.{at}
 use Rattle.link_run.proofs.Running.{begun, Reaches, speaks-at, run-handed, hearing-waits, hearing-reaches, run-reaches}
 use Rattle.link_run.proofs.Cutting.{linked-stage}
 use Rattle.link_run.proofs.Ending.{AtBoth, kept-heard, kept-run, HasSetup, setups-kept, HasCut, cuts-kept, Facts, PlayLaws, facts}

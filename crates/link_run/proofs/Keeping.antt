@@ -314,17 +314,6 @@ pub hears : (reads : ReadsAllowed) (keeps : KeepsTaken) (turn : ℕ) (arrived : 
     → GoesOn a b
 hears reads keeps turn arrived a b e = by-ways (λ x b. GoesOn a b) turn a (ways reads keeps turn a) arrived b e
 
-pub breaks-not : (turn : ℕ) (arrived : Arrived) (a : Account) (fault : LinkFault) → hear turn arrived a ≡ Err fault
-    → WantsAnswers (Some fault) → ⊥
-breaks-not turn arrived a fault e w = go fault (refused turn arrived a fault e) w
-  where
-    go : (f : LinkFault) → IsRefusal f → WantsAnswers (Some f) → ⊥
-    go NotDetected r w = r
-    go (Spent segment since) r w = r
-    go (BadAck nr va high) r w = w
-    go (PeerReset va vr) r w = w
-    go PeerRefused r w = w
-
 -- an originator that was told to release, or a closed end: nothing of this changes any more
 pub record Standing : Type 0 where
   pub outgoing : Outgoing

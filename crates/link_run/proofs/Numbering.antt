@@ -23,25 +23,22 @@ Sends high said = SentAs (sequence_in said.sent) said.number high said.account.o
 segment : (turn : ℕ) (a : Account) → IsInRange a.outgoing → AllSaid (Sends a.outgoing.high) (says_segment turn (may_send a) a)
 segment turn a r = allowed (is_originator a.setup.role || a.numbered)
   where
-    o : Outgoing
-    o = a.outgoing
-
-    chosen : (ns : List ℕ) → o.chosen ≡ ns → AllSaid (Sends o.high) (says_segment turn (next_among ns o) a)
+    chosen : (ns : List ℕ) → a.outgoing.chosen ≡ ns → AllSaid (Sends a.outgoing.high) (says_segment turn (next_among ns a.outgoing) a)
     chosen (n ∷ rest) e =
-        let first = subst (AllByRecursion (λ m. (o.front ≤ m) × (m < o.high))) e r.chosen in
-        (refl, omega (arith, first.0.1), omega (arith, first.0.0, r.few), ap (λ ns. (sent_among ns o).high) e)
-    chosen [] e = go (nat_lt o.from (length o.pieces) && nat_lt o.from (o.front + o.window))
+        let first = subst (AllByRecursion (λ m. (a.outgoing.front ≤ m) × (m < a.outgoing.high))) e r.chosen in
+        (refl, omega (arith, first.0.1), omega (arith, first.0.0, r.few), ap (λ ns. (sent_among ns a.outgoing).high) e)
+    chosen [] e = go (nat_lt a.outgoing.from (length a.outgoing.pieces) && nat_lt a.outgoing.from (a.outgoing.front + a.outgoing.window))
       where
-        go : (b : Bool) → AllSaid (Sends o.high) (says_segment turn (cond b (Some o.from) None) a)
-        go true = (refl, r.from_high, omega (arith, r.front_from, r.few), ap (λ ns. (sent_among ns o).high) e)
+        go : (b : Bool) → AllSaid (Sends a.outgoing.high) (says_segment turn (cond b (Some a.outgoing.from) None) a)
+        go true = (refl, r.from_high, omega (arith, r.front_from, r.few), ap (λ ns. (sent_among ns a.outgoing).high) e)
         go false = tt
 
-    stopped : (b : Bool) → AllSaid (Sends o.high) (says_segment turn (cond b None (next_among o.chosen o)) a)
+    stopped : (b : Bool) → AllSaid (Sends a.outgoing.high) (says_segment turn (cond b None (next_among a.outgoing.chosen a.outgoing)) a)
     stopped true = tt
-    stopped false = chosen o.chosen refl
+    stopped false = chosen a.outgoing.chosen refl
 
-    allowed : (b : Bool) → AllSaid (Sends o.high) (says_segment turn (cond b (next_number o) None) a)
-    allowed true = stopped (o.awaited || o.paused)
+    allowed : (b : Bool) → AllSaid (Sends a.outgoing.high) (says_segment turn (cond b (next_number a.outgoing) None) a)
+    allowed true = stopped (a.outgoing.awaited || a.outgoing.paused)
     allowed false = tt
 
 -- what changes nothing of them

@@ -11,8 +11,8 @@ use Rattle.link_run.specs.Laws.{told_by_play, told_by_turn, IsAt, IsPlayed, Runs
 use Rattle.link_run.proofs.Keeping.{hears}
 use Rattle.link_run.proofs.Speaking.{speaks}
 use Rattle.link_run.proofs.Serving.{Handed, Waiting, heard-waits, served-handed, spoken-handed}
-use Rattle.link_run.proofs.Playing.{at, Leads, stay, then-leads, one, arrives-next, behind, told-behind, turns-behind, serves, speaks-one}
-use Rattle.link_run.proofs.Playing.{slot_of}
+use Rattle.link_run.proofs.Playing.{Leads, stay, then-leads, one, arrives-next, behind, told-behind, turns-behind, serves}
+use Rattle.link_account.proofs.Events.{at, speaks-event, slot_of}
 use Rattle.link_run.specs.Run as run
 use Rattle.link_run.proofs.Speaking as speaking
 
@@ -128,8 +128,8 @@ going-reaches link delay ts before t after some p c g w =
     (then-leads p1 p2 p5 (serves Originator link.orig.user turn r g.mid.orig g.mid.answ m.lo m.la (w Originator))
     (then-leads p2 p3 p5 (serves Answerer link.answ.user turn r g.mid.answ o m.la m.lo (w Answerer))
     (then-leads p3 p4 p5 (one (Speaks Originator turn (releases link turn g.mid)) p3 p4
-    (speaks-one Originator turn (releases link turn g.mid) o a m.lo m.la ko.said ko.says))
-    (one (Speaks Answerer turn false) p4 p5 (speaks-one Answerer turn false a ko.said.account m.la lo ka.said ka.says))))) in
+    (speaks-event Originator turn (releases link turn g.mid) o a m.lo m.la ko.said ko.says))
+    (one (Speaks Answerer turn false) p4 p5 (speaks-event Answerer turn false a ko.said.account m.la lo ka.said ka.says))))) in
     record {
       lo = lo;
       la = la;

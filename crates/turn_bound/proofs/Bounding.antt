@@ -1,7 +1,7 @@
 -- The laws of runs over lines that carry what is sent, by what holds of runs with queues.
 use Rattle.std.proofs.Common.{ℕ, ◌+◌, ◌*◌, ◌<◌, ◌≤◌, map, length, arith, sym, ◌∙◌, ap, subst, false}
 use Rattle.link_account.proofs.Names.{Role, Originator, Answerer, of}
-use Rattle.link_run.proofs.Names.{is_released, Link, Accounts, Turn, RunOf, served_at, releases}
+use Rattle.link_run.proofs.Names.{is_released, served_at, releases}
 use Rattle.link_run.specs.Run.{BrokenTurn, IsBroken}
 use Rattle.turn_bound.specs.Bound.{of_both, weight, most_turns, offered_to, EndsSoon, EndsSoonByFiles, EndsSoonByOctets}
 use Rattle.turn_bound.specs.Offered.{HoldsFile, IsWithin, OffersWithin}

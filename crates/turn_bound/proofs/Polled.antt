@@ -120,9 +120,6 @@ poll-turn z user turn role arrived a mid released release said y k h er light qu
     served-stands = (serves-well z (length a.outgoing.pieces) (length user.breaks) turn
         (is_busy turn user.busy) role first.0 mid b y first.1.stands first.1.phase s).stands
 
-    k' : IsOf z b.setup
-    k' = subst (IsOf z) (sym (s.setup ∙ first.1.setup)) k
-
     nothing : is_connected b.phase ≡ false → polls said.sent ≡ 0
     nothing e = ap nineteen_if (says-unpolled turn release b said e speaks)
 
@@ -152,6 +149,6 @@ poll-turn z user turn role arrived a mid released release said y k h er light qu
             )
         by false f = omega (
           arith,
-          linked-rated z turn role b said y k' f,
+          linked-rated z turn role b said y (subst (IsOf z) (sym (s.setup ∙ first.1.setup)) k) f,
           begun-most (turn + 1) said.account.phase said.account (so.begun ∙ ap is_begun e),
         )

@@ -4,16 +4,13 @@ use Rattle.std.proofs.Common.{length, arith, refl, sym, ◌∙◌, ap, Option, S
 use Rattle.link_account.proofs.Names.{is_some, cases_lt, nat_tests, Frame, I, Rr, Rnr, Rej, Srej, Sabme, Disc, Ua, Dm, Ui, Xid, meant, Sent}
 use Rattle.link_account.proofs.Names.{Arrived, is_connected, arrives}
 use Rattle.lapm_frames.specs.declared.frame.Frame.TheVariants.{Frmr, Test}
-use Rattle.turn_bound.proofs.MeetHear.{of_arrived}
-use Rattle.turn_losses.specs.Polls.{is_final}
-use Rattle.turn_losses.proofs.Polling.{is_linked}
-use Rattle.turn_losses.proofs.TwoEnds.{EndRun, ArrivesLate, TwoEnds, hears_final}
 use Rattle.turn_losses.proofs.KeepsPolls.{Answers}
 use Rattle.turn_losses.proofs.NumberHear.{frame_nr, nr_heard, ns_heard, nr_sent, ns_sent, NumbersHeard}
 use Rattle.turn_losses.proofs.NumberTurn.{NumberTurn}
 use Rattle.turn_losses.proofs.Room.{Room}
 use Rattle.turn_losses.proofs.PollLaws.{reply-matches}
 use Rattle.turn_losses.proofs.PeriodLaws.{linked-on, connected-back, awaits-on, NoneLost, StayConnected}
+use Rattle.turn_losses.proofs.Names.{of_arrived, is_final, is_linked, EndRun, ArrivesLate, TwoEnds, hears_final}
 use Rattle.lapm_frames.specs.declared.sent.Sent.TheVariants as slots
 use Rattle.lapm_frames.specs.declared.arrived.Arrived.TheVariants as arrivals
 
@@ -139,13 +136,10 @@ front-or-cleared turns e o c s (suc n) l h = go (front-or-cleared turns e o c s 
         → ((e.account (s + suc n)).outgoing.front ≡ (e.account s).outgoing.front)
         ⊎ ((v : ℕ) × (s ≤ v) × (v < s + suc n) × ((e.mid v).outgoing.count ≡ 0))
     go (inr (v, x, y, z)) = inr (v, x, omega (arith, y), z)
-    go (inl q) = by w.heard.advance
-      where
-        by : ((e.mid t).outgoing.front ≡ (e.account t).outgoing.front) ⊎ ((e.mid t).outgoing.count ≡ 0)
-            → ((e.account (s + suc n)).outgoing.front ≡ (e.account s).outgoing.front)
-            ⊎ ((v : ℕ) × (s ≤ v) × (v < s + suc n) × ((e.mid v).outgoing.count ≡ 0))
-        by (inl p) = inl (ap (λ x. (e.account x).outgoing.front) (omega arith) ∙ (w.front ∙ (p ∙ q)))
-        by (inr p) = inr (t, omega arith, omega arith, p)
+    go (inl q) = elim w.heard.advance [
+      | inl p ↦ inl (ap (λ x. (e.account x).outgoing.front) (omega arith) ∙ (w.front ∙ (p ∙ q)))
+      | inr p ↦ inr (t, omega arith, omega arith, p)
+    ]
 
 -- what is taken stays taken
 taken-rises : (turns : ℕ) (e o : EndRun) → Counts turns e o → (s n : ℕ) → s + n ≤ turns → StayConnected o s (s + n)
@@ -174,9 +168,6 @@ pub acknowledged : (period turns : ℕ) (e o : EndRun) → TwoEnds period turns 
     → (v : ℕ) × (u < v) × (v ≤ u + (e.delay + o.delay) + 1) × ((e.mid v).outgoing.count ≡ 0)
 acknowledged period turns e o k c u within final sends ce co lost = go-told (own-numbers.heard)
   where
-    d : 1 ≤ e.delay
-    d = k.own_delay
-
     d' : 1 ≤ o.delay
     d' = k.other_delay
 
@@ -224,7 +215,7 @@ acknowledged period turns e o k c u within final sends ce co lost = go-told (own
         t = w + 1 + n
 
         q : NumberTurn (o.heard t) (o.slot t) (o.account t) (o.mid t) (o.account (t + 1))
-        q = o-turn t (omega arith) (omega (arith, l, d))
+        q = o-turn t (omega arith) (omega (arith, l, k.own_delay))
 
         none : (h : Option ℕ) → ns_heard (o.heard t) ≡ h → (o.mid t).incoming ≡ (o.account t).incoming
         none None g = q.heard.incoming.same g
@@ -239,7 +230,7 @@ acknowledged period turns e o k c u within final sends ce co lost = go-told (own
             let linked : is_linked (e.account (m.due + 1)).phase ≡ true =
             (k.own m.due (omega (arith, low, high, within))).made_linked m.made in
             let cu = ce u (omega arith) (omega arith) in
-            let after-due : m.due + 1 ≤ y = omega (arith, fr, tr, due-before, d) in
+            let after-due : m.due + 1 ≤ y = omega (arith, fr, tr, due-before, k.own_delay) in
             let cy = connected-back period turns e o k y u (omega (arith, high)) (omega (arith, within))
             (linked-on period turns e o k (m.due + 1) y after-due (omega (arith, high, within)) linked) cu in
             let cy' = connected-back period turns e o k (y + 1) u high (omega (arith, within))
@@ -276,7 +267,7 @@ acknowledged period turns e o k c u within final sends ce co lost = go-told (own
 
             low : f ≤ r
             low = let a = c.acked u (omega (arith, within)) in let b = ap length (o-turn u (omega arith) (omega arith)).taken in let s =
-                stands-at (u + 1) (omega (arith, before-u)) (omega (arith, d)) in omega (arith, a, b, s)
+                stands-at (u + 1) (omega (arith, before-u)) (omega (arith, k.own_delay)) in omega (arith, a, b, s)
 
             high : r ≤ (e.account u).outgoing.front + 127
             high = let a = c.offered u (omega (arith, within)) in let s = stands-at u before-u (omega arith) in let p =
@@ -291,7 +282,7 @@ acknowledged period turns e o k c u within final sends ce co lost = go-told (own
 
             comes : ns_heard (o.heard x) ≡ Some (f % 128)
             comes = told-to ns_heard ns_sent ns-told e.delay u (o.loses x) e.slot (o.heard x) (k.is_heard x (omega (arith, within, d')))
-                (lost x (omega (arith, d)) (omega (arith, d'))).1 ∙ sends
+                (lost x (omega (arith, k.own_delay)) (omega (arith, d'))).1 ∙ sends
 
             next-taken : (length (o.account x).incoming.taken < length (o.mid x).incoming.taken) × ((o.mid x).incoming.owed ≡ true)
             next-taken = ox.heard.incoming.in_order (f % 128) comes

@@ -5,19 +5,11 @@ use Rattle.link_account.proofs.Names.{is_connected, is_originator, hear, trying,
 use Rattle.link_run.proofs.Names.{Phase, Detecting, Negotiating, Establishing, Connected, Releasing, Closed, User, is_busy, is_released}
 use Rattle.link_account.specs.Speak.{timer_expires}
 use Rattle.link_account.proofs.SpeakWays.{OnSaid, tries-alike, by-tries}
-use Rattle.turn_bound.proofs.Clock.{Rates, AreRates, Sends}
-use Rattle.turn_bound.proofs.Value.{IsOf, Stands, arrived_rnrs}
-use Rattle.turn_bound.proofs.Run.{served_account}
-use Rattle.turn_bound.proofs.OneTurn.{heard-ok}
-use Rattle.turn_bound.proofs.Phases.{hears-well}
-use Rattle.turn_bound.proofs.Serves.{serves-well}
-use Rattle.turn_bound.specs.Due.{NoneDue}
-use Rattle.turn_bound.proofs.Serving.{Served, serves-all}
 use Rattle.turn_losses.proofs.Answered.{SendsSegment, AnswerTurn}
 use Rattle.turn_losses.proofs.Answering.{AnswerHeard, frame_rnr, answer-hears, Segment, urgent-says, front-may}
 use Rattle.turn_losses.proofs.PollHear.{PollHeard, PollHears, poll-hears}
-use Rattle.turn_losses.specs.Polls.{is_poll, is_final}
-use Rattle.turn_bound.proofs.MeetHear.{of_arrived}
+use Rattle.turn_losses.proofs.Names.{Rates, AreRates, Sends, IsOf, Stands, arrived_rnrs, served_account, heard-ok, hears-well, serves-well}
+use Rattle.turn_losses.proofs.Names.{NoneDue, Served, serves-all, is_poll, is_final, of_arrived}
 use Rattle.lapm_frames.specs.declared.arrived.Arrived.TheVariants as arrivals
 
 pub linked-sends : (z : Rates) (before turn : ℕ) (r : Role) (p : Phase) (a : Account) → Stands z before turn r p a → is_connected p ≡ true

@@ -1,28 +1,22 @@
 -- A Connected answerer that gives up was starved.
-use Rattle.std.proofs.Common.{◌⊎◌, inl, inr, ◌≡◌, ℕ, ◌<◌, ◌≤◌, Bool, true, false, List, length, arith, refl, sym, ◌∙◌, ap, subst, Some}
+use Rattle.std.proofs.Common.{inl, inr, ◌≡◌, ℕ, ◌<◌, ◌≤◌, Bool, true, false, List, length, arith, refl, sym, ◌∙◌, ap, subst, Some}
 use Rattle.std.proofs.Common.{None}
 use Rattle.link_account.proofs.Names.{Role, Originator, Answerer, is_connected, IsAllowed, hear}
 use Rattle.link_run.proofs.Names.{Phase, Connected, is_released, Link, Accounts, Turn, Hears, arrival, RunsOver, Detecting, Negotiating}
 use Rattle.link_run.proofs.Names.{Establishing, Releasing, Closed}
-use Rattle.turn_bound.specs.Time.{KeepsTime}
-use Rattle.turn_bound.proofs.Clock.{Rates, rates}
-use Rattle.turn_bound.proofs.Value.{IsOf}
-use Rattle.turn_losses.specs.Losses.{LosesEach, AnswererWantsAnswers}
+use Rattle.turn_losses.specs.Losses.{AnswererWantsAnswers}
 use Rattle.turn_losses.proofs.Room.{begins-roomy}
-use Rattle.turn_losses.proofs.Trace.{past}
 use Rattle.turn_losses.proofs.Tracing.{Known, known, Timed, timed, rated, Traced, traced, silent-of}
 use Rattle.turn_losses.proofs.Numbering.{Plays, allowed, fits-at, counts-of}
 use Rattle.turn_losses.proofs.Wanting.{LastTry, last-try, wants-answers}
-use Rattle.turn_bound.proofs.MeetHear.{of_arrived}
-use Rattle.turn_losses.specs.Polls.{is_poll}
-use Rattle.turn_losses.proofs.Polling.{is_linked}
 use Rattle.turn_losses.proofs.PollHear.{PollHeard, poll-hears, linked-connected}
 use Rattle.turn_losses.proofs.NumberTurn.{poll-ok}
-use Rattle.turn_losses.proofs.TwoEnds.{EndRun, TwoEnds, end_run}
 use Rattle.turn_losses.proofs.PollLaws.{two-ends, turned}
 use Rattle.turn_losses.proofs.PeriodLaws.{linked-on, connected-back}
 use Rattle.turn_losses.proofs.Numbered.{numbered-linked}
 use Rattle.turn_losses.proofs.Starving.{all-but-one}
+use Rattle.turn_losses.proofs.Names.{KeepsTime, Rates, rates, IsOf, LosesEach, past, of_arrived, is_poll, is_linked, EndRun, TwoEnds}
+use Rattle.turn_losses.proofs.Names.{end_run}
 
 only-connected : (p : Phase) → is_linked p ≡ true → is_released p ≡ false → is_connected p ≡ true
 only-connected Detecting l r = cc
@@ -85,11 +79,10 @@ answerer-each laws tries period delay link ts before t mid kt run hearing going 
         (k Originator).none_due.answer)
 
     peer-last : is_connected before.orig.phase ≡ true
-    peer-last = by (heard.from (only-connected mid.orig.phase (heard.linked linked-last) going))
-      where
-        by : (is_connected before.orig.phase ≡ true) ⊎ (is_linked before.orig.phase ≡ false) → is_connected before.orig.phase ≡ true
-        by (inl c) = c
-        by (inr u) = let wrong : true ≡ false = sym linked-last ∙ u in cc
+    peer-last = elim (heard.from (only-connected mid.orig.phase (heard.linked linked-last) going)) [
+      | inl c ↦ c
+      | inr u ↦ (let wrong : true ≡ false = sym linked-last ∙ u in cc)
+    ]
 
     both : (s u : ℕ) → s < turns → s ≤ u → u ≤ turns → (w.deed s).made Answerer ≡ true → is_connected (w.state s).answ.phase ≡ true
         → is_connected (w.state u).answ.phase ≡ true → is_connected (w.state u).orig.phase ≡ true

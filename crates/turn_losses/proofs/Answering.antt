@@ -6,11 +6,9 @@ use Rattle.link_run.proofs.Names.{Connected, Answer}
 use Rattle.lapm_sender.specs.Outgoing.{wait_ended, paused_at, after_next, expired, next_among}
 use Rattle.link_account.specs.Hear.{ends_wait}
 use Rattle.link_account.proofs.HearWays.{Plain, IsUa, IsXid, IsTest, IsNoWord, ConnectedWays, numbered_with, acked, acked_back, by-linked}
-use Rattle.turn_bound.proofs.MeetHear.{of_arrived}
 use Rattle.link_account.specs.Speak.{else_says, where_says, answering, polling, timer_expires, breaking, says_segment, after_timers}
 use Rattle.link_account.specs.Speak.{then_tries}
-use Rattle.turn_bound.proofs.Clock.{Rates, Sends}
-use Rattle.turn_losses.specs.Polls.{is_final}
+use Rattle.turn_losses.proofs.Names.{of_arrived, Rates, Sends, is_final}
 use Rattle.lapm_frames.specs.declared.arrived.Arrived.TheVariants as arrivals
 use Rattle.lapm_frames.specs.declared.sent.Sent.TheVariants as slots
 

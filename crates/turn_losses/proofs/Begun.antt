@@ -5,18 +5,12 @@ use Rattle.link_account.proofs.Names.{owing, Said, speak}
 use Rattle.link_run.proofs.Names.{Phase, Connected, is_released, Link, Accounts, Turn, SpeaksAt, arrival, served_at, said_at}
 use Rattle.link_account.specs.Hear.{first_wait}
 use Rattle.link_account.proofs.SpeakWays.{Tries}
-use Rattle.turn_bound.specs.Time.{KeepsTime}
-use Rattle.turn_bound.proofs.Clock.{rates}
-use Rattle.turn_bound.proofs.MeetHear.{of_arrived}
-use Rattle.turn_bound.proofs.Serving.{serves-all}
-use Rattle.turn_losses.specs.Polls.{is_poll, is_final}
-use Rattle.turn_losses.proofs.Polling.{is_linked}
 use Rattle.turn_losses.proofs.PollHear.{poll-hears}
 use Rattle.turn_losses.proofs.PollSpeak.{poll-speaks}
 use Rattle.turn_losses.proofs.NumberTurn.{poll-ok, speak-ok}
-use Rattle.turn_losses.proofs.Trace.{Deed, Happens, Trace, past}
 use Rattle.turn_losses.proofs.Tracing.{Known, known, timed, release_of, said-as}
 use Rattle.turn_losses.proofs.BreakHear.{of_word}
+use Rattle.turn_losses.proofs.Names.{KeepsTime, rates, of_arrived, serves-all, is_poll, is_final, is_linked, Deed, Happens, Trace, past}
 use Rattle.lapm_frames.specs.declared.arrived.Arrived.TheVariants as arrivals
 use Rattle.link_account.specs.declared.answer.Answer.TheVariants as answers
 use Rattle.link_account.proofs.HearWays as HearWays

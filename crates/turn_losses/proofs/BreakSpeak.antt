@@ -10,11 +10,10 @@ use Rattle.break_signals.specs.Words.{spelled}
 use Rattle.break_signals.specs.Breaks.{own_due, after_brk, after_ack}
 use Rattle.break_signals.specs.declared.fault.BreakFault.TheVariants.{Number}
 use Rattle.link_account.specs.Speak.{says_word}
-use Rattle.turn_bound.proofs.MeetHear.{of_frame}
 use Rattle.turn_bound.proofs.Value.{IsAck}
 use Rattle.link_account.proofs.SpeakWays.{NoWord, Steps, steps-so, polling_at, by-linked}
-use Rattle.turn_losses.specs.Polls.{is_poll, is_final}
 use Rattle.turn_losses.proofs.BreakHear.{is_word, of_word, brk_of, ack_of, any_brk, pends, pends_of}
+use Rattle.turn_losses.proofs.Names.{of_frame, is_poll, is_final}
 use Rattle.lapm_frames.specs.declared.sent.Sent.TheVariants as slots
 use Rattle.link_account.specs.declared.answer.Answer.TheVariants as answers
 

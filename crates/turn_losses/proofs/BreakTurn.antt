@@ -2,10 +2,9 @@
 use Rattle.std.proofs.Common.{◌⊎◌, inl, inr, ◌≡◌, ℕ, ◌+◌, ◌%◌, ◌<◌, ◌≤◌, ◌&&◌, ◌||◌, not, Bool, true, false, cond, nat_le, nat_lt, List, []}
 use Rattle.std.proofs.Common.{◌∷◌, ◌++◌, length, length-append, arith, refl, sym, ◌∙◌, ap, None}
 use Rattle.link_account.proofs.Names.{is_some, nat_tests, OwnBreaks, waits, after_ask, Sent, Arrived, Account, is_connected, Said}
-use Rattle.turn_bound.proofs.MeetHear.{of_frame, of_arrived}
-use Rattle.turn_losses.specs.Polls.{is_poll, is_final}
 use Rattle.turn_losses.proofs.BreakHear.{of_word, brk_of, ack_of, any_brk, pends, pends_of, BreakHeard}
 use Rattle.turn_losses.proofs.BreakSpeak.{holds, SaidBreaks}
+use Rattle.turn_losses.proofs.Names.{of_frame, of_arrived, is_poll, is_final}
 
 -- between turns: a break waits, of this number; its BRK is due; a BRKACK is due; the first segment is urgent
 abbrev pub break_waits : Account → Bool
@@ -191,14 +190,10 @@ break-turn-of period turn arrived a mid b said ca cc' high per long special thei
     Ended = (waits a.own_breaks ≡ true) × (waits mid.own_breaks ≡ false) × (mid.own_breaks.brk ≡ false) × (mid.own_breaks.rest ≡ turn + 8)
 
     heard-own : (mid.own_breaks ≡ a.own_breaks) ⊎ Ended
-    heard-own = by h.own
-      where
-        by : (mid.own_breaks ≡ a.own_breaks)
-            ⊎ ((waits a.own_breaks ≡ true) × (mid.own_breaks.answered ≡ a.own_breaks.answered + 1)
-            × (mid.own_breaks.lengths ≡ a.own_breaks.lengths) × (mid.own_breaks.brk ≡ false) × (mid.own_breaks.rest ≡ turn + 8))
-            → (mid.own_breaks ≡ a.own_breaks) ⊎ Ended
-        by (inl x) = inl x
-        by (inr (w, n, l, d, r)) = inr (w, waits-not mid.own_breaks (let q = ap length l in omega (arith, n, q, high)), d, r)
+    heard-own = elim h.own [
+      | inl x ↦ inl x
+      | inr z ↦ (inr (z.0, waits-not mid.own_breaks (let q = ap length z.2 in omega (arith, z.1, q, high)), z.3, z.4))
+    ]
 
     either-made : made ≡ true → (s.taken ≡ true) ⊎ ((s.taken ≡ false) × (k.ticks ≡ true))
     either-made m = by s.taken refl m
@@ -227,11 +222,10 @@ break-turn-of period turn arrived a mid b said ca cc' high per long special thei
         by true f = let y = k.yes f in let z = (s.yes e).3 in let q = y.1 in absurd (omega (arith, q, z, per, long))
 
     made-set : made ≡ true → (waits c.own_breaks ≡ true) × (c.own_breaks.set ≡ turn)
-    made-set m = by (either-made m)
-      where
-        by : (s.taken ≡ true) ⊎ ((s.taken ≡ false) × (k.ticks ≡ true)) → (waits c.own_breaks ≡ true) × (c.own_breaks.set ≡ turn)
-        by (inl e) = (waits-said ∙ (s.yes e).5, k.no (untaken e) ∙ (s.yes e).3)
-        by (inr (e, f)) = (waits-said ∙ (k.yes f).0, (k.yes f).2)
+    made-set m = elim (either-made m) [
+      | inl e ↦ (waits-said ∙ (s.yes e).5, k.no (untaken e) ∙ (s.yes e).3)
+      | inr z ↦ (waits-said ∙ (k.yes z.1).0, (k.yes z.1).2)
+    ]
 
     made-late : made ≡ true → ((waits a.own_breaks ≡ true) × (turn ≡ a.own_breaks.set + period))
         ⊎ ((waits a.own_breaks ≡ false) × (a.own_breaks.rest ≤ turn))
@@ -298,11 +292,10 @@ break-turn-of period turn arrived a mid b said ca cc' high per long special thei
         or-second false y f = f
 
         still : (brk_due a ≡ true) ⊎ (made ≡ true) → (mid.own_breaks ≡ a.own_breaks) ⊎ Ended → k.ticks || b.own_breaks.brk ≡ true
-        still (inr m) o = on (either-made m)
-          where
-            on : (s.taken ≡ true) ⊎ ((s.taken ≡ false) × (k.ticks ≡ true)) → k.ticks || b.own_breaks.brk ≡ true
-            on (inl f) = or-second k.ticks b.own_breaks.brk (s.yes f).2
-            on (inr (f, g)) = ap (λ z. z || b.own_breaks.brk) g
+        still (inr m) o = elim (either-made m) [
+          | inl f ↦ or-second k.ticks b.own_breaks.brk (s.yes f).2
+          | inr y ↦ ap (λ z. z || b.own_breaks.brk) y.1
+        ]
         still (inl d) o = on s.taken refl o
           where
             on : (y : Bool) → s.taken ≡ y → (mid.own_breaks ≡ a.own_breaks) ⊎ Ended → k.ticks || b.own_breaks.brk ≡ true
@@ -378,22 +371,13 @@ break-turn-of period turn arrived a mid b said ca cc' high per long special thei
             → ((ack_due a ≡ true) × (k.acks ≡ false)) ⊎ ((of_arrived (of_word any_brk) arrived ≡ true) × (k.acks ≡ false))
         by (inr (n, x, y)) = let wrong : true ≡ false = sym (and-second (is_connected c.phase) (pends c.their_breaks.ack) e)
             ∙ ap pends n in cc
-        by (inl (q, f)) = on (ack-heard (ap (λ t. pends t.ack) (sym q) ∙ and-second (is_connected c.phase) (pends c.their_breaks.ack) e))
-          where
-            on : (ack_due a ≡ true) ⊎ (of_arrived (of_word any_brk) arrived ≡ true)
-                → ((ack_due a ≡ true) × (k.acks ≡ false)) ⊎ ((of_arrived (of_word any_brk) arrived ≡ true) × (k.acks ≡ false))
-            on (inl x) = inl (x, f)
-            on (inr x) = inr (x, f)
+        by (inl (q, f)) = elim (ack-heard (ap (λ t. pends t.ack) (sym q) ∙ and-second (is_connected c.phase) (pends c.their_breaks.ack) e)) [
+          | inl x ↦ inl (x, f)
+          | inr x ↦ inr (x, f)
+        ]
 
     acked : k.acks ≡ true → (ack_due a ≡ true) ⊎ (of_arrived (of_word any_brk) arrived ≡ true)
-    acked e = by k.ack
-      where
-        by : ((c.their_breaks ≡ b.their_breaks) × (k.acks ≡ false))
-            ⊎ ((c.their_breaks.ack ≡ None) × (pends b.their_breaks.ack ≡ true) × ((n : ℕ) → n < 2 → pends_of n b.their_breaks.ack ≡ true
-            → of_frame (of_word (ack_of n)) said.sent ≡ true))
-            → (ack_due a ≡ true) ⊎ (of_arrived (of_word any_brk) arrived ≡ true)
-        by (inl (q, f)) = clash k.acks e f
-        by (inr (n, x, y)) = ack-heard x
+    acked e = elim k.ack [ inl z ↦ clash k.acks e z.1 | inr z ↦ ack-heard z.1 ]
 
     asked : (n : ℕ) → n < 2 → pends_of n b.their_breaks.ack ≡ true
         → ((c.their_breaks ≡ b.their_breaks) × (k.acks ≡ false))
@@ -404,8 +388,4 @@ break-turn-of period turn arrived a mid b said ca cc' high per long special thei
     asked n l e (inr (x, y, z)) = inr (z n l e)
 
     urgent-from : mid.wait.urgent ≡ true → (is_urgent a ≡ true) ⊎ (of_arrived is_final arrived ≡ true)
-    urgent-from e = by (h.urgent e)
-      where
-        by : (a.wait.urgent ≡ true) ⊎ (of_arrived is_final arrived ≡ true) → (is_urgent a ≡ true) ⊎ (of_arrived is_final arrived ≡ true)
-        by (inl x) = inl (and-true (is_connected a.phase) a.wait.urgent ca x)
-        by (inr x) = inr x
+    urgent-from e = elim (h.urgent e) [ inl x ↦ inl (and-true (is_connected a.phase) a.wait.urgent ca x) | inr x ↦ inr x ]

@@ -7,20 +7,11 @@ use Rattle.link_run.proofs.Names.{Phase, Detecting, Negotiating, Connected, Rele
 use Rattle.link_run.proofs.Names.{Turn, Hears, RunOf, arrival, served_at, releases, IsCarried, LosesSome}
 use Rattle.link_account.specs.Hear.{on_seen, on_pattern}
 use Rattle.link_account.specs.Speak.{else_says, answering, speak_detecting}
-use Rattle.turn_bound.specs.Time.{KeepsTime}
 use Rattle.turn_bound.specs.Spent.{SpendsOnTime}
-use Rattle.turn_bound.proofs.Clock.{Rates, rates}
-use Rattle.turn_bound.proofs.Value.{IsOf, arrived_rnrs}
-use Rattle.turn_bound.proofs.Run.{served_account}
-use Rattle.turn_bound.proofs.OneTurn.{heard-ok}
-use Rattle.turn_bound.proofs.Phases.{hears-well}
-use Rattle.turn_bound.proofs.Serving.{Served, serves-all}
-use Rattle.turn_losses.specs.Losses.{PeriodLoses, OriginatorWantsPattern, UndetectedIsStarved}
+use Rattle.turn_losses.specs.Losses.{OriginatorWantsPattern, UndetectedIsStarved}
 use Rattle.link_account.proofs.HearWays.{numbers-alike}
 use Rattle.link_account.proofs.SpeakWays.{tries-alike, linked-so, why-broken, Undetected, Spends}
 use Rattle.turn_losses.proofs.PollSpeak.{linked-poll}
-use Rattle.turn_losses.proofs.Trace.{past, sent_or}
-use Rattle.turn_losses.proofs.TwoEnds.{EndRun, TwoEnds, end_run}
 use Rattle.turn_losses.proofs.Tracing.{known, timed, rated, Traced, traced}
 use Rattle.turn_losses.proofs.PollLaws.{two-ends}
 use Rattle.turn_losses.proofs.PeriodLaws.{NoneLost}
@@ -28,6 +19,8 @@ use Rattle.turn_losses.proofs.PeriodHolds.{LostIn, lost-or-none}
 use Rattle.turn_losses.proofs.Keeping.{turn-is}
 use Rattle.turn_losses.proofs.Wanting.{lost-is}
 use Rattle.turn_losses.proofs.Starving.{all-but-one}
+use Rattle.turn_losses.proofs.Names.{KeepsTime, Rates, rates, IsOf, arrived_rnrs, served_account, heard-ok, hears-well, Served, serves-all}
+use Rattle.turn_losses.proofs.Names.{PeriodLoses, past, sent_or, EndRun, TwoEnds, end_run}
 use Rattle.lapm_frames.specs.declared.seen.Seen.TheVariants as seens
 use Rattle.lapm_frames.specs.declared.sent.Sent.TheVariants as slots
 use Rattle.lapm_frames.specs.declared.arrived.Arrived.TheVariants as arrivals

@@ -3,12 +3,7 @@ use Rattle.std.proofs.Common.{inl, inr, ◌≡◌, ℕ, ◌+◌, ◌-◌, ◌*�
 use Rattle.std.proofs.Common.{subst}
 use Rattle.link_account.proofs.Names.{cases_lt, Role, Originator, Answerer, of, ReadsWritten, waits, is_connected}
 use Rattle.link_run.proofs.Names.{is_released, Link, Accounts, Turn, Hears, arrival, served_at, Carries, RunsOver}
-use Rattle.turn_bound.specs.Time.{KeepsTime}
-use Rattle.turn_bound.specs.Together.{Together, StandTogether}
-use Rattle.turn_bound.proofs.MeetHear.{of_arrived}
-use Rattle.turn_losses.specs.Losses.{PeriodLoses, LosesEach}
-use Rattle.turn_losses.proofs.Trace.{Deed, Trace, past}
-use Rattle.turn_losses.proofs.TwoEnds.{TwoEnds, end_run}
+use Rattle.turn_bound.specs.Together.{Together}
 use Rattle.turn_losses.proofs.Tracing.{Traced, traced}
 use Rattle.turn_losses.proofs.AnswerTurn.{connected-is}
 use Rattle.turn_losses.proofs.LineLaw.{was-sent}
@@ -22,6 +17,7 @@ use Rattle.turn_losses.proofs.Waiting.{BreakPeriod, break-periods}
 use Rattle.turn_losses.proofs.Losing.{connected-loses, last-ends}
 use Rattle.turn_losses.proofs.Quiet.{answ-no-sabme}
 use Rattle.turn_losses.proofs.Spending.{LastWait}
+use Rattle.turn_losses.proofs.Names.{KeepsTime, StandTogether, of_arrived, PeriodLoses, LosesEach, Deed, Trace, past, TwoEnds, end_run}
 
 -- the periods of the break that waits at the end
 pub periods-of : (tries period : ℕ) (delay : Role → ℕ) (link : Link) (ts : List Turn) (state : ℕ → Accounts) (deed : ℕ → Deed)

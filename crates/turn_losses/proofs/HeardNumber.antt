@@ -7,12 +7,11 @@ use Rattle.link_account.proofs.Names.{Account}
 use Rattle.lapm_sender.specs.Numbers.{with_number}
 use Rattle.link_account.specs.Hear.{timer_after, ends_wait}
 use Rattle.link_account.proofs.HearWays.{Numbers, numbered_with, resumed-unpaused, acked, acked_back, Plain, IsUa, IsXid, IsTest, IsNoWord}
-use Rattle.turn_bound.proofs.Clock.{Rates, Sends, is_waiting}
+use Rattle.turn_bound.proofs.Clock.{is_waiting}
 use Rattle.turn_bound.proofs.Sender.{Heard, heard-clock, meant-range, heard-advanced, heard-resumed, heard-selected, acked-heard}
 use Rattle.turn_bound.proofs.MeetHear.{resumed-awaited}
-use Rattle.turn_losses.specs.Polls.{is_poll, is_final}
-use Rattle.turn_losses.proofs.Polling.{SetFrom}
 use Rattle.turn_losses.proofs.Words.{is_word, of_word}
+use Rattle.turn_losses.proofs.Names.{Rates, Sends, is_poll, is_final, SetFrom}
 use Rattle.lapm_frames.specs.declared.arrived.Arrived.TheVariants as arrivals
 
 -- The retry count and the timer are as they were, or the count is 0.

@@ -5,17 +5,15 @@ use Rattle.link_account.proofs.Names.{is_connected}
 use Rattle.link_run.proofs.Names.{Link, Accounts, Spoken, Turn, arrival, sent_in, sent_ago}
 use Rattle.link_run.specs.Overheard.{passes_in}
 use Rattle.link_run.specs.Starved.{turn_at}
-use Rattle.turn_bound.proofs.MeetHear.{of_frame, of_arrived}
-use Rattle.turn_losses.specs.Polls.{is_poll, is_final, is_frame_of, sends_of, PollsIn, PollsKeepApart, RepliesAtOnce, AnswersPoll}
-use Rattle.turn_losses.specs.Polls.{AnswersMatchPolls}
-use Rattle.turn_losses.proofs.Trace.{Deed, Trace, past, sent_or}
-use Rattle.turn_losses.proofs.TwoEnds.{EndRun, TwoEnds, end_run, sends_poll, hears_poll, sends_final, hears_final}
+use Rattle.turn_losses.specs.Polls.{is_frame_of, sends_of, PollsIn, PollsKeepApart, RepliesAtOnce, AnswersPoll, AnswersMatchPolls}
 use Rattle.turn_losses.proofs.KeepsPolls.{Answers, KeepsPolls, StillAwaited}
 use Rattle.turn_losses.proofs.Tracing.{Traced, traced, OneMore, traced-turn, past-all, past-before}
 use Rattle.turn_losses.proofs.LineLaw.{looked}
 use Rattle.turn_losses.proofs.PollLaws.{two-ends, due-apart, poll-fresh, poll-held-up, polls-apart, reply-from, reply-at-once}
 use Rattle.turn_losses.proofs.PollLaws.{reply-matches}
 use Rattle.turn_losses.proofs.PeriodLaws.{still-awaited}
+use Rattle.turn_losses.proofs.Names.{of_frame, of_arrived, is_poll, is_final, Deed, Trace, past, sent_or, EndRun, TwoEnds, end_run}
+use Rattle.turn_losses.proofs.Names.{sends_poll, hears_poll, sends_final, hears_final}
 use Rattle.lapm_frames.specs.declared.sent.Sent.TheVariants as slots
 
 keeps-polls : (period turns : ℕ) (e o : EndRun) → TwoEnds period turns e o → KeepsPolls period turns e o

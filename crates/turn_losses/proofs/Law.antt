@@ -6,10 +6,6 @@ use Rattle.link_run.proofs.Names.{arrival, served_at}
 use Rattle.link_account.specs.Account.{break_waits}
 use Rattle.link_run.specs.Run.{BrokenTurn}
 use Rattle.link_run.specs.Starved.{IsStarved}
-use Rattle.turn_bound.specs.Together.{StandTogether}
-use Rattle.turn_bound.proofs.Clock.{Rates, rates}
-use Rattle.turn_bound.proofs.Value.{IsOf}
-use Rattle.turn_bound.proofs.Serving.{serves-all}
 use Rattle.turn_losses.proofs.AnswerTurn.{connected-is}
 use Rattle.turn_losses.proofs.Tracing.{Known, known, Timed, timed, rated, release_of}
 use Rattle.turn_losses.proofs.Numbering.{Plays, allowed, fits-at}
@@ -17,13 +13,13 @@ use Rattle.turn_losses.proofs.Room.{begins-roomy}
 use Rattle.turn_losses.proofs.Wanting.{SpendsTries, LastTry, last-try-of, SpendsBreak, connected-spends}
 use Rattle.turn_losses.proofs.Starving.{originator-each, all-but-one}
 use Rattle.turn_losses.proofs.Answerer.{answerer-each}
-use Rattle.turn_losses.specs.Tries.{GivesUpForLosses}
 use Rattle.turn_losses.proofs.Setups.{heard-setup, served-setup}
 use Rattle.turn_losses.proofs.Parting.{parted-each, all-but-last}
 use Rattle.turn_losses.specs.Breaks.{GivesUpStarved}
 use Rattle.turn_losses.proofs.Spending.{LastWait, last-wait}
 use Rattle.turn_losses.proofs.Ending.{originator-breaks}
 use Rattle.turn_losses.proofs.Sparing.{answerer-breaks, of-period}
+use Rattle.turn_losses.proofs.Names.{StandTogether, Rates, rates, IsOf, serves-all, GivesUpForLosses}
 
 pub record Base : Type 0 where
   pub plays : Plays

@@ -1,3 +1,4 @@
+pub mod Names
 pub mod Polls
 pub mod Polling
 pub mod Answered

@@ -3,14 +3,10 @@ use Rattle.std.proofs.Common.{refl, sym, ◌∙◌, ap, subst, Some, None}
 use Rattle.link_account.proofs.Names.{cases_lt, Role, Frame, Sent, Arrived, Account, is_connected, arrives, slice_get, other, of}
 use Rattle.link_run.proofs.Names.{Link, Accounts, Turn, arrival, Crosses, sent_in}
 use Rattle.link_run.specs.Carried.{HasDelays}
-use Rattle.turn_bound.proofs.Tied.{is_lost, sent_of, none-heard, one-heard}
-use Rattle.turn_losses.proofs.Trace.{past, sent_or, Deed, Happens, Trace}
-use Rattle.turn_losses.specs.Polls.{is_poll}
-use Rattle.turn_bound.proofs.MeetHear.{of_frame, of_arrived}
-use Rattle.turn_losses.proofs.Polling.{is_linked, poll_due, PollTurn}
+use Rattle.turn_bound.proofs.Tied.{sent_of, none-heard, one-heard}
 use Rattle.turn_losses.proofs.Polls.{Polls, WasSent}
-use Rattle.turn_losses.proofs.TwoEnds.{ArrivesLate}
-use Rattle.turn_bound.proofs.Meeting.{arrives-flag}
+use Rattle.turn_losses.proofs.Names.{is_lost, past, sent_or, Deed, Trace, is_poll, of_frame, of_arrived, is_linked, poll_due}
+use Rattle.turn_losses.proofs.Names.{PollTurn, ArrivesLate, arrives-flag}
 use Rattle.lapm_frames.specs.declared.arrived.Arrived.TheVariants as arrivals
 
 -- the turn so many turns ago
@@ -40,15 +36,12 @@ arrives-late period delay link ts state deed some w role t within = record { ear
     d : ℕ
     d = delay (other role)
 
-    h : Happens period delay link (past ts t) t (state t) (deed t) (state (t + 1))
-    h = w.happens t within
-
     crosses : Crosses (sent_in (other role) (slice_get (past ts t) (d - 1))) (of role (deed t).turn).heard
-    crosses = h.carries role
+    crosses = (w.happens t within).carries role
 
     early : t < d → arrival (of role (deed t).turn).heard ≡ arrivals.Nothing
     early l =
-        let number = h.number in
+        let number = (w.happens t within).number in
         sym (none-heard (sent_in (other role) (slice_get (past ts t) (d - 1))) (of role (deed t).turn).heard
         (ap (sent_in (other role)) (get-none (past ts t) (d - 1) (omega (arith, number, l)))) crosses)
 

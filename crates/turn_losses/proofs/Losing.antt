@@ -4,15 +4,6 @@ use Rattle.std.proofs.Common.{ap, subst, Ok}
 use Rattle.link_account.proofs.Names.{slice_get, cases_lt, nat_tests, Role, Originator, Answerer, other, of, Frame, ReadsWritten, OwnBreaks}
 use Rattle.link_account.proofs.Names.{waits, Arrived, Account, is_connected, MayPlay, hear, arrives}
 use Rattle.link_run.proofs.Names.{User, is_busy, Link, Accounts, Turn, SpeaksAt, arrival, said_at, Carries, sent_in, LosesSome}
-use Rattle.turn_bound.specs.Time.{KeepsTime}
-use Rattle.turn_bound.proofs.MeetHear.{of_frame, of_arrived}
-use Rattle.turn_bound.proofs.Meeting.{arrives-flag}
-use Rattle.turn_bound.proofs.Serving.{serves-all}
-use Rattle.turn_bound.proofs.Run.{served_account}
-use Rattle.turn_bound.proofs.Tied.{is_lost}
-use Rattle.turn_losses.specs.Losses.{PeriodLoses}
-use Rattle.turn_losses.proofs.Trace.{Deed, Trace, past, sent_or}
-use Rattle.turn_losses.proofs.TwoEnds.{EndRun, TwoEnds, end_run}
 use Rattle.turn_losses.proofs.Tracing.{past-all}
 use Rattle.turn_losses.proofs.LineLaw.{is-heard, looked, was-sent}
 use Rattle.turn_losses.proofs.PollLaws.{two-ends}
@@ -30,6 +21,8 @@ use Rattle.turn_losses.proofs.View.{deeds-of, breaking, served-own}
 use Rattle.turn_losses.proofs.Windows.{off}
 use Rattle.turn_losses.proofs.Waiting.{BreakPeriod, break-answered}
 use Rattle.turn_losses.proofs.Quiet.{answers-sabme, sends-sabme-so}
+use Rattle.turn_losses.proofs.Names.{KeepsTime, of_frame, of_arrived, arrives-flag, serves-all, served_account, is_lost, PeriodLoses, Deed}
+use Rattle.turn_losses.proofs.Names.{Trace, past, sent_or, EndRun, TwoEnds, end_run}
 
 not-true : (b : Bool) → (b ≡ true → ⊥) → b ≡ false
 not-true true f = absurd (f refl)
@@ -149,17 +142,8 @@ connected-loses reads tries period delay link ts state deed kt m w t cs r number
     d' : ℕ → Deeds
     d' = deeds-of tries period delay link ts state deed kt w (other r)
 
-    p : period ≡ 2 * (e.delay + o.delay) + 16
-    p = k.period_is
-
-    one : 1 ≤ e.delay
-    one = k.own_delay
-
-    one' : 1 ≤ o.delay
-    one' = k.other_delay
-
     long : 1 ≤ period
-    long = omega (arith, p)
+    long = omega (arith, k.period_is)
 
     within : s + period ≤ turns
     within = let x = once n in omega (arith, q, x)
@@ -178,7 +162,7 @@ connected-loses reads tries period delay link ts state deed kt m w t cs r number
         (co (u + 1) (omega (arith, a)) (omega (arith, b))) f in
         let c = was-sent e.delay turns is_sabme e.slot o.heard o.loses k.is_heard u (omega (arith, b, within)) heard in
         let v : ℕ = u - e.delay in
-        off (is_connected (e.account (v + 1)).phase) (bp.stays (v + 1) (omega (arith, a)) (omega (arith, a, b, one))).connected
+        off (is_connected (e.account (v + 1)).phase) (bp.stays (v + 1) (omega (arith, a)) (omega (arith, a, b, k.own_delay))).connected
         (sends-sabme-so reads tries period delay link ts state deed kt m w r v (omega (arith, b, within)) c.1))
 
     some : (u : ℕ) → s < u → u ≤ s + period → u < turns → (e.loses u ≡ true) ⊎ (o.loses u ≡ true) → PeriodLoses period turns (t ∷ ts) n
@@ -223,4 +207,4 @@ connected-loses reads tries period delay link ts state deed kt m w t cs r number
             at-end : s + period ≡ turns → (b : Bool) → is_lost (of r t).heard ≡ b → PeriodLoses period turns (t ∷ ts) n
             at-end g true x = loses-last period t ts s n long q g r x
             at-end g false x = absurd
-                (last-no g (last-heard (of_word (ack_of number)) period delay link ts state deed w t cs r one' z (f ∙ g) x ∙ sent))
+                (last-no g (last-heard (of_word (ack_of number)) period delay link ts state deed w t cs r k.other_delay z (f ∙ g) x ∙ sent))

@@ -6,16 +6,12 @@ use Rattle.link_account.proofs.Names.{speak, trying, frame_for}
 use Rattle.link_run.proofs.Names.{Releasing, Answer, is_released, Link, Accounts, Turn, arrival, served_at}
 use Rattle.link_account.proofs.SpeakWays.{tries-alike, linked-so}
 use Rattle.turn_losses.proofs.PollSpeak.{linked-poll}
-use Rattle.turn_bound.specs.Time.{KeepsTime}
-use Rattle.turn_bound.proofs.MeetHear.{of_frame, of_arrived}
-use Rattle.turn_bound.proofs.Serving.{serves-all}
-use Rattle.turn_losses.proofs.Polling.{is_linked}
-use Rattle.turn_losses.proofs.Trace.{Deed, Happens, Trace, past, sent_or}
-use Rattle.turn_losses.proofs.TwoEnds.{EndRun, TwoEnds, end_run}
 use Rattle.turn_losses.proofs.Tracing.{release_of, said-as}
 use Rattle.turn_losses.proofs.LineLaw.{was-sent}
 use Rattle.turn_losses.proofs.PollLaws.{two-ends, turned}
 use Rattle.turn_losses.proofs.PeriodLaws.{linked-on}
+use Rattle.turn_losses.proofs.Names.{KeepsTime, of_frame, of_arrived, serves-all, is_linked, Deed, Happens, Trace, past, sent_or, EndRun}
+use Rattle.turn_losses.proofs.Names.{TwoEnds, end_run}
 use Rattle.link_account.specs.declared.answer.Answer.TheVariants as answers
 use Rattle.link_account.proofs.HearWays as HearWays
 use Rattle.link_account.proofs.SpeakWays as SpeakWays

@@ -14,24 +14,11 @@ use Rattle.link_run.specs.End.{is_ready}
 use Rattle.link_run.specs.Run.{BrokenTurn, finished_at, served_ends}
 use Rattle.link_run.specs.Carried.{has_message}
 use Rattle.link_run.specs.Starved.{SpanLoses, IsStarved, turn_at}
-use Rattle.turn_bound.specs.Time.{KeepsTime}
-use Rattle.turn_bound.proofs.Clock.{Rates, rates, Sends}
-use Rattle.turn_bound.proofs.Value.{IsOf, Stands, arrived_rnrs}
-use Rattle.turn_bound.proofs.Hearing.{HeardAs}
-use Rattle.turn_bound.proofs.MeetHear.{of_frame, of_arrived}
-use Rattle.turn_bound.proofs.Serving.{Served, serves-all}
-use Rattle.turn_bound.proofs.Serves.{serves-well}
-use Rattle.turn_bound.proofs.Meeting.{arrives-flag}
-use Rattle.turn_bound.proofs.Tied.{is_lost}
-use Rattle.turn_losses.specs.Polls.{is_poll}
-use Rattle.turn_losses.specs.Losses.{PeriodLoses, LosesEach, AnswererWantsAnswers}
-use Rattle.turn_losses.proofs.Polling.{is_linked}
+use Rattle.turn_losses.specs.Losses.{AnswererWantsAnswers}
 use Rattle.turn_losses.proofs.PollHear.{PollHeard, poll-hears, linked-connected}
 use Rattle.turn_losses.proofs.PollSpeak.{poll-speaks}
 use Rattle.turn_losses.proofs.AnswerTurn.{connected-is, linked-sends}
 use Rattle.turn_losses.proofs.NumberTurn.{poll-ok, speak-ok}
-use Rattle.turn_losses.proofs.Trace.{Deed, Happens, Trace, past, sent_or}
-use Rattle.turn_losses.proofs.TwoEnds.{EndRun, TwoEnds, end_run, hears_final}
 use Rattle.turn_losses.proofs.Tracing.{Known, known, Timed, timed, rated, Traced, traced, silent-of, past-all}
 use Rattle.turn_losses.proofs.Numbering.{Plays, allowed, fits-at, counts-of}
 use Rattle.turn_losses.proofs.Numbered.{numbered-linked}
@@ -50,10 +37,13 @@ use Rattle.turn_losses.proofs.Wanting.{LastTry, last-try, lost-is}
 use Rattle.turn_losses.proofs.Room.{begins-roomy}
 use Rattle.turn_losses.proofs.Starving.{later-turn}
 use Rattle.turn_losses.specs.Tries.{AnswererWantsAnswer}
-use Rattle.turn_losses.proofs.Moving.{asks, TryGoesOn, TryBegins, try-heard, linked-phase}
+use Rattle.turn_losses.proofs.Moving.{asks, try-heard, linked-phase}
 use Rattle.turn_losses.proofs.Setups.{start-setup, heard-as}
 use Rattle.turn_losses.proofs.TryAnswering.{can_answer, answer-due}
 use Rattle.turn_losses.proofs.Trying.{TryTurn, TriesSo, Tried, tried, tries-so}
+use Rattle.turn_losses.proofs.Names.{KeepsTime, Rates, rates, Sends, IsOf, Stands, arrived_rnrs, HeardAs, of_frame, of_arrived, Served}
+use Rattle.turn_losses.proofs.Names.{serves-all, serves-well, arrives-flag, is_lost, is_poll, PeriodLoses, LosesEach, is_linked, Deed}
+use Rattle.turn_losses.proofs.Names.{Happens, Trace, past, sent_or, EndRun, TwoEnds, end_run, hears_final}
 use Rattle.lapm_frames.specs.declared.sent.Sent.TheVariants as slots
 use Rattle.lapm_frames.specs.declared.arrived.Arrived.TheVariants as arrivals
 
@@ -68,15 +58,9 @@ pub parted-stops : (period turns : ℕ) (e o : EndRun) → TwoEnds period turns 
     → ((e.mid v).outgoing.awaited ≡ false → (e.mid v).outgoing.paused ≡ false → (e.mid v).wait.timer ≡ None)
     → CountKept (e.account v) (e.mid v) → NoneLost e o (s + 1) (period - 1) → ⊥
 parted-stops period turns e o k c s v within before late un co waits stops kept lost =
-    go (answer-comes period turns e o k s (omega (arith, p, within)) un.made (λ t l h. un.on t l (omega (arith, h, p)))
-    (λ t l h. co t l (omega (arith, h, p, late))) (λ t l h. lost t l (omega (arith, h, p))))
+    go (answer-comes period turns e o k s (omega (arith, k.period_is, within)) un.made (λ t l h. un.on t l (omega (arith, h, k.period_is)))
+    (λ t l h. co t l (omega (arith, h, k.period_is, late))) (λ t l h. lost t l (omega (arith, h, k.period_is))))
   where
-    p : period ≡ 2 * (e.delay + o.delay) + 16
-    p = k.period_is
-
-    d : 1 ≤ e.delay
-    d = k.own_delay
-
     counts : (t : ℕ) → s < t → t < s + period → (e.mid t).outgoing.count ≡ 0 → ⊥
     counts t a b z = un.uncleared t a b (c.count_is t ∙ z)
 
@@ -122,21 +106,21 @@ parted-stops period turns e o k c s v within before late un co waits stops kept 
         ct' = un.on (t + 1) (omega (arith, a)) (omega (arith, b))
 
     go : (u : ℕ) × (s + (e.delay + o.delay) ≤ u) × (u ≤ s + (e.delay + o.delay) + 1) × (hears_final e u ≡ true) → ⊥
-    go (u, low, high, h) = ends (subst (λ t. IsFree (e.account t)) (omega (arith, high, late, p))
-        (stays (v - (u + 1)) (omega (arith, high, late, p))))
+    go (u, low, high, h) = ends (subst (λ t. IsFree (e.account t)) (omega (arith, high, late, k.period_is))
+        (stays (v - (u + 1)) (omega (arith, high, late, k.period_is))))
       where
         stays : (n : ℕ) → u + 1 + n ≤ v → IsFree (e.account (u + 1 + n))
         stays zero l = subst (λ t. IsFree (e.account t)) (omega arith)
-            (free-next u (omega (arith, low, d)) (omega (arith, high, p)) (inr h))
+            (free-next u (omega (arith, low, k.own_delay)) (omega (arith, high, k.period_is)) (inr h))
         stays (suc n) l = subst (λ t. IsFree (e.account t)) (omega arith)
             (free-next (u + 1 + n) (omega (arith, low)) (omega (arith, l, before)) (inl (stays n (omega (arith, l)))))
 
         ends : IsFree (e.account v) → ⊥
         ends f = elim kept [
-          | inl z ↦ counts v (omega (arith, late, p)) before z
+          | inl z ↦ counts v (omega (arith, late, k.period_is)) before z
           | inr q ↦ (let stopped = stops (waits ∙ falls false (hears_final e v) (e.account v).outgoing.awaited refl (inl f.0))
-              (unpaused v (omega (arith, late, p)) before (inl f.1)) in
-              let wrong : None ≡ Some s = sym stopped ∙ (q.1 ∙ un.timer v (omega (arith, late, p)) (omega (arith, before))) in cc)
+              (unpaused v (omega (arith, late, k.period_is)) before (inl f.1)) in
+              let wrong : None ≡ Some s = sym stopped ∙ (q.1 ∙ un.timer v (omega (arith, late, k.period_is)) (omega (arith, before))) in cc)
         ]
 
 -- In the turn in which the originator is told to release, the answerer's file is wholly acknowledged and none of its breaks waits.
@@ -311,13 +295,10 @@ told-at reads tries period delay link ts state deed kt m w (suc u) y q = subst (
         connected-b = by (is_connected b.phase) refl
           where
             trying-so : (deed u).mid.orig.phase ≡ Releasing → ⊥
-            trying-so g = on (try-heard (arrival (deed u).turn.orig.heard) u (state u).orig (deed u).mid.orig role
-                (h.hearing Originator).hears Releasing refl g)
-              where
-                on : TryGoesOn Releasing (arrival (deed u).turn.orig.heard) (state u).orig (deed u).mid.orig ⊎ TryBegins u Releasing
-                    (state u).orig (deed u).mid.orig → ⊥
-                on (inl m) = anew m.0
-                on (inr (_, never, _, _, _)) = never refl
+            trying-so g = elim (try-heard (arrival (deed u).turn.orig.heard) u (state u).orig (deed u).mid.orig role (h.hearing Originator).hears Releasing refl g) [
+              | inl m ↦ anew m.0
+              | inr z ↦ z.1 refl
+            ]
 
             either : (b.phase ≡ Releasing) ⊎ (b.phase ≡ Closed) → ⊥
             either (inl g) = trying-so (sym b-is ∙ g)
@@ -332,12 +313,10 @@ told-at reads tries period delay link ts state deed kt m w (suc u) y q = subst (
             (ap (λ (a : Account). is_connected a.phase) (sym s.after_is) ∙ ap is_connected now)
 
         was : is_linked (o.account u).phase ≡ true → is_connected (o.account u).phase ≡ true
-        was f = by (polled.from (ap is_connected (sym b-is ∙ connected-b)))
-          where
-            by : (is_connected (state u).orig.phase ≡ true) ⊎ (is_linked (state u).orig.phase ≡ false)
-                → is_connected (o.account u).phase ≡ true
-            by (inl m) = m
-            by (inr m) = let wrong : true ≡ false = sym f ∙ m in cc
+        was f = elim (polled.from (ap is_connected (sym b-is ∙ connected-b))) [
+          | inl m ↦ m
+          | inr m ↦ (let wrong : true ≡ false = sym f ∙ m in cc)
+        ]
 
 -- what is known of the answerer's segments then
 abbrev HeardIn : (tries period : ℕ) (delay : Role → ℕ) (ts : List Turn) (state : ℕ → Accounts) (deed : ℕ → Deed) → ℕ → Type 0
@@ -499,13 +478,10 @@ parted-each laws reads tries period delay link ts before t mid kt run cs hearing
 
     -- the originator releases as the last turn begins
     releasing : before.orig.phase ≡ Releasing
-    releasing = by (try-heard (arrival t.orig.heard) turns before.orig mid.orig
-        (setup-role tries period delay link ts before kt run.run run.carried Originator) (hearing Originator).hears Releasing refl om)
-      where
-        by : TryGoesOn Releasing (arrival t.orig.heard) before.orig mid.orig ⊎ TryBegins turns Releasing before.orig mid.orig
-            → before.orig.phase ≡ Releasing
-        by (inl y) = y.0
-        by (inr (_, never, _, _, _)) = absurd (never refl)
+    releasing = elim (try-heard (arrival t.orig.heard) turns before.orig mid.orig (setup-role tries period delay link ts before kt run.run run.carried Originator) (hearing Originator).hears Releasing refl om) [
+      | inl y ↦ y.0
+      | inr z ↦ absurd (z.1 refl)
+    ]
 
     releasing-last : (o.account turns).phase ≡ Releasing
     releasing-last = ap (λ (y : Accounts). y.orig.phase) w.last ∙ releasing

@@ -5,19 +5,14 @@ use Rattle.link_account.proofs.Names.{Role, Originator, Answerer, Frame, Sabme, 
 use Rattle.link_account.proofs.Names.{frame_for}
 use Rattle.link_run.proofs.Names.{Phase, Detecting, Negotiating, Establishing, Connected, Releasing, Closed, Answer, is_released, Link}
 use Rattle.link_run.proofs.Names.{Accounts, Turn, SpeaksAt, arrival, served_at, said_at}
-use Rattle.turn_bound.specs.Time.{KeepsTime}
-use Rattle.turn_bound.proofs.Clock.{rates}
-use Rattle.turn_bound.proofs.Value.{Stands}
-use Rattle.turn_bound.proofs.MeetHear.{is_begun, of_frame, of_arrived}
 use Rattle.link_account.proofs.HearWays.{numbers-alike}
 use Rattle.link_account.proofs.SpeakWays.{linked-alike, tries-alike}
 use Rattle.turn_bound.proofs.MeetSpeak.{speaks-so}
-use Rattle.turn_bound.proofs.Serving.{serves-all}
-use Rattle.turn_losses.proofs.Trace.{Deed, Happens, Trace, past, sent_or}
-use Rattle.turn_losses.proofs.TwoEnds.{EndRun, TwoEnds, end_run}
 use Rattle.turn_losses.proofs.Tracing.{known, timed, release_of, said-as}
 use Rattle.turn_losses.proofs.LineLaw.{was-sent}
 use Rattle.turn_losses.proofs.PollLaws.{two-ends}
+use Rattle.turn_losses.proofs.Names.{KeepsTime, rates, Stands, is_begun, of_frame, of_arrived, serves-all, Deed, Happens, Trace, past}
+use Rattle.turn_losses.proofs.Names.{sent_or, EndRun, TwoEnds, end_run}
 use Rattle.lapm_frames.specs.declared.sent.Sent.TheVariants as slots
 use Rattle.link_account.specs.declared.answer.Answer.TheVariants as answers
 use Rattle.link_account.proofs.HearWays as HearWays

@@ -3,11 +3,9 @@ use Rattle.link_account.proofs.Names.{Role, Originator, Answerer, Arrived, LinkF
 use Rattle.link_account.proofs.Names.{on_nothing, without_adp}
 use Rattle.link_run.proofs.Names.{Phase, Detecting, Negotiating, Establishing, Connected, Releasing, Closed}
 use Rattle.link_account.specs.Hear.{first_wait}
-use Rattle.turn_losses.specs.Polls.{is_poll}
-use Rattle.turn_bound.proofs.MeetHear.{of_arrived}
-use Rattle.turn_losses.proofs.Polling.{SetFrom, is_linked}
 use Rattle.link_account.proofs.HearWays.{ConnectedWays, EarlyWays, by-ways}
 use Rattle.turn_losses.proofs.HeardNumber.{number-rows, plain-frame}
+use Rattle.turn_losses.proofs.Names.{is_poll, of_arrived, SetFrom, is_linked}
 
 -- what hearing makes of an end's polls and replies
 pub record PollHeard (role : Role) (turn : ℕ) (polled : Bool) (a b : Account) : Type 0 where

@@ -1,16 +1,12 @@
 use Rattle.std.proofs.Common.{◌⊎◌, inl, inr, ◌≡◌, ℕ, ◌+◌, ◌-◌, ◌*◌, ◌<◌, ◌≤◌, true, false, arith, ap, List, length}
 use Rattle.link_account.proofs.Names.{is_connected, Role, Originator, Answerer, other, of}
 use Rattle.link_run.proofs.Names.{Link, Accounts, Turn, arrival}
-use Rattle.turn_bound.specs.Time.{KeepsTime}
-use Rattle.turn_bound.proofs.Tied.{is_lost}
-use Rattle.turn_losses.proofs.Trace.{sent_or, Deed, Trace}
-use Rattle.turn_losses.specs.Polls.{is_poll, is_final}
-use Rattle.turn_losses.proofs.Polling.{poll_due}
 use Rattle.turn_losses.proofs.Polls.{Polls, WasSent, Fresh}
-use Rattle.turn_losses.proofs.TwoEnds.{EndRun, ArrivesLate, TwoEnds, end_run, sends_poll, hears_poll, sends_final, hears_final}
 use Rattle.turn_losses.proofs.KeepsPolls.{Answers}
 use Rattle.turn_losses.proofs.LineLaw.{arrives-late, was-sent, are-polls}
 use Rattle.turn_losses.proofs.PollsFresh.{polls-fresh, sent-soon, sent-apart}
+use Rattle.turn_losses.proofs.Names.{KeepsTime, is_lost, sent_or, Deed, Trace, is_poll, is_final, poll_due, EndRun, ArrivesLate, TwoEnds}
+use Rattle.turn_losses.proofs.Names.{end_run, sends_poll, hears_poll, sends_final, hears_final}
 
 pub two-ends : (tries period : ℕ) (delay : Role → ℕ) (link : Link) (ts : List Turn) (state : ℕ → Accounts) (deed : ℕ → Deed)
     → KeepsTime tries period delay link → Trace period delay link ts state deed

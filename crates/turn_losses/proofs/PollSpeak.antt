@@ -7,9 +7,7 @@ use Rattle.link_account.specs.Speak.{running}
 use Rattle.link_account.proofs.SpeakWays.{linked-so, Before, Steps, steps-so, polling_at, ConnectedWays, Tries, Ways, by-ways}
 use Rattle.link_account.proofs.SpeakWays.{answers-unconnected, next-keeps}
 use Rattle.turn_losses.proofs.PollHear.{set-same}
-use Rattle.turn_losses.specs.Polls.{is_poll, is_final}
-use Rattle.turn_bound.proofs.MeetHear.{of_frame}
-use Rattle.turn_losses.proofs.Polling.{SetFrom, is_linked}
+use Rattle.turn_losses.proofs.Names.{is_poll, is_final, of_frame, SetFrom, is_linked}
 use Rattle.link_account.specs.declared.answer.Answer.TheVariants as answers
 
 -- What the nine steps make of an end's polls and replies, once its timers are done.

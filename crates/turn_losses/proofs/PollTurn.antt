@@ -1,13 +1,11 @@
 use Rattle.std.proofs.Common.{◌⊎◌, inl, inr, ◌≡◌, ℕ, ◌+◌, ◌≤◌, ◌&&◌, ◌||◌, Bool, true, false, cond, arith, refl, sym, ◌∙◌, ap, Some, None}
 use Rattle.link_account.proofs.Names.{Role, Originator, Answerer, Account, is_connected, Said}
 use Rattle.link_run.proofs.Names.{Phase, Detecting, Negotiating, Establishing, Connected, Releasing, Closed, is_closed, is_released}
-use Rattle.turn_bound.specs.Due.{NoneDue}
 use Rattle.turn_bound.proofs.AtMostOne.{OneDue}
 use Rattle.turn_losses.proofs.PollHear.{PollHeard, linked-connected}
 use Rattle.turn_losses.proofs.PollSpeak.{SaidPoll, SpeakPoll}
-use Rattle.turn_losses.specs.Polls.{is_poll, is_final}
-use Rattle.turn_bound.proofs.MeetHear.{of_frame}
-use Rattle.turn_losses.proofs.Polling.{is_linked, poll_due, Early, PollTurn}
+use Rattle.turn_losses.proofs.Polling.{Early}
+use Rattle.turn_losses.proofs.Names.{NoneDue, is_poll, is_final, of_frame, is_linked, poll_due, PollTurn}
 
 and-left : (b c : Bool) → b && c ≡ true → b ≡ true
 and-left true c e = refl
@@ -75,18 +73,10 @@ poll-turn period turn role polled final a b said some h k one none early untimed
     unlinked-before e = sym k.linked ∙ e
 
     unlinked-first : is_linked b.phase ≡ false → is_linked a.phase ≡ false
-    unlinked-first e = by (either-bool (is_linked a.phase))
-      where
-        by : (is_linked a.phase ≡ true) ⊎ (is_linked a.phase ≡ false) → is_linked a.phase ≡ false
-        by (inl x) = clash (is_linked b.phase) (h.linked x) e
-        by (inr x) = x
+    unlinked-first e = elim (either-bool (is_linked a.phase)) [ inl x ↦ clash (is_linked b.phase) (h.linked x) e | inr x ↦ x ]
 
     not-connected : (p : Phase) → is_linked p ≡ false → is_connected p ≡ false
-    not-connected p e = by (either-bool (is_connected p))
-      where
-        by : (is_connected p ≡ true) ⊎ (is_connected p ≡ false) → is_connected p ≡ false
-        by (inl x) = clash (is_linked p) (linked-connected p x) e
-        by (inr x) = x
+    not-connected p e = elim (either-bool (is_connected p)) [ inl x ↦ clash (is_linked p) (linked-connected p x) e | inr x ↦ x ]
 
     stays-linked : is_linked a.phase ≡ true → is_linked c.phase ≡ true
     stays-linked e = k.linked ∙ h.linked e
@@ -117,27 +107,20 @@ poll-turn period turn role polled final a b said some h k one none early untimed
         by : (is_connected b.phase ≡ true) × SaidPoll turn b said → ⊥
         by (f, l) = on (either-bool l.made)
           where
-            still : b.numbered ≡ false
-            still = sym l.numbered ∙ n
-
             none-polled : (is_connected a.phase ≡ true) ⊎ (is_linked a.phase ≡ false) → b.wait.poll ≡ false
             none-polled (inl x) = h.poll x ∙ early.silent r x (before (either-bool a.numbered))
               where
                 before : (a.numbered ≡ true) ⊎ (a.numbered ≡ false) → a.numbered ≡ false
-                before (inl y) = clash b.numbered (h.heard x y) still
+                before (inl y) = clash b.numbered (h.heard x y) (sym l.numbered ∙ n)
                 before (inr y) = y
             none-polled (inr x) = (h.answers r x f).0 ∙ early.poll x
 
             on : (l.made ≡ true) ⊎ (l.made ≡ false) → ⊥
-            on (inl m) = let w = l.made_from m in let wrong : None ≡ Some w.0 = sym (silent r f still) ∙ w.1 in cc
+            on (inl m) = let w = l.made_from m in let wrong : None ≡ Some w.0 = sym (silent r f (sym l.numbered ∙ n)) ∙ w.1 in cc
             on (inr m) = clash b.wait.poll ((l.kept p).0 m) (none-polled (h.from f))
 
     early-silent : role ≡ Answerer → is_connected c.phase ≡ true → c.numbered ≡ false → c.wait.poll ≡ false
-    early-silent r e n = by (either-bool c.wait.poll)
-      where
-        by : (c.wait.poll ≡ true) ⊎ (c.wait.poll ≡ false) → c.wait.poll ≡ false
-        by (inl p) = absurd (silent-poll e r n p)
-        by (inr p) = p
+    early-silent r e n = elim (either-bool c.wait.poll) [ inl p ↦ absurd (silent-poll e r n p) | inr p ↦ p ]
 
     after-early : Early role c
     after-early = record { poll = early-poll; numbered = early-numbered; silent = early-silent }
@@ -176,21 +159,14 @@ poll-turn period turn role polled final a b said some h k one none early untimed
         or-last false n g = g
 
         by : (is_connected b.phase ≡ true) × SaidPoll turn b said → of_frame is_final said.sent ≡ true
-        by (f, l) = l.replies (on one.one) reply
+        by (f, l) = l.replies (on one.one) (h.asked x f ∙ or-last a.owes.reply polled p)
           where
-            reply : b.owes.reply ≡ true
-            reply = h.asked x f ∙ or-last a.owes.reply polled p
-
             on : (b.owes.answer ≡ None) ⊎ (is_released b.phase ≡ false → b.owes.reply ≡ false) → b.owes.answer ≡ None
             on (inl n) = n
-            on (inr g) = clash b.owes.reply reply (g (connected-released b.phase f))
+            on (inr g) = clash b.owes.reply (h.asked x f ∙ or-last a.owes.reply polled p) (g (connected-released b.phase f))
 
     keeps-count : is_connected a.phase ≡ true → (count ≡ 0) ⊎ (count ≡ a.outgoing.count)
-    keeps-count x = by (keeps x)
-      where
-        by : (count ≡ 0) ⊎ ((count ≡ a.outgoing.count) × (b.wait.timer ≡ a.wait.timer)) → (count ≡ 0) ⊎ (count ≡ a.outgoing.count)
-        by (inl y) = inl y
-        by (inr (y, z)) = inr y
+    keeps-count x = elim (keeps x) [ inl y ↦ inl y | inr x ↦ inr x.0 ]
 
     -- it isn't Connected after the turn
     over : is_connected c.phase ≡ false → (made : Bool) × PollTurn period turn role polled final made count said.sent a c
@@ -276,11 +252,10 @@ poll-turn period turn role polled final a b said some h k one none early untimed
 
         expired-from : (s : ℕ) × (b.wait.timer ≡ Some s) × (turn ≡ s + b.setup.period)
             → (s : ℕ) × (a.wait.timer ≡ Some s) × (turn ≡ s + period)
-        expired-from (s, w, g) = by (h.timer x s w)
-          where
-            by : (s ≡ turn) ⊎ (a.wait.timer ≡ Some s) → (s : ℕ) × (a.wait.timer ≡ Some s) × (turn ≡ s + period)
-            by (inl v) = let wrong : ⊥ = omega (arith, v, g, q, some) in absurd wrong
-            by (inr v) = (s, v, omega (arith, g, q))
+        expired-from (s, w, g) = elim (h.timer x s w) [
+          | inl v ↦ (let wrong : ⊥ = omega (arith, v, g, q, some) in absurd wrong)
+          | inr v ↦ (s, v, omega (arith, g, q))
+        ]
 
     -- it becomes so in it
     begins : is_connected c.phase ≡ true → is_connected b.phase ≡ true → SaidPoll turn b said → is_linked a.phase ≡ false → (r : Role)
@@ -346,11 +321,10 @@ poll-turn period turn role polled final a b said some h k one none early untimed
     )
       where
         none-kept : (l.made ≡ false → b.wait.poll ≡ true) → ⊥
-        none-kept w = by (either-bool l.made)
-          where
-            by : (l.made ≡ true) ⊎ (l.made ≡ false) → ⊥
-            by (inl m) = let v = l.made_from m in let wrong : None ≡ Some v.0 = sym (untimed x) ∙ (sym (h.answers g x f).1 ∙ v.1) in cc
-            by (inr m) = clash b.wait.poll (w m) ((h.answers g x f).0 ∙ early.poll x)
+        none-kept w = elim (either-bool l.made) [
+          | inl m ↦ (let v = l.made_from m in let wrong : None ≡ Some v.0 = sym (untimed x) ∙ (sym (h.answers g x f).1 ∙ v.1) in cc)
+          | inr m ↦ clash b.wait.poll (w m) ((h.answers g x f).0 ∙ early.poll x)
+        ]
 
     go : (is_connected c.phase ≡ true) ⊎ (is_connected c.phase ≡ false)
         → (made : Bool) × PollTurn period turn role polled final made count said.sent a c
@@ -359,9 +333,4 @@ poll-turn period turn role polled final a b said some h k one none early untimed
       where
         by : (is_connected b.phase ≡ true) × SaidPoll turn b said
             → (made : Bool) × PollTurn period turn role polled final made count said.sent a c
-        by (f, l) = on (h.from f)
-          where
-            on : (is_connected a.phase ≡ true) ⊎ (is_linked a.phase ≡ false)
-                → (made : Bool) × PollTurn period turn role polled final made count said.sent a c
-            on (inl x) = during e f l x
-            on (inr x) = begins e f l x role refl
+        by (f, l) = elim (h.from f) [ inl x ↦ during e f l x | inr x ↦ begins e f l x role refl ]

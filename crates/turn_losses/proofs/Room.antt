@@ -9,9 +9,8 @@ use Rattle.xid_params.specs.Terms.{default_offer, lowered}
 use Rattle.link_account.specs.Account.{window_for}
 use Rattle.link_run.specs.End.{asked_at}
 use Rattle.link_account.proofs.HearWays.{by-early}
-use Rattle.turn_bound.proofs.Run.{served_account}
 use Rattle.turn_bound.proofs.Serving.{before_asking, offers-well}
-use Rattle.turn_losses.proofs.Polling.{is_linked}
+use Rattle.turn_losses.proofs.Names.{served_account, is_linked}
 
 pub record Room (a : Account) : Type 0 where
   pub window : a.outgoing.window ≤ 127

@@ -2,12 +2,11 @@
 use Rattle.std.proofs.Common.{◌⊎◌, inl, inr, ◌≡◌, ℕ, zero, suc, ◌+◌, ◌-◌, ◌*◌, ◌<◌, ◌≤◌, ◌&&◌, Bool, true, false, arith, refl, sym, ◌∙◌, ap}
 use Rattle.std.proofs.Common.{subst, Option, Some, None}
 use Rattle.link_account.proofs.Names.{cases_lt, BreakWord, waits, Account, is_connected}
-use Rattle.turn_bound.proofs.MeetHear.{of_frame, of_arrived}
-use Rattle.turn_losses.proofs.TwoEnds.{EndRun, TwoEnds, sends_poll, sends_final}
 use Rattle.turn_losses.proofs.BreakHear.{of_word, brk_of, ack_of, any_brk, pends, pends_of}
 use Rattle.turn_losses.proofs.BreakTurn.{Deeds, BreakTurn, number_of, brk_due, ack_due, ack_due_of, was_special}
 use Rattle.turn_losses.proofs.Counting.{hits, once, at-most-made, all-held, no-hits, after-acks}
 use Rattle.turn_losses.proofs.Windows.{Breaking, off, replies-apart, polls-far, hurries-twice, brks-heard, sum-at-most}
+use Rattle.turn_losses.proofs.Names.{of_frame, of_arrived, EndRun, TwoEnds, sends_poll, sends_final}
 
 abbrev pub AllConnected : EndRun → ℕ → ℕ → Type 0
 AllConnected e s n = (t : ℕ) → s < t → t ≤ s + n → is_connected (e.account t).phase ≡ true
@@ -65,9 +64,6 @@ pub brk-goes : (period turns : ℕ) (e o : EndRun) (d d' : ℕ → Deeds) → Tw
     → (y : ℕ) × (s ≤ y) × (y < s + 14) × (of_frame (of_word (brk_of (number_of (e.account (y + 1))))) (e.slot y) ≡ true)
 brk-goes period turns e o d d' k h h' first s within c ws na due = go (so-far 14 (omega arith))
   where
-    p : period ≡ 2 * (e.delay + o.delay) + 16
-    p = k.period_is
-
     turn : (t : ℕ) → s ≤ t → t < s + 14 → BreakTurn period t (e.heard t) (e.slot t) (d t) (e.account t) (e.account (t + 1))
     turn t a b = h.turn t (omega (arith, b, within)) (c (t + 1) (omega (arith, a)) (omega (arith, b)))
 
@@ -75,9 +71,9 @@ brk-goes period turns e o d d' k h h' first s within c ws na due = go (so-far 14
     none-held all =
         let held = all-held (sends_final e) (sends_poll e) (λ t. (d t).hurries) (λ t. (d t).acks) (λ t. was_special (e.account t))
         (λ t. (d t).answers) s 14 (λ t a b. (turn t a b).held (all t a b)) in
-        let one = once (sends_final e) (period - 1) turns (replies-apart period turns e o k) s 14 (omega (arith, p)) within in
-        let one' = once (sends_poll e) (period - 1) turns (polls-far period turns e o k) s 14 (omega (arith, p)) within in
-        let two = hurries-twice period turns e o d k h s 14 (omega (arith, p)) within c in
+        let one = once (sends_final e) (period - 1) turns (replies-apart period turns e o k) s 14 (omega (arith, k.period_is)) within in
+        let one' = once (sends_poll e) (period - 1) turns (polls-far period turns e o k) s 14 (omega (arith, k.period_is)) within in
+        let two = hurries-twice period turns e o d k h s 14 (omega (arith, k.period_is)) within c in
         let four = acks-few period turns e o d d' k h h' first s 14 (omega arith) within c in
         let five = after-acks (λ t. was_special (e.account t)) (λ t. (d t).acks) s 14
         (λ t a b q. (turn t a (omega (arith, b))).special_own q (all t a (omega (arith, b)))) in

@@ -5,16 +5,8 @@ use Rattle.link_account.proofs.Names.{cases_lt, Role, Originator, Answerer, of, 
 use Rattle.link_run.proofs.Names.{Phase, Detecting, Negotiating, Establishing, Connected, Releasing, Closed, is_closed, Link, Accounts}
 use Rattle.link_run.proofs.Names.{Turn, RunOf, Hears, arrival, served_at, Carries, IsCarried, RunsOver, LosesSome}
 use Rattle.link_run.specs.Starved.{SpanLoses, IsStarved, turn_at}
-use Rattle.turn_bound.specs.Time.{KeepsTime}
-use Rattle.turn_bound.proofs.MeetHear.{is_begun, of_frame, of_arrived}
-use Rattle.turn_bound.proofs.Tied.{is_lost}
-use Rattle.turn_losses.specs.Losses.{PeriodLoses}
-use Rattle.turn_losses.specs.Polls.{is_poll}
-use Rattle.turn_losses.proofs.Polling.{is_linked}
 use Rattle.turn_losses.proofs.PollHear.{poll-hears}
 use Rattle.turn_losses.proofs.NumberTurn.{poll-ok}
-use Rattle.turn_losses.proofs.Trace.{past}
-use Rattle.turn_losses.proofs.TwoEnds.{EndRun, TwoEnds, end_run}
 use Rattle.turn_losses.proofs.Tracing.{known, Traced, traced}
 use Rattle.turn_losses.proofs.LineLaw.{is-heard}
 use Rattle.turn_losses.proofs.PollLaws.{two-ends}
@@ -36,6 +28,8 @@ use Rattle.turn_losses.proofs.Quiet.{sabmes-of, meeting-of}
 use Rattle.turn_losses.proofs.Spending.{LastWait}
 use Rattle.turn_losses.proofs.Ending.{periods-of, number-small, none-last}
 use Rattle.turn_losses.proofs.Peering.{peer-connected, not-closed}
+use Rattle.turn_losses.proofs.Names.{KeepsTime, is_begun, of_frame, of_arrived, is_lost, PeriodLoses, is_poll, is_linked, past, EndRun}
+use Rattle.turn_losses.proofs.Names.{TwoEnds, end_run}
 
 -- a span's loss
 span-at : (period delay : ℕ) (t : Turn) (ts : List Turn) (s n u : ℕ) → s + (n + 1) * period ≡ length ts → s < u + delay → u ≤ s + period
@@ -109,17 +103,11 @@ unlinked-loses reads tries period delay link ts before t mid kt run cs hearing w
     k : TwoEnds period turns o e
     k = two-ends tries period delay link ts w.state w.deed kt w.trace Originator
 
-    p : period ≡ 2 * (o.delay + e.delay) + 16
-    p = k.period_is
-
     d : 1 ≤ o.delay
     d = k.own_delay
 
-    d' : 1 ≤ e.delay
-    d' = k.other_delay
-
     long : 1 ≤ period
-    long = omega (arith, p)
+    long = omega (arith, k.period_is)
 
     wide : e.delay ≤ max (delay Originator) (delay Answerer)
     wide = max-second (delay Originator) (delay Answerer)
@@ -144,7 +132,7 @@ unlinked-loses reads tries period delay link ts before t mid kt run cs hearing w
     i = tried period turns Establishing o long
         (tries-so reads tries period delay link ts w.state w.deed kt run.may_play w.trace Establishing refl)
         (λ f. let wrong : Detecting ≡ Establishing = ap (λ (y : Accounts). y.orig.phase) (sym w.trace.starts) ∙ f in cc) (x + 1)
-        (omega (arith, within, p, d)) (est (x + 1) (omega (arith, p)) (omega (arith, p, d)))
+        (omega (arith, within, k.period_is, d)) (est (x + 1) (omega (arith, k.period_is)) (omega (arith, k.period_is, d)))
 
     before-x : i.set ≤ x
     before-x = let b = i.before in omega (arith, b)
@@ -156,17 +144,17 @@ unlinked-loses reads tries period delay link ts before t mid kt run cs hearing w
     u = i.set + o.delay
 
     u-in : u < turns
-    u-in = omega (arith, before-x, within, p, d')
+    u-in = omega (arith, before-x, within, k.period_is, k.other_delay)
 
     u-low : s < u + e.delay
-    u-low = omega (arith, after-x, p)
+    u-low = omega (arith, after-x, k.period_is)
 
     u-high : u + e.delay ≤ s + period
-    u-high = omega (arith, before-x, p)
+    u-high = omega (arith, before-x, k.period_is)
 
     u-phase : (w.state u).orig.phase ≡ Establishing
     u-phase = elim (cases_lt (x + 1) u) [
-      | inl l ↦ est u (omega (arith, l, p)) (omega (arith, u-high))
+      | inl l ↦ est u (omega (arith, l, k.period_is)) (omega (arith, u-high))
       | inr g ↦ i.since u
           (omega (arith, d)) g
     ]
@@ -230,7 +218,7 @@ unlinked-loses reads tries period delay link ts before t mid kt run cs hearing w
                 (omega (arith, border)) (omega arith) (subst LosesSome (sym (newest t ts)) (Originator, lost-is t.orig.heard f'))
             on false f' =
                 let comes : of_arrived (moves_on Establishing) (arrival t.orig.heard) ≡ true = last-heard
-                (moves_on Establishing) period delay link ts w.state w.deed w.trace t cs Originator d' u v-is f' ∙ answered in
+                (moves_on Establishing) period delay link ts w.state w.deed w.trace t cs Originator k.other_delay u v-is f' ∙ answered in
                 let was : before.orig.phase ≡ Establishing = ap (λ (y : Accounts). y.orig.phase) (sym w.last)
                 ∙ (ap (λ y. (w.state y).orig.phase) (sym v-is) ∙ est v (omega (arith, u-low)) u-high) in
                 let role = setup-role tries period delay link ts before kt run.run run.carried Originator in
@@ -303,9 +291,6 @@ answerer-breaks reads tries period delay link ts before t mid kt run cs hearing 
     k : TwoEnds period turns o e
     k = two-ends tries period delay link ts w.state w.deed kt w.trace Originator
 
-    p : period ≡ 2 * (o.delay + e.delay) + 16
-    p = k.period_is
-
     once : (y : ℕ) → (y + 1) * period ≡ y * period + period
     once y = omega arith
 
@@ -344,7 +329,7 @@ answerer-breaks reads tries period delay link ts before t mid kt run cs hearing 
                 (linked-on period turns o e k (s + 1) u (omega (arith, a)) (omega (arith, b, within)) f) x.connected x.waiting)
                 (λ u a b g. no-sabme-heard period turns o e k
                 (sabmes-of reads tries period delay link ts w.state w.deed kt run.may_play w.trace)
-                (meeting-of tries period delay link ts w.state w.deed kt w.trace) s (omega (arith, within, p)) f u a
+                (meeting-of tries period delay link ts w.state w.deed kt w.trace) s (omega (arith, within, k.period_is)) f u a
                 (omega (arith, b, within)) g)
                 (λ g h. none-last link ts before t mid Answerer tries period hearing cm l waiting
                 (ap (λ (x : Accounts). of_arrived (of_word (ack_of (number_of x.answ))) (arrival t.answ.heard)) (sym w.last) ∙ h))))

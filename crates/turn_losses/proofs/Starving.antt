@@ -2,18 +2,15 @@
 use Rattle.std.proofs.Common.{inl, inr, ◌≡◌, ◌≢◌, ℕ, suc, ◌-◌, ◌<◌, ◌≤◌, true, max, List, ◌∷◌, length, arith, sym, ◌∙◌, ap, subst}
 use Rattle.link_account.proofs.Names.{slice_get, cases_lt, Role, Originator, Answerer, other, is_connected, IsAllowed}
 use Rattle.link_run.proofs.Names.{is_released, Link, Accounts, Turn, arrival, releases, RunsOver, LosesSome}
-use Rattle.turn_bound.specs.Time.{KeepsTime}
 use Rattle.link_run.specs.Starved.{SpanLoses, IsStarved, turn_at}
-use Rattle.turn_bound.specs.Together.{Together, StandTogether}
-use Rattle.turn_bound.proofs.Clock.{Rates, rates}
-use Rattle.turn_bound.proofs.Value.{IsOf}
-use Rattle.turn_losses.specs.Losses.{PeriodLoses, LosesEach, OriginatorWantsAnswers, OriginatorIsStarved}
+use Rattle.turn_bound.specs.Together.{Together}
+use Rattle.turn_losses.specs.Losses.{OriginatorWantsAnswers, OriginatorIsStarved}
 use Rattle.turn_losses.proofs.AnswerTurn.{connected-is}
 use Rattle.turn_losses.proofs.Room.{begins-roomy}
-use Rattle.turn_losses.proofs.Trace.{past}
 use Rattle.turn_losses.proofs.Tracing.{Known, known, Timed, timed, rated, Traced, traced}
 use Rattle.turn_losses.proofs.Numbering.{Plays, allowed, fits-at, counts-of}
 use Rattle.turn_losses.proofs.Wanting.{LastTry, last-try, wants-answers}
+use Rattle.turn_losses.proofs.Names.{KeepsTime, StandTogether, Rates, rates, IsOf, PeriodLoses, LosesEach, past}
 
 pub originator-each : Plays → StandTogether → (tries period : ℕ) (delay : Role → ℕ) (link : Link) (ts : List Turn) (before : Accounts)
     → KeepsTime tries period delay link → RunsOver link delay ts before → LastTry tries period (length ts) before.orig

@@ -6,11 +6,6 @@ use Rattle.link_account.proofs.Names.{Account, is_connected, says, speak, speak_
 use Rattle.link_run.proofs.Names.{Phase, Detecting, Negotiating, Establishing, Connected, Releasing, Closed, is_busy, is_released}
 use Rattle.link_run.proofs.Names.{is_closed, Link, Accounts, Turn, arrival, served_at, releases, LosesSome}
 use Rattle.link_account.specs.Speak.{speak_detecting, speak_negotiating, u_try}
-use Rattle.turn_bound.proofs.Serving.{Served, serves-all}
-use Rattle.turn_bound.proofs.Tied.{is_lost}
-use Rattle.turn_losses.specs.Losses.{PeriodLoses, LosesEach}
-use Rattle.turn_losses.proofs.Trace.{Deed, Trace}
-use Rattle.turn_losses.proofs.TwoEnds.{EndRun, end_run}
 use Rattle.turn_losses.proofs.Tracing.{Traced, traced}
 use Rattle.turn_losses.proofs.PeriodHolds.{LostIn}
 use Rattle.turn_losses.proofs.Keeping.{turn-is}
@@ -20,6 +15,7 @@ use Rattle.turn_losses.specs.Tries.{OriginatorWantsFrame}
 use Rattle.turn_losses.proofs.Moving.{is_trying, try-heard, TryGoesOn, TryBegins, try-spent}
 use Rattle.turn_losses.proofs.Setups.{start-setup, heard-setup, served-setup}
 use Rattle.turn_losses.proofs.Trying.{TriesSo, tries-so, unanswered, unanswered-loses}
+use Rattle.turn_losses.proofs.Names.{Served, serves-all, is_lost, PeriodLoses, LosesEach, Deed, Trace, EndRun, end_run}
 use Rattle.lapm_frames.specs.declared.sent.Sent.TheVariants as slots
 
 -- something lost in a period of turns, as a period's loss

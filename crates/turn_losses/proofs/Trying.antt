@@ -5,17 +5,8 @@ use Rattle.link_account.proofs.Names.{is_some, cases_lt, Role, Originator, Answe
 use Rattle.link_account.proofs.Names.{Arrived, Account, hear, MayPlay, Said, speak}
 use Rattle.link_run.proofs.Names.{Phase, Detecting, Negotiating, Establishing, Connected, Releasing, Closed, Setup, User, is_busy}
 use Rattle.link_run.proofs.Names.{is_released, is_closed, Link, Accounts, Turn, SpeaksAt, arrival, served_at, said_at}
-use Rattle.turn_bound.specs.Time.{KeepsTime}
-use Rattle.turn_bound.proofs.Clock.{rates}
-use Rattle.turn_bound.proofs.Value.{Stands}
-use Rattle.turn_bound.proofs.MeetHear.{is_begun, of_frame, of_arrived}
-use Rattle.turn_bound.proofs.Run.{served_account}
-use Rattle.turn_bound.proofs.Serving.{Served, serves-all}
-use Rattle.turn_losses.proofs.Polling.{is_linked}
 use Rattle.turn_losses.proofs.Numbering.{allowed}
 use Rattle.turn_losses.proofs.Numbered.{numbered-linked}
-use Rattle.turn_losses.proofs.Trace.{Deed, Happens, Trace, past, sent_or}
-use Rattle.turn_losses.proofs.TwoEnds.{EndRun, TwoEnds, end_run}
 use Rattle.turn_losses.proofs.Tracing.{known, release_of}
 use Rattle.turn_losses.proofs.LineLaw.{is-heard}
 use Rattle.turn_losses.proofs.PollLaws.{two-ends}
@@ -27,6 +18,8 @@ use Rattle.turn_losses.proofs.TryAnswering.{can_answer, AnswerDue, answer-due, s
 use Rattle.turn_losses.proofs.Setups.{start-setup, heard-setup, served-setup, Met, met}
 use Rattle.turn_losses.proofs.Phasing.{is_established, begun-established}
 use Rattle.turn_losses.proofs.Clocks.{Ticked, Unanswered, last, chain}
+use Rattle.turn_losses.proofs.Names.{KeepsTime, rates, Stands, is_begun, of_frame, of_arrived, served_account, Served, serves-all}
+use Rattle.turn_losses.proofs.Names.{is_linked, Deed, Happens, Trace, past, sent_or, EndRun, TwoEnds, end_run}
 use Rattle.turn_losses.proofs.Clocks.Ticked.{Begins, Expires, Stays}
 
 -- A turn after which an end tries: the try begins in it, or goes on unanswered, and goes again or not.
@@ -54,9 +47,6 @@ try-turn user period turn p arrived a mid released release said r r' per long of
     s : Served turn (length user.breaks) (is_busy turn user.busy) mid b
     s = serves-all user turn released mid
 
-    wait : b.wait ≡ mid.wait
-    wait = s.wait
-
     heard : mid.phase ≡ p → TryGoesOn p arrived a mid ⊎ TryBegins turn p a mid
     heard f = try-heard arrived turn a mid r hears p t f
 
@@ -66,7 +56,7 @@ try-turn user period turn p arrived a mid released release said r r' per long of
         ∙ offers) speaks p t e
 
     set-is : b.wait.try_set ≡ mid.wait.try_set
-    set-is = ap (λ w. w.try_set) wait
+    set-is = ap (λ w. w.try_set) s.wait
 
     b-period : b.setup.period ≡ period
     b-period = ap (λ x. x.period) s.setup ∙ per
@@ -74,7 +64,7 @@ try-turn user period turn p arrived a mid released release said r r' per long of
     again : TryGoesOn p arrived a mid ⊎ TryBegins turn p a mid → TriesAgain p turn b said
         → TryTurn period turn p arrived said.sent a said.account
     again (inl (x, w, n)) (due, set, count, sends) =
-        let same = ap (λ v. v.try_set) w in let same' = ap (λ v. v.try_count) w in let bc = ap (λ v. v.try_count) wait in
+        let same = ap (λ v. v.try_set) w in let same' = ap (λ v. v.try_count) w in let bc = ap (λ v. v.try_count) s.wait in
         inr (inl ((x, n), omega (arith, due, set-is, same, b-period), set, omega (arith, count, bc, same'), sends))
     again (inr (x, y, try, set', count')) (due, set, count, sends) = absurd (omega (arith, due, set-is, set', b-period, long))
 
@@ -87,10 +77,10 @@ try-turn user period turn p arrived a mid released release said r r' per long of
           (λ q. due (omega (arith, q, set-is, same, b-period))),
           set ∙ (set-is ∙ same),
           count
-              ∙ (ap (λ v. v.try_count) wait ∙ ap (λ v. v.try_count) w),
+              ∙ (ap (λ v. v.try_count) s.wait ∙ ap (λ v. v.try_count) w),
         ))
     stands (inr (x, y, try, set', count')) (due, set, count, sends) = inl
-        (x, set ∙ (set-is ∙ set'), count ∙ (ap (λ v. v.try_count) wait ∙ count'), sends (ap (λ v. v.try) wait ∙ try))
+        (x, set ∙ (set-is ∙ set'), count ∙ (ap (λ v. v.try_count) s.wait ∙ count'), sends (ap (λ v. v.try) s.wait ∙ try))
 
     go : ((b.phase ≡ p) × (TriesAgain p turn b said ⊎ TryStands p turn b said)) ⊎ TryIsNew p turn b said
         → TryTurn period turn p arrived said.sent a said.account

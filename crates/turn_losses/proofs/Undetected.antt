@@ -4,12 +4,11 @@ use Rattle.std.proofs.Common.{Ok, Err}
 use Rattle.link_account.proofs.Names.{nat_tests, Role, Originator, Heard, Passed, NotDetected, Account, Said, says, speak, speak_in}
 use Rattle.link_run.proofs.Names.{Detecting, is_released, Link, Accounts, Turn, RunOf, arrival, served_at, releases, IsCarried}
 use Rattle.link_account.specs.Speak.{speak_detecting}
-use Rattle.turn_bound.specs.Time.{KeepsTime}
 use Rattle.turn_bound.specs.Spent.{SpendsOnTime}
-use Rattle.turn_bound.proofs.Serving.{serves-all}
 use Rattle.turn_losses.specs.Losses.{PassesNoPattern, UndetectedOnTime}
 use Rattle.turn_losses.proofs.Tracing.{known, timed}
 use Rattle.turn_losses.proofs.Detecting.{said-from, heard-from, err-detecting, heard-setup}
+use Rattle.turn_losses.proofs.Names.{KeepsTime, serves-all}
 use Rattle.lapm_frames.specs.declared.seen.Seen.TheVariants as seens
 use Rattle.lapm_frames.specs.declared.sent.Sent.TheVariants as slots
 use Rattle.lapm_frames.specs.declared.arrived.Arrived.TheVariants as arrivals

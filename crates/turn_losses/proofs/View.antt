@@ -1,23 +1,16 @@
 -- Each turn of a run after which an end is Connected, by its breaks.
 use Rattle.std.proofs.Common.{◌⊎◌, inl, inr, ◌≡◌, ℕ, ◌+◌, ◌<◌, ◌≤◌, ◌&&◌, Bool, true, false, nat_lt, List, length, arith, refl, sym, ◌∙◌}
 use Rattle.std.proofs.Common.{ap, subst, None, Ok}
-use Rattle.link_account.proofs.Names.{is_some, cases_lt, Role, Originator, Answerer, of, waits, after_ask, Sent, Arrived, Account}
+use Rattle.link_account.proofs.Names.{is_some, cases_lt, Role, Originator, Answerer, of, waits, Sent, Arrived, Account}
 use Rattle.link_account.proofs.Names.{is_connected, hear, speak}
 use Rattle.link_run.proofs.Names.{Phase, Detecting, Negotiating, Establishing, Connected, Releasing, Closed, is_busy, is_released, Link}
 use Rattle.link_run.proofs.Names.{Accounts, Turn, SpeaksAt, arrival, served_at, said_at}
 use Rattle.break_signals.specs.Breaks.{no_breaks}
-use Rattle.turn_bound.specs.Time.{KeepsTime}
-use Rattle.turn_bound.proofs.Clock.{Rates, rates}
-use Rattle.turn_bound.proofs.Value.{Stands, Linked, Unlinked, IsAck}
-use Rattle.turn_bound.proofs.MeetHear.{of_frame, of_arrived}
-use Rattle.turn_bound.proofs.Serving.{Served, serves-all}
-use Rattle.turn_losses.specs.Polls.{is_poll, is_final}
-use Rattle.turn_losses.proofs.Polling.{is_linked}
+use Rattle.turn_bound.proofs.Value.{Linked, Unlinked, IsAck}
 use Rattle.turn_losses.proofs.PollHear.{PollHeard, poll-hears}
 use Rattle.turn_losses.proofs.PollSpeak.{poll-speaks}
 use Rattle.turn_losses.proofs.NumberTurn.{poll-ok, speak-ok}
 use Rattle.turn_losses.proofs.AnswerTurn.{connected-is, linked-says}
-use Rattle.turn_losses.proofs.Trace.{Deed, Happens, Trace, past, sent_or}
 use Rattle.turn_losses.proofs.Tracing.{Known, known, timed, release_of, said-as}
 use Rattle.turn_losses.proofs.Setups.{heard-as, heard-setup}
 use Rattle.turn_losses.proofs.BreakHear.{of_word, any_brk, pends, BreakHeard, break-heard}
@@ -27,7 +20,8 @@ use Rattle.turn_losses.proofs.BreakTurn.{was_special}
 use Rattle.turn_losses.proofs.Begun.{SameOld, old-heard, blank}
 use Rattle.turn_losses.proofs.Windows.{Breaking}
 use Rattle.turn_losses.proofs.Establishing.{word-connected}
-use Rattle.turn_losses.proofs.TwoEnds.{end_run}
+use Rattle.turn_losses.proofs.Names.{KeepsTime, Rates, rates, Stands, of_frame, of_arrived, Served, serves-all, is_poll, is_final}
+use Rattle.turn_losses.proofs.Names.{is_linked, Deed, Happens, Trace, past, sent_or, end_run}
 use Rattle.lapm_frames.specs.declared.arrived.Arrived.TheVariants as arrivals
 
 pub linked-of : (z : Rates) (before turn : ℕ) (r : Role) (p : Phase) (a : Account) → Stands z before turn r p a → is_connected p ≡ true
@@ -54,13 +48,10 @@ unlinked-of z before turn r Closed a s e = cc
 
 pub served-own : (turn breaks : ℕ) (busy : Bool) (a b : Account) → Served turn breaks busy a b
     → a.own_breaks.answered ≤ length a.own_breaks.lengths → ServedBreaks turn a.own_breaks b.own_breaks
-served-own turn breaks busy a b s low = go s.own
-  where
-    go : (b.own_breaks ≡ a.own_breaks)
-        ⊎ ((l : ℕ) × (b.own_breaks ≡ after_ask turn l a.own_breaks) × (length a.own_breaks.lengths < breaks)
-        × (is_connected a.phase ≡ true)) → ServedBreaks turn a.own_breaks b.own_breaks
-    go (inl q) = record { taken = false; yes = λ e. cc; no = λ e. q }
-    go (inr (l, q, less, c)) = subst (ServedBreaks turn a.own_breaks) (sym q) (served-breaks turn l a.own_breaks low)
+served-own turn breaks busy a b s low = elim s.own [
+  | inl q ↦ record { taken = false; yes = λ e. cc; no = λ e. q }
+  | inr z ↦ subst (ServedBreaks turn a.own_breaks) (sym z.1) (served-breaks turn z.0 a.own_breaks low)
+]
 
 -- an end as it becomes Connected, before it is served
 blank-heard : (turn : ℕ) (mid : Account) → BreakHeard turn arrivals.Nothing mid mid

@@ -1,17 +1,16 @@
 -- A break that waits by the turn: when its BRK became due, and what is lost before it becomes due again.
 use Rattle.std.proofs.Common.{inl, inr, ◌≡◌, ℕ, ◌+◌, ◌-◌, ◌*◌, ◌<◌, ◌≤◌, ◌&&◌, Bool, true, false, arith, refl, sym, ◌∙◌, ap}
 use Rattle.link_account.proofs.Names.{cases_lt, waits, Account, is_connected}
-use Rattle.turn_bound.proofs.MeetHear.{of_frame, of_arrived}
-use Rattle.turn_losses.proofs.TwoEnds.{EndRun, TwoEnds}
 use Rattle.turn_losses.proofs.LineLaw.{was-sent, is-heard}
 use Rattle.turn_losses.proofs.PollLaws.{turned}
 use Rattle.turn_losses.proofs.PeriodLaws.{NoneLost}
 use Rattle.turn_losses.proofs.Clocks.{Ticked, chain}
-use Rattle.turn_losses.proofs.Clocks.Ticked.{Begins, Expires, Stays}
 use Rattle.turn_losses.proofs.BreakHear.{of_word, brk_of, ack_of, any_brk}
 use Rattle.turn_losses.proofs.BreakTurn.{Deeds, BreakTurn, number_of, brk_due}
 use Rattle.turn_losses.proofs.Windows.{Breaking, off, no-and}
 use Rattle.turn_losses.proofs.Soon.{brk-goes, ack-goes}
+use Rattle.turn_losses.proofs.Names.{of_frame, of_arrived, EndRun, TwoEnds}
+use Rattle.turn_losses.proofs.Clocks.Ticked.{Begins, Expires, Stays}
 
 -- the end is Connected in these turns, and waits with one number
 pub record Waits (number : ℕ) (a : Account) : Type 0 where

@@ -6,25 +6,8 @@ use Rattle.link_account.proofs.Names.{is_connected, hear, speak, false≢true}
 use Rattle.link_run.proofs.Names.{Connected, Releasing, User, is_busy, Link, Accounts, Turn, LosesSome, Phase, Detecting, Negotiating}
 use Rattle.link_run.proofs.Names.{Establishing}
 use Rattle.link_run.specs.Starved.{IsLost}
-use Rattle.turn_bound.specs.Time.{KeepsTime}
-use Rattle.turn_bound.specs.Due.{NoneDue}
-use Rattle.turn_bound.proofs.Clock.{Rates, rates, AreRates, Sends}
-use Rattle.turn_bound.proofs.Value.{IsOf, Stands, arrived_rnrs}
-use Rattle.turn_bound.proofs.Run.{served_account}
-use Rattle.turn_bound.proofs.Hearing.{HeardAs}
-use Rattle.turn_bound.proofs.MeetHear.{of_arrived}
-use Rattle.turn_bound.proofs.OneTurn.{heard-ok}
-use Rattle.turn_losses.specs.Polls.{is_poll}
 use Rattle.turn_losses.proofs.NumberTurn.{poll-ok}
-use Rattle.turn_bound.proofs.Phases.{hears-well}
-use Rattle.turn_bound.proofs.Serves.{serves-well}
-use Rattle.turn_bound.proofs.Serving.{Served, serves-all}
-use Rattle.turn_bound.proofs.Tied.{is_lost}
-use Rattle.turn_losses.specs.Losses.{PeriodLoses, LosesEach}
-use Rattle.turn_losses.proofs.Polling.{is_linked}
 use Rattle.turn_losses.proofs.PollHear.{PollHeard, poll-hears}
-use Rattle.turn_losses.proofs.Trace.{Deed, Trace}
-use Rattle.turn_losses.proofs.TwoEnds.{EndRun, TwoEnds, end_run}
 use Rattle.turn_losses.proofs.AnswerTurn.{linked-sends, connected-is}
 use Rattle.link_account.proofs.SpeakWays.{Ended, TryEnds, ReleaseEnds, TimerEnds, BreakEnds, Breaks, Undetected, Spends, why-broken}
 use Rattle.turn_losses.proofs.HeardCount.{CountKept, count-hears}
@@ -33,6 +16,9 @@ use Rattle.turn_losses.proofs.PeriodHolds.{period-loses}
 use Rattle.turn_losses.proofs.Expiries.{Uncleared, expiries}
 use Rattle.turn_losses.proofs.Acknowledged.{Counts}
 use Rattle.turn_losses.proofs.Keeping.{turn-is}
+use Rattle.turn_losses.proofs.Names.{KeepsTime, NoneDue, Rates, rates, AreRates, Sends, IsOf, Stands, arrived_rnrs, served_account, HeardAs}
+use Rattle.turn_losses.proofs.Names.{of_arrived, heard-ok, is_poll, hears-well, serves-well, Served, serves-all, is_lost, PeriodLoses}
+use Rattle.turn_losses.proofs.Names.{LosesEach, is_linked, Deed, Trace, EndRun, TwoEnds, end_run}
 
 -- the segments' clock expires with the last try
 pub record SpendsTries (turn : ℕ) (b : Account) : Type 0 where
@@ -158,9 +144,6 @@ last-try tries period user turn role arrived a mid released release fault y k h 
     b : Account
     b = served_account user turn released mid
 
-    s : Served turn (length user.breaks) (is_busy turn user.busy) mid b
-    s = serves-all user turn released mid
-
     heard : (q : Phase) × HeardAs z (length a.outgoing.pieces) (length user.breaks) turn
         (z.quota * arrived_rnrs arrived) role a.phase a q mid
     heard = heard-ok z (length a.outgoing.pieces) (length user.breaks) turn (z.quota * arrived_rnrs arrived) role a.phase a mid
@@ -168,10 +151,10 @@ last-try tries period user turn role arrived a mid released release fault y k h 
         (hears-well z (length a.outgoing.pieces) (length user.breaks) turn role a.phase arrived a y k h refl er (omega arith))
 
     per : b.setup.period ≡ period
-    per = ap (λ x. x.period) (s.setup ∙ heard.1.setup) ∙ k.period
+    per = ap (λ x. x.period) ((serves-all user turn released mid).setup ∙ heard.1.setup) ∙ k.period
 
     why : SpendsTries turn b
-    why = let long = y.period in connected-why turn release b fault (s.phase ∙ connected-is mid.phase cm)
+    why = let long = y.period in connected-why turn release b fault ((serves-all user turn released mid).phase ∙ connected-is mid.phase cm)
         (omega (arith, per, long)) quiet breaks
 
 -- a turn in which an end hears nothing of what was sent

@@ -1,17 +1,15 @@
 -- How soon a BRK goes, and the BRKACK that answers it.
-use Rattle.std.proofs.Common.{◌⊎◌, inl, inr, ◌≡◌, ℕ, zero, suc, ◌+◌, ◌-◌, ◌*◌, ◌<◌, ◌≤◌, ◌&&◌, Bool, true, false, nat_le, arith, refl, sym}
+use Rattle.std.proofs.Common.{◌⊎◌, inl, inr, ◌≡◌, ℕ, zero, suc, ◌+◌, ◌-◌, ◌<◌, ◌≤◌, ◌&&◌, Bool, true, false, nat_le, arith, refl, sym}
 use Rattle.std.proofs.Common.{◌∙◌, ap, subst}
 use Rattle.link_account.proofs.Names.{cases_lt, nat_tests, waits, Account, is_connected}
-use Rattle.turn_bound.proofs.MeetHear.{of_frame, of_arrived}
-use Rattle.turn_losses.specs.Polls.{is_poll}
 use Rattle.turn_losses.proofs.PollHear.{linked-connected}
-use Rattle.turn_losses.proofs.TwoEnds.{EndRun, TwoEnds, sends_poll, sends_final, hears_final}
 use Rattle.turn_losses.proofs.LineLaw.{was-sent}
 use Rattle.turn_losses.proofs.PollLaws.{turned, polls-apart, reply-from, reply-matches}
 use Rattle.turn_losses.proofs.PeriodLaws.{linked-on, connected-back}
 use Rattle.turn_losses.proofs.BreakHear.{of_word, any_brk}
 use Rattle.turn_losses.proofs.BreakTurn.{Deeds, BreakTurn, brk_due, is_urgent}
 use Rattle.turn_losses.proofs.Counting.{hits, one_if, once, twice, at-most-made}
+use Rattle.turn_losses.proofs.Names.{of_frame, of_arrived, is_poll, EndRun, TwoEnds, sends_poll, sends_final, hears_final}
 
 -- an end's breaks by the turn
 pub record Breaking (period turns : ℕ) (e : EndRun) (d : ℕ → Deeds) : Type 0 where
@@ -82,9 +80,6 @@ pub made-apart : (period turns : ℕ) (e o : EndRun) (d : ℕ → Deeds) → Two
     → s + 8 ≤ t
 made-apart period turns e o d k h s t less within ms mt cs ct = by ((h.turn t within ct).made_late mt before)
   where
-    p : period ≡ 2 * (e.delay + o.delay) + 16
-    p = k.period_is
-
     before : is_connected (e.account t).phase ≡ true
     before = connected-back period turns e o k t (t + 1) (omega arith) (omega (arith, within))
         (linked-on period turns e o k (s + 1) t (omega (arith, less)) (omega (arith, within))
@@ -100,7 +95,7 @@ made-apart period turns e o d k h s t less within ms mt cs ct = by ((h.turn t wi
 
     by : ((waits (e.account t).own_breaks ≡ true) × (t ≡ (e.account t).own_breaks.set + period))
         ⊎ ((waits (e.account t).own_breaks ≡ false) × ((e.account t).own_breaks.rest ≤ t)) → s + 8 ≤ t
-    by (inl (w, q)) = let z = i.set w in omega (arith, z, q, p)
+    by (inl (w, q)) = let z = i.set w in omega (arith, z, q, k.period_is)
     by (inr (w, q)) = let z = i.rest w in omega (arith, z, q)
 
 -- F replies are sent, and answers heard, as far apart as polls
@@ -135,11 +130,10 @@ pub sum-at-most : (x y z w : Bool) → (x ≡ true → (z ≡ true) ⊎ (w ≡ t
     → one_if x + one_if y ≤ one_if z + one_if w
 sum-at-most true true z w f g = off true refl (g refl).1
 sum-at-most false false z w f g = omega arith
-sum-at-most true false z w f g = by (f refl)
-  where
-    by : (z ≡ true) ⊎ (w ≡ true) → 1 + 0 ≤ one_if z + one_if w
-    by (inl q) = let n = ap one_if q in omega (arith, n)
-    by (inr q) = let n = ap one_if q in omega (arith, n)
+sum-at-most true false z w f g = elim (f refl) [
+  | inl q ↦ (let n = ap one_if q in omega (arith, n))
+  | inr q ↦ (let n = ap one_if q in omega (arith, n))
+]
 sum-at-most false true z w f g = by (g refl).0
   where
     by : (z ≡ true) ⊎ (w ≡ true) → 0 + 1 ≤ one_if z + one_if w
