@@ -149,10 +149,10 @@ among-more n (x ∷ ss) s =
     assoc true b c = refl
     assoc false b c = refl
 
-or-true-left : (b c : Bool) → b ≡ true → (b || c) ≡ true
+pub or-true-left : (b c : Bool) → b ≡ true → (b || c) ≡ true
 or-true-left b c e = ap (λ z. z || c) e
 
-or-true-right : (b c : Bool) → c ≡ true → (b || c) ≡ true
+pub or-true-right : (b c : Bool) → c ≡ true → (b || c) ≡ true
 or-true-right true c e = refl
 or-true-right false c e = e
 

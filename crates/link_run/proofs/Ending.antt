@@ -2,7 +2,7 @@
 use Rattle.std.proofs.Common.{◌≡◌, inl, inr, ℕ, ◌≤◌, Bool, true, false, cond, List, [], ◌∷◌, length, refl, sym, ◌∙◌, ap, subst, Option}
 use Rattle.link_account.proofs.Names.{Role, Originator, Answerer, of, IsPrefixOf, IsAllowed, ReadsAllowed, KeepsTaken, Account, fresh}
 use Rattle.link_account.proofs.Names.{is_connected, Play, MayPlay}
-use Rattle.link_run.proofs.Names.{delivered, served, is_released, Link, Accounts, Turn, arrival, Hears, GoingTurn, RunOf, served_at}
+use Rattle.link_run.proofs.Names.{delivered, served, is_released, Link, Accounts, Turn, arrival, Hears, RunOf, served_at}
 use Rattle.link_account.specs.Laws.{TakesInOrder, AcknowledgesTaken, GivesBreaksInOrder, AnswersGiven}
 use Rattle.link_run.specs.Laws.{HoldPrefixes, TakesPrefixes, HearsPrefixes}
 use Rattle.link_run.proofs.Keeping.{Books, GoesOn, hears}

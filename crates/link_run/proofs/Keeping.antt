@@ -1,19 +1,18 @@
 -- What an end keeps of its books as it hears and speaks.
 use Rattle.std.proofs.Common.{◌≡◌, ◌≢◌, ◌⊎◌, inl, inr, ℕ, ◌+◌, ◌%◌, ◌≤◌, ◌&&◌, Bool, true, false, cond, nat_eq, List, [], ◌∷◌, ◌++◌, length}
-use Rattle.std.proofs.Common.{arith, lit≤, refl, sym, ◌∙◌, ap, subst, Option, Some, None, Ok, Err}
-use Rattle.link_account.proofs.Names.{false≢true, append-nil, Role, Originator, Answerer, Offer, Terms, agree, IsAllowed, ReadsAllowed}
+use Rattle.std.proofs.Common.{arith, lit≤, refl, sym, ◌∙◌, ap, subst, Option, Some, None, Ok}
+use Rattle.link_account.proofs.Names.{false≢true, append-nil, is_connected, Role, Originator, Answerer, Offer, Terms, agree, IsAllowed, ReadsAllowed}
 use Rattle.link_account.proofs.Names.{Outgoing, Incoming, after_take, after_kind, kind_of, offset, KeepsTaken, Took, InOrder, Kept, Repeat}
-use Rattle.link_account.proofs.Names.{Gap, OwnBreaks, waits, after_answer, Arrived, LinkFault, Account, hear, on_nothing, owing, trying}
-use Rattle.link_account.proofs.Names.{NotDetected, Spent, is_originator}
+use Rattle.link_account.proofs.Names.{Gap, OwnBreaks, waits, after_answer, Arrived, Account, hear, on_nothing, owing, trying}
+use Rattle.link_account.proofs.Names.{is_originator}
 use Rattle.link_run.proofs.Names.{Setup, Phase, Detecting, Negotiating, Establishing, Connected, Releasing, Closed}
 use Rattle.xid_params.specs.Terms.{default_offer}
 use Rattle.break_signals.specs.Breaks.{TheirBreaks, with_given, gives, after_break}
 use Rattle.link_account.specs.Account.{size_for, window_for}
-use Rattle.link_account.specs.Laws.{WantsAnswers}
+use Rattle.link_account.specs.Laws.{has_begun}
 use Rattle.link_account.specs.Hear.{connected}
-use Rattle.shared_terms.specs.declared.fault.LinkFault.TheVariants.{BadAck, PeerReset, PeerRefused}
 use Rattle.link_account.proofs.HearWays.{NumberKeeps, numbered_with, acked-keeps, acked_back-keeps, resumed-keeps, paused-keeps, Ways}
-use Rattle.link_account.proofs.HearWays.{by-ways, IsRefusal, refused}
+use Rattle.link_account.proofs.HearWays.{by-ways}
 use Rattle.lapm_sender.specs.Outgoing as outgoing
 use Rattle.lapm_receiver.specs.Incoming as incoming
 use Rattle.link_account.specs.declared.answer.Answer.TheVariants as answers
@@ -45,6 +44,38 @@ stage Establishing = 0
 stage Connected = 1
 stage Releasing = 2
 stage Closed = 3
+
+pub stage-high : (p : Phase) → stage p ≤ 3
+stage-high Detecting = omega arith
+stage-high Negotiating = omega arith
+stage-high Establishing = omega arith
+stage-high Connected = omega arith
+stage-high Releasing = omega arith
+stage-high Closed = omega arith
+
+pub linked-phase : (p : Phase) → stage p ≡ 1 → p ≡ Connected
+linked-phase Connected e = refl
+linked-phase Detecting e = absurd (omega (arith, e))
+linked-phase Negotiating e = absurd (omega (arith, e))
+linked-phase Establishing e = absurd (omega (arith, e))
+linked-phase Releasing e = absurd (omega (arith, e))
+linked-phase Closed e = absurd (omega (arith, e))
+
+pub not-begun : (p : Phase) → stage p ≡ 0 → has_begun p ≡ false
+not-begun Detecting e = refl
+not-begun Negotiating e = refl
+not-begun Establishing e = refl
+not-begun Connected e = absurd (omega (arith, e))
+not-begun Releasing e = absurd (omega (arith, e))
+not-begun Closed e = absurd (omega (arith, e))
+
+pub unlinked-stage : (p : Phase) → is_connected p ≡ false → stage p ≢ 1
+unlinked-stage Detecting e = λ z. omega (arith, z)
+unlinked-stage Negotiating e = λ z. omega (arith, z)
+unlinked-stage Establishing e = λ z. omega (arith, z)
+unlinked-stage Connected e = absurd (false≢true (sym e))
+unlinked-stage Releasing e = λ z. omega (arith, z)
+unlinked-stage Closed e = λ z. omega (arith, z)
 
 abbrev pub AreTerms : Terms → Type 0
 AreTerms t = (1 ≤ t.len_o) × (1 ≤ t.len_a)
@@ -121,20 +152,12 @@ closes a b books_are sent taken theirs from to terms hangs = inl (record {
   theirs_are = theirs ∙ sym (append-nil a.their_breaks.lengths);
   few = omega arith;
   before = λ e. omega (arith, e, from, to);
-  later = omega (arith, to, from, high a.phase);
+  later = omega (arith, to, from, stage-high a.phase);
   unreleased = λ e. omega (arith, e, to);
   hangs_up = λ e. hangs;
   idle = λ h. (refl, refl);
   terms = λ o t. subst AreTerms (sym terms) t;
 })
-  where
-    high : (p : Phase) → stage p ≤ 3
-    high Detecting = omega arith
-    high Negotiating = omega arith
-    high Establishing = omega arith
-    high Connected = omega arith
-    high Releasing = omega arith
-    high Closed = omega arith
 
 -- terms that are agreed
 agreed : (o a : Offer) → IsAllowed o → IsAllowed a → AreTerms (agree o a)

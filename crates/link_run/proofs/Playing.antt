@@ -1,15 +1,15 @@
 -- Each run is a play: the events of each turn, one after another.
 use Rattle.std.proofs.Common.{◌≡◌, ℕ, zero, suc, ◌+◌, ◌-◌, ◌*◌, ◌<◌, ◌≤◌, ◌&&◌, Bool, true, false, cond, nat_lt, nat_le, List, [], ◌∷◌}
 use Rattle.std.proofs.Common.{◌++◌, length, map, take, drop, arith, refl, sym, ◌∙◌, ap, subst, Option, Some, None, Ok, slice_get}
-use Rattle.link_account.proofs.Names.{is_some, false≢true, nat_tests, append_assoc, Check, Role, Originator, Answerer, next_expected, Sent}
-use Rattle.link_account.proofs.Names.{Account, is_connected, wants, piece_size, after_offer, after_break_asked, after_given, after_busy}
-use Rattle.link_account.proofs.Names.{hear, Said, speak, Slot, Play, arrives, Heard, Nothing, Passed, Lost, Chance, of}
+use Rattle.link_account.proofs.Names.{is_some, false≢true, nat_tests, append_assoc, Check, Role, Originator, Answerer, Sent}
+use Rattle.link_account.proofs.Names.{Account, is_connected, wants, piece_size, after_break_asked, after_given, after_busy}
+use Rattle.link_account.proofs.Names.{hear, Slot, Play, arrives, Heard, Nothing, Passed, Lost, Chance, of}
 use Rattle.link_run.proofs.Names.{User, BreakLine, delivered, piece_at, offered_at, offered_times, room_for, offered, is_busy, next_break}
 use Rattle.link_run.proofs.Names.{served, Turn, arrival, sent_in, sent_ago, Crosses}
 use Rattle.frame_check.specs.declared.check.Check.TheVariants.{Sixteen}
 use Rattle.link_account.specs.Account.{after_delivery}
-use Rattle.link_account.specs.Play.{Event, Speaks, Passes, Is_lost, Hears_nothing, Is_offered, Is_asked, Delivers, Gives_break, Is_busy}
-use Rattle.link_account.specs.Play.{heard, spoken, happens, play}
+use Rattle.link_account.specs.Play.{Event, Passes, Is_lost, Hears_nothing, Is_offered, Is_asked, Delivers, Gives_break, Is_busy}
+use Rattle.link_account.specs.Play.{happens, play}
 use Rattle.link_run.specs.End.{asked_at, asked}
 use Rattle.link_run.specs.Carried.{on_line}
 use Rattle.link_account.proofs.Events.{at, play-append, hears-event, passes-event, loses-event, delivers-event, gives-event, offered-event}

@@ -30,13 +30,10 @@ asked-own z turn l b s = go (waits b) refl (nat_le b.rest turn) refl
 
 pub served-own : (z : Rates) (turn breaks : ℕ) (busy : Bool) (a b : Account) → Breaks z (turn + 1) turn a.own_breaks
     → Served turn breaks busy a b → own_value turn b.own_breaks ≤ own_value turn a.own_breaks
-served-own z turn breaks busy a b h s = go s.own
-  where
-    go : (b.own_breaks ≡ a.own_breaks)
-        ⊎ ((l : ℕ) × (b.own_breaks ≡ after_ask turn l a.own_breaks) × (length a.own_breaks.lengths < breaks)
-        × (is_connected a.phase ≡ true)) → own_value turn b.own_breaks ≤ own_value turn a.own_breaks
-    go (inl e) = omega (arith, ap (own_value turn) e)
-    go (inr x) = omega (arith, ap (own_value turn) x.1, asked-own z turn x.0 a.own_breaks h)
+served-own z turn breaks busy a b h s = elim s.own [
+  | inl e ↦ omega (arith, ap (own_value turn) e)
+  | inr x ↦ omega (arith, ap (own_value turn) x.1, asked-own z turn x.0 a.own_breaks h)
+]
 
 pub served-owes : (turn breaks : ℕ) (busy : Bool) (a b : Account) → Served turn breaks busy a b → owed_by b ≡ owed_by a
 served-owes turn breaks busy a b s = by b.incoming.srej b.incoming.rej b.incoming.gapped s.srej s.rej s.gapped

@@ -172,12 +172,7 @@ end-clean z user turn role arrived a mid released release said y k h er hears sp
   where
     served-one : (m c : Account) → Served turn (length user.breaks) (is_busy turn user.busy) m c → OneDue role m
         → (c.owes.answer ≡ None) ⊎ (is_released c.phase ≡ false → c.owes.reply ≡ false)
-    served-one m c s o = by o.one
-      where
-        by : (m.owes.answer ≡ None) ⊎ (is_released m.phase ≡ false → m.owes.reply ≡ false)
-            → (c.owes.answer ≡ None) ⊎ (is_released c.phase ≡ false → c.owes.reply ≡ false)
-        by (inl n) = inl (s.answer ∙ n)
-        by (inr f) = inr (λ x. s.reply ∙ f (ap is_released (sym s.phase) ∙ x))
+    served-one m c s o = elim o.one [ inl n ↦ inl (s.answer ∙ n) | inr f ↦ inr (λ x. s.reply ∙ f (ap is_released (sym s.phase) ∙ x)) ]
 
 pub none-due-run : (z : Rates) (link : Link) (ts : List Turn) (s : State) → Fits z link → RunOf link ts s → NoneDue s.orig × NoneDue s.answ
 none-due-run z link [] s f run =
