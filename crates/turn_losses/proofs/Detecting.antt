@@ -8,6 +8,7 @@ use Rattle.link_run.proofs.Names.{Turn, Hears, RunOf, arrival, served_at, releas
 use Rattle.link_account.specs.Hear.{on_seen, on_pattern}
 use Rattle.link_account.specs.Speak.{else_says, answering, speak_detecting}
 use Rattle.turn_bound.specs.Spent.{SpendsOnTime}
+use Rattle.turn_losses.proofs.Periods.{once, times, loses-of}
 use Rattle.turn_losses.specs.Losses.{OriginatorWantsPattern, UndetectedIsStarved}
 use Rattle.link_account.proofs.HearWays.{numbers-alike}
 use Rattle.link_account.proofs.SpeakWays.{tries-alike, linked-so, why-broken, Undetected, Spends}
@@ -16,8 +17,6 @@ use Rattle.turn_losses.proofs.Tracing.{known, timed, rated, Traced, traced}
 use Rattle.turn_losses.proofs.PollLaws.{two-ends}
 use Rattle.turn_losses.proofs.PeriodLaws.{NoneLost}
 use Rattle.turn_losses.proofs.PeriodHolds.{LostIn, lost-or-none}
-use Rattle.turn_losses.proofs.Keeping.{turn-is}
-use Rattle.turn_losses.proofs.Wanting.{lost-is}
 use Rattle.turn_losses.proofs.Starving.{all-but-one}
 use Rattle.turn_losses.proofs.Names.{KeepsTime, Rates, rates, IsOf, arrived_rnrs, served_account, heard-ok, hears-well, Served, serves-all}
 use Rattle.turn_losses.proofs.Names.{PeriodLoses, past, sent_or, EndRun, TwoEnds, end_run}
@@ -189,7 +188,7 @@ heard-setup tries period delay link ts before t mid kt run c hears r =
 
 pub wants-pattern : SpendsOnTime → OriginatorWantsPattern
 wants-pattern spends tries period delay link ts before t mid kt run c broken number less =
-    at-number (times (number + 1) (tries + 1) (omega (arith, less)))
+    at-number (times period (number + 1) (tries + 1) (omega (arith, less)))
   where
     z : Rates
     z = rates tries period
@@ -331,16 +330,6 @@ wants-pattern spends tries period delay link ts before t mid kt run c broken num
             ∙ (ap (λ b. cond b arrivals.Nothing (arrives (o.slot (x - delay Answerer)))) (none x (omega (arith, d)) (omega (arith, p))).0
             ∙ ap arrives (ap o.slot (back v (delay Answerer)) ∙ answered))
 
-    times : (a b : ℕ) → a ≤ b → a * period ≤ b * period
-    times a b l = let m : (b - a) * period + a * period ≡ b * period = sum (b - a) a ∙ ap (λ n. n * period) (whole a b l) in
-        omega (arith, m)
-      where
-        sum : (m n : ℕ) → m * period + n * period ≡ (m + n) * period
-        sum m n = grind (arith)
-
-        whole : (m n : ℕ) → m ≤ n → n - m + m ≡ n
-        whole m n q = omega (arith, q)
-
     long-enough : (tries + 1) * period ≤ turns
     long-enough = spends tries period delay link ts before t mid Originator NotDetected kt run c broken
 
@@ -350,31 +339,13 @@ wants-pattern spends tries period delay link ts before t mid kt run c broken num
         y : ℕ
         y = turns - (number + 1) * period
 
-        split : (number + 1) * period ≡ number * period + period
-        split = each number
-          where
-            each : (n : ℕ) → (n + 1) * period ≡ n * period + period
-            each n = omega arith
-
         room : y + period ≤ turns
-        room = let g = long-enough in omega (arith, less', g, split)
-
-        some : (u : ℕ) → (e.loses u ≡ true) ⊎ (o.loses u ≡ true) → LosesSome (Some (w.deed u).turn)
-        some u (inl q) = (Originator, lost-is (w.deed u).turn.orig.heard q)
-        some u (inr q) = (Answerer, lost-is (w.deed u).turn.answ.heard q)
+        room = let g = long-enough in omega (arith, less', g, once period number)
 
         go : LostIn e o (y + 1) (period - 1) ⊎ NoneLost e o (y + 1) (period - 1) → PeriodLoses period turns ts number
         go (inr none) = absurd (no-answer y room none)
-        go (inl lost) =
-            let a = lost.low in let b = lost.high in let g = long-enough in
-            let within : lost.turn < turns = omega (arith, b, room, p) in
-            record {
-              turn = lost.turn;
-              within = within;
-              in_period = record { behind = omega (arith, a, less', g); before = omega (arith, b, less', g, split, p) };
-              lost = subst LosesSome (sym (turn-is period delay link ts w.state w.deed w.trace lost.turn within))
-                  (some lost.turn lost.loses);
-            }
+        go (inl lost) = let g = long-enough in
+            loses-of period delay link ts w.state w.deed w.trace Originator y number (omega (arith, p)) (omega (arith, less', g)) lost
 
 pub undetected-starved : SpendsOnTime → UndetectedIsStarved
 undetected-starved spends tries period delay link ts before t mid kt run c broken =

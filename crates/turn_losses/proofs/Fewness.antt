@@ -8,7 +8,7 @@ use Rattle.link_run.specs.Starved.{SpanLoses, IsLost, turn_at}
 use Rattle.turn_bound.proofs.Clock.{one_if}
 use Rattle.turn_bound.proofs.Tied.{is_lost}
 use Rattle.turn_losses.specs.Losses.{StarvedLosesMany, LosslessIsFed}
-use Rattle.turn_losses.proofs.Starving.{later-turn}
+use Rattle.turn_losses.proofs.Periods.{later-turn}
 
 -- how many numbers below that one meet a test
 abbrev count_of : ℕ → (ℕ → Bool) → ℕ

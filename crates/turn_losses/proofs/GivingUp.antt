@@ -10,7 +10,8 @@ use Rattle.turn_bound.proofs.Serving.{serves-all}
 use Rattle.turn_losses.specs.Losses.{LosesEach, OriginatorWantsAnswers, OriginatorIsStarved, OriginatorWantsPattern, UndetectedIsStarved}
 use Rattle.turn_losses.proofs.AnswerTurn.{connected-is}
 use Rattle.turn_losses.specs.Tries.{OriginatorWantsFrame, AnswererWantsAnswer, IsForLosses, GivesUpForLosses}
-use Rattle.turn_losses.proofs.Parting.{later-loses, answerer-gives-up}
+use Rattle.turn_losses.proofs.Parting.{answerer-gives-up}
+use Rattle.turn_losses.proofs.Periods.{later-loses}
 
 -- what the laws say of each case
 pub record Cases : Type 0 where

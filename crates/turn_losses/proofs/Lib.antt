@@ -24,6 +24,7 @@ pub mod PeriodHolds
 pub mod Clocks
 pub mod Expiries
 pub mod Keeping
+pub mod Periods
 pub mod NumberHear
 pub mod NumberSpeak
 pub mod Room

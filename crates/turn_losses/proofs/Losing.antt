@@ -4,16 +4,14 @@ use Rattle.std.proofs.Common.{ap, subst, Ok}
 use Rattle.link_account.proofs.Names.{slice_get, cases_lt, nat_tests, Role, Originator, Answerer, other, of, Frame, ReadsWritten, OwnBreaks}
 use Rattle.link_account.proofs.Names.{waits, Arrived, Account, is_connected, MayPlay, hear, arrives}
 use Rattle.link_run.proofs.Names.{User, is_busy, Link, Accounts, Turn, SpeaksAt, arrival, said_at, Carries, sent_in, LosesSome}
+use Rattle.turn_losses.proofs.Periods.{loses-at, loses-last}
 use Rattle.turn_losses.proofs.Tracing.{past-all}
 use Rattle.turn_losses.proofs.LineLaw.{is-heard, looked, was-sent}
 use Rattle.turn_losses.proofs.PollLaws.{two-ends}
 use Rattle.turn_losses.proofs.PeriodLaws.{NoneLost}
 use Rattle.turn_losses.proofs.PeriodHolds.{LostIn, lost-or-none}
-use Rattle.turn_losses.proofs.Keeping.{turn-is}
-use Rattle.turn_losses.proofs.Wanting.{lost-is}
-use Rattle.turn_losses.proofs.Starving.{later-turn}
 use Rattle.turn_losses.proofs.AnswerTurn.{connected-is}
-use Rattle.turn_losses.proofs.Parting.{passes-as, newest}
+use Rattle.turn_losses.proofs.Parting.{passes-as}
 use Rattle.turn_losses.proofs.Phasing.{is_sabme}
 use Rattle.turn_losses.proofs.BreakHear.{of_word, ack_of, break-heard}
 use Rattle.turn_losses.proofs.BreakTurn.{Deeds, ServedBreaks, number_of, brk_due}
@@ -54,34 +52,6 @@ last-heard kind period delay link ts state deed w t cs r d s same f =
     heard : arrival (of r t).heard ≡ arrives (sent_or (of (other r) (deed s).turn).sent)
     heard = passes-as (sent_in (other r) (slice_get ts (delay (other r) - 1))) s'.said (of r t).heard (on-line ∙ s'.sent_is) (cs r) f
         ∙ ap (λ j. arrives (sent_or j)) (sym s'.sent_is)
-
--- a loss of a turn as one of a period
-pub loses-at : (period : ℕ) (delay : Role → ℕ) (link : Link) (ts : List Turn) (state : ℕ → Accounts) (deed : ℕ → Deed)
-    → Trace period delay link ts state deed → (t : Turn) (s n : ℕ) → s + (n + 1) * period ≡ length ts
-    → (u : ℕ) → s < u → u ≤ s + period → u < length ts → (r : Role) → is_lost (of r (deed u).turn).heard ≡ true
-    → PeriodLoses period (length ts) (t ∷ ts) n
-loses-at period delay link ts state deed w t s n q u lo hi b r lost = let m = once n in record {
-  turn = u;
-  within = omega (arith, b);
-  in_period = record { behind = omega (arith, lo, q); before = omega (arith, hi, q, m) };
-  lost = subst LosesSome (sym (later-turn u t ts b ∙ turn-is period delay link ts state deed w u b))
-      (r, lost-is (of r (deed u).turn).heard lost);
-}
-  where
-    once : (y : ℕ) → (y + 1) * period ≡ y * period + period
-    once y = omega arith
-
-pub loses-last : (period : ℕ) (t : Turn) (ts : List Turn) (s n : ℕ) → 1 ≤ period → s + (n + 1) * period ≡ length ts
-    → s + period ≡ length ts → (r : Role) → is_lost (of r t).heard ≡ true → PeriodLoses period (length ts) (t ∷ ts) n
-loses-last period t ts s n long q f r lost = let m = once n in record {
-  turn = length ts;
-  within = omega arith;
-  in_period = record { behind = omega (arith, q, f, long); before = omega (arith, q, f, m) };
-  lost = subst LosesSome (sym (newest t ts)) (r, lost-is (of r t).heard lost);
-}
-  where
-    once : (y : ℕ) → (y + 1) * period ≡ y * period + period
-    once y = omega arith
 
 -- the answer in the last turn ends the wait
 pub last-ends : (user : User) (turn : ℕ) (released : Bool) (arrived : Arrived) (a mid : Account) → is_connected a.phase ≡ true

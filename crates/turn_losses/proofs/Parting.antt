@@ -14,6 +14,7 @@ use Rattle.link_run.specs.End.{is_ready}
 use Rattle.link_run.specs.Run.{BrokenTurn, finished_at, served_ends}
 use Rattle.link_run.specs.Carried.{has_message}
 use Rattle.link_run.specs.Starved.{SpanLoses, IsStarved, turn_at}
+use Rattle.turn_losses.proofs.Periods.{later-loses, loses-at, loses-last, loses-of}
 use Rattle.turn_losses.specs.Losses.{AnswererWantsAnswers}
 use Rattle.turn_losses.proofs.PollHear.{PollHeard, poll-hears, linked-connected}
 use Rattle.turn_losses.proofs.PollSpeak.{poll-speaks}
@@ -32,10 +33,8 @@ use Rattle.turn_losses.proofs.HeardPaused.{PausedHeard}
 use Rattle.turn_losses.proofs.Awaiting.{await-hears}
 use Rattle.std.specs.Prelude.{nat_lt}
 use Rattle.turn_losses.proofs.Acknowledged.{Counts}
-use Rattle.turn_losses.proofs.Keeping.{turn-is}
-use Rattle.turn_losses.proofs.Wanting.{LastTry, last-try, lost-is}
+use Rattle.turn_losses.proofs.Wanting.{LastTry, last-try}
 use Rattle.turn_losses.proofs.Room.{begins-roomy}
-use Rattle.turn_losses.proofs.Starving.{later-turn}
 use Rattle.turn_losses.specs.Tries.{AnswererWantsAnswer}
 use Rattle.turn_losses.proofs.Moving.{asks, try-heard, linked-phase}
 use Rattle.turn_losses.proofs.Setups.{start-setup, heard-as}
@@ -209,13 +208,6 @@ passes-as (Some slot) said (Passed s) e c l = let same : slot ≡ spoken said = 
     ∙ ap (λ (x : Spoken). arrives x.sent) same
 passes-as (Some slot) said (Lost s) e c l = cc
 passes-as (Some slot) said Chance e c l = absurd c
-
--- the last of some turns
-pub newest : (t : Turn) (ts : List Turn) → turn_at (length ts) (t ∷ ts) ≡ Some t
-newest t ts = ap (slice_get (t ∷ ts)) (index (length ts))
-  where
-    index : (n : ℕ) → suc n - 1 - n ≡ 0
-    index n = omega arith
 
 pub connected-or : (p : Phase) → is_linked p ≡ true → is_connected p ≡ false → (p ≡ Releasing) ⊎ (p ≡ Closed)
 connected-or Detecting l c = cc
@@ -513,22 +505,6 @@ parted-each laws reads tries period delay link ts before t mid kt run cs hearing
         (known tries period delay link (past ts s) (w.state s) kt h.run h.carried Answerer) f from.1 from.2 refl in
         numbered-linked tries period delay link ts w.state w.deed kt w.trace Answerer s (omega (arith, b)) m
 
-    over-ts : (s : ℕ) → s + (n + 1) * period ≡ turns → (u : ℕ) → s < u → u ≤ s + period → u < turns
-        → (is_lost (w.deed u).turn.orig.heard ≡ true) ⊎ (is_lost (w.deed u).turn.answ.heard ≡ true) → PeriodLoses period turns (t ∷ ts) n
-    over-ts s q u lo hi b lost = let m = once n in record {
-      turn = u;
-      within = omega (arith, b);
-      in_period = record { behind = omega (arith, lo, q); before = omega (arith, hi, q, m) };
-      lost = subst LosesSome (sym (later-turn u t ts b ∙ turn-is period delay link ts w.state w.deed w.trace u b)) (some lost);
-    }
-      where
-        once : (y : ℕ) → (y + 1) * period ≡ y * period + period
-        once y = omega arith
-
-        some : (is_lost (w.deed u).turn.orig.heard ≡ true) ⊎ (is_lost (w.deed u).turn.answ.heard ≡ true) → LosesSome (Some (w.deed u).turn)
-        some (inl y) = (Originator, lost-is (w.deed u).turn.orig.heard y)
-        some (inr y) = (Answerer, lost-is (w.deed u).turn.answ.heard y)
-
     -- its DISC was lost: in a turn of the run, or in the last one
     disc-lost : (s : ℕ) → s + (n + 1) * period ≡ turns → s + period ≤ turns → is_connected (e.account s).phase ≡ true
         → v.turn + o.delay ≤ s + period → PeriodLoses period turns (t ∷ ts) n
@@ -553,8 +529,8 @@ parted-each laws reads tries period delay link ts before t mid kt run cs hearing
         in-time = omega (arith, early, p)
 
         arrives-at : (i.set + o.delay < turns) ⊎ (turns ≤ i.set + o.delay) → PeriodLoses period turns (t ∷ ts) n
-        arrives-at (inl b) = over-ts s q (i.set + o.delay) late in-time b
-            (inr (lost-there (is_lost (w.deed (i.set + o.delay)).turn.answ.heard) refl))
+        arrives-at (inl b) = loses-at period delay link ts w.state w.deed w.trace t s n q (i.set + o.delay) late in-time b Answerer
+            (lost-there (is_lost (w.deed (i.set + o.delay)).turn.answ.heard) refl)
           where
             lost-there : (x : Bool) → e.loses (i.set + o.delay) ≡ x → e.loses (i.set + o.delay) ≡ true
             lost-there true f = f
@@ -566,23 +542,8 @@ parted-each laws reads tries period delay link ts before t mid kt run cs hearing
         arrives-at (inr b) = last-turn (omega (arith, in-time, within, b))
           where
             last-turn : i.set + o.delay ≡ turns → PeriodLoses period turns (t ∷ ts) n
-            last-turn same = record {
-              turn = turns;
-              within = omega arith;
-              in_period = record {
-                behind = omega (arith, q, late, same, in-time);
-                before = at-end
-                    (omega (arith, q, within, same, in-time));
-              };
-              lost = subst LosesSome (sym (newest t ts)) (Answerer, lost-is t.answ.heard lost-now);
-            }
+            last-turn same = loses-last period t ts s n long q (omega (arith, within, same, in-time)) Answerer lost-now
               where
-                at-end : s + period ≡ turns → turns + n * period ≤ turns
-                at-end f = let m = once n in omega (arith, f, q, m)
-                  where
-                    once : (x : ℕ) → (x + 1) * period ≡ x * period + period
-                    once x = omega arith
-
                 lost-now : is_lost t.answ.heard ≡ true
                 lost-now = last-disc tries period delay link ts w.state w.deed kt w.trace t cs before.answ mid.answ
                     (setup-role tries period delay link ts before kt run.run run.carried Answerer) last.connected
@@ -613,14 +574,8 @@ parted-each laws reads tries period delay link ts before t mid kt run cs hearing
                 (v.was (linked-on period turns o e k' s v.turn (omega (arith, lo, hi)) (omega (arith, before-end)) linked-s))
 
             on : LostIn e o (s + 1) (period - 1) ⊎ NoneLost e o (s + 1) (period - 1) → PeriodLoses period turns (t ∷ ts) n
-            on (inl lost) =
-                let a = lost.low in let b = lost.high in
-                over-ts s q' lost.turn (omega (arith, a)) (omega (arith, b, long)) (omega (arith, b, within, long)) (swap lost.loses)
-              where
-                swap : (e.loses lost.turn ≡ true) ⊎ (o.loses lost.turn ≡ true)
-                    → (is_lost (w.deed lost.turn).turn.orig.heard ≡ true) ⊎ (is_lost (w.deed lost.turn).turn.answ.heard ≡ true)
-                swap (inl y) = inr y
-                swap (inr y) = inl y
+            on (inl lost) = later-loses period t ts n
+                (loses-of period delay link ts w.state w.deed w.trace Answerer s n long q' lost)
             on (inr none) = absurd (elim (cases_lt v.turn (s + period)) [
               | inl b ↦ parted-stops period turns e o k c s v.turn within b late un co
                   (await-hears (e.heard v.turn) v.turn (e.account v.turn) (e.mid v.turn) at-v (h.hearing Answerer).hears)
@@ -639,16 +594,6 @@ parted-each laws reads tries period delay link ts before t mid kt run cs hearing
 
                 at-v : is_connected (e.account v.turn).phase ≡ true
                 at-v = on-from s un.connected v.turn (omega (arith, late, p)) (omega (arith, before-end))
-
--- over all turns, the last one too
-pub later-loses : (period : ℕ) (t : Turn) (ts : List Turn) (n : ℕ) → PeriodLoses period (length ts) ts n
-    → PeriodLoses period (length ts) (t ∷ ts) n
-later-loses period t ts n h = let b = h.within in record {
-  turn = h.turn;
-  within = omega (arith, b);
-  in_period = h.in_period;
-  lost = subst LosesSome (sym (later-turn h.turn t ts b)) h.lost;
-}
 
 -- so the run was starved
 pub all-but-last : (tries period : ℕ) (delay : Role → ℕ) (t : Turn) (ts : List Turn) → LosesEach period tries (length ts) (t ∷ ts)

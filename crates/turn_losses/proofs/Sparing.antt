@@ -5,17 +5,16 @@ use Rattle.link_account.proofs.Names.{cases_lt, Role, Originator, Answerer, of, 
 use Rattle.link_run.proofs.Names.{Phase, Detecting, Negotiating, Establishing, Connected, Releasing, Closed, is_closed, Link, Accounts}
 use Rattle.link_run.proofs.Names.{Turn, RunOf, Hears, arrival, served_at, Carries, IsCarried, RunsOver, LosesSome}
 use Rattle.link_run.specs.Starved.{SpanLoses, IsStarved, turn_at}
+use Rattle.turn_losses.proofs.Keeping.{turn-is}
+use Rattle.turn_losses.proofs.Periods.{lost-is, later-turn, newest, times}
 use Rattle.turn_losses.proofs.PollHear.{poll-hears}
 use Rattle.turn_losses.proofs.NumberTurn.{poll-ok}
 use Rattle.turn_losses.proofs.Tracing.{known, Traced, traced}
 use Rattle.turn_losses.proofs.LineLaw.{is-heard}
 use Rattle.turn_losses.proofs.PollLaws.{two-ends}
 use Rattle.turn_losses.proofs.PeriodLaws.{linked-on}
-use Rattle.turn_losses.proofs.Keeping.{turn-is}
-use Rattle.turn_losses.proofs.Wanting.{lost-is}
-use Rattle.turn_losses.proofs.Starving.{later-turn}
 use Rattle.turn_losses.proofs.Moving.{asks, moves_on, TryGoesOn, TryBegins, try-heard}
-use Rattle.turn_losses.proofs.Parting.{newest, setup-role}
+use Rattle.turn_losses.proofs.Parting.{setup-role}
 use Rattle.turn_losses.proofs.Phasing.{is_established, established-on, stays-established, begun-established}
 use Rattle.turn_losses.proofs.Trying.{TryTurn, Tried, tried, tries-so, answers-so}
 use Rattle.turn_losses.proofs.BreakHear.{of_word, ack_of}
@@ -52,16 +51,6 @@ of-period period delay t ts n h = let behind = h.in_period.behind in let before 
   in_span = record { behind = omega (arith, behind); before = omega (arith, before) };
   lost = h.lost;
 }
-
-times : (period a b : ℕ) → a ≤ b → a * period ≤ b * period
-times period a b l = let m : (b - a) * period + a * period ≡ b * period = sum (b - a) a
-    ∙ ap (λ n. n * period) (whole a b l) in omega (arith, m)
-  where
-    sum : (m n : ℕ) → m * period + n * period ≡ (m + n) * period
-    sum m n = grind (arith)
-
-    whole : (m n : ℕ) → m ≤ n → n - m + m ≡ n
-    whole m n q = omega (arith, q)
 
 max-second : (a b : ℕ) → b ≤ max a b
 max-second a b = grind (arith)

@@ -4,6 +4,7 @@ use Rattle.link_account.proofs.Names.{slice_get, cases_lt, Role, Originator, Ans
 use Rattle.link_run.proofs.Names.{is_released, Link, Accounts, Turn, arrival, releases, RunsOver, LosesSome}
 use Rattle.link_run.specs.Starved.{SpanLoses, IsStarved, turn_at}
 use Rattle.turn_bound.specs.Together.{Together}
+use Rattle.turn_losses.proofs.Periods.{later-turn}
 use Rattle.turn_losses.specs.Losses.{OriginatorWantsAnswers, OriginatorIsStarved}
 use Rattle.turn_losses.proofs.AnswerTurn.{connected-is}
 use Rattle.turn_losses.proofs.Room.{begins-roomy}
@@ -61,13 +62,6 @@ originator-wants laws together tries period delay link ts before t mid segment s
         (subst IsAllowed (ap (λ x. x.offer) (sym k.setup)) (allowed link run.may_play Originator))
         (broken.hearing Originator).hears).so c).2)
         (broken.hearing Originator).hears (ap is_connected cm) quiet broken.broken
-
--- the turns with the last one
-pub later-turn : (turn : ℕ) (t : Turn) (ts : List Turn) → turn < length ts → turn_at turn (t ∷ ts) ≡ turn_at turn ts
-later-turn turn t ts l = ap (slice_get (t ∷ ts)) (index (length ts) l)
-  where
-    index : (n : ℕ) → turn < n → suc n - 1 - turn ≡ suc (n - 1 - turn)
-    index n l = omega (arith, l)
 
 -- the spans hold those periods
 span-loses : (period delay : ℕ) (t : Turn) (ts : List Turn) (n : ℕ) → PeriodLoses period (length ts) ts n

@@ -6,6 +6,7 @@ use Rattle.link_account.proofs.Names.{is_connected, hear, speak, false≢true}
 use Rattle.link_run.proofs.Names.{Connected, Releasing, User, is_busy, Link, Accounts, Turn, LosesSome, Phase, Detecting, Negotiating}
 use Rattle.link_run.proofs.Names.{Establishing}
 use Rattle.link_run.specs.Starved.{IsLost}
+use Rattle.turn_losses.proofs.Periods.{once, loses-of}
 use Rattle.turn_losses.proofs.NumberTurn.{poll-ok}
 use Rattle.turn_losses.proofs.PollHear.{PollHeard, poll-hears}
 use Rattle.turn_losses.proofs.AnswerTurn.{linked-sends, connected-is}
@@ -15,7 +16,6 @@ use Rattle.turn_losses.proofs.PollLaws.{two-ends}
 use Rattle.turn_losses.proofs.PeriodHolds.{period-loses}
 use Rattle.turn_losses.proofs.Expiries.{Uncleared, expiries}
 use Rattle.turn_losses.proofs.Acknowledged.{Counts}
-use Rattle.turn_losses.proofs.Keeping.{turn-is}
 use Rattle.turn_losses.proofs.Names.{KeepsTime, NoneDue, Rates, rates, AreRates, Sends, IsOf, Stands, arrived_rnrs, served_account, HeardAs}
 use Rattle.turn_losses.proofs.Names.{of_arrived, heard-ok, is_poll, hears-well, serves-well, Served, serves-all, is_lost, PeriodLoses}
 use Rattle.turn_losses.proofs.Names.{LosesEach, is_linked, Deed, Trace, EndRun, TwoEnds, end_run}
@@ -158,12 +158,6 @@ last-try tries period user turn role arrived a mid released release fault y k h 
         (omega (arith, per, long)) quiet breaks
 
 -- a turn in which an end hears nothing of what was sent
-pub lost-is : (h : Heard) → is_lost h ≡ true → IsLost h
-lost-is Nothing e = cc
-lost-is (Passed s) e = cc
-lost-is (Lost s) e = tt
-lost-is Chance e = cc
-
 -- So where both ends stay Connected, something was lost in each of the last periods.
 pub wants-answers : (tries period : ℕ) (delay : Role → ℕ) (link : Link) (ts : List Turn) (state : ℕ → Accounts) (deed : ℕ → Deed)
     → KeepsTime tries period delay link → (w : Trace period delay link ts state deed) → (role : Role)
@@ -190,25 +184,9 @@ wants-answers tries period delay link ts state deed kt w role c l both n less =
     long : 1 ≤ period
     long = let p = kt.period_is in omega (arith, p)
 
-    some : (t : ℕ) → (is_lost (of role (deed t).turn).heard ≡ true) ⊎ (is_lost (of (other role) (deed t).turn).heard ≡ true)
-        → LosesSome (Some (deed t).turn)
-    some t (inl y) = (role, lost-is (of role (deed t).turn).heard y)
-    some t (inr y) = (other role, lost-is (of (other role) (deed t).turn).heard y)
-
     lost-at : (s : ℕ) × (s + (n + 1) * period ≡ turns) × Uncleared period e s → PeriodLoses period turns ts n
     lost-at (s, q, x) =
-        let same = next n in
+        let same = once period n in
         let end : s + period ≤ turns = omega (arith, q, same) in
-        let lost = period-loses period turns e o k c s end x.made x.on
-        (λ u a b. both s u (omega (arith, end, long)) a (omega (arith, b, end)) x.made x.connected (x.on u a b)) x.uncleared in
-        let a = lost.low in let b = lost.high in
-        let within : lost.turn < turns = omega (arith, b, end, long) in
-        record {
-          turn = lost.turn;
-          within = within;
-          in_period = record { behind = omega (arith, a, q, same); before = omega (arith, b, q, same, long) };
-          lost = subst LosesSome (sym (turn-is period delay link ts state deed w lost.turn within)) (some lost.turn lost.loses);
-        }
-      where
-        next : (y : ℕ) → (y + 1) * period ≡ y * period + period
-        next y = omega arith
+        loses-of period delay link ts state deed w role s n long q (period-loses period turns e o k c s end x.made x.on
+        (λ u a b. both s u (omega (arith, end, long)) a (omega (arith, b, end)) x.made x.connected (x.on u a b)) x.uncleared)
