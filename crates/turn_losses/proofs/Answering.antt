@@ -8,6 +8,7 @@ use Rattle.link_account.specs.Hear.{ends_wait}
 use Rattle.link_account.proofs.HearWays.{Plain, IsUa, IsXid, IsTest, IsNoWord, ConnectedWays, numbered_with, acked, acked_back, by-linked}
 use Rattle.link_account.specs.Speak.{else_says, where_says, answering, polling, timer_expires, breaking, says_segment, after_timers}
 use Rattle.link_account.specs.Speak.{then_tries}
+use Rattle.turn_losses.proofs.Truths.{or-true, or-false}
 use Rattle.turn_losses.proofs.Names.{of_arrived, Rates, Sends, is_final}
 use Rattle.lapm_frames.specs.declared.arrived.Arrived.TheVariants as arrivals
 use Rattle.lapm_frames.specs.declared.sent.Sent.TheVariants as slots
@@ -61,14 +62,6 @@ ended-resumed o = by o.paused refl
       idle = λ h. ap (λ b. cond (b || o.paused) o.count 0) h ∙ ap (λ b. cond (false || b) o.count 0) e;
     }
 
-or-true : (b : Bool) → b || true ≡ true
-or-true true = refl
-or-true false = refl
-
-or-none : (b : Bool) → b || false ≡ b
-or-none true = refl
-or-none false = refl
-
 -- what arrived is the answer
 module _ (turn : ℕ) (a : Account) (w : a.outgoing.awaited ≡ true) where
   abbrev P : Arrived → Account → Type 0
@@ -89,7 +82,7 @@ module _ (turn : ℕ) (a : Account) (w : a.outgoing.awaited ≡ true) where
         urgent = λ r. or-true a.wait.urgent;
         busy = λ r. cc;
         idle = λ r e. k.idle e;
-        reply = or-none a.owes.reply;
+        reply = or-false a.owes.reply;
         answer = refl;
         poll = refl;
       }
@@ -110,7 +103,7 @@ module _ (turn : ℕ) (a : Account) (w : a.outgoing.awaited ≡ true) where
     urgent = λ r. cc;
     busy = λ r. refl;
     idle = λ r. cc;
-    reply = or-none a.owes.reply;
+    reply = or-false a.owes.reply;
     answer = refl;
     poll = refl;
   }

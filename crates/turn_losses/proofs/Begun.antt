@@ -2,9 +2,10 @@
 use Rattle.std.proofs.Common.{◌≡◌, ℕ, zero, suc, ◌+◌, ◌≤◌, Bool, true, false, List, length, arith, refl, sym, ◌∙◌, ap, subst, Ok}
 use Rattle.link_account.proofs.Names.{Role, Originator, Answerer, of, Frame, BreakWord, Arrived, Account, is_connected, hear, on_nothing}
 use Rattle.link_account.proofs.Names.{owing, Said, speak}
-use Rattle.link_run.proofs.Names.{Phase, Connected, is_released, Link, Accounts, Turn, SpeaksAt, arrival, served_at, said_at}
+use Rattle.link_run.proofs.Names.{is_released, Link, Accounts, Turn, SpeaksAt, arrival, served_at, said_at}
 use Rattle.link_account.specs.Hear.{first_wait}
 use Rattle.link_account.proofs.SpeakWays.{Tries}
+use Rattle.turn_losses.proofs.Truths.{unlinked-connected}
 use Rattle.turn_losses.proofs.PollHear.{poll-hears}
 use Rattle.turn_losses.proofs.PollSpeak.{poll-speaks}
 use Rattle.turn_losses.proofs.NumberTurn.{poll-ok, speak-ok}
@@ -59,10 +60,6 @@ old-heard arrived turn a mid l h = HearWays.by-ways (λ x b. SameOld x a b) turn
   };
 }) arrived mid h
   where
-    unlinked-connected : (p : Phase) → is_linked p ≡ false → is_connected p ≡ false
-    unlinked-connected Connected e = cc
-    unlinked-connected p e = refl
-
     begins : (x : Arrived) (b : Account) → b.own_breaks ≡ a.own_breaks → b.their_breaks ≡ a.their_breaks → b.special ≡ a.special
         → b.wait.urgent ≡ a.wait.urgent → ((f : BreakWord → Bool) → of_arrived (of_word f) x ≡ false) → of_arrived is_final x ≡ false
         → SameOld x a b

@@ -12,6 +12,7 @@ use Rattle.break_signals.specs.declared.fault.BreakFault.TheVariants.{Number}
 use Rattle.link_account.specs.Speak.{says_word}
 use Rattle.turn_bound.proofs.Value.{IsAck}
 use Rattle.link_account.proofs.SpeakWays.{NoWord, Steps, steps-so, polling_at, by-linked}
+use Rattle.turn_losses.proofs.Truths.{or-late, or-first}
 use Rattle.turn_losses.proofs.BreakHear.{is_word, of_word, brk_of, ack_of, any_brk, pends, pends_of}
 use Rattle.turn_losses.proofs.Names.{of_frame, is_poll, is_final}
 use Rattle.lapm_frames.specs.declared.sent.Sent.TheVariants as slots
@@ -20,14 +21,6 @@ use Rattle.link_account.specs.declared.answer.Answer.TheVariants as answers
 -- what holds a break's word up: an F reply, a poll, an urgent segment, a BRKACK, a word in the turn before, or another answer
 abbrev pub holds : (final poll hurries acks special answer : Bool) → Bool
 holds final poll hurries acks special answer = final || (poll || (hurries || (acks || (special || answer))))
-
-or-late : (x y : Bool) → y ≡ true → x || y ≡ true
-or-late true y e = refl
-or-late false y e = e
-
-or-first : (x y : Bool) → x ≡ true → x || y ≡ true
-or-first true y e = refl
-or-first false y e = cc
 
 -- What the nine steps make of them.
 pub record StepBreaks (special : Bool) (a : Account) (said : Said) : Type 0 where

@@ -2,6 +2,7 @@
 use Rattle.std.proofs.Common.{◌⊎◌, inl, inr, ◌≡◌, ℕ, ◌+◌, ◌%◌, ◌<◌, ◌≤◌, ◌&&◌, ◌||◌, not, Bool, true, false, cond, nat_le, nat_lt, List, []}
 use Rattle.std.proofs.Common.{◌∷◌, ◌++◌, length, length-append, arith, refl, sym, ◌∙◌, ap, None}
 use Rattle.link_account.proofs.Names.{is_some, nat_tests, OwnBreaks, waits, after_ask, Sent, Arrived, Account, is_connected, Said}
+use Rattle.turn_losses.proofs.Truths.{and-true, and-second, and-drop, clash}
 use Rattle.turn_losses.proofs.BreakHear.{of_word, brk_of, ack_of, any_brk, pends, pends_of, BreakHeard}
 use Rattle.turn_losses.proofs.BreakSpeak.{holds, SaidBreaks}
 use Rattle.turn_losses.proofs.Names.{of_frame, of_arrived, is_poll, is_final}
@@ -74,24 +75,9 @@ pub record BreakTurn (period turn : ℕ) (arrived : Arrived) (sent : Sent) (d : 
   pub special_own : was_special c ≡ true → brk_due c ≡ true → d.acks ≡ true
   pub special_ack : was_special c ≡ true → ack_due c ≡ true → ⊥
 
-and-true : (x y : Bool) → x ≡ true → y ≡ true → x && y ≡ true
-and-true true y e f = f
-and-true false y e f = cc
-
-and-second : (x y : Bool) → x && y ≡ true → y ≡ true
-and-second true y e = e
-and-second false y e = cc
-
-and-drop : (x y : Bool) → y ≡ false → x && y ≡ false
-and-drop true y e = e
-and-drop false y e = refl
-
 and-is : (x y : Bool) → x ≡ true → x && y ≡ y
 and-is true y e = refl
 and-is false y e = cc
-
-clash : {A : Type 0} (b : Bool) → b ≡ true → b ≡ false → A
-clash b e f = let wrong : true ≡ false = sym e ∙ f in cc
 
 -- what serving makes of its breaks: the same, or one more is taken
 pub record ServedBreaks (turn : ℕ) (a b : OwnBreaks) : Type 0 where

@@ -4,7 +4,7 @@ use Rattle.std.proofs.Common.{arith, refl, sym, ◌∙◌, ap, subst, Option, So
 use Rattle.link_account.proofs.Names.{cases_lt, Role, Originator, Answerer, of, Arrived, LinkFault, NotDetected, Account, hear, trying}
 use Rattle.link_account.proofs.Names.{arrives, Said, says, spent, speak, speak_in}
 use Rattle.link_run.proofs.Names.{Phase, Detecting, Negotiating, Connected, Releasing, Answer, User, is_busy, is_released, Link, Accounts}
-use Rattle.link_run.proofs.Names.{Turn, Hears, RunOf, arrival, served_at, releases, IsCarried, LosesSome}
+use Rattle.link_run.proofs.Names.{Turn, Hears, RunOf, arrival, served_at, releases, IsCarried}
 use Rattle.link_account.specs.Hear.{on_seen, on_pattern}
 use Rattle.link_account.specs.Speak.{else_says, answering, speak_detecting}
 use Rattle.turn_bound.specs.Spent.{SpendsOnTime}

@@ -4,6 +4,8 @@ use Rattle.std.proofs.Common.{subst}
 use Rattle.link_account.proofs.Names.{cases_lt, Role, Originator, Answerer, of, ReadsWritten, waits, is_connected}
 use Rattle.link_run.proofs.Names.{is_released, Link, Accounts, Turn, Hears, arrival, served_at, Carries, RunsOver}
 use Rattle.turn_bound.specs.Together.{Together}
+use Rattle.turn_losses.proofs.Periods.{once}
+use Rattle.turn_losses.proofs.Truths.{clash}
 use Rattle.turn_losses.proofs.Tracing.{Traced, traced}
 use Rattle.turn_losses.proofs.AnswerTurn.{connected-is}
 use Rattle.turn_losses.proofs.LineLaw.{was-sent}
@@ -12,7 +14,6 @@ use Rattle.turn_losses.proofs.Phasing.{is_sabme}
 use Rattle.turn_losses.proofs.BreakHear.{of_word, ack_of}
 use Rattle.turn_losses.proofs.BreakTurn.{number_of}
 use Rattle.turn_losses.proofs.View.{deeds-of, breaking}
-use Rattle.turn_losses.proofs.Windows.{off}
 use Rattle.turn_losses.proofs.Waiting.{BreakPeriod, break-periods}
 use Rattle.turn_losses.proofs.Losing.{connected-loses, last-ends}
 use Rattle.turn_losses.proofs.Quiet.{answ-no-sabme}
@@ -44,7 +45,7 @@ pub none-last : (link : Link) (ts : List Turn) (before : Accounts) (t : Turn) (m
     → waits (served_at link (length ts) mid r).account.own_breaks ≡ true
     → of_arrived (of_word (ack_of (number_of (of r before)))) (arrival (of r t).heard) ≡ true → ⊥
 none-last link ts before t mid r tries period hearing cm l w e =
-    off (waits (served_at link (length ts) mid r).account.own_breaks) w
+    clash (waits (served_at link (length ts) mid r).account.own_breaks) w
     (last-ends (of r link).user (length ts) (is_released mid.orig.phase) (arrival (of r t).heard) (of r before)
     (of r mid) l.connected cm l.waiting l.high (hearing r).hears e)
 
@@ -68,9 +69,6 @@ originator-breaks reads together tries period delay link ts before t mid kt run 
     k : TwoEnds period turns (end_run delay w.state w.deed Originator) (end_run delay w.state w.deed Answerer)
     k = two-ends tries period delay link ts w.state w.deed kt w.trace Originator
 
-    once : (y : ℕ) → (y + 1) * period ≡ y * period + period
-    once y = omega arith
-
     same : (x : ℕ) → x ≤ turns → turns ≤ x → x ≡ turns
     same x a b = omega (arith, a, b)
 
@@ -89,7 +87,7 @@ originator-breaks reads together tries period delay link ts before t mid kt run 
         (end_run delay w.state w.deed Originator) (deeds-of tries period delay link ts w.state w.deed kt w.trace Originator) s
         → PeriodLoses period turns (t ∷ ts) n
     go (s, q, bp) =
-        let m = once n in
+        let m = once period n in
         connected-loses reads tries period delay link ts w.state w.deed kt run.may_play w.trace t cs Originator
         (number_of (w.state turns).orig) s n (number-small (w.state turns).orig.own_breaks.answered) q bp
         (λ u a b. peer u (omega (arith, b, q, m)) (bp.stays u a b).connected)

@@ -6,6 +6,7 @@ use Rattle.link_run.proofs.Names.{Phase, Detecting, Negotiating, Establishing, C
 use Rattle.lapm_frames.specs.declared.frame.Frame.TheVariants.{Frmr, Test}
 use Rattle.link_account.specs.Hear.{on_seen, on_establishing}
 use Rattle.turn_bound.proofs.MeetHear.{frame_ua}
+use Rattle.turn_losses.proofs.Truths.{not-true}
 use Rattle.turn_losses.proofs.LineLaw.{was-sent}
 use Rattle.turn_losses.proofs.PeriodLaws.{linked-on}
 use Rattle.turn_losses.proofs.Moving.{moves_on}
@@ -71,10 +72,6 @@ only-establishing Establishing e l = refl
 only-establishing Connected e l = cc
 only-establishing Releasing e l = cc
 only-establishing Closed e l = cc
-
-not-true : (b : Bool) → (b ≡ true → ⊥) → b ≡ false
-not-true true f = absurd (f refl)
-not-true false f = refl
 
 -- the SABMEs of a run
 pub record Sabmes (period turns : ℕ) (o : EndRun) : Type 0 where

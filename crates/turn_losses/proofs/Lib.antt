@@ -1,6 +1,7 @@
 pub mod Names
 pub mod Polls
 pub mod Polling
+mod Truths
 pub mod Answered
 pub mod TwoEnds
 pub mod Trace

@@ -1,10 +1,12 @@
 -- What is lost in each period of a waiting break, while the other end is Connected.
 use Rattle.std.proofs.Common.{◌⊎◌, inl, inr, ◌≡◌, ℕ, ◌+◌, ◌-◌, ◌*◌, ◌<◌, ◌≤◌, Bool, true, false, List, ◌∷◌, length, arith, refl, sym, ◌∙◌}
-use Rattle.std.proofs.Common.{ap, subst, Ok}
+use Rattle.std.proofs.Common.{ap, Ok}
 use Rattle.link_account.proofs.Names.{slice_get, cases_lt, nat_tests, Role, Originator, Answerer, other, of, Frame, ReadsWritten, OwnBreaks}
 use Rattle.link_account.proofs.Names.{waits, Arrived, Account, is_connected, MayPlay, hear, arrives}
-use Rattle.link_run.proofs.Names.{User, is_busy, Link, Accounts, Turn, SpeaksAt, arrival, said_at, Carries, sent_in, LosesSome}
-use Rattle.turn_losses.proofs.Periods.{loses-at, loses-last}
+use Rattle.link_run.proofs.Names.{User, is_busy, Link, Accounts, Turn, SpeaksAt, arrival, said_at, Carries, sent_in}
+use Rattle.turn_losses.proofs.Truths.{clash}
+use Rattle.turn_losses.proofs.Truths.{not-true}
+use Rattle.turn_losses.proofs.Periods.{once, loses-at, loses-last}
 use Rattle.turn_losses.proofs.Tracing.{past-all}
 use Rattle.turn_losses.proofs.LineLaw.{is-heard, looked, was-sent}
 use Rattle.turn_losses.proofs.PollLaws.{two-ends}
@@ -16,15 +18,10 @@ use Rattle.turn_losses.proofs.Phasing.{is_sabme}
 use Rattle.turn_losses.proofs.BreakHear.{of_word, ack_of, break-heard}
 use Rattle.turn_losses.proofs.BreakTurn.{Deeds, ServedBreaks, number_of, brk_due}
 use Rattle.turn_losses.proofs.View.{deeds-of, breaking, served-own}
-use Rattle.turn_losses.proofs.Windows.{off}
 use Rattle.turn_losses.proofs.Waiting.{BreakPeriod, break-answered}
 use Rattle.turn_losses.proofs.Quiet.{answers-sabme, sends-sabme-so}
 use Rattle.turn_losses.proofs.Names.{KeepsTime, of_frame, of_arrived, arrives-flag, serves-all, served_account, is_lost, PeriodLoses, Deed}
 use Rattle.turn_losses.proofs.Names.{Trace, past, sent_or, EndRun, TwoEnds, end_run}
-
-not-true : (b : Bool) → (b ≡ true → ⊥) → b ≡ false
-not-true true f = absurd (f refl)
-not-true false f = refl
 
 waits-not : (b : OwnBreaks) → length b.lengths ≤ b.answered → waits b ≡ false
 waits-not b l = grind (arith, nat_tests, l)
@@ -116,10 +113,7 @@ connected-loses reads tries period delay link ts state deed kt m w t cs r number
     long = omega (arith, k.period_is)
 
     within : s + period ≤ turns
-    within = let x = once n in omega (arith, q, x)
-      where
-        once : (y : ℕ) → (y + 1) * period ≡ y * period + period
-        once y = omega arith
+    within = let x = once period n in omega (arith, q, x)
 
     quiet : (u : ℕ) → s ≤ u → u < s + period → (d u).answers ≡ false
     quiet u a b = not-true (d u).answers
@@ -132,7 +126,7 @@ connected-loses reads tries period delay link ts state deed kt m w t cs r number
         (co (u + 1) (omega (arith, a)) (omega (arith, b))) f in
         let c = was-sent e.delay turns is_sabme e.slot o.heard o.loses k.is_heard u (omega (arith, b, within)) heard in
         let v : ℕ = u - e.delay in
-        off (is_connected (e.account (v + 1)).phase) (bp.stays (v + 1) (omega (arith, a)) (omega (arith, a, b, k.own_delay))).connected
+        clash (is_connected (e.account (v + 1)).phase) (bp.stays (v + 1) (omega (arith, a)) (omega (arith, a, b, k.own_delay))).connected
         (sends-sabme-so reads tries period delay link ts state deed kt m w r v (omega (arith, b, within)) c.1))
 
     some : (u : ℕ) → s < u → u ≤ s + period → u < turns → (e.loses u ≡ true) ⊎ (o.loses u ≡ true) → PeriodLoses period turns (t ∷ ts) n
@@ -168,7 +162,7 @@ connected-loses reads tries period delay link ts state deed kt m w t cs r number
                 (of_word (ack_of number)) o.slot e.heard e.loses k.hears z (omega (arith, f, l)) (ap e.loses f ∙ g) ∙ sent in
                 let here = bp.stays (s + period) (omega (arith, long)) (omega arith) in
                 let there = bp.goes_on l in
-                absurd (off (waits (e.account (s + period + 1)).own_breaks) there.waiting
+                absurd (clash (waits (e.account (s + period + 1)).own_breaks) there.waiting
                 (((breaking tries period delay link ts state deed kt w r).turn (s + period) l there.connected).ends here.connected
                 here.waiting
                 (ap (λ x. of_arrived (of_word (ack_of x)) (e.heard (s + period))) here.numbered

@@ -7,14 +7,15 @@ use Rattle.link_account.proofs.Names.{is_connected, hear, trying, MayPlay, arriv
 use Rattle.link_account.proofs.Names.{is_some}
 use Rattle.link_run.proofs.Names.{Phase, Detecting, Negotiating, Establishing, Connected, Releasing, Closed, is_busy, is_released}
 use Rattle.link_run.proofs.Names.{is_closed, next_break, Link, Accounts, Spoken, Turn, RunOf, Hears, SpeaksAt, arrival, served_at, said_at}
-use Rattle.link_run.proofs.Names.{releases, spoken, Crosses, Carries, IsCarried, sent_in, RunsOver, LosesSome}
+use Rattle.link_run.proofs.Names.{releases, spoken, Crosses, Carries, IsCarried, sent_in, RunsOver}
 use Rattle.lapm_sender.specs.Outgoing.{is_whole}
 use Rattle.link_account.specs.Speak.{speak_detecting, speak_negotiating}
 use Rattle.link_run.specs.End.{is_ready}
 use Rattle.link_run.specs.Run.{BrokenTurn, finished_at, served_ends}
 use Rattle.link_run.specs.Carried.{has_message}
-use Rattle.link_run.specs.Starved.{SpanLoses, IsStarved, turn_at}
-use Rattle.turn_losses.proofs.Periods.{later-loses, loses-at, loses-last, loses-of}
+use Rattle.link_run.specs.Starved.{SpanLoses, IsStarved}
+use Rattle.turn_losses.proofs.Truths.{and-two}
+use Rattle.turn_losses.proofs.Periods.{once, later-loses, loses-at, loses-last, loses-of}
 use Rattle.turn_losses.specs.Losses.{AnswererWantsAnswers}
 use Rattle.turn_losses.proofs.PollHear.{PollHeard, poll-hears, linked-connected}
 use Rattle.turn_losses.proofs.PollSpeak.{poll-speaks}
@@ -128,18 +129,13 @@ pub record Released (link : Link) (t : ℕ) (mid : Accounts) : Type 0 where
   pub breaks : waits (served_at link t mid Answerer).account.own_breaks ≡ false
   pub connected : is_connected (served_at link t mid Answerer).account.phase ≡ true
 
-and-both : (x y : Bool) → x && y ≡ true → (x ≡ true) × (y ≡ true)
-and-both true true e = (refl, refl)
-and-both true false e = cc
-and-both false y e = cc
-
 not-either : (x : Bool) → not x ≡ true → x ≡ false
 not-either true e = cc
 not-either false e = refl
 
 pub told-release : (link : Link) (t : ℕ) (mid : Accounts) → releases link t mid ≡ true → Released link t mid
 told-release link t mid e = go (is_connected a.phase) refl
-    (and-both (finished_at link t (served_ends link t mid) Originator) (finished_at link t (served_ends link t mid) Answerer) e).1
+    (and-two (finished_at link t (served_ends link t mid) Originator) (finished_at link t (served_ends link t mid) Answerer) e).1
   where
     a : Account
     a = (served_at link t mid Answerer).account
@@ -148,7 +144,7 @@ told-release link t mid e = go (is_connected a.phase) refl
         → (cond c (is_whole a.outgoing) false && not
         (cond c (waits a.own_breaks) false || is_ready t (next_break link.answ.user.breaks a))) ≡ true → Released link t mid
     go true q f =
-        let x = and-both (is_whole a.outgoing) _ f in
+        let x = and-two (is_whole a.outgoing) _ f in
         record {
           done = x.0;
           breaks = first (waits a.own_breaks) (is_ready t (next_break link.answ.user.breaks a))
@@ -189,7 +185,7 @@ longer-told link deed o u a now = let b = a.before in record {
 }
 
 whole-is : (o : Outgoing) → is_whole o ≡ true → o.front ≡ length o.pieces
-whole-is o e = let x = (and-both o.ended (nat_eq o.front (length o.pieces)) e).1 in grind (arith, nat_tests, x)
+whole-is o e = let x = (and-two o.ended (nat_eq o.front (length o.pieces)) e).1 in grind (arith, nat_tests, x)
 
 -- what passes of a slot
 pub passes-as : (m : Option Spoken) (said : Said) (heard : Heard) → m ≡ Some (spoken said) → Crosses m heard → is_lost heard ≡ false
@@ -553,10 +549,7 @@ parted-each laws reads tries period delay link ts before t mid kt run cs hearing
     at-expiry (s, q', un) = by (cases_lt (s + period) (v.turn + o.delay))
       where
         within : s + period ≤ turns
-        within = let m = once n in omega (arith, q', m)
-          where
-            once : (y : ℕ) → (y + 1) * period ≡ y * period + period
-            once y = omega arith
+        within = let m = once period n in omega (arith, q', m)
 
         by : (s + period < v.turn + o.delay) ⊎ (v.turn + o.delay ≤ s + period) → PeriodLoses period turns (t ∷ ts) n
         by (inr soon) = disc-lost s q' within un.connected soon

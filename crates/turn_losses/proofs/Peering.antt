@@ -7,6 +7,7 @@ use Rattle.link_run.proofs.Names.{Phase, Detecting, Negotiating, Establishing, C
 use Rattle.link_run.proofs.Names.{Link, Accounts, Turn, arrival, served_at}
 use Rattle.turn_bound.proofs.MeetHear.{o-hears}
 use Rattle.turn_bound.proofs.Serving.{serves-first, before_asking}
+use Rattle.turn_losses.proofs.Truths.{clash}
 use Rattle.turn_losses.proofs.PollHear.{linked-connected}
 use Rattle.turn_losses.proofs.PollSpeak.{poll-speaks}
 use Rattle.turn_losses.proofs.NumberTurn.{speak-ok}
@@ -17,7 +18,6 @@ use Rattle.turn_losses.proofs.Moving.{try-heard}
 use Rattle.turn_losses.proofs.Parting.{told-at, connected-or, setup-role, mid-connected}
 use Rattle.turn_losses.proofs.BreakHear.{break-heard}
 use Rattle.turn_losses.proofs.View.{waits-are}
-use Rattle.turn_losses.proofs.Windows.{off}
 use Rattle.turn_losses.proofs.Names.{KeepsTime, served_account, is_linked, Deed, Trace, past, TwoEnds, end_run}
 
 -- no break is taken once the originator is told to release
@@ -103,7 +103,7 @@ unasked tries period delay link ts state deed kt w v l none (suc n) b rel c0 c =
             × ((deed u).mid.answ.own_breaks.rest ≡ u + 8))
             → waits (deed u).mid.answ.own_breaks ≡ false
         by (inl q) = ap waits q ∙ f
-        by (inr x) = off (waits (state u).answ.own_breaks) x.0 f
+        by (inr x) = clash (waits (state u).answ.own_breaks) x.0 f
 
 -- an originator that isn't Closed as it has heard wasn't before
 unclosed : (arrived : Arrived) (turn : ℕ) (a mid : Account) → a.setup.role ≡ Originator → hear turn arrived a ≡ Ok mid
@@ -147,7 +147,7 @@ peer-connected reads tries period delay link ts state deed kt m w u b open-so l 
         let v = told-at reads tries period delay link ts state deed kt m w u b e in
         let x = v.before in
         let same : v.turn + 1 + (u - (v.turn + 1)) ≡ u = omega (arith, x) in
-        off (waits (state u).answ.own_breaks) wt (ap (λ y. waits (state y).answ.own_breaks) (sym same)
+        clash (waits (state u).answ.own_breaks) wt (ap (λ y. waits (state y).answ.own_breaks) (sym same)
         ∙ unasked tries period delay link ts state deed kt w v.turn (omega (arith, x, b)) v.told.breaks (u - (v.turn + 1))
         (omega (arith, x, b)) (λ y p q. v.since y p (omega (arith, q, same)))
         (answ-linked v.turn (omega (arith, x, b)) v.told.connected) (ap (λ y. is_connected (state y).answ.phase) same ∙ c))

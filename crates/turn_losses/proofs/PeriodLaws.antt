@@ -1,4 +1,4 @@
-use Rattle.std.proofs.Common.{◌⊎◌, inl, inr, ◌≡◌, ℕ, zero, suc, ◌+◌, ◌<◌, ◌≤◌, ◌||◌, Bool, true, false, cond, arith, refl, sym, ◌∙◌}
+use Rattle.std.proofs.Common.{◌⊎◌, inl, inr, ◌≡◌, ℕ, zero, suc, ◌+◌, ◌<◌, ◌≤◌, ◌||◌, Bool, true, false, cond, arith, refl, ◌∙◌}
 use Rattle.std.proofs.Common.{ap, subst}
 use Rattle.link_account.proofs.Names.{cases_lt, is_connected}
 use Rattle.turn_losses.proofs.KeepsPolls.{Answers, StillAwaited}
@@ -6,9 +6,6 @@ use Rattle.turn_losses.proofs.LineLaw.{is-heard}
 use Rattle.turn_losses.proofs.PollLaws.{turned, due-apart, reply-at-once, poll-fresh, polls-apart, reply-matches}
 use Rattle.turn_losses.proofs.Names.{is_poll, is_final, is_linked, poll_due, PollTurn, EndRun, TwoEnds, sends_poll, hears_poll, sends_final}
 use Rattle.turn_losses.proofs.Names.{hears_final}
-
-clash : {A : Type 0} (b : Bool) → b ≡ true → b ≡ false → A
-clash b e f = let wrong : true ≡ false = sym e ∙ f in cc
 
 -- an end that was Connected stays so, or is told to release or Closed, for good
 pub linked-on : (period turns : ℕ) (e o : EndRun) → TwoEnds period turns e o → (s t : ℕ) → s ≤ t → t ≤ turns

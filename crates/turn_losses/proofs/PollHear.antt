@@ -4,6 +4,7 @@ use Rattle.link_account.proofs.Names.{on_nothing, without_adp}
 use Rattle.link_run.proofs.Names.{Phase, Detecting, Negotiating, Establishing, Connected, Releasing, Closed}
 use Rattle.link_account.specs.Hear.{first_wait}
 use Rattle.link_account.proofs.HearWays.{ConnectedWays, EarlyWays, by-ways}
+use Rattle.turn_losses.proofs.Truths.{or-false}
 use Rattle.turn_losses.proofs.HeardNumber.{number-rows, plain-frame}
 use Rattle.turn_losses.proofs.Names.{is_poll, of_arrived, SetFrom, is_linked}
 
@@ -28,10 +29,6 @@ pub record PollHeard (role : Role) (turn : ℕ) (polled : Bool) (a b : Account) 
 abbrev pub PollHears : Role → ℕ → Bool → Account → Result Account LinkFault → Type 0
 PollHears role turn polled a (Err fault) = Unit {0}
 PollHears role turn polled a (Ok b) = PollHeard role turn polled a b
-
-pub or-false : (b : Bool) → b || false ≡ b
-or-false true = refl
-or-false false = refl
 
 pub linked-connected : (p : Phase) → is_connected p ≡ true → is_linked p ≡ true
 linked-connected Connected e = refl

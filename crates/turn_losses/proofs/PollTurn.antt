@@ -2,22 +2,11 @@ use Rattle.std.proofs.Common.{◌⊎◌, inl, inr, ◌≡◌, ℕ, ◌+◌, ◌�
 use Rattle.link_account.proofs.Names.{Role, Originator, Answerer, Account, is_connected, Said}
 use Rattle.link_run.proofs.Names.{Phase, Detecting, Negotiating, Establishing, Connected, Releasing, Closed, is_closed, is_released}
 use Rattle.turn_bound.proofs.AtMostOne.{OneDue}
+use Rattle.turn_losses.proofs.Truths.{and-two, unlinked-connected, and-second, and-true, clash, or-late}
 use Rattle.turn_losses.proofs.PollHear.{PollHeard, linked-connected}
 use Rattle.turn_losses.proofs.PollSpeak.{SaidPoll, SpeakPoll}
 use Rattle.turn_losses.proofs.Polling.{Early}
 use Rattle.turn_losses.proofs.Names.{NoneDue, is_poll, is_final, of_frame, is_linked, poll_due, PollTurn}
-
-and-left : (b c : Bool) → b && c ≡ true → b ≡ true
-and-left true c e = refl
-and-left false c e = cc
-
-and-right : (b c : Bool) → b && c ≡ true → c ≡ true
-and-right true c e = e
-and-right false c e = cc
-
-and-both : (b c : Bool) → b ≡ true → c ≡ true → b && c ≡ true
-and-both true c e f = f
-and-both false c e f = cc
 
 unlinked-released : (p : Phase) → is_linked p ≡ false → is_released p ≡ false
 unlinked-released Detecting e = refl
@@ -42,13 +31,6 @@ connected-closed Establishing e = cc
 connected-closed Connected e = refl
 connected-closed Releasing e = cc
 connected-closed Closed e = cc
-
-clash : {A : Type 0} (b : Bool) → b ≡ true → b ≡ false → A
-clash b e f = let wrong : true ≡ false = sym e ∙ f in cc
-
-or-late : (m n : Bool) → n ≡ true → m || n ≡ true
-or-late true n g = refl
-or-late false n g = g
 
 either-bool : (b : Bool) → (b ≡ true) ⊎ (b ≡ false)
 either-bool true = inl refl
@@ -75,18 +57,15 @@ poll-turn period turn role polled final a b said some h k one none early untimed
     unlinked-first : is_linked b.phase ≡ false → is_linked a.phase ≡ false
     unlinked-first e = elim (either-bool (is_linked a.phase)) [ inl x ↦ clash (is_linked b.phase) (h.linked x) e | inr x ↦ x ]
 
-    not-connected : (p : Phase) → is_linked p ≡ false → is_connected p ≡ false
-    not-connected p e = elim (either-bool (is_connected p)) [ inl x ↦ clash (is_linked p) (linked-connected p x) e | inr x ↦ x ]
-
     stays-linked : is_linked a.phase ≡ true → is_linked c.phase ≡ true
     stays-linked e = k.linked ∙ h.linked e
 
     early-poll : is_linked c.phase ≡ false → c.wait.poll ≡ false
-    early-poll e = let u = unlinked-before e in (k.other (not-connected c.phase e)).0 ∙ ((h.early u).0 ∙ early.poll (unlinked-first u))
+    early-poll e = let u = unlinked-before e in (k.other (unlinked-connected c.phase e)).0 ∙ ((h.early u).0 ∙ early.poll (unlinked-first u))
 
     early-numbered : is_linked c.phase ≡ false → c.numbered ≡ false
     early-numbered e = let u = unlinked-before e in
-        (k.other (not-connected c.phase e)).1 ∙ ((h.early u).1 ∙ early.numbered (unlinked-first u))
+        (k.other (unlinked-connected c.phase e)).1 ∙ ((h.early u).1 ∙ early.numbered (unlinked-first u))
 
     -- whether a reply is due
     reply-heard : is_connected b.phase ≡ true → b.owes.reply ≡ true → polled ≡ true
@@ -143,7 +122,7 @@ poll-turn period turn role polled final a b said some h k one none early untimed
     held e d = by (k.connected e)
       where
         by : (is_connected b.phase ≡ true) × SaidPoll turn b said → polled ≡ true
-        by (f, l) = let p = and-right (is_connected c.phase) c.wait.poll d in reply-heard f ((l.kept p).1 (no-answer e f l p)).0
+        by (f, l) = let p = and-second (is_connected c.phase) c.wait.poll d in reply-heard f ((l.kept p).1 (no-answer e f l p)).0
 
     final-heard : is_connected c.phase ≡ true → of_frame is_final said.sent ≡ true → polled ≡ true
     final-heard e d = by (k.connected e)
@@ -175,8 +154,8 @@ poll-turn period turn role polled final a b said some h k one none early untimed
       record {
         early = after-early;
         linked = stays-linked;
-        due_from = λ d. clash (is_connected c.phase) (and-left (is_connected c.phase) c.wait.poll d) e;
-        held_up = λ d. clash (is_connected c.phase) (and-left (is_connected c.phase) c.wait.poll d) e;
+        due_from = λ d. clash (is_connected c.phase) ((and-two (is_connected c.phase) c.wait.poll d).0) e;
+        held_up = λ d. clash (is_connected c.phase) ((and-two (is_connected c.phase) c.wait.poll d).0) e;
         sent_from = λ s. clash (of_frame is_poll said.sent) s o.2;
         sent_done = λ s. clash (of_frame is_poll said.sent) s o.2;
         timer = λ f. clash (is_connected c.phase) f e;
@@ -201,7 +180,7 @@ poll-turn period turn role polled final a b said some h k one none early untimed
       record {
         early = after-early;
         linked = stays-linked;
-        due_from = λ d m. was m ((l.kept (and-right (is_connected c.phase) c.wait.poll d)).0 m);
+        due_from = λ d m. was m ((l.kept (and-second (is_connected c.phase) c.wait.poll d)).0 m);
         held_up = held e;
         sent_from = λ s m. was m ((l.sent s).0 m);
         sent_done = λ s. cleared ((l.sent s).1);
@@ -220,7 +199,7 @@ poll-turn period turn role polled final a b said some h k one none early untimed
     )
       where
         was : l.made ≡ false → b.wait.poll ≡ true → poll_due a ≡ true
-        was m p = and-both (is_connected a.phase) a.wait.poll x (sym (h.poll x) ∙ p)
+        was m p = and-true (is_connected a.phase) a.wait.poll x (sym (h.poll x) ∙ p)
 
         counts : (n : ℕ) → ((l.made ≡ true) × (b.outgoing.count ≡ n) × (c.wait.timer ≡ Some turn))
             ⊎ ((l.made ≡ false) × (b.outgoing.count ≡ n + 1) × ((r : ℕ) → b.wait.timer ≡ Some r → c.wait.timer ≡ Some r))
@@ -233,11 +212,11 @@ poll-turn period turn role polled final a b said some h k one none early untimed
 
         due : (l.made ≡ true) ⊎ (poll_due a ≡ true) → (l.made ≡ true) ⊎ (b.wait.poll ≡ true)
         due (inl m) = inl m
-        due (inr w) = inr (h.poll x ∙ and-right (is_connected a.phase) a.wait.poll w)
+        due (inr w) = inr (h.poll x ∙ and-second (is_connected a.phase) a.wait.poll w)
 
         still-due : (of_frame is_poll said.sent ≡ true) ⊎ (c.wait.poll ≡ true) → (of_frame is_poll said.sent ≡ true) ⊎ (poll_due c ≡ true)
         still-due (inl w) = inl w
-        still-due (inr w) = inr (and-both (is_connected c.phase) c.wait.poll e w)
+        still-due (inr w) = inr (and-true (is_connected c.phase) c.wait.poll e w)
 
         cleared : c.wait.poll ≡ false → poll_due c ≡ false
         cleared w = ap (λ v. is_connected c.phase && v) w ∙ and-false (is_connected c.phase)
@@ -302,7 +281,7 @@ poll-turn period turn role polled final a b said some h k one none early untimed
       record {
         early = after-early;
         linked = stays-linked;
-        due_from = λ d m. absurd (none-kept ((l.kept (and-right (is_connected c.phase) c.wait.poll d)).0));
+        due_from = λ d m. absurd (none-kept ((l.kept (and-second (is_connected c.phase) c.wait.poll d)).0));
         held_up = held e;
         sent_from = λ s m. absurd (none-kept ((l.sent s).0));
         sent_done = λ s. absurd (none-kept ((l.sent s).0));

@@ -2,10 +2,11 @@
 use Rattle.std.proofs.Common.{◌⊎◌, inl, inr, ◌≡◌, ℕ, zero, suc, ◌+◌, ◌-◌, ◌*◌, ◌<◌, ◌≤◌, ◌&&◌, Bool, true, false, arith, refl, sym, ◌∙◌, ap}
 use Rattle.std.proofs.Common.{subst, Option, Some, None}
 use Rattle.link_account.proofs.Names.{cases_lt, BreakWord, waits, Account, is_connected}
+use Rattle.turn_losses.proofs.Truths.{clash}
 use Rattle.turn_losses.proofs.BreakHear.{of_word, brk_of, ack_of, any_brk, pends, pends_of}
 use Rattle.turn_losses.proofs.BreakTurn.{Deeds, BreakTurn, number_of, brk_due, ack_due, ack_due_of, was_special}
 use Rattle.turn_losses.proofs.Counting.{hits, once, at-most-made, all-held, no-hits, after-acks}
-use Rattle.turn_losses.proofs.Windows.{Breaking, off, replies-apart, polls-far, hurries-twice, brks-heard, sum-at-most}
+use Rattle.turn_losses.proofs.Windows.{Breaking, replies-apart, polls-far, hurries-twice, brks-heard, sum-at-most}
 use Rattle.turn_losses.proofs.Names.{of_frame, of_arrived, EndRun, TwoEnds, sends_poll, sends_final}
 
 abbrev pub AllConnected : EndRun → ℕ → ℕ → Type 0
@@ -39,7 +40,7 @@ acks-few period turns e o d d' k h h' first s n l w c =
 
         by : (b : Bool) → ack_due (e.account (t + 1)) ≡ b → ack_due (e.account (t + 1)) ≡ false
         by false p = p
-        by true p = off (d t).acks q (sent (f p))
+        by true p = clash (d t).acks q (sent (f p))
 
 abbrev pub NoAnswers : (ℕ → Deeds) → ℕ → ℕ → Type 0
 NoAnswers d s n = (t : ℕ) → s ≤ t → t < s + n → (d t).answers ≡ false

@@ -5,8 +5,9 @@ use Rattle.link_account.proofs.Names.{cases_lt, Role, Originator, Answerer, of, 
 use Rattle.link_run.proofs.Names.{Phase, Detecting, Negotiating, Establishing, Connected, Releasing, Closed, is_closed, Link, Accounts}
 use Rattle.link_run.proofs.Names.{Turn, RunOf, Hears, arrival, served_at, Carries, IsCarried, RunsOver, LosesSome}
 use Rattle.link_run.specs.Starved.{SpanLoses, IsStarved, turn_at}
+use Rattle.turn_losses.proofs.Truths.{not-true}
 use Rattle.turn_losses.proofs.Keeping.{turn-is}
-use Rattle.turn_losses.proofs.Periods.{lost-is, later-turn, newest, times}
+use Rattle.turn_losses.proofs.Periods.{once, lost-is, later-turn, newest, times}
 use Rattle.turn_losses.proofs.PollHear.{poll-hears}
 use Rattle.turn_losses.proofs.NumberTurn.{poll-ok}
 use Rattle.turn_losses.proofs.Tracing.{known, Traced, traced}
@@ -33,15 +34,12 @@ use Rattle.turn_losses.proofs.Names.{TwoEnds, end_run}
 -- a span's loss
 span-at : (period delay : ℕ) (t : Turn) (ts : List Turn) (s n u : ℕ) → s + (n + 1) * period ≡ length ts → s < u + delay → u ≤ s + period
     → (u ≤ length ts) → LosesSome (turn_at u (t ∷ ts)) → SpanLoses period delay (t ∷ ts) n
-span-at period delay t ts s n u q lo hi b l = let m = once n in record {
+span-at period delay t ts s n u q lo hi b l = let m = once period n in record {
   turn = u;
   within = omega (arith, b);
   in_span = record { behind = omega (arith, lo, q); before = omega (arith, hi, q, m) };
   lost = l;
 }
-  where
-    once : (y : ℕ) → (y + 1) * period ≡ y * period + period
-    once y = omega arith
 
 pub of-period : (period : ℕ) (delay : Role → ℕ) (t : Turn) (ts : List Turn) (n : ℕ) → PeriodLoses period (length ts) (t ∷ ts) n
     → SpanLoses period (max (delay Originator) (delay Answerer)) (t ∷ ts) n
@@ -54,10 +52,6 @@ of-period period delay t ts n h = let behind = h.in_period.behind in let before 
 
 max-second : (a b : ℕ) → b ≤ max a b
 max-second a b = grind (arith)
-
-not-true : (b : Bool) → (b ≡ true → ⊥) → b ≡ false
-not-true true f = absurd (f refl)
-not-true false f = refl
 
 connected-begun : (p : Phase) → is_connected p ≡ true → is_begun p ≡ true
 connected-begun Connected e = refl
@@ -102,10 +96,7 @@ unlinked-loses reads tries period delay link ts before t mid kt run cs hearing w
     wide = max-second (delay Originator) (delay Answerer)
 
     within : s + period ≤ turns
-    within = let m = once n in omega (arith, q, m)
-      where
-        once : (y : ℕ) → (y + 1) * period ≡ y * period + period
-        once y = omega arith
+    within = let m = once period n in omega (arith, q, m)
 
     est : (u : ℕ) → s < u → u ≤ s + period → (w.state u).orig.phase ≡ Establishing
     est u a b = only-establishing (w.state u).orig.phase
@@ -280,9 +271,6 @@ answerer-breaks reads tries period delay link ts before t mid kt run cs hearing 
     k : TwoEnds period turns o e
     k = two-ends tries period delay link ts w.state w.deed kt w.trace Originator
 
-    once : (y : ℕ) → (y + 1) * period ≡ y * period + period
-    once y = omega arith
-
     role : (us : List Turn) (y : Accounts) → RunOf link us y → IsCarried delay us → y.orig.setup.role ≡ Originator
     role us y run' c' = setup-role tries period delay link us y kt run' c' Originator
 
@@ -306,7 +294,7 @@ answerer-breaks reads tries period delay link ts before t mid kt run cs hearing 
         at (s, q, bp) = by (is_linked (w.state (s + 1)).orig.phase) refl
           where
             within : s + period ≤ turns
-            within = let m = once n in omega (arith, q, m)
+            within = let m = once period n in omega (arith, q, m)
 
             by : (b : Bool) → is_linked (w.state (s + 1)).orig.phase ≡ b
                 → SpanLoses period (max (delay Originator) (delay Answerer)) (t ∷ ts) n ⊎ Joins period ts w.state mid n

@@ -1,8 +1,8 @@
 -- An end that gives up was starved.
-use Rattle.std.proofs.Common.{inl, inr, ◌≡◌, ◌≢◌, ℕ, suc, ◌-◌, ◌<◌, ◌≤◌, true, max, List, ◌∷◌, length, arith, sym, ◌∙◌, ap, subst}
-use Rattle.link_account.proofs.Names.{slice_get, cases_lt, Role, Originator, Answerer, other, is_connected, IsAllowed}
+use Rattle.std.proofs.Common.{inl, inr, ◌≡◌, ◌≢◌, ℕ, ◌<◌, ◌≤◌, true, max, List, ◌∷◌, length, arith, sym, ◌∙◌, ap, subst}
+use Rattle.link_account.proofs.Names.{cases_lt, Role, Originator, Answerer, other, is_connected, IsAllowed}
 use Rattle.link_run.proofs.Names.{is_released, Link, Accounts, Turn, arrival, releases, RunsOver, LosesSome}
-use Rattle.link_run.specs.Starved.{SpanLoses, IsStarved, turn_at}
+use Rattle.link_run.specs.Starved.{SpanLoses, IsStarved}
 use Rattle.turn_bound.specs.Together.{Together}
 use Rattle.turn_losses.proofs.Periods.{later-turn}
 use Rattle.turn_losses.specs.Losses.{OriginatorWantsAnswers, OriginatorIsStarved}

@@ -1,20 +1,19 @@
 -- An originator that gives up while it tries a frame.
-use Rattle.std.proofs.Common.{◌⊎◌, inl, inr, ◌≡◌, ℕ, ◌+◌, ◌-◌, ◌*◌, ◌<◌, ◌≤◌, Bool, true, false, cond, nat_le, List, length, arith, refl}
-use Rattle.std.proofs.Common.{sym, ◌∙◌, ap, subst, Some, Ok, Err}
-use Rattle.link_account.proofs.Names.{Role, Originator, Answerer, of, Frame, Sabme, Disc, Xid, written, ReadsWritten, Spent, NotDetected}
+use Rattle.std.proofs.Common.{◌⊎◌, inl, inr, ◌≡◌, ℕ, ◌+◌, ◌*◌, ◌≤◌, Bool, true, false, cond, nat_le, length, arith, refl}
+use Rattle.std.proofs.Common.{sym, ◌∙◌, ap, Ok, Err}
+use Rattle.link_account.proofs.Names.{Originator, Frame, Sabme, Disc, Xid, written, ReadsWritten, Spent, NotDetected}
 use Rattle.link_account.proofs.Names.{Account, is_connected, says, speak, speak_in}
 use Rattle.link_run.proofs.Names.{Phase, Detecting, Negotiating, Establishing, Connected, Releasing, Closed, is_busy, is_released}
-use Rattle.link_run.proofs.Names.{is_closed, Link, Accounts, Turn, arrival, served_at, releases, LosesSome}
+use Rattle.link_run.proofs.Names.{is_closed, Accounts, arrival, served_at, releases}
 use Rattle.link_account.specs.Speak.{speak_detecting, speak_negotiating, u_try}
 use Rattle.turn_losses.proofs.Periods.{once, loses-of}
 use Rattle.turn_losses.proofs.Tracing.{Traced, traced}
-use Rattle.turn_losses.proofs.PeriodHolds.{LostIn}
 use Rattle.turn_losses.proofs.Starving.{all-but-one}
 use Rattle.turn_losses.specs.Tries.{OriginatorWantsFrame}
 use Rattle.turn_losses.proofs.Moving.{is_trying, try-heard, TryGoesOn, TryBegins, try-spent}
 use Rattle.turn_losses.proofs.Setups.{start-setup, heard-setup, served-setup}
 use Rattle.turn_losses.proofs.Trying.{TriesSo, tries-so, unanswered, unanswered-loses}
-use Rattle.turn_losses.proofs.Names.{Served, serves-all, is_lost, PeriodLoses, LosesEach, Deed, Trace, EndRun, end_run}
+use Rattle.turn_losses.proofs.Names.{Served, serves-all, LosesEach, EndRun, end_run}
 use Rattle.lapm_frames.specs.declared.sent.Sent.TheVariants as slots
 
 -- which try is spent

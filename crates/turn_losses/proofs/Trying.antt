@@ -5,6 +5,7 @@ use Rattle.link_account.proofs.Names.{is_some, cases_lt, Role, Originator, Answe
 use Rattle.link_account.proofs.Names.{Arrived, Account, hear, MayPlay, Said, speak}
 use Rattle.link_run.proofs.Names.{Phase, Detecting, Negotiating, Establishing, Connected, Releasing, Closed, Setup, User, is_busy}
 use Rattle.link_run.proofs.Names.{is_released, is_closed, Link, Accounts, Turn, SpeaksAt, arrival, served_at, said_at}
+use Rattle.turn_losses.proofs.Truths.{not-true}
 use Rattle.turn_losses.proofs.Numbering.{allowed}
 use Rattle.turn_losses.proofs.Numbered.{numbered-linked}
 use Rattle.turn_losses.proofs.Tracing.{known, release_of}
@@ -212,10 +213,6 @@ answerable Releasing Connected n t e r x y z = refl
 answerable Releasing Releasing n t e r x y z = absurd (r refl)
 answerable Releasing Closed n t e r x y z = refl
 
-not-so : (b : Bool) → (b ≡ true → ⊥) → b ≡ false
-not-so true f = absurd (f refl)
-not-so false f = refl
-
 -- The answerer answers in the turn in which it hears.
 pub answers-so : ReadsWritten → (tries period : ℕ) (delay : Role → ℕ) (link : Link) (ts : List Turn) (state : ℕ → Accounts)
     (deed : ℕ → Deed)
@@ -259,14 +256,14 @@ answers-so reads tries period delay link ts state deed kt m w p t u l f k =
 
     can : can_answer p (state u).answ.phase (state u).answ.numbered ≡ true
     can = answerable p (state u).answ.phase (state u).answ.numbered t (never Establishing refl) (never Releasing refl)
-        (λ q. not-so (is_begun (state u).answ.phase)
+        (λ q. not-true (is_begun (state u).answ.phase)
         (λ b. let wrong : true ≡ false = sym (begun-established tries period delay link ts state deed kt w u (omega (arith, l)) b)
         ∙ ap is_established (f ∙ q) in cc))
         (λ q. (
-          not-so (state u).answ.numbered
+          not-true (state u).answ.numbered
               (λ n. let wrong : true ≡ false = sym
               (numbered-linked tries period delay link ts state deed kt w Answerer u (omega (arith, l)) n) ∙ ap is_linked (f ∙ q) in cc),
-          not-so (is_closed (state u).answ.phase) (λ c. let wrong : true ≡ false = sym (both.closed c) ∙ ap is_released (f ∙ q) in cc),
+          not-true (is_closed (state u).answ.phase) (λ c. let wrong : true ≡ false = sym (both.closed c) ∙ ap is_released (f ∙ q) in cc),
         ))
         (λ q. both.begun (ap is_begun (f ∙ q)))
 

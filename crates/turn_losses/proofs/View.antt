@@ -7,6 +7,7 @@ use Rattle.link_run.proofs.Names.{Phase, Detecting, Negotiating, Establishing, C
 use Rattle.link_run.proofs.Names.{Accounts, Turn, SpeaksAt, arrival, served_at, said_at}
 use Rattle.break_signals.specs.Breaks.{no_breaks}
 use Rattle.turn_bound.proofs.Value.{Linked, Unlinked, IsAck}
+use Rattle.turn_losses.proofs.Truths.{unlinked-connected, and-drop, no-and, clash}
 use Rattle.turn_losses.proofs.PollHear.{PollHeard, poll-hears}
 use Rattle.turn_losses.proofs.PollSpeak.{poll-speaks}
 use Rattle.turn_losses.proofs.NumberTurn.{poll-ok, speak-ok}
@@ -57,40 +58,29 @@ served-own turn breaks busy a b s low = elim s.own [
 blank-heard : (turn : ℕ) (mid : Account) → BreakHeard turn arrivals.Nothing mid mid
 blank-heard turn mid = record { special = refl; own = inl refl; ends = λ h w. cc; asked = λ n h. cc; kept = λ h. refl; urgent = λ u. inl u }
 
-and-no : (x y : Bool) → y ≡ false → x && y ≡ false
-and-no true y e = e
-and-no false y e = refl
-
-no-and : (x y : Bool) → x ≡ false → x && y ≡ false
-no-and true y e = cc
-no-and false y e = refl
-
-off : {A : Type 0} (b : Bool) → b ≡ true → b ≡ false → A
-off b e f = let wrong : true ≡ false = sym e ∙ f in cc
-
 begun-turn : (period turn : ℕ) (arrived : Arrived) (sent : Sent) (d : Deeds) (a mid c : Account) → is_connected a.phase ≡ false
     → is_connected mid.phase ≡ true → SameOld arrived a mid → a.own_breaks ≡ no_breaks → a.their_breaks.ack ≡ None → a.special ≡ false
     → a.wait.urgent ≡ false
     → BreakTurn period turn arrivals.Nothing sent d mid c → BreakTurn period turn arrived sent d a c
 begun-turn period turn arrived sent d a mid c n cm o own ack special urgent k = record {
   made_set = k.made_set;
-  made_late = λ m x. off (is_connected a.phase) x n;
-  kept_set = λ m x. off (is_connected a.phase) x n;
-  kept_rest = λ m x. off (is_connected a.phase) x n;
+  made_late = λ m x. clash (is_connected a.phase) x n;
+  kept_set = λ m x. clash (is_connected a.phase) x n;
+  kept_rest = λ m x. clash (is_connected a.phase) x n;
   first_made = λ m x. first m;
   brk_from = λ e. made-so (k.brk_from e);
   brk_sent = λ e. let x = k.brk_sent e in (made-so x.0, x.1, x.2);
   brk_goes = λ w e. k.brk_goes w (was-made e);
   held = λ e. ap (λ x. holds (of_frame is_final sent) (of_frame is_poll sent) d.hurries d.acks x d.answers)
       (no-and (is_connected a.phase) a.special n ∙ sym mid-special) ∙ k.held e;
-  number = λ x. off (is_connected a.phase) x n;
-  ends = λ x. off (is_connected a.phase) x n;
-  counts = λ x. off (is_connected a.phase) x n;
-  newly = λ w e. k.newly w (and-no (is_connected mid.phase) (waits mid.own_breaks) mid-waits);
+  number = λ x. clash (is_connected a.phase) x n;
+  ends = λ x. clash (is_connected a.phase) x n;
+  counts = λ x. clash (is_connected a.phase) x n;
+  newly = λ w e. k.newly w (and-drop (is_connected mid.phase) (waits mid.own_breaks) mid-waits);
   ack_from = λ e. absurd (never (k.ack_from e));
   acked = λ e. absurd (none (k.acked e));
-  asked = λ i l x. off (is_connected a.phase) x n;
-  asked_on = λ i l e. off (is_connected a.phase && _) e (no-and (is_connected a.phase) _ n);
+  asked = λ i l x. clash (is_connected a.phase) x n;
+  asked_on = λ i l e. clash (is_connected a.phase && _) e (no-and (is_connected a.phase) _ n);
   held_ack = λ e. ap (λ x. holds (of_frame is_final sent) (of_frame is_poll sent) d.hurries d.acks x d.answers)
       (no-and (is_connected a.phase) a.special n ∙ sym mid-special) ∙ k.held_ack e;
   urgent = λ e. absurd (calm (k.urgent e));
@@ -106,42 +96,42 @@ begun-turn period turn arrived sent d a mid c n cm o own ack special urgent k = 
     mid-waits = ap waits mid-own
 
     mid-special : was_special mid ≡ false
-    mid-special = and-no (is_connected mid.phase) mid.special (o.special ∙ special)
+    mid-special = and-drop (is_connected mid.phase) mid.special (o.special ∙ special)
 
     mid-due : brk_due mid ≡ false
-    mid-due = and-no (is_connected mid.phase) mid.own_breaks.brk (ap (λ x. x.brk) mid-own)
+    mid-due = and-drop (is_connected mid.phase) mid.own_breaks.brk (ap (λ x. x.brk) mid-own)
 
     mid-ack : ack_due mid ≡ false
-    mid-ack = and-no (is_connected mid.phase) (pends mid.their_breaks.ack) (ap (λ t. pends t.ack) o.their ∙ ap pends ack)
+    mid-ack = and-drop (is_connected mid.phase) (pends mid.their_breaks.ack) (ap (λ t. pends t.ack) o.their ∙ ap pends ack)
 
     mid-urgent : is_urgent mid ≡ false
-    mid-urgent = and-no (is_connected mid.phase) mid.wait.urgent (o.urgent ∙ urgent)
+    mid-urgent = and-drop (is_connected mid.phase) mid.wait.urgent (o.urgent ∙ urgent)
 
     first : d.made ≡ false → waits c.own_breaks ≡ false
     first m = by (waits c.own_breaks) refl
       where
         by : (x : Bool) → waits c.own_breaks ≡ x → waits c.own_breaks ≡ false
         by false e = e
-        by true e = off (waits mid.own_breaks) (k.kept_set m cm e).0 mid-waits
+        by true e = clash (waits mid.own_breaks) (k.kept_set m cm e).0 mid-waits
 
     made-so : (brk_due mid ≡ true) ⊎ (d.made ≡ true) → (brk_due a ≡ true) ⊎ (d.made ≡ true)
-    made-so (inl x) = off (brk_due mid) x mid-due
+    made-so (inl x) = clash (brk_due mid) x mid-due
     made-so (inr x) = inr x
 
     was-made : (brk_due a ≡ true) ⊎ (d.made ≡ true) → (brk_due mid ≡ true) ⊎ (d.made ≡ true)
-    was-made (inl x) = off (brk_due a) x (no-and (is_connected a.phase) a.own_breaks.brk n)
+    was-made (inl x) = clash (brk_due a) x (no-and (is_connected a.phase) a.own_breaks.brk n)
     was-made (inr x) = inr x
 
     never : ((ack_due mid ≡ true) × (d.acks ≡ false)) ⊎ ((false ≡ true) × (d.acks ≡ false)) → ⊥
-    never (inl x) = off (ack_due mid) x.0 mid-ack
+    never (inl x) = clash (ack_due mid) x.0 mid-ack
     never (inr x) = let w = x.0 in cc
 
     none : (ack_due mid ≡ true) ⊎ (false ≡ true) → ⊥
-    none (inl x) = off (ack_due mid) x mid-ack
+    none (inl x) = clash (ack_due mid) x mid-ack
     none (inr x) = cc
 
     calm : (is_urgent mid ≡ true) ⊎ (false ≡ true) → ⊥
-    calm (inl x) = off (is_urgent mid) x mid-urgent
+    calm (inl x) = clash (is_urgent mid) x mid-urgent
     calm (inr x) = cc
 
 -- a turn of a run
@@ -254,16 +244,8 @@ turn-of tries period delay link ts state deed kt w r u l c = moved (by (polls.fr
           x.0,
           x.1,
           begun-turn period u arrived s.said.sent x.0 a mid s.said.account
-              (not-connected a.phase un) mid-connected o q.breaks q.ack z.0 z.1 x.2,
+              (unlinked-connected a.phase un) mid-connected o q.breaks q.ack z.0 z.1 x.2,
         )
-      where
-        not-connected : (p : Phase) → is_linked p ≡ false → is_connected p ≡ false
-        not-connected Detecting e = refl
-        not-connected Negotiating e = refl
-        not-connected Establishing e = refl
-        not-connected Connected e = cc
-        not-connected Releasing e = refl
-        not-connected Closed e = refl
 
 -- all of them, one function a kind
 none-done : Deeds
@@ -281,7 +263,7 @@ chosen tries period delay link ts state deed kt w r u = go (cases_lt u (length t
     go : (u < length ts) ⊎ (length ts ≤ u) → (c : Bool) → is_connected (of r (state (u + 1))).phase ≡ c
         → (d : Deeds) × Taken period link ts state deed r u d
     go (inr g) c e = (none-done, λ l f. absurd (omega (arith, g, l)))
-    go (inl l) false e = (none-done, λ l' f. off (is_connected (of r (state (u + 1))).phase) f e)
+    go (inl l) false e = (none-done, λ l' f. clash (is_connected (of r (state (u + 1))).phase) f e)
     go (inl l) true e = let x = turn-of tries period delay link ts state deed kt w r u l e in (x.0, λ l' f. x.1)
 
 abbrev pub deeds-of : (tries period : ℕ) (delay : Role → ℕ) (link : Link) (ts : List Turn) (state : ℕ → Accounts) (deed : ℕ → Deed)

@@ -1,11 +1,10 @@
 -- Why a Connected end breaks, and what was lost then.
-use Rattle.std.proofs.Common.{◌⊎◌, inl, inr, ◌≡◌, ℕ, ◌+◌, ◌*◌, ◌<◌, ◌≤◌, Bool, true, false, List, length, arith, refl, sym, ◌∙◌, ap, subst}
+use Rattle.std.proofs.Common.{◌⊎◌, inl, inr, ◌≡◌, ℕ, ◌+◌, ◌*◌, ◌<◌, ◌≤◌, Bool, true, false, List, length, arith, refl, sym, ◌∙◌, ap}
 use Rattle.std.proofs.Common.{Some, Ok, Err}
-use Rattle.link_account.proofs.Names.{nat_tests, Role, other, of, waits, Arrived, Heard, Nothing, Passed, Lost, Chance, LinkFault, Account}
+use Rattle.link_account.proofs.Names.{nat_tests, Role, other, of, waits, Arrived, LinkFault, Account}
 use Rattle.link_account.proofs.Names.{is_connected, hear, speak, false≢true}
-use Rattle.link_run.proofs.Names.{Connected, Releasing, User, is_busy, Link, Accounts, Turn, LosesSome, Phase, Detecting, Negotiating}
+use Rattle.link_run.proofs.Names.{Connected, Releasing, User, is_busy, Link, Accounts, Turn, Phase, Detecting, Negotiating}
 use Rattle.link_run.proofs.Names.{Establishing}
-use Rattle.link_run.specs.Starved.{IsLost}
 use Rattle.turn_losses.proofs.Periods.{once, loses-of}
 use Rattle.turn_losses.proofs.NumberTurn.{poll-ok}
 use Rattle.turn_losses.proofs.PollHear.{PollHeard, poll-hears}
@@ -17,7 +16,7 @@ use Rattle.turn_losses.proofs.PeriodHolds.{period-loses}
 use Rattle.turn_losses.proofs.Expiries.{Uncleared, expiries}
 use Rattle.turn_losses.proofs.Acknowledged.{Counts}
 use Rattle.turn_losses.proofs.Names.{KeepsTime, NoneDue, Rates, rates, AreRates, Sends, IsOf, Stands, arrived_rnrs, served_account, HeardAs}
-use Rattle.turn_losses.proofs.Names.{of_arrived, heard-ok, is_poll, hears-well, serves-well, Served, serves-all, is_lost, PeriodLoses}
+use Rattle.turn_losses.proofs.Names.{of_arrived, heard-ok, is_poll, hears-well, serves-well, Served, serves-all, PeriodLoses}
 use Rattle.turn_losses.proofs.Names.{LosesEach, is_linked, Deed, Trace, EndRun, TwoEnds, end_run}
 
 -- the segments' clock expires with the last try

@@ -2,6 +2,7 @@
 use Rattle.std.proofs.Common.{◌⊎◌, inl, inr, ◌≡◌, ℕ, zero, suc, ◌+◌, ◌-◌, ◌<◌, ◌≤◌, ◌&&◌, Bool, true, false, nat_le, arith, refl, sym}
 use Rattle.std.proofs.Common.{◌∙◌, ap, subst}
 use Rattle.link_account.proofs.Names.{cases_lt, nat_tests, waits, Account, is_connected}
+use Rattle.turn_losses.proofs.Truths.{not-true, and-two, and-drop, clash}
 use Rattle.turn_losses.proofs.PollHear.{linked-connected}
 use Rattle.turn_losses.proofs.LineLaw.{was-sent}
 use Rattle.turn_losses.proofs.PollLaws.{turned, polls-apart, reply-from, reply-matches}
@@ -17,13 +18,6 @@ pub record Breaking (period turns : ℕ) (e : EndRun) (d : ℕ → Deeds) : Type
       → BreakTurn period t (e.heard t) (e.slot t) (d t) (e.account t) (e.account (t + 1))
   pub says : (t : ℕ) → t < turns → of_frame (of_word any_brk) (e.slot t) ≡ true → is_connected (e.account (t + 1)).phase ≡ true
 
-pub off : {A : Type 0} (b : Bool) → b ≡ true → b ≡ false → A
-off b e f = let wrong : true ≡ false = sym e ∙ f in cc
-
-pub no-and : (x y : Bool) → x ≡ false → x && y ≡ false
-no-and true y e = cc
-no-and false y e = refl
-
 -- since a BRK became due: the break's timer was set no earlier, or no break is taken for eight turns
 pub record Since (m : ℕ) (a : Account) : Type 0 where
   pub set : waits a.own_breaks ≡ true → m ≤ a.own_breaks.set
@@ -36,7 +30,7 @@ since-made : (period turns : ℕ) (e o : EndRun) (d : ℕ → Deeds) → TwoEnds
 since-made period turns e o d k h m zero l made c1 c =
     let x = (h.turn m (omega (arith, l)) c1).made_set made in
     subst (λ t. Since m (e.account t)) (omega arith)
-    (record { set = λ w. let q = x.1 in omega (arith, q); rest = λ w. off (waits (e.account (m + 1)).own_breaks) x.0 w })
+    (record { set = λ w. let q = x.1 in omega (arith, q); rest = λ w. clash (waits (e.account (m + 1)).own_breaks) x.0 w })
 since-made period turns e o d k h m (suc n) l made c1 c = subst (λ t. Since m (e.account t)) (omega arith)
     (step (since-made period turns e o d k h m n (omega (arith, l)) made c1 before))
   where
@@ -59,7 +53,7 @@ since-made period turns e o d k h m (suc n) l made c1 c = subst (λ t. Since m (
         by : (b : Bool) → (d t).made ≡ b → Since m (e.account (t + 1))
         by true q = let y = x.made_set q in record {
           set = λ w. let z = y.1 in omega (arith, z);
-          rest = λ w. off
+          rest = λ w. clash
               (waits (e.account (t + 1)).own_breaks) y.0 w;
         }
         by false q = record {
@@ -128,7 +122,7 @@ polls-far period turns e o k s t less within a b = let p = k.period_is in let fa
 
 pub sum-at-most : (x y z w : Bool) → (x ≡ true → (z ≡ true) ⊎ (w ≡ true)) → (y ≡ true → ((z ≡ true) ⊎ (w ≡ true)) × (x ≡ false))
     → one_if x + one_if y ≤ one_if z + one_if w
-sum-at-most true true z w f g = off true refl (g refl).1
+sum-at-most true true z w f g = clash true refl (g refl).1
 sum-at-most false false z w f g = omega arith
 sum-at-most true false z w f g = elim (f refl) [
   | inl q ↦ (let n = ap one_if q in omega (arith, n))
@@ -163,11 +157,6 @@ brks-heard period turns e o d k h first s n l w =
     let two = twice (shifted o.delay (λ t. is_connected (o.account (t + 1)).phase && (d t).made)) 8 turns apart s n (omega (arith, l)) w in
     omega (arith, made, two)
   where
-    and-two : (x y : Bool) → x && y ≡ true → (x ≡ true) × (y ≡ true)
-    and-two true true e = (refl, refl)
-    and-two true false e = cc
-    and-two false y e = cc
-
     below : (a b : ℕ) → nat_le a b ≡ true → a ≤ b
     below a b e = grind (arith, nat_tests, e)
 
@@ -203,16 +192,12 @@ brks-heard period turns e o d k h first s n l w =
         go (inl early) =
             let none = ap one_if (not-true (shifted o.delay (λ t. brk_due (o.account t)) (t + 1))
             (λ q. let x = and-two (nat_le o.delay (t + 1)) (brk_due (o.account (t + 1 - o.delay))) q in
-            let lx = below o.delay (t + 1) x.0 in off (brk_due (o.account 0)) (ap (λ n. brk_due (o.account n)) (omega (arith, lx, early))
+            let lx = below o.delay (t + 1) x.0 in clash (brk_due (o.account 0)) (ap (λ n. brk_due (o.account n)) (omega (arith, lx, early))
             ∙ x.1) first)) in
             let quiet = ap one_if
             (not-true (of_arrived (of_word any_brk) (e.heard t))
             (λ q. let x = (heard-so q).0 in let wrong : ⊥ = omega (arith, x, early) in wrong)) in
             omega (arith, none, quiet)
-          where
-            not-true : (b : Bool) → (b ≡ true → ⊥) → b ≡ false
-            not-true true f = absurd (f refl)
-            not-true false f = refl
         go (inr late) = sum-at-most (shifted o.delay (λ t. brk_due (o.account t)) (t + 1)) (of_arrived (of_word any_brk) (e.heard t))
             (shifted o.delay (λ t. brk_due (o.account t)) t)
             (shifted o.delay (λ t. is_connected (o.account (t + 1)).phase && (d t).made) t) due heard
@@ -254,9 +239,5 @@ brks-heard period turns e o d k h first s n l w =
                 let x = (turn c).brk_sent sent in (
                   from c x.0,
                   ap (λ n. nat_le o.delay (t + 1) && brk_due (o.account n)) next
-                      ∙ and-no (nat_le o.delay (t + 1)) (brk_due (o.account (u + 1))) x.1,
+                      ∙ and-drop (nat_le o.delay (t + 1)) (brk_due (o.account (u + 1))) x.1,
                 )
-              where
-                and-no : (x y : Bool) → y ≡ false → x && y ≡ false
-                and-no true y e = e
-                and-no false y e = refl
