@@ -1,7 +1,8 @@
 -- What an end keeps of its books as it hears and speaks.
 use Rattle.std.proofs.Common.{◌≡◌, ◌≢◌, ◌⊎◌, inl, inr, ℕ, ◌+◌, ◌%◌, ◌≤◌, ◌&&◌, Bool, true, false, cond, nat_eq, List, [], ◌∷◌, ◌++◌, length}
 use Rattle.std.proofs.Common.{arith, lit≤, refl, sym, ◌∙◌, ap, subst, Option, Some, None, Ok}
-use Rattle.link_account.proofs.Names.{false≢true, append-nil, is_connected, Role, Originator, Answerer, Offer, Terms, agree, IsAllowed, ReadsAllowed}
+use Rattle.link_account.proofs.Names.{false≢true, append-nil, is_connected, Role, Originator, Answerer, Offer, Terms, agree, IsAllowed}
+use Rattle.link_account.proofs.Names.{ReadsAllowed}
 use Rattle.link_account.proofs.Names.{Outgoing, Incoming, after_take, after_kind, kind_of, offset, KeepsTaken, Took, InOrder, Kept, Repeat}
 use Rattle.link_account.proofs.Names.{Gap, OwnBreaks, waits, after_answer, Arrived, Account, hear, on_nothing, owing, trying}
 use Rattle.link_account.proofs.Names.{is_originator}

@@ -454,7 +454,8 @@ module _ (so sa : Setup) (reads : Reads so sa) (r turn : ℕ) (a : Account) (set
         };
     agrees = λ p v. never-a v;
     sabme_first = λ p v pf k. absurd (omega (arith, met k.1, ap rank p));
-    sabme = λ p v pf k. moves-a _ Negotiating Connected _ p (omega arith) (omega arith) (omega arith) (λ z. omega (arith, z)) k k.1 refl refl
+    sabme = λ p v pf k. moves-a _ Negotiating Connected _ p (omega arith) (omega arith) (omega arith)
+        (λ z. omega (arith, z)) k k.1 refl refl
         refl;
     ua = λ p. absurd (two (ap rank p));
     disc = λ p pf k. stays-a _ _ tt refl refl;

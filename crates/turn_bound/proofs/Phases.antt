@@ -437,7 +437,8 @@ module _ (z : Rates) (total breaks turn : ℕ) (a : Account) (y : AreRates z) (k
     detected = λ p r. wrong r;
     xid = λ p r pf info offer f. wrong r;
     agrees = λ p r pf info offer f.
-        o-now (arrivals.Frame (Xid false pf info)) _ Negotiating p (o-negotiating z total breaks turn a offer info y k (o-stands Negotiating p).0 f);
+        o-now (arrivals.Frame (Xid false pf info)) _ Negotiating p
+        (o-negotiating z total breaks turn a offer info y k (o-stands Negotiating p).0 f);
     sabme_first = λ p r pf. wrong r;
     sabme = λ p r pf. wrong r;
     ua = λ p. o-now (arrivals.Frame (Ua true)) _ Establishing p (

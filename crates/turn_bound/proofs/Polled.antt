@@ -90,10 +90,12 @@ poll-turn z user turn role arrived a mid released release said y k h er light qu
     hearing Detecting e = poll-most turn mid.phase mid
     hearing Negotiating e = poll-most turn mid.phase mid
     hearing Establishing e = poll-most turn mid.phase mid
-    hearing Connected e = elim (takes z turn role a (linked-stand z turn turn role a (subst (λ q. Stands z turn turn role q a) e h)) e arrived mid light quiet hears) [
-      | inl c ↦ omega (arith, late-none turn mid.phase mid (ap is_released c.phase))
-      | inr t ↦ omega (arith, heard-polls turn (of_arrived frame_poll arrived) a mid t.1, ap (λ q. poll_value turn q mid) t.0)
-    ]
+    hearing Connected e = elim
+        (takes z turn role a (linked-stand z turn turn role a (subst (λ q. Stands z turn turn role q a) e h)) e arrived mid light quiet
+        hears) [
+          | inl c ↦ omega (arith, late-none turn mid.phase mid (ap is_released c.phase))
+          | inr t ↦ omega (arith, heard-polls turn (of_arrived frame_poll arrived) a mid t.1, ap (λ q. poll_value turn q mid) t.0)
+        ]
     hearing Releasing e = omega (arith, late-none turn mid.phase mid (g.released (ap is_released e)))
     hearing Closed e = omega (arith, late-none turn mid.phase mid (g.released (ap is_released e)))
 

@@ -325,10 +325,14 @@ released-whole tries period delay link (t ∷ ts) ends k n (before, run, g) c e 
         heard-open Establishing h = early (ap is_begun h)
         heard-open Releasing h = let wrong : true ≡ false = sym (ap is_released h) ∙ open_ in cc
         heard-open Closed h = let wrong : true ≡ false = sym (ap is_released h) ∙ open_ in cc
-        heard-open Connected h = elim (takes (rates tries period) turn Originator before.orig (linked-stand (rates tries period) turn turn Originator before.orig (subst (λ q. Stands (rates tries period) turn turn Originator q before.orig) h x.stands)) h (arrival t.orig.heard) g.mid.orig x.light x.quiet x.hears) [
-          | inl q ↦ (let wrong : Originator ≡ Answerer = sym x.role_is ∙ q.answers in cc)
-          | inr q ↦ ap is_released q.0
-        ]
+        heard-open Connected h = elim
+            (takes (rates tries period) turn Originator before.orig
+            (linked-stand (rates tries period) turn turn Originator before.orig
+            (subst (λ q. Stands (rates tries period) turn turn Originator q before.orig) h x.stands)) h
+            (arrival t.orig.heard) g.mid.orig x.light x.quiet x.hears) [
+              | inl q ↦ (let wrong : Originator ≡ Answerer = sym x.role_is ∙ q.answers in cc)
+              | inr q ↦ ap is_released q.0
+            ]
 
     go : (is_released before.orig.phase ≡ true → (r : Role) → IsWhole (of r before).outgoing) → (b : Bool)
         → is_released before.orig.phase ≡ b → IsWhole (of role ends).outgoing

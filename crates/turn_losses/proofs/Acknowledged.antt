@@ -59,15 +59,14 @@ ns-told = record { nothing = refl; same = λ s. by s }
 told-from : (g : Arrived → Option ℕ) (k : Sent → Option ℕ) → Told g k → (delay turn : ℕ) (loses : Bool) (f : ℕ → Sent) (arrived : Arrived)
     → ArrivesLate delay turn loses f arrived → (n : ℕ) → g arrived ≡ Some n
     → (delay ≤ turn) × (k (f (turn - delay)) ≡ Some n)
-told-from g k w delay turn loses f arrived h n e = go (cases_lt turn delay)
+told-from g k w delay turn loses f arrived h n e = elim (cases_lt turn delay) [
+  | inl l ↦ (let wrong : None ≡ Some n = sym (ap g (h.early l) ∙ w.nothing) ∙ e in cc)
+  | inr m ↦ (m, by loses (ap g (sym (h.late m)) ∙ e))
+]
   where
     by : (b : Bool) → g (cond b arrivals.Nothing (arrives (f (turn - delay)))) ≡ Some n → k (f (turn - delay)) ≡ Some n
     by true q = let wrong : None ≡ Some n = sym w.nothing ∙ q in cc
     by false q = sym (w.same (f (turn - delay))) ∙ q
-
-    go : (turn < delay) ⊎ (delay ≤ turn) → (delay ≤ turn) × (k (f (turn - delay)) ≡ Some n)
-    go (inl l) = let wrong : None ≡ Some n = sym (ap g (h.early l) ∙ w.nothing) ∙ e in cc
-    go (inr m) = (m, by loses (ap g (sym (h.late m)) ∙ e))
 
 told-to : (g : Arrived → Option ℕ) (k : Sent → Option ℕ) → Told g k → (delay turn : ℕ) (loses : Bool) (f : ℕ → Sent) (arrived : Arrived)
     → ArrivesLate delay (turn + delay) loses f arrived → loses ≡ false → g arrived ≡ k (f turn)

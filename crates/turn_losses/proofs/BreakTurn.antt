@@ -227,14 +227,13 @@ break-turn-of period turn arrived a mid b said ca cc' high per long special thei
         by (inr (e, f)) (inr (w, w', d, r)) = clash (waits mid.own_breaks) (ap waits (sym (s.no e)) ∙ (k.yes f).0) w'
 
     kept-set : made ≡ false → waits c.own_breaks ≡ true → (waits a.own_breaks ≡ true) × (c.own_breaks.set ≡ a.own_breaks.set)
-    kept-set m w = by heard-own
+    kept-set m w = elim heard-own [
+      | inl q ↦ (ap waits (sym (s.no n.0 ∙ q)) ∙ (sym waits-said ∙ w), k.no n.1 ∙ ap (λ x. x.set) (s.no n.0 ∙ q))
+      | inr z ↦ clash (waits mid.own_breaks) (ap waits (sym (s.no n.0)) ∙ (sym waits-said ∙ w)) z.1
+    ]
       where
         n : (s.taken ≡ false) × (k.ticks ≡ false)
         n = none-made m
-
-        by : (mid.own_breaks ≡ a.own_breaks) ⊎ Ended → (waits a.own_breaks ≡ true) × (c.own_breaks.set ≡ a.own_breaks.set)
-        by (inl q) = (ap waits (sym (s.no n.0 ∙ q)) ∙ (sym waits-said ∙ w), k.no n.1 ∙ ap (λ x. x.set) (s.no n.0 ∙ q))
-        by (inr (x, w', d, r)) = clash (waits mid.own_breaks) (ap waits (sym (s.no n.0)) ∙ (sym waits-said ∙ w)) w'
 
     kept-rest : made ≡ false → waits c.own_breaks ≡ false → ((waits a.own_breaks ≡ false) × (c.own_breaks.rest ≡ a.own_breaks.rest))
         ⊎ (c.own_breaks.rest ≡ turn + 8)
@@ -271,7 +270,10 @@ break-turn-of period turn arrived a mid b said ca cc' high per long special thei
 
     goes : waits c.own_breaks ≡ true → (brk_due a ≡ true) ⊎ (made ≡ true)
         → (brk_due c ≡ true) ⊎ (of_frame (of_word (brk_of (number_of c))) said.sent ≡ true)
-    goes w e = by (k.goes (still e heard-own))
+    goes w e = elim (k.goes (still e heard-own)) [
+      | inl x ↦ inl (and-true (is_connected c.phase) c.own_breaks.brk cc' x)
+      | inr x ↦ inr (number-said x)
+    ]
       where
         or-second : (x y : Bool) → y ≡ true → x || y ≡ true
         or-second true y f = refl
@@ -289,11 +291,6 @@ break-turn-of period turn arrived a mid b said ca cc' high per long special thei
             on false f (inl q) = or-second k.ticks b.own_breaks.brk
                 (ap (λ z. z.brk) (s.no f ∙ q) ∙ and-second (is_connected a.phase) a.own_breaks.brk d)
             on false f (inr (x, w', y, r)) = clash (waits mid.own_breaks) (ap waits (sym (s.no f)) ∙ (sym waits-said ∙ w)) w'
-
-        by : (c.own_breaks.brk ≡ true) ⊎ (of_frame (of_word (brk_of (b.own_breaks.answered % 2))) said.sent ≡ true)
-            → (brk_due c ≡ true) ⊎ (of_frame (of_word (brk_of (number_of c))) said.sent ≡ true)
-        by (inl x) = inl (and-true (is_connected c.phase) c.own_breaks.brk cc' x)
-        by (inr x) = inr (number-said x)
 
     -- the wait goes on
     on-wait : waits a.own_breaks ≡ true → waits c.own_breaks ≡ true → (s.taken ≡ false) × (mid.own_breaks ≡ a.own_breaks)
@@ -357,10 +354,11 @@ break-turn-of period turn arrived a mid b said ca cc' high per long special thei
             → ((ack_due a ≡ true) × (k.acks ≡ false)) ⊎ ((of_arrived (of_word any_brk) arrived ≡ true) × (k.acks ≡ false))
         by (inr (n, x, y)) = let wrong : true ≡ false = sym (and-second (is_connected c.phase) (pends c.their_breaks.ack) e)
             ∙ ap pends n in cc
-        by (inl (q, f)) = elim (ack-heard (ap (λ t. pends t.ack) (sym q) ∙ and-second (is_connected c.phase) (pends c.their_breaks.ack) e)) [
-          | inl x ↦ inl (x, f)
-          | inr x ↦ inr (x, f)
-        ]
+        by (inl (q, f)) = elim
+            (ack-heard (ap (λ t. pends t.ack) (sym q) ∙ and-second (is_connected c.phase) (pends c.their_breaks.ack) e)) [
+              | inl x ↦ inl (x, f)
+              | inr x ↦ inr (x, f)
+            ]
 
     acked : k.acks ≡ true → (ack_due a ≡ true) ⊎ (of_arrived (of_word any_brk) arrived ≡ true)
     acked e = elim k.ack [ inl z ↦ clash k.acks e z.1 | inr z ↦ ack-heard z.1 ]

@@ -262,7 +262,10 @@ wants-pattern spends tries period delay link ts before t mid kt run c broken num
 
     -- so nothing but its pattern reaches the answerer
     only-odp : (u : ℕ) → u < turns → (o.heard u ≡ arrivals.Nothing) ⊎ (o.heard u ≡ arrivals.Pattern seens.Odp)
-    only-odp u l = go (cases_lt u e.delay)
+    only-odp u l = elim (cases_lt u e.delay) [
+      | inl y ↦ inl ((k.is_heard u l).early y)
+      | inr g ↦ late g (o.loses u) ((k.is_heard u l).late g)
+    ]
       where
         d : 1 ≤ e.delay
         d = k.own_delay
@@ -271,10 +274,6 @@ wants-pattern spends tries period delay link ts before t mid kt run c broken num
             → (o.heard u ≡ arrivals.Nothing) ⊎ (o.heard u ≡ arrivals.Pattern seens.Odp)
         late g true q = inl q
         late g false q = inr (q ∙ ap arrives (facts (u - e.delay) (omega (arith, g, l))).1)
-
-        go : (u < e.delay) ⊎ (e.delay ≤ u) → (o.heard u ≡ arrivals.Nothing) ⊎ (o.heard u ≡ arrivals.Pattern seens.Odp)
-        go (inl y) = inl ((k.is_heard u l).early y)
-        go (inr g) = late g (o.loses u) ((k.is_heard u l).late g)
 
     answers-turn : (u : ℕ) → u < turns → (w.state u).answ.phase ≡ Detecting
         → ((w.state (u + 1)).answ.phase ≡ Detecting) × (o.heard u ≡ arrivals.Pattern seens.Odp → o.slot u ≡ slots.Adp)

@@ -62,15 +62,14 @@ arrives-late period delay link ts state deed some w role t within = record { ear
 pub was-sent : (delay turns : ℕ) (kind : Frame → Bool) (f : ℕ → Sent) (arrived : ℕ → Arrived) (loses : ℕ → Bool)
     → ((t : ℕ) → t < turns → ArrivesLate delay t (loses t) f (arrived t))
     → WasSent delay turns (λ t. of_arrived kind (arrived t)) (λ t. of_frame kind (f t))
-was-sent delay turns kind f arrived loses h t within is_heard = go (cases_lt t delay)
+was-sent delay turns kind f arrived loses h t within is_heard = elim (cases_lt t delay) [
+  | inl l ↦ (let wrong : false ≡ true = ap (of_arrived kind) (sym ((h t within).early l)) ∙ is_heard in cc)
+  | inr g ↦ (g, by (loses t) (ap (of_arrived kind) (sym ((h t within).late g)) ∙ is_heard))
+]
   where
     by : (b : Bool) → of_arrived kind (cond b arrivals.Nothing (arrives (f (t - delay)))) ≡ true → of_frame kind (f (t - delay)) ≡ true
     by true e = cc
     by false e = sym (arrives-flag kind (f (t - delay))) ∙ e
-
-    go : (t < delay) ⊎ (delay ≤ t) → (delay ≤ t) × (of_frame kind (f (t - delay)) ≡ true)
-    go (inl l) = let wrong : false ≡ true = ap (of_arrived kind) (sym ((h t within).early l)) ∙ is_heard in cc
-    go (inr g) = (g, by (loses t) (ap (of_arrived kind) (sym ((h t within).late g)) ∙ is_heard))
 
 -- what is sent is heard unless it is lost
 pub is-heard : (delay turns : ℕ) (kind : Frame → Bool) (f : ℕ → Sent) (arrived : ℕ → Arrived) (loses : ℕ → Bool)

@@ -283,10 +283,11 @@ told-at reads tries period delay link ts state deed kt m w (suc u) y q = subst (
         connected-b = by (is_connected b.phase) refl
           where
             trying-so : (deed u).mid.orig.phase ≡ Releasing → ⊥
-            trying-so g = elim (try-heard (arrival (deed u).turn.orig.heard) u (state u).orig (deed u).mid.orig role (h.hearing Originator).hears Releasing refl g) [
-              | inl m ↦ anew m.0
-              | inr z ↦ z.1 refl
-            ]
+            trying-so g = elim (try-heard (arrival (deed u).turn.orig.heard) u (state u).orig (deed u).mid.orig role
+                (h.hearing Originator).hears Releasing refl g) [
+                  | inl m ↦ anew m.0
+                  | inr z ↦ z.1 refl
+                ]
 
             either : (b.phase ≡ Releasing) ⊎ (b.phase ≡ Closed) → ⊥
             either (inl g) = trying-so (sym b-is ∙ g)
@@ -466,10 +467,11 @@ parted-each laws reads tries period delay link ts before t mid kt run cs hearing
 
     -- the originator releases as the last turn begins
     releasing : before.orig.phase ≡ Releasing
-    releasing = elim (try-heard (arrival t.orig.heard) turns before.orig mid.orig (setup-role tries period delay link ts before kt run.run run.carried Originator) (hearing Originator).hears Releasing refl om) [
-      | inl y ↦ y.0
-      | inr z ↦ absurd (z.1 refl)
-    ]
+    releasing = elim (try-heard (arrival t.orig.heard) turns before.orig mid.orig
+        (setup-role tries period delay link ts before kt run.run run.carried Originator) (hearing Originator).hears Releasing refl om) [
+          | inl y ↦ y.0
+          | inr z ↦ absurd (z.1 refl)
+        ]
 
     releasing-last : (o.account turns).phase ≡ Releasing
     releasing-last = ap (λ (y : Accounts). y.orig.phase) w.last ∙ releasing

@@ -96,7 +96,10 @@ pub record LostIn (e o : EndRun) (from count : ℕ) : Type 0 where
 
 pub lost-or-none : (e o : EndRun) (from count : ℕ) → LostIn e o from count ⊎ NoneLost e o from count
 lost-or-none e o from zero = inr (λ t l g. let wrong : ⊥ = omega (arith, l, g) in absurd wrong)
-lost-or-none e o from (suc n) = go (lost-or-none e o from n)
+lost-or-none e o from (suc n) = elim (lost-or-none e o from n) [
+  | inl x ↦ (let l = x.low in let h = x.high in inl (record { turn = x.turn; low = l; high = omega (arith, h); loses = x.loses }))
+  | inr h ↦ at h (e.loses (from + n)) (o.loses (from + n)) refl refl
+]
   where
     at : NoneLost e o from n → (x y : Bool) → e.loses (from + n) ≡ x → o.loses (from + n) ≡ y
         → LostIn e o from (suc n) ⊎ NoneLost e o from (suc n)
@@ -106,10 +109,6 @@ lost-or-none e o from (suc n) = go (lost-or-none e o from n)
       where
         same : (t : ℕ) → t ≡ from + n → (e.loses t ≡ false) × (o.loses t ≡ false)
         same t w = (ap e.loses w ∙ q, ap o.loses w ∙ r)
-
-    go : LostIn e o from n ⊎ NoneLost e o from n → LostIn e o from (suc n) ⊎ NoneLost e o from (suc n)
-    go (inl x) = let l = x.low in let h = x.high in inl (record { turn = x.turn; low = l; high = omega (arith, h); loses = x.loses })
-    go (inr h) = at h (e.loses (from + n)) (o.loses (from + n)) refl refl
 
 -- A line is lost in each such period in which the retry count never is 0.
 pub period-loses : (period turns : ℕ) (e o : EndRun) → TwoEnds period turns e o → Counts turns e o → (s : ℕ) → s + period ≤ turns

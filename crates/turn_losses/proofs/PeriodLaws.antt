@@ -116,7 +116,10 @@ still-awaited period turns e o k t within c h =
 pub poll-goes : (period turns : ℕ) (e o : EndRun) → TwoEnds period turns e o → (s : ℕ) → s + 1 < turns → e.made s ≡ true
     → is_connected (e.account s).phase ≡ true → is_connected (e.account (s + 1)).phase ≡ true
     → is_connected (e.account (s + 2)).phase ≡ true → (sends_poll e s ≡ true) ⊎ (sends_poll e (s + 1) ≡ true)
-poll-goes period turns e o k s within m c0 c1 c2 = first ((k.own s (omega (arith, within))).goes c0 c1 (inl m))
+poll-goes period turns e o k s within m c0 c1 c2 = elim ((k.own s (omega (arith, within))).goes c0 c1 (inl m)) [
+  | inl x ↦ inl x
+  | inr x ↦ second ((k.own (s + 1) within).goes c1 (subst (λ n. is_connected (e.account n).phase ≡ true) (omega arith) c2) (inr x))
+]
   where
     second : (sends_poll e (s + 1) ≡ true) ⊎ (poll_due (e.account (s + 1 + 1)) ≡ true)
         → (sends_poll e s ≡ true) ⊎ (sends_poll e (s + 1) ≡ true)
@@ -125,10 +128,6 @@ poll-goes period turns e o k s within m c0 c1 c2 = first ((k.own s (omega (arith
         let far : s + period ≤ s + 1 =
         due-apart period turns e o k s (s + 1) (omega arith) within m (poll-fresh period turns e o k (s + 1) within x) in
         let p = k.period_is in let wrong : ⊥ = omega (arith, far, p) in absurd wrong
-
-    first : (sends_poll e s ≡ true) ⊎ (poll_due (e.account (s + 1)) ≡ true) → (sends_poll e s ≡ true) ⊎ (sends_poll e (s + 1) ≡ true)
-    first (inl x) = inl x
-    first (inr x) = second ((k.own (s + 1) within).goes c1 (subst (λ n. is_connected (e.account n).phase ≡ true) (omega arith) c2) (inr x))
 
 -- no line is lost in the turns from one on
 abbrev pub NoneLost : EndRun → EndRun → ℕ → ℕ → Type 0

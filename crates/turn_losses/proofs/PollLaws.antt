@@ -103,7 +103,10 @@ poll-soon period turns e o k =
 
 pub reply-matches : (period turns : ℕ) (e o : EndRun) → TwoEnds period turns e o → (t : ℕ) → t < turns → hears_final e t ≡ true
     → Answers t e o
-reply-matches period turns e o k t within h = go (poll-soon period turns e o k sent (omega (arith, within)) asked.1)
+reply-matches period turns e o k t within h = elim (poll-soon period turns e o k sent (omega (arith, within)) asked.1) [
+  | inl m ↦ answers sent (omega arith) (omega arith) m
+  | inr z ↦ answers z.0 (omega (arith, z.1)) (omega (arith, z.1)) z.2
+]
   where
     replied : (o.delay ≤ t) × (sends_final o (t - o.delay) ≡ true)
     replied = was-sent o.delay turns is_final o.slot e.heard e.loses k.hears t within h
@@ -130,7 +133,3 @@ reply-matches period turns e o k t within h = go (poll-soon period turns e o k s
       none_since = λ x l m n. let far = due-apart period turns e o k due x l (omega (arith, m, within)) made n in let p = k.period_is in
           omega (arith, far, m, soon, back, p);
     }
-
-    go : (e.made sent ≡ true) ⊎ ((s : ℕ) × (sent ≡ s + 1) × (e.made s ≡ true) × (poll_due (e.account sent) ≡ true)) → Answers t e o
-    go (inl m) = answers sent (omega arith) (omega arith) m
-    go (inr (s, q, m, d)) = answers s (omega (arith, q)) (omega (arith, q)) m

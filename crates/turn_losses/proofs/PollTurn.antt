@@ -69,22 +69,24 @@ poll-turn period turn role polled final a b said some h k one none early untimed
 
     -- whether a reply is due
     reply-heard : is_connected b.phase ≡ true → b.owes.reply ≡ true → polled ≡ true
-    reply-heard e r = by (h.from e)
+    reply-heard e r = elim (h.from e) [
+      | inl x ↦ or-rest a.owes.reply polled (none.reply (connected-released a.phase x)) (sym (h.asked x e) ∙ r)
+      | inr x ↦ clash b.owes.reply r ((h.begun x e).0 ∙ none.reply (unlinked-released a.phase x))
+    ]
       where
         or-rest : (x y : Bool) → x ≡ false → x || y ≡ true → y ≡ true
         or-rest true y f g = cc
         or-rest false y f g = g
-
-        by : (is_connected a.phase ≡ true) ⊎ (is_linked a.phase ≡ false) → polled ≡ true
-        by (inl x) = or-rest a.owes.reply polled (none.reply (connected-released a.phase x)) (sym (h.asked x e) ∙ r)
-        by (inr x) = clash b.owes.reply r ((h.begun x e).0 ∙ none.reply (unlinked-released a.phase x))
 
     -- an answerer that has heard no I frame and no supervisory frame polls for nothing
     silent-poll : is_connected c.phase ≡ true → role ≡ Answerer → c.numbered ≡ false → c.wait.poll ≡ true → ⊥
     silent-poll e r n p = by (k.connected e)
       where
         by : (is_connected b.phase ≡ true) × SaidPoll turn b said → ⊥
-        by (f, l) = on (either-bool l.made)
+        by (f, l) = elim (either-bool l.made) [
+          | inl m ↦ (let w = l.made_from m in let wrong : None ≡ Some w.0 = sym (silent r f (sym l.numbered ∙ n)) ∙ w.1 in cc)
+          | inr m ↦ clash b.wait.poll ((l.kept p).0 m) (none-polled (h.from f))
+        ]
           where
             none-polled : (is_connected a.phase ≡ true) ⊎ (is_linked a.phase ≡ false) → b.wait.poll ≡ false
             none-polled (inl x) = h.poll x ∙ early.silent r x (before (either-bool a.numbered))
@@ -93,10 +95,6 @@ poll-turn period turn role polled final a b said some h k one none early untimed
                 before (inl y) = clash b.numbered (h.heard x y) (sym l.numbered ∙ n)
                 before (inr y) = y
             none-polled (inr x) = (h.answers r x f).0 ∙ early.poll x
-
-            on : (l.made ≡ true) ⊎ (l.made ≡ false) → ⊥
-            on (inl m) = let w = l.made_from m in let wrong : None ≡ Some w.0 = sym (silent r f (sym l.numbered ∙ n)) ∙ w.1 in cc
-            on (inr m) = clash b.wait.poll ((l.kept p).0 m) (none-polled (h.from f))
 
     early-silent : role ≡ Answerer → is_connected c.phase ≡ true → c.numbered ≡ false → c.wait.poll ≡ false
     early-silent r e n = elim (either-bool c.wait.poll) [ inl p ↦ absurd (silent-poll e r n p) | inr p ↦ p ]
@@ -119,16 +117,11 @@ poll-turn period turn role polled final a b said some h k one none early untimed
             on (inl n) (inr x) = clash b.numbered n ((h.begun x f).1 ∙ early.numbered x)
 
     held : is_connected c.phase ≡ true → poll_due c ≡ true → polled ≡ true
-    held e d = by (k.connected e)
-      where
-        by : (is_connected b.phase ≡ true) × SaidPoll turn b said → polled ≡ true
-        by (f, l) = let p = and-second (is_connected c.phase) c.wait.poll d in reply-heard f ((l.kept p).1 (no-answer e f l p)).0
+    held e d = let z = k.connected e in
+        let p = and-second (is_connected c.phase) c.wait.poll d in reply-heard z.0 ((z.1.kept p).1 (no-answer e z.0 z.1 p)).0
 
     final-heard : is_connected c.phase ≡ true → of_frame is_final said.sent ≡ true → polled ≡ true
-    final-heard e d = by (k.connected e)
-      where
-        by : (is_connected b.phase ≡ true) × SaidPoll turn b said → polled ≡ true
-        by (f, l) = reply-heard f (l.final d)
+    final-heard e d = let z = k.connected e in reply-heard z.0 (z.1.final d)
 
     answered : polled ≡ true → is_connected a.phase ≡ true → is_connected c.phase ≡ true → of_frame is_final said.sent ≡ true
     answered p x e = by (k.connected e)
@@ -308,8 +301,4 @@ poll-turn period turn role polled final a b said some h k one none early untimed
     go : (is_connected c.phase ≡ true) ⊎ (is_connected c.phase ≡ false)
         → (made : Bool) × PollTurn period turn role polled final made count said.sent a c
     go (inr e) = over e
-    go (inl e) = by (k.connected e)
-      where
-        by : (is_connected b.phase ≡ true) × SaidPoll turn b said
-            → (made : Bool) × PollTurn period turn role polled final made count said.sent a c
-        by (f, l) = elim (h.from f) [ inl x ↦ during e f l x | inr x ↦ begins e f l x role refl ]
+    go (inl e) = let z = k.connected e in elim (h.from z.0) [ inl x ↦ during e z.0 z.1 x | inr x ↦ begins e z.0 z.1 x role refl ]

@@ -99,7 +99,8 @@ sabmes-of reads tries period delay link ts state deed kt m w = record {
             by (inr (never, _, _, _, _)) = absurd (never f)
             by (inl (_, same', _)) = elim (k.sent (ap (λ x. of_frame is_sabme (sent_or x)) (sym s.sent_is) ∙ e)) [
               | inl g ↦ (let z = ap (λ x. x.try_set) (v.wait ∙ same') in omega (arith, g, z, per))
-              | inr g ↦ (let wrong : true ≡ false = sym g ∙ (ap (λ x. x.try) (v.wait ∙ same') ∙ try-false tries period delay link ts state deed kt w q (omega (arith, l)) f) in cc)
+              | inr g ↦ (let wrong : true ≡ false = sym g ∙
+                  (ap (λ x. x.try) (v.wait ∙ same') ∙ try-false tries period delay link ts state deed kt w q (omega (arith, l)) f) in cc)
             ]
 
 pub meeting-of : (tries period : ℕ) (delay : Role → ℕ) (link : Link) (ts : List Turn) (state : ℕ → Accounts) (deed : ℕ → Deed)

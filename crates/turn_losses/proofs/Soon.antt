@@ -63,7 +63,10 @@ pub brk-goes : (period turns : ℕ) (e o : EndRun) (d d' : ℕ → Deeds) → Tw
     → ((t : ℕ) → s < t → t ≤ s + 14 → waits (e.account t).own_breaks ≡ true) → NoAnswers d s 14
     → (brk_due (e.account s) ≡ true) ⊎ ((d s).made ≡ true)
     → (y : ℕ) × (s ≤ y) × (y < s + 14) × (of_frame (of_word (brk_of (number_of (e.account (y + 1))))) (e.slot y) ≡ true)
-brk-goes period turns e o d d' k h h' first s within c ws na due = go (so-far 14 (omega arith))
+brk-goes period turns e o d d' k h h' first s within c ws na due = elim (so-far 14 (omega arith)) [
+  | inl x ↦ x
+  | inr all ↦ absurd (none-held all)
+]
   where
     turn : (t : ℕ) → s ≤ t → t < s + 14 → BreakTurn period t (e.heard t) (e.slot t) (d t) (e.account t) (e.account (t + 1))
     turn t a b = h.turn t (omega (arith, b, within)) (c (t + 1) (omega (arith, a)) (omega (arith, b)))
@@ -109,11 +112,6 @@ brk-goes period turns e o d d' k h h' first s within c ws na due = go (so-far 14
         count zero g = inr (λ t a b. let wrong : ⊥ = omega (arith, a, b) in absurd wrong)
         count (suc m) g = step m g (count m (omega (arith, g)))
 
-    go : BrkSent e s 14 ⊎ BrkDue e s 14
-        → (y : ℕ) × (s ≤ y) × (y < s + 14) × (of_frame (of_word (brk_of (number_of (e.account (y + 1))))) (e.slot y) ≡ true)
-    go (inl x) = x
-    go (inr all) = absurd (none-held all)
-
 -- A BRK that is heard is answered within six turns, where no BRK of another number is heard in them.
 pub ack-goes : (period turns : ℕ) (e o : EndRun) (d : ℕ → Deeds) → TwoEnds period turns e o → Breaking period turns e d → (x number : ℕ)
     → number < 2 → x + 6 ≤ turns → is_connected (e.account x).phase ≡ true → AllConnected e x 6
@@ -121,7 +119,10 @@ pub ack-goes : (period turns : ℕ) (e o : EndRun) (d : ℕ → Deeds) → TwoEn
     → of_arrived (of_word (brk_of number)) (e.heard t) ≡ true) → NoAnswers d x 6
     → of_arrived (of_word (brk_of number)) (e.heard x) ≡ true
     → (z : ℕ) × (x ≤ z) × (z < x + 6) × (of_frame (of_word (ack_of number)) (e.slot z) ≡ true)
-ack-goes period turns e o d k h x number small within cx c same na asks = go (so-far 6 (omega arith))
+ack-goes period turns e o d k h x number small within cx c same na asks = elim (so-far 6 (omega arith)) [
+  | inl y ↦ y
+  | inr all ↦ absurd (none-held all)
+]
   where
     p : period ≡ 2 * (e.delay + o.delay) + 16
     p = k.period_is
@@ -191,8 +192,3 @@ ack-goes period turns e o d k h x number small within cx c same na asks = go (so
         count : (m : ℕ) → m ≤ 6 → AckSent e number x m ⊎ AckDue e number x m
         count zero g = inr (λ t a b. let wrong : ⊥ = omega (arith, a, b) in absurd wrong)
         count (suc m) g = step m g (count m (omega (arith, g)))
-
-    go : AckSent e number x 6 ⊎ AckDue e number x 6
-        → (z : ℕ) × (x ≤ z) × (z < x + 6) × (of_frame (of_word (ack_of number)) (e.slot z) ≡ true)
-    go (inl y) = y
-    go (inr all) = absurd (none-held all)

@@ -72,7 +72,10 @@ pub made-apart : (period turns : ℕ) (e o : EndRun) (d : ℕ → Deeds) → Two
     → s < t → t < turns → (d s).made ≡ true → (d t).made ≡ true → is_connected (e.account (s + 1)).phase ≡ true
     → is_connected (e.account (t + 1)).phase ≡ true
     → s + 8 ≤ t
-made-apart period turns e o d k h s t less within ms mt cs ct = by ((h.turn t within ct).made_late mt before)
+made-apart period turns e o d k h s t less within ms mt cs ct = elim ((h.turn t within ct).made_late mt before) [
+  | inl y ↦ (let z = i.set y.0 in omega (arith, z, y.1, k.period_is))
+  | inr y ↦ (let z = i.rest y.0 in omega (arith, z, y.1))
+]
   where
     before : is_connected (e.account t).phase ≡ true
     before = connected-back period turns e o k t (t + 1) (omega arith) (omega (arith, within))
@@ -86,11 +89,6 @@ made-apart period turns e o d k h s t less within ms mt cs ct = by ((h.turn t wi
     i = subst (λ x. Since s (e.account x)) same
         (since-made period turns e o d k h s (t - (s + 1)) (omega (arith, less, within)) ms cs
         (ap (λ x. is_connected (e.account x).phase) same ∙ before))
-
-    by : ((waits (e.account t).own_breaks ≡ true) × (t ≡ (e.account t).own_breaks.set + period))
-        ⊎ ((waits (e.account t).own_breaks ≡ false) × ((e.account t).own_breaks.rest ≤ t)) → s + 8 ≤ t
-    by (inl (w, q)) = let z = i.set w in omega (arith, z, q, k.period_is)
-    by (inr (w, q)) = let z = i.rest w in omega (arith, z, q)
 
 -- F replies are sent, and answers heard, as far apart as polls
 pub replies-apart : (period turns : ℕ) (e o : EndRun) → TwoEnds period turns e o → (s t : ℕ) → s < t → t < turns → sends_final e s ≡ true
