@@ -1,4 +1,5 @@
 -- What an end keeps as it speaks.
+use Rattle.std.proofs.Common.{◌⊎◌, inl, inr}
 use Rattle.std.proofs.Common.{◌≡◌, ℕ, Bool, true, false, cond, ◌&&◌, List, [], ◌∷◌, ◌++◌, arith, ◌≤◌, refl, sym, ap, subst, Some, Ok, Err}
 use Rattle.link_account.proofs.Names.{false≢true, Role, Originator, Answerer, Frame, Terms, Incoming, LinkFault, Account, trying, Said}
 use Rattle.link_account.proofs.Names.{speak, is_originator}
@@ -126,6 +127,22 @@ module _ (turn : ℕ) (release : Bool) (a : Account) where
 
 pub speaks : (turn : ℕ) (release : Bool) (a : Account) (said : Said) → speak turn release a ≡ Ok said → Speaks release a said.account
 speaks turn release a said e = by-ways _ turn release a (ways turn release a) said e
+
+pub speaks-phase : (turn : ℕ) (release : Bool) (a : Account) (said : Said) → speak turn release a ≡ Ok said
+    → (said.account.phase ≡ a.phase) ⊎ ((a.phase ≡ Connected) × (said.account.phase ≡ Releasing))
+speaks-phase turn release a said e = go (speaks turn release a said e)
+  where
+    go : Speaks release a said.account → (said.account.phase ≡ a.phase) ⊎ ((a.phase ≡ Connected) × (said.account.phase ≡ Releasing))
+    go (Keeps_on l) = inl (ap (λ (x : Ledger). x.phase) l)
+    go (Releases on r p l s) = inr (p, ap (λ (x : Ledger). x.phase) l)
+
+pub speaks-pieces : (turn : ℕ) (release : Bool) (a : Account) (said : Said) → speak turn release a ≡ Ok said
+    → (said.account.outgoing.pieces ≡ a.outgoing.pieces) × (said.account.outgoing.size ≡ a.outgoing.size)
+speaks-pieces turn release a said e = go (speaks turn release a said e)
+  where
+    go : Speaks release a said.account → (said.account.outgoing.pieces ≡ a.outgoing.pieces) × (said.account.outgoing.size ≡ a.outgoing.size)
+    go (Keeps_on l) = (ap (λ (x : Ledger). x.books.pieces) l, ap (λ (x : Ledger). x.size) l)
+    go (Releases on r p l s) = (ap (λ (x : Ledger). x.books.pieces) l, ap (λ (x : Ledger). x.size) l)
 
 -- what stands in Releasing and Closed
 pub stands-spoken : (turn : ℕ) (release : Bool) (a : Account) (said : Said) → 2 ≤ stage a.phase → speak turn release a ≡ Ok said

@@ -17,7 +17,7 @@ use Rattle.turn_bound.proofs.Phases.{hears-well}
 use Rattle.turn_bound.proofs.OneTurn.{heard-ok}
 use Rattle.turn_bound.proofs.StillTurn.{Stays, stays, Spoke, spoke, stand-linked, linked-stand}
 use Rattle.turn_bound.proofs.MeetHear.{of_arrived}
-use Rattle.turn_bound.proofs.Credits.{own_value, held_value, frame_poll}
+use Rattle.turn_bound.proofs.Credits.{held_value, frame_poll}
 use Rattle.turn_bound.proofs.Taking.{owed_by, may_send_at, TakesNumber, Takes, Closes, takes}
 use Rattle.turn_bound.proofs.Asking.{served-own, served-owes}
 use Rattle.turn_bound.proofs.Pausing.{Calm, says-calm}
@@ -191,17 +191,11 @@ lingers z total user turn role arrived a mid released release said y l calm ligh
           more = more;
         }
 
-        owed : owed_by b ≡ owed_by mid
-        owed = served-owes turn (length user.breaks) (is_busy turn user.busy) mid b s.serves
-
-        own : own_value turn b.own_breaks ≤ own_value turn mid.own_breaks
-        own = served-own z turn (length user.breaks) (is_busy turn user.busy) mid b mid-linked.breaks s.serves
-
         base : base_value turn b.special d + owed_by a ≤ held_value turn a + owed_by mid + 1
         base = omega (
           arith,
-          owed,
-          own,
+          (served-owes turn (length user.breaks) (is_busy turn user.busy) mid b s.serves),
+          (served-own z turn (length user.breaks) (is_busy turn user.busy) mid b mid-linked.breaks s.serves),
           t.own,
           q.value,
           ap (λ x. cond {A = ℕ} x 0 4) (s.serves.special ∙ t.special),

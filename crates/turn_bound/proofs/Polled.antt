@@ -1,5 +1,5 @@
 -- How many polls an end sends: in a turn, and in the last turns of a run where no user is busy.
-use Rattle.std.proofs.Common.{◌≡◌, ℕ, ◌+◌, ◌*◌, ◌≤◌, ◌&&◌, ◌⊎◌, Bool, true, false, cond, nat_eq, length, inl, inr, arith, refl, sym, ◌∙◌}
+use Rattle.std.proofs.Common.{◌≡◌, ℕ, ◌+◌, ◌*◌, ◌≤◌, ◌&&◌, Bool, true, false, cond, nat_eq, length, inl, inr, arith, refl, sym, ◌∙◌}
 use Rattle.std.proofs.Common.{ap, subst, Result, Ok, Err}
 use Rattle.link_account.proofs.Names.{Role, is_originator, Frame, Disc, Arrived, LinkFault, Account, is_connected, hear, trying, Said, says}
 use Rattle.link_account.proofs.Names.{spent, speak_linked, speak, speak_in, speak_releasing}
@@ -17,7 +17,7 @@ use Rattle.turn_bound.proofs.StillTurn.{linked-stand}
 use Rattle.turn_bound.proofs.MeetHear.{is_begun, of_arrived}
 use Rattle.turn_bound.proofs.MeetSpeak.{SaysSo, speaks-so}
 use Rattle.turn_bound.proofs.Credits.{frame_poll, poll_value, poll-most, timer_value}
-use Rattle.turn_bound.proofs.Taking.{Takes, Closes, takes}
+use Rattle.turn_bound.proofs.Taking.{takes}
 use Rattle.turn_bound.proofs.Polling.{nineteen_if, polls, heard-polls, linked-rated}
 use Rattle.turn_bound.proofs.Pausing.{Goes, goes-on, says-unpolled, releases-unpolled}
 use Rattle.lapm_frames.specs.declared.sent.Sent.TheVariants as slots

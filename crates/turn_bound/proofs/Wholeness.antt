@@ -27,7 +27,7 @@ use Rattle.turn_bound.proofs.Pausing.{goes-on, says-calm}
 use Rattle.turn_bound.proofs.Falls.{Fits}
 use Rattle.turn_bound.proofs.Ending.{fits}
 use Rattle.turn_bound.proofs.Tied.{Tied, tied, keeps, link_of, turn_of, state_of}
-use Rattle.turn_bound.proofs.Meeting.{Meets, meets-run, released-closed}
+use Rattle.turn_bound.proofs.Meeting.{meets-run, released-closed}
 use Rattle.turn_bound.proofs.CalmRuns.{said-speaks, end-at, never-at, light-arrival}
 
 abbrev pub IsWhole : Outgoing → Type 0
@@ -352,11 +352,8 @@ late-whole tries period delay link ts ends role k n run c e =
     f : Fits (rates tries period) (link_of delay link)
     f = fits tries period (link_of delay link) (keeps tries period delay link k)
 
-    m : Meets (state_of ends i.forward i.back)
-    m = meets-run (rates tries period) (link_of delay link) (map turn_of ts) (state_of ends i.forward i.back) f i.run
-
     by : (r : Role) → is_released (of r ends).phase ≡ true → is_released ends.orig.phase ≡ true
     by Originator h = h
-    by Answerer h = m.closed
+    by Answerer h = (meets-run (rates tries period) (link_of delay link) (map turn_of ts) (state_of ends i.forward i.back) f i.run).closed
         (released-closed (rates tries period) (length ts) (length ts) ends.answ.phase ends.answ
         (end-at tries period delay link ts ends Answerer k run c).stands h)

@@ -15,7 +15,7 @@ use Rattle.turn_losses.proofs.PollLaws.{two-ends, turned}
 use Rattle.turn_losses.proofs.PeriodLaws.{linked-on, connected-back}
 use Rattle.turn_losses.proofs.Numbered.{numbered-linked}
 use Rattle.turn_losses.proofs.Starving.{all-but-one}
-use Rattle.turn_losses.proofs.Names.{KeepsTime, Rates, rates, IsOf, LosesEach, past, of_arrived, is_poll, is_linked, EndRun, TwoEnds}
+use Rattle.turn_losses.proofs.Names.{KeepsTime, Rates, rates, IsOf, LosesEach, past, of_arrived, is_poll, is_linked, EndRun}
 use Rattle.turn_losses.proofs.Names.{end_run}
 
 only-connected : (p : Phase) → is_linked p ≡ true → is_released p ≡ false → is_connected p ≡ true
@@ -49,9 +49,6 @@ answerer-each laws tries period delay link ts before t mid kt run hearing going 
 
     o : EndRun
     o = end_run delay w.state w.deed Originator
-
-    ends : TwoEnds period turns e o
-    ends = two-ends tries period delay link ts w.state w.deed kt w.trace Answerer
 
     k : (r : Role) → Known z link turns before r
     k r = known tries period delay link ts before kt run.run run.carried r
@@ -92,7 +89,7 @@ answerer-each laws tries period delay link ts before t mid kt run hearing going 
         let n = counted (w.state s).answ.numbered (w.state s) (past ts s)
         (known tries period delay link (past ts s) (w.state s) kt h.run h.carried Answerer) c from.1 from.2 refl in
         let first = numbered-linked tries period delay link ts w.state w.deed kt w.trace Answerer s (omega (arith, l)) n in
-        let back = turned period turns e o ends in
+        let back = turned period turns e o (two-ends tries period delay link ts w.state w.deed kt w.trace Answerer) in
         connected-back period turns o e back u turns high (omega arith) (linked-on period turns o e back s u low high first)
         (ap (λ (x : Accounts). is_connected x.orig.phase) w.last ∙ peer-last)
 

@@ -8,11 +8,11 @@ use Rattle.link_run.proofs.Names.{Turn, Hears, RunOf, arrival, served_at, releas
 use Rattle.link_account.specs.Hear.{on_seen, on_pattern}
 use Rattle.link_account.specs.Speak.{else_says, answering, speak_detecting}
 use Rattle.turn_bound.specs.Spent.{SpendsOnTime}
+use Rattle.link_run.proofs.Speaking.{speaks-phase}
 use Rattle.turn_losses.proofs.Periods.{once, times, loses-of}
 use Rattle.turn_losses.specs.Losses.{OriginatorWantsPattern, UndetectedIsStarved}
 use Rattle.link_account.proofs.HearWays.{numbers-alike}
 use Rattle.link_account.proofs.SpeakWays.{tries-alike, linked-so, why-broken, Undetected, Spends}
-use Rattle.turn_losses.proofs.PollSpeak.{linked-poll}
 use Rattle.turn_losses.proofs.Tracing.{known, timed, rated, Traced, traced}
 use Rattle.turn_losses.proofs.PollLaws.{two-ends}
 use Rattle.turn_losses.proofs.PeriodLaws.{NoneLost}
@@ -30,17 +30,10 @@ use Rattle.link_account.proofs.SpeakWays as SpeakWays
 -- an end that is Detecting after it spoke was so before
 pub said-from : (turn : ℕ) (release : Bool) (b : Account) (said : Said) → speak turn release b ≡ Ok said → said.account.phase ≡ Detecting
     → b.phase ≡ Detecting
-said-from turn release b said h = SpeakWays.by-ways (λ s. s.account.phase ≡ Detecting → b.phase ≡ Detecting) turn release b (record {
-  answers = λ alone d e f. f;
-  flags = λ alone e f. f;
-  mark = λ p r e f. f;
-  odp = λ p r l f. f;
-  xid = λ p r. tries-alike _ turn _ b (λ w f. f) (λ f. f);
-  sabme = λ p. tries-alike _ turn _ b (λ w f. f) (λ f. f);
-  linked = λ p r. linked-so _ _ turn b (λ s k f. sym k.phase ∙ f) (linked-poll turn b);
-  releases = λ p r. tries-alike _ turn _ (trying Releasing turn b) (λ w f. cc) (λ f. cc);
-  disc = λ p. tries-alike _ turn _ b (λ w f. f) (λ f. f);
-}) said h
+said-from turn release b said h d = elim (speaks-phase turn release b said h) [
+  | inl e ↦ sym e ∙ d
+  | inr x ↦ (let wrong : Releasing ≡ Detecting = sym x.1 ∙ d in cc)
+]
 
 -- an originator that is Detecting sends its pattern
 sends-odp : (turn : ℕ) (release : Bool) (b : Account) (said : Said) → b.phase ≡ Detecting → b.setup.role ≡ Originator

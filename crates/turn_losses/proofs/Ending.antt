@@ -10,7 +10,7 @@ use Rattle.turn_losses.proofs.Tracing.{Traced, traced}
 use Rattle.turn_losses.proofs.AnswerTurn.{connected-is}
 use Rattle.turn_losses.proofs.LineLaw.{was-sent}
 use Rattle.turn_losses.proofs.PollLaws.{two-ends}
-use Rattle.turn_losses.proofs.Phasing.{is_sabme}
+use Rattle.turn_losses.proofs.Establishing.{is_sabme}
 use Rattle.turn_losses.proofs.BreakHear.{of_word, ack_of}
 use Rattle.turn_losses.proofs.BreakTurn.{number_of}
 use Rattle.turn_losses.proofs.View.{deeds-of, breaking}

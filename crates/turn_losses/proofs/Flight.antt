@@ -10,7 +10,8 @@ use Rattle.turn_losses.proofs.Truths.{not-true}
 use Rattle.turn_losses.proofs.LineLaw.{was-sent}
 use Rattle.turn_losses.proofs.PeriodLaws.{linked-on}
 use Rattle.turn_losses.proofs.Moving.{moves_on}
-use Rattle.turn_losses.proofs.Phasing.{is_sabme, is_established}
+use Rattle.turn_losses.proofs.Establishing.{is_sabme}
+use Rattle.turn_losses.proofs.Phasing.{is_established}
 use Rattle.turn_losses.proofs.Trying.{TryTurn}
 use Rattle.turn_losses.proofs.Names.{frame_disc, of_frame, of_arrived, is_linked, EndRun, TwoEnds}
 use Rattle.lapm_frames.specs.declared.sent.Sent.TheVariants as slots

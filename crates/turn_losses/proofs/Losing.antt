@@ -14,7 +14,7 @@ use Rattle.turn_losses.proofs.PeriodLaws.{NoneLost}
 use Rattle.turn_losses.proofs.PeriodHolds.{LostIn, lost-or-none}
 use Rattle.turn_losses.proofs.AnswerTurn.{connected-is}
 use Rattle.turn_losses.proofs.Parting.{passes-as}
-use Rattle.turn_losses.proofs.Phasing.{is_sabme}
+use Rattle.turn_losses.proofs.Establishing.{is_sabme}
 use Rattle.turn_losses.proofs.BreakHear.{of_word, ack_of, break-heard}
 use Rattle.turn_losses.proofs.BreakTurn.{Deeds, ServedBreaks, number_of, brk_due}
 use Rattle.turn_losses.proofs.View.{deeds-of, breaking, served-own}

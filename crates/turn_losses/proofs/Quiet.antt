@@ -11,7 +11,8 @@ use Rattle.turn_losses.proofs.Tracing.{known, release_of, said-as}
 use Rattle.turn_losses.proofs.Moving.{moves_on, TryGoesOn, TryBegins, try-heard}
 use Rattle.turn_losses.proofs.Setups.{heard-as, heard-setup}
 use Rattle.turn_losses.proofs.Parting.{setup-role}
-use Rattle.turn_losses.proofs.Phasing.{is_sabme, is_established, established-on}
+use Rattle.turn_losses.proofs.Establishing.{is_sabme}
+use Rattle.turn_losses.proofs.Phasing.{is_established, established-on}
 use Rattle.turn_losses.proofs.Trying.{tries-so}
 use Rattle.turn_losses.proofs.Sabmes.{answer-by}
 use Rattle.turn_losses.proofs.Establishing.{SaidSabme, says-sabme, try-over, establishing-from}

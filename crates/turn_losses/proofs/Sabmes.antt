@@ -7,7 +7,7 @@ use Rattle.link_account.specs.Hear.{connected}
 use Rattle.break_signals.specs.Breaks.{after_break}
 use Rattle.link_account.proofs.HearWays.{by-ways, numbers-alike}
 use Rattle.turn_bound.proofs.MeetHear.{is_ua_due, frame_disc, of_arrived}
-use Rattle.turn_losses.proofs.Phasing.{is_sabme}
+use Rattle.turn_losses.proofs.Establishing.{is_sabme}
 use Rattle.lapm_frames.specs.declared.arrived.Arrived.TheVariants as arrivals
 use Rattle.link_account.specs.declared.answer.Answer.TheVariants as answers
 
