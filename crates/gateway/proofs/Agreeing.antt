@@ -1,38 +1,22 @@
 -- What two ends of a play know of each other: once the originator has heard the answer to its offer, both have the terms of both offers.
-use Rattle.std.proofs.Common.{◌≡◌, ◌≢◌, ◌∙◌, ◌⊎◌, inl, inr, ℕ, ◌≤◌, Bool, true, false, cond, List, [], ◌∷◌, ◌++◌, refl, sym, ap, subst, arith}
-use Rattle.std.proofs.Common.{Option, Some, None, Ok}
-use Rattle.std.specs.Prelude.{is_some}
-use Rattle.std.specs.List.{AllByRecursion}
-use Rattle.std.proofs.lemmas.Bool.{false≢true}
-use Rattle.shared_terms.specs.declared.role.Role.{Role}
-use Rattle.shared_terms.specs.declared.role.Role.TheVariants.{Originator, Answerer}
-use Rattle.shared_terms.specs.Role.{is_originator, other}
-use Rattle.frame_check.specs.declared.check.Check.{Check}
+use Rattle.std.proofs.Common.{◌≡◌, ◌≢◌, ◌∙◌, ◌⊎◌, inl, inr, ℕ, ◌≤◌, Bool, true, false, cond, List, [], ◌∷◌, ◌++◌, refl, sym, ap, subst}
+use Rattle.std.proofs.Common.{arith, Option, Some, None, Ok}
+use Rattle.link_account.proofs.Names.{is_some, AllByRecursion, false≢true, Role, Originator, Answerer, is_originator, other, Check, Frame}
+use Rattle.link_account.proofs.Names.{Sabme, Disc, Xid, Arrived, Sent, Offer, Terms, agree, offer_in, written, Account, check_of, fresh}
+use Rattle.link_account.proofs.Names.{Slot, arrives, hear, without_adp, Said, frame_for, ready_frame, nr_of, speak}
 use Rattle.frame_check.specs.declared.check.Check.TheVariants.{Sixteen, ThirtyTwo}
-use Rattle.lapm_frames.specs.declared.frame.Frame.{Frame}
-use Rattle.lapm_frames.specs.declared.frame.Frame.TheVariants.{Sabme, Disc, Xid}
 use Rattle.lapm_frames.specs.Frame.{has_number}
-use Rattle.lapm_frames.specs.declared.arrived.Arrived.{Arrived}
-use Rattle.lapm_frames.specs.declared.arrived.Arrived.TheVariants as arrivals
-use Rattle.lapm_frames.specs.declared.sent.Sent.{Sent}
-use Rattle.lapm_frames.specs.declared.sent.Sent.TheVariants as slots
-use Rattle.xid_params.specs.declared.offer.Offer.{Offer}
-use Rattle.xid_params.specs.declared.terms.Terms.{Terms}
-use Rattle.xid_params.specs.Terms.{agree}
-use Rattle.xid_params.specs.Offers.{offer_in, written}
 use Rattle.link_account.specs.declared.setup.Setup.{Setup}
 use Rattle.link_account.specs.declared.phase.Phase.{Phase}
 use Rattle.link_account.specs.declared.phase.Phase.TheVariants.{Detecting, Negotiating, Establishing, Connected, Releasing, Closed}
 use Rattle.link_account.specs.declared.answer.Answer.{Answer}
-use Rattle.link_account.specs.declared.answer.Answer.TheVariants as answers
-use Rattle.link_account.specs.Account.{Account, check_of, fresh}
-use Rattle.link_account.specs.Play.{Slot, arrives}
-use Rattle.link_account.specs.Hear.{hear, without_adp}
-use Rattle.link_account.specs.Speak.{Said, frame_for, ready_frame, nr_of, speak}
-use Rattle.link_account.proofs.HearWays as hears
 use Rattle.link_account.proofs.HearWays.{numbers-alike}
-use Rattle.link_account.proofs.SpeakWays as speaks
 use Rattle.link_account.proofs.SpeakWays.{Tries, linked-alike, tries-alike, retimed}
+use Rattle.lapm_frames.specs.declared.arrived.Arrived.TheVariants as arrivals
+use Rattle.lapm_frames.specs.declared.sent.Sent.TheVariants as slots
+use Rattle.link_account.specs.declared.answer.Answer.TheVariants as answers
+use Rattle.link_account.proofs.HearWays as hears
+use Rattle.link_account.proofs.SpeakWays as speaks
 
 abbrev pub rank : Phase → ℕ
 rank Detecting = 0
@@ -137,7 +121,8 @@ module _ (turn : ℕ) (a : Account) where
       srej = λ b n s m f. stays (λ z. p, tt);
       flags = λ i. stays tt;
     });
-    releases = λ p r. let over : Leaves (face a) (record (face a) { phase = Releasing }) = record { setup = refl; terms = refl; answer = inl refl; phase = inr (p, refl) } in
+    releases = λ p r. let over : Leaves (face a)
+        (record (face a) { phase = Releasing }) = record { setup = refl; terms = refl; answer = inl refl; phase = inr (p, refl) } in
         tries-alike Says turn (Disc true) _ (λ w. record { own = (none-numbered, tt); left = over }) (record { own = tt; left = over });
     disc = λ p. tries _ (none-numbered, tt);
   }) said e
@@ -410,7 +395,8 @@ abbrev pub KnowsAt : Role → Setup → Setup → Account → List Slot → Acco
 KnowsAt Originator so sa x lx y ly = Knows so sa (face x) (face y) lx ly
 KnowsAt Answerer so sa x lx y ly = Knows so sa (face y) (face x) ly lx
 
-pub knows-turned : (role : Role) (so sa : Setup) (x : Account) (lx : List Slot) (y : Account) (ly : List Slot) → KnowsAt role so sa x lx y ly
+pub knows-turned : (role : Role) (so sa : Setup) (x : Account) (lx : List Slot) (y : Account) (ly : List Slot)
+    → KnowsAt role so sa x lx y ly
     → KnowsAt (other role) so sa y ly x lx
 knows-turned Originator so sa x lx y ly h = h
 knows-turned Answerer so sa x lx y ly h = h
@@ -573,7 +559,8 @@ knows-spoken Originator so sa reads x lx y ly turn release said slot same e h =
       };
       answ = answ-later so sa (rank x.phase) (rank b.phase) (face y) k.later h.answ;
       line_o = all-snoc (SentO so (rank b.phase)) lx slot
-          (all-weaker (SentO so (rank x.phase)) (SentO so (rank b.phase)) (sent_o-later so (rank x.phase) (rank b.phase) k.later) lx h.line_o)
+          (all-weaker (SentO so (rank x.phase)) (SentO so (rank b.phase))
+          (sent_o-later so (rank x.phase) (rank b.phase) k.later) lx h.line_o)
           (subst (OnSent (SentO so (rank b.phase))) (sym same) (sent-weaker (OwnFrame (face x)) (SentO so (rank b.phase))
           (own-o so sa (rank y.phase) (rank b.phase) (face x) h.orig k.later) said.sent s.own));
       line_a = all-weaker (SentA sa (rank x.phase) (rank y.phase)) (SentA sa (rank b.phase) (rank y.phase))

@@ -1,59 +1,48 @@
 -- The calls that are made of two ends are the events of a play.
-use Rattle.std.proofs.Common.{◌≡◌, ◌∙◌, ℕ, ◌+◌, ◌<◌, ◌≤◌, ◌&&◌, Bool, true, false, cond, nat_le, nat_lt, ◌^◌, List, [], ◌∷◌, ◌++◌, length, Option, Some, None, Result, Ok, Err, refl, sym, ap, subst, take, drop, inl, inr, arith, length-append}
-use Rattle.std.specs.Prelude.{is_some, slice_index_or}
-use Rattle.std.proofs.lemmas.List.{take-append-le, take_more, take-append-drop, append_assoc}
-use Rattle.std.proofs.lemmas.Bool.Decides.{nat_tests}
-use Rattle.std.proofs.lemmas.Bool.{false≢true}
-use Rattle.frame_check.specs.declared.check.Check.{Check}
+use Rattle.std.proofs.Common.{◌≡◌, ◌∙◌, ℕ, ◌+◌, ◌<◌, ◌≤◌, ◌&&◌, Bool, true, false, cond, nat_le, nat_lt, ◌^◌, List, [], ◌∷◌, ◌++◌, length}
+use Rattle.std.proofs.Common.{Option, Some, None, Result, Ok, Err, refl, sym, ap, subst, take, drop, inl, inr, arith, length-append}
+use Rattle.link_account.proofs.Names.{is_some, take-append-drop, append_assoc, nat_tests, false≢true, Check, Role, Originator, Answerer}
+use Rattle.link_account.proofs.Names.{other, Both, of, IsPrefixOf, LinkFault, Frame, Arrived, Sent, ReadsWritten, Account, fresh, check_of}
+use Rattle.link_account.proofs.Names.{wants, piece_size, after_given, after_offer, after_break_asked, after_busy, is_connected, hear, Said}
+use Rattle.link_account.proofs.Names.{speak, Slot, Play, arrives, MayPlay, KeepsTaken, after_ask, wanted}
+use Rattle.std.specs.Prelude.{slice_index_or}
+use Rattle.std.proofs.lemmas.List.{take-append-le, take_more}
 use Rattle.frame_check.specs.declared.check.Check.TheVariants.{Sixteen}
-use Rattle.shared_terms.specs.declared.role.Role.{Role}
-use Rattle.shared_terms.specs.declared.role.Role.TheVariants.{Originator, Answerer}
-use Rattle.shared_terms.specs.Role.{other}
-use Rattle.shared_terms.specs.Both.{Both, of}
-use Rattle.plain_lists.specs.Prefix.{IsPrefixOf}
-use Rattle.shared_terms.specs.declared.fault.LinkFault.{LinkFault}
-use Rattle.lapm_frames.specs.declared.frame.Frame.{Frame}
-use Rattle.lapm_frames.specs.declared.arrived.Arrived.{Arrived}
-use Rattle.lapm_frames.specs.declared.arrived.Arrived.TheVariants as arrivals
-use Rattle.lapm_frames.specs.declared.sent.Sent.{Sent}
-use Rattle.lapm_frames.specs.declared.sent.Sent.TheVariants as slots
-use Rattle.lapm_frames.specs.Frame.{IsFrame}
+use Rattle.lapm_frames.specs.Frame.{IsFrame, has_number, spelled}
 use Rattle.lapm_frames.specs.Sendable.{IsSendable}
 use Rattle.frame_check.specs.Division.{with_check}
-use Rattle.lapm_frames.specs.Frame.{has_number, spelled}
 use Rattle.lapm_frames.specs.Checked.{checked, SpellsFrame}
-use Rattle.xid_params.specs.Offers.{ReadsWritten}
 use Rattle.link_account.specs.declared.setup.Setup.{Setup}
-use Rattle.link_account.specs.Account.{Account, fresh, check_of, wants, piece_size, after_given, after_offer, after_delivery, after_break_asked, after_busy, is_connected, delivers}
-use Rattle.link_account.specs.Hear.{hear}
-use Rattle.link_account.specs.Speak.{Said, speak}
-use Rattle.link_account.specs.Play.{Slot, Side, Play, Event, arrives, spoken, heard, happens, play, start, seen_from}
-use Rattle.link_account.specs.Play as plays
+use Rattle.link_account.specs.Account.{after_delivery, delivers}
+use Rattle.link_account.specs.Play.{Side, Event, spoken, heard, happens, play, start, seen_from}
 use Rattle.link_account.proofs.Events.{side, at, slot_of, play-append, hears-event, passes-event, loses-event, speaks-event, gives-event}
 use Rattle.link_account.proofs.Events.{delivers-event, asked-event, busy-event, offered-event}
 use Rattle.link_account.specs.declared.phase.Phase.{Phase}
-use Rattle.link_account.specs.declared.phase.Phase.TheVariants as phases
-use Rattle.link_account.specs.Laws.{MayPlay, played, TakesInOrder, has_begun, WantsAnswers, BreaksForWantAlone}
-use Rattle.lapm_receiver.specs.Incoming.{KeepsTaken, after_delivered}
-use Rattle.break_signals.specs.Breaks.{after_ask}
-use Rattle.lapm_sender.specs.Outgoing.{wanted}
+use Rattle.link_account.specs.Laws.{played, TakesInOrder, has_begun, WantsAnswers, BreaksForWantAlone}
+use Rattle.lapm_receiver.specs.Incoming.{after_delivered}
 use Rattle.lapm_link.specs.declared.any_end.AnyEnd.{AnyEnd}
 use Rattle.lapm_link.specs.Stands.{StandsFor}
 use Rattle.gateway.specs.declared.turns.Carried.{Carried}
-use Rattle.gateway.specs.declared.turns.Carried.TheVariants as loads
 use Rattle.gateway.specs.declared.turns.Told.{Told}
-use Rattle.gateway.specs.declared.turns.Told.TheVariants as told
 use Rattle.gateway.specs.declared.link.Endpoint.{Endpoint}
 use Rattle.gateway.specs.declared.link.BreakAsked.{BreakAsked}
-use Rattle.gateway.specs.declared.link.BreakAsked.TheVariants as asked
 use Rattle.gateway.specs.Turns.{Arrives, told_as}
 use Rattle.gateway.specs.Endpoints.{HeardAs, SaysAs, OfferedAs, AnswersBreak, longest_wanted, is_taken}
 use Rattle.gateway.specs.Histories.{EndSide, Move, Speaks, Passes, Is_lost, Hears_nothing, Is_offered, Is_asked, Is_delivered, Is_busy}
 use Rattle.gateway.specs.Histories.{CarriesTold, HearsNothing, SpeaksOf, LosesOf, PassesOf, OfferedOf, AskedOf, DeliveredOf}
-use Rattle.gateway.specs.Histories.{SpeakingBreaksForWant, HearingNeverBreaks, IsMade, Step, Begins, History, HistoriesArePlays, HistoriesKeepPrefixes, with_offered, with_delivered}
+use Rattle.gateway.specs.Histories.{SpeakingBreaksForWant, HearingNeverBreaks, IsMade, Step, Begins, History, HistoriesArePlays}
+use Rattle.gateway.specs.Histories.{HistoriesKeepPrefixes, with_offered, with_delivered}
 use Rattle.gateway.proofs.Lists.{Lists, lists, Grows, grows-heard, kept-spoken}
 use Rattle.link_account.proofs.HearWays.{breaks-not}
-use Rattle.gateway.proofs.Agreeing.{OnSent, Reads, face, KnowsAt, knows-turned, knows-as, nothing-arrives, first-arrives, knows-less, knows-heard, knows-spoken, agreed_check, check-sent, check-heard, knows-first}
+use Rattle.gateway.proofs.Agreeing.{OnSent, Reads, face, KnowsAt, knows-turned, knows-as, nothing-arrives, first-arrives, knows-less}
+use Rattle.gateway.proofs.Agreeing.{knows-heard, knows-spoken, agreed_check, check-sent, check-heard, knows-first}
+use Rattle.lapm_frames.specs.declared.arrived.Arrived.TheVariants as arrivals
+use Rattle.lapm_frames.specs.declared.sent.Sent.TheVariants as slots
+use Rattle.link_account.specs.Play as plays
+use Rattle.link_account.specs.declared.phase.Phase.TheVariants as phases
+use Rattle.gateway.specs.declared.turns.Carried.TheVariants as loads
+use Rattle.gateway.specs.declared.turns.Told.TheVariants as told
+use Rattle.gateway.specs.declared.link.BreakAsked.TheVariants as asked
 
 -- what is known of frames and their octets, of receivers and of offers
 pub record HistoryLaws : Type 0 where

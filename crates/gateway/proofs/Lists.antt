@@ -1,23 +1,16 @@
 -- What hearing and speaking make of the segments of an account: those offered, those taken, and how many are given.
 use Rattle.std.proofs.Common.{◌≡◌, ◌∙◌, ◌⊎◌, inl, inr, ℕ, Bool, true, false, cond, List, [], ◌∷◌, ◌++◌, refl, sym, ap, Some, Ok, Err}
-use Rattle.std.proofs.lemmas.List.{append-nil}
-use Rattle.lapm_frames.specs.declared.arrived.Arrived.{Arrived}
-use Rattle.lapm_sender.specs.Outgoing.{Outgoing}
-use Rattle.lapm_receiver.specs.Incoming.{Incoming, after_take, after_kind, kind_of, offset, KeepsTaken, after_asked}
-use Rattle.lapm_receiver.specs.declared.took.Took.{Took}
-use Rattle.lapm_receiver.specs.declared.took.Took.TheVariants.{InOrder, Kept, Repeat, Gap}
-use Rattle.shared_terms.specs.declared.fault.LinkFault.{LinkFault}
-use Rattle.shared_terms.specs.declared.fault.LinkFault.TheVariants.{NotDetected, Spent, BadAck, PeerReset, PeerRefused}
+use Rattle.link_account.proofs.Names.{append-nil, Arrived, Outgoing, Incoming, after_take, after_kind, kind_of, offset, KeepsTaken, Took}
+use Rattle.link_account.proofs.Names.{InOrder, Kept, Repeat, Gap, LinkFault, NotDetected, Spent, Account, hear, trying, Said, speak}
+use Rattle.lapm_receiver.specs.Incoming.{after_asked}
+use Rattle.shared_terms.specs.declared.fault.LinkFault.TheVariants.{BadAck, PeerReset, PeerRefused}
 use Rattle.link_account.specs.declared.phase.Phase.{Phase}
 use Rattle.link_account.specs.declared.phase.Phase.TheVariants.{Detecting, Negotiating, Establishing, Connected, Releasing, Closed}
-use Rattle.link_account.specs.Account.{Account}
 use Rattle.link_account.specs.Laws.{has_begun, WantsAnswers}
-use Rattle.link_account.specs.Hear.{hear, trying}
-use Rattle.link_account.specs.Speak.{Said, speak}
-use Rattle.link_account.proofs.HearWays as hears
 use Rattle.link_account.proofs.HearWays.{NumberKeeps, acked, acked_back, acked-keeps, acked_back-keeps, resumed-keeps, refused}
-use Rattle.link_account.proofs.SpeakWays as speaks
 use Rattle.link_account.proofs.SpeakWays.{linked-alike, tries-alike, next-keeps}
+use Rattle.link_account.proofs.HearWays as hears
+use Rattle.link_account.proofs.SpeakWays as speaks
 
 pub record Lists : Type 0 where
   pub begun : Bool  -- it is Connected, or was
