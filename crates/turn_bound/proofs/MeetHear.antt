@@ -4,6 +4,8 @@ use Rattle.link_account.proofs.Names.{Account, is_originator, hear, without_adp}
 use Rattle.link_run.proofs.Names.{Phase, Detecting, Negotiating, Establishing, Connected, Releasing, Closed, Answer, is_closed, is_released}
 use Rattle.link_account.specs.Hear.{ends_wait}
 use Rattle.link_account.proofs.HearWays.{Ways, by-ways, acked, acked_back, numbers-alike}
+pub use Rattle.link_run.proofs.Meeting.{is_ua as frame_ua, is_disc as frame_disc, carries as of_frame, brings as of_arrived}
+pub use Rattle.link_run.proofs.Meeting.{owes_ua as is_ua_due}
 use Rattle.lapm_frames.specs.declared.arrived.Arrived.TheVariants as arrivals
 use Rattle.lapm_frames.specs.declared.sent.Sent.TheVariants as slots
 use Rattle.link_account.specs.declared.answer.Answer.TheVariants as answers
@@ -16,35 +18,12 @@ is_begun Connected = true
 is_begun Releasing = true
 is_begun Closed = true
 
-abbrev pub is_ua_due : Option Answer → Bool
-is_ua_due None = false
-is_ua_due (Some answers.Adp) = false
-is_ua_due (Some answers.Xid) = false
-is_ua_due (Some (answers.Ua pf)) = true
-is_ua_due (Some (answers.Dm pf)) = false
-
-abbrev pub frame_ua : Frame → Bool
-frame_ua (Ua pf) = true
-frame_ua frame = false
-
-abbrev pub frame_disc : Frame → Bool
-frame_disc (Disc pf) = true
-frame_disc frame = false
-
 -- the answer to a poll
 abbrev pub frame_final : Frame → Bool
 frame_final (Rr command nr pf) = pf && not command
 frame_final (Rnr command nr pf) = pf && not command
 frame_final (Rej command nr pf) = pf && not command
 frame_final frame = false
-
-abbrev pub of_frame : (Frame → Bool) → Sent → Bool
-of_frame f (slots.Frame frame) = f frame
-of_frame f sent = false
-
-abbrev pub of_arrived : (Frame → Bool) → Arrived → Bool
-of_arrived f (arrivals.Frame frame) = f frame
-of_arrived f arrived = false
 
 -- An originator hears.
 pub record OHeard (ua final : Bool) (a b : Account) : Type 0 where
