@@ -1,5 +1,5 @@
 -- What each event makes of a play in which neither end is broken; the first account and line are those of a role.
-use Rattle.std.proofs.Common.{◌≡◌, ◌∙◌, ℕ, ◌&&◌, Bool, true, cond, nat_le, List, [], ◌∷◌, ◌++◌, length, Option, None, Ok, refl, ap}
+use Rattle.std.proofs.Common.{◌≡◌, ℕ, ◌&&◌, Bool, true, cond, nat_le, List, [], ◌∷◌, ◌++◌, length, None, Ok, refl, ap}
 use Rattle.std.specs.Prelude.{is_some}
 use Rattle.lapm_receiver.specs.Incoming.{next_expected}
 use Rattle.lapm_frames.specs.declared.arrived.Arrived.TheVariants as arrivals

@@ -1,7 +1,7 @@
 -- What holds all through a play of two ends of ours.
 use Rattle.std.proofs.Common.{◌≡◌, ℕ, ◌≤◌, Bool, true, false, List, [], ◌∷◌, arith, ◌∙◌, Option, Some, None}
 use Rattle.link_account.proofs.Names.{AllByRecursion, Originator, Answerer, Sabme, Disc, Ua, Dm, Xid, Terms, agree, offer_in, written}
-use Rattle.link_account.proofs.Names.{Outgoing, Incoming, next_expected, Sent, Account, Slot}
+use Rattle.link_account.proofs.Names.{Sent, Account, Slot}
 use Rattle.link_account.specs.declared.setup.Setup.{Setup}
 use Rattle.link_account.specs.declared.phase.Phase.{Phase}
 use Rattle.link_account.specs.declared.phase.Phase.TheVariants.{Detecting, Negotiating, Establishing, Connected, Releasing, Closed}

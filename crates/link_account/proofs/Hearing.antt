@@ -197,10 +197,9 @@ module _ (so sa : Setup) (o a : Account) (lo la : List Slot) where
   a-frame turn n told frame h Negotiating e =
       subst (λ r. IsWellA (on_negotiating r frame turn a)) (sym (role-a so sa o a (framed frame n told ∷ lo) la h))
       (a-negotiating turn n told frame h e)
-  a-frame turn n told frame h Establishing e = absurd (subst (λ p. PlaceA (terms_of so sa) p a) e h.place_a)
   a-frame turn n told frame h Connected e = a-connected turn n told frame h e
-  a-frame turn n told frame h Releasing e = absurd (subst (λ p. PlaceA (terms_of so sa) p a) e h.place_a)
   a-frame turn n told frame h Closed e = a-closed n told frame h e
+  a-frame turn n told frame h q e = absurd (subst (λ p. PlaceA (terms_of so sa) p a) e h.place_a)
 
   -- an answerer hears nothing
   pub a-nothing : Good so sa o a lo la → Good so sa o (on_nothing a) lo la
@@ -217,11 +216,7 @@ module _ (so sa : Setup) (o a : Account) (lo la : List Slot) where
 
       place : (p : Phase) → PlaceA (terms_of so sa) p a → PlaceA (terms_of so sa) p (on_nothing a)
       place Detecting k = k
-      place Negotiating k = k
-      place Establishing k = k
-      place Connected k = k
-      place Releasing k = k
-      place Closed k = k
+      place p k = k
 
   -- or a pattern
   a-odp : Good so sa o a lo la → (turn : ℕ) (p : Phase) → a.phase ≡ p → Good so sa o (on_seen p seen.Odp turn a) lo la
@@ -231,10 +226,7 @@ module _ (so sa : Setup) (o a : Account) (lo la : List Slot) where
       (subst (λ p. PlaceA (terms_of so sa) p (owing answers.Adp a)) (sym e) (subst (λ p. PlaceA (terms_of so sa) p a) e g.place_a))
       (λ e. (g.early e).1) g.numbered g.flow_oa g.flow_ao)
   a-odp g turn Negotiating e = g
-  a-odp g turn Establishing e = g
-  a-odp g turn Connected e = g
-  a-odp g turn Releasing e = g
-  a-odp g turn Closed e = g
+  a-odp g turn p e = g
 
   pub a-hears : (turn : ℕ) (sent : Sent) (n told : ℕ)
       → BeforeA (record { sent = sent; number = n; told = told }) → IsWellA (hear turn (arrives sent) a)
@@ -352,11 +344,7 @@ module _ (so sa : Setup) (o a : Account) (lo la : List Slot) where
     where
       place : (p : Phase) → PlaceO (terms_of so sa) p o → PlaceO (terms_of so sa) p (on_nothing o)
       place Detecting k = k
-      place Negotiating k = k
-      place Establishing k = k
-      place Connected k = k
-      place Releasing k = k
-      place Closed k = k
+      place p k = k
 
   o-adp : Good so sa o a lo la → (turn : ℕ) (p : Phase) → o.phase ≡ p → Good so sa (on_seen p seen.Adp turn o) a lo la
   o-adp g turn Detecting e =
@@ -364,10 +352,7 @@ module _ (so sa : Setup) (o a : Account) (lo la : List Slot) where
       (changed-o so sa o a lo la g (trying Negotiating turn o) refl refl (omega (arith, ap rank e))
       (subst (λ p. PlaceO (terms_of so sa) p o) e g.place_o) (λ z. omega arith) g.flow_oa g.flow_ao)
   o-adp g turn Negotiating e = g
-  o-adp g turn Establishing e = g
-  o-adp g turn Connected e = g
-  o-adp g turn Releasing e = g
-  o-adp g turn Closed e = g
+  o-adp g turn p e = g
 
   pub o-hears : (turn : ℕ) (sent : Sent) (n told : ℕ)
       → BeforeO (record { sent = sent; number = n; told = told }) → IsWellO (hear turn (arrives sent) o)

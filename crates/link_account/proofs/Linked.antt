@@ -2,7 +2,7 @@
 use Rattle.std.proofs.Common.{◌≡◌, ℕ, ◌%◌, ◌≤◌, ◌||◌, ◌&&◌, Bool, true, false, cond, List, [], ◌∷◌, ◌++◌, length, slice_index_or, refl, sym}
 use Rattle.std.proofs.Common.{◌∙◌, ap, subst, Option, Some, None, Result, Ok, Err}
 use Rattle.link_account.proofs.Names.{Frame, I, Rr, Rnr, Rej, Srej, Ui, meant, Outgoing, is_outstanding, resumed, advanced, next_number}
-use Rattle.link_account.proofs.Names.{Incoming, after_kind, kind_of, offset, next_expected, Took, InOrder, Kept, Repeat, Gap, BreakWord}
+use Rattle.link_account.proofs.Names.{Incoming, after_kind, kind_of, offset, next_expected, Took, InOrder, BreakWord}
 use Rattle.link_account.proofs.Names.{Brk, Ack, BreakFault, word_in, Sent, LinkFault, Account, is_originator, Said, says, may_send, nr_of}
 use Rattle.link_account.proofs.Names.{ready_frame, Slot}
 use Rattle.std.specs.Option.{option_map}
@@ -82,9 +82,7 @@ HearsWell wo wi srej a po pi line rest numbered (Ok b) = Linked wo wi srej b po 
 take-window : (k : Took) (o : ℕ) (info : List ℕ) (i : Incoming)
     → ((after_kind k o info i).window ≡ i.window) × ((after_kind k o info i).srej ≡ i.srej)
 take-window InOrder o info i = (refl, refl)
-take-window Kept o info i = (refl, refl)
-take-window Repeat o info i = (refl, refl)
-take-window Gap o info i = (refl, refl)
+take-window p o info i = (refl, refl)
 
 resumed-goes : (w : ℕ) (srej : Bool) (o : Outgoing) (i : Incoming) (line back : List Slot) (b : Bool) (count : ℕ)
     → Goes w srej o i line back → Goes w srej (cond b (record o { paused = false; count = count }) o) i line back

@@ -237,8 +237,7 @@ idle-kind : (kind : Took) (o : ℕ) (info : List ℕ) (i : Incoming) → (kind �
     → SameTaken i (after_kind kind o info i)
 idle-kind InOrder o info i h k = absurd (h refl)
 idle-kind Kept o info i h k = absurd (k refl)
-idle-kind Repeat o info i h k = record { taken = refl; held = refl; srej = refl }
-idle-kind Gap o info i h k = record { taken = refl; held = refl; srej = refl }
+idle-kind p o info i h k = record { taken = refl; held = refl; srej = refl }
 
 pub same-tracks : (ss : List Segment) (i j : Incoming) → SameTaken i j → Tracks ss i → Tracks ss j
 same-tracks ss i j e t = as-tracks ss (length i.taken) (length j.taken) i.held j.held i.srej j.srej (ap length e.taken) e.held e.srej t

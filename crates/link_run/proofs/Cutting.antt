@@ -4,7 +4,7 @@ use Rattle.std.proofs.Common.{◌++◌, length, take, drop, arith, length-append
 use Rattle.link_account.proofs.Names.{false≢true, nat_tests, append-nil, append_assoc, take-append-drop, is_some, Terms, IsAllowed, Role}
 use Rattle.link_account.proofs.Names.{Originator, Answerer, Outgoing, wanted, with_piece, Account, fresh, is_connected, wants, piece_size}
 use Rattle.link_account.proofs.Names.{after_given, after_busy, IsPrefixOf}
-use Rattle.link_run.proofs.Names.{Setup, Phase, Detecting, Negotiating, Establishing, Connected, Releasing, Closed, User, delivered}
+use Rattle.link_run.proofs.Names.{Setup, Phase, Connected, User, delivered}
 use Rattle.link_run.proofs.Names.{piece_at, offered_at, offered_times, room_for, offered, is_busy, served}
 use Rattle.std.proofs.Math.Seq.{take-add}
 use Rattle.std.proofs.lemmas.List.{take_all, length-take, length-drop}
@@ -73,19 +73,11 @@ size-of Answerer t h = h.1
 
 pub linked-stage : (p : Phase) → is_connected p ≡ true → stage p ≡ 1
 linked-stage Connected e = refl
-linked-stage Detecting e = absurd (false≢true e)
-linked-stage Negotiating e = absurd (false≢true e)
-linked-stage Establishing e = absurd (false≢true e)
-linked-stage Releasing e = absurd (false≢true e)
-linked-stage Closed e = absurd (false≢true e)
+linked-stage p e = absurd (false≢true e)
 
 stage-linked : (p : Phase) → stage p ≡ 1 → is_connected p ≡ true
 stage-linked Connected e = refl
-stage-linked Detecting e = absurd (omega (arith, e))
-stage-linked Negotiating e = absurd (omega (arith, e))
-stage-linked Establishing e = absurd (omega (arith, e))
-stage-linked Releasing e = absurd (omega (arith, e))
-stage-linked Closed e = absurd (omega (arith, e))
+stage-linked p e = absurd (omega (arith, e))
 
 pub heard-cuts : (file : List ℕ) (a b : Account) → IsOffered file a → GoesOn a b → IsOffered file b
 heard-cuts file a b h (inl s) = record {

@@ -3,7 +3,7 @@ use Rattle.std.proofs.Common.{◌≡◌, inl, inr, ℕ, zero, suc, ◌+◌, ◌�
 use Rattle.std.proofs.Common.{◌∷◌, ◌++◌, length, arith, length-append, refl, sym, ◌∙◌, ap, subst, Option, Some, None, Ok}
 use Rattle.link_account.proofs.Names.{false≢true, nat_tests, append-nil, IsPrefixOf, Role, Originator, Answerer, of, ReadsAllowed, Outgoing}
 use Rattle.link_account.proofs.Names.{KeepsTaken, OwnBreaks, waits, Account, is_connected, wants, after_given, after_busy, Said, MayPlay}
-use Rattle.link_run.proofs.Names.{Setup, Phase, Detecting, Negotiating, Establishing, Connected, Releasing, Closed, User, delivered}
+use Rattle.link_run.proofs.Names.{Setup, Phase, Releasing, Closed, User, delivered}
 use Rattle.link_run.proofs.Names.{offered_at, offered_times, room_for, is_busy, served, is_released, is_closed, has_finished, next_break}
 use Rattle.link_run.proofs.Names.{Link, Accounts, Turn, arrival, Hears, RunOf, served_at, releases, said_at, IsCarried}
 use Rattle.std.specs.List.{concat}
@@ -194,10 +194,7 @@ served-reaches link turn mid line p w =
 released-at : (p : Phase) → is_closed p ≡ false → 2 ≤ stage p → is_released p ≡ true
 released-at Releasing e h = refl
 released-at Closed e h = refl
-released-at Detecting e h = absurd (omega (arith, h))
-released-at Negotiating e h = absurd (omega (arith, h))
-released-at Establishing e h = absurd (omega (arith, h))
-released-at Connected e h = absurd (omega (arith, h))
+released-at p e h = absurd (omega (arith, h))
 
 over-going : (link : Link) (turn : ℕ) (mid : Accounts) (o a : Said) → is_closed mid.orig.phase ≡ false
     → (2 ≤ stage mid.orig.phase → Over mid.orig mid.answ)
@@ -270,12 +267,8 @@ over-run reads keeps laws link delay m some (t ∷ ts) ends c h two =
     (subst (λ (x : Account). 2 ≤ stage x.phase) ko.after_is two))
   where
     not-closed : (p : Phase) → is_closed p ≡ false → stage p ≤ 2
-    not-closed Detecting e = omega arith
-    not-closed Negotiating e = omega arith
-    not-closed Establishing e = omega arith
-    not-closed Connected e = omega arith
-    not-closed Releasing e = omega arith
     not-closed Closed e = absurd (false≢true (sym e))
+    not-closed p e = omega arith
 
     was-released : {x y : Account} → GoesOn x y → stage y.phase ≤ 2 → 2 ≤ stage y.phase → 2 ≤ stage x.phase
     was-released (inl w) low high = omega (arith, w.unreleased (omega (arith, low, high)))
@@ -306,11 +299,7 @@ whole link mid h f c Answerer = record {
 
 closed-stage : (p : Phase) → is_closed p ≡ true → stage p ≡ 3
 closed-stage Closed e = refl
-closed-stage Detecting e = absurd (false≢true e)
-closed-stage Negotiating e = absurd (false≢true e)
-closed-stage Establishing e = absurd (false≢true e)
-closed-stage Connected e = absurd (false≢true e)
-closed-stage Releasing e = absurd (false≢true e)
+closed-stage p e = absurd (false≢true e)
 
 pub done_is_whole : ReadsAllowed → KeepsTaken → PlayLaws → DoneIsWhole
 done_is_whole reads keeps laws link delay ts ends t mid v n k =

@@ -4,7 +4,7 @@ use Rattle.std.proofs.Common.{sym, ◌∙◌, ap, subst, Option, Some, None, Ok}
 use Rattle.link_account.proofs.Names.{false≢true, nat_tests, Role, Originator, Answerer, is_originator, of, Frame, I, Rr, Rnr, Rej, Srej}
 use Rattle.link_account.proofs.Names.{Sabme, Disc, Ua, Xid, ReadsAllowed, ReadsWritten, KeepsTaken, Sent, Account, is_connected, hear, Said}
 use Rattle.link_account.proofs.Names.{MayPlay}
-use Rattle.link_run.proofs.Names.{Setup, Phase, Detecting, Negotiating, Establishing, Connected, Releasing, Closed, Answer, User, delivered}
+use Rattle.link_run.proofs.Names.{Setup, Phase, Connected, Releasing, Closed, Answer, User, delivered}
 use Rattle.link_run.proofs.Names.{served, Link, Accounts, Turn, Spoken, spoken, arrival, Hears, RunOf, served_at, Carries, IsCarried}
 use Rattle.link_account.specs.Account.{first_terms}
 use Rattle.link_run.specs.Overheard.{has_passed, is_xid, opens}
@@ -114,18 +114,11 @@ due_a-spoke r m x y (inr e) h = subst (DueA r m) (sym e) tt
 stage-rank : (p : Phase) → 2 ≤ stage p → 4 ≤ rank p
 stage-rank Releasing h = omega arith
 stage-rank Closed h = omega arith
-stage-rank Connected h = absurd (omega (arith, h))
-stage-rank Detecting h = absurd (omega (arith, h))
-stage-rank Negotiating h = absurd (omega (arith, h))
-stage-rank Establishing h = absurd (omega (arith, h))
+stage-rank p h = absurd (omega (arith, h))
 
 pub linked-rank : (p : Phase) → stage p ≡ 1 → rank p ≡ 3
 linked-rank Connected h = refl
-linked-rank Detecting h = absurd (omega (arith, h))
-linked-rank Negotiating h = absurd (omega (arith, h))
-linked-rank Establishing h = absurd (omega (arith, h))
-linked-rank Releasing h = absurd (omega (arith, h))
-linked-rank Closed h = absurd (omega (arith, h))
+linked-rank p h = absurd (omega (arith, h))
 
 -- what an originator says
 said-o : (so : Setup) (p : Phase) (answer : Option Answer) (s : ℕ) (frame : Frame) → OwnFrame so answer p frame → DueO answer → rank p ≤ s

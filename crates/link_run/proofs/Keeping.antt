@@ -3,10 +3,10 @@ use Rattle.std.proofs.Common.{◌≡◌, ◌≢◌, ◌⊎◌, inl, inr, ℕ, �
 use Rattle.std.proofs.Common.{arith, lit≤, refl, sym, ◌∙◌, ap, subst, Option, Some, None, Ok}
 use Rattle.link_account.proofs.Names.{false≢true, append-nil, is_connected, Role, Originator, Answerer, Offer, Terms, agree, IsAllowed}
 use Rattle.link_account.proofs.Names.{ReadsAllowed}
-use Rattle.link_account.proofs.Names.{Outgoing, Incoming, after_take, after_kind, kind_of, offset, KeepsTaken, Took, InOrder, Kept, Repeat}
-use Rattle.link_account.proofs.Names.{Gap, OwnBreaks, waits, after_answer, Arrived, Account, hear, on_nothing, owing, trying}
+use Rattle.link_account.proofs.Names.{Outgoing, Incoming, after_take, after_kind, kind_of, offset, KeepsTaken, Took, InOrder}
+use Rattle.link_account.proofs.Names.{OwnBreaks, waits, after_answer, Arrived, Account, hear, on_nothing, owing, trying}
 use Rattle.link_account.proofs.Names.{is_originator}
-use Rattle.link_run.proofs.Names.{Setup, Phase, Detecting, Negotiating, Establishing, Connected, Releasing, Closed}
+use Rattle.link_run.proofs.Names.{Setup, Phase, Detecting, Negotiating, Connected, Releasing, Closed}
 use Rattle.xid_params.specs.Terms.{default_offer}
 use Rattle.break_signals.specs.Breaks.{TheirBreaks, with_given, gives, after_break}
 use Rattle.link_account.specs.Account.{size_for, window_for}
@@ -39,44 +39,28 @@ books a = record {
 
 -- before it is Connected, then, releasing, closed
 abbrev pub stage : Phase → ℕ
-stage Detecting = 0
-stage Negotiating = 0
-stage Establishing = 0
 stage Connected = 1
 stage Releasing = 2
 stage Closed = 3
+stage p = 0
 
 pub stage-high : (p : Phase) → stage p ≤ 3
 stage-high Detecting = omega arith
-stage-high Negotiating = omega arith
-stage-high Establishing = omega arith
-stage-high Connected = omega arith
-stage-high Releasing = omega arith
-stage-high Closed = omega arith
+stage-high p = omega arith
 
 pub linked-phase : (p : Phase) → stage p ≡ 1 → p ≡ Connected
 linked-phase Connected e = refl
-linked-phase Detecting e = absurd (omega (arith, e))
-linked-phase Negotiating e = absurd (omega (arith, e))
-linked-phase Establishing e = absurd (omega (arith, e))
-linked-phase Releasing e = absurd (omega (arith, e))
-linked-phase Closed e = absurd (omega (arith, e))
+linked-phase p e = absurd (omega (arith, e))
 
 pub not-begun : (p : Phase) → stage p ≡ 0 → has_begun p ≡ false
-not-begun Detecting e = refl
-not-begun Negotiating e = refl
-not-begun Establishing e = refl
 not-begun Connected e = absurd (omega (arith, e))
 not-begun Releasing e = absurd (omega (arith, e))
 not-begun Closed e = absurd (omega (arith, e))
+not-begun p e = refl
 
 pub unlinked-stage : (p : Phase) → is_connected p ≡ false → stage p ≢ 1
-unlinked-stage Detecting e = λ z. omega (arith, z)
-unlinked-stage Negotiating e = λ z. omega (arith, z)
-unlinked-stage Establishing e = λ z. omega (arith, z)
 unlinked-stage Connected e = absurd (false≢true (sym e))
-unlinked-stage Releasing e = λ z. omega (arith, z)
-unlinked-stage Closed e = λ z. omega (arith, z)
+unlinked-stage p e = λ z. omega (arith, z)
 
 abbrev pub AreTerms : Terms → Type 0
 AreTerms t = (1 ≤ t.len_o) × (1 ≤ t.len_a)
@@ -218,9 +202,7 @@ numbered a new timer reply urgent k = same a (numbered_with a new a.incoming tim
 
 kind-given : (kind : Took) (o : ℕ) (info : List ℕ) (i : Incoming) → (after_kind kind o info i).given ≡ i.given
 kind-given InOrder o info i = refl
-kind-given Kept o info i = refl
-kind-given Repeat o info i = refl
-kind-given Gap o info i = refl
+kind-given p o info i = refl
 
 take-books : (a : Account) (ps : List (List ℕ)) (e : Bool) (g : ℕ) → ps ≡ a.outgoing.pieces → e ≡ a.outgoing.ended → g ≡ a.incoming.given
     → record { setup = a.setup; pieces = ps; ended = e; given = g; told = a.breaks_told; lengths = a.own_breaks.lengths } ≡ books a

@@ -116,12 +116,8 @@ plain-received frame i (IsTest command pf info q) = ap (λ f. received Connected
 plain-received frame i (IsNoWord command pf info fault w q) = ap (λ f. received Connected (arrivals.Frame f) i) q
 
 not-received : (p : Phase) (arrived : Arrived) (i : Incoming) → is_connected p ≡ false → received p arrived i ≡ i
-not-received Detecting arrived i c = refl
-not-received Negotiating arrived i c = refl
-not-received Establishing arrived i c = refl
 not-received Connected arrived i c = cc
-not-received Releasing arrived i c = refl
-not-received Closed arrived i c = refl
+not-received p arrived i c = refl
 
 -- a Connected end
 module _ (turn : ℕ) (a : Account) (e : a.phase ≡ Connected) where

@@ -5,7 +5,7 @@ use Rattle.link_account.proofs.Names.{false≢true, nat_tests, append-nil, IsPre
 use Rattle.link_account.proofs.Names.{Frame, I, Rr, Rnr, Rej, Srej, Sabme, Disc, Ua, Dm, Ui, Xid, Terms, ReadsAllowed, ReadsWritten}
 use Rattle.link_account.proofs.Names.{KeepsTaken, kind_of, InOrder, Kept, Brk, word_in, Sent, Passed, LinkFault, Account, check_of, hear}
 use Rattle.link_account.proofs.Names.{on_frame, Slot, Play, MayPlay}
-use Rattle.link_run.proofs.Names.{Setup, Phase, Detecting, Negotiating, Establishing, Connected, Releasing, Closed, is_released, RunOf}
+use Rattle.link_run.proofs.Names.{Setup, Phase, Detecting, Negotiating, Establishing, Releasing, Closed, is_released, RunOf}
 use Rattle.link_run.proofs.Names.{Link, Accounts, Spoken, Turn, spoken, arrival, sent_in, sent_ago, Crosses, IsCarried, RunsOver}
 use Rattle.frame_check.specs.declared.check.Check.TheVariants.{Sixteen, ThirtyTwo}
 use Rattle.lapm_frames.specs.declared.frame.Frame.TheVariants.{Frmr, Test}
@@ -45,11 +45,7 @@ known laws link delay ts ends v = known-run laws.reads laws.keeps laws.written l
 
 begun-rank : (p : Phase) → has_begun p ≡ nat_le 3 (rank p)
 begun-rank Detecting = refl
-begun-rank Negotiating = refl
-begun-rank Establishing = refl
-begun-rank Connected = refl
-begun-rank Releasing = refl
-begun-rank Closed = refl
+begun-rank p = refl
 
 pub opens_by_frames : KnowingLaws → OpensByFrames
 opens_by_frames laws link delay ts ends v role = at-role role
@@ -315,18 +311,13 @@ pub record OldLaws : Type 0 where
 pub released-stage : (p : Phase) → is_released p ≡ true → 2 ≤ stage p
 released-stage Releasing e = omega arith
 released-stage Closed e = omega arith
-released-stage Detecting e = absurd (false≢true e)
-released-stage Negotiating e = absurd (false≢true e)
-released-stage Establishing e = absurd (false≢true e)
-released-stage Connected e = absurd (false≢true e)
+released-stage p e = absurd (false≢true e)
 
 pub stage-begun : (p : Phase) → 1 ≤ stage p → has_begun p ≡ true
-stage-begun Connected h = refl
-stage-begun Releasing h = refl
-stage-begun Closed h = refl
 stage-begun Detecting h = absurd (omega (arith, h))
 stage-begun Negotiating h = absurd (omega (arith, h))
 stage-begun Establishing h = absurd (omega (arith, h))
+stage-begun p h = refl
 
 pub releases_last : OldLaws → ReleasesLast
 releases_last laws link delay ts ends t mid v c k released role = at-role role
@@ -424,9 +415,7 @@ ignores : (p : Phase) (command pf : Bool) (info : List ℕ) (turn : ℕ) (a : Ac
 ignores Detecting command pf info turn a e = ignores-detecting a.setup.role command pf info turn a
 ignores Negotiating command pf info turn a e = ignores-negotiating a.setup.role command pf info turn a
 ignores Establishing command pf info turn a e = refl
-ignores Connected command pf info turn a e = absurd (false≢true (sym e))
-ignores Releasing command pf info turn a e = absurd (false≢true (sym e))
-ignores Closed command pf info turn a e = absurd (false≢true (sym e))
+ignores p command pf info turn a e = absurd (false≢true (sym e))
 
 same-ok : (r : Result Account LinkFault) (x y : Account) → r ≡ Ok x → r ≡ Ok y → x ≡ y
 same-ok r x y e k = ap ok-of (sym e ∙ k)

@@ -2,7 +2,7 @@ use Rattle.std.proofs.Common.{◌⊎◌, inl, inr, ◌≡◌, ℕ, ◌+◌, ◌*
 use Rattle.std.proofs.Common.{subst, Some, None, Ok}
 use Rattle.link_account.proofs.Names.{Role, Originator, Answerer, Frame, is_originator, Arrived, Account, is_connected, hear, without_adp}
 use Rattle.link_account.proofs.Names.{trying, Said, speak}
-use Rattle.link_run.proofs.Names.{Phase, Detecting, Negotiating, Establishing, Connected, Releasing, Closed, Answer, User, is_busy}
+use Rattle.link_run.proofs.Names.{Phase, Connected, Releasing, Closed, Answer, User, is_busy}
 use Rattle.link_run.proofs.Names.{is_closed, is_released}
 use Rattle.turn_bound.proofs.Clock.{Rates, AreRates}
 use Rattle.turn_bound.proofs.Value.{IsOf, Stands, arrived_rnrs}
@@ -44,11 +44,7 @@ one-closed role b e =
   where
     closed-released : (p : Phase) → is_closed p ≡ true → is_released p ≡ true
     closed-released Closed e = refl
-    closed-released Detecting e = cc
-    closed-released Negotiating e = cc
-    closed-released Establishing e = cc
-    closed-released Connected e = cc
-    closed-released Releasing e = cc
+    closed-released p e = cc
 
 pub one-hears : (role : Role) (arrived : Arrived) (turn : ℕ) (a mid : Account) → a.setup.role ≡ role → NoneDue a → hear turn arrived a
     ≡ Ok mid

@@ -51,12 +51,10 @@ timer_value turn None = 0
 timer_value turn (Some set) = min 19 (turn - (set + 1))
 
 abbrev pub poll_value : ℕ → Phase → Account → ℕ
-poll_value turn Detecting a = 38
-poll_value turn Negotiating a = 38
-poll_value turn Establishing a = 38
 poll_value turn Connected a = cond a.wait.poll 19 0 + timer_value turn a.wait.timer
 poll_value turn Releasing a = 0
 poll_value turn Closed a = 0
+poll_value turn p a = 38
 
 timer-most : (turn : ℕ) (timer : Option ℕ) → timer_value turn timer ≤ 19
 timer-most turn None = omega arith

@@ -1,22 +1,18 @@
 use Rattle.std.proofs.Common.{◌≡◌, ℕ, ◌&&◌, ◌||◌, not, Bool, true, false, cond, refl, sym, ◌∙◌, ap, Option, Some, None, Ok, inl, inr}
-use Rattle.link_account.proofs.Names.{Originator, Answerer, Frame, Rr, Rnr, Rej, Disc, Ua, Outgoing, is_outstanding, resumed, Arrived, Sent}
+use Rattle.link_account.proofs.Names.{Originator, Answerer, Frame, Rr, Rnr, Rej, Outgoing, is_outstanding, resumed, Arrived}
 use Rattle.link_account.proofs.Names.{Account, is_originator, hear, without_adp}
 use Rattle.link_run.proofs.Names.{Phase, Detecting, Negotiating, Establishing, Connected, Releasing, Closed, Answer, is_closed, is_released}
 use Rattle.link_account.specs.Hear.{ends_wait}
 use Rattle.link_account.proofs.HearWays.{Ways, by-ways, acked, acked_back, numbers-alike}
 pub use Rattle.link_run.proofs.Meeting.{is_ua as frame_ua, is_disc as frame_disc, carries as of_frame, brings as of_arrived}
 pub use Rattle.link_run.proofs.Meeting.{owes_ua as is_ua_due}
-use Rattle.lapm_frames.specs.declared.arrived.Arrived.TheVariants as arrivals
-use Rattle.lapm_frames.specs.declared.sent.Sent.TheVariants as slots
 use Rattle.link_account.specs.declared.answer.Answer.TheVariants as answers
 
 abbrev pub is_begun : Phase → Bool
-is_begun Detecting = false
-is_begun Negotiating = false
-is_begun Establishing = false
 is_begun Connected = true
 is_begun Releasing = true
 is_begun Closed = true
+is_begun p = false
 
 -- the answer to a poll
 abbrev pub frame_final : Frame → Bool
@@ -138,11 +134,7 @@ pub record AHeard (disc : Bool) (a b : Account) : Type 0 where
 
 closed-released : (p : Phase) (c : Bool) → is_closed p ≡ true → is_released p || c ≡ true
 closed-released Closed c e = refl
-closed-released Detecting c e = cc
-closed-released Negotiating c e = cc
-closed-released Establishing c e = cc
-closed-released Connected c e = cc
-closed-released Releasing c e = cc
+closed-released p c e = cc
 
 a-same : (disc : Bool) (a b : Account) → b.phase ≡ a.phase → (is_ua_due b.owes.answer ≡ true → is_ua_due a.owes.answer ≡ true)
     → b.owes.reply ≡ a.owes.reply → b.numbered ≡ a.numbered → AHeard disc a b

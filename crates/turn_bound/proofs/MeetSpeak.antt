@@ -1,6 +1,6 @@
-use Rattle.std.proofs.Common.{◌≡◌, ◌≤◌, ℕ, ◌&&◌, not, Bool, true, false, refl, sym, ◌∙◌, ap, arith, Some, None, Ok, inl, inr}
-use Rattle.link_account.proofs.Names.{Frame, Disc, Sent, Account, trying, Said, says, frame_for, ready_frame, nr_of, speak}
-use Rattle.link_run.proofs.Names.{Phase, Detecting, Negotiating, Establishing, Connected, Releasing, Closed, Answer, is_closed, is_released}
+use Rattle.std.proofs.Common.{◌≡◌, ◌≤◌, ℕ, ◌&&◌, not, Bool, true, false, refl, sym, ◌∙◌, ap, arith, Ok, inl, inr}
+use Rattle.link_account.proofs.Names.{Account, trying, Said, frame_for, ready_frame, nr_of, speak}
+use Rattle.link_run.proofs.Names.{Phase, Releasing, Closed, Answer, is_closed, is_released}
 use Rattle.link_account.proofs.SpeakWays.{Steps, by-ways, steps-so, tries-alike, next-keeps, polling_at}
 use Rattle.link_run.proofs.Keeping.{stage}
 use Rattle.link_run.proofs.Saying.{Part, is-said}
@@ -79,10 +79,7 @@ replies turn release a said e = by-ways (Answered a) turn release a (record {
 stage-released : (p : Phase) → 2 ≤ stage p → is_released p ≡ true
 stage-released Releasing l = refl
 stage-released Closed l = refl
-stage-released Detecting l = absurd (omega (arith, l))
-stage-released Negotiating l = absurd (omega (arith, l))
-stage-released Establishing l = absurd (omega (arith, l))
-stage-released Connected l = absurd (omega (arith, l))
+stage-released p l = absurd (omega (arith, l))
 
 pub speaks-so : (turn : ℕ) (release : Bool) (a : Account) (said : Said) → speak turn release a ≡ Ok said → SaysSo a said
 speaks-so turn release a said e =

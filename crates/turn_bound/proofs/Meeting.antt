@@ -1,6 +1,6 @@
 use Rattle.std.proofs.Common.{◌≡◌, ℕ, ◌||◌, Bool, true, false, cond, nat_lt, List, [], ◌∷◌, ◌++◌, length, refl, sym, ◌∙◌, ap, subst}
 use Rattle.link_account.proofs.Names.{AllByRecursion, Answerer, Frame, Sent, Account, Slot, arrives}
-use Rattle.link_run.proofs.Names.{Phase, Detecting, Negotiating, Establishing, Connected, Releasing, Closed, is_closed, is_released}
+use Rattle.link_run.proofs.Names.{Phase, Connected, Releasing, Closed, is_closed, is_released}
 use Rattle.turn_bound.proofs.Clock.{Rates}
 use Rattle.turn_bound.proofs.Value.{Stands}
 use Rattle.turn_bound.proofs.Run.{served_account, Link, State, Turn, GoingTurn, RunOf, start, arrival, left_on, slot_of}
@@ -65,29 +65,19 @@ pub record Meets (s : State) : Type 0 where
 -- an answerer that is told to release is closed
 pub released-closed : (z : Rates) (before turn : ℕ) (p : Phase) (a : Account) → Stands z before turn Answerer p a → is_released p ≡ true
     → is_closed p ≡ true
-released-closed z before turn Detecting a h e = cc
-released-closed z before turn Negotiating a h e = cc
-released-closed z before turn Establishing a h e = cc
-released-closed z before turn Connected a h e = cc
 released-closed z before turn Releasing a h e = absurd h
 released-closed z before turn Closed a h e = refl
+released-closed z before turn p a h e = cc
 
 pub only-linked : (p : Phase) → is_begun p ≡ true → is_released p ≡ false → p ≡ Connected
-only-linked Detecting e f = cc
-only-linked Negotiating e f = cc
-only-linked Establishing e f = cc
 only-linked Connected e f = refl
-only-linked Releasing e f = cc
-only-linked Closed e f = cc
+only-linked p e f = cc
 
 only-answ : (z : Rates) (before turn : ℕ) (p : Phase) (a : Account) → Stands z before turn Answerer p a → is_begun p ≡ true
     → is_closed p ≡ false → p ≡ Connected
-only-answ z before turn Detecting a h e f = cc
-only-answ z before turn Negotiating a h e f = cc
-only-answ z before turn Establishing a h e f = cc
 only-answ z before turn Connected a h e f = refl
 only-answ z before turn Releasing a h e f = absurd h
-only-answ z before turn Closed a h e f = cc
+only-answ z before turn p a h e f = cc
 
 or-either : (a b : Bool) (P : Type 0) → a || b ≡ true → (a ≡ true → P) → (b ≡ true → P) → P
 or-either true b P e f g = f refl

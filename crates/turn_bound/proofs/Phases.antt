@@ -225,10 +225,7 @@ pub early : (z : Rates) (before turn : ℕ) (p : Phase) (a : Account) → IsEarl
     → (time_left z turn Answerer p a ≡ 0) × (lives turn Answerer p a ≡ false) × (Unlinked a → Stands z before turn Answerer p a)
 early z before turn Detecting a i = (refl, refl, λ u. u)
 early z before turn Negotiating a i = (refl, refl, λ u. u)
-early z before turn Establishing a i = absurd i
-early z before turn Connected a i = absurd i
-early z before turn Releasing a i = absurd i
-early z before turn Closed a i = absurd i
+early z before turn p a i = absurd i
 
 pub early-idle : (z : Rates) (total breaks turn : ℕ) (p q : Phase) (a b : Account) → IsEarly p → IsEarly q → Unlinked b → b.phase ≡ q
     → b.setup ≡ a.setup → b.outgoing ≡ a.outgoing → b.own_breaks ≡ a.own_breaks
@@ -302,10 +299,7 @@ a-sabme z total breaks turn p a pf i y k u er =
         → HeardAs z total breaks turn 0 Answerer q a Connected (owing (answers.Ua pf) (connected_as Answerer turn a))
     on Detecting j = owed Detecting (connected_as Answerer turn a) (begins-a z total breaks turn Detecting a y k u refl refl)
     on Negotiating j = owed Negotiating (connected_as Answerer turn a) (begins-a z total breaks turn Negotiating a y k u refl refl)
-    on Establishing j = absurd j
-    on Connected j = absurd j
-    on Releasing j = absurd j
-    on Closed j = absurd j
+    on p j = absurd j
 
 -- of default terms
 a-sabme-default : (z : Rates) (total breaks turn : ℕ) (a : Account) (pf : Bool) → AreRates z → IsOf z a.setup → Unlinked a

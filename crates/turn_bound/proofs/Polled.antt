@@ -23,28 +23,19 @@ use Rattle.turn_bound.proofs.Pausing.{Goes, goes-on, says-unpolled, releases-unp
 use Rattle.lapm_frames.specs.declared.sent.Sent.TheVariants as slots
 
 late-none : (turn : ℕ) (p : Phase) (a : Account) → is_released p ≡ true → poll_value turn p a ≡ 0
-late-none turn Detecting a e = cc
-late-none turn Negotiating a e = cc
-late-none turn Establishing a e = cc
-late-none turn Connected a e = cc
 late-none turn Releasing a e = refl
 late-none turn Closed a e = refl
+late-none turn p a e = cc
 
 begun-most : (turn : ℕ) (p : Phase) (a : Account) → is_begun p ≡ true → poll_value turn p a ≤ poll_value turn Connected a
-begun-most turn Detecting a e = cc
-begun-most turn Negotiating a e = cc
-begun-most turn Establishing a e = cc
 begun-most turn Connected a e = omega arith
 begun-most turn Releasing a e = omega arith
 begun-most turn Closed a e = omega arith
+begun-most turn p a e = cc
 
 same-polls : (turn : ℕ) (p : Phase) (b m : Account) → b.wait ≡ m.wait → poll_value turn p b ≡ poll_value turn p m
-same-polls turn Detecting b m w = refl
-same-polls turn Negotiating b m w = refl
-same-polls turn Establishing b m w = refl
 same-polls turn Connected b m w = omega (arith, ap (λ x. nineteen_if x.poll) w, ap (λ x. timer_value turn x.timer) w)
-same-polls turn Releasing b m w = refl
-same-polls turn Closed b m w = refl
+same-polls turn p b m w = refl
 
 abbrev pub InPhase : Phase → Result Said LinkFault → Type 0
 InPhase p (Err fault) = Unit {0}

@@ -3,7 +3,7 @@ use Rattle.std.proofs.Common.{length, length-append, arith, refl, sym, ◌∙◌
 use Rattle.link_account.proofs.Names.{is_some, nat_tests, Role, Originator, Answerer, Outgoing, is_outstanding, wanted, OwnBreaks}
 use Rattle.link_account.proofs.Names.{after_ask, waits, Arrived, LinkFault, Account, is_connected, after_break_asked, is_originator, hear}
 use Rattle.link_account.proofs.Names.{trying, Disc, Said, speak, speak_linked, steps, speak_in, speak_releasing}
-use Rattle.link_run.proofs.Names.{Phase, Detecting, Negotiating, Establishing, Connected, Releasing, Closed, User, BreakLine, is_busy}
+use Rattle.link_run.proofs.Names.{Phase, Connected, Releasing, User, BreakLine, is_busy}
 use Rattle.link_run.proofs.Names.{has_finished, next_break}
 use Rattle.lapm_sender.specs.Outgoing.{expired, is_whole}
 use Rattle.link_account.specs.Account.{is_done, break_waits}
@@ -135,11 +135,7 @@ speaks-still z total breaks turn role b said y k h er all e dead busy may more =
 
 pub only-connected : (p : Phase) → is_connected p ≡ true → p ≡ Connected
 only-connected Connected e = refl
-only-connected Detecting e = cc
-only-connected Negotiating e = cc
-only-connected Establishing e = cc
-only-connected Releasing e = cc
-only-connected Closed e = cc
+only-connected p e = cc
 
 -- A turn of an end that stays Connected.
 pub record Stays (z : Rates) (total turn : ℕ) (user : User) (role : Role) (a mid b : Account) (release : Bool) (said : Said) : Type 0 where

@@ -24,11 +24,7 @@ linked-sends z before turn r Closed a st e = cc
 
 pub connected-is : (p : Phase) → is_connected p ≡ true → p ≡ Connected
 connected-is Connected e = refl
-connected-is Detecting e = cc
-connected-is Negotiating e = cc
-connected-is Establishing e = cc
-connected-is Releasing e = cc
-connected-is Closed e = cc
+connected-is p e = cc
 
 not-expires : (turn : ℕ) (a : Account) (m : Option ℕ) → ((s : ℕ) → m ≡ Some s → turn < s + a.setup.period) → timer_expires turn a m ≡ false
 not-expires turn a None h = refl

@@ -2,8 +2,7 @@
 use Rattle.std.proofs.Common.{inl, inr, ◌≡◌, ℕ, ◌<◌, ◌≤◌, Bool, true, false, List, length, arith, refl, sym, ◌∙◌, ap, subst, Some}
 use Rattle.std.proofs.Common.{None}
 use Rattle.link_account.proofs.Names.{Role, Originator, Answerer, is_connected, IsAllowed, hear}
-use Rattle.link_run.proofs.Names.{Phase, Connected, is_released, Link, Accounts, Turn, Hears, arrival, RunsOver, Detecting, Negotiating}
-use Rattle.link_run.proofs.Names.{Establishing, Releasing, Closed}
+use Rattle.link_run.proofs.Names.{Phase, Connected, is_released, Link, Accounts, Turn, Hears, arrival, RunsOver}
 use Rattle.turn_losses.specs.Losses.{AnswererWantsAnswers}
 use Rattle.turn_losses.proofs.Room.{begins-roomy}
 use Rattle.turn_losses.proofs.Tracing.{Known, known, Timed, timed, rated, Traced, traced, silent-of}
@@ -19,12 +18,8 @@ use Rattle.turn_losses.proofs.Names.{KeepsTime, Rates, rates, IsOf, LosesEach, p
 use Rattle.turn_losses.proofs.Names.{end_run}
 
 only-connected : (p : Phase) → is_linked p ≡ true → is_released p ≡ false → is_connected p ≡ true
-only-connected Detecting l r = cc
-only-connected Negotiating l r = cc
-only-connected Establishing l r = cc
 only-connected Connected l r = refl
-only-connected Releasing l r = cc
-only-connected Closed l r = cc
+only-connected p l r = cc
 
 pub answerer-each : Plays → (tries period : ℕ) (delay : Role → ℕ) (link : Link) (ts : List Turn) (before : Accounts) (t : Turn)
     (mid : Accounts)

@@ -2,7 +2,7 @@
 use Rattle.std.proofs.Common.{◌⊎◌, inl, inr, ◌≡◌, ℕ, zero, suc, ◌+◌, ◌-◌, ◌<◌, ◌≤◌, Bool, true, false, arith, refl, sym, ◌∙◌, ap, Ok}
 use Rattle.link_account.proofs.Names.{cases_lt, Frame, I, Rr, Rnr, Rej, Srej, Sabme, Disc, Ua, Dm, Ui, Xid, Sent, Arrived, Account, hear}
 use Rattle.link_account.proofs.Names.{on_frame, on_nothing}
-use Rattle.link_run.proofs.Names.{Phase, Detecting, Negotiating, Establishing, Connected, Releasing, Closed}
+use Rattle.link_run.proofs.Names.{Phase, Establishing}
 use Rattle.lapm_frames.specs.declared.frame.Frame.TheVariants.{Frmr, Test}
 use Rattle.link_account.specs.Hear.{on_seen, on_establishing}
 use Rattle.turn_bound.proofs.MeetHear.{frame_ua}
@@ -67,12 +67,8 @@ is-ua slots.Adp e = cc
 is-ua slots.Flags e = cc
 
 pub only-establishing : (p : Phase) → is_established p ≡ true → is_linked p ≡ false → p ≡ Establishing
-only-establishing Detecting e l = cc
-only-establishing Negotiating e l = cc
 only-establishing Establishing e l = refl
-only-establishing Connected e l = cc
-only-establishing Releasing e l = cc
-only-establishing Closed e l = cc
+only-establishing p e l = cc
 
 -- the SABMEs of a run
 pub record Sabmes (period turns : ℕ) (o : EndRun) : Type 0 where

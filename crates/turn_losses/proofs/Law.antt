@@ -1,7 +1,7 @@
 -- Whatever an end gives up for, the run was starved.
 use Rattle.std.proofs.Common.{◌⊎◌, inl, inr, ◌≡◌, ℕ, ◌+◌, ◌≤◌, Bool, true, false, cond, ◌∷◌, length, arith, refl, sym, ◌∙◌, ap, subst}
 use Rattle.link_account.proofs.Names.{Role, Originator, Answerer, of, ReadsWritten, IsAllowed, waits, LinkFault, Account, is_connected}
-use Rattle.link_run.proofs.Names.{Phase, Detecting, Negotiating, Establishing, Connected, Releasing, Closed, is_released, is_closed}
+use Rattle.link_run.proofs.Names.{Phase, Releasing, is_released, is_closed}
 use Rattle.link_run.proofs.Names.{arrival, served_at}
 use Rattle.link_account.specs.Account.{break_waits}
 use Rattle.link_run.specs.Run.{BrokenTurn}
@@ -28,12 +28,8 @@ pub record Base : Type 0 where
   pub quiet : GivesUpForLosses
 
 only-releasing : (q : Phase) → is_released q ≡ true → is_closed q ≡ false → q ≡ Releasing
-only-releasing Detecting g h = cc
-only-releasing Negotiating g h = cc
-only-releasing Establishing g h = cc
-only-releasing Connected g h = cc
 only-releasing Releasing g h = refl
-only-releasing Closed g h = cc
+only-releasing p g h = cc
 
 waiting-is : (c w : Bool) → cond c w false ≡ true → (c ≡ true) × (w ≡ true)
 waiting-is true w e = (refl, e)

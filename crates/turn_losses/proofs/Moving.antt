@@ -18,12 +18,10 @@ use Rattle.link_account.proofs.SpeakWays as SpeakWays
 
 -- the phases in which an originator tries a frame
 abbrev pub is_trying : Phase → Bool
-is_trying Detecting = false
 is_trying Negotiating = true
 is_trying Establishing = true
-is_trying Connected = false
 is_trying Releasing = true
-is_trying Closed = false
+is_trying p = false
 
 -- the frame that it tries
 abbrev pub asks : Phase → Frame → Bool

@@ -2,7 +2,7 @@
 use Rattle.std.proofs.Common.{◌⊎◌, inl, inr, ◌≡◌, ℕ, ◌%◌, ◌<◌, ◌≤◌, ◌||◌, Bool, true, false, cond, nat_lt, List, length, length-append}
 use Rattle.std.proofs.Common.{arith, refl, sym, ◌∙◌, ap, subst, Option, Some, None, Ok}
 use Rattle.link_account.proofs.Names.{nat_tests, cases_lt, Frame, I, Rr, Rnr, Rej, meant, Outgoing, is_outstanding, advanced, resumed}
-use Rattle.link_account.proofs.Names.{Incoming, after_take, after_kind, kind_of, offset, Took, InOrder, Kept, Repeat, Gap, Sent, Arrived}
+use Rattle.link_account.proofs.Names.{Incoming, after_take, after_kind, kind_of, offset, Took, InOrder, Kept, Gap, Sent, Arrived}
 use Rattle.link_account.proofs.Names.{Account, is_connected, hear}
 use Rattle.lapm_sender.specs.Outgoing.{gone_back, wait_ended, paused_at}
 use Rattle.lapm_receiver.specs.Incoming.{kind_at}
@@ -61,15 +61,12 @@ same-taken i = record { same = λ e. refl; low = omega arith; in_order = λ n e.
 
 kind-low : (k : Took) (o ns : ℕ) (info : List ℕ) (i : Incoming) → length i.taken ≤ length (after_kind k o info i).taken
 kind-low InOrder o ns info i = omega (arith, length-append {A = List ℕ})
-kind-low Kept o ns info i = omega arith
-kind-low Repeat o ns info i = omega arith
-kind-low Gap o ns info i = omega arith
+kind-low p o ns info i = omega arith
 
 kind-owed : (k : Took) (o ns : ℕ) (info : List ℕ) (i : Incoming) → i.owed ≡ true → (after_kind k o info i).owed ≡ true
-kind-owed InOrder o ns info i e = refl
 kind-owed Kept o ns info i e = e
-kind-owed Repeat o ns info i e = refl
 kind-owed Gap o ns info i e = e
+kind-owed p o ns info i e = refl
 
 in-order : (o ns : ℕ) (info : List ℕ) (i : Incoming) → length i.taken < length (after_kind InOrder o info i).taken
 in-order o ns info i = omega (arith, length-append {A = List ℕ})

@@ -206,12 +206,9 @@ passes-as (Some slot) said (Lost s) e c l = cc
 passes-as (Some slot) said Chance e c l = absurd c
 
 pub connected-or : (p : Phase) → is_linked p ≡ true → is_connected p ≡ false → (p ≡ Releasing) ⊎ (p ≡ Closed)
-connected-or Detecting l c = cc
-connected-or Negotiating l c = cc
-connected-or Establishing l c = cc
-connected-or Connected l c = cc
 connected-or Releasing l c = inl refl
 connected-or Closed l c = inr refl
+connected-or p l c = cc
 
 -- what an end's setup says its role is
 pub setup-role : (tries period : ℕ) (delay : Role → ℕ) (link : Link) (us : List Turn) (y : Accounts) → KeepsTime tries period delay link

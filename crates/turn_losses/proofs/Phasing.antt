@@ -2,7 +2,7 @@
 use Rattle.std.proofs.Common.{◌⊎◌, inl, inr, ◌≡◌, ℕ, zero, suc, ◌+◌, ◌-◌, ◌≤◌, Bool, true, false, List, length, arith, refl, sym, ◌∙◌, ap}
 use Rattle.std.proofs.Common.{subst, Ok}
 use Rattle.link_account.proofs.Names.{Role, Originator, Answerer, Arrived, Account, hear, Said, speak}
-use Rattle.link_run.proofs.Names.{Phase, Detecting, Negotiating, Establishing, Connected, Releasing, Closed, is_released, Link}
+use Rattle.link_run.proofs.Names.{Phase, Detecting, Negotiating, Establishing, is_released, Link}
 use Rattle.link_run.proofs.Names.{Accounts, Turn, SpeaksAt, arrival, served_at, said_at}
 use Rattle.link_account.proofs.HearWays.{numbers-alike}
 use Rattle.turn_bound.proofs.MeetSpeak.{speaks-so}
@@ -51,10 +51,7 @@ begun-by arrived turn a mid er n h = HearWays.by-ways
 abbrev pub is_established : Phase → Bool
 is_established Detecting = false
 is_established Negotiating = false
-is_established Establishing = true
-is_established Connected = true
-is_established Releasing = true
-is_established Closed = true
+is_established p = true
 
 -- it goes on so, as it hears
 pub stays-established : (arrived : Arrived) (turn : ℕ) (a mid : Account) → hear turn arrived a ≡ Ok mid → is_established a.phase ≡ true

@@ -1,7 +1,7 @@
 use Rattle.std.proofs.Common.{◌⊎◌, inl, inr, ◌≡◌, ℕ, ◌||◌, Bool, true, false, refl, sym, ◌∙◌, ap, Option, Some, None, Result, Ok, Err}
 use Rattle.link_account.proofs.Names.{Role, Originator, Answerer, Arrived, LinkFault, Account, is_connected, is_originator, hear}
 use Rattle.link_account.proofs.Names.{on_nothing, without_adp}
-use Rattle.link_run.proofs.Names.{Phase, Detecting, Negotiating, Establishing, Connected, Releasing, Closed}
+use Rattle.link_run.proofs.Names.{Phase, Connected}
 use Rattle.link_account.specs.Hear.{first_wait}
 use Rattle.link_account.proofs.HearWays.{ConnectedWays, EarlyWays, by-ways}
 use Rattle.turn_losses.proofs.Truths.{or-false}
@@ -32,11 +32,7 @@ PollHears role turn polled a (Ok b) = PollHeard role turn polled a b
 
 pub linked-connected : (p : Phase) → is_connected p ≡ true → is_linked p ≡ true
 linked-connected Connected e = refl
-linked-connected Detecting e = cc
-linked-connected Negotiating e = cc
-linked-connected Establishing e = cc
-linked-connected Releasing e = cc
-linked-connected Closed e = cc
+linked-connected p e = cc
 
 -- before it is Connected, and after
 unlinked-heard : (role : Role) (turn : ℕ) (polled : Bool) (a b : Account) → is_linked a.phase ≡ false → is_connected b.phase ≡ false

@@ -1,6 +1,6 @@
 use Rattle.std.proofs.Common.{◌⊎◌, inl, inr, ◌≡◌, ℕ, ◌+◌, ◌≤◌, ◌&&◌, ◌||◌, Bool, true, false, cond, arith, refl, sym, ◌∙◌, ap, Some, None}
 use Rattle.link_account.proofs.Names.{Role, Originator, Answerer, Account, is_connected, Said}
-use Rattle.link_run.proofs.Names.{Phase, Detecting, Negotiating, Establishing, Connected, Releasing, Closed, is_closed, is_released}
+use Rattle.link_run.proofs.Names.{Phase, Connected, Releasing, Closed, is_closed, is_released}
 use Rattle.turn_bound.proofs.AtMostOne.{OneDue}
 use Rattle.turn_losses.proofs.Truths.{and-two, unlinked-connected, and-second, and-true, clash, or-late}
 use Rattle.turn_losses.proofs.PollHear.{PollHeard, linked-connected}
@@ -9,28 +9,17 @@ use Rattle.turn_losses.proofs.Polling.{Early}
 use Rattle.turn_losses.proofs.Names.{NoneDue, is_poll, is_final, of_frame, is_linked, poll_due, PollTurn}
 
 unlinked-released : (p : Phase) → is_linked p ≡ false → is_released p ≡ false
-unlinked-released Detecting e = refl
-unlinked-released Negotiating e = refl
-unlinked-released Establishing e = refl
-unlinked-released Connected e = refl
 unlinked-released Releasing e = cc
 unlinked-released Closed e = cc
+unlinked-released p e = refl
 
 connected-released : (p : Phase) → is_connected p ≡ true → is_released p ≡ false
-connected-released Detecting e = cc
-connected-released Negotiating e = cc
-connected-released Establishing e = cc
 connected-released Connected e = refl
-connected-released Releasing e = cc
-connected-released Closed e = cc
+connected-released p e = cc
 
 connected-closed : (p : Phase) → is_connected p ≡ true → is_closed p ≡ false
-connected-closed Detecting e = cc
-connected-closed Negotiating e = cc
-connected-closed Establishing e = cc
 connected-closed Connected e = refl
-connected-closed Releasing e = cc
-connected-closed Closed e = cc
+connected-closed p e = cc
 
 either-bool : (b : Bool) → (b ≡ true) ⊎ (b ≡ false)
 either-bool true = inl refl

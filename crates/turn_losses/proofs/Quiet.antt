@@ -1,7 +1,7 @@
 -- What a run's two ends make of SABME, and that no UA is due while a break waits.
 use Rattle.std.proofs.Common.{◌⊎◌, inl, inr, ◌≡◌, ℕ, zero, suc, ◌+◌, ◌<◌, ◌≤◌, true, false, List, length, arith, refl, sym, ◌∙◌, ap, subst}
 use Rattle.link_account.proofs.Names.{is_some, Role, Originator, Answerer, of, ReadsWritten, Account, is_connected, MayPlay, hear, speak}
-use Rattle.link_run.proofs.Names.{Phase, Detecting, Negotiating, Establishing, Connected, Releasing, Closed, is_busy, is_released, Link}
+use Rattle.link_run.proofs.Names.{Phase, Detecting, Establishing, Releasing, Closed, is_busy, is_released, Link}
 use Rattle.link_run.proofs.Names.{Accounts, Turn, SpeaksAt, arrival, served_at, said_at}
 use Rattle.turn_bound.proofs.MeetHear.{is_ua_due, frame_ua}
 use Rattle.turn_bound.proofs.MeetSpeak.{speaks-so}
@@ -24,10 +24,7 @@ use Rattle.turn_losses.proofs.Names.{Happens, Trace, past, sent_or, end_run}
 released-linked : (p : Phase) → is_released p ≡ true → is_linked p ≡ true
 released-linked Releasing e = refl
 released-linked Closed e = refl
-released-linked Detecting e = cc
-released-linked Negotiating e = cc
-released-linked Establishing e = cc
-released-linked Connected e = cc
+released-linked p e = cc
 
 -- the frame of a try is due no more once it spoke
 try-false : (tries period : ℕ) (delay : Role → ℕ) (link : Link) (ts : List Turn) (state : ℕ → Accounts) (deed : ℕ → Deed)

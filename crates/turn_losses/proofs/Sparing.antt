@@ -2,7 +2,7 @@
 use Rattle.std.proofs.Common.{◌⊎◌, inl, inr, ◌≡◌, ◌≢◌, ℕ, zero, suc, ◌+◌, ◌-◌, ◌*◌, ◌<◌, ◌≤◌, Bool, true, false, max, List, ◌∷◌, length}
 use Rattle.std.proofs.Common.{arith, refl, sym, ◌∙◌, ap, subst}
 use Rattle.link_account.proofs.Names.{cases_lt, Role, Originator, Answerer, of, ReadsWritten, waits, is_connected, hear}
-use Rattle.link_run.proofs.Names.{Phase, Detecting, Negotiating, Establishing, Connected, Releasing, Closed, is_closed, Link, Accounts}
+use Rattle.link_run.proofs.Names.{Phase, Detecting, Establishing, Connected, Closed, is_closed, Link, Accounts}
 use Rattle.link_run.proofs.Names.{Turn, RunOf, Hears, arrival, served_at, Carries, IsCarried, RunsOver, LosesSome}
 use Rattle.link_run.specs.Starved.{SpanLoses, IsStarved, turn_at}
 use Rattle.turn_losses.proofs.Truths.{not-true}
@@ -55,11 +55,7 @@ max-second a b = grind (arith)
 
 connected-begun : (p : Phase) → is_connected p ≡ true → is_begun p ≡ true
 connected-begun Connected e = refl
-connected-begun Detecting e = cc
-connected-begun Negotiating e = cc
-connected-begun Establishing e = cc
-connected-begun Releasing e = cc
-connected-begun Closed e = cc
+connected-begun p e = cc
 
 -- While the originator isn't linked up to its end, a period loses a SABME or a UA, or did so a delay before it.
 pub unlinked-loses : ReadsWritten → (tries period : ℕ) (delay : Role → ℕ) (link : Link) (ts : List Turn) (before : Accounts) (t : Turn)

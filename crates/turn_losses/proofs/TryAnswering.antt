@@ -123,5 +123,4 @@ says-due Releasing turn b said r offers (e, d) h = go d
     go (inr x) = ap (λ s. of_frame (moves_on Releasing) s.sent) (sym same)
         ∙ ap (of_frame (moves_on Releasing)) (says-answer b slots.Flags (answers.Dm true) x)
 says-due Detecting turn b said r offers d h = absurd d
-says-due Connected turn b said r offers d h = absurd d
-says-due Closed turn b said r offers d h = absurd d
+says-due p turn b said r offers d h = absurd d
