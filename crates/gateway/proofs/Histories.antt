@@ -1,56 +1,48 @@
 -- The calls that are made of two ends are the events of a play.
-use Rattle.std.proofs.Common.{◌≡◌, ◌∙◌, ℕ, ◌+◌, ◌<◌, ◌≤◌, ◌&&◌, Bool, true, false, cond, nat_le, nat_lt, ◌^◌, List, [], ◌∷◌, ◌++◌, length, Option, Some, None, Result, Ok, Err, refl, sym, ap, subst, take, drop, inl, inr, arith, length-append}
-use Rattle.std.specs.Prelude.{is_some, slice_index_or}
-use Rattle.std.proofs.lemmas.List.{take-append-le, take_more, take-append-drop, append_assoc}
-use Rattle.std.proofs.lemmas.Bool.Decides.{nat_tests}
-use Rattle.std.proofs.lemmas.Bool.{false≢true}
-use Rattle.frame_check.specs.declared.check.Check.{Check}
+use Rattle.std.proofs.Common.{◌≡◌, ◌∙◌, ℕ, ◌+◌, ◌<◌, ◌≤◌, ◌&&◌, Bool, true, false, cond, nat_le, nat_lt, ◌^◌, List, [], ◌∷◌, ◌++◌, length}
+use Rattle.std.proofs.Common.{Option, Some, None, Result, Ok, Err, refl, sym, ap, subst, take, drop, inl, inr, arith, length-append}
+use Rattle.link_account.proofs.Names.{is_some, take-append-drop, append_assoc, nat_tests, false≢true, Check, Role, Originator, Answerer}
+use Rattle.link_account.proofs.Names.{other, Both, of, IsPrefixOf, LinkFault, Frame, Arrived, Sent, ReadsWritten, Account, fresh, check_of}
+use Rattle.link_account.proofs.Names.{wants, piece_size, after_given, after_offer, after_break_asked, after_busy, is_connected, hear, Said}
+use Rattle.link_account.proofs.Names.{speak, Slot, Play, arrives, MayPlay, KeepsTaken, after_ask, wanted}
+use Rattle.std.specs.Prelude.{slice_index_or}
+use Rattle.std.proofs.lemmas.List.{take-append-le, take_more}
 use Rattle.frame_check.specs.declared.check.Check.TheVariants.{Sixteen}
-use Rattle.shared_terms.specs.declared.role.Role.{Role}
-use Rattle.shared_terms.specs.declared.role.Role.TheVariants.{Originator, Answerer}
-use Rattle.shared_terms.specs.Role.{other}
-use Rattle.shared_terms.specs.Both.{Both, of}
-use Rattle.plain_lists.specs.Prefix.{IsPrefixOf}
-use Rattle.shared_terms.specs.declared.fault.LinkFault.{LinkFault}
-use Rattle.lapm_frames.specs.declared.frame.Frame.{Frame}
-use Rattle.lapm_frames.specs.declared.arrived.Arrived.{Arrived}
-use Rattle.lapm_frames.specs.declared.arrived.Arrived.TheVariants as arrivals
-use Rattle.lapm_frames.specs.declared.sent.Sent.{Sent}
-use Rattle.lapm_frames.specs.declared.sent.Sent.TheVariants as slots
-use Rattle.lapm_frames.specs.Frame.{IsFrame}
+use Rattle.lapm_frames.specs.Frame.{IsFrame, has_number, spelled}
 use Rattle.lapm_frames.specs.Sendable.{IsSendable}
 use Rattle.frame_check.specs.Division.{with_check}
-use Rattle.lapm_frames.specs.Frame.{has_number, spelled}
 use Rattle.lapm_frames.specs.Checked.{checked, SpellsFrame}
-use Rattle.xid_params.specs.Offers.{ReadsWritten}
 use Rattle.link_account.specs.declared.setup.Setup.{Setup}
-use Rattle.link_account.specs.Account.{Account, fresh, check_of, wants, piece_size, after_given, after_offer, after_delivery, after_break_asked, after_busy, is_connected, delivers}
-use Rattle.link_account.specs.Hear.{hear}
-use Rattle.link_account.specs.Speak.{Said, speak}
-use Rattle.link_account.specs.Play.{Slot, Play, Event, arrives, spoken, heard, happens, play, start, seen_from}
-use Rattle.link_account.specs.Play as plays
+use Rattle.link_account.specs.Account.{after_delivery, delivers}
+use Rattle.link_account.specs.Play.{Side, Event, spoken, heard, happens, play, start, seen_from}
+use Rattle.link_account.proofs.Events.{side, at, slot_of, play-append, hears-event, passes-event, loses-event, speaks-event, gives-event}
+use Rattle.link_account.proofs.Events.{delivers-event, asked-event, busy-event, offered-event}
 use Rattle.link_account.specs.declared.phase.Phase.{Phase}
-use Rattle.link_account.specs.declared.phase.Phase.TheVariants as phases
-use Rattle.link_account.specs.Laws.{MayPlay, played, TakesInOrder, has_begun, WantsAnswers, BreaksForWantAlone}
-use Rattle.lapm_receiver.specs.Incoming.{KeepsTaken, after_delivered}
-use Rattle.break_signals.specs.Breaks.{after_ask}
-use Rattle.lapm_sender.specs.Outgoing.{wanted}
+use Rattle.link_account.specs.Laws.{played, TakesInOrder, has_begun, WantsAnswers, BreaksForWantAlone}
+use Rattle.lapm_receiver.specs.Incoming.{after_delivered}
 use Rattle.lapm_link.specs.declared.any_end.AnyEnd.{AnyEnd}
 use Rattle.lapm_link.specs.Stands.{StandsFor}
 use Rattle.gateway.specs.declared.turns.Carried.{Carried}
-use Rattle.gateway.specs.declared.turns.Carried.TheVariants as loads
 use Rattle.gateway.specs.declared.turns.Told.{Told}
-use Rattle.gateway.specs.declared.turns.Told.TheVariants as told
 use Rattle.gateway.specs.declared.link.Endpoint.{Endpoint}
 use Rattle.gateway.specs.declared.link.BreakAsked.{BreakAsked}
-use Rattle.gateway.specs.declared.link.BreakAsked.TheVariants as asked
 use Rattle.gateway.specs.Turns.{Arrives, told_as}
 use Rattle.gateway.specs.Endpoints.{HeardAs, SaysAs, OfferedAs, AnswersBreak, longest_wanted, is_taken}
 use Rattle.gateway.specs.Histories.{EndSide, Move, Speaks, Passes, Is_lost, Hears_nothing, Is_offered, Is_asked, Is_delivered, Is_busy}
 use Rattle.gateway.specs.Histories.{CarriesTold, HearsNothing, SpeaksOf, LosesOf, PassesOf, OfferedOf, AskedOf, DeliveredOf}
-use Rattle.gateway.specs.Histories.{SpeakingBreaksForWant, HearingNeverBreaks, IsMade, Step, Begins, History, HistoriesArePlays, HistoriesKeepPrefixes, with_offered, with_delivered}
-use Rattle.gateway.proofs.Lists.{Lists, lists, Grows, grows-heard, kept-spoken, breaks-not}
-use Rattle.gateway.proofs.Agreeing.{OnSent, Reads, face, KnowsAt, knows-turned, knows-as, nothing-arrives, first-arrives, knows-less, knows-heard, knows-spoken, agreed_check, check-sent, check-heard, knows-first}
+use Rattle.gateway.specs.Histories.{SpeakingBreaksForWant, HearingNeverBreaks, IsMade, Step, Begins, History, HistoriesArePlays}
+use Rattle.gateway.specs.Histories.{HistoriesKeepPrefixes, with_offered, with_delivered}
+use Rattle.gateway.proofs.Lists.{Lists, lists, Grows, grows-heard, kept-spoken}
+use Rattle.link_account.proofs.HearWays.{breaks-not}
+use Rattle.gateway.proofs.Agreeing.{OnSent, Reads, face, KnowsAt, knows-turned, knows-as, nothing-arrives, first-arrives, knows-less}
+use Rattle.gateway.proofs.Agreeing.{knows-heard, knows-spoken, agreed_check, check-sent, check-heard, knows-first}
+use Rattle.lapm_frames.specs.declared.arrived.Arrived.TheVariants as arrivals
+use Rattle.lapm_frames.specs.declared.sent.Sent.TheVariants as slots
+use Rattle.link_account.specs.Play as plays
+use Rattle.link_account.specs.declared.phase.Phase.TheVariants as phases
+use Rattle.gateway.specs.declared.turns.Carried.TheVariants as loads
+use Rattle.gateway.specs.declared.turns.Told.TheVariants as told
+use Rattle.gateway.specs.declared.link.BreakAsked.TheVariants as asked
 
 -- what is known of frames and their octets, of receivers and of offers
 pub record HistoryLaws : Type 0 where
@@ -63,101 +55,9 @@ pub record HistoryLaws : Type 0 where
 
 -- ---- plays
 
--- a play where neither end is broken; the first account and line are those of the role
-abbrev pub at : Role → Account → List Slot → Account → List Slot → Play
-at Originator x lx y ly =
-    record { originator = record { account = x; line = lx; fault = None }; answerer = record { account = y; line = ly; fault = None } }
-at Answerer x lx y ly =
-    record { originator = record { account = y; line = ly; fault = None }; answerer = record { account = x; line = lx; fault = None } }
-
 at-other : (role : Role) (x : Account) (lx : List Slot) (y : Account) (ly : List Slot) → at role x lx y ly ≡ at (other role) y ly x lx
 at-other Originator x lx y ly = refl
 at-other Answerer x lx y ly = refl
-
-play-append : (es fs : List Event) (p : Play) → play (es ++ fs) p ≡ play fs (play es p)
-play-append [] fs p = refl
-play-append (e ∷ es) fs p = play-append es fs (happens e p)
-
-hears-event : (role : Role) (turn : ℕ) (x b y : Account) (lx ly : List Slot) → hear turn arrivals.Nothing x ≡ Ok b
-    → happens (plays.Hears_nothing role turn) (at role x lx y ly) ≡ at role b lx y ly
-hears-event Originator turn x b y lx ly e =
-    ap (λ r. record {
-      originator = heard r (record { account = x; line = lx; fault = None });
-      answerer = record { account = y; line = ly; fault = None };
-    }) e
-hears-event Answerer turn x b y lx ly e =
-    ap (λ r. record {
-      originator = record { account = y; line = ly; fault = None };
-      answerer = heard r (record { account = x; line = lx; fault = None });
-    }) e
-
-passes-event : (role : Role) (turn : ℕ) (x y b : Account) (slot : Slot) (rest ly : List Slot) → hear turn (arrives slot.sent) y ≡ Ok b
-    → happens (plays.Passes role turn) (at role x (slot ∷ rest) y ly) ≡ at role x rest b ly
-passes-event Originator turn x y b slot rest ly e =
-    ap (λ r. record {
-      originator = record { account = x; line = rest; fault = None };
-      answerer = heard r (record { account = y; line = ly; fault = None });
-    }) e
-passes-event Answerer turn x y b slot rest ly e =
-    ap (λ r. record {
-      originator = heard r (record { account = y; line = ly; fault = None });
-      answerer = record { account = x; line = rest; fault = None };
-    }) e
-
-loses-event : (role : Role) (x y : Account) (slot : Slot) (rest ly : List Slot)
-    → happens (plays.Is_lost role) (at role x (slot ∷ rest) y ly) ≡ at role x rest y ly
-loses-event Originator x y slot rest ly = refl
-loses-event Answerer x y slot rest ly = refl
-
-abbrev slot_of : Account → Said → Slot
-slot_of x said = record { sent = said.sent; number = said.number; told = length x.incoming.taken }
-
-speaks-event : (role : Role) (turn : ℕ) (release : Bool) (x y : Account) (lx ly : List Slot) (said : Said) → speak turn release x ≡ Ok said
-    → happens (plays.Speaks role turn release) (at role x lx y ly) ≡ at role said.account (lx ++ slot_of x said ∷ []) y ly
-speaks-event Originator turn release x y lx ly said e =
-    ap (λ r. record {
-      originator = spoken r (record { account = x; line = lx; fault = None });
-      answerer = record { account = y; line = ly; fault = None };
-    }) e
-speaks-event Answerer turn release x y lx ly said e =
-    ap (λ r. record {
-      originator = record { account = y; line = ly; fault = None };
-      answerer = spoken r (record { account = x; line = lx; fault = None });
-    }) e
-
-gives-event : (role : Role) (x y : Account) (lx ly : List Slot)
-    → happens (plays.Gives_break role) (at role x lx y ly) ≡ at role (after_given x) lx y ly
-gives-event Originator x y lx ly = refl
-gives-event Answerer x y lx ly = refl
-
-delivers-event : (role : Role) (x y : Account) (lx ly : List Slot)
-    → happens (plays.Delivers role) (at role x lx y ly) ≡ at role (after_delivery x) lx y ly
-delivers-event Originator x y lx ly = refl
-delivers-event Answerer x y lx ly = refl
-
-asked-event : (role : Role) (turn units : ℕ) (x y : Account) (lx ly : List Slot)
-    → happens (plays.Is_asked role turn units) (at role x lx y ly) ≡ at role (after_break_asked turn units x) lx y ly
-asked-event Originator turn units x y lx ly = refl
-asked-event Answerer turn units x y lx ly = refl
-
-busy-event : (role : Role) (busy : Bool) (x y : Account) (lx ly : List Slot)
-    → happens (plays.Is_busy role busy) (at role x lx y ly) ≡ at role (after_busy busy x) lx y ly
-busy-event Originator busy x y lx ly = refl
-busy-event Answerer busy x y lx ly = refl
-
-offered-event : (role : Role) (piece : List ℕ) (x y : Account) (lx ly : List Slot)
-    → (is_some (wants x) && nat_le (length piece) (piece_size x)) ≡ true
-    → happens (plays.Is_offered role piece) (at role x lx y ly) ≡ at role (after_offer piece x) lx y ly
-offered-event Originator piece x y lx ly e =
-    ap (λ (c : Bool). record {
-      originator = cond c (record { account = after_offer piece x; line = lx; fault = None }) (record { account = x; line = lx; fault = None });
-      answerer = record { account = y; line = ly; fault = None };
-    }) e
-offered-event Answerer piece x y lx ly e =
-    ap (λ (c : Bool). record {
-      originator = record { account = y; line = ly; fault = None };
-      answerer = cond c (record { account = after_offer piece x; line = lx; fault = None }) (record { account = x; line = lx; fault = None });
-    }) e
 
 -- a piece that is taken is wanted
 taken-wanted : (count size : ℕ) (number : Option ℕ) → true ≡ is_taken count (longest_wanted number size)
@@ -439,7 +339,7 @@ heard-side : HistoryLaws → (check : Check) (role : Role) (turn : ℕ) (arrived
     → StandsFor new.end.link (after_given b) → IsSide check role (after_given b) slots new
 heard-side laws check role turn arrived x b slots old new h e is role_is stands =
     side-of check role (after_given b) slots new (record old { end = new.end }) is stands (role_is ∙ h.role_is) h.line
-    (book-grows old.offered old.delivered x b (grows-heard laws.keeps turn arrived x b e) h.book)
+    (book-grows old.offered old.delivered x b (grows-heard laws.keeps turn x arrived b e) h.book)
 
 -- what arrives as nothing arrives as nothing else
 one-nothing : (check : Check) (role : Role) (carried : Carried) (arrived : Arrived) → Arrives check role carried arrived
@@ -576,7 +476,7 @@ speaks-step so sa reads role release own peer new h m =
                 can = s.1;
                 numbered = check-sent role so sa h.x h.lx h.y h.ly own.end.state.turn release said e h.known;
               }))
-              (subst (IsBook own.offered own.delivered) (sym (kept-spoken own.end.state.turn release h.x said e)) h.own_side.book);
+              (subst (IsBook own.offered own.delivered) (sym (kept-spoken own.end.state.turn h.x release said e)) h.own_side.book);
           peer_side = h.peer_side;
           known = knows-spoken role so sa reads h.x h.lx h.y h.ly own.end.state.turn release said (slot_of h.x said) refl e h.known;
         }
@@ -762,15 +662,15 @@ speaking-fault : (role : Role) (turn : ℕ) (release : Bool) (x y : Account) (lx
     → speak turn release x ≡ Err fault
     → (seen_from role (happens (plays.Speaks role turn release) (at role x lx y ly))).own.fault ≡ Some fault
 speaking-fault Originator turn release x y lx ly fault e =
-    ap (λ r. (spoken r (record { account = x; line = lx; fault = None })).fault) e
+    ap (λ r. (spoken r (side x lx)).fault) e
 speaking-fault Answerer turn release x y lx ly fault e =
-    ap (λ r. (spoken r (record { account = x; line = lx; fault = None })).fault) e
+    ap (λ r. (spoken r (side x lx)).fault) e
 
 passing-fault : (role : Role) (turn : ℕ) (x y : Account) (slot : Slot) (rest ly : List Slot) (fault : LinkFault)
     → hear turn (arrives slot.sent) y ≡ Err fault
     → (seen_from (other role) (happens (plays.Passes role turn) (at role x (slot ∷ rest) y ly))).own.fault ≡ Some fault
-passing-fault Originator turn x y slot rest ly fault e = ap (λ r. (heard r (record { account = y; line = ly; fault = None })).fault) e
-passing-fault Answerer turn x y slot rest ly fault e = ap (λ r. (heard r (record { account = y; line = ly; fault = None })).fault) e
+passing-fault Originator turn x y slot rest ly fault e = ap (λ r. (heard r (side y ly)).fault) e
+passing-fault Answerer turn x y slot rest ly fault e = ap (λ r. (heard r (side y ly)).fault) e
 
 pub speaking_breaks_for_want : HistoryLaws → BreaksForWantAlone → SpeakingBreaksForWant
 speaking_breaks_for_want laws wants_alone so sa steps ends m hist role release new fault s =
@@ -813,7 +713,7 @@ hearing_never_breaks laws wants_alone so sa steps ends m hist role said rest car
             → hear (of (other role) ends).end.state.turn (arrives slot.sent) h.y ≡ r → HeardAs r h.y new.link (Err fault) → ⊥
         go h slot left led (Ok b) e k = absurd k
         go h slot left led (Err broken) e k =
-            breaks-not laws.keeps (of (other role) ends).end.state.turn (arrives slot.sent) h.y broken e
+            breaks-not (of (other role) ends).end.state.turn (arrives slot.sent) h.y broken e
             (wanted-fault wants_alone so sa m (other role) h.events (plays.Passes role (of (other role) ends).end.state.turn)
             (at role h.x (slot ∷ left) h.y h.ly) broken led
             (passing-fault role (of (other role) ends).end.state.turn h.x h.y slot left h.ly broken e))

@@ -1,42 +1,31 @@
 -- The breaks in a play of two ends of ours, whatever is lost.
-use Rattle.std.proofs.Common.{◌≡◌, ℕ, ◌-◌, ◌%◌, ◌<◌, ◌&&◌, Bool, true, false, cond, nat_le, List, [], ◌∷◌, ◌++◌}
-use Rattle.std.proofs.Common.{length, drop, slice_index_or, arith, refl, sym, ◌∙◌, ap, subst, Option, Some, None, Result, Ok, Err}
-use Rattle.std.specs.Prelude.{is_some}
-use Rattle.std.proofs.lemmas.Bool.{false≢true}
-use Rattle.std.proofs.lemmas.List.{take-append-drop, append-nil, append_assoc}
-use Rattle.shared_terms.specs.declared.role.Role.{Role}
-use Rattle.shared_terms.specs.declared.role.Role.TheVariants.{Originator, Answerer}
-use Rattle.lapm_frames.specs.declared.frame.Frame.{Frame}
-use Rattle.lapm_frames.specs.declared.frame.Frame.TheVariants.{I, Rr, Rnr, Rej, Srej, Ua, Dm, Ui}
-use Rattle.lapm_receiver.specs.Incoming.{next_expected, after_delivered}
-use Rattle.break_signals.specs.declared.word.BreakWord.{BreakWord}
-use Rattle.break_signals.specs.declared.word.BreakWord.TheVariants.{Brk, Ack}
-use Rattle.break_signals.specs.declared.fault.BreakFault.{BreakFault}
-use Rattle.break_signals.specs.Words.{word_in, spelled, number_of}
+use Rattle.std.proofs.Common.{◌≡◌, ℕ, ◌-◌, ◌%◌, ◌<◌, ◌&&◌, Bool, true, false, cond, nat_le, List, [], ◌∷◌, ◌++◌, length, drop}
+use Rattle.std.proofs.Common.{slice_index_or, arith, refl, sym, ◌∙◌, ap, subst, Option, Some, None, Result, Ok, Err}
+use Rattle.link_account.proofs.Names.{is_some, false≢true, take-append-drop, append-nil, append_assoc, Role, Originator, Answerer, Frame, I}
+use Rattle.link_account.proofs.Names.{Rr, Rnr, Rej, Srej, Ua, Dm, Ui, next_expected, BreakWord, Brk, Ack, BreakFault, word_in, OwnBreaks}
+use Rattle.link_account.proofs.Names.{after_ask, ticked, Arrived, Sent, LinkFault, Account, fresh, is_connected, after_offer}
+use Rattle.link_account.proofs.Names.{after_break_asked, wants, piece_size, after_busy, hear, trying, Said, says, frame_for, ready_frame}
+use Rattle.link_account.proofs.Names.{nr_of, speak, Slot, Play, arrives, IsPrefixOf}
+use Rattle.lapm_receiver.specs.Incoming.{after_delivered}
+use Rattle.break_signals.specs.Words.{spelled, number_of}
 use Rattle.break_signals.proofs.Spelling.{is_read_back_always}
-use Rattle.break_signals.specs.Breaks.{OwnBreaks, TheirBreaks, own_due, after_brk, after_ack, after_ask, ticked}
-use Rattle.lapm_frames.specs.declared.arrived.Arrived.{Arrived}
-use Rattle.lapm_frames.specs.declared.arrived.Arrived.TheVariants as arrivals
-use Rattle.lapm_frames.specs.declared.sent.Sent.{Sent}
-use Rattle.lapm_frames.specs.declared.sent.Sent.TheVariants as slots
-use Rattle.shared_terms.specs.declared.fault.LinkFault.{LinkFault}
+use Rattle.break_signals.specs.Breaks.{TheirBreaks, own_due, after_brk, after_ack}
 use Rattle.link_account.specs.declared.phase.Phase.TheVariants.{Releasing}
 use Rattle.link_account.specs.declared.answer.Answer.{Answer}
-use Rattle.link_account.specs.declared.answer.Answer.TheVariants as answers
-use Rattle.link_account.specs.Account.{Account, fresh, is_connected, after_offer, after_delivery, after_break_asked, wants}
-use Rattle.link_account.specs.Account.{piece_size, after_busy}
-use Rattle.link_account.specs.Hear.{hear, trying}
-use Rattle.link_account.specs.Speak.{Said, says, says_word, frame_for, ready_frame, nr_of, speak}
-use Rattle.link_account.specs.Play.{Slot, Side, Play, Pair, Event, Speaks, Passes, Is_lost, Hears_nothing, Is_offered, Is_asked, Delivers}
-use Rattle.link_account.specs.Play.{Gives_break, arrives, seen_from, play_of, spoken, heard, passes, is_lost, is_offered, happens_at}
-use Rattle.link_account.specs.Play.{role_of, goes_on, happens, play, start, Is_busy}
+use Rattle.link_account.specs.Account.{after_delivery}
+use Rattle.link_account.specs.Speak.{says_word}
+use Rattle.link_account.specs.Play.{Side, Pair, Event, Speaks, Passes, Is_lost, Hears_nothing, Is_offered, Is_asked, Delivers, Gives_break}
+use Rattle.link_account.specs.Play.{seen_from, play_of, spoken, heard, passes, is_lost, is_offered, happens_at, role_of, goes_on, happens}
+use Rattle.link_account.specs.Play.{play, start, Is_busy}
 use Rattle.link_account.specs.Laws.{played, GivesBreaksInOrder, AnswersGiven, IsBreakOf, SendsBreaksTaken}
-use Rattle.plain_lists.specs.Prefix.{IsPrefixOf}
 use Rattle.link_account.proofs.SpeakWays.{OnSaid, Steps, Tries, tries-alike}
-use Rattle.link_account.proofs.SpeakWays as SpeakWays
-use Rattle.link_account.proofs.HearWays as HearWays
 use Rattle.link_account.proofs.Breaking.{BrkOn, AckOn, BreaksGo, Go, OnTicked, go-asked, go-ticked, go-brk, go-ack, go-brk-lost}
 use Rattle.link_account.proofs.Breaking.{go-ack-lost, go-brk-heard, go-ack-heard, IsPending}
+use Rattle.lapm_frames.specs.declared.arrived.Arrived.TheVariants as arrivals
+use Rattle.lapm_frames.specs.declared.sent.Sent.TheVariants as slots
+use Rattle.link_account.specs.declared.answer.Answer.TheVariants as answers
+use Rattle.link_account.proofs.SpeakWays as SpeakWays
+use Rattle.link_account.proofs.HearWays as HearWays
 
 -- the break words of a slot
 abbrev pub brk_of_word : Result BreakWord BreakFault → ℕ → List BrkOn

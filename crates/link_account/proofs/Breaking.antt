@@ -1,15 +1,12 @@
 -- The breaks of one end, what the other was given, and their words on both lines.
 use Rattle.std.proofs.Common.{◌≡◌, ℕ, ◌+◌, ◌-◌, ◌%◌, ◌<◌, ◌≤◌, ◌≢◌, ◌&&◌, not, Bool, true, false, cond, nat_eq, nat_lt, nat_le, List, []}
 use Rattle.std.proofs.Common.{◌∷◌, ◌++◌, length, take, slice_index_or, arith, length-append, refl, sym, ◌∙◌, ap, subst, Option, Some, None}
+use Rattle.link_account.proofs.Names.{false≢true, AllByRecursion, BreakWord, Brk, Ack, OwnBreaks, after_ask, ticked, after_answer}
 use Rattle.std.proofs.lemmas.List.{take-append-le, take_more}
 use Rattle.std.proofs.lemmas.Grind.{common_steps}
 use borrow.Author.Tests.{ltb-true, eqb-true}
-use Rattle.std.proofs.lemmas.Bool.{ltb-false, eqb-false, false≢true}
-use Rattle.std.specs.List.{AllByRecursion}
-use Rattle.break_signals.specs.declared.word.BreakWord.{BreakWord}
-use Rattle.break_signals.specs.declared.word.BreakWord.TheVariants.{Brk, Ack}
-use Rattle.break_signals.specs.Breaks.{OwnBreaks, TheirBreaks, after_ask, ticked, after_answer, with_given, after_break, after_brk}
-use Rattle.break_signals.specs.Breaks.{after_ack}
+use Rattle.std.proofs.lemmas.Bool.{ltb-false, eqb-false}
+use Rattle.break_signals.specs.Breaks.{TheirBreaks, with_given, after_break, after_brk, after_ack}
 use Rattle.link_account.proofs.Flow.{all_weaker, all_both, all_snoc}
 
 -- a BRK and a BRKACK on the line, with the place of the break among those taken

@@ -1,24 +1,20 @@
 -- One direction of a link, seen from the parts of two accounts and the slots on their lines.
 use Rattle.std.proofs.Common.{◌≡◌, ℕ, zero, suc, ◌+◌, ◌-◌, ◌%◌, ◌<◌, ◌≤◌, ◌≢◌, ◌&&◌, max, Bool, true, false, cond, nat_eq, nat_lt, List, []}
 use Rattle.std.proofs.Common.{◌∷◌, ◌++◌, length, slice_index_or, arith, refl, sym, ◌∙◌, ap, subst, Option, Some, None, ◌||◌}
-use Rattle.std.proofs.lemmas.Bool.Decides.{nat_tests}
-use Rattle.std.proofs.lemmas.List.{append-nil, append_assoc}
+use Rattle.link_account.proofs.Names.{nat_tests, append-nil, append_assoc, false≢true, AllByRecursion, I, Rr, Rnr, Rej, Srej, meant}
+use Rattle.link_account.proofs.Names.{Outgoing, advanced, next_number, Incoming, after_take, after_kind, kind_of, next_expected, InOrder}
+use Rattle.link_account.proofs.Names.{Kept, Repeat, Gap, Sent, Slot}
 use borrow.Author.Tests.{ltb-true, eqb-true}
-use Rattle.std.proofs.lemmas.Bool.{eqb-false, false≢true}
-use Rattle.std.specs.List.{AllByRecursion, range_with_len}
-use Rattle.lapm_frames.specs.declared.frame.Frame.TheVariants.{I, Rr, Rnr, Rej, Srej}
-use Rattle.lapm_sender.specs.Meant.{meant}
+use Rattle.std.proofs.lemmas.Bool.{eqb-false}
+use Rattle.std.specs.List.{range_with_len}
 use Rattle.lapm_sender.specs.Numbers.{with_number, from_number}
-use Rattle.lapm_sender.specs.Outgoing.{Outgoing, selected, advanced, gone_back, wait_ended, next_among, next_number, sent_among, after_next}
+use Rattle.lapm_sender.specs.Outgoing.{selected, gone_back, wait_ended, next_among, sent_among, after_next}
 use Rattle.lapm_receiver.specs.Held.{Held, is_held, with_held, missing_from, first_outside, is_among}
-use Rattle.lapm_receiver.specs.Incoming.{Incoming, after_take, after_kind, kind_of, next_expected, asks}
-use Rattle.lapm_receiver.specs.declared.took.Took.TheVariants.{InOrder, Kept, Repeat, Gap}
-use Rattle.lapm_frames.specs.declared.sent.Sent.{Sent}
-use Rattle.lapm_frames.specs.declared.sent.Sent.TheVariants as slots
-use Rattle.link_account.specs.Play.{Slot}
+use Rattle.lapm_receiver.specs.Incoming.{asks}
 use Rattle.link_account.proofs.Flow.{Segment, Reply, Flow, Sound, IsChoice, IsAskable, IsRising, IsHeldRight, keeps-sent, keeps-told}
 use Rattle.link_account.proofs.Flow.{keeps-dropped, keeps-forgotten, keeps-acked, keeps-chosen, keeps-taken, keeps-kept, meant-found}
 use Rattle.link_account.proofs.Flow.{with_number-all, from_number-choices, all_weaker, rising-lower}
+use Rattle.lapm_frames.specs.declared.sent.Sent.TheVariants as slots
 
 -- what a slot is in the two flows
 abbrev pub segment_of : Sent → ℕ → List Segment

@@ -1,27 +1,18 @@
 -- What holds all through a play of two ends of ours.
 use Rattle.std.proofs.Common.{◌≡◌, ℕ, ◌≤◌, Bool, true, false, List, [], ◌∷◌, arith, ◌∙◌, Option, Some, None}
-use Rattle.std.specs.List.{AllByRecursion}
-use Rattle.shared_terms.specs.declared.role.Role.TheVariants.{Originator, Answerer}
-use Rattle.lapm_frames.specs.declared.frame.Frame.TheVariants.{Sabme, Disc, Ua, Dm, Xid}
-use Rattle.xid_params.specs.declared.terms.Terms.{Terms}
-use Rattle.xid_params.specs.Terms.{agree}
-use Rattle.xid_params.specs.Offers.{offer_in, written}
-use Rattle.lapm_sender.specs.Outgoing.{Outgoing}
-use Rattle.lapm_sender.specs.Outgoing as outgoing
-use Rattle.lapm_receiver.specs.Incoming.{Incoming, next_expected}
-use Rattle.lapm_receiver.specs.Incoming as incoming
-use Rattle.lapm_frames.specs.declared.sent.Sent.{Sent}
-use Rattle.lapm_frames.specs.declared.sent.Sent.TheVariants as slots
+use Rattle.link_account.proofs.Names.{AllByRecursion, Originator, Answerer, Sabme, Disc, Ua, Dm, Xid, Terms, agree, offer_in, written}
+use Rattle.link_account.proofs.Names.{Sent, Account, Slot}
 use Rattle.link_account.specs.declared.setup.Setup.{Setup}
 use Rattle.link_account.specs.declared.phase.Phase.{Phase}
 use Rattle.link_account.specs.declared.phase.Phase.TheVariants.{Detecting, Negotiating, Establishing, Connected, Releasing, Closed}
 use Rattle.link_account.specs.declared.answer.Answer.{Answer}
-use Rattle.link_account.specs.declared.answer.Answer.TheVariants as answers
-use Rattle.link_account.specs.Account.{Account}
-use Rattle.link_account.specs.Play.{Slot}
 use Rattle.link_account.proofs.Flow.{all_weaker}
 use Rattle.link_account.proofs.Ends.{Goes, back-forgotten, line-lost}
 use Rattle.link_account.proofs.Linked.{Linked, IsNumbered, IsLinked}
+use Rattle.lapm_sender.specs.Outgoing as outgoing
+use Rattle.lapm_receiver.specs.Incoming as incoming
+use Rattle.lapm_frames.specs.declared.sent.Sent.TheVariants as slots
+use Rattle.link_account.specs.declared.answer.Answer.TheVariants as answers
 
 abbrev pub rank : Phase → ℕ
 rank Detecting = 0

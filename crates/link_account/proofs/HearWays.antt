@@ -1,40 +1,28 @@
 -- The ways in which an end hears: what holds of each way holds of all that it becomes. So a fact about what it becomes has one line for
 -- each way, and no case distinction over phases, frames and acknowledgements of its own.
-use Rattle.std.proofs.Common.{◌⊎◌, inl, inr, ◌≡◌, ℕ, ◌-◌, ◌&&◌, ◌||◌, Bool, true, false, cond, refl, sym, ap, subst}
-use Rattle.std.proofs.Common.{List, Option, Some, None, Result, Ok, Err}
+use Rattle.std.proofs.Common.{◌⊎◌, inl, inr, ◌≡◌, ℕ, ◌-◌, ◌&&◌, ◌||◌, Bool, true, false, cond, refl, sym, ap, subst, List, Option, Some}
+use Rattle.std.proofs.Common.{None, Result, Ok, Err}
+use Rattle.link_account.proofs.Names.{Role, Originator, Answerer, is_originator, LinkFault, NotDetected, Spent, Frame, I, Rr, Rnr, Rej}
+use Rattle.link_account.proofs.Names.{Srej, Sabme, Disc, Ua, Dm, Ui, Xid, Arrived, Offer, agree, offer_in, meant, Outgoing, is_outstanding}
+use Rattle.link_account.proofs.Names.{advanced, resumed, Incoming, after_take, BreakWord, Brk, Ack, BreakFault, word_in, after_answer}
+use Rattle.link_account.proofs.Names.{Account, is_connected, hear, on_frame, on_nothing, owing, trying}
 use Rattle.std.specs.Option.{option_map}
-use Rattle.shared_terms.specs.declared.role.Role.{Role}
-use Rattle.shared_terms.specs.declared.role.Role.TheVariants.{Originator, Answerer}
-use Rattle.shared_terms.specs.Role.{is_originator}
-use Rattle.shared_terms.specs.declared.fault.LinkFault.{LinkFault}
-use Rattle.shared_terms.specs.declared.fault.LinkFault.TheVariants.{NotDetected, Spent}
-use Rattle.lapm_frames.specs.declared.frame.Frame.{Frame}
-use Rattle.lapm_frames.specs.declared.frame.Frame.TheVariants.{I, Rr, Rnr, Rej, Srej, Sabme, Disc, Ua, Dm, Frmr, Ui, Xid, Test}
+use Rattle.lapm_frames.specs.declared.frame.Frame.TheVariants.{Frmr, Test}
 use Rattle.lapm_frames.specs.declared.seen.Seen.{Seen}
 use Rattle.lapm_frames.specs.declared.seen.Seen.TheVariants.{Odp, Adp}
-use Rattle.lapm_frames.specs.declared.arrived.Arrived.{Arrived}
-use Rattle.lapm_frames.specs.declared.arrived.Arrived.TheVariants as arrivals
-use Rattle.xid_params.specs.declared.offer.Offer.{Offer}
-use Rattle.xid_params.specs.Terms.{agree, default_offer}
-use Rattle.xid_params.specs.Offers.{offer_in}
-use Rattle.lapm_sender.specs.Meant.{meant}
+use Rattle.xid_params.specs.Terms.{default_offer}
 use Rattle.lapm_sender.specs.Numbers.{with_number}
-use Rattle.lapm_sender.specs.Outgoing.{Outgoing, is_outstanding, advanced, gone_back, wait_ended, resumed, paused_at}
-use Rattle.lapm_receiver.specs.Incoming.{Incoming, after_take}
-use Rattle.break_signals.specs.declared.word.BreakWord.{BreakWord}
-use Rattle.break_signals.specs.declared.word.BreakWord.TheVariants.{Brk, Ack}
-use Rattle.break_signals.specs.declared.fault.BreakFault.{BreakFault}
-use Rattle.break_signals.specs.Words.{word_in}
-use Rattle.break_signals.specs.Breaks.{after_answer, after_break}
+use Rattle.lapm_sender.specs.Outgoing.{gone_back, wait_ended, paused_at}
+use Rattle.break_signals.specs.Breaks.{after_break}
 use Rattle.link_account.specs.declared.phase.Phase.{Phase}
 use Rattle.link_account.specs.declared.phase.Phase.TheVariants.{Detecting, Negotiating, Establishing, Connected, Releasing, Closed}
+use Rattle.link_account.specs.Hear.{on_seen, on_pattern, on_connected, on_number, on_disc, on_word, then_in, timer_after, ends_wait}
+use Rattle.link_account.specs.Hear.{replying, taking, hurrying, pausing, peer_reset, connected, on_detecting, on_negotiating}
+use Rattle.link_account.specs.Hear.{on_establishing, on_releasing, on_closed, on_xid_command, on_xid_response}
+use Rattle.lapm_frames.specs.declared.arrived.Arrived.TheVariants as arrivals
 use Rattle.link_account.specs.declared.answer.Answer.TheVariants as answers
-use Rattle.link_account.specs.Account.{Account, is_connected}
-use Rattle.link_account.specs.Hear.{hear, on_frame, on_seen, on_pattern, on_connected, on_nothing, on_number, on_disc, on_word, then_in}
-use Rattle.link_account.specs.Hear.{timer_after, ends_wait}
-use Rattle.link_account.specs.Hear.{replying, taking, hurrying, pausing, peer_reset, owing, trying, connected, on_detecting}
-use Rattle.link_account.specs.Hear.{on_negotiating, on_establishing}
-use Rattle.link_account.specs.Hear.{on_releasing, on_closed, on_xid_command, on_xid_response}
+use Rattle.link_account.specs.Laws.{WantsAnswers}
+use Rattle.shared_terms.specs.declared.fault.LinkFault.TheVariants.{BadAck, PeerReset, PeerRefused}
 
 -- an end that breaks as it hears doesn't break for want of answers
 abbrev pub IsRefusal : LinkFault → Type 0
@@ -352,6 +340,18 @@ refused turn x a fault f = subst (OnHeard (λ b. Unit {0})) f (go a.phase refl)
     go Establishing e = early (λ x b. Unit {0}) turn a (any-early turn a) tt x (ap is_connected e)
     go Releasing e = early (λ x b. Unit {0}) turn a (any-early turn a) tt x (ap is_connected e)
     go Closed e = early (λ x b. Unit {0}) turn a (any-early turn a) tt x (ap is_connected e)
+
+-- so it doesn't break for want of answers
+pub breaks-not : (turn : ℕ) (arrived : Arrived) (a : Account) (fault : LinkFault) → hear turn arrived a ≡ Err fault
+    → WantsAnswers (Some fault) → ⊥
+breaks-not turn arrived a fault e w = go fault (refused turn arrived a fault e) w
+  where
+    go : (f : LinkFault) → IsRefusal f → WantsAnswers (Some f) → ⊥
+    go NotDetected r w = r
+    go (Spent segment since) r w = r
+    go (BadAck nr va high) r w = w
+    go (PeerReset va vr) r w = w
+    go PeerRefused r w = w
 
 -- what hearing a number leaves of the sender's part
 pub record NumberKeeps (o new : Outgoing) : Type 0 where

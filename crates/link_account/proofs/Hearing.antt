@@ -1,32 +1,24 @@
 -- Hearing keeps a play good.
 use Rattle.std.proofs.Common.{◌≡◌, ℕ, ◌≤◌, ◌||◌, Bool, true, false, cond, List, ◌∷◌, arith, refl, sym, ◌∙◌, ap, subst, Option, Some, None}
 use Rattle.std.proofs.Common.{Result, Ok, Err}
-use Rattle.shared_terms.specs.declared.role.Role.{Role}
-use Rattle.shared_terms.specs.declared.role.Role.TheVariants.{Originator, Answerer}
-use Rattle.shared_terms.specs.Role.{other}
-use Rattle.lapm_frames.specs.declared.frame.Frame.{Frame}
-use Rattle.lapm_frames.specs.declared.frame.Frame.TheVariants.{I, Rr, Rnr, Rej, Srej, Sabme, Disc, Ua, Dm, Frmr, Xid, Test}
-use Rattle.xid_params.specs.Terms.{agree}
-use Rattle.xid_params.specs.Offers.{offer_in, written}
-use Rattle.lapm_frames.specs.declared.sent.Sent.{Sent}
-use Rattle.lapm_frames.specs.declared.sent.Sent.TheVariants as slots
-use Rattle.lapm_frames.specs.declared.seen.Seen.TheVariants as seen
-use Rattle.shared_terms.specs.declared.fault.LinkFault.{LinkFault}
+use Rattle.link_account.proofs.Names.{Role, Originator, Answerer, other, Frame, I, Rr, Rnr, Rej, Srej, Sabme, Disc, Ua, Dm, Xid, agree}
+use Rattle.link_account.proofs.Names.{offer_in, written, Sent, LinkFault, Account, is_originator, hear, on_frame, owing, trying, on_nothing}
+use Rattle.link_account.proofs.Names.{without_adp, Slot, arrives}
+use Rattle.lapm_frames.specs.declared.frame.Frame.TheVariants.{Frmr, Test}
 use Rattle.link_account.specs.declared.setup.Setup.{Setup}
 use Rattle.link_account.specs.declared.phase.Phase.{Phase}
 use Rattle.link_account.specs.declared.phase.Phase.TheVariants.{Detecting, Negotiating, Establishing, Connected, Releasing, Closed}
 use Rattle.link_account.specs.declared.answer.Answer.{Answer}
-use Rattle.link_account.specs.declared.answer.Answer.TheVariants as answers
-use Rattle.link_account.specs.Account.{Account, window_for}
-use Rattle.shared_terms.specs.Role.{is_originator}
-use Rattle.link_account.specs.Hear.{hear, on_frame, on_connected, on_detecting, on_negotiating, on_establishing, on_releasing, on_closed}
-use Rattle.link_account.specs.Hear.{on_xid_command, on_xid_response, on_sabme, peer_reset, on_disc, on_seen, on_pattern, owing, connected}
-use Rattle.link_account.specs.Hear.{trying, on_nothing, without_adp}
-use Rattle.link_account.specs.Play.{Slot, arrives}
+use Rattle.link_account.specs.Account.{window_for}
+use Rattle.link_account.specs.Hear.{on_connected, on_detecting, on_negotiating, on_establishing, on_releasing, on_closed, on_xid_command}
+use Rattle.link_account.specs.Hear.{on_xid_response, on_sabme, peer_reset, on_disc, on_seen, on_pattern, connected}
 use Rattle.link_account.proofs.Ends.{Goes}
 use Rattle.link_account.proofs.Linked.{IsNumbered, IsLinked, HearsWell, hears-linked, counts_as_numbered}
 use Rattle.link_account.proofs.Good.{rank, DueA, IsFresh, PlaceO, PlaceA, NoSabme, terms_of, Good, linked-o, linked-a, lost-o, lost-a}
 use Rattle.link_account.proofs.Good.{changed-o, changed-a}
+use Rattle.lapm_frames.specs.declared.sent.Sent.TheVariants as slots
+use Rattle.lapm_frames.specs.declared.seen.Seen.TheVariants as seen
+use Rattle.link_account.specs.declared.answer.Answer.TheVariants as answers
 
 -- what an answerer hears leaves all well
 abbrev pub WellA : Setup → Setup → Account → List Slot → List Slot → Result Account LinkFault → Type 0
@@ -205,10 +197,9 @@ module _ (so sa : Setup) (o a : Account) (lo la : List Slot) where
   a-frame turn n told frame h Negotiating e =
       subst (λ r. IsWellA (on_negotiating r frame turn a)) (sym (role-a so sa o a (framed frame n told ∷ lo) la h))
       (a-negotiating turn n told frame h e)
-  a-frame turn n told frame h Establishing e = absurd (subst (λ p. PlaceA (terms_of so sa) p a) e h.place_a)
   a-frame turn n told frame h Connected e = a-connected turn n told frame h e
-  a-frame turn n told frame h Releasing e = absurd (subst (λ p. PlaceA (terms_of so sa) p a) e h.place_a)
   a-frame turn n told frame h Closed e = a-closed n told frame h e
+  a-frame turn n told frame h q e = absurd (subst (λ p. PlaceA (terms_of so sa) p a) e h.place_a)
 
   -- an answerer hears nothing
   pub a-nothing : Good so sa o a lo la → Good so sa o (on_nothing a) lo la
@@ -225,11 +216,7 @@ module _ (so sa : Setup) (o a : Account) (lo la : List Slot) where
 
       place : (p : Phase) → PlaceA (terms_of so sa) p a → PlaceA (terms_of so sa) p (on_nothing a)
       place Detecting k = k
-      place Negotiating k = k
-      place Establishing k = k
-      place Connected k = k
-      place Releasing k = k
-      place Closed k = k
+      place p k = k
 
   -- or a pattern
   a-odp : Good so sa o a lo la → (turn : ℕ) (p : Phase) → a.phase ≡ p → Good so sa o (on_seen p seen.Odp turn a) lo la
@@ -239,10 +226,7 @@ module _ (so sa : Setup) (o a : Account) (lo la : List Slot) where
       (subst (λ p. PlaceA (terms_of so sa) p (owing answers.Adp a)) (sym e) (subst (λ p. PlaceA (terms_of so sa) p a) e g.place_a))
       (λ e. (g.early e).1) g.numbered g.flow_oa g.flow_ao)
   a-odp g turn Negotiating e = g
-  a-odp g turn Establishing e = g
-  a-odp g turn Connected e = g
-  a-odp g turn Releasing e = g
-  a-odp g turn Closed e = g
+  a-odp g turn p e = g
 
   pub a-hears : (turn : ℕ) (sent : Sent) (n told : ℕ)
       → BeforeA (record { sent = sent; number = n; told = told }) → IsWellA (hear turn (arrives sent) a)
@@ -360,11 +344,7 @@ module _ (so sa : Setup) (o a : Account) (lo la : List Slot) where
     where
       place : (p : Phase) → PlaceO (terms_of so sa) p o → PlaceO (terms_of so sa) p (on_nothing o)
       place Detecting k = k
-      place Negotiating k = k
-      place Establishing k = k
-      place Connected k = k
-      place Releasing k = k
-      place Closed k = k
+      place p k = k
 
   o-adp : Good so sa o a lo la → (turn : ℕ) (p : Phase) → o.phase ≡ p → Good so sa (on_seen p seen.Adp turn o) a lo la
   o-adp g turn Detecting e =
@@ -372,10 +352,7 @@ module _ (so sa : Setup) (o a : Account) (lo la : List Slot) where
       (changed-o so sa o a lo la g (trying Negotiating turn o) refl refl (omega (arith, ap rank e))
       (subst (λ p. PlaceO (terms_of so sa) p o) e g.place_o) (λ z. omega arith) g.flow_oa g.flow_ao)
   o-adp g turn Negotiating e = g
-  o-adp g turn Establishing e = g
-  o-adp g turn Connected e = g
-  o-adp g turn Releasing e = g
-  o-adp g turn Closed e = g
+  o-adp g turn p e = g
 
   pub o-hears : (turn : ℕ) (sent : Sent) (n told : ℕ)
       → BeforeO (record { sent = sent; number = n; told = told }) → IsWellO (hear turn (arrives sent) o)

@@ -1,3 +1,5 @@
+pub mod Names
+pub mod Events
 pub mod SpeakWays
 pub mod HearWays
 mod Flow

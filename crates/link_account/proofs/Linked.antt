@@ -1,36 +1,26 @@
 -- A linked end hears: both flows go on.
-use Rattle.std.proofs.Common.{◌≡◌, ℕ, ◌%◌, ◌≤◌, ◌||◌, ◌&&◌, Bool, true, false, cond, List, [], ◌∷◌, ◌++◌, length, slice_index_or, refl}
-use Rattle.std.proofs.Common.{sym, ◌∙◌, ap, subst, Option, Some, None, Result, Ok, Err}
+use Rattle.std.proofs.Common.{◌≡◌, ℕ, ◌%◌, ◌≤◌, ◌||◌, ◌&&◌, Bool, true, false, cond, List, [], ◌∷◌, ◌++◌, length, slice_index_or, refl, sym}
+use Rattle.std.proofs.Common.{◌∙◌, ap, subst, Option, Some, None, Result, Ok, Err}
+use Rattle.link_account.proofs.Names.{Frame, I, Rr, Rnr, Rej, Srej, Ui, meant, Outgoing, is_outstanding, resumed, advanced, next_number}
+use Rattle.link_account.proofs.Names.{Incoming, after_kind, kind_of, offset, next_expected, Took, InOrder, BreakWord}
+use Rattle.link_account.proofs.Names.{Brk, Ack, BreakFault, word_in, Sent, LinkFault, Account, is_originator, Said, says, may_send, nr_of}
+use Rattle.link_account.proofs.Names.{ready_frame, Slot}
 use Rattle.std.specs.Option.{option_map}
-use Rattle.lapm_frames.specs.declared.frame.Frame.{Frame}
-use Rattle.lapm_frames.specs.declared.frame.Frame.TheVariants.{I, Rr, Rnr, Rej, Srej, Ui}
-use Rattle.lapm_sender.specs.Meant.{meant}
-use Rattle.lapm_sender.specs.Outgoing.{Outgoing, is_outstanding, paused_at, resumed, acknowledged, rejected, replied, advanced, gone_back}
-use Rattle.lapm_sender.specs.Outgoing.{wait_ended, next_number}
-use Rattle.lapm_receiver.specs.Incoming.{Incoming, after_kind, kind_of, offset, next_expected, asks, after_asked, after_told}
-use Rattle.lapm_receiver.specs.declared.took.Took.{Took}
-use Rattle.lapm_receiver.specs.declared.took.Took.TheVariants.{InOrder, Kept, Repeat, Gap}
-use Rattle.break_signals.specs.declared.word.BreakWord.{BreakWord}
-use Rattle.break_signals.specs.declared.word.BreakWord.TheVariants.{Brk, Ack}
-use Rattle.break_signals.specs.declared.fault.BreakFault.{BreakFault}
-use Rattle.break_signals.specs.Words.{word_in, spelled}
+use Rattle.lapm_sender.specs.Outgoing.{paused_at, acknowledged, rejected, replied, gone_back, wait_ended}
+use Rattle.lapm_receiver.specs.Incoming.{asks, after_asked, after_told}
+use Rattle.break_signals.specs.Words.{spelled}
 use Rattle.break_signals.specs.Breaks.{after_brk, after_ack}
-use Rattle.lapm_frames.specs.declared.sent.Sent.{Sent}
-use Rattle.lapm_frames.specs.declared.sent.Sent.TheVariants as slots
-use Rattle.shared_terms.specs.declared.fault.LinkFault.{LinkFault}
-use Rattle.link_account.specs.Account.{Account}
 use Rattle.link_account.specs.declared.setup.Setup.{Setup}
 use Rattle.link_account.specs.declared.phase.Phase.{Phase}
 use Rattle.link_account.specs.declared.answer.Answer.{Answer}
-use Rattle.shared_terms.specs.Role.{is_originator}
 use Rattle.link_account.specs.Hear.{on_connected, on_i, on_ready, on_rej, on_srej, on_number, on_word, then_in, replying, hurrying, taking}
 use Rattle.link_account.specs.Hear.{ends_wait, timer_after, on_rnr, pausing}
-use Rattle.link_account.specs.Speak.{Said, says, says_frame, may_send, says_segment, says_word, nr_of, telling, tells, ready_frame}
-use Rattle.link_account.specs.Play.{Slot}
+use Rattle.link_account.specs.Speak.{says_frame, says_segment, says_word, telling, tells}
 use Rattle.link_account.proofs.Flow.{IsAskable}
 use Rattle.link_account.proofs.SpeakWays.{AllSaid, Answers, Steps, next-keeps}
 use Rattle.link_account.proofs.Ends.{segment_of, asked_of, Goes, back-forgotten, ack-found, back-advanced, back-rejected, back-replied}
 use Rattle.link_account.proofs.Ends.{back-selected, line-passed, line-lost, line-taken, line-quiet, line-sent, back-told, asked-lies}
+use Rattle.lapm_frames.specs.declared.sent.Sent.TheVariants as slots
 
 -- Parts of an account that are begun, the other end's parts, and both lines: both flows go.
 pub record Flows (wo wi : ℕ) (srej : Bool) (o po : Outgoing) (i pi : Incoming) (line back : List Slot) : Type 0 where
@@ -92,9 +82,7 @@ HearsWell wo wi srej a po pi line rest numbered (Ok b) = Linked wo wi srej b po 
 take-window : (k : Took) (o : ℕ) (info : List ℕ) (i : Incoming)
     → ((after_kind k o info i).window ≡ i.window) × ((after_kind k o info i).srej ≡ i.srej)
 take-window InOrder o info i = (refl, refl)
-take-window Kept o info i = (refl, refl)
-take-window Repeat o info i = (refl, refl)
-take-window Gap o info i = (refl, refl)
+take-window p o info i = (refl, refl)
 
 resumed-goes : (w : ℕ) (srej : Bool) (o : Outgoing) (i : Incoming) (line back : List Slot) (b : Bool) (count : ℕ)
     → Goes w srej o i line back → Goes w srej (cond b (record o { paused = false; count = count }) o) i line back

@@ -1,13 +1,11 @@
 -- Whatever an end sends can be heard: its numbers are below 128.
 use Rattle.std.proofs.Common.{ℕ, Bool, true, false, arith}
+use Rattle.link_account.proofs.Names.{Account, Said, frame_for, ready_frame, nr_of, arrives}
 use Rattle.link_account.specs.declared.answer.Answer.{Answer}
-use Rattle.link_account.specs.declared.answer.Answer.TheVariants as answers
-use Rattle.link_account.specs.Account.{Account}
-use Rattle.link_account.specs.Speak.{Said, frame_for, ready_frame, nr_of}
-use Rattle.link_account.specs.Play.{arrives}
 use Rattle.link_account.specs.Numbers.{HasNumbers, IsNumbered}
 use Rattle.link_account.specs.Laws.{SaysNumbers}
 use Rattle.link_account.proofs.SpeakWays.{Steps, Ways, by-ways, linked-alike, tries-alike}
+use Rattle.link_account.specs.declared.answer.Answer.TheVariants as answers
 
 abbrev IsHeard : Said → Type 0
 IsHeard said = IsNumbered (arrives said.sent)

@@ -2,34 +2,23 @@
 -- way, and no case distinction over phases, timers and steps of its own.
 use Rattle.std.proofs.Common.{◌⊎◌, inl, inr, arith, ◌≡◌, ℕ, ◌+◌, ◌-◌, ◌*◌, ◌%◌, ◌&&◌, Bool, true, false, cond, nat_eq, nat_le, length, refl}
 use Rattle.std.proofs.Common.{Option, Some, None, Result, Ok, Err, List, [], ◌∷◌, sym, ◌∙◌, ap, subst}
-use Rattle.std.proofs.lemmas.Bool.Decides.{nat_tests}
-use Rattle.shared_terms.specs.declared.role.Role.{Role}
-use Rattle.shared_terms.specs.declared.role.Role.TheVariants.{Originator, Answerer}
-use Rattle.shared_terms.specs.Role.{is_originator}
+use Rattle.link_account.proofs.Names.{nat_tests, Role, Originator, Answerer, is_originator, LinkFault, NotDetected, Frame, Rej, Srej, Sabme}
+use Rattle.link_account.proofs.Names.{Disc, Xid, Sent, written, Outgoing, BreakWord, OwnBreaks, ticked, waits, Account, is_connected}
+use Rattle.link_account.proofs.Names.{trying, Said, says, frame_for, nr_of, may_send, steps, speak_linked, spent, speak_releasing, speak}
+use Rattle.link_account.proofs.Names.{speak_in}
 use Rattle.shared_terms.specs.Timer.{expires}
-use Rattle.shared_terms.specs.declared.fault.LinkFault.{LinkFault}
-use Rattle.shared_terms.specs.declared.fault.LinkFault.TheVariants.{NotDetected}
-use Rattle.lapm_frames.specs.declared.frame.Frame.{Frame}
-use Rattle.lapm_frames.specs.declared.frame.Frame.TheVariants.{Rej, Srej, Sabme, Disc, Xid}
-use Rattle.lapm_frames.specs.declared.sent.Sent.{Sent}
-use Rattle.lapm_frames.specs.declared.sent.Sent.TheVariants as slots
-use Rattle.xid_params.specs.Offers.{written}
-use Rattle.lapm_sender.specs.Outgoing.{Outgoing, expired, after_next, sent_among}
+use Rattle.lapm_sender.specs.Outgoing.{expired, after_next, sent_among}
 use Rattle.lapm_receiver.specs.Incoming.{asks, after_asked}
-use Rattle.break_signals.specs.declared.word.BreakWord.{BreakWord}
-use Rattle.break_signals.specs.Breaks.{OwnBreaks, own_due, after_brk, after_ack, ticked, waits}
+use Rattle.break_signals.specs.Breaks.{own_due, after_brk, after_ack}
 use Rattle.link_account.specs.declared.phase.Phase.{Phase}
 use Rattle.link_account.specs.declared.phase.Phase.TheVariants.{Detecting, Negotiating, Establishing, Connected, Releasing, Closed}
 use Rattle.link_account.specs.declared.answer.Answer.{Answer}
-use Rattle.link_account.specs.Account.{Account, Wait, is_connected}
-use Rattle.link_account.specs.Hear.{trying}
-use Rattle.link_account.specs.Speak.{Said, says, says_frame, says_segment, says_word, says_own, says_break, says_asking, telling}
-use Rattle.link_account.specs.Speak.{frame_for, answering}
-use Rattle.link_account.specs.Speak.{else_says, where_says, tells, nr_of, may_send, has_news, steps, step1, step2, step3, step4, step5}
-use Rattle.link_account.specs.Speak.{step6, step7, step8}
-use Rattle.link_account.specs.Speak.{timer_expires, polling, breaking, then_tries, after_timers, speak_linked, tries_frame, trying_again}
-use Rattle.link_account.specs.Speak.{u_try, spent}
-use Rattle.link_account.specs.Speak.{speak_releasing, speak_detecting, speak_negotiating, speak, speak_in}
+use Rattle.link_account.specs.Account.{Wait}
+use Rattle.link_account.specs.Speak.{says_frame, says_segment, says_word, says_own, says_break, says_asking, telling, answering, else_says}
+use Rattle.link_account.specs.Speak.{where_says, tells, has_news, step1, step2, step3, step4, step5, step6, step7, step8, timer_expires}
+use Rattle.link_account.specs.Speak.{polling, breaking, then_tries, after_timers, tries_frame, trying_again, u_try, speak_detecting}
+use Rattle.link_account.specs.Speak.{speak_negotiating}
+use Rattle.lapm_frames.specs.declared.sent.Sent.TheVariants as slots
 
 abbrev pub AllSaid : (Said → Type 0) → Option Said → Type 0
 AllSaid P None = Unit {0}

@@ -1,37 +1,24 @@
 -- Speaking keeps a play good.
-use Rattle.std.proofs.Common.{◌≡◌, ℕ, ◌≤◌, ◌&&◌, Bool, true, false, List, [], ◌∷◌, ◌++◌, length, arith}
-use Rattle.std.proofs.Common.{refl, sym, ◌∙◌, ap, subst, Option, Some, None, Result, Ok, Err, ◌⊎◌, inl, inr}
-use Rattle.std.proofs.lemmas.Bool.{false≢true}
-use Rattle.lapm_frames.specs.declared.frame.Frame.{Frame}
-use Rattle.lapm_frames.specs.declared.frame.Frame.TheVariants.{Sabme, Disc, Ua, Dm, Xid}
-use Rattle.xid_params.specs.Offers.{written}
-use Rattle.lapm_sender.specs.Outgoing.{Outgoing}
-use Rattle.lapm_receiver.specs.Incoming.{Incoming, next_expected}
-use Rattle.shared_terms.specs.declared.role.Role.{Role}
-use Rattle.shared_terms.specs.declared.role.Role.TheVariants.{Originator, Answerer}
-use Rattle.break_signals.specs.Breaks.{OwnBreaks}
-use Rattle.lapm_frames.specs.declared.sent.Sent.{Sent}
-use Rattle.lapm_frames.specs.declared.sent.Sent.TheVariants as slots
-use Rattle.shared_terms.specs.declared.fault.LinkFault.{LinkFault}
-use Rattle.shared_terms.specs.declared.fault.LinkFault.TheVariants.{NotDetected, Spent, BadAck, PeerReset, PeerRefused}
+use Rattle.std.proofs.Common.{◌≡◌, ℕ, ◌≤◌, ◌&&◌, Bool, true, false, List, [], ◌∷◌, ◌++◌, length, arith, refl, sym, ◌∙◌, ap, subst, Option}
+use Rattle.std.proofs.Common.{Some, None, Result, Ok, Err, ◌⊎◌, inl, inr}
+use Rattle.link_account.proofs.Names.{false≢true, Frame, Sabme, Disc, Ua, Dm, Xid, written, Outgoing, Incoming, next_expected, Role}
+use Rattle.link_account.proofs.Names.{Originator, Answerer, OwnBreaks, Sent, LinkFault, NotDetected, Spent, Account, is_originator, trying}
+use Rattle.link_account.proofs.Names.{Said, says, frame_for, speak, Slot}
+use Rattle.shared_terms.specs.declared.fault.LinkFault.TheVariants.{BadAck, PeerReset, PeerRefused}
 use Rattle.link_account.specs.declared.setup.Setup.{Setup}
 use Rattle.link_account.specs.declared.phase.Phase.{Phase}
 use Rattle.link_account.specs.declared.phase.Phase.TheVariants.{Detecting, Negotiating, Establishing, Connected, Releasing, Closed}
 use Rattle.link_account.specs.declared.answer.Answer.{Answer}
-use Rattle.link_account.specs.declared.answer.Answer.TheVariants as answers
-use Rattle.link_account.specs.Account.{Account, Wait}
-use Rattle.shared_terms.specs.Role.{is_originator}
-use Rattle.link_account.specs.Hear.{trying}
-use Rattle.link_account.specs.Speak.{Said, says, frame_for, speak}
-use Rattle.link_account.specs.Play.{Slot}
+use Rattle.link_account.specs.Account.{Wait}
 use Rattle.link_account.proofs.Flow.{IsAskable, all_snoc}
 use Rattle.link_account.proofs.Ends.{segment_of, asked_of, Goes, line-quiet, back-told}
 use Rattle.link_account.proofs.Linked.{Linked, Same, IsNumbered, IsLinked, SaysWell, steps-well}
 use Rattle.link_account.proofs.SpeakWays.{Answers, Tries, ConnectedWays, Ways, by-ways, linked-alike, tries-alike, retimed, Breaks}
-use Rattle.link_account.proofs.SpeakWays.{Undetected, Spends}
-use Rattle.link_account.proofs.SpeakWays.{why-broken}
+use Rattle.link_account.proofs.SpeakWays.{Undetected, Spends, why-broken}
 use Rattle.link_account.proofs.Good.{rank, FromO, FromA, DueA, NotSabme, SabmeFirst, PlaceO, PlaceA, NoneNumbered, LineO, LineA, terms_of}
 use Rattle.link_account.proofs.Good.{Good, linked-o, linked-a, changed-o, changed-a}
+use Rattle.lapm_frames.specs.declared.sent.Sent.TheVariants as slots
+use Rattle.link_account.specs.declared.answer.Answer.TheVariants as answers
 
 -- two ends of ours break for want of answers alone
 abbrev pub IsHarmless : LinkFault → Type 0

@@ -1,34 +1,21 @@
 -- How many segments an end has sent, and which of them go again, is counted by the numbers modulo 128 as by the meant ones.
 use Rattle.std.proofs.Common.{◌≡◌, ◌≢◌, inl, inr, ℕ, zero, suc, ◌+◌, ◌%◌, ◌≤◌, ◌||◌, max, Bool, true, false, cond, nat_eq, nat_lt, List, []}
 use Rattle.std.proofs.Common.{◌∷◌, ◌++◌, length, arith, refl, sym, ◌∙◌, ap, subst, Option, Some, None, Ok}
-use Rattle.std.proofs.lemmas.Bool.{false≢true}
-use Rattle.std.proofs.lemmas.Bool.Decides.{nat_tests}
-use Rattle.shared_terms.specs.declared.role.Role.{Role}
-use Rattle.shared_terms.specs.declared.role.Role.TheVariants.{Originator, Answerer}
-use Rattle.shared_terms.specs.Both.{of}
-use Rattle.xid_params.specs.Offers.{ReadsAllowed}
-use Rattle.lapm_frames.specs.declared.frame.Frame.{Frame}
-use Rattle.lapm_frames.specs.declared.frame.Frame.TheVariants.{I}
-use Rattle.lapm_sender.specs.Outgoing.{Outgoing, with_piece}
-use Rattle.lapm_receiver.specs.Incoming.{KeepsTaken}
-use Rattle.lapm_frames.specs.declared.sent.Sent.{Sent}
-use Rattle.lapm_frames.specs.declared.sent.Sent.TheVariants as slots
-use Rattle.link_account.specs.declared.phase.Phase.{Phase}
-use Rattle.link_account.specs.declared.phase.Phase.TheVariants.{Detecting, Negotiating, Establishing, Connected, Releasing, Closed}
-use Rattle.link_account.specs.Account.{Account, wants, piece_size, after_given}
-use Rattle.link_account.specs.Laws.{MayPlay, has_begun, IsInRange, SendsInOrder, SendsInRange}
-use Rattle.link_account.specs.Speak.{Said}
-use Rattle.link_run.specs.End.{User, delivered, piece_at, offered_at, offered_times, room_for, served, is_released}
-use Rattle.link_run.specs.Run.{Link, Accounts, Spoken, Turn, arrival, GoingTurn, start, said_at, served_at, releases}
-use Rattle.link_run.specs.Carried.{Carries}
-use Rattle.link_run.specs.Laws.{RunsOver, IsPlayed}
+use Rattle.link_account.proofs.Names.{false≢true, nat_tests, Role, Originator, Answerer, of, ReadsAllowed, Frame, I, Outgoing, with_piece}
+use Rattle.link_account.proofs.Names.{KeepsTaken, Sent, Account, wants, piece_size, after_given, MayPlay, Said}
+use Rattle.link_run.proofs.Names.{User, delivered, piece_at}
+use Rattle.link_run.proofs.Names.{offered_at, offered_times, room_for, served, is_released, Link, Accounts, Spoken, Turn, arrival}
+use Rattle.link_run.proofs.Names.{GoingTurn, start, said_at, served_at, releases, Carries, RunsOver}
+use Rattle.link_account.specs.Laws.{IsInRange, SendsInOrder, SendsInRange}
+use Rattle.link_run.specs.Laws.{IsPlayed}
 use Rattle.link_run.specs.Counts.{number_in, segment_number, is_number, numbers_sent, repeated, sequence_number, sequence_in, sequence_of}
 use Rattle.link_run.specs.Counts.{next_count, again_in, CountsByNumber, SentBelowHigh}
-use Rattle.link_run.proofs.Keeping.{stage, GoesOn, hears}
+use Rattle.link_run.proofs.Keeping.{GoesOn, hears, not-begun}
 use Rattle.link_run.proofs.Serving.{served-alone}
 use Rattle.link_run.proofs.Running.{runs_are_plays, hearings_are_plays}
 use Rattle.link_run.proofs.Numbering.{SentAs, Alike, sends-as}
 use Rattle.link_run.proofs.Taking.{delivered-out}
+use Rattle.lapm_frames.specs.declared.sent.Sent.TheVariants as slots
 
 -- the number that counts, where there is an N(S)
 abbrev listed : ℕ → Option ℕ → List ℕ
@@ -72,14 +59,6 @@ served-alike u turn released a =
     }
 
 -- hearing sends nothing
-not-begun : (p : Phase) → stage p ≡ 0 → has_begun p ≡ false
-not-begun Detecting e = refl
-not-begun Negotiating e = refl
-not-begun Establishing e = refl
-not-begun Connected e = absurd (omega (arith, e))
-not-begun Releasing e = absurd (omega (arith, e))
-not-begun Closed e = absurd (omega (arith, e))
-
 heard-high : (a b : Account) → SendsInOrder a → GoesOn a b → b.outgoing.high ≡ a.outgoing.high
 heard-high a b s (inl g) = g.high
 heard-high a b s (inr g) = ap (λ o. o.high) g.outgoing_is ∙ sym (s.unsent (not-begun a.phase g.was))

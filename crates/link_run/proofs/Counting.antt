@@ -1,15 +1,12 @@
 -- What is kept of the segments that pass, by their numbers alone, is what a receiver's part takes and holds.
 use Rattle.std.proofs.Common.{◌≡◌, ◌≢◌, ℕ, zero, suc, ◌+◌, ◌-◌, ◌%◌, ◌<◌, ◌≤◌, ◌||◌, max, Bool, true, false, cond, nat_eq, nat_lt, List, []}
 use Rattle.std.proofs.Common.{◌∷◌, ◌++◌, length, slice_index_or, arith, length-append, refl, sym, ◌∙◌, ap, subst}
-use Rattle.std.proofs.lemmas.Bool.{false≢true}
-use Rattle.std.proofs.lemmas.Bool.Decides.{nat_tests}
+use Rattle.link_account.proofs.Names.{false≢true, nat_tests, append_assoc, AllByRecursion, Incoming, kind_of, offset, after_kind}
+use Rattle.link_account.proofs.Names.{after_take, next_expected, Took, InOrder, Kept, Repeat, Gap}
 use borrow.Author.Tests.{eqb-true}
-use Rattle.std.proofs.lemmas.List.{append_assoc}
-use Rattle.std.specs.List.{AllByRecursion, concat}
+use Rattle.std.specs.List.{concat}
 use Rattle.lapm_receiver.specs.Held.{Held, is_held, with_held, run_from, rest_from}
-use Rattle.lapm_receiver.specs.Incoming.{Incoming, kind_at, kind_of, offset, after_kind, after_take, next_expected}
-use Rattle.lapm_receiver.specs.declared.took.Took.{Took}
-use Rattle.lapm_receiver.specs.declared.took.Took.TheVariants.{InOrder, Kept, Repeat, Gap}
+use Rattle.lapm_receiver.specs.Incoming.{kind_at}
 use Rattle.link_account.specs.Laws.{IsTakenBy}
 use Rattle.link_run.specs.Taken.{Segment, is_among, beyond, missing_from, missing, keeping, info_of, infos_from, octets_in}
 
@@ -152,10 +149,10 @@ among-more n (x ∷ ss) s =
     assoc true b c = refl
     assoc false b c = refl
 
-or-true-left : (b c : Bool) → b ≡ true → (b || c) ≡ true
+pub or-true-left : (b c : Bool) → b ≡ true → (b || c) ≡ true
 or-true-left b c e = ap (λ z. z || c) e
 
-or-true-right : (b c : Bool) → c ≡ true → (b || c) ≡ true
+pub or-true-right : (b c : Bool) → c ≡ true → (b || c) ≡ true
 or-true-right true c e = refl
 or-true-right false c e = e
 
@@ -240,8 +237,7 @@ idle-kind : (kind : Took) (o : ℕ) (info : List ℕ) (i : Incoming) → (kind �
     → SameTaken i (after_kind kind o info i)
 idle-kind InOrder o info i h k = absurd (h refl)
 idle-kind Kept o info i h k = absurd (k refl)
-idle-kind Repeat o info i h k = record { taken = refl; held = refl; srej = refl }
-idle-kind Gap o info i h k = record { taken = refl; held = refl; srej = refl }
+idle-kind p o info i h k = record { taken = refl; held = refl; srej = refl }
 
 pub same-tracks : (ss : List Segment) (i j : Incoming) → SameTaken i j → Tracks ss i → Tracks ss j
 same-tracks ss i j e t = as-tracks ss (length i.taken) (length j.taken) i.held j.held i.srej j.srej (ap length e.taken) e.held e.srej t

@@ -1,28 +1,21 @@
 -- The segments that an end was offered are its user's file, cut at the agreed length.
 use Rattle.std.proofs.Common.{◌≡◌, inl, inr, ℕ, zero, suc, ◌+◌, ◌*◌, ◌<◌, ◌≤◌, ◌&&◌, not, Bool, true, false, cond, nat_lt, List, [], ◌∷◌}
 use Rattle.std.proofs.Common.{◌++◌, length, take, drop, arith, length-append, refl, sym, ◌∙◌, ap, subst, Option, Some, None}
+use Rattle.link_account.proofs.Names.{false≢true, nat_tests, append-nil, append_assoc, take-append-drop, is_some, Terms, IsAllowed, Role}
+use Rattle.link_account.proofs.Names.{Originator, Answerer, Outgoing, wanted, with_piece, Account, fresh, is_connected, wants, piece_size}
+use Rattle.link_account.proofs.Names.{after_given, after_busy, IsPrefixOf}
+use Rattle.link_run.proofs.Names.{Setup, Phase, Connected, User, delivered}
+use Rattle.link_run.proofs.Names.{piece_at, offered_at, offered_times, room_for, offered, is_busy, served}
 use Rattle.std.proofs.Math.Seq.{take-add}
-use Rattle.std.proofs.lemmas.Bool.{false≢true}
-use Rattle.std.proofs.lemmas.Bool.Decides.{nat_tests}
-use Rattle.std.proofs.lemmas.List.{append-nil, append_assoc, take_all, take-append-drop, length-take, length-drop}
+use Rattle.std.proofs.lemmas.List.{take_all, length-take, length-drop}
 use Rattle.std.proofs.lemmas.List.Folds.{concat-append}
 use Rattle.std.specs.List.{concat}
-use Rattle.std.specs.Prelude.{is_some, unwrap_or}
-use Rattle.link_account.specs.declared.setup.Setup.{Setup}
-use Rattle.xid_params.specs.declared.terms.Terms.{Terms}
-use Rattle.xid_params.specs.Offers.{IsAllowed}
-use Rattle.shared_terms.specs.declared.role.Role.{Role}
-use Rattle.shared_terms.specs.declared.role.Role.TheVariants.{Originator, Answerer}
-use Rattle.lapm_sender.specs.Outgoing.{Outgoing, wanted, with_piece}
-use Rattle.link_account.specs.declared.phase.Phase.{Phase}
-use Rattle.link_account.specs.declared.phase.Phase.TheVariants.{Detecting, Negotiating, Establishing, Connected, Releasing, Closed}
-use Rattle.link_account.specs.Account.{Account, fresh, is_connected, wants, piece_size, after_given, after_busy, size_for}
-use Rattle.link_run.specs.End.{User, delivered, piece_at, offered_at, offered_times, room_for, offered, is_busy, served}
+use Rattle.std.specs.Prelude.{unwrap_or}
+use Rattle.link_account.specs.Account.{size_for}
 use Rattle.link_run.specs.Reading.{IsCut, IsOffered}
 use Rattle.link_run.proofs.Keeping.{Books, stage, AreTerms, GoesOn}
 use Rattle.link_run.proofs.Speaking.{Ledger, Speaks, Keeps_on, Releases}
 use Rattle.link_run.proofs.Serving.{asks-alone, busy-alone}
-use Rattle.plain_lists.specs.Prefix.{IsPrefixOf}
 
 pub none-cut : (file : List ℕ) (size : ℕ) → IsCut file size [] false
 none-cut file size =
@@ -80,19 +73,11 @@ size-of Answerer t h = h.1
 
 pub linked-stage : (p : Phase) → is_connected p ≡ true → stage p ≡ 1
 linked-stage Connected e = refl
-linked-stage Detecting e = absurd (false≢true e)
-linked-stage Negotiating e = absurd (false≢true e)
-linked-stage Establishing e = absurd (false≢true e)
-linked-stage Releasing e = absurd (false≢true e)
-linked-stage Closed e = absurd (false≢true e)
+linked-stage p e = absurd (false≢true e)
 
 stage-linked : (p : Phase) → stage p ≡ 1 → is_connected p ≡ true
 stage-linked Connected e = refl
-stage-linked Detecting e = absurd (omega (arith, e))
-stage-linked Negotiating e = absurd (omega (arith, e))
-stage-linked Establishing e = absurd (omega (arith, e))
-stage-linked Releasing e = absurd (omega (arith, e))
-stage-linked Closed e = absurd (omega (arith, e))
+stage-linked p e = absurd (omega (arith, e))
 
 pub heard-cuts : (file : List ℕ) (a b : Account) → IsOffered file a → GoesOn a b → IsOffered file b
 heard-cuts file a b h (inl s) = record {

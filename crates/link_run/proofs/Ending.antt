@@ -1,17 +1,9 @@
 -- What holds once the originator was told to release, and in the end.
 use Rattle.std.proofs.Common.{◌≡◌, inl, inr, ℕ, ◌≤◌, Bool, true, false, cond, List, [], ◌∷◌, length, refl, sym, ◌∙◌, ap, subst, Option}
-use Rattle.shared_terms.specs.declared.role.Role.{Role}
-use Rattle.shared_terms.specs.declared.role.Role.TheVariants.{Originator, Answerer}
-use Rattle.shared_terms.specs.Both.{of}
-use Rattle.plain_lists.specs.Prefix.{IsPrefixOf}
-use Rattle.xid_params.specs.Offers.{IsAllowed, ReadsAllowed}
-use Rattle.lapm_receiver.specs.Incoming.{KeepsTaken}
-use Rattle.link_account.specs.Account.{Account, fresh, is_connected}
-use Rattle.link_account.specs.Play.{Play}
-use Rattle.link_account.specs.Laws.{MayPlay, TakesInOrder, AcknowledgesTaken, GivesBreaksInOrder, AnswersGiven}
-use Rattle.link_run.specs.End.{delivered, served, is_released}
-use Rattle.link_run.specs.Run.{Link, Accounts, Turn, arrival, Hears, GoingTurn, RunOf, served_at}
-use Rattle.link_run.specs.Run as run
+use Rattle.link_account.proofs.Names.{Role, Originator, Answerer, of, IsPrefixOf, IsAllowed, ReadsAllowed, KeepsTaken, Account, fresh}
+use Rattle.link_account.proofs.Names.{is_connected, Play, MayPlay}
+use Rattle.link_run.proofs.Names.{delivered, served, is_released, Link, Accounts, Turn, arrival, Hears, RunOf, served_at}
+use Rattle.link_account.specs.Laws.{TakesInOrder, AcknowledgesTaken, GivesBreaksInOrder, AnswersGiven}
 use Rattle.link_run.specs.Laws.{HoldPrefixes, TakesPrefixes, HearsPrefixes}
 use Rattle.link_run.proofs.Keeping.{Books, GoesOn, hears}
 use Rattle.link_run.proofs.Speaking.{Ledger, Speaks, Keeps_on, Releases}
@@ -19,6 +11,7 @@ use Rattle.link_run.proofs.Serving.{served-alone}
 use Rattle.link_run.proofs.Running.{Reaches, told, speaks-at, hearing-reaches, run-reaches}
 use Rattle.link_run.specs.Reading.{IsOffered}
 use Rattle.link_run.proofs.Cutting.{fresh-cuts, heard-cuts, served-cuts, spoken-cuts, begins-file}
+use Rattle.link_run.specs.Run as run
 
 -- what holds of each end by itself, all through a run
 pub record IsKept (P : Role → Account → Type 0) (link : Link) : Type 0 where

@@ -1,56 +1,31 @@
 -- No end breaks as it hears, and as it speaks it breaks for want of answers alone.
 use Rattle.std.proofs.Common.{◌≡◌, ℕ, ◌-◌, true, false, List, [], ◌∷◌, ◌++◌, length, map, refl, sym, ap, subst, Option, Some, None, Result}
 use Rattle.std.proofs.Common.{Ok, Err, slice_get}
+use Rattle.link_account.proofs.Names.{false≢true, Role, Originator, Answerer, ReadsAllowed, KeepsTaken, LinkFault, Account, hear, Slot}
+use Rattle.link_account.proofs.Names.{Play, arrives, MayPlay, Heard, Nothing, Passed, Lost, Chance, of}
+use Rattle.link_run.proofs.Names.{Link, Turn, arrival, served_at, releases, sent_in, Crosses}
 use Rattle.std.specs.Prelude.{is_ok}
-use Rattle.std.proofs.lemmas.Bool.{false≢true}
 use Rattle.frame_check.specs.declared.check.Check.TheVariants.{Sixteen}
-use Rattle.shared_terms.specs.declared.role.Role.{Role}
-use Rattle.shared_terms.specs.declared.role.Role.TheVariants.{Originator, Answerer}
-use Rattle.xid_params.specs.Offers.{ReadsAllowed}
-use Rattle.lapm_receiver.specs.Incoming.{KeepsTaken}
-use Rattle.shared_terms.specs.declared.fault.LinkFault.{LinkFault}
-use Rattle.link_account.specs.Account.{Account}
-use Rattle.link_account.specs.Hear.{hear}
-use Rattle.link_account.specs.Play.{Slot, Play, Passes, arrives, heard, happens}
-use Rattle.link_account.specs.Laws.{MayPlay, WantsAnswers, BreaksForWantAlone}
-use Rattle.lapm_frames.specs.declared.heard.Heard.{Heard}
-use Rattle.lapm_frames.specs.declared.heard.Heard.TheVariants.{Nothing, Passed, Lost, Chance}
-use Rattle.link_run.specs.Run.{Link, Turn, arrival, served_at, releases}
-use Rattle.link_run.specs.Run as run
-use Rattle.link_run.specs.Carried.{sent_in, Crosses, on_line}
+use Rattle.link_account.specs.Play.{Passes, heard, happens}
+use Rattle.link_account.specs.Laws.{WantsAnswers, BreaksForWantAlone}
+use Rattle.link_run.specs.Carried.{on_line}
 use Rattle.link_run.specs.Laws.{told_by_play, told_by_turn, HearingsAreWell, BrokenForWant}
-use Rattle.link_run.proofs.Keeping.{breaks-not}
+use Rattle.link_account.proofs.HearWays.{breaks-not}
 use Rattle.link_run.proofs.Speaking.{breaks-for-want}
-use Rattle.link_run.proofs.Playing.{at, Leads, then-leads, one, made, next-first, head-of, none-is-some, told-slot}
+use Rattle.link_run.proofs.Playing.{Leads, then-leads, one, made, next-first, head-of, none-is-some, told-slot}
+use Rattle.link_account.proofs.Events.{sides, side, at}
 use Rattle.link_run.proofs.Running.{begun, Reaches, lines, run-reaches}
-use Rattle.shared_terms.specs.Both.{of}
+use Rattle.link_run.specs.Run as run
 
 -- the other end of this role breaks
 abbrev broken : Role → Account → List Slot → Account → List Slot → LinkFault → Play
-broken Originator x lx y ly fault =
-    record {
-      originator = record { account = x; line = lx; fault = None };
-      answerer = record { account = y; line = ly; fault = Some fault };
-    }
-broken Answerer x lx y ly fault =
-    record {
-      originator = record { account = y; line = ly; fault = Some fault };
-      answerer = record { account = x; line = lx; fault = None };
-    }
+broken role x lx y ly fault = sides role (side x lx) (record (side y ly) { fault = Some fault })
 
 passes-breaks : (role : Role) (turn : ℕ) (x y : Account) (slot : Slot) (rest ly : List Slot) (fault : LinkFault)
     → hear turn (arrives slot.sent) y ≡ Err fault
     → happens (Passes role turn) (at role x (slot ∷ rest) y ly) ≡ broken role x rest y ly fault
-passes-breaks Originator turn x y slot rest ly fault e =
-    ap (λ r. record {
-      originator = record { account = x; line = rest; fault = None };
-      answerer = heard r (record { account = y; line = ly; fault = None });
-    }) e
-passes-breaks Answerer turn x y slot rest ly fault e =
-    ap (λ r. record {
-      originator = heard r (record { account = y; line = ly; fault = None });
-      answerer = record { account = x; line = rest; fault = None };
-    }) e
+passes-breaks Originator turn x y slot rest ly fault e = ap (λ r. sides Originator (side x rest) (heard r (side y ly))) e
+passes-breaks Answerer turn x y slot rest ly fault e = ap (λ r. sides Answerer (side x rest) (heard r (side y ly))) e
 
 wants-of : (role : Role) (x y : Account) (lx ly : List Slot) (fault : LinkFault)
     → WantsAnswers (broken role x lx y ly fault).originator.fault × WantsAnswers (broken role x lx y ly fault).answerer.fault

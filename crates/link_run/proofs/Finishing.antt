@@ -1,38 +1,28 @@
 -- Once the originator was told to release, nothing of both files or of any break is left; so done means whole.
 use Rattle.std.proofs.Common.{◌≡◌, inl, inr, ℕ, zero, suc, ◌+◌, ◌≤◌, ◌&&◌, ◌||◌, not, Bool, true, false, cond, nat_eq, nat_lt, List, []}
 use Rattle.std.proofs.Common.{◌∷◌, ◌++◌, length, arith, length-append, refl, sym, ◌∙◌, ap, subst, Option, Some, None, Ok}
+use Rattle.link_account.proofs.Names.{false≢true, nat_tests, append-nil, IsPrefixOf, Role, Originator, Answerer, of, ReadsAllowed, Outgoing}
+use Rattle.link_account.proofs.Names.{KeepsTaken, OwnBreaks, waits, Account, is_connected, wants, after_given, after_busy, Said, MayPlay}
+use Rattle.link_run.proofs.Names.{Setup, Phase, Releasing, Closed, User, delivered}
+use Rattle.link_run.proofs.Names.{offered_at, offered_times, room_for, is_busy, served, is_released, is_closed, has_finished, next_break}
+use Rattle.link_run.proofs.Names.{Link, Accounts, Turn, arrival, Hears, RunOf, served_at, releases, said_at, IsCarried}
 use Rattle.std.specs.List.{concat}
-use Rattle.std.proofs.lemmas.Bool.{false≢true}
-use Rattle.std.proofs.lemmas.Bool.Decides.{nat_tests}
-use Rattle.std.proofs.lemmas.List.{append-nil}
-use Rattle.plain_lists.specs.Prefix.{IsPrefixOf}
-use Rattle.shared_terms.specs.declared.role.Role.{Role}
-use Rattle.shared_terms.specs.declared.role.Role.TheVariants.{Originator, Answerer}
-use Rattle.shared_terms.specs.Both.{of}
-use Rattle.xid_params.specs.Offers.{ReadsAllowed}
-use Rattle.lapm_sender.specs.Outgoing.{Outgoing, is_whole}
-use Rattle.lapm_receiver.specs.Incoming.{KeepsTaken}
-use Rattle.break_signals.specs.Breaks.{OwnBreaks, waits}
-use Rattle.link_account.specs.declared.setup.Setup.{Setup}
-use Rattle.link_account.specs.declared.phase.Phase.{Phase}
-use Rattle.link_account.specs.declared.phase.Phase.TheVariants.{Detecting, Negotiating, Establishing, Connected, Releasing, Closed}
-use Rattle.link_account.specs.Account.{Account, is_connected, wants, after_given, after_busy, is_done, break_waits}
-use Rattle.link_account.specs.Speak.{Said}
-use Rattle.link_account.specs.Laws.{MayPlay}
-use Rattle.link_run.specs.End.{User, delivered, offered_at, offered_times, room_for, is_busy, served, is_released, is_closed, has_finished}
-use Rattle.link_run.specs.End.{is_ready, next_break}
-use Rattle.link_run.specs.Run.{Link, Accounts, Turn, arrival, Hears, RunOf, served_at, finished_at, served_ends, releases, said_at}
-use Rattle.link_run.specs.Run as run
-use Rattle.link_run.specs.Carried.{IsCarried, HasDelays}
+use Rattle.lapm_sender.specs.Outgoing.{is_whole}
+use Rattle.link_account.specs.Account.{is_done, break_waits}
+use Rattle.link_run.specs.End.{is_ready}
+use Rattle.link_run.specs.Run.{finished_at, served_ends}
+use Rattle.link_run.specs.Carried.{HasDelays}
 use Rattle.link_run.specs.Laws.{HoldWhole, DoneIsWhole}
 use Rattle.link_run.proofs.Keeping.{Books, stage, GoesOn, hears, Standing, standing, stands-heard}
 use Rattle.link_run.proofs.Speaking.{Ledger, Speaks, Keeps_on, Releases, stands-spoken}
 use Rattle.link_run.proofs.Serving.{Waiting, served-alone, busy-alone}
-use Rattle.link_run.proofs.Playing.{at, then-leads, serves}
+use Rattle.link_run.proofs.Playing.{then-leads, serves}
+use Rattle.link_account.proofs.Events.{at}
 use Rattle.link_run.proofs.Running.{begun, Reaches, speaks-at, run-handed, hearing-waits, hearing-reaches, run-reaches}
 use Rattle.link_run.proofs.Cutting.{linked-stage}
 use Rattle.link_run.proofs.Ending.{AtBoth, kept-heard, kept-run, HasSetup, setups-kept, HasCut, cuts-kept, Facts, PlayLaws, facts}
 use Rattle.link_run.proofs.Ending.{allowed-both}
+use Rattle.link_run.specs.Run as run
 
 both-true : (b c : Bool) → (b && c) ≡ true → (b ≡ true) × (c ≡ true)
 both-true true c e = (refl, e)
@@ -204,10 +194,7 @@ served-reaches link turn mid line p w =
 released-at : (p : Phase) → is_closed p ≡ false → 2 ≤ stage p → is_released p ≡ true
 released-at Releasing e h = refl
 released-at Closed e h = refl
-released-at Detecting e h = absurd (omega (arith, h))
-released-at Negotiating e h = absurd (omega (arith, h))
-released-at Establishing e h = absurd (omega (arith, h))
-released-at Connected e h = absurd (omega (arith, h))
+released-at p e h = absurd (omega (arith, h))
 
 over-going : (link : Link) (turn : ℕ) (mid : Accounts) (o a : Said) → is_closed mid.orig.phase ≡ false
     → (2 ≤ stage mid.orig.phase → Over mid.orig mid.answ)
@@ -280,12 +267,8 @@ over-run reads keeps laws link delay m some (t ∷ ts) ends c h two =
     (subst (λ (x : Account). 2 ≤ stage x.phase) ko.after_is two))
   where
     not-closed : (p : Phase) → is_closed p ≡ false → stage p ≤ 2
-    not-closed Detecting e = omega arith
-    not-closed Negotiating e = omega arith
-    not-closed Establishing e = omega arith
-    not-closed Connected e = omega arith
-    not-closed Releasing e = omega arith
     not-closed Closed e = absurd (false≢true (sym e))
+    not-closed p e = omega arith
 
     was-released : {x y : Account} → GoesOn x y → stage y.phase ≤ 2 → 2 ≤ stage y.phase → 2 ≤ stage x.phase
     was-released (inl w) low high = omega (arith, w.unreleased (omega (arith, low, high)))
@@ -316,11 +299,7 @@ whole link mid h f c Answerer = record {
 
 closed-stage : (p : Phase) → is_closed p ≡ true → stage p ≡ 3
 closed-stage Closed e = refl
-closed-stage Detecting e = absurd (false≢true e)
-closed-stage Negotiating e = absurd (false≢true e)
-closed-stage Establishing e = absurd (false≢true e)
-closed-stage Connected e = absurd (false≢true e)
-closed-stage Releasing e = absurd (false≢true e)
+closed-stage p e = absurd (false≢true e)
 
 pub done_is_whole : ReadsAllowed → KeepsTaken → PlayLaws → DoneIsWhole
 done_is_whole reads keeps laws link delay ts ends t mid v n k =

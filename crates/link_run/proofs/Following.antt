@@ -1,28 +1,12 @@
 -- All through a run the frames that passed tell how far both ends are.
 use Rattle.std.proofs.Common.{◌≡◌, ◌≢◌, ◌⊎◌, inl, inr, ℕ, ◌≤◌, ◌||◌, Bool, true, false, cond, nat_le, List, [], ◌∷◌, length, arith, refl}
-use Rattle.std.proofs.Common.{sym, ◌∙◌, ap, subst, Option, Some, None}
-use Rattle.std.proofs.lemmas.Bool.{false≢true}
-use Rattle.std.proofs.lemmas.Bool.Decides.{nat_tests}
-use Rattle.shared_terms.specs.declared.role.Role.{Role}
-use Rattle.shared_terms.specs.declared.role.Role.TheVariants.{Originator, Answerer}
-use Rattle.shared_terms.specs.Role.{is_originator}
-use Rattle.shared_terms.specs.Both.{of}
-use Rattle.lapm_frames.specs.declared.frame.Frame.{Frame}
-use Rattle.lapm_frames.specs.declared.frame.Frame.TheVariants.{I, Rr, Rnr, Rej, Srej, Sabme, Disc, Ua, Xid}
-use Rattle.xid_params.specs.Offers.{ReadsAllowed, ReadsWritten}
-use Rattle.lapm_receiver.specs.Incoming.{KeepsTaken}
-use Rattle.lapm_frames.specs.declared.sent.Sent.{Sent}
-use Rattle.lapm_frames.specs.declared.sent.Sent.TheVariants as slots
-use Rattle.link_account.specs.declared.setup.Setup.{Setup}
-use Rattle.link_account.specs.declared.phase.Phase.{Phase}
-use Rattle.link_account.specs.declared.phase.Phase.TheVariants.{Detecting, Negotiating, Establishing, Connected, Releasing, Closed}
-use Rattle.link_account.specs.declared.answer.Answer.{Answer}
-use Rattle.link_account.specs.Account.{Account, is_connected, first_terms}
-use Rattle.link_account.specs.Speak.{Said}
-use Rattle.link_account.specs.Laws.{MayPlay}
-use Rattle.link_run.specs.End.{User, delivered, served}
-use Rattle.link_run.specs.Run.{Link, Accounts, Turn, Spoken, spoken, arrival, Hears, RunOf, served_at}
-use Rattle.link_run.specs.Carried.{Carries, IsCarried}
+use Rattle.std.proofs.Common.{sym, ◌∙◌, ap, subst, Option, Some, None, Ok}
+use Rattle.link_account.proofs.Names.{false≢true, nat_tests, Role, Originator, Answerer, is_originator, of, Frame, I, Rr, Rnr, Rej, Srej}
+use Rattle.link_account.proofs.Names.{Sabme, Disc, Ua, Xid, ReadsAllowed, ReadsWritten, KeepsTaken, Sent, Account, is_connected, hear, Said}
+use Rattle.link_account.proofs.Names.{MayPlay}
+use Rattle.link_run.proofs.Names.{Setup, Phase, Connected, Releasing, Closed, Answer, User, delivered}
+use Rattle.link_run.proofs.Names.{served, Link, Accounts, Turn, Spoken, spoken, arrival, Hears, RunOf, served_at, Carries, IsCarried}
+use Rattle.link_account.specs.Account.{first_terms}
 use Rattle.link_run.specs.Overheard.{has_passed, is_xid, opens}
 use Rattle.link_run.proofs.Keeping.{stage}
 use Rattle.link_run.proofs.Speaking.{Ledger, Speaks, Keeps_on, Releases}
@@ -32,10 +16,10 @@ use Rattle.link_run.proofs.Ending.{AtBoth, HasSetup, setups-kept, kept-run}
 use Rattle.link_run.proofs.Meeting.{is_disc, is_counted, carries, brings}
 use Rattle.link_run.proofs.Saying.{Says, is-said}
 use Rattle.link_run.proofs.Joining.{serving}
-use Rattle.link_run.proofs.Coursing.{Course, course, heard_course, course-heard}
 use Rattle.link_run.proofs.Declaring.{OwnFrame, OwnSent, Declares, is-declared}
-use Rattle.link_run.proofs.Knowing.{rank, OnSent, IfSent, AllSent, all-weaker, came-all, passed-brings, SentO, SentA, sent_o-later}
-use Rattle.link_run.proofs.Knowing.{sent_a-later, DueO, DueA, due_a-later, terms_of, Reads, AfterO, o-hears, AfterA, a-hears}
+use Rattle.link_run.proofs.Knowing.{Course, course, rank, OnSent, IfSent, AllSent, all-weaker, came-all, passed-brings, SentO, SentA}
+use Rattle.link_run.proofs.Knowing.{sent_o-later, sent_a-later, DueO, DueA, due_a-later, terms_of, Reads, o-hears, a-hears}
+use Rattle.lapm_frames.specs.declared.sent.Sent.TheVariants as slots
 
 -- what was sent in some turns and heard in some tells how far both ends are
 pub record Known (so sa : Setup) (sent heard : List Turn) (o a : Course) : Type 0 where
@@ -61,28 +45,23 @@ passed-more is role t ts n m h e =
     ap (λ b. b || has_passed is role ts) (passed-brings is (of role t).heard) ∙ ap (λ b. brings is (arrival (of role t).heard) || b) h
     ∙ sym e
 
-known-heard : (so sa : Setup) → Reads so sa → (delay : Role → ℕ) (ts : List Turn) (t : Turn) (o a p b : Course) → Known so sa ts ts o a
-    → Carries delay ts t
-    → p ≡ heard_course Originator so.offer o.phase (arrival t.orig.heard) o
-    → b ≡ heard_course Answerer sa.offer a.phase (arrival t.answ.heard) a → Known so sa ts (t ∷ ts) p b
-known-heard so sa reads delay ts t o a p b h c eo ea =
-    let x : AfterO so sa (rank a.phase) o.phase (arrival t.orig.heard) p =
-    subst (AfterO so sa (rank a.phase) o.phase (arrival t.orig.heard)) (sym eo)
-    (o-hears so sa reads (rank a.phase) o.phase (arrival t.orig.heard) o.terms o.answer
-    (came-all (SentA sa (rank o.phase) (rank a.phase)) delay Answerer ts t.orig.heard h.sent_a (c Originator)) h.due_o h.terms_o h.met)
-    in
-    let y : AfterA so sa (rank o.phase) a.phase (arrival t.answ.heard) b =
-    subst (AfterA so sa (rank o.phase) a.phase (arrival t.answ.heard)) (sym ea)
-    (a-hears so sa reads (rank o.phase) a.phase (arrival t.answ.heard) a.terms a.answer
-    (came-all (SentO so (rank o.phase)) delay Originator ts t.answ.heard h.sent_o (c Answerer)) h.due_a h.terms_a h.met h.never_two
-    h.never_four h.linked) in
+known-heard : (so sa : Setup) → Reads so sa → (delay : Role → ℕ) (ts : List Turn) (t : Turn) (turn : ℕ) (o a p b : Account)
+    → so.role ≡ Originator → sa.role ≡ Answerer → o.setup ≡ so → a.setup ≡ sa → Known so sa ts ts (course o) (course a)
+    → Carries delay ts t → hear turn (arrival t.orig.heard) o ≡ Ok p → hear turn (arrival t.answ.heard) a ≡ Ok b
+    → Known so sa ts (t ∷ ts) (course p) (course b)
+known-heard so sa reads delay ts t turn o a p b ro ra seto seta h c eo ea =
+    let x = o-hears so sa reads (rank a.phase) turn o seto ro h.due_o h.terms_o h.met (arrival t.orig.heard) p eo
+    (came-all (SentA sa (rank o.phase) (rank a.phase)) delay Answerer ts t.orig.heard h.sent_a (c Originator)) in
+    let y = a-hears so sa reads (rank o.phase) turn a seta ra h.due_a h.terms_a h.met h.never_two h.never_four h.linked
+    (arrival t.answ.heard) b ea
+    (came-all (SentO so (rank o.phase)) delay Originator ts t.answ.heard h.sent_o (c Answerer)) in
     record {
       sent_o = all-weaker (SentO so (rank o.phase)) (SentO so (rank p.phase))
           (sent_o-later so (rank o.phase) (rank p.phase) x.later) Originator ts h.sent_o;
       sent_a = all-weaker (SentA sa (rank o.phase) (rank a.phase)) (SentA sa (rank p.phase) (rank b.phase))
           (sent_a-later sa (rank o.phase) (rank a.phase) (rank p.phase) (rank b.phase) x.later y.later) Answerer ts h.sent_a;
       due_o = x.due;
-      due_a = due_a-later (rank o.phase) (rank b.phase) (rank p.phase) (rank b.phase) x.later (omega arith) b.answer y.due;
+      due_a = due_a-later (rank o.phase) (rank b.phase) (rank p.phase) (rank b.phase) x.later (omega arith) b.owes.answer y.due;
       terms_o = x.terms;
       terms_a = y.terms;
       met = λ z. omega (arith, x.met z, y.later);
@@ -135,18 +114,11 @@ due_a-spoke r m x y (inr e) h = subst (DueA r m) (sym e) tt
 stage-rank : (p : Phase) → 2 ≤ stage p → 4 ≤ rank p
 stage-rank Releasing h = omega arith
 stage-rank Closed h = omega arith
-stage-rank Connected h = absurd (omega (arith, h))
-stage-rank Detecting h = absurd (omega (arith, h))
-stage-rank Negotiating h = absurd (omega (arith, h))
-stage-rank Establishing h = absurd (omega (arith, h))
+stage-rank p h = absurd (omega (arith, h))
 
 pub linked-rank : (p : Phase) → stage p ≡ 1 → rank p ≡ 3
 linked-rank Connected h = refl
-linked-rank Detecting h = absurd (omega (arith, h))
-linked-rank Negotiating h = absurd (omega (arith, h))
-linked-rank Establishing h = absurd (omega (arith, h))
-linked-rank Releasing h = absurd (omega (arith, h))
-linked-rank Closed h = absurd (omega (arith, h))
+linked-rank p h = absurd (omega (arith, h))
 
 -- what an originator says
 said-o : (so : Setup) (p : Phase) (answer : Option Answer) (s : ℕ) (frame : Frame) → OwnFrame so answer p frame → DueO answer → rank p ≤ s
@@ -276,16 +248,8 @@ known-mid reads keeps written link delay ts before t mid p h m c k =
     let s = kept-run reads keeps (HasSetup link) link (setups-kept link) ts before h in
     let read : Reads link.orig.setup link.answ.setup =
     record { orig = written link.orig.setup.offer p.offer_o; answ = written link.answ.setup.offer p.offer_a } in
-    known-heard link.orig.setup link.answ.setup read delay ts t (course before.orig) (course before.answ) (course mid.orig)
-    (course mid.answ) m c
-    (subst (λ (z : Setup). course mid.orig ≡ heard_course Originator z.offer before.orig.phase (arrival t.orig.heard) (course before.orig))
-    (s Originator)
-    (course-heard Originator (length ts) (arrival t.orig.heard) before.orig mid.orig
-    (ap (λ (z : Setup). z.role) (s Originator) ∙ p.originates) (k Originator).hears))
-    (subst (λ (z : Setup). course mid.answ ≡ heard_course Answerer z.offer before.answ.phase (arrival t.answ.heard) (course before.answ))
-    (s Answerer)
-    (course-heard Answerer (length ts) (arrival t.answ.heard) before.answ mid.answ (ap (λ (z : Setup). z.role) (s Answerer) ∙ p.answers)
-    (k Answerer).hears))
+    known-heard link.orig.setup link.answ.setup read delay ts t (length ts) before.orig before.answ mid.orig mid.answ p.originates p.answers
+    (s Originator) (s Answerer) m c (k Originator).hears (k Answerer).hears
 
 pub known-run : (reads : ReadsAllowed) (keeps : KeepsTaken) (written : ReadsWritten) (link : Link) (delay : Role → ℕ)
     → MayPlay link.orig.setup link.answ.setup → (ts : List Turn) (ends : Accounts) → IsCarried delay ts → RunOf link ts ends

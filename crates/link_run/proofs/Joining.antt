@@ -3,21 +3,11 @@
 -- the originator releases.
 use Rattle.std.proofs.Common.{◌≡◌, ◌≢◌, ◌⊎◌, inl, inr, ℕ, zero, suc, ◌-◌, ◌≤◌, ◌||◌, Bool, true, false, cond, List, [], ◌∷◌, length, arith}
 use Rattle.std.proofs.Common.{refl, sym, ◌∙◌, ap, subst, Option, Some, None, slice_get}
-use Rattle.std.proofs.lemmas.Bool.{false≢true}
-use Rattle.shared_terms.specs.declared.role.Role.{Role}
-use Rattle.shared_terms.specs.declared.role.Role.TheVariants.{Originator, Answerer}
-use Rattle.lapm_frames.specs.declared.frame.Frame.{Frame}
-use Rattle.xid_params.specs.Offers.{ReadsAllowed}
-use Rattle.lapm_receiver.specs.Incoming.{KeepsTaken}
-use Rattle.link_account.specs.declared.setup.Setup.{Setup}
-use Rattle.link_account.specs.Account.{Account, is_connected, after_busy, after_given}
-use Rattle.link_account.specs.Speak.{Said}
-use Rattle.link_account.specs.Laws.{MayPlay}
-use Rattle.lapm_frames.specs.declared.heard.Heard.{Heard}
-use Rattle.lapm_frames.specs.declared.heard.Heard.TheVariants.{Nothing, Passed, Lost, Chance}
-use Rattle.link_run.specs.End.{User, delivered, room_for, offered, is_busy, served, is_released}
-use Rattle.link_run.specs.Run.{Link, Accounts, Turn, Spoken, spoken, arrival, Hears, RunOf, served_at}
-use Rattle.link_run.specs.Carried.{sent_in, sent_ago, Crosses, Carries, IsCarried}
+use Rattle.link_account.proofs.Names.{false≢true, Role, Originator, Answerer, Frame, ReadsAllowed, KeepsTaken, Account, is_connected}
+use Rattle.link_account.proofs.Names.{after_busy, after_given, Said, MayPlay, Heard, Nothing, Passed, Lost, Chance, is_originator, of}
+use Rattle.link_run.proofs.Counting.{or-true-left, or-true-right}
+use Rattle.link_run.proofs.Names.{Setup, User, delivered, room_for, offered, is_busy, served, is_released, Link, Accounts, Turn, Spoken}
+use Rattle.link_run.proofs.Names.{spoken, arrival, Hears, RunOf, served_at, sent_in, sent_ago, Crosses, Carries, IsCarried}
 use Rattle.link_run.proofs.Keeping.{stage, GoesOn, hears}
 use Rattle.link_run.proofs.Speaking.{Ledger, Speaks, Keeps_on, Releases}
 use Rattle.link_run.proofs.Serving.{served-alone, offers-alone}
@@ -25,8 +15,6 @@ use Rattle.link_run.proofs.Running.{told, speaks-at}
 use Rattle.link_run.proofs.Ending.{HasSetup, setups-kept, kept-run}
 use Rattle.link_run.proofs.Meeting.{is_ua, is_disc, is_segment, is_counted, carries, brings, brings-carried, owes_ua, Told, is-told}
 use Rattle.link_run.proofs.Saying.{Part, part, Says, is-said}
-use Rattle.shared_terms.specs.Role.{is_originator}
-use Rattle.shared_terms.specs.Both.{of}
 
 -- whether a role sent such a frame in a turn, and in any of these turns
 abbrev pub sent_is : (Frame → Bool) → Option Spoken → Bool
@@ -37,13 +25,6 @@ abbrev pub any_sent : (Frame → Bool) → Role → List Turn → Bool
 any_sent is role [] = false
 any_sent is role (t ∷ ts) = sent_is is (of role t).sent || any_sent is role ts
 
-or-left : (b c : Bool) → b ≡ true → (b || c) ≡ true
-or-left b c e = ap (λ z. z || c) e
-
-or-right : (b c : Bool) → c ≡ true → (b || c) ≡ true
-or-right true c e = refl
-or-right false c e = e
-
 or-either : (b c : Bool) → (b || c) ≡ true → (b ≡ true) ⊎ (c ≡ true)
 or-either true c e = inl refl
 or-either false c e = inr e
@@ -51,8 +32,8 @@ or-either false c e = inr e
 ago-any : (is : Frame → Bool) (role : Role) (k : ℕ) (ts : List Turn) → sent_is is (sent_in role (slice_get ts k)) ≡ true
     → any_sent is role ts ≡ true
 ago-any is role k [] e = absurd (false≢true e)
-ago-any is role zero (t ∷ ts) e = or-left (sent_is is (of role t).sent) (any_sent is role ts) e
-ago-any is role (suc k) (t ∷ ts) e = or-right (sent_is is (of role t).sent) (any_sent is role ts) (ago-any is role k ts e)
+ago-any is role zero (t ∷ ts) e = or-true-left (sent_is is (of role t).sent) (any_sent is role ts) e
+ago-any is role (suc k) (t ∷ ts) e = or-true-right (sent_is is (of role t).sent) (any_sent is role ts) (ago-any is role k ts e)
 
 brought : (is : Frame → Bool) (o : Option Spoken) (h : Heard) → Crosses o h → brings is (arrival h) ≡ true → sent_is is o ≡ true
 brought is o Nothing c e = absurd (false≢true e)
@@ -159,7 +140,7 @@ same-spoken : (a b : Account) → Speaks false a b → stage b.phase ≡ stage a
 same-spoken a b (Keeps_on e) = ap (λ (l : Ledger). stage l.phase) e
 same-spoken a b (Releases on role linked e k) = absurd (false≢true on)
 
-linked-spoken : (release : Bool) (a b : Account) → Speaks release a b → 1 ≤ stage b.phase → 1 ≤ stage a.phase
+pub linked-spoken : (release : Bool) (a b : Account) → Speaks release a b → 1 ≤ stage b.phase → 1 ≤ stage a.phase
 linked-spoken release a b (Keeps_on e) z = omega (arith, z, ap (λ (l : Ledger). stage l.phase) e)
 linked-spoken release a b (Releases on role linked e k) z = omega (arith, ap stage linked)
 

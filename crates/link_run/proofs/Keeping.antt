@@ -1,37 +1,22 @@
 -- What an end keeps of its books as it hears and speaks.
-use Rattle.std.proofs.Common.{◌≡◌, ◌≢◌, ◌⊎◌, inl, inr, ℕ, ◌+◌, ◌%◌, ◌≤◌, ◌&&◌, Bool, true, false, cond, nat_eq, List, [], ◌∷◌}
-use Rattle.std.proofs.Common.{◌++◌, length, arith, lit≤, refl, sym, ◌∙◌, ap, subst, Option, Some, None, Ok, Err}
-use Rattle.std.proofs.lemmas.Bool.{false≢true}
-use Rattle.std.proofs.lemmas.List.{append-nil}
-use Rattle.shared_terms.specs.declared.role.Role.{Role}
-use Rattle.shared_terms.specs.declared.role.Role.TheVariants.{Originator, Answerer}
-use Rattle.xid_params.specs.declared.offer.Offer.{Offer}
-use Rattle.xid_params.specs.declared.terms.Terms.{Terms}
-use Rattle.xid_params.specs.Terms.{agree, default_offer}
-use Rattle.xid_params.specs.Offers.{IsAllowed, ReadsAllowed}
-use Rattle.lapm_sender.specs.Outgoing.{Outgoing}
-use Rattle.lapm_sender.specs.Outgoing as outgoing
-use Rattle.lapm_receiver.specs.Incoming.{Incoming, after_take, after_kind, kind_of, offset, KeepsTaken}
-use Rattle.lapm_receiver.specs.Incoming as incoming
-use Rattle.lapm_receiver.specs.declared.took.Took.{Took}
-use Rattle.lapm_receiver.specs.declared.took.Took.TheVariants.{InOrder, Kept, Repeat, Gap}
-use Rattle.break_signals.specs.Breaks.{OwnBreaks, TheirBreaks, with_given, gives, waits, after_answer}
-use Rattle.lapm_frames.specs.declared.arrived.Arrived.{Arrived}
-use Rattle.link_account.specs.declared.setup.Setup.{Setup}
-use Rattle.link_account.specs.declared.phase.Phase.{Phase}
-use Rattle.link_account.specs.declared.phase.Phase.TheVariants.{Detecting, Negotiating, Establishing, Connected, Releasing, Closed}
-use Rattle.shared_terms.specs.declared.fault.LinkFault.{LinkFault}
-use Rattle.link_account.specs.declared.answer.Answer.TheVariants as answers
-use Rattle.link_account.specs.Account.{Account, size_for, window_for}
-use Rattle.link_account.specs.Laws.{WantsAnswers}
-use Rattle.link_account.specs.Hear.{hear}
-use Rattle.link_account.specs.Hear.{on_nothing, connected}
-use Rattle.link_account.specs.Hear.{owing, trying}
-use Rattle.shared_terms.specs.declared.fault.LinkFault.TheVariants.{NotDetected, Spent, BadAck, PeerReset, PeerRefused}
-use Rattle.break_signals.specs.Breaks.{after_break}
+use Rattle.std.proofs.Common.{◌≡◌, ◌≢◌, ◌⊎◌, inl, inr, ℕ, ◌+◌, ◌%◌, ◌≤◌, ◌&&◌, Bool, true, false, cond, nat_eq, List, [], ◌∷◌, ◌++◌, length}
+use Rattle.std.proofs.Common.{arith, lit≤, refl, sym, ◌∙◌, ap, subst, Option, Some, None, Ok}
+use Rattle.link_account.proofs.Names.{false≢true, append-nil, is_connected, Role, Originator, Answerer, Offer, Terms, agree, IsAllowed}
+use Rattle.link_account.proofs.Names.{ReadsAllowed}
+use Rattle.link_account.proofs.Names.{Outgoing, Incoming, after_take, after_kind, kind_of, offset, KeepsTaken, Took, InOrder}
+use Rattle.link_account.proofs.Names.{OwnBreaks, waits, after_answer, Arrived, Account, hear, on_nothing, owing, trying}
+use Rattle.link_account.proofs.Names.{is_originator}
+use Rattle.link_run.proofs.Names.{Setup, Phase, Detecting, Negotiating, Connected, Releasing, Closed}
+use Rattle.xid_params.specs.Terms.{default_offer}
+use Rattle.break_signals.specs.Breaks.{TheirBreaks, with_given, gives, after_break}
+use Rattle.link_account.specs.Account.{size_for, window_for}
+use Rattle.link_account.specs.Laws.{has_begun}
+use Rattle.link_account.specs.Hear.{connected}
 use Rattle.link_account.proofs.HearWays.{NumberKeeps, numbered_with, acked-keeps, acked_back-keeps, resumed-keeps, paused-keeps, Ways}
-use Rattle.link_account.proofs.HearWays.{by-ways, IsRefusal, refused}
-use Rattle.shared_terms.specs.Role.{is_originator}
+use Rattle.link_account.proofs.HearWays.{by-ways}
+use Rattle.lapm_sender.specs.Outgoing as outgoing
+use Rattle.lapm_receiver.specs.Incoming as incoming
+use Rattle.link_account.specs.declared.answer.Answer.TheVariants as answers
 
 -- what neither hearing nor speaking changes
 pub record Books : Type 0 where
@@ -54,12 +39,28 @@ books a = record {
 
 -- before it is Connected, then, releasing, closed
 abbrev pub stage : Phase → ℕ
-stage Detecting = 0
-stage Negotiating = 0
-stage Establishing = 0
 stage Connected = 1
 stage Releasing = 2
 stage Closed = 3
+stage p = 0
+
+pub stage-high : (p : Phase) → stage p ≤ 3
+stage-high Detecting = omega arith
+stage-high p = omega arith
+
+pub linked-phase : (p : Phase) → stage p ≡ 1 → p ≡ Connected
+linked-phase Connected e = refl
+linked-phase p e = absurd (omega (arith, e))
+
+pub not-begun : (p : Phase) → stage p ≡ 0 → has_begun p ≡ false
+not-begun Connected e = absurd (omega (arith, e))
+not-begun Releasing e = absurd (omega (arith, e))
+not-begun Closed e = absurd (omega (arith, e))
+not-begun p e = refl
+
+pub unlinked-stage : (p : Phase) → is_connected p ≡ false → stage p ≢ 1
+unlinked-stage Connected e = absurd (false≢true (sym e))
+unlinked-stage p e = λ z. omega (arith, z)
 
 abbrev pub AreTerms : Terms → Type 0
 AreTerms t = (1 ≤ t.len_o) × (1 ≤ t.len_a)
@@ -136,20 +137,12 @@ closes a b books_are sent taken theirs from to terms hangs = inl (record {
   theirs_are = theirs ∙ sym (append-nil a.their_breaks.lengths);
   few = omega arith;
   before = λ e. omega (arith, e, from, to);
-  later = omega (arith, to, from, high a.phase);
+  later = omega (arith, to, from, stage-high a.phase);
   unreleased = λ e. omega (arith, e, to);
   hangs_up = λ e. hangs;
   idle = λ h. (refl, refl);
   terms = λ o t. subst AreTerms (sym terms) t;
 })
-  where
-    high : (p : Phase) → stage p ≤ 3
-    high Detecting = omega arith
-    high Negotiating = omega arith
-    high Establishing = omega arith
-    high Connected = omega arith
-    high Releasing = omega arith
-    high Closed = omega arith
 
 -- terms that are agreed
 agreed : (o a : Offer) → IsAllowed o → IsAllowed a → AreTerms (agree o a)
@@ -209,9 +202,7 @@ numbered a new timer reply urgent k = same a (numbered_with a new a.incoming tim
 
 kind-given : (kind : Took) (o : ℕ) (info : List ℕ) (i : Incoming) → (after_kind kind o info i).given ≡ i.given
 kind-given InOrder o info i = refl
-kind-given Kept o info i = refl
-kind-given Repeat o info i = refl
-kind-given Gap o info i = refl
+kind-given p o info i = refl
 
 take-books : (a : Account) (ps : List (List ℕ)) (e : Bool) (g : ℕ) → ps ≡ a.outgoing.pieces → e ≡ a.outgoing.ended → g ≡ a.incoming.given
     → record { setup = a.setup; pieces = ps; ended = e; given = g; told = a.breaks_told; lengths = a.own_breaks.lengths } ≡ books a
@@ -328,17 +319,6 @@ ways reads keeps turn a = record {
 pub hears : (reads : ReadsAllowed) (keeps : KeepsTaken) (turn : ℕ) (arrived : Arrived) (a b : Account) → hear turn arrived a ≡ Ok b
     → GoesOn a b
 hears reads keeps turn arrived a b e = by-ways (λ x b. GoesOn a b) turn a (ways reads keeps turn a) arrived b e
-
-pub breaks-not : (turn : ℕ) (arrived : Arrived) (a : Account) (fault : LinkFault) → hear turn arrived a ≡ Err fault
-    → WantsAnswers (Some fault) → ⊥
-breaks-not turn arrived a fault e w = go fault (refused turn arrived a fault e) w
-  where
-    go : (f : LinkFault) → IsRefusal f → WantsAnswers (Some f) → ⊥
-    go NotDetected r w = r
-    go (Spent segment since) r w = r
-    go (BadAck nr va high) r w = w
-    go (PeerReset va vr) r w = w
-    go PeerRefused r w = w
 
 -- an originator that was told to release, or a closed end: nothing of this changes any more
 pub record Standing : Type 0 where

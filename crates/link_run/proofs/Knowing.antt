@@ -1,36 +1,29 @@
 -- What is known of both ends by the frames that passed: who has heard an XID frame has agreed, and who has heard a UA or a SABME is
 -- Connected.
-use Rattle.std.proofs.Common.{◌≡◌, ◌≢◌, ℕ, zero, suc, ◌-◌, ◌≤◌, ◌||◌, Bool, true, false, cond, nat_le, List, [], ◌∷◌, arith, refl, sym, ◌∙◌}
-use Rattle.std.proofs.Common.{ap, subst, Option, Some, None, slice_get}
-use Rattle.std.proofs.lemmas.Bool.{false≢true}
-use Rattle.shared_terms.specs.declared.role.Role.{Role}
-use Rattle.shared_terms.specs.declared.role.Role.TheVariants.{Originator, Answerer}
-use Rattle.shared_terms.specs.Both.{of}
-use Rattle.lapm_frames.specs.declared.frame.Frame.{Frame}
-use Rattle.lapm_frames.specs.declared.frame.Frame.TheVariants.{I, Rr, Rnr, Rej, Srej, Sabme, Disc, Ua, Dm, Xid}
-use Rattle.xid_params.specs.declared.terms.Terms.{Terms}
-use Rattle.xid_params.specs.Terms.{agree}
-use Rattle.xid_params.specs.Offers.{offer_in, written}
-use Rattle.lapm_frames.specs.declared.seen.Seen.TheVariants.{Odp, Adp}
-use Rattle.lapm_frames.specs.declared.arrived.Arrived.{Arrived}
-use Rattle.lapm_frames.specs.declared.arrived.Arrived.TheVariants as arrivals
-use Rattle.lapm_frames.specs.declared.sent.Sent.{Sent}
-use Rattle.lapm_frames.specs.declared.sent.Sent.TheVariants as slots
-use Rattle.lapm_frames.specs.declared.heard.Heard.{Heard}
-use Rattle.lapm_frames.specs.declared.heard.Heard.TheVariants.{Nothing, Passed, Lost, Chance}
-use Rattle.link_account.specs.declared.setup.Setup.{Setup}
-use Rattle.link_account.specs.declared.phase.Phase.{Phase}
-use Rattle.link_account.specs.declared.phase.Phase.TheVariants.{Detecting, Negotiating, Establishing, Connected, Releasing, Closed}
-use Rattle.link_account.specs.declared.answer.Answer.{Answer}
-use Rattle.link_account.specs.declared.answer.Answer.TheVariants as answers
+use Rattle.std.proofs.Common.{inl, inr, ◌≡◌, ◌≢◌, ℕ, zero, suc, ◌-◌, ◌≤◌, ◌||◌, Bool, true, false, cond, nat_le, List, [], ◌∷◌, arith, refl}
+use Rattle.std.proofs.Common.{sym, ◌∙◌, ap, subst, Option, Some, None, Result, Ok, Err, slice_get}
+use Rattle.link_account.proofs.Names.{false≢true, Role, Originator, Answerer, of, Frame, I, Rr, Rnr, Rej, Srej, Sabme, Disc, Ua, Xid, Terms}
+use Rattle.link_account.proofs.Names.{agree, offer_in, written, Arrived, Sent, Heard, Nothing, Passed, Lost, Chance, LinkFault}
+use Rattle.link_account.proofs.Names.{is_originator, Offer, Account, hear, on_frame, without_adp, arrives}
+use Rattle.link_run.proofs.Names.{Setup, Phase, Detecting, Negotiating, Establishing, Connected, Releasing, Closed, Answer, Spoken, Turn}
+use Rattle.link_run.proofs.Names.{arrival, sent_in, sent_ago, Crosses}
 use Rattle.link_account.specs.Account.{first_terms}
-use Rattle.link_account.specs.Hear.{without_adp}
-use Rattle.link_account.specs.Play.{arrives}
-use Rattle.link_run.specs.Run.{Spoken, Turn, arrival}
-use Rattle.link_run.specs.Carried.{sent_in, sent_ago, Crosses}
+use Rattle.link_account.specs.Hear.{on_detecting, on_negotiating, on_establishing, on_xid_command, on_xid_response}
+use Rattle.link_account.proofs.HearWays.{ConnectedWays, EarlyWays, by-ways, numbers-alike}
 use Rattle.link_run.specs.Overheard.{passes_in, is_xid, opens}
 use Rattle.link_run.proofs.Meeting.{brings}
-use Rattle.link_run.proofs.Coursing.{Course, commanded, responded, heard_course}
+use Rattle.lapm_frames.specs.declared.arrived.Arrived.TheVariants as arrivals
+use Rattle.lapm_frames.specs.declared.sent.Sent.TheVariants as slots
+use Rattle.link_account.specs.declared.answer.Answer.TheVariants as answers
+
+-- how far an end has come
+pub record Course : Type 0 where
+  pub phase : Phase
+  pub terms : Terms
+  pub answer : Option Answer
+
+abbrev pub course : Account → Course
+course a = record { phase = a.phase; terms = a.terms; answer = a.owes.answer }
 
 -- how far a phase is
 abbrev pub rank : Phase → ℕ
@@ -200,6 +193,18 @@ pub record Reads (so sa : Setup) : Type 0 where
   pub orig : offer_in (written so.offer) ≡ Some so.offer
   pub answ : offer_in (written sa.offer) ≡ Some sa.offer
 
+or-late : (b n : Bool) → n ≡ true → n ≡ (b || n)
+or-late true n e = e
+or-late false n e = refl
+
+abbrev rank_of : ℕ → Result Account LinkFault → ℕ
+rank_of n (Ok b) = rank b.phase
+rank_of n (Err fault) = n
+
+-- what is heard takes the end to another phase
+not-ignored : (turn : ℕ) (x : Arrived) (a b : Account) → hear turn x a ≡ Ok a → hear turn x a ≡ Ok b → rank b.phase ≢ rank a.phase → ⊥
+not-ignored turn x a b e f n = n (ap (rank_of 0) (sym f ∙ e))
+
 -- the originator has heard
 pub record AfterO (so sa : Setup) (m : ℕ) (p : Phase) (arrived : Arrived) (b : Course) : Type 0 where
   pub later : rank p ≤ rank b.phase
@@ -209,77 +214,118 @@ pub record AfterO (so sa : Setup) (m : ℕ) (p : Phase) (arrived : Arrived) (b :
   pub xid : nat_le 2 (rank b.phase) ≡ (brings is_xid arrived || nat_le 2 (rank p))
   pub opened : nat_le 3 (rank b.phase) ≡ (brings (opens Originator) arrived || nat_le 3 (rank p))
 
-same-o : (so sa : Setup) (m : ℕ) (p : Phase) (arrived : Arrived) (terms : Terms) (answer : Option Answer) → DueO answer
-    → terms ≡ cond (nat_le 2 (rank p)) (terms_of so sa) first_terms → (2 ≤ rank p → 1 ≤ m)
-    → nat_le 2 (rank p) ≡ (brings is_xid arrived || nat_le 2 (rank p))
-    → nat_le 3 (rank p) ≡ (brings (opens Originator) arrived || nat_le 3 (rank p))
-    → AfterO so sa m p arrived (record { phase = p; terms = terms; answer = answer })
-same-o so sa m p arrived terms answer d t n x y = record { later = omega arith; due = d; terms = t; met = n; xid = x; opened = y }
+module _ (so sa : Setup) (reads : Reads so sa) (m turn : ℕ) (a : Account) (setup : a.setup ≡ so) (role : so.role ≡ Originator)
+    (due : DueO a.owes.answer) (terms : a.terms ≡ cond (nat_le 2 (rank a.phase)) (terms_of so sa) first_terms)
+    (met : 2 ≤ rank a.phase → 1 ≤ m) where
+  abbrev HearsO : Arrived → Account → Type 0
+  HearsO x b = OnArrived (SentA sa (rank a.phase) m) x → AfterO so sa m a.phase x (course b)
 
-or-true : (b : Bool) → true ≡ (b || true)
-or-true true = refl
-or-true false = refl
+  never-o : {A : Type 0} → a.setup.role ≡ Answerer → A
+  never-o r = absurd (false≢true (ap is_originator (sym r ∙ (ap (λ (s : Setup). s.role) setup ∙ role))))
 
-o-frame : (so sa : Setup) → Reads so sa → (m : ℕ) (p : Phase) (frame : Frame) (terms : Terms) (answer : Option Answer)
-    → SentA sa (rank p) m frame → DueO answer → terms ≡ cond (nat_le 2 (rank p)) (terms_of so sa) first_terms → (2 ≤ rank p → 1 ≤ m)
-    → AfterO so sa m p (arrivals.Frame frame)
-    (heard_course Originator so.offer p (arrivals.Frame frame) (record { phase = p; terms = terms; answer = answer }))
-o-frame so sa reads m Detecting (Xid command pf info) terms answer s d t n = absurd (omega (arith, s.2))
-o-frame so sa reads m Detecting (Ua pf) terms answer s d t n = absurd (omega (arith, s.1))
-o-frame so sa reads m Detecting frame terms answer s d t n = same-o so sa m Detecting (arrivals.Frame frame) terms answer d t n refl refl
-o-frame so sa reads m Negotiating (Xid true pf info) terms answer s d t n = absurd (false≢true (sym s.0))
-o-frame so sa reads m Negotiating (Xid false pf info) terms answer s d t n =
-    subst (λ o. AfterO so sa m Negotiating (arrivals.Frame (Xid false pf info))
-    (responded o so.offer (record { phase = Negotiating; terms = terms; answer = answer })))
-    (sym (ap offer_in s.1 ∙ reads.answ)) (record { later = omega arith; due = d; terms = refl; met = λ z. s.3; xid = refl; opened = refl })
-o-frame so sa reads m Negotiating (Ua pf) terms answer s d t n = absurd (omega (arith, s.1))
-o-frame so sa reads m Negotiating frame terms answer s d t n =
-    same-o so sa m Negotiating (arrivals.Frame frame) terms answer d t n refl refl
-o-frame so sa reads m Establishing (Ua true) terms answer s d t n =
-    record { later = omega arith; due = d; terms = t; met = λ z. n (omega arith); xid = refl; opened = refl }
-o-frame so sa reads m Establishing (Ua false) terms answer s d t n = absurd (false≢true s.0)
-o-frame so sa reads m Establishing frame terms answer s d t n =
-    same-o so sa m Establishing (arrivals.Frame frame) terms answer d t n refl refl
-o-frame so sa reads m Connected (Ua pf) terms answer s d t n =
-    same-o so sa m Connected (arrivals.Frame (Ua pf)) terms answer d t n refl (or-true pf)
-o-frame so sa reads m Connected (Sabme pf) terms answer s d t n =
-    same-o so sa m Connected (arrivals.Frame (Sabme pf)) terms (Some (answers.Ua pf)) tt t n refl refl
-o-frame so sa reads m Connected frame terms answer s d t n = same-o so sa m Connected (arrivals.Frame frame) terms answer d t n refl refl
-o-frame so sa reads m Releasing (Ua true) terms answer s d t n =
-    record { later = omega arith; due = d; terms = t; met = λ z. n (omega arith); xid = refl; opened = refl }
-o-frame so sa reads m Releasing (Ua false) terms answer s d t n = absurd (false≢true s.0)
-o-frame so sa reads m Releasing (Dm true) terms answer s d t n =
-    record { later = omega arith; due = d; terms = t; met = λ z. n (omega arith); xid = refl; opened = refl }
-o-frame so sa reads m Releasing (Dm false) terms answer s d t n =
-    same-o so sa m Releasing (arrivals.Frame (Dm false)) terms answer d t n refl refl
-o-frame so sa reads m Releasing frame terms answer s d t n = same-o so sa m Releasing (arrivals.Frame frame) terms answer d t n refl refl
-o-frame so sa reads m Closed (Ua pf) terms answer s d t n =
-    same-o so sa m Closed (arrivals.Frame (Ua pf)) terms answer d t n refl (or-true pf)
-o-frame so sa reads m Closed (Disc pf) terms answer s d t n =
-    same-o so sa m Closed (arrivals.Frame (Disc pf)) terms (Some (answers.Dm pf)) tt t n refl refl
-o-frame so sa reads m Closed frame terms answer s d t n = same-o so sa m Closed (arrivals.Frame frame) terms answer d t n refl refl
+  stays-o : (x : Arrived) (answer : Option Answer) → DueO answer
+      → nat_le 2 (rank a.phase) ≡ (brings is_xid x || nat_le 2 (rank a.phase))
+      → nat_le 3 (rank a.phase) ≡ (brings (opens Originator) x || nat_le 3 (rank a.phase))
+      → AfterO so sa m a.phase x (record (course a) { answer = answer })
+  stays-o x answer d y z = record { later = omega arith; due = d; terms = terms; met = met; xid = y; opened = z }
 
-pub o-hears : (so sa : Setup) → Reads so sa → (m : ℕ) (p : Phase) (arrived : Arrived) (terms : Terms) (answer : Option Answer)
-    → OnArrived (SentA sa (rank p) m) arrived → DueO answer → terms ≡ cond (nat_le 2 (rank p)) (terms_of so sa) first_terms
-    → (2 ≤ rank p → 1 ≤ m)
-    → AfterO so sa m p arrived (heard_course Originator so.offer p arrived (record { phase = p; terms = terms; answer = answer }))
-o-hears so sa reads m p arrivals.Nothing terms answer s d t n =
-    same-o so sa m p arrivals.Nothing terms (without_adp answer) (due_o-without answer d) t n refl refl
-o-hears so sa reads m Detecting (arrivals.Pattern Adp) terms answer s d t n =
-    record { later = omega arith; due = d; terms = t; met = λ z. absurd (omega (arith, z)); xid = refl; opened = refl }
-o-hears so sa reads m Detecting (arrivals.Pattern Odp) terms answer s d t n =
-    same-o so sa m Detecting (arrivals.Pattern Odp) terms answer d t n refl refl
-o-hears so sa reads m Negotiating (arrivals.Pattern seen) terms answer s d t n =
-    same-o so sa m Negotiating (arrivals.Pattern seen) terms answer d t n refl refl
-o-hears so sa reads m Establishing (arrivals.Pattern seen) terms answer s d t n =
-    same-o so sa m Establishing (arrivals.Pattern seen) terms answer d t n refl refl
-o-hears so sa reads m Connected (arrivals.Pattern seen) terms answer s d t n =
-    same-o so sa m Connected (arrivals.Pattern seen) terms answer d t n refl refl
-o-hears so sa reads m Releasing (arrivals.Pattern seen) terms answer s d t n =
-    same-o so sa m Releasing (arrivals.Pattern seen) terms answer d t n refl refl
-o-hears so sa reads m Closed (arrivals.Pattern seen) terms answer s d t n =
-    same-o so sa m Closed (arrivals.Pattern seen) terms answer d t n refl refl
-o-hears so sa reads m p (arrivals.Frame frame) terms answer s d t n = o-frame so sa reads m p frame terms answer s d t n
+  linked-o : a.phase ≡ Connected → (x : Arrived) (answer : Option Answer) → DueO answer
+      → AfterO so sa m a.phase x (record (course a) { answer = answer })
+  linked-o p x answer d =
+      stays-o x answer d (or-late _ _ (ap (λ q. nat_le 2 (rank q)) p)) (or-late _ _ (ap (λ q. nat_le 3 (rank q)) p))
+
+  moves-o : (x : Arrived) (p q : Phase) → a.phase ≡ p → rank p ≤ rank q → nat_le 2 (rank q) ≡ nat_le 2 (rank p)
+      → (2 ≤ rank q → 2 ≤ rank p) → nat_le 2 (rank q) ≡ (brings is_xid x || nat_le 2 (rank p))
+      → nat_le 3 (rank q) ≡ (brings (opens Originator) x || nat_le 3 (rank p))
+      → AfterO so sa m a.phase x (record (course a) { phase = q })
+  moves-o x p q e l two more y z = record {
+    later = omega (arith, ap rank e, l);
+    due = due;
+    terms = terms ∙ (ap (λ r. cond (nat_le 2 (rank r)) (terms_of so sa) first_terms) e
+        ∙ ap (λ b. cond b (terms_of so sa) first_terms) (sym two));
+    met = λ k. met (omega (arith, ap rank e, more k));
+    xid = y ∙ ap (λ r. brings is_xid x || nat_le 2 (rank r)) (sym e);
+    opened = z ∙ ap (λ r. brings (opens Originator) x || nat_le 3 (rank r)) (sym e);
+  }
+
+  -- what changes nothing is no frame by which it would come farther
+  ignored-o : (x : Arrived) → hear turn x a ≡ Ok a → OnArrived (SentA sa (rank a.phase) m) x → AfterO so sa m a.phase x (course a)
+  ignored-o arrivals.Nothing f k = stays-o arrivals.Nothing _ due refl refl
+  ignored-o (arrivals.Pattern seen) f k = stays-o (arrivals.Pattern seen) _ due refl refl
+  ignored-o (arrivals.Frame frame) f k = on frame f k
+    where
+      on : (frame : Frame) → hear turn (arrivals.Frame frame) a ≡ Ok a → SentA sa (rank a.phase) m frame
+          → AfterO so sa m a.phase (arrivals.Frame frame) (course a)
+      on (Xid command pf info) f k = stays-o _ _ due (by a.phase refl) refl
+        where
+          by : (p : Phase) → a.phase ≡ p → nat_le 2 (rank a.phase) ≡ true || nat_le 2 (rank a.phase)
+          by Detecting e = absurd (omega (arith, k.2, ap rank e))
+          by Negotiating e = absurd (not-ignored turn (arrivals.Frame (Xid command pf info)) a _ f
+              (ap (λ p. on_frame p (Xid command pf info) turn a) e
+              ∙ (ap (λ r. on_negotiating r (Xid command pf info) turn a) (ap (λ (s : Setup). s.role) setup ∙ role)
+              ∙ (ap (λ c. on_negotiating Originator (Xid c pf info) turn a) k.0
+              ∙ ap (λ o. Ok (on_xid_response o turn a)) (ap offer_in k.1 ∙ reads.answ)))) (λ z. omega (arith, z, ap rank e)))
+          by Establishing e = ap (λ q. nat_le 2 (rank q)) e
+          by Connected e = ap (λ q. nat_le 2 (rank q)) e
+          by Releasing e = ap (λ q. nat_le 2 (rank q)) e
+          by Closed e = ap (λ q. nat_le 2 (rank q)) e
+      on (Ua pf) f k = stays-o _ _ due refl (by a.phase refl)
+        where
+          by : (p : Phase) → a.phase ≡ p → nat_le 3 (rank a.phase) ≡ pf || nat_le 3 (rank a.phase)
+          by Detecting e = absurd (omega (arith, k.1, ap rank e))
+          by Negotiating e = absurd (omega (arith, k.1, ap rank e))
+          by Establishing e = absurd (not-ignored turn (arrivals.Frame (Ua pf)) a _ f
+              (ap (λ p. on_frame p (Ua pf) turn a) e ∙ ap (λ b. on_establishing (Ua b) turn a) k.0) (λ z. omega (arith, z, ap rank e)))
+          by Connected e = or-late _ _ (ap (λ q. nat_le 3 (rank q)) e)
+          by Releasing e = or-late _ _ (ap (λ q. nat_le 3 (rank q)) e)
+          by Closed e = or-late _ _ (ap (λ q. nat_le 3 (rank q)) e)
+      on frame f k = stays-o _ _ due refl refl
+
+  ways-o : a.phase ≡ Connected → ConnectedWays HearsO turn a
+  ways-o p = record {
+    pattern = λ seen k. linked-o p _ _ due;
+    plain = λ frame f k. linked-o p _ _ due;
+    numbers = numbers-alike HearsO turn a (λ frame new incoming timer reply urgent n k. linked-o p _ _ due);
+    sabme = λ pf n r k. linked-o p _ _ tt;
+    disc = λ pf r. never-o r;
+    brk = λ command pf info number length_octet q k. linked-o p _ _ due;
+    brkack = λ command pf info number length_octet q k. linked-o p _ _ due;
+  }
+
+  early-o : EarlyWays HearsO turn a
+  early-o = record {
+    ignores = ignored-o;
+    detects = λ p r k. moves-o _ Detecting Negotiating p (omega arith) refl (λ z. omega (arith, z)) refl refl;
+    detected = λ p r. never-o r;
+    xid = λ p r. never-o r;
+    agrees = λ p r pf info offer f k.
+        let both : Some offer ≡ Some sa.offer = sym f ∙ (ap offer_in k.1 ∙ reads.answ) in
+        let same : offer ≡ sa.offer = cc in
+        record {
+          later = omega (arith, ap rank p);
+          due = due;
+          terms = ap (λ (s : Setup). agree s.offer offer) setup ∙ ap (agree so.offer) same;
+          met = λ z. k.3;
+          xid = refl;
+          opened = sym (ap (λ q. nat_le 3 (rank q)) p);
+        };
+    sabme_first = λ p r. never-o r;
+    sabme = λ p r. never-o r;
+    ua = λ p k. moves-o _ Establishing Connected p (omega arith) refl (λ z. omega arith) refl refl;
+    disc = λ p pf k. elim p [
+      | inl q ↦ never-o q.1
+      | inr q ↦ stays-o _ _ tt refl refl
+    ];
+    closes = λ p frame f k. moves-o _ Releasing Closed p (omega arith) refl (λ z. omega arith) (or-late _ _ refl) (or-late _ _ refl);
+  }
+
+  pub o-hears : (x : Arrived) (b : Account) → hear turn x a ≡ Ok b → OnArrived (SentA sa (rank a.phase) m) x
+      → AfterO so sa m a.phase x (course b)
+  o-hears x b e = by-ways HearsO turn a (record {
+    nothing = λ k. stays-o arrivals.Nothing (without_adp a.owes.answer) (due_o-without a.owes.answer due) refl refl;
+    linked = ways-o;
+    early = λ c. early-o;
+  }) x b e
 
 -- the answerer has heard; it is neither Establishing nor Releasing
 pub record AfterA (so sa : Setup) (r : ℕ) (p : Phase) (arrived : Arrived) (b : Course) : Type 0 where
@@ -292,104 +338,133 @@ pub record AfterA (so sa : Setup) (r : ℕ) (p : Phase) (arrived : Arrived) (b :
   pub xid : nat_le 1 (rank b.phase) ≡ (brings is_xid arrived || nat_le 1 (rank p))
   pub opened : nat_le 3 (rank b.phase) ≡ (brings (opens Answerer) arrived || nat_le 3 (rank p))
 
-same-a : (so sa : Setup) (r : ℕ) (p : Phase) (arrived : Arrived) (terms : Terms) (answer : Option Answer) → DueA r (rank p) answer
-    → terms ≡ cond (nat_le 1 (rank p)) (terms_of so sa) first_terms → rank p ≢ 2 → rank p ≢ 4 → (3 ≤ rank p → 2 ≤ r)
-    → nat_le 1 (rank p) ≡ (brings is_xid arrived || nat_le 1 (rank p))
-    → nat_le 3 (rank p) ≡ (brings (opens Answerer) arrived || nat_le 3 (rank p))
-    → AfterA so sa r p arrived (record { phase = p; terms = terms; answer = answer })
-same-a so sa r p arrived terms answer d t two four l x y =
-    record { later = omega arith; due = d; terms = t; never_two = two; never_four = four; linked = l; xid = x; opened = y }
+module _ (so sa : Setup) (reads : Reads so sa) (r turn : ℕ) (a : Account) (setup : a.setup ≡ sa) (role : sa.role ≡ Answerer)
+    (due : DueA r (rank a.phase) a.owes.answer) (terms : a.terms ≡ cond (nat_le 1 (rank a.phase)) (terms_of so sa) first_terms)
+    (met : 2 ≤ r → 1 ≤ rank a.phase) (two : rank a.phase ≢ 2) (four : rank a.phase ≢ 4) (late : 3 ≤ rank a.phase → 2 ≤ r) where
+  abbrev HearsA : Arrived → Account → Type 0
+  HearsA x b = OnArrived (SentO so r) x → AfterA so sa r a.phase x (course b)
 
-agrees : (so sa : Setup) → Reads so sa → (r : ℕ) (p : Phase) (pf : Bool) (info : List ℕ) (terms : Terms) (answer : Option Answer)
-    → rank p ≤ 1 → info ≡ written so.offer → 1 ≤ r
-    → AfterA so sa r p (arrivals.Frame (Xid true pf info))
-    (commanded (offer_in info) sa.offer (record { phase = p; terms = terms; answer = answer }))
-agrees so sa reads r p pf info terms answer low i s =
-    subst (λ o. AfterA so sa r p (arrivals.Frame (Xid true pf info))
-    (commanded o sa.offer (record { phase = p; terms = terms; answer = answer }))) (sym (ap offer_in i ∙ reads.orig)) (record {
-      later = low;
-      due = (s, omega arith);
-      terms = refl;
-      never_two = λ z. omega (arith, z);
-      never_four = λ z. omega (arith, z);
-      linked = λ z. absurd (omega (arith, z));
-      xid = refl;
-      opened = three (rank p) low;
-    })
-  where
-    three : (n : ℕ) → n ≤ 1 → false ≡ nat_le 3 n
-    three zero l = refl
-    three (suc zero) l = refl
-    three (suc (suc n)) l = absurd (omega (arith, l))
+  role-is : a.setup.role ≡ Answerer
+  role-is = ap (λ (s : Setup). s.role) setup ∙ role
 
-a-frame : (so sa : Setup) → Reads so sa → (r : ℕ) (p : Phase) (frame : Frame) (terms : Terms) (answer : Option Answer) → SentO so r frame
-    → DueA r (rank p) answer → terms ≡ cond (nat_le 1 (rank p)) (terms_of so sa) first_terms → (2 ≤ r → 1 ≤ rank p) → rank p ≢ 2
-    → rank p ≢ 4 → (3 ≤ rank p → 2 ≤ r)
-    → AfterA so sa r p (arrivals.Frame frame)
-    (heard_course Answerer sa.offer p (arrivals.Frame frame) (record { phase = p; terms = terms; answer = answer }))
-a-frame so sa reads r Detecting (Xid true pf info) terms answer s d t n two four l =
-    agrees so sa reads r Detecting pf info terms answer (omega arith) s.1 s.2
-a-frame so sa reads r Detecting (Xid false pf info) terms answer s d t n two four l = absurd (false≢true s.0)
-a-frame so sa reads r Detecting (Sabme pf) terms answer s d t n two four l = absurd (omega (arith, n s.1))
-a-frame so sa reads r Detecting frame terms answer s d t n two four l =
-    same-a so sa r Detecting (arrivals.Frame frame) terms answer d t two four l refl refl
-a-frame so sa reads r Negotiating (Xid true pf info) terms answer s d t n two four l =
-    agrees so sa reads r Negotiating pf info terms answer (omega arith) s.1 s.2
-a-frame so sa reads r Negotiating (Xid false pf info) terms answer s d t n two four l = absurd (false≢true s.0)
-a-frame so sa reads r Negotiating (Sabme pf) terms answer s d t n two four l =
-    record {
-      later = omega arith;
-      due = s;
-      terms = t;
-      never_two = λ z. omega (arith, z);
-      never_four = λ z. omega (arith, z);
-      linked = λ z. s.1;
-      xid = refl;
-      opened = refl;
-    }
-a-frame so sa reads r Negotiating (Disc pf) terms answer s d t n two four l =
-    same-a so sa r Negotiating (arrivals.Frame (Disc pf)) terms (Some (answers.Dm pf)) tt t two four l refl refl
-a-frame so sa reads r Negotiating frame terms answer s d t n two four l =
-    same-a so sa r Negotiating (arrivals.Frame frame) terms answer d t two four l refl refl
-a-frame so sa reads r Establishing frame terms answer s d t n two four l = absurd (two refl)
-a-frame so sa reads r Releasing frame terms answer s d t n two four l = absurd (four refl)
-a-frame so sa reads r Connected (Sabme pf) terms answer s d t n two four l =
-    same-a so sa r Connected (arrivals.Frame (Sabme pf)) terms (Some (answers.Ua pf)) s t two four l refl refl
-a-frame so sa reads r Connected (Disc pf) terms answer s d t n two four l =
-    record {
-      later = omega arith;
-      due = (s.0, omega (arith, s.1));
-      terms = t;
-      never_two = λ z. omega (arith, z);
-      never_four = λ z. omega (arith, z);
-      linked = λ z. omega (arith, s.1);
-      xid = refl;
-      opened = refl;
-    }
-a-frame so sa reads r Connected frame terms answer s d t n two four l =
-    same-a so sa r Connected (arrivals.Frame frame) terms answer d t two four l refl refl
-a-frame so sa reads r Closed (Disc pf) terms answer s d t n two four l =
-    same-a so sa r Closed (arrivals.Frame (Disc pf)) terms (Some (answers.Dm pf)) tt t two four l refl refl
-a-frame so sa reads r Closed frame terms answer s d t n two four l =
-    same-a so sa r Closed (arrivals.Frame frame) terms answer d t two four l refl refl
+  never-a : {A : Type 0} → a.setup.role ≡ Originator → A
+  never-a e = absurd (false≢true (ap is_originator (sym role-is ∙ e)))
 
-pub a-hears : (so sa : Setup) → Reads so sa → (r : ℕ) (p : Phase) (arrived : Arrived) (terms : Terms) (answer : Option Answer)
-    → OnArrived (SentO so r) arrived → DueA r (rank p) answer → terms ≡ cond (nat_le 1 (rank p)) (terms_of so sa) first_terms
-    → (2 ≤ r → 1 ≤ rank p) → rank p ≢ 2 → rank p ≢ 4 → (3 ≤ rank p → 2 ≤ r)
-    → AfterA so sa r p arrived (heard_course Answerer sa.offer p arrived (record { phase = p; terms = terms; answer = answer }))
-a-hears so sa reads r p arrivals.Nothing terms answer s d t n two four l =
-    same-a so sa r p arrivals.Nothing terms (without_adp answer) (due_a-without r (rank p) answer d) t two four l refl refl
-a-hears so sa reads r Detecting (arrivals.Pattern Adp) terms answer s d t n two four l =
-    same-a so sa r Detecting (arrivals.Pattern Adp) terms answer d t two four l refl refl
-a-hears so sa reads r Detecting (arrivals.Pattern Odp) terms answer s d t n two four l =
-    same-a so sa r Detecting (arrivals.Pattern Odp) terms (Some answers.Adp) tt t two four l refl refl
-a-hears so sa reads r Negotiating (arrivals.Pattern seen) terms answer s d t n two four l =
-    same-a so sa r Negotiating (arrivals.Pattern seen) terms answer d t two four l refl refl
-a-hears so sa reads r Establishing (arrivals.Pattern seen) terms answer s d t n two four l = absurd (two refl)
-a-hears so sa reads r Connected (arrivals.Pattern seen) terms answer s d t n two four l =
-    same-a so sa r Connected (arrivals.Pattern seen) terms answer d t two four l refl refl
-a-hears so sa reads r Releasing (arrivals.Pattern seen) terms answer s d t n two four l = absurd (four refl)
-a-hears so sa reads r Closed (arrivals.Pattern seen) terms answer s d t n two four l =
-    same-a so sa r Closed (arrivals.Pattern seen) terms answer d t two four l refl refl
-a-hears so sa reads r p (arrivals.Frame frame) terms answer s d t n two four l =
-    a-frame so sa reads r p frame terms answer s d t n two four l
+  stays-a : (x : Arrived) (answer : Option Answer) → DueA r (rank a.phase) answer
+      → nat_le 1 (rank a.phase) ≡ (brings is_xid x || nat_le 1 (rank a.phase))
+      → nat_le 3 (rank a.phase) ≡ (brings (opens Answerer) x || nat_le 3 (rank a.phase))
+      → AfterA so sa r a.phase x (record (course a) { answer = answer })
+  stays-a x answer d y z = record {
+    later = omega arith;
+    due = d;
+    terms = terms;
+    never_two = two;
+    never_four = four;
+    linked = late;
+    xid = y;
+    opened = z;
+  }
+
+  linked-a : a.phase ≡ Connected → (x : Arrived) (answer : Option Answer) → DueA r (rank a.phase) answer
+      → AfterA so sa r a.phase x (record (course a) { answer = answer })
+  linked-a p x answer d =
+      stays-a x answer d (or-late _ _ (ap (λ q. nat_le 1 (rank q)) p)) (or-late _ _ (ap (λ q. nat_le 3 (rank q)) p))
+
+  -- Connected, or closed
+  moves-a : (x : Arrived) (p q : Phase) (d : Option Answer) → a.phase ≡ p → rank p ≤ rank q → 1 ≤ rank p → 3 ≤ rank q → rank q ≢ 4
+      → DueA r (rank q) d → 2 ≤ r → nat_le 1 (rank q) ≡ nat_le 1 (rank p) → nat_le 1 (rank q) ≡ (brings is_xid x || nat_le 1 (rank p))
+      → nat_le 3 (rank q) ≡ (brings (opens Answerer) x || nat_le 3 (rank p))
+      → AfterA so sa r a.phase x (record (course a) { phase = q; answer = d })
+  moves-a x p q d e l one three not k s t y z = record {
+    later = omega (arith, ap rank e, l);
+    due = k;
+    terms = terms ∙ (ap (λ v. cond (nat_le 1 (rank v)) (terms_of so sa) first_terms) e
+        ∙ ap (λ b. cond b (terms_of so sa) first_terms) (sym t));
+    never_two = λ v. omega (arith, v, three);
+    never_four = not;
+    linked = λ v. s;
+    xid = y ∙ ap (λ v. brings is_xid x || nat_le 1 (rank v)) (sym e);
+    opened = z ∙ ap (λ v. brings (opens Answerer) x || nat_le 3 (rank v)) (sym e);
+  }
+
+  -- what changes nothing is no frame by which it would come farther
+  ignored-a : (x : Arrived) → hear turn x a ≡ Ok a → OnArrived (SentO so r) x → AfterA so sa r a.phase x (course a)
+  ignored-a arrivals.Nothing f k = stays-a arrivals.Nothing _ due refl refl
+  ignored-a (arrivals.Pattern seen) f k = stays-a (arrivals.Pattern seen) _ due refl refl
+  ignored-a (arrivals.Frame frame) f k = on frame f k
+    where
+      on : (frame : Frame) → hear turn (arrivals.Frame frame) a ≡ Ok a → SentO so r frame
+          → AfterA so sa r a.phase (arrivals.Frame frame) (course a)
+      on (Xid command pf info) f k = stays-a _ _ due (by a.phase refl) refl
+        where
+          by : (p : Phase) → a.phase ≡ p → nat_le 1 (rank a.phase) ≡ true || nat_le 1 (rank a.phase)
+          by Detecting e = absurd (not-ignored turn (arrivals.Frame (Xid command pf info)) a _ f
+              (ap (λ p. on_frame p (Xid command pf info) turn a) e
+              ∙ (ap (λ v. on_detecting v (Xid command pf info) turn a) role-is
+              ∙ (ap (λ c. on_detecting Answerer (Xid c pf info) turn a) k.0
+              ∙ ap (λ o. Ok (on_xid_command o a)) (ap offer_in k.1 ∙ reads.orig)))) (λ z. omega (arith, z, ap rank e)))
+          by Negotiating e = ap (λ q. nat_le 1 (rank q)) e
+          by Establishing e = ap (λ q. nat_le 1 (rank q)) e
+          by Connected e = ap (λ q. nat_le 1 (rank q)) e
+          by Releasing e = ap (λ q. nat_le 1 (rank q)) e
+          by Closed e = ap (λ q. nat_le 1 (rank q)) e
+      on (Sabme pf) f k = stays-a _ _ due refl (by a.phase refl)
+        where
+          by : (p : Phase) → a.phase ≡ p → nat_le 3 (rank a.phase) ≡ true || nat_le 3 (rank a.phase)
+          by Detecting e = absurd (omega (arith, met k.1, ap rank e))
+          by Negotiating e = absurd (not-ignored turn (arrivals.Frame (Sabme pf)) a _ f
+              (ap (λ p. on_frame p (Sabme pf) turn a) e ∙ ap (λ v. on_negotiating v (Sabme pf) turn a) role-is)
+              (λ z. omega (arith, z, ap rank e)))
+          by Establishing e = absurd (two (ap rank e))
+          by Connected e = ap (λ q. nat_le 3 (rank q)) e
+          by Releasing e = ap (λ q. nat_le 3 (rank q)) e
+          by Closed e = ap (λ q. nat_le 3 (rank q)) e
+      on frame f k = stays-a _ _ due refl refl
+
+  ways-a : a.phase ≡ Connected → ConnectedWays HearsA turn a
+  ways-a p = record {
+    pattern = λ seen k. linked-a p _ _ due;
+    plain = λ frame f k. linked-a p _ _ due;
+    numbers = numbers-alike HearsA turn a (λ frame new incoming timer reply urgent n k. linked-a p _ _ due);
+    sabme = λ pf n v k. linked-a p _ _ k;
+    disc = λ pf v k. moves-a _ Connected Closed _ p (omega arith) (omega arith) (omega arith) (λ z. omega (arith, z))
+        (k.0, late (omega (arith, ap rank p))) (late (omega (arith, ap rank p))) refl refl refl;
+    brk = λ command pf info number length_octet q k. linked-a p _ _ due;
+    brkack = λ command pf info number length_octet q k. linked-a p _ _ due;
+  }
+
+  early-a : EarlyWays HearsA turn a
+  early-a = record {
+    ignores = ignored-a;
+    detects = λ p v. never-a v;
+    detected = λ p v k. stays-a _ _ tt refl refl;
+    xid = λ p v pf info offer f k.
+        let both : Some offer ≡ Some so.offer = sym f ∙ (ap offer_in k.1 ∙ reads.orig) in
+        let same : offer ≡ so.offer = cc in
+        let low : rank a.phase ≤ 1 = elim p [ inl q ↦ omega (arith, ap rank q) | inr q ↦ omega (arith, ap rank q) ] in
+        record {
+          later = low;
+          due = (k.2, omega arith);
+          terms = ap (λ (s : Setup). agree offer s.offer) setup ∙ ap (λ (o : Offer). agree o sa.offer) same;
+          never_two = λ z. omega (arith, z);
+          never_four = λ z. omega (arith, z);
+          linked = λ z. absurd (omega (arith, z));
+          xid = refl;
+          opened = elim p [ inl q ↦ sym (ap (λ v. nat_le 3 (rank v)) q) | inr q ↦ sym (ap (λ v. nat_le 3 (rank v)) q) ];
+        };
+    agrees = λ p v. never-a v;
+    sabme_first = λ p v pf k. absurd (omega (arith, met k.1, ap rank p));
+    sabme = λ p v pf k. moves-a _ Negotiating Connected _ p (omega arith) (omega arith) (omega arith)
+        (λ z. omega (arith, z)) k k.1 refl refl
+        refl;
+    ua = λ p. absurd (two (ap rank p));
+    disc = λ p pf k. stays-a _ _ tt refl refl;
+    closes = λ p. absurd (four (ap rank p));
+  }
+
+  pub a-hears : (x : Arrived) (b : Account) → hear turn x a ≡ Ok b → OnArrived (SentO so r) x → AfterA so sa r a.phase x (course b)
+  a-hears x b e = by-ways HearsA turn a (record {
+    nothing = λ k. stays-a arrivals.Nothing (without_adp a.owes.answer) (due_a-without r (rank a.phase) a.owes.answer due) refl refl;
+    linked = ways-a;
+    early = λ c. early-a;
+  }) x b e

@@ -1,16 +1,12 @@
 -- How many octets of information the frames have that an end says: those of a segment that it was offered, or few.
 use Rattle.std.proofs.Common.{◌≡◌, ℕ, zero, suc, ◌≤◌, Bool, true, false, List, [], ◌∷◌, length, slice_index_or, arith, Ok}
-use Rattle.lapm_frames.specs.declared.frame.Frame.{Frame}
+use Rattle.link_account.proofs.Names.{Frame, BreakWord, Brk, Ack, Account, Said, speak, frame_for, ready_frame}
+use Rattle.link_run.proofs.Names.{Answer}
 use Rattle.lapm_frames.specs.Frame.{information_of}
-use Rattle.break_signals.specs.declared.word.BreakWord.{BreakWord}
-use Rattle.break_signals.specs.declared.word.BreakWord.TheVariants.{Brk, Ack}
 use Rattle.break_signals.specs.Words.{spelled}
-use Rattle.link_account.specs.declared.answer.Answer.{Answer}
-use Rattle.link_account.specs.declared.answer.Answer.TheVariants as answers
-use Rattle.link_account.specs.Account.{Account}
-use Rattle.link_account.specs.Speak.{Said, speak, frame_for, ready_frame}
 use Rattle.link_run.proofs.Knowing.{OnSent}
 use Rattle.link_account.proofs.SpeakWays.{Steps, Ways, by-ways, linked-alike, tries-alike}
+use Rattle.link_account.specs.declared.answer.Answer.TheVariants as answers
 
 -- lists of at most so many octets
 abbrev pub AllShort : ℕ → List (List ℕ) → Type 0

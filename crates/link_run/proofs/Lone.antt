@@ -1,18 +1,14 @@
 -- What arrives determines the run of one end.
 use Rattle.std.proofs.Common.{◌≡◌, Bool, true, false, Result, Ok, Err, List, [], ◌∷◌, length, map, arith, refl, sym, ◌∙◌, ap, subst, Some}
-use Rattle.link_account.specs.Account.{Account, given_break}
-use Rattle.link_account.specs.Hear.{hear}
-use Rattle.link_account.specs.Speak.{Said}
+use Rattle.link_account.proofs.Names.{Account, hear, Said, ReadsAllowed, KeepsTaken, LinkFault}
+use Rattle.link_run.proofs.Names.{spoken, has_finished}
+use Rattle.link_account.specs.Account.{given_break}
 use Rattle.link_run.specs.End.{speaks_alone}
-use Rattle.link_run.specs.Run.{Party, spoken}
-use Rattle.link_run.specs.Alone.{LoneTurn, lone_served, LoneGoing, OneLoneRun}
-use Rattle.link_run.proofs.Only.{one-ok, one-head}
-use Rattle.xid_params.specs.Offers.{ReadsAllowed}
-use Rattle.lapm_receiver.specs.Incoming.{KeepsTaken}
-use Rattle.shared_terms.specs.declared.fault.LinkFault.{LinkFault}
-use Rattle.link_run.specs.End.{has_finished}
-use Rattle.link_run.specs.Alone.{LoneRun, LoneNext, Goes_on, Is_last, Is_faulty, Is_broken, hangs_up, LoneHearingsDeliver}
-use Rattle.link_run.specs.Alone.{LoneSpeakingTakesNothing, EachLoneTurnIsMade}
+use Rattle.link_run.specs.Run.{Party}
+use Rattle.link_run.specs.Alone.{LoneTurn, lone_served, LoneGoing, OneLoneRun, LoneRun, LoneNext, Goes_on, Is_last, Is_faulty, Is_broken}
+use Rattle.link_run.specs.Alone.{hangs_up, LoneHearingsDeliver, LoneSpeakingTakesNothing, EachLoneTurnIsMade}
+use Rattle.link_run.proofs.Only.{one-ok}
+use Rattle.link_run.proofs.Playing.{head-of}
 use Rattle.link_run.proofs.Keeping.{stage, hears}
 use Rattle.link_run.proofs.Speaking.{speaks}
 use Rattle.link_run.proofs.Serving.{Handed, heard-waits, served-handed, spoken-handed}
@@ -35,7 +31,7 @@ one_lone_run party [] [] a b h k e = (refl, h ∙ sym k)
 one_lone_run party [] (u ∷ us) a b h k e = absurd (omega (arith, ap length e))
 one_lone_run party (t ∷ ts) [] a b h k e = absurd (omega (arith, ap length e))
 one_lone_run party (t ∷ ts) (u ∷ us) a b h k e =
-    let parts = one-head t.arrived u.arrived (map (λ (x : LoneTurn). x.arrived) ts) (map (λ (x : LoneTurn). x.arrived) us) e in
+    let parts = head-of t.arrived u.arrived (map (λ (x : LoneTurn). x.arrived) ts) (map (λ (x : LoneTurn). x.arrived) us) e in
     let ih = one_lone_run party ts us h.0 k.0 h.1 k.1 parts.1 in
     let g : LoneGoing party ts h.0 u b =
     subst (λ x. LoneGoing party ts x u b) (sym ih.1) (subst (λ l. LoneGoing party l k.0 u b) (sym ih.0) k.2) in

@@ -1,14 +1,9 @@
 -- A run of one end counts its user's file as far as it was read, and its end keeps its setup.
 use Rattle.std.proofs.Common.{◌≡◌, ℕ, List, [], ◌∷◌, length, sym, ◌∙◌, ap, subst, false}
-use Rattle.shared_terms.specs.declared.role.Role.{Role}
-use Rattle.shared_terms.specs.declared.role.Role.TheVariants.{Originator, Answerer}
-use Rattle.shared_terms.specs.Both.{of}
-use Rattle.xid_params.specs.Offers.{IsAllowed, ReadsAllowed}
-use Rattle.lapm_receiver.specs.Incoming.{KeepsTaken}
-use Rattle.link_account.specs.Account.{Account}
-use Rattle.link_account.specs.Speak.{speak}
-use Rattle.link_run.specs.End.{Served, has_finished, speaks_alone}
-use Rattle.link_run.specs.Run.{Party, Link}
+use Rattle.link_account.proofs.Names.{Role, Originator, Answerer, of, IsAllowed, ReadsAllowed, KeepsTaken, Account, speak}
+use Rattle.link_run.proofs.Names.{has_finished, Link}
+use Rattle.link_run.specs.End.{Served, speaks_alone}
+use Rattle.link_run.specs.Run.{Party}
 use Rattle.link_run.specs.Reading.{IsOffered, SameSoFar, with_file}
 use Rattle.link_run.specs.Alone.{LoneTurn, LoneRun, LoneGoing, lone_served, LoneRunsByWhatIsReadOn, LoneRunsKeepTheirSetup}
 use Rattle.link_run.proofs.Keeping.{GoesOn, hears}

@@ -1,29 +1,16 @@
 -- What hearing and speaking tell of UA, of DISC and of frames with numbers: who sends them, and in which phase.
-use Rattle.std.proofs.Common.{◌≡◌, ◌⊎◌, inl, inr, ℕ, ◌≤◌, Bool, true, false, arith, refl, sym, ◌∙◌, ap, subst}
-use Rattle.std.proofs.Common.{Option, Some, None, Ok}
-use Rattle.std.proofs.lemmas.Bool.{false≢true}
-use Rattle.shared_terms.specs.declared.role.Role.{Role}
-use Rattle.shared_terms.specs.declared.role.Role.TheVariants.{Originator, Answerer}
-use Rattle.lapm_frames.specs.declared.frame.Frame.{Frame}
-use Rattle.lapm_frames.specs.declared.frame.Frame.TheVariants.{I, Rr, Rnr, Rej, Srej, Sabme, Disc, Ua, Ui, Xid}
-use Rattle.lapm_receiver.specs.Incoming.{Incoming, after_take}
-use Rattle.lapm_frames.specs.declared.seen.Seen.TheVariants as seen
-use Rattle.lapm_frames.specs.declared.arrived.Arrived.{Arrived}
-use Rattle.lapm_frames.specs.declared.arrived.Arrived.TheVariants as arrivals
-use Rattle.lapm_frames.specs.declared.sent.Sent.{Sent}
-use Rattle.lapm_frames.specs.declared.sent.Sent.TheVariants as slots
-use Rattle.link_account.specs.declared.phase.Phase.{Phase}
-use Rattle.link_account.specs.declared.phase.Phase.TheVariants.{Detecting, Negotiating, Establishing, Connected, Releasing, Closed}
-use Rattle.link_account.specs.declared.answer.Answer.{Answer}
-use Rattle.link_account.specs.declared.answer.Answer.TheVariants as answers
-use Rattle.link_account.specs.Account.{Account, is_connected}
-use Rattle.link_account.specs.Hear.{hear}
-use Rattle.link_account.specs.Hear.{on_nothing, without_adp, connected}
-use Rattle.link_account.specs.Hear.{owing, trying}
-use Rattle.link_account.specs.Play.{arrives}
+use Rattle.std.proofs.Common.{◌≡◌, ◌⊎◌, inl, inr, ℕ, ◌≤◌, Bool, true, false, arith, refl, sym, ◌∙◌, ap, subst, Option, Some, None, Ok}
+use Rattle.link_account.proofs.Names.{false≢true, Role, Originator, Answerer, Frame, I, Rr, Rnr, Rej, Srej, Sabme, Disc, Ua, Ui, Xid}
+use Rattle.link_account.proofs.Names.{Incoming, after_take, Arrived, Sent, Account, is_connected, hear, on_nothing, without_adp, owing}
+use Rattle.link_account.proofs.Names.{trying, arrives, is_originator}
+use Rattle.link_run.proofs.Names.{Phase, Detecting, Negotiating, Establishing, Connected, Releasing, Closed, Answer}
+use Rattle.link_account.specs.Hear.{connected}
 use Rattle.link_account.proofs.HearWays.{Plain, IsUa, IsXid, IsTest, IsNoWord, ConnectedWays, EarlyWays, by-linked, by-early}
 use Rattle.link_run.proofs.Keeping.{stage}
-use Rattle.shared_terms.specs.Role.{is_originator}
+use Rattle.lapm_frames.specs.declared.seen.Seen.TheVariants as seen
+use Rattle.lapm_frames.specs.declared.arrived.Arrived.TheVariants as arrivals
+use Rattle.lapm_frames.specs.declared.sent.Sent.TheVariants as slots
+use Rattle.link_account.specs.declared.answer.Answer.TheVariants as answers
 
 -- kinds of frames
 abbrev pub is_ua : Frame → Bool
@@ -129,12 +116,8 @@ plain-received frame i (IsTest command pf info q) = ap (λ f. received Connected
 plain-received frame i (IsNoWord command pf info fault w q) = ap (λ f. received Connected (arrivals.Frame f) i) q
 
 not-received : (p : Phase) (arrived : Arrived) (i : Incoming) → is_connected p ≡ false → received p arrived i ≡ i
-not-received Detecting arrived i c = refl
-not-received Negotiating arrived i c = refl
-not-received Establishing arrived i c = refl
 not-received Connected arrived i c = cc
-not-received Releasing arrived i c = refl
-not-received Closed arrived i c = refl
+not-received p arrived i c = refl
 
 -- a Connected end
 module _ (turn : ℕ) (a : Account) (e : a.phase ≡ Connected) where

@@ -1,29 +1,17 @@
 -- Which end breaks with which fault, and that each turn is made.
-use Rattle.std.proofs.Common.{◌≡◌, ℕ, Bool, true, false, List, length, refl, sym, ◌∙◌, ap, subst}
-use Rattle.std.proofs.Common.{Option, Some, None, Result, Ok, Err}
+use Rattle.std.proofs.Common.{◌≡◌, ℕ, Bool, true, false, List, length, refl, sym, ◌∙◌, ap, subst, Option, Some, None, Result, Ok, Err}
+use Rattle.link_account.proofs.Names.{false≢true, Role, Originator, Answerer, ReadsAllowed, KeepsTaken, LinkFault, NotDetected, Spent}
+use Rattle.link_account.proofs.Names.{Account, check_of, hear, Said, spent, speak, Heard, is_originator, other, of}
+use Rattle.link_run.proofs.Names.{Setup, is_closed, is_released, Link, Accounts, Turn, Spoken, spoken, arrival, served_at, said_at, Hears}
+use Rattle.link_run.proofs.Names.{Going, Done, Broken, sent_ago, Crosses}
 use Rattle.std.specs.Prelude.{is_ok}
-use Rattle.std.proofs.lemmas.Bool.{false≢true}
-use Rattle.shared_terms.specs.declared.role.Role.{Role}
-use Rattle.shared_terms.specs.declared.role.Role.TheVariants.{Originator, Answerer}
-use Rattle.xid_params.specs.Offers.{ReadsAllowed}
-use Rattle.lapm_receiver.specs.Incoming.{KeepsTaken}
-use Rattle.link_account.specs.declared.setup.Setup.{Setup}
-use Rattle.shared_terms.specs.declared.fault.LinkFault.{LinkFault}
-use Rattle.shared_terms.specs.declared.fault.LinkFault.TheVariants.{NotDetected, Spent, BadAck, PeerReset, PeerRefused}
-use Rattle.link_account.specs.Account.{Account, given_break, check_of}
-use Rattle.link_account.specs.Hear.{hear}
-use Rattle.link_account.specs.Speak.{Said, spent, speak}
-use Rattle.lapm_frames.specs.declared.heard.Heard.{Heard}
+use Rattle.shared_terms.specs.declared.fault.LinkFault.TheVariants.{BadAck, PeerReset, PeerRefused}
+use Rattle.link_account.specs.Account.{given_break}
 use Rattle.link_account.proofs.SpeakWays.{Breaks, Undetected, Spends, why-broken}
-use Rattle.link_run.specs.End.{is_closed, is_released}
-use Rattle.link_run.specs.Run.{Link, Accounts, Turn, Spoken, spoken, arrival, served_at, said_at, Hears, Speaks}
-use Rattle.link_run.specs.Outcomes.{Going, Done, Broken}
+use Rattle.link_run.specs.Run.{Speaks}
 use Rattle.link_run.specs.Laws.{HearingsAreWell, BrokenForWant, EachEndIsNamed, MakesTurn, EachTurnIsMade}
 use Rattle.link_run.proofs.Ending.{HasSetup, setups-kept, kept-run, kept-heard}
 use Rattle.link_run.proofs.Joining.{serving}
-use Rattle.shared_terms.specs.Role.{is_originator, other}
-use Rattle.shared_terms.specs.Both.{of}
-use Rattle.link_run.specs.Carried.{sent_ago, Crosses}
 
 -- whoever breaks because it detected nothing is an originator
 undetected : (turn : ℕ) (release : Bool) (a : Account) → speak turn release a ≡ Err NotDetected → a.setup.role ≡ Originator

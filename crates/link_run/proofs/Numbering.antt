@@ -1,20 +1,16 @@
 -- What an end sends is the next segment, or one that it has sent.
 use Rattle.std.proofs.Common.{◌≡◌, ℕ, ◌+◌, ◌%◌, ◌<◌, ◌≤◌, ◌&&◌, ◌||◌, Bool, true, false, cond, nat_lt, max, List, [], ◌∷◌, length, arith}
-use Rattle.std.proofs.Common.{refl, ap}
-use Rattle.std.proofs.Common.{subst, Option, Some, None, Ok}
-use Rattle.std.specs.List.{AllByRecursion}
-use Rattle.shared_terms.specs.Role.{is_originator}
-use Rattle.lapm_sender.specs.Outgoing.{Outgoing, next_number, next_among, sent_among}
-use Rattle.lapm_frames.specs.declared.sent.Sent.TheVariants as slots
-use Rattle.link_account.specs.declared.answer.Answer.{Answer}
-use Rattle.link_account.specs.declared.answer.Answer.TheVariants as answers
-use Rattle.link_account.specs.Account.{Account}
+use Rattle.std.proofs.Common.{refl, ap, subst, Option, Some, None, Ok}
+use Rattle.link_account.proofs.Names.{AllByRecursion, is_originator, Outgoing, next_number, Account, Said, ready_frame, frame_for, may_send}
+use Rattle.link_account.proofs.Names.{nr_of, speak, trying}
+use Rattle.link_run.proofs.Names.{Answer, Releasing}
+use Rattle.lapm_sender.specs.Outgoing.{next_among, sent_among}
 use Rattle.link_account.specs.Laws.{IsInRange}
-use Rattle.link_account.specs.Speak.{Said, says_segment, ready_frame, frame_for, may_send, nr_of, speak}
+use Rattle.link_account.specs.Speak.{says_segment}
 use Rattle.link_run.specs.Counts.{sequence_in}
-use Rattle.link_account.specs.declared.phase.Phase.TheVariants.{Releasing}
-use Rattle.link_account.specs.Hear.{trying}
 use Rattle.link_account.proofs.SpeakWays.{AllSaid, Steps, Ways, by-ways, linked-alike, tries-alike}
+use Rattle.lapm_frames.specs.declared.sent.Sent.TheVariants as slots
+use Rattle.link_account.specs.declared.answer.Answer.TheVariants as answers
 
 -- how far an end has sent, by the N(S) of what it sends and its meant number
 abbrev pub SentAs : Option ℕ → ℕ → ℕ → ℕ → Type 0
@@ -27,25 +23,22 @@ Sends high said = SentAs (sequence_in said.sent) said.number high said.account.o
 segment : (turn : ℕ) (a : Account) → IsInRange a.outgoing → AllSaid (Sends a.outgoing.high) (says_segment turn (may_send a) a)
 segment turn a r = allowed (is_originator a.setup.role || a.numbered)
   where
-    o : Outgoing
-    o = a.outgoing
-
-    chosen : (ns : List ℕ) → o.chosen ≡ ns → AllSaid (Sends o.high) (says_segment turn (next_among ns o) a)
+    chosen : (ns : List ℕ) → a.outgoing.chosen ≡ ns → AllSaid (Sends a.outgoing.high) (says_segment turn (next_among ns a.outgoing) a)
     chosen (n ∷ rest) e =
-        let first = subst (AllByRecursion (λ m. (o.front ≤ m) × (m < o.high))) e r.chosen in
-        (refl, omega (arith, first.0.1), omega (arith, first.0.0, r.few), ap (λ ns. (sent_among ns o).high) e)
-    chosen [] e = go (nat_lt o.from (length o.pieces) && nat_lt o.from (o.front + o.window))
+        let first = subst (AllByRecursion (λ m. (a.outgoing.front ≤ m) × (m < a.outgoing.high))) e r.chosen in
+        (refl, omega (arith, first.0.1), omega (arith, first.0.0, r.few), ap (λ ns. (sent_among ns a.outgoing).high) e)
+    chosen [] e = go (nat_lt a.outgoing.from (length a.outgoing.pieces) && nat_lt a.outgoing.from (a.outgoing.front + a.outgoing.window))
       where
-        go : (b : Bool) → AllSaid (Sends o.high) (says_segment turn (cond b (Some o.from) None) a)
-        go true = (refl, r.from_high, omega (arith, r.front_from, r.few), ap (λ ns. (sent_among ns o).high) e)
+        go : (b : Bool) → AllSaid (Sends a.outgoing.high) (says_segment turn (cond b (Some a.outgoing.from) None) a)
+        go true = (refl, r.from_high, omega (arith, r.front_from, r.few), ap (λ ns. (sent_among ns a.outgoing).high) e)
         go false = tt
 
-    stopped : (b : Bool) → AllSaid (Sends o.high) (says_segment turn (cond b None (next_among o.chosen o)) a)
+    stopped : (b : Bool) → AllSaid (Sends a.outgoing.high) (says_segment turn (cond b None (next_among a.outgoing.chosen a.outgoing)) a)
     stopped true = tt
-    stopped false = chosen o.chosen refl
+    stopped false = chosen a.outgoing.chosen refl
 
-    allowed : (b : Bool) → AllSaid (Sends o.high) (says_segment turn (cond b (next_number o) None) a)
-    allowed true = stopped (o.awaited || o.paused)
+    allowed : (b : Bool) → AllSaid (Sends a.outgoing.high) (says_segment turn (cond b (next_number a.outgoing) None) a)
+    allowed true = stopped (a.outgoing.awaited || a.outgoing.paused)
     allowed false = tt
 
 -- what changes nothing of them

@@ -1,18 +1,12 @@
 -- What is heard determines a run.
 use Rattle.std.proofs.Common.{◌≡◌, ℕ, true, false, List, [], ◌∷◌, length, map, arith, refl, sym, ◌∙◌, ap, subst, Some, Result, Ok, Err}
+use Rattle.link_account.proofs.Names.{false≢true, Role, Originator, Answerer, Both, of, Heard, LinkFault, hear, Said}
+use Rattle.link_run.proofs.Playing.{head-of}
+use Rattle.link_run.proofs.Names.{is_closed, Link, Accounts, Turn, spoken, arrival, Hears, GoingTurn, said_at, Outcome, Going, Done, Broken}
+use Rattle.link_run.proofs.Names.{TurnIs}
 use Rattle.std.specs.Prelude.{is_ok}
-use Rattle.std.proofs.lemmas.Bool.{false≢true}
-use Rattle.shared_terms.specs.declared.role.Role.{Role}
-use Rattle.shared_terms.specs.declared.role.Role.TheVariants.{Originator, Answerer}
-use Rattle.shared_terms.specs.Both.{Both, of}
-use Rattle.lapm_frames.specs.declared.heard.Heard.{Heard}
-use Rattle.shared_terms.specs.declared.fault.LinkFault.{LinkFault}
 use Rattle.link_account.specs.Account.{given_break}
-use Rattle.link_account.specs.Hear.{hear}
-use Rattle.link_account.specs.Speak.{Said}
-use Rattle.link_run.specs.End.{is_closed}
-use Rattle.link_run.specs.Run.{Link, Accounts, Side, Turn, spoken, arrival, Hears, IsSilent, IsBroken, GoingTurn, said_at}
-use Rattle.link_run.specs.Outcomes.{Outcome, Going, Done, Broken, TurnIs}
+use Rattle.link_run.specs.Run.{Side, IsSilent, IsBroken}
 use Rattle.link_run.specs.Laws.{heard_in, OneRun, OneOutcome}
 
 abbrev ok-or : {A E : Type 0} → A → Result A E → A
@@ -82,18 +76,6 @@ one-going link ts before t u after later g k e =
       ends = same-both after later (λ r. (g.speaking r).after_is ∙ ap (λ (s : Said). s.account) (x r) ∙ sym (k.speaking r).after_is);
     }
 
--- the heads and the rests of two lists that are one
-pub one-head : {A : Type 0} (x y : A) (xs ys : List A) → x ∷ xs ≡ y ∷ ys → (x ≡ y) × (xs ≡ ys)
-one-head {A} x y xs ys e = (ap first e, ap rest e)
-  where
-    first : List A → A
-    first [] = x
-    first (z ∷ zs) = z
-
-    rest : List A → List A
-    rest [] = []
-    rest (z ∷ zs) = zs
-
 heard-same : (t u : Turn) → heard_in t ≡ heard_in u → HearSame t u
 heard-same t u e Originator = ap (λ (h : Both Heard). h.orig) e
 heard-same t u e Answerer = ap (λ (h : Both Heard). h.answ) e
@@ -103,7 +85,7 @@ one_run link [] [] ends others h k e = (refl, h ∙ sym k)
 one_run link [] (u ∷ us) ends others h k e = absurd (omega (arith, ap length e))
 one_run link (t ∷ ts) [] ends others h k e = absurd (omega (arith, ap length e))
 one_run link (t ∷ ts) (u ∷ us) ends others h k e =
-    let parts = one-head (heard_in t) (heard_in u) (map heard_in ts) (map heard_in us) e in
+    let parts = head-of (heard_in t) (heard_in u) (map heard_in ts) (map heard_in us) e in
     let ih = one_run link ts us h.0 k.0 h.1 k.1 parts.1 in
     let g : GoingTurn link ts h.0 u others =
     subst (λ b. GoingTurn link ts b u others) (sym ih.1) (subst (λ l. GoingTurn link l k.0 u others) (sym ih.0) k.2) in

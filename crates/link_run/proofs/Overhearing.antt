@@ -1,49 +1,26 @@
 -- What the frames that pass tell.
 use Rattle.std.proofs.Common.{zero, suc, ◌≡◌, ◌≢◌, inl, inr, ℕ, ◌+◌, ◌-◌, ◌%◌, ◌≤◌, Bool, true, false, cond, nat_eq, nat_le, List, [], ◌∷◌}
 use Rattle.std.proofs.Common.{◌++◌, length, map, arith, length-append, refl, sym, ◌∙◌, ap, subst, Option, Some, None, Result, Ok, slice_get}
-use Rattle.std.proofs.lemmas.Bool.{false≢true}
-use Rattle.std.proofs.lemmas.Bool.Decides.{nat_tests}
-use Rattle.std.proofs.lemmas.List.{append-nil}
-use Rattle.plain_lists.specs.Prefix.{IsPrefixOf}
-use Rattle.frame_check.specs.declared.check.Check.{Check}
+use Rattle.link_account.proofs.Names.{false≢true, nat_tests, append-nil, IsPrefixOf, Check, Role, Originator, Answerer, other, of, is_some}
+use Rattle.link_account.proofs.Names.{Frame, I, Rr, Rnr, Rej, Srej, Sabme, Disc, Ua, Dm, Ui, Xid, Terms, ReadsAllowed, ReadsWritten}
+use Rattle.link_account.proofs.Names.{KeepsTaken, kind_of, InOrder, Kept, Brk, word_in, Sent, Passed, LinkFault, Account, check_of, hear}
+use Rattle.link_account.proofs.Names.{on_frame, Slot, Play, MayPlay}
+use Rattle.link_run.proofs.Names.{Setup, Phase, Detecting, Negotiating, Establishing, Releasing, Closed, is_released, RunOf}
+use Rattle.link_run.proofs.Names.{Link, Accounts, Spoken, Turn, spoken, arrival, sent_in, sent_ago, Crosses, IsCarried, RunsOver}
 use Rattle.frame_check.specs.declared.check.Check.TheVariants.{Sixteen, ThirtyTwo}
-use Rattle.shared_terms.specs.declared.role.Role.{Role}
-use Rattle.shared_terms.specs.declared.role.Role.TheVariants.{Originator, Answerer}
-use Rattle.shared_terms.specs.Role.{other}
-use Rattle.shared_terms.specs.Both.{of}
-use Rattle.std.specs.Prelude.{is_some}
-use Rattle.lapm_frames.specs.declared.frame.Frame.{Frame}
-use Rattle.lapm_frames.specs.declared.frame.Frame.TheVariants.{I, Rr, Rnr, Rej, Srej, Sabme, Disc, Ua, Dm, Frmr, Ui, Xid, Test}
+use Rattle.lapm_frames.specs.declared.frame.Frame.TheVariants.{Frmr, Test}
 use Rattle.lapm_frames.specs.Checked.{check_for}
 use Rattle.lapm_frames.specs.Frame.{has_number}
-use Rattle.xid_params.specs.declared.terms.Terms.{Terms}
-use Rattle.xid_params.specs.Offers.{ReadsAllowed, ReadsWritten}
-use Rattle.lapm_receiver.specs.Incoming.{KeepsTaken, kind_of}
-use Rattle.lapm_receiver.specs.declared.took.Took.TheVariants.{InOrder, Kept}
-use Rattle.break_signals.specs.declared.word.BreakWord.TheVariants.{Brk}
-use Rattle.break_signals.specs.Words.{word_in}
 use Rattle.break_signals.specs.Breaks.{gives}
-use Rattle.lapm_frames.specs.declared.sent.Sent.{Sent}
-use Rattle.lapm_frames.specs.declared.sent.Sent.TheVariants as slots
-use Rattle.lapm_frames.specs.declared.arrived.Arrived.TheVariants as arrivals
-use Rattle.lapm_frames.specs.declared.heard.Heard.TheVariants.{Passed}
-use Rattle.link_account.specs.declared.setup.Setup.{Setup}
-use Rattle.link_account.specs.declared.phase.Phase.{Phase}
-use Rattle.link_account.specs.declared.phase.Phase.TheVariants.{Detecting, Negotiating, Establishing, Connected, Releasing, Closed}
-use Rattle.shared_terms.specs.declared.fault.LinkFault.{LinkFault}
-use Rattle.link_account.specs.Account.{Account, check_of, first_terms}
-use Rattle.link_account.specs.Hear.{hear, on_frame, on_detecting, on_negotiating}
-use Rattle.link_account.specs.Play.{Slot, Play}
-use Rattle.link_account.specs.Laws.{MayPlay, has_begun, NextIsKnown, KnownByNumber, NextWasOffered, SendsWhatWasOffered, NextIsBreak}
+use Rattle.link_account.specs.Account.{first_terms}
+use Rattle.link_account.specs.Hear.{on_detecting, on_negotiating}
+use Rattle.link_account.specs.Laws.{has_begun, NextIsKnown, KnownByNumber, NextWasOffered, SendsWhatWasOffered, NextIsBreak}
 use Rattle.link_account.specs.Laws.{SendsBreaksTaken}
-use Rattle.link_run.specs.End.{is_released}
-use Rattle.link_run.specs.Run.{RunOf, Link, Accounts, Spoken, Turn, spoken, arrival}
-use Rattle.link_run.specs.Carried.{sent_in, sent_ago, Crosses, HasDelays, IsCarried}
-use Rattle.link_run.specs.Laws.{RunsOver, told_by_play, told_by_turn}
+use Rattle.link_run.specs.Carried.{HasDelays}
+use Rattle.link_run.specs.Laws.{told_by_play, told_by_turn}
 use Rattle.link_run.specs.Overheard.{has_passed, is_xid, opens, OpensByFrames, agreed_terms, AgreesByXid, agreed_check, SendsAgreedCheck}
 use Rattle.link_run.specs.Overheard.{HearsAgreedCheck, JudgesByItsCheck, JudgesOnceHeard, SegmentsPassLater, IsOld, NothingNew}
-use Rattle.link_run.specs.Overheard.{ReleasesLast}
-use Rattle.link_run.specs.Overheard.{EarlyBreaksAreIgnored}
+use Rattle.link_run.specs.Overheard.{ReleasesLast, EarlyBreaksAreIgnored}
 use Rattle.link_run.proofs.Keeping.{stage, GoesOn, hears, Standing, standing, stands-heard}
 use Rattle.link_run.proofs.Playing.{made, next-first, head-of, none-is-some}
 use Rattle.link_run.proofs.Running.{Reaches, lines, run-reaches, hearing-reaches}
@@ -54,6 +31,8 @@ use Rattle.link_run.proofs.Knowing.{rank, OnSent, IfSent, OnArrived, ago-all, ca
 use Rattle.link_run.proofs.Following.{KnownOf, known-mid, known-run}
 use Rattle.link_run.proofs.Meeting.{is_segment, is_counted, brings}
 use Rattle.link_run.proofs.Joining.{Met, met-run, came}
+use Rattle.lapm_frames.specs.declared.sent.Sent.TheVariants as slots
+use Rattle.lapm_frames.specs.declared.arrived.Arrived.TheVariants as arrivals
 
 pub record KnowingLaws : Type 0 where
   pub reads : ReadsAllowed
@@ -66,11 +45,7 @@ known laws link delay ts ends v = known-run laws.reads laws.keeps laws.written l
 
 begun-rank : (p : Phase) → has_begun p ≡ nat_le 3 (rank p)
 begun-rank Detecting = refl
-begun-rank Negotiating = refl
-begun-rank Establishing = refl
-begun-rank Connected = refl
-begun-rank Releasing = refl
-begun-rank Closed = refl
+begun-rank p = refl
 
 pub opens_by_frames : KnowingLaws → OpensByFrames
 opens_by_frames laws link delay ts ends v role = at-role role
@@ -336,18 +311,13 @@ pub record OldLaws : Type 0 where
 pub released-stage : (p : Phase) → is_released p ≡ true → 2 ≤ stage p
 released-stage Releasing e = omega arith
 released-stage Closed e = omega arith
-released-stage Detecting e = absurd (false≢true e)
-released-stage Negotiating e = absurd (false≢true e)
-released-stage Establishing e = absurd (false≢true e)
-released-stage Connected e = absurd (false≢true e)
+released-stage p e = absurd (false≢true e)
 
 pub stage-begun : (p : Phase) → 1 ≤ stage p → has_begun p ≡ true
-stage-begun Connected h = refl
-stage-begun Releasing h = refl
-stage-begun Closed h = refl
 stage-begun Detecting h = absurd (omega (arith, h))
 stage-begun Negotiating h = absurd (omega (arith, h))
 stage-begun Establishing h = absurd (omega (arith, h))
+stage-begun p h = refl
 
 pub releases_last : OldLaws → ReleasesLast
 releases_last laws link delay ts ends t mid v c k released role = at-role role
@@ -445,9 +415,7 @@ ignores : (p : Phase) (command pf : Bool) (info : List ℕ) (turn : ℕ) (a : Ac
 ignores Detecting command pf info turn a e = ignores-detecting a.setup.role command pf info turn a
 ignores Negotiating command pf info turn a e = ignores-negotiating a.setup.role command pf info turn a
 ignores Establishing command pf info turn a e = refl
-ignores Connected command pf info turn a e = absurd (false≢true (sym e))
-ignores Releasing command pf info turn a e = absurd (false≢true (sym e))
-ignores Closed command pf info turn a e = absurd (false≢true (sym e))
+ignores p command pf info turn a e = absurd (false≢true (sym e))
 
 same-ok : (r : Result Account LinkFault) (x y : Account) → r ≡ Ok x → r ≡ Ok y → x ≡ y
 same-ok r x y e k = ap ok-of (sym e ∙ k)

@@ -1,48 +1,27 @@
 -- Each run is a play: the events of each turn, one after another.
 use Rattle.std.proofs.Common.{◌≡◌, ℕ, zero, suc, ◌+◌, ◌-◌, ◌*◌, ◌<◌, ◌≤◌, ◌&&◌, Bool, true, false, cond, nat_lt, nat_le, List, [], ◌∷◌}
 use Rattle.std.proofs.Common.{◌++◌, length, map, take, drop, arith, refl, sym, ◌∙◌, ap, subst, Option, Some, None, Ok, slice_get}
-use Rattle.std.specs.Prelude.{is_some}
-use Rattle.std.proofs.lemmas.Bool.{false≢true}
-use Rattle.std.proofs.lemmas.Bool.Decides.{nat_tests}
-use Rattle.std.proofs.lemmas.List.{append_assoc}
-use Rattle.frame_check.specs.declared.check.Check.{Check}
+use Rattle.link_account.proofs.Names.{is_some, false≢true, nat_tests, append_assoc, Check, Role, Originator, Answerer, Sent}
+use Rattle.link_account.proofs.Names.{Account, is_connected, wants, piece_size, after_break_asked, after_given, after_busy}
+use Rattle.link_account.proofs.Names.{hear, Slot, Play, arrives, Heard, Nothing, Passed, Lost, Chance, of}
+use Rattle.link_run.proofs.Names.{User, BreakLine, delivered, piece_at, offered_at, offered_times, room_for, offered, is_busy, next_break}
+use Rattle.link_run.proofs.Names.{served, Turn, arrival, sent_in, sent_ago, Crosses}
 use Rattle.frame_check.specs.declared.check.Check.TheVariants.{Sixteen}
-use Rattle.shared_terms.specs.declared.role.Role.{Role}
-use Rattle.shared_terms.specs.declared.role.Role.TheVariants.{Originator, Answerer}
-use Rattle.lapm_receiver.specs.Incoming.{next_expected}
-use Rattle.lapm_frames.specs.declared.arrived.Arrived.TheVariants as arrivals
-use Rattle.lapm_frames.specs.declared.sent.Sent.{Sent}
-use Rattle.link_account.specs.Account.{Account, is_connected, wants, piece_size, after_offer, after_delivery, after_break_asked}
-use Rattle.link_account.specs.Account.{after_given, after_busy}
-use Rattle.link_account.specs.Hear.{hear}
-use Rattle.link_account.specs.Speak.{Said, speak}
-use Rattle.link_account.specs.Play.{Slot, Play, Event, Speaks, Passes, Is_lost, Hears_nothing, Is_offered, Is_asked, Delivers, Gives_break}
-use Rattle.link_account.specs.Play.{Is_busy, arrives, heard, spoken, happens, play}
-use Rattle.lapm_frames.specs.declared.heard.Heard.{Heard}
-use Rattle.lapm_frames.specs.declared.heard.Heard.TheVariants.{Nothing, Passed, Lost, Chance}
-use Rattle.link_run.specs.End.{User, BreakLine, delivered, piece_at, offered_at, offered_times, room_for, offered, is_busy, next_break}
-use Rattle.link_run.specs.End.{asked_at, asked, served}
-use Rattle.link_run.specs.Run.{Turn, arrival}
-use Rattle.link_run.specs.Run as run
-use Rattle.link_run.specs.Carried.{sent_in, sent_ago, Crosses, on_line}
+use Rattle.link_account.specs.Account.{after_delivery}
+use Rattle.link_account.specs.Play.{Event, Passes, Is_lost, Hears_nothing, Is_offered, Is_asked, Delivers, Gives_break, Is_busy}
+use Rattle.link_account.specs.Play.{happens, play}
+use Rattle.link_run.specs.End.{asked_at, asked}
+use Rattle.link_run.specs.Carried.{on_line}
+use Rattle.link_account.proofs.Events.{at, play-append, hears-event, passes-event, loses-event, delivers-event, gives-event, offered-event}
+use Rattle.link_account.proofs.Events.{asked-event, busy-event}
 use Rattle.link_run.proofs.Serving.{Waiting}
 use Rattle.link_run.specs.Laws.{told_by_play, told_by_turn}
-use Rattle.shared_terms.specs.Both.{of}
-
--- a play where neither end is broken; the first account and line are those of the role
-abbrev pub at : Role → Account → List Slot → Account → List Slot → Play
-at Originator x lx y ly =
-    record { originator = record { account = x; line = lx; fault = None }; answerer = record { account = y; line = ly; fault = None } }
-at Answerer x lx y ly =
-    record { originator = record { account = y; line = ly; fault = None }; answerer = record { account = x; line = lx; fault = None } }
+use Rattle.lapm_frames.specs.declared.arrived.Arrived.TheVariants as arrivals
+use Rattle.link_run.specs.Run as run
 
 pub record Leads (p q : Play) : Type 0 where
   pub events : List Event
   pub led : play events p ≡ q
-
-play-append : (es fs : List Event) (p : Play) → play (es ++ fs) p ≡ play fs (play es p)
-play-append [] fs p = refl
-play-append (e ∷ es) fs p = play-append es fs (happens e p)
 
 pub stay : (p : Play) → Leads p p
 stay p = record { events = []; led = refl }
@@ -53,42 +32,10 @@ then-leads p q r a b = record { events = a.events ++ b.events; led = play-append
 pub one : (e : Event) (p q : Play) → happens e p ≡ q → Leads p q
 one e p q h = record { events = e ∷ []; led = h }
 
--- single events
-hears-nothing : (role : Role) (turn : ℕ) (x b y : Account) (lx ly : List Slot) → hear turn arrivals.Nothing x ≡ Ok b
-    → happens (Hears_nothing role turn) (at role x lx y ly) ≡ at role b lx y ly
-hears-nothing Originator turn x b y lx ly e =
-    ap (λ r. record {
-      originator = heard r (record { account = x; line = lx; fault = None });
-      answerer = record { account = y; line = ly; fault = None };
-    }) e
-hears-nothing Answerer turn x b y lx ly e =
-    ap (λ r. record {
-      originator = record { account = y; line = ly; fault = None };
-      answerer = heard r (record { account = x; line = lx; fault = None });
-    }) e
-
-passes-on : (role : Role) (turn : ℕ) (x y b : Account) (slot : Slot) (rest ly : List Slot) → hear turn (arrives slot.sent) y ≡ Ok b
-    → happens (Passes role turn) (at role x (slot ∷ rest) y ly) ≡ at role x rest b ly
-passes-on Originator turn x y b slot rest ly e =
-    ap (λ r. record {
-      originator = record { account = x; line = rest; fault = None };
-      answerer = heard r (record { account = y; line = ly; fault = None });
-    }) e
-passes-on Answerer turn x y b slot rest ly e =
-    ap (λ r. record {
-      originator = heard r (record { account = y; line = ly; fault = None });
-      answerer = record { account = x; line = rest; fault = None };
-    }) e
-
-loses-one : (role : Role) (x y : Account) (slot : Slot) (rest ly : List Slot)
-    → happens (Is_lost role) (at role x (slot ∷ rest) y ly) ≡ at role x rest y ly
-loses-one Originator x y slot rest ly = refl
-loses-one Answerer x y slot rest ly = refl
-
 hears-nothing-back : (role : Role) (turn : ℕ) (x y b : Account) (lx ly : List Slot) → hear turn arrivals.Nothing y ≡ Ok b
     → Leads (at role x lx y ly) (at role x lx b ly)
-hears-nothing-back Originator turn x y b lx ly e = one (Hears_nothing Answerer turn) _ _ (hears-nothing Answerer turn y b x ly lx e)
-hears-nothing-back Answerer turn x y b lx ly e = one (Hears_nothing Originator turn) _ _ (hears-nothing Originator turn y b x ly lx e)
+hears-nothing-back Originator turn x y b lx ly e = one (Hears_nothing Answerer turn) _ _ (hears-event Answerer turn y b x ly lx e)
+hears-nothing-back Answerer turn x y b lx ly e = one (Hears_nothing Originator turn) _ _ (hears-event Originator turn y b x ly lx e)
 
 -- what a role sent in a turn
 abbrev pub made : Role → Option Turn → List (Option run.Spoken)
@@ -166,18 +113,18 @@ arriving role turn x y b (slot ∷ rest) ly (Some t) left h e c k =
     on Nothing c k p = record {
       line = rest;
       leads = then-leads (at role x (slot ∷ rest) y ly) (at role x rest y ly) (at role x rest b ly)
-          (one (Is_lost role) _ _ (loses-one role x y slot rest ly)) (hears-nothing-back role turn x y b rest ly k);
+          (one (Is_lost role) _ _ (loses-event role x y slot rest ly)) (hears-nothing-back role turn x y b rest ly k);
       left_is = p;
     }
     on (Passed s) c k p = record {
       line = rest;
-      leads = one (Passes role turn) _ _ (passes-on role turn x y b slot rest ly (subst (λ z. hear turn (arrives z) y ≡ Ok b) c.0 k));
+      leads = one (Passes role turn) _ _ (passes-event role turn x y b slot rest ly (subst (λ z. hear turn (arrives z) y ≡ Ok b) c.0 k));
       left_is = p;
     }
     on (Lost s) c k p = record {
       line = rest;
       leads = then-leads (at role x (slot ∷ rest) y ly) (at role x rest y ly) (at role x rest b ly)
-          (one (Is_lost role) _ _ (loses-one role x y slot rest ly)) (hears-nothing-back role turn x y b rest ly k);
+          (one (Is_lost role) _ _ (loses-event role x y slot rest ly)) (hears-nothing-back role turn x y b rest ly k);
       left_is = p;
     }
     on Chance c k p = absurd c
@@ -207,11 +154,6 @@ turns-behind [] s = refl
 turns-behind (x ∷ line) s = ap (λ l. told_by_turn x ∷ l) (turns-behind line s)
 
 -- delivering
-delivers-one : (role : Role) (x y : Account) (lx ly : List Slot)
-    → happens (Delivers role) (at role x lx y ly) ≡ at role (after_delivery x) lx y ly
-delivers-one Originator x y lx ly = refl
-delivers-one Answerer x y lx ly = refl
-
 abbrev with_given : Account → ℕ → Account
 with_given x g = record x { incoming = record x.incoming { given = g } }
 
@@ -233,7 +175,7 @@ delivers-all zero role x y lx ly e linked = record { events = []; led = ap (λ g
 delivers-all (suc n) role x y lx ly e linked =
     then-leads (at role x lx y ly) (at role (with_given x (x.incoming.given + 1)) lx y ly)
     (at role (with_given x (length x.incoming.taken)) lx y ly)
-    (one (Delivers role) _ _ (delivers-one role x y lx ly ∙ ap (λ z. at role z lx y ly) (delivered-next x linked (omega (arith, e)))))
+    (one (Delivers role) _ _ (delivers-event role x y lx ly ∙ ap (λ z. at role z lx y ly) (delivered-next x linked (omega (arith, e)))))
     (delivers-all n role (with_given x (x.incoming.given + 1)) y lx ly (omega (arith, e)) linked)
 
 delivers-what-waits : (role : Role) (x y : Account) (lx ly : List Slot) → Waiting x
@@ -245,28 +187,7 @@ delivers-what-waits role x y lx ly w = go (is_connected x.phase) refl
     go true e = delivers-all (length x.incoming.taken - x.incoming.given) role x y lx ly (omega (arith, w.given)) e
     go false e = stay (at role x lx y ly)
 
-gives-one : (role : Role) (x y : Account) (lx ly : List Slot)
-    → happens (Gives_break role) (at role x lx y ly) ≡ at role (after_given x) lx y ly
-gives-one Originator x y lx ly = refl
-gives-one Answerer x y lx ly = refl
-
 -- offering
-offers-one : (role : Role) (x y : Account) (lx ly : List Slot) (piece : List ℕ)
-    → (is_some (wants x) && nat_le (length piece) (piece_size x)) ≡ true
-    → happens (Is_offered role piece) (at role x lx y ly) ≡ at role (after_offer piece x) lx y ly
-offers-one Originator x y lx ly piece e =
-    ap (λ b. record {
-      originator =
-          cond b (record { account = after_offer piece x; line = lx; fault = None }) (record { account = x; line = lx; fault = None });
-      answerer = record { account = y; line = ly; fault = None };
-    }) e
-offers-one Answerer x y lx ly piece e =
-    ap (λ b. record {
-      originator = record { account = y; line = ly; fault = None };
-      answerer =
-          cond b (record { account = after_offer piece x; line = lx; fault = None }) (record { account = x; line = lx; fault = None });
-    }) e
-
 length-take-le : (n : ℕ) (xs : List ℕ) → length (take n xs) ≤ n
 length-take-le zero xs = omega arith
 length-take-le (suc n) [] = omega arith
@@ -280,7 +201,7 @@ offers-at role x y lx ly file (Some n) e =
     let short : nat_le (length piece) (piece_size x) ≡ true = let h = length-take-le (piece_size x) (drop (piece_size x * n) file) in
     grind (arith, nat_tests) in
     one (Is_offered role piece) _ _
-    (offers-one role x y lx ly piece (ap (λ v. is_some v && nat_le (length piece) (piece_size x)) e ∙ short))
+    (offered-event role piece x y lx ly (ap (λ v. is_some v && nat_le (length piece) (piece_size x)) e ∙ short))
 
 offers-all : (n : ℕ) (role : Role) (x y : Account) (lx ly : List Slot) (file : List ℕ)
     → Leads (at role x lx y ly) (at role (offered_times n file x) lx y ly)
@@ -292,29 +213,18 @@ offers-all (suc n) role x y lx ly file =
     (offers-all n role (offered_at file x (wants x)) y lx ly file)
 
 -- asking for a break
-asks-one : (role : Role) (turn length_octet : ℕ) (x y : Account) (lx ly : List Slot)
-    → happens (Is_asked role turn length_octet) (at role x lx y ly) ≡ at role (after_break_asked turn length_octet x) lx y ly
-asks-one Originator turn length_octet x y lx ly = refl
-asks-one Answerer turn length_octet x y lx ly = refl
-
 asks : (role : Role) (turn : ℕ) (released : Bool) (breaks : List BreakLine) (x y : Account) (lx ly : List Slot)
     → Leads (at role x lx y ly) (at role (asked turn released breaks x) lx y ly)
 asks role turn true breaks x y lx ly = stay (at role x lx y ly)
 asks role turn false breaks x y lx ly = go (next_break breaks x)
   where
     ready : (b : BreakLine) (c : Bool) → Leads (at role x lx y ly) (at role (cond c (after_break_asked turn b.length_octet x) x) lx y ly)
-    ready b true = one (Is_asked role turn b.length_octet) _ _ (asks-one role turn b.length_octet x y lx ly)
+    ready b true = one (Is_asked role turn b.length_octet) _ _ (asked-event role turn b.length_octet x y lx ly)
     ready b false = stay (at role x lx y ly)
 
     go : (n : Option BreakLine) → Leads (at role x lx y ly) (at role (asked_at turn n x) lx y ly)
     go None = stay (at role x lx y ly)
     go (Some b) = ready b (nat_le b.turn turn)
-
--- being told of a pause
-busy-one : (role : Role) (busy : Bool) (x y : Account) (lx ly : List Slot)
-    → happens (Is_busy role busy) (at role x lx y ly) ≡ at role (after_busy busy x) lx y ly
-busy-one Originator busy x y lx ly = refl
-busy-one Answerer busy x y lx ly = refl
 
 -- all that happens between hearing and speaking
 pub serves : (role : Role) (u : User) (turn : ℕ) (released : Bool) (x y : Account) (lx ly : List Slot) → Waiting x
@@ -326,26 +236,8 @@ serves role u turn released x y lx ly w =
     let b = after_busy (is_busy turn u.busy) o in
     let last = at role (asked turn released u.breaks b) lx y ly in
     then-leads (at role x lx y ly) (at role d lx y ly) last (delivers-what-waits role x y lx ly w)
-    (then-leads (at role d lx y ly) (at role g lx y ly) last (one (Gives_break role) _ _ (gives-one role d y lx ly))
+    (then-leads (at role d lx y ly) (at role g lx y ly) last (one (Gives_break role) _ _ (gives-event role d y lx ly))
     (then-leads (at role g lx y ly) (at role o lx y ly) last (offers-all (room_for g) role g y lx ly u.file)
     (then-leads (at role o lx y ly) (at role b lx y ly) last
-    (one (Is_busy role (is_busy turn u.busy)) _ _ (busy-one role (is_busy turn u.busy) o y lx ly))
+    (one (Is_busy role (is_busy turn u.busy)) _ _ (busy-event role (is_busy turn u.busy) o y lx ly))
     (asks role turn released u.breaks b y lx ly))))
-
--- speaking
-abbrev pub slot_of : Account → Said → Slot
-slot_of x said = record { sent = said.sent; number = said.number; told = next_expected x.incoming }
-
-pub speaks-one : (role : Role) (turn : ℕ) (release : Bool) (x y : Account) (lx ly : List Slot) (said : Said)
-    → speak turn release x ≡ Ok said
-    → happens (Speaks role turn release) (at role x lx y ly) ≡ at role said.account (lx ++ slot_of x said ∷ []) y ly
-speaks-one Originator turn release x y lx ly said e =
-    ap (λ r. record {
-      originator = spoken r (record { account = x; line = lx; fault = None });
-      answerer = record { account = y; line = ly; fault = None };
-    }) e
-speaks-one Answerer turn release x y lx ly said e =
-    ap (λ r. record {
-      originator = record { account = y; line = ly; fault = None };
-      answerer = spoken r (record { account = x; line = lx; fault = None });
-    }) e

@@ -1,34 +1,26 @@
 -- What is offered is what was read, and files count in a run as far as they were read.
 use Rattle.std.proofs.Common.{◌≡◌, inl, inr, ℕ, zero, suc, ◌+◌, ◌*◌, ◌<◌, ◌≤◌, Bool, true, false, cond, not, ◌&&◌, nat_lt, List, [], ◌∷◌}
 use Rattle.std.proofs.Common.{◌++◌, length, take, drop, arith, length-append, drop-drop, refl, sym, ◌∙◌, ap, subst, Option, Some, None}
-use Rattle.std.proofs.lemmas.Bool.{false≢true}
-use Rattle.std.specs.Prelude.{is_some}
-use Rattle.std.proofs.lemmas.Bool.Decides.{nat_tests}
-use Rattle.std.proofs.lemmas.List.{append-nil, take_all, take-take, drop-take, take-append-drop, length-take, length-take-le}
+use Rattle.link_account.proofs.Names.{false≢true, is_some, nat_tests, append-nil, take-append-drop, Role, Originator, Answerer, of}
+use Rattle.link_account.proofs.Names.{IsAllowed, ReadsAllowed, KeepsTaken, Outgoing, with_piece, Account, is_connected, wants, piece_size}
+use Rattle.link_account.proofs.Names.{after_offer, after_given, after_busy, speak}
+use Rattle.link_run.proofs.Names.{User, delivered, piece_at, offered_at, offered_times, room_for, offered, is_busy, served, is_released}
+use Rattle.link_run.proofs.Names.{has_finished, Link, Accounts, arrival, GoingTurn, SpeaksAt, said_at, served_at}
+use Rattle.std.proofs.lemmas.List.{take_all, take-take, drop-take, length-take, length-take-le}
 use Rattle.std.proofs.Math.Seq.{take-append_seam, drop-append_seam}
-use Rattle.shared_terms.specs.declared.role.Role.{Role}
-use Rattle.shared_terms.specs.declared.role.Role.TheVariants.{Originator, Answerer}
-use Rattle.shared_terms.specs.Both.{of}
-use Rattle.xid_params.specs.Offers.{IsAllowed, ReadsAllowed}
-use Rattle.lapm_receiver.specs.Incoming.{KeepsTaken}
-use Rattle.lapm_sender.specs.Outgoing.{Outgoing, with_piece}
-use Rattle.link_account.specs.Account.{Account, is_connected, wants, piece_size, after_offer, given_break, after_given, after_busy}
-use Rattle.link_account.specs.Speak.{speak}
-use Rattle.link_run.specs.End.{User, Served, deliveries, delivered, piece_at, offered_at, offered_times, room_for, offered, is_busy, asked}
-use Rattle.link_run.specs.End.{served, is_released, has_finished}
-use Rattle.link_run.specs.Run.{Link, Accounts, arrival, GoingTurn, SpeaksAt, said_at, served_at}
-use Rattle.link_run.specs.Reading.{IsCut, IsOffered, SameSoFar, with_segment, BeginsUnoffered}
-use Rattle.link_run.specs.Reading.{HearingStaysOffered, SpeakingStaysOffered, OffersWhatIsRead, SegmentsAreTold}
-use Rattle.link_run.specs.Reading.{OwnSegmentsStay, with_files, RunsByWhatWasRead, RunsByWhatIsReadOn}
+use Rattle.link_account.specs.Account.{given_break}
+use Rattle.link_run.specs.End.{Served, deliveries, asked}
+use Rattle.link_run.specs.Reading.{IsCut, IsOffered, SameSoFar, with_segment, BeginsUnoffered, HearingStaysOffered, SpeakingStaysOffered}
+use Rattle.link_run.specs.Reading.{OffersWhatIsRead, SegmentsAreTold, OwnSegmentsStay, with_files, RunsByWhatWasRead, RunsByWhatIsReadOn}
 use Rattle.link_run.proofs.Keeping.{Books, GoesOn, hears}
 use Rattle.link_run.proofs.Speaking.{Ledger, Speaks, Keeps_on, Releases, speaks}
 use Rattle.link_run.proofs.Cutting.{fresh-cuts, heard-cuts, spoken-cuts, delivered-cuts, offered-cuts-at, wants-are, piece-size-is}
 use Rattle.link_run.proofs.Cutting.{piece-sizes, next-cut, as-cut, times-next}
 use Rattle.link_run.proofs.Serving.{served-alone}
 use Rattle.link_run.proofs.Running.{speaks-at}
-use Rattle.link_run.proofs.Running as running
 use Rattle.link_run.proofs.Ending.{HasCut, cuts-kept, kept-heard, kept-run}
 use Rattle.link_run.proofs.Taking.{Unoffered, IsUnoffered, unoffered-kept, delivered-out}
+use Rattle.link_run.proofs.Running as running
 
 pub begins_unoffered : BeginsUnoffered
 begins_unoffered file setup h = fresh-cuts file setup h

@@ -1,26 +1,20 @@
 -- Each run over a line is a play.
 use Rattle.std.proofs.Common.{◌≡◌, ℕ, zero, suc, Bool, false, ◌-◌, List, [], ◌∷◌, ◌++◌, length, map, refl, sym, ◌∙◌, ap, subst, Option}
 use Rattle.std.proofs.Common.{Some, Ok}
-use Rattle.shared_terms.specs.declared.role.Role.{Role}
-use Rattle.shared_terms.specs.declared.role.Role.TheVariants.{Originator, Answerer}
-use Rattle.shared_terms.specs.Both.{of}
-use Rattle.xid_params.specs.Offers.{ReadsAllowed}
-use Rattle.lapm_receiver.specs.Incoming.{KeepsTaken}
-use Rattle.link_account.specs.Account.{fresh}
+use Rattle.link_account.proofs.Names.{Role, Originator, Answerer, of, ReadsAllowed, KeepsTaken, fresh, Slot, Play, Said}
+use Rattle.link_run.proofs.Names.{is_released, Link, Accounts, Turn, arrival, Hears, GoingTurn, RunOf, served_at, releases, said_at}
+use Rattle.link_run.proofs.Names.{Carries, IsCarried}
 use Rattle.link_account.specs.Laws.{played}
-use Rattle.link_account.specs.Play.{Slot, Play, Speaks, start, seen_from}
-use Rattle.link_account.specs.Speak.{Said}
-use Rattle.link_run.specs.End.{is_released}
-use Rattle.link_run.specs.Run.{Link, Accounts, Turn, arrival, Hears, GoingTurn, RunOf, served_at, releases, said_at}
-use Rattle.link_run.specs.Run as run
-use Rattle.link_run.specs.Carried.{Carries, IsCarried, HasDelays, on_line}
+use Rattle.link_account.specs.Play.{Speaks, start, seen_from}
+use Rattle.link_run.specs.Carried.{HasDelays, on_line}
 use Rattle.link_run.specs.Laws.{told_by_play, told_by_turn, IsAt, IsPlayed, RunsArePlays, HearingsArePlays}
 use Rattle.link_run.proofs.Keeping.{hears}
 use Rattle.link_run.proofs.Speaking.{speaks}
-use Rattle.link_run.proofs.Speaking as speaking
 use Rattle.link_run.proofs.Serving.{Handed, Waiting, heard-waits, served-handed, spoken-handed}
-use Rattle.link_run.proofs.Playing.{at, Leads, stay, then-leads, one, arrives-next, behind, told-behind, turns-behind, serves, speaks-one}
-use Rattle.link_run.proofs.Playing.{slot_of}
+use Rattle.link_run.proofs.Playing.{Leads, stay, then-leads, one, arrives-next, behind, told-behind, turns-behind, serves}
+use Rattle.link_account.proofs.Events.{at, speaks-event, slot_of}
+use Rattle.link_run.specs.Run as run
+use Rattle.link_run.proofs.Speaking as speaking
 
 abbrev pub begun : Link → Play
 begun link = start (fresh link.orig.setup) (fresh link.answ.setup)
@@ -134,8 +128,8 @@ going-reaches link delay ts before t after some p c g w =
     (then-leads p1 p2 p5 (serves Originator link.orig.user turn r g.mid.orig g.mid.answ m.lo m.la (w Originator))
     (then-leads p2 p3 p5 (serves Answerer link.answ.user turn r g.mid.answ o m.la m.lo (w Answerer))
     (then-leads p3 p4 p5 (one (Speaks Originator turn (releases link turn g.mid)) p3 p4
-    (speaks-one Originator turn (releases link turn g.mid) o a m.lo m.la ko.said ko.says))
-    (one (Speaks Answerer turn false) p4 p5 (speaks-one Answerer turn false a ko.said.account m.la lo ka.said ka.says))))) in
+    (speaks-event Originator turn (releases link turn g.mid) o a m.lo m.la ko.said ko.says))
+    (one (Speaks Answerer turn false) p4 p5 (speaks-event Answerer turn false a ko.said.account m.la lo ka.said ka.says))))) in
     record {
       lo = lo;
       la = la;

@@ -1,23 +1,17 @@
 -- Who says a UA, a DISC and a frame with numbers, and in which phase.
 use Rattle.std.proofs.Common.{◌≡◌, ℕ, ◌≤◌, ◌||◌, Bool, true, false, cond, List, [], ◌∷◌, ◌++◌, arith, refl, sym, ◌∙◌, ap, Option, Some}
 use Rattle.std.proofs.Common.{None, Ok}
-use Rattle.std.proofs.lemmas.Bool.{false≢true}
-use Rattle.lapm_frames.specs.declared.frame.Frame.{Frame}
-use Rattle.lapm_frames.specs.declared.frame.Frame.TheVariants.{Disc}
-use Rattle.lapm_receiver.specs.Incoming.{Incoming, after_asked}
+use Rattle.link_account.proofs.Names.{false≢true, Frame, Disc, Incoming, Account, Said, says, frame_for, ready_frame, nr_of, speak, trying}
+use Rattle.link_account.proofs.Names.{is_originator}
+use Rattle.link_run.proofs.Names.{Phase, Connected, Releasing, Answer}
+use Rattle.lapm_receiver.specs.Incoming.{after_asked}
 use Rattle.lapm_receiver.specs.Held.{Held}
-use Rattle.lapm_frames.specs.declared.sent.Sent.TheVariants as slots
-use Rattle.link_account.specs.declared.phase.Phase.{Phase}
-use Rattle.link_account.specs.declared.phase.Phase.TheVariants.{Connected, Releasing}
-use Rattle.link_account.specs.declared.answer.Answer.{Answer}
-use Rattle.link_account.specs.declared.answer.Answer.TheVariants as answers
-use Rattle.link_account.specs.Account.{Account}
-use Rattle.link_account.specs.Speak.{Said, says, says_frame, frame_for, ready_frame, nr_of, speak}
+use Rattle.link_account.specs.Speak.{says_frame}
 use Rattle.link_run.proofs.Keeping.{stage}
 use Rattle.link_run.proofs.Meeting.{is_ua, is_disc, is_segment, is_counted, carries, owes_ua}
-use Rattle.link_account.specs.Hear.{trying}
 use Rattle.link_account.proofs.SpeakWays.{Tries, Ways, by-ways, linked-alike, tries-alike}
-use Rattle.shared_terms.specs.Role.{is_originator}
+use Rattle.lapm_frames.specs.declared.sent.Sent.TheVariants as slots
+use Rattle.link_account.specs.declared.answer.Answer.TheVariants as answers
 
 -- what a receiver's part has
 pub record Part : Type 0 where

@@ -1,14 +1,11 @@
 -- What an end has handed to its user, between turns and once it has heard.
 use Rattle.std.proofs.Common.{◌≡◌, ◌≢◌, inl, inr, ℕ, zero, suc, ◌+◌, ◌≤◌, Bool, true, false, cond, nat_le, List, length, arith}
 use Rattle.std.proofs.Common.{length-append, refl, sym, ◌∙◌, ap, subst, Option, Some, None}
-use Rattle.std.proofs.lemmas.Bool.{false≢true}
-use Rattle.break_signals.specs.Breaks.{after_ask}
-use Rattle.link_account.specs.declared.phase.Phase.{Phase}
-use Rattle.link_account.specs.declared.phase.Phase.TheVariants.{Detecting, Negotiating, Establishing, Connected, Releasing, Closed}
-use Rattle.link_account.specs.Account.{Account, is_connected, wants, after_given, after_busy}
-use Rattle.link_run.specs.End.{User, BreakLine, delivered, offered_at, offered_times, room_for, offered, is_busy, next_break, asked_at}
-use Rattle.link_run.specs.End.{asked, served}
-use Rattle.link_run.proofs.Keeping.{Books, stage, GoesOn}
+use Rattle.link_account.proofs.Names.{after_ask, Account, is_connected, wants, after_given, after_busy}
+use Rattle.link_run.proofs.Names.{User, BreakLine, delivered}
+use Rattle.link_run.proofs.Names.{offered_at, offered_times, room_for, offered, is_busy, next_break, served}
+use Rattle.link_run.specs.End.{asked_at, asked}
+use Rattle.link_run.proofs.Keeping.{Books, stage, GoesOn, unlinked-stage}
 use Rattle.link_run.proofs.Speaking.{Ledger, Speaks, Keeps_on, Releases}
 
 -- all was handed over
@@ -124,21 +121,13 @@ pub record Delivers (a b : Account) : Type 0 where
   pub rest : b ≡ record a { incoming = record a.incoming { given = b.incoming.given } }
   pub given : b.incoming.given ≡ length a.incoming.taken
 
-linked-at : (p : Phase) → is_connected p ≡ false → stage p ≢ 1
-linked-at Detecting e = λ z. omega (arith, z)
-linked-at Negotiating e = λ z. omega (arith, z)
-linked-at Establishing e = λ z. omega (arith, z)
-linked-at Connected e = absurd (false≢true (sym e))
-linked-at Releasing e = λ z. omega (arith, z)
-linked-at Closed e = λ z. omega (arith, z)
-
 pub delivers : (a : Account) → Waiting a → Delivers a (delivered a)
 delivers a w = go (is_connected a.phase) refl
   where
     go : (c : Bool) → is_connected a.phase ≡ c
         → Delivers a (cond c (record a { incoming = record a.incoming { given = length a.incoming.taken } }) a)
     go true e = record { rest = refl; given = refl }
-    go false e = record { rest = refl; given = (w.idle (linked-at a.phase e)).given }
+    go false e = record { rest = refl; given = (w.idle (unlinked-stage a.phase e)).given }
 
 pub served-handed : (u : User) (turn : ℕ) (released : Bool) (a : Account) → Waiting a → Handed (served u turn released a).account
 served-handed u turn released a w =

@@ -1,23 +1,13 @@
 -- Segments have at most the agreed length, and that is at most what their sender offers.
 use Rattle.std.proofs.Common.{◌≡◌, ◌≤◌, max, inl, inr, ℕ, zero, suc, ◌*◌, Bool, true, false, cond, nat_le, List, [], ◌∷◌, ◌++◌, length}
 use Rattle.std.proofs.Common.{drop, arith, refl, sym, ◌∙◌, ap, subst, Option, Some, None, Ok}
+use Rattle.link_account.proofs.Names.{Role, Originator, Answerer, of, Terms, ReadsAllowed, ReadsWritten, Outgoing, with_piece, KeepsTaken}
+use Rattle.link_account.proofs.Names.{Sent, Account, is_connected, wants, piece_size, after_given, after_busy, Said, MayPlay}
+use Rattle.link_run.proofs.Names.{Setup, Connected, User, delivered, piece_at, offered_at, offered_times, room_for, offered, is_busy}
+use Rattle.link_run.proofs.Names.{served, is_released, Link, Accounts, Turn, start, Spoken, arrival, Hears, RunOf, served_at, releases}
+use Rattle.link_run.proofs.Names.{said_at, Carries, IsCarried}
 use Rattle.std.proofs.lemmas.List.{length-take}
-use Rattle.shared_terms.specs.declared.role.Role.{Role}
-use Rattle.shared_terms.specs.declared.role.Role.TheVariants.{Originator, Answerer}
-use Rattle.shared_terms.specs.Both.{of}
-use Rattle.xid_params.specs.declared.terms.Terms.{Terms}
-use Rattle.xid_params.specs.Offers.{ReadsAllowed, ReadsWritten}
-use Rattle.lapm_sender.specs.Outgoing.{Outgoing, with_piece}
-use Rattle.lapm_receiver.specs.Incoming.{KeepsTaken}
-use Rattle.lapm_frames.specs.declared.sent.Sent.{Sent}
-use Rattle.link_account.specs.declared.setup.Setup.{Setup}
-use Rattle.link_account.specs.declared.phase.Phase.TheVariants.{Connected}
-use Rattle.link_account.specs.Account.{Account, is_connected, wants, piece_size, after_given, after_busy, size_for, first_terms}
-use Rattle.link_account.specs.Speak.{Said}
-use Rattle.link_account.specs.Laws.{MayPlay}
-use Rattle.link_run.specs.End.{User, delivered, piece_at, offered_at, offered_times, room_for, offered, is_busy, served, is_released}
-use Rattle.link_run.specs.Run.{Link, Accounts, Turn, start, Spoken, arrival, Hears, RunOf, served_at, releases, said_at}
-use Rattle.link_run.specs.Carried.{Carries, IsCarried}
+use Rattle.link_account.specs.Account.{size_for, first_terms}
 use Rattle.link_run.specs.Laws.{SendsShort}
 use Rattle.link_run.proofs.Keeping.{Books, GoesOn, hears}
 use Rattle.link_run.proofs.Speaking.{Ledger, Speaks, Keeps_on, Releases}

@@ -1,23 +1,14 @@
 -- What an end keeps as it speaks.
-use Rattle.std.proofs.Common.{◌≡◌, ℕ, Bool, true, false, cond, ◌&&◌, List, [], ◌∷◌, ◌++◌, arith, ◌≤◌, refl}
-use Rattle.std.proofs.Common.{sym, ap, subst, Some, Ok, Err}
-use Rattle.std.proofs.lemmas.Bool.{false≢true}
-use Rattle.shared_terms.specs.declared.role.Role.{Role}
-use Rattle.shared_terms.specs.declared.role.Role.TheVariants.{Originator, Answerer}
-use Rattle.lapm_frames.specs.declared.frame.Frame.{Frame}
-use Rattle.xid_params.specs.declared.terms.Terms.{Terms}
-use Rattle.lapm_receiver.specs.Incoming.{Incoming, after_asked}
-use Rattle.link_account.specs.declared.phase.Phase.{Phase}
-use Rattle.link_account.specs.declared.phase.Phase.TheVariants.{Connected, Releasing}
-use Rattle.shared_terms.specs.declared.fault.LinkFault.{LinkFault}
-use Rattle.link_account.specs.Account.{Account}
-use Rattle.link_account.specs.Hear.{trying}
+use Rattle.std.proofs.Common.{◌⊎◌, inl, inr}
+use Rattle.std.proofs.Common.{◌≡◌, ℕ, Bool, true, false, cond, ◌&&◌, List, [], ◌∷◌, ◌++◌, arith, ◌≤◌, refl, sym, ap, subst, Some, Ok, Err}
+use Rattle.link_account.proofs.Names.{false≢true, Role, Originator, Answerer, Frame, Terms, Incoming, LinkFault, Account, trying, Said}
+use Rattle.link_account.proofs.Names.{speak, is_originator}
+use Rattle.link_run.proofs.Names.{Phase, Connected, Releasing}
+use Rattle.lapm_receiver.specs.Incoming.{after_asked}
 use Rattle.link_account.specs.Laws.{WantsAnswers}
-use Rattle.link_account.specs.Speak.{Said, speak}
 use Rattle.link_account.proofs.SpeakWays.{Tries, Ways, by-ways, linked-alike, tries-alike, next-keeps, Breaks, Undetected, Spends}
 use Rattle.link_account.proofs.SpeakWays.{why-broken}
 use Rattle.link_run.proofs.Keeping.{Books, books, stage, standing}
-use Rattle.shared_terms.specs.Role.{is_originator}
 
 -- what speaking doesn't change
 pub record Ledger : Type 0 where
@@ -136,6 +127,22 @@ module _ (turn : ℕ) (release : Bool) (a : Account) where
 
 pub speaks : (turn : ℕ) (release : Bool) (a : Account) (said : Said) → speak turn release a ≡ Ok said → Speaks release a said.account
 speaks turn release a said e = by-ways _ turn release a (ways turn release a) said e
+
+pub speaks-phase : (turn : ℕ) (release : Bool) (a : Account) (said : Said) → speak turn release a ≡ Ok said
+    → (said.account.phase ≡ a.phase) ⊎ ((a.phase ≡ Connected) × (said.account.phase ≡ Releasing))
+speaks-phase turn release a said e = go (speaks turn release a said e)
+  where
+    go : Speaks release a said.account → (said.account.phase ≡ a.phase) ⊎ ((a.phase ≡ Connected) × (said.account.phase ≡ Releasing))
+    go (Keeps_on l) = inl (ap (λ (x : Ledger). x.phase) l)
+    go (Releases on r p l s) = inr (p, ap (λ (x : Ledger). x.phase) l)
+
+pub speaks-pieces : (turn : ℕ) (release : Bool) (a : Account) (said : Said) → speak turn release a ≡ Ok said
+    → (said.account.outgoing.pieces ≡ a.outgoing.pieces) × (said.account.outgoing.size ≡ a.outgoing.size)
+speaks-pieces turn release a said e = go (speaks turn release a said e)
+  where
+    go : Speaks release a said.account → (said.account.outgoing.pieces ≡ a.outgoing.pieces) × (said.account.outgoing.size ≡ a.outgoing.size)
+    go (Keeps_on l) = (ap (λ (x : Ledger). x.books.pieces) l, ap (λ (x : Ledger). x.size) l)
+    go (Releases on r p l s) = (ap (λ (x : Ledger). x.books.pieces) l, ap (λ (x : Ledger). x.size) l)
 
 -- what stands in Releasing and Closed
 pub stands-spoken : (turn : ℕ) (release : Bool) (a : Account) (said : Said) → 2 ≤ stage a.phase → speak turn release a ≡ Ok said

@@ -1,17 +1,9 @@
 -- The front of an end that isn't whole advances within the turns of one segment, or the run ends.
 use Rattle.std.proofs.Common.{◌≡◌, ℕ, suc, ◌+◌, ◌-◌, ◌*◌, ◌<◌, ◌≤◌, ◌||◌, ◌⊎◌, Bool, true, false, cond, nat_lt, List, [], ◌∷◌, ◌++◌, length}
 use Rattle.std.proofs.Common.{inl, inr, arith, refl, sym, ◌∙◌, ap, subst, Option, Some, None}
-use Rattle.std.proofs.lemmas.Bool.Decides.{nat_tests}
-use Rattle.shared_terms.specs.declared.role.Role.{Role}
-use Rattle.shared_terms.specs.declared.role.Role.TheVariants.{Originator, Answerer}
-use Rattle.shared_terms.specs.Role.{is_originator}
-use Rattle.shared_terms.specs.Both.{of}
-use Rattle.lapm_sender.specs.Outgoing.{Outgoing, is_whole}
-use Rattle.link_account.specs.declared.phase.Phase.TheVariants.{Connected}
-use Rattle.link_account.specs.Account.{Account}
-use Rattle.link_run.specs.End.{User, is_released}
-use Rattle.link_run.specs.Run.{Link, Accounts, Turn, GoingTurn, RunOf, arrival}
-use Rattle.link_run.specs.Carried.{IsCarried}
+use Rattle.link_account.proofs.Names.{nat_tests, Role, Originator, Answerer, is_originator, of, Outgoing, Account}
+use Rattle.link_run.proofs.Names.{Connected, User, is_released, Link, Accounts, Turn, GoingTurn, RunOf, arrival, IsCarried}
+use Rattle.lapm_sender.specs.Outgoing.{is_whole}
 use Rattle.turn_bound.specs.Time.{KeepsTime}
 use Rattle.turn_bound.specs.Due.{NoneDue}
 use Rattle.turn_bound.specs.Advance.{NeverBusy, MaySend, GoesOn, AdvancesSoon}

@@ -1,10 +1,7 @@
 -- What serving an end makes of what may hold up a segment.
-use Rattle.std.proofs.Common.{◌≡◌, ℕ, ◌+◌, ◌-◌, ◌<◌, ◌≤◌, ◌&&◌, ◌⊎◌, not, min, Bool, true, false, cond, nat_lt, nat_le, [], ◌∷◌, ◌++◌}
+use Rattle.std.proofs.Common.{◌≡◌, ℕ, ◌+◌, ◌-◌, ◌≤◌, ◌&&◌, not, min, Bool, true, false, cond, nat_lt, nat_le, [], ◌∷◌, ◌++◌}
 use Rattle.std.proofs.Common.{length, length-append, inl, inr, arith, refl, ap}
-use Rattle.std.proofs.lemmas.Bool.Decides.{nat_tests}
-use Rattle.break_signals.specs.Breaks.{OwnBreaks, waits, after_ask}
-use Rattle.std.specs.Prelude.{is_some}
-use Rattle.link_account.specs.Account.{Account, is_connected}
+use Rattle.link_account.proofs.Names.{nat_tests, OwnBreaks, waits, after_ask, is_some, Account}
 use Rattle.turn_bound.proofs.Clock.{Rates, Breaks}
 use Rattle.turn_bound.proofs.Credits.{own_value}
 use Rattle.turn_bound.proofs.Serving.{Served}
@@ -33,13 +30,10 @@ asked-own z turn l b s = go (waits b) refl (nat_le b.rest turn) refl
 
 pub served-own : (z : Rates) (turn breaks : ℕ) (busy : Bool) (a b : Account) → Breaks z (turn + 1) turn a.own_breaks
     → Served turn breaks busy a b → own_value turn b.own_breaks ≤ own_value turn a.own_breaks
-served-own z turn breaks busy a b h s = go s.own
-  where
-    go : (b.own_breaks ≡ a.own_breaks)
-        ⊎ ((l : ℕ) × (b.own_breaks ≡ after_ask turn l a.own_breaks) × (length a.own_breaks.lengths < breaks)
-        × (is_connected a.phase ≡ true)) → own_value turn b.own_breaks ≤ own_value turn a.own_breaks
-    go (inl e) = omega (arith, ap (own_value turn) e)
-    go (inr x) = omega (arith, ap (own_value turn) x.1, asked-own z turn x.0 a.own_breaks h)
+served-own z turn breaks busy a b h s = elim s.own [
+  | inl e ↦ omega (arith, ap (own_value turn) e)
+  | inr x ↦ omega (arith, ap (own_value turn) x.1, asked-own z turn x.0 a.own_breaks h)
+]
 
 pub served-owes : (turn breaks : ℕ) (busy : Bool) (a b : Account) → Served turn breaks busy a b → owed_by b ≡ owed_by a
 served-owes turn breaks busy a b s = by b.incoming.srej b.incoming.rej b.incoming.gapped s.srej s.rej s.gapped

@@ -1,33 +1,23 @@
-use Rattle.std.proofs.Common.{◌⊎◌, inl, inr, ◌≡◌, ℕ, ◌+◌, ◌*◌, ◌&&◌, Bool, true, false, List, [], ◌∷◌, length}
-use Rattle.std.proofs.Common.{arith, refl, sym, ◌∙◌, ap, subst, Some, None, Ok}
-use Rattle.shared_terms.specs.declared.role.Role.{Role}
-use Rattle.shared_terms.specs.declared.role.Role.TheVariants.{Originator, Answerer}
-use Rattle.lapm_frames.specs.declared.frame.Frame.{Frame}
-use Rattle.shared_terms.specs.Role.{is_originator}
-use Rattle.lapm_frames.specs.declared.arrived.Arrived.{Arrived}
-use Rattle.link_account.specs.declared.phase.Phase.{Phase}
-use Rattle.link_account.specs.declared.phase.Phase.TheVariants.{Detecting, Negotiating, Establishing, Connected, Releasing, Closed}
-use Rattle.link_account.specs.Account.{Account, is_connected}
-use Rattle.link_account.specs.declared.answer.Answer.{Answer}
-use Rattle.link_account.specs.Hear.{hear}
-use Rattle.link_account.specs.Hear.{without_adp, trying}
-use Rattle.link_account.specs.Speak.{Said}
-use Rattle.link_account.specs.Speak.{speak}
+use Rattle.std.proofs.Common.{◌⊎◌, inl, inr, ◌≡◌, ℕ, ◌+◌, ◌*◌, ◌&&◌, Bool, true, false, List, [], ◌∷◌, length, arith, refl, sym, ◌∙◌, ap}
+use Rattle.std.proofs.Common.{subst, Some, None, Ok}
+use Rattle.link_account.proofs.Names.{Role, Originator, Answerer, Frame, is_originator, Arrived, Account, is_connected, hear, without_adp}
+use Rattle.link_account.proofs.Names.{trying, Said, speak}
+use Rattle.link_run.proofs.Names.{Phase, Connected, Releasing, Closed, Answer, User, is_busy}
+use Rattle.link_run.proofs.Names.{is_closed, is_released}
 use Rattle.turn_bound.proofs.Clock.{Rates, AreRates}
 use Rattle.turn_bound.proofs.Value.{IsOf, Stands, arrived_rnrs}
-use Rattle.link_run.specs.End.{User, is_busy, is_closed, is_released}
 use Rattle.turn_bound.proofs.OneTurn.{heard-ok}
 use Rattle.turn_bound.proofs.Phases.{hears-well}
 use Rattle.turn_bound.proofs.Serves.{serves-well}
 use Rattle.turn_bound.proofs.Run.{served_account, Link, State, Turn, RunOf, arrival}
 use Rattle.turn_bound.specs.Due.{NoneDue}
 use Rattle.turn_bound.proofs.Serving.{Served, serves-all}
-use Rattle.link_account.proofs.HearWays as HearWays
 use Rattle.link_account.proofs.HearWays.{numbers-alike}
-use Rattle.link_account.proofs.SpeakWays as SpeakWays
 use Rattle.link_account.proofs.SpeakWays.{Steps, Tries, answers-unconnected, linked-alike, tries-alike, retimed}
 use Rattle.turn_bound.proofs.Falls.{Fits, after-is}
 use Rattle.turn_bound.proofs.Ending.{sound-run}
+use Rattle.link_account.proofs.HearWays as HearWays
+use Rattle.link_account.proofs.SpeakWays as SpeakWays
 
 -- what hearing makes due: an answer, or an F reply
 pub record OneDue (role : Role) (b : Account) : Type 0 where
@@ -54,11 +44,7 @@ one-closed role b e =
   where
     closed-released : (p : Phase) → is_closed p ≡ true → is_released p ≡ true
     closed-released Closed e = refl
-    closed-released Detecting e = cc
-    closed-released Negotiating e = cc
-    closed-released Establishing e = cc
-    closed-released Connected e = cc
-    closed-released Releasing e = cc
+    closed-released p e = cc
 
 pub one-hears : (role : Role) (arrived : Arrived) (turn : ℕ) (a mid : Account) → a.setup.role ≡ role → NoneDue a → hear turn arrived a
     ≡ Ok mid
@@ -182,12 +168,7 @@ end-clean z user turn role arrived a mid released release said y k h er hears sp
   where
     served-one : (m c : Account) → Served turn (length user.breaks) (is_busy turn user.busy) m c → OneDue role m
         → (c.owes.answer ≡ None) ⊎ (is_released c.phase ≡ false → c.owes.reply ≡ false)
-    served-one m c s o = by o.one
-      where
-        by : (m.owes.answer ≡ None) ⊎ (is_released m.phase ≡ false → m.owes.reply ≡ false)
-            → (c.owes.answer ≡ None) ⊎ (is_released c.phase ≡ false → c.owes.reply ≡ false)
-        by (inl n) = inl (s.answer ∙ n)
-        by (inr f) = inr (λ x. s.reply ∙ f (ap is_released (sym s.phase) ∙ x))
+    served-one m c s o = elim o.one [ inl n ↦ inl (s.answer ∙ n) | inr f ↦ inr (λ x. s.reply ∙ f (ap is_released (sym s.phase) ∙ x)) ]
 
 pub none-due-run : (z : Rates) (link : Link) (ts : List Turn) (s : State) → Fits z link → RunOf link ts s → NoneDue s.orig × NoneDue s.answ
 none-due-run z link [] s f run =

@@ -1,11 +1,8 @@
 -- The laws of runs over lines that carry what is sent, by what holds of runs with queues.
 use Rattle.std.proofs.Common.{ℕ, ◌+◌, ◌*◌, ◌<◌, ◌≤◌, map, length, arith, sym, ◌∙◌, ap, subst, false}
-use Rattle.shared_terms.specs.declared.role.Role.{Role}
-use Rattle.shared_terms.specs.declared.role.Role.TheVariants.{Originator, Answerer}
-use Rattle.shared_terms.specs.Both.{of}
-use Rattle.link_run.specs.End.{is_released}
-use Rattle.link_run.specs.Run.{Link, Accounts, Turn, RunOf, BrokenTurn, IsBroken, served_at, releases}
-use Rattle.link_run.specs.Run as runs
+use Rattle.link_account.proofs.Names.{Role, Originator, Answerer, of}
+use Rattle.link_run.proofs.Names.{is_released, served_at, releases}
+use Rattle.link_run.specs.Run.{BrokenTurn, IsBroken}
 use Rattle.turn_bound.specs.Bound.{of_both, weight, most_turns, offered_to, EndsSoon, EndsSoonByFiles, EndsSoonByOctets}
 use Rattle.turn_bound.specs.Offered.{HoldsFile, IsWithin, OffersWithin}
 use Rattle.turn_bound.specs.Together.{StandTogether}
@@ -22,6 +19,7 @@ use Rattle.turn_bound.proofs.Spending.{end-spends}
 use Rattle.turn_bound.proofs.AtMostOne.{none-due-run}
 use Rattle.turn_bound.proofs.Sizes.{within-run}
 use Rattle.turn_bound.proofs.Counted.{offered-few, octets-hold, busy-few, product-most}
+use Rattle.link_run.specs.Run as runs
 
 pub ends-soon-always : EndsSoon
 ends-soon-always tries period delay link ts ends k run c =

@@ -1,21 +1,11 @@
 -- What holds all through a run where no user is busy.
 use Rattle.std.proofs.Common.{◌≡◌, ℕ, zero, suc, ◌+◌, ◌-◌, ◌*◌, ◌≤◌, Bool, true, false, List, [], ◌∷◌, drop, map, length, arith, refl, sym}
 use Rattle.std.proofs.Common.{◌∙◌, ap, subst, Option, Some, None, Result, Ok, Err}
-use Rattle.std.specs.Prelude.{slice_get}
-use Rattle.std.specs.List.{AllByRecursion}
-use Rattle.shared_terms.specs.declared.role.Role.{Role}
-use Rattle.shared_terms.specs.declared.role.Role.TheVariants.{Originator, Answerer}
-use Rattle.shared_terms.specs.Role.{other}
-use Rattle.shared_terms.specs.Both.{of}
-use Rattle.lapm_frames.specs.declared.heard.Heard.{Heard}
-use Rattle.lapm_frames.specs.declared.heard.Heard.TheVariants.{Nothing, Passed, Lost, Chance}
-use Rattle.shared_terms.specs.declared.fault.LinkFault.{LinkFault}
-use Rattle.link_account.specs.Account.{Account, is_connected}
-use Rattle.link_account.specs.Speak.{Said, speak}
-use Rattle.link_run.specs.End.{User, BusyLine, is_busy, is_released}
-use Rattle.link_run.specs.Run.{Link, Accounts, Spoken, Turn, GoingTurn, RunOf, said_at, releases, arrival}
-use Rattle.link_run.specs.Run as runs
-use Rattle.link_run.specs.Carried.{Crosses, Carries, IsCarried, sent_in, sent_ago}
+use Rattle.link_account.proofs.Names.{slice_get, AllByRecursion, Role, Originator, Answerer, other, of, Heard, Nothing, Passed, Lost}
+use Rattle.link_account.proofs.Names.{Chance, LinkFault, Account, is_connected, Said, speak}
+use Rattle.link_run.proofs.Names.{User, is_busy, is_released, Link, Accounts, Spoken, Turn, GoingTurn, RunOf, said_at, releases, arrival}
+use Rattle.link_run.proofs.Names.{Crosses, Carries, IsCarried, sent_in, sent_ago}
+use Rattle.link_run.specs.End.{BusyLine}
 use Rattle.turn_bound.specs.Time.{KeepsTime}
 use Rattle.turn_bound.specs.Advance.{NeverBusy}
 use Rattle.turn_bound.proofs.Clock.{Rates, rates, AreRates, one_if}
@@ -34,6 +24,7 @@ use Rattle.turn_bound.proofs.Credits.{frame_poll, poll_value, poll-most}
 use Rattle.turn_bound.proofs.Polling.{nineteen_if}
 use Rattle.turn_bound.proofs.Pausing.{goes-on, says-calm}
 use Rattle.turn_bound.proofs.Polled.{poll-turn}
+use Rattle.link_run.specs.Run as runs
 
 -- an end speaks, told to release or not
 pub said-speaks : (link : Link) (turn : ℕ) (mid : Accounts) (role : Role) (said : Said) → said_at link turn mid role ≡ Ok said

@@ -1,8 +1,5 @@
+use Rattle.link_account.proofs.Names.{is_some, AllByRecursion, Outgoing, is_outstanding, OwnBreaks, waits}
 use Rattle.std.specs.Prelude.{◌≡◌, ℕ, ◌+◌, ◌-◌, ◌*◌, ◌<◌, ◌≤◌, Bool, true, false, not, cond, ◌&&◌, ◌||◌, nat_lt, length, Option, Some, None}
-use Rattle.std.specs.Prelude.{is_some}
-use Rattle.std.specs.List.{AllByRecursion}
-use Rattle.lapm_sender.specs.Outgoing.{Outgoing, is_outstanding}
-use Rattle.break_signals.specs.Breaks.{OwnBreaks, waits}
 
 -- What the turns of a run are counted in.
 pub record Rates : Type 0 where

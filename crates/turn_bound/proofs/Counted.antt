@@ -1,9 +1,7 @@
 -- How many segments hold a file, and what the limits make of the bound.
 use Rattle.std.proofs.Common.{ℕ, ◌-◌, ◌*◌, ◌<◌, ◌≤◌, List, [], ◌∷◌, length, arith, inl, inr}
-use Rattle.std.proofs.lemmas.Bool.{cases_lt}
+use Rattle.link_account.proofs.Names.{cases_lt, AllByRecursion, Outgoing}
 use Rattle.std.proofs.Math.Nat.{mul-le-mul_right, mul-le-mul_left}
-use Rattle.std.specs.List.{AllByRecursion}
-use Rattle.lapm_sender.specs.Outgoing.{Outgoing}
 use Rattle.link_run.specs.End.{BusyLine, busy_turns}
 use Rattle.turn_bound.specs.Offered.{HoldsFile, IsWithin}
 use Rattle.turn_bound.specs.Limits.{IsShort}

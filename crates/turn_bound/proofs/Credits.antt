@@ -2,15 +2,8 @@
 -- poll
 -- that is heard in it. A poll of the other end has a value too: one becomes due in nineteen turns at most.
 use Rattle.std.proofs.Common.{ℕ, ◌+◌, ◌-◌, ◌≤◌, ◌&&◌, min, Bool, true, false, cond, arith, Option, Some, None}
-use Rattle.std.specs.Prelude.{is_some}
-use Rattle.lapm_frames.specs.declared.frame.Frame.{Frame}
-use Rattle.lapm_frames.specs.declared.frame.Frame.TheVariants.{Rr, Rnr, Rej}
-use Rattle.lapm_receiver.specs.Incoming.{Incoming}
-use Rattle.break_signals.specs.declared.word.BreakWord.{BreakWord}
-use Rattle.break_signals.specs.Breaks.{OwnBreaks, waits}
-use Rattle.link_account.specs.declared.phase.Phase.{Phase}
-use Rattle.link_account.specs.declared.phase.Phase.TheVariants.{Detecting, Negotiating, Establishing, Connected, Releasing, Closed}
-use Rattle.link_account.specs.Account.{Account}
+use Rattle.link_account.proofs.Names.{is_some, Frame, Rr, Rnr, Rej, Incoming, BreakWord, OwnBreaks, waits, Account}
+use Rattle.link_run.proofs.Names.{Phase, Detecting, Negotiating, Establishing, Connected, Releasing, Closed}
 
 -- REJ that is due, or may become due with the next segment; and a break's answer
 abbrev pub owing : Incoming → Option BreakWord → ℕ
@@ -58,12 +51,10 @@ timer_value turn None = 0
 timer_value turn (Some set) = min 19 (turn - (set + 1))
 
 abbrev pub poll_value : ℕ → Phase → Account → ℕ
-poll_value turn Detecting a = 38
-poll_value turn Negotiating a = 38
-poll_value turn Establishing a = 38
 poll_value turn Connected a = cond a.wait.poll 19 0 + timer_value turn a.wait.timer
 poll_value turn Releasing a = 0
 poll_value turn Closed a = 0
+poll_value turn p a = 38
 
 timer-most : (turn : ℕ) (timer : Option ℕ) → timer_value turn timer ≤ 19
 timer-most turn None = omega arith

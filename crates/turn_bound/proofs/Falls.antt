@@ -1,21 +1,12 @@
 use Rattle.std.proofs.Common.{◌≡◌, ℕ, ◌+◌, ◌*◌, ◌<◌, ◌≤◌, ◌&&◌, ◌||◌, not, Bool, true, false, cond, nat_lt, List, [], ◌∷◌, ◌++◌, length}
 use Rattle.std.proofs.Common.{length-append, arith, refl, sym, ◌∙◌, ap, subst, Some, None, Result, Ok, Err}
-use Rattle.std.proofs.lemmas.Bool.Decides.{nat_tests}
-use Rattle.shared_terms.specs.declared.role.Role.{Role}
-use Rattle.shared_terms.specs.declared.role.Role.TheVariants.{Originator, Answerer}
-use Rattle.lapm_sender.specs.Outgoing.{Outgoing, wanted}
-use Rattle.lapm_frames.specs.declared.arrived.Arrived.{Arrived}
-use Rattle.link_account.specs.declared.phase.Phase.{Phase}
-use Rattle.link_account.specs.declared.phase.Phase.TheVariants.{Detecting, Negotiating, Establishing, Connected, Releasing, Closed}
-use Rattle.shared_terms.specs.declared.fault.LinkFault.{LinkFault}
-use Rattle.link_account.specs.Account.{Account, is_connected}
-use Rattle.shared_terms.specs.Role.{is_originator}
-use Rattle.link_account.specs.Hear.{hear}
-use Rattle.link_account.specs.Speak.{Said, speak}
-use Rattle.link_account.specs.Play.{Slot}
+use Rattle.link_account.proofs.Names.{nat_tests, Role, Originator, Answerer, Outgoing, wanted, Arrived, LinkFault, Account, is_connected}
+use Rattle.link_account.proofs.Names.{is_originator, hear, Said, speak, Slot}
+use Rattle.link_run.proofs.Names.{Phase, Connected, User, is_busy, is_closed}
+use Rattle.link_run.proofs.Names.{is_released, has_finished}
 use Rattle.turn_bound.proofs.Clock.{Rates, AreRates, is_waiting, is_free, lasts, one_if, is_breaking}
 use Rattle.turn_bound.proofs.Value.{value, linked_lives, lives, IsOf, Linked, Stands, dues, arrived_weight, arrived_rnrs}
-use Rattle.link_run.specs.End.{User, is_busy, is_closed, is_released, has_finished, busy_left}
+use Rattle.link_run.specs.End.{busy_left}
 use Rattle.turn_bound.proofs.Run.{served_account, Link, State, Turn, GoingTurn, arrival, left_on, slot_of}
 use Rattle.turn_bound.proofs.Potential.{weights, rnrs_on, Totals, is_alive, stall, potential, AreTogether}
 use Rattle.turn_bound.proofs.Arithmetic.{kept}
@@ -130,12 +121,8 @@ stall-small z link totals turn false s h big =
 
 -- an originator that isn't closed, and that doesn't live, is Connected
 dead-connected : (turn : ℕ) (p : Phase) (a : Account) → is_closed p ≡ false → lives turn Originator p a ≡ false → p ≡ Connected
-dead-connected turn Detecting a c d = cc
-dead-connected turn Negotiating a c d = cc
-dead-connected turn Establishing a c d = cc
 dead-connected turn Connected a c d = refl
-dead-connected turn Releasing a c d = cc
-dead-connected turn Closed a c d = cc
+dead-connected turn p a c d = cc
 
 finished-at : (z : Rates) (total more : ℕ) (user : User) (turn : ℕ) (role : Role) (a mid : Account) (released release : Bool) (said : Said)
     → released ≡ false

@@ -1,29 +1,18 @@
-use Rattle.std.proofs.Common.{◌≡◌, ℕ, ◌+◌, ◌-◌, ◌*◌, ◌%◌, ◌<◌, ◌≤◌, ◌&&◌, ◌||◌, Bool, true, false, cond, nat_eq, length, arith, refl}
-use Rattle.std.proofs.Common.{sym, ◌∙◌, ap, subst, Option, Some, Result, Ok, Err}
-use Rattle.std.proofs.lemmas.Bool.Decides.{nat_tests}
-use Rattle.shared_terms.specs.declared.role.Role.{Role}
-use Rattle.shared_terms.specs.declared.role.Role.TheVariants.{Originator, Answerer}
-use Rattle.lapm_sender.specs.Outgoing.{Outgoing, paused_at}
-use Rattle.break_signals.specs.Breaks.{OwnBreaks, after_answer, waits}
-use Rattle.link_account.specs.declared.phase.Phase.{Phase}
-use Rattle.link_account.specs.declared.phase.Phase.TheVariants.{Connected}
-use Rattle.shared_terms.specs.declared.fault.LinkFault.{LinkFault}
-use Rattle.link_account.specs.Account.{Account}
-use Rattle.lapm_frames.specs.declared.frame.Frame.{Frame}
-use Rattle.lapm_frames.specs.declared.frame.Frame.TheVariants.{I, Rr, Rnr, Rej, Srej}
-use Rattle.lapm_frames.specs.declared.arrived.Arrived.{Arrived}
-use Rattle.lapm_frames.specs.declared.arrived.Arrived.TheVariants as arrivals
-use Rattle.lapm_receiver.specs.Incoming.{Incoming}
+use Rattle.std.proofs.Common.{◌≡◌, ℕ, ◌+◌, ◌-◌, ◌*◌, ◌%◌, ◌<◌, ◌≤◌, ◌&&◌, ◌||◌, Bool, true, false, cond, nat_eq, length, arith, refl, sym}
+use Rattle.std.proofs.Common.{◌∙◌, ap, subst, Option, Some, Result, Ok, Err}
+use Rattle.link_account.proofs.Names.{nat_tests, Role, Originator, Answerer, Outgoing, OwnBreaks, after_answer, waits, LinkFault, Account}
+use Rattle.link_account.proofs.Names.{Frame, I, Rr, Rnr, Rej, Srej, Arrived, Incoming}
+use Rattle.link_run.proofs.Names.{Phase, Connected}
+use Rattle.lapm_sender.specs.Outgoing.{paused_at}
 use Rattle.link_account.specs.Hear.{timer_after}
 use Rattle.link_account.proofs.HearWays.{Numbers, numbered_with, acked-keeps, acked_back-keeps, resumed-keeps}
-use Rattle.turn_bound.proofs.Value.{frame_rnrs}
-use Rattle.turn_bound.proofs.Sender.{acked-heard}
+use Rattle.turn_bound.proofs.Value.{frame_rnrs, value, lives, IsAck, IsSilent, Linked, Stands}
+use Rattle.turn_bound.proofs.Sender.{acked-heard, Heard, HeardWell, heard-well, heard-busy, meant-range, heard-advanced, heard-resumed}
+use Rattle.turn_bound.proofs.Sender.{heard-selected}
 use Rattle.turn_bound.proofs.Clock.{Rates, AreRates, is_waiting, Sends, ends, Breaks, is_breaking}
-use Rattle.turn_bound.proofs.Value.{value, lives, IsAck, IsSilent, Linked, Stands}
-use Rattle.turn_bound.proofs.Sender.{Heard, HeardWell, heard-well, heard-busy, meant-range, heard-advanced}
-use Rattle.turn_bound.proofs.Sender.{heard-resumed, heard-selected}
 use Rattle.turn_bound.proofs.Sending.{later-sends}
 use Rattle.turn_bound.proofs.Breaking.{later-breaks, ChangedWell, answered-well, ends-same}
+use Rattle.lapm_frames.specs.declared.arrived.Arrived.TheVariants as arrivals
 
 -- what hearing makes of an end of one role and phase
 pub record HeardAs (z : Rates) (total breaks turn more : ℕ) (role : Role) (p : Phase) (a : Account) (q : Phase) (b : Account) : Type 0 where

@@ -1,17 +1,10 @@
 -- A turn of an end that stays Connected, where no user is busy.
 use Rattle.std.proofs.Common.{◌≡◌, ℕ, ◌+◌, ◌*◌, ◌<◌, ◌≤◌, ◌&&◌, ◌||◌, ◌⊎◌, not, nat_eq, nat_lt, Bool, true, false, cond, length, inl, inr}
 use Rattle.std.proofs.Common.{arith, refl, sym, ◌∙◌, ap, subst, Option, Some, None, Ok}
-use Rattle.std.specs.Prelude.{is_some}
-use Rattle.std.proofs.lemmas.Bool.Decides.{nat_tests}
-use Rattle.shared_terms.specs.declared.role.Role.{Role}
-use Rattle.shared_terms.specs.Role.{is_originator}
-use Rattle.lapm_sender.specs.Outgoing.{wanted, is_whole}
-use Rattle.lapm_frames.specs.declared.arrived.Arrived.{Arrived}
-use Rattle.link_account.specs.declared.phase.Phase.TheVariants.{Connected, Closed}
-use Rattle.link_account.specs.Account.{Account, is_connected}
-use Rattle.link_account.specs.Hear.{hear}
-use Rattle.link_account.specs.Speak.{Said, speak, steps}
-use Rattle.link_run.specs.End.{User, is_busy, is_released}
+use Rattle.link_account.proofs.Names.{is_some, nat_tests, Role, is_originator, wanted, Arrived, Account, is_connected, hear, Said, speak}
+use Rattle.link_account.proofs.Names.{steps}
+use Rattle.link_run.proofs.Names.{Connected, Closed, User, is_busy, is_released}
+use Rattle.lapm_sender.specs.Outgoing.{is_whole}
 use Rattle.turn_bound.specs.Due.{NoneDue}
 use Rattle.turn_bound.proofs.Clock.{Rates, AreRates, is_waiting, Sends, ends, one_if, lasts, sender_value}
 use Rattle.turn_bound.proofs.Value.{IsOf, Linked, Stands, arrived_weight, arrived_rnrs}
@@ -24,7 +17,7 @@ use Rattle.turn_bound.proofs.Phases.{hears-well}
 use Rattle.turn_bound.proofs.OneTurn.{heard-ok}
 use Rattle.turn_bound.proofs.StillTurn.{Stays, stays, Spoke, spoke, stand-linked, linked-stand}
 use Rattle.turn_bound.proofs.MeetHear.{of_arrived}
-use Rattle.turn_bound.proofs.Credits.{own_value, held_value, frame_poll}
+use Rattle.turn_bound.proofs.Credits.{held_value, frame_poll}
 use Rattle.turn_bound.proofs.Taking.{owed_by, may_send_at, TakesNumber, Takes, Closes, takes}
 use Rattle.turn_bound.proofs.Asking.{served-own, served-owes}
 use Rattle.turn_bound.proofs.Pausing.{Calm, says-calm}
@@ -198,17 +191,11 @@ lingers z total user turn role arrived a mid released release said y l calm ligh
           more = more;
         }
 
-        owed : owed_by b ≡ owed_by mid
-        owed = served-owes turn (length user.breaks) (is_busy turn user.busy) mid b s.serves
-
-        own : own_value turn b.own_breaks ≤ own_value turn mid.own_breaks
-        own = served-own z turn (length user.breaks) (is_busy turn user.busy) mid b mid-linked.breaks s.serves
-
         base : base_value turn b.special d + owed_by a ≤ held_value turn a + owed_by mid + 1
         base = omega (
           arith,
-          owed,
-          own,
+          (served-owes turn (length user.breaks) (is_busy turn user.busy) mid b s.serves),
+          (served-own z turn (length user.breaks) (is_busy turn user.busy) mid b mid-linked.breaks s.serves),
           t.own,
           q.value,
           ap (λ x. cond {A = ℕ} x 0 4) (s.serves.special ∙ t.special),

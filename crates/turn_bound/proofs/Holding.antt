@@ -1,19 +1,10 @@
 -- A Connected end with a segment to send and nothing outstanding sends it, or something else goes first that it pays for.
 use Rattle.std.proofs.Common.{◌≡◌, ℕ, ◌+◌, ◌-◌, ◌%◌, ◌<◌, ◌≤◌, ◌&&◌, ◌||◌, ◌⊎◌, min, Bool, true, false, cond, nat_eq, nat_lt, List, [], ◌∷◌}
 use Rattle.std.proofs.Common.{◌++◌, length, slice_index_or, inl, inr, arith, refl, sym, ◌∙◌, ap, Option, Some, None, Ok}
-use Rattle.std.specs.Prelude.{is_some}
-use Rattle.std.specs.List.{AllByRecursion}
-use Rattle.std.proofs.lemmas.Bool.Decides.{nat_tests}
-use Rattle.shared_terms.specs.Role.{is_originator}
-use Rattle.lapm_sender.specs.Outgoing.{Outgoing, is_outstanding, next_number, next_among, expired}
-use Rattle.lapm_receiver.specs.Incoming.{Incoming}
-use Rattle.break_signals.specs.declared.word.BreakWord.{BreakWord}
-use Rattle.break_signals.specs.declared.word.BreakWord.TheVariants.{Brk}
-use Rattle.break_signals.specs.Breaks.{OwnBreaks, waits, ticked}
-use Rattle.link_account.specs.Account.{Account}
-use Rattle.link_account.specs.Speak.{Said, polling, timer_expires, on_timer, breaking, may_send}
-use Rattle.link_account.specs.Speak.{steps, differs}
-use Rattle.link_account.specs.Speak.{then_tries}
+use Rattle.link_account.proofs.Names.{is_some, AllByRecursion, nat_tests, is_originator, Outgoing, is_outstanding, next_number, Incoming}
+use Rattle.link_account.proofs.Names.{BreakWord, Brk, OwnBreaks, waits, ticked, Account, Said, may_send, steps}
+use Rattle.lapm_sender.specs.Outgoing.{next_among, expired}
+use Rattle.link_account.specs.Speak.{polling, timer_expires, on_timer, breaking, differs, then_tries}
 use Rattle.turn_bound.proofs.Clock.{Rates, AreRates, is_waiting, IsChosen, Sends}
 use Rattle.turn_bound.proofs.Value.{IsOf}
 use Rattle.turn_bound.proofs.Sending.{sent-well}
@@ -106,9 +97,6 @@ some-free z turn a h e = clash (may_send a) e (ap (λ b. cond b (next_number o) 
     clash None e f = cc
     clash (Some n) e f = cc
 
-    s : Sends z (turn + 1) (turn + 1) o a.wait.timer
-    s = h.sends
-
     split : (out awaited paused : Bool) → out || (awaited || paused) ≡ false → (out ≡ false) × (awaited || paused ≡ false)
     split true awaited paused f = cc
     split false awaited paused f = (refl, f)
@@ -117,26 +105,23 @@ some-free z turn a h e = clash (may_send a) e (ap (λ b. cond b (next_number o) 
     nothing-chosen [] k le = refl
     nothing-chosen (n ∷ l) k le = let wrong : o.front < o.front = omega (arith, k.0.0, k.0.1, le) in absurd (omega (arith, wrong))
 
-    parts : (is_outstanding o ≡ false) × (o.awaited || o.paused ≡ false)
-    parts = split (is_outstanding o) o.awaited o.paused h.idle
-
     le : o.high ≤ o.front
-    le = let t : nat_lt o.front o.high ≡ false = parts.0 in grind (arith, nat_tests)
+    le = let t : nat_lt o.front o.high ≡ false = (split (is_outstanding o) o.awaited o.paused h.idle).0 in grind (arith, nat_tests)
 
     from : o.from ≡ o.front
-    from = omega (arith, s.front_from, s.from_high, le)
+    from = omega (arith, h.sends.front_from, h.sends.from_high, le)
 
     one : nat_lt o.from (length o.pieces) ≡ true
     one = let m = h.more in let f = from in grind (arith, nat_tests)
 
     two : nat_lt o.from (o.front + o.window) ≡ true
-    two = let w = s.window in let f = from in grind (arith, nat_tests)
+    two = let w = h.sends.window in let f = from in grind (arith, nat_tests)
 
     among : next_among o.chosen o ≡ Some o.from
-    among = ap (λ l. next_among l o) (nothing-chosen o.chosen s.chosen le) ∙ rw (one, two) refl
+    among = ap (λ l. next_among l o) (nothing-chosen o.chosen h.sends.chosen le) ∙ rw (one, two) refl
 
     next : next_number o ≡ Some o.from
-    next = ap (λ b. cond b None (next_among o.chosen o)) parts.1 ∙ among
+    next = ap (λ b. cond b None (next_among o.chosen o)) (split (is_outstanding o) o.awaited o.paused h.idle).1 ∙ among
 
 -- the steps
 module _ (z : Rates) (turn : ℕ) (special : Bool) (a : Account) (y : AreRates z) (h : Ready z turn a) (s : a.special ≡ false) where

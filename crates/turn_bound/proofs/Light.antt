@@ -1,19 +1,12 @@
-use Rattle.std.proofs.Common.{◌≡◌, ℕ, ◌≤◌, ◌&&◌, ap, Bool, true, false, arith, refl, subst}
-use Rattle.std.proofs.Common.{Result, Ok, Err}
-use Rattle.break_signals.specs.declared.word.BreakWord.{BreakWord}
-use Rattle.break_signals.specs.declared.fault.BreakFault.{BreakFault}
-use Rattle.break_signals.specs.declared.word.BreakWord.TheVariants.{Brk, Ack}
-use Rattle.break_signals.specs.Words.{spelled, word_in}
-use Rattle.link_account.specs.declared.phase.Phase.TheVariants.{Releasing}
-use Rattle.shared_terms.specs.declared.fault.LinkFault.{LinkFault}
-use Rattle.link_account.specs.Account.{Account, is_connected}
-use Rattle.link_account.specs.declared.answer.Answer.{Answer}
-use Rattle.link_account.specs.declared.answer.Answer.TheVariants as answers
-use Rattle.link_account.specs.Hear.{trying}
-use Rattle.link_account.specs.Speak.{Said, frame_for, nr_of, ready_frame, speak}
+use Rattle.std.proofs.Common.{◌≡◌, ℕ, ◌≤◌, ◌&&◌, ap, Bool, true, false, arith, refl, subst, Result, Ok, Err}
+use Rattle.link_account.proofs.Names.{BreakWord, BreakFault, Brk, Ack, word_in, LinkFault, Account, is_connected, trying, Said, frame_for}
+use Rattle.link_account.proofs.Names.{nr_of, ready_frame, speak}
+use Rattle.link_run.proofs.Names.{Releasing, Answer}
+use Rattle.break_signals.specs.Words.{spelled}
 use Rattle.turn_bound.proofs.Clock.{one_if}
 use Rattle.turn_bound.proofs.Value.{two_if, weight, frame_weight, word_weight, rnrs, frame_rnrs}
 use Rattle.link_account.proofs.SpeakWays.{Steps, Ways, by-ways, linked-alike, tries-alike, retimed}
+use Rattle.link_account.specs.declared.answer.Answer.TheVariants as answers
 
 -- what a slot may weigh
 abbrev pub Light : Bool → Said → Type 0

@@ -1,19 +1,14 @@
 use Rattle.std.proofs.Common.{◌≡◌, ℕ, ◌+◌, ◌-◌, ◌*◌, ◌<◌, ◌≤◌, ◌&&◌, ◌||◌, max, Bool, true, false, cond, nat_lt, nat_le, not, List, [], ◌∷◌}
 use Rattle.std.proofs.Common.{◌++◌, length, arith, refl}
-use Rattle.std.specs.Prelude.{is_some}
-use Rattle.std.specs.List.{AllByRecursion}
-use Rattle.std.proofs.lemmas.Bool.Decides.{nat_tests}
-use Rattle.lapm_frames.specs.declared.sent.Sent.{Sent}
-use Rattle.lapm_frames.specs.declared.sent.Sent.TheVariants as slots
-use Rattle.lapm_frames.specs.declared.arrived.Arrived.{Arrived}
-use Rattle.lapm_frames.specs.declared.arrived.Arrived.TheVariants as arrivals
-use Rattle.link_account.specs.Account.{Account}
-use Rattle.link_account.specs.Play.{Slot, arrives}
+use Rattle.link_account.proofs.Names.{is_some, AllByRecursion, nat_tests, Sent, Arrived, Account, Slot, arrives}
+use Rattle.link_run.proofs.Names.{is_busy}
 use Rattle.turn_bound.proofs.Clock.{one_if, is_free}
 use Rattle.turn_bound.proofs.Value.{weight, rnrs, arrived_weight, arrived_rnrs, dues, two_if, four_if}
-use Rattle.link_run.specs.End.{BusyLine, is_busy, busy_left, busy_turns}
+use Rattle.link_run.specs.End.{BusyLine, busy_left, busy_turns}
 use Rattle.turn_bound.proofs.Run.{arrival, left_on}
 use Rattle.turn_bound.proofs.Potential.{weights, rnrs_on}
+use Rattle.lapm_frames.specs.declared.sent.Sent.TheVariants as slots
+use Rattle.lapm_frames.specs.declared.arrived.Arrived.TheVariants as arrivals
 
 abbrev pub IsLight : Slot → Type 0
 IsLight slot = weight slot.sent ≤ 2

@@ -1,47 +1,18 @@
-use Rattle.std.proofs.Common.{◌≡◌, ℕ, ◌&&◌, ◌||◌, not, Bool, true, false, cond, refl, sym, ◌∙◌, ap, Option, Some, None}
-use Rattle.std.proofs.Common.{Ok}
-use Rattle.shared_terms.specs.declared.role.Role.TheVariants.{Originator, Answerer}
-use Rattle.lapm_frames.specs.declared.frame.Frame.{Frame}
-use Rattle.lapm_frames.specs.declared.frame.Frame.TheVariants.{Rr, Rnr, Rej, Disc, Ua}
-use Rattle.lapm_sender.specs.Outgoing.{Outgoing, is_outstanding, resumed}
-use Rattle.lapm_frames.specs.declared.arrived.Arrived.{Arrived}
-use Rattle.lapm_frames.specs.declared.arrived.Arrived.TheVariants as arrivals
-use Rattle.link_account.specs.declared.phase.Phase.{Phase}
-use Rattle.link_account.specs.declared.phase.Phase.TheVariants.{Detecting, Negotiating, Establishing, Connected, Releasing, Closed}
-use Rattle.lapm_frames.specs.declared.sent.Sent.{Sent}
-use Rattle.lapm_frames.specs.declared.sent.Sent.TheVariants as slots
-use Rattle.link_account.specs.Account.{Account}
-use Rattle.link_account.specs.declared.answer.Answer.{Answer}
-use Rattle.link_account.specs.declared.answer.Answer.TheVariants as answers
-use Rattle.shared_terms.specs.Role.{is_originator}
-use Rattle.link_account.specs.Hear.{hear}
-use Rattle.link_account.specs.Hear.{ends_wait, without_adp}
-use Rattle.std.proofs.Common.{inl, inr}
+use Rattle.std.proofs.Common.{◌≡◌, ℕ, ◌&&◌, ◌||◌, not, Bool, true, false, cond, refl, sym, ◌∙◌, ap, Option, Some, None, Ok, inl, inr}
+use Rattle.link_account.proofs.Names.{Originator, Answerer, Frame, Rr, Rnr, Rej, Outgoing, is_outstanding, resumed, Arrived}
+use Rattle.link_account.proofs.Names.{Account, is_originator, hear, without_adp}
+use Rattle.link_run.proofs.Names.{Phase, Detecting, Negotiating, Establishing, Connected, Releasing, Closed, Answer, is_closed, is_released}
+use Rattle.link_account.specs.Hear.{ends_wait}
 use Rattle.link_account.proofs.HearWays.{Ways, by-ways, acked, acked_back, numbers-alike}
-use Rattle.link_run.specs.End.{is_closed, is_released}
+pub use Rattle.link_run.proofs.Meeting.{is_ua as frame_ua, is_disc as frame_disc, carries as of_frame, brings as of_arrived}
+pub use Rattle.link_run.proofs.Meeting.{owes_ua as is_ua_due}
+use Rattle.link_account.specs.declared.answer.Answer.TheVariants as answers
 
 abbrev pub is_begun : Phase → Bool
-is_begun Detecting = false
-is_begun Negotiating = false
-is_begun Establishing = false
 is_begun Connected = true
 is_begun Releasing = true
 is_begun Closed = true
-
-abbrev pub is_ua_due : Option Answer → Bool
-is_ua_due None = false
-is_ua_due (Some answers.Adp) = false
-is_ua_due (Some answers.Xid) = false
-is_ua_due (Some (answers.Ua pf)) = true
-is_ua_due (Some (answers.Dm pf)) = false
-
-abbrev pub frame_ua : Frame → Bool
-frame_ua (Ua pf) = true
-frame_ua frame = false
-
-abbrev pub frame_disc : Frame → Bool
-frame_disc (Disc pf) = true
-frame_disc frame = false
+is_begun p = false
 
 -- the answer to a poll
 abbrev pub frame_final : Frame → Bool
@@ -49,14 +20,6 @@ frame_final (Rr command nr pf) = pf && not command
 frame_final (Rnr command nr pf) = pf && not command
 frame_final (Rej command nr pf) = pf && not command
 frame_final frame = false
-
-abbrev pub of_frame : (Frame → Bool) → Sent → Bool
-of_frame f (slots.Frame frame) = f frame
-of_frame f sent = false
-
-abbrev pub of_arrived : (Frame → Bool) → Arrived → Bool
-of_arrived f (arrivals.Frame frame) = f frame
-of_arrived f arrived = false
 
 -- An originator hears.
 pub record OHeard (ua final : Bool) (a b : Account) : Type 0 where
@@ -171,11 +134,7 @@ pub record AHeard (disc : Bool) (a b : Account) : Type 0 where
 
 closed-released : (p : Phase) (c : Bool) → is_closed p ≡ true → is_released p || c ≡ true
 closed-released Closed c e = refl
-closed-released Detecting c e = cc
-closed-released Negotiating c e = cc
-closed-released Establishing c e = cc
-closed-released Connected c e = cc
-closed-released Releasing c e = cc
+closed-released p c e = cc
 
 a-same : (disc : Bool) (a b : Account) → b.phase ≡ a.phase → (is_ua_due b.owes.answer ≡ true → is_ua_due a.owes.answer ≡ true)
     → b.owes.reply ≡ a.owes.reply → b.numbered ≡ a.numbered → AHeard disc a b

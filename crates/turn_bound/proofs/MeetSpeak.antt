@@ -1,18 +1,12 @@
-use Rattle.std.proofs.Common.{◌≡◌, ℕ, ◌&&◌, not, Bool, true, false, refl, sym, ◌∙◌, ap}
-use Rattle.std.proofs.Common.{Some, None, Ok}
-use Rattle.lapm_frames.specs.declared.frame.Frame.{Frame}
-use Rattle.lapm_frames.specs.declared.frame.Frame.TheVariants.{Disc}
-use Rattle.lapm_frames.specs.declared.sent.Sent.{Sent}
-use Rattle.lapm_frames.specs.declared.sent.Sent.TheVariants as slots
-use Rattle.link_account.specs.declared.phase.Phase.TheVariants.{Connected, Releasing}
-use Rattle.link_account.specs.Account.{Account, Wait}
-use Rattle.link_account.specs.declared.answer.Answer.{Answer}
-use Rattle.link_account.specs.declared.answer.Answer.TheVariants as answers
-use Rattle.link_account.specs.Hear.{trying}
-use Rattle.link_account.specs.Speak.{Said, says, frame_for, ready_frame, nr_of, speak}
-use Rattle.link_account.proofs.SpeakWays.{Steps, Tries, Ways, by-ways, steps-so, tries-alike, next-keeps, polling_at}
-use Rattle.link_run.specs.End.{is_closed, is_released}
+use Rattle.std.proofs.Common.{◌≡◌, ◌≤◌, ℕ, ◌&&◌, not, Bool, true, false, refl, sym, ◌∙◌, ap, arith, Ok, inl, inr}
+use Rattle.link_account.proofs.Names.{Account, trying, Said, frame_for, ready_frame, nr_of, speak}
+use Rattle.link_run.proofs.Names.{Phase, Releasing, Closed, Answer, is_closed, is_released}
+use Rattle.link_account.proofs.SpeakWays.{Steps, by-ways, steps-so, tries-alike, next-keeps, polling_at}
+use Rattle.link_run.proofs.Keeping.{stage}
+use Rattle.link_run.proofs.Saying.{Part, is-said}
+use Rattle.link_run.proofs.Speaking.{speaks-phase}
 use Rattle.turn_bound.proofs.MeetHear.{is_begun, is_ua_due, frame_ua, frame_disc, frame_final, of_frame}
+use Rattle.link_account.specs.declared.answer.Answer.TheVariants as answers
 
 -- What an end says, of either role.
 pub record SaysSo (a : Account) (said : Said) : Type 0 where
@@ -27,142 +21,80 @@ pub record SaysSo (a : Account) (said : Said) : Type 0 where
   pub numbered : said.account.numbered ≡ a.numbered
   pub awaits : a.outgoing.awaited ≡ true → said.account.outgoing.awaited ≡ true
 
--- what is no UA, no DISC and no answer to a poll, and changes nothing of these
-says-other : (a : Account) (said : Said) → said.account.phase ≡ a.phase → said.account.owes.answer ≡ a.owes.answer
-    → said.account.owes.reply ≡ a.owes.reply → said.account.numbered ≡ a.numbered
-    → (a.outgoing.awaited ≡ true → said.account.outgoing.awaited ≡ true)
-    → of_frame frame_disc said.sent ≡ false → of_frame frame_ua said.sent ≡ false → of_frame frame_final said.sent ≡ false → SaysSo a said
-says-other a said p w r n f d u l = record {
-  begun = ap is_begun p;
-  closed = ap is_closed p;
-  released = λ h. ap is_released p ∙ h;
-  disc = λ h. let wrong : true ≡ false = sym h ∙ d in cc;
-  ua = λ h. let wrong : true ≡ false = sym h ∙ u in cc;
-  due = λ h. ap is_ua_due (sym w) ∙ h;
-  final = λ h. let wrong : true ≡ false = sym h ∙ l in cc;
-  reply = λ h. sym r ∙ h;
-  numbered = n;
-  awaits = f;
+-- answers to polls, of an end that waits for one or doesn't and that owes one or doesn't
+record Replies (w r : Bool) (said : Said) : Type 0 where
+  pub final : of_frame frame_final said.sent ≡ true → r ≡ true
+  pub reply : said.account.owes.reply ≡ true → r ≡ true
+  pub awaits : w ≡ true → said.account.outgoing.awaited ≡ true
+
+-- what is no answer to a poll, and changes nothing of these
+other : (w r : Bool) (said : Said) → said.account.owes.reply ≡ r → (w ≡ true → said.account.outgoing.awaited ≡ true)
+    → of_frame frame_final said.sent ≡ false → Replies w r said
+other w r said e f l = record { final = λ h. let wrong : true ≡ false = sym h ∙ l in cc; reply = λ h. sym e ∙ h; awaits = f }
+
+answer-final : (d : Answer) (a : Account) → of_frame frame_final (frame_for d a) ≡ false
+answer-final answers.Adp a = refl
+answer-final answers.Xid a = refl
+answer-final (answers.Ua pf) a = refl
+answer-final (answers.Dm pf) a = refl
+
+ready-final : (busy command pf : Bool) (nr : ℕ) → frame_final (ready_frame busy command nr pf) ≡ pf && not command
+ready-final true command pf nr = refl
+ready-final false command pf nr = refl
+
+abbrev Answered : Account → Said → Type 0
+Answered a = Replies a.outgoing.awaited a.owes.reply
+
+steps : (turn : ℕ) (special : Bool) (a : Account) → Steps (Answered a) turn special a
+steps turn special a = record {
+  answers = λ d e. other _ _ _ refl (λ h. h) (answer-final d a);
+  final = λ n e. record { final = λ h. e; reply = λ h. e; awaits = λ h. h };
+  poll = λ n r e. other _ _ _ refl (λ h. h) (ready-final a.owes.busy true true (nr_of a));
+  segment = λ b u n e. other _ _ _ refl (λ h. (next-keeps a.outgoing).awaited ∙ h) refl;
+  brkack = λ b s word e. other _ _ _ refl (λ h. h) refl;
+  brk = λ b s k word e. other _ _ _ refl (λ h. h) refl;
+  tell = λ b w e. other _ _ _ refl (λ h. h) (ready-final a.owes.busy false false (nr_of a));
+  rej = λ b w n e. other _ _ _ refl (λ h. h) refl;
+  srej = λ b w s n e. other _ _ _ refl (λ h. h) refl;
+  flags = λ i. other _ _ _ refl (λ h. h) refl;
 }
 
--- an answer that is due
-says-answer : (a : Account) (d : Answer) → a.owes.answer ≡ Some d
-    → SaysSo a (says (frame_for d a) (record a { owes = record a.owes { answer = None } }))
-says-answer a d e = let k = answer-is d in record {
-  begun = refl;
-  closed = refl;
-  released = λ h. h;
-  disc = λ h. let wrong : true ≡ false = sym h ∙ k.0 in cc;
-  ua = λ h. ap is_ua_due e ∙ (sym k.1 ∙ h);
-  due = λ h. cc;
-  final = λ h. let wrong : true ≡ false = sym h ∙ k.2 in cc;
-  reply = λ h. h;
-  numbered = refl;
-  awaits = λ h. h;
-}
-  where
-    answer-is : (d : Answer) → (of_frame frame_disc (frame_for d a) ≡ false) × (of_frame frame_ua (frame_for d a) ≡ is_ua_due (Some d))
-        × (of_frame frame_final (frame_for d a) ≡ false)
-    answer-is answers.Adp = (refl, refl, refl)
-    answer-is answers.Xid = (refl, refl, refl)
-    answer-is (answers.Ua pf) = (refl, refl, refl)
-    answer-is (answers.Dm pf) = (refl, refl, refl)
-
-ready-other : (busy command pf : Bool) (nr : ℕ)
-    → (frame_disc (ready_frame busy command nr pf) ≡ false) × (frame_ua (ready_frame busy command nr pf) ≡ false)
-    × (frame_final (ready_frame busy command nr pf) ≡ pf && not command)
-ready-other true command pf nr = (refl, refl, refl)
-ready-other false command pf nr = (refl, refl, refl)
-
-steps-say : (turn : ℕ) (special : Bool) (a : Account) → Steps (SaysSo a) turn special a
-steps-say turn special a = record {
-  answers = says-answer a;
-  final = λ n e. let k = ready-other a.owes.busy false true (nr_of a) in record {
-    begun = refl;
-    closed = refl;
-    released = λ h. h;
-    disc = λ h. let wrong : true ≡ false = sym h ∙ k.0 in cc;
-    ua = λ h. let wrong : true ≡ false = sym h ∙ k.1 in cc;
-    due = λ h. h;
-    final = λ h. e;
-    reply = λ h. e;
-    numbered = refl;
-    awaits = λ h. h;
-  };
-  poll = λ n r e. let k = ready-other a.owes.busy true true (nr_of a) in says-other a _ refl refl refl refl (λ h. h) k.0 k.1 k.2;
-  segment = λ b u n e. says-other a _ refl refl refl refl (λ h. (next-keeps a.outgoing).awaited ∙ h) refl refl refl;
-  brkack = λ b s word e. says-other a _ refl refl refl refl (λ h. h) refl refl refl;
-  brk = λ b s k word e. says-other a _ refl refl refl refl (λ h. h) refl refl refl;
-  tell = λ b w e. let k = ready-other a.owes.busy false false (nr_of a) in says-other a _ refl refl refl refl (λ h. h) k.0 k.1 k.2;
-  rej = λ b w n e. says-other a _ refl refl refl refl (λ h. h) refl refl refl;
-  srej = λ b w s n e. says-other a _ refl refl refl refl (λ h. h) refl refl refl;
-  flags = λ i. says-other a _ refl refl refl refl (λ h. h) refl refl refl;
-}
-
--- of an account that is as another one was, but for its timers and what they left of the sender's part
-said-of : (a b : Account) (said : Said) → b.phase ≡ a.phase → b.owes ≡ a.owes → b.numbered ≡ a.numbered
-    → (a.outgoing.awaited ≡ true → b.outgoing.awaited ≡ true) → SaysSo b said → SaysSo a said
-said-of a b said p o n w s = record {
-  begun = s.begun ∙ ap is_begun p;
-  closed = s.closed ∙ ap is_closed p;
-  released = λ h. s.released (ap is_released p ∙ h);
-  disc = s.disc;
-  ua = λ h. ap (λ x. is_ua_due x.answer) (sym o) ∙ s.ua h;
-  due = λ h. ap (λ x. is_ua_due x.answer) (sym o) ∙ s.due h;
-  final = λ h. ap (λ x. x.reply) (sym o) ∙ s.final h;
-  reply = λ h. ap (λ x. x.reply) (sym o) ∙ s.reply h;
-  numbered = s.numbered ∙ n;
-  awaits = λ h. s.awaits (w h);
-}
-
-ways-say : (turn : ℕ) (release : Bool) (a : Account) → Ways (SaysSo a) turn release a
-ways-say turn release a = record {
-  answers = λ alone. says-answer a;
-  flags = λ alone e. says-other a _ refl refl refl refl (λ h. h) refl refl refl;
-  mark = λ p r e. says-other a _ refl refl refl refl (λ h. h) refl refl refl;
-  odp = λ p r l. says-other a _ refl refl refl refl (λ h. h) refl refl refl;
-  xid = λ p r. tries _ (λ h. cc) refl refl;
-  sabme = λ p. tries _ (λ h. cc) refl refl;
+replies : (turn : ℕ) (release : Bool) (a : Account) (said : Said) → speak turn release a ≡ Ok said → Answered a said
+replies turn release a said e = by-ways (Answered a) turn release a (record {
+  answers = λ alone d f. other _ _ _ refl (λ h. h) (answer-final d a);
+  flags = λ alone f. other _ _ _ refl (λ h. h) refl;
+  mark = λ p r f. other _ _ _ refl (λ h. h) refl;
+  odp = λ p r l. other _ _ _ refl (λ h. h) refl;
+  xid = λ p r. tries-alike _ turn _ a (λ w. other _ _ _ refl (λ h. h) refl) (other _ _ _ refl (λ h. h) refl);
+  sabme = λ p. tries-alike _ turn _ a (λ w. other _ _ _ refl (λ h. h) refl) (other _ _ _ refl (λ h. h) refl);
   linked = λ p r. record {
-    stands = λ x own t. steps-so _ _ turn a.special _ (λ said. said-of a _ said refl refl refl (λ h. h)) (steps-say turn a.special _);
-    expires = λ set x own t. steps-so _ _ turn a.special _ (λ said. said-of a _ said refl refl refl (λ h. refl))
-        (steps-say turn a.special (polling_at turn a own));
+    stands = λ x own t. steps turn a.special (record a { own_breaks = own; special = false });
+    expires = λ set x own t. steps-so _ _ turn a.special _ (λ said k. record { final = k.final; reply = k.reply; awaits = λ h. k.awaits refl })
+        (steps turn a.special (polling_at turn a own));
   };
-  releases = λ p r. tries-alike _ turn _ (trying Releasing turn a) (λ w. releases p (slots.Frame (Disc true)) w refl refl)
-      (releases p slots.Flags (trying Releasing turn a).wait refl refl);
-  disc = λ p. tries _ (λ h. ap is_released p) refl refl;
-}
-  where
-    tries : (frame : Frame) → (frame_disc frame ≡ true → is_released a.phase ≡ true) → frame_ua frame ≡ false → frame_final frame ≡ false
-        → Tries (SaysSo a) turn frame a
-    tries frame d u l = tries-alike _ turn frame a (λ w. record {
-      begun = refl;
-      closed = refl;
-      released = λ h. h;
-      disc = d;
-      ua = λ h. let wrong : true ≡ false = sym h ∙ u in cc;
-      due = λ h. h;
-      final = λ h. let wrong : true ≡ false = sym h ∙ l in cc;
-      reply = λ h. h;
-      numbered = refl;
-      awaits = λ h. h;
-    }) (says-other a _ refl refl refl refl (λ h. h) refl refl refl)
+  releases = λ p r. tries-alike _ turn _ (trying Releasing turn a) (λ w. other _ _ _ refl (λ h. h) refl) (other _ _ _ refl (λ h. h) refl);
+  disc = λ p. tries-alike _ turn _ a (λ w. other _ _ _ refl (λ h. h) refl) (other _ _ _ refl (λ h. h) refl);
+}) said e
 
-    releases : a.phase ≡ Connected → (sent : Sent) (w : Wait) → of_frame frame_ua sent ≡ false → of_frame frame_final sent ≡ false
-        → SaysSo a (says sent (record a { phase = Releasing; wait = w }))
-    releases p sent w u l = record {
-      begun = ap is_begun (sym p);
-      closed = ap is_closed (sym p);
-      released = λ h. refl;
-      disc = λ h. refl;
-      ua = λ h. let wrong : true ≡ false = sym h ∙ u in cc;
-      due = λ h. h;
-      final = λ h. let wrong : true ≡ false = sym h ∙ l in cc;
-      reply = λ h. h;
-      numbered = refl;
-      awaits = λ h. h;
-    }
+stage-released : (p : Phase) → 2 ≤ stage p → is_released p ≡ true
+stage-released Releasing l = refl
+stage-released Closed l = refl
+stage-released p l = absurd (omega (arith, l))
 
--- Whatever the role and the phase.
 pub speaks-so : (turn : ℕ) (release : Bool) (a : Account) (said : Said) → speak turn release a ≡ Ok said → SaysSo a said
-speaks-so turn release a said e = by-ways (SaysSo a) turn release a (ways-say turn release a) said e
+speaks-so turn release a said e =
+    let p = speaks-phase turn release a said e in
+    let s = is-said turn release a said e in
+    let r = replies turn release a said e in
+    record {
+      begun = elim p [ inl x ↦ ap is_begun x | inr x ↦ ap is_begun x.1 ∙ sym (ap is_begun x.0) ];
+      closed = elim p [ inl x ↦ ap is_closed x | inr x ↦ ap is_closed x.1 ∙ sym (ap is_closed x.0) ];
+      released = λ h. elim p [ inl x ↦ ap is_released x ∙ h | inr x ↦ ap is_released x.1 ];
+      disc = λ h. stage-released said.account.phase (s.disc h);
+      ua = s.ua;
+      due = s.owes;
+      final = r.final;
+      reply = r.reply;
+      numbered = ap (λ (x : Part). x.numbered) s.part_is;
+      awaits = r.awaits;
+    }

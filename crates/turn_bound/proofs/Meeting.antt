@@ -1,26 +1,18 @@
 use Rattle.std.proofs.Common.{◌≡◌, ℕ, ◌||◌, Bool, true, false, cond, nat_lt, List, [], ◌∷◌, ◌++◌, length, refl, sym, ◌∙◌, ap, subst}
-use Rattle.std.specs.List.{AllByRecursion}
-use Rattle.shared_terms.specs.declared.role.Role.TheVariants.{Answerer}
-use Rattle.lapm_frames.specs.declared.frame.Frame.{Frame}
-use Rattle.lapm_frames.specs.declared.sent.Sent.{Sent}
-use Rattle.lapm_frames.specs.declared.sent.Sent.TheVariants as slots
-use Rattle.lapm_frames.specs.declared.arrived.Arrived.TheVariants as arrivals
-use Rattle.link_account.specs.declared.phase.Phase.{Phase}
-use Rattle.link_account.specs.declared.phase.Phase.TheVariants.{Detecting, Negotiating, Establishing, Connected, Releasing, Closed}
-use Rattle.link_account.specs.Account.{Account}
-use Rattle.link_account.specs.Play.{Slot, arrives}
+use Rattle.link_account.proofs.Names.{AllByRecursion, Answerer, Frame, Sent, Account, Slot, arrives}
+use Rattle.link_run.proofs.Names.{Phase, Connected, Releasing, Closed, is_closed, is_released}
 use Rattle.turn_bound.proofs.Clock.{Rates}
 use Rattle.turn_bound.proofs.Value.{Stands}
-use Rattle.link_run.specs.End.{is_closed, is_released}
 use Rattle.turn_bound.proofs.Run.{served_account, Link, State, Turn, GoingTurn, RunOf, start, arrival, left_on, slot_of}
 use Rattle.turn_bound.proofs.Potential.{AreTogether}
 use Rattle.turn_bound.proofs.Arithmetic.{all_weaker}
 use Rattle.turn_bound.proofs.Serving.{serves-all}
 use Rattle.turn_bound.proofs.Falls.{Sound, Fits, state_after, after-is}
 use Rattle.turn_bound.proofs.Ending.{sound-run}
-use Rattle.turn_bound.proofs.MeetHear.{is_begun, is_ua_due, frame_ua, frame_disc, frame_final, of_frame, of_arrived}
-use Rattle.turn_bound.proofs.MeetHear.{o-hears, a-hears}
+use Rattle.turn_bound.proofs.MeetHear.{is_begun, is_ua_due, frame_ua, frame_disc, frame_final, of_frame, of_arrived, o-hears, a-hears}
 use Rattle.turn_bound.proofs.MeetSpeak.{speaks-so}
+use Rattle.lapm_frames.specs.declared.sent.Sent.TheVariants as slots
+use Rattle.lapm_frames.specs.declared.arrived.Arrived.TheVariants as arrivals
 
 -- each slot of that kind on a line says so
 abbrev pub Tells : (Frame → Bool) → Type 0 → List Slot → Type 0
@@ -73,29 +65,19 @@ pub record Meets (s : State) : Type 0 where
 -- an answerer that is told to release is closed
 pub released-closed : (z : Rates) (before turn : ℕ) (p : Phase) (a : Account) → Stands z before turn Answerer p a → is_released p ≡ true
     → is_closed p ≡ true
-released-closed z before turn Detecting a h e = cc
-released-closed z before turn Negotiating a h e = cc
-released-closed z before turn Establishing a h e = cc
-released-closed z before turn Connected a h e = cc
 released-closed z before turn Releasing a h e = absurd h
 released-closed z before turn Closed a h e = refl
+released-closed z before turn p a h e = cc
 
 pub only-linked : (p : Phase) → is_begun p ≡ true → is_released p ≡ false → p ≡ Connected
-only-linked Detecting e f = cc
-only-linked Negotiating e f = cc
-only-linked Establishing e f = cc
 only-linked Connected e f = refl
-only-linked Releasing e f = cc
-only-linked Closed e f = cc
+only-linked p e f = cc
 
 only-answ : (z : Rates) (before turn : ℕ) (p : Phase) (a : Account) → Stands z before turn Answerer p a → is_begun p ≡ true
     → is_closed p ≡ false → p ≡ Connected
-only-answ z before turn Detecting a h e f = cc
-only-answ z before turn Negotiating a h e f = cc
-only-answ z before turn Establishing a h e f = cc
 only-answ z before turn Connected a h e f = refl
 only-answ z before turn Releasing a h e f = absurd h
-only-answ z before turn Closed a h e f = cc
+only-answ z before turn p a h e f = cc
 
 or-either : (a b : Bool) (P : Type 0) → a || b ≡ true → (a ≡ true → P) → (b ≡ true → P) → P
 or-either true b P e f g = f refl

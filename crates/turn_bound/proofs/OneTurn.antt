@@ -1,15 +1,9 @@
 use Rattle.std.proofs.Common.{◌≡◌, ℕ, ◌+◌, ◌*◌, ◌≤◌, Bool, true, false, length, arith, sym, ◌∙◌, ap, subst, Result, Ok, Err}
-use Rattle.shared_terms.specs.declared.role.Role.{Role}
-use Rattle.lapm_frames.specs.declared.arrived.Arrived.{Arrived}
-use Rattle.link_account.specs.declared.phase.Phase.{Phase}
-use Rattle.shared_terms.specs.declared.fault.LinkFault.{LinkFault}
-use Rattle.link_account.specs.Account.{Account}
-use Rattle.link_account.specs.Hear.{hear}
-use Rattle.link_account.specs.Speak.{Said, speak}
+use Rattle.link_account.proofs.Names.{Role, Arrived, LinkFault, Account, hear, Said, speak}
+use Rattle.link_run.proofs.Names.{Phase, User, is_busy, is_closed}
 use Rattle.turn_bound.proofs.Clock.{Rates, AreRates, ends, lasts}
 use Rattle.turn_bound.proofs.Value.{value, lives, IsOf, Stands, arrived_rnrs}
 use Rattle.turn_bound.proofs.Run.{served_account}
-use Rattle.link_run.specs.End.{User, is_busy, is_closed}
 use Rattle.turn_bound.proofs.Hearing.{HeardAs, HearsWell}
 use Rattle.turn_bound.proofs.Phases.{hears-well}
 use Rattle.turn_bound.proofs.Serving.{serves-all}

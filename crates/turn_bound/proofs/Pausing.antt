@@ -1,29 +1,16 @@
 -- Where no user is busy no end tells that it is, and none counts the other as busy.
-use Rattle.std.proofs.Common.{◌≡◌, ℕ, Bool, true, false, arith, refl, sym}
-use Rattle.std.proofs.Common.{◌∙◌, ap, subst, Option, Ok}
-use Rattle.lapm_frames.specs.declared.frame.Frame.TheVariants.{Disc}
-use Rattle.lapm_sender.specs.Outgoing.{Outgoing}
-use Rattle.lapm_frames.specs.declared.arrived.Arrived.{Arrived}
-use Rattle.link_account.specs.declared.phase.Phase.{Phase}
-use Rattle.link_account.specs.declared.phase.Phase.TheVariants.{Detecting, Negotiating, Establishing, Connected, Releasing, Closed}
-use Rattle.link_account.specs.Account.{Account, is_connected}
-use Rattle.link_account.specs.declared.answer.Answer.{Answer}
-use Rattle.link_account.specs.declared.answer.Answer.TheVariants as answers
-use Rattle.link_account.specs.Hear.{hear, on_nothing}
-use Rattle.link_account.specs.Hear.{trying}
-use Rattle.link_account.specs.Speak.{Said}
-use Rattle.link_account.specs.Speak.{speak, speak_releasing}
-use Rattle.link_run.specs.End.{is_released}
+use Rattle.std.proofs.Common.{◌≡◌, ℕ, Bool, true, false, arith, refl, sym, ◌∙◌, ap, subst, Option, Ok, inl, inr}
+use Rattle.link_account.proofs.Names.{Disc, Outgoing, Arrived, Account, is_connected, hear, on_nothing, trying, Said, speak}
+use Rattle.link_account.proofs.Names.{speak_releasing, Incoming, frame_for}
+use Rattle.link_run.proofs.Names.{Phase, Detecting, Connected, Releasing, Closed, Answer, is_released}
 use Rattle.turn_bound.proofs.Value.{arrived_rnrs}
-use Rattle.lapm_receiver.specs.Incoming.{Incoming}
-use Rattle.link_account.specs.Speak.{frame_for}
-use Rattle.link_account.proofs.HearWays as HearWays
 use Rattle.link_account.proofs.HearWays.{numbered_with, acked, acked_back, resumed-unpaused}
-use Rattle.link_account.proofs.SpeakWays as SpeakWays
 use Rattle.link_account.proofs.SpeakWays.{OnSaid, Steps, linked-alike, tries-alike, by-tries, retimed, next-keeps}
 use Rattle.turn_bound.proofs.MeetHear.{is_begun, of_frame}
-use Rattle.std.proofs.Common.{inl, inr}
 use Rattle.turn_bound.proofs.Credits.{frame_poll}
+use Rattle.link_account.specs.declared.answer.Answer.TheVariants as answers
+use Rattle.link_account.proofs.HearWays as HearWays
+use Rattle.link_account.proofs.SpeakWays as SpeakWays
 
 -- phases don't go back, and nothing is told of pauses
 pub record Goes (a b : Account) : Type 0 where
@@ -35,12 +22,10 @@ pub record Goes (a b : Account) : Type 0 where
   pub told : b.owes.busy_told ≡ a.owes.busy_told
 
 unbegun : (p : Phase) → is_begun p ≡ false → is_released p ≡ false
-unbegun Detecting e = refl
-unbegun Negotiating e = refl
-unbegun Establishing e = refl
 unbegun Connected e = cc
 unbegun Releasing e = cc
 unbegun Closed e = cc
+unbegun p e = refl
 
 -- from Connected
 linked-begun : (a : Account) → a.phase ≡ Connected → is_begun a.phase ≡ false → ⊥
@@ -75,11 +60,7 @@ early-goes a b e r p t =
   where
     none : (q : Phase) → is_begun q ≡ false → is_released q ≡ true → ⊥
     none Detecting f h = cc
-    none Negotiating f h = cc
-    none Establishing f h = cc
-    none Connected f h = cc
-    none Releasing f h = cc
-    none Closed f h = cc
+    none p f h = cc
 
 pub goes-on : (turn : ℕ) (arrived : Arrived) (a mid : Account) → arrived_rnrs arrived ≡ 0 → hear turn arrived a ≡ Ok mid → Goes a mid
 goes-on turn arrived a mid n e = HearWays.by-ways (λ x b. arrived_rnrs x ≡ 0 → Goes a b) turn a (record {

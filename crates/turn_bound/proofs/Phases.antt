@@ -1,28 +1,14 @@
 use Rattle.std.proofs.Common.{◌≡◌, ℕ, ◌+◌, ◌-◌, ◌*◌, ◌<◌, ◌≤◌, ◌||◌, Bool, true, false, cond, nat_lt, List, length, arith, refl, sym, ◌∙◌}
-use Rattle.std.proofs.Common.{ap, subst, Option, Some, None, Result, Ok, Err}
-use Rattle.std.specs.Prelude.{is_some}
-use Rattle.std.proofs.lemmas.Bool.Decides.{nat_tests}
-use Rattle.shared_terms.specs.declared.role.Role.{Role}
-use Rattle.shared_terms.specs.declared.role.Role.TheVariants.{Originator, Answerer}
-use Rattle.lapm_frames.specs.declared.frame.Frame.TheVariants.{Sabme, Disc, Ui, Ua, Xid}
-use Rattle.shared_terms.specs.Role.{is_originator, other}
-use Rattle.xid_params.specs.declared.offer.Offer.{Offer}
-use Rattle.xid_params.specs.Terms.{agree, default_offer}
-use Rattle.xid_params.specs.Offers.{offer_in}
-use Rattle.lapm_sender.specs.Outgoing as outgoing
-use Rattle.lapm_receiver.specs.Incoming as incoming
-use Rattle.break_signals.specs.Breaks.{OwnBreaks, no_breaks, waits}
-use Rattle.lapm_frames.specs.declared.seen.Seen.{Seen}
+use Rattle.std.proofs.Common.{ap, subst, Some, Result, Ok, Err, inl, inr}
+use Rattle.link_account.proofs.Names.{is_some, nat_tests, Role, Originator, Answerer, Sabme, Disc, Ui, Ua, Xid, is_originator, other, Offer}
+use Rattle.link_account.proofs.Names.{agree, offer_in, OwnBreaks, waits, Arrived, LinkFault, Account, hear, on_nothing, trying, owing}
+use Rattle.link_run.proofs.Names.{Phase, Detecting, Negotiating, Establishing, Connected, Releasing, Closed}
+use Rattle.xid_params.specs.Terms.{default_offer}
+use Rattle.break_signals.specs.Breaks.{no_breaks}
 use Rattle.lapm_frames.specs.declared.seen.Seen.TheVariants.{Odp, Adp}
-use Rattle.lapm_frames.specs.declared.arrived.Arrived.{Arrived}
-use Rattle.lapm_frames.specs.declared.arrived.Arrived.TheVariants as arrivals
-use Rattle.link_account.specs.declared.phase.Phase.{Phase}
-use Rattle.link_account.specs.declared.phase.Phase.TheVariants.{Detecting, Negotiating, Establishing, Connected, Releasing, Closed}
-use Rattle.shared_terms.specs.declared.fault.LinkFault.{LinkFault}
-use Rattle.link_account.specs.Account.{Account, window_for, size_for}
-use Rattle.link_account.specs.declared.answer.Answer.TheVariants as answers
-use Rattle.link_account.specs.Hear.{hear, on_nothing, on_pattern}
-use Rattle.link_account.specs.Hear.{connected, trying, owing, on_xid_command, on_xid_response, first_wait}
+use Rattle.link_account.specs.Account.{window_for, size_for}
+use Rattle.link_account.specs.Hear.{connected, on_xid_command, on_xid_response, first_wait}
+use Rattle.link_account.specs.declared.owes.Owes.{Owes}
 use Rattle.turn_bound.proofs.Clock.{Rates, AreRates, Ticks, left, is_waiting, ends, worth, Breaks, is_breaking, break_left}
 use Rattle.turn_bound.proofs.Value.{time_left, linked_left, value, linked_lives, lives, IsOf, Unlinked, IsAck, Linked, Tries, Stands}
 use Rattle.turn_bound.proofs.Value.{frame_rnrs, arrived_rnrs}
@@ -30,9 +16,12 @@ use Rattle.turn_bound.proofs.Arithmetic.{tries_fit, left-some, ticks-now}
 use Rattle.turn_bound.proofs.Sender.{ends-is}
 use Rattle.turn_bound.proofs.Offers.{read-windows, agreed-windows}
 use Rattle.turn_bound.proofs.Breaking.{or-false, ends-same}
-use Rattle.std.proofs.Common.{inl, inr}
 use Rattle.link_account.proofs.HearWays.{ConnectedWays, EarlyWays, Ways, by-ways}
 use Rattle.turn_bound.proofs.Hearing.{HeardAs, HearsWell, more-as, quiet-well, number-well, answer-well}
+use Rattle.lapm_sender.specs.Outgoing as outgoing
+use Rattle.lapm_receiver.specs.Incoming as incoming
+use Rattle.lapm_frames.specs.declared.arrived.Arrived.TheVariants as arrivals
+use Rattle.link_account.specs.declared.answer.Answer.TheVariants as answers
 
 -- what lives counts
 pub linked-some : (z : Rates) (before turn : ℕ) (role : Role) (a : Account) → AreRates z → Linked z before turn role a
@@ -171,9 +160,9 @@ pub later-tries : (z : Rates) (turn : ℕ) (a : Account) → Tries z turn turn a
 later-tries z turn a t = record { tied = t.tied; started = omega (arith, t.started); within = t.within; tried = t.tried }
 
 -- hearing before Connected, of an originator
-o-detecting : (z : Rates) (total breaks turn : ℕ) (a : Account) (seen : Seen) → AreRates z → Unlinked a → a.phase ≡ Detecting
-    → (q : Phase) × HeardAs z total breaks turn 0 Originator Detecting a q (on_pattern Originator seen turn a)
-o-detecting z total breaks turn a Adp y u e = (
+o-detecting : (z : Rates) (total breaks turn : ℕ) (a : Account) → AreRates z → Unlinked a
+    → (q : Phase) × HeardAs z total breaks turn 0 Originator Detecting a q (trying Negotiating turn a)
+o-detecting z total breaks turn a y u = (
   Negotiating,
   record {
     phase = refl;
@@ -195,15 +184,11 @@ o-detecting z total breaks turn a Adp y u e = (
     falls = omega (arith, y.quota);
   },
 )
-o-detecting z total breaks turn a Odp y u e =
-    (Detecting, idle-well z total breaks turn Originator Detecting a a u e refl refl refl refl refl)
 
-o-negotiating : (z : Rates) (total breaks turn : ℕ) (a : Account) (offer : Option Offer) (info : List ℕ) → AreRates z → IsOf z a.setup
-    → Unlinked a → Tries z turn turn a → a.phase ≡ Negotiating → offer_in info ≡ offer
-    → (q : Phase) × HeardAs z total breaks turn 0 Originator Negotiating a q (on_xid_response offer turn a)
-o-negotiating z total breaks turn a None info y k u t e f =
-    (Negotiating, idle-well z total breaks turn Originator Negotiating a a (u, later-tries z turn a t) e refl refl refl refl refl)
-o-negotiating z total breaks turn a (Some offer) info y k u t e f =
+o-negotiating : (z : Rates) (total breaks turn : ℕ) (a : Account) (offer : Offer) (info : List ℕ) → AreRates z → IsOf z a.setup
+    → Unlinked a → offer_in info ≡ Some offer
+    → (q : Phase) × HeardAs z total breaks turn 0 Originator Negotiating a q (on_xid_response (Some offer) turn a)
+o-negotiating z total breaks turn a offer info y k u f =
     let windows = agreed-windows a.setup.offer offer (k.tx_window, k.rx_window) (read-windows info offer f) in (
       Establishing,
       record {
@@ -240,10 +225,7 @@ pub early : (z : Rates) (before turn : ℕ) (p : Phase) (a : Account) → IsEarl
     → (time_left z turn Answerer p a ≡ 0) × (lives turn Answerer p a ≡ false) × (Unlinked a → Stands z before turn Answerer p a)
 early z before turn Detecting a i = (refl, refl, λ u. u)
 early z before turn Negotiating a i = (refl, refl, λ u. u)
-early z before turn Establishing a i = absurd i
-early z before turn Connected a i = absurd i
-early z before turn Releasing a i = absurd i
-early z before turn Closed a i = absurd i
+early z before turn p a i = absurd i
 
 pub early-idle : (z : Rates) (total breaks turn : ℕ) (p q : Phase) (a b : Account) → IsEarly p → IsEarly q → Unlinked b → b.phase ≡ q
     → b.setup ≡ a.setup → b.outgoing ≡ a.outgoing → b.own_breaks ≡ a.own_breaks
@@ -280,11 +262,10 @@ same-unlinked a b u o t w k windows =
       window_a = windows.1;
     }
 
-a-xid : (z : Rates) (total breaks turn : ℕ) (p : Phase) (a : Account) (offer : Option Offer) (info : List ℕ) → IsEarly p → AreRates z
-    → IsOf z a.setup → Unlinked a → a.phase ≡ p → offer_in info ≡ offer
-    → (q : Phase) × HeardAs z total breaks turn 0 Answerer p a q (on_xid_command offer a)
-a-xid z total breaks turn p a None info i y k u e f = (p, early-idle z total breaks turn p p a a i i u e refl refl refl)
-a-xid z total breaks turn p a (Some offer) info i y k u e f = (
+a-xid : (z : Rates) (total breaks turn : ℕ) (p : Phase) (a : Account) (offer : Offer) (info : List ℕ) → IsEarly p
+    → IsOf z a.setup → Unlinked a → offer_in info ≡ Some offer
+    → (q : Phase) × HeardAs z total breaks turn 0 Answerer p a q (on_xid_command (Some offer) a)
+a-xid z total breaks turn p a offer info i k u f = (
   Negotiating,
   early-idle z total breaks turn p Negotiating a _ i tt
       (same-unlinked a _ u refl refl refl refl
@@ -318,10 +299,7 @@ a-sabme z total breaks turn p a pf i y k u er =
         → HeardAs z total breaks turn 0 Answerer q a Connected (owing (answers.Ua pf) (connected_as Answerer turn a))
     on Detecting j = owed Detecting (connected_as Answerer turn a) (begins-a z total breaks turn Detecting a y k u refl refl)
     on Negotiating j = owed Negotiating (connected_as Answerer turn a) (begins-a z total breaks turn Negotiating a y k u refl refl)
-    on Establishing j = absurd j
-    on Connected j = absurd j
-    on Releasing j = absurd j
-    on Closed j = absurd j
+    on p j = absurd j
 
 -- of default terms
 a-sabme-default : (z : Rates) (total breaks turn : ℕ) (a : Account) (pf : Bool) → AreRates z → IsOf z a.setup → Unlinked a
@@ -363,68 +341,30 @@ closes z total breaks turn a b y h phase setup outgoing own = record {
       ap (λ l. ends z.room l false) e,
     )
 
--- nothing is heard
-nothing-well : (z : Rates) (total breaks turn : ℕ) (role : Role) (p : Phase) (a : Account) → Stands z turn turn role p a → a.phase ≡ p
-    → (q : Phase) × HeardAs z total breaks turn 0 role p a q (on_nothing a)
-nothing-well z total breaks turn Originator Detecting a h e = (
-  Detecting,
-  idle-well z total breaks turn Originator Detecting a _
-      (same-unlinked a _ h refl refl refl refl (h.window_o, h.window_a)) e refl refl refl refl refl,
-)
-nothing-well z total breaks turn Originator Negotiating a h e = (
-  Negotiating,
-  idle-well z total breaks turn Originator Negotiating a _
-      (same-unlinked a _ h.0 refl refl refl refl (h.0.window_o, h.0.window_a), later-tries z turn a h.1) e refl refl refl refl refl,
-)
-nothing-well z total breaks turn Originator Establishing a h e = (
-  Establishing,
-  idle-well z total breaks turn Originator Establishing a _
-      (same-unlinked a _ h.0 refl refl refl refl (h.0.window_o, h.0.window_a), later-tries z turn a h.1) e refl refl refl refl refl,
-)
-nothing-well z total breaks turn Originator Connected a h e =
-    (Connected, quiet-well z total breaks turn Originator a _ h e refl refl refl h.ack refl refl refl)
-nothing-well z total breaks turn Originator Releasing a h e =
-    (Releasing, idle-well z total breaks turn Originator Releasing a _ (later-tries z turn a h) e refl refl refl refl refl)
-nothing-well z total breaks turn Originator Closed a h e =
-    (Closed, idle-well z total breaks turn Originator Closed a _ tt e refl refl refl refl refl)
-nothing-well z total breaks turn Answerer Detecting a h e = (
-  Detecting,
-  early-idle z total breaks turn Detecting Detecting a _ tt tt
-      (same-unlinked a _ h refl refl refl refl (h.window_o, h.window_a)) e refl refl refl,
-)
-nothing-well z total breaks turn Answerer Negotiating a h e = (
-  Negotiating,
-  early-idle z total breaks turn Negotiating Negotiating a _ tt tt
-      (same-unlinked a _ h refl refl refl refl (h.window_o, h.window_a)) e refl refl refl,
-)
-nothing-well z total breaks turn Answerer Establishing a h e = absurd h
-nothing-well z total breaks turn Answerer Connected a h e =
-    (Connected, quiet-well z total breaks turn Answerer a _ h e refl refl refl h.ack refl refl refl)
-nothing-well z total breaks turn Answerer Releasing a h e = absurd h
-nothing-well z total breaks turn Answerer Closed a h e =
-    (Closed, idle-well z total breaks turn Answerer Closed a _ tt e refl refl refl refl refl)
-
--- nothing changes
-same-well : (z : Rates) (total breaks turn : ℕ) (role : Role) (p : Phase) (a : Account) → Stands z turn turn role p a → a.phase ≡ p
-    → HeardAs z total breaks turn 0 role p a p a
-same-well z total breaks turn Originator Detecting a h e =
-    idle-well z total breaks turn Originator Detecting a a h e refl refl refl refl refl
-same-well z total breaks turn Originator Negotiating a h e =
-    idle-well z total breaks turn Originator Negotiating a a (h.0, later-tries z turn a h.1) e refl refl refl refl refl
-same-well z total breaks turn Originator Establishing a h e =
-    idle-well z total breaks turn Originator Establishing a a (h.0, later-tries z turn a h.1) e refl refl refl refl refl
-same-well z total breaks turn Originator Connected a h e =
-    quiet-well z total breaks turn Originator a a h e refl refl refl h.ack refl refl refl
-same-well z total breaks turn Originator Releasing a h e =
-    idle-well z total breaks turn Originator Releasing a a (later-tries z turn a h) e refl refl refl refl refl
-same-well z total breaks turn Originator Closed a h e = idle-well z total breaks turn Originator Closed a a tt e refl refl refl refl refl
-same-well z total breaks turn Answerer Detecting a h e = early-idle z total breaks turn Detecting Detecting a a tt tt h e refl refl refl
-same-well z total breaks turn Answerer Negotiating a h e =
-    early-idle z total breaks turn Negotiating Negotiating a a tt tt h e refl refl refl
-same-well z total breaks turn Answerer Establishing a h e = absurd h
-same-well z total breaks turn Answerer Connected a h e = quiet-well z total breaks turn Answerer a a h e refl refl refl h.ack refl refl refl
-same-well z total breaks turn Answerer Releasing a h e = absurd h
-same-well z total breaks turn Answerer Closed a h e = idle-well z total breaks turn Answerer Closed a a tt e refl refl refl refl refl
+-- nothing changes but what it owes
+still-well : (z : Rates) (total breaks turn : ℕ) (role : Role) (p : Phase) (a : Account) (o : Owes) → Stands z turn turn role p a
+    → a.phase ≡ p → HeardAs z total breaks turn 0 role p a p (record a { owes = o })
+still-well z total breaks turn Originator Detecting a o h e = idle-well z total breaks turn Originator Detecting a _
+    (same-unlinked a _ h refl refl refl refl (h.window_o, h.window_a)) e refl refl refl refl refl
+still-well z total breaks turn Originator Negotiating a o h e = idle-well z total breaks turn Originator Negotiating a _
+    (same-unlinked a _ h.0 refl refl refl refl (h.0.window_o, h.0.window_a), later-tries z turn a h.1) e refl refl refl refl refl
+still-well z total breaks turn Originator Establishing a o h e = idle-well z total breaks turn Originator Establishing a _
+    (same-unlinked a _ h.0 refl refl refl refl (h.0.window_o, h.0.window_a), later-tries z turn a h.1) e refl refl refl refl refl
+still-well z total breaks turn Originator Connected a o h e =
+    quiet-well z total breaks turn Originator a _ h e refl refl refl h.ack refl refl refl
+still-well z total breaks turn Originator Releasing a o h e =
+    idle-well z total breaks turn Originator Releasing a _ (later-tries z turn a h) e refl refl refl refl refl
+still-well z total breaks turn Originator Closed a o h e =
+    idle-well z total breaks turn Originator Closed a _ tt e refl refl refl refl refl
+still-well z total breaks turn Answerer Detecting a o h e = early-idle z total breaks turn Detecting Detecting a _ tt tt
+    (same-unlinked a _ h refl refl refl refl (h.window_o, h.window_a)) e refl refl refl
+still-well z total breaks turn Answerer Negotiating a o h e = early-idle z total breaks turn Negotiating Negotiating a _ tt tt
+    (same-unlinked a _ h refl refl refl refl (h.window_o, h.window_a)) e refl refl refl
+still-well z total breaks turn Answerer Establishing a o h e = absurd h
+still-well z total breaks turn Answerer Connected a o h e =
+    quiet-well z total breaks turn Answerer a _ h e refl refl refl h.ack refl refl refl
+still-well z total breaks turn Answerer Releasing a o h e = absurd h
+still-well z total breaks turn Answerer Closed a o h e = idle-well z total breaks turn Answerer Closed a _ tt e refl refl refl refl refl
 
 -- Hearing: whatever the role, the phase and what arrives.
 module _ (z : Rates) (total breaks turn : ℕ) (role : Role) (a : Account) (y : AreRates z) (k : IsOf z a.setup)
@@ -441,8 +381,11 @@ module _ (z : Rates) (total breaks turn : ℕ) (role : Role) (a : Account) (y : 
         (subst (λ p. HeardAs z total breaks turn 0 role p a w.0 b) (sym e) w.1),
   )
 
+  still : (x : Arrived) (o : Owes) → P x (record a { owes = o })
+  still x o = now x (record a { owes = o }) a.phase refl (a.phase, still-well z total breaks turn role a.phase a o s refl)
+
   same : (x : Arrived) → P x a
-  same x = now x a a.phase refl (a.phase, same-well z total breaks turn role a.phase a s refl)
+  same x = still x a.owes
 
   stands : (p : Phase) → a.phase ≡ p → Stands z turn turn role p a
   stands p e = subst (λ p. Stands z turn turn role p a) e s
@@ -457,8 +400,7 @@ module _ (z : Rates) (total breaks turn : ℕ) (role : Role) (a : Account) (y : 
     plain = λ frame p. same (arrivals.Frame frame);
     numbers = number-well z total breaks turn role a y h e all P
         (λ frame b w. (Connected, subst (λ p. HeardAs z total breaks turn (z.quota * frame_rnrs frame) role p a Connected b) (sym e) w));
-    sabme = λ pf n r. now (arrivals.Frame (Sabme pf)) _ Connected e
-        (Connected, quiet-well z total breaks turn role a _ h e refl refl refl h.ack refl refl refl);
+    sabme = λ pf n r. still (arrivals.Frame (Sabme pf)) _;
     disc = λ pf r. now (arrivals.Frame (Disc pf)) _ Connected e (Closed, closed role (sym er ∙ r) h pf);
     brk = λ command pf info number length_octet q.
         now (arrivals.Frame (Ui command pf info)) _ Connected e
@@ -485,11 +427,12 @@ module _ (z : Rates) (total breaks turn : ℕ) (a : Account) (y : AreRates z) (k
   o-early : EarlyWays (P z total breaks turn Originator a y k s er all) turn a
   o-early = record {
     ignores = λ x f. same z total breaks turn Originator a y k s er all x;
-    detects = λ p r. o-now (arrivals.Pattern Adp) _ Detecting p (o-detecting z total breaks turn a Adp y (o-stands Detecting p) p);
+    detects = λ p r. o-now (arrivals.Pattern Adp) _ Detecting p (o-detecting z total breaks turn a y (o-stands Detecting p));
     detected = λ p r. wrong r;
     xid = λ p r pf info offer f. wrong r;
-    agrees = λ p r pf info offer f. let h = o-stands Negotiating p in
-        o-now (arrivals.Frame (Xid false pf info)) _ Negotiating p (o-negotiating z total breaks turn a (Some offer) info y k h.0 h.1 p f);
+    agrees = λ p r pf info offer f.
+        o-now (arrivals.Frame (Xid false pf info)) _ Negotiating p
+        (o-negotiating z total breaks turn a offer info y k (o-stands Negotiating p).0 f);
     sabme_first = λ p r pf. wrong r;
     sabme = λ p r pf. wrong r;
     ua = λ p. o-now (arrivals.Frame (Ua true)) _ Establishing p (
@@ -497,11 +440,7 @@ module _ (z : Rates) (total breaks turn : ℕ) (a : Account) (y : AreRates z) (k
       subst (λ r. HeardAs z total breaks turn 0 Originator Establishing a Connected (connected_as r turn a))
           (sym er) (begins-o z total breaks turn a y k (o-stands Establishing p).0),
     );
-    disc = λ p pf. elim p [
-      | inl q ↦ wrong q.1
-      | inr q ↦ o-now (arrivals.Frame (Disc pf)) _ Closed q
-          (Closed, idle-well z total breaks turn Originator Closed a _ tt q refl refl refl refl refl)
-    ];
+    disc = λ p pf. still z total breaks turn Originator a y k s er all (arrivals.Frame (Disc pf)) _;
     closes = λ p frame f. let h = o-stands Releasing p in o-now (arrivals.Frame frame) _ Releasing p (
       Closed,
       record {
@@ -532,16 +471,12 @@ module _ (z : Rates) (total breaks turn : ℕ) (a : Account) (y : AreRates z) (k
   a-early = record {
     ignores = λ x f. same z total breaks turn Answerer a y k s er all x;
     detects = λ p r. wrong r;
-    detected = λ p r. a-now (arrivals.Pattern Odp) _ Detecting p (
-      Detecting,
-      early-idle z total breaks turn Detecting Detecting a _ tt tt
-          (let u = a-stands Detecting p in same-unlinked a _ u refl refl refl refl (u.window_o, u.window_a)) p refl refl refl,
-    );
+    detected = λ p r. still z total breaks turn Answerer a y k s er all (arrivals.Pattern Odp) _;
     xid = λ p r pf info offer f. elim p [
       | inl q ↦ a-now (arrivals.Frame (Xid true pf info)) _ Detecting q
-          (a-xid z total breaks turn Detecting a (Some offer) info tt y k (a-stands Detecting q) q f)
+          (a-xid z total breaks turn Detecting a offer info tt k (a-stands Detecting q) f)
       | inr q ↦ a-now (arrivals.Frame (Xid true pf info)) _ Negotiating q
-          (a-xid z total breaks turn Negotiating a (Some offer) info tt y k (a-stands Negotiating q) q f)
+          (a-xid z total breaks turn Negotiating a offer info tt k (a-stands Negotiating q) f)
     ];
     agrees = λ p r pf info offer f. wrong r;
     sabme_first = λ p r pf. a-now (arrivals.Frame (Sabme pf)) _ Detecting p
@@ -549,15 +484,7 @@ module _ (z : Rates) (total breaks turn : ℕ) (a : Account) (y : AreRates z) (k
     sabme = λ p r pf. a-now (arrivals.Frame (Sabme pf)) _ Negotiating p
         (Connected, a-sabme z total breaks turn Negotiating a pf tt y k (a-stands Negotiating p) er);
     ua = λ p. absurd (a-stands Establishing p);
-    disc = λ p pf. elim p [
-      | inl q ↦ a-now (arrivals.Frame (Disc pf)) _ Negotiating q.0 (
-        Negotiating,
-        early-idle z total breaks turn Negotiating Negotiating a _ tt tt
-            (let u = a-stands Negotiating q.0 in same-unlinked a _ u refl refl refl refl (u.window_o, u.window_a)) q.0 refl refl refl,
-      )
-      | inr q ↦ a-now (arrivals.Frame (Disc pf)) _ Closed q
-          (Closed, idle-well z total breaks turn Answerer Closed a _ tt q refl refl refl refl refl)
-    ];
+    disc = λ p pf. still z total breaks turn Answerer a y k s er all (arrivals.Frame (Disc pf)) _;
     closes = λ p frame f. absurd (a-stands Releasing p);
   }
     where
@@ -579,8 +506,7 @@ hears-well z total breaks turn role p arrived a y k h e er all = go (hear turn a
 
     ways : Ways (P z total breaks turn role a y k s er all) turn a
     ways = record {
-      nothing = now z total breaks turn role a y k s er all arrivals.Nothing (on_nothing a) a.phase refl
-          (nothing-well z total breaks turn role a.phase a s refl);
+      nothing = still z total breaks turn role a y k s er all arrivals.Nothing (on_nothing a).owes;
       linked = linked-ways z total breaks turn role a y k s er all;
       early = λ c. early role s er;
     }

@@ -1,20 +1,10 @@
 -- How many polls an end sends: in a turn, and in the last turns of a run where no user is busy.
-use Rattle.std.proofs.Common.{◌≡◌, ℕ, ◌+◌, ◌*◌, ◌≤◌, ◌&&◌, ◌⊎◌, Bool, true, false, cond, nat_eq, length, inl, inr, arith, refl, sym, ◌∙◌}
+use Rattle.std.proofs.Common.{◌≡◌, ℕ, ◌+◌, ◌*◌, ◌≤◌, ◌&&◌, Bool, true, false, cond, nat_eq, length, inl, inr, arith, refl, sym, ◌∙◌}
 use Rattle.std.proofs.Common.{ap, subst, Result, Ok, Err}
-use Rattle.shared_terms.specs.declared.role.Role.{Role}
-use Rattle.shared_terms.specs.Role.{is_originator}
-use Rattle.lapm_frames.specs.declared.frame.Frame.{Frame}
-use Rattle.lapm_frames.specs.declared.frame.Frame.TheVariants.{Disc}
-use Rattle.lapm_frames.specs.declared.sent.Sent.TheVariants as slots
-use Rattle.lapm_frames.specs.declared.arrived.Arrived.{Arrived}
-use Rattle.link_account.specs.declared.phase.Phase.{Phase}
-use Rattle.link_account.specs.declared.phase.Phase.TheVariants.{Detecting, Negotiating, Establishing, Connected, Releasing, Closed}
-use Rattle.shared_terms.specs.declared.fault.LinkFault.{LinkFault}
-use Rattle.link_account.specs.Account.{Account, is_connected}
-use Rattle.link_account.specs.Hear.{hear, trying}
-use Rattle.link_account.specs.Speak.{Said, says, says_frame, else_says, where_says, spent, trying_again, tries_frame, u_try, speak_linked}
-use Rattle.link_account.specs.Speak.{speak, speak_in, speak_releasing}
-use Rattle.link_run.specs.End.{User, is_busy, is_released}
+use Rattle.link_account.proofs.Names.{Role, is_originator, Frame, Disc, Arrived, LinkFault, Account, is_connected, hear, trying, Said, says}
+use Rattle.link_account.proofs.Names.{spent, speak_linked, speak, speak_in, speak_releasing}
+use Rattle.link_run.proofs.Names.{Phase, Detecting, Negotiating, Establishing, Connected, Releasing, Closed, User, is_busy, is_released}
+use Rattle.link_account.specs.Speak.{says_frame, else_says, where_says, trying_again, tries_frame, u_try}
 use Rattle.turn_bound.proofs.Clock.{Rates, AreRates}
 use Rattle.turn_bound.proofs.Value.{IsOf, Linked, Stands, arrived_weight, arrived_rnrs}
 use Rattle.turn_bound.proofs.Run.{served_account}
@@ -27,33 +17,25 @@ use Rattle.turn_bound.proofs.StillTurn.{linked-stand}
 use Rattle.turn_bound.proofs.MeetHear.{is_begun, of_arrived}
 use Rattle.turn_bound.proofs.MeetSpeak.{SaysSo, speaks-so}
 use Rattle.turn_bound.proofs.Credits.{frame_poll, poll_value, poll-most, timer_value}
-use Rattle.turn_bound.proofs.Taking.{Takes, Closes, takes}
+use Rattle.turn_bound.proofs.Taking.{takes}
 use Rattle.turn_bound.proofs.Polling.{nineteen_if, polls, heard-polls, linked-rated}
 use Rattle.turn_bound.proofs.Pausing.{Goes, goes-on, says-unpolled, releases-unpolled}
+use Rattle.lapm_frames.specs.declared.sent.Sent.TheVariants as slots
 
 late-none : (turn : ℕ) (p : Phase) (a : Account) → is_released p ≡ true → poll_value turn p a ≡ 0
-late-none turn Detecting a e = cc
-late-none turn Negotiating a e = cc
-late-none turn Establishing a e = cc
-late-none turn Connected a e = cc
 late-none turn Releasing a e = refl
 late-none turn Closed a e = refl
+late-none turn p a e = cc
 
 begun-most : (turn : ℕ) (p : Phase) (a : Account) → is_begun p ≡ true → poll_value turn p a ≤ poll_value turn Connected a
-begun-most turn Detecting a e = cc
-begun-most turn Negotiating a e = cc
-begun-most turn Establishing a e = cc
 begun-most turn Connected a e = omega arith
 begun-most turn Releasing a e = omega arith
 begun-most turn Closed a e = omega arith
+begun-most turn p a e = cc
 
 same-polls : (turn : ℕ) (p : Phase) (b m : Account) → b.wait ≡ m.wait → poll_value turn p b ≡ poll_value turn p m
-same-polls turn Detecting b m w = refl
-same-polls turn Negotiating b m w = refl
-same-polls turn Establishing b m w = refl
 same-polls turn Connected b m w = omega (arith, ap (λ x. nineteen_if x.poll) w, ap (λ x. timer_value turn x.timer) w)
-same-polls turn Releasing b m w = refl
-same-polls turn Closed b m w = refl
+same-polls turn p b m w = refl
 
 abbrev pub InPhase : Phase → Result Said LinkFault → Type 0
 InPhase p (Err fault) = Unit {0}
@@ -99,14 +81,12 @@ poll-turn z user turn role arrived a mid released release said y k h er light qu
     hearing Detecting e = poll-most turn mid.phase mid
     hearing Negotiating e = poll-most turn mid.phase mid
     hearing Establishing e = poll-most turn mid.phase mid
-    hearing Connected e =
-        by (takes z turn role a (linked-stand z turn turn role a
-        (subst (λ q. Stands z turn turn role q a) e h)) e arrived mid light quiet hears)
-      where
-        by : Closes a mid ⊎ ((mid.phase ≡ Connected) × Takes turn (of_arrived frame_poll arrived) a mid)
-            → poll_value turn mid.phase mid ≤ poll_value turn Connected a
-        by (inl c) = omega (arith, late-none turn mid.phase mid (ap is_released c.phase))
-        by (inr t) = omega (arith, heard-polls turn (of_arrived frame_poll arrived) a mid t.1, ap (λ q. poll_value turn q mid) t.0)
+    hearing Connected e = elim
+        (takes z turn role a (linked-stand z turn turn role a (subst (λ q. Stands z turn turn role q a) e h)) e arrived mid light quiet
+        hears) [
+          | inl c ↦ omega (arith, late-none turn mid.phase mid (ap is_released c.phase))
+          | inr t ↦ omega (arith, heard-polls turn (of_arrived frame_poll arrived) a mid t.1, ap (λ q. poll_value turn q mid) t.0)
+        ]
     hearing Releasing e = omega (arith, late-none turn mid.phase mid (g.released (ap is_released e)))
     hearing Closed e = omega (arith, late-none turn mid.phase mid (g.released (ap is_released e)))
 
@@ -128,9 +108,6 @@ poll-turn z user turn role arrived a mid released release said y k h er light qu
     served-stands : Stands z (turn + 1) turn role first.0 b
     served-stands = (serves-well z (length a.outgoing.pieces) (length user.breaks) turn
         (is_busy turn user.busy) role first.0 mid b y first.1.stands first.1.phase s).stands
-
-    k' : IsOf z b.setup
-    k' = subst (IsOf z) (sym (s.setup ∙ first.1.setup)) k
 
     nothing : is_connected b.phase ≡ false → polls said.sent ≡ 0
     nothing e = ap nineteen_if (says-unpolled turn release b said e speaks)
@@ -161,6 +138,6 @@ poll-turn z user turn role arrived a mid released release said y k h er light qu
             )
         by false f = omega (
           arith,
-          linked-rated z turn role b said y k' f,
+          linked-rated z turn role b said y (subst (IsOf z) (sym (s.setup ∙ first.1.setup)) k) f,
           begun-most (turn + 1) said.account.phase said.account (so.begun ∙ ap is_begun e),
         )

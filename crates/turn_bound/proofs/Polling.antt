@@ -1,23 +1,17 @@
 -- An end's polls become due once in a whole period, and so once in nineteen turns.
-use Rattle.std.proofs.Common.{◌≡◌, ℕ, ◌+◌, ◌-◌, ◌≤◌, min, Bool, true, false, cond, nat_lt, inl, inr, arith, refl, ap}
-use Rattle.std.proofs.Common.{Option, Some, None, Ok}
-use Rattle.shared_terms.specs.declared.role.Role.{Role}
-use Rattle.lapm_sender.specs.Outgoing.{Outgoing}
-use Rattle.lapm_frames.specs.declared.sent.Sent.{Sent}
-use Rattle.link_account.specs.declared.phase.Phase.TheVariants.{Connected}
-use Rattle.link_account.specs.Account.{Account}
-use Rattle.link_account.specs.declared.answer.Answer.{Answer}
-use Rattle.link_account.specs.declared.answer.Answer.TheVariants as answers
+use Rattle.std.proofs.Common.{◌≡◌, ℕ, ◌+◌, ◌-◌, ◌≤◌, min, Bool, true, false, cond, nat_lt, inl, inr, arith, refl, ap, Option, Some, None}
+use Rattle.std.proofs.Common.{Ok}
+use Rattle.link_account.proofs.Names.{Role, Outgoing, Sent, Account, Said, nr_of, ready_frame, speak_linked, frame_for}
+use Rattle.link_run.proofs.Names.{Connected, Answer}
 use Rattle.link_account.specs.Hear.{timer_after}
-use Rattle.link_account.specs.Speak.{Said, running, nr_of}
-use Rattle.link_account.specs.Speak.{ready_frame, speak_linked}
+use Rattle.link_account.specs.Speak.{running}
 use Rattle.turn_bound.proofs.Clock.{Rates, AreRates}
 use Rattle.turn_bound.proofs.Value.{IsOf}
-use Rattle.link_account.specs.Speak.{frame_for}
 use Rattle.link_account.proofs.SpeakWays.{Steps, steps-so, by-linked, polling_at}
 use Rattle.turn_bound.proofs.MeetHear.{of_frame}
 use Rattle.turn_bound.proofs.Credits.{frame_poll, timer_value, poll_value}
 use Rattle.turn_bound.proofs.Taking.{TakesNumber, Takes}
+use Rattle.link_account.specs.declared.answer.Answer.TheVariants as answers
 
 abbrev pub nineteen_if : Bool → ℕ
 nineteen_if b = cond b 19 0

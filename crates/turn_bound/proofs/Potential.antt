@@ -1,7 +1,6 @@
 -- The potential of a run, and the bound on its turns.
+use Rattle.link_account.proofs.Names.{Originator, Answerer, Slot}
 use Rattle.std.specs.Prelude.{◌≡◌, ℕ, ◌+◌, ◌*◌, ◌≤◌, Bool, cond, ◌||◌, List, [], ◌∷◌, length}
-use Rattle.shared_terms.specs.declared.role.Role.TheVariants.{Originator, Answerer}
-use Rattle.link_account.specs.Play.{Slot}
 use Rattle.turn_bound.proofs.Clock.{Rates, rates}
 use Rattle.turn_bound.proofs.Value.{value, lives, IsOf, dues, weight, rnrs}
 use Rattle.link_run.specs.End.{busy_left, busy_turns}

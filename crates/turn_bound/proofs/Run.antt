@@ -1,14 +1,8 @@
 -- Runs of a link with what is on its lines, which are queues here: the form in which the bound is proved.
+use Rattle.link_account.proofs.Names.{next_expected, Arrived, Account, fresh, hear, Said, speak, Slot, arrives}
+use Rattle.link_run.proofs.Names.{Setup, User, served, is_released, is_closed, has_finished}
 use Rattle.std.specs.Prelude.{◌≡◌, ℕ, Bool, false, if◌then◌else◌, ◌&&◌, nat_lt, List, [], ◌∷◌, ◌++◌, length, Ok}
-use Rattle.lapm_receiver.specs.Incoming.{next_expected}
-use Rattle.lapm_frames.specs.declared.arrived.Arrived.{Arrived}
 use Rattle.lapm_frames.specs.declared.arrived.Arrived.TheVariants as arrivals
-use Rattle.link_account.specs.declared.setup.Setup.{Setup}
-use Rattle.link_account.specs.Account.{Account, fresh}
-use Rattle.link_account.specs.Hear.{hear}
-use Rattle.link_account.specs.Speak.{Said, speak}
-use Rattle.link_account.specs.Play.{Slot, arrives}
-use Rattle.link_run.specs.End.{User, served, is_released, is_closed, has_finished}
 
 -- an end as a run begins, with its user, and the delay of what it sends
 pub record Party : Type 0 where

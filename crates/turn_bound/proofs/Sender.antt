@@ -1,12 +1,8 @@
 use Rattle.std.proofs.Common.{◌≡◌, ℕ, ◌+◌, ◌-◌, ◌*◌, ◌%◌, ◌<◌, ◌≤◌, ◌&&◌, ◌||◌, not, Bool, true, false, cond, nat_eq, nat_lt, nat_le, List}
 use Rattle.std.proofs.Common.{[], ◌∷◌, length, arith, refl, sym, ◌∙◌, ap, subst, Option, Some, None}
-use Rattle.std.specs.Prelude.{is_some}
-use Rattle.std.specs.List.{AllByRecursion}
-use Rattle.std.proofs.lemmas.Bool.Decides.{nat_tests}
-use Rattle.lapm_sender.specs.Meant.{meant}
+use Rattle.link_account.proofs.Names.{is_some, AllByRecursion, nat_tests, meant, Outgoing, is_outstanding, advanced, resumed, Account}
 use Rattle.lapm_sender.specs.Numbers.{with_number, from_number}
-use Rattle.lapm_sender.specs.Outgoing.{Outgoing, is_outstanding, advanced, gone_back, wait_ended, resumed, paused_at}
-use Rattle.link_account.specs.Account.{Account}
+use Rattle.lapm_sender.specs.Outgoing.{gone_back, wait_ended, paused_at}
 use Rattle.link_account.specs.Hear.{timer_after, ends_wait}
 use Rattle.link_account.proofs.HearWays.{acked, acked_back}
 use Rattle.turn_bound.proofs.Clock.{Rates, AreRates, Ticks, left, is_waiting, IsChosen, Sends, is_free, ends, sender_value}

@@ -1,9 +1,7 @@
 use Rattle.std.proofs.Common.{◌≡◌, ℕ, ◌+◌, ◌<◌, ◌≤◌, ◌&&◌, ◌||◌, not, max, Bool, true, false, cond, nat_eq, nat_lt, List, [], ◌∷◌, length}
 use Rattle.std.proofs.Common.{arith, refl, sym, ◌∙◌, ap, subst, Option, Some, None}
-use Rattle.std.specs.Prelude.{is_some}
-use Rattle.std.specs.List.{AllByRecursion}
-use Rattle.std.proofs.lemmas.Bool.Decides.{nat_tests}
-use Rattle.lapm_sender.specs.Outgoing.{Outgoing, is_outstanding, next_among, next_number, sent_among, after_next}
+use Rattle.link_account.proofs.Names.{is_some, AllByRecursion, nat_tests, Outgoing, is_outstanding, next_number}
+use Rattle.lapm_sender.specs.Outgoing.{next_among, sent_among, after_next}
 use Rattle.link_account.specs.Speak.{running}
 use Rattle.turn_bound.proofs.Clock.{Rates, AreRates, Ticks, left, is_waiting, IsChosen, Sends, is_free, one_if, sender_value}
 use Rattle.turn_bound.proofs.Arithmetic.{tries_fit, ticks-later, all_weaker}

@@ -1,11 +1,7 @@
 use Rattle.std.proofs.Common.{◌≡◌, ℕ, ◌+◌, ◌-◌, ◌*◌, ◌<◌, ◌≤◌, ◌&&◌, ◌⊎◌, not, Bool, true, false, cond, nat_le, [], ◌∷◌, ◌++◌, length}
 use Rattle.std.proofs.Common.{length-append, inl, inr, arith, refl, sym, ◌∙◌, ap, subst}
-use Rattle.shared_terms.specs.declared.role.Role.{Role}
-use Rattle.shared_terms.specs.declared.role.Role.TheVariants.{Originator, Answerer}
-use Rattle.break_signals.specs.Breaks.{OwnBreaks, after_ask, waits}
-use Rattle.link_account.specs.declared.phase.Phase.{Phase}
-use Rattle.link_account.specs.declared.phase.Phase.TheVariants.{Detecting, Negotiating, Establishing, Connected, Releasing, Closed}
-use Rattle.link_account.specs.Account.{Account, is_connected}
+use Rattle.link_account.proofs.Names.{Role, Originator, Answerer, OwnBreaks, after_ask, waits, Account, is_connected}
+use Rattle.link_run.proofs.Names.{Phase, Detecting, Negotiating, Establishing, Connected, Releasing, Closed}
 use Rattle.turn_bound.proofs.Clock.{Rates, AreRates, is_waiting, Sends, ends, worth, sender_value, is_breaking}
 use Rattle.turn_bound.proofs.Value.{time_left, try_left, value, linked_lives, lives, Unlinked, IsAck, IsSilent, Linked, Tries, Stands}
 use Rattle.turn_bound.proofs.Sending.{offered-sends}

@@ -1,12 +1,9 @@
 use Rattle.std.proofs.Common.{◌≡◌, ℕ, zero, suc, ◌+◌, ◌<◌, ◌≤◌, ◌&&◌, ◌⊎◌, not, Bool, true, false, cond, nat_lt, nat_le, List, [], ◌∷◌}
 use Rattle.std.proofs.Common.{length, length-append, inl, inr, arith, refl, sym, ◌∙◌, ap, subst, Option, Some, None}
-use Rattle.std.specs.Prelude.{slice_get}
-use Rattle.std.proofs.lemmas.Bool.Decides.{nat_tests}
-use Rattle.lapm_sender.specs.Outgoing.{Outgoing, wanted, with_piece}
-use Rattle.break_signals.specs.Breaks.{after_ask}
-use Rattle.link_account.specs.Account.{Account, is_connected, wants, piece_size, after_offer, after_given, after_busy, after_break_asked}
+use Rattle.link_account.proofs.Names.{slice_get, nat_tests, Outgoing, wanted, with_piece, after_ask, Account, is_connected, wants}
+use Rattle.link_account.proofs.Names.{piece_size, after_offer, after_given, after_busy, after_break_asked}
+use Rattle.link_run.proofs.Names.{User, BreakLine, delivered, piece_at, offered_at, offered_times, room_for, offered, is_busy, next_break}
 use Rattle.turn_bound.proofs.Run.{served_account}
-use Rattle.link_run.specs.End.{User, BreakLine, delivered, piece_at, offered_at, offered_times, room_for, offered, is_busy, next_break}
 use Rattle.link_run.specs.End.{asked_at}
 
 -- what a user's file may change in a sender's part

@@ -1,24 +1,17 @@
-use Rattle.std.proofs.Common.{take, drop, ◌++◌, length-take, length-drop, ◌≡◌, ℕ, ◌-◌, ◌&&◌, not, Bool, true, false, cond, refl, sym}
-use Rattle.std.proofs.Common.{ap, subst, Option, Some, None, Ok, ◌+◌, ◌*◌, nat_le, List, [], ◌∷◌, ◌⊎◌, inl, inr}
-use Rattle.std.proofs.Common.{length, arith, ◌<◌, ◌≤◌, zero, suc, nat_lt, length-append}
-use Rattle.lapm_sender.specs.Outgoing.{Outgoing}
-use Rattle.lapm_frames.specs.declared.arrived.Arrived.{Arrived}
-use Rattle.link_account.specs.declared.phase.Phase.TheVariants.{Releasing}
-use Rattle.link_account.specs.Account.{Account, is_connected, wants, after_offer, after_given, after_busy, after_break_asked}
-use Rattle.link_account.specs.Hear.{hear}
-use Rattle.link_account.specs.Hear.{trying}
-use Rattle.break_signals.specs.Breaks.{after_ask}
-use Rattle.link_account.specs.Speak.{Said}
-use Rattle.link_account.specs.Speak.{speak}
+use Rattle.std.proofs.Common.{take, drop, ◌++◌, length-take, length-drop, ◌≡◌, ℕ, ◌-◌, ◌&&◌, not, Bool, true, false, cond, refl, sym, ap}
+use Rattle.std.proofs.Common.{subst, Option, Some, None, Ok, ◌+◌, ◌*◌, nat_le, List, [], ◌∷◌, ◌⊎◌, inl, inr, length, arith, ◌<◌, ◌≤◌, zero}
+use Rattle.std.proofs.Common.{suc, nat_lt, length-append}
+use Rattle.link_account.proofs.Names.{Outgoing, Arrived, Account, is_connected, wants, after_offer, after_given, after_busy}
+use Rattle.link_account.proofs.Names.{after_break_asked, hear, after_ask, Said, speak}
+use Rattle.link_run.proofs.Names.{User, BreakLine, delivered, offered_at, offered_times, room_for, offered, is_busy, next_break}
+use Rattle.link_run.proofs.Names.{is_released}
+use Rattle.link_run.proofs.Speaking.{speaks-pieces}
 use Rattle.turn_bound.proofs.Run.{served_account, Link, State, Turn, RunOf, start, arrival}
-use Rattle.link_run.specs.End.{User, BreakLine, delivered, offered_at, offered_times, room_for, offered, is_busy, next_break, asked_at}
-use Rattle.link_run.specs.End.{asked, is_released}
+use Rattle.link_run.specs.End.{asked_at, asked}
 use Rattle.turn_bound.specs.Offered.{IsWithin}
-use Rattle.link_account.proofs.HearWays as HearWays
 use Rattle.link_account.proofs.HearWays.{numbers-alike}
-use Rattle.link_account.proofs.SpeakWays as SpeakWays
-use Rattle.link_account.proofs.SpeakWays.{linked-alike, tries-alike, next-keeps, retimed}
 use Rattle.turn_bound.proofs.Falls.{after-is}
+use Rattle.link_account.proofs.HearWays as HearWays
 
 -- the segments and their length, as hearing leaves them
 abbrev pub SameCut : Account → Account → Type 0
@@ -52,34 +45,6 @@ cut-hears arrived turn a mid e = HearWays.by-ways (λ x b. SameCut a b) turn a (
     closes = λ q frame f. inr (refl, refl);
   };
 }) arrived mid e
-
--- speaking leaves them
-abbrev pub Leaves : Account → Said → Type 0
-Leaves a said = IsSame a.outgoing said.account.outgoing
-
-speaks-cut : (turn : ℕ) (release : Bool) (a : Account) (said : Said) → speak turn release a ≡ Ok said → Leaves a said
-speaks-cut turn release a said e = SpeakWays.by-ways (Leaves a) turn release a (record {
-  answers = λ alone d f. (refl, refl);
-  flags = λ alone f. (refl, refl);
-  mark = λ p r f. (refl, refl);
-  odp = λ p r l. (refl, refl);
-  xid = λ p r. tries-alike _ turn _ a (λ w. (refl, refl)) (refl, refl);
-  sabme = λ p. tries-alike _ turn _ a (λ w. (refl, refl)) (refl, refl);
-  linked = λ p r. linked-alike _ turn a (λ count awaited w own. record {
-    answers = λ d f. (refl, refl);
-    final = λ n f. (refl, refl);
-    poll = λ n q f. (refl, refl);
-    segment = λ b u n f. let k = next-keeps (retimed a count awaited w own).outgoing in (k.pieces, k.size);
-    brkack = λ b s word f. (refl, refl);
-    brk = λ b s k word f. (refl, refl);
-    tell = λ b x f. (refl, refl);
-    rej = λ b x n f. (refl, refl);
-    srej = λ b x s n f. (refl, refl);
-    flags = λ i. (refl, refl);
-  });
-  releases = λ p r. tries-alike _ turn _ (trying Releasing turn a) (λ w. (refl, refl)) (refl, refl);
-  disc = λ p. tries-alike _ turn _ a (λ w. (refl, refl)) (refl, refl);
-}) said e
 
 -- Offers: a piece that isn't empty begins within the file.
 
@@ -176,7 +141,7 @@ end-within : (user : User) (turn : ℕ) (arrived : Arrived) (a mid : Account) (r
     → IsCut user.file said.account
 end-within user turn arrived a mid released release said hears speaks h =
     let b : Account = served_account user turn released mid in
-    within-same user.file b.outgoing said.account.outgoing (speaks-cut turn release b said speaks)
+    within-same user.file b.outgoing said.account.outgoing (speaks-pieces turn release b said speaks)
     (served-within user turn released mid (heard (cut-hears arrived turn a mid hears)))
   where
     heard : SameCut a mid → IsCut user.file mid

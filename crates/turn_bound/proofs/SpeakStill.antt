@@ -1,30 +1,19 @@
 use Rattle.std.proofs.Common.{◌≡◌, ℕ, ◌+◌, ◌-◌, ◌%◌, ◌<◌, ◌≤◌, ◌&&◌, ◌||◌, not, Bool, true, false, cond, nat_lt, List, [], ◌∷◌, ◌++◌}
-use Rattle.std.proofs.Common.{length}
-use Rattle.std.proofs.Common.{slice_index_or, arith, refl, sym, ◌∙◌, ap, subst, inl, inr, Some, None, Ok, Err}
-use Rattle.std.specs.Prelude.{is_some}
-use Rattle.std.proofs.lemmas.Bool.Decides.{nat_tests}
-use Rattle.shared_terms.specs.declared.role.Role.{Role}
-use Rattle.lapm_sender.specs.Outgoing.{Outgoing, next_number, next_among, is_outstanding}
+use Rattle.std.proofs.Common.{length, slice_index_or, arith, refl, sym, ◌∙◌, ap, subst, inl, inr, Some, None, Ok, Err}
+use Rattle.link_account.proofs.Names.{is_some, nat_tests, Role, Outgoing, next_number, is_outstanding, Incoming, BreakWord, Brk, Ack}
+use Rattle.link_account.proofs.Names.{Account, is_originator, Said, frame_for, nr_of, may_send, steps, ready_frame, AllByRecursion}
+use Rattle.link_run.proofs.Names.{Answer}
+use Rattle.lapm_sender.specs.Outgoing.{next_among}
 use Rattle.lapm_receiver.specs.Held.{first_outside, missing_from}
-use Rattle.lapm_receiver.specs.Incoming.{Incoming, asks}
-use Rattle.break_signals.specs.declared.word.BreakWord.{BreakWord}
-use Rattle.break_signals.specs.declared.word.BreakWord.TheVariants.{Brk, Ack}
+use Rattle.lapm_receiver.specs.Incoming.{asks}
 use Rattle.break_signals.specs.declared.fault.BreakFault.TheVariants.{Number}
-use Rattle.link_account.specs.Account.{Account}
-use Rattle.link_account.specs.declared.answer.Answer.{Answer}
-use Rattle.link_account.specs.declared.answer.Answer.TheVariants as answers
-use Rattle.shared_terms.specs.Role.{is_originator}
-use Rattle.link_account.specs.Speak.{Said, frame_for, nr_of, may_send, says_segment}
-use Rattle.link_account.specs.Speak.{steps, tells, ready_frame}
-use Rattle.link_account.specs.Speak.{differs}
-use Rattle.turn_bound.proofs.Clock.{Rates, AreRates, is_waiting, is_free, one_if}
-use Rattle.std.specs.List.{AllByRecursion}
-use Rattle.turn_bound.proofs.Clock.{IsChosen}
+use Rattle.link_account.specs.Speak.{says_segment, tells, differs, says_word}
+use Rattle.turn_bound.proofs.Clock.{Rates, AreRates, is_waiting, is_free, one_if, IsChosen}
 use Rattle.turn_bound.proofs.Value.{two_if, four_if, dues, weight, frame_weight, word_weight, IsAck, Linked}
 use Rattle.turn_bound.proofs.Sending.{sent-well}
 use Rattle.break_signals.specs.Breaks.{after_ack}
-use Rattle.link_account.specs.Speak.{says_word}
 use Rattle.link_account.proofs.SpeakWays.{AllSaid, by-steps}
+use Rattle.link_account.specs.declared.answer.Answer.TheVariants as answers
 
 -- what is due but for a segment
 abbrev pub base : Account → ℕ

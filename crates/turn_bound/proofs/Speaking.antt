@@ -1,20 +1,14 @@
-use Rattle.std.proofs.Common.{◌≡◌, ℕ, ◌+◌, ◌-◌, ◌*◌, ◌≤◌, ◌||◌, Bool, true, false, cond, nat_eq, List, [], ◌∷◌, length, arith, refl}
-use Rattle.std.proofs.Common.{sym, ◌∙◌, ap, subst, Option, Some, None, Result, Ok, Err}
-use Rattle.shared_terms.specs.declared.role.Role.{Role}
-use Rattle.shared_terms.specs.declared.role.Role.TheVariants.{Originator, Answerer}
-use Rattle.lapm_sender.specs.Outgoing.{Outgoing, next_number, after_next, sent_among, expired}
-use Rattle.break_signals.specs.Breaks.{OwnBreaks, after_brk, ticked}
-use Rattle.link_account.specs.declared.phase.Phase.{Phase}
-use Rattle.link_account.specs.declared.phase.Phase.TheVariants.{Connected}
-use Rattle.shared_terms.specs.declared.fault.LinkFault.{LinkFault}
-use Rattle.link_account.specs.Account.{Account, is_connected}
-use Rattle.shared_terms.specs.Role.{is_originator}
-use Rattle.link_account.specs.Speak.{Said, polling, timer_expires, on_timer, breaking, on_break_timer}
-use Rattle.link_account.specs.Speak.{may_send, running, says_segment}
-use Rattle.link_account.specs.Speak.{steps, after_timers, then_tries, speak_linked}
+use Rattle.std.proofs.Common.{◌≡◌, ℕ, ◌+◌, ◌-◌, ◌*◌, ◌≤◌, ◌||◌, Bool, true, false, cond, nat_eq, List, [], ◌∷◌, length, arith, refl, sym}
+use Rattle.std.proofs.Common.{◌∙◌, ap, subst, Option, Some, None, Result, Ok, Err}
+use Rattle.link_account.proofs.Names.{Role, Originator, Answerer, Outgoing, next_number, OwnBreaks, ticked, LinkFault, Account}
+use Rattle.link_account.proofs.Names.{is_connected, is_originator, Said, may_send, steps, speak_linked}
+use Rattle.link_run.proofs.Names.{Phase, Connected, is_closed}
+use Rattle.lapm_sender.specs.Outgoing.{after_next, sent_among, expired}
+use Rattle.break_signals.specs.Breaks.{after_brk}
+use Rattle.link_account.specs.Speak.{polling, timer_expires, on_timer, breaking, on_break_timer, running, says_segment, after_timers}
+use Rattle.link_account.specs.Speak.{then_tries}
 use Rattle.link_account.proofs.SpeakWays.{AllSaid, by-steps}
 use Rattle.turn_bound.proofs.Clock.{Rates, AreRates, is_waiting, Sends, lasts, one_if, sender_value, Breaks, is_breaking, break_left}
-use Rattle.link_run.specs.End.{is_closed}
 use Rattle.turn_bound.proofs.Value.{value, linked_lives, lives, IsOf, IsAck, IsSilent, Linked, Stands}
 use Rattle.turn_bound.proofs.Sending.{WaitedWell, waited-quiet, waited-expired, sent-well}
 use Rattle.turn_bound.proofs.Breaking.{TickedWell, ticked-well, brk-sent}

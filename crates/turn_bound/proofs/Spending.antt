@@ -1,24 +1,12 @@
-use Rattle.std.proofs.Common.{◌≡◌, ℕ, ◌+◌, ◌-◌, ◌*◌, Bool, true, false, nat_eq, nat_le, length, arith, refl, sym, ◌∙◌, ap}
-use Rattle.std.proofs.Common.{subst, Ok, Err, inl, inr}
-use Rattle.std.proofs.lemmas.Bool.Decides.{nat_tests}
-use Rattle.shared_terms.specs.declared.role.Role.{Role}
-use Rattle.shared_terms.specs.declared.role.Role.TheVariants.{Originator, Answerer}
-use Rattle.link_account.specs.declared.phase.Phase.{Phase}
-use Rattle.link_account.specs.declared.phase.Phase.TheVariants.{Negotiating, Establishing, Connected, Releasing}
-use Rattle.shared_terms.specs.declared.fault.LinkFault.{LinkFault}
-use Rattle.shared_terms.specs.declared.fault.LinkFault.TheVariants.{Spent}
-use Rattle.link_account.specs.Account.{Account, is_connected}
-use Rattle.link_account.specs.Speak.{spent}
-use Rattle.link_account.specs.Speak.{speak}
+use Rattle.std.proofs.Common.{◌≡◌, ℕ, ◌+◌, ◌-◌, ◌*◌, Bool, true, false, nat_eq, nat_le, length, arith, refl, sym, ◌∙◌, ap, subst, Ok, Err}
+use Rattle.std.proofs.Common.{inl, inr, ◌⊎◌}
+use Rattle.link_account.proofs.Names.{nat_tests, Role, Originator, Answerer, LinkFault, Spent, Account, is_connected, spent, speak, Arrived}
+use Rattle.link_account.proofs.Names.{hear}
+use Rattle.link_run.proofs.Names.{Phase, Negotiating, Establishing, Connected, Releasing, User, is_busy}
 use Rattle.turn_bound.proofs.Clock.{Rates, AreRates, Runs, Ticks}
-use Rattle.turn_bound.proofs.Value.{IsOf, Linked, Tries, Stands}
+use Rattle.turn_bound.proofs.Value.{IsOf, Linked, Tries, Stands, arrived_rnrs}
 use Rattle.turn_bound.specs.Spent.{since, IsTimely}
-use Rattle.lapm_frames.specs.declared.arrived.Arrived.{Arrived}
-use Rattle.link_account.specs.Hear.{hear}
-use Rattle.turn_bound.proofs.Value.{arrived_rnrs}
-use Rattle.link_run.specs.End.{User, is_busy}
 use Rattle.turn_bound.proofs.Run.{served_account}
-use Rattle.std.proofs.Common.{◌⊎◌}
 use Rattle.link_account.proofs.SpeakWays.{Ended, TryEnds, ReleaseEnds, TimerEnds, BreakEnds, Breaks, Undetected, Spends, why-broken}
 use Rattle.turn_bound.proofs.Phases.{hears-well}
 use Rattle.turn_bound.proofs.Serving.{serves-all}

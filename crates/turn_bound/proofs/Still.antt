@@ -1,25 +1,13 @@
-use Rattle.std.proofs.Common.{◌≡◌, ℕ, ◌+◌, ◌%◌, ◌≤◌, ◌&&◌, ◌||◌, not, Bool, true, false, cond, nat_eq, nat_lt, List, arith, refl, sym}
-use Rattle.std.proofs.Common.{◌∙◌, ap, Option, Some, None, Ok}
-use Rattle.std.specs.Prelude.{is_some}
-use Rattle.std.proofs.lemmas.Bool.Decides.{nat_tests}
-use Rattle.shared_terms.specs.declared.role.Role.{Role}
-use Rattle.lapm_sender.specs.Outgoing.{Outgoing, is_outstanding}
-use Rattle.lapm_receiver.specs.Incoming.{Incoming, after_kind, kind_of, offset}
-use Rattle.lapm_receiver.specs.declared.took.Took.{Took}
-use Rattle.lapm_receiver.specs.declared.took.Took.TheVariants.{InOrder, Kept, Repeat, Gap}
-use Rattle.break_signals.specs.Breaks.{OwnBreaks, after_answer, waits}
-use Rattle.lapm_frames.specs.declared.arrived.Arrived.{Arrived}
-use Rattle.link_account.specs.declared.phase.Phase.TheVariants.{Connected}
-use Rattle.link_account.specs.Account.{Account}
-use Rattle.link_account.specs.declared.answer.Answer.{Answer}
-use Rattle.link_account.specs.declared.answer.Answer.TheVariants as answers
-use Rattle.link_account.specs.Hear.{hear}
-use Rattle.link_account.specs.Hear.{without_adp}
+use Rattle.std.proofs.Common.{◌≡◌, ℕ, ◌+◌, ◌%◌, ◌≤◌, ◌&&◌, ◌||◌, not, Bool, true, false, cond, nat_eq, nat_lt, List, arith, refl, sym, ◌∙◌}
+use Rattle.std.proofs.Common.{ap, Option, Some, None, Ok}
+use Rattle.link_account.proofs.Names.{is_some, nat_tests, Role, Outgoing, is_outstanding, Incoming, after_kind, kind_of, offset, Took}
+use Rattle.link_account.proofs.Names.{InOrder, Kept, Repeat, Gap, OwnBreaks, after_answer, waits, Arrived, Account, hear, without_adp}
+use Rattle.link_run.proofs.Names.{Connected, Answer}
 use Rattle.turn_bound.proofs.Clock.{Rates, is_waiting, Sends, is_free, one_if}
 use Rattle.turn_bound.proofs.Value.{Linked, two_if, dues, frame_weight, word_weight, arrived_weight}
-use Rattle.turn_bound.proofs.Sender.{Heard, meant-range, heard-advanced, heard-resumed}
-use Rattle.turn_bound.proofs.Sender.{acked-heard}
+use Rattle.turn_bound.proofs.Sender.{Heard, meant-range, heard-advanced, heard-resumed, acked-heard}
 use Rattle.link_account.proofs.HearWays.{ConnectedWays, numbered_with, acked, by-linked}
+use Rattle.link_account.specs.declared.answer.Answer.TheVariants as answers
 
 -- where nothing is outstanding, what is heard leaves the front where it is
 free-same : (z : Rates) (total before turn : ℕ) (o new : Outgoing) (timer : Option ℕ) → Sends z before turn o timer → is_waiting o ≡ false

@@ -1,25 +1,17 @@
 use Rattle.std.proofs.Common.{◌≡◌, ℕ, ◌+◌, ◌*◌, ◌<◌, ◌≤◌, ◌&&◌, ◌||◌, not, Bool, true, false, cond, nat_eq, nat_lt, nat_le, [], ◌∷◌, ◌++◌}
 use Rattle.std.proofs.Common.{length, length-append, arith, refl, sym, ◌∙◌, ap, subst, Option, Some, None, Result, Ok, Err}
-use Rattle.std.specs.Prelude.{is_some}
-use Rattle.std.proofs.lemmas.Bool.Decides.{nat_tests}
-use Rattle.shared_terms.specs.declared.role.Role.{Role}
-use Rattle.shared_terms.specs.declared.role.Role.TheVariants.{Originator, Answerer}
-use Rattle.lapm_sender.specs.Outgoing.{expired, Outgoing, is_outstanding, wanted, is_whole}
-use Rattle.break_signals.specs.Breaks.{OwnBreaks, after_ask, waits}
-use Rattle.lapm_frames.specs.declared.arrived.Arrived.{Arrived}
-use Rattle.link_account.specs.declared.phase.Phase.{Phase}
-use Rattle.link_account.specs.declared.phase.Phase.TheVariants.{Detecting, Negotiating, Establishing, Connected, Releasing, Closed}
-use Rattle.shared_terms.specs.declared.fault.LinkFault.{LinkFault}
-use Rattle.link_account.specs.Account.{Account, is_connected, is_done, break_waits, after_break_asked}
-use Rattle.shared_terms.specs.Role.{is_originator}
-use Rattle.link_account.specs.Hear.{hear, trying}
-use Rattle.lapm_frames.specs.declared.frame.Frame.TheVariants.{Disc}
-use Rattle.link_account.specs.Speak.{Said, speak, speak_linked, steps, then_tries, on_timer, after_timers, speak_in, speak_releasing}
-use Rattle.link_account.specs.Speak.{timer_expires, polling, breaking, u_try}
-use Rattle.turn_bound.proofs.Clock.{Rates, AreRates, is_waiting, Sends, is_free, one_if, Breaks, is_breaking}
+use Rattle.link_account.proofs.Names.{is_some, nat_tests, Role, Originator, Answerer, Outgoing, is_outstanding, wanted, OwnBreaks}
+use Rattle.link_account.proofs.Names.{after_ask, waits, Arrived, LinkFault, Account, is_connected, after_break_asked, is_originator, hear}
+use Rattle.link_account.proofs.Names.{trying, Disc, Said, speak, speak_linked, steps, speak_in, speak_releasing}
+use Rattle.link_run.proofs.Names.{Phase, Connected, Releasing, User, BreakLine, is_busy}
+use Rattle.link_run.proofs.Names.{has_finished, next_break}
+use Rattle.lapm_sender.specs.Outgoing.{expired, is_whole}
+use Rattle.link_account.specs.Account.{is_done, break_waits}
+use Rattle.link_account.specs.Speak.{then_tries, on_timer, after_timers, timer_expires, polling, breaking, u_try}
+use Rattle.turn_bound.proofs.Clock.{Rates, AreRates, is_waiting, is_free, one_if, Breaks, is_breaking}
 use Rattle.turn_bound.proofs.Value.{two_if, four_if, linked_lives, IsOf, Linked, Stands, dues, weight, arrived_weight, arrived_rnrs}
 use Rattle.turn_bound.proofs.Run.{served_account}
-use Rattle.link_run.specs.End.{User, BreakLine, asked_at, is_busy, has_finished, is_ready, next_break}
+use Rattle.link_run.specs.End.{asked_at, is_ready}
 use Rattle.turn_bound.proofs.Phases.{hears-well}
 use Rattle.turn_bound.proofs.Serving.{Served, serves-all, serves-first, serves-own, before_asking}
 use Rattle.turn_bound.proofs.Serves.{serves-well}
@@ -143,11 +135,7 @@ speaks-still z total breaks turn role b said y k h er all e dead busy may more =
 
 pub only-connected : (p : Phase) → is_connected p ≡ true → p ≡ Connected
 only-connected Connected e = refl
-only-connected Detecting e = cc
-only-connected Negotiating e = cc
-only-connected Establishing e = cc
-only-connected Releasing e = cc
-only-connected Closed e = cc
+only-connected p e = cc
 
 -- A turn of an end that stays Connected.
 pub record Stays (z : Rates) (total turn : ℕ) (user : User) (role : Role) (a mid b : Account) (release : Bool) (said : Said) : Type 0 where
@@ -292,15 +280,9 @@ unready user turn mid e low w r after = go (next_break user.breaks m) refl after
     m : Account
     m = before_asking user turn mid
 
-    same : m.own_breaks ≡ mid.own_breaks
-    same = serves-own user turn mid
-
-    phase : is_connected m.phase ≡ true
-    phase = ap is_connected ((serves-first user turn 0 mid).phase ∙ e)
-
     asks : (l : ℕ) (x : Bool) → x ≡ true → waits (cond x (record m { own_breaks = after_ask turn l m.own_breaks }) m).own_breaks ≡ false → ⊥
     asks l true f g = let wrong : true ≡ false =
-        sym (waits-then turn l mid.own_breaks low w r) ∙ (ap (λ o. waits (after_ask turn l o)) (sym same) ∙ g) in cc
+        sym (waits-then turn l mid.own_breaks low w r) ∙ (ap (λ o. waits (after_ask turn l o)) (sym (serves-own user turn mid)) ∙ g) in cc
     asks l false f g = cc
 
     go : (n : Option BreakLine) → next_break user.breaks m ≡ n → waits (asked_at turn n m).own_breaks ≡ false
@@ -310,7 +292,7 @@ unready user turn mid e low w r after = go (next_break user.breaks m) refl after
       where
         by : (x : Bool) → nat_le br.turn turn ≡ x → waits (cond x (after_break_asked turn br.length_octet m) m).own_breaks ≡ false
             → is_ready turn (next_break user.breaks (cond x (after_break_asked turn br.length_octet m) m)) ≡ false
-        by true h k = absurd (asks br.length_octet (is_connected m.phase) phase k)
+        by true h k = absurd (asks br.length_octet (is_connected m.phase) (ap is_connected ((serves-first user turn 0 mid).phase ∙ e)) k)
         by false h k = ap (is_ready turn) f ∙ h
 
 -- An end with nothing outstanding and nothing free has finished, unless a break is ready: that would be asked for.
@@ -331,9 +313,6 @@ finished z total more user turn role a mid release said s t own all dead none =
     o : Outgoing
     o = b.outgoing
 
-    sends : Sends z (turn + 1) turn o b.wait.timer
-    sends = s.linked.sends
-
     idle : nat_lt o.front o.high ≡ false
     idle = (or-false-both (is_outstanding o) (o.awaited || o.paused) t.idle).0
 
@@ -345,14 +324,14 @@ finished z total more user turn role a mid release said s t own all dead none =
         and-false false y e f = f
 
     whole-front : o.front ≡ length o.pieces
-    whole-front = let a1 = sends.front_from in let a2 = sends.from_high in let a3 = sends.high_pieces in
+    whole-front = let a1 = s.linked.sends.front_from in let a2 = s.linked.sends.from_high in let a3 = s.linked.sends.high_pieces in
         let a4 : total ≤ o.front = grind (arith, nat_tests) in omega (arith, a1, a2, a3, a4, all)
 
     wanted-none : wanted o ≡ None
     wanted-none = ap (λ c. cond c (wanted o) None) (sym (ap is_connected s.phase)) ∙ s.serves.wants_none
 
     room : nat_lt (length o.pieces) (o.front + o.window) ≡ true
-    room = let w = sends.window in let f = whole-front in grind (arith, nat_tests)
+    room = let w = s.linked.sends.window in let f = whole-front in grind (arith, nat_tests)
 
     has-ended : (x y : Bool) → y ≡ true → cond (not x && y) (Some (length o.pieces)) None ≡ None → x ≡ true
     has-ended true y e f = refl

@@ -1,35 +1,19 @@
 -- What a Connected end makes of what it hears, as far as it may hold up a segment.
 use Rattle.std.proofs.Common.{◌≡◌, ℕ, ◌+◌, ◌-◌, ◌%◌, ◌<◌, ◌≤◌, ◌&&◌, ◌||◌, ◌⊎◌, not, min, Bool, true, false, cond, nat_eq, nat_lt, List}
 use Rattle.std.proofs.Common.{length, inl, inr, arith, refl, sym, ◌∙◌, ap, subst, Option, Some, None, Ok}
-use Rattle.std.specs.Prelude.{is_some}
-use Rattle.std.proofs.lemmas.Bool.Decides.{nat_tests}
-use Rattle.shared_terms.specs.declared.role.Role.{Role}
-use Rattle.shared_terms.specs.declared.role.Role.TheVariants.{Answerer}
-use Rattle.shared_terms.specs.Role.{is_originator}
-use Rattle.lapm_frames.specs.declared.frame.Frame.{Frame}
-use Rattle.lapm_frames.specs.declared.frame.Frame.TheVariants.{I}
-use Rattle.lapm_sender.specs.Meant.{meant}
+use Rattle.link_account.proofs.Names.{is_some, nat_tests, Role, Answerer, is_originator, Frame, I, meant, Outgoing, is_outstanding}
+use Rattle.link_account.proofs.Names.{advanced, Incoming, after_kind, kind_of, offset, Took, InOrder, Kept, Repeat, Gap, BreakWord}
+use Rattle.link_account.proofs.Names.{OwnBreaks, after_answer, waits, Arrived, Account, hear, without_adp, after_take, on_nothing}
+use Rattle.link_run.proofs.Names.{Connected, Closed}
 use Rattle.lapm_sender.specs.Numbers.{with_number}
-use Rattle.lapm_sender.specs.Outgoing.{Outgoing, is_outstanding, advanced}
-use Rattle.lapm_receiver.specs.Incoming.{Incoming, after_kind, kind_of, offset}
-use Rattle.lapm_receiver.specs.declared.took.Took.{Took}
-use Rattle.lapm_receiver.specs.declared.took.Took.TheVariants.{InOrder, Kept, Repeat, Gap}
-use Rattle.break_signals.specs.declared.word.BreakWord.{BreakWord}
-use Rattle.break_signals.specs.Breaks.{OwnBreaks, after_answer, waits}
-use Rattle.lapm_frames.specs.declared.arrived.Arrived.{Arrived}
-use Rattle.link_account.specs.declared.phase.Phase.TheVariants.{Connected, Closed}
-use Rattle.link_account.specs.Account.{Account}
-use Rattle.link_account.specs.Hear.{hear}
-use Rattle.link_account.specs.Hear.{timer_after, without_adp}
+use Rattle.link_account.specs.Hear.{timer_after}
 use Rattle.turn_bound.proofs.Clock.{Rates, Breaks}
 use Rattle.turn_bound.proofs.Value.{Linked, frame_weight, arrived_weight, arrived_rnrs}
-use Rattle.lapm_receiver.specs.Incoming.{after_take}
-use Rattle.link_account.specs.Hear.{on_nothing}
 use Rattle.link_account.proofs.HearWays.{ConnectedWays, by-linked, numbered_with, Plain, IsUa, IsXid, IsTest, IsNoWord}
 use Rattle.turn_bound.proofs.Sender.{acked-heard, Heard, meant-range, heard-advanced, heard-resumed, heard-selected}
 use Rattle.turn_bound.proofs.MeetHear.{of_arrived}
-use Rattle.turn_bound.proofs.Credits as credits
 use Rattle.turn_bound.proofs.Credits.{own_value, frame_poll}
+use Rattle.turn_bound.proofs.Credits as credits
 
 abbrev pub owed_by : Account → ℕ
 owed_by a = credits.owing a.incoming a.their_breaks.ack

@@ -1,26 +1,18 @@
 -- A run over lines that carry what is sent is a run with queues.
 use Rattle.std.proofs.Common.{◌≡◌, ℕ, zero, suc, ◌-◌, ◌<◌, ◌≤◌, Bool, true, false, cond, nat_lt, List, [], ◌∷◌, ◌++◌, map, length}
 use Rattle.std.proofs.Common.{length-append, arith, refl, sym, ◌∙◌, ap, subst, Option, Some, None}
-use Rattle.std.specs.Prelude.{slice_get}
-use Rattle.std.proofs.lemmas.Bool.Decides.{nat_tests}
-use Rattle.shared_terms.specs.declared.role.Role.{Role}
-use Rattle.shared_terms.specs.declared.role.Role.TheVariants.{Originator, Answerer}
-use Rattle.shared_terms.specs.Both.{of}
-use Rattle.lapm_frames.specs.declared.sent.Sent.{Sent}
-use Rattle.lapm_frames.specs.declared.sent.Sent.TheVariants as slots
-use Rattle.lapm_frames.specs.declared.arrived.Arrived.TheVariants as arrivals
-use Rattle.lapm_frames.specs.declared.heard.Heard.{Heard}
-use Rattle.lapm_frames.specs.declared.heard.Heard.TheVariants.{Nothing, Passed, Lost, Chance}
-use Rattle.link_account.specs.Hear.{hear}
-use Rattle.link_account.specs.Play.{Slot, arrives}
-use Rattle.link_run.specs.End.{is_released}
-use Rattle.link_run.specs.Run.{Link, Accounts, Spoken, Turn, GoingTurn, RunOf}
-use Rattle.link_run.specs.Run as runs
-use Rattle.link_run.specs.Carried.{Crosses, Carries, IsCarried, HasDelays, has_message, sent_in, sent_ago}
+use Rattle.link_account.proofs.Names.{slice_get, nat_tests, Role, Originator, Answerer, of, Sent, Heard, Nothing, Passed, Lost, Chance}
+use Rattle.link_account.proofs.Names.{hear, Slot, arrives}
+use Rattle.link_run.proofs.Names.{is_released, Link, Accounts, Spoken, Turn, GoingTurn, RunOf, Crosses, Carries, IsCarried, sent_in}
+use Rattle.link_run.proofs.Names.{sent_ago}
+use Rattle.link_run.specs.Carried.{HasDelays, has_message}
 use Rattle.turn_bound.specs.Time.{KeepsTime}
 use Rattle.turn_bound.proofs.Run.{arrival, left_on, slot_of, served_account, State}
-use Rattle.turn_bound.proofs.Run as queued
 use Rattle.turn_bound.proofs.Potential.{Keeps}
+use Rattle.lapm_frames.specs.declared.sent.Sent.TheVariants as slots
+use Rattle.lapm_frames.specs.declared.arrived.Arrived.TheVariants as arrivals
+use Rattle.link_run.specs.Run as runs
+use Rattle.turn_bound.proofs.Run as queued
 
 abbrev pub sent_of : Option Spoken → Option Sent
 sent_of None = None

@@ -1,29 +1,17 @@
 use Rattle.std.proofs.Common.{◌≡◌, ℕ, ◌+◌, ◌-◌, ◌*◌, ◌<◌, ◌≤◌, ◌&&◌, Bool, true, false, cond, nat_eq, nat_le, length, arith, refl, sym, ◌∙◌}
 use Rattle.std.proofs.Common.{ap, subst, Option, Some, None, Result, Ok, Err}
-use Rattle.std.proofs.lemmas.Bool.Decides.{nat_tests}
-use Rattle.shared_terms.specs.declared.role.Role.{Role}
-use Rattle.shared_terms.specs.declared.role.Role.TheVariants.{Originator, Answerer}
-use Rattle.lapm_frames.specs.declared.frame.Frame.{Frame}
-use Rattle.lapm_frames.specs.declared.frame.Frame.TheVariants.{Sabme, Disc, Xid}
-use Rattle.xid_params.specs.Offers.{written}
-use Rattle.lapm_frames.specs.declared.sent.Sent.{Sent}
-use Rattle.lapm_frames.specs.declared.sent.Sent.TheVariants as slots
-use Rattle.link_account.specs.declared.phase.Phase.{Phase}
-use Rattle.link_account.specs.declared.phase.Phase.TheVariants.{Detecting, Negotiating, Establishing, Connected, Releasing, Closed}
-use Rattle.shared_terms.specs.declared.fault.LinkFault.{LinkFault}
-use Rattle.shared_terms.specs.declared.fault.LinkFault.TheVariants.{NotDetected}
-use Rattle.link_account.specs.Account.{Account, is_connected}
-use Rattle.link_run.specs.End.{is_closed}
-use Rattle.link_account.specs.declared.answer.Answer.{Answer}
-use Rattle.shared_terms.specs.Role.{is_originator}
-use Rattle.link_account.specs.Hear.{trying}
-use Rattle.link_account.specs.Speak.{Said, says, says_frame, else_says, where_says, spent, answering, trying_again, tries_frame, u_try}
-use Rattle.link_account.specs.Speak.{speak_linked, speak, speak_in, speak_detecting, speak_answer, speak_negotiating, speak_releasing}
+use Rattle.link_account.proofs.Names.{nat_tests, Role, Originator, Answerer, Frame, Sabme, Disc, Xid, written, Sent, LinkFault, NotDetected}
+use Rattle.link_account.proofs.Names.{Account, is_connected, is_originator, trying, Said, says, spent, speak_linked, speak, speak_in}
+use Rattle.link_account.proofs.Names.{speak_releasing}
+use Rattle.link_run.proofs.Names.{Phase, Detecting, Negotiating, Establishing, Connected, Releasing, Closed, is_closed, Answer}
+use Rattle.link_account.specs.Speak.{says_frame, else_says, where_says, answering, trying_again, tries_frame, u_try, speak_detecting}
+use Rattle.link_account.specs.Speak.{speak_answer, speak_negotiating}
 use Rattle.turn_bound.proofs.Clock.{Rates, AreRates, lasts, worth}
 use Rattle.turn_bound.proofs.Value.{value, time_left, try_left, linked_lives, lives, IsOf, Unlinked, Tries, Stands}
 use Rattle.turn_bound.proofs.Arithmetic.{tries_fit}
 use Rattle.turn_bound.proofs.Phases.{IsEarly, early, same-unlinked}
 use Rattle.turn_bound.proofs.Speaking.{SpeaksAs, SpeaksWell, speaks-linked}
+use Rattle.lapm_frames.specs.declared.sent.Sent.TheVariants as slots
 
 -- a U try goes on
 pub record Tried (z : Rates) (turn : ℕ) (a b : Account) : Type 0 where

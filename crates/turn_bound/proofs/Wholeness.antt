@@ -1,21 +1,13 @@
 -- An end that is whole stays so, and the link is released once both ends are.
 use Rattle.std.proofs.Common.{◌≡◌, ℕ, ◌+◌, ◌*◌, ◌≤◌, ◌&&◌, ◌⊎◌, nat_eq, Bool, true, false, cond, List, [], ◌∷◌, map, length, inl, inr}
 use Rattle.std.proofs.Common.{arith, refl, sym, ◌∙◌, ap, subst, Ok}
-use Rattle.std.proofs.lemmas.Bool.Decides.{nat_tests}
-use Rattle.shared_terms.specs.declared.role.Role.{Role}
-use Rattle.shared_terms.specs.declared.role.Role.TheVariants.{Originator, Answerer}
-use Rattle.shared_terms.specs.Role.{is_originator}
-use Rattle.shared_terms.specs.Both.{of}
-use Rattle.lapm_sender.specs.Outgoing.{Outgoing, is_whole}
-use Rattle.lapm_frames.specs.declared.arrived.Arrived.{Arrived}
-use Rattle.link_account.specs.declared.phase.Phase.{Phase}
-use Rattle.link_account.specs.declared.phase.Phase.TheVariants.{Detecting, Negotiating, Establishing, Connected, Releasing, Closed}
-use Rattle.link_account.specs.Account.{Account, is_connected, is_done}
-use Rattle.link_account.specs.Hear.{hear, trying}
-use Rattle.link_account.specs.Speak.{Said, speak, speak_in, speak_linked, speak_releasing}
-use Rattle.link_run.specs.End.{User, is_busy, is_released, has_finished}
-use Rattle.link_run.specs.Run.{Link, Accounts, Turn, GoingTurn, RunOf, arrival, releases, finished_at, served_ends}
-use Rattle.link_run.specs.Carried.{IsCarried}
+use Rattle.link_account.proofs.Names.{nat_tests, Role, Originator, Answerer, is_originator, of, Outgoing, Arrived, Account, is_connected}
+use Rattle.link_account.proofs.Names.{hear, trying, Said, speak, speak_in, speak_linked, speak_releasing}
+use Rattle.link_run.proofs.Names.{Phase, Detecting, Negotiating, Establishing, Connected, Releasing, Closed, User, is_busy, is_released}
+use Rattle.link_run.proofs.Names.{has_finished, Link, Accounts, Turn, GoingTurn, RunOf, arrival, releases, IsCarried}
+use Rattle.lapm_sender.specs.Outgoing.{is_whole}
+use Rattle.link_account.specs.Account.{is_done}
+use Rattle.link_run.specs.Run.{finished_at, served_ends}
 use Rattle.turn_bound.specs.Time.{KeepsTime}
 use Rattle.turn_bound.specs.Advance.{NeverBusy}
 use Rattle.turn_bound.proofs.Clock.{Rates, rates, AreRates}
@@ -35,7 +27,7 @@ use Rattle.turn_bound.proofs.Pausing.{goes-on, says-calm}
 use Rattle.turn_bound.proofs.Falls.{Fits}
 use Rattle.turn_bound.proofs.Ending.{fits}
 use Rattle.turn_bound.proofs.Tied.{Tied, tied, keeps, link_of, turn_of, state_of}
-use Rattle.turn_bound.proofs.Meeting.{Meets, meets-run, released-closed}
+use Rattle.turn_bound.proofs.Meeting.{meets-run, released-closed}
 use Rattle.turn_bound.proofs.CalmRuns.{said-speaks, end-at, never-at, light-arrival}
 
 abbrev pub IsWhole : Outgoing → Type 0
@@ -333,17 +325,14 @@ released-whole tries period delay link (t ∷ ts) ends k n (before, run, g) c e 
         heard-open Establishing h = early (ap is_begun h)
         heard-open Releasing h = let wrong : true ≡ false = sym (ap is_released h) ∙ open_ in cc
         heard-open Closed h = let wrong : true ≡ false = sym (ap is_released h) ∙ open_ in cc
-        heard-open Connected h =
-            by (takes (rates tries period) turn Originator before.orig
+        heard-open Connected h = elim
+            (takes (rates tries period) turn Originator before.orig
             (linked-stand (rates tries period) turn turn Originator before.orig
-            (subst (λ q. Stands (rates tries period) turn turn Originator q before.orig) h x.stands)) h (arrival t.orig.heard) g.mid.orig
-            x.light x.quiet x.hears)
-          where
-            by : Closes before.orig g.mid.orig
-                ⊎ ((g.mid.orig.phase ≡ Connected) × Takes turn (of_arrived frame_poll (arrival t.orig.heard)) before.orig g.mid.orig)
-                → is_released g.mid.orig.phase ≡ false
-            by (inl q) = let wrong : Originator ≡ Answerer = sym x.role_is ∙ q.answers in cc
-            by (inr q) = ap is_released q.0
+            (subst (λ q. Stands (rates tries period) turn turn Originator q before.orig) h x.stands)) h
+            (arrival t.orig.heard) g.mid.orig x.light x.quiet x.hears) [
+              | inl q ↦ (let wrong : Originator ≡ Answerer = sym x.role_is ∙ q.answers in cc)
+              | inr q ↦ ap is_released q.0
+            ]
 
     go : (is_released before.orig.phase ≡ true → (r : Role) → IsWhole (of r before).outgoing) → (b : Bool)
         → is_released before.orig.phase ≡ b → IsWhole (of role ends).outgoing
@@ -363,11 +352,8 @@ late-whole tries period delay link ts ends role k n run c e =
     f : Fits (rates tries period) (link_of delay link)
     f = fits tries period (link_of delay link) (keeps tries period delay link k)
 
-    m : Meets (state_of ends i.forward i.back)
-    m = meets-run (rates tries period) (link_of delay link) (map turn_of ts) (state_of ends i.forward i.back) f i.run
-
     by : (r : Role) → is_released (of r ends).phase ≡ true → is_released ends.orig.phase ≡ true
     by Originator h = h
-    by Answerer h = m.closed
+    by Answerer h = (meets-run (rates tries period) (link_of delay link) (map turn_of ts) (state_of ends i.forward i.back) f i.run).closed
         (released-closed (rates tries period) (length ts) (length ts) ends.answ.phase ends.answ
         (end-at tries period delay link ts ends Answerer k run c).stands h)

@@ -1,28 +1,18 @@
 -- What an end sends at the answer to its poll is acknowledged, where no line is lost.
 use Rattle.std.proofs.Common.{◌⊎◌, inl, inr, ◌≡◌, ℕ, zero, suc, ◌+◌, ◌-◌, ◌%◌, ◌<◌, ◌≤◌, ◌&&◌, Bool, true, false, cond, nat_lt, nat_le}
 use Rattle.std.proofs.Common.{length, arith, refl, sym, ◌∙◌, ap, Option, Some, None}
-use Rattle.std.specs.Prelude.{is_some}
-use Rattle.std.proofs.lemmas.Bool.{cases_lt}
-use Rattle.std.proofs.lemmas.Bool.Decides.{nat_tests}
-use Rattle.lapm_frames.specs.declared.frame.Frame.{Frame}
-use Rattle.lapm_frames.specs.declared.frame.Frame.TheVariants.{I, Rr, Rnr, Rej, Srej, Sabme, Disc, Ua, Dm, Frmr, Ui, Xid, Test}
-use Rattle.lapm_sender.specs.Meant.{meant}
-use Rattle.lapm_frames.specs.declared.sent.Sent.{Sent}
-use Rattle.lapm_frames.specs.declared.sent.Sent.TheVariants as slots
-use Rattle.lapm_frames.specs.declared.arrived.Arrived.{Arrived}
-use Rattle.lapm_frames.specs.declared.arrived.Arrived.TheVariants as arrivals
-use Rattle.link_account.specs.Account.{is_connected}
-use Rattle.link_account.specs.Play.{arrives}
-use Rattle.turn_bound.proofs.MeetHear.{of_arrived}
-use Rattle.turn_losses.specs.Polls.{is_final}
-use Rattle.turn_losses.proofs.Polling.{is_linked}
-use Rattle.turn_losses.proofs.TwoEnds.{EndRun, ArrivesLate, TwoEnds, hears_final}
+use Rattle.link_account.proofs.Names.{is_some, cases_lt, nat_tests, Frame, I, Rr, Rnr, Rej, Srej, Sabme, Disc, Ua, Dm, Ui, Xid, meant, Sent}
+use Rattle.link_account.proofs.Names.{Arrived, is_connected, arrives}
+use Rattle.lapm_frames.specs.declared.frame.Frame.TheVariants.{Frmr, Test}
 use Rattle.turn_losses.proofs.KeepsPolls.{Answers}
 use Rattle.turn_losses.proofs.NumberHear.{frame_nr, nr_heard, ns_heard, nr_sent, ns_sent, NumbersHeard}
 use Rattle.turn_losses.proofs.NumberTurn.{NumberTurn}
 use Rattle.turn_losses.proofs.Room.{Room}
 use Rattle.turn_losses.proofs.PollLaws.{reply-matches}
 use Rattle.turn_losses.proofs.PeriodLaws.{linked-on, connected-back, awaits-on, NoneLost, StayConnected}
+use Rattle.turn_losses.proofs.Names.{of_arrived, is_final, is_linked, EndRun, ArrivesLate, TwoEnds, hears_final}
+use Rattle.lapm_frames.specs.declared.sent.Sent.TheVariants as slots
+use Rattle.lapm_frames.specs.declared.arrived.Arrived.TheVariants as arrivals
 
 -- What is known of the numbers of two ends: of e's segments, which o takes.
 pub record Counts (turns : ℕ) (e o : EndRun) : Type 0 where
@@ -69,15 +59,14 @@ ns-told = record { nothing = refl; same = λ s. by s }
 told-from : (g : Arrived → Option ℕ) (k : Sent → Option ℕ) → Told g k → (delay turn : ℕ) (loses : Bool) (f : ℕ → Sent) (arrived : Arrived)
     → ArrivesLate delay turn loses f arrived → (n : ℕ) → g arrived ≡ Some n
     → (delay ≤ turn) × (k (f (turn - delay)) ≡ Some n)
-told-from g k w delay turn loses f arrived h n e = go (cases_lt turn delay)
+told-from g k w delay turn loses f arrived h n e = elim (cases_lt turn delay) [
+  | inl l ↦ (let wrong : None ≡ Some n = sym (ap g (h.early l) ∙ w.nothing) ∙ e in cc)
+  | inr m ↦ (m, by loses (ap g (sym (h.late m)) ∙ e))
+]
   where
     by : (b : Bool) → g (cond b arrivals.Nothing (arrives (f (turn - delay)))) ≡ Some n → k (f (turn - delay)) ≡ Some n
     by true q = let wrong : None ≡ Some n = sym w.nothing ∙ q in cc
     by false q = sym (w.same (f (turn - delay))) ∙ q
-
-    go : (turn < delay) ⊎ (delay ≤ turn) → (delay ≤ turn) × (k (f (turn - delay)) ≡ Some n)
-    go (inl l) = let wrong : None ≡ Some n = sym (ap g (h.early l) ∙ w.nothing) ∙ e in cc
-    go (inr m) = (m, by loses (ap g (sym (h.late m)) ∙ e))
 
 told-to : (g : Arrived → Option ℕ) (k : Sent → Option ℕ) → Told g k → (delay turn : ℕ) (loses : Bool) (f : ℕ → Sent) (arrived : Arrived)
     → ArrivesLate delay (turn + delay) loses f arrived → loses ≡ false → g arrived ≡ k (f turn)
@@ -146,13 +135,10 @@ front-or-cleared turns e o c s (suc n) l h = go (front-or-cleared turns e o c s 
         → ((e.account (s + suc n)).outgoing.front ≡ (e.account s).outgoing.front)
         ⊎ ((v : ℕ) × (s ≤ v) × (v < s + suc n) × ((e.mid v).outgoing.count ≡ 0))
     go (inr (v, x, y, z)) = inr (v, x, omega (arith, y), z)
-    go (inl q) = by w.heard.advance
-      where
-        by : ((e.mid t).outgoing.front ≡ (e.account t).outgoing.front) ⊎ ((e.mid t).outgoing.count ≡ 0)
-            → ((e.account (s + suc n)).outgoing.front ≡ (e.account s).outgoing.front)
-            ⊎ ((v : ℕ) × (s ≤ v) × (v < s + suc n) × ((e.mid v).outgoing.count ≡ 0))
-        by (inl p) = inl (ap (λ x. (e.account x).outgoing.front) (omega arith) ∙ (w.front ∙ (p ∙ q)))
-        by (inr p) = inr (t, omega arith, omega arith, p)
+    go (inl q) = elim w.heard.advance [
+      | inl p ↦ inl (ap (λ x. (e.account x).outgoing.front) (omega arith) ∙ (w.front ∙ (p ∙ q)))
+      | inr p ↦ inr (t, omega arith, omega arith, p)
+    ]
 
 -- what is taken stays taken
 taken-rises : (turns : ℕ) (e o : EndRun) → Counts turns e o → (s n : ℕ) → s + n ≤ turns → StayConnected o s (s + n)
@@ -181,9 +167,6 @@ pub acknowledged : (period turns : ℕ) (e o : EndRun) → TwoEnds period turns 
     → (v : ℕ) × (u < v) × (v ≤ u + (e.delay + o.delay) + 1) × ((e.mid v).outgoing.count ≡ 0)
 acknowledged period turns e o k c u within final sends ce co lost = go-told (own-numbers.heard)
   where
-    d : 1 ≤ e.delay
-    d = k.own_delay
-
     d' : 1 ≤ o.delay
     d' = k.other_delay
 
@@ -231,7 +214,7 @@ acknowledged period turns e o k c u within final sends ce co lost = go-told (own
         t = w + 1 + n
 
         q : NumberTurn (o.heard t) (o.slot t) (o.account t) (o.mid t) (o.account (t + 1))
-        q = o-turn t (omega arith) (omega (arith, l, d))
+        q = o-turn t (omega arith) (omega (arith, l, k.own_delay))
 
         none : (h : Option ℕ) → ns_heard (o.heard t) ≡ h → (o.mid t).incoming ≡ (o.account t).incoming
         none None g = q.heard.incoming.same g
@@ -246,7 +229,7 @@ acknowledged period turns e o k c u within final sends ce co lost = go-told (own
             let linked : is_linked (e.account (m.due + 1)).phase ≡ true =
             (k.own m.due (omega (arith, low, high, within))).made_linked m.made in
             let cu = ce u (omega arith) (omega arith) in
-            let after-due : m.due + 1 ≤ y = omega (arith, fr, tr, due-before, d) in
+            let after-due : m.due + 1 ≤ y = omega (arith, fr, tr, due-before, k.own_delay) in
             let cy = connected-back period turns e o k y u (omega (arith, high)) (omega (arith, within))
             (linked-on period turns e o k (m.due + 1) y after-due (omega (arith, high, within)) linked) cu in
             let cy' = connected-back period turns e o k (y + 1) u high (omega (arith, within))
@@ -283,7 +266,7 @@ acknowledged period turns e o k c u within final sends ce co lost = go-told (own
 
             low : f ≤ r
             low = let a = c.acked u (omega (arith, within)) in let b = ap length (o-turn u (omega arith) (omega arith)).taken in let s =
-                stands-at (u + 1) (omega (arith, before-u)) (omega (arith, d)) in omega (arith, a, b, s)
+                stands-at (u + 1) (omega (arith, before-u)) (omega (arith, k.own_delay)) in omega (arith, a, b, s)
 
             high : r ≤ (e.account u).outgoing.front + 127
             high = let a = c.offered u (omega (arith, within)) in let s = stands-at u before-u (omega arith) in let p =
@@ -298,7 +281,7 @@ acknowledged period turns e o k c u within final sends ce co lost = go-told (own
 
             comes : ns_heard (o.heard x) ≡ Some (f % 128)
             comes = told-to ns_heard ns_sent ns-told e.delay u (o.loses x) e.slot (o.heard x) (k.is_heard x (omega (arith, within, d')))
-                (lost x (omega (arith, d)) (omega (arith, d'))).1 ∙ sends
+                (lost x (omega (arith, k.own_delay)) (omega (arith, d'))).1 ∙ sends
 
             next-taken : (length (o.account x).incoming.taken < length (o.mid x).incoming.taken) × ((o.mid x).incoming.owed ≡ true)
             next-taken = ox.heard.incoming.in_order (f % 128) comes

@@ -1,35 +1,16 @@
 use Rattle.std.proofs.Common.{◌⊎◌, inl, inr, ◌≡◌, ℕ, ◌+◌, ◌*◌, ◌<◌, ◌&&◌, Bool, true, false, cond, nat_eq, length, arith, refl, sym, ◌∙◌}
 use Rattle.std.proofs.Common.{ap, subst, Option, Some, None, Result, Ok, Err}
-use Rattle.std.proofs.lemmas.Bool.Decides.{nat_tests}
-use Rattle.shared_terms.specs.declared.role.Role.{Role}
-use Rattle.shared_terms.specs.declared.role.Role.TheVariants.{Originator, Answerer}
-use Rattle.lapm_frames.specs.declared.frame.Frame.TheVariants.{Disc}
-use Rattle.lapm_sender.specs.Outgoing.{is_outstanding}
-use Rattle.lapm_frames.specs.declared.arrived.Arrived.{Arrived}
-use Rattle.lapm_frames.specs.declared.arrived.Arrived.TheVariants as arrivals
-use Rattle.link_account.specs.declared.phase.Phase.{Phase}
-use Rattle.link_account.specs.declared.phase.Phase.TheVariants.{Detecting, Negotiating, Establishing, Connected, Releasing, Closed}
-use Rattle.shared_terms.specs.declared.fault.LinkFault.{LinkFault}
-use Rattle.link_account.specs.Account.{Account, is_connected}
-use Rattle.shared_terms.specs.Role.{is_originator}
-use Rattle.link_account.specs.Hear.{hear, trying}
-use Rattle.link_account.specs.Speak.{Said, timer_expires, speak_linked, speak, speak_in, speak_releasing}
+use Rattle.link_account.proofs.Names.{nat_tests, Role, Originator, Answerer, Disc, is_outstanding, Arrived, LinkFault, Account}
+use Rattle.link_account.proofs.Names.{is_connected, is_originator, hear, trying, Said, speak_linked, speak, speak_in, speak_releasing}
+use Rattle.link_run.proofs.Names.{Phase, Detecting, Negotiating, Establishing, Connected, Releasing, Closed, User, is_busy, is_released}
+use Rattle.link_account.specs.Speak.{timer_expires}
 use Rattle.link_account.proofs.SpeakWays.{OnSaid, tries-alike, by-tries}
-use Rattle.turn_bound.proofs.Clock.{Rates, AreRates}
-use Rattle.turn_bound.proofs.Value.{IsOf, Stands, arrived_rnrs}
-use Rattle.link_run.specs.End.{User, is_busy, is_released}
-use Rattle.turn_bound.proofs.Run.{served_account}
-use Rattle.turn_bound.proofs.OneTurn.{heard-ok}
-use Rattle.turn_bound.proofs.Phases.{hears-well}
-use Rattle.turn_bound.proofs.Serves.{serves-well}
-use Rattle.turn_bound.specs.Due.{NoneDue}
-use Rattle.turn_bound.proofs.Serving.{Served, serves-all}
-use Rattle.turn_bound.proofs.Clock.{Sends}
 use Rattle.turn_losses.proofs.Answered.{SendsSegment, AnswerTurn}
 use Rattle.turn_losses.proofs.Answering.{AnswerHeard, frame_rnr, answer-hears, Segment, urgent-says, front-may}
 use Rattle.turn_losses.proofs.PollHear.{PollHeard, PollHears, poll-hears}
-use Rattle.turn_losses.specs.Polls.{is_poll, is_final}
-use Rattle.turn_bound.proofs.MeetHear.{of_arrived}
+use Rattle.turn_losses.proofs.Names.{Rates, AreRates, Sends, IsOf, Stands, arrived_rnrs, served_account, heard-ok, hears-well, serves-well}
+use Rattle.turn_losses.proofs.Names.{NoneDue, Served, serves-all, is_poll, is_final, of_arrived}
+use Rattle.lapm_frames.specs.declared.arrived.Arrived.TheVariants as arrivals
 
 pub linked-sends : (z : Rates) (before turn : ℕ) (r : Role) (p : Phase) (a : Account) → Stands z before turn r p a → is_connected p ≡ true
     → Sends z before turn a.outgoing a.wait.timer
@@ -43,11 +24,7 @@ linked-sends z before turn r Closed a st e = cc
 
 pub connected-is : (p : Phase) → is_connected p ≡ true → p ≡ Connected
 connected-is Connected e = refl
-connected-is Detecting e = cc
-connected-is Negotiating e = cc
-connected-is Establishing e = cc
-connected-is Releasing e = cc
-connected-is Closed e = cc
+connected-is p e = cc
 
 not-expires : (turn : ℕ) (a : Account) (m : Option ℕ) → ((s : ℕ) → m ≡ Some s → turn < s + a.setup.period) → timer_expires turn a m ≡ false
 not-expires turn a None h = refl

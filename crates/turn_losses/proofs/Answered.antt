@@ -1,12 +1,9 @@
 -- The turn in which a poll's answer is heard.
+use Rattle.link_account.proofs.Names.{I, Arrived, Account, is_connected, Said, nr_of}
 use Rattle.std.specs.Prelude.{◌≡◌, ◌⊎◌, ℕ, ◌+◌, ◌%◌, ◌<◌, true, false, [], Some, slice_index_or}
-use Rattle.lapm_frames.specs.declared.frame.Frame.TheVariants.{I}
-use Rattle.lapm_frames.specs.declared.arrived.Arrived.{Arrived}
-use Rattle.lapm_frames.specs.declared.sent.Sent.TheVariants as slots
-use Rattle.link_account.specs.Account.{Account, is_connected}
-use Rattle.link_account.specs.Speak.{Said, nr_of}
 use Rattle.turn_losses.specs.Polls.{is_final}
 use Rattle.turn_bound.proofs.MeetHear.{of_arrived}
+use Rattle.lapm_frames.specs.declared.sent.Sent.TheVariants as slots
 
 -- the segment of that number is sent
 pub record SendsSegment (n : ℕ) (b : Account) (said : Said) : Type 0 where

@@ -1,45 +1,25 @@
 -- A Connected answerer that gives up was starved.
-use Rattle.std.proofs.Common.{◌⊎◌, inl, inr, ◌≡◌, ℕ, ◌<◌, ◌≤◌, Bool, true, false, List, length, arith, refl, sym, ◌∙◌, ap, subst, Some}
+use Rattle.std.proofs.Common.{inl, inr, ◌≡◌, ℕ, ◌<◌, ◌≤◌, Bool, true, false, List, length, arith, refl, sym, ◌∙◌, ap, subst, Some}
 use Rattle.std.proofs.Common.{None}
-use Rattle.shared_terms.specs.declared.role.Role.{Role}
-use Rattle.shared_terms.specs.declared.role.Role.TheVariants.{Originator, Answerer}
-use Rattle.link_account.specs.declared.phase.Phase.{Phase}
-use Rattle.link_account.specs.declared.phase.Phase.TheVariants.{Connected}
-use Rattle.link_account.specs.Account.{is_connected}
-use Rattle.link_run.specs.End.{is_released}
-use Rattle.link_run.specs.Run.{Link, Accounts, Turn, Hears, arrival}
-use Rattle.link_run.specs.Laws.{RunsOver}
-use Rattle.turn_bound.specs.Time.{KeepsTime}
-use Rattle.turn_bound.proofs.Clock.{Rates, rates}
-use Rattle.turn_bound.proofs.Value.{IsOf}
-use Rattle.xid_params.specs.Offers.{IsAllowed}
-use Rattle.turn_losses.specs.Losses.{LosesEach, AnswererWantsAnswers}
+use Rattle.link_account.proofs.Names.{Role, Originator, Answerer, is_connected, IsAllowed, hear}
+use Rattle.link_run.proofs.Names.{Phase, Connected, is_released, Link, Accounts, Turn, Hears, arrival, RunsOver}
+use Rattle.turn_losses.specs.Losses.{AnswererWantsAnswers}
 use Rattle.turn_losses.proofs.Room.{begins-roomy}
-use Rattle.turn_losses.proofs.Trace.{past}
-use Rattle.turn_losses.proofs.Tracing.{Known, known, Timed, timed, rated, Traced, traced}
+use Rattle.turn_losses.proofs.Tracing.{Known, known, Timed, timed, rated, Traced, traced, silent-of}
 use Rattle.turn_losses.proofs.Numbering.{Plays, allowed, fits-at, counts-of}
 use Rattle.turn_losses.proofs.Wanting.{LastTry, last-try, wants-answers}
-use Rattle.link_account.specs.declared.phase.Phase.TheVariants.{Detecting, Negotiating, Establishing, Releasing, Closed}
-use Rattle.link_account.specs.Hear.{hear}
-use Rattle.turn_bound.proofs.MeetHear.{of_arrived}
-use Rattle.turn_losses.specs.Polls.{is_poll}
-use Rattle.turn_losses.proofs.Polling.{is_linked}
 use Rattle.turn_losses.proofs.PollHear.{PollHeard, poll-hears, linked-connected}
 use Rattle.turn_losses.proofs.NumberTurn.{poll-ok}
-use Rattle.turn_losses.proofs.TwoEnds.{EndRun, TwoEnds, end_run}
-use Rattle.turn_losses.proofs.Tracing.{silent-of}
 use Rattle.turn_losses.proofs.PollLaws.{two-ends, turned}
 use Rattle.turn_losses.proofs.PeriodLaws.{linked-on, connected-back}
 use Rattle.turn_losses.proofs.Numbered.{numbered-linked}
 use Rattle.turn_losses.proofs.Starving.{all-but-one}
+use Rattle.turn_losses.proofs.Names.{KeepsTime, Rates, rates, IsOf, LosesEach, past, of_arrived, is_poll, is_linked, EndRun}
+use Rattle.turn_losses.proofs.Names.{end_run}
 
 only-connected : (p : Phase) → is_linked p ≡ true → is_released p ≡ false → is_connected p ≡ true
-only-connected Detecting l r = cc
-only-connected Negotiating l r = cc
-only-connected Establishing l r = cc
 only-connected Connected l r = refl
-only-connected Releasing l r = cc
-only-connected Closed l r = cc
+only-connected p l r = cc
 
 pub answerer-each : Plays → (tries period : ℕ) (delay : Role → ℕ) (link : Link) (ts : List Turn) (before : Accounts) (t : Turn)
     (mid : Accounts)
@@ -64,9 +44,6 @@ answerer-each laws tries period delay link ts before t mid kt run hearing going 
 
     o : EndRun
     o = end_run delay w.state w.deed Originator
-
-    ends : TwoEnds period turns e o
-    ends = two-ends tries period delay link ts w.state w.deed kt w.trace Answerer
 
     k : (r : Role) → Known z link turns before r
     k r = known tries period delay link ts before kt run.run run.carried r
@@ -94,11 +71,10 @@ answerer-each laws tries period delay link ts before t mid kt run hearing going 
         (k Originator).none_due.answer)
 
     peer-last : is_connected before.orig.phase ≡ true
-    peer-last = by (heard.from (only-connected mid.orig.phase (heard.linked linked-last) going))
-      where
-        by : (is_connected before.orig.phase ≡ true) ⊎ (is_linked before.orig.phase ≡ false) → is_connected before.orig.phase ≡ true
-        by (inl c) = c
-        by (inr u) = let wrong : true ≡ false = sym linked-last ∙ u in cc
+    peer-last = elim (heard.from (only-connected mid.orig.phase (heard.linked linked-last) going)) [
+      | inl c ↦ c
+      | inr u ↦ (let wrong : true ≡ false = sym linked-last ∙ u in cc)
+    ]
 
     both : (s u : ℕ) → s < turns → s ≤ u → u ≤ turns → (w.deed s).made Answerer ≡ true → is_connected (w.state s).answ.phase ≡ true
         → is_connected (w.state u).answ.phase ≡ true → is_connected (w.state u).orig.phase ≡ true
@@ -108,7 +84,7 @@ answerer-each laws tries period delay link ts before t mid kt run hearing going 
         let n = counted (w.state s).answ.numbered (w.state s) (past ts s)
         (known tries period delay link (past ts s) (w.state s) kt h.run h.carried Answerer) c from.1 from.2 refl in
         let first = numbered-linked tries period delay link ts w.state w.deed kt w.trace Answerer s (omega (arith, l)) n in
-        let back = turned period turns e o ends in
+        let back = turned period turns e o (two-ends tries period delay link ts w.state w.deed kt w.trace Answerer) in
         connected-back period turns o e back u turns high (omega arith) (linked-on period turns o e back s u low high first)
         (ap (λ (x : Accounts). is_connected x.orig.phase) w.last ∙ peer-last)
 

@@ -1,28 +1,17 @@
 use Rattle.std.proofs.Common.{◌≡◌, ℕ, ◌+◌, ◌%◌, ◌<◌, ◌&&◌, ◌||◌, not, Bool, true, false, cond, nat_lt, List, [], ◌∷◌, length, arith, refl}
-use Rattle.std.proofs.Common.{sym}
-use Rattle.std.proofs.Common.{◌∙◌, ap, subst, Option, Some, None, Ok, slice_index_or}
-use Rattle.std.proofs.lemmas.Bool.Decides.{nat_tests}
-use Rattle.lapm_frames.specs.declared.frame.Frame.{Frame}
-use Rattle.lapm_frames.specs.declared.frame.Frame.TheVariants.{I, Rnr}
-use Rattle.lapm_sender.specs.Outgoing.{Outgoing, is_outstanding, advanced, wait_ended, resumed, paused_at}
-use Rattle.lapm_sender.specs.Outgoing.{next_number, after_next, expired}
-use Rattle.break_signals.specs.Breaks.{OwnBreaks, ticked}
-use Rattle.lapm_frames.specs.declared.arrived.Arrived.TheVariants as arrivals
-use Rattle.link_account.specs.declared.phase.Phase.TheVariants.{Connected}
-use Rattle.lapm_frames.specs.declared.sent.Sent.TheVariants as slots
-use Rattle.link_account.specs.Account.{Account}
-use Rattle.shared_terms.specs.Role.{is_originator}
-use Rattle.link_account.specs.declared.answer.Answer.{Answer}
-use Rattle.link_account.specs.Hear.{hear, ends_wait}
+use Rattle.std.proofs.Common.{sym, ◌∙◌, ap, subst, Option, Some, None, Ok, slice_index_or}
+use Rattle.link_account.proofs.Names.{nat_tests, Frame, I, Rnr, Outgoing, is_outstanding, advanced, resumed, next_number, OwnBreaks, ticked}
+use Rattle.link_account.proofs.Names.{Account, is_originator, hear, Arrived, Said, nr_of, may_send, steps, speak_linked}
+use Rattle.link_run.proofs.Names.{Connected, Answer}
+use Rattle.lapm_sender.specs.Outgoing.{wait_ended, paused_at, after_next, expired, next_among}
+use Rattle.link_account.specs.Hear.{ends_wait}
 use Rattle.link_account.proofs.HearWays.{Plain, IsUa, IsXid, IsTest, IsNoWord, ConnectedWays, numbered_with, acked, acked_back, by-linked}
-use Rattle.lapm_frames.specs.declared.arrived.Arrived.{Arrived}
-use Rattle.turn_bound.proofs.MeetHear.{of_arrived}
-use Rattle.link_account.specs.Speak.{Said, else_says, where_says, answering, polling, timer_expires, breaking, nr_of, may_send}
-use Rattle.link_account.specs.Speak.{says_segment, steps, after_timers, then_tries, speak_linked}
-use Rattle.turn_bound.proofs.Clock.{Rates}
-use Rattle.turn_bound.proofs.Clock.{Sends}
-use Rattle.lapm_sender.specs.Outgoing.{next_among}
-use Rattle.turn_losses.specs.Polls.{is_final}
+use Rattle.link_account.specs.Speak.{else_says, where_says, answering, polling, timer_expires, breaking, says_segment, after_timers}
+use Rattle.link_account.specs.Speak.{then_tries}
+use Rattle.turn_losses.proofs.Truths.{or-true, or-false}
+use Rattle.turn_losses.proofs.Names.{of_arrived, Rates, Sends, is_final}
+use Rattle.lapm_frames.specs.declared.arrived.Arrived.TheVariants as arrivals
+use Rattle.lapm_frames.specs.declared.sent.Sent.TheVariants as slots
 
 -- RNR
 abbrev pub frame_rnr : Frame → Bool
@@ -73,14 +62,6 @@ ended-resumed o = by o.paused refl
       idle = λ h. ap (λ b. cond (b || o.paused) o.count 0) h ∙ ap (λ b. cond (false || b) o.count 0) e;
     }
 
-or-true : (b : Bool) → b || true ≡ true
-or-true true = refl
-or-true false = refl
-
-or-none : (b : Bool) → b || false ≡ b
-or-none true = refl
-or-none false = refl
-
 -- what arrived is the answer
 module _ (turn : ℕ) (a : Account) (w : a.outgoing.awaited ≡ true) where
   abbrev P : Arrived → Account → Type 0
@@ -101,7 +82,7 @@ module _ (turn : ℕ) (a : Account) (w : a.outgoing.awaited ≡ true) where
         urgent = λ r. or-true a.wait.urgent;
         busy = λ r. cc;
         idle = λ r e. k.idle e;
-        reply = or-none a.owes.reply;
+        reply = or-false a.owes.reply;
         answer = refl;
         poll = refl;
       }
@@ -122,7 +103,7 @@ module _ (turn : ℕ) (a : Account) (w : a.outgoing.awaited ≡ true) where
     urgent = λ r. cc;
     busy = λ r. refl;
     idle = λ r. cc;
-    reply = or-none a.owes.reply;
+    reply = or-false a.owes.reply;
     answer = refl;
     poll = refl;
   }

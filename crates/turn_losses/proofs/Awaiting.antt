@@ -1,13 +1,10 @@
 -- What hearing makes of the wait for a poll's answer, at a Connected end: a response with F = 1 ends it, and nothing else.
 use Rattle.std.proofs.Common.{◌≡◌, ℕ, true, false, cond, refl, sym, ap, Ok}
-use Rattle.lapm_frames.specs.declared.arrived.Arrived.{Arrived}
-use Rattle.link_account.specs.Account.{Account, is_connected}
-use Rattle.link_account.specs.Hear.{hear}
-use Rattle.turn_bound.proofs.MeetHear.{of_arrived}
-use Rattle.turn_losses.specs.Polls.{is_final}
+use Rattle.link_account.proofs.Names.{Arrived, Account, is_connected, hear}
 use Rattle.turn_losses.proofs.AnswerTurn.{connected-is}
 use Rattle.link_account.proofs.HearWays.{by-linked}
 use Rattle.turn_losses.proofs.HeardNumber.{number-rows, plain-frame}
+use Rattle.turn_losses.proofs.Names.{of_arrived, is_final}
 
 pub await-hears : (arrived : Arrived) (turn : ℕ) (a mid : Account) → is_connected a.phase ≡ true → hear turn arrived a ≡ Ok mid
     → mid.outgoing.awaited ≡ cond (of_arrived is_final arrived) false a.outgoing.awaited

@@ -1,38 +1,21 @@
 -- An end that isn't Connected yet has no break, owes none an answer, and has nothing urgent; and it becomes Connected so.
-use Rattle.std.proofs.Common.{◌≡◌, ℕ, zero, suc, ◌+◌, ◌≤◌, Bool, true, false, List, length, arith, refl, sym}
-use Rattle.std.proofs.Common.{◌∙◌, ap, subst, Ok}
-use Rattle.shared_terms.specs.declared.role.Role.{Role}
-use Rattle.shared_terms.specs.declared.role.Role.TheVariants.{Originator, Answerer}
-use Rattle.shared_terms.specs.Both.{of}
-use Rattle.lapm_frames.specs.declared.frame.Frame.{Frame}
-use Rattle.break_signals.specs.declared.word.BreakWord.{BreakWord}
-use Rattle.lapm_frames.specs.declared.arrived.Arrived.{Arrived}
-use Rattle.lapm_frames.specs.declared.arrived.Arrived.TheVariants as arrivals
-use Rattle.link_account.specs.declared.phase.Phase.{Phase}
-use Rattle.link_account.specs.declared.phase.Phase.TheVariants.{Connected}
-use Rattle.link_account.specs.declared.answer.Answer.TheVariants as answers
-use Rattle.link_account.specs.Account.{Account, is_connected}
-use Rattle.link_account.specs.Hear.{hear, on_nothing}
-use Rattle.link_account.specs.Hear.{owing, first_wait}
-use Rattle.link_account.specs.Speak.{Said}
-use Rattle.link_account.specs.Speak.{speak}
-use Rattle.link_account.proofs.HearWays as HearWays
-use Rattle.link_account.proofs.SpeakWays as SpeakWays
+use Rattle.std.proofs.Common.{◌≡◌, ℕ, zero, suc, ◌+◌, ◌≤◌, Bool, true, false, List, length, arith, refl, sym, ◌∙◌, ap, subst, Ok}
+use Rattle.link_account.proofs.Names.{Role, Originator, Answerer, of, Frame, BreakWord, Arrived, Account, is_connected, hear, on_nothing}
+use Rattle.link_account.proofs.Names.{owing, Said, speak}
+use Rattle.link_run.proofs.Names.{is_released, Link, Accounts, Turn, SpeaksAt, arrival, served_at, said_at}
+use Rattle.link_account.specs.Hear.{first_wait}
 use Rattle.link_account.proofs.SpeakWays.{Tries}
-use Rattle.link_run.specs.End.{is_released}
-use Rattle.link_run.specs.Run.{Link, Accounts, Turn, SpeaksAt, arrival, served_at, said_at}
-use Rattle.turn_bound.specs.Time.{KeepsTime}
-use Rattle.turn_bound.proofs.Clock.{rates}
-use Rattle.turn_bound.proofs.MeetHear.{of_arrived}
-use Rattle.turn_bound.proofs.Serving.{serves-all}
-use Rattle.turn_losses.specs.Polls.{is_poll, is_final}
-use Rattle.turn_losses.proofs.Polling.{is_linked}
+use Rattle.turn_losses.proofs.Truths.{unlinked-connected}
 use Rattle.turn_losses.proofs.PollHear.{poll-hears}
 use Rattle.turn_losses.proofs.PollSpeak.{poll-speaks}
 use Rattle.turn_losses.proofs.NumberTurn.{poll-ok, speak-ok}
-use Rattle.turn_losses.proofs.Trace.{Deed, Happens, Trace, past}
 use Rattle.turn_losses.proofs.Tracing.{Known, known, timed, release_of, said-as}
 use Rattle.turn_losses.proofs.BreakHear.{of_word}
+use Rattle.turn_losses.proofs.Names.{KeepsTime, rates, of_arrived, serves-all, is_poll, is_final, is_linked, Deed, Happens, Trace, past}
+use Rattle.lapm_frames.specs.declared.arrived.Arrived.TheVariants as arrivals
+use Rattle.link_account.specs.declared.answer.Answer.TheVariants as answers
+use Rattle.link_account.proofs.HearWays as HearWays
+use Rattle.link_account.proofs.SpeakWays as SpeakWays
 
 pub record SameOld (arrived : Arrived) (a b : Account) : Type 0 where
   pub own : b.own_breaks ≡ a.own_breaks
@@ -77,10 +60,6 @@ old-heard arrived turn a mid l h = HearWays.by-ways (λ x b. SameOld x a b) turn
   };
 }) arrived mid h
   where
-    unlinked-connected : (p : Phase) → is_linked p ≡ false → is_connected p ≡ false
-    unlinked-connected Connected e = cc
-    unlinked-connected p e = refl
-
     begins : (x : Arrived) (b : Account) → b.own_breaks ≡ a.own_breaks → b.their_breaks ≡ a.their_breaks → b.special ≡ a.special
         → b.wait.urgent ≡ a.wait.urgent → ((f : BreakWord → Bool) → of_arrived (of_word f) x ≡ false) → of_arrived is_final x ≡ false
         → SameOld x a b

@@ -1,19 +1,11 @@
 -- What hearing makes of an end's breaks, of what it owes for the other end's, and of its urgent segment.
 use Rattle.std.proofs.Common.{◌⊎◌, inl, inr, ◌≡◌, ℕ, ◌+◌, ◌%◌, ◌&&◌, List, Bool, true, false, cond, nat_eq, refl, sym, ◌∙◌, ap, Ok}
-use Rattle.lapm_frames.specs.declared.frame.Frame.TheVariants.{Ui}
-use Rattle.lapm_frames.specs.declared.arrived.Arrived.{Arrived}
-use Rattle.lapm_frames.specs.declared.arrived.Arrived.TheVariants as arrivals
-use Rattle.break_signals.specs.declared.word.BreakWord.{BreakWord}
-use Rattle.break_signals.specs.declared.word.BreakWord.TheVariants.{Ack}
-use Rattle.break_signals.specs.Words.{word_in}
-use Rattle.break_signals.specs.Breaks.{OwnBreaks, waits}
-use Rattle.link_account.specs.declared.phase.Phase.TheVariants.{Connected}
-use Rattle.link_account.specs.Account.{Account, is_connected}
-use Rattle.link_account.specs.Hear.{hear}
-use Rattle.turn_bound.proofs.MeetHear.{of_arrived}
-use Rattle.turn_losses.specs.Polls.{is_final}
+use Rattle.link_account.proofs.Names.{Ui, Arrived, BreakWord, Ack, word_in, OwnBreaks, waits, Account, is_connected, hear}
+use Rattle.link_run.proofs.Names.{Connected}
 use Rattle.link_account.proofs.HearWays.{by-linked}
 use Rattle.turn_losses.proofs.HeardNumber.{number-rows, plain-frame}
+use Rattle.turn_losses.proofs.Names.{of_arrived, is_final}
+use Rattle.lapm_frames.specs.declared.arrived.Arrived.TheVariants as arrivals
 pub use Rattle.turn_losses.proofs.Words.{is_word, of_word, brk_of, ack_of, any_brk, any_ack, pends, pends_of}
 
 -- At a Connected end.

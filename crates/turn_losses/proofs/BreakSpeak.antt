@@ -1,39 +1,26 @@
 -- What speaking makes of an end's breaks, of what it owes for the other end's, and of its urgent segment.
 use Rattle.std.proofs.Common.{◌⊎◌, inl, inr, ◌≡◌, ℕ, ◌+◌, ◌-◌, ◌%◌, ◌<◌, ◌&&◌, ◌||◌, not, Bool, true, false, cond, nat_eq, nat_lt, length}
 use Rattle.std.proofs.Common.{arith, refl, sym, ◌∙◌, ap, subst, Some, None, Ok, Err}
-use Rattle.std.specs.Prelude.{is_some, slice_index_or}
-use Rattle.std.proofs.lemmas.Bool.Decides.{nat_tests}
+use Rattle.link_account.proofs.Names.{is_some, nat_tests, Srej, BreakWord, Brk, Ack, word_in, OwnBreaks, waits, ticked, Account, Said}
+use Rattle.link_account.proofs.Names.{frame_for, ready_frame, speak_linked, nr_of}
+use Rattle.link_run.proofs.Names.{Answer}
+use Rattle.std.specs.Prelude.{slice_index_or}
 use Rattle.lapm_receiver.specs.Incoming.{after_asked}
-use Rattle.lapm_frames.specs.declared.frame.Frame.TheVariants.{Srej}
-use Rattle.lapm_frames.specs.declared.sent.Sent.TheVariants as slots
-use Rattle.break_signals.specs.declared.word.BreakWord.{BreakWord}
-use Rattle.break_signals.specs.declared.word.BreakWord.TheVariants.{Brk, Ack}
-use Rattle.break_signals.specs.Words.{word_in, spelled}
-use Rattle.break_signals.specs.Breaks.{OwnBreaks, waits, own_due, after_brk, after_ack, ticked}
+use Rattle.break_signals.specs.Words.{spelled}
+use Rattle.break_signals.specs.Breaks.{own_due, after_brk, after_ack}
 use Rattle.break_signals.specs.declared.fault.BreakFault.TheVariants.{Number}
-use Rattle.link_account.specs.declared.answer.Answer.{Answer}
-use Rattle.link_account.specs.declared.answer.Answer.TheVariants as answers
-use Rattle.link_account.specs.Account.{Account}
-use Rattle.link_account.specs.Speak.{Said, frame_for, says_word}
-use Rattle.link_account.specs.Speak.{ready_frame}
-use Rattle.link_account.specs.Speak.{speak_linked, nr_of}
-use Rattle.turn_bound.proofs.MeetHear.{of_frame}
+use Rattle.link_account.specs.Speak.{says_word}
 use Rattle.turn_bound.proofs.Value.{IsAck}
 use Rattle.link_account.proofs.SpeakWays.{NoWord, Steps, steps-so, polling_at, by-linked}
-use Rattle.turn_losses.specs.Polls.{is_poll, is_final}
+use Rattle.turn_losses.proofs.Truths.{or-late, or-first}
 use Rattle.turn_losses.proofs.BreakHear.{is_word, of_word, brk_of, ack_of, any_brk, pends, pends_of}
+use Rattle.turn_losses.proofs.Names.{of_frame, is_poll, is_final}
+use Rattle.lapm_frames.specs.declared.sent.Sent.TheVariants as slots
+use Rattle.link_account.specs.declared.answer.Answer.TheVariants as answers
 
 -- what holds a break's word up: an F reply, a poll, an urgent segment, a BRKACK, a word in the turn before, or another answer
 abbrev pub holds : (final poll hurries acks special answer : Bool) → Bool
 holds final poll hurries acks special answer = final || (poll || (hurries || (acks || (special || answer))))
-
-or-late : (x y : Bool) → y ≡ true → x || y ≡ true
-or-late true y e = refl
-or-late false y e = e
-
-or-first : (x y : Bool) → x ≡ true → x || y ≡ true
-or-first true y e = refl
-or-first false y e = cc
 
 -- What the nine steps make of them.
 pub record StepBreaks (special : Bool) (a : Account) (said : Said) : Type 0 where

@@ -1,17 +1,11 @@
 -- A turn after which an end is Connected, by its breaks and by what it owes for the other end's.
 use Rattle.std.proofs.Common.{◌⊎◌, inl, inr, ◌≡◌, ℕ, ◌+◌, ◌%◌, ◌<◌, ◌≤◌, ◌&&◌, ◌||◌, not, Bool, true, false, cond, nat_le, nat_lt, List, []}
 use Rattle.std.proofs.Common.{◌∷◌, ◌++◌, length, length-append, arith, refl, sym, ◌∙◌, ap, None}
-use Rattle.std.specs.Prelude.{is_some}
-use Rattle.std.proofs.lemmas.Bool.Decides.{nat_tests}
-use Rattle.break_signals.specs.Breaks.{OwnBreaks, waits, after_ask}
-use Rattle.lapm_frames.specs.declared.sent.Sent.{Sent}
-use Rattle.lapm_frames.specs.declared.arrived.Arrived.{Arrived}
-use Rattle.link_account.specs.Account.{Account, is_connected}
-use Rattle.link_account.specs.Speak.{Said}
-use Rattle.turn_bound.proofs.MeetHear.{of_frame, of_arrived}
-use Rattle.turn_losses.specs.Polls.{is_poll, is_final}
+use Rattle.link_account.proofs.Names.{is_some, nat_tests, OwnBreaks, waits, after_ask, Sent, Arrived, Account, is_connected, Said}
+use Rattle.turn_losses.proofs.Truths.{and-true, and-second, and-drop, clash}
 use Rattle.turn_losses.proofs.BreakHear.{of_word, brk_of, ack_of, any_brk, pends, pends_of, BreakHeard}
 use Rattle.turn_losses.proofs.BreakSpeak.{holds, SaidBreaks}
+use Rattle.turn_losses.proofs.Names.{of_frame, of_arrived, is_poll, is_final}
 
 -- between turns: a break waits, of this number; its BRK is due; a BRKACK is due; the first segment is urgent
 abbrev pub break_waits : Account → Bool
@@ -81,24 +75,9 @@ pub record BreakTurn (period turn : ℕ) (arrived : Arrived) (sent : Sent) (d : 
   pub special_own : was_special c ≡ true → brk_due c ≡ true → d.acks ≡ true
   pub special_ack : was_special c ≡ true → ack_due c ≡ true → ⊥
 
-and-true : (x y : Bool) → x ≡ true → y ≡ true → x && y ≡ true
-and-true true y e f = f
-and-true false y e f = cc
-
-and-second : (x y : Bool) → x && y ≡ true → y ≡ true
-and-second true y e = e
-and-second false y e = cc
-
-and-drop : (x y : Bool) → y ≡ false → x && y ≡ false
-and-drop true y e = e
-and-drop false y e = refl
-
 and-is : (x y : Bool) → x ≡ true → x && y ≡ y
 and-is true y e = refl
 and-is false y e = cc
-
-clash : {A : Type 0} (b : Bool) → b ≡ true → b ≡ false → A
-clash b e f = let wrong : true ≡ false = sym e ∙ f in cc
 
 -- what serving makes of its breaks: the same, or one more is taken
 pub record ServedBreaks (turn : ℕ) (a b : OwnBreaks) : Type 0 where
@@ -197,14 +176,10 @@ break-turn-of period turn arrived a mid b said ca cc' high per long special thei
     Ended = (waits a.own_breaks ≡ true) × (waits mid.own_breaks ≡ false) × (mid.own_breaks.brk ≡ false) × (mid.own_breaks.rest ≡ turn + 8)
 
     heard-own : (mid.own_breaks ≡ a.own_breaks) ⊎ Ended
-    heard-own = by h.own
-      where
-        by : (mid.own_breaks ≡ a.own_breaks)
-            ⊎ ((waits a.own_breaks ≡ true) × (mid.own_breaks.answered ≡ a.own_breaks.answered + 1)
-            × (mid.own_breaks.lengths ≡ a.own_breaks.lengths) × (mid.own_breaks.brk ≡ false) × (mid.own_breaks.rest ≡ turn + 8))
-            → (mid.own_breaks ≡ a.own_breaks) ⊎ Ended
-        by (inl x) = inl x
-        by (inr (w, n, l, d, r)) = inr (w, waits-not mid.own_breaks (let q = ap length l in omega (arith, n, q, high)), d, r)
+    heard-own = elim h.own [
+      | inl x ↦ inl x
+      | inr z ↦ (inr (z.0, waits-not mid.own_breaks (let q = ap length z.2 in omega (arith, z.1, q, high)), z.3, z.4))
+    ]
 
     either-made : made ≡ true → (s.taken ≡ true) ⊎ ((s.taken ≡ false) × (k.ticks ≡ true))
     either-made m = by s.taken refl m
@@ -233,11 +208,10 @@ break-turn-of period turn arrived a mid b said ca cc' high per long special thei
         by true f = let y = k.yes f in let z = (s.yes e).3 in let q = y.1 in absurd (omega (arith, q, z, per, long))
 
     made-set : made ≡ true → (waits c.own_breaks ≡ true) × (c.own_breaks.set ≡ turn)
-    made-set m = by (either-made m)
-      where
-        by : (s.taken ≡ true) ⊎ ((s.taken ≡ false) × (k.ticks ≡ true)) → (waits c.own_breaks ≡ true) × (c.own_breaks.set ≡ turn)
-        by (inl e) = (waits-said ∙ (s.yes e).5, k.no (untaken e) ∙ (s.yes e).3)
-        by (inr (e, f)) = (waits-said ∙ (k.yes f).0, (k.yes f).2)
+    made-set m = elim (either-made m) [
+      | inl e ↦ (waits-said ∙ (s.yes e).5, k.no (untaken e) ∙ (s.yes e).3)
+      | inr z ↦ (waits-said ∙ (k.yes z.1).0, (k.yes z.1).2)
+    ]
 
     made-late : made ≡ true → ((waits a.own_breaks ≡ true) × (turn ≡ a.own_breaks.set + period))
         ⊎ ((waits a.own_breaks ≡ false) × (a.own_breaks.rest ≤ turn))
@@ -253,14 +227,13 @@ break-turn-of period turn arrived a mid b said ca cc' high per long special thei
         by (inr (e, f)) (inr (w, w', d, r)) = clash (waits mid.own_breaks) (ap waits (sym (s.no e)) ∙ (k.yes f).0) w'
 
     kept-set : made ≡ false → waits c.own_breaks ≡ true → (waits a.own_breaks ≡ true) × (c.own_breaks.set ≡ a.own_breaks.set)
-    kept-set m w = by heard-own
+    kept-set m w = elim heard-own [
+      | inl q ↦ (ap waits (sym (s.no n.0 ∙ q)) ∙ (sym waits-said ∙ w), k.no n.1 ∙ ap (λ x. x.set) (s.no n.0 ∙ q))
+      | inr z ↦ clash (waits mid.own_breaks) (ap waits (sym (s.no n.0)) ∙ (sym waits-said ∙ w)) z.1
+    ]
       where
         n : (s.taken ≡ false) × (k.ticks ≡ false)
         n = none-made m
-
-        by : (mid.own_breaks ≡ a.own_breaks) ⊎ Ended → (waits a.own_breaks ≡ true) × (c.own_breaks.set ≡ a.own_breaks.set)
-        by (inl q) = (ap waits (sym (s.no n.0 ∙ q)) ∙ (sym waits-said ∙ w), k.no n.1 ∙ ap (λ x. x.set) (s.no n.0 ∙ q))
-        by (inr (x, w', d, r)) = clash (waits mid.own_breaks) (ap waits (sym (s.no n.0)) ∙ (sym waits-said ∙ w)) w'
 
     kept-rest : made ≡ false → waits c.own_breaks ≡ false → ((waits a.own_breaks ≡ false) × (c.own_breaks.rest ≡ a.own_breaks.rest))
         ⊎ (c.own_breaks.rest ≡ turn + 8)
@@ -297,18 +270,20 @@ break-turn-of period turn arrived a mid b said ca cc' high per long special thei
 
     goes : waits c.own_breaks ≡ true → (brk_due a ≡ true) ⊎ (made ≡ true)
         → (brk_due c ≡ true) ⊎ (of_frame (of_word (brk_of (number_of c))) said.sent ≡ true)
-    goes w e = by (k.goes (still e heard-own))
+    goes w e = elim (k.goes (still e heard-own)) [
+      | inl x ↦ inl (and-true (is_connected c.phase) c.own_breaks.brk cc' x)
+      | inr x ↦ inr (number-said x)
+    ]
       where
         or-second : (x y : Bool) → y ≡ true → x || y ≡ true
         or-second true y f = refl
         or-second false y f = f
 
         still : (brk_due a ≡ true) ⊎ (made ≡ true) → (mid.own_breaks ≡ a.own_breaks) ⊎ Ended → k.ticks || b.own_breaks.brk ≡ true
-        still (inr m) o = on (either-made m)
-          where
-            on : (s.taken ≡ true) ⊎ ((s.taken ≡ false) × (k.ticks ≡ true)) → k.ticks || b.own_breaks.brk ≡ true
-            on (inl f) = or-second k.ticks b.own_breaks.brk (s.yes f).2
-            on (inr (f, g)) = ap (λ z. z || b.own_breaks.brk) g
+        still (inr m) o = elim (either-made m) [
+          | inl f ↦ or-second k.ticks b.own_breaks.brk (s.yes f).2
+          | inr y ↦ ap (λ z. z || b.own_breaks.brk) y.1
+        ]
         still (inl d) o = on s.taken refl o
           where
             on : (y : Bool) → s.taken ≡ y → (mid.own_breaks ≡ a.own_breaks) ⊎ Ended → k.ticks || b.own_breaks.brk ≡ true
@@ -316,11 +291,6 @@ break-turn-of period turn arrived a mid b said ca cc' high per long special thei
             on false f (inl q) = or-second k.ticks b.own_breaks.brk
                 (ap (λ z. z.brk) (s.no f ∙ q) ∙ and-second (is_connected a.phase) a.own_breaks.brk d)
             on false f (inr (x, w', y, r)) = clash (waits mid.own_breaks) (ap waits (sym (s.no f)) ∙ (sym waits-said ∙ w)) w'
-
-        by : (c.own_breaks.brk ≡ true) ⊎ (of_frame (of_word (brk_of (b.own_breaks.answered % 2))) said.sent ≡ true)
-            → (brk_due c ≡ true) ⊎ (of_frame (of_word (brk_of (number_of c))) said.sent ≡ true)
-        by (inl x) = inl (and-true (is_connected c.phase) c.own_breaks.brk cc' x)
-        by (inr x) = inr (number-said x)
 
     -- the wait goes on
     on-wait : waits a.own_breaks ≡ true → waits c.own_breaks ≡ true → (s.taken ≡ false) × (mid.own_breaks ≡ a.own_breaks)
@@ -384,22 +354,14 @@ break-turn-of period turn arrived a mid b said ca cc' high per long special thei
             → ((ack_due a ≡ true) × (k.acks ≡ false)) ⊎ ((of_arrived (of_word any_brk) arrived ≡ true) × (k.acks ≡ false))
         by (inr (n, x, y)) = let wrong : true ≡ false = sym (and-second (is_connected c.phase) (pends c.their_breaks.ack) e)
             ∙ ap pends n in cc
-        by (inl (q, f)) = on (ack-heard (ap (λ t. pends t.ack) (sym q) ∙ and-second (is_connected c.phase) (pends c.their_breaks.ack) e))
-          where
-            on : (ack_due a ≡ true) ⊎ (of_arrived (of_word any_brk) arrived ≡ true)
-                → ((ack_due a ≡ true) × (k.acks ≡ false)) ⊎ ((of_arrived (of_word any_brk) arrived ≡ true) × (k.acks ≡ false))
-            on (inl x) = inl (x, f)
-            on (inr x) = inr (x, f)
+        by (inl (q, f)) = elim
+            (ack-heard (ap (λ t. pends t.ack) (sym q) ∙ and-second (is_connected c.phase) (pends c.their_breaks.ack) e)) [
+              | inl x ↦ inl (x, f)
+              | inr x ↦ inr (x, f)
+            ]
 
     acked : k.acks ≡ true → (ack_due a ≡ true) ⊎ (of_arrived (of_word any_brk) arrived ≡ true)
-    acked e = by k.ack
-      where
-        by : ((c.their_breaks ≡ b.their_breaks) × (k.acks ≡ false))
-            ⊎ ((c.their_breaks.ack ≡ None) × (pends b.their_breaks.ack ≡ true) × ((n : ℕ) → n < 2 → pends_of n b.their_breaks.ack ≡ true
-            → of_frame (of_word (ack_of n)) said.sent ≡ true))
-            → (ack_due a ≡ true) ⊎ (of_arrived (of_word any_brk) arrived ≡ true)
-        by (inl (q, f)) = clash k.acks e f
-        by (inr (n, x, y)) = ack-heard x
+    acked e = elim k.ack [ inl z ↦ clash k.acks e z.1 | inr z ↦ ack-heard z.1 ]
 
     asked : (n : ℕ) → n < 2 → pends_of n b.their_breaks.ack ≡ true
         → ((c.their_breaks ≡ b.their_breaks) × (k.acks ≡ false))
@@ -410,8 +372,4 @@ break-turn-of period turn arrived a mid b said ca cc' high per long special thei
     asked n l e (inr (x, y, z)) = inr (z n l e)
 
     urgent-from : mid.wait.urgent ≡ true → (is_urgent a ≡ true) ⊎ (of_arrived is_final arrived ≡ true)
-    urgent-from e = by (h.urgent e)
-      where
-        by : (a.wait.urgent ≡ true) ⊎ (of_arrived is_final arrived ≡ true) → (is_urgent a ≡ true) ⊎ (of_arrived is_final arrived ≡ true)
-        by (inl x) = inl (and-true (is_connected a.phase) a.wait.urgent ca x)
-        by (inr x) = inr x
+    urgent-from e = elim (h.urgent e) [ inl x ↦ inl (and-true (is_connected a.phase) a.wait.urgent ca x) | inr x ↦ inr x ]

@@ -19,13 +19,10 @@ one-hit : (f : ℕ → Bool) (from n : ℕ) → 1 ≤ hits f from n → (t : ℕ
 one-hit f from zero h = let wrong : ⊥ = omega (arith, h) in absurd wrong
 one-hit f from (suc n) h = by (f (from + n)) refl (cases_lt (hits f from n) 1) (λ g. one-hit f from n g)
   where
-    later : (t : ℕ) × (from ≤ t) × (t < from + n) × (f t ≡ true) → (t : ℕ) × (from ≤ t) × (t < from + suc n) × (f t ≡ true)
-    later (t, a, b, e) = (t, a, omega (arith, b), e)
-
     by : (x : Bool) → f (from + n) ≡ x → (hits f from n < 1) ⊎ (1 ≤ hits f from n)
         → (1 ≤ hits f from n → (t : ℕ) × (from ≤ t) × (t < from + n) × (f t ≡ true))
         → (t : ℕ) × (from ≤ t) × (t < from + suc n) × (f t ≡ true)
-    by x e (inr g) again = later (again g)
+    by x e (inr g) again = let z = again g in (z.0, z.1, omega (arith, z.2), z.3)
     by true e (inl l) again = (from + n, omega arith, omega arith, e)
     by false e (inl l) again = let none = ap one_if e in absurd (omega (arith, h, l, none))
 

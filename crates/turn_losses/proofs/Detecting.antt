@@ -1,69 +1,39 @@
 -- Where the originator sees no pattern, something was lost in each period.
-use Rattle.std.proofs.Common.{◌⊎◌, inl, inr, ◌≡◌, ℕ, zero, suc, ◌+◌, ◌-◌, ◌*◌, ◌<◌, ◌≤◌, Bool, true, false, cond, nat_le}
-use Rattle.std.proofs.Common.{List, length, arith, refl, sym, ◌∙◌, ap, subst, Option, Some, None, Result, Ok, Err}
-use Rattle.std.proofs.lemmas.Bool.{cases_lt}
-use Rattle.shared_terms.specs.declared.role.Role.{Role}
-use Rattle.shared_terms.specs.declared.role.Role.TheVariants.{Originator, Answerer}
-use Rattle.shared_terms.specs.Both.{of}
-use Rattle.lapm_frames.specs.declared.seen.Seen.TheVariants as seens
-use Rattle.lapm_frames.specs.declared.sent.Sent.TheVariants as slots
-use Rattle.lapm_frames.specs.declared.arrived.Arrived.{Arrived}
-use Rattle.lapm_frames.specs.declared.arrived.Arrived.TheVariants as arrivals
-use Rattle.link_account.specs.declared.phase.Phase.{Phase}
-use Rattle.link_account.specs.declared.phase.Phase.TheVariants.{Detecting, Negotiating, Connected, Releasing}
-use Rattle.shared_terms.specs.declared.fault.LinkFault.{LinkFault}
-use Rattle.shared_terms.specs.declared.fault.LinkFault.TheVariants.{NotDetected}
-use Rattle.link_account.specs.declared.answer.Answer.{Answer}
-use Rattle.link_account.specs.declared.answer.Answer.TheVariants as answers
-use Rattle.link_account.specs.Account.{Account}
-use Rattle.link_account.specs.Hear.{hear, on_seen, on_pattern}
-use Rattle.link_account.specs.Hear.{trying}
-use Rattle.link_account.specs.Play.{arrives}
-use Rattle.link_account.specs.Speak.{Said, says, else_says, spent, answering}
-use Rattle.link_account.specs.Speak.{speak, speak_in}
-use Rattle.link_account.specs.Speak.{speak_detecting}
-use Rattle.link_run.specs.End.{User, is_busy, is_released}
-use Rattle.link_run.specs.Run.{Link, Accounts, Turn, Hears, RunOf, arrival, served_at, releases}
-use Rattle.link_run.specs.Carried.{IsCarried}
-use Rattle.link_run.specs.Starved.{LosesSome}
-use Rattle.turn_bound.specs.Time.{KeepsTime}
+use Rattle.std.proofs.Common.{◌⊎◌, inl, inr, ◌≡◌, ℕ, zero, suc, ◌+◌, ◌-◌, ◌*◌, ◌<◌, ◌≤◌, Bool, true, false, cond, nat_le, List, length}
+use Rattle.std.proofs.Common.{arith, refl, sym, ◌∙◌, ap, subst, Option, Some, None, Result, Ok, Err}
+use Rattle.link_account.proofs.Names.{cases_lt, Role, Originator, Answerer, of, Arrived, LinkFault, NotDetected, Account, hear, trying}
+use Rattle.link_account.proofs.Names.{arrives, Said, says, spent, speak, speak_in}
+use Rattle.link_run.proofs.Names.{Phase, Detecting, Negotiating, Connected, Releasing, Answer, User, is_busy, is_released, Link, Accounts}
+use Rattle.link_run.proofs.Names.{Turn, Hears, RunOf, arrival, served_at, releases, IsCarried}
+use Rattle.link_account.specs.Hear.{on_seen, on_pattern}
+use Rattle.link_account.specs.Speak.{else_says, answering, speak_detecting}
 use Rattle.turn_bound.specs.Spent.{SpendsOnTime}
-use Rattle.turn_bound.proofs.Clock.{Rates, rates}
-use Rattle.turn_bound.proofs.Value.{IsOf, arrived_rnrs}
-use Rattle.turn_bound.proofs.Run.{served_account}
-use Rattle.turn_bound.proofs.OneTurn.{heard-ok}
-use Rattle.turn_bound.proofs.Phases.{hears-well}
-use Rattle.turn_bound.proofs.Serving.{Served, serves-all}
-use Rattle.turn_losses.specs.Losses.{PeriodLoses, OriginatorWantsPattern, UndetectedIsStarved}
-use Rattle.link_account.proofs.HearWays as HearWays
+use Rattle.link_run.proofs.Speaking.{speaks-phase}
+use Rattle.turn_losses.proofs.Periods.{once, times, loses-of}
+use Rattle.turn_losses.specs.Losses.{OriginatorWantsPattern, UndetectedIsStarved}
 use Rattle.link_account.proofs.HearWays.{numbers-alike}
-use Rattle.link_account.proofs.SpeakWays as SpeakWays
 use Rattle.link_account.proofs.SpeakWays.{tries-alike, linked-so, why-broken, Undetected, Spends}
-use Rattle.turn_losses.proofs.PollSpeak.{linked-poll}
-use Rattle.turn_losses.proofs.Trace.{past, sent_or}
-use Rattle.turn_losses.proofs.TwoEnds.{EndRun, TwoEnds, end_run}
 use Rattle.turn_losses.proofs.Tracing.{known, timed, rated, Traced, traced}
 use Rattle.turn_losses.proofs.PollLaws.{two-ends}
 use Rattle.turn_losses.proofs.PeriodLaws.{NoneLost}
 use Rattle.turn_losses.proofs.PeriodHolds.{LostIn, lost-or-none}
-use Rattle.turn_losses.proofs.Keeping.{turn-is}
-use Rattle.turn_losses.proofs.Wanting.{lost-is}
 use Rattle.turn_losses.proofs.Starving.{all-but-one}
+use Rattle.turn_losses.proofs.Names.{KeepsTime, Rates, rates, IsOf, arrived_rnrs, served_account, heard-ok, hears-well, Served, serves-all}
+use Rattle.turn_losses.proofs.Names.{PeriodLoses, past, sent_or, EndRun, TwoEnds, end_run}
+use Rattle.lapm_frames.specs.declared.seen.Seen.TheVariants as seens
+use Rattle.lapm_frames.specs.declared.sent.Sent.TheVariants as slots
+use Rattle.lapm_frames.specs.declared.arrived.Arrived.TheVariants as arrivals
+use Rattle.link_account.specs.declared.answer.Answer.TheVariants as answers
+use Rattle.link_account.proofs.HearWays as HearWays
+use Rattle.link_account.proofs.SpeakWays as SpeakWays
 
 -- an end that is Detecting after it spoke was so before
 pub said-from : (turn : ℕ) (release : Bool) (b : Account) (said : Said) → speak turn release b ≡ Ok said → said.account.phase ≡ Detecting
     → b.phase ≡ Detecting
-said-from turn release b said h = SpeakWays.by-ways (λ s. s.account.phase ≡ Detecting → b.phase ≡ Detecting) turn release b (record {
-  answers = λ alone d e f. f;
-  flags = λ alone e f. f;
-  mark = λ p r e f. f;
-  odp = λ p r l f. f;
-  xid = λ p r. tries-alike _ turn _ b (λ w f. f) (λ f. f);
-  sabme = λ p. tries-alike _ turn _ b (λ w f. f) (λ f. f);
-  linked = λ p r. linked-so _ _ turn b (λ s k f. sym k.phase ∙ f) (linked-poll turn b);
-  releases = λ p r. tries-alike _ turn _ (trying Releasing turn b) (λ w f. cc) (λ f. cc);
-  disc = λ p. tries-alike _ turn _ b (λ w f. f) (λ f. f);
-}) said h
+said-from turn release b said h d = elim (speaks-phase turn release b said h) [
+  | inl e ↦ sym e ∙ d
+  | inr x ↦ (let wrong : Releasing ≡ Detecting = sym x.1 ∙ d in cc)
+]
 
 -- an originator that is Detecting sends its pattern
 sends-odp : (turn : ℕ) (release : Bool) (b : Account) (said : Said) → b.phase ≡ Detecting → b.setup.role ≡ Originator
@@ -211,7 +181,7 @@ heard-setup tries period delay link ts before t mid kt run c hears r =
 
 pub wants-pattern : SpendsOnTime → OriginatorWantsPattern
 wants-pattern spends tries period delay link ts before t mid kt run c broken number less =
-    at-number (times (number + 1) (tries + 1) (omega (arith, less)))
+    at-number (times period (number + 1) (tries + 1) (omega (arith, less)))
   where
     z : Rates
     z = rates tries period
@@ -285,7 +255,10 @@ wants-pattern spends tries period delay link ts before t mid kt run c broken num
 
     -- so nothing but its pattern reaches the answerer
     only-odp : (u : ℕ) → u < turns → (o.heard u ≡ arrivals.Nothing) ⊎ (o.heard u ≡ arrivals.Pattern seens.Odp)
-    only-odp u l = go (cases_lt u e.delay)
+    only-odp u l = elim (cases_lt u e.delay) [
+      | inl y ↦ inl ((k.is_heard u l).early y)
+      | inr g ↦ late g (o.loses u) ((k.is_heard u l).late g)
+    ]
       where
         d : 1 ≤ e.delay
         d = k.own_delay
@@ -294,10 +267,6 @@ wants-pattern spends tries period delay link ts before t mid kt run c broken num
             → (o.heard u ≡ arrivals.Nothing) ⊎ (o.heard u ≡ arrivals.Pattern seens.Odp)
         late g true q = inl q
         late g false q = inr (q ∙ ap arrives (facts (u - e.delay) (omega (arith, g, l))).1)
-
-        go : (u < e.delay) ⊎ (e.delay ≤ u) → (o.heard u ≡ arrivals.Nothing) ⊎ (o.heard u ≡ arrivals.Pattern seens.Odp)
-        go (inl y) = inl ((k.is_heard u l).early y)
-        go (inr g) = late g (o.loses u) ((k.is_heard u l).late g)
 
     answers-turn : (u : ℕ) → u < turns → (w.state u).answ.phase ≡ Detecting
         → ((w.state (u + 1)).answ.phase ≡ Detecting) × (o.heard u ≡ arrivals.Pattern seens.Odp → o.slot u ≡ slots.Adp)
@@ -353,16 +322,6 @@ wants-pattern spends tries period delay link ts before t mid kt run c broken num
             ∙ (ap (λ b. cond b arrivals.Nothing (arrives (o.slot (x - delay Answerer)))) (none x (omega (arith, d)) (omega (arith, p))).0
             ∙ ap arrives (ap o.slot (back v (delay Answerer)) ∙ answered))
 
-    times : (a b : ℕ) → a ≤ b → a * period ≤ b * period
-    times a b l = let m : (b - a) * period + a * period ≡ b * period = sum (b - a) a ∙ ap (λ n. n * period) (whole a b l) in
-        omega (arith, m)
-      where
-        sum : (m n : ℕ) → m * period + n * period ≡ (m + n) * period
-        sum m n = grind (arith)
-
-        whole : (m n : ℕ) → m ≤ n → n - m + m ≡ n
-        whole m n q = omega (arith, q)
-
     long-enough : (tries + 1) * period ≤ turns
     long-enough = spends tries period delay link ts before t mid Originator NotDetected kt run c broken
 
@@ -372,31 +331,13 @@ wants-pattern spends tries period delay link ts before t mid kt run c broken num
         y : ℕ
         y = turns - (number + 1) * period
 
-        split : (number + 1) * period ≡ number * period + period
-        split = each number
-          where
-            each : (n : ℕ) → (n + 1) * period ≡ n * period + period
-            each n = omega arith
-
         room : y + period ≤ turns
-        room = let g = long-enough in omega (arith, less', g, split)
-
-        some : (u : ℕ) → (e.loses u ≡ true) ⊎ (o.loses u ≡ true) → LosesSome (Some (w.deed u).turn)
-        some u (inl q) = (Originator, lost-is (w.deed u).turn.orig.heard q)
-        some u (inr q) = (Answerer, lost-is (w.deed u).turn.answ.heard q)
+        room = let g = long-enough in omega (arith, less', g, once period number)
 
         go : LostIn e o (y + 1) (period - 1) ⊎ NoneLost e o (y + 1) (period - 1) → PeriodLoses period turns ts number
         go (inr none) = absurd (no-answer y room none)
-        go (inl lost) =
-            let a = lost.low in let b = lost.high in let g = long-enough in
-            let within : lost.turn < turns = omega (arith, b, room, p) in
-            record {
-              turn = lost.turn;
-              within = within;
-              in_period = record { behind = omega (arith, a, less', g); before = omega (arith, b, less', g, split, p) };
-              lost = subst LosesSome (sym (turn-is period delay link ts w.state w.deed w.trace lost.turn within))
-                  (some lost.turn lost.loses);
-            }
+        go (inl lost) = let g = long-enough in
+            loses-of period delay link ts w.state w.deed w.trace Originator y number (omega (arith, p)) (omega (arith, less', g)) lost
 
 pub undetected-starved : SpendsOnTime → UndetectedIsStarved
 undetected-starved spends tries period delay link ts before t mid kt run c broken =

@@ -1,36 +1,24 @@
 -- An end that gives up while a break waits was starved.
 use Rattle.std.proofs.Common.{inl, inr, ◌≡◌, ℕ, ◌+◌, ◌-◌, ◌*◌, ◌%◌, ◌<◌, ◌≤◌, true, false, List, ◌∷◌, length, arith, refl, sym, ◌∙◌, ap}
 use Rattle.std.proofs.Common.{subst}
-use Rattle.std.proofs.lemmas.Bool.{cases_lt}
-use Rattle.shared_terms.specs.declared.role.Role.{Role}
-use Rattle.shared_terms.specs.declared.role.Role.TheVariants.{Originator, Answerer}
-use Rattle.shared_terms.specs.Both.{of}
-use Rattle.xid_params.specs.Offers.{ReadsWritten}
-use Rattle.break_signals.specs.Breaks.{waits}
-use Rattle.link_account.specs.Account.{is_connected}
-use Rattle.link_run.specs.End.{is_released}
-use Rattle.link_run.specs.Run.{Link, Accounts, Turn, Hears, arrival, served_at}
-use Rattle.link_run.specs.Carried.{Carries}
-use Rattle.link_run.specs.Laws.{RunsOver}
-use Rattle.turn_bound.specs.Time.{KeepsTime}
-use Rattle.turn_bound.specs.Together.{Together, StandTogether}
-use Rattle.turn_bound.proofs.MeetHear.{of_arrived}
-use Rattle.turn_losses.specs.Losses.{PeriodLoses, LosesEach}
-use Rattle.turn_losses.proofs.Trace.{Deed, Trace, past}
-use Rattle.turn_losses.proofs.TwoEnds.{TwoEnds, end_run}
+use Rattle.link_account.proofs.Names.{cases_lt, Role, Originator, Answerer, of, ReadsWritten, waits, is_connected}
+use Rattle.link_run.proofs.Names.{is_released, Link, Accounts, Turn, Hears, arrival, served_at, Carries, RunsOver}
+use Rattle.turn_bound.specs.Together.{Together}
+use Rattle.turn_losses.proofs.Periods.{once}
+use Rattle.turn_losses.proofs.Truths.{clash}
 use Rattle.turn_losses.proofs.Tracing.{Traced, traced}
 use Rattle.turn_losses.proofs.AnswerTurn.{connected-is}
 use Rattle.turn_losses.proofs.LineLaw.{was-sent}
 use Rattle.turn_losses.proofs.PollLaws.{two-ends}
-use Rattle.turn_losses.proofs.Phasing.{is_sabme}
+use Rattle.turn_losses.proofs.Establishing.{is_sabme}
 use Rattle.turn_losses.proofs.BreakHear.{of_word, ack_of}
 use Rattle.turn_losses.proofs.BreakTurn.{number_of}
 use Rattle.turn_losses.proofs.View.{deeds-of, breaking}
-use Rattle.turn_losses.proofs.Windows.{off}
 use Rattle.turn_losses.proofs.Waiting.{BreakPeriod, break-periods}
 use Rattle.turn_losses.proofs.Losing.{connected-loses, last-ends}
 use Rattle.turn_losses.proofs.Quiet.{answ-no-sabme}
 use Rattle.turn_losses.proofs.Spending.{LastWait}
+use Rattle.turn_losses.proofs.Names.{KeepsTime, StandTogether, of_arrived, PeriodLoses, LosesEach, Deed, Trace, past, TwoEnds, end_run}
 
 -- the periods of the break that waits at the end
 pub periods-of : (tries period : ℕ) (delay : Role → ℕ) (link : Link) (ts : List Turn) (state : ℕ → Accounts) (deed : ℕ → Deed)
@@ -57,7 +45,7 @@ pub none-last : (link : Link) (ts : List Turn) (before : Accounts) (t : Turn) (m
     → waits (served_at link (length ts) mid r).account.own_breaks ≡ true
     → of_arrived (of_word (ack_of (number_of (of r before)))) (arrival (of r t).heard) ≡ true → ⊥
 none-last link ts before t mid r tries period hearing cm l w e =
-    off (waits (served_at link (length ts) mid r).account.own_breaks) w
+    clash (waits (served_at link (length ts) mid r).account.own_breaks) w
     (last-ends (of r link).user (length ts) (is_released mid.orig.phase) (arrival (of r t).heard) (of r before)
     (of r mid) l.connected cm l.waiting l.high (hearing r).hears e)
 
@@ -81,9 +69,6 @@ originator-breaks reads together tries period delay link ts before t mid kt run 
     k : TwoEnds period turns (end_run delay w.state w.deed Originator) (end_run delay w.state w.deed Answerer)
     k = two-ends tries period delay link ts w.state w.deed kt w.trace Originator
 
-    once : (y : ℕ) → (y + 1) * period ≡ y * period + period
-    once y = omega arith
-
     same : (x : ℕ) → x ≤ turns → turns ≤ x → x ≡ turns
     same x a b = omega (arith, a, b)
 
@@ -102,7 +87,7 @@ originator-breaks reads together tries period delay link ts before t mid kt run 
         (end_run delay w.state w.deed Originator) (deeds-of tries period delay link ts w.state w.deed kt w.trace Originator) s
         → PeriodLoses period turns (t ∷ ts) n
     go (s, q, bp) =
-        let m = once n in
+        let m = once period n in
         connected-loses reads tries period delay link ts w.state w.deed kt run.may_play w.trace t cs Originator
         (number_of (w.state turns).orig) s n (number-small (w.state turns).orig.own_breaks.answered) q bp
         (λ u a b. peer u (omega (arith, b, q, m)) (bp.stays u a b).connected)

@@ -1,19 +1,16 @@
 -- What only an originator that establishes the link sends, and what only a Connected end does.
-use Rattle.std.proofs.Common.{◌⊎◌, inl, inr, ◌≡◌, ℕ, ◌+◌, Bool, true, false, arith, refl}
-use Rattle.std.proofs.Common.{sym, ◌∙◌, ap, None, Ok}
-use Rattle.std.proofs.lemmas.Bool.Decides.{nat_tests}
-use Rattle.lapm_frames.specs.declared.frame.Frame.{Frame}
-use Rattle.link_account.specs.declared.phase.Phase.{Phase}
-use Rattle.link_account.specs.declared.phase.Phase.TheVariants.{Establishing, Connected, Releasing}
-use Rattle.link_account.specs.declared.answer.Answer.{Answer}
-use Rattle.link_account.specs.declared.answer.Answer.TheVariants as answers
-use Rattle.link_account.specs.Account.{Account, is_connected}
-use Rattle.link_account.specs.Hear.{trying}
-use Rattle.link_account.specs.Speak.{Said, says, frame_for, ready_frame, nr_of, speak}
+use Rattle.std.proofs.Common.{◌⊎◌, inl, inr, ◌≡◌, ℕ, ◌+◌, Bool, true, false, arith, refl, sym, ◌∙◌, ap, None, Ok}
+use Rattle.link_account.proofs.Names.{nat_tests, Frame, Account, is_connected, trying, Said, says, frame_for, ready_frame, nr_of, speak}
+use Rattle.link_account.proofs.Names.{Sabme}
+use Rattle.link_run.proofs.Names.{Phase, Establishing, Connected, Releasing, Answer}
 use Rattle.link_account.proofs.SpeakWays.{Tries, Ways, by-ways, answers_alone, linked-alike, tries-alike}
 use Rattle.turn_bound.proofs.MeetHear.{of_frame}
-use Rattle.turn_losses.proofs.Phasing.{is_sabme}
 use Rattle.turn_losses.proofs.BreakHear.{of_word, any_brk}
+use Rattle.link_account.specs.declared.answer.Answer.TheVariants as answers
+
+abbrev pub is_sabme : Frame → Bool
+is_sabme (Sabme pf) = true
+is_sabme frame = false
 
 -- what an end that sends a SABME, or is Establishing after it spoke, was
 pub record SaidSabme (turn : ℕ) (b : Account) (said : Said) : Type 0 where

@@ -1,13 +1,11 @@
 -- The polls of an end as a clock: it runs from the first expiry on that no acknowledgement follows, while the retry count isn't 0.
 use Rattle.std.proofs.Common.{◌⊎◌, inl, inr, ◌≡◌, ℕ, zero, suc, ◌+◌, ◌-◌, ◌*◌, ◌<◌, ◌≤◌, Bool, true, false, arith, refl, sym, ◌∙◌, subst}
 use Rattle.std.proofs.Common.{Some}
-use Rattle.std.proofs.lemmas.Bool.{cases_lt}
-use Rattle.link_account.specs.Account.{is_connected}
-use Rattle.turn_losses.proofs.Polling.{is_linked, PollTurn}
-use Rattle.turn_losses.proofs.TwoEnds.{EndRun, TwoEnds, hears_poll, hears_final}
+use Rattle.link_account.proofs.Names.{cases_lt, is_connected}
 use Rattle.turn_losses.proofs.PeriodLaws.{StayConnected}
 use Rattle.turn_losses.proofs.Acknowledged.{Counts}
 use Rattle.turn_losses.proofs.Clocks.{Ticked, chain}
+use Rattle.turn_losses.proofs.Names.{is_linked, PollTurn, EndRun, TwoEnds, hears_poll, hears_final}
 use Rattle.turn_losses.proofs.Clocks.Ticked.{Begins, Expires, Stays}
 
 abbrev Polls : EndRun → ℕ → Type 0

@@ -1,19 +1,15 @@
 -- A starved run has many lost slots: each lies in two spans at most.
 use Rattle.std.proofs.Common.{inl, inr, ◌≡◌, ◌≢◌, ℕ, zero, suc, ◌+◌, ◌-◌, ◌*◌, ◌<◌, ◌≤◌, ◌&&◌, ◌||◌, Bool, true, false, max, nat_lt, nat_le}
 use Rattle.std.proofs.Common.{List, [], ◌∷◌, length, arith, refl, ◌∙◌, ap, subst, Some}
-use Rattle.std.specs.Prelude.{slice_get}
-use Rattle.std.proofs.lemmas.Bool.{cases_lt}
-use Rattle.std.proofs.lemmas.Bool.Decides.{nat_tests}
-use Rattle.shared_terms.specs.declared.role.Role.TheVariants.{Originator, Answerer}
-use Rattle.lapm_frames.specs.declared.heard.Heard.{Heard}
-use Rattle.lapm_frames.specs.declared.heard.Heard.TheVariants.{Nothing, Passed, Lost, Chance}
-use Rattle.link_run.specs.Run.{Turn}
+use Rattle.link_account.proofs.Names.{slice_get, cases_lt, nat_tests, Originator, Answerer, Heard, Nothing, Passed, Lost, Chance}
+use Rattle.link_run.proofs.Names.{Turn, LosesSome}
 use Rattle.link_run.specs.Counts.{lost_in, lost_slots}
-use Rattle.link_run.specs.Starved.{SpanLoses, IsLost, LosesSome, turn_at}
+use Rattle.link_run.specs.Starved.{SpanLoses, IsLost, turn_at}
 use Rattle.turn_bound.proofs.Clock.{one_if}
 use Rattle.turn_bound.proofs.Tied.{is_lost}
+use Rattle.turn_losses.proofs.Truths.{and-two}
 use Rattle.turn_losses.specs.Losses.{StarvedLosesMany, LosslessIsFed}
-use Rattle.turn_losses.proofs.Starving.{later-turn}
+use Rattle.turn_losses.proofs.Periods.{later-turn}
 
 -- how many numbers below that one meet a test
 abbrev count_of : ℕ → (ℕ → Bool) → ℕ
@@ -96,19 +92,15 @@ abbrev covers : (period delay last : ℕ) → List Turn → ℕ → Bool
 covers period delay last [] span = false
 covers period delay last (t ∷ ts) span = (loses t && in_span period delay last (length ts) span) || covers period delay last ts span
 
-both-true : (x y : Bool) → x && y ≡ true → (x ≡ true) × (y ≡ true)
-both-true true y e = (refl, e)
-both-true false y e = cc
-
 spans-near : (period delay last turn m k : ℕ) → delay < period → m < k → in_span period delay last turn m ≡ true
     → in_span period delay last turn k ≡ true → k ≤ m + 1
 spans-near period delay last turn m k short less em ek = elim (cases_lt (m + 1) k) [ inl l ↦ absurd (far l) | inr g ↦ g ]
   where
     xm : (nat_lt last (turn + (m + 1) * period + delay) ≡ true) × (nat_le (turn + m * period) last ≡ true)
-    xm = both-true _ _ em
+    xm = and-two _ _ em
 
     xk : (nat_lt last (turn + (k + 1) * period + delay) ≡ true) × (nat_le (turn + k * period) last ≡ true)
-    xk = both-true _ _ ek
+    xk = and-two _ _ ek
 
     behind : last < turn + (m + 1) * period + delay
     behind = let e = xm.0 in grind (arith, nat_tests, e)
@@ -147,8 +139,8 @@ covers-few period delay last n short (t ∷ ts) =
     two : count_of n here ≤ 2
     two = count-near n here
         (λ m k l g a b. spans-near period delay last (length ts) m k short l
-        (both-true (loses t) (in_span period delay last (length ts) m) a).1
-        (both-true (loses t) (in_span period delay last (length ts) k) b).1)
+        (and-two (loses t) (in_span period delay last (length ts) m) a).1
+        (and-two (loses t) (in_span period delay last (length ts) k) b).1)
 
     go : (x y : Bool) → is_lost t.orig.heard ≡ x → is_lost t.answ.heard ≡ y → count_of n (covers period delay last ts) ≤ 2 * lost_slots ts
         → count_of n (covers period delay last (t ∷ ts)) ≤ 2 * (lost_slots ts + lost_in t.orig.heard + lost_in t.answ.heard)

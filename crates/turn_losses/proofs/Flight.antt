@@ -1,24 +1,21 @@
 -- Once an originator is Connected, its peer hears no SABME any more: each one was answered, or is lost, before the next goes.
-use Rattle.std.proofs.Common.{◌⊎◌, inl, inr, ◌≡◌, ℕ, zero, suc, ◌+◌, ◌-◌, ◌*◌, ◌<◌, ◌≤◌, Bool, true, false, arith, refl, sym, ◌∙◌, ap, Ok}
-use Rattle.std.proofs.lemmas.Bool.{cases_lt}
-use Rattle.lapm_frames.specs.declared.frame.Frame.{Frame}
-use Rattle.lapm_frames.specs.declared.frame.Frame.TheVariants.{I, Rr, Rnr, Rej, Srej, Sabme, Disc, Ua, Dm, Frmr, Ui, Xid, Test}
-use Rattle.lapm_frames.specs.declared.sent.Sent.{Sent}
-use Rattle.lapm_frames.specs.declared.sent.Sent.TheVariants as slots
-use Rattle.lapm_frames.specs.declared.arrived.Arrived.{Arrived}
-use Rattle.lapm_frames.specs.declared.arrived.Arrived.TheVariants as arrivals
-use Rattle.link_account.specs.declared.phase.Phase.{Phase}
-use Rattle.link_account.specs.declared.phase.Phase.TheVariants.{Detecting, Negotiating, Establishing, Connected, Releasing, Closed}
-use Rattle.link_account.specs.Account.{Account}
-use Rattle.link_account.specs.Hear.{hear, on_frame, on_seen, on_establishing, on_nothing}
-use Rattle.turn_bound.proofs.MeetHear.{frame_ua, frame_disc, of_frame, of_arrived}
-use Rattle.turn_losses.proofs.Polling.{is_linked}
-use Rattle.turn_losses.proofs.TwoEnds.{EndRun, TwoEnds}
+use Rattle.std.proofs.Common.{◌⊎◌, inl, inr, ◌≡◌, ℕ, zero, suc, ◌+◌, ◌-◌, ◌<◌, ◌≤◌, Bool, true, false, arith, refl, sym, ◌∙◌, ap, Ok}
+use Rattle.link_account.proofs.Names.{cases_lt, Frame, I, Rr, Rnr, Rej, Srej, Sabme, Disc, Ua, Dm, Ui, Xid, Sent, Arrived, Account, hear}
+use Rattle.link_account.proofs.Names.{on_frame, on_nothing}
+use Rattle.link_run.proofs.Names.{Phase, Establishing}
+use Rattle.lapm_frames.specs.declared.frame.Frame.TheVariants.{Frmr, Test}
+use Rattle.link_account.specs.Hear.{on_seen, on_establishing}
+use Rattle.turn_bound.proofs.MeetHear.{frame_ua}
+use Rattle.turn_losses.proofs.Truths.{not-true}
 use Rattle.turn_losses.proofs.LineLaw.{was-sent}
 use Rattle.turn_losses.proofs.PeriodLaws.{linked-on}
 use Rattle.turn_losses.proofs.Moving.{moves_on}
-use Rattle.turn_losses.proofs.Phasing.{is_sabme, is_established}
+use Rattle.turn_losses.proofs.Establishing.{is_sabme}
+use Rattle.turn_losses.proofs.Phasing.{is_established}
 use Rattle.turn_losses.proofs.Trying.{TryTurn}
+use Rattle.turn_losses.proofs.Names.{frame_disc, of_frame, of_arrived, is_linked, EndRun, TwoEnds}
+use Rattle.lapm_frames.specs.declared.sent.Sent.TheVariants as slots
+use Rattle.lapm_frames.specs.declared.arrived.Arrived.TheVariants as arrivals
 
 -- an end that is Establishing, and is linked once it has heard, heard UA
 pub heard-ua : (arrived : Arrived) (turn : ℕ) (a mid : Account) → a.phase ≡ Establishing → hear turn arrived a ≡ Ok mid
@@ -70,16 +67,8 @@ is-ua slots.Adp e = cc
 is-ua slots.Flags e = cc
 
 pub only-establishing : (p : Phase) → is_established p ≡ true → is_linked p ≡ false → p ≡ Establishing
-only-establishing Detecting e l = cc
-only-establishing Negotiating e l = cc
 only-establishing Establishing e l = refl
-only-establishing Connected e l = cc
-only-establishing Releasing e l = cc
-only-establishing Closed e l = cc
-
-not-true : (b : Bool) → (b ≡ true → ⊥) → b ≡ false
-not-true true f = absurd (f refl)
-not-true false f = refl
+only-establishing p e l = cc
 
 -- the SABMEs of a run
 pub record Sabmes (period turns : ℕ) (o : EndRun) : Type 0 where
@@ -155,14 +144,8 @@ pub no-sabme-heard : (period turns : ℕ) (o e : EndRun) → TwoEnds period turn
     → s < turns → is_linked (o.account (s + 1)).phase ≡ true → (t : ℕ) → s ≤ t → t < turns → of_arrived is_sabme (e.heard t) ≡ true → ⊥
 no-sabme-heard period turns o e k h m s inside linked t low within heard = by (cases_lt s q)
   where
-    p : period ≡ 2 * (o.delay + e.delay) + 16
-    p = k.period_is
-
     d : 1 ≤ o.delay
     d = k.own_delay
-
-    d' : 1 ≤ e.delay
-    d' = k.other_delay
 
     q : ℕ
     q = t - o.delay
@@ -209,7 +192,7 @@ no-sabme-heard period turns o e k h m s inside linked t low within heard = by (c
             let c0 = c.0 in let s0 = sent.0 in
             let j = m.disc_sent (y - o.delay) (omega (arith, within, b, low)) c.1 in
             let wrong : true ≡ false = sym
-            (linked-on period turns o e k (y - o.delay + 1) z (omega (arith, c0, s0, d')) (omega (arith, b, inside)) j) ∙ u in cc
+            (linked-on period turns o e k (y - o.delay + 1) z (omega (arith, c0, s0, k.other_delay)) (omega (arith, b, inside)) j) ∙ u in cc
         on (inl f) = compare (cases_lt r q)
           where
             c : (o.delay ≤ y) × (of_frame is_sabme (o.slot (y - o.delay)) ≡ true)
@@ -219,13 +202,13 @@ no-sabme-heard period turns o e k h m s inside linked t low within heard = by (c
             r = y - o.delay
 
             compare : (r < q) ⊎ (q ≤ r) → ⊥
-            compare (inr g) = let c0 = c.0 in let s0 = sent.0 in let t0 = came.0 in omega (arith, g, c0, s0, t0, b, low, d')
+            compare (inr g) = let c0 = c.0 in let s0 = sent.0 in let t0 = came.0 in omega (arith, g, c0, s0, t0, b, low, k.other_delay)
             compare (inl g) =
                 let c0 = c.0 in let s0 = sent.0 in
                 let far = sabmes-apart period turns o h r q g (omega (arith, within)) c.1 came.1
                 (λ x i j. between (r + 1) z (omega (arith, g, within)) (omega (arith, b, inside))
                 (ap is_established (h.sent r (omega (arith, g, within)) c.1).0) u x (omega (arith, i)) (omega (arith, j, a))) in
-                omega (arith, far, c0, s0, a, p)
+                omega (arith, far, c0, s0, a, k.period_is)
 
     by : (s < q) ⊎ (q ≤ s) → ⊥
     by (inl g) = let wrong : true ≡ false = sym

@@ -1,20 +1,17 @@
 -- Whatever an end gives up for, where no break waits.
 use Rattle.std.proofs.Common.{◌≡◌, ℕ, ◌+◌, Bool, true, false, cond, ◌∷◌, length, arith, refl, sym, ◌∙◌, ap}
-use Rattle.shared_terms.specs.declared.role.Role.{Role}
-use Rattle.shared_terms.specs.declared.role.Role.TheVariants.{Originator, Answerer}
-use Rattle.shared_terms.specs.Both.{of}
-use Rattle.break_signals.specs.Breaks.{waits}
-use Rattle.shared_terms.specs.declared.fault.LinkFault.{LinkFault}
-use Rattle.shared_terms.specs.declared.fault.LinkFault.TheVariants.{Spent, NotDetected, BadAck, PeerReset, PeerRefused}
-use Rattle.link_account.specs.Account.{is_connected, break_waits}
-use Rattle.link_run.specs.End.{is_released}
-use Rattle.link_run.specs.Run.{BrokenTurn, served_at}
+use Rattle.link_account.proofs.Names.{Role, Originator, Answerer, of, waits, LinkFault, Spent, NotDetected, is_connected}
+use Rattle.link_run.proofs.Names.{is_released, served_at}
+use Rattle.shared_terms.specs.declared.fault.LinkFault.TheVariants.{BadAck, PeerReset, PeerRefused}
+use Rattle.link_account.specs.Account.{break_waits}
+use Rattle.link_run.specs.Run.{BrokenTurn}
 use Rattle.link_run.specs.Laws.{EachEndIsNamed, IsNamed}
 use Rattle.turn_bound.proofs.Serving.{serves-all}
 use Rattle.turn_losses.specs.Losses.{LosesEach, OriginatorWantsAnswers, OriginatorIsStarved, OriginatorWantsPattern, UndetectedIsStarved}
 use Rattle.turn_losses.proofs.AnswerTurn.{connected-is}
 use Rattle.turn_losses.specs.Tries.{OriginatorWantsFrame, AnswererWantsAnswer, IsForLosses, GivesUpForLosses}
-use Rattle.turn_losses.proofs.Parting.{later-loses, answerer-gives-up}
+use Rattle.turn_losses.proofs.Parting.{answerer-gives-up}
+use Rattle.turn_losses.proofs.Periods.{later-loses}
 
 -- what the laws say of each case
 pub record Cases : Type 0 where

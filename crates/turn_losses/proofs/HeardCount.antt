@@ -1,8 +1,6 @@
 -- What hearing makes of the retry count and the timer of a Connected end: the count is 0, or both are as they were.
 use Rattle.std.proofs.Common.{inr, ◌≡◌, ℕ, true, refl, Ok}
-use Rattle.lapm_frames.specs.declared.arrived.Arrived.{Arrived}
-use Rattle.link_account.specs.Account.{Account, is_connected}
-use Rattle.link_account.specs.Hear.{hear}
+use Rattle.link_account.proofs.Names.{Arrived, Account, is_connected, hear}
 use Rattle.turn_bound.proofs.Clock.{Rates, Sends}
 use Rattle.turn_losses.proofs.AnswerTurn.{connected-is}
 use Rattle.link_account.proofs.HearWays.{by-linked}

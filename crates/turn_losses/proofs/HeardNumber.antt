@@ -2,24 +2,17 @@
 -- clock, of replies, of what is urgent and of a pause.
 use Rattle.std.proofs.Common.{◌⊎◌, inl, inr, ◌≡◌, ℕ, ◌-◌, ◌<◌, ◌&&◌, ◌||◌, not, Bool, true, false, cond, nat_lt, arith, refl, sym, ◌∙◌, ap}
 use Rattle.std.proofs.Common.{Option, Some, None}
-use Rattle.std.proofs.lemmas.Bool.Decides.{nat_tests}
-use Rattle.lapm_frames.specs.declared.frame.Frame.{Frame}
-use Rattle.lapm_frames.specs.declared.frame.Frame.TheVariants.{I, Rr, Rnr, Rej, Srej}
-use Rattle.lapm_frames.specs.declared.arrived.Arrived.{Arrived}
-use Rattle.lapm_frames.specs.declared.arrived.Arrived.TheVariants as arrivals
+use Rattle.link_account.proofs.Names.{nat_tests, Frame, I, Rr, Rnr, Rej, Srej, Arrived, Outgoing, advanced, resumed, Incoming, BreakWord}
+use Rattle.link_account.proofs.Names.{Account}
 use Rattle.lapm_sender.specs.Numbers.{with_number}
-use Rattle.lapm_sender.specs.Outgoing.{Outgoing, advanced, resumed}
-use Rattle.lapm_receiver.specs.Incoming.{Incoming}
-use Rattle.break_signals.specs.declared.word.BreakWord.{BreakWord}
-use Rattle.link_account.specs.Account.{Account}
 use Rattle.link_account.specs.Hear.{timer_after, ends_wait}
 use Rattle.link_account.proofs.HearWays.{Numbers, numbered_with, resumed-unpaused, acked, acked_back, Plain, IsUa, IsXid, IsTest, IsNoWord}
-use Rattle.turn_bound.proofs.Clock.{Rates, Sends, is_waiting}
+use Rattle.turn_bound.proofs.Clock.{is_waiting}
 use Rattle.turn_bound.proofs.Sender.{Heard, heard-clock, meant-range, heard-advanced, heard-resumed, heard-selected, acked-heard}
 use Rattle.turn_bound.proofs.MeetHear.{resumed-awaited}
-use Rattle.turn_losses.specs.Polls.{is_poll, is_final}
-use Rattle.turn_losses.proofs.Polling.{SetFrom}
 use Rattle.turn_losses.proofs.Words.{is_word, of_word}
+use Rattle.turn_losses.proofs.Names.{Rates, Sends, is_poll, is_final, SetFrom}
+use Rattle.lapm_frames.specs.declared.arrived.Arrived.TheVariants as arrivals
 
 -- The retry count and the timer are as they were, or the count is 0.
 abbrev pub CountStays : Outgoing → Option ℕ → Outgoing → Option ℕ → Type 0

@@ -1,14 +1,11 @@
 -- What hearing makes of the other end's pause, at a Connected end: where it begins the retry count is 0, and an answer to a poll ends it or
 -- begins it.
 use Rattle.std.proofs.Common.{◌⊎◌, inl, ◌≡◌, ℕ, true, false, refl, sym, ◌∙◌, Ok}
-use Rattle.lapm_frames.specs.declared.arrived.Arrived.{Arrived}
-use Rattle.link_account.specs.Account.{Account, is_connected}
-use Rattle.link_account.specs.Hear.{hear}
-use Rattle.turn_bound.proofs.MeetHear.{of_arrived}
-use Rattle.turn_losses.specs.Polls.{is_final}
+use Rattle.link_account.proofs.Names.{Arrived, Account, is_connected, hear}
 use Rattle.turn_losses.proofs.AnswerTurn.{connected-is}
 use Rattle.link_account.proofs.HearWays.{by-linked}
 use Rattle.turn_losses.proofs.HeardNumber.{number-rows, plain-frame}
+use Rattle.turn_losses.proofs.Names.{of_arrived, is_final}
 
 pub record PausedHeard (x : Arrived) (a b : Account) : Type 0 where
   pub paused : b.outgoing.paused ≡ true → (a.outgoing.paused ≡ true) ⊎ (b.outgoing.count ≡ 0)

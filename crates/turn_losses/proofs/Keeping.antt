@@ -1,31 +1,20 @@
 use Rattle.std.proofs.Common.{◌≡◌, ℕ, ◌+◌, ◌-◌, ◌<◌, ◌&&◌, Bool, true, false, List, ◌∷◌, length, arith, refl, sym, ◌∙◌, ap, Option, Some}
 use Rattle.std.proofs.Common.{None}
-use Rattle.std.specs.Prelude.{slice_get}
-use Rattle.shared_terms.specs.declared.role.Role.{Role}
-use Rattle.shared_terms.specs.declared.role.Role.TheVariants.{Originator, Answerer}
-use Rattle.shared_terms.specs.Role.{other}
-use Rattle.shared_terms.specs.Both.{of}
-use Rattle.lapm_frames.specs.declared.frame.Frame.{Frame}
-use Rattle.lapm_frames.specs.declared.sent.Sent.{Sent}
-use Rattle.lapm_frames.specs.declared.sent.Sent.TheVariants as slots
-use Rattle.lapm_frames.specs.declared.heard.Heard.{Heard}
-use Rattle.lapm_frames.specs.declared.heard.Heard.TheVariants.{Nothing, Passed, Lost, Chance}
-use Rattle.link_account.specs.Account.{is_connected}
-use Rattle.link_run.specs.Run.{Link, Accounts, Spoken, Turn, arrival}
-use Rattle.link_run.specs.Carried.{sent_in, sent_ago}
+use Rattle.link_account.proofs.Names.{slice_get, Role, Originator, Answerer, other, of, Frame, Sent, Heard, Nothing, Passed, Lost, Chance}
+use Rattle.link_account.proofs.Names.{is_connected}
+use Rattle.link_run.proofs.Names.{Link, Accounts, Spoken, Turn, arrival, sent_in, sent_ago}
 use Rattle.link_run.specs.Overheard.{passes_in}
 use Rattle.link_run.specs.Starved.{turn_at}
-use Rattle.turn_bound.proofs.MeetHear.{of_frame, of_arrived}
-use Rattle.turn_losses.specs.Polls.{is_poll, is_final, is_frame_of, sends_of, PollsIn, PollsKeepApart, RepliesAtOnce, AnswersPoll}
-use Rattle.turn_losses.specs.Polls.{AnswersMatchPolls}
-use Rattle.turn_losses.proofs.Trace.{Deed, Trace, past, sent_or}
-use Rattle.turn_losses.proofs.TwoEnds.{EndRun, TwoEnds, end_run, sends_poll, hears_poll, sends_final, hears_final}
+use Rattle.turn_losses.specs.Polls.{is_frame_of, sends_of, PollsIn, PollsKeepApart, RepliesAtOnce, AnswersPoll, AnswersMatchPolls}
 use Rattle.turn_losses.proofs.KeepsPolls.{Answers, KeepsPolls, StillAwaited}
 use Rattle.turn_losses.proofs.Tracing.{Traced, traced, OneMore, traced-turn, past-all, past-before}
 use Rattle.turn_losses.proofs.LineLaw.{looked}
 use Rattle.turn_losses.proofs.PollLaws.{two-ends, due-apart, poll-fresh, poll-held-up, polls-apart, reply-from, reply-at-once}
 use Rattle.turn_losses.proofs.PollLaws.{reply-matches}
 use Rattle.turn_losses.proofs.PeriodLaws.{still-awaited}
+use Rattle.turn_losses.proofs.Names.{of_frame, of_arrived, is_poll, is_final, Deed, Trace, past, sent_or, EndRun, TwoEnds, end_run}
+use Rattle.turn_losses.proofs.Names.{sends_poll, hears_poll, sends_final, hears_final}
+use Rattle.lapm_frames.specs.declared.sent.Sent.TheVariants as slots
 
 keeps-polls : (period turns : ℕ) (e o : EndRun) → TwoEnds period turns e o → KeepsPolls period turns e o
 keeps-polls period turns e o k = record {

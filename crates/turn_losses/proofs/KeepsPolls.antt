@@ -1,8 +1,7 @@
 -- What holds of polls and their answers in every run.
 use Rattle.std.specs.Prelude.{◌≡◌, ℕ, ◌+◌, ◌<◌, ◌≤◌, true, false}
 use Rattle.link_account.specs.Account.{Account, is_connected}
-use Rattle.turn_losses.proofs.Polling.{poll_due}
-use Rattle.turn_losses.proofs.TwoEnds.{EndRun, sends_poll, hears_poll, sends_final, hears_final}
+use Rattle.turn_losses.proofs.Names.{poll_due, EndRun, sends_poll, hears_poll, sends_final, hears_final}
 
 -- What a response with F = 1 answers: a poll sent a round trip before, which became due in that turn or the one before it; none became due
 -- since.

@@ -1,21 +1,11 @@
 -- Whatever an end gives up for, the run was starved.
 use Rattle.std.proofs.Common.{◌⊎◌, inl, inr, ◌≡◌, ℕ, ◌+◌, ◌≤◌, Bool, true, false, cond, ◌∷◌, length, arith, refl, sym, ◌∙◌, ap, subst}
-use Rattle.shared_terms.specs.declared.role.Role.{Role}
-use Rattle.shared_terms.specs.declared.role.Role.TheVariants.{Originator, Answerer}
-use Rattle.shared_terms.specs.Both.{of}
-use Rattle.xid_params.specs.Offers.{ReadsWritten, IsAllowed}
-use Rattle.break_signals.specs.Breaks.{waits}
-use Rattle.link_account.specs.declared.phase.Phase.{Phase}
-use Rattle.link_account.specs.declared.phase.Phase.TheVariants.{Detecting, Negotiating, Establishing, Connected, Releasing, Closed}
-use Rattle.shared_terms.specs.declared.fault.LinkFault.{LinkFault}
-use Rattle.link_account.specs.Account.{Account, is_connected, break_waits}
-use Rattle.link_run.specs.End.{is_released, is_closed}
-use Rattle.link_run.specs.Run.{BrokenTurn, arrival, served_at}
+use Rattle.link_account.proofs.Names.{Role, Originator, Answerer, of, ReadsWritten, IsAllowed, waits, LinkFault, Account, is_connected}
+use Rattle.link_run.proofs.Names.{Phase, Releasing, is_released, is_closed}
+use Rattle.link_run.proofs.Names.{arrival, served_at}
+use Rattle.link_account.specs.Account.{break_waits}
+use Rattle.link_run.specs.Run.{BrokenTurn}
 use Rattle.link_run.specs.Starved.{IsStarved}
-use Rattle.turn_bound.specs.Together.{StandTogether}
-use Rattle.turn_bound.proofs.Clock.{Rates, rates}
-use Rattle.turn_bound.proofs.Value.{IsOf}
-use Rattle.turn_bound.proofs.Serving.{serves-all}
 use Rattle.turn_losses.proofs.AnswerTurn.{connected-is}
 use Rattle.turn_losses.proofs.Tracing.{Known, known, Timed, timed, rated, release_of}
 use Rattle.turn_losses.proofs.Numbering.{Plays, allowed, fits-at}
@@ -23,13 +13,13 @@ use Rattle.turn_losses.proofs.Room.{begins-roomy}
 use Rattle.turn_losses.proofs.Wanting.{SpendsTries, LastTry, last-try-of, SpendsBreak, connected-spends}
 use Rattle.turn_losses.proofs.Starving.{originator-each, all-but-one}
 use Rattle.turn_losses.proofs.Answerer.{answerer-each}
-use Rattle.turn_losses.specs.Tries.{GivesUpForLosses}
 use Rattle.turn_losses.proofs.Setups.{heard-setup, served-setup}
 use Rattle.turn_losses.proofs.Parting.{parted-each, all-but-last}
 use Rattle.turn_losses.specs.Breaks.{GivesUpStarved}
 use Rattle.turn_losses.proofs.Spending.{LastWait, last-wait}
 use Rattle.turn_losses.proofs.Ending.{originator-breaks}
 use Rattle.turn_losses.proofs.Sparing.{answerer-breaks, of-period}
+use Rattle.turn_losses.proofs.Names.{StandTogether, Rates, rates, IsOf, serves-all, GivesUpForLosses}
 
 pub record Base : Type 0 where
   pub plays : Plays
@@ -38,12 +28,8 @@ pub record Base : Type 0 where
   pub quiet : GivesUpForLosses
 
 only-releasing : (q : Phase) → is_released q ≡ true → is_closed q ≡ false → q ≡ Releasing
-only-releasing Detecting g h = cc
-only-releasing Negotiating g h = cc
-only-releasing Establishing g h = cc
-only-releasing Connected g h = cc
 only-releasing Releasing g h = refl
-only-releasing Closed g h = cc
+only-releasing p g h = cc
 
 waiting-is : (c w : Bool) → cond c w false ≡ true → (c ≡ true) × (w ≡ true)
 waiting-is true w e = (refl, e)

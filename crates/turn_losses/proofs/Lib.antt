@@ -1,5 +1,7 @@
+pub mod Names
 pub mod Polls
 pub mod Polling
+mod Truths
 pub mod Answered
 pub mod TwoEnds
 pub mod Trace
@@ -23,6 +25,7 @@ pub mod PeriodHolds
 pub mod Clocks
 pub mod Expiries
 pub mod Keeping
+pub mod Periods
 pub mod NumberHear
 pub mod NumberSpeak
 pub mod Room

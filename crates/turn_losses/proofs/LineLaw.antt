@@ -1,27 +1,13 @@
 use Rattle.std.proofs.Common.{◌⊎◌, inl, inr, ◌≡◌, ℕ, zero, suc, ◌+◌, ◌-◌, ◌<◌, ◌≤◌, Bool, true, false, cond, List, [], ◌∷◌, length, arith}
 use Rattle.std.proofs.Common.{refl, sym, ◌∙◌, ap, subst, Some, None}
-use Rattle.std.proofs.lemmas.Bool.{cases_lt}
-use Rattle.shared_terms.specs.declared.role.Role.{Role}
-use Rattle.lapm_frames.specs.declared.frame.Frame.{Frame}
-use Rattle.lapm_frames.specs.declared.sent.Sent.{Sent}
-use Rattle.lapm_frames.specs.declared.arrived.Arrived.{Arrived}
-use Rattle.lapm_frames.specs.declared.arrived.Arrived.TheVariants as arrivals
-use Rattle.link_account.specs.Account.{Account, is_connected}
-use Rattle.link_account.specs.Play.{arrives}
-use Rattle.std.specs.Prelude.{slice_get}
-use Rattle.shared_terms.specs.Role.{other}
-use Rattle.shared_terms.specs.Both.{of}
-use Rattle.link_run.specs.Run.{Link, Accounts, Turn, arrival}
-use Rattle.link_run.specs.Carried.{Crosses, HasDelays, sent_in}
-use Rattle.turn_bound.proofs.Tied.{is_lost, sent_of, none-heard, one-heard}
-use Rattle.turn_losses.proofs.Trace.{past, sent_or}
-use Rattle.turn_losses.specs.Polls.{is_poll}
-use Rattle.turn_bound.proofs.MeetHear.{of_frame, of_arrived}
-use Rattle.turn_losses.proofs.Polling.{is_linked, poll_due, PollTurn}
+use Rattle.link_account.proofs.Names.{cases_lt, Role, Frame, Sent, Arrived, Account, is_connected, arrives, slice_get, other, of}
+use Rattle.link_run.proofs.Names.{Link, Accounts, Turn, arrival, Crosses, sent_in}
+use Rattle.link_run.specs.Carried.{HasDelays}
+use Rattle.turn_bound.proofs.Tied.{sent_of, none-heard, one-heard}
 use Rattle.turn_losses.proofs.Polls.{Polls, WasSent}
-use Rattle.turn_losses.proofs.Trace.{Deed, Happens, Trace}
-use Rattle.turn_losses.proofs.TwoEnds.{ArrivesLate}
-use Rattle.turn_bound.proofs.Meeting.{arrives-flag}
+use Rattle.turn_losses.proofs.Names.{is_lost, past, sent_or, Deed, Trace, is_poll, of_frame, of_arrived, is_linked, poll_due}
+use Rattle.turn_losses.proofs.Names.{PollTurn, ArrivesLate, arrives-flag}
+use Rattle.lapm_frames.specs.declared.arrived.Arrived.TheVariants as arrivals
 
 -- the turn so many turns ago
 pub looked : (period : ℕ) (delay : Role → ℕ) (link : Link) (ts : List Turn) (state : ℕ → Accounts) (deed : ℕ → Deed)
@@ -50,15 +36,12 @@ arrives-late period delay link ts state deed some w role t within = record { ear
     d : ℕ
     d = delay (other role)
 
-    h : Happens period delay link (past ts t) t (state t) (deed t) (state (t + 1))
-    h = w.happens t within
-
     crosses : Crosses (sent_in (other role) (slice_get (past ts t) (d - 1))) (of role (deed t).turn).heard
-    crosses = h.carries role
+    crosses = (w.happens t within).carries role
 
     early : t < d → arrival (of role (deed t).turn).heard ≡ arrivals.Nothing
     early l =
-        let number = h.number in
+        let number = (w.happens t within).number in
         sym (none-heard (sent_in (other role) (slice_get (past ts t) (d - 1))) (of role (deed t).turn).heard
         (ap (sent_in (other role)) (get-none (past ts t) (d - 1) (omega (arith, number, l)))) crosses)
 
@@ -79,15 +62,14 @@ arrives-late period delay link ts state deed some w role t within = record { ear
 pub was-sent : (delay turns : ℕ) (kind : Frame → Bool) (f : ℕ → Sent) (arrived : ℕ → Arrived) (loses : ℕ → Bool)
     → ((t : ℕ) → t < turns → ArrivesLate delay t (loses t) f (arrived t))
     → WasSent delay turns (λ t. of_arrived kind (arrived t)) (λ t. of_frame kind (f t))
-was-sent delay turns kind f arrived loses h t within is_heard = go (cases_lt t delay)
+was-sent delay turns kind f arrived loses h t within is_heard = elim (cases_lt t delay) [
+  | inl l ↦ (let wrong : false ≡ true = ap (of_arrived kind) (sym ((h t within).early l)) ∙ is_heard in cc)
+  | inr g ↦ (g, by (loses t) (ap (of_arrived kind) (sym ((h t within).late g)) ∙ is_heard))
+]
   where
     by : (b : Bool) → of_arrived kind (cond b arrivals.Nothing (arrives (f (t - delay)))) ≡ true → of_frame kind (f (t - delay)) ≡ true
     by true e = cc
     by false e = sym (arrives-flag kind (f (t - delay))) ∙ e
-
-    go : (t < delay) ⊎ (delay ≤ t) → (delay ≤ t) × (of_frame kind (f (t - delay)) ≡ true)
-    go (inl l) = let wrong : false ≡ true = ap (of_arrived kind) (sym ((h t within).early l)) ∙ is_heard in cc
-    go (inr g) = (g, by (loses t) (ap (of_arrived kind) (sym ((h t within).late g)) ∙ is_heard))
 
 -- what is sent is heard unless it is lost
 pub is-heard : (delay turns : ℕ) (kind : Frame → Bool) (f : ℕ → Sent) (arrived : ℕ → Arrived) (loses : ℕ → Bool)

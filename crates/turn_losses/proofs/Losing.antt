@@ -1,55 +1,27 @@
 -- What is lost in each period of a waiting break, while the other end is Connected.
 use Rattle.std.proofs.Common.{◌⊎◌, inl, inr, ◌≡◌, ℕ, ◌+◌, ◌-◌, ◌*◌, ◌<◌, ◌≤◌, Bool, true, false, List, ◌∷◌, length, arith, refl, sym, ◌∙◌}
-use Rattle.std.proofs.Common.{ap, subst, Ok}
-use Rattle.std.specs.Prelude.{slice_get}
-use Rattle.std.proofs.lemmas.Bool.{cases_lt}
-use Rattle.std.proofs.lemmas.Bool.Decides.{nat_tests}
-use Rattle.shared_terms.specs.declared.role.Role.{Role}
-use Rattle.shared_terms.specs.declared.role.Role.TheVariants.{Originator, Answerer}
-use Rattle.shared_terms.specs.Role.{other}
-use Rattle.shared_terms.specs.Both.{of}
-use Rattle.lapm_frames.specs.declared.frame.Frame.{Frame}
-use Rattle.xid_params.specs.Offers.{ReadsWritten}
-use Rattle.break_signals.specs.Breaks.{OwnBreaks, waits}
-use Rattle.lapm_frames.specs.declared.arrived.Arrived.{Arrived}
-use Rattle.link_account.specs.Account.{Account, is_connected}
-use Rattle.link_account.specs.Laws.{MayPlay}
-use Rattle.link_account.specs.Hear.{hear}
-use Rattle.link_account.specs.Play.{arrives}
-use Rattle.link_run.specs.End.{User, is_busy}
-use Rattle.link_run.specs.Run.{Link, Accounts, Turn, SpeaksAt, arrival, said_at}
-use Rattle.link_run.specs.Carried.{Carries, sent_in}
-use Rattle.link_run.specs.Starved.{LosesSome}
-use Rattle.turn_bound.specs.Time.{KeepsTime}
-use Rattle.turn_bound.proofs.MeetHear.{of_frame, of_arrived}
-use Rattle.turn_bound.proofs.Meeting.{arrives-flag}
-use Rattle.turn_bound.proofs.Serving.{serves-all}
-use Rattle.turn_bound.proofs.Run.{served_account}
-use Rattle.turn_bound.proofs.Tied.{is_lost}
-use Rattle.turn_losses.specs.Losses.{PeriodLoses}
-use Rattle.turn_losses.proofs.Trace.{Deed, Trace, past, sent_or}
-use Rattle.turn_losses.proofs.TwoEnds.{EndRun, TwoEnds, end_run}
+use Rattle.std.proofs.Common.{ap, Ok}
+use Rattle.link_account.proofs.Names.{slice_get, cases_lt, nat_tests, Role, Originator, Answerer, other, of, Frame, ReadsWritten, OwnBreaks}
+use Rattle.link_account.proofs.Names.{waits, Arrived, Account, is_connected, MayPlay, hear, arrives}
+use Rattle.link_run.proofs.Names.{User, is_busy, Link, Accounts, Turn, SpeaksAt, arrival, said_at, Carries, sent_in}
+use Rattle.turn_losses.proofs.Truths.{clash}
+use Rattle.turn_losses.proofs.Truths.{not-true}
+use Rattle.turn_losses.proofs.Periods.{once, loses-at, loses-last}
 use Rattle.turn_losses.proofs.Tracing.{past-all}
 use Rattle.turn_losses.proofs.LineLaw.{is-heard, looked, was-sent}
 use Rattle.turn_losses.proofs.PollLaws.{two-ends}
 use Rattle.turn_losses.proofs.PeriodLaws.{NoneLost}
 use Rattle.turn_losses.proofs.PeriodHolds.{LostIn, lost-or-none}
-use Rattle.turn_losses.proofs.Keeping.{turn-is}
-use Rattle.turn_losses.proofs.Wanting.{lost-is}
-use Rattle.turn_losses.proofs.Starving.{later-turn}
 use Rattle.turn_losses.proofs.AnswerTurn.{connected-is}
-use Rattle.turn_losses.proofs.Parting.{passes-as, newest}
-use Rattle.turn_losses.proofs.Phasing.{is_sabme}
+use Rattle.turn_losses.proofs.Parting.{passes-as}
+use Rattle.turn_losses.proofs.Establishing.{is_sabme}
 use Rattle.turn_losses.proofs.BreakHear.{of_word, ack_of, break-heard}
 use Rattle.turn_losses.proofs.BreakTurn.{Deeds, ServedBreaks, number_of, brk_due}
 use Rattle.turn_losses.proofs.View.{deeds-of, breaking, served-own}
-use Rattle.turn_losses.proofs.Windows.{off}
 use Rattle.turn_losses.proofs.Waiting.{BreakPeriod, break-answered}
 use Rattle.turn_losses.proofs.Quiet.{answers-sabme, sends-sabme-so}
-
-not-true : (b : Bool) → (b ≡ true → ⊥) → b ≡ false
-not-true true f = absurd (f refl)
-not-true false f = refl
+use Rattle.turn_losses.proofs.Names.{KeepsTime, of_frame, of_arrived, arrives-flag, serves-all, served_account, is_lost, PeriodLoses, Deed}
+use Rattle.turn_losses.proofs.Names.{Trace, past, sent_or, EndRun, TwoEnds, end_run}
 
 waits-not : (b : OwnBreaks) → length b.lengths ≤ b.answered → waits b ≡ false
 waits-not b l = grind (arith, nat_tests, l)
@@ -77,34 +49,6 @@ last-heard kind period delay link ts state deed w t cs r d s same f =
     heard : arrival (of r t).heard ≡ arrives (sent_or (of (other r) (deed s).turn).sent)
     heard = passes-as (sent_in (other r) (slice_get ts (delay (other r) - 1))) s'.said (of r t).heard (on-line ∙ s'.sent_is) (cs r) f
         ∙ ap (λ j. arrives (sent_or j)) (sym s'.sent_is)
-
--- a loss of a turn as one of a period
-pub loses-at : (period : ℕ) (delay : Role → ℕ) (link : Link) (ts : List Turn) (state : ℕ → Accounts) (deed : ℕ → Deed)
-    → Trace period delay link ts state deed → (t : Turn) (s n : ℕ) → s + (n + 1) * period ≡ length ts
-    → (u : ℕ) → s < u → u ≤ s + period → u < length ts → (r : Role) → is_lost (of r (deed u).turn).heard ≡ true
-    → PeriodLoses period (length ts) (t ∷ ts) n
-loses-at period delay link ts state deed w t s n q u lo hi b r lost = let m = once n in record {
-  turn = u;
-  within = omega (arith, b);
-  in_period = record { behind = omega (arith, lo, q); before = omega (arith, hi, q, m) };
-  lost = subst LosesSome (sym (later-turn u t ts b ∙ turn-is period delay link ts state deed w u b))
-      (r, lost-is (of r (deed u).turn).heard lost);
-}
-  where
-    once : (y : ℕ) → (y + 1) * period ≡ y * period + period
-    once y = omega arith
-
-pub loses-last : (period : ℕ) (t : Turn) (ts : List Turn) (s n : ℕ) → 1 ≤ period → s + (n + 1) * period ≡ length ts
-    → s + period ≡ length ts → (r : Role) → is_lost (of r t).heard ≡ true → PeriodLoses period (length ts) (t ∷ ts) n
-loses-last period t ts s n long q f r lost = let m = once n in record {
-  turn = length ts;
-  within = omega arith;
-  in_period = record { behind = omega (arith, q, f, long); before = omega (arith, q, f, m) };
-  lost = subst LosesSome (sym (newest t ts)) (r, lost-is (of r t).heard lost);
-}
-  where
-    once : (y : ℕ) → (y + 1) * period ≡ y * period + period
-    once y = omega arith
 
 -- the answer in the last turn ends the wait
 pub last-ends : (user : User) (turn : ℕ) (released : Bool) (arrived : Arrived) (a mid : Account) → is_connected a.phase ≡ true
@@ -165,23 +109,11 @@ connected-loses reads tries period delay link ts state deed kt m w t cs r number
     d' : ℕ → Deeds
     d' = deeds-of tries period delay link ts state deed kt w (other r)
 
-    p : period ≡ 2 * (e.delay + o.delay) + 16
-    p = k.period_is
-
-    one : 1 ≤ e.delay
-    one = k.own_delay
-
-    one' : 1 ≤ o.delay
-    one' = k.other_delay
-
     long : 1 ≤ period
-    long = omega (arith, p)
+    long = omega (arith, k.period_is)
 
     within : s + period ≤ turns
-    within = let x = once n in omega (arith, q, x)
-      where
-        once : (y : ℕ) → (y + 1) * period ≡ y * period + period
-        once y = omega arith
+    within = let x = once period n in omega (arith, q, x)
 
     quiet : (u : ℕ) → s ≤ u → u < s + period → (d u).answers ≡ false
     quiet u a b = not-true (d u).answers
@@ -194,7 +126,7 @@ connected-loses reads tries period delay link ts state deed kt m w t cs r number
         (co (u + 1) (omega (arith, a)) (omega (arith, b))) f in
         let c = was-sent e.delay turns is_sabme e.slot o.heard o.loses k.is_heard u (omega (arith, b, within)) heard in
         let v : ℕ = u - e.delay in
-        off (is_connected (e.account (v + 1)).phase) (bp.stays (v + 1) (omega (arith, a)) (omega (arith, a, b, one))).connected
+        clash (is_connected (e.account (v + 1)).phase) (bp.stays (v + 1) (omega (arith, a)) (omega (arith, a, b, k.own_delay))).connected
         (sends-sabme-so reads tries period delay link ts state deed kt m w r v (omega (arith, b, within)) c.1))
 
     some : (u : ℕ) → s < u → u ≤ s + period → u < turns → (e.loses u ≡ true) ⊎ (o.loses u ≡ true) → PeriodLoses period turns (t ∷ ts) n
@@ -230,7 +162,7 @@ connected-loses reads tries period delay link ts state deed kt m w t cs r number
                 (of_word (ack_of number)) o.slot e.heard e.loses k.hears z (omega (arith, f, l)) (ap e.loses f ∙ g) ∙ sent in
                 let here = bp.stays (s + period) (omega (arith, long)) (omega arith) in
                 let there = bp.goes_on l in
-                absurd (off (waits (e.account (s + period + 1)).own_breaks) there.waiting
+                absurd (clash (waits (e.account (s + period + 1)).own_breaks) there.waiting
                 (((breaking tries period delay link ts state deed kt w r).turn (s + period) l there.connected).ends here.connected
                 here.waiting
                 (ap (λ x. of_arrived (of_word (ack_of x)) (e.heard (s + period))) here.numbered
@@ -239,4 +171,4 @@ connected-loses reads tries period delay link ts state deed kt m w t cs r number
             at-end : s + period ≡ turns → (b : Bool) → is_lost (of r t).heard ≡ b → PeriodLoses period turns (t ∷ ts) n
             at-end g true x = loses-last period t ts s n long q g r x
             at-end g false x = absurd
-                (last-no g (last-heard (of_word (ack_of number)) period delay link ts state deed w t cs r one' z (f ∙ g) x ∙ sent))
+                (last-no g (last-heard (of_word (ack_of number)) period delay link ts state deed w t cs r k.other_delay z (f ∙ g) x ∙ sent))

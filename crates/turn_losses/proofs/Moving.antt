@@ -1,43 +1,27 @@
 -- What an originator's try sends and hears, and what ends it.
-use Rattle.std.proofs.Common.{◌⊎◌, inl, inr, ◌≡◌, ℕ, ◌+◌, ◌≤◌, Bool, true, false, cond, nat_eq, arith, refl}
-use Rattle.std.proofs.Common.{sym, ◌∙◌, ap, Option, Some, None, Ok, Err}
-use Rattle.std.specs.Prelude.{is_some}
-use Rattle.std.proofs.lemmas.Bool.Decides.{nat_tests}
-use Rattle.shared_terms.specs.declared.role.Role.{Role}
-use Rattle.shared_terms.specs.declared.role.Role.TheVariants.{Originator, Answerer}
-use Rattle.lapm_frames.specs.declared.frame.Frame.{Frame}
-use Rattle.lapm_frames.specs.declared.frame.Frame.TheVariants.{I, Rr, Rnr, Rej, Srej, Sabme, Disc, Ua, Dm, Frmr, Ui, Xid, Test}
-use Rattle.xid_params.specs.declared.offer.Offer.{Offer}
-use Rattle.xid_params.specs.Offers.{offer_in, written}
-use Rattle.xid_params.specs.Terms.{agree}
+use Rattle.std.proofs.Common.{◌⊎◌, inl, inr, ◌≡◌, ℕ, ◌+◌, ◌≤◌, Bool, true, false, cond, nat_eq, arith, refl, sym, ◌∙◌, ap, Option, Some}
+use Rattle.std.proofs.Common.{None, Ok, Err, Result}
+use Rattle.link_account.proofs.Names.{is_some, nat_tests, Role, Originator, Answerer, Frame, I, Rr, Rnr, Rej, Srej, Sabme, Disc, Ua, Dm, Ui}
+use Rattle.link_account.proofs.Names.{Xid, Offer, offer_in, written, agree, Arrived, LinkFault, Account, hear, on_frame, on_nothing, trying}
+use Rattle.link_account.proofs.Names.{Said, spent, speak, speak_linked, false≢true}
+use Rattle.link_run.proofs.Names.{Phase, Detecting, Negotiating, Establishing, Connected, Releasing, Closed}
+use Rattle.lapm_frames.specs.declared.frame.Frame.TheVariants.{Frmr, Test}
 use Rattle.lapm_frames.specs.declared.seen.Seen.TheVariants.{Adp}
-use Rattle.lapm_frames.specs.declared.arrived.Arrived.{Arrived}
-use Rattle.lapm_frames.specs.declared.arrived.Arrived.TheVariants as arrivals
-use Rattle.link_account.specs.declared.phase.Phase.{Phase}
-use Rattle.link_account.specs.declared.phase.Phase.TheVariants.{Detecting, Negotiating, Establishing, Connected, Releasing, Closed}
-use Rattle.shared_terms.specs.declared.fault.LinkFault.{LinkFault}
-use Rattle.link_account.specs.Account.{Account}
-use Rattle.link_account.specs.Hear.{hear, on_frame, on_seen, on_nothing, on_negotiating, on_establishing}
-use Rattle.link_account.specs.Hear.{on_releasing}
-use Rattle.link_account.specs.Hear.{on_xid_response, trying, connected}
-use Rattle.link_account.specs.Speak.{Said, spent, trying_again, tries_frame, u_try, speak}
-use Rattle.link_account.specs.Speak.{speak_linked}
+use Rattle.link_account.specs.Hear.{on_seen, on_negotiating, on_establishing, on_releasing, on_xid_response, connected}
+use Rattle.link_account.specs.Speak.{trying_again, tries_frame, u_try}
 use Rattle.turn_bound.proofs.MeetHear.{of_frame, of_arrived}
-use Rattle.std.proofs.lemmas.Bool.{false≢true}
-use Rattle.std.proofs.Common.{Result}
 use Rattle.link_account.proofs.HearWays.{by-ways, numbered_with, numbers-alike}
-use Rattle.link_account.proofs.SpeakWays as SpeakWays
 use Rattle.link_account.proofs.SpeakWays.{Tries, answers_alone, by-linked, linked-so}
 use Rattle.turn_losses.proofs.PollSpeak.{SaidPoll, linked-poll}
+use Rattle.lapm_frames.specs.declared.arrived.Arrived.TheVariants as arrivals
+use Rattle.link_account.proofs.SpeakWays as SpeakWays
 
 -- the phases in which an originator tries a frame
 abbrev pub is_trying : Phase → Bool
-is_trying Detecting = false
 is_trying Negotiating = true
 is_trying Establishing = true
-is_trying Connected = false
 is_trying Releasing = true
-is_trying Closed = false
+is_trying p = false
 
 -- the frame that it tries
 abbrev pub asks : Phase → Frame → Bool

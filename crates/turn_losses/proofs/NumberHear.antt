@@ -1,25 +1,16 @@
 -- What a Connected end makes of the numbers that it hears.
-use Rattle.std.proofs.Common.{◌⊎◌, inl, inr, ◌≡◌, ℕ, ◌%◌, ◌<◌, ◌≤◌, ◌||◌, Bool, true, false, cond, nat_lt, List, length}
-use Rattle.std.proofs.Common.{length-append, arith, refl, sym, ◌∙◌, ap, subst, Option, Some, None, Ok}
-use Rattle.std.proofs.lemmas.Bool.Decides.{nat_tests}
-use Rattle.std.proofs.lemmas.Bool.{cases_lt}
-use Rattle.lapm_frames.specs.declared.frame.Frame.{Frame}
-use Rattle.lapm_frames.specs.declared.frame.Frame.TheVariants.{I, Rr, Rnr, Rej}
-use Rattle.lapm_sender.specs.Meant.{meant}
-use Rattle.lapm_sender.specs.Outgoing.{Outgoing, is_outstanding, advanced, gone_back, wait_ended, resumed}
-use Rattle.lapm_sender.specs.Outgoing.{paused_at}
-use Rattle.lapm_receiver.specs.Incoming.{Incoming, after_take, after_kind, kind_of, kind_at, offset}
-use Rattle.lapm_receiver.specs.declared.took.Took.{Took}
-use Rattle.lapm_receiver.specs.declared.took.Took.TheVariants.{InOrder, Kept, Repeat, Gap}
-use Rattle.lapm_frames.specs.declared.sent.Sent.{Sent}
-use Rattle.lapm_frames.specs.declared.sent.Sent.TheVariants as slots
-use Rattle.lapm_frames.specs.declared.arrived.Arrived.{Arrived}
-use Rattle.lapm_frames.specs.declared.arrived.Arrived.TheVariants as arrivals
-use Rattle.link_account.specs.Account.{Account, is_connected}
-use Rattle.link_account.specs.Hear.{hear}
+use Rattle.std.proofs.Common.{◌⊎◌, inl, inr, ◌≡◌, ℕ, ◌%◌, ◌<◌, ◌≤◌, ◌||◌, Bool, true, false, cond, nat_lt, List, length, length-append}
+use Rattle.std.proofs.Common.{arith, refl, sym, ◌∙◌, ap, subst, Option, Some, None, Ok}
+use Rattle.link_account.proofs.Names.{nat_tests, cases_lt, Frame, I, Rr, Rnr, Rej, meant, Outgoing, is_outstanding, advanced, resumed}
+use Rattle.link_account.proofs.Names.{Incoming, after_take, after_kind, kind_of, offset, Took, InOrder, Kept, Gap, Sent, Arrived}
+use Rattle.link_account.proofs.Names.{Account, is_connected, hear}
+use Rattle.lapm_sender.specs.Outgoing.{gone_back, wait_ended, paused_at}
+use Rattle.lapm_receiver.specs.Incoming.{kind_at}
 use Rattle.link_account.proofs.HearWays.{by-linked, acked, acked_back, Plain, IsUa, IsXid, IsTest, IsNoWord}
 use Rattle.turn_bound.proofs.Sender.{meant-range}
 use Rattle.turn_losses.proofs.AnswerTurn.{connected-is}
+use Rattle.lapm_frames.specs.declared.sent.Sent.TheVariants as slots
+use Rattle.lapm_frames.specs.declared.arrived.Arrived.TheVariants as arrivals
 
 -- the N(R) of a frame that acknowledges, and the N(S) of an I frame
 abbrev pub frame_nr : Frame → Option ℕ
@@ -70,15 +61,12 @@ same-taken i = record { same = λ e. refl; low = omega arith; in_order = λ n e.
 
 kind-low : (k : Took) (o ns : ℕ) (info : List ℕ) (i : Incoming) → length i.taken ≤ length (after_kind k o info i).taken
 kind-low InOrder o ns info i = omega (arith, length-append {A = List ℕ})
-kind-low Kept o ns info i = omega arith
-kind-low Repeat o ns info i = omega arith
-kind-low Gap o ns info i = omega arith
+kind-low p o ns info i = omega arith
 
 kind-owed : (k : Took) (o ns : ℕ) (info : List ℕ) (i : Incoming) → i.owed ≡ true → (after_kind k o info i).owed ≡ true
-kind-owed InOrder o ns info i e = refl
 kind-owed Kept o ns info i e = e
-kind-owed Repeat o ns info i e = refl
 kind-owed Gap o ns info i e = e
+kind-owed p o ns info i e = refl
 
 in-order : (o ns : ℕ) (info : List ℕ) (i : Incoming) → length i.taken < length (after_kind InOrder o info i).taken
 in-order o ns info i = omega (arith, length-append {A = List ℕ})

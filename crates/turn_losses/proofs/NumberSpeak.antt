@@ -1,17 +1,16 @@
 -- What a Connected end tells as it speaks.
-use Rattle.std.proofs.Common.{◌⊎◌, inl, inr, ◌≡◌, ℕ, ◌++◌, ◌%◌, ◌||◌, Bool, true, false, cond, [], ◌∷◌, length}
-use Rattle.std.proofs.Common.{refl, sym, ◌∙◌, ap, Option, Some, None, Ok}
-use Rattle.std.specs.Prelude.{is_some}
-use Rattle.shared_terms.specs.Role.{is_originator}
-use Rattle.lapm_sender.specs.Outgoing.{Outgoing, next_among}
-use Rattle.lapm_receiver.specs.Incoming.{Incoming, after_asked}
-use Rattle.break_signals.specs.Breaks.{OwnBreaks}
-use Rattle.link_account.specs.Account.{Account, Wait}
-use Rattle.link_account.specs.declared.answer.Answer.{Answer}
-use Rattle.link_account.specs.declared.answer.Answer.TheVariants as answers
-use Rattle.link_account.specs.Speak.{Said, says_frame, nr_of, frame_for, ready_frame, speak_linked}
+use Rattle.std.proofs.Common.{◌⊎◌, inl, inr, ◌≡◌, ℕ, ◌++◌, ◌%◌, ◌||◌, Bool, true, false, cond, [], ◌∷◌, length, refl, sym, ◌∙◌, ap, Option}
+use Rattle.std.proofs.Common.{Some, None, Ok}
+use Rattle.link_account.proofs.Names.{is_some, is_originator, Outgoing, Incoming, OwnBreaks, Account, Said, nr_of, frame_for, ready_frame}
+use Rattle.link_account.proofs.Names.{speak_linked}
+use Rattle.link_run.proofs.Names.{Answer}
+use Rattle.lapm_sender.specs.Outgoing.{next_among}
+use Rattle.lapm_receiver.specs.Incoming.{after_asked}
+use Rattle.link_account.specs.Account.{Wait}
+use Rattle.link_account.specs.Speak.{says_frame}
 use Rattle.turn_losses.proofs.NumberHear.{frame_nr, frame_ns, nr_sent, ns_sent}
 use Rattle.link_account.proofs.SpeakWays.{Steps, by-linked, linked-alike, retimed, next-keeps}
+use Rattle.link_account.specs.declared.answer.Answer.TheVariants as answers
 
 -- the sender's part but for what waits and goes next
 pub record SameFront (o new : Outgoing) : Type 0 where

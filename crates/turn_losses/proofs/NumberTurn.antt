@@ -1,15 +1,8 @@
 -- A turn of an end that is Connected before it and after it, by the numbers that it hears and tells.
 use Rattle.std.proofs.Common.{◌⊎◌, inl, inr, ◌≡◌, ℕ, zero, suc, ◌+◌, ◌%◌, ◌≤◌, Bool, true, false, List, length, arith, refl, sym, ◌∙◌, ap}
 use Rattle.std.proofs.Common.{subst, Some, None, Result, Ok, Err}
-use Rattle.std.specs.Prelude.{is_some}
-use Rattle.shared_terms.specs.declared.role.Role.{Role}
-use Rattle.lapm_frames.specs.declared.sent.Sent.{Sent}
-use Rattle.lapm_frames.specs.declared.arrived.Arrived.{Arrived}
-use Rattle.shared_terms.specs.declared.fault.LinkFault.{LinkFault}
-use Rattle.link_account.specs.Account.{Account, is_connected}
-use Rattle.link_account.specs.Hear.{hear}
-use Rattle.link_account.specs.Speak.{Said, speak}
-use Rattle.link_run.specs.End.{User, is_busy}
+use Rattle.link_account.proofs.Names.{is_some, Role, Sent, Arrived, LinkFault, Account, is_connected, hear, Said, speak, IsAllowed}
+use Rattle.link_run.proofs.Names.{User, is_busy}
 use Rattle.turn_bound.specs.Due.{NoneDue}
 use Rattle.turn_bound.proofs.MeetHear.{of_arrived}
 use Rattle.turn_bound.proofs.Run.{served_account}
@@ -18,7 +11,6 @@ use Rattle.turn_losses.specs.Polls.{is_poll}
 use Rattle.turn_losses.proofs.PollHear.{PollHeard, PollHears, poll-hears}
 use Rattle.turn_losses.proofs.PollSpeak.{SpeakPoll, SaidPoll, PollSpeaks, poll-speaks}
 use Rattle.turn_losses.proofs.Polling.{is_linked}
-use Rattle.xid_params.specs.Offers.{IsAllowed}
 use Rattle.turn_losses.proofs.AnswerTurn.{linked-says, connected-is}
 use Rattle.turn_losses.proofs.HeardPaused.{PausedHeard, paused-hears}
 use Rattle.turn_losses.proofs.NumberHear.{nr_sent, ns_sent, NumbersHeard, numbers-heard}

@@ -1,34 +1,21 @@
 -- The numbers of both ends of a run.
 use Rattle.std.proofs.Common.{inl, inr, ◌≡◌, ℕ, zero, suc, ◌+◌, ◌*◌, ◌%◌, ◌<◌, ◌≤◌, Bool, true, false, cond, List, length, length-append}
 use Rattle.std.proofs.Common.{arith, refl, sym, ◌∙◌, ap, subst, Option, Some}
-use Rattle.shared_terms.specs.declared.role.Role.{Role}
-use Rattle.shared_terms.specs.declared.role.Role.TheVariants.{Originator, Answerer}
-use Rattle.shared_terms.specs.Role.{other}
-use Rattle.shared_terms.specs.Both.{of}
-use Rattle.plain_lists.specs.Prefix.{IsPrefixOf}
-use Rattle.xid_params.specs.Offers.{IsAllowed}
-use Rattle.lapm_frames.specs.declared.arrived.Arrived.{Arrived}
-use Rattle.link_account.specs.Account.{Account, is_connected, first_terms}
-use Rattle.link_account.specs.Hear.{hear}
-use Rattle.link_account.specs.Laws.{MayPlay, TakesInOrder, AcknowledgesTaken}
-use Rattle.link_run.specs.End.{is_released}
-use Rattle.link_run.specs.Run.{Link, Accounts, Spoken, Turn, arrival}
-use Rattle.link_run.specs.Laws.{RunsOver, RunsArePlays, HearingsArePlays, IsPlayed}
+use Rattle.link_account.proofs.Names.{Role, Originator, Answerer, other, of, IsPrefixOf, IsAllowed, Arrived, Account, is_connected, hear}
+use Rattle.link_account.proofs.Names.{MayPlay}
+use Rattle.link_run.proofs.Names.{is_released, Link, Accounts, Spoken, Turn, arrival, RunsOver}
+use Rattle.link_account.specs.Account.{first_terms}
+use Rattle.link_account.specs.Laws.{TakesInOrder, AcknowledgesTaken}
+use Rattle.link_run.specs.Laws.{RunsArePlays, HearingsArePlays, IsPlayed}
 use Rattle.link_run.specs.Overheard.{AgreesByXid, has_passed, is_xid, agreed_terms}
-use Rattle.turn_bound.specs.Time.{KeepsTime}
-use Rattle.turn_bound.proofs.Clock.{Rates, rates}
-use Rattle.turn_bound.proofs.Value.{IsOf, arrived_rnrs}
-use Rattle.turn_bound.proofs.OneTurn.{heard-ok}
-use Rattle.turn_bound.proofs.Phases.{hears-well}
-use Rattle.turn_losses.proofs.Polling.{is_linked}
-use Rattle.turn_losses.proofs.Trace.{Deed, Trace, past, sent_or}
-use Rattle.turn_losses.proofs.TwoEnds.{end_run}
 use Rattle.turn_losses.proofs.Tracing.{Known, known, timed, rated, release_of, said-as, untimed-of}
 use Rattle.turn_losses.proofs.NumberHear.{ns_sent}
 use Rattle.turn_losses.proofs.NumberTurn.{NumberTurn, number-turn, Begins, begins-turn}
 use Rattle.turn_losses.proofs.Room.{Room, Fits, fits-second}
 use Rattle.turn_losses.proofs.Acknowledged.{Counts}
 use Rattle.turn_losses.proofs.PeriodHolds.{SendsFirst, end-answered}
+use Rattle.turn_losses.proofs.Names.{KeepsTime, Rates, rates, IsOf, arrived_rnrs, heard-ok, hears-well, is_linked, Deed, Trace, past}
+use Rattle.turn_losses.proofs.Names.{sent_or, end_run}
 
 -- what the laws of plays and of frames say
 pub record Plays : Type 0 where

@@ -1,56 +1,26 @@
 -- An answerer that gives up, also while the originator releases.
 use Rattle.std.proofs.Common.{◌⊎◌, inl, inr, ◌≡◌, ◌≢◌, ℕ, zero, suc, ◌+◌, ◌-◌, ◌*◌, ◌<◌, ◌≤◌, ◌&&◌, ◌||◌, not, Bool, true, false, cond}
 use Rattle.std.proofs.Common.{nat_eq, max, List, ◌∷◌, length, arith, refl, sym, ◌∙◌, ap, subst, Option, Some, None, Ok, Err}
-use Rattle.std.specs.Prelude.{slice_get}
-use Rattle.std.proofs.lemmas.Bool.{cases_lt}
-use Rattle.std.proofs.lemmas.Bool.Decides.{nat_tests}
-use Rattle.shared_terms.specs.declared.role.Role.{Role}
-use Rattle.shared_terms.specs.declared.role.Role.TheVariants.{Originator, Answerer}
-use Rattle.shared_terms.specs.Role.{is_originator}
-use Rattle.shared_terms.specs.Both.{of}
-use Rattle.lapm_sender.specs.Outgoing.{Outgoing, is_whole}
-use Rattle.xid_params.specs.Offers.{ReadsWritten, IsAllowed}
-use Rattle.break_signals.specs.Breaks.{waits}
-use Rattle.lapm_frames.specs.declared.sent.Sent.{Sent}
-use Rattle.lapm_frames.specs.declared.sent.Sent.TheVariants as slots
-use Rattle.lapm_frames.specs.declared.heard.Heard.{Heard}
-use Rattle.lapm_frames.specs.declared.heard.Heard.TheVariants.{Nothing, Passed, Lost, Chance}
-use Rattle.lapm_frames.specs.declared.arrived.Arrived.{Arrived}
-use Rattle.lapm_frames.specs.declared.arrived.Arrived.TheVariants as arrivals
-use Rattle.link_account.specs.declared.phase.Phase.{Phase}
-use Rattle.link_account.specs.declared.phase.Phase.TheVariants.{Detecting, Negotiating, Establishing, Connected, Releasing, Closed}
-use Rattle.shared_terms.specs.declared.fault.LinkFault.{LinkFault}
-use Rattle.shared_terms.specs.declared.fault.LinkFault.TheVariants.{Spent}
-use Rattle.link_account.specs.Account.{Account, is_connected}
-use Rattle.link_account.specs.Hear.{hear, trying}
-use Rattle.link_account.specs.Laws.{MayPlay}
-use Rattle.link_account.specs.Play.{arrives}
-use Rattle.link_account.specs.Speak.{Said, speak, speak_in, speak_linked, speak_releasing, speak_detecting, speak_negotiating}
-use Rattle.link_run.specs.End.{is_busy, is_released, is_closed, is_ready, next_break}
-use Rattle.link_run.specs.Run.{Link, Accounts, Spoken, Turn, RunOf, Hears, BrokenTurn, SpeaksAt, arrival, served_at, said_at, finished_at}
-use Rattle.link_run.specs.Run.{served_ends}
-use Rattle.link_run.specs.Run.{releases, spoken}
-use Rattle.link_run.specs.Carried.{Crosses, Carries, IsCarried, has_message, sent_in}
-use Rattle.link_run.specs.Laws.{RunsOver}
-use Rattle.link_run.specs.Starved.{LosesSome, SpanLoses, IsStarved, turn_at}
-use Rattle.turn_bound.specs.Time.{KeepsTime}
-use Rattle.turn_bound.proofs.Clock.{Rates, rates, Sends}
-use Rattle.turn_bound.proofs.Value.{IsOf, Stands, arrived_rnrs}
-use Rattle.turn_bound.proofs.Hearing.{HeardAs}
-use Rattle.turn_bound.proofs.MeetHear.{of_frame, of_arrived}
-use Rattle.turn_bound.proofs.Serving.{Served, serves-all}
-use Rattle.turn_bound.proofs.Serves.{serves-well}
-use Rattle.turn_bound.proofs.Meeting.{arrives-flag}
-use Rattle.turn_bound.proofs.Tied.{is_lost}
-use Rattle.turn_losses.specs.Polls.{is_poll}
-use Rattle.turn_losses.specs.Losses.{PeriodLoses, LosesEach, AnswererWantsAnswers}
-use Rattle.turn_losses.proofs.Polling.{is_linked}
+use Rattle.link_account.proofs.Names.{slice_get, cases_lt, nat_tests, Role, Originator, Answerer, is_originator, of, Outgoing, ReadsWritten}
+use Rattle.link_account.proofs.Names.{IsAllowed, waits, Sent, Heard, Nothing, Passed, Lost, Chance, Arrived, LinkFault, Spent, Account}
+use Rattle.link_account.proofs.Names.{is_connected, hear, trying, MayPlay, arrives, Said, speak, speak_in, speak_linked, speak_releasing}
+use Rattle.link_account.proofs.Names.{is_some}
+use Rattle.link_run.proofs.Names.{Phase, Detecting, Negotiating, Establishing, Connected, Releasing, Closed, is_busy, is_released}
+use Rattle.link_run.proofs.Names.{is_closed, next_break, Link, Accounts, Spoken, Turn, RunOf, Hears, SpeaksAt, arrival, served_at, said_at}
+use Rattle.link_run.proofs.Names.{releases, spoken, Crosses, Carries, IsCarried, sent_in, RunsOver}
+use Rattle.lapm_sender.specs.Outgoing.{is_whole}
+use Rattle.link_account.specs.Speak.{speak_detecting, speak_negotiating}
+use Rattle.link_run.specs.End.{is_ready}
+use Rattle.link_run.specs.Run.{BrokenTurn, finished_at, served_ends}
+use Rattle.link_run.specs.Carried.{has_message}
+use Rattle.link_run.specs.Starved.{SpanLoses, IsStarved}
+use Rattle.turn_losses.proofs.Truths.{and-two}
+use Rattle.turn_losses.proofs.Periods.{once, later-loses, loses-at, loses-last, loses-of}
+use Rattle.turn_losses.specs.Losses.{AnswererWantsAnswers}
 use Rattle.turn_losses.proofs.PollHear.{PollHeard, poll-hears, linked-connected}
 use Rattle.turn_losses.proofs.PollSpeak.{poll-speaks}
 use Rattle.turn_losses.proofs.AnswerTurn.{connected-is, linked-sends}
 use Rattle.turn_losses.proofs.NumberTurn.{poll-ok, speak-ok}
-use Rattle.turn_losses.proofs.Trace.{Deed, Happens, Trace, past, sent_or}
-use Rattle.turn_losses.proofs.TwoEnds.{EndRun, TwoEnds, end_run, hears_final}
 use Rattle.turn_losses.proofs.Tracing.{Known, known, Timed, timed, rated, Traced, traced, silent-of, past-all}
 use Rattle.turn_losses.proofs.Numbering.{Plays, allowed, fits-at, counts-of}
 use Rattle.turn_losses.proofs.Numbered.{numbered-linked}
@@ -62,17 +32,20 @@ use Rattle.turn_losses.proofs.Expiries.{Uncleared, expiries}
 use Rattle.turn_losses.proofs.HeardCount.{CountKept, count-hears}
 use Rattle.turn_losses.proofs.HeardPaused.{PausedHeard}
 use Rattle.turn_losses.proofs.Awaiting.{await-hears}
-use Rattle.std.specs.Prelude.{is_some, nat_lt}
+use Rattle.std.specs.Prelude.{nat_lt}
 use Rattle.turn_losses.proofs.Acknowledged.{Counts}
-use Rattle.turn_losses.proofs.Keeping.{turn-is}
-use Rattle.turn_losses.proofs.Wanting.{LastTry, last-try, lost-is}
+use Rattle.turn_losses.proofs.Wanting.{LastTry, last-try}
 use Rattle.turn_losses.proofs.Room.{begins-roomy}
-use Rattle.turn_losses.proofs.Starving.{later-turn}
 use Rattle.turn_losses.specs.Tries.{AnswererWantsAnswer}
-use Rattle.turn_losses.proofs.Moving.{asks, TryGoesOn, TryBegins, try-heard, linked-phase}
+use Rattle.turn_losses.proofs.Moving.{asks, try-heard, linked-phase}
 use Rattle.turn_losses.proofs.Setups.{start-setup, heard-as}
 use Rattle.turn_losses.proofs.TryAnswering.{can_answer, answer-due}
 use Rattle.turn_losses.proofs.Trying.{TryTurn, TriesSo, Tried, tried, tries-so}
+use Rattle.turn_losses.proofs.Names.{KeepsTime, Rates, rates, Sends, IsOf, Stands, arrived_rnrs, HeardAs, of_frame, of_arrived, Served}
+use Rattle.turn_losses.proofs.Names.{serves-all, serves-well, arrives-flag, is_lost, is_poll, PeriodLoses, LosesEach, is_linked, Deed}
+use Rattle.turn_losses.proofs.Names.{Happens, Trace, past, sent_or, EndRun, TwoEnds, end_run, hears_final}
+use Rattle.lapm_frames.specs.declared.sent.Sent.TheVariants as slots
+use Rattle.lapm_frames.specs.declared.arrived.Arrived.TheVariants as arrivals
 
 abbrev IsFree : Account → Type 0
 IsFree a = (a.outgoing.awaited ≡ false) × (a.outgoing.paused ≡ false)
@@ -85,15 +58,9 @@ pub parted-stops : (period turns : ℕ) (e o : EndRun) → TwoEnds period turns 
     → ((e.mid v).outgoing.awaited ≡ false → (e.mid v).outgoing.paused ≡ false → (e.mid v).wait.timer ≡ None)
     → CountKept (e.account v) (e.mid v) → NoneLost e o (s + 1) (period - 1) → ⊥
 parted-stops period turns e o k c s v within before late un co waits stops kept lost =
-    go (answer-comes period turns e o k s (omega (arith, p, within)) un.made (λ t l h. un.on t l (omega (arith, h, p)))
-    (λ t l h. co t l (omega (arith, h, p, late))) (λ t l h. lost t l (omega (arith, h, p))))
+    go (answer-comes period turns e o k s (omega (arith, k.period_is, within)) un.made (λ t l h. un.on t l (omega (arith, h, k.period_is)))
+    (λ t l h. co t l (omega (arith, h, k.period_is, late))) (λ t l h. lost t l (omega (arith, h, k.period_is))))
   where
-    p : period ≡ 2 * (e.delay + o.delay) + 16
-    p = k.period_is
-
-    d : 1 ≤ e.delay
-    d = k.own_delay
-
     counts : (t : ℕ) → s < t → t < s + period → (e.mid t).outgoing.count ≡ 0 → ⊥
     counts t a b z = un.uncleared t a b (c.count_is t ∙ z)
 
@@ -139,21 +106,21 @@ parted-stops period turns e o k c s v within before late un co waits stops kept 
         ct' = un.on (t + 1) (omega (arith, a)) (omega (arith, b))
 
     go : (u : ℕ) × (s + (e.delay + o.delay) ≤ u) × (u ≤ s + (e.delay + o.delay) + 1) × (hears_final e u ≡ true) → ⊥
-    go (u, low, high, h) = ends (subst (λ t. IsFree (e.account t)) (omega (arith, high, late, p))
-        (stays (v - (u + 1)) (omega (arith, high, late, p))))
+    go (u, low, high, h) = ends (subst (λ t. IsFree (e.account t)) (omega (arith, high, late, k.period_is))
+        (stays (v - (u + 1)) (omega (arith, high, late, k.period_is))))
       where
         stays : (n : ℕ) → u + 1 + n ≤ v → IsFree (e.account (u + 1 + n))
         stays zero l = subst (λ t. IsFree (e.account t)) (omega arith)
-            (free-next u (omega (arith, low, d)) (omega (arith, high, p)) (inr h))
+            (free-next u (omega (arith, low, k.own_delay)) (omega (arith, high, k.period_is)) (inr h))
         stays (suc n) l = subst (λ t. IsFree (e.account t)) (omega arith)
             (free-next (u + 1 + n) (omega (arith, low)) (omega (arith, l, before)) (inl (stays n (omega (arith, l)))))
 
         ends : IsFree (e.account v) → ⊥
         ends f = elim kept [
-          | inl z ↦ counts v (omega (arith, late, p)) before z
+          | inl z ↦ counts v (omega (arith, late, k.period_is)) before z
           | inr q ↦ (let stopped = stops (waits ∙ falls false (hears_final e v) (e.account v).outgoing.awaited refl (inl f.0))
-              (unpaused v (omega (arith, late, p)) before (inl f.1)) in
-              let wrong : None ≡ Some s = sym stopped ∙ (q.1 ∙ un.timer v (omega (arith, late, p)) (omega (arith, before))) in cc)
+              (unpaused v (omega (arith, late, k.period_is)) before (inl f.1)) in
+              let wrong : None ≡ Some s = sym stopped ∙ (q.1 ∙ un.timer v (omega (arith, late, k.period_is)) (omega (arith, before))) in cc)
         ]
 
 -- In the turn in which the originator is told to release, the answerer's file is wholly acknowledged and none of its breaks waits.
@@ -162,18 +129,13 @@ pub record Released (link : Link) (t : ℕ) (mid : Accounts) : Type 0 where
   pub breaks : waits (served_at link t mid Answerer).account.own_breaks ≡ false
   pub connected : is_connected (served_at link t mid Answerer).account.phase ≡ true
 
-and-both : (x y : Bool) → x && y ≡ true → (x ≡ true) × (y ≡ true)
-and-both true true e = (refl, refl)
-and-both true false e = cc
-and-both false y e = cc
-
 not-either : (x : Bool) → not x ≡ true → x ≡ false
 not-either true e = cc
 not-either false e = refl
 
 pub told-release : (link : Link) (t : ℕ) (mid : Accounts) → releases link t mid ≡ true → Released link t mid
 told-release link t mid e = go (is_connected a.phase) refl
-    (and-both (finished_at link t (served_ends link t mid) Originator) (finished_at link t (served_ends link t mid) Answerer) e).1
+    (and-two (finished_at link t (served_ends link t mid) Originator) (finished_at link t (served_ends link t mid) Answerer) e).1
   where
     a : Account
     a = (served_at link t mid Answerer).account
@@ -182,7 +144,7 @@ told-release link t mid e = go (is_connected a.phase) refl
         → (cond c (is_whole a.outgoing) false && not
         (cond c (waits a.own_breaks) false || is_ready t (next_break link.answ.user.breaks a))) ≡ true → Released link t mid
     go true q f =
-        let x = and-both (is_whole a.outgoing) _ f in
+        let x = and-two (is_whole a.outgoing) _ f in
         record {
           done = x.0;
           breaks = first (waits a.own_breaks) (is_ready t (next_break link.answ.user.breaks a))
@@ -223,7 +185,7 @@ longer-told link deed o u a now = let b = a.before in record {
 }
 
 whole-is : (o : Outgoing) → is_whole o ≡ true → o.front ≡ length o.pieces
-whole-is o e = let x = (and-both o.ended (nat_eq o.front (length o.pieces)) e).1 in grind (arith, nat_tests, x)
+whole-is o e = let x = (and-two o.ended (nat_eq o.front (length o.pieces)) e).1 in grind (arith, nat_tests, x)
 
 -- what passes of a slot
 pub passes-as : (m : Option Spoken) (said : Said) (heard : Heard) → m ≡ Some (spoken said) → Crosses m heard → is_lost heard ≡ false
@@ -243,20 +205,10 @@ passes-as (Some slot) said (Passed s) e c l = let same : slot ≡ spoken said = 
 passes-as (Some slot) said (Lost s) e c l = cc
 passes-as (Some slot) said Chance e c l = absurd c
 
--- the last of some turns
-pub newest : (t : Turn) (ts : List Turn) → turn_at (length ts) (t ∷ ts) ≡ Some t
-newest t ts = ap (slice_get (t ∷ ts)) (index (length ts))
-  where
-    index : (n : ℕ) → suc n - 1 - n ≡ 0
-    index n = omega arith
-
 pub connected-or : (p : Phase) → is_linked p ≡ true → is_connected p ≡ false → (p ≡ Releasing) ⊎ (p ≡ Closed)
-connected-or Detecting l c = cc
-connected-or Negotiating l c = cc
-connected-or Establishing l c = cc
-connected-or Connected l c = cc
 connected-or Releasing l c = inl refl
 connected-or Closed l c = inr refl
+connected-or p l c = cc
 
 -- what an end's setup says its role is
 pub setup-role : (tries period : ℕ) (delay : Role → ℕ) (link : Link) (us : List Turn) (y : Accounts) → KeepsTime tries period delay link
@@ -328,13 +280,11 @@ told-at reads tries period delay link ts state deed kt m w (suc u) y q = subst (
         connected-b = by (is_connected b.phase) refl
           where
             trying-so : (deed u).mid.orig.phase ≡ Releasing → ⊥
-            trying-so g = on (try-heard (arrival (deed u).turn.orig.heard) u (state u).orig (deed u).mid.orig role
-                (h.hearing Originator).hears Releasing refl g)
-              where
-                on : TryGoesOn Releasing (arrival (deed u).turn.orig.heard) (state u).orig (deed u).mid.orig ⊎ TryBegins u Releasing
-                    (state u).orig (deed u).mid.orig → ⊥
-                on (inl m) = anew m.0
-                on (inr (_, never, _, _, _)) = never refl
+            trying-so g = elim (try-heard (arrival (deed u).turn.orig.heard) u (state u).orig (deed u).mid.orig role
+                (h.hearing Originator).hears Releasing refl g) [
+                  | inl m ↦ anew m.0
+                  | inr z ↦ z.1 refl
+                ]
 
             either : (b.phase ≡ Releasing) ⊎ (b.phase ≡ Closed) → ⊥
             either (inl g) = trying-so (sym b-is ∙ g)
@@ -349,12 +299,10 @@ told-at reads tries period delay link ts state deed kt m w (suc u) y q = subst (
             (ap (λ (a : Account). is_connected a.phase) (sym s.after_is) ∙ ap is_connected now)
 
         was : is_linked (o.account u).phase ≡ true → is_connected (o.account u).phase ≡ true
-        was f = by (polled.from (ap is_connected (sym b-is ∙ connected-b)))
-          where
-            by : (is_connected (state u).orig.phase ≡ true) ⊎ (is_linked (state u).orig.phase ≡ false)
-                → is_connected (o.account u).phase ≡ true
-            by (inl m) = m
-            by (inr m) = let wrong : true ≡ false = sym f ∙ m in cc
+        was f = elim (polled.from (ap is_connected (sym b-is ∙ connected-b))) [
+          | inl m ↦ m
+          | inr m ↦ (let wrong : true ≡ false = sym f ∙ m in cc)
+        ]
 
 -- what is known of the answerer's segments then
 abbrev HeardIn : (tries period : ℕ) (delay : Role → ℕ) (ts : List Turn) (state : ℕ → Accounts) (deed : ℕ → Deed) → ℕ → Type 0
@@ -516,13 +464,11 @@ parted-each laws reads tries period delay link ts before t mid kt run cs hearing
 
     -- the originator releases as the last turn begins
     releasing : before.orig.phase ≡ Releasing
-    releasing = by (try-heard (arrival t.orig.heard) turns before.orig mid.orig
-        (setup-role tries period delay link ts before kt run.run run.carried Originator) (hearing Originator).hears Releasing refl om)
-      where
-        by : TryGoesOn Releasing (arrival t.orig.heard) before.orig mid.orig ⊎ TryBegins turns Releasing before.orig mid.orig
-            → before.orig.phase ≡ Releasing
-        by (inl y) = y.0
-        by (inr (_, never, _, _, _)) = absurd (never refl)
+    releasing = elim (try-heard (arrival t.orig.heard) turns before.orig mid.orig
+        (setup-role tries period delay link ts before kt run.run run.carried Originator) (hearing Originator).hears Releasing refl om) [
+          | inl y ↦ y.0
+          | inr z ↦ absurd (z.1 refl)
+        ]
 
     releasing-last : (o.account turns).phase ≡ Releasing
     releasing-last = ap (λ (y : Accounts). y.orig.phase) w.last ∙ releasing
@@ -554,22 +500,6 @@ parted-each laws reads tries period delay link ts before t mid kt run cs hearing
         (known tries period delay link (past ts s) (w.state s) kt h.run h.carried Answerer) f from.1 from.2 refl in
         numbered-linked tries period delay link ts w.state w.deed kt w.trace Answerer s (omega (arith, b)) m
 
-    over-ts : (s : ℕ) → s + (n + 1) * period ≡ turns → (u : ℕ) → s < u → u ≤ s + period → u < turns
-        → (is_lost (w.deed u).turn.orig.heard ≡ true) ⊎ (is_lost (w.deed u).turn.answ.heard ≡ true) → PeriodLoses period turns (t ∷ ts) n
-    over-ts s q u lo hi b lost = let m = once n in record {
-      turn = u;
-      within = omega (arith, b);
-      in_period = record { behind = omega (arith, lo, q); before = omega (arith, hi, q, m) };
-      lost = subst LosesSome (sym (later-turn u t ts b ∙ turn-is period delay link ts w.state w.deed w.trace u b)) (some lost);
-    }
-      where
-        once : (y : ℕ) → (y + 1) * period ≡ y * period + period
-        once y = omega arith
-
-        some : (is_lost (w.deed u).turn.orig.heard ≡ true) ⊎ (is_lost (w.deed u).turn.answ.heard ≡ true) → LosesSome (Some (w.deed u).turn)
-        some (inl y) = (Originator, lost-is (w.deed u).turn.orig.heard y)
-        some (inr y) = (Answerer, lost-is (w.deed u).turn.answ.heard y)
-
     -- its DISC was lost: in a turn of the run, or in the last one
     disc-lost : (s : ℕ) → s + (n + 1) * period ≡ turns → s + period ≤ turns → is_connected (e.account s).phase ≡ true
         → v.turn + o.delay ≤ s + period → PeriodLoses period turns (t ∷ ts) n
@@ -594,8 +524,8 @@ parted-each laws reads tries period delay link ts before t mid kt run cs hearing
         in-time = omega (arith, early, p)
 
         arrives-at : (i.set + o.delay < turns) ⊎ (turns ≤ i.set + o.delay) → PeriodLoses period turns (t ∷ ts) n
-        arrives-at (inl b) = over-ts s q (i.set + o.delay) late in-time b
-            (inr (lost-there (is_lost (w.deed (i.set + o.delay)).turn.answ.heard) refl))
+        arrives-at (inl b) = loses-at period delay link ts w.state w.deed w.trace t s n q (i.set + o.delay) late in-time b Answerer
+            (lost-there (is_lost (w.deed (i.set + o.delay)).turn.answ.heard) refl)
           where
             lost-there : (x : Bool) → e.loses (i.set + o.delay) ≡ x → e.loses (i.set + o.delay) ≡ true
             lost-there true f = f
@@ -607,23 +537,8 @@ parted-each laws reads tries period delay link ts before t mid kt run cs hearing
         arrives-at (inr b) = last-turn (omega (arith, in-time, within, b))
           where
             last-turn : i.set + o.delay ≡ turns → PeriodLoses period turns (t ∷ ts) n
-            last-turn same = record {
-              turn = turns;
-              within = omega arith;
-              in_period = record {
-                behind = omega (arith, q, late, same, in-time);
-                before = at-end
-                    (omega (arith, q, within, same, in-time));
-              };
-              lost = subst LosesSome (sym (newest t ts)) (Answerer, lost-is t.answ.heard lost-now);
-            }
+            last-turn same = loses-last period t ts s n long q (omega (arith, within, same, in-time)) Answerer lost-now
               where
-                at-end : s + period ≡ turns → turns + n * period ≤ turns
-                at-end f = let m = once n in omega (arith, f, q, m)
-                  where
-                    once : (x : ℕ) → (x + 1) * period ≡ x * period + period
-                    once x = omega arith
-
                 lost-now : is_lost t.answ.heard ≡ true
                 lost-now = last-disc tries period delay link ts w.state w.deed kt w.trace t cs before.answ mid.answ
                     (setup-role tries period delay link ts before kt run.run run.carried Answerer) last.connected
@@ -633,10 +548,7 @@ parted-each laws reads tries period delay link ts before t mid kt run cs hearing
     at-expiry (s, q', un) = by (cases_lt (s + period) (v.turn + o.delay))
       where
         within : s + period ≤ turns
-        within = let m = once n in omega (arith, q', m)
-          where
-            once : (y : ℕ) → (y + 1) * period ≡ y * period + period
-            once y = omega arith
+        within = let m = once period n in omega (arith, q', m)
 
         by : (s + period < v.turn + o.delay) ⊎ (v.turn + o.delay ≤ s + period) → PeriodLoses period turns (t ∷ ts) n
         by (inr soon) = disc-lost s q' within un.connected soon
@@ -654,14 +566,8 @@ parted-each laws reads tries period delay link ts before t mid kt run cs hearing
                 (v.was (linked-on period turns o e k' s v.turn (omega (arith, lo, hi)) (omega (arith, before-end)) linked-s))
 
             on : LostIn e o (s + 1) (period - 1) ⊎ NoneLost e o (s + 1) (period - 1) → PeriodLoses period turns (t ∷ ts) n
-            on (inl lost) =
-                let a = lost.low in let b = lost.high in
-                over-ts s q' lost.turn (omega (arith, a)) (omega (arith, b, long)) (omega (arith, b, within, long)) (swap lost.loses)
-              where
-                swap : (e.loses lost.turn ≡ true) ⊎ (o.loses lost.turn ≡ true)
-                    → (is_lost (w.deed lost.turn).turn.orig.heard ≡ true) ⊎ (is_lost (w.deed lost.turn).turn.answ.heard ≡ true)
-                swap (inl y) = inr y
-                swap (inr y) = inl y
+            on (inl lost) = later-loses period t ts n
+                (loses-of period delay link ts w.state w.deed w.trace Answerer s n long q' lost)
             on (inr none) = absurd (elim (cases_lt v.turn (s + period)) [
               | inl b ↦ parted-stops period turns e o k c s v.turn within b late un co
                   (await-hears (e.heard v.turn) v.turn (e.account v.turn) (e.mid v.turn) at-v (h.hearing Answerer).hears)
@@ -680,16 +586,6 @@ parted-each laws reads tries period delay link ts before t mid kt run cs hearing
 
                 at-v : is_connected (e.account v.turn).phase ≡ true
                 at-v = on-from s un.connected v.turn (omega (arith, late, p)) (omega (arith, before-end))
-
--- over all turns, the last one too
-pub later-loses : (period : ℕ) (t : Turn) (ts : List Turn) (n : ℕ) → PeriodLoses period (length ts) ts n
-    → PeriodLoses period (length ts) (t ∷ ts) n
-later-loses period t ts n h = let b = h.within in record {
-  turn = h.turn;
-  within = omega (arith, b);
-  in_period = h.in_period;
-  lost = subst LosesSome (sym (later-turn h.turn t ts b)) h.lost;
-}
 
 -- so the run was starved
 pub all-but-last : (tries period : ℕ) (delay : Role → ℕ) (t : Turn) (ts : List Turn) → LosesEach period tries (length ts) (t ∷ ts)

@@ -1,37 +1,24 @@
 -- While an answerer's break waits, the originator isn't told to release.
 use Rattle.std.proofs.Common.{◌⊎◌, inl, inr, ◌≡◌, ℕ, zero, suc, ◌+◌, ◌-◌, ◌<◌, ◌≤◌, Bool, true, false, List, length, arith, refl, sym, ◌∙◌}
 use Rattle.std.proofs.Common.{ap, Ok}
-use Rattle.shared_terms.specs.declared.role.Role.{Role}
-use Rattle.shared_terms.specs.declared.role.Role.TheVariants.{Originator, Answerer}
-use Rattle.xid_params.specs.Offers.{ReadsWritten}
-use Rattle.break_signals.specs.Breaks.{waits, after_ask}
-use Rattle.lapm_frames.specs.declared.arrived.Arrived.{Arrived}
-use Rattle.link_account.specs.declared.phase.Phase.{Phase}
-use Rattle.link_account.specs.declared.phase.Phase.TheVariants.{Detecting, Negotiating, Establishing, Connected, Releasing, Closed}
-use Rattle.link_account.specs.Account.{Account, is_connected}
-use Rattle.link_account.specs.Laws.{MayPlay}
-use Rattle.link_account.specs.Hear.{hear}
-use Rattle.link_account.specs.Speak.{speak}
-use Rattle.link_run.specs.End.{User, is_released, is_closed}
-use Rattle.link_run.specs.Run.{Link, Accounts, Turn, arrival, served_at}
-use Rattle.turn_bound.specs.Time.{KeepsTime}
-use Rattle.turn_bound.proofs.Run.{served_account}
+use Rattle.link_account.proofs.Names.{Role, Originator, Answerer, ReadsWritten, waits, after_ask, Arrived, Account, is_connected, MayPlay}
+use Rattle.link_account.proofs.Names.{hear, speak}
+use Rattle.link_run.proofs.Names.{Phase, Detecting, Negotiating, Establishing, Connected, Releasing, Closed, User, is_released, is_closed}
+use Rattle.link_run.proofs.Names.{Link, Accounts, Turn, arrival, served_at}
 use Rattle.turn_bound.proofs.MeetHear.{o-hears}
 use Rattle.turn_bound.proofs.Serving.{serves-first, before_asking}
-use Rattle.turn_losses.proofs.Polling.{is_linked}
+use Rattle.turn_losses.proofs.Truths.{clash}
 use Rattle.turn_losses.proofs.PollHear.{linked-connected}
 use Rattle.turn_losses.proofs.PollSpeak.{poll-speaks}
 use Rattle.turn_losses.proofs.NumberTurn.{speak-ok}
-use Rattle.turn_losses.proofs.Trace.{Deed, Trace, past}
-use Rattle.turn_losses.proofs.TwoEnds.{TwoEnds, end_run}
 use Rattle.turn_losses.proofs.AnswerTurn.{connected-is}
 use Rattle.turn_losses.proofs.PollLaws.{two-ends}
 use Rattle.turn_losses.proofs.PeriodLaws.{linked-on, connected-back}
-use Rattle.turn_losses.proofs.Moving.{TryGoesOn, TryBegins, try-heard}
+use Rattle.turn_losses.proofs.Moving.{try-heard}
 use Rattle.turn_losses.proofs.Parting.{told-at, connected-or, setup-role, mid-connected}
 use Rattle.turn_losses.proofs.BreakHear.{break-heard}
 use Rattle.turn_losses.proofs.View.{waits-are}
-use Rattle.turn_losses.proofs.Windows.{off}
+use Rattle.turn_losses.proofs.Names.{KeepsTime, served_account, is_linked, Deed, Trace, past, TwoEnds, end_run}
 
 -- no break is taken once the originator is told to release
 no-take : (user : User) (turn : ℕ) (released : Bool) (mid : Account) → released ≡ true
@@ -116,7 +103,7 @@ unasked tries period delay link ts state deed kt w v l none (suc n) b rel c0 c =
             × ((deed u).mid.answ.own_breaks.rest ≡ u + 8))
             → waits (deed u).mid.answ.own_breaks ≡ false
         by (inl q) = ap waits q ∙ f
-        by (inr x) = off (waits (state u).answ.own_breaks) x.0 f
+        by (inr x) = clash (waits (state u).answ.own_breaks) x.0 f
 
 -- an originator that isn't Closed as it has heard wasn't before
 unclosed : (arrived : Arrived) (turn : ℕ) (a mid : Account) → a.setup.role ≡ Originator → hear turn arrived a ≡ Ok mid
@@ -134,11 +121,10 @@ unclosed arrived turn a mid r h n e = go mid.phase refl
 
 pub not-closed : (arrived : Arrived) (turn : ℕ) (a mid : Account) → a.setup.role ≡ Originator → hear turn arrived a ≡ Ok mid
     → is_closed mid.phase ≡ false → a.phase ≡ Closed → ⊥
-not-closed arrived turn a mid r h n e = by (try-heard arrived turn a mid r h Releasing refl (unclosed arrived turn a mid r h n e))
-  where
-    by : TryGoesOn Releasing arrived a mid ⊎ TryBegins turn Releasing a mid → ⊥
-    by (inl x) = let wrong : Closed ≡ Releasing = sym e ∙ x.0 in cc
-    by (inr (_, never, _, _, _)) = never refl
+not-closed arrived turn a mid r h n e = elim (try-heard arrived turn a mid r h Releasing refl (unclosed arrived turn a mid r h n e)) [
+  | inl x ↦ (let wrong : Closed ≡ Releasing = sym e ∙ x.0 in cc)
+  | inr z ↦ z.1 refl
+]
 
 -- Where the originator is linked as an answerer's break waits, it is Connected.
 pub peer-connected : ReadsWritten → (tries period : ℕ) (delay : Role → ℕ) (link : Link) (ts : List Turn) (state : ℕ → Accounts)
@@ -161,15 +147,11 @@ peer-connected reads tries period delay link ts state deed kt m w u b open-so l 
         let v = told-at reads tries period delay link ts state deed kt m w u b e in
         let x = v.before in
         let same : v.turn + 1 + (u - (v.turn + 1)) ≡ u = omega (arith, x) in
-        off (waits (state u).answ.own_breaks) wt (ap (λ y. waits (state y).answ.own_breaks) (sym same)
+        clash (waits (state u).answ.own_breaks) wt (ap (λ y. waits (state y).answ.own_breaks) (sym same)
         ∙ unasked tries period delay link ts state deed kt w v.turn (omega (arith, x, b)) v.told.breaks (u - (v.turn + 1))
         (omega (arith, x, b)) (λ y p q. v.since y p (omega (arith, q, same)))
         (answ-linked v.turn (omega (arith, x, b)) v.told.connected) (ap (λ y. is_connected (state y).answ.phase) same ∙ c))
 
     by : (x : Bool) → is_connected (state u).orig.phase ≡ x → is_connected (state u).orig.phase ≡ true
     by true e = e
-    by false e = on (connected-or (state u).orig.phase l e)
-      where
-        on : ((state u).orig.phase ≡ Releasing) ⊎ ((state u).orig.phase ≡ Closed) → is_connected (state u).orig.phase ≡ true
-        on (inl q) = absurd (told q)
-        on (inr q) = absurd (open-so q)
+    by false e = elim (connected-or (state u).orig.phase l e) [ inl q ↦ absurd (told q) | inr q ↦ absurd (open-so q) ]

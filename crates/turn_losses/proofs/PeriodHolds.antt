@@ -1,25 +1,15 @@
-use Rattle.std.proofs.Common.{◌⊎◌, inl, inr, ◌≡◌, ℕ, zero, suc, ◌+◌, ◌*◌, ◌<◌, ◌≤◌, ◌&&◌, Bool, true, false, arith, refl, sym, ◌∙◌, ap}
-use Rattle.std.proofs.Common.{Some}
-use Rattle.std.proofs.lemmas.Bool.{cases_lt}
-use Rattle.link_account.specs.Account.{Account, is_connected}
-use Rattle.link_account.specs.Speak.{Said}
-use Rattle.std.proofs.Common.{List, length}
-use Rattle.shared_terms.specs.declared.role.Role.{Role}
-use Rattle.shared_terms.specs.Role.{other}
-use Rattle.shared_terms.specs.Both.{of}
-use Rattle.link_run.specs.Run.{Link, Accounts, Turn, served_at}
-use Rattle.turn_bound.specs.Time.{KeepsTime}
-use Rattle.turn_losses.proofs.Trace.{past}
+use Rattle.std.proofs.Common.{◌⊎◌, inl, inr, ◌≡◌, ℕ, zero, suc, ◌+◌, ◌<◌, ◌≤◌, ◌&&◌, Bool, true, false, arith, refl, sym, ◌∙◌, ap}
+use Rattle.std.proofs.Common.{Some, List, length, ◌%◌, ◌-◌}
+use Rattle.link_account.proofs.Names.{cases_lt, Account, is_connected, Said, Role, other, of}
+use Rattle.link_run.proofs.Names.{Link, Accounts, Turn, served_at}
 use Rattle.turn_losses.proofs.Answered.{SendsSegment, AnswerTurn}
-use Rattle.turn_losses.proofs.Trace.{Deed, Happens, Trace}
-use Rattle.turn_losses.proofs.TwoEnds.{EndRun, TwoEnds, end_run, hears_poll, hears_final}
 use Rattle.turn_losses.proofs.KeepsPolls.{Answers, StillAwaited}
 use Rattle.turn_losses.proofs.LineLaw.{SetSince, set-since}
 use Rattle.turn_losses.proofs.PollLaws.{two-ends, reply-matches}
 use Rattle.turn_losses.proofs.PeriodLaws.{still-awaited, answer-comes, NoneLost, StayConnected}
-use Rattle.std.proofs.Common.{◌%◌, ◌-◌}
 use Rattle.turn_losses.proofs.NumberHear.{ns_sent}
 use Rattle.turn_losses.proofs.Acknowledged.{Counts, acknowledged}
+use Rattle.turn_losses.proofs.Names.{KeepsTime, past, Deed, Happens, Trace, EndRun, TwoEnds, end_run, hears_poll, hears_final}
 
 -- while the answer to a poll is on its way, the clock doesn't expire
 pub unexpired : (period turns : ℕ) (e o : EndRun) → TwoEnds period turns e o → (t : ℕ) → t < turns → is_connected (e.account t).phase ≡ true
@@ -75,33 +65,27 @@ pub period-cleared : (period turns : ℕ) (e o : EndRun) → TwoEnds period turn
     → StayConnected e s (s + period) → StayConnected o s (s + period) → NoneLost e o (s + 1) (period - 1)
     → (v : ℕ) × (s < v) × (v < s + period) × (e.count v ≡ 0)
 period-cleared period turns e o k c s within m ce co lost =
-    go (answer-comes period turns e o k s (omega (arith, p, within)) m (λ t l g. ce t l (omega (arith, g, p)))
-    (λ t l g. co t l (omega (arith, g, p))) (λ t l g. lost t l (omega (arith, g, p))))
+    go (answer-comes period turns e o k s (omega (arith, k.period_is, within)) m (λ t l g. ce t l (omega (arith, g, k.period_is)))
+    (λ t l g. co t l (omega (arith, g, k.period_is))) (λ t l g. lost t l (omega (arith, g, k.period_is))))
   where
-    p : period ≡ 2 * (e.delay + o.delay) + 16
-    p = k.period_is
-
-    d : 1 ≤ e.delay
-    d = k.own_delay
-
     go : (u : ℕ) × (s + (e.delay + o.delay) ≤ u) × (u ≤ s + (e.delay + o.delay) + 1) × (hears_final e u ≡ true)
         → (v : ℕ) × (s < v) × (v < s + period) × (e.count v ≡ 0)
     go (u, low, high, h) =
-        either (c.answered u (omega (arith, p, high, within)) (ce u (omega (arith, low)) (omega (arith, high, p)))
-        (ce (u + 1) (omega (arith, low)) (omega (arith, high, p))) h)
+        either (c.answered u (omega (arith, k.period_is, high, within)) (ce u (omega (arith, low)) (omega (arith, high, k.period_is)))
+        (ce (u + 1) (omega (arith, low)) (omega (arith, high, k.period_is))) h)
       where
         later : (v : ℕ) × (u < v) × (v ≤ u + (e.delay + o.delay) + 1) × ((e.mid v).outgoing.count ≡ 0)
             → (v : ℕ) × (s < v) × (v < s + period) × (e.count v ≡ 0)
-        later (v, x, y, z) = (v, omega (arith, x, low), omega (arith, y, high, p), c.count_is v ∙ z)
+        later (v, x, y, z) = (v, omega (arith, x, low), omega (arith, y, high, k.period_is), c.count_is v ∙ z)
 
         either : (e.count u ≡ 0) ⊎ (ns_sent (e.slot u) ≡ Some ((e.mid u).outgoing.front % 128))
             → (v : ℕ) × (s < v) × (v < s + period) × (e.count v ≡ 0)
-        either (inl x) = (u, omega (arith, low, d), omega (arith, high, p), x)
+        either (inl x) = (u, omega (arith, low, k.own_delay), omega (arith, high, k.period_is), x)
         either (inr x) = later
-            (acknowledged period turns e o k c u (omega (arith, high, p, within)) h x
-            (λ t l g. ce t (omega (arith, l, low)) (omega (arith, g, high, p)))
-            (λ t l g. co t (omega (arith, l, low)) (omega (arith, g, high, p)))
-            (λ t l g. lost t (omega (arith, l, low)) (omega (arith, g, high, p))))
+            (acknowledged period turns e o k c u (omega (arith, high, k.period_is, within)) h x
+            (λ t l g. ce t (omega (arith, l, low)) (omega (arith, g, high, k.period_is)))
+            (λ t l g. co t (omega (arith, l, low)) (omega (arith, g, high, k.period_is)))
+            (λ t l g. lost t (omega (arith, l, low)) (omega (arith, g, high, k.period_is))))
 
 -- a line is lost in one of these turns
 pub record LostIn (e o : EndRun) (from count : ℕ) : Type 0 where
@@ -112,7 +96,10 @@ pub record LostIn (e o : EndRun) (from count : ℕ) : Type 0 where
 
 pub lost-or-none : (e o : EndRun) (from count : ℕ) → LostIn e o from count ⊎ NoneLost e o from count
 lost-or-none e o from zero = inr (λ t l g. let wrong : ⊥ = omega (arith, l, g) in absurd wrong)
-lost-or-none e o from (suc n) = go (lost-or-none e o from n)
+lost-or-none e o from (suc n) = elim (lost-or-none e o from n) [
+  | inl x ↦ (let l = x.low in let h = x.high in inl (record { turn = x.turn; low = l; high = omega (arith, h); loses = x.loses }))
+  | inr h ↦ at h (e.loses (from + n)) (o.loses (from + n)) refl refl
+]
   where
     at : NoneLost e o from n → (x y : Bool) → e.loses (from + n) ≡ x → o.loses (from + n) ≡ y
         → LostIn e o from (suc n) ⊎ NoneLost e o from (suc n)
@@ -123,17 +110,12 @@ lost-or-none e o from (suc n) = go (lost-or-none e o from n)
         same : (t : ℕ) → t ≡ from + n → (e.loses t ≡ false) × (o.loses t ≡ false)
         same t w = (ap e.loses w ∙ q, ap o.loses w ∙ r)
 
-    go : LostIn e o from n ⊎ NoneLost e o from n → LostIn e o from (suc n) ⊎ NoneLost e o from (suc n)
-    go (inl x) = let l = x.low in let h = x.high in inl (record { turn = x.turn; low = l; high = omega (arith, h); loses = x.loses })
-    go (inr h) = at h (e.loses (from + n)) (o.loses (from + n)) refl refl
-
 -- A line is lost in each such period in which the retry count never is 0.
 pub period-loses : (period turns : ℕ) (e o : EndRun) → TwoEnds period turns e o → Counts turns e o → (s : ℕ) → s + period ≤ turns
     → e.made s ≡ true
     → StayConnected e s (s + period) → StayConnected o s (s + period) → ((v : ℕ) → s < v → v < s + period → e.count v ≡ 0 → ⊥)
     → LostIn e o (s + 1) (period - 1)
-period-loses period turns e o k c s within m ce co none = go (lost-or-none e o (s + 1) (period - 1))
-  where
-    go : LostIn e o (s + 1) (period - 1) ⊎ NoneLost e o (s + 1) (period - 1) → LostIn e o (s + 1) (period - 1)
-    go (inl x) = x
-    go (inr h) = let v = period-cleared period turns e o k c s within m ce co h in absurd (none v.0 v.1 v.2 v.3)
+period-loses period turns e o k c s within m ce co none = elim (lost-or-none e o (s + 1) (period - 1)) [
+  | inl x ↦ x
+  | inr h ↦ (let v = period-cleared period turns e o k c s within m ce co h in absurd (none v.0 v.1 v.2 v.3))
+]

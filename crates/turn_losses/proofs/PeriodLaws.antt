@@ -1,16 +1,11 @@
-use Rattle.std.proofs.Common.{◌⊎◌, inl, inr, ◌≡◌, ℕ, zero, suc, ◌+◌, ◌*◌, ◌<◌, ◌≤◌, ◌||◌, Bool, true, false, cond, arith, refl, sym, ◌∙◌}
+use Rattle.std.proofs.Common.{◌⊎◌, inl, inr, ◌≡◌, ℕ, zero, suc, ◌+◌, ◌<◌, ◌≤◌, ◌||◌, Bool, true, false, cond, arith, refl, ◌∙◌}
 use Rattle.std.proofs.Common.{ap, subst}
-use Rattle.std.proofs.lemmas.Bool.{cases_lt}
-use Rattle.link_account.specs.Account.{is_connected}
-use Rattle.turn_losses.specs.Polls.{is_poll, is_final}
-use Rattle.turn_losses.proofs.Polling.{is_linked, poll_due, PollTurn}
-use Rattle.turn_losses.proofs.TwoEnds.{EndRun, TwoEnds, sends_poll, hears_poll, sends_final, hears_final}
+use Rattle.link_account.proofs.Names.{cases_lt, is_connected}
 use Rattle.turn_losses.proofs.KeepsPolls.{Answers, StillAwaited}
 use Rattle.turn_losses.proofs.LineLaw.{is-heard}
 use Rattle.turn_losses.proofs.PollLaws.{turned, due-apart, reply-at-once, poll-fresh, polls-apart, reply-matches}
-
-clash : {A : Type 0} (b : Bool) → b ≡ true → b ≡ false → A
-clash b e f = let wrong : true ≡ false = sym e ∙ f in cc
+use Rattle.turn_losses.proofs.Names.{is_poll, is_final, is_linked, poll_due, PollTurn, EndRun, TwoEnds, sends_poll, hears_poll, sends_final}
+use Rattle.turn_losses.proofs.Names.{hears_final}
 
 -- an end that was Connected stays so, or is told to release or Closed, for good
 pub linked-on : (period turns : ℕ) (e o : EndRun) → TwoEnds period turns e o → (s t : ℕ) → s ≤ t → t ≤ turns
@@ -38,14 +33,8 @@ pub awaits-on : (period turns : ℕ) (e o : EndRun) → TwoEnds period turns e o
     → (m : Answers t e o) → (u : ℕ) → m.due < u → u ≤ t → (e.account u).outgoing.awaited ≡ true
 awaits-on period turns e o k t within c m = awaits
   where
-    d : 1 ≤ e.delay
-    d = k.own_delay
-
     d' : 1 ≤ o.delay
     d' = k.other_delay
-
-    p : period ≡ 2 * (e.delay + o.delay) + 16
-    p = k.period_is
 
     trip : m.sent + (e.delay + o.delay) ≡ t
     trip = m.round_trip
@@ -57,7 +46,7 @@ awaits-on period turns e o k t within c m = awaits
     due-soon = m.due_soon
 
     before : m.due < t
-    before = omega (arith, trip, due-before, d)
+    before = omega (arith, trip, due-before, k.own_delay)
 
     linked : is_linked (e.account (m.due + 1)).phase ≡ true
     linked = (k.own m.due (omega (arith, before, within))).made_linked m.made
@@ -75,7 +64,7 @@ awaits-on period turns e o k t within c m = awaits
         let far : w.sent + period ≤ m.sent + 1 =
         polls-apart period turns e o k w.sent m.sent (omega (arith, there, trip, g))
         (omega (arith, trip, within)) w.is_sent m.is_sent in
-        let wrong : ⊥ = omega (arith, far, there, trip, l, due-soon, p) in absurd wrong
+        let wrong : ⊥ = omega (arith, far, there, trip, l, due-soon, k.period_is) in absurd wrong
 
     or-late : (x y : Bool) → y ≡ true → x || y ≡ true
     or-late true y q = refl
@@ -108,20 +97,11 @@ still-awaited period turns e o k t within c h =
     m : Answers t e o
     m = reply-matches period turns e o k t within h
 
-    d : 1 ≤ e.delay
-    d = k.own_delay
-
-    d' : 1 ≤ o.delay
-    d' = k.other_delay
-
-    trip : m.sent + (e.delay + o.delay) ≡ t
-    trip = m.round_trip
-
     due-before : m.due ≤ m.sent
     due-before = m.due_before
 
     before : m.due < t
-    before = omega (arith, trip, due-before, d)
+    before = omega (arith, m.round_trip, due-before, k.own_delay)
 
     none : (b : Bool) → poll_due (e.account t) ≡ b → poll_due (e.account t) ≡ false
     none false q = q
@@ -129,14 +109,17 @@ still-awaited period turns e o k t within c h =
       where
         at : (x : ℕ) → t ≡ x → poll_due (e.account t) ≡ false
         at zero g = let wrong : ⊥ = omega (arith, g, before) in absurd wrong
-        at (suc x) g = absurd (m.none_since x (omega (arith, g, trip, due-before, d, d')) (omega (arith, g))
+        at (suc x) g = absurd (m.none_since x (omega (arith, g, m.round_trip, due-before, k.own_delay, k.other_delay)) (omega (arith, g))
             (poll-fresh period turns e o k x (omega (arith, g, within)) (subst (λ n. poll_due (e.account n) ≡ true) (omega (arith, g)) q)))
 
 -- A poll that became due at an end that was Connected goes in that turn or the next one.
 pub poll-goes : (period turns : ℕ) (e o : EndRun) → TwoEnds period turns e o → (s : ℕ) → s + 1 < turns → e.made s ≡ true
     → is_connected (e.account s).phase ≡ true → is_connected (e.account (s + 1)).phase ≡ true
     → is_connected (e.account (s + 2)).phase ≡ true → (sends_poll e s ≡ true) ⊎ (sends_poll e (s + 1) ≡ true)
-poll-goes period turns e o k s within m c0 c1 c2 = first ((k.own s (omega (arith, within))).goes c0 c1 (inl m))
+poll-goes period turns e o k s within m c0 c1 c2 = elim ((k.own s (omega (arith, within))).goes c0 c1 (inl m)) [
+  | inl x ↦ inl x
+  | inr x ↦ second ((k.own (s + 1) within).goes c1 (subst (λ n. is_connected (e.account n).phase ≡ true) (omega arith) c2) (inr x))
+]
   where
     second : (sends_poll e (s + 1) ≡ true) ⊎ (poll_due (e.account (s + 1 + 1)) ≡ true)
         → (sends_poll e s ≡ true) ⊎ (sends_poll e (s + 1) ≡ true)
@@ -145,10 +128,6 @@ poll-goes period turns e o k s within m c0 c1 c2 = first ((k.own s (omega (arith
         let far : s + period ≤ s + 1 =
         due-apart period turns e o k s (s + 1) (omega arith) within m (poll-fresh period turns e o k (s + 1) within x) in
         let p = k.period_is in let wrong : ⊥ = omega (arith, far, p) in absurd wrong
-
-    first : (sends_poll e s ≡ true) ⊎ (poll_due (e.account (s + 1)) ≡ true) → (sends_poll e s ≡ true) ⊎ (sends_poll e (s + 1) ≡ true)
-    first (inl x) = inl x
-    first (inr x) = second ((k.own (s + 1) within).goes c1 (subst (λ n. is_connected (e.account n).phase ≡ true) (omega arith) c2) (inr x))
 
 -- no line is lost in the turns from one on
 abbrev pub NoneLost : EndRun → EndRun → ℕ → ℕ → Type 0
@@ -167,22 +146,19 @@ answer-comes period turns e o k s within m ce co lost =
     go (poll-goes period turns e o k s (omega (arith, within)) m (ce s (omega arith) (omega arith)) (ce (s + 1) (omega arith) (omega arith))
     (ce (s + 2) (omega arith) (omega arith)))
   where
-    d : 1 ≤ e.delay
-    d = k.own_delay
-
     from : (q : ℕ) → s ≤ q → q ≤ s + 1 → sends_poll e q ≡ true
         → (u : ℕ) × (s + (e.delay + o.delay) ≤ u) × (u ≤ s + (e.delay + o.delay) + 1) × (hears_final e u ≡ true)
     from q low high sent =
         let polled : hears_poll o (q + e.delay) ≡ true =
         is-heard e.delay turns is_poll e.slot o.heard o.loses k.is_heard q (omega (arith, high, within))
-        (lost (q + e.delay) (omega (arith, low, d)) (omega (arith, high))).1 ∙ sent in
+        (lost (q + e.delay) (omega (arith, low, k.own_delay)) (omega (arith, high))).1 ∙ sent in
         let replied : sends_final o (q + e.delay) ≡ true =
         reply-at-once period turns o e (turned period turns e o k) (q + e.delay) (omega (arith, high, within)) polled
         (co (q + e.delay) (omega (arith, low)) (omega (arith, high)))
         (co (q + e.delay + 1) (omega (arith, low)) (omega (arith, high, k.other_delay))) in
         let answered : hears_final e (q + e.delay + o.delay) ≡ true =
         is-heard o.delay turns is_final o.slot e.heard e.loses k.hears (q + e.delay) (omega (arith, high, within))
-        (lost (q + e.delay + o.delay) (omega (arith, low, d)) (omega (arith, high))).0 ∙ replied in
+        (lost (q + e.delay + o.delay) (omega (arith, low, k.own_delay)) (omega (arith, high))).0 ∙ replied in
         (q + e.delay + o.delay, omega (arith, low), omega (arith, high), answered)
 
     go : (sends_poll e s ≡ true) ⊎ (sends_poll e (s + 1) ≡ true)

@@ -1,42 +1,19 @@
 -- An answerer begins only once the originator establishes the link.
-use Rattle.std.proofs.Common.{◌⊎◌, inl, inr, ◌≡◌, ℕ, zero, suc, ◌+◌, ◌-◌, ◌≤◌, Bool, true, false, List, length}
-use Rattle.std.proofs.Common.{arith, refl, sym, ◌∙◌, ap, subst, Ok}
-use Rattle.shared_terms.specs.declared.role.Role.{Role}
-use Rattle.shared_terms.specs.declared.role.Role.TheVariants.{Originator, Answerer}
-use Rattle.lapm_frames.specs.declared.frame.Frame.{Frame}
-use Rattle.lapm_frames.specs.declared.frame.Frame.TheVariants.{Sabme}
-use Rattle.lapm_frames.specs.declared.sent.Sent.TheVariants as slots
-use Rattle.lapm_frames.specs.declared.arrived.Arrived.{Arrived}
-use Rattle.link_account.specs.declared.phase.Phase.{Phase}
-use Rattle.link_account.specs.declared.phase.Phase.TheVariants.{Detecting, Negotiating, Establishing, Connected, Releasing, Closed}
-use Rattle.link_account.specs.declared.answer.Answer.{Answer}
-use Rattle.link_account.specs.declared.answer.Answer.TheVariants as answers
-use Rattle.link_account.specs.Account.{Account}
-use Rattle.link_account.specs.Hear.{hear, trying}
-use Rattle.link_account.specs.Speak.{Said, says}
-use Rattle.link_account.specs.Speak.{speak}
-use Rattle.link_run.specs.End.{is_released}
-use Rattle.link_run.specs.Run.{Link, Accounts, Turn, SpeaksAt, arrival, served_at, said_at}
-use Rattle.turn_bound.specs.Time.{KeepsTime}
-use Rattle.turn_bound.proofs.Clock.{rates}
-use Rattle.turn_bound.proofs.Value.{Stands}
-use Rattle.turn_bound.proofs.MeetHear.{is_begun, of_frame, of_arrived}
-use Rattle.link_account.specs.Speak.{frame_for}
-use Rattle.link_account.proofs.HearWays as HearWays
+use Rattle.std.proofs.Common.{◌⊎◌, inl, inr, ◌≡◌, ℕ, zero, suc, ◌+◌, ◌-◌, ◌≤◌, Bool, true, false, List, length, arith, refl, sym, ◌∙◌, ap}
+use Rattle.std.proofs.Common.{subst, Ok}
+use Rattle.link_account.proofs.Names.{Role, Originator, Answerer, Arrived, Account, hear, Said, speak}
+use Rattle.link_run.proofs.Names.{Phase, Detecting, Negotiating, Establishing, is_released, Link}
+use Rattle.link_run.proofs.Names.{Accounts, Turn, SpeaksAt, arrival, served_at, said_at}
 use Rattle.link_account.proofs.HearWays.{numbers-alike}
-use Rattle.link_account.proofs.SpeakWays as SpeakWays
-use Rattle.link_account.proofs.SpeakWays.{linked-alike, tries-alike}
 use Rattle.turn_bound.proofs.MeetSpeak.{speaks-so}
-use Rattle.turn_bound.proofs.Serving.{serves-all}
-use Rattle.turn_losses.proofs.Trace.{Deed, Happens, Trace, past, sent_or}
-use Rattle.turn_losses.proofs.TwoEnds.{EndRun, TwoEnds, end_run}
+use Rattle.link_run.proofs.Speaking.{speaks-phase}
+use Rattle.turn_losses.proofs.Establishing.{is_sabme, says-sabme}
 use Rattle.turn_losses.proofs.Tracing.{known, timed, release_of, said-as}
 use Rattle.turn_losses.proofs.LineLaw.{was-sent}
 use Rattle.turn_losses.proofs.PollLaws.{two-ends}
-
-abbrev pub is_sabme : Frame → Bool
-is_sabme (Sabme pf) = true
-is_sabme frame = false
+use Rattle.turn_losses.proofs.Names.{KeepsTime, rates, Stands, is_begun, of_frame, of_arrived, serves-all, Deed, Happens, Trace, past}
+use Rattle.turn_losses.proofs.Names.{sent_or, EndRun, TwoEnds, end_run}
+use Rattle.link_account.proofs.HearWays as HearWays
 
 -- only a SABME begins an answerer
 begun-by : (arrived : Arrived) (turn : ℕ) (a mid : Account) → a.setup.role ≡ Answerer → (a.phase ≡ Establishing → ⊥)
@@ -74,10 +51,7 @@ begun-by arrived turn a mid er n h = HearWays.by-ways
 abbrev pub is_established : Phase → Bool
 is_established Detecting = false
 is_established Negotiating = false
-is_established Establishing = true
-is_established Connected = true
-is_established Releasing = true
-is_established Closed = true
+is_established p = true
 
 -- it goes on so, as it hears
 pub stays-established : (arrived : Arrived) (turn : ℕ) (a mid : Account) → hear turn arrived a ≡ Ok mid → is_established a.phase ≡ true
@@ -108,44 +82,13 @@ stays-established arrived turn a mid h c = HearWays.by-ways (λ x b. is_establis
   };
 }) arrived mid h
 
--- and as it speaks; one that sends a SABME is so
-record Establishes (b : Account) (said : Said) : Type 0 where
-  pub stays : is_established b.phase ≡ true → is_established said.account.phase ≡ true
-  pub sends : of_frame is_sabme said.sent ≡ true → is_established said.account.phase ≡ true
-
-establishes : (turn : ℕ) (release : Bool) (b : Account) (said : Said) → speak turn release b ≡ Ok said → Establishes b said
-establishes turn release b said h = SpeakWays.by-ways (Establishes b) turn release b (record {
-  answers = λ alone d e. record { stays = λ c. c; sends = λ c. let wrong : true ≡ false = sym c ∙ answer-none d in cc };
-  flags = λ alone e. none;
-  mark = λ p r e. record { stays = λ c. c; sends = λ c. cc };
-  odp = λ p r l. record { stays = λ c. c; sends = λ c. cc };
-  xid = λ p r. tries-alike _ turn _ b (λ w. record { stays = λ c. c; sends = λ c. cc }) none;
-  sabme = λ p. tries-alike _ turn _ b (λ w. record { stays = λ c. c; sends = λ c. ap is_established p }) none;
-  linked = λ p r. linked-alike _ turn b (λ count awaited w own. let k = ap is_established p in record {
-    answers = λ d e. record { stays = λ c. c; sends = λ c. k };
-    final = λ n e. record { stays = λ c. c; sends = λ c. k };
-    poll = λ n q e. record { stays = λ c. c; sends = λ c. k };
-    segment = λ x u n e. record { stays = λ c. c; sends = λ c. k };
-    brkack = λ x s word e. record { stays = λ c. c; sends = λ c. k };
-    brk = λ x s y word e. record { stays = λ c. c; sends = λ c. k };
-    tell = λ x y e. record { stays = λ c. c; sends = λ c. k };
-    rej = λ x y n e. record { stays = λ c. c; sends = λ c. k };
-    srej = λ x y s n e. record { stays = λ c. c; sends = λ c. k };
-    flags = λ i. record { stays = λ c. c; sends = λ c. k };
-  });
-  releases = λ p r. tries-alike _ turn _ (trying Releasing turn b) (λ w. record { stays = λ c. refl; sends = λ c. refl })
-      (record { stays = λ c. refl; sends = λ c. refl });
-  disc = λ p. tries-alike _ turn _ b (λ w. record { stays = λ c. c; sends = λ c. cc }) none;
-}) said h
-  where
-    none : Establishes b (says slots.Flags b)
-    none = record { stays = λ c. c; sends = λ c. cc }
-
-    answer-none : (d : Answer) → of_frame is_sabme (frame_for d b) ≡ false
-    answer-none answers.Adp = refl
-    answer-none answers.Xid = refl
-    answer-none (answers.Ua pf) = refl
-    answer-none (answers.Dm pf) = refl
+-- and as it speaks
+says-established : (turn : ℕ) (release : Bool) (b : Account) (said : Said) → speak turn release b ≡ Ok said → is_established b.phase ≡ true
+    → is_established said.account.phase ≡ true
+says-established turn release b said h c = elim (speaks-phase turn release b said h) [
+  | inl e ↦ ap is_established e ∙ c
+  | inr x ↦ ap is_established x.1
+]
 
 -- What holds of the two all through a run.
 pub established-on : (tries period : ℕ) (delay : Role → ℕ) (link : Link) (ts : List Turn) (state : ℕ → Accounts) (deed : ℕ → Deed)
@@ -175,8 +118,8 @@ established-on tries period delay link ts state deed kt w s (suc n) l c = ap (λ
     after before =
         let x = h.speaking Originator in
         ap (λ (y : Account). is_established y.phase) x.after_is
-        ∙ (establishes u (release_of link u (deed u).mid Originator) (served_at link u (deed u).mid Originator).account x.said
-        (sym (said-as link u (deed u).mid Originator) ∙ x.says)).stays
+        ∙ says-established u (release_of link u (deed u).mid Originator) (served_at link u (deed u).mid Originator).account x.said
+        (sym (said-as link u (deed u).mid Originator) ∙ x.says)
         (ap is_established (serves-all link.orig.user u (is_released (deed u).mid.orig.phase) (deed u).mid.orig).phase ∙ heard before)
 
 pub begun-established : (tries period : ℕ) (delay : Role → ℕ) (link : Link) (ts : List Turn) (state : ℕ → Accounts) (deed : ℕ → Deed)
@@ -230,9 +173,9 @@ begun-established tries period delay link ts state deed kt w (suc u) l b = go
         let v : ℕ = u - o.delay in
         let x = (w.happens v (omega (arith, l))).speaking Originator in
         let first : is_established (state (v + 1)).orig.phase ≡ true = ap (λ (y : Account). is_established y.phase) x.after_is
-        ∙ (establishes v (release_of link v (deed v).mid Originator) (served_at link v (deed v).mid Originator).account x.said
-        (sym (said-as link v (deed v).mid Originator) ∙ x.says)).sends
-        (ap (λ y. of_frame is_sabme (sent_or y)) (sym x.sent_is) ∙ sent.1) in
+        ∙ ap is_established (says-sabme v (release_of link v (deed v).mid Originator) (served_at link v (deed v).mid Originator).account x.said
+        (sym (said-as link v (deed v).mid Originator) ∙ x.says)
+        (ap (λ y. of_frame is_sabme (sent_or y)) (sym x.sent_is) ∙ sent.1)).phase in
         ap (λ n. is_established (state n).orig.phase) (there v (u - v) (omega arith))
         ∙ established-on tries period delay link ts state deed kt w (v + 1) (u - v) (omega (arith, l)) first
       where

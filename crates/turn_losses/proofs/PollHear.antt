@@ -1,21 +1,12 @@
-use Rattle.std.proofs.Common.{◌⊎◌, inl, inr, ◌≡◌, ℕ, ◌||◌, Bool, true, false, refl, sym, ◌∙◌, ap, Option}
-use Rattle.std.proofs.Common.{Some, None, Result, Ok, Err}
-use Rattle.shared_terms.specs.declared.role.Role.{Role}
-use Rattle.shared_terms.specs.declared.role.Role.TheVariants.{Originator, Answerer}
-use Rattle.lapm_frames.specs.declared.arrived.Arrived.{Arrived}
-use Rattle.link_account.specs.declared.phase.Phase.{Phase}
-use Rattle.link_account.specs.declared.phase.Phase.TheVariants.{Detecting, Negotiating, Establishing, Connected, Releasing, Closed}
-use Rattle.shared_terms.specs.declared.fault.LinkFault.{LinkFault}
-use Rattle.link_account.specs.Account.{Account, is_connected}
-use Rattle.shared_terms.specs.Role.{is_originator}
-use Rattle.link_account.specs.Hear.{hear, on_nothing}
-use Rattle.link_account.specs.Hear.{without_adp}
+use Rattle.std.proofs.Common.{◌⊎◌, inl, inr, ◌≡◌, ℕ, ◌||◌, Bool, true, false, refl, sym, ◌∙◌, ap, Option, Some, None, Result, Ok, Err}
+use Rattle.link_account.proofs.Names.{Role, Originator, Answerer, Arrived, LinkFault, Account, is_connected, is_originator, hear}
+use Rattle.link_account.proofs.Names.{on_nothing, without_adp}
+use Rattle.link_run.proofs.Names.{Phase, Connected}
 use Rattle.link_account.specs.Hear.{first_wait}
-use Rattle.turn_losses.specs.Polls.{is_poll}
-use Rattle.turn_bound.proofs.MeetHear.{of_arrived}
-use Rattle.turn_losses.proofs.Polling.{SetFrom, is_linked}
 use Rattle.link_account.proofs.HearWays.{ConnectedWays, EarlyWays, by-ways}
+use Rattle.turn_losses.proofs.Truths.{or-false}
 use Rattle.turn_losses.proofs.HeardNumber.{number-rows, plain-frame}
+use Rattle.turn_losses.proofs.Names.{is_poll, of_arrived, SetFrom, is_linked}
 
 -- what hearing makes of an end's polls and replies
 pub record PollHeard (role : Role) (turn : ℕ) (polled : Bool) (a b : Account) : Type 0 where
@@ -39,17 +30,9 @@ abbrev pub PollHears : Role → ℕ → Bool → Account → Result Account Link
 PollHears role turn polled a (Err fault) = Unit {0}
 PollHears role turn polled a (Ok b) = PollHeard role turn polled a b
 
-pub or-false : (b : Bool) → b || false ≡ b
-or-false true = refl
-or-false false = refl
-
 pub linked-connected : (p : Phase) → is_connected p ≡ true → is_linked p ≡ true
 linked-connected Connected e = refl
-linked-connected Detecting e = cc
-linked-connected Negotiating e = cc
-linked-connected Establishing e = cc
-linked-connected Releasing e = cc
-linked-connected Closed e = cc
+linked-connected p e = cc
 
 -- before it is Connected, and after
 unlinked-heard : (role : Role) (turn : ℕ) (polled : Bool) (a b : Account) → is_linked a.phase ≡ false → is_connected b.phase ≡ false

@@ -1,22 +1,12 @@
-use Rattle.std.proofs.Common.{◌⊎◌, inl, inr, ◌≡◌, ℕ, ◌+◌, ◌-◌, ◌*◌, ◌<◌, ◌≤◌, true, false, arith, ap}
-use Rattle.link_account.specs.Account.{is_connected}
-use Rattle.std.proofs.Common.{List, length}
-use Rattle.shared_terms.specs.declared.role.Role.{Role}
-use Rattle.shared_terms.specs.declared.role.Role.TheVariants.{Originator, Answerer}
-use Rattle.shared_terms.specs.Role.{other}
-use Rattle.shared_terms.specs.Both.{of}
-use Rattle.link_run.specs.Run.{Link, Accounts, Turn, arrival}
-use Rattle.turn_bound.specs.Time.{KeepsTime}
-use Rattle.turn_bound.proofs.Tied.{is_lost}
-use Rattle.turn_losses.proofs.Trace.{sent_or}
-use Rattle.turn_losses.specs.Polls.{is_poll, is_final}
-use Rattle.turn_losses.proofs.Polling.{poll_due}
+use Rattle.std.proofs.Common.{◌⊎◌, inl, inr, ◌≡◌, ℕ, ◌+◌, ◌-◌, ◌*◌, ◌<◌, ◌≤◌, true, false, arith, ap, List, length}
+use Rattle.link_account.proofs.Names.{is_connected, Role, Originator, Answerer, other, of}
+use Rattle.link_run.proofs.Names.{Link, Accounts, Turn, arrival}
 use Rattle.turn_losses.proofs.Polls.{Polls, WasSent, Fresh}
-use Rattle.turn_losses.proofs.Trace.{Deed, Trace}
-use Rattle.turn_losses.proofs.TwoEnds.{EndRun, ArrivesLate, TwoEnds, end_run, sends_poll, hears_poll, sends_final, hears_final}
 use Rattle.turn_losses.proofs.KeepsPolls.{Answers}
 use Rattle.turn_losses.proofs.LineLaw.{arrives-late, was-sent, are-polls}
 use Rattle.turn_losses.proofs.PollsFresh.{polls-fresh, sent-soon, sent-apart}
+use Rattle.turn_losses.proofs.Names.{KeepsTime, is_lost, sent_or, Deed, Trace, is_poll, is_final, poll_due, EndRun, ArrivesLate, TwoEnds}
+use Rattle.turn_losses.proofs.Names.{end_run, sends_poll, hears_poll, sends_final, hears_final}
 
 pub two-ends : (tries period : ℕ) (delay : Role → ℕ) (link : Link) (ts : List Turn) (state : ℕ → Accounts) (deed : ℕ → Deed)
     → KeepsTime tries period delay link → Trace period delay link ts state deed
@@ -113,7 +103,10 @@ poll-soon period turns e o k =
 
 pub reply-matches : (period turns : ℕ) (e o : EndRun) → TwoEnds period turns e o → (t : ℕ) → t < turns → hears_final e t ≡ true
     → Answers t e o
-reply-matches period turns e o k t within h = go (poll-soon period turns e o k sent (omega (arith, within)) asked.1)
+reply-matches period turns e o k t within h = elim (poll-soon period turns e o k sent (omega (arith, within)) asked.1) [
+  | inl m ↦ answers sent (omega arith) (omega arith) m
+  | inr z ↦ answers z.0 (omega (arith, z.1)) (omega (arith, z.1)) z.2
+]
   where
     replied : (o.delay ≤ t) × (sends_final o (t - o.delay) ≡ true)
     replied = was-sent o.delay turns is_final o.slot e.heard e.loses k.hears t within h
@@ -140,7 +133,3 @@ reply-matches period turns e o k t within h = go (poll-soon period turns e o k s
       none_since = λ x l m n. let far = due-apart period turns e o k due x l (omega (arith, m, within)) made n in let p = k.period_is in
           omega (arith, far, m, soon, back, p);
     }
-
-    go : (e.made sent ≡ true) ⊎ ((s : ℕ) × (sent ≡ s + 1) × (e.made s ≡ true) × (poll_due (e.account sent) ≡ true)) → Answers t e o
-    go (inl m) = answers sent (omega arith) (omega arith) m
-    go (inr (s, q, m, d)) = answers s (omega (arith, q)) (omega (arith, q)) m

@@ -1,22 +1,14 @@
-use Rattle.std.proofs.Common.{◌⊎◌, inl, inr, ◌≡◌, ℕ, ◌+◌, ◌&&◌, ◌||◌, not, Bool, true, false}
-use Rattle.std.proofs.Common.{arith, refl, sym, ◌∙◌, ap, Option, Some, None, Result, Ok, Err}
-use Rattle.lapm_frames.specs.declared.frame.Frame.{Frame}
-use Rattle.break_signals.specs.Breaks.{OwnBreaks}
-use Rattle.link_account.specs.declared.phase.Phase.TheVariants.{Connected, Releasing}
-use Rattle.shared_terms.specs.declared.fault.LinkFault.{LinkFault}
-use Rattle.link_account.specs.Account.{Account, is_connected}
-use Rattle.link_account.specs.declared.answer.Answer.{Answer}
-use Rattle.link_account.specs.declared.answer.Answer.TheVariants as answers
-use Rattle.link_account.specs.Hear.{trying}
-use Rattle.link_account.specs.Speak.{Said, frame_for}
-use Rattle.link_account.specs.Speak.{nr_of, running}
-use Rattle.link_account.specs.Speak.{ready_frame, speak}
+use Rattle.std.proofs.Common.{◌⊎◌, inl, inr, ◌≡◌, ℕ, ◌+◌, ◌&&◌, ◌||◌, not, Bool, true, false, arith, refl, sym, ◌∙◌, ap, Option, Some, None}
+use Rattle.std.proofs.Common.{Result, Ok, Err}
+use Rattle.link_account.proofs.Names.{Frame, OwnBreaks, LinkFault, Account, is_connected, trying, Said, frame_for, nr_of, ready_frame}
+use Rattle.link_account.proofs.Names.{speak}
+use Rattle.link_run.proofs.Names.{Connected, Releasing, Answer}
+use Rattle.link_account.specs.Speak.{running}
 use Rattle.link_account.proofs.SpeakWays.{linked-so, Before, Steps, steps-so, polling_at, ConnectedWays, Tries, Ways, by-ways}
 use Rattle.link_account.proofs.SpeakWays.{answers-unconnected, next-keeps}
 use Rattle.turn_losses.proofs.PollHear.{set-same}
-use Rattle.turn_losses.specs.Polls.{is_poll, is_final}
-use Rattle.turn_bound.proofs.MeetHear.{of_frame}
-use Rattle.turn_losses.proofs.Polling.{SetFrom, is_linked}
+use Rattle.turn_losses.proofs.Names.{is_poll, is_final, of_frame, SetFrom, is_linked}
+use Rattle.link_account.specs.declared.answer.Answer.TheVariants as answers
 
 -- What the nine steps make of an end's polls and replies, once its timers are done.
 pub record StepPoll (turn : ℕ) (a : Account) (said : Said) : Type 0 where

@@ -1,61 +1,25 @@
 use Rattle.std.proofs.Common.{◌⊎◌, inl, inr, ◌≡◌, ℕ, ◌+◌, ◌≤◌, ◌&&◌, ◌||◌, Bool, true, false, cond, arith, refl, sym, ◌∙◌, ap, Some, None}
-use Rattle.shared_terms.specs.declared.role.Role.{Role}
-use Rattle.shared_terms.specs.declared.role.Role.TheVariants.{Originator, Answerer}
-use Rattle.link_account.specs.declared.phase.Phase.{Phase}
-use Rattle.link_account.specs.declared.phase.Phase.TheVariants.{Detecting, Negotiating, Establishing, Connected, Releasing, Closed}
-use Rattle.link_account.specs.Account.{Account, is_connected}
-use Rattle.link_account.specs.Speak.{Said}
-use Rattle.link_run.specs.End.{is_closed, is_released}
-use Rattle.turn_bound.specs.Due.{NoneDue}
+use Rattle.link_account.proofs.Names.{Role, Originator, Answerer, Account, is_connected, Said}
+use Rattle.link_run.proofs.Names.{Phase, Connected, Releasing, Closed, is_closed, is_released}
 use Rattle.turn_bound.proofs.AtMostOne.{OneDue}
+use Rattle.turn_losses.proofs.Truths.{and-two, unlinked-connected, and-second, and-true, clash, or-late}
 use Rattle.turn_losses.proofs.PollHear.{PollHeard, linked-connected}
 use Rattle.turn_losses.proofs.PollSpeak.{SaidPoll, SpeakPoll}
-use Rattle.turn_losses.specs.Polls.{is_poll, is_final}
-use Rattle.turn_bound.proofs.MeetHear.{of_frame}
-use Rattle.turn_losses.proofs.Polling.{is_linked, poll_due, Early, PollTurn}
-
-and-left : (b c : Bool) → b && c ≡ true → b ≡ true
-and-left true c e = refl
-and-left false c e = cc
-
-and-right : (b c : Bool) → b && c ≡ true → c ≡ true
-and-right true c e = e
-and-right false c e = cc
-
-and-both : (b c : Bool) → b ≡ true → c ≡ true → b && c ≡ true
-and-both true c e f = f
-and-both false c e f = cc
+use Rattle.turn_losses.proofs.Polling.{Early}
+use Rattle.turn_losses.proofs.Names.{NoneDue, is_poll, is_final, of_frame, is_linked, poll_due, PollTurn}
 
 unlinked-released : (p : Phase) → is_linked p ≡ false → is_released p ≡ false
-unlinked-released Detecting e = refl
-unlinked-released Negotiating e = refl
-unlinked-released Establishing e = refl
-unlinked-released Connected e = refl
 unlinked-released Releasing e = cc
 unlinked-released Closed e = cc
+unlinked-released p e = refl
 
 connected-released : (p : Phase) → is_connected p ≡ true → is_released p ≡ false
-connected-released Detecting e = cc
-connected-released Negotiating e = cc
-connected-released Establishing e = cc
 connected-released Connected e = refl
-connected-released Releasing e = cc
-connected-released Closed e = cc
+connected-released p e = cc
 
 connected-closed : (p : Phase) → is_connected p ≡ true → is_closed p ≡ false
-connected-closed Detecting e = cc
-connected-closed Negotiating e = cc
-connected-closed Establishing e = cc
 connected-closed Connected e = refl
-connected-closed Releasing e = cc
-connected-closed Closed e = cc
-
-clash : {A : Type 0} (b : Bool) → b ≡ true → b ≡ false → A
-clash b e f = let wrong : true ≡ false = sym e ∙ f in cc
-
-or-late : (m n : Bool) → n ≡ true → m || n ≡ true
-or-late true n g = refl
-or-late false n g = g
+connected-closed p e = cc
 
 either-bool : (b : Bool) → (b ≡ true) ⊎ (b ≡ false)
 either-bool true = inl refl
@@ -80,69 +44,49 @@ poll-turn period turn role polled final a b said some h k one none early untimed
     unlinked-before e = sym k.linked ∙ e
 
     unlinked-first : is_linked b.phase ≡ false → is_linked a.phase ≡ false
-    unlinked-first e = by (either-bool (is_linked a.phase))
-      where
-        by : (is_linked a.phase ≡ true) ⊎ (is_linked a.phase ≡ false) → is_linked a.phase ≡ false
-        by (inl x) = clash (is_linked b.phase) (h.linked x) e
-        by (inr x) = x
-
-    not-connected : (p : Phase) → is_linked p ≡ false → is_connected p ≡ false
-    not-connected p e = by (either-bool (is_connected p))
-      where
-        by : (is_connected p ≡ true) ⊎ (is_connected p ≡ false) → is_connected p ≡ false
-        by (inl x) = clash (is_linked p) (linked-connected p x) e
-        by (inr x) = x
+    unlinked-first e = elim (either-bool (is_linked a.phase)) [ inl x ↦ clash (is_linked b.phase) (h.linked x) e | inr x ↦ x ]
 
     stays-linked : is_linked a.phase ≡ true → is_linked c.phase ≡ true
     stays-linked e = k.linked ∙ h.linked e
 
     early-poll : is_linked c.phase ≡ false → c.wait.poll ≡ false
-    early-poll e = let u = unlinked-before e in (k.other (not-connected c.phase e)).0 ∙ ((h.early u).0 ∙ early.poll (unlinked-first u))
+    early-poll e = let u = unlinked-before e in (k.other (unlinked-connected c.phase e)).0 ∙ ((h.early u).0 ∙ early.poll (unlinked-first u))
 
     early-numbered : is_linked c.phase ≡ false → c.numbered ≡ false
     early-numbered e = let u = unlinked-before e in
-        (k.other (not-connected c.phase e)).1 ∙ ((h.early u).1 ∙ early.numbered (unlinked-first u))
+        (k.other (unlinked-connected c.phase e)).1 ∙ ((h.early u).1 ∙ early.numbered (unlinked-first u))
 
     -- whether a reply is due
     reply-heard : is_connected b.phase ≡ true → b.owes.reply ≡ true → polled ≡ true
-    reply-heard e r = by (h.from e)
+    reply-heard e r = elim (h.from e) [
+      | inl x ↦ or-rest a.owes.reply polled (none.reply (connected-released a.phase x)) (sym (h.asked x e) ∙ r)
+      | inr x ↦ clash b.owes.reply r ((h.begun x e).0 ∙ none.reply (unlinked-released a.phase x))
+    ]
       where
         or-rest : (x y : Bool) → x ≡ false → x || y ≡ true → y ≡ true
         or-rest true y f g = cc
         or-rest false y f g = g
-
-        by : (is_connected a.phase ≡ true) ⊎ (is_linked a.phase ≡ false) → polled ≡ true
-        by (inl x) = or-rest a.owes.reply polled (none.reply (connected-released a.phase x)) (sym (h.asked x e) ∙ r)
-        by (inr x) = clash b.owes.reply r ((h.begun x e).0 ∙ none.reply (unlinked-released a.phase x))
 
     -- an answerer that has heard no I frame and no supervisory frame polls for nothing
     silent-poll : is_connected c.phase ≡ true → role ≡ Answerer → c.numbered ≡ false → c.wait.poll ≡ true → ⊥
     silent-poll e r n p = by (k.connected e)
       where
         by : (is_connected b.phase ≡ true) × SaidPoll turn b said → ⊥
-        by (f, l) = on (either-bool l.made)
+        by (f, l) = elim (either-bool l.made) [
+          | inl m ↦ (let w = l.made_from m in let wrong : None ≡ Some w.0 = sym (silent r f (sym l.numbered ∙ n)) ∙ w.1 in cc)
+          | inr m ↦ clash b.wait.poll ((l.kept p).0 m) (none-polled (h.from f))
+        ]
           where
-            still : b.numbered ≡ false
-            still = sym l.numbered ∙ n
-
             none-polled : (is_connected a.phase ≡ true) ⊎ (is_linked a.phase ≡ false) → b.wait.poll ≡ false
             none-polled (inl x) = h.poll x ∙ early.silent r x (before (either-bool a.numbered))
               where
                 before : (a.numbered ≡ true) ⊎ (a.numbered ≡ false) → a.numbered ≡ false
-                before (inl y) = clash b.numbered (h.heard x y) still
+                before (inl y) = clash b.numbered (h.heard x y) (sym l.numbered ∙ n)
                 before (inr y) = y
             none-polled (inr x) = (h.answers r x f).0 ∙ early.poll x
 
-            on : (l.made ≡ true) ⊎ (l.made ≡ false) → ⊥
-            on (inl m) = let w = l.made_from m in let wrong : None ≡ Some w.0 = sym (silent r f still) ∙ w.1 in cc
-            on (inr m) = clash b.wait.poll ((l.kept p).0 m) (none-polled (h.from f))
-
     early-silent : role ≡ Answerer → is_connected c.phase ≡ true → c.numbered ≡ false → c.wait.poll ≡ false
-    early-silent r e n = by (either-bool c.wait.poll)
-      where
-        by : (c.wait.poll ≡ true) ⊎ (c.wait.poll ≡ false) → c.wait.poll ≡ false
-        by (inl p) = absurd (silent-poll e r n p)
-        by (inr p) = p
+    early-silent r e n = elim (either-bool c.wait.poll) [ inl p ↦ absurd (silent-poll e r n p) | inr p ↦ p ]
 
     after-early : Early role c
     after-early = record { poll = early-poll; numbered = early-numbered; silent = early-silent }
@@ -162,16 +106,11 @@ poll-turn period turn role polled final a b said some h k one none early untimed
             on (inl n) (inr x) = clash b.numbered n ((h.begun x f).1 ∙ early.numbered x)
 
     held : is_connected c.phase ≡ true → poll_due c ≡ true → polled ≡ true
-    held e d = by (k.connected e)
-      where
-        by : (is_connected b.phase ≡ true) × SaidPoll turn b said → polled ≡ true
-        by (f, l) = let p = and-right (is_connected c.phase) c.wait.poll d in reply-heard f ((l.kept p).1 (no-answer e f l p)).0
+    held e d = let z = k.connected e in
+        let p = and-second (is_connected c.phase) c.wait.poll d in reply-heard z.0 ((z.1.kept p).1 (no-answer e z.0 z.1 p)).0
 
     final-heard : is_connected c.phase ≡ true → of_frame is_final said.sent ≡ true → polled ≡ true
-    final-heard e d = by (k.connected e)
-      where
-        by : (is_connected b.phase ≡ true) × SaidPoll turn b said → polled ≡ true
-        by (f, l) = reply-heard f (l.final d)
+    final-heard e d = let z = k.connected e in reply-heard z.0 (z.1.final d)
 
     answered : polled ≡ true → is_connected a.phase ≡ true → is_connected c.phase ≡ true → of_frame is_final said.sent ≡ true
     answered p x e = by (k.connected e)
@@ -181,21 +120,14 @@ poll-turn period turn role polled final a b said some h k one none early untimed
         or-last false n g = g
 
         by : (is_connected b.phase ≡ true) × SaidPoll turn b said → of_frame is_final said.sent ≡ true
-        by (f, l) = l.replies (on one.one) reply
+        by (f, l) = l.replies (on one.one) (h.asked x f ∙ or-last a.owes.reply polled p)
           where
-            reply : b.owes.reply ≡ true
-            reply = h.asked x f ∙ or-last a.owes.reply polled p
-
             on : (b.owes.answer ≡ None) ⊎ (is_released b.phase ≡ false → b.owes.reply ≡ false) → b.owes.answer ≡ None
             on (inl n) = n
-            on (inr g) = clash b.owes.reply reply (g (connected-released b.phase f))
+            on (inr g) = clash b.owes.reply (h.asked x f ∙ or-last a.owes.reply polled p) (g (connected-released b.phase f))
 
     keeps-count : is_connected a.phase ≡ true → (count ≡ 0) ⊎ (count ≡ a.outgoing.count)
-    keeps-count x = by (keeps x)
-      where
-        by : (count ≡ 0) ⊎ ((count ≡ a.outgoing.count) × (b.wait.timer ≡ a.wait.timer)) → (count ≡ 0) ⊎ (count ≡ a.outgoing.count)
-        by (inl y) = inl y
-        by (inr (y, z)) = inr y
+    keeps-count x = elim (keeps x) [ inl y ↦ inl y | inr x ↦ inr x.0 ]
 
     -- it isn't Connected after the turn
     over : is_connected c.phase ≡ false → (made : Bool) × PollTurn period turn role polled final made count said.sent a c
@@ -204,8 +136,8 @@ poll-turn period turn role polled final a b said some h k one none early untimed
       record {
         early = after-early;
         linked = stays-linked;
-        due_from = λ d. clash (is_connected c.phase) (and-left (is_connected c.phase) c.wait.poll d) e;
-        held_up = λ d. clash (is_connected c.phase) (and-left (is_connected c.phase) c.wait.poll d) e;
+        due_from = λ d. clash (is_connected c.phase) ((and-two (is_connected c.phase) c.wait.poll d).0) e;
+        held_up = λ d. clash (is_connected c.phase) ((and-two (is_connected c.phase) c.wait.poll d).0) e;
         sent_from = λ s. clash (of_frame is_poll said.sent) s o.2;
         sent_done = λ s. clash (of_frame is_poll said.sent) s o.2;
         timer = λ f. clash (is_connected c.phase) f e;
@@ -230,7 +162,7 @@ poll-turn period turn role polled final a b said some h k one none early untimed
       record {
         early = after-early;
         linked = stays-linked;
-        due_from = λ d m. was m ((l.kept (and-right (is_connected c.phase) c.wait.poll d)).0 m);
+        due_from = λ d m. was m ((l.kept (and-second (is_connected c.phase) c.wait.poll d)).0 m);
         held_up = held e;
         sent_from = λ s m. was m ((l.sent s).0 m);
         sent_done = λ s. cleared ((l.sent s).1);
@@ -249,7 +181,7 @@ poll-turn period turn role polled final a b said some h k one none early untimed
     )
       where
         was : l.made ≡ false → b.wait.poll ≡ true → poll_due a ≡ true
-        was m p = and-both (is_connected a.phase) a.wait.poll x (sym (h.poll x) ∙ p)
+        was m p = and-true (is_connected a.phase) a.wait.poll x (sym (h.poll x) ∙ p)
 
         counts : (n : ℕ) → ((l.made ≡ true) × (b.outgoing.count ≡ n) × (c.wait.timer ≡ Some turn))
             ⊎ ((l.made ≡ false) × (b.outgoing.count ≡ n + 1) × ((r : ℕ) → b.wait.timer ≡ Some r → c.wait.timer ≡ Some r))
@@ -262,11 +194,11 @@ poll-turn period turn role polled final a b said some h k one none early untimed
 
         due : (l.made ≡ true) ⊎ (poll_due a ≡ true) → (l.made ≡ true) ⊎ (b.wait.poll ≡ true)
         due (inl m) = inl m
-        due (inr w) = inr (h.poll x ∙ and-right (is_connected a.phase) a.wait.poll w)
+        due (inr w) = inr (h.poll x ∙ and-second (is_connected a.phase) a.wait.poll w)
 
         still-due : (of_frame is_poll said.sent ≡ true) ⊎ (c.wait.poll ≡ true) → (of_frame is_poll said.sent ≡ true) ⊎ (poll_due c ≡ true)
         still-due (inl w) = inl w
-        still-due (inr w) = inr (and-both (is_connected c.phase) c.wait.poll e w)
+        still-due (inr w) = inr (and-true (is_connected c.phase) c.wait.poll e w)
 
         cleared : c.wait.poll ≡ false → poll_due c ≡ false
         cleared w = ap (λ v. is_connected c.phase && v) w ∙ and-false (is_connected c.phase)
@@ -281,11 +213,10 @@ poll-turn period turn role polled final a b said some h k one none early untimed
 
         expired-from : (s : ℕ) × (b.wait.timer ≡ Some s) × (turn ≡ s + b.setup.period)
             → (s : ℕ) × (a.wait.timer ≡ Some s) × (turn ≡ s + period)
-        expired-from (s, w, g) = by (h.timer x s w)
-          where
-            by : (s ≡ turn) ⊎ (a.wait.timer ≡ Some s) → (s : ℕ) × (a.wait.timer ≡ Some s) × (turn ≡ s + period)
-            by (inl v) = let wrong : ⊥ = omega (arith, v, g, q, some) in absurd wrong
-            by (inr v) = (s, v, omega (arith, g, q))
+        expired-from (s, w, g) = elim (h.timer x s w) [
+          | inl v ↦ (let wrong : ⊥ = omega (arith, v, g, q, some) in absurd wrong)
+          | inr v ↦ (s, v, omega (arith, g, q))
+        ]
 
     -- it becomes so in it
     begins : is_connected c.phase ≡ true → is_connected b.phase ≡ true → SaidPoll turn b said → is_linked a.phase ≡ false → (r : Role)
@@ -332,7 +263,7 @@ poll-turn period turn role polled final a b said some h k one none early untimed
       record {
         early = after-early;
         linked = stays-linked;
-        due_from = λ d m. absurd (none-kept ((l.kept (and-right (is_connected c.phase) c.wait.poll d)).0));
+        due_from = λ d m. absurd (none-kept ((l.kept (and-second (is_connected c.phase) c.wait.poll d)).0));
         held_up = held e;
         sent_from = λ s m. absurd (none-kept ((l.sent s).0));
         sent_done = λ s. absurd (none-kept ((l.sent s).0));
@@ -351,22 +282,12 @@ poll-turn period turn role polled final a b said some h k one none early untimed
     )
       where
         none-kept : (l.made ≡ false → b.wait.poll ≡ true) → ⊥
-        none-kept w = by (either-bool l.made)
-          where
-            by : (l.made ≡ true) ⊎ (l.made ≡ false) → ⊥
-            by (inl m) = let v = l.made_from m in let wrong : None ≡ Some v.0 = sym (untimed x) ∙ (sym (h.answers g x f).1 ∙ v.1) in cc
-            by (inr m) = clash b.wait.poll (w m) ((h.answers g x f).0 ∙ early.poll x)
+        none-kept w = elim (either-bool l.made) [
+          | inl m ↦ (let v = l.made_from m in let wrong : None ≡ Some v.0 = sym (untimed x) ∙ (sym (h.answers g x f).1 ∙ v.1) in cc)
+          | inr m ↦ clash b.wait.poll (w m) ((h.answers g x f).0 ∙ early.poll x)
+        ]
 
     go : (is_connected c.phase ≡ true) ⊎ (is_connected c.phase ≡ false)
         → (made : Bool) × PollTurn period turn role polled final made count said.sent a c
     go (inr e) = over e
-    go (inl e) = by (k.connected e)
-      where
-        by : (is_connected b.phase ≡ true) × SaidPoll turn b said
-            → (made : Bool) × PollTurn period turn role polled final made count said.sent a c
-        by (f, l) = on (h.from f)
-          where
-            on : (is_connected a.phase ≡ true) ⊎ (is_linked a.phase ≡ false)
-                → (made : Bool) × PollTurn period turn role polled final made count said.sent a c
-            on (inl x) = during e f l x
-            on (inr x) = begins e f l x role refl
+    go (inl e) = let z = k.connected e in elim (h.from z.0) [ inl x ↦ during e z.0 z.1 x | inr x ↦ begins e z.0 z.1 x role refl ]

@@ -1,21 +1,15 @@
 -- Polls and their answers, at one end.
+use Rattle.link_account.proofs.Names.{Role, Answerer, Sent, Account, is_connected}
+use Rattle.link_run.proofs.Names.{Phase, Connected, Releasing, Closed}
 use Rattle.std.specs.Prelude.{◌≡◌, ◌⊎◌, ℕ, ◌+◌, Bool, true, false, ◌&&◌, ◌||◌, cond, Option, Some}
-use Rattle.shared_terms.specs.declared.role.Role.{Role}
-use Rattle.shared_terms.specs.declared.role.Role.TheVariants.{Answerer}
-use Rattle.link_account.specs.declared.phase.Phase.{Phase}
-use Rattle.link_account.specs.declared.phase.Phase.TheVariants.{Detecting, Negotiating, Establishing, Connected, Releasing, Closed}
-use Rattle.lapm_frames.specs.declared.sent.Sent.{Sent}
-use Rattle.link_account.specs.Account.{Account, is_connected}
 use Rattle.turn_bound.proofs.MeetHear.{of_frame}
 use Rattle.turn_losses.specs.Polls.{is_poll, is_final}
 
 abbrev pub is_linked : Phase → Bool
-is_linked Detecting = false
-is_linked Negotiating = false
-is_linked Establishing = false
 is_linked Connected = true
 is_linked Releasing = true
 is_linked Closed = true
+is_linked p = false
 
 -- a poll of a Connected end is due
 abbrev pub poll_due : Account → Bool

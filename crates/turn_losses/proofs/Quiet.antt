@@ -1,47 +1,30 @@
 -- What a run's two ends make of SABME, and that no UA is due while a break waits.
 use Rattle.std.proofs.Common.{◌⊎◌, inl, inr, ◌≡◌, ℕ, zero, suc, ◌+◌, ◌<◌, ◌≤◌, true, false, List, length, arith, refl, sym, ◌∙◌, ap, subst}
-use Rattle.std.specs.Prelude.{is_some}
-use Rattle.shared_terms.specs.declared.role.Role.{Role}
-use Rattle.shared_terms.specs.declared.role.Role.TheVariants.{Originator, Answerer}
-use Rattle.shared_terms.specs.Both.{of}
-use Rattle.xid_params.specs.Offers.{ReadsWritten}
-use Rattle.link_account.specs.declared.phase.Phase.{Phase}
-use Rattle.link_account.specs.declared.phase.Phase.TheVariants.{Detecting, Negotiating, Establishing, Connected, Releasing, Closed}
-use Rattle.link_account.specs.Account.{Account, is_connected}
-use Rattle.link_account.specs.Laws.{MayPlay}
-use Rattle.link_account.specs.Hear.{hear}
-use Rattle.link_account.specs.Speak.{speak}
-use Rattle.link_run.specs.End.{is_busy, is_released}
-use Rattle.link_run.specs.Run.{Link, Accounts, Turn, SpeaksAt, arrival, served_at, said_at}
-use Rattle.turn_bound.specs.Time.{KeepsTime}
-use Rattle.turn_bound.proofs.Clock.{rates}
-use Rattle.turn_bound.proofs.Value.{Stands}
-use Rattle.turn_bound.proofs.MeetHear.{is_ua_due, frame_ua, frame_disc, of_frame, of_arrived}
+use Rattle.link_account.proofs.Names.{is_some, Role, Originator, Answerer, of, ReadsWritten, Account, is_connected, MayPlay, hear, speak}
+use Rattle.link_run.proofs.Names.{Phase, Detecting, Establishing, Releasing, Closed, is_busy, is_released, Link}
+use Rattle.link_run.proofs.Names.{Accounts, Turn, SpeaksAt, arrival, served_at, said_at}
+use Rattle.turn_bound.proofs.MeetHear.{is_ua_due, frame_ua}
 use Rattle.turn_bound.proofs.MeetSpeak.{speaks-so}
-use Rattle.turn_bound.proofs.Serving.{Served, serves-all}
-use Rattle.turn_losses.proofs.Polling.{is_linked}
 use Rattle.turn_losses.proofs.PollSpeak.{poll-speaks}
 use Rattle.turn_losses.proofs.NumberTurn.{speak-ok}
-use Rattle.turn_losses.proofs.Trace.{Deed, Happens, Trace, past, sent_or}
-use Rattle.turn_losses.proofs.TwoEnds.{end_run}
 use Rattle.turn_losses.proofs.Tracing.{known, release_of, said-as}
 use Rattle.turn_losses.proofs.Moving.{moves_on, TryGoesOn, TryBegins, try-heard}
 use Rattle.turn_losses.proofs.Setups.{heard-as, heard-setup}
 use Rattle.turn_losses.proofs.Parting.{setup-role}
-use Rattle.turn_losses.proofs.Phasing.{is_sabme, is_established, established-on}
+use Rattle.turn_losses.proofs.Establishing.{is_sabme}
+use Rattle.turn_losses.proofs.Phasing.{is_established, established-on}
 use Rattle.turn_losses.proofs.Trying.{tries-so}
 use Rattle.turn_losses.proofs.Sabmes.{answer-by}
 use Rattle.turn_losses.proofs.Establishing.{SaidSabme, says-sabme, try-over, establishing-from}
 use Rattle.turn_losses.proofs.Flight.{Sabmes, Meeting, heard-ua, is-ua}
 use Rattle.turn_losses.proofs.View.{deeds-of, answers-are}
+use Rattle.turn_losses.proofs.Names.{KeepsTime, rates, Stands, frame_disc, of_frame, of_arrived, Served, serves-all, is_linked, Deed}
+use Rattle.turn_losses.proofs.Names.{Happens, Trace, past, sent_or, end_run}
 
 released-linked : (p : Phase) → is_released p ≡ true → is_linked p ≡ true
 released-linked Releasing e = refl
 released-linked Closed e = refl
-released-linked Detecting e = cc
-released-linked Negotiating e = cc
-released-linked Establishing e = cc
-released-linked Connected e = cc
+released-linked p e = cc
 
 -- the frame of a try is due no more once it spoke
 try-false : (tries period : ℕ) (delay : Role → ℕ) (link : Link) (ts : List Turn) (state : ℕ → Accounts) (deed : ℕ → Deed)
@@ -112,15 +95,11 @@ sabmes-of reads tries period delay link ts state deed kt m w = record {
             by : TryGoesOn Establishing (arrival (deed q).turn.orig.heard) (state q).orig mid ⊎ TryBegins q Establishing
                 (state q).orig mid → q ≡ (state q).orig.wait.try_set + period
             by (inr (never, _, _, _, _)) = absurd (never f)
-            by (inl (_, same', _)) = on (k.sent (ap (λ x. of_frame is_sabme (sent_or x)) (sym s.sent_is) ∙ e))
-              where
-                wait : b.wait ≡ (state q).orig.wait
-                wait = v.wait ∙ same'
-
-                on : (q ≡ b.wait.try_set + b.setup.period) ⊎ (b.wait.try ≡ true) → q ≡ (state q).orig.wait.try_set + period
-                on (inl g) = let z = ap (λ x. x.try_set) wait in omega (arith, g, z, per)
-                on (inr g) = let wrong : true ≡ false = sym g
-                    ∙ (ap (λ x. x.try) wait ∙ try-false tries period delay link ts state deed kt w q (omega (arith, l)) f) in cc
+            by (inl (_, same', _)) = elim (k.sent (ap (λ x. of_frame is_sabme (sent_or x)) (sym s.sent_is) ∙ e)) [
+              | inl g ↦ (let z = ap (λ x. x.try_set) (v.wait ∙ same') in omega (arith, g, z, per))
+              | inr g ↦ (let wrong : true ≡ false = sym g ∙
+                  (ap (λ x. x.try) (v.wait ∙ same') ∙ try-false tries period delay link ts state deed kt w q (omega (arith, l)) f) in cc)
+            ]
 
 pub meeting-of : (tries period : ℕ) (delay : Role → ℕ) (link : Link) (ts : List Turn) (state : ℕ → Accounts) (deed : ℕ → Deed)
     → KeepsTime tries period delay link → Trace period delay link ts state deed

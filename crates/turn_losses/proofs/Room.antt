@@ -1,27 +1,17 @@
 -- What a Connected end was offered fits into its window, which is one of seven bits.
 use Rattle.std.proofs.Common.{◌≡◌, ℕ, zero, suc, ◌+◌, ◌<◌, ◌≤◌, ◌&&◌, not, min, Bool, true, false, cond, nat_lt, nat_le, List, [], ◌∷◌}
 use Rattle.std.proofs.Common.{length, length-append, arith, refl, sym, ◌∙◌, ap, Option, Some, None, Ok}
-use Rattle.std.proofs.lemmas.Bool.Decides.{nat_tests}
-use Rattle.shared_terms.specs.declared.role.Role.{Role}
-use Rattle.shared_terms.specs.declared.role.Role.TheVariants.{Originator, Answerer}
-use Rattle.xid_params.specs.declared.offer.Offer.{Offer}
-use Rattle.xid_params.specs.declared.terms.Terms.{Terms}
-use Rattle.xid_params.specs.Offers.{IsAllowed}
-use Rattle.xid_params.specs.Terms.{agree, default_offer, lowered}
-use Rattle.lapm_sender.specs.Outgoing.{Outgoing, with_piece}
-use Rattle.break_signals.specs.Breaks.{after_ask}
-use Rattle.lapm_frames.specs.declared.arrived.Arrived.{Arrived}
-use Rattle.link_account.specs.declared.phase.Phase.{Phase}
-use Rattle.link_account.specs.declared.phase.Phase.TheVariants.{Detecting, Negotiating, Establishing, Connected, Releasing, Closed}
-use Rattle.link_account.specs.Account.{Account, is_connected, window_for, wants, piece_size, after_given}
-use Rattle.link_account.specs.Hear.{hear}
-use Rattle.link_account.specs.Hear.{on_nothing}
-use Rattle.link_run.specs.End.{User, BreakLine, delivered, offered_at, offered_times, offered, room_for, piece_at, is_busy, next_break}
+use Rattle.link_account.proofs.Names.{nat_tests, Role, Originator, Answerer, Offer, Terms, IsAllowed, agree, Outgoing, with_piece}
+use Rattle.link_account.proofs.Names.{after_ask, Arrived, Account, is_connected, wants, piece_size, after_given, hear, on_nothing}
+use Rattle.link_run.proofs.Names.{Phase, Negotiating, Establishing, Closed, User, BreakLine, delivered}
+use Rattle.link_run.proofs.Names.{offered_at, offered_times, offered, room_for, piece_at, is_busy, next_break}
+use Rattle.xid_params.specs.Terms.{default_offer, lowered}
+use Rattle.link_account.specs.Account.{window_for}
 use Rattle.link_run.specs.End.{asked_at}
 use Rattle.link_account.proofs.HearWays.{by-early}
-use Rattle.turn_bound.proofs.Run.{served_account}
 use Rattle.turn_bound.proofs.Serving.{before_asking, offers-well}
-use Rattle.turn_losses.proofs.Polling.{is_linked}
+use Rattle.turn_losses.proofs.Truths.{unlinked-connected}
+use Rattle.turn_losses.proofs.Names.{served_account, is_linked}
 
 pub record Room (a : Account) : Type 0 where
   pub window : a.outgoing.window ≤ 127
@@ -54,14 +44,6 @@ pub record BeginsWith (b : Account) : Type 0 where
 
 not-connected : (b : Account) (p : Phase) → b.phase ≡ p → is_connected p ≡ false → BeginsWith b
 not-connected b p e f = record { so = λ h. let wrong : true ≡ false = sym h ∙ (ap is_connected e ∙ f) in cc }
-
-unlinked-connected : (p : Phase) → is_linked p ≡ false → is_connected p ≡ false
-unlinked-connected Detecting e = refl
-unlinked-connected Negotiating e = refl
-unlinked-connected Establishing e = refl
-unlinked-connected Connected e = cc
-unlinked-connected Releasing e = refl
-unlinked-connected Closed e = refl
 
 pub begins-roomy : (arrived : Arrived) (turn : ℕ) (a mid : Account) → is_linked a.phase ≡ false → Fits a.terms → IsAllowed a.setup.offer
     → hear turn arrived a ≡ Ok mid → BeginsWith mid

@@ -1,20 +1,15 @@
 -- Where an originator is Connected, no SABME of its is on its way; so no UA is due at its peer.
-use Rattle.std.proofs.Common.{◌⊎◌, inl, inr, ◌≡◌, ℕ, Bool, true, false, refl, sym, ◌∙◌, ap, None}
-use Rattle.std.proofs.Common.{Ok}
-use Rattle.std.specs.Prelude.{is_some}
-use Rattle.lapm_frames.specs.declared.frame.Frame.TheVariants.{Sabme, Disc}
-use Rattle.lapm_frames.specs.declared.arrived.Arrived.{Arrived}
-use Rattle.lapm_frames.specs.declared.arrived.Arrived.TheVariants as arrivals
-use Rattle.link_account.specs.declared.phase.Phase.TheVariants.{Negotiating, Closed}
-use Rattle.link_account.specs.declared.answer.Answer.TheVariants as answers
-use Rattle.link_account.specs.Account.{Account, is_connected}
-use Rattle.link_account.specs.Hear.{hear, on_nothing, without_adp}
-use Rattle.link_account.specs.Hear.{owing, trying}
+use Rattle.std.proofs.Common.{◌⊎◌, inl, inr, ◌≡◌, ℕ, Bool, true, false, refl, sym, ◌∙◌, ap, None, Ok}
+use Rattle.link_account.proofs.Names.{is_some, Sabme, Disc, Arrived, Account, is_connected, hear, on_nothing, without_adp, owing, trying}
+use Rattle.link_account.proofs.Names.{after_answer}
+use Rattle.link_run.proofs.Names.{Negotiating, Closed}
 use Rattle.link_account.specs.Hear.{connected}
-use Rattle.break_signals.specs.Breaks.{after_answer, after_break}
+use Rattle.break_signals.specs.Breaks.{after_break}
 use Rattle.link_account.proofs.HearWays.{by-ways, numbers-alike}
 use Rattle.turn_bound.proofs.MeetHear.{is_ua_due, frame_disc, of_arrived}
-use Rattle.turn_losses.proofs.Phasing.{is_sabme}
+use Rattle.turn_losses.proofs.Establishing.{is_sabme}
+use Rattle.lapm_frames.specs.declared.arrived.Arrived.TheVariants as arrivals
+use Rattle.link_account.specs.declared.answer.Answer.TheVariants as answers
 
 -- What makes an answer due.
 pub record AnswerBy (arrived : Arrived) (b : Account) : Type 0 where

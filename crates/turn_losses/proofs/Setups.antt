@@ -1,27 +1,13 @@
 -- An end keeps its setup as it hears, and how both ends' phases stand together.
 use Rattle.std.proofs.Common.{◌≡◌, ℕ, ◌*◌, true, List, length, map, arith, refl, sym, ◌∙◌, ap, subst, Ok}
-use Rattle.shared_terms.specs.declared.role.Role.{Role}
-use Rattle.shared_terms.specs.Both.{of}
-use Rattle.lapm_frames.specs.declared.arrived.Arrived.{Arrived}
-use Rattle.link_account.specs.declared.phase.Phase.{Phase}
-use Rattle.link_account.specs.Account.{Account}
-use Rattle.link_account.specs.Hear.{hear}
-use Rattle.link_run.specs.End.{User, is_released, is_closed}
-use Rattle.link_run.specs.Run.{Link, Accounts, Turn, RunOf}
-use Rattle.link_run.specs.Carried.{IsCarried}
-use Rattle.turn_bound.specs.Time.{KeepsTime}
-use Rattle.turn_bound.proofs.Clock.{Rates, rates}
-use Rattle.turn_bound.proofs.Value.{IsOf, arrived_rnrs}
-use Rattle.turn_bound.proofs.Run.{served_account}
-use Rattle.turn_bound.proofs.Hearing.{HeardAs}
-use Rattle.turn_bound.proofs.OneTurn.{heard-ok}
-use Rattle.turn_bound.proofs.Phases.{hears-well}
-use Rattle.turn_bound.proofs.Serving.{serves-all}
-use Rattle.turn_bound.proofs.MeetHear.{is_begun}
+use Rattle.link_account.proofs.Names.{Role, of, Arrived, Account, hear}
+use Rattle.link_run.proofs.Names.{Phase, User, is_released, is_closed, Link, Accounts, Turn, RunOf, IsCarried}
 use Rattle.turn_bound.proofs.Meeting.{Meets, meets-run}
 use Rattle.turn_bound.proofs.Ending.{fits}
 use Rattle.turn_bound.proofs.Tied.{Tied, tied, keeps, link_of, turn_of, state_of}
 use Rattle.turn_losses.proofs.Tracing.{Known, known, Timed, timed, rated}
+use Rattle.turn_losses.proofs.Names.{KeepsTime, Rates, rates, IsOf, arrived_rnrs, served_account, HeardAs, heard-ok, hears-well, serves-all}
+use Rattle.turn_losses.proofs.Names.{is_begun}
 
 pub start-setup : (tries period : ℕ) (delay : Role → ℕ) (link : Link) (ts : List Turn) (ends : Accounts) → KeepsTime tries period delay link
     → RunOf link ts ends → IsCarried delay ts → (r : Role) → (of r ends).setup ≡ (of r link).setup

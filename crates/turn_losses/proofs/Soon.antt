@@ -1,16 +1,13 @@
 -- A BRK goes within fourteen turns, and the BRKACK that answers it within six.
 use Rattle.std.proofs.Common.{◌⊎◌, inl, inr, ◌≡◌, ℕ, zero, suc, ◌+◌, ◌-◌, ◌*◌, ◌<◌, ◌≤◌, ◌&&◌, Bool, true, false, arith, refl, sym, ◌∙◌, ap}
 use Rattle.std.proofs.Common.{subst, Option, Some, None}
-use Rattle.std.proofs.lemmas.Bool.{cases_lt}
-use Rattle.break_signals.specs.declared.word.BreakWord.{BreakWord}
-use Rattle.break_signals.specs.Breaks.{waits}
-use Rattle.link_account.specs.Account.{Account, is_connected}
-use Rattle.turn_bound.proofs.MeetHear.{of_frame, of_arrived}
-use Rattle.turn_losses.proofs.TwoEnds.{EndRun, TwoEnds, sends_poll, sends_final}
+use Rattle.link_account.proofs.Names.{cases_lt, BreakWord, waits, Account, is_connected}
+use Rattle.turn_losses.proofs.Truths.{clash}
 use Rattle.turn_losses.proofs.BreakHear.{of_word, brk_of, ack_of, any_brk, pends, pends_of}
 use Rattle.turn_losses.proofs.BreakTurn.{Deeds, BreakTurn, number_of, brk_due, ack_due, ack_due_of, was_special}
 use Rattle.turn_losses.proofs.Counting.{hits, once, at-most-made, all-held, no-hits, after-acks}
-use Rattle.turn_losses.proofs.Windows.{Breaking, off, replies-apart, polls-far, hurries-twice, brks-heard, sum-at-most}
+use Rattle.turn_losses.proofs.Windows.{Breaking, replies-apart, polls-far, hurries-twice, brks-heard, sum-at-most}
+use Rattle.turn_losses.proofs.Names.{of_frame, of_arrived, EndRun, TwoEnds, sends_poll, sends_final}
 
 abbrev pub AllConnected : EndRun → ℕ → ℕ → Type 0
 AllConnected e s n = (t : ℕ) → s < t → t ≤ s + n → is_connected (e.account t).phase ≡ true
@@ -43,7 +40,7 @@ acks-few period turns e o d d' k h h' first s n l w c =
 
         by : (b : Bool) → ack_due (e.account (t + 1)) ≡ b → ack_due (e.account (t + 1)) ≡ false
         by false p = p
-        by true p = off (d t).acks q (sent (f p))
+        by true p = clash (d t).acks q (sent (f p))
 
 abbrev pub NoAnswers : (ℕ → Deeds) → ℕ → ℕ → Type 0
 NoAnswers d s n = (t : ℕ) → s ≤ t → t < s + n → (d t).answers ≡ false
@@ -66,11 +63,11 @@ pub brk-goes : (period turns : ℕ) (e o : EndRun) (d d' : ℕ → Deeds) → Tw
     → ((t : ℕ) → s < t → t ≤ s + 14 → waits (e.account t).own_breaks ≡ true) → NoAnswers d s 14
     → (brk_due (e.account s) ≡ true) ⊎ ((d s).made ≡ true)
     → (y : ℕ) × (s ≤ y) × (y < s + 14) × (of_frame (of_word (brk_of (number_of (e.account (y + 1))))) (e.slot y) ≡ true)
-brk-goes period turns e o d d' k h h' first s within c ws na due = go (so-far 14 (omega arith))
+brk-goes period turns e o d d' k h h' first s within c ws na due = elim (so-far 14 (omega arith)) [
+  | inl x ↦ x
+  | inr all ↦ absurd (none-held all)
+]
   where
-    p : period ≡ 2 * (e.delay + o.delay) + 16
-    p = k.period_is
-
     turn : (t : ℕ) → s ≤ t → t < s + 14 → BreakTurn period t (e.heard t) (e.slot t) (d t) (e.account t) (e.account (t + 1))
     turn t a b = h.turn t (omega (arith, b, within)) (c (t + 1) (omega (arith, a)) (omega (arith, b)))
 
@@ -78,9 +75,9 @@ brk-goes period turns e o d d' k h h' first s within c ws na due = go (so-far 14
     none-held all =
         let held = all-held (sends_final e) (sends_poll e) (λ t. (d t).hurries) (λ t. (d t).acks) (λ t. was_special (e.account t))
         (λ t. (d t).answers) s 14 (λ t a b. (turn t a b).held (all t a b)) in
-        let one = once (sends_final e) (period - 1) turns (replies-apart period turns e o k) s 14 (omega (arith, p)) within in
-        let one' = once (sends_poll e) (period - 1) turns (polls-far period turns e o k) s 14 (omega (arith, p)) within in
-        let two = hurries-twice period turns e o d k h s 14 (omega (arith, p)) within c in
+        let one = once (sends_final e) (period - 1) turns (replies-apart period turns e o k) s 14 (omega (arith, k.period_is)) within in
+        let one' = once (sends_poll e) (period - 1) turns (polls-far period turns e o k) s 14 (omega (arith, k.period_is)) within in
+        let two = hurries-twice period turns e o d k h s 14 (omega (arith, k.period_is)) within c in
         let four = acks-few period turns e o d d' k h h' first s 14 (omega arith) within c in
         let five = after-acks (λ t. was_special (e.account t)) (λ t. (d t).acks) s 14
         (λ t a b q. (turn t a (omega (arith, b))).special_own q (all t a (omega (arith, b)))) in
@@ -115,11 +112,6 @@ brk-goes period turns e o d d' k h h' first s within c ws na due = go (so-far 14
         count zero g = inr (λ t a b. let wrong : ⊥ = omega (arith, a, b) in absurd wrong)
         count (suc m) g = step m g (count m (omega (arith, g)))
 
-    go : BrkSent e s 14 ⊎ BrkDue e s 14
-        → (y : ℕ) × (s ≤ y) × (y < s + 14) × (of_frame (of_word (brk_of (number_of (e.account (y + 1))))) (e.slot y) ≡ true)
-    go (inl x) = x
-    go (inr all) = absurd (none-held all)
-
 -- A BRK that is heard is answered within six turns, where no BRK of another number is heard in them.
 pub ack-goes : (period turns : ℕ) (e o : EndRun) (d : ℕ → Deeds) → TwoEnds period turns e o → Breaking period turns e d → (x number : ℕ)
     → number < 2 → x + 6 ≤ turns → is_connected (e.account x).phase ≡ true → AllConnected e x 6
@@ -127,7 +119,10 @@ pub ack-goes : (period turns : ℕ) (e o : EndRun) (d : ℕ → Deeds) → TwoEn
     → of_arrived (of_word (brk_of number)) (e.heard t) ≡ true) → NoAnswers d x 6
     → of_arrived (of_word (brk_of number)) (e.heard x) ≡ true
     → (z : ℕ) × (x ≤ z) × (z < x + 6) × (of_frame (of_word (ack_of number)) (e.slot z) ≡ true)
-ack-goes period turns e o d k h x number small within cx c same na asks = go (so-far 6 (omega arith))
+ack-goes period turns e o d k h x number small within cx c same na asks = elim (so-far 6 (omega arith)) [
+  | inl y ↦ y
+  | inr all ↦ absurd (none-held all)
+]
   where
     p : period ≡ 2 * (e.delay + o.delay) + 16
     p = k.period_is
@@ -197,8 +192,3 @@ ack-goes period turns e o d k h x number small within cx c same na asks = go (so
         count : (m : ℕ) → m ≤ 6 → AckSent e number x m ⊎ AckDue e number x m
         count zero g = inr (λ t a b. let wrong : ⊥ = omega (arith, a, b) in absurd wrong)
         count (suc m) g = step m g (count m (omega (arith, g)))
-
-    go : AckSent e number x 6 ⊎ AckDue e number x 6
-        → (z : ℕ) × (x ≤ z) × (z < x + 6) × (of_frame (of_word (ack_of number)) (e.slot z) ≡ true)
-    go (inl y) = y
-    go (inr all) = absurd (none-held all)

@@ -1,40 +1,21 @@
 -- An answerer that gives up while its break waits was starved: one period is let off, that in which the originator becomes Connected.
 use Rattle.std.proofs.Common.{◌⊎◌, inl, inr, ◌≡◌, ◌≢◌, ℕ, zero, suc, ◌+◌, ◌-◌, ◌*◌, ◌<◌, ◌≤◌, Bool, true, false, max, List, ◌∷◌, length}
 use Rattle.std.proofs.Common.{arith, refl, sym, ◌∙◌, ap, subst}
-use Rattle.std.proofs.lemmas.Bool.{cases_lt}
-use Rattle.shared_terms.specs.declared.role.Role.{Role}
-use Rattle.shared_terms.specs.declared.role.Role.TheVariants.{Originator, Answerer}
-use Rattle.shared_terms.specs.Both.{of}
-use Rattle.xid_params.specs.Offers.{ReadsWritten}
-use Rattle.break_signals.specs.Breaks.{waits}
-use Rattle.link_account.specs.declared.phase.Phase.{Phase}
-use Rattle.link_account.specs.declared.phase.Phase.TheVariants.{Detecting, Negotiating, Establishing, Connected, Releasing, Closed}
-use Rattle.link_account.specs.Account.{is_connected}
-use Rattle.link_account.specs.Hear.{hear}
-use Rattle.link_run.specs.End.{is_closed}
-use Rattle.link_run.specs.Run.{Link, Accounts, Turn, RunOf, Hears, arrival, served_at}
-use Rattle.link_run.specs.Carried.{Carries, IsCarried}
-use Rattle.link_run.specs.Laws.{RunsOver}
-use Rattle.link_run.specs.Starved.{LosesSome, SpanLoses, IsStarved, turn_at}
-use Rattle.turn_bound.specs.Time.{KeepsTime}
-use Rattle.turn_bound.proofs.MeetHear.{is_begun, of_frame, of_arrived}
-use Rattle.turn_bound.proofs.Tied.{is_lost}
-use Rattle.turn_losses.specs.Losses.{PeriodLoses}
-use Rattle.turn_losses.specs.Polls.{is_poll}
-use Rattle.turn_losses.proofs.Polling.{is_linked}
+use Rattle.link_account.proofs.Names.{cases_lt, Role, Originator, Answerer, of, ReadsWritten, waits, is_connected, hear}
+use Rattle.link_run.proofs.Names.{Phase, Detecting, Establishing, Connected, Closed, is_closed, Link, Accounts}
+use Rattle.link_run.proofs.Names.{Turn, RunOf, Hears, arrival, served_at, Carries, IsCarried, RunsOver, LosesSome}
+use Rattle.link_run.specs.Starved.{SpanLoses, IsStarved, turn_at}
+use Rattle.turn_losses.proofs.Truths.{not-true}
+use Rattle.turn_losses.proofs.Keeping.{turn-is}
+use Rattle.turn_losses.proofs.Periods.{once, lost-is, later-turn, newest, times}
 use Rattle.turn_losses.proofs.PollHear.{poll-hears}
 use Rattle.turn_losses.proofs.NumberTurn.{poll-ok}
-use Rattle.turn_losses.proofs.Trace.{past}
-use Rattle.turn_losses.proofs.TwoEnds.{EndRun, TwoEnds, end_run}
 use Rattle.turn_losses.proofs.Tracing.{known, Traced, traced}
 use Rattle.turn_losses.proofs.LineLaw.{is-heard}
 use Rattle.turn_losses.proofs.PollLaws.{two-ends}
 use Rattle.turn_losses.proofs.PeriodLaws.{linked-on}
-use Rattle.turn_losses.proofs.Keeping.{turn-is}
-use Rattle.turn_losses.proofs.Wanting.{lost-is}
-use Rattle.turn_losses.proofs.Starving.{later-turn}
 use Rattle.turn_losses.proofs.Moving.{asks, moves_on, TryGoesOn, TryBegins, try-heard}
-use Rattle.turn_losses.proofs.Parting.{newest, setup-role}
+use Rattle.turn_losses.proofs.Parting.{setup-role}
 use Rattle.turn_losses.proofs.Phasing.{is_established, established-on, stays-established, begun-established}
 use Rattle.turn_losses.proofs.Trying.{TryTurn, Tried, tried, tries-so, answers-so}
 use Rattle.turn_losses.proofs.BreakHear.{of_word, ack_of}
@@ -47,19 +28,18 @@ use Rattle.turn_losses.proofs.Quiet.{sabmes-of, meeting-of}
 use Rattle.turn_losses.proofs.Spending.{LastWait}
 use Rattle.turn_losses.proofs.Ending.{periods-of, number-small, none-last}
 use Rattle.turn_losses.proofs.Peering.{peer-connected, not-closed}
+use Rattle.turn_losses.proofs.Names.{KeepsTime, is_begun, of_frame, of_arrived, is_lost, PeriodLoses, is_poll, is_linked, past, EndRun}
+use Rattle.turn_losses.proofs.Names.{TwoEnds, end_run}
 
 -- a span's loss
 span-at : (period delay : ℕ) (t : Turn) (ts : List Turn) (s n u : ℕ) → s + (n + 1) * period ≡ length ts → s < u + delay → u ≤ s + period
     → (u ≤ length ts) → LosesSome (turn_at u (t ∷ ts)) → SpanLoses period delay (t ∷ ts) n
-span-at period delay t ts s n u q lo hi b l = let m = once n in record {
+span-at period delay t ts s n u q lo hi b l = let m = once period n in record {
   turn = u;
   within = omega (arith, b);
   in_span = record { behind = omega (arith, lo, q); before = omega (arith, hi, q, m) };
   lost = l;
 }
-  where
-    once : (y : ℕ) → (y + 1) * period ≡ y * period + period
-    once y = omega arith
 
 pub of-period : (period : ℕ) (delay : Role → ℕ) (t : Turn) (ts : List Turn) (n : ℕ) → PeriodLoses period (length ts) (t ∷ ts) n
     → SpanLoses period (max (delay Originator) (delay Answerer)) (t ∷ ts) n
@@ -70,30 +50,12 @@ of-period period delay t ts n h = let behind = h.in_period.behind in let before 
   lost = h.lost;
 }
 
-times : (period a b : ℕ) → a ≤ b → a * period ≤ b * period
-times period a b l = let m : (b - a) * period + a * period ≡ b * period = sum (b - a) a
-    ∙ ap (λ n. n * period) (whole a b l) in omega (arith, m)
-  where
-    sum : (m n : ℕ) → m * period + n * period ≡ (m + n) * period
-    sum m n = grind (arith)
-
-    whole : (m n : ℕ) → m ≤ n → n - m + m ≡ n
-    whole m n q = omega (arith, q)
-
 max-second : (a b : ℕ) → b ≤ max a b
 max-second a b = grind (arith)
 
-not-true : (b : Bool) → (b ≡ true → ⊥) → b ≡ false
-not-true true f = absurd (f refl)
-not-true false f = refl
-
 connected-begun : (p : Phase) → is_connected p ≡ true → is_begun p ≡ true
 connected-begun Connected e = refl
-connected-begun Detecting e = cc
-connected-begun Negotiating e = cc
-connected-begun Establishing e = cc
-connected-begun Releasing e = cc
-connected-begun Closed e = cc
+connected-begun p e = cc
 
 -- While the originator isn't linked up to its end, a period loses a SABME or a UA, or did so a delay before it.
 pub unlinked-loses : ReadsWritten → (tries period : ℕ) (delay : Role → ℕ) (link : Link) (ts : List Turn) (before : Accounts) (t : Turn)
@@ -120,26 +82,17 @@ unlinked-loses reads tries period delay link ts before t mid kt run cs hearing w
     k : TwoEnds period turns o e
     k = two-ends tries period delay link ts w.state w.deed kt w.trace Originator
 
-    p : period ≡ 2 * (o.delay + e.delay) + 16
-    p = k.period_is
-
     d : 1 ≤ o.delay
     d = k.own_delay
 
-    d' : 1 ≤ e.delay
-    d' = k.other_delay
-
     long : 1 ≤ period
-    long = omega (arith, p)
+    long = omega (arith, k.period_is)
 
     wide : e.delay ≤ max (delay Originator) (delay Answerer)
     wide = max-second (delay Originator) (delay Answerer)
 
     within : s + period ≤ turns
-    within = let m = once n in omega (arith, q, m)
-      where
-        once : (y : ℕ) → (y + 1) * period ≡ y * period + period
-        once y = omega arith
+    within = let m = once period n in omega (arith, q, m)
 
     est : (u : ℕ) → s < u → u ≤ s + period → (w.state u).orig.phase ≡ Establishing
     est u a b = only-establishing (w.state u).orig.phase
@@ -155,7 +108,7 @@ unlinked-loses reads tries period delay link ts before t mid kt run cs hearing w
     i = tried period turns Establishing o long
         (tries-so reads tries period delay link ts w.state w.deed kt run.may_play w.trace Establishing refl)
         (λ f. let wrong : Detecting ≡ Establishing = ap (λ (y : Accounts). y.orig.phase) (sym w.trace.starts) ∙ f in cc) (x + 1)
-        (omega (arith, within, p, d)) (est (x + 1) (omega (arith, p)) (omega (arith, p, d)))
+        (omega (arith, within, k.period_is, d)) (est (x + 1) (omega (arith, k.period_is)) (omega (arith, k.period_is, d)))
 
     before-x : i.set ≤ x
     before-x = let b = i.before in omega (arith, b)
@@ -167,17 +120,17 @@ unlinked-loses reads tries period delay link ts before t mid kt run cs hearing w
     u = i.set + o.delay
 
     u-in : u < turns
-    u-in = omega (arith, before-x, within, p, d')
+    u-in = omega (arith, before-x, within, k.period_is, k.other_delay)
 
     u-low : s < u + e.delay
-    u-low = omega (arith, after-x, p)
+    u-low = omega (arith, after-x, k.period_is)
 
     u-high : u + e.delay ≤ s + period
-    u-high = omega (arith, before-x, p)
+    u-high = omega (arith, before-x, k.period_is)
 
     u-phase : (w.state u).orig.phase ≡ Establishing
     u-phase = elim (cases_lt (x + 1) u) [
-      | inl l ↦ est u (omega (arith, l, p)) (omega (arith, u-high))
+      | inl l ↦ est u (omega (arith, l, k.period_is)) (omega (arith, u-high))
       | inr g ↦ i.since u
           (omega (arith, d)) g
     ]
@@ -241,7 +194,7 @@ unlinked-loses reads tries period delay link ts before t mid kt run cs hearing w
                 (omega (arith, border)) (omega arith) (subst LosesSome (sym (newest t ts)) (Originator, lost-is t.orig.heard f'))
             on false f' =
                 let comes : of_arrived (moves_on Establishing) (arrival t.orig.heard) ≡ true = last-heard
-                (moves_on Establishing) period delay link ts w.state w.deed w.trace t cs Originator d' u v-is f' ∙ answered in
+                (moves_on Establishing) period delay link ts w.state w.deed w.trace t cs Originator k.other_delay u v-is f' ∙ answered in
                 let was : before.orig.phase ≡ Establishing = ap (λ (y : Accounts). y.orig.phase) (sym w.last)
                 ∙ (ap (λ y. (w.state y).orig.phase) (sym v-is) ∙ est v (omega (arith, u-low)) u-high) in
                 let role = setup-role tries period delay link ts before kt run.run run.carried Originator in
@@ -314,12 +267,6 @@ answerer-breaks reads tries period delay link ts before t mid kt run cs hearing 
     k : TwoEnds period turns o e
     k = two-ends tries period delay link ts w.state w.deed kt w.trace Originator
 
-    p : period ≡ 2 * (o.delay + e.delay) + 16
-    p = k.period_is
-
-    once : (y : ℕ) → (y + 1) * period ≡ y * period + period
-    once y = omega arith
-
     role : (us : List Turn) (y : Accounts) → RunOf link us y → IsCarried delay us → y.orig.setup.role ≡ Originator
     role us y run' c' = setup-role tries period delay link us y kt run' c' Originator
 
@@ -343,7 +290,7 @@ answerer-breaks reads tries period delay link ts before t mid kt run cs hearing 
         at (s, q, bp) = by (is_linked (w.state (s + 1)).orig.phase) refl
           where
             within : s + period ≤ turns
-            within = let m = once n in omega (arith, q, m)
+            within = let m = once period n in omega (arith, q, m)
 
             by : (b : Bool) → is_linked (w.state (s + 1)).orig.phase ≡ b
                 → SpanLoses period (max (delay Originator) (delay Answerer)) (t ∷ ts) n ⊎ Joins period ts w.state mid n
@@ -355,7 +302,7 @@ answerer-breaks reads tries period delay link ts before t mid kt run cs hearing 
                 (linked-on period turns o e k (s + 1) u (omega (arith, a)) (omega (arith, b, within)) f) x.connected x.waiting)
                 (λ u a b g. no-sabme-heard period turns o e k
                 (sabmes-of reads tries period delay link ts w.state w.deed kt run.may_play w.trace)
-                (meeting-of tries period delay link ts w.state w.deed kt w.trace) s (omega (arith, within, p)) f u a
+                (meeting-of tries period delay link ts w.state w.deed kt w.trace) s (omega (arith, within, k.period_is)) f u a
                 (omega (arith, b, within)) g)
                 (λ g h. none-last link ts before t mid Answerer tries period hearing cm l waiting
                 (ap (λ (x : Accounts). of_arrived (of_word (ack_of (number_of x.answ))) (arrival t.answ.heard)) (sym w.last) ∙ h))))

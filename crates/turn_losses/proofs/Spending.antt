@@ -1,24 +1,8 @@
 -- An end that gives up while a break waits: by the clock of its segments, or by that of the break.
-use Rattle.std.proofs.Common.{◌⊎◌, inl, inr, ◌≡◌, ℕ, ◌+◌, ◌<◌, ◌≤◌, Bool, true, false, List, length, arith, refl, sym}
-use Rattle.std.proofs.Common.{◌∙◌, ap, Ok}
-use Rattle.std.proofs.lemmas.Bool.Decides.{nat_tests}
-use Rattle.shared_terms.specs.declared.role.Role.{Role}
-use Rattle.shared_terms.specs.Both.{of}
-use Rattle.break_signals.specs.Breaks.{waits}
-use Rattle.lapm_frames.specs.declared.arrived.Arrived.{Arrived}
-use Rattle.link_account.specs.Account.{Account, is_connected}
-use Rattle.link_account.specs.Hear.{hear}
-use Rattle.link_run.specs.End.{is_busy}
-use Rattle.link_run.specs.Run.{Link, Accounts, Turn, RunOf}
-use Rattle.link_run.specs.Carried.{IsCarried}
-use Rattle.turn_bound.specs.Time.{KeepsTime}
-use Rattle.turn_bound.proofs.Clock.{rates}
+use Rattle.std.proofs.Common.{◌⊎◌, inl, inr, ◌≡◌, ℕ, ◌+◌, ◌<◌, ◌≤◌, Bool, true, false, List, length, arith, refl, sym, ◌∙◌, ap, Ok}
+use Rattle.link_account.proofs.Names.{nat_tests, Role, of, waits, Arrived, Account, is_connected, hear}
+use Rattle.link_run.proofs.Names.{is_busy, Link, Accounts, Turn, RunOf, IsCarried}
 use Rattle.turn_bound.proofs.Value.{Linked}
-use Rattle.turn_bound.proofs.Run.{served_account}
-use Rattle.turn_bound.proofs.Serving.{Served, serves-all}
-use Rattle.turn_bound.proofs.MeetHear.{of_arrived}
-use Rattle.turn_losses.specs.Polls.{is_poll}
-use Rattle.turn_losses.proofs.Polling.{is_linked}
 use Rattle.turn_losses.proofs.PollHear.{PollHeard, poll-hears}
 use Rattle.turn_losses.proofs.NumberTurn.{poll-ok}
 use Rattle.turn_losses.proofs.AnswerTurn.{connected-is}
@@ -30,6 +14,7 @@ use Rattle.turn_losses.proofs.BreakHear.{break-heard}
 use Rattle.turn_losses.proofs.BreakTurn.{ServedBreaks}
 use Rattle.turn_losses.proofs.Begun.{old-heard}
 use Rattle.turn_losses.proofs.View.{linked-of, unlinked-of, served-own}
+use Rattle.turn_losses.proofs.Names.{KeepsTime, rates, served_account, Served, serves-all, of_arrived, is_poll, is_linked}
 
 -- what is known of its account before that turn
 pub record LastWait (tries period turn : ℕ) (a : Account) : Type 0 where

@@ -1,27 +1,17 @@
 -- An end that gives up was starved.
-use Rattle.std.proofs.Common.{inl, inr, ◌≡◌, ◌≢◌, ℕ, suc, ◌-◌, ◌<◌, ◌≤◌, true, max, List, ◌∷◌, length, arith, sym, ◌∙◌, ap, subst}
-use Rattle.std.specs.Prelude.{slice_get}
-use Rattle.std.proofs.lemmas.Bool.{cases_lt}
-use Rattle.shared_terms.specs.declared.role.Role.{Role}
-use Rattle.shared_terms.specs.declared.role.Role.TheVariants.{Originator, Answerer}
-use Rattle.shared_terms.specs.Role.{other}
-use Rattle.link_account.specs.Account.{is_connected}
-use Rattle.link_run.specs.End.{is_released}
-use Rattle.link_run.specs.Run.{Link, Accounts, Turn, arrival, releases}
-use Rattle.link_run.specs.Laws.{RunsOver}
-use Rattle.turn_bound.specs.Time.{KeepsTime}
-use Rattle.link_run.specs.Starved.{SpanLoses, IsStarved, LosesSome, turn_at}
-use Rattle.turn_bound.specs.Together.{Together, StandTogether}
-use Rattle.turn_bound.proofs.Clock.{Rates, rates}
-use Rattle.turn_bound.proofs.Value.{IsOf}
-use Rattle.xid_params.specs.Offers.{IsAllowed}
-use Rattle.turn_losses.specs.Losses.{PeriodLoses, LosesEach, OriginatorWantsAnswers, OriginatorIsStarved}
+use Rattle.std.proofs.Common.{inl, inr, ◌≡◌, ◌≢◌, ℕ, ◌<◌, ◌≤◌, true, max, List, ◌∷◌, length, arith, sym, ◌∙◌, ap, subst}
+use Rattle.link_account.proofs.Names.{cases_lt, Role, Originator, Answerer, other, is_connected, IsAllowed}
+use Rattle.link_run.proofs.Names.{is_released, Link, Accounts, Turn, arrival, releases, RunsOver, LosesSome}
+use Rattle.link_run.specs.Starved.{SpanLoses, IsStarved}
+use Rattle.turn_bound.specs.Together.{Together}
+use Rattle.turn_losses.proofs.Periods.{later-turn}
+use Rattle.turn_losses.specs.Losses.{OriginatorWantsAnswers, OriginatorIsStarved}
 use Rattle.turn_losses.proofs.AnswerTurn.{connected-is}
 use Rattle.turn_losses.proofs.Room.{begins-roomy}
-use Rattle.turn_losses.proofs.Trace.{past}
 use Rattle.turn_losses.proofs.Tracing.{Known, known, Timed, timed, rated, Traced, traced}
 use Rattle.turn_losses.proofs.Numbering.{Plays, allowed, fits-at, counts-of}
 use Rattle.turn_losses.proofs.Wanting.{LastTry, last-try, wants-answers}
+use Rattle.turn_losses.proofs.Names.{KeepsTime, StandTogether, Rates, rates, IsOf, PeriodLoses, LosesEach, past}
 
 pub originator-each : Plays → StandTogether → (tries period : ℕ) (delay : Role → ℕ) (link : Link) (ts : List Turn) (before : Accounts)
     → KeepsTime tries period delay link → RunsOver link delay ts before → LastTry tries period (length ts) before.orig
@@ -72,13 +62,6 @@ originator-wants laws together tries period delay link ts before t mid segment s
         (subst IsAllowed (ap (λ x. x.offer) (sym k.setup)) (allowed link run.may_play Originator))
         (broken.hearing Originator).hears).so c).2)
         (broken.hearing Originator).hears (ap is_connected cm) quiet broken.broken
-
--- the turns with the last one
-pub later-turn : (turn : ℕ) (t : Turn) (ts : List Turn) → turn < length ts → turn_at turn (t ∷ ts) ≡ turn_at turn ts
-later-turn turn t ts l = ap (slice_get (t ∷ ts)) (index (length ts) l)
-  where
-    index : (n : ℕ) → turn < n → suc n - 1 - turn ≡ suc (n - 1 - turn)
-    index n l = omega (arith, l)
 
 -- the spans hold those periods
 span-loses : (period delay : ℕ) (t : Turn) (ts : List Turn) (n : ℕ) → PeriodLoses period (length ts) ts n

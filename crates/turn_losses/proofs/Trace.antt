@@ -1,16 +1,13 @@
 -- A run looked up by the turn.
+use Rattle.link_account.proofs.Names.{Role, of, Sent}
+use Rattle.link_run.proofs.Names.{is_closed, Link, Accounts, Spoken, Turn, RunOf, Hears, served_at, start, arrival, Carries, IsCarried}
 use Rattle.std.specs.Prelude.{◌≡◌, ℕ, ◌+◌, ◌<◌, Bool, if◌then◌else◌, false, nat_lt, List, [], ◌∷◌, length, Option, Some, None}
-use Rattle.shared_terms.specs.declared.role.Role.{Role}
-use Rattle.shared_terms.specs.Both.{of}
-use Rattle.lapm_frames.specs.declared.sent.Sent.{Sent}
-use Rattle.lapm_frames.specs.declared.sent.Sent.TheVariants as slots
-use Rattle.link_run.specs.End.{is_closed}
-use Rattle.link_run.specs.Run.{Link, Accounts, Spoken, Turn, RunOf, Hears, Speaks, served_at, start, arrival}
-use Rattle.link_run.specs.Carried.{Carries, IsCarried}
+use Rattle.link_run.specs.Run.{Speaks}
 use Rattle.turn_bound.proofs.MeetHear.{of_arrived}
 use Rattle.turn_losses.specs.Polls.{is_poll, is_final}
 use Rattle.turn_losses.proofs.Answered.{AnswerTurn}
 use Rattle.turn_losses.proofs.Polling.{PollTurn}
+use Rattle.lapm_frames.specs.declared.sent.Sent.TheVariants as slots
 
 -- the turns before the turn of that number, the newest first
 abbrev pub past : List Turn → ℕ → List Turn

@@ -1,47 +1,24 @@
 use Rattle.std.proofs.Common.{◌⊎◌, inl, inr, ◌≡◌, ℕ, suc, ◌+◌, ◌*◌, ◌<◌, ◌≤◌, Bool, true, false, cond, nat_lt, List, [], ◌∷◌, length, arith}
-use Rattle.std.proofs.Common.{refl, sym, ◌∙◌, ap, subst, None, Result, Ok, Err}
-use Rattle.std.proofs.lemmas.Bool.Decides.{nat_tests}
-use Rattle.shared_terms.specs.declared.role.Role.{Role}
-use Rattle.shared_terms.specs.declared.role.Role.TheVariants.{Originator, Answerer}
-use Rattle.shared_terms.specs.Role.{other}
-use Rattle.lapm_frames.specs.declared.arrived.Arrived.{Arrived}
-use Rattle.link_account.specs.declared.phase.Phase.{Phase}
-use Rattle.link_account.specs.declared.phase.Phase.TheVariants.{Detecting, Negotiating, Establishing, Connected, Releasing, Closed}
-use Rattle.shared_terms.specs.declared.fault.LinkFault.{LinkFault}
-use Rattle.link_account.specs.Account.{Account, is_connected}
-use Rattle.link_account.specs.Hear.{hear}
-use Rattle.link_account.specs.Speak.{Said, speak}
-use Rattle.turn_bound.proofs.Clock.{Rates, AreRates, rates}
-use Rattle.turn_bound.proofs.Value.{IsOf, Stands, arrived_rnrs}
-use Rattle.link_run.specs.End.{User, is_busy, is_closed, is_released}
-use Rattle.turn_bound.proofs.Run.{served_account}
-use Rattle.turn_bound.proofs.OneTurn.{heard-ok}
-use Rattle.turn_bound.proofs.Phases.{hears-well}
-use Rattle.turn_bound.proofs.Serves.{serves-well}
-use Rattle.turn_bound.specs.Due.{NoneDue}
-use Rattle.turn_bound.proofs.Serving.{Served, serves-all}
+use Rattle.std.proofs.Common.{refl, sym, ◌∙◌, ap, subst, None, Result, Ok, Err, map}
+use Rattle.link_account.proofs.Names.{nat_tests, Role, Originator, Answerer, other, Arrived, LinkFault, Account, is_connected, hear, Said}
+use Rattle.link_account.proofs.Names.{speak, cases_lt, of}
+use Rattle.link_run.proofs.Names.{Phase, Detecting, Negotiating, Establishing, Connected, Releasing, Closed, User, is_busy, is_closed}
+use Rattle.link_run.proofs.Names.{is_released, Link, Accounts, Turn, RunOf, GoingTurn, start, arrival, served_at, said_at, releases}
+use Rattle.link_run.proofs.Names.{Carries, IsCarried}
 use Rattle.turn_bound.proofs.Falls.{Sound, Fits}
 use Rattle.turn_bound.proofs.Ending.{fits, sound-run}
-use Rattle.turn_bound.proofs.AtMostOne.{OneDue, one-hears}
+use Rattle.turn_bound.proofs.AtMostOne.{OneDue, one-hears, none-due-run}
 use Rattle.turn_losses.proofs.PollHear.{PollHeard, PollHears, poll-hears}
 use Rattle.turn_losses.proofs.PollSpeak.{SpeakPoll, PollSpeaks, poll-speaks}
 use Rattle.turn_losses.proofs.PollTurn.{poll-turn}
 use Rattle.turn_losses.proofs.AnswerTurn.{end-answers, linked-sends}
 use Rattle.turn_losses.proofs.HeardCount.{CountKept, count-hears}
 use Rattle.turn_losses.proofs.Awaiting.{await-hears}
-use Rattle.std.proofs.lemmas.Bool.{cases_lt}
-use Rattle.turn_losses.proofs.Trace.{Deed, Happens, Trace}
-use Rattle.turn_bound.proofs.AtMostOne.{none-due-run}
-use Rattle.turn_losses.specs.Polls.{is_poll, is_final}
-use Rattle.turn_bound.proofs.MeetHear.{of_arrived}
-use Rattle.turn_losses.proofs.Polling.{is_linked, Early, PollTurn}
-use Rattle.std.proofs.Common.{map}
-use Rattle.shared_terms.specs.Both.{of}
-use Rattle.link_run.specs.Run.{Link, Accounts, Turn, RunOf, GoingTurn, start, arrival, served_at, said_at, releases}
-use Rattle.link_run.specs.Carried.{Carries, IsCarried}
-use Rattle.turn_bound.specs.Time.{KeepsTime}
+use Rattle.turn_losses.proofs.Polling.{Early}
 use Rattle.turn_bound.proofs.Tied.{Tied, tied, keeps, link_of, turn_of, state_of, turns-length}
-use Rattle.turn_losses.proofs.Trace.{past, sent_or}
+use Rattle.turn_losses.proofs.Names.{Rates, AreRates, rates, IsOf, Stands, arrived_rnrs, served_account, heard-ok, hears-well, serves-well}
+use Rattle.turn_losses.proofs.Names.{NoneDue, Served, serves-all, Deed, Happens, Trace, past, sent_or, is_poll, is_final, of_arrived}
+use Rattle.turn_losses.proofs.Names.{is_linked, PollTurn, KeepsTime}
 use Rattle.lapm_frames.specs.declared.heard.Heard.TheVariants as heards
 use Rattle.frame_check.specs.declared.check.Check.TheVariants as checks
 
@@ -135,12 +112,7 @@ end-polls z user turn role arrived a mid released release said y k h er hears sp
 
     served-one : (m c : Account) → Served turn (length user.breaks) (is_busy turn user.busy) m c → OneDue role m
         → (c.owes.answer ≡ None) ⊎ (is_released c.phase ≡ false → c.owes.reply ≡ false)
-    served-one m c s o = by o.one
-      where
-        by : (m.owes.answer ≡ None) ⊎ (is_released m.phase ≡ false → m.owes.reply ≡ false)
-            → (c.owes.answer ≡ None) ⊎ (is_released c.phase ≡ false → c.owes.reply ≡ false)
-        by (inl n) = inl (s.answer ∙ n)
-        by (inr f) = inr (λ x. s.reply ∙ f (ap is_released (sym s.phase) ∙ x))
+    served-one m c s o = elim o.one [ inl n ↦ inl (s.answer ∙ n) | inr f ↦ inr (λ x. s.reply ∙ f (ap is_released (sym s.phase) ∙ x)) ]
 
 -- what is known of each end between turns
 pub record Known (z : Rates) (link : Link) (turn : ℕ) (ends : Accounts) (role : Role) : Type 0 where

@@ -1,29 +1,17 @@
 -- An answerer answers what an originator tries in the turn in which it hears it.
 use Rattle.std.proofs.Common.{◌⊎◌, inl, inr, ◌≡◌, ℕ, ◌||◌, not, Bool, true, false, cond, refl, sym, ◌∙◌, ap, subst, Option, Some, None}
 use Rattle.std.proofs.Common.{Result, Ok, Err}
-use Rattle.std.specs.Prelude.{is_some}
-use Rattle.shared_terms.specs.declared.role.Role.TheVariants.{Answerer}
-use Rattle.shared_terms.specs.Role.{is_originator}
-use Rattle.lapm_frames.specs.declared.frame.Frame.{Frame}
-use Rattle.lapm_frames.specs.declared.frame.Frame.TheVariants.{Sabme, Disc, Xid}
-use Rattle.xid_params.specs.declared.offer.Offer.{Offer}
-use Rattle.xid_params.specs.Offers.{offer_in, written}
-use Rattle.lapm_frames.specs.declared.sent.Sent.{Sent}
-use Rattle.lapm_frames.specs.declared.sent.Sent.TheVariants as slots
-use Rattle.lapm_frames.specs.declared.arrived.Arrived.{Arrived}
-use Rattle.lapm_frames.specs.declared.arrived.Arrived.TheVariants as arrivals
-use Rattle.link_account.specs.declared.phase.Phase.{Phase}
-use Rattle.link_account.specs.declared.phase.Phase.TheVariants.{Detecting, Negotiating, Establishing, Connected, Releasing, Closed}
-use Rattle.shared_terms.specs.declared.fault.LinkFault.{LinkFault}
-use Rattle.link_account.specs.declared.answer.Answer.{Answer}
-use Rattle.link_account.specs.declared.answer.Answer.TheVariants as answers
-use Rattle.link_account.specs.Account.{Account}
-use Rattle.link_account.specs.Hear.{hear, on_frame, on_detecting, on_negotiating, on_disc, on_xid_command, peer_reset, owing}
-use Rattle.link_account.specs.Speak.{Said, says, else_says, answering, frame_for}
-use Rattle.link_account.specs.Speak.{speak_linked, speak, speak_in, speak_answer, speak_negotiating}
+use Rattle.link_account.proofs.Names.{is_some, Answerer, is_originator, Frame, Sabme, Disc, Xid, Offer, offer_in, written, Sent, Arrived}
+use Rattle.link_account.proofs.Names.{LinkFault, Account, hear, on_frame, owing, Said, says, frame_for, speak_linked, speak, speak_in}
+use Rattle.link_run.proofs.Names.{Phase, Detecting, Negotiating, Establishing, Connected, Releasing, Closed, Answer}
+use Rattle.link_account.specs.Hear.{on_detecting, on_negotiating, on_disc, on_xid_command, peer_reset}
+use Rattle.link_account.specs.Speak.{else_says, answering, speak_answer, speak_negotiating}
 use Rattle.turn_bound.proofs.MeetHear.{of_frame, of_arrived}
 use Rattle.link_account.proofs.SpeakWays.{by-linked, linked-alike, retimed}
 use Rattle.turn_losses.proofs.Moving.{asks, moves_on}
+use Rattle.lapm_frames.specs.declared.sent.Sent.TheVariants as slots
+use Rattle.lapm_frames.specs.declared.arrived.Arrived.TheVariants as arrivals
+use Rattle.link_account.specs.declared.answer.Answer.TheVariants as answers
 
 -- whether an answerer in this phase answers what is tried
 abbrev pub can_answer : Phase → Phase → Bool → Bool
@@ -135,5 +123,4 @@ says-due Releasing turn b said r offers (e, d) h = go d
     go (inr x) = ap (λ s. of_frame (moves_on Releasing) s.sent) (sym same)
         ∙ ap (of_frame (moves_on Releasing)) (says-answer b slots.Flags (answers.Dm true) x)
 says-due Detecting turn b said r offers d h = absurd d
-says-due Connected turn b said r offers d h = absurd d
-says-due Closed turn b said r offers d h = absurd d
+says-due p turn b said r offers d h = absurd d

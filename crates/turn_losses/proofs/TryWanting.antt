@@ -1,58 +1,20 @@
 -- An originator that gives up while it tries a frame.
-use Rattle.std.proofs.Common.{◌⊎◌, inl, inr, ◌≡◌, ℕ, ◌+◌, ◌-◌, ◌*◌, ◌<◌, ◌≤◌, Bool, true, false, cond, nat_le, List, length, arith, refl}
-use Rattle.std.proofs.Common.{sym, ◌∙◌, ap, subst, Some, Ok, Err}
-use Rattle.shared_terms.specs.declared.role.Role.{Role}
-use Rattle.shared_terms.specs.declared.role.Role.TheVariants.{Originator, Answerer}
-use Rattle.shared_terms.specs.Both.{of}
-use Rattle.lapm_frames.specs.declared.frame.Frame.{Frame}
-use Rattle.lapm_frames.specs.declared.frame.Frame.TheVariants.{Sabme, Disc, Xid}
-use Rattle.xid_params.specs.Offers.{written, ReadsWritten}
-use Rattle.lapm_frames.specs.declared.sent.Sent.TheVariants as slots
-use Rattle.link_account.specs.declared.phase.Phase.{Phase}
-use Rattle.link_account.specs.declared.phase.Phase.TheVariants.{Detecting, Negotiating, Establishing, Connected, Releasing, Closed}
-use Rattle.shared_terms.specs.declared.fault.LinkFault.TheVariants.{Spent, NotDetected}
-use Rattle.link_account.specs.Account.{Account, is_connected}
-use Rattle.link_account.specs.Speak.{says, speak, speak_in, speak_detecting, speak_negotiating, u_try}
-use Rattle.link_run.specs.End.{is_busy, is_released, is_closed}
-use Rattle.link_run.specs.Run.{Link, Accounts, Turn, arrival, served_at, releases}
-use Rattle.link_run.specs.Starved.{LosesSome}
-use Rattle.turn_bound.proofs.Serving.{Served, serves-all}
-use Rattle.turn_bound.proofs.Tied.{is_lost}
-use Rattle.turn_losses.specs.Losses.{PeriodLoses, LosesEach}
-use Rattle.turn_losses.proofs.Trace.{Deed, Trace}
-use Rattle.turn_losses.proofs.TwoEnds.{EndRun, end_run}
+use Rattle.std.proofs.Common.{◌⊎◌, inl, inr, ◌≡◌, ℕ, ◌+◌, ◌*◌, ◌≤◌, Bool, true, false, cond, nat_le, length, arith, refl}
+use Rattle.std.proofs.Common.{sym, ◌∙◌, ap, Ok, Err}
+use Rattle.link_account.proofs.Names.{Originator, Frame, Sabme, Disc, Xid, written, ReadsWritten, Spent, NotDetected}
+use Rattle.link_account.proofs.Names.{Account, is_connected, says, speak, speak_in}
+use Rattle.link_run.proofs.Names.{Phase, Detecting, Negotiating, Establishing, Connected, Releasing, Closed, is_busy, is_released}
+use Rattle.link_run.proofs.Names.{is_closed, Accounts, arrival, served_at, releases}
+use Rattle.link_account.specs.Speak.{speak_detecting, speak_negotiating, u_try}
+use Rattle.turn_losses.proofs.Periods.{once, loses-of}
 use Rattle.turn_losses.proofs.Tracing.{Traced, traced}
-use Rattle.turn_losses.proofs.PeriodHolds.{LostIn}
-use Rattle.turn_losses.proofs.Keeping.{turn-is}
-use Rattle.turn_losses.proofs.Wanting.{lost-is}
 use Rattle.turn_losses.proofs.Starving.{all-but-one}
 use Rattle.turn_losses.specs.Tries.{OriginatorWantsFrame}
 use Rattle.turn_losses.proofs.Moving.{is_trying, try-heard, TryGoesOn, TryBegins, try-spent}
 use Rattle.turn_losses.proofs.Setups.{start-setup, heard-setup, served-setup}
 use Rattle.turn_losses.proofs.Trying.{TriesSo, tries-so, unanswered, unanswered-loses}
-
--- something lost in a period of turns, as a period's loss
-pub lost-in-period : (period : ℕ) (delay : Role → ℕ) (link : Link) (ts : List Turn) (state : ℕ → Accounts) (deed : ℕ → Deed)
-    → Trace period delay link ts state deed → 1 ≤ period → (s n : ℕ) → s + (n + 1) * period ≡ length ts
-    → LostIn (end_run delay state deed Originator) (end_run delay state deed Answerer) (s + 1) (period - 1)
-    → PeriodLoses period (length ts) ts n
-lost-in-period period delay link ts state deed w long s n q lost =
-    let a = lost.low in let b = lost.high in let m = once n in
-    let within : lost.turn < length ts = omega (arith, b, q, m, long) in
-    record {
-      turn = lost.turn;
-      within = within;
-      in_period = record { behind = omega (arith, a, q); before = omega (arith, b, q, m, long) };
-      lost = subst LosesSome (sym (turn-is period delay link ts state deed w lost.turn within)) (some lost.turn lost.loses);
-    }
-  where
-    once : (x : ℕ) → (x + 1) * period ≡ x * period + period
-    once x = omega arith
-
-    some : (u : ℕ) → (is_lost (of Originator (deed u).turn).heard ≡ true) ⊎ (is_lost (of Answerer (deed u).turn).heard ≡ true)
-        → LosesSome (Some (deed u).turn)
-    some u (inl x) = (Originator, lost-is (deed u).turn.orig.heard x)
-    some u (inr x) = (Answerer, lost-is (deed u).turn.answ.heard x)
+use Rattle.turn_losses.proofs.Names.{Served, serves-all, LosesEach, EndRun, end_run}
+use Rattle.lapm_frames.specs.declared.sent.Sent.TheVariants as slots
 
 -- which try is spent
 pub which-try : (turn : ℕ) (release : Bool) (b : Account) (segment since : ℕ) → b.setup.role ≡ Originator → is_connected b.phase ≡ false
@@ -151,11 +113,8 @@ originator-wants-frame reads tries period delay link ts before t mid segment sin
         let x = unanswered period turns p e tries-on none tries turns (omega arith)
         (ap (λ (y : Account). y.phase) account-is ∙ still.0) (ap (λ v. v.try_count) wait ∙ count) (omega (arith, set, due)) n
         (omega (arith, less)) in
-        let one = times n in
+        let one = once period n in
         let q = x.1 in
-        lost-in-period period delay link ts w.state w.deed w.trace long x.0 n q
+        loses-of period delay link ts w.state w.deed w.trace Originator x.0 n long q
         (unanswered-loses reads tries period delay link ts w.state w.deed kt run.may_play w.trace p trying x.0
         (omega (arith, q, one)) x.2)
-      where
-        times : (y : ℕ) → (y + 1) * period ≡ y * period + period
-        times y = omega arith

@@ -1,33 +1,13 @@
 -- The tries of an originator by the turn: when each went, and what is lost where none is answered.
-use Rattle.std.proofs.Common.{◌⊎◌, inl, inr, ◌≡◌, ℕ, ◌+◌, ◌-◌, ◌*◌, ◌<◌, ◌≤◌, not, Bool, true, false, List, length, arith, refl}
-use Rattle.std.proofs.Common.{sym, ◌∙◌, ap, subst, Some, Ok}
-use Rattle.std.specs.Prelude.{is_some}
-use Rattle.std.proofs.lemmas.Bool.{cases_lt}
-use Rattle.shared_terms.specs.declared.role.Role.{Role}
-use Rattle.shared_terms.specs.declared.role.Role.TheVariants.{Originator, Answerer}
-use Rattle.xid_params.specs.Offers.{offer_in, written, IsAllowed, ReadsWritten}
-use Rattle.lapm_frames.specs.declared.sent.Sent.{Sent}
-use Rattle.lapm_frames.specs.declared.arrived.Arrived.{Arrived}
-use Rattle.link_account.specs.declared.phase.Phase.{Phase}
-use Rattle.link_account.specs.declared.phase.Phase.TheVariants.{Detecting, Negotiating, Establishing, Connected, Releasing, Closed}
-use Rattle.link_account.specs.declared.setup.Setup.{Setup}
-use Rattle.link_account.specs.Account.{Account}
-use Rattle.link_account.specs.Hear.{hear}
-use Rattle.link_account.specs.Laws.{MayPlay}
-use Rattle.link_account.specs.Speak.{Said, speak}
-use Rattle.link_run.specs.End.{User, is_busy, is_released, is_closed}
-use Rattle.link_run.specs.Run.{Link, Accounts, Turn, SpeaksAt, arrival, served_at, said_at}
-use Rattle.turn_bound.specs.Time.{KeepsTime}
-use Rattle.turn_bound.proofs.Clock.{rates}
-use Rattle.turn_bound.proofs.Value.{Stands}
-use Rattle.turn_bound.proofs.MeetHear.{is_begun, of_frame, of_arrived}
-use Rattle.turn_bound.proofs.Run.{served_account}
-use Rattle.turn_bound.proofs.Serving.{Served, serves-all}
-use Rattle.turn_losses.proofs.Polling.{is_linked}
+use Rattle.std.proofs.Common.{◌⊎◌, inl, inr, ◌≡◌, ℕ, ◌+◌, ◌-◌, ◌*◌, ◌<◌, ◌≤◌, not, Bool, true, false, List, length, arith, refl, sym, ◌∙◌}
+use Rattle.std.proofs.Common.{ap, subst, Some, Ok}
+use Rattle.link_account.proofs.Names.{is_some, cases_lt, Role, Originator, Answerer, offer_in, written, IsAllowed, ReadsWritten, Sent}
+use Rattle.link_account.proofs.Names.{Arrived, Account, hear, MayPlay, Said, speak}
+use Rattle.link_run.proofs.Names.{Phase, Detecting, Negotiating, Establishing, Connected, Releasing, Closed, Setup, User, is_busy}
+use Rattle.link_run.proofs.Names.{is_released, is_closed, Link, Accounts, Turn, SpeaksAt, arrival, served_at, said_at}
+use Rattle.turn_losses.proofs.Truths.{not-true}
 use Rattle.turn_losses.proofs.Numbering.{allowed}
 use Rattle.turn_losses.proofs.Numbered.{numbered-linked}
-use Rattle.turn_losses.proofs.Trace.{Deed, Happens, Trace, past, sent_or}
-use Rattle.turn_losses.proofs.TwoEnds.{EndRun, TwoEnds, end_run}
 use Rattle.turn_losses.proofs.Tracing.{known, release_of}
 use Rattle.turn_losses.proofs.LineLaw.{is-heard}
 use Rattle.turn_losses.proofs.PollLaws.{two-ends}
@@ -39,6 +19,8 @@ use Rattle.turn_losses.proofs.TryAnswering.{can_answer, AnswerDue, answer-due, s
 use Rattle.turn_losses.proofs.Setups.{start-setup, heard-setup, served-setup, Met, met}
 use Rattle.turn_losses.proofs.Phasing.{is_established, begun-established}
 use Rattle.turn_losses.proofs.Clocks.{Ticked, Unanswered, last, chain}
+use Rattle.turn_losses.proofs.Names.{KeepsTime, rates, Stands, is_begun, of_frame, of_arrived, served_account, Served, serves-all}
+use Rattle.turn_losses.proofs.Names.{is_linked, Deed, Happens, Trace, past, sent_or, EndRun, TwoEnds, end_run}
 use Rattle.turn_losses.proofs.Clocks.Ticked.{Begins, Expires, Stays}
 
 -- A turn after which an end tries: the try begins in it, or goes on unanswered, and goes again or not.
@@ -66,9 +48,6 @@ try-turn user period turn p arrived a mid released release said r r' per long of
     s : Served turn (length user.breaks) (is_busy turn user.busy) mid b
     s = serves-all user turn released mid
 
-    wait : b.wait ≡ mid.wait
-    wait = s.wait
-
     heard : mid.phase ≡ p → TryGoesOn p arrived a mid ⊎ TryBegins turn p a mid
     heard f = try-heard arrived turn a mid r hears p t f
 
@@ -78,7 +57,7 @@ try-turn user period turn p arrived a mid released release said r r' per long of
         ∙ offers) speaks p t e
 
     set-is : b.wait.try_set ≡ mid.wait.try_set
-    set-is = ap (λ w. w.try_set) wait
+    set-is = ap (λ w. w.try_set) s.wait
 
     b-period : b.setup.period ≡ period
     b-period = ap (λ x. x.period) s.setup ∙ per
@@ -86,7 +65,7 @@ try-turn user period turn p arrived a mid released release said r r' per long of
     again : TryGoesOn p arrived a mid ⊎ TryBegins turn p a mid → TriesAgain p turn b said
         → TryTurn period turn p arrived said.sent a said.account
     again (inl (x, w, n)) (due, set, count, sends) =
-        let same = ap (λ v. v.try_set) w in let same' = ap (λ v. v.try_count) w in let bc = ap (λ v. v.try_count) wait in
+        let same = ap (λ v. v.try_set) w in let same' = ap (λ v. v.try_count) w in let bc = ap (λ v. v.try_count) s.wait in
         inr (inl ((x, n), omega (arith, due, set-is, same, b-period), set, omega (arith, count, bc, same'), sends))
     again (inr (x, y, try, set', count')) (due, set, count, sends) = absurd (omega (arith, due, set-is, set', b-period, long))
 
@@ -99,10 +78,10 @@ try-turn user period turn p arrived a mid released release said r r' per long of
           (λ q. due (omega (arith, q, set-is, same, b-period))),
           set ∙ (set-is ∙ same),
           count
-              ∙ (ap (λ v. v.try_count) wait ∙ ap (λ v. v.try_count) w),
+              ∙ (ap (λ v. v.try_count) s.wait ∙ ap (λ v. v.try_count) w),
         ))
     stands (inr (x, y, try, set', count')) (due, set, count, sends) = inl
-        (x, set ∙ (set-is ∙ set'), count ∙ (ap (λ v. v.try_count) wait ∙ count'), sends (ap (λ v. v.try) wait ∙ try))
+        (x, set ∙ (set-is ∙ set'), count ∙ (ap (λ v. v.try_count) s.wait ∙ count'), sends (ap (λ v. v.try) s.wait ∙ try))
 
     go : ((b.phase ≡ p) × (TriesAgain p turn b said ⊎ TryStands p turn b said)) ⊎ TryIsNew p turn b said
         → TryTurn period turn p arrived said.sent a said.account
@@ -234,10 +213,6 @@ answerable Releasing Connected n t e r x y z = refl
 answerable Releasing Releasing n t e r x y z = absurd (r refl)
 answerable Releasing Closed n t e r x y z = refl
 
-not-so : (b : Bool) → (b ≡ true → ⊥) → b ≡ false
-not-so true f = absurd (f refl)
-not-so false f = refl
-
 -- The answerer answers in the turn in which it hears.
 pub answers-so : ReadsWritten → (tries period : ℕ) (delay : Role → ℕ) (link : Link) (ts : List Turn) (state : ℕ → Accounts)
     (deed : ℕ → Deed)
@@ -281,14 +256,14 @@ answers-so reads tries period delay link ts state deed kt m w p t u l f k =
 
     can : can_answer p (state u).answ.phase (state u).answ.numbered ≡ true
     can = answerable p (state u).answ.phase (state u).answ.numbered t (never Establishing refl) (never Releasing refl)
-        (λ q. not-so (is_begun (state u).answ.phase)
+        (λ q. not-true (is_begun (state u).answ.phase)
         (λ b. let wrong : true ≡ false = sym (begun-established tries period delay link ts state deed kt w u (omega (arith, l)) b)
         ∙ ap is_established (f ∙ q) in cc))
         (λ q. (
-          not-so (state u).answ.numbered
+          not-true (state u).answ.numbered
               (λ n. let wrong : true ≡ false = sym
               (numbered-linked tries period delay link ts state deed kt w Answerer u (omega (arith, l)) n) ∙ ap is_linked (f ∙ q) in cc),
-          not-so (is_closed (state u).answ.phase) (λ c. let wrong : true ≡ false = sym (both.closed c) ∙ ap is_released (f ∙ q) in cc),
+          not-true (is_closed (state u).answ.phase) (λ c. let wrong : true ≡ false = sym (both.closed c) ∙ ap is_released (f ∙ q) in cc),
         ))
         (λ q. both.begun (ap is_begun (f ∙ q)))
 

@@ -1,18 +1,13 @@
 -- Two ends over the turns of a run, each seen from the one and from the other.
+use Rattle.link_account.proofs.Names.{Role, of, Sent, Arrived, Account, arrives}
+use Rattle.link_run.proofs.Names.{Accounts, arrival}
 use Rattle.std.specs.Prelude.{◌≡◌, ℕ, ◌+◌, ◌-◌, ◌*◌, ◌<◌, ◌≤◌, Bool, false, cond}
-use Rattle.shared_terms.specs.declared.role.Role.{Role}
-use Rattle.shared_terms.specs.Both.{of}
-use Rattle.lapm_frames.specs.declared.sent.Sent.{Sent}
-use Rattle.lapm_frames.specs.declared.arrived.Arrived.{Arrived}
-use Rattle.lapm_frames.specs.declared.arrived.Arrived.TheVariants as arrivals
-use Rattle.link_account.specs.Account.{Account}
-use Rattle.link_account.specs.Play.{arrives}
-use Rattle.link_run.specs.Run.{Accounts, arrival}
 use Rattle.turn_bound.proofs.MeetHear.{of_frame, of_arrived}
 use Rattle.turn_bound.proofs.Tied.{is_lost}
 use Rattle.turn_losses.specs.Polls.{is_poll, is_final}
 use Rattle.turn_losses.proofs.Polling.{poll_due, PollTurn}
 use Rattle.turn_losses.proofs.Trace.{Deed, sent_or}
+use Rattle.lapm_frames.specs.declared.arrived.Arrived.TheVariants as arrivals
 
 -- one end by the turn: its account before it and once it has heard, what arrives and is lost, what it sends, and whether a poll becomes due
 pub record EndRun : Type 0 where

@@ -1,30 +1,16 @@
 -- Where a user asks for no break, none waits.
-use Rattle.std.proofs.Common.{◌⊎◌, inl, inr, ◌≡◌, ℕ, ◌<◌, Bool, true, false, cond, List, [], ◌∷◌, length, arith, refl, sym, ◌∙◌, ap, subst}
+use Rattle.std.proofs.Common.{inl, inr, ◌≡◌, ℕ, Bool, true, false, cond, List, [], ◌∷◌, length, arith, refl, sym, ◌∙◌, ap, subst}
 use Rattle.std.proofs.Common.{Result, Ok, Err}
-use Rattle.std.proofs.lemmas.Bool.Decides.{nat_tests}
-use Rattle.shared_terms.specs.declared.role.Role.{Role}
-use Rattle.shared_terms.specs.declared.role.Role.TheVariants.{Originator, Answerer}
-use Rattle.shared_terms.specs.Both.{of}
-use Rattle.break_signals.specs.Breaks.{OwnBreaks, waits, after_ask}
-use Rattle.lapm_frames.specs.declared.arrived.Arrived.{Arrived}
-use Rattle.link_account.specs.declared.phase.Phase.{Phase}
-use Rattle.shared_terms.specs.declared.fault.LinkFault.{LinkFault}
-use Rattle.link_account.specs.Account.{Account, is_connected}
-use Rattle.link_account.specs.Hear.{hear}
-use Rattle.link_account.specs.Speak.{Said, speak}
-use Rattle.link_run.specs.End.{BreakLine, is_busy, is_released}
-use Rattle.link_run.specs.Run.{Link, Accounts, Turn, RunOf, SpeaksAt, arrival, served_at, said_at}
-use Rattle.link_run.specs.Carried.{IsCarried}
-use Rattle.turn_bound.specs.Time.{KeepsTime}
-use Rattle.turn_bound.proofs.Clock.{Rates, rates}
-use Rattle.turn_bound.proofs.Value.{IsOf}
-use Rattle.turn_bound.proofs.Serves.{serves-well}
-use Rattle.turn_bound.proofs.Serving.{Served, serves-all}
+use Rattle.link_account.proofs.Names.{nat_tests, Role, Originator, Answerer, of, OwnBreaks, waits, Arrived, LinkFault, Account}
+use Rattle.link_account.proofs.Names.{is_connected, hear, Said, speak}
+use Rattle.link_run.proofs.Names.{Phase, BreakLine, is_busy, is_released, Link, Accounts, Turn, RunOf, SpeaksAt, arrival, served_at}
+use Rattle.link_run.proofs.Names.{said_at, IsCarried}
 use Rattle.turn_bound.proofs.Speaking.{SpeaksWell}
 use Rattle.turn_bound.proofs.Turning.{speaks-well}
 use Rattle.turn_losses.proofs.Tracing.{timed, rated, release_of, said-as}
-use Rattle.turn_losses.specs.Tries.{GivesUpForLosses, GivesUpUnbroken}
+use Rattle.turn_losses.specs.Tries.{GivesUpUnbroken}
 use Rattle.turn_losses.proofs.Setups.{start-setup, heard-as}
+use Rattle.turn_losses.proofs.Names.{KeepsTime, Rates, rates, IsOf, serves-well, Served, serves-all, GivesUpForLosses}
 
 -- how many breaks an end has taken
 abbrev taken : Account → ℕ
@@ -32,13 +18,10 @@ taken a = length a.own_breaks.lengths
 
 served-none : (turn : ℕ) (breaks : List BreakLine) (busy : Bool) (a b : Account) → breaks ≡ [] → Served turn (length breaks) busy a b
     → taken a ≡ 0 → taken b ≡ 0
-served-none turn breaks busy a b none s e = go s.own
-  where
-    go : (b.own_breaks ≡ a.own_breaks)
-        ⊎ ((l : ℕ) × (b.own_breaks ≡ after_ask turn l a.own_breaks) × (length a.own_breaks.lengths < length breaks)
-        × (is_connected a.phase ≡ true)) → taken b ≡ 0
-    go (inl q) = ap (λ (x : OwnBreaks). length x.lengths) q ∙ e
-    go (inr (l, q, less, c)) = let n = ap (λ (x : List BreakLine). length x) none in absurd (omega (arith, less, n))
+served-none turn breaks busy a b none s e = elim s.own [
+  | inl q ↦ ap (λ (x : OwnBreaks). length x.lengths) q ∙ e
+  | inr z ↦ (let n = ap (λ (x : List BreakLine). length x) none in absurd (omega (arith, z.2, n)))
+]
 
 said-lengths : (z : Rates) (total breaks turn : ℕ) (role : Role) (p : Phase) (a : Account) (said : Said) (r : Result Said LinkFault)
     → r ≡ Ok said → SpeaksWell z total breaks turn role p a r → said.account.own_breaks.lengths ≡ a.own_breaks.lengths

@@ -1,27 +1,17 @@
 -- An originator that sees no pattern gives up on time.
 use Rattle.std.proofs.Common.{◌≡◌, ℕ, ◌+◌, ◌*◌, ◌<◌, ◌≤◌, Bool, true, false, cond, nat_le, List, [], ◌∷◌, length, arith, refl, sym, ◌∙◌, ap}
 use Rattle.std.proofs.Common.{Ok, Err}
-use Rattle.std.proofs.lemmas.Bool.Decides.{nat_tests}
-use Rattle.shared_terms.specs.declared.role.Role.{Role}
-use Rattle.shared_terms.specs.declared.role.Role.TheVariants.{Originator}
-use Rattle.lapm_frames.specs.declared.heard.Heard.{Heard}
-use Rattle.lapm_frames.specs.declared.heard.Heard.TheVariants.{Passed}
-use Rattle.lapm_frames.specs.declared.seen.Seen.TheVariants as seens
-use Rattle.lapm_frames.specs.declared.sent.Sent.TheVariants as slots
-use Rattle.lapm_frames.specs.declared.arrived.Arrived.TheVariants as arrivals
-use Rattle.link_account.specs.declared.phase.Phase.TheVariants.{Detecting}
-use Rattle.shared_terms.specs.declared.fault.LinkFault.TheVariants.{NotDetected}
-use Rattle.link_account.specs.Account.{Account}
-use Rattle.link_account.specs.Speak.{Said, says, speak, speak_in, speak_detecting}
-use Rattle.link_run.specs.End.{is_released}
-use Rattle.link_run.specs.Run.{Link, Accounts, Turn, RunOf, arrival, served_at, releases}
-use Rattle.link_run.specs.Carried.{IsCarried}
-use Rattle.turn_bound.specs.Time.{KeepsTime}
+use Rattle.link_account.proofs.Names.{nat_tests, Role, Originator, Heard, Passed, NotDetected, Account, Said, says, speak, speak_in}
+use Rattle.link_run.proofs.Names.{Detecting, is_released, Link, Accounts, Turn, RunOf, arrival, served_at, releases, IsCarried}
+use Rattle.link_account.specs.Speak.{speak_detecting}
 use Rattle.turn_bound.specs.Spent.{SpendsOnTime}
-use Rattle.turn_bound.proofs.Serving.{serves-all}
 use Rattle.turn_losses.specs.Losses.{PassesNoPattern, UndetectedOnTime}
 use Rattle.turn_losses.proofs.Tracing.{known, timed}
 use Rattle.turn_losses.proofs.Detecting.{said-from, heard-from, err-detecting, heard-setup}
+use Rattle.turn_losses.proofs.Names.{KeepsTime, serves-all}
+use Rattle.lapm_frames.specs.declared.seen.Seen.TheVariants as seens
+use Rattle.lapm_frames.specs.declared.sent.Sent.TheVariants as slots
+use Rattle.lapm_frames.specs.declared.arrived.Arrived.TheVariants as arrivals
 
 -- what is heard is no pattern of the answerer's
 none-passed : (heard : Heard) → (arrival heard ≡ arrivals.Pattern seens.Adp → ⊥) → heard ≡ Passed slots.Adp → ⊥

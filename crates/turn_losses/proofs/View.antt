@@ -1,34 +1,17 @@
 -- Each turn of a run after which an end is Connected, by its breaks.
 use Rattle.std.proofs.Common.{◌⊎◌, inl, inr, ◌≡◌, ℕ, ◌+◌, ◌<◌, ◌≤◌, ◌&&◌, Bool, true, false, nat_lt, List, length, arith, refl, sym, ◌∙◌}
 use Rattle.std.proofs.Common.{ap, subst, None, Ok}
-use Rattle.std.specs.Prelude.{is_some}
-use Rattle.std.proofs.lemmas.Bool.{cases_lt}
-use Rattle.shared_terms.specs.declared.role.Role.{Role}
-use Rattle.shared_terms.specs.declared.role.Role.TheVariants.{Originator, Answerer}
-use Rattle.shared_terms.specs.Both.{of}
-use Rattle.break_signals.specs.Breaks.{waits, after_ask, no_breaks}
-use Rattle.lapm_frames.specs.declared.sent.Sent.{Sent}
-use Rattle.lapm_frames.specs.declared.arrived.Arrived.{Arrived}
-use Rattle.lapm_frames.specs.declared.arrived.Arrived.TheVariants as arrivals
-use Rattle.link_account.specs.declared.phase.Phase.{Phase}
-use Rattle.link_account.specs.declared.phase.Phase.TheVariants.{Detecting, Negotiating, Establishing, Connected, Releasing, Closed}
-use Rattle.link_account.specs.Account.{Account, is_connected}
-use Rattle.link_account.specs.Hear.{hear}
-use Rattle.link_account.specs.Speak.{speak}
-use Rattle.link_run.specs.End.{is_busy, is_released}
-use Rattle.link_run.specs.Run.{Link, Accounts, Turn, SpeaksAt, arrival, served_at, said_at}
-use Rattle.turn_bound.specs.Time.{KeepsTime}
-use Rattle.turn_bound.proofs.Clock.{Rates, rates}
-use Rattle.turn_bound.proofs.Value.{Stands, Linked, Unlinked, IsAck}
-use Rattle.turn_bound.proofs.MeetHear.{of_frame, of_arrived}
-use Rattle.turn_bound.proofs.Serving.{Served, serves-all}
-use Rattle.turn_losses.specs.Polls.{is_poll, is_final}
-use Rattle.turn_losses.proofs.Polling.{is_linked}
+use Rattle.link_account.proofs.Names.{is_some, cases_lt, Role, Originator, Answerer, of, waits, Sent, Arrived, Account}
+use Rattle.link_account.proofs.Names.{is_connected, hear, speak}
+use Rattle.link_run.proofs.Names.{Phase, Detecting, Negotiating, Establishing, Connected, Releasing, Closed, is_busy, is_released, Link}
+use Rattle.link_run.proofs.Names.{Accounts, Turn, SpeaksAt, arrival, served_at, said_at}
+use Rattle.break_signals.specs.Breaks.{no_breaks}
+use Rattle.turn_bound.proofs.Value.{Linked, Unlinked, IsAck}
+use Rattle.turn_losses.proofs.Truths.{unlinked-connected, and-drop, no-and, clash}
 use Rattle.turn_losses.proofs.PollHear.{PollHeard, poll-hears}
 use Rattle.turn_losses.proofs.PollSpeak.{poll-speaks}
 use Rattle.turn_losses.proofs.NumberTurn.{poll-ok, speak-ok}
 use Rattle.turn_losses.proofs.AnswerTurn.{connected-is, linked-says}
-use Rattle.turn_losses.proofs.Trace.{Deed, Happens, Trace, past, sent_or}
 use Rattle.turn_losses.proofs.Tracing.{Known, known, timed, release_of, said-as}
 use Rattle.turn_losses.proofs.Setups.{heard-as, heard-setup}
 use Rattle.turn_losses.proofs.BreakHear.{of_word, any_brk, pends, BreakHeard, break-heard}
@@ -38,7 +21,9 @@ use Rattle.turn_losses.proofs.BreakTurn.{was_special}
 use Rattle.turn_losses.proofs.Begun.{SameOld, old-heard, blank}
 use Rattle.turn_losses.proofs.Windows.{Breaking}
 use Rattle.turn_losses.proofs.Establishing.{word-connected}
-use Rattle.turn_losses.proofs.TwoEnds.{end_run}
+use Rattle.turn_losses.proofs.Names.{KeepsTime, Rates, rates, Stands, of_frame, of_arrived, Served, serves-all, is_poll, is_final}
+use Rattle.turn_losses.proofs.Names.{is_linked, Deed, Happens, Trace, past, sent_or, end_run}
+use Rattle.lapm_frames.specs.declared.arrived.Arrived.TheVariants as arrivals
 
 pub linked-of : (z : Rates) (before turn : ℕ) (r : Role) (p : Phase) (a : Account) → Stands z before turn r p a → is_connected p ≡ true
     → Linked z before turn r a
@@ -64,28 +49,14 @@ unlinked-of z before turn r Closed a s e = cc
 
 pub served-own : (turn breaks : ℕ) (busy : Bool) (a b : Account) → Served turn breaks busy a b
     → a.own_breaks.answered ≤ length a.own_breaks.lengths → ServedBreaks turn a.own_breaks b.own_breaks
-served-own turn breaks busy a b s low = go s.own
-  where
-    go : (b.own_breaks ≡ a.own_breaks)
-        ⊎ ((l : ℕ) × (b.own_breaks ≡ after_ask turn l a.own_breaks) × (length a.own_breaks.lengths < breaks)
-        × (is_connected a.phase ≡ true)) → ServedBreaks turn a.own_breaks b.own_breaks
-    go (inl q) = record { taken = false; yes = λ e. cc; no = λ e. q }
-    go (inr (l, q, less, c)) = subst (ServedBreaks turn a.own_breaks) (sym q) (served-breaks turn l a.own_breaks low)
+served-own turn breaks busy a b s low = elim s.own [
+  | inl q ↦ record { taken = false; yes = λ e. cc; no = λ e. q }
+  | inr z ↦ subst (ServedBreaks turn a.own_breaks) (sym z.1) (served-breaks turn z.0 a.own_breaks low)
+]
 
 -- an end as it becomes Connected, before it is served
 blank-heard : (turn : ℕ) (mid : Account) → BreakHeard turn arrivals.Nothing mid mid
 blank-heard turn mid = record { special = refl; own = inl refl; ends = λ h w. cc; asked = λ n h. cc; kept = λ h. refl; urgent = λ u. inl u }
-
-and-no : (x y : Bool) → y ≡ false → x && y ≡ false
-and-no true y e = e
-and-no false y e = refl
-
-no-and : (x y : Bool) → x ≡ false → x && y ≡ false
-no-and true y e = cc
-no-and false y e = refl
-
-off : {A : Type 0} (b : Bool) → b ≡ true → b ≡ false → A
-off b e f = let wrong : true ≡ false = sym e ∙ f in cc
 
 begun-turn : (period turn : ℕ) (arrived : Arrived) (sent : Sent) (d : Deeds) (a mid c : Account) → is_connected a.phase ≡ false
     → is_connected mid.phase ≡ true → SameOld arrived a mid → a.own_breaks ≡ no_breaks → a.their_breaks.ack ≡ None → a.special ≡ false
@@ -93,23 +64,23 @@ begun-turn : (period turn : ℕ) (arrived : Arrived) (sent : Sent) (d : Deeds) (
     → BreakTurn period turn arrivals.Nothing sent d mid c → BreakTurn period turn arrived sent d a c
 begun-turn period turn arrived sent d a mid c n cm o own ack special urgent k = record {
   made_set = k.made_set;
-  made_late = λ m x. off (is_connected a.phase) x n;
-  kept_set = λ m x. off (is_connected a.phase) x n;
-  kept_rest = λ m x. off (is_connected a.phase) x n;
+  made_late = λ m x. clash (is_connected a.phase) x n;
+  kept_set = λ m x. clash (is_connected a.phase) x n;
+  kept_rest = λ m x. clash (is_connected a.phase) x n;
   first_made = λ m x. first m;
   brk_from = λ e. made-so (k.brk_from e);
   brk_sent = λ e. let x = k.brk_sent e in (made-so x.0, x.1, x.2);
   brk_goes = λ w e. k.brk_goes w (was-made e);
   held = λ e. ap (λ x. holds (of_frame is_final sent) (of_frame is_poll sent) d.hurries d.acks x d.answers)
       (no-and (is_connected a.phase) a.special n ∙ sym mid-special) ∙ k.held e;
-  number = λ x. off (is_connected a.phase) x n;
-  ends = λ x. off (is_connected a.phase) x n;
-  counts = λ x. off (is_connected a.phase) x n;
-  newly = λ w e. k.newly w (and-no (is_connected mid.phase) (waits mid.own_breaks) mid-waits);
+  number = λ x. clash (is_connected a.phase) x n;
+  ends = λ x. clash (is_connected a.phase) x n;
+  counts = λ x. clash (is_connected a.phase) x n;
+  newly = λ w e. k.newly w (and-drop (is_connected mid.phase) (waits mid.own_breaks) mid-waits);
   ack_from = λ e. absurd (never (k.ack_from e));
   acked = λ e. absurd (none (k.acked e));
-  asked = λ i l x. off (is_connected a.phase) x n;
-  asked_on = λ i l e. off (is_connected a.phase && _) e (no-and (is_connected a.phase) _ n);
+  asked = λ i l x. clash (is_connected a.phase) x n;
+  asked_on = λ i l e. clash (is_connected a.phase && _) e (no-and (is_connected a.phase) _ n);
   held_ack = λ e. ap (λ x. holds (of_frame is_final sent) (of_frame is_poll sent) d.hurries d.acks x d.answers)
       (no-and (is_connected a.phase) a.special n ∙ sym mid-special) ∙ k.held_ack e;
   urgent = λ e. absurd (calm (k.urgent e));
@@ -125,42 +96,42 @@ begun-turn period turn arrived sent d a mid c n cm o own ack special urgent k = 
     mid-waits = ap waits mid-own
 
     mid-special : was_special mid ≡ false
-    mid-special = and-no (is_connected mid.phase) mid.special (o.special ∙ special)
+    mid-special = and-drop (is_connected mid.phase) mid.special (o.special ∙ special)
 
     mid-due : brk_due mid ≡ false
-    mid-due = and-no (is_connected mid.phase) mid.own_breaks.brk (ap (λ x. x.brk) mid-own)
+    mid-due = and-drop (is_connected mid.phase) mid.own_breaks.brk (ap (λ x. x.brk) mid-own)
 
     mid-ack : ack_due mid ≡ false
-    mid-ack = and-no (is_connected mid.phase) (pends mid.their_breaks.ack) (ap (λ t. pends t.ack) o.their ∙ ap pends ack)
+    mid-ack = and-drop (is_connected mid.phase) (pends mid.their_breaks.ack) (ap (λ t. pends t.ack) o.their ∙ ap pends ack)
 
     mid-urgent : is_urgent mid ≡ false
-    mid-urgent = and-no (is_connected mid.phase) mid.wait.urgent (o.urgent ∙ urgent)
+    mid-urgent = and-drop (is_connected mid.phase) mid.wait.urgent (o.urgent ∙ urgent)
 
     first : d.made ≡ false → waits c.own_breaks ≡ false
     first m = by (waits c.own_breaks) refl
       where
         by : (x : Bool) → waits c.own_breaks ≡ x → waits c.own_breaks ≡ false
         by false e = e
-        by true e = off (waits mid.own_breaks) (k.kept_set m cm e).0 mid-waits
+        by true e = clash (waits mid.own_breaks) (k.kept_set m cm e).0 mid-waits
 
     made-so : (brk_due mid ≡ true) ⊎ (d.made ≡ true) → (brk_due a ≡ true) ⊎ (d.made ≡ true)
-    made-so (inl x) = off (brk_due mid) x mid-due
+    made-so (inl x) = clash (brk_due mid) x mid-due
     made-so (inr x) = inr x
 
     was-made : (brk_due a ≡ true) ⊎ (d.made ≡ true) → (brk_due mid ≡ true) ⊎ (d.made ≡ true)
-    was-made (inl x) = off (brk_due a) x (no-and (is_connected a.phase) a.own_breaks.brk n)
+    was-made (inl x) = clash (brk_due a) x (no-and (is_connected a.phase) a.own_breaks.brk n)
     was-made (inr x) = inr x
 
     never : ((ack_due mid ≡ true) × (d.acks ≡ false)) ⊎ ((false ≡ true) × (d.acks ≡ false)) → ⊥
-    never (inl x) = off (ack_due mid) x.0 mid-ack
+    never (inl x) = clash (ack_due mid) x.0 mid-ack
     never (inr x) = let w = x.0 in cc
 
     none : (ack_due mid ≡ true) ⊎ (false ≡ true) → ⊥
-    none (inl x) = off (ack_due mid) x mid-ack
+    none (inl x) = clash (ack_due mid) x mid-ack
     none (inr x) = cc
 
     calm : (is_urgent mid ≡ true) ⊎ (false ≡ true) → ⊥
-    calm (inl x) = off (is_urgent mid) x mid-urgent
+    calm (inl x) = clash (is_urgent mid) x mid-urgent
     calm (inr x) = cc
 
 -- a turn of a run
@@ -273,16 +244,8 @@ turn-of tries period delay link ts state deed kt w r u l c = moved (by (polls.fr
           x.0,
           x.1,
           begun-turn period u arrived s.said.sent x.0 a mid s.said.account
-              (not-connected a.phase un) mid-connected o q.breaks q.ack z.0 z.1 x.2,
+              (unlinked-connected a.phase un) mid-connected o q.breaks q.ack z.0 z.1 x.2,
         )
-      where
-        not-connected : (p : Phase) → is_linked p ≡ false → is_connected p ≡ false
-        not-connected Detecting e = refl
-        not-connected Negotiating e = refl
-        not-connected Establishing e = refl
-        not-connected Connected e = cc
-        not-connected Releasing e = refl
-        not-connected Closed e = refl
 
 -- all of them, one function a kind
 none-done : Deeds
@@ -300,7 +263,7 @@ chosen tries period delay link ts state deed kt w r u = go (cases_lt u (length t
     go : (u < length ts) ⊎ (length ts ≤ u) → (c : Bool) → is_connected (of r (state (u + 1))).phase ≡ c
         → (d : Deeds) × Taken period link ts state deed r u d
     go (inr g) c e = (none-done, λ l f. absurd (omega (arith, g, l)))
-    go (inl l) false e = (none-done, λ l' f. off (is_connected (of r (state (u + 1))).phase) f e)
+    go (inl l) false e = (none-done, λ l' f. clash (is_connected (of r (state (u + 1))).phase) f e)
     go (inl l) true e = let x = turn-of tries period delay link ts state deed kt w r u l e in (x.0, λ l' f. x.1)
 
 abbrev pub deeds-of : (tries period : ℕ) (delay : Role → ℕ) (link : Link) (ts : List Turn) (state : ℕ → Accounts) (deed : ℕ → Deed)

@@ -1,19 +1,17 @@
 -- A break that waits by the turn: when its BRK became due, and what is lost before it becomes due again.
 use Rattle.std.proofs.Common.{inl, inr, ◌≡◌, ℕ, ◌+◌, ◌-◌, ◌*◌, ◌<◌, ◌≤◌, ◌&&◌, Bool, true, false, arith, refl, sym, ◌∙◌, ap}
-use Rattle.std.proofs.lemmas.Bool.{cases_lt}
-use Rattle.break_signals.specs.Breaks.{waits}
-use Rattle.link_account.specs.Account.{Account, is_connected}
-use Rattle.turn_bound.proofs.MeetHear.{of_frame, of_arrived}
-use Rattle.turn_losses.proofs.TwoEnds.{EndRun, TwoEnds}
+use Rattle.link_account.proofs.Names.{cases_lt, waits, Account, is_connected}
+use Rattle.turn_losses.proofs.Truths.{clash, no-and}
 use Rattle.turn_losses.proofs.LineLaw.{was-sent, is-heard}
 use Rattle.turn_losses.proofs.PollLaws.{turned}
 use Rattle.turn_losses.proofs.PeriodLaws.{NoneLost}
 use Rattle.turn_losses.proofs.Clocks.{Ticked, chain}
-use Rattle.turn_losses.proofs.Clocks.Ticked.{Begins, Expires, Stays}
 use Rattle.turn_losses.proofs.BreakHear.{of_word, brk_of, ack_of, any_brk}
 use Rattle.turn_losses.proofs.BreakTurn.{Deeds, BreakTurn, number_of, brk_due}
-use Rattle.turn_losses.proofs.Windows.{Breaking, off, no-and}
+use Rattle.turn_losses.proofs.Windows.{Breaking}
 use Rattle.turn_losses.proofs.Soon.{brk-goes, ack-goes}
+use Rattle.turn_losses.proofs.Names.{of_frame, of_arrived, EndRun, TwoEnds}
+use Rattle.turn_losses.proofs.Clocks.Ticked.{Begins, Expires, Stays}
 
 -- the end is Connected in these turns, and waits with one number
 pub record Waits (number : ℕ) (a : Account) : Type 0 where
@@ -56,11 +54,11 @@ ticks period turns number e d h t l y =
         by : (m : Bool) → (d t).made ≡ m
             → Ticked period t (λ u. Waits number (e.account u)) (λ v. Unit {0}) (Made d) (IsSet e) (count_of e)
         by true q = Expires (e.account t).own_breaks.set was refl
-            (elim (x.made_late q f) [ inl z ↦ sym z.1 | inr z ↦ off (waits (e.account t).own_breaks) g z.0 ])
+            (elim (x.made_late q f) [ inl z ↦ sym z.1 | inr z ↦ clash (waits (e.account t).own_breaks) g z.0 ])
             (x.made_set q).1
-            (λ n r. elim (x.counts f g y.waiting n r) [ inl z ↦ z.1 | inr z ↦ off (d t).made q z.0 ]) q
+            (λ n r. elim (x.counts f g y.waiting n r) [ inl z ↦ z.1 | inr z ↦ clash (d t).made q z.0 ]) q
         by false q = Stays was (λ s r. (x.kept_set q f y.waiting).1 ∙ r)
-            (λ n r. elim (x.counts f g y.waiting n r) [ inl z ↦ off (d t).made z.0 q | inr z ↦ z.1 ]) tt
+            (λ n r. elim (x.counts f g y.waiting n r) [ inl z ↦ clash (d t).made z.0 q | inr z ↦ z.1 ]) tt
 
 -- a period of a waiting break
 pub record BreakPeriod (period turns number : ℕ) (e : EndRun) (d : ℕ → Deeds) (s : ℕ) : Type 0 where
@@ -74,7 +72,7 @@ pub break-periods : (period turns : ℕ) (e : EndRun) (d : ℕ → Deeds) → Br
     → (s : ℕ) × (s + (j + 1) * period ≡ turns) × BreakPeriod period turns number e d s
 break-periods period turns e d h first n number w c due j less =
     let x = chain period turns (λ u. Waits number (e.account u)) (λ v. Unit {0}) (Made d) (IsSet e) (count_of e) (λ u s r a b. sym a ∙ b)
-    (λ z. off (is_connected (e.account 0).phase) z.connected first) (ticks period turns number e d h) n turns
+    (λ z. clash (is_connected (e.account 0).phase) z.connected first) (ticks period turns number e d h) n turns
     (e.account turns).own_breaks.set (omega arith) w c refl due j less in
     (x.0, x.1, record { made = x.2.asked; stays = x.2.ran; goes_on = x.2.goes_on })
 
@@ -149,6 +147,6 @@ break-answered period turns number e o d d' k h h' first small s within bp co na
                 let comes : of_arrived (of_word (ack_of number)) (e.heard v) ≡ true = is-heard o.delay turns
                 (of_word (ack_of number)) o.slot e.heard e.loses k.hears z (omega (arith, less, within))
                 (lost v (omega (arith, a, lo, dl)) (omega (arith, less))).0 ∙ q in
-                off (waits (e.account (v + 1)).own_breaks) there.waiting
+                clash (waits (e.account (v + 1)).own_breaks) there.waiting
                 ((h.turn v (omega (arith, less, within)) there.connected).ends here.connected here.waiting
                 (ap (λ n. of_arrived (of_word (ack_of n)) (e.heard v)) here.numbered ∙ comes))

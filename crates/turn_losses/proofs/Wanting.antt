@@ -1,53 +1,23 @@
 -- Why a Connected end breaks, and what was lost then.
-use Rattle.std.proofs.Common.{◌⊎◌, inl, inr, ◌≡◌, ℕ, ◌+◌, ◌*◌, ◌<◌, ◌≤◌, Bool, true, false, List, length, arith}
-use Rattle.std.proofs.Common.{refl, sym, ◌∙◌, ap, subst, Some, Ok, Err}
-use Rattle.std.proofs.lemmas.Bool.Decides.{nat_tests}
-use Rattle.shared_terms.specs.declared.role.Role.{Role}
-use Rattle.shared_terms.specs.Role.{other}
-use Rattle.shared_terms.specs.Both.{of}
-use Rattle.break_signals.specs.Breaks.{waits}
-use Rattle.lapm_frames.specs.declared.arrived.Arrived.{Arrived}
-use Rattle.lapm_frames.specs.declared.heard.Heard.{Heard}
-use Rattle.lapm_frames.specs.declared.heard.Heard.TheVariants.{Nothing, Passed, Lost, Chance}
-use Rattle.link_account.specs.declared.phase.Phase.TheVariants.{Connected, Releasing}
-use Rattle.shared_terms.specs.declared.fault.LinkFault.{LinkFault}
-use Rattle.link_account.specs.Account.{Account, is_connected}
-use Rattle.link_account.specs.Hear.{hear}
-use Rattle.link_account.specs.Speak.{speak}
-use Rattle.link_run.specs.End.{User, is_busy}
-use Rattle.link_run.specs.Run.{Link, Accounts, Turn}
-use Rattle.link_run.specs.Starved.{IsLost, LosesSome}
-use Rattle.turn_bound.specs.Time.{KeepsTime}
-use Rattle.turn_bound.specs.Due.{NoneDue}
-use Rattle.turn_bound.proofs.Clock.{Rates, rates, AreRates, Sends}
-use Rattle.turn_bound.proofs.Value.{IsOf, Stands, arrived_rnrs}
-use Rattle.turn_bound.proofs.Run.{served_account}
-use Rattle.turn_bound.proofs.Hearing.{HeardAs}
-use Rattle.turn_bound.proofs.MeetHear.{of_arrived}
-use Rattle.turn_bound.proofs.OneTurn.{heard-ok}
-use Rattle.turn_losses.specs.Polls.{is_poll}
+use Rattle.std.proofs.Common.{◌⊎◌, inl, inr, ◌≡◌, ℕ, ◌+◌, ◌*◌, ◌<◌, ◌≤◌, Bool, true, false, List, length, arith, refl, sym, ◌∙◌, ap}
+use Rattle.std.proofs.Common.{Some, Ok, Err}
+use Rattle.link_account.proofs.Names.{nat_tests, Role, other, of, waits, Arrived, LinkFault, Account}
+use Rattle.link_account.proofs.Names.{is_connected, hear, speak, false≢true}
+use Rattle.link_run.proofs.Names.{Connected, Releasing, User, is_busy, Link, Accounts, Turn, Phase, Detecting, Negotiating}
+use Rattle.link_run.proofs.Names.{Establishing}
+use Rattle.turn_losses.proofs.Periods.{once, loses-of}
 use Rattle.turn_losses.proofs.NumberTurn.{poll-ok}
-use Rattle.link_account.specs.declared.phase.Phase.{Phase}
-use Rattle.turn_bound.proofs.Phases.{hears-well}
-use Rattle.turn_bound.proofs.Serves.{serves-well}
-use Rattle.turn_bound.proofs.Serving.{Served, serves-all}
-use Rattle.turn_bound.proofs.Tied.{is_lost}
-use Rattle.turn_losses.specs.Losses.{PeriodLoses, LosesEach}
-use Rattle.turn_losses.proofs.Polling.{is_linked}
 use Rattle.turn_losses.proofs.PollHear.{PollHeard, poll-hears}
-use Rattle.turn_losses.proofs.Trace.{Deed, Trace}
-use Rattle.turn_losses.proofs.TwoEnds.{EndRun, TwoEnds, end_run}
 use Rattle.turn_losses.proofs.AnswerTurn.{linked-sends, connected-is}
-use Rattle.std.proofs.lemmas.Bool.{false≢true}
-use Rattle.link_account.specs.declared.phase.Phase.{Phase}
-use Rattle.link_account.specs.declared.phase.Phase.TheVariants.{Detecting, Negotiating, Establishing, Connected, Releasing}
 use Rattle.link_account.proofs.SpeakWays.{Ended, TryEnds, ReleaseEnds, TimerEnds, BreakEnds, Breaks, Undetected, Spends, why-broken}
 use Rattle.turn_losses.proofs.HeardCount.{CountKept, count-hears}
 use Rattle.turn_losses.proofs.PollLaws.{two-ends}
 use Rattle.turn_losses.proofs.PeriodHolds.{period-loses}
 use Rattle.turn_losses.proofs.Expiries.{Uncleared, expiries}
 use Rattle.turn_losses.proofs.Acknowledged.{Counts}
-use Rattle.turn_losses.proofs.Keeping.{turn-is}
+use Rattle.turn_losses.proofs.Names.{KeepsTime, NoneDue, Rates, rates, AreRates, Sends, IsOf, Stands, arrived_rnrs, served_account, HeardAs}
+use Rattle.turn_losses.proofs.Names.{of_arrived, heard-ok, is_poll, hears-well, serves-well, Served, serves-all, PeriodLoses}
+use Rattle.turn_losses.proofs.Names.{LosesEach, is_linked, Deed, Trace, EndRun, TwoEnds, end_run}
 
 -- the segments' clock expires with the last try
 pub record SpendsTries (turn : ℕ) (b : Account) : Type 0 where
@@ -173,9 +143,6 @@ last-try tries period user turn role arrived a mid released release fault y k h 
     b : Account
     b = served_account user turn released mid
 
-    s : Served turn (length user.breaks) (is_busy turn user.busy) mid b
-    s = serves-all user turn released mid
-
     heard : (q : Phase) × HeardAs z (length a.outgoing.pieces) (length user.breaks) turn
         (z.quota * arrived_rnrs arrived) role a.phase a q mid
     heard = heard-ok z (length a.outgoing.pieces) (length user.breaks) turn (z.quota * arrived_rnrs arrived) role a.phase a mid
@@ -183,19 +150,13 @@ last-try tries period user turn role arrived a mid released release fault y k h 
         (hears-well z (length a.outgoing.pieces) (length user.breaks) turn role a.phase arrived a y k h refl er (omega arith))
 
     per : b.setup.period ≡ period
-    per = ap (λ x. x.period) (s.setup ∙ heard.1.setup) ∙ k.period
+    per = ap (λ x. x.period) ((serves-all user turn released mid).setup ∙ heard.1.setup) ∙ k.period
 
     why : SpendsTries turn b
-    why = let long = y.period in connected-why turn release b fault (s.phase ∙ connected-is mid.phase cm)
+    why = let long = y.period in connected-why turn release b fault ((serves-all user turn released mid).phase ∙ connected-is mid.phase cm)
         (omega (arith, per, long)) quiet breaks
 
 -- a turn in which an end hears nothing of what was sent
-pub lost-is : (h : Heard) → is_lost h ≡ true → IsLost h
-lost-is Nothing e = cc
-lost-is (Passed s) e = cc
-lost-is (Lost s) e = tt
-lost-is Chance e = cc
-
 -- So where both ends stay Connected, something was lost in each of the last periods.
 pub wants-answers : (tries period : ℕ) (delay : Role → ℕ) (link : Link) (ts : List Turn) (state : ℕ → Accounts) (deed : ℕ → Deed)
     → KeepsTime tries period delay link → (w : Trace period delay link ts state deed) → (role : Role)
@@ -222,25 +183,9 @@ wants-answers tries period delay link ts state deed kt w role c l both n less =
     long : 1 ≤ period
     long = let p = kt.period_is in omega (arith, p)
 
-    some : (t : ℕ) → (is_lost (of role (deed t).turn).heard ≡ true) ⊎ (is_lost (of (other role) (deed t).turn).heard ≡ true)
-        → LosesSome (Some (deed t).turn)
-    some t (inl y) = (role, lost-is (of role (deed t).turn).heard y)
-    some t (inr y) = (other role, lost-is (of (other role) (deed t).turn).heard y)
-
     lost-at : (s : ℕ) × (s + (n + 1) * period ≡ turns) × Uncleared period e s → PeriodLoses period turns ts n
     lost-at (s, q, x) =
-        let same = next n in
+        let same = once period n in
         let end : s + period ≤ turns = omega (arith, q, same) in
-        let lost = period-loses period turns e o k c s end x.made x.on
-        (λ u a b. both s u (omega (arith, end, long)) a (omega (arith, b, end)) x.made x.connected (x.on u a b)) x.uncleared in
-        let a = lost.low in let b = lost.high in
-        let within : lost.turn < turns = omega (arith, b, end, long) in
-        record {
-          turn = lost.turn;
-          within = within;
-          in_period = record { behind = omega (arith, a, q, same); before = omega (arith, b, q, same, long) };
-          lost = subst LosesSome (sym (turn-is period delay link ts state deed w lost.turn within)) (some lost.turn lost.loses);
-        }
-      where
-        next : (y : ℕ) → (y + 1) * period ≡ y * period + period
-        next y = omega arith
+        loses-of period delay link ts state deed w role s n long q (period-loses period turns e o k c s end x.made x.on
+        (λ u a b. both s u (omega (arith, end, long)) a (omega (arith, b, end)) x.made x.connected (x.on u a b)) x.uncleared)

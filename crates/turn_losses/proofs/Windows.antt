@@ -1,33 +1,22 @@
 -- How soon a BRK goes, and the BRKACK that answers it.
-use Rattle.std.proofs.Common.{◌⊎◌, inl, inr, ◌≡◌, ℕ, zero, suc, ◌+◌, ◌-◌, ◌*◌, ◌<◌, ◌≤◌, ◌&&◌, Bool, true, false, nat_le, arith, refl, sym}
+use Rattle.std.proofs.Common.{◌⊎◌, inl, inr, ◌≡◌, ℕ, zero, suc, ◌+◌, ◌-◌, ◌<◌, ◌≤◌, ◌&&◌, Bool, true, false, nat_le, arith, refl, sym}
 use Rattle.std.proofs.Common.{◌∙◌, ap, subst}
-use Rattle.std.proofs.lemmas.Bool.{cases_lt}
-use Rattle.std.proofs.lemmas.Bool.Decides.{nat_tests}
-use Rattle.break_signals.specs.Breaks.{waits}
-use Rattle.link_account.specs.Account.{Account, is_connected}
-use Rattle.turn_bound.proofs.MeetHear.{of_frame, of_arrived}
-use Rattle.turn_losses.specs.Polls.{is_poll}
+use Rattle.link_account.proofs.Names.{cases_lt, nat_tests, waits, Account, is_connected}
+use Rattle.turn_losses.proofs.Truths.{not-true, and-two, and-drop, clash}
 use Rattle.turn_losses.proofs.PollHear.{linked-connected}
-use Rattle.turn_losses.proofs.TwoEnds.{EndRun, TwoEnds, sends_poll, sends_final, hears_final}
 use Rattle.turn_losses.proofs.LineLaw.{was-sent}
 use Rattle.turn_losses.proofs.PollLaws.{turned, polls-apart, reply-from, reply-matches}
 use Rattle.turn_losses.proofs.PeriodLaws.{linked-on, connected-back}
 use Rattle.turn_losses.proofs.BreakHear.{of_word, any_brk}
 use Rattle.turn_losses.proofs.BreakTurn.{Deeds, BreakTurn, brk_due, is_urgent}
 use Rattle.turn_losses.proofs.Counting.{hits, one_if, once, twice, at-most-made}
+use Rattle.turn_losses.proofs.Names.{of_frame, of_arrived, is_poll, EndRun, TwoEnds, sends_poll, sends_final, hears_final}
 
 -- an end's breaks by the turn
 pub record Breaking (period turns : ℕ) (e : EndRun) (d : ℕ → Deeds) : Type 0 where
   pub turn : (t : ℕ) → t < turns → is_connected (e.account (t + 1)).phase ≡ true
       → BreakTurn period t (e.heard t) (e.slot t) (d t) (e.account t) (e.account (t + 1))
   pub says : (t : ℕ) → t < turns → of_frame (of_word any_brk) (e.slot t) ≡ true → is_connected (e.account (t + 1)).phase ≡ true
-
-pub off : {A : Type 0} (b : Bool) → b ≡ true → b ≡ false → A
-off b e f = let wrong : true ≡ false = sym e ∙ f in cc
-
-pub no-and : (x y : Bool) → x ≡ false → x && y ≡ false
-no-and true y e = cc
-no-and false y e = refl
 
 -- since a BRK became due: the break's timer was set no earlier, or no break is taken for eight turns
 pub record Since (m : ℕ) (a : Account) : Type 0 where
@@ -41,7 +30,7 @@ since-made : (period turns : ℕ) (e o : EndRun) (d : ℕ → Deeds) → TwoEnds
 since-made period turns e o d k h m zero l made c1 c =
     let x = (h.turn m (omega (arith, l)) c1).made_set made in
     subst (λ t. Since m (e.account t)) (omega arith)
-    (record { set = λ w. let q = x.1 in omega (arith, q); rest = λ w. off (waits (e.account (m + 1)).own_breaks) x.0 w })
+    (record { set = λ w. let q = x.1 in omega (arith, q); rest = λ w. clash (waits (e.account (m + 1)).own_breaks) x.0 w })
 since-made period turns e o d k h m (suc n) l made c1 c = subst (λ t. Since m (e.account t)) (omega arith)
     (step (since-made period turns e o d k h m n (omega (arith, l)) made c1 before))
   where
@@ -64,7 +53,7 @@ since-made period turns e o d k h m (suc n) l made c1 c = subst (λ t. Since m (
         by : (b : Bool) → (d t).made ≡ b → Since m (e.account (t + 1))
         by true q = let y = x.made_set q in record {
           set = λ w. let z = y.1 in omega (arith, z);
-          rest = λ w. off
+          rest = λ w. clash
               (waits (e.account (t + 1)).own_breaks) y.0 w;
         }
         by false q = record {
@@ -83,11 +72,11 @@ pub made-apart : (period turns : ℕ) (e o : EndRun) (d : ℕ → Deeds) → Two
     → s < t → t < turns → (d s).made ≡ true → (d t).made ≡ true → is_connected (e.account (s + 1)).phase ≡ true
     → is_connected (e.account (t + 1)).phase ≡ true
     → s + 8 ≤ t
-made-apart period turns e o d k h s t less within ms mt cs ct = by ((h.turn t within ct).made_late mt before)
+made-apart period turns e o d k h s t less within ms mt cs ct = elim ((h.turn t within ct).made_late mt before) [
+  | inl y ↦ (let z = i.set y.0 in omega (arith, z, y.1, k.period_is))
+  | inr y ↦ (let z = i.rest y.0 in omega (arith, z, y.1))
+]
   where
-    p : period ≡ 2 * (e.delay + o.delay) + 16
-    p = k.period_is
-
     before : is_connected (e.account t).phase ≡ true
     before = connected-back period turns e o k t (t + 1) (omega arith) (omega (arith, within))
         (linked-on period turns e o k (s + 1) t (omega (arith, less)) (omega (arith, within))
@@ -100,11 +89,6 @@ made-apart period turns e o d k h s t less within ms mt cs ct = by ((h.turn t wi
     i = subst (λ x. Since s (e.account x)) same
         (since-made period turns e o d k h s (t - (s + 1)) (omega (arith, less, within)) ms cs
         (ap (λ x. is_connected (e.account x).phase) same ∙ before))
-
-    by : ((waits (e.account t).own_breaks ≡ true) × (t ≡ (e.account t).own_breaks.set + period))
-        ⊎ ((waits (e.account t).own_breaks ≡ false) × ((e.account t).own_breaks.rest ≤ t)) → s + 8 ≤ t
-    by (inl (w, q)) = let z = i.set w in omega (arith, z, q, p)
-    by (inr (w, q)) = let z = i.rest w in omega (arith, z, q)
 
 -- F replies are sent, and answers heard, as far apart as polls
 pub replies-apart : (period turns : ℕ) (e o : EndRun) → TwoEnds period turns e o → (s t : ℕ) → s < t → t < turns → sends_final e s ≡ true
@@ -136,13 +120,12 @@ polls-far period turns e o k s t less within a b = let p = k.period_is in let fa
 
 pub sum-at-most : (x y z w : Bool) → (x ≡ true → (z ≡ true) ⊎ (w ≡ true)) → (y ≡ true → ((z ≡ true) ⊎ (w ≡ true)) × (x ≡ false))
     → one_if x + one_if y ≤ one_if z + one_if w
-sum-at-most true true z w f g = off true refl (g refl).1
+sum-at-most true true z w f g = clash true refl (g refl).1
 sum-at-most false false z w f g = omega arith
-sum-at-most true false z w f g = by (f refl)
-  where
-    by : (z ≡ true) ⊎ (w ≡ true) → 1 + 0 ≤ one_if z + one_if w
-    by (inl q) = let n = ap one_if q in omega (arith, n)
-    by (inr q) = let n = ap one_if q in omega (arith, n)
+sum-at-most true false z w f g = elim (f refl) [
+  | inl q ↦ (let n = ap one_if q in omega (arith, n))
+  | inr q ↦ (let n = ap one_if q in omega (arith, n))
+]
 sum-at-most false true z w f g = by (g refl).0
   where
     by : (z ≡ true) ⊎ (w ≡ true) → 0 + 1 ≤ one_if z + one_if w
@@ -172,11 +155,6 @@ brks-heard period turns e o d k h first s n l w =
     let two = twice (shifted o.delay (λ t. is_connected (o.account (t + 1)).phase && (d t).made)) 8 turns apart s n (omega (arith, l)) w in
     omega (arith, made, two)
   where
-    and-two : (x y : Bool) → x && y ≡ true → (x ≡ true) × (y ≡ true)
-    and-two true true e = (refl, refl)
-    and-two true false e = cc
-    and-two false y e = cc
-
     below : (a b : ℕ) → nat_le a b ≡ true → a ≤ b
     below a b e = grind (arith, nat_tests, e)
 
@@ -212,16 +190,12 @@ brks-heard period turns e o d k h first s n l w =
         go (inl early) =
             let none = ap one_if (not-true (shifted o.delay (λ t. brk_due (o.account t)) (t + 1))
             (λ q. let x = and-two (nat_le o.delay (t + 1)) (brk_due (o.account (t + 1 - o.delay))) q in
-            let lx = below o.delay (t + 1) x.0 in off (brk_due (o.account 0)) (ap (λ n. brk_due (o.account n)) (omega (arith, lx, early))
+            let lx = below o.delay (t + 1) x.0 in clash (brk_due (o.account 0)) (ap (λ n. brk_due (o.account n)) (omega (arith, lx, early))
             ∙ x.1) first)) in
             let quiet = ap one_if
             (not-true (of_arrived (of_word any_brk) (e.heard t))
             (λ q. let x = (heard-so q).0 in let wrong : ⊥ = omega (arith, x, early) in wrong)) in
             omega (arith, none, quiet)
-          where
-            not-true : (b : Bool) → (b ≡ true → ⊥) → b ≡ false
-            not-true true f = absurd (f refl)
-            not-true false f = refl
         go (inr late) = sum-at-most (shifted o.delay (λ t. brk_due (o.account t)) (t + 1)) (of_arrived (of_word any_brk) (e.heard t))
             (shifted o.delay (λ t. brk_due (o.account t)) t)
             (shifted o.delay (λ t. is_connected (o.account (t + 1)).phase && (d t).made) t) due heard
@@ -263,9 +237,5 @@ brks-heard period turns e o d k h first s n l w =
                 let x = (turn c).brk_sent sent in (
                   from c x.0,
                   ap (λ n. nat_le o.delay (t + 1) && brk_due (o.account n)) next
-                      ∙ and-no (nat_le o.delay (t + 1)) (brk_due (o.account (u + 1))) x.1,
+                      ∙ and-drop (nat_le o.delay (t + 1)) (brk_due (o.account (u + 1))) x.1,
                 )
-              where
-                and-no : (x y : Bool) → y ≡ false → x && y ≡ false
-                and-no true y e = e
-                and-no false y e = refl

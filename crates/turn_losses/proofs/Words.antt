@@ -1,11 +1,6 @@
 -- The words of breaks, as they are heard, sent and due.
 use Rattle.std.proofs.Common.{ℕ, Bool, true, false, nat_eq, Option, Some, None, Result, Ok, Err}
-use Rattle.lapm_frames.specs.declared.frame.Frame.{Frame}
-use Rattle.lapm_frames.specs.declared.frame.Frame.TheVariants.{Ui}
-use Rattle.break_signals.specs.declared.word.BreakWord.{BreakWord}
-use Rattle.break_signals.specs.declared.word.BreakWord.TheVariants.{Brk, Ack}
-use Rattle.break_signals.specs.declared.fault.BreakFault.{BreakFault}
-use Rattle.break_signals.specs.Words.{word_in}
+use Rattle.link_account.proofs.Names.{Frame, Ui, BreakWord, Brk, Ack, BreakFault, word_in}
 
 -- the words of breaks in a frame
 abbrev pub is_word : (BreakWord → Bool) → Result BreakWord BreakFault → Bool

@@ -1,0 +1,84 @@
+-- A loss of a turn as one of a period, counted back from the last turn.
+use Rattle.std.proofs.Common.{◌≡◌, inl, inr, ℕ, suc, ◌+◌, ◌-◌, ◌*◌, ◌<◌, ◌≤◌, true, List, ◌∷◌, length, arith, sym, ◌∙◌, ap, subst, Some}
+use Rattle.link_account.proofs.Names.{slice_get, Role, other, of, Heard, Nothing, Passed, Lost, Chance}
+use Rattle.link_run.proofs.Names.{Link, Accounts, Turn, LosesSome}
+use Rattle.link_run.specs.Starved.{IsLost, turn_at}
+use Rattle.turn_losses.proofs.Names.{is_lost, PeriodLoses, Deed, Trace, end_run}
+use Rattle.turn_losses.proofs.PeriodHolds.{LostIn}
+use Rattle.turn_losses.proofs.Keeping.{turn-is}
+
+pub lost-is : (h : Heard) → is_lost h ≡ true → IsLost h
+lost-is Nothing e = cc
+lost-is (Passed s) e = cc
+lost-is (Lost s) e = tt
+lost-is Chance e = cc
+
+pub once : (period n : ℕ) → (n + 1) * period ≡ n * period + period
+once period n = omega arith
+
+pub times : (period a b : ℕ) → a ≤ b → a * period ≤ b * period
+times period a b l = let m : (b - a) * period + a * period ≡ b * period = sum (b - a) a
+    ∙ ap (λ n. n * period) (whole a b l) in omega (arith, m)
+  where
+    sum : (m n : ℕ) → m * period + n * period ≡ (m + n) * period
+    sum m n = grind (arith)
+
+    whole : (m n : ℕ) → m ≤ n → n - m + m ≡ n
+    whole m n q = omega (arith, q)
+
+-- the turns with the last one
+pub later-turn : (turn : ℕ) (t : Turn) (ts : List Turn) → turn < length ts → turn_at turn (t ∷ ts) ≡ turn_at turn ts
+later-turn turn t ts l = ap (slice_get (t ∷ ts)) (index (length ts) l)
+  where
+    index : (n : ℕ) → turn < n → suc n - 1 - turn ≡ suc (n - 1 - turn)
+    index n l = omega (arith, l)
+
+pub newest : (t : Turn) (ts : List Turn) → turn_at (length ts) (t ∷ ts) ≡ Some t
+newest t ts = ap (slice_get (t ∷ ts)) (index (length ts))
+  where
+    index : (n : ℕ) → suc n - 1 - n ≡ 0
+    index n = omega arith
+
+pub later-loses : (period : ℕ) (t : Turn) (ts : List Turn) (n : ℕ) → PeriodLoses period (length ts) ts n
+    → PeriodLoses period (length ts) (t ∷ ts) n
+later-loses period t ts n h = let b = h.within in record {
+  turn = h.turn;
+  within = omega (arith, b);
+  in_period = h.in_period;
+  lost = subst LosesSome (sym (later-turn h.turn t ts b)) h.lost;
+}
+
+pub loses-last : (period : ℕ) (t : Turn) (ts : List Turn) (s n : ℕ) → 1 ≤ period → s + (n + 1) * period ≡ length ts
+    → s + period ≡ length ts → (r : Role) → is_lost (of r t).heard ≡ true → PeriodLoses period (length ts) (t ∷ ts) n
+loses-last period t ts s n long q f r lost = let m = once period n in record {
+  turn = length ts;
+  within = omega arith;
+  in_period = record { behind = omega (arith, q, f, long); before = omega (arith, q, f, m) };
+  lost = subst LosesSome (sym (newest t ts)) (r, lost-is (of r t).heard lost);
+}
+
+-- of the turns of a run
+module _ (period : ℕ) (delay : Role → ℕ) (link : Link) (ts : List Turn) (state : ℕ → Accounts) (deed : ℕ → Deed)
+    (w : Trace period delay link ts state deed) where
+  pub loses-in : (s n : ℕ) → s + (n + 1) * period ≡ length ts → (u : ℕ) → s < u → u ≤ s + period → u < length ts → (r : Role)
+      → is_lost (of r (deed u).turn).heard ≡ true → PeriodLoses period (length ts) ts n
+  loses-in s n q u lo hi b r lost = let m = once period n in record {
+    turn = u;
+    within = b;
+    in_period = record { behind = omega (arith, lo, q); before = omega (arith, hi, q, m) };
+    lost = subst LosesSome (sym (turn-is period delay link ts state deed w u b)) (r, lost-is (of r (deed u).turn).heard lost);
+  }
+
+  -- what either line lost
+  pub loses-of : (r : Role) (s n : ℕ) → 1 ≤ period → s + (n + 1) * period ≡ length ts
+      → LostIn (end_run delay state deed r) (end_run delay state deed (other r)) (s + 1) (period - 1) → PeriodLoses period (length ts) ts n
+  loses-of r s n long q lost = elim lost.loses [ inl x ↦ at r x | inr x ↦ at (other r) x ]
+    where
+      at : (r : Role) → is_lost (of r (deed lost.turn).turn).heard ≡ true → PeriodLoses period (length ts) ts n
+      at r x = let a = lost.low in let b = lost.high in let m = once period n in
+          loses-in s n q lost.turn (omega (arith, a)) (omega (arith, b, long)) (omega (arith, b, q, m, long)) r x
+
+  -- with the last turn
+  pub loses-at : (t : Turn) (s n : ℕ) → s + (n + 1) * period ≡ length ts → (u : ℕ) → s < u → u ≤ s + period → u < length ts → (r : Role)
+      → is_lost (of r (deed u).turn).heard ≡ true → PeriodLoses period (length ts) (t ∷ ts) n
+  loses-at t s n q u lo hi b r lost = later-loses period t ts n (loses-in s n q u lo hi b r lost)
