@@ -69,7 +69,8 @@ replies turn release a said e = by-ways (Answered a) turn release a (record {
   sabme = λ p. tries-alike _ turn _ a (λ w. other _ _ _ refl (λ h. h) refl) (other _ _ _ refl (λ h. h) refl);
   linked = λ p r. record {
     stands = λ x own t. steps turn a.special (record a { own_breaks = own; special = false });
-    expires = λ set x own t. steps-so _ _ turn a.special _ (λ said k. record { final = k.final; reply = k.reply; awaits = λ h. k.awaits refl })
+    expires = λ set x own t. steps-so _ _ turn a.special _
+        (λ said k. record { final = k.final; reply = k.reply; awaits = λ h. k.awaits refl })
         (steps turn a.special (polling_at turn a own));
   };
   releases = λ p r. tries-alike _ turn _ (trying Releasing turn a) (λ w. other _ _ _ refl (λ h. h) refl) (other _ _ _ refl (λ h. h) refl);

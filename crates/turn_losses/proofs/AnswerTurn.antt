@@ -1,13 +1,13 @@
 use Rattle.std.proofs.Common.{◌⊎◌, inl, inr, ◌≡◌, ℕ, ◌+◌, ◌*◌, ◌<◌, ◌&&◌, Bool, true, false, cond, nat_eq, length, arith, refl, sym, ◌∙◌}
-use Rattle.std.proofs.Common.{ap, subst, Option, Some, None, Result, Ok, Err}
-use Rattle.link_account.proofs.Names.{nat_tests, Role, Originator, Answerer, Disc, is_outstanding, Arrived, LinkFault, Account}
+use Rattle.std.proofs.Common.{ap, subst, Option, Some, None, Ok}
+use Rattle.link_account.proofs.Names.{nat_tests, Role, Originator, Answerer, Disc, is_outstanding, Arrived, Account}
 use Rattle.link_account.proofs.Names.{is_connected, is_originator, hear, trying, Said, speak_linked, speak, speak_in, speak_releasing}
 use Rattle.link_run.proofs.Names.{Phase, Detecting, Negotiating, Establishing, Connected, Releasing, Closed, User, is_busy, is_released}
 use Rattle.link_account.specs.Speak.{timer_expires}
 use Rattle.link_account.proofs.SpeakWays.{OnSaid, tries-alike, by-tries}
 use Rattle.turn_losses.proofs.Answered.{SendsSegment, AnswerTurn}
 use Rattle.turn_losses.proofs.Answering.{AnswerHeard, frame_rnr, answer-hears, Segment, urgent-says, front-may}
-use Rattle.turn_losses.proofs.PollHear.{PollHeard, PollHears, poll-hears}
+use Rattle.turn_losses.proofs.PollHear.{PollHeard, poll-hears}
 use Rattle.turn_losses.proofs.Names.{Rates, AreRates, Sends, IsOf, Stands, arrived_rnrs, served_account, heard-ok, hears-well, serves-well}
 use Rattle.turn_losses.proofs.Names.{NoneDue, Served, serves-all, is_poll, is_final, of_arrived}
 use Rattle.lapm_frames.specs.declared.arrived.Arrived.TheVariants as arrivals
@@ -50,11 +50,6 @@ linked-says turn release a said e c h = go (release && is_originator a.setup.rol
     go false q = q
     go true q = let wrong : true ≡ false = sym c ∙ released-says turn a said q in cc
 
-heard-now : (role : Role) (turn : ℕ) (polled : Bool) (a mid : Account) (r : Result Account LinkFault) → r ≡ Ok mid
-    → PollHears role turn polled a r → PollHeard role turn polled a mid
-heard-now role turn polled a mid (Err fault) e h = cc
-heard-now role turn polled a mid (Ok b) e h = let same : b ≡ mid = cc in subst (PollHeard role turn polled a) same h
-
 -- the turn of one end in which it hears the answer
 pub end-answers : (z : Rates) (user : User) (turn : ℕ) (role : Role) (arrived : Arrived) (a mid : Account) (released release : Bool)
     (said : Said) → AreRates z → IsOf z a.setup → Stands z turn turn role a.phase a → a.setup.role ≡ role
@@ -79,8 +74,7 @@ end-answers z user turn role arrived a mid released release said y k h er hears 
         s = serves-all user turn released mid
 
         polls : PollHeard role turn (is_poll frame) a mid
-        polls = heard-now role turn (is_poll frame) a mid (hear turn (arrivals.Frame frame) a) q
-            (poll-hears role (arrivals.Frame frame) turn a er none.answer)
+        polls = poll-hears role (arrivals.Frame frame) turn a er none.answer mid q
 
         front : b.outgoing.front ≡ mid.outgoing.front
         front = ap (λ o. o.front) s.longer.outgoing

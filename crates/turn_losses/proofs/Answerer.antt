@@ -1,7 +1,7 @@
 -- A Connected answerer that gives up was starved.
 use Rattle.std.proofs.Common.{inl, inr, ◌≡◌, ℕ, ◌<◌, ◌≤◌, Bool, true, false, List, length, arith, refl, sym, ◌∙◌, ap, subst, Some}
 use Rattle.std.proofs.Common.{None}
-use Rattle.link_account.proofs.Names.{Role, Originator, Answerer, is_connected, IsAllowed, hear}
+use Rattle.link_account.proofs.Names.{Role, Originator, Answerer, is_connected, IsAllowed}
 use Rattle.link_run.proofs.Names.{Phase, Connected, is_released, Link, Accounts, Turn, Hears, arrival, RunsOver}
 use Rattle.turn_losses.specs.Losses.{AnswererWantsAnswers}
 use Rattle.turn_losses.proofs.Room.{begins-roomy}
@@ -9,7 +9,6 @@ use Rattle.turn_losses.proofs.Tracing.{Known, known, Timed, timed, rated, Traced
 use Rattle.turn_losses.proofs.Numbering.{Plays, allowed, fits-at, counts-of}
 use Rattle.turn_losses.proofs.Wanting.{LastTry, last-try, wants-answers}
 use Rattle.turn_losses.proofs.PollHear.{PollHeard, poll-hears, linked-connected}
-use Rattle.turn_losses.proofs.NumberTurn.{poll-ok}
 use Rattle.turn_losses.proofs.PollLaws.{two-ends, turned}
 use Rattle.turn_losses.proofs.PeriodLaws.{linked-on, connected-back}
 use Rattle.turn_losses.proofs.Numbered.{numbered-linked}
@@ -65,10 +64,8 @@ answerer-each laws tries period delay link ts before t mid kt run hearing going 
         ∙ counted before.answ.numbered before ts (k Answerer) last.connected last.set last.runs refl)
 
     heard : PollHeard Originator turns (of_arrived is_poll (arrival t.orig.heard)) before.orig mid.orig
-    heard = poll-ok Originator turns (of_arrived is_poll (arrival t.orig.heard)) before.orig mid.orig
-        (hear turns (arrival t.orig.heard) before.orig) (hearing Originator).hears
-        (poll-hears Originator (arrival t.orig.heard) turns before.orig (ap (λ x. x.role) (k Originator).setup ∙ (tm Originator).role_is)
-        (k Originator).none_due.answer)
+    heard = poll-hears Originator (arrival t.orig.heard) turns before.orig
+        (ap (λ x. x.role) (k Originator).setup ∙ (tm Originator).role_is) (k Originator).none_due.answer mid.orig (hearing Originator).hears
 
     peer-last : is_connected before.orig.phase ≡ true
     peer-last = elim (heard.from (only-connected mid.orig.phase (heard.linked linked-last) going)) [

@@ -8,10 +8,9 @@ use Rattle.link_account.proofs.SpeakWays.{Tries}
 use Rattle.turn_losses.proofs.Truths.{unlinked-connected}
 use Rattle.turn_losses.proofs.PollHear.{poll-hears}
 use Rattle.turn_losses.proofs.PollSpeak.{poll-speaks}
-use Rattle.turn_losses.proofs.NumberTurn.{poll-ok, speak-ok}
 use Rattle.turn_losses.proofs.Tracing.{Known, known, timed, release_of, said-as}
 use Rattle.turn_losses.proofs.BreakHear.{of_word}
-use Rattle.turn_losses.proofs.Names.{KeepsTime, rates, of_arrived, serves-all, is_poll, is_final, is_linked, Deed, Happens, Trace, past}
+use Rattle.turn_losses.proofs.Names.{KeepsTime, rates, of_arrived, serves-all, is_final, is_linked, Deed, Happens, Trace, past}
 use Rattle.lapm_frames.specs.declared.arrived.Arrived.TheVariants as arrivals
 use Rattle.link_account.specs.declared.answer.Answer.TheVariants as answers
 use Rattle.link_account.proofs.HearWays as HearWays
@@ -120,8 +119,8 @@ blank tries period delay link ts state deed kt w r (suc u) y l =
     now = ap (λ x. is_linked (of r (state x)).phase) (omega arith) ∙ l
 
     unlinked-b : is_linked b.phase ≡ false
-    unlinked-b = sym (speak-ok u b s.said (speak u (release_of link u (deed u).mid r) b) says-so
-        (poll-speaks u (release_of link u (deed u).mid r) b)).linked ∙ (ap (λ (x : Account). is_linked x.phase) (sym s.after_is) ∙ now)
+    unlinked-b = sym (poll-speaks u (release_of link u (deed u).mid r) b s.said says-so).linked ∙
+        (ap (λ (x : Account). is_linked x.phase) (sym s.after_is) ∙ now)
 
     b-mid : b.phase ≡ mid.phase
     b-mid = (serves-all (of r link).user u (is_released (deed u).mid.orig.phase) mid).phase
@@ -136,9 +135,7 @@ blank tries period delay link ts state deed kt w r (suc u) y l =
         by false e = e
         by true e =
             let role = ap (λ x. x.role) k.setup ∙ (timed tries period delay link kt r).role_is in
-            let linked = (poll-ok r u (of_arrived is_poll (arrival (of r (deed u).turn).heard)) a mid
-            (hear u (arrival (of r (deed u).turn).heard) a) (h.hearing r).hears
-            (poll-hears r (arrival (of r (deed u).turn).heard) u a role k.none_due.answer)).linked e in
+            let linked = (poll-hears r (arrival (of r (deed u).turn).heard) u a role k.none_due.answer mid (h.hearing r).hears).linked e in
             let wrong : true ≡ false = sym linked ∙ (ap is_linked (sym b-mid) ∙ unlinked-b) in cc
 
     after : (a.special ≡ false) × (a.wait.urgent ≡ false)

@@ -89,7 +89,7 @@ pub record ServedBreaks (turn : ℕ) (a b : OwnBreaks) : Type 0 where
 waits-less : (b : OwnBreaks) → b.answered < length b.lengths → waits b ≡ true
 waits-less b l = grind (arith, nat_tests, l)
 
-waits-not : (b : OwnBreaks) → length b.lengths ≤ b.answered → waits b ≡ false
+pub waits-not : (b : OwnBreaks) → length b.lengths ≤ b.answered → waits b ≡ false
 waits-not b l = grind (arith, nat_tests, l)
 
 waits-is : (b : OwnBreaks) → waits b ≡ true → b.answered < length b.lengths

@@ -10,7 +10,7 @@ abbrev pub hits : (ℕ → Bool) → ℕ → ℕ → ℕ
 hits f from zero = 0
 hits f from (suc n) = hits f from n + one_if (f (from + n))
 
-one-most : (b : Bool) → one_if b ≤ 1
+pub one-most : (b : Bool) → one_if b ≤ 1
 one-most true = omega arith
 one-most false = omega arith
 

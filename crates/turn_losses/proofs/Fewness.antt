@@ -7,6 +7,7 @@ use Rattle.link_run.specs.Counts.{lost_in, lost_slots}
 use Rattle.link_run.specs.Starved.{SpanLoses, IsLost, turn_at}
 use Rattle.turn_bound.proofs.Clock.{one_if}
 use Rattle.turn_bound.proofs.Tied.{is_lost}
+use Rattle.turn_losses.proofs.Counting.{one-most}
 use Rattle.turn_losses.proofs.Truths.{and-two}
 use Rattle.turn_losses.specs.Losses.{StarvedLosesMany, LosslessIsFed}
 use Rattle.turn_losses.proofs.Periods.{later-turn}
@@ -28,10 +29,6 @@ count-or (suc n) a b = let k = count-or n a b in let e = either (a n) (b n) in o
     either : (x y : Bool) → one_if (x || y) ≤ one_if x + one_if y
     either true y = omega arith
     either false y = omega arith
-
-one-most : (b : Bool) → one_if b ≤ 1
-one-most true = omega arith
-one-most false = omega arith
 
 -- where only the last one may meet it
 count-last : (n : ℕ) (test : ℕ → Bool) → ((m : ℕ) → m < n → test m ≡ true → n ≤ m + 1) → count_of n test ≤ 1

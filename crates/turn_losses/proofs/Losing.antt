@@ -1,7 +1,7 @@
 -- What is lost in each period of a waiting break, while the other end is Connected.
 use Rattle.std.proofs.Common.{◌⊎◌, inl, inr, ◌≡◌, ℕ, ◌+◌, ◌-◌, ◌*◌, ◌<◌, ◌≤◌, Bool, true, false, List, ◌∷◌, length, arith, refl, sym, ◌∙◌}
 use Rattle.std.proofs.Common.{ap, Ok}
-use Rattle.link_account.proofs.Names.{slice_get, cases_lt, nat_tests, Role, Originator, Answerer, other, of, Frame, ReadsWritten, OwnBreaks}
+use Rattle.link_account.proofs.Names.{slice_get, cases_lt, nat_tests, Role, Originator, Answerer, other, of, Frame, ReadsWritten}
 use Rattle.link_account.proofs.Names.{waits, Arrived, Account, is_connected, MayPlay, hear, arrives}
 use Rattle.link_run.proofs.Names.{User, is_busy, Link, Accounts, Turn, SpeaksAt, arrival, said_at, Carries, sent_in}
 use Rattle.turn_losses.proofs.Truths.{clash}
@@ -16,15 +16,12 @@ use Rattle.turn_losses.proofs.AnswerTurn.{connected-is}
 use Rattle.turn_losses.proofs.Parting.{passes-as}
 use Rattle.turn_losses.proofs.Establishing.{is_sabme}
 use Rattle.turn_losses.proofs.BreakHear.{of_word, ack_of, break-heard}
-use Rattle.turn_losses.proofs.BreakTurn.{Deeds, ServedBreaks, number_of, brk_due}
+use Rattle.turn_losses.proofs.BreakTurn.{waits-not, Deeds, ServedBreaks, number_of, brk_due}
 use Rattle.turn_losses.proofs.View.{deeds-of, breaking, served-own}
 use Rattle.turn_losses.proofs.Waiting.{BreakPeriod, break-answered}
 use Rattle.turn_losses.proofs.Quiet.{answers-sabme, sends-sabme-so}
 use Rattle.turn_losses.proofs.Names.{KeepsTime, of_frame, of_arrived, arrives-flag, serves-all, served_account, is_lost, PeriodLoses, Deed}
 use Rattle.turn_losses.proofs.Names.{Trace, past, sent_or, EndRun, TwoEnds, end_run}
-
-waits-not : (b : OwnBreaks) → length b.lengths ≤ b.answered → waits b ≡ false
-waits-not b l = grind (arith, nat_tests, l)
 
 -- what one role sent so long before the last turn arrives in it, unless it is lost
 pub last-heard : (kind : Frame → Bool) (period : ℕ) (delay : Role → ℕ) (link : Link) (ts : List Turn) (state : ℕ → Accounts)

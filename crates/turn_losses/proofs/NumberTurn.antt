@@ -1,15 +1,15 @@
 -- A turn of an end that is Connected before it and after it, by the numbers that it hears and tells.
 use Rattle.std.proofs.Common.{◌⊎◌, inl, inr, ◌≡◌, ℕ, zero, suc, ◌+◌, ◌%◌, ◌≤◌, Bool, true, false, List, length, arith, refl, sym, ◌∙◌, ap}
-use Rattle.std.proofs.Common.{subst, Some, None, Result, Ok, Err}
-use Rattle.link_account.proofs.Names.{is_some, Role, Sent, Arrived, LinkFault, Account, is_connected, hear, Said, speak, IsAllowed}
+use Rattle.std.proofs.Common.{Some, None, Ok}
+use Rattle.link_account.proofs.Names.{is_some, Role, Sent, Arrived, Account, is_connected, hear, Said, speak, IsAllowed}
 use Rattle.link_run.proofs.Names.{User, is_busy}
 use Rattle.turn_bound.specs.Due.{NoneDue}
 use Rattle.turn_bound.proofs.MeetHear.{of_arrived}
 use Rattle.turn_bound.proofs.Run.{served_account}
 use Rattle.turn_bound.proofs.Serving.{Served, serves-all}
 use Rattle.turn_losses.specs.Polls.{is_poll}
-use Rattle.turn_losses.proofs.PollHear.{PollHeard, PollHears, poll-hears}
-use Rattle.turn_losses.proofs.PollSpeak.{SpeakPoll, SaidPoll, PollSpeaks, poll-speaks}
+use Rattle.turn_losses.proofs.PollHear.{PollHeard, poll-hears}
+use Rattle.turn_losses.proofs.PollSpeak.{SaidPoll, poll-speaks}
 use Rattle.turn_losses.proofs.Polling.{is_linked}
 use Rattle.turn_losses.proofs.AnswerTurn.{linked-says, connected-is}
 use Rattle.turn_losses.proofs.HeardPaused.{PausedHeard, paused-hears}
@@ -31,16 +31,6 @@ pub record NumberTurn (arrived : Arrived) (sent : Sent) (a mid c : Account) : Ty
   pub segment : (ns : ℕ) → ns_sent sent ≡ Some ns → c.outgoing.awaited ≡ false
   pub room : Room a → Room c
 
-pub poll-ok : (role : Role) (turn : ℕ) (polled : Bool) (a mid : Account) (r : Result Account LinkFault) → r ≡ Ok mid
-    → PollHears role turn polled a r → PollHeard role turn polled a mid
-poll-ok role turn polled a mid (Err fault) e h = cc
-poll-ok role turn polled a mid (Ok b) e h = let same : b ≡ mid = cc in subst (PollHeard role turn polled a) same h
-
-pub speak-ok : (turn : ℕ) (a : Account) (said : Said) (r : Result Said LinkFault) → r ≡ Ok said → PollSpeaks turn a r
-    → SpeakPoll turn a said
-speak-ok turn a said (Err fault) e h = cc
-speak-ok turn a said (Ok other) e h = let same : other ≡ said = cc in subst (SpeakPoll turn a) same h
-
 -- the room of an end that is Connected when it speaks and after it
 pub room-said : (user : User) (turn : ℕ) (mid : Account) (released release : Bool) (said : Said)
     → speak turn release (served_account user turn released mid) ≡ Ok said → is_connected said.account.phase ≡ true → Room mid
@@ -61,7 +51,7 @@ room-said user turn mid released release said speaks c r =
     left = served-left user turn released mid
 
     cb : is_connected b.phase ≡ true
-    cb = ((speak-ok turn b said (speak turn release b) speaks (poll-speaks turn release b)).connected c).0
+    cb = ((poll-speaks turn release b said speaks).connected c).0
 
     k : NumbersSaid b.special b said
     k = linked-numbers turn b said (linked-says turn release b said (connected-is b.phase cb) c speaks)
@@ -89,7 +79,7 @@ begins-turn user turn period role arrived a mid released release said er none un
     s = serves-all user turn released mid
 
     k : (is_connected b.phase ≡ true) × SaidPoll turn b said
-    k = (speak-ok turn b said (speak turn release b) speaks (poll-speaks turn release b)).connected cc'
+    k = (poll-speaks turn release b said speaks).connected cc'
 
     cm : is_connected mid.phase ≡ true
     cm = ap is_connected (sym s.phase) ∙ k.0
@@ -101,7 +91,7 @@ begins-turn user turn period role arrived a mid released release said er none un
     b-count = ap (λ o. o.count) s.longer.outgoing ∙ w.2
 
     polls : PollHeard role turn (of_arrived is_poll arrived) a mid
-    polls = poll-ok role turn (of_arrived is_poll arrived) a mid (hear turn arrived a) hears (poll-hears role arrived turn a er none.answer)
+    polls = poll-hears role arrived turn a er none.answer mid hears
 
     zero-count : (n : ℕ) → said.account.outgoing.count ≡ n → said.account.outgoing.count ≡ 0
     zero-count zero e = e
@@ -153,10 +143,10 @@ number-turn user turn role arrived a mid released release said er none hears spe
     heard = numbers-heard arrived turn a mid ca hears
 
     polls : PollHeard role turn (of_arrived is_poll arrived) a mid
-    polls = poll-ok role turn (of_arrived is_poll arrived) a mid (hear turn arrived a) hears (poll-hears role arrived turn a er none.answer)
+    polls = poll-hears role arrived turn a er none.answer mid hears
 
     cb : is_connected b.phase ≡ true
-    cb = ((speak-ok turn b said (speak turn release b) speaks (poll-speaks turn release b)).connected cc').0
+    cb = ((poll-speaks turn release b said speaks).connected cc').0
 
     k : NumbersSaid b.special b said
     k = linked-numbers turn b said (linked-says turn release b said (connected-is b.phase cb) cc' speaks)

@@ -34,7 +34,8 @@ numbered-linked tries period delay link ts state deed kt w role zero l n = let w
     none Answerer = ap (λ (s : Accounts). s.answ.numbered) w.starts
 numbered-linked tries period delay link ts state deed kt w role (suc u) l n =
     go ((is-told u (arrival (of role (deed u).turn).heard) (of role (state u)) (of role (deed u).mid)
-    (h.hearing role).hears).numbered mid-numbered) (λ q. numbered-linked tries period delay link ts state deed kt w role u (omega (arith, l)) q)
+    (h.hearing role).hears).numbered mid-numbered)
+    (λ q. numbered-linked tries period delay link ts state deed kt w role u (omega (arith, l)) q)
   where
     h : Happens period delay link (past ts u) u (state u) (deed u) (state (u + 1))
     h = w.happens u (omega (arith, l))

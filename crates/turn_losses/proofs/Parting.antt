@@ -20,7 +20,6 @@ use Rattle.turn_losses.specs.Losses.{AnswererWantsAnswers}
 use Rattle.turn_losses.proofs.PollHear.{PollHeard, poll-hears, linked-connected}
 use Rattle.turn_losses.proofs.PollSpeak.{poll-speaks}
 use Rattle.turn_losses.proofs.AnswerTurn.{connected-is, linked-sends}
-use Rattle.turn_losses.proofs.NumberTurn.{poll-ok, speak-ok}
 use Rattle.turn_losses.proofs.Tracing.{Known, known, Timed, timed, rated, Traced, traced, silent-of, past-all}
 use Rattle.turn_losses.proofs.Numbering.{Plays, allowed, fits-at, counts-of}
 use Rattle.turn_losses.proofs.Numbered.{numbered-linked}
@@ -254,14 +253,12 @@ told-at reads tries period delay link ts state deed kt m w (suc u) y q = subst (
     role = setup-role tries period delay link (past ts u) (state u) kt h.run h.carried Originator
 
     polled : PollHeard Originator u (of_arrived is_poll (arrival (deed u).turn.orig.heard)) (state u).orig (deed u).mid.orig
-    polled = poll-ok Originator u (of_arrived is_poll (arrival (deed u).turn.orig.heard)) (state u).orig (deed u).mid.orig
-        (hear u (arrival (deed u).turn.orig.heard) (state u).orig) (h.hearing Originator).hears
-        (poll-hears Originator (arrival (deed u).turn.orig.heard) u (state u).orig role
-        (known tries period delay link (past ts u) (state u) kt h.run h.carried Originator).none_due.answer)
+    polled = poll-hears Originator (arrival (deed u).turn.orig.heard) u (state u).orig role
+        (known tries period delay link (past ts u) (state u) kt h.run h.carried Originator).none_due.answer (deed u).mid.orig
+        (h.hearing Originator).hears
 
     linked-b : is_linked b.phase ≡ true
-    linked-b = sym (speak-ok u b s.said (speak u (releases link u (deed u).mid) b) s.says
-        (poll-speaks u (releases link u (deed u).mid) b)).linked
+    linked-b = sym (poll-speaks u (releases link u (deed u).mid) b s.said s.says).linked
         ∙ (ap (λ (a : Account). is_linked a.phase) (sym s.after_is) ∙ ap is_linked now)
 
     go : TryTurn period u Releasing (o.heard u) (o.slot u) (o.account u) (o.account (u + 1))
@@ -326,7 +323,7 @@ mid-connected tries period delay link ts state deed kt w u b g =
     let s = h.speaking Answerer in
     let a : Account = (served_at link u (deed u).mid Answerer).account in
     ap is_connected (sym (serves-all link.answ.user u (is_released (deed u).mid.orig.phase) (deed u).mid.answ).phase)
-    ∙ ((speak-ok u a s.said (speak u false a) s.says (poll-speaks u false a)).connected
+    ∙ ((poll-speaks u false a s.said s.says).connected
     (ap (λ (y : Account). is_connected y.phase) (sym s.after_is) ∙ g)).0
 
 -- where the answerer is told in a turn that it is whole, its clock runs for a poll or a pause alone

@@ -2,7 +2,7 @@
 use Rattle.std.proofs.Common.{◌⊎◌, inl, inr, ◌≡◌, ℕ, zero, suc, ◌+◌, ◌-◌, ◌<◌, ◌≤◌, Bool, true, false, List, length, arith, refl, sym, ◌∙◌}
 use Rattle.std.proofs.Common.{ap, Ok}
 use Rattle.link_account.proofs.Names.{Role, Originator, Answerer, ReadsWritten, waits, after_ask, Arrived, Account, is_connected, MayPlay}
-use Rattle.link_account.proofs.Names.{hear, speak}
+use Rattle.link_account.proofs.Names.{hear}
 use Rattle.link_run.proofs.Names.{Phase, Detecting, Negotiating, Establishing, Connected, Releasing, Closed, User, is_released, is_closed}
 use Rattle.link_run.proofs.Names.{Link, Accounts, Turn, arrival, served_at}
 use Rattle.turn_bound.proofs.MeetHear.{o-hears}
@@ -10,7 +10,6 @@ use Rattle.turn_bound.proofs.Serving.{serves-first, before_asking}
 use Rattle.turn_losses.proofs.Truths.{clash}
 use Rattle.turn_losses.proofs.PollHear.{linked-connected}
 use Rattle.turn_losses.proofs.PollSpeak.{poll-speaks}
-use Rattle.turn_losses.proofs.NumberTurn.{speak-ok}
 use Rattle.turn_losses.proofs.AnswerTurn.{connected-is}
 use Rattle.turn_losses.proofs.PollLaws.{two-ends}
 use Rattle.turn_losses.proofs.PeriodLaws.{linked-on, connected-back}
@@ -140,7 +139,7 @@ peer-connected reads tries period delay link ts state deed kt m w u b open-so l 
         let s = (w.happens v y).speaking Answerer in
         let a : Account = (served_at link v (deed v).mid Answerer).account in
         ap (λ (z : Account). is_linked z.phase) s.after_is
-        ∙ ((speak-ok v a s.said (speak v false a) s.says (poll-speaks v false a)).linked ∙ linked-connected a.phase e)
+        ∙ ((poll-speaks v false a s.said s.says).linked ∙ linked-connected a.phase e)
 
     told : (state u).orig.phase ≡ Releasing → ⊥
     told e =

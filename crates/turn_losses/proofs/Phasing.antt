@@ -173,7 +173,8 @@ begun-established tries period delay link ts state deed kt w (suc u) l b = go
         let v : ℕ = u - o.delay in
         let x = (w.happens v (omega (arith, l))).speaking Originator in
         let first : is_established (state (v + 1)).orig.phase ≡ true = ap (λ (y : Account). is_established y.phase) x.after_is
-        ∙ ap is_established (says-sabme v (release_of link v (deed v).mid Originator) (served_at link v (deed v).mid Originator).account x.said
+        ∙ ap is_established (says-sabme v (release_of link v (deed v).mid Originator)
+        (served_at link v (deed v).mid Originator).account x.said
         (sym (said-as link v (deed v).mid Originator) ∙ x.says)
         (ap (λ y. of_frame is_sabme (sent_or y)) (sym x.sent_is) ∙ sent.1)).phase in
         ap (λ n. is_established (state n).orig.phase) (there v (u - v) (omega arith))

@@ -1,5 +1,5 @@
-use Rattle.std.proofs.Common.{◌⊎◌, inl, inr, ◌≡◌, ℕ, ◌||◌, Bool, true, false, refl, sym, ◌∙◌, ap, Option, Some, None, Result, Ok, Err}
-use Rattle.link_account.proofs.Names.{Role, Originator, Answerer, Arrived, LinkFault, Account, is_connected, is_originator, hear}
+use Rattle.std.proofs.Common.{◌⊎◌, inl, inr, ◌≡◌, ℕ, ◌||◌, Bool, true, false, refl, sym, ◌∙◌, ap, Option, Some, None, Ok}
+use Rattle.link_account.proofs.Names.{Role, Originator, Answerer, Arrived, Account, is_connected, is_originator, hear}
 use Rattle.link_account.proofs.Names.{on_nothing, without_adp}
 use Rattle.link_run.proofs.Names.{Phase, Connected}
 use Rattle.link_account.specs.Hear.{first_wait}
@@ -25,10 +25,6 @@ pub record PollHeard (role : Role) (turn : ℕ) (polled : Bool) (a b : Account) 
   pub answers : role ≡ Answerer → is_linked a.phase ≡ false → is_connected b.phase ≡ true
       → (b.wait.poll ≡ a.wait.poll) × (b.wait.timer ≡ a.wait.timer)
   pub awaits : role ≡ Originator → is_linked a.phase ≡ false → is_connected b.phase ≡ true → b.outgoing.awaited ≡ true
-
-abbrev pub PollHears : Role → ℕ → Bool → Account → Result Account LinkFault → Type 0
-PollHears role turn polled a (Err fault) = Unit {0}
-PollHears role turn polled a (Ok b) = PollHeard role turn polled a b
 
 pub linked-connected : (p : Phase) → is_connected p ≡ true → is_linked p ≡ true
 linked-connected Connected e = refl
@@ -165,19 +161,15 @@ early-ways role turn a er c = record {
 
 -- every end hears so
 pub poll-hears : (role : Role) (arrived : Arrived) (turn : ℕ) (a : Account) → a.setup.role ≡ role → a.owes.answer ≡ None
-    → PollHears role turn (of_arrived is_poll arrived) a (hear turn arrived a)
-poll-hears role arrived turn a er none = go (hear turn arrived a) refl
+    → (mid : Account) → hear turn arrived a ≡ Ok mid → PollHeard role turn (of_arrived is_poll arrived) a mid
+poll-hears role arrived turn a er none mid h = by-ways (λ x b. PollHeard role turn (of_arrived is_poll x) a b) turn a (record {
+  nothing = nothing a.phase refl;
+  linked = linked-ways role turn a;
+  early = early-ways role turn a er;
+}) arrived mid h
   where
     nothing : (p : Phase) → a.phase ≡ p → PollHeard role turn false a (on_nothing a)
     nothing Connected e = connected-heard role turn false a (on_nothing a) e e refl (set-same turn a.wait.timer)
         (sym (or-false a.owes.reply))
         (λ h. h) (λ h. ap without_adp none ∙ sym none)
     nothing p e = stays-heard role turn false p a (on_nothing a) e e refl refl refl
-
-    go : (r : Result Account LinkFault) → hear turn arrived a ≡ r → PollHears role turn (of_arrived is_poll arrived) a r
-    go (Err fault) q = tt
-    go (Ok b) q = by-ways (λ x b. PollHeard role turn (of_arrived is_poll x) a b) turn a (record {
-      nothing = nothing a.phase refl;
-      linked = linked-ways role turn a;
-      early = early-ways role turn a er;
-    }) arrived b q

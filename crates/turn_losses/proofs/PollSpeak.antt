@@ -1,6 +1,6 @@
 use Rattle.std.proofs.Common.{◌⊎◌, inl, inr, ◌≡◌, ℕ, ◌+◌, ◌&&◌, ◌||◌, not, Bool, true, false, arith, refl, sym, ◌∙◌, ap, Option, Some, None}
-use Rattle.std.proofs.Common.{Result, Ok, Err}
-use Rattle.link_account.proofs.Names.{Frame, OwnBreaks, LinkFault, Account, is_connected, trying, Said, frame_for, nr_of, ready_frame}
+use Rattle.std.proofs.Common.{Ok}
+use Rattle.link_account.proofs.Names.{Frame, OwnBreaks, Account, is_connected, trying, Said, frame_for, nr_of, ready_frame}
 use Rattle.link_account.proofs.Names.{speak}
 use Rattle.link_run.proofs.Names.{Connected, Releasing, Answer}
 use Rattle.link_account.specs.Speak.{running}
@@ -199,10 +199,6 @@ pub record SpeakPoll (turn : ℕ) (a : Account) (said : Said) : Type 0 where
       → (said.account.wait.poll ≡ a.wait.poll) × (said.account.numbered ≡ a.numbered) × (of_frame is_poll said.sent ≡ false)
       × (of_frame is_final said.sent ≡ false)
 
-abbrev pub PollSpeaks : ℕ → Account → Result Said LinkFault → Type 0
-PollSpeaks turn a (Err fault) = Unit {0}
-PollSpeaks turn a (Ok said) = SpeakPoll turn a said
-
 other-speaks : (turn : ℕ) (a : Account) (said : Said) → is_connected said.account.phase ≡ false
     → is_linked said.account.phase ≡ is_linked a.phase → said.account.wait.poll ≡ a.wait.poll → said.account.numbered ≡ a.numbered
     → of_frame is_poll said.sent ≡ false → of_frame is_final said.sent ≡ false → SpeakPoll turn a said
@@ -239,9 +235,5 @@ poll-ways turn release a = record {
       other = λ c. let wrong : true ≡ false = sym (ap is_connected (h.phase ∙ p)) ∙ c in cc;
     }
 
-pub poll-speaks : (turn : ℕ) (release : Bool) (a : Account) → PollSpeaks turn a (speak turn release a)
-poll-speaks turn release a = go (speak turn release a) refl
-  where
-    go : (r : Result Said LinkFault) → speak turn release a ≡ r → PollSpeaks turn a r
-    go (Err fault) e = tt
-    go (Ok said) e = by-ways (SpeakPoll turn a) turn release a (poll-ways turn release a) said e
+pub poll-speaks : (turn : ℕ) (release : Bool) (a : Account) (said : Said) → speak turn release a ≡ Ok said → SpeakPoll turn a said
+poll-speaks turn release a said e = by-ways (SpeakPoll turn a) turn release a (poll-ways turn release a) said e

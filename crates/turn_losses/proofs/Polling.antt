@@ -1,15 +1,9 @@
 -- Polls and their answers, at one end.
 use Rattle.link_account.proofs.Names.{Role, Answerer, Sent, Account, is_connected}
-use Rattle.link_run.proofs.Names.{Phase, Connected, Releasing, Closed}
 use Rattle.std.specs.Prelude.{◌≡◌, ◌⊎◌, ℕ, ◌+◌, Bool, true, false, ◌&&◌, ◌||◌, cond, Option, Some}
+pub use Rattle.link_account.specs.Laws.{has_begun as is_linked}
 use Rattle.turn_bound.proofs.MeetHear.{of_frame}
 use Rattle.turn_losses.specs.Polls.{is_poll, is_final}
-
-abbrev pub is_linked : Phase → Bool
-is_linked Connected = true
-is_linked Releasing = true
-is_linked Closed = true
-is_linked p = false
 
 -- a poll of a Connected end is due
 abbrev pub poll_due : Account → Bool

@@ -1,12 +1,11 @@
 -- What a run's two ends make of SABME, and that no UA is due while a break waits.
 use Rattle.std.proofs.Common.{◌⊎◌, inl, inr, ◌≡◌, ℕ, zero, suc, ◌+◌, ◌<◌, ◌≤◌, true, false, List, length, arith, refl, sym, ◌∙◌, ap, subst}
-use Rattle.link_account.proofs.Names.{is_some, Role, Originator, Answerer, of, ReadsWritten, Account, is_connected, MayPlay, hear, speak}
+use Rattle.link_account.proofs.Names.{is_some, Role, Originator, Answerer, of, ReadsWritten, Account, is_connected, MayPlay, hear}
 use Rattle.link_run.proofs.Names.{Phase, Detecting, Establishing, Releasing, Closed, is_busy, is_released, Link}
 use Rattle.link_run.proofs.Names.{Accounts, Turn, SpeaksAt, arrival, served_at, said_at}
 use Rattle.turn_bound.proofs.MeetHear.{is_ua_due, frame_ua}
 use Rattle.turn_bound.proofs.MeetSpeak.{speaks-so}
 use Rattle.turn_losses.proofs.PollSpeak.{poll-speaks}
-use Rattle.turn_losses.proofs.NumberTurn.{speak-ok}
 use Rattle.turn_losses.proofs.Tracing.{known, release_of, said-as}
 use Rattle.turn_losses.proofs.Moving.{moves_on, TryGoesOn, TryBegins, try-heard}
 use Rattle.turn_losses.proofs.Setups.{heard-as, heard-setup}
@@ -111,8 +110,7 @@ meeting-of tries period delay link ts state deed kt w = record {
       let b : Account = (served_at link z (deed z).mid Originator).account in
       let v = serves-all link.orig.user z (is_released (deed z).mid.orig.phase) (deed z).mid.orig in
       let linked : is_linked (deed z).mid.orig.phase ≡ true = ap is_linked (sym v.phase)
-      ∙ (sym (speak-ok z b s.said (speak z (release_of link z (deed z).mid Originator) b) s.says
-      (poll-speaks z (release_of link z (deed z).mid Originator) b)).linked
+      ∙ (sym (poll-speaks z (release_of link z (deed z).mid Originator) b s.said s.says).linked
       ∙ (ap (λ (x : Account). is_linked x.phase) (sym s.after_is) ∙ f)) in
       heard-ua (arrival (deed z).turn.orig.heard) z (state z).orig (deed z).mid.orig e (h.hearing Originator).hears linked;
   ua_sent = λ y l e.
@@ -174,8 +172,8 @@ answers-sabme tries period delay link ts state deed kt w r u l c e =
     let s = h.speaking r in
     let b : Account = (served_at link u (deed u).mid r).account in
     let v = serves-all (of r link).user u (is_released (deed u).mid.orig.phase) (of r (deed u).mid) in
-    let bc = ((speak-ok u b s.said (speak u (release_of link u (deed u).mid r) b) (sym (said-as link u (deed u).mid r) ∙ s.says)
-    (poll-speaks u (release_of link u (deed u).mid r) b)).connected (ap (λ (x : Account). is_connected x.phase) (sym s.after_is)
+    let bc = ((poll-speaks u (release_of link u (deed u).mid r) b s.said (sym (said-as link u (deed u).mid r) ∙ s.says)).connected
+    (ap (λ (x : Account). is_connected x.phase) (sym s.after_is)
     ∙ c)).0 in
     let none = (known tries period delay link (past ts u) (state u) kt h.run h.carried r).none_due.answer in
     (answer-by (arrival (of r (deed u).turn).heard) u (of r (state u)) (of r (deed u).mid) none (h.hearing r).hears).some

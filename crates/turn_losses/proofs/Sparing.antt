@@ -1,7 +1,7 @@
 -- An answerer that gives up while its break waits was starved: one period is let off, that in which the originator becomes Connected.
 use Rattle.std.proofs.Common.{◌⊎◌, inl, inr, ◌≡◌, ◌≢◌, ℕ, zero, suc, ◌+◌, ◌-◌, ◌*◌, ◌<◌, ◌≤◌, Bool, true, false, max, List, ◌∷◌, length}
 use Rattle.std.proofs.Common.{arith, refl, sym, ◌∙◌, ap, subst}
-use Rattle.link_account.proofs.Names.{cases_lt, Role, Originator, Answerer, of, ReadsWritten, waits, is_connected, hear}
+use Rattle.link_account.proofs.Names.{cases_lt, Role, Originator, Answerer, of, ReadsWritten, waits, is_connected}
 use Rattle.link_run.proofs.Names.{Phase, Detecting, Establishing, Connected, Closed, is_closed, Link, Accounts}
 use Rattle.link_run.proofs.Names.{Turn, RunOf, Hears, arrival, served_at, Carries, IsCarried, RunsOver, LosesSome}
 use Rattle.link_run.specs.Starved.{SpanLoses, IsStarved, turn_at}
@@ -9,7 +9,6 @@ use Rattle.turn_losses.proofs.Truths.{not-true}
 use Rattle.turn_losses.proofs.Keeping.{turn-is}
 use Rattle.turn_losses.proofs.Periods.{once, lost-is, later-turn, newest, times}
 use Rattle.turn_losses.proofs.PollHear.{poll-hears}
-use Rattle.turn_losses.proofs.NumberTurn.{poll-ok}
 use Rattle.turn_losses.proofs.Tracing.{known, Traced, traced}
 use Rattle.turn_losses.proofs.LineLaw.{is-heard}
 use Rattle.turn_losses.proofs.PollLaws.{two-ends}
@@ -28,7 +27,7 @@ use Rattle.turn_losses.proofs.Quiet.{sabmes-of, meeting-of}
 use Rattle.turn_losses.proofs.Spending.{LastWait}
 use Rattle.turn_losses.proofs.Ending.{periods-of, number-small, none-last}
 use Rattle.turn_losses.proofs.Peering.{peer-connected, not-closed}
-use Rattle.turn_losses.proofs.Names.{KeepsTime, is_begun, of_frame, of_arrived, is_lost, PeriodLoses, is_poll, is_linked, past, EndRun}
+use Rattle.turn_losses.proofs.Names.{KeepsTime, is_begun, of_frame, of_arrived, is_lost, PeriodLoses, is_linked, past, EndRun}
 use Rattle.turn_losses.proofs.Names.{TwoEnds, end_run}
 
 -- a span's loss
@@ -331,10 +330,9 @@ answerer-breaks reads tries period delay link ts before t mid kt run cs hearing 
                     border = omega (arith, g, within)
 
                     linked-heard : is_linked before.orig.phase ≡ true → is_linked mid.orig.phase ≡ true
-                    linked-heard y = (poll-ok Originator turns (of_arrived is_poll (arrival t.orig.heard)) before.orig mid.orig
-                        (hear turns (arrival t.orig.heard) before.orig) (hearing Originator).hears
-                        (poll-hears Originator (arrival t.orig.heard) turns before.orig (role ts before run.run run.carried)
-                        (known tries period delay link ts before kt run.run run.carried Originator).none_due.answer)).linked y
+                    linked-heard y = (poll-hears Originator (arrival t.orig.heard) turns before.orig (role ts before run.run run.carried)
+                        (known tries period delay link ts before kt run.run run.carried Originator).none_due.answer mid.orig
+                        (hearing Originator).hears).linked y
 
                     on : (b : Bool) → is_linked mid.orig.phase ≡ b → SpanLoses period (max (delay Originator) (delay Answerer)) (t ∷ ts) n
                         ⊎ Joins period ts w.state mid n

@@ -4,7 +4,6 @@ use Rattle.link_account.proofs.Names.{nat_tests, Role, of, waits, Arrived, Accou
 use Rattle.link_run.proofs.Names.{is_busy, Link, Accounts, Turn, RunOf, IsCarried}
 use Rattle.turn_bound.proofs.Value.{Linked}
 use Rattle.turn_losses.proofs.PollHear.{PollHeard, poll-hears}
-use Rattle.turn_losses.proofs.NumberTurn.{poll-ok}
 use Rattle.turn_losses.proofs.AnswerTurn.{connected-is}
 use Rattle.turn_losses.proofs.Tracing.{Known, known}
 use Rattle.turn_losses.proofs.Wanting.{SpendsBreak}
@@ -47,8 +46,7 @@ last-wait tries period delay link ts before kt run c r arrived released mid h cm
     k = known tries period delay link ts before kt run c r
 
     polls : PollHeard r turn (of_arrived is_poll arrived) a mid
-    polls = poll-ok r turn (of_arrived is_poll arrived) a mid (hear turn arrived a) h
-        (poll-hears r arrived turn a (setup-role tries period delay link ts before kt run c r) k.none_due.answer)
+    polls = poll-hears r arrived turn a (setup-role tries period delay link ts before kt run c r) k.none_due.answer mid h
 
     setup : b.setup ≡ (of r link).setup
     setup = v.setup ∙ heard-setup tries period delay link ts before kt run c r arrived mid h

@@ -1,6 +1,6 @@
 use Rattle.std.proofs.Common.{◌⊎◌, inl, inr, ◌≡◌, ℕ, suc, ◌+◌, ◌*◌, ◌<◌, ◌≤◌, Bool, true, false, cond, nat_lt, List, [], ◌∷◌, length, arith}
-use Rattle.std.proofs.Common.{refl, sym, ◌∙◌, ap, subst, None, Result, Ok, Err, map}
-use Rattle.link_account.proofs.Names.{nat_tests, Role, Originator, Answerer, other, Arrived, LinkFault, Account, is_connected, hear, Said}
+use Rattle.std.proofs.Common.{refl, sym, ◌∙◌, ap, subst, None, Ok, map}
+use Rattle.link_account.proofs.Names.{nat_tests, Role, Originator, Answerer, Arrived, Account, is_connected, hear, Said}
 use Rattle.link_account.proofs.Names.{speak, cases_lt, of}
 use Rattle.link_run.proofs.Names.{Phase, Detecting, Negotiating, Establishing, Connected, Releasing, Closed, User, is_busy, is_closed}
 use Rattle.link_run.proofs.Names.{is_released, Link, Accounts, Turn, RunOf, GoingTurn, start, arrival, served_at, said_at, releases}
@@ -8,8 +8,8 @@ use Rattle.link_run.proofs.Names.{Carries, IsCarried}
 use Rattle.turn_bound.proofs.Falls.{Sound, Fits}
 use Rattle.turn_bound.proofs.Ending.{fits, sound-run}
 use Rattle.turn_bound.proofs.AtMostOne.{OneDue, one-hears, none-due-run}
-use Rattle.turn_losses.proofs.PollHear.{PollHeard, PollHears, poll-hears}
-use Rattle.turn_losses.proofs.PollSpeak.{SpeakPoll, PollSpeaks, poll-speaks}
+use Rattle.turn_losses.proofs.PollHear.{PollHeard, poll-hears}
+use Rattle.turn_losses.proofs.PollSpeak.{poll-speaks}
 use Rattle.turn_losses.proofs.PollTurn.{poll-turn}
 use Rattle.turn_losses.proofs.AnswerTurn.{end-answers, linked-sends}
 use Rattle.turn_losses.proofs.HeardCount.{CountKept, count-hears}
@@ -39,16 +39,6 @@ served-heard role turn breaks busy polled a b c s h = record {
       (ap (λ w. w.poll) s.wait ∙ k.0, ap (λ w. w.timer) s.wait ∙ k.1);
   awaits = λ r e f. ap (λ o. o.awaited) s.longer.outgoing ∙ h.awaits r e (ap is_connected (sym s.phase) ∙ f);
 }
-
-heard-poll-ok : (role : Role) (turn : ℕ) (polled : Bool) (a mid : Account) (r : Result Account LinkFault) → r ≡ Ok mid
-    → PollHears role turn polled a r → PollHeard role turn polled a mid
-heard-poll-ok role turn polled a mid (Err fault) e h = cc
-heard-poll-ok role turn polled a mid (Ok b) e h = let same : b ≡ mid = cc in subst (PollHeard role turn polled a) same h
-
-speak-poll-ok : (turn : ℕ) (a : Account) (said : Said) (r : Result Said LinkFault) → r ≡ Ok said → PollSpeaks turn a r
-    → SpeakPoll turn a said
-speak-poll-ok turn a said (Err fault) e h = cc
-speak-poll-ok turn a said (Ok other) e h = let same : other ≡ said = cc in subst (SpeakPoll turn a) same h
 
 pub silent-of : (z : Rates) (before turn : ℕ) (r : Role) (p : Phase) (a : Account) → Stands z before turn r p a → r ≡ Answerer
     → is_connected p ≡ true → a.numbered ≡ false → a.wait.timer ≡ None
@@ -90,9 +80,8 @@ end-polls z user turn role arrived a mid released release said y k h er hears sp
     let long = y.period in
     poll-turn z.period turn role (of_arrived is_poll arrived) (of_arrived is_final arrived) a b said (omega (arith, long))
     (served-heard role turn (length user.breaks) (is_busy turn user.busy) (of_arrived is_poll arrived) a mid b s
-    (heard-poll-ok role turn (of_arrived is_poll arrived) a mid (hear turn arrived a) hears
-    (poll-hears role arrived turn a er none.answer)))
-    (speak-poll-ok turn b said (speak turn release b) speaks (poll-speaks turn release b))
+    (poll-hears role arrived turn a er none.answer mid hears))
+    (poll-speaks turn release b said speaks)
     (record {
       one = served-one mid b s one;
       calm = λ c x. s.reply ∙ one.calm (ap is_connected (sym s.phase) ∙ c) (ap is_released (sym s.phase) ∙ x);

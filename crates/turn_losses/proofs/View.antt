@@ -10,7 +10,6 @@ use Rattle.turn_bound.proofs.Value.{Linked, Unlinked, IsAck}
 use Rattle.turn_losses.proofs.Truths.{unlinked-connected, and-drop, no-and, clash}
 use Rattle.turn_losses.proofs.PollHear.{PollHeard, poll-hears}
 use Rattle.turn_losses.proofs.PollSpeak.{poll-speaks}
-use Rattle.turn_losses.proofs.NumberTurn.{poll-ok, speak-ok}
 use Rattle.turn_losses.proofs.AnswerTurn.{connected-is, linked-says}
 use Rattle.turn_losses.proofs.Tracing.{Known, known, timed, release_of, said-as}
 use Rattle.turn_losses.proofs.Setups.{heard-as, heard-setup}
@@ -173,8 +172,7 @@ turn-of tries period delay link ts state deed kt w r u l c = moved (by (polls.fr
     v = serves-all (of r link).user u (is_released (deed u).mid.orig.phase) mid
 
     b-connected : is_connected b.phase ≡ true
-    b-connected = ((speak-ok u b s.said (speak u (release_of link u (deed u).mid r) b) says-so
-        (poll-speaks u (release_of link u (deed u).mid r) b)).connected after).0
+    b-connected = ((poll-speaks u (release_of link u (deed u).mid r) b s.said says-so).connected after).0
 
     mid-connected : is_connected mid.phase ≡ true
     mid-connected = ap is_connected (sym v.phase) ∙ b-connected
@@ -189,8 +187,7 @@ turn-of tries period delay link ts state deed kt w r u l c = moved (by (polls.fr
     hears-so = ap (λ n. hear n arrived a) h.number ∙ (h.hearing r).hears
 
     polls : PollHeard r u (of_arrived is_poll arrived) a mid
-    polls = poll-ok r u (of_arrived is_poll arrived) a mid (hear u arrived a) (h.hearing r).hears
-        (poll-hears r arrived u a role k.none_due.answer)
+    polls = poll-hears r arrived u a role k.none_due.answer mid (h.hearing r).hears
 
     mid-linked : Linked (rates tries period) (length (past ts u) + 1) (length (past ts u)) r mid
     mid-linked = let hd = heard-as tries period delay link (past ts u) (state u) kt h.run h.carried r arrived mid hears-so in

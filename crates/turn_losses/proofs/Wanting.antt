@@ -6,7 +6,6 @@ use Rattle.link_account.proofs.Names.{is_connected, hear, speak, false≢true}
 use Rattle.link_run.proofs.Names.{Connected, Releasing, User, is_busy, Link, Accounts, Turn, Phase, Detecting, Negotiating}
 use Rattle.link_run.proofs.Names.{Establishing}
 use Rattle.turn_losses.proofs.Periods.{once, loses-of}
-use Rattle.turn_losses.proofs.NumberTurn.{poll-ok}
 use Rattle.turn_losses.proofs.PollHear.{PollHeard, poll-hears}
 use Rattle.turn_losses.proofs.AnswerTurn.{linked-sends, connected-is}
 use Rattle.link_account.proofs.SpeakWays.{Ended, TryEnds, ReleaseEnds, TimerEnds, BreakEnds, Breaks, Undetected, Spends, why-broken}
@@ -104,7 +103,7 @@ last-try-of tries period user turn role arrived a mid released y k h er none beg
     per = ap (λ x. x.period) (s.setup ∙ heard.1.setup) ∙ k.period
 
     polls : PollHeard role turn (of_arrived is_poll arrived) a mid
-    polls = poll-ok role turn (of_arrived is_poll arrived) a mid (hear turn arrived a) hears (poll-hears role arrived turn a er none.answer)
+    polls = poll-hears role arrived turn a er none.answer mid hears
 
     mid-count : mid.outgoing.count ≡ tries
     mid-count = ap (λ o. o.count) (sym s.longer.outgoing) ∙ (why.count ∙ sends.tries_are)
