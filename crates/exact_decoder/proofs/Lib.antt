@@ -10,6 +10,7 @@ pub mod Started
 pub mod Least
 pub mod Taken
 pub mod Spreading
+pub mod Batches
 pub mod AnyCode
 pub mod Lessers
 pub mod Vectors

@@ -1,7 +1,8 @@
--- The decoder after one sample more.
+-- The decoder after more samples.
 use Rattle.std.proofs.Common.{◌≡◌, ℕ, ◌+◌, ◌-◌, ◌<◌, ◌≤◌, inl, inr, Bool, List, [], ◌∷◌, ◌++◌, length, take, Option, Some, None, option_map}
 use Rattle.std.proofs.Common.{arith, append_assoc, length-append, refl, sym, ◌∙◌, ap, subst}
 use Rattle.std.proofs.lemmas.Bool.{cases_lt}
+use Rattle.std.proofs.Math.Seq.{take-append-add}
 use Rattle.std.proofs.lemmas.List.{append-nil, take-append-le, take_all}
 use Rattle.symbol_map.specs.declared.sample.Sample.{Sample}
 use Rattle.trellis_tables.specs.Sequences.{cost}
@@ -12,11 +13,15 @@ use Rattle.exact_decoder.specs.Surviving.Survivors.{IsSurvivor, IsCommon, IsRele
 use Rattle.exact_decoder.specs.Surviving.Steps.{KnowsState, Keeps, GoesOn}
 use Rattle.exact_decoder.proofs.Surviving.Columns.{Keeps-more, kept, known}
 use Rattle.exact_decoder.proofs.Surviving.Release.{survivor-one, prefix-parted}
-use Rattle.exact_decoder.proofs.Surviving.Fronts.{released-once, over-before, lost-stays}
+use Rattle.exact_decoder.proofs.Surviving.Fronts.{released-once, stays-prefix, over-before, lost-stays}
 use Rattle.exact_decoder.specs.Columns.{Entry, entry_at, branch_of, sums_at, branches_at, new_sums_at, tail_at}
 use Rattle.exact_decoder.specs.Kept.{Kept, IsParted, KeepsSurvivors, Stepped, Released}
 use Rattle.exact_decoder.specs.Memory.{opened}
+use Rattle.exact_decoder.specs.Batches.{SteppedEach}
 use Rattle.exact_decoder.specs.Decoder.{Decoding, DecoderStands, heard}
+
+pub none-some : {P : Type 0} (symbol : ℕ) → ◌≡◌ {A = Option ℕ} None (Some symbol) → P
+none-some symbol e = cc
 
 -- the paths and sums may be written otherwise
 keeps-paths : {X : Type 0} (c : Trellis X) (samples : List X) (base : ℕ) (sums : ℕ → Option ℕ) (paths other : ℕ → List ℕ)
@@ -132,7 +137,7 @@ keeps-released {X} c k new samples taken pending more labels pending_is r h = (
         (keeps-sums c samples h.base (sums_at k.sums) (sums_at new.sums) (λ s. (taken ++ pending) ++ tail_at k.tails s)
         (λ s. ap (λ l. sums_at l s) r.sums_stay) h.keeps)
 
--- the line is lost with the last sample where more labels than the depth are unreleased, and else not at all
+-- after the last sample the line is lost where more labels than the depth are unreleased then
 over-last : {X : Type 0} (c : Trellis X) (depth : ℕ) (samples : List X) (front : List ℕ) (unreleased n : ℕ) → IsReleased c samples front
     → length front + unreleased ≡ length samples → n ≡ length samples → IsOver c depth samples n → depth < unreleased
 over-last {X} c depth samples front unreleased n r l last h =
@@ -140,110 +145,118 @@ over-last {X} c depth samples front unreleased n r l last h =
     let one : h.front ≡ front = released-once c samples h.front front (subst (λ s. IsReleased c s h.front) whole h.released) r in
     omega (arith, ap length one, h.over)
 
-pub lost-none : {X : Type 0} (c : Trellis X) (depth unreleased : ℕ) (samples : List X) (x : X) (front : List ℕ)
-    → LostIs c depth samples None → IsReleased c (samples ++ x ∷ []) front
-    → length front + unreleased ≡ length (samples ++ x ∷ []) → unreleased ≤ depth → LostIs c depth (samples ++ x ∷ []) None
-lost-none {X} c depth unreleased samples x front before r l few n within o = elim (cases_lt (length samples) n) [
-  | inl last ↦
-      let e : n ≡ length (samples ++ x ∷ []) = omega (arith, length-append {A = X} samples (x ∷ [])) in
-      omega (arith, over-last c depth (samples ++ x ∷ []) front unreleased n r l e o)
-  | inr earlier ↦ before n earlier (over-before c depth samples (x ∷ []) n earlier o)
-]
+prefix-short : (front later : List ℕ) → IsPrefixOf front later → length front ≤ length later
+prefix-short front later p = omega (arith, ap length p.1, length-append {A = ℕ} front p.0)
 
-pub lost-some : {X : Type 0} (c : Trellis X) (depth unreleased : ℕ) (samples : List X) (x : X) (front : List ℕ)
-    → LostIs c depth samples None → IsReleased c (samples ++ x ∷ []) front
-    → length front + unreleased ≡ length (samples ++ x ∷ []) → depth < unreleased → IsLost c depth (samples ++ x ∷ []) (length samples)
-lost-some {X} c depth unreleased samples x front before r l many =
-    let n : length (samples ++ x ∷ []) ≡ length samples + 1 = length-append {A = X} samples (x ∷ []) in
-    let whole : take (length samples + 1) (samples ++ x ∷ []) ≡ samples ++ x ∷ [] =
-    take_all (length samples + 1) (samples ++ x ∷ []) (omega arith) in
-    record {
-      within = omega arith;
-      over = record { front = front; released = subst (λ s. IsReleased c s front) (sym whole) r; over = omega arith };
-      first = λ m low o. before m low (over-before c depth samples (x ∷ []) m low o);
-    }
+-- Where the line isn't lost, and the samples that follow have room beside the labels that are unreleased, at most the last one loses it.
+module _ {X : Type 0} (c : Trellis X) (depth held unreleased : ℕ) (samples more : List X) (first front : List ℕ)
+    (before : LostIs c depth samples None) (known : IsReleased c samples first) (long : length first + held ≡ length samples)
+    (room : held + length more ≤ depth + 1) (r : IsReleased c (samples ++ more) front)
+    (l : length front + unreleased ≡ length (samples ++ more)) where
+  quiet : (n : ℕ) → n < length (samples ++ more) → IsOver c depth (samples ++ more) n → ⊥
+  quiet n low o = elim (cases_lt (length samples) n) [
+    | inl behind ↦
+        let k = n - length samples in
+        let there : take n (samples ++ more) ≡ samples ++ take k more =
+        ap (λ m. take m (samples ++ more)) (omega (arith, behind)) ∙ take-append-add samples more k in
+        let p = stays-prefix c samples (take k more) first o.front known (subst (λ s. IsReleased c s o.front) there o.released) in
+        omega (arith, prefix-short first o.front p, o.over, long, room, low, behind, length-append {A = X} samples more)
+    | inr within ↦ before n within (over-before c depth samples more n within o)
+  ]
+
+  pub lost-none : unreleased ≤ depth → LostIs c depth (samples ++ more) None
+  lost-none few n within o = elim (cases_lt n (length (samples ++ more))) [
+    | inl low ↦ quiet n low o
+    | inr last ↦
+        let e : n ≡ length (samples ++ more) = omega arith in
+        omega (arith, over-last c depth (samples ++ more) front unreleased n r l e o)
+  ]
+
+  pub lost-some : (symbol : ℕ) → symbol + 1 ≡ length (samples ++ more) → depth < unreleased → IsLost c depth (samples ++ more) symbol
+  lost-some symbol last many =
+      let whole : take (symbol + 1) (samples ++ more) ≡ samples ++ more = take_all (symbol + 1) (samples ++ more) (omega arith) in
+      record {
+        within = omega arith;
+        over = record { front = front; released = subst (λ s. IsReleased c s front) (sym whole) r; over = omega arith };
+        first = λ n low o. quiet n (omega arith) o;
+      }
 
 -- what the parts of a push make together
-pub record Pushed (table : ℕ → ℕ → Option ℕ) (points : ℕ → Sample) (sample : Sample) (old new : Decoding) : Type 0 where
+pub record Pushed (table : ℕ → ℕ → Option ℕ) (points : ℕ → Sample) (states reach : ℕ) (more : List Sample) (old new : Decoding)
+    : Type 0 where
   pub between : Kept
-  pub stepped : Stepped table points sample (opened old.memory) between
+  pub stepped : SteppedEach table points states reach more (opened old.memory) between
   pub labels : List ℕ
   pub released : Released between (opened new.memory) labels
   pub pending_is : new.pending ≡ old.pending ++ labels
-  pub count : new.count ≡ old.count + 1
+  pub count : new.count ≡ old.count + length more
 
-pub stands-goes_on : (table : ℕ → ℕ → Option ℕ) (points : ℕ → Sample) (states labels depth : ℕ) (starts : ℕ → Bool) (sample : Sample)
-    (old new : Decoding) (samples : List Sample) (taken : List ℕ) → IsBounded table states labels → EntersOnce table states labels
-    → old.lost ≡ None → new.lost ≡ None → (opened new.memory).unreleased ≤ depth → Pushed table points sample old new
-    → DecoderStands table points starts depth old samples taken → DecoderStands table points starts depth new (samples ++ sample ∷ []) taken
-stands-goes_on table points states labels depth starts sample old new samples taken bounded once e f few p h =
-    let c = trellis_of table points starts in
-    let was = h.keeps e in
-    let k = keeps-released c p.between (opened new.memory)
-    (samples ++ sample ∷ []) taken old.pending new.pending p.labels p.pending_is p.released
-    (keeps-stepped table points states labels starts sample (opened old.memory) p.between samples
-    (taken ++ old.pending) bounded once p.stepped was) in
-    let n = length-append {A = Sample} samples (sample ∷ []) in
-    let all : heard new.lost (samples ++ sample ∷ []) ≡ samples ++ sample ∷ [] = ap (λ o. heard o (samples ++ sample ∷ [])) f in
-    let counted : old.count ≡ length samples = h.counted ∙ ap (λ o. length (heard o samples)) e in
-    record {
-      counted = omega (arith, p.count, counted, n, ap length all);
-      lost = subst (LostIs c depth (samples ++ sample ∷ [])) (sym f)
-          (lost-none c depth (opened new.memory).unreleased samples sample (taken ++ new.pending)
-          (subst (LostIs c depth samples) e h.lost) k.1 k.0.long few);
-      released = subst (λ s. IsReleased c s (taken ++ new.pending)) (sym all) k.1;
-      keeps = λ _. k.0;
-    }
+module _ (table : ℕ → ℕ → Option ℕ) (points : ℕ → Sample) (states reach depth : ℕ) (starts : ℕ → Bool) (more : List Sample)
+    (old new : Decoding) (samples : List Sample) (taken : List ℕ) (runs : old.lost ≡ None)
+    (room : (opened old.memory).unreleased + length more ≤ depth + 1) (p : Pushed table points states reach more old new)
+    (h : DecoderStands table points starts depth old samples taken) where
+  keeps : KeepsSurvivors (trellis_of table points starts) (opened new.memory) (samples ++ more) (taken ++ new.pending)
+      × IsReleased (trellis_of table points starts) (samples ++ more) (taken ++ new.pending)
+  keeps = keeps-released (trellis_of table points starts) p.between (opened new.memory) (samples ++ more) taken old.pending new.pending
+      p.labels p.pending_is p.released (p.stepped.keeps starts samples (taken ++ old.pending) (h.keeps runs))
 
-pub stands-lost : (table : ℕ → ℕ → Option ℕ) (points : ℕ → Sample) (states labels depth : ℕ) (starts : ℕ → Bool) (sample : Sample)
-    (old new : Decoding) (samples : List Sample) (taken : List ℕ) → IsBounded table states labels → EntersOnce table states labels
-    → old.lost ≡ None → new.lost ≡ Some old.count → depth < (opened new.memory).unreleased → Pushed table points sample old new
-    → DecoderStands table points starts depth old samples taken → DecoderStands table points starts depth new (samples ++ sample ∷ []) taken
-stands-lost table points states labels depth starts sample old new samples taken bounded once e f many p h =
-    let c = trellis_of table points starts in
-    let was = h.keeps e in
-    let k = keeps-released c p.between (opened new.memory)
-    (samples ++ sample ∷ []) taken old.pending new.pending p.labels p.pending_is p.released
-    (keeps-stepped table points states labels starts sample (opened old.memory) p.between samples
-    (taken ++ old.pending) bounded once p.stepped was) in
-    let n = length-append {A = Sample} samples (sample ∷ []) in
-    let counted : old.count ≡ length samples = h.counted ∙ ap (λ o. length (heard o samples)) e in
-    let here : new.lost ≡ Some (length samples) = f ∙ ap Some counted in
-    let whole : take (length samples + 1) (samples ++ sample ∷ []) ≡ samples ++ sample ∷ [] =
-    take_all (length samples + 1) (samples ++ sample ∷ []) (omega arith) in
-    let all : heard new.lost (samples ++ sample ∷ []) ≡ samples ++ sample ∷ [] = ap (λ o. heard o (samples ++ sample ∷ [])) here ∙ whole in
-    record {
-      counted = omega (arith, p.count, counted, n, ap length all);
-      lost = subst (LostIs c depth (samples ++ sample ∷ [])) (sym here)
-          (lost-some c depth (opened new.memory).unreleased samples sample (taken ++ new.pending)
-          (subst (LostIs c depth samples) e h.lost) k.1 k.0.long many);
-      released = subst (λ s. IsReleased c s (taken ++ new.pending)) (sym all) k.1;
-      keeps = λ g. not_lost (old.count) (sym f ∙ g);
-    }
-  where
-    not_lost : {P : Type 0} (n : ℕ) → Some n ≡ None → P
-    not_lost n e = absurd cc
+  counted : old.count ≡ length samples
+  counted = h.counted ∙ ap (λ o. length (heard o samples)) runs
+
+  first : IsReleased (trellis_of table points starts) samples (taken ++ old.pending)
+  first = subst (λ o. IsReleased (trellis_of table points starts) (heard o samples) (taken ++ old.pending)) runs h.released
+
+  before : LostIs (trellis_of table points starts) depth samples None
+  before = subst (LostIs (trellis_of table points starts) depth samples) runs h.lost
+
+  pub stands-goes_on : new.lost ≡ None → (opened new.memory).unreleased ≤ depth
+      → DecoderStands table points starts depth new (samples ++ more) taken
+  stands-goes_on f few =
+      let c = trellis_of table points starts in
+      let all : heard new.lost (samples ++ more) ≡ samples ++ more = ap (λ o. heard o (samples ++ more)) f in
+      record {
+        counted = omega (arith, p.count, counted, length-append {A = Sample} samples more, ap length all);
+        lost = subst (LostIs c depth (samples ++ more)) (sym f)
+            (lost-none c depth (opened old.memory).unreleased (opened new.memory).unreleased samples more (taken ++ old.pending)
+            (taken ++ new.pending) before first (h.keeps runs).long room keeps.1 keeps.0.long few);
+        released = subst (λ s. IsReleased c s (taken ++ new.pending)) (sym all) keeps.1;
+        keeps = λ _. keeps.0;
+      }
+
+  pub stands-lost : (symbol : ℕ) → symbol + 1 ≡ new.count → new.lost ≡ Some symbol → depth < (opened new.memory).unreleased
+      → DecoderStands table points starts depth new (samples ++ more) taken
+  stands-lost symbol last f many =
+      let c = trellis_of table points starts in
+      let all_are : symbol + 1 ≡ length (samples ++ more) =
+      omega (arith, last, p.count, counted, length-append {A = Sample} samples more) in
+      let whole : take (symbol + 1) (samples ++ more) ≡ samples ++ more = take_all (symbol + 1) (samples ++ more) (omega arith) in
+      let all : heard new.lost (samples ++ more) ≡ samples ++ more = ap (λ o. heard o (samples ++ more)) f ∙ whole in
+      record {
+        counted = omega (arith, p.count, counted, length-append {A = Sample} samples more, ap length all);
+        lost = subst (LostIs c depth (samples ++ more)) (sym f)
+            (lost-some c depth (opened old.memory).unreleased (opened new.memory).unreleased samples more (taken ++ old.pending)
+            (taken ++ new.pending) before first (h.keeps runs).long room keeps.1 keeps.0.long symbol all_are many);
+        released = subst (λ s. IsReleased c s (taken ++ new.pending)) (sym all) keeps.1;
+        keeps = λ g. none-some symbol (sym g ∙ f);
+      }
 
 -- a lost line stays so
-pub stands-stays : (table : ℕ → ℕ → Option ℕ) (points : ℕ → Sample) (depth : ℕ) (starts : ℕ → Bool) (sample : Sample) (d : Decoding)
+pub stands-stays : (table : ℕ → ℕ → Option ℕ) (points : ℕ → Sample) (depth : ℕ) (starts : ℕ → Bool) (more : List Sample) (d : Decoding)
     (samples : List Sample) (taken : List ℕ) (symbol : ℕ) → d.lost ≡ Some symbol
-    → DecoderStands table points starts depth d samples taken → DecoderStands table points starts depth d (samples ++ sample ∷ []) taken
-stands-stays table points depth starts sample d samples taken symbol e h = record {
+    → DecoderStands table points starts depth d samples taken → DecoderStands table points starts depth d (samples ++ more) taken
+stands-stays table points depth starts more d samples taken symbol e h = record {
   counted = h.counted ∙ sym (ap length same);
-  lost = subst (LostIs c depth (samples ++ sample ∷ [])) (sym e) (lost-stays c depth samples (sample ∷ []) symbol was);
+  lost = subst (LostIs c depth (samples ++ more)) (sym e) (lost-stays c depth samples more symbol was);
   released = subst (λ s. IsReleased c s (taken ++ d.pending)) (sym same) h.released;
-  keeps = λ g. not_lost (sym e ∙ g);
+  keeps = λ g. none-some symbol (sym g ∙ e);
 }
   where
     c : Trellis Sample
     c = trellis_of table points starts
 
-    not_lost : {P : Type 0} → Some symbol ≡ None → P
-    not_lost e = absurd cc
-
     was : IsLost c depth samples symbol
     was = subst (LostIs c depth samples) e h.lost
 
-    same : heard d.lost (samples ++ sample ∷ []) ≡ heard d.lost samples
-    same = ap (λ o. heard o (samples ++ sample ∷ [])) e ∙ take-append-le (symbol + 1) samples (sample ∷ []) (omega (arith, was.within))
+    same : heard d.lost (samples ++ more) ≡ heard d.lost samples
+    same = ap (λ o. heard o (samples ++ more)) e ∙ take-append-le (symbol + 1) samples more (omega (arith, was.within))
         ∙ sym (ap (λ o. heard o samples) e)

@@ -15,6 +15,7 @@ use Rattle.exact_decoder.specs.Columns.{Entry, branch_of, sum_of, sums_at, entry
 use Rattle.exact_decoder.specs.Kept.{Kept, AllChosen, Stepped, Released}
 use Rattle.exact_decoder.specs.Memory.{opened}
 use Rattle.exact_decoder.specs.Decoder.{Decoding, IsNearAfter, IsSpread, IsSound}
+use Rattle.exact_decoder.specs.Batches.{SteppedEach}
 
 -- an entry with the sum that stands
 entered-some : {X : Type 0} (c : Trellis X) (d : X) (sums : ℕ → Option ℕ) (s m : ℕ) (entry : Option Entry)
@@ -171,22 +172,21 @@ spread-start table states reach start sums within here zeros = record {
     first (x ∷ path) to l leads = absurd (omega arith)
 
 -- what holds whatever was pushed
-pub sound-next : (table : ℕ → ℕ → Option ℕ) (points : ℕ → Sample) (states labels reach depth : ℕ) (sample : Sample) (old new : Decoding)
-    (between : Kept) (list : List ℕ) → IsBounded table states labels → StaysWithin table states labels → Reaches table states labels reach
-    → IsSound table states labels reach depth old → old.count < 2 ^ 56 → old.lost ≡ None → new.count ≡ old.count + 1
-    → Stepped table points sample (opened old.memory) between → Released between (opened new.memory) list → new.pending ≡ list
-    → All (λ label. label < labels) new.pending
+pub sound-next : (table : ℕ → ℕ → Option ℕ) (points : ℕ → Sample) (states labels reach depth : ℕ) (more : List Sample) (old new : Decoding)
+    (between : Kept) (list : List ℕ) → IsSound table states labels reach depth old → old.count + length more ≤ 2 ^ 56
+    → (opened old.memory).unreleased + length more ≤ depth + 1 → new.count ≡ old.count + length more
+    → SteppedEach table points states reach more (opened old.memory) between → Released between (opened new.memory) list
+    → new.pending ≡ list → All (λ label. label < labels) new.pending
     → (new.lost ≡ None → (opened new.memory).unreleased ≤ depth) → IsSound table states labels reach depth new
-sound-next table points states labels reach depth sample old new between list bounded within reaches h few runs count p r pending below
-    room = record {
-      low = h.low;
-      high = h.high;
-      few = omega (arith, count);
-      spread = subst (λ n. IsSpread table states (min n reach) (sums_at (opened new.memory).sums)) (sym count)
-          (subst (λ l. IsSpread table states (min (old.count + 1) reach) (sums_at l)) (sym r.sums_stay)
-          (spread-next table points states labels reach sample (opened old.memory) between old.count bounded within reaches p h.spread));
-      room = room;
-      few_unreleased = omega (arith, r.count, p.longer_by_one, h.room runs);
-      few_pending = omega (arith, ap length pending, r.count, p.longer_by_one, h.room runs);
-      pending_below = below;
-    }
+sound-next table points states labels reach depth more old new between list h few held count p r pending below room = record {
+  low = h.low;
+  high = h.high;
+  few = omega (arith, count);
+  spread = subst (λ n. IsSpread table states (min n reach) (sums_at (opened new.memory).sums)) (sym count)
+      (subst (λ l. IsSpread table states (min (old.count + length more) reach) (sums_at l)) (sym r.sums_stay)
+      (p.small old.count h.spread));
+  room = room;
+  few_unreleased = omega (arith, r.count, p.longer, held);
+  few_pending = omega (arith, ap length pending, r.count, p.longer, held);
+  pending_below = below;
+}

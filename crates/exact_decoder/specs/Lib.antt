@@ -11,4 +11,5 @@ pub mod Lines
 pub mod Kept
 pub mod Memory
 pub mod Decoder
+pub mod Batches
 pub mod Laws

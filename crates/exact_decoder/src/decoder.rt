@@ -4,6 +4,7 @@ ghost use Rattle.symbol_map.specs.declared.sample.Sample.{Sample};
 ghost use Rattle.exact_decoder.specs.Surviving.Trellises.{trellis_of};
 ghost use Rattle.exact_decoder.specs.Surviving.Survivors.{IsFirstLeast};
 ghost use Rattle.exact_decoder.specs.Decoder.{DecoderStands};
+ghost use Rattle.exact_decoder.specs.Batches.{heard_of};
 
 use crate::kept::Survivors;
 use crate::labels::Labels;
@@ -117,6 +118,38 @@ impl<
         })
     }
 
+    /// As many of the samples as there is room for, at least one where there is one: how many. What they release is the same as if they
+    /// came one by one. `Lost` comes with the first sample after which more than `DEPTH` labels are unreleased, of which no call hears one
+    /// more, and again with each later call.
+    pub fn push_some(&mut self, samples: &[Sample]) -> Result<usize, Lost>
+        requires taken { self.old.pending ≡ [] }
+        requires count { self.old.count + length samples.now ≤ 2 ^ 56 }
+        ensures stands { (starts : ℕ → Bool) (past : List Sample) (taken : List ℕ) → DecoderStands C.table C.points starts DEPTH self.old past taken
+            → DecoderStands C.table C.points starts DEPTH self.new (past ++ heard_of result samples.now) taken }
+        ensures answer { MatchResult result (λ _. self.new.lost ≡ None) (λ lost. self.new.lost ≡ Some lost.symbol) }
+        ensures within { IfOk result (λ heard. heard ≤ length samples.now) }
+        ensures some { IfOk result (λ heard. 1 ≤ length samples.now → 1 ≤ heard) }
+        ensures stays { (symbol : ℕ) → self.old.lost ≡ Some symbol → self.new ≡ self.old }
+        ensures count { MatchResult result (λ heard. self.new.count ≤ self.old.count + heard) (λ _. self.new.count ≤ self.old.count + length samples.now) }
+    {
+        if let Some(symbol) = self.lost {
+            return Err(Lost { symbol });
+        }
+        let heard = samples.len().min(DEPTH + 1 - self.survivors.unreleased());
+        if heard == 0 {
+            return Ok(0);
+        }
+        self.survivors.push_each(&self.code, &samples[..heard]);
+        self.survivors.release(&self.code, &mut self.pending);
+        self.count += heard as u64;
+        if self.survivors.unreleased() > DEPTH {
+            let symbol = self.count - 1;
+            self.lost = Some(symbol);
+            return Err(Lost { symbol });
+        }
+        Ok(heard)
+    }
+
     /// One sample more. `Lost` comes with the first sample after which more than `DEPTH` labels are unreleased,
     /// and again with each later one.
     pub fn push(&mut self, sample: Sample) -> Result<(), Lost>
@@ -128,18 +161,10 @@ impl<
         ensures stays { (symbol : ℕ) → self.old.lost ≡ Some symbol → self.new ≡ self.old }
         ensures count { self.new.count ≤ self.old.count + 1 }
     {
-        if let Some(symbol) = self.lost {
-            return Err(Lost { symbol });
+        match self.push_some(&[sample]) {
+            Ok(_) => Ok(()),
+            Err(lost) => Err(lost),
         }
-        self.survivors.push(&self.code, sample);
-        self.survivors.release(&self.code, &mut self.pending);
-        let symbol = self.count;
-        self.count = symbol + 1;
-        if self.survivors.unreleased() > DEPTH {
-            self.lost = Some(symbol);
-            return Err(Lost { symbol });
-        }
-        Ok(())
     }
 
     /// The oldest label that is released and not yet taken.

@@ -2,6 +2,7 @@
 ghost use Rattle.std.specs.Prelude.{◌≡◌, ℕ, All, IfOk, replicate, set, map, reverse, ◌+◌, ◌<◌, ◌≤◌, ◌^◌, length, Some, None, []};
 ghost use Rattle.exact_decoder.specs.Columns.{sum_in, sums_at, tail_at};
 ghost use Rattle.exact_decoder.specs.Kept.{Kept, AreSums, IsLeastSum, Stepped, Released, Covered};
+ghost use Rattle.exact_decoder.specs.Batches.{IsSmallAfter, SteppedEach};
 ghost use Rattle.exact_decoder.specs.declared.labels.TheConstants.{ROOM};
 
 use crate::back::{labels_back, release};
@@ -103,6 +104,19 @@ impl<const STATES: usize, const LABELS: usize, const DEPTH: usize> Survivors<
     {
         self.ring.advance(code, sample, &mut self.sums);
         self.unreleased += 1;
+    }
+
+    /// Several samples more.
+    pub fn push_each<C: ViterbiStep<STATES, LABELS>>(&mut self, code: &C, samples: &[Sample])
+        requires depth { DEPTH ≤ 128 }
+        requires room { self.old.unreleased + length samples.now ≤ DEPTH + 1 }
+        requires small { (count : ℕ) × IsSmallAfter C.table STATES C.REACH count self.old }
+        ensures stepped { SteppedEach C.table C.points STATES C.REACH samples.now self.old self.new }
+        ensures covered { 1 ≤ length samples.now → Covered STATES self.new }
+    {
+        for sample in samples {
+            self.push(code, *sample);
+        }
     }
 
     /// Releases the labels on which all survivors agree: they are put into the list, the oldest last.

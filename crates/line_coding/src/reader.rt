@@ -4,6 +4,7 @@ ghost use Rattle.std.specs.Prelude.{◌≡◌, ℕ, ◌+◌, ◌<◌, ◌≤◌,
 ghost use Rattle.scramblers.specs.declared.mode.Mode.{Mode};
 ghost use Rattle.symbol_map.specs.declared.sample.Sample.{Sample};
 ghost use Rattle.line_coding.specs.Reading.{SamplesRead, IsFinished, bits_in};
+ghost use Rattle.exact_decoder.specs.Batches.{heard_of};
 
 use crate::demodulator::Demodulate;
 use exact_decoder::{Decoder, Lost, Tail, ViterbiStep};
@@ -101,6 +102,22 @@ impl<
             decoder: Decoder::new_any(alloc, code)?,
             demodulator: D::new(mode),
         })
+    }
+
+    /// As many of the samples as there is room for, at least one where there is one: how many. `Lost` comes with the first sample after
+    /// which more than `DEPTH` labels are unreleased, of which no call hears one more, and again with each later call.
+    pub fn push_some(&mut self, samples: &[Sample]) -> Result<usize, Lost>
+        requires taken { self.old.decoder.pending ≡ [] }
+        requires count { self.old.decoder.count + length samples.now ≤ 2 ^ 56 }
+        ensures stands { (mode : Mode) (starts : ℕ → Bool) (past : List Sample) (bits : List Bool) → SamplesRead C.table C.points (D.reads mode) starts DEPTH self.old past bits
+            → SamplesRead C.table C.points (D.reads mode) starts DEPTH self.new (past ++ heard_of result samples.now) bits }
+        ensures answer { MatchResult result (λ _. self.new.decoder.lost ≡ None) (λ lost. self.new.decoder.lost ≡ Some lost.symbol) }
+        ensures within { IfOk result (λ heard. heard ≤ length samples.now) }
+        ensures some { IfOk result (λ heard. 1 ≤ length samples.now → 1 ≤ heard) }
+        ensures count { MatchResult result (λ heard. self.new.decoder.count ≤ self.old.decoder.count + heard)
+            (λ _. self.new.decoder.count ≤ self.old.decoder.count + length samples.now) }
+    {
+        self.decoder.push_some(samples)
     }
 
     /// One sample more. `Lost` comes with the first sample after which more than `DEPTH` labels are unreleased, and again with each later

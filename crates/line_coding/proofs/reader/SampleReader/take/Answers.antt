@@ -9,7 +9,8 @@ one-more label labels = omega arith
 pub returns-in-Some : goal.returns-in-Some
 returns-in-Some g c = record {
   stands = λ mode starts samples bits s.
-      let read = subst (λ r. SamplesRead g.C.TrellisCode.table g.C.TrellisCode.points (g.D.Demodulate.reads mode) starts g.row.DEPTH r samples
+      let read = subst (λ r. SamplesRead g.C.TrellisCode.table g.C.TrellisCode.points (g.D.Demodulate.reads mode) starts g.row.DEPTH r
+      samples
       bits) (sym c.self.view_is) s in
       record {
         labels = read.labels ++ c.in-Some.label ∷ [];
@@ -30,11 +31,13 @@ returns-in-Some g c = record {
 pub returns-in-None : goal.returns-in-None
 returns-in-None g c = record {
   stands = λ mode starts samples bits s.
-      let read = subst (λ r. SamplesRead g.C.TrellisCode.table g.C.TrellisCode.points (g.D.Demodulate.reads mode) starts g.row.DEPTH r samples
+      let read = subst (λ r. SamplesRead g.C.TrellisCode.table g.C.TrellisCode.points (g.D.Demodulate.reads mode) starts g.row.DEPTH r
+      samples
       bits) (sym c.self.view_is) s in
       record {
         labels = read.labels;
-        decoder = subst (λ labels. DecoderStands g.C.TrellisCode.table g.C.TrellisCode.points starts g.row.DEPTH c.take.new.self samples labels)
+        decoder = subst (λ labels. DecoderStands g.C.TrellisCode.table g.C.TrellisCode.points starts g.row.DEPTH c.take.new.self samples
+            labels)
             (append-nil read.labels) (c.in-None.ensures.stands starts samples read.labels read.decoder);
         demodulator = subst (λ bits. g.D.Demodulate.reads mode c.self.inside.demodulator read.labels bits) (sym (append-nil bits))
             read.demodulator;

@@ -1,0 +1,53 @@
+-- Several samples more.
+use Rattle.std.proofs.Common.{◌≡◌, ℕ, ◌+◌, ◌<◌, ◌≤◌, min, inl, inr, Bool, List, [], ◌∷◌, ◌++◌, length, Option, arith, append_assoc}
+use Rattle.std.proofs.Common.{length-append, sym, ap, subst}
+use Rattle.std.proofs.lemmas.Bool.{cases_lt}
+use Rattle.std.proofs.lemmas.List.{append-nil}
+use Rattle.std.proofs.Math.Nat.{min-le_left, min-le_right, min-eq_left, min-eq_right}
+use Rattle.symbol_map.specs.declared.sample.Sample.{Sample}
+use Rattle.trellis_tables.specs.Codes.{IsBounded, StaysWithin, Reaches, EntersOnce}
+use Rattle.exact_decoder.specs.Surviving.Trellises.{trellis_of}
+use Rattle.exact_decoder.specs.Kept.{Kept, KeepsSurvivors, Stepped}
+use Rattle.exact_decoder.specs.Batches.{IsSmallAfter, SteppedEach}
+use Rattle.exact_decoder.proofs.Pushed.{keeps-stepped}
+use Rattle.exact_decoder.proofs.Spreading.{spread-next}
+
+module _ (table : ℕ → ℕ → Option ℕ) (points : ℕ → Sample) (states labels reach : ℕ) where
+  pub stepped-none : (k : Kept) → SteppedEach table points states reach [] k k
+  stepped-none k = record {
+    keeps = λ starts past front h. subst (λ s. KeepsSurvivors (trellis_of table points starts) k s front) (sym (append-nil past)) h;
+    small = λ count h. subst (λ n. IsSmallAfter table states reach n k) (omega arith) h;
+    longer = omega arith;
+  }
+
+  pub stepped-more : (samples : List Sample) (sample : Sample) (old mid new : Kept) → IsBounded table states labels
+      → StaysWithin table states labels → Reaches table states labels reach → EntersOnce table states labels
+      → SteppedEach table points states reach samples old mid → Stepped table points sample mid new
+      → SteppedEach table points states reach (samples ++ sample ∷ []) old new
+  stepped-more samples sample old mid new bounded within reaches once s p =
+      let n : length (samples ++ sample ∷ []) ≡ length samples + 1 = length-append {A = Sample} samples (sample ∷ []) in
+      record {
+        keeps = λ starts past front h.
+            subst (λ l. KeepsSurvivors (trellis_of table points starts) new l front) (append_assoc past samples (sample ∷ []))
+            (keeps-stepped table points states labels starts sample mid new (past ++ samples) front bounded once p
+            (s.keeps starts past front h));
+        small = λ count h.
+            let more : (count + length samples) + 1 ≡ count + length (samples ++ sample ∷ []) = omega (arith, n) in
+            subst (λ m. IsSmallAfter table states reach m new) more
+            (spread-next table points states labels reach sample mid new (count + length samples) bounded within reaches p
+            (s.small count h));
+        longer = omega (arith, n, s.longer, p.longer_by_one);
+      }
+
+-- how many samples are heard where there is room for at least one
+pub heard-within : (given room heard : ℕ) → heard ≡ min given room → heard ≤ given
+heard-within given room heard is = omega (arith, is, min-le_left given room)
+
+pub heard-fit : (given room heard : ℕ) → heard ≡ min given room → heard ≤ room
+heard-fit given room heard is = omega (arith, is, min-le_right given room)
+
+pub some-heard : (given room heard : ℕ) → heard ≡ min given room → 1 ≤ room → 1 ≤ given → 1 ≤ heard
+some-heard given room heard is r g = elim (cases_lt given room) [
+  | inl few ↦ let all : min given room ≡ given = min-eq_left (omega arith) in omega (arith, is, all)
+  | inr many ↦ let all : min given room ≡ room = min-eq_right (omega arith) in omega (arith, is, all)
+]
