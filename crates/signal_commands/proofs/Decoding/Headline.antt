@@ -40,7 +40,8 @@ use Rattle.signal_commands.specs.Decoding.Octets.{Carries}
 use Rattle.signal_commands.specs.Decoding.Rates.{trellis_at}
 use Rattle.command_base.specs.Recordings.{ReadsRecording}
 use Rattle.command_base.proofs.Headers.{never-longer, never-bad, content-same}
-use Rattle.signal_commands.specs.Decoding.Ends.{DecodesAll, DecodesFront, HeaderRefused, SampleCut, RecordingLost, MayWrite, LeavesPart, EndsOwn, Ends, decode_job}
+use Rattle.signal_commands.specs.Decoding.Ends.{DecodesAll, DecodesFront, HeaderRefused, SampleCut, RecordingLost, MayWrite, LeavesPart}
+use Rattle.signal_commands.specs.Decoding.Ends.{EndsOwn, Ends, decode_job}
 use Rattle.signal_commands.specs.Decoding.Completes.{IsRecording, Completes}
 use Rattle.signal_commands.specs.Decoding.Headline.{BeginNearest, HoldsBeginning, HoldsWhole, Headline}
 use Rattle.signal_commands.proofs.Decoding.Rates.{code_at}

@@ -19,7 +19,8 @@ use Rattle.signal_commands.specs.PickingUp.Gives.{AreFollowed, SaysPieces}
 use Rattle.signal_commands.specs.PickingUp.Playing.{Playing, Plays, StopsPlay}
 use Rattle.signal_commands.specs.PickingUp.Ends.{PicksUpAll, SampleCut, PicksUpFront, EndsBy}
 use Rattle.signal_commands.specs.PickingUp.Ends.EndsOwn.{is_long, is_other, is_lost}
-use Rattle.signal_commands.proofs.PickingUp.Playings.{followed-by, followed-longer, plays-lost, says-pieces, SaysCounted, says-counted, stops-longer}
+use Rattle.signal_commands.proofs.PickingUp.Playings.{followed-by, followed-longer, plays-lost, says-pieces, SaysCounted, says-counted}
+use Rattle.signal_commands.proofs.PickingUp.Playings.{stops-longer}
 
 -- a line that isn't lost, with all said that its samples give
 pub not-lost : (start now : FolderState) (mode : Mode) (p : Playing) (samples : List Sample) → Plays start now mode p samples

@@ -4,6 +4,7 @@ ghost use Rattle.scramblers.specs.declared.mode.Mode.{Mode};
 ghost use Rattle.scramblers.specs.Mode.{tap_of};
 ghost use Rattle.recordings.specs.declared.rate.Rate.{Rate};
 ghost use Rattle.symbol_map.specs.declared.sample.Sample.{Sample};
+ghost use Rattle.exact_decoder.specs.Batches.{heard_of};
 ghost use Rattle.signal_commands.specs.Decoding.Playing.{decoding_of, Hears, IsReady, Finishes, LabelsJoined, ReadToEnd};
 
 use crate::decode::octet_joiner::{Bits, OctetJoiner};
@@ -73,20 +74,29 @@ impl Playback {
         }
     }
 
-    /// One sample more: the octets that it gives are put behind the others.
-    pub fn push(&mut self, sample: Sample, octets: &mut Octets<ROOM>) -> Result<(), Lost>
+    /// As many of the samples as there is room for, at least one where there is one: how many. The octets that they give are put behind
+    /// the others.
+    pub fn push_some(
+        &mut self,
+        samples: &[Sample],
+        octets: &mut Octets<ROOM>,
+    ) -> Result<usize, Lost>
         requires room { length octets.old + GIVEN ≤ ROOM }
         requires taken { (decoding_of self.old.reader).pending ≡ [] }
-        requires count { (decoding_of self.old.reader).count < 2 ^ 56 }
-        ensures hears { (rate : Rate) (mode : Mode) (samples : List Sample) (before : List ℕ)
-            → Hears rate mode self.old samples (before ++ octets.old) → Hears rate mode self.new (samples ++ sample ∷ []) (before ++ octets.new) }
+        requires count { (decoding_of self.old.reader).count + length samples.now ≤ 2 ^ 56 }
+        ensures hears { (rate : Rate) (mode : Mode) (past : List Sample) (before : List ℕ)
+            → Hears rate mode self.old past (before ++ octets.old)
+            → Hears rate mode self.new (past ++ heard_of result samples.now) (before ++ octets.new) }
         ensures taken { (decoding_of self.new.reader).pending ≡ [] }
         ensures answer { MatchResult result (λ _. (decoding_of self.new.reader).lost ≡ None)
             (λ lost. (decoding_of self.new.reader).lost ≡ Some lost.symbol) }
-        ensures count { (decoding_of self.new.reader).count ≤ (decoding_of self.old.reader).count + 1 }
+        ensures within { IfOk result (λ heard. heard ≤ length samples.now) }
+        ensures some { IfOk result (λ heard. 1 ≤ length samples.now → 1 ≤ heard) }
+        ensures count { MatchResult result (λ heard. (decoding_of self.new.reader).count ≤ (decoding_of self.old.reader).count + heard)
+            (λ _. (decoding_of self.new.reader).count ≤ (decoding_of self.old.reader).count + length samples.now) }
         ensures room { length octets.new ≤ length octets.old + GIVEN }
     {
-        let pushed = self.reader.push(sample);
+        let pushed = self.reader.push_some(samples);
         self.take_octets(octets);
         pushed
     }

@@ -1,5 +1,5 @@
 // A recording played from the folder, and its octets written into it.
-ghost use Rattle.std.specs.Prelude.{◌≡◌, ◌≤◌, ◌<◌, ◌+◌, ◌*◌, ◌%◌, ◌^◌, ◌++◌, ◌∷◌, ℕ, None, List, [], true, IfOk, IfErr, OnOk, length, slice_index};
+ghost use Rattle.std.specs.Prelude.{◌≡◌, ◌≤◌, ◌<◌, ◌+◌, ◌*◌, ◌%◌, ◌^◌, ◌++◌, ◌∷◌, ℕ, None, List, [], true, IfOk, IfErr, OnOk, length, take, slice_index};
 ghost use Rattle.symbol_map.specs.declared.sample.Sample.{Sample};
 ghost use Rattle.outside_calls.specs.Folder.{FolderState};
 ghost use Rattle.scramblers.specs.declared.mode.Mode.{Mode};
@@ -13,6 +13,7 @@ ghost use Rattle.signal_commands.specs.Decoding.Playing.{decoding_of, Hears, IsR
 ghost use Rattle.signal_commands.specs.Decoding.Played.{PlayedTo, PlaysPiece};
 ghost use Rattle.signal_commands.specs.Decoding.Ends.{EndsBy, Ends};
 ghost use Rattle.recordings.specs.declared.header.TheConstants.{HEADER};
+ghost use Rattle.recordings.specs.Samples.{samples_in};
 ghost use Rattle.command_base.specs.Recordings.{IsAtEnd};
 
 use crate::decode::playback::{Playback, ROOM};
@@ -20,9 +21,30 @@ use crate::decode::words::DecodeWords;
 use command_base::{PIECE, Status, Stop, append_output, hearer_of, read_samples};
 use exact_decoder::Lost;
 use frame_check::Octets;
+use line_coding::DEPTH;
 use outside_calls::Folder;
 use recordings::{HEADER, SAMPLE, sample_at};
 use scramblers::Mode;
+use symbol_map::Sample;
+
+/// The most samples that are handed to the decoder at once. It has room for one more.
+const BATCH: usize = DEPTH;
+
+/// Puts the samples of a piece from a place on into the list, as far as both go: how many.
+fn copy_samples(piece: &[u8], at: usize, samples: &mut [Sample; BATCH]) -> usize
+    requires few { length piece.now ≤ PIECE }
+    requires within { 4 * at ≤ length piece.now }
+    ensures samples { samples_in (take (4 * at) piece.now) ++ take result samples.new ≡ samples_in (take (4 * (at + result)) piece.now) }
+    ensures within { 4 * (at + result) ≤ length piece.now }
+    ensures few { result ≤ BATCH }
+    ensures some { 4 * at + 4 ≤ length piece.now → 1 ≤ result }
+{
+    let count = (piece.len() / SAMPLE - at).min(BATCH);
+    for place in 0..count {
+        samples[place] = sample_at(piece, at + place);
+    }
+    count
+}
 
 /// Plays the whole samples of a piece, up to the one that loses the line.
 fn play_piece(playback: &mut Playback, piece: &[u8], octets: &mut Octets<ROOM>) -> Result<(), Lost>
@@ -34,9 +56,12 @@ fn play_piece(playback: &mut Playback, piece: &[u8], octets: &mut Octets<ROOM>) 
     ensures taken { (decoding_of playback.new.reader).pending ≡ [] }
     ensures ready { (most : ℕ) → IsReady playback.old.reader most → OnOk result (IsReady playback.new.reader (most + length piece.now)) }
 {
-    for place in 0..piece.len() / SAMPLE {
-        match playback.push(sample_at(piece, place), octets) {
-            Ok(()) => {}
+    let mut samples = [Sample { re: 0, im: 0 }; BATCH];
+    let mut at = 0;
+    while at < piece.len() / SAMPLE {
+        let count = copy_samples(piece, at, &mut samples);
+        match playback.push_some(&samples[..count], octets) {
+            Ok(heard) => at += heard,
             Err(lost) => return Err(lost),
         }
     }

@@ -4,6 +4,7 @@ ghost use Rattle.std.specs.Option.{option_map};
 ghost use Rattle.scramblers.specs.declared.mode.Mode.{Mode};
 ghost use Rattle.symbol_map.specs.declared.sample.Sample.{Sample};
 ghost use Rattle.recordings.specs.declared.rate.Rate.{Rate};
+ghost use Rattle.exact_decoder.specs.Batches.{heard_of};
 ghost use Rattle.signal_commands.specs.Decoding.Octets.{AreFew, taken_bits};
 ghost use Rattle.signal_commands.specs.Decoding.Playing.{decoding_of, ReadsAt, IsReady};
 
@@ -51,20 +52,23 @@ impl RateReader {
         }
     }
 
-    /// One sample more. `Lost` comes with the first sample after which more than `DEPTH` labels are unreleased, and again with each later
-    /// one.
-    pub fn push(&mut self, sample: Sample) -> Result<(), Lost>
+    /// As many of the samples as there is room for, at least one where there is one: how many. `Lost` comes with the first sample after
+    /// which more than `DEPTH` labels are unreleased, and again with each later call.
+    pub fn push_some(&mut self, samples: &[Sample]) -> Result<usize, Lost>
         requires taken { (decoding_of self.old).pending ≡ [] }
-        requires count { (decoding_of self.old).count < 2 ^ 56 }
-        ensures reads { (rate : Rate) (mode : Mode) (samples : List Sample) (bits : List Bool) → ReadsAt rate mode self.old samples bits
-            → ReadsAt rate mode self.new (samples ++ sample ∷ []) bits }
+        requires count { (decoding_of self.old).count + length samples.now ≤ 2 ^ 56 }
+        ensures reads { (rate : Rate) (mode : Mode) (past : List Sample) (bits : List Bool) → ReadsAt rate mode self.old past bits
+            → ReadsAt rate mode self.new (past ++ heard_of result samples.now) bits }
         ensures answer { MatchResult result (λ _. (decoding_of self.new).lost ≡ None)
             (λ lost. (decoding_of self.new).lost ≡ Some lost.symbol) }
-        ensures count { (decoding_of self.new).count ≤ (decoding_of self.old).count + 1 }
+        ensures within { IfOk result (λ heard. heard ≤ length samples.now) }
+        ensures some { IfOk result (λ heard. 1 ≤ length samples.now → 1 ≤ heard) }
+        ensures count { MatchResult result (λ heard. (decoding_of self.new).count ≤ (decoding_of self.old).count + heard)
+            (λ _. (decoding_of self.new).count ≤ (decoding_of self.old).count + length samples.now) }
     {
         match self {
-            RateReader::Trellis(reader) => reader.push(sample),
-            RateReader::Quarters(reader) => reader.push(sample),
+            RateReader::Trellis(reader) => reader.push_some(samples),
+            RateReader::Quarters(reader) => reader.push_some(samples),
         }
     }
 

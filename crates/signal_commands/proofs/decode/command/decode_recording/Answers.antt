@@ -21,9 +21,12 @@ returns-in-Ok-clause-ends g c = c.decode_file.ensures.ends (g.F.Folder.state c.a
 
 pub returns-in-Ok-clause-only : goal.returns-in-Ok-clause-only
 returns-in-Ok-clause-only g c =
-    OnlyOutput-trans c.args.names.now.file.now (OnlyOutput-reads c.args.names.now.file.now c.open_recording.ensures.reads) c.decode_file.ensures.only
+    OnlyOutput-trans c.args.names.now.file.now (OnlyOutput-reads c.args.names.now.file.now c.open_recording.ensures.reads)
+    c.decode_file.ensures.only
 
 pub returns-in-Ok-clause-counts : goal.returns-in-Ok-clause-counts
 returns-in-Ok-clause-counts g c =
-    end-earlier (g.F.Folder.state c.args.folder.now) (g.F.Folder.state c.open_recording.new.folder) (g.F.Folder.state c.decode_file.new.folder)
-    (c.args.names.now.rec.now ∷ []) (c.args.names.now.file.now ∷ []) c.decode_file.result c.in-Ok.ensures.ok.stand c.decode_file.ensures.counts
+    end-earlier (g.F.Folder.state c.args.folder.now) (g.F.Folder.state c.open_recording.new.folder)
+    (g.F.Folder.state c.decode_file.new.folder)
+    (c.args.names.now.rec.now ∷ []) (c.args.names.now.file.now ∷ []) c.decode_file.result c.in-Ok.ensures.ok.stand
+    c.decode_file.ensures.counts

@@ -1,4 +1,5 @@
-use Rattle.std.proofs.Common.{◌≡◌, ◌≢◌, ◌∙◌, inl, inr, ℕ, ◌+◌, ◌-◌, ◌%◌, [], ◌∷◌, ◌++◌, List, length, length-append, take, sym, subst, arith}
+use Rattle.std.proofs.Common.{◌≡◌, ◌≢◌, ◌∙◌, inl, inr, ℕ, ◌+◌, ◌-◌, ◌%◌, [], ◌∷◌, ◌++◌, List, length, length-append, take, sym, subst}
+use Rattle.std.proofs.Common.{arith}
 use Rattle.std.proofs.lemmas.List.{length-take}
 use Rattle.outside_calls.specs.Folder.{FolderState, Appended, PartlyAppended}
 use Rattle.outside_calls.proofs.Steps.{CountsStand-trans}
@@ -24,7 +25,8 @@ returns-in-Err-clause-err g c start written h =
     let n1 : FolderState = g.F.Folder.state c.read_samples.new.folder in
     let reads = c.read_samples.ensures.reads in
     inr (front-part start n1 n c.args.mode c.args.playback.now h.content h.octets
-    (reads-first start old n.rec n.rate c.args.mode h.content c.args.at h.behind) h.hears c.requires.ready.not_lost c.requires.ready.all_taken
+    (reads-first start old n.rec n.rate c.args.mode h.content c.args.at h.behind) h.hears c.requires.ready.not_lost
+    c.requires.ready.all_taken
     (Holds-kept old n1 n.file h.octets reads.goes_on h.file (reads.names n.file)))
 
 pub returns-in-Err-append_output-clause-err : goal.returns-in-Err-append_output-clause-err
@@ -146,7 +148,8 @@ returns-in-Err-clause-size g c = c.read_samples.ensures.kept
 
 pub returns-in-Err-clause-only : goal.returns-in-Err-clause-only
 returns-in-Err-clause-only g c =
-    only-of-reads (g.F.Folder.state c.args.folder.now) (g.F.Folder.state c.read_samples.new.folder) c.args.names.now.file.now c.read_samples.ensures.reads
+    only-of-reads (g.F.Folder.state c.args.folder.now) (g.F.Folder.state c.read_samples.new.folder) c.args.names.now.file.now
+    c.read_samples.ensures.reads
 
 pub returns-in-Err-clause-counts : goal.returns-in-Err-clause-counts
 returns-in-Err-clause-counts g c = c.in-Err.ensures.fails
@@ -158,11 +161,13 @@ pub returns-in-Err-append_output-clause-only : goal.returns-in-Err-append_output
 returns-in-Err-append_output-clause-only g c =
     let n1 : FolderState = g.F.Folder.state c.read_samples.new.folder in
     only-write (g.F.Folder.state c.args.folder.now) n1 (g.F.Folder.state c.append_output.new.folder) c.args.names.now.file.now
-    (only-of-reads (g.F.Folder.state c.args.folder.now) n1 c.args.names.now.file.now c.read_samples.ensures.reads) c.append_output.ensures.only
+    (only-of-reads (g.F.Folder.state c.args.folder.now) n1 c.args.names.now.file.now c.read_samples.ensures.reads)
+    c.append_output.ensures.only
 
 pub returns-in-Err-append_output-clause-counts : goal.returns-in-Err-append_output-clause-counts
 returns-in-Err-append_output-clause-counts g c =
-    write-earlier (g.F.Folder.state c.args.folder.now) (g.F.Folder.state c.read_samples.new.folder) (g.F.Folder.state c.append_output.new.folder)
+    write-earlier (g.F.Folder.state c.args.folder.now) (g.F.Folder.state c.read_samples.new.folder)
+    (g.F.Folder.state c.append_output.new.folder)
     (c.args.names.now.file.now ∷ []) c.in-Err-append_output.fault c.in-Ok.ensures.stand c.in-Err-append_output.ensures.fails
 
 pub returns-in-Ok-played-clause-size : goal.returns-in-Ok-played-clause-size
@@ -172,7 +177,8 @@ pub returns-in-Ok-played-clause-only : goal.returns-in-Ok-played-clause-only
 returns-in-Ok-played-clause-only g c =
     let n1 : FolderState = g.F.Folder.state c.read_samples.new.folder in
     only-write (g.F.Folder.state c.args.folder.now) n1 (g.F.Folder.state c.append_output.new.folder) c.args.names.now.file.now
-    (only-of-reads (g.F.Folder.state c.args.folder.now) n1 c.args.names.now.file.now c.read_samples.ensures.reads) c.append_output.ensures.only
+    (only-of-reads (g.F.Folder.state c.args.folder.now) n1 c.args.names.now.file.now c.read_samples.ensures.reads)
+    c.append_output.ensures.only
 
 pub returns-in-Ok-played-clause-counts : goal.returns-in-Ok-played-clause-counts
 returns-in-Ok-played-clause-counts g c = CountsStand-trans c.in-Ok.ensures.stand c.in-Ok-append_output.ensures.stand
@@ -184,7 +190,8 @@ pub returns-in-Ok-2-clause-only : goal.returns-in-Ok-2-clause-only
 returns-in-Ok-2-clause-only g c =
     let n1 : FolderState = g.F.Folder.state c.read_samples.new.folder in
     only-write (g.F.Folder.state c.args.folder.now) n1 (g.F.Folder.state c.append_output.new.folder) c.args.names.now.file.now
-    (only-of-reads (g.F.Folder.state c.args.folder.now) n1 c.args.names.now.file.now c.read_samples.ensures.reads) c.append_output.ensures.only
+    (only-of-reads (g.F.Folder.state c.args.folder.now) n1 c.args.names.now.file.now c.read_samples.ensures.reads)
+    c.append_output.ensures.only
 
 pub returns-in-Ok-2-clause-counts : goal.returns-in-Ok-2-clause-counts
 returns-in-Ok-2-clause-counts g c = (tt, CountsStand-trans c.in-Ok.ensures.stand c.in-Ok-append_output.ensures.stand)
@@ -196,7 +203,8 @@ pub returns-in-Err-played-clause-only : goal.returns-in-Err-played-clause-only
 returns-in-Err-played-clause-only g c =
     let n1 : FolderState = g.F.Folder.state c.read_samples.new.folder in
     only-write (g.F.Folder.state c.args.folder.now) n1 (g.F.Folder.state c.append_output.new.folder) c.args.names.now.file.now
-    (only-of-reads (g.F.Folder.state c.args.folder.now) n1 c.args.names.now.file.now c.read_samples.ensures.reads) c.append_output.ensures.only
+    (only-of-reads (g.F.Folder.state c.args.folder.now) n1 c.args.names.now.file.now c.read_samples.ensures.reads)
+    c.append_output.ensures.only
 
 pub returns-in-Err-played-clause-counts : goal.returns-in-Err-played-clause-counts
 returns-in-Err-played-clause-counts g c = (tt, CountsStand-trans c.in-Ok.ensures.stand c.in-Ok-append_output.ensures.stand)

@@ -1,53 +1,53 @@
-use Rattle.std.proofs.Common.{◌≡◌, ◌∙◌, ◌≤◌, ◌+◌, ◌*◌, ◌/◌, ◌++◌, ◌∷◌, ℕ, List, [], length, take, sym, ap, subst, arith, append_assoc}
+use Rattle.std.proofs.Common.{◌≡◌, ◌∙◌, ◌≤◌, ◌+◌, ◌*◌, ◌/◌, ◌++◌, ℕ, List, length, take, sym, ap, subst, arith, append_assoc}
 use Rattle.symbol_map.specs.declared.sample.Sample.{Sample}
-use Rattle.recordings.specs.Samples.{sample_at, samples_in}
+use Rattle.recordings.specs.Samples.{samples_in}
+use Rattle.recordings.proofs.Samples.{samples_in-all, samples_in-split}
 use Rattle.signal_commands.specs.Decoding.Playing.{Hears}
-use Rattle.recordings.proofs.Samples.{samples_in-more, samples_in-all, samples_in-split}
+use Rattle.signal_commands.proofs.Decoding.Batches.{some-more, some-heard}
 use Rattle.signal_commands.proofs.decode.player.play_piece.Goals as goal
 
--- one sample more behind those of a piece
-one-more : (samples : List Sample) (piece : List ℕ) (p : ℕ) (sample : Sample) → 4 * p + 4 ≤ length piece → sample ≡ sample_at piece p
-    → (samples ++ samples_in (take (4 * p) piece)) ++ sample ∷ [] ≡ samples ++ samples_in (take (4 * (p + 1)) piece)
-one-more samples piece p sample within e =
-    append_assoc samples (samples_in (take (4 * p) piece)) (sample ∷ [])
-    ∙ ap (λ (s : Sample). samples ++ (samples_in (take (4 * p) piece) ++ s ∷ [])) e
-    ∙ ap (λ (xs : List Sample). samples ++ xs) (sym (samples_in-more p piece within))
-
-pub loop-place-preserved : goal.loop-place-preserved
-loop-place-preserved c =
-    let i = c.loop-place.invariant in
-    let within : 4 * c.loop-place.place + 4 ≤ length c.args.piece.now = omega arith in
+pub loop-at-preserved : goal.loop-at-preserved
+loop-at-preserved c =
+    let i = c.loop-at.invariant in
+    let copied = c.copy_samples-count in
+    let heard = c.in-Ok.heard in
+    let given : 1 ≤ copied.result = copied.ensures.some (omega (arith, c.loop-at-test.true)) in
+    let few = some-heard copied.result heard copied.new.samples (omega (arith, copied.array_long, copied.ensures.few))
+    c.in-Ok.ensures.within c.in-Ok.ensures.some given in
     record {
       hears = λ rate mode samples before hears.
-          subst (λ (xs : List Sample). Hears rate mode c.push.new.self xs (before ++ c.push.new.octets))
-          (one-more samples c.args.piece.now c.loop-place.place c.sample_at.result within c.sample_at.ensures)
-          (c.push.ensures.hears rate mode _ before (i.hears rate mode samples before hears));
+          subst (λ (xs : List Sample). Hears rate mode c.push_some.new.self xs (before ++ c.push_some.new.octets))
+          (some-more samples c.args.piece.now c.loop-at.at copied.result heard (take copied.result copied.new.samples)
+          copied.ensures.samples copied.ensures.within few.1)
+          (c.in-Ok.ensures.hears rate mode _ before (i.hears rate mode samples before hears));
       not_lost = c.in-Ok.ensures.answer;
-      all_taken = c.push.ensures.taken;
-      count = omega (arith, i.count, c.push.ensures.count);
-      room = omega (arith, i.room, c.push.ensures.room);
+      all_taken = c.push_some.ensures.taken;
+      count = omega (arith, i.count, c.in-Ok.ensures.count);
+      room = omega (arith, i.room, c.push_some.ensures.room, few.0);
+      within = omega (arith, copied.ensures.within, few.1);
     }
 
 pub returns-in-Err-clause-plays : goal.returns-in-Err-clause-plays
 returns-in-Err-clause-plays c rate mode samples before hears =
-    let i = c.loop-place.invariant in
-    let within : 4 * c.loop-place.place + 4 ≤ length c.args.piece.now = omega arith in
+    let i = c.loop-at.invariant in
+    let copied = c.copy_samples-count in
     let piece : List ℕ = c.args.piece.now in
-    let upto : ℕ = 4 * (c.loop-place.place + 1) in
+    let upto : ℕ = 4 * (c.loop-at.at + copied.result) in
     let split = samples_in-split upto piece in
     record {
       heard = samples ++ samples_in (take upto piece);
       more = split.0;
       split = ap (λ (xs : List Sample). samples ++ xs) split.1 ∙ sym (append_assoc samples (samples_in (take upto piece)) split.0);
-      hears = subst (λ (xs : List Sample). Hears rate mode c.push.new.self xs (before ++ c.push.new.octets))
-          (one-more samples piece c.loop-place.place c.sample_at.result within c.sample_at.ensures)
-          (c.push.ensures.hears rate mode _ before (i.hears rate mode samples before hears));
-      all_taken = c.push.ensures.taken;
+      hears = subst (λ (xs : List Sample). Hears rate mode c.push_some.new.self xs (before ++ c.push_some.new.octets))
+          (append_assoc samples (samples_in (take (4 * c.loop-at.at) piece)) (take copied.result copied.new.samples)
+          ∙ ap (λ xs. samples ++ xs) copied.ensures.samples)
+          (c.in-Err.ensures.hears rate mode _ before (i.hears rate mode samples before hears));
+      all_taken = c.push_some.ensures.taken;
       lost = c.in-Err.ensures.answer;
     }
 
 pub returns-clause-plays : goal.returns-clause-plays
 returns-clause-plays c rate mode samples before hears =
-    let all : length c.args.piece.now / 4 ≤ c.loop-place.place = omega arith in
-    subst (λ (xs : List Sample). Hears rate mode c.loop-place.playback (samples ++ xs) (before ++ c.loop-place.octets))
-    (samples_in-all c.loop-place.place c.args.piece.now all) (c.loop-place.invariant.hears rate mode samples before hears)
+    let all : length c.args.piece.now / 4 ≤ c.loop-at.at = omega (arith, c.loop-at-test.false) in
+    subst (λ (xs : List Sample). Hears rate mode c.loop-at.playback (samples ++ xs) (before ++ c.loop-at.octets))
+    (samples_in-all c.loop-at.at c.args.piece.now all) (c.loop-at.invariant.hears rate mode samples before hears)

@@ -1,4 +1,4 @@
-use Rattle.std.proofs.Common.{◌≡◌, ◌≤◌, ◌+◌, ◌*◌, ◌++◌, ℕ, List, [], length, take, None}
+use Rattle.std.proofs.Common.{◌≡◌, ◌≤◌, ◌+◌, ◌-◌, ◌*◌, ◌/◌, ◌++◌, ℕ, List, [], length, take, None}
 use Rattle.scramblers.specs.declared.mode.Mode.{Mode}
 use Rattle.symbol_map.specs.declared.sample.Sample.{Sample}
 use Rattle.signal_commands.specs.declared.decode.playback.TheConstants.{GIVEN}
@@ -7,12 +7,16 @@ use Rattle.recordings.specs.Samples.{samples_in}
 use Rattle.signal_commands.specs.Decoding.Playing.{decoding_of, Hears}
 use Rattle.signal_commands.proofs.decode.player.play_piece.Given as goal
 
-abbrev pub invariant-loop-place : goal.invariant-loop-place
-invariant-loop-place l = record {
+abbrev pub invariant-loop-at : goal.invariant-loop-at
+invariant-loop-at l = record {
   hears : (rate : Rate) (mode : Mode) (samples : List Sample) (before : List ℕ) → Hears rate mode l.fn.playback samples before
-      → Hears rate mode l.playback (samples ++ samples_in (take (4 * l.place) l.piece)) (before ++ l.octets);
+      → Hears rate mode l.playback (samples ++ samples_in (take (4 * l.at) l.piece)) (before ++ l.octets);
   not_lost : (decoding_of l.playback.reader).lost ≡ None;
   all_taken : (decoding_of l.playback.reader).pending ≡ [];
-  count : (decoding_of l.playback.reader).count ≤ (decoding_of l.fn.playback.reader).count + l.place;
-  room : length l.octets ≤ GIVEN * l.place;
+  count : (decoding_of l.playback.reader).count ≤ (decoding_of l.fn.playback.reader).count + l.at;
+  room : length l.octets ≤ GIVEN * l.at;
+  within : 4 * l.at ≤ length l.piece;
 }
+
+abbrev pub decreases-loop-at : goal.decreases-loop-at
+decreases-loop-at l = length l.piece / 4 - l.at

@@ -26,23 +26,27 @@ returns-in-Err-clause-only g c = OnlyOutput-reads c.args.names.now.rec.now c.in-
 
 pub returns-in-Err-clause-counts : goal.returns-in-Err-clause-counts
 returns-in-Err-clause-counts g c =
-    refused-counts (g.F.Folder.state c.args.folder.now) (g.F.Folder.state c.within_limit.new.folder) (named c.args.names.now) c.in-Err.stop c.in-Err.ensures.refused
+    refused-counts (g.F.Folder.state c.args.folder.now) (g.F.Folder.state c.within_limit.new.folder) (named c.args.names.now) c.in-Err.stop
+    c.in-Err.ensures.refused
 
 pub returns-in-Err-create_output-clause-only : goal.returns-in-Err-create_output-clause-only
 returns-in-Err-create_output-clause-only g c =
-    writes-only (g.F.Folder.state c.args.folder.now) (g.F.Folder.state c.within_limit.new.folder) (g.F.Folder.state c.create_output.new.folder)
+    writes-only (g.F.Folder.state c.args.folder.now) (g.F.Folder.state c.within_limit.new.folder)
+    (g.F.Folder.state c.create_output.new.folder)
     (named c.args.names.now) c.in-Ok.ensures.reads c.in-Err-create_output.ensures.only
 
 pub returns-in-Err-create_output-clause-counts : goal.returns-in-Err-create_output-clause-counts
 returns-in-Err-create_output-clause-counts g c =
-    write-earlier (g.F.Folder.state c.args.folder.now) (g.F.Folder.state c.within_limit.new.folder) (g.F.Folder.state c.create_output.new.folder)
+    write-earlier (g.F.Folder.state c.args.folder.now) (g.F.Folder.state c.within_limit.new.folder)
+    (g.F.Folder.state c.create_output.new.folder)
     (c.args.names.now.rec.now ∷ []) c.in-Err-create_output.fault c.in-Ok.ensures.stand c.in-Err-create_output.ensures.fails
 
 pub returns-clause-ends : goal.returns-clause-ends
 returns-clause-ends g c =
     c.record_file.ensures.ends (g.F.Folder.state c.args.folder.now) (record {
       within = c.in-Ok.ensures.within;
-      only = writes-only (g.F.Folder.state c.args.folder.now) (g.F.Folder.state c.within_limit.new.folder) (g.F.Folder.state c.create_output.new.folder)
+      only = writes-only (g.F.Folder.state c.args.folder.now) (g.F.Folder.state c.within_limit.new.folder)
+          (g.F.Folder.state c.create_output.new.folder)
           (named c.args.names.now) c.in-Ok.ensures.reads c.in-Ok-create_output.ensures.only;
       empty = c.in-Ok-create_output.ensures.ok;
     })
@@ -50,12 +54,14 @@ returns-clause-ends g c =
 pub returns-clause-only : goal.returns-clause-only
 returns-clause-only g c =
     OnlyOutput-trans c.args.names.now.rec.now
-    (writes-only (g.F.Folder.state c.args.folder.now) (g.F.Folder.state c.within_limit.new.folder) (g.F.Folder.state c.create_output.new.folder)
+    (writes-only (g.F.Folder.state c.args.folder.now) (g.F.Folder.state c.within_limit.new.folder)
+    (g.F.Folder.state c.create_output.new.folder)
     (named c.args.names.now) c.in-Ok.ensures.reads c.in-Ok-create_output.ensures.only)
     c.record_file.ensures.only
 
 pub returns-clause-counts : goal.returns-clause-counts
 returns-clause-counts g c =
-    end-earlier (g.F.Folder.state c.args.folder.now) (g.F.Folder.state c.create_output.new.folder) (g.F.Folder.state c.record_file.new.folder)
+    end-earlier (g.F.Folder.state c.args.folder.now) (g.F.Folder.state c.create_output.new.folder)
+    (g.F.Folder.state c.record_file.new.folder)
     (c.args.names.now.file.now ∷ []) (c.args.names.now.rec.now ∷ []) c.record_file.result
     (CountsStand-trans c.in-Ok.ensures.stand c.in-Ok-create_output.ensures.stand) c.record_file.ensures.counts

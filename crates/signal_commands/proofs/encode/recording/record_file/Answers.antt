@@ -25,7 +25,8 @@ loop-count-init g c =
     let n : EncodeNames = named c.args.names.now in
     record {
       within = omega arith;
-      recorded = λ start b. recorded-none start old now n c.new-recorder.result b c.requires.apart c.new-recorder.ensures c.in-Ok.ensures.only
+      recorded = λ start b. recorded-none start old now n c.new-recorder.result b c.requires.apart c.new-recorder.ensures
+          c.in-Ok.ensures.only
           (subst (λ (xs : List ℕ). Appended old now n.rec xs) (c.as_slice.ensures.items ∙ c.header_octets.ensures) c.in-Ok.ensures.ok);
       only = OnlyOutput-writes n.rec c.in-Ok.ensures.only;
       stand = c.in-Ok.ensures.stand;
@@ -75,4 +76,5 @@ returns-in-Err-record_next-clause-only g c =
 pub returns-in-Err-record_next-clause-counts : goal.returns-in-Err-record_next-clause-counts
 returns-in-Err-record_next-clause-counts g c =
     stop-earlier (g.F.Folder.state c.args.folder.now) (g.F.Folder.state c.loop-count.folder) (g.F.Folder.state c.record_next.new.folder)
-    (c.args.names.now.file.now ∷ []) (c.args.names.now.rec.now ∷ []) c.in-Err-record_next.fault c.loop-count.invariant.stand c.in-Err-record_next.ensures.counts
+    (c.args.names.now.file.now ∷ []) (c.args.names.now.rec.now ∷ []) c.in-Err-record_next.fault c.loop-count.invariant.stand
+    c.in-Err-record_next.ensures.counts

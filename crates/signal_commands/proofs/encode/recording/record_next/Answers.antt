@@ -85,12 +85,14 @@ returns-in-Ok-append_output-clause-bound g c = c.in-Ok.ensures.within
 
 pub returns-in-Ok-append_output-clause-only : goal.returns-in-Ok-append_output-clause-only
 returns-in-Ok-append_output-clause-only g c =
-    writes-only (g.F.Folder.state c.args.folder.now) (g.F.Folder.state c.read_piece.new.folder) (g.F.Folder.state c.append_output.new.folder)
+    writes-only (g.F.Folder.state c.args.folder.now) (g.F.Folder.state c.read_piece.new.folder)
+    (g.F.Folder.state c.append_output.new.folder)
     (named c.args.names.now) c.in-Ok.ensures.reads c.in-Ok-append_output.ensures.only
 
 pub returns-in-Err-append_output-clause-only : goal.returns-in-Err-append_output-clause-only
 returns-in-Err-append_output-clause-only g c =
-    writes-only (g.F.Folder.state c.args.folder.now) (g.F.Folder.state c.read_piece.new.folder) (g.F.Folder.state c.append_output.new.folder)
+    writes-only (g.F.Folder.state c.args.folder.now) (g.F.Folder.state c.read_piece.new.folder)
+    (g.F.Folder.state c.append_output.new.folder)
     (named c.args.names.now) c.in-Ok.ensures.reads c.in-Err-append_output.ensures.only
 
 pub returns-in-Ok-append_output-clause-counts : goal.returns-in-Ok-append_output-clause-counts
@@ -98,7 +100,8 @@ returns-in-Ok-append_output-clause-counts g c = CountsStand-trans c.in-Ok.ensure
 
 pub returns-in-Err-append_output-clause-counts : goal.returns-in-Err-append_output-clause-counts
 returns-in-Err-append_output-clause-counts g c =
-    write-earlier (g.F.Folder.state c.args.folder.now) (g.F.Folder.state c.read_piece.new.folder) (g.F.Folder.state c.append_output.new.folder)
+    write-earlier (g.F.Folder.state c.args.folder.now) (g.F.Folder.state c.read_piece.new.folder)
+    (g.F.Folder.state c.append_output.new.folder)
     (c.args.names.now.rec.now ∷ []) c.in-Err-append_output.fault c.in-Ok.ensures.stand c.in-Err-append_output.ensures.fails
 
 pub record_piece-requires : goal.record_piece-requires

@@ -79,7 +79,8 @@ returns-in-Err-clause-reads g c = c.in-Err.ensures.reads
 
 pub returns-in-Err-clause-counts : goal.returns-in-Err-clause-counts
 returns-in-Err-clause-counts g c =
-    file-fails (g.F.Folder.state c.args.folder.now) (g.F.Folder.state c.read_piece.new.folder) (named c.args.names.now) c.in-Err.fault c.in-Err.ensures.fails
+    file-fails (g.F.Folder.state c.args.folder.now) (g.F.Folder.state c.read_piece.new.folder) (named c.args.names.now) c.in-Err.fault
+    c.in-Err.ensures.fails
 
 pub returns-in-Err-read_piece-clause-err : goal.returns-in-Err-read_piece-clause-err
 returns-in-Err-read_piece-clause-err g c start mode h = one_unread h.opened.begins.rec_within h.opened.begins.file_within
@@ -91,7 +92,8 @@ pub returns-in-Err-read_piece-clause-counts : goal.returns-in-Err-read_piece-cla
 returns-in-Err-read_piece-clause-counts g c =
     let mid : FolderState = g.F.Folder.state c.read_piece.new.folder in
     let new : FolderState = g.F.Folder.state c.read_piece-2.new.folder in
-    stop-earlier (g.F.Folder.state c.args.folder.now) mid new (inputs_of (named c.args.names.now)) [] (Read c.in-Err-read_piece.fault) c.in-Ok.ensures.stand
+    stop-earlier (g.F.Folder.state c.args.folder.now) mid new (inputs_of (named c.args.names.now)) [] (Read c.in-Err-read_piece.fault)
+    c.in-Ok.ensures.stand
     (rec-fails mid new (named c.args.names.now) c.in-Err-read_piece.fault c.in-Err-read_piece.ensures.fails)
 
 pub returns-then-read-count-clause-reads : goal.returns-then-read-count-clause-reads

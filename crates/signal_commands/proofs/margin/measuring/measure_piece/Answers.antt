@@ -1,4 +1,5 @@
-use Rattle.std.proofs.Common.{◌≡◌, ◌+◌, ◌*◌, ◌++◌, ◌∷◌, [], ℕ, List, take, slice_index, sym, subst, arith, append-nil, append_assoc, ap, ◌∙◌}
+use Rattle.std.proofs.Common.{◌≡◌, ◌+◌, ◌*◌, ◌++◌, ◌∷◌, [], ℕ, List, take, slice_index, sym, subst, arith, append-nil, append_assoc, ap}
+use Rattle.std.proofs.Common.{◌∙◌}
 use Rattle.std.proofs.lemmas.List.{take_more, take_all}
 use Rattle.symbol_map.specs.declared.sample.Sample.{Sample}
 use Rattle.noise_bound.specs.Margins.{MarginStands}

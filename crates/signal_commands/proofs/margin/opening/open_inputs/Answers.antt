@@ -75,7 +75,8 @@ pub returns-in-Err-clause-counts : goal.returns-in-Err-clause-counts
 returns-in-Err-clause-counts g c =
     let old : FolderState = g.F.Folder.state c.args.folder.now in
     let new : FolderState = g.F.Folder.state c.within_limit.new.folder in
-    refused-counts old new (named c.args.names.now) c.args.names.now.rec.now RECORDING_LIMIT 1 c.in-Err.stop (rec-fails old new (named c.args.names.now))
+    refused-counts old new (named c.args.names.now) c.args.names.now.rec.now RECORDING_LIMIT 1 c.in-Err.stop
+    (rec-fails old new (named c.args.names.now))
     c.in-Err.ensures.refused
 
 pub returns-in-Err-within_limit-clause-reads : goal.returns-in-Err-within_limit-clause-reads
@@ -85,7 +86,8 @@ pub returns-in-Err-within_limit-clause-counts : goal.returns-in-Err-within_limit
 returns-in-Err-within_limit-clause-counts g c =
     let mid : FolderState = g.F.Folder.state c.within_limit.new.folder in
     let new : FolderState = g.F.Folder.state c.within_limit-2.new.folder in
-    stop-earlier (g.F.Folder.state c.args.folder.now) mid new (inputs_of (named c.args.names.now)) [] c.in-Err-within_limit.stop c.in-Ok.ensures.stand
+    stop-earlier (g.F.Folder.state c.args.folder.now) mid new (inputs_of (named c.args.names.now)) [] c.in-Err-within_limit.stop
+    c.in-Ok.ensures.stand
     (refused-counts mid new (named c.args.names.now) c.args.names.now.file.now FILE_LIMIT 2 c.in-Err-within_limit.stop
     (file-fails mid new (named c.args.names.now)) c.in-Err-within_limit.ensures.refused)
 
@@ -108,7 +110,8 @@ returns-in-Err-read_header-clause-counts g c =
 pub returns-in-Err-read_piece-clause-err : goal.returns-in-Err-read_piece-clause-err
 returns-in-Err-read_piece-clause-err g c =
     one_unread c.in-Ok.ensures.within
-    (within-earlier (g.F.Folder.state c.args.folder.now) (g.F.Folder.state c.within_limit.new.folder) c.args.names.now.file.now FILE_LIMIT c.in-Ok.ensures.reads
+    (within-earlier (g.F.Folder.state c.args.folder.now) (g.F.Folder.state c.within_limit.new.folder) c.args.names.now.file.now FILE_LIMIT
+    c.in-Ok.ensures.reads
     c.in-Ok-within_limit.ensures.within)
 
 pub returns-in-Err-read_piece-clause-reads : goal.returns-in-Err-read_piece-clause-reads

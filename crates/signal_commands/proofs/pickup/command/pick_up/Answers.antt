@@ -23,5 +23,6 @@ returns-in-Ok-clause-only g c = OnlyOutputs-trans [] (OnlyOutputs-reads [] c.ope
 
 pub returns-in-Ok-clause-counts : goal.returns-in-Ok-clause-counts
 returns-in-Ok-clause-counts g c =
-    end-earlier (g.F.Folder.state c.args.folder.now) (g.F.Folder.state c.open_recording.new.folder) (g.F.Folder.state c.pick_up_samples.new.folder)
+    end-earlier (g.F.Folder.state c.args.folder.now) (g.F.Folder.state c.open_recording.new.folder)
+    (g.F.Folder.state c.pick_up_samples.new.folder)
     (c.args.rec.now ∷ []) [] c.pick_up_samples.result c.in-Ok.ensures.ok.stand c.pick_up_samples.ensures.counts

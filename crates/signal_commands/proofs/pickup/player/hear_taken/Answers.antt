@@ -4,7 +4,8 @@ use Rattle.signal_commands.proofs.pickup.player.hear_taken.Goals as goal
 
 pub returns-clause-ok : goal.returns-clause-ok
 returns-clause-ok g c start bits h =
-    subst (λ (more : List Bool). OnOk c.hear_low.result (Heard start (g.F.Folder.state c.hear_low.new.folder) c.hear_low.new.self (bits ++ more)))
+    subst (λ (more : List Bool). OnOk c.hear_low.result
+    (Heard start (g.F.Folder.state c.hear_low.new.folder) c.hear_low.new.self (bits ++ more)))
     c.taken_bits-octet.ensures.bits (c.hear_low.ensures.ok start bits h)
 
 pub returns-clause-err : goal.returns-clause-err

@@ -96,7 +96,8 @@ returns-clause-ok g c start h =
         only = OnlyOutputs-trans [] h.only
             (OnlyOutputs-trans [] (OnlyOutputs-reads [] c.read_samples.ensures.reads) (OnlyOutputs-says [] c.play_piece.ensures.only));
       },
-      λ none told. (let e = c.in-Ok.ensures.end start rates.Trellis c.args.mode h.content h.behind (inr none) told in omega (arith, e, none)),
+      λ none told. (let e = c.in-Ok.ensures.end start rates.Trellis c.args.mode h.content h.behind (inr none)
+          told in omega (arith, e, none)),
     )
 
 pub returns-clause-next : goal.returns-clause-next
