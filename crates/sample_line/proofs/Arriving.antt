@@ -1,4 +1,4 @@
--- One label more comes to the hearer, or the line is lost with it.
+-- Labels more come to the hearer, or the line is lost with one of them.
 use Rattle.std.proofs.Common.{◌≡◌, ◌∙◌, ℕ, Bool, List, [], ◌++◌, map, take, drop, Result, Ok, Err, Some, refl, sym, ap, subst}
 use Rattle.std.proofs.lemmas.List.{append-nil, map-append, take-append-drop}
 use Rattle.frame_check.specs.declared.check.Check.{Check}
@@ -17,7 +17,7 @@ use Rattle.sample_line.specs.declared.tally.Tally.{Tally}
 use Rattle.sample_line.specs.declared.tally.Tally.TheVariants.{Silent}
 use Rattle.sample_line.specs.Mode.{mode_of}
 use Rattle.sample_line.specs.Transmits.{Transmits}
-use Rattle.sample_line.specs.Hears.{HearsSample}
+use Rattle.sample_line.specs.Hears.{HearsSamples}
 use Rattle.sample_line.specs.Path.{Carries, CarriesBetween, LosesWith, LosesAmong, Arrives}
 use Rattle.sample_line.proofs.Finding.{found-none}
 
@@ -27,7 +27,7 @@ path_of transmitter hearer = record { transmitter = transmitter; hearer = hearer
 pub arrived : (transmitter : Transmitter) (hearer : Hearer) (script : ScriptValue) (points samples : List Sample)
     (check : Check) (sender : Role) (dlci : ℕ) (s : Sent) (earlier : List Bool) (result : Result Tally Lost)
     → Transmits transmitter script points samples
-    → HearsSample (mode_of transmitter.sender) hearer samples check sender dlci s earlier result
+    → HearsSamples (mode_of transmitter.sender) hearer samples check sender dlci s earlier result
     → Arrives (path_of transmitter hearer) script points check sender dlci s earlier result
 arrived transmitter hearer script points samples check sender dlci s earlier (Ok tally) sent heard = record {
   read = heard.read;

@@ -257,14 +257,18 @@ outcome-once true sender dlci s octets patterns (heard.Passed t) other a b = abs
 outcome-once true sender dlci s octets patterns heard.Chance other a b = absurd a
 outcome-once false sender dlci s octets patterns heard.Nothing heard.Nothing a b = refl
 outcome-once false sender dlci s octets patterns heard.Nothing (heard.Lost t) a b = absurd (false≢true (sym a.0 ∙ b.1))
-outcome-once false sender dlci s octets patterns heard.Nothing (heard.Passed t) a b = absurd (silent-sent sender dlci s octets patterns a.1 b.1)
+outcome-once false sender dlci s octets patterns heard.Nothing (heard.Passed t) a b = absurd
+    (silent-sent sender dlci s octets patterns a.1 b.1)
 outcome-once false sender dlci s octets patterns heard.Nothing heard.Chance a b = absurd (b.0 a.1)
 outcome-once false sender dlci s octets patterns (heard.Lost t) heard.Nothing a b = absurd (false≢true (sym b.0 ∙ a.1))
 outcome-once false sender dlci s octets patterns (heard.Lost t) (heard.Lost u) a b = ap heard.Lost (a.0 ∙ sym b.0)
-outcome-once false sender dlci s octets patterns (heard.Lost t) (heard.Passed u) a b = absurd (silent-sent sender dlci s octets patterns a.2 b.1)
+outcome-once false sender dlci s octets patterns (heard.Lost t) (heard.Passed u) a b = absurd
+    (silent-sent sender dlci s octets patterns a.2 b.1)
 outcome-once false sender dlci s octets patterns (heard.Lost t) heard.Chance a b = absurd (b.0 a.2)
-outcome-once false sender dlci s octets patterns (heard.Passed t) heard.Nothing a b = absurd (silent-sent sender dlci s octets patterns b.1 a.1)
-outcome-once false sender dlci s octets patterns (heard.Passed t) (heard.Lost u) a b = absurd (silent-sent sender dlci s octets patterns b.2 a.1)
+outcome-once false sender dlci s octets patterns (heard.Passed t) heard.Nothing a b = absurd
+    (silent-sent sender dlci s octets patterns b.1 a.1)
+outcome-once false sender dlci s octets patterns (heard.Passed t) (heard.Lost u) a b = absurd
+    (silent-sent sender dlci s octets patterns b.2 a.1)
 outcome-once false sender dlci s octets patterns (heard.Passed t) (heard.Passed u) a b = ap heard.Passed (a.0 ∙ sym b.0)
 outcome-once false sender dlci s octets patterns (heard.Passed t) heard.Chance a b = absurd (b.1 a.1)
 outcome-once false sender dlci s octets patterns heard.Chance heard.Nothing a b = absurd (a.0 b.1)

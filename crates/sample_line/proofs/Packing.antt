@@ -1,5 +1,6 @@
 -- Labels that are packed, and read again.
-use Rattle.std.proofs.Common.{◌≡◌, ℕ, zero, suc, ◌+◌, ◌*◌, ◌-◌, ◌/◌, ◌%◌, ◌^◌, ◌<◌, ◌≤◌, List, [], ◌∷◌, ◌++◌, length, length-append, slice_index_or, slice_set, inl, inr, refl, sym, ◌∙◌, ap, subst, mod-lt, arith}
+use Rattle.std.proofs.Common.{◌≡◌, ℕ, zero, suc, ◌+◌, ◌*◌, ◌-◌, ◌/◌, ◌%◌, ◌^◌, ◌<◌, ◌≤◌, List, [], ◌∷◌, ◌++◌, length, length-append}
+use Rattle.std.proofs.Common.{slice_index_or, slice_set, inl, inr, refl, sym, ◌∙◌, ap, subst, mod-lt, arith}
 use Rattle.std.proofs.lemmas.Bool.{cases_lt, cases_eq}
 use Rattle.std.proofs.lemmas.Nat.{shr_high, pow_pos, pow-add, mod-pow-add}
 use Rattle.std.proofs.Math.Nat.{mul-add-mod_self_right, mod-mod, mul-le-mul_right}
@@ -35,7 +36,8 @@ pub label-read : (n : ℕ) (quads highs : List ℕ) (i : ℕ) → i < n → slic
 unfolding labels_in
 label-read zero quads highs i within = omega (arith, within)
 label-read (suc n) quads highs i within = elim (cases_lt i n) [
-  | inl low ↦ get_or_append_left (labels_in n quads highs) (label_at quads highs n ∷ []) 0 i (omega (arith, low, labels-length n quads highs))
+  | inl low ↦ get_or_append_left (labels_in n quads highs) (label_at quads highs n ∷ []) 0 i
+      (omega (arith, low, labels-length n quads highs))
       ∙ label-read n quads highs i low
   | inr high ↦
       let last : i ≡ n = omega (arith, within, high) in
@@ -59,7 +61,8 @@ room-for bits place width few within =
     omega (arith, most, all, octet)
 
 -- and no sum or shift overflows
-pub put-fits : (octet place bits : ℕ) → place < 8 → bits * 2 ^ place + 2 ^ place ≤ 256 → bits * 2 ^ place % 256 + octet % (1 * 2 ^ place % 256) < 256
+pub put-fits : (octet place bits : ℕ) → place < 8 → bits * 2 ^ place + 2 ^ place ≤ 256
+    → bits * 2 ^ place % 256 + octet % (1 * 2 ^ place % 256) < 256
 put-fits octet place bits low room =
     let power : 2 ^ place ≤ 128 = pow_mono {j = 7} (omega (arith, low)) in
     let rest : octet % 2 ^ place < 2 ^ place = mod-lt octet (pow_pos place) in
@@ -100,7 +103,8 @@ pub field-kept : (octets : List ℕ) (here place bits there at width : ℕ) → 
     ≡ slice_index_or octets there 0 / 2 ^ at % 2 ^ width
 field-kept octets here place bits there at width within below = elim (cases_eq there here) [
   | inl same ↦
-      let written : slice_index_or (slice_set octets here (put (slice_index_or octets here 0) place bits)) here 0 ≡ put (slice_index_or octets here 0) place bits =
+      let written : slice_index_or (slice_set octets here (put (slice_index_or octets here 0) place bits)) here 0 ≡ put
+      (slice_index_or octets here 0) place bits =
       get_or-set_same octets here (put (slice_index_or octets here 0) place bits) 0 within in
       rw (same, written) (put-below (slice_index_or octets here 0) place bits at width (below same))
   | inr other ↦ rw (get_or-set_other octets here there (put (slice_index_or octets here 0) place bits) 0 other) refl

@@ -1,5 +1,6 @@
 -- What a line stands for once a slot has passed.
-use Rattle.std.proofs.Common.{◌≡◌, ◌∙◌, ◌+◌, ◌*◌, ℕ, suc, nat_eq, Bool, List, [], ◌∷◌, ◌++◌, length, map, take, drop, None, refl, sym, ap, subst, arith}
+use Rattle.std.proofs.Common.{◌≡◌, ◌∙◌, ◌+◌, ◌*◌, ℕ, suc, nat_eq, Bool, List, [], ◌∷◌, ◌++◌, length, map, take, drop, None, refl, sym, ap}
+use Rattle.std.proofs.Common.{subst, arith}
 use Rattle.std.proofs.Common.{length-append}
 use Rattle.std.proofs.Math.Seq.{take-append_seam}
 use Rattle.std.proofs.lemmas.List.{map-append, take-append-drop}
@@ -115,36 +116,37 @@ pub slot-passes : (script : ScriptValue) (line : Kept) (path : Path) (passed : L
     → ((octets : List (List ℕ)) (patterns : List Seen) → Tallies line.path.transmitter.sender dlci s octets patterns tally
     → IsOutcome loses line.path.transmitter.sender dlci s octets patterns heard)
     → PassesSlot (kept line.symbols (line.passed + 1) path) script passed signal check dlci loses s heard
-slot-passes script line path passed signal check dlci loses s labels tally heard stands coded sender_is found not_lost taken outcome = record {
-  before = stands.carries.samples;
-  upto = found.carries.samples;
-  recorded_before = subst (λ (r : Role). Records script r (signal_bits size passed) stands.carries.samples) (sym sender_is)
-      (recorded line.path.transmitter script (signal_bits size passed) stands.points stands.carries.samples stands.modulated
-      stands.carries.transmits);
-  recorded = recorded path.transmitter script (signal_bits size (passed ++ signal ∷ [])) points found.carries.samples modulated
-      found.carries.transmits;
-  octets = found.tallies.octets;
-  patterns = found.tallies.patterns;
-  received = record {
-    earlier = stands.read;
-    later = found.read;
-    gave = subst (λ (r : Role). Gives r stands.carries.samples stands.read) (sym sender_is)
-        (gives old line.path.hearer stands.carries.samples stands.read stands.carries.hears stands.not_lost stands.all_taken);
-    gives = gives new path.hearer found.carries.samples found.read found.carries.hears not_lost taken;
-    found = found.tallies.found;
-  };
-  outcome = subst (λ (r : Role). IsOutcome loses r dlci s found.tallies.octets found.tallies.patterns heard) (sym sender_is)
-      (outcome found.tallies.octets found.tallies.patterns found.tallies.tallies);
-  stands = record {
-    slots = omega (arith, stands.slots, length-append passed (signal ∷ []));
-    points = points;
-    modulated = modulated;
-    read = found.read;
-    carries = found.carries;
-    not_lost = not_lost;
-    all_taken = taken;
-  };
-}
+slot-passes script line path passed signal check dlci loses s labels tally heard stands coded sender_is found not_lost taken outcome =
+    record {
+      before = stands.carries.samples;
+      upto = found.carries.samples;
+      recorded_before = subst (λ (r : Role). Records script r (signal_bits size passed) stands.carries.samples) (sym sender_is)
+          (recorded line.path.transmitter script (signal_bits size passed) stands.points stands.carries.samples stands.modulated
+          stands.carries.transmits);
+      recorded = recorded path.transmitter script (signal_bits size (passed ++ signal ∷ [])) points found.carries.samples modulated
+          found.carries.transmits;
+      octets = found.tallies.octets;
+      patterns = found.tallies.patterns;
+      received = record {
+        earlier = stands.read;
+        later = found.read;
+        gave = subst (λ (r : Role). Gives r stands.carries.samples stands.read) (sym sender_is)
+            (gives old line.path.hearer stands.carries.samples stands.read stands.carries.hears stands.not_lost stands.all_taken);
+        gives = gives new path.hearer found.carries.samples found.read found.carries.hears not_lost taken;
+        found = found.tallies.found;
+      };
+      outcome = subst (λ (r : Role). IsOutcome loses r dlci s found.tallies.octets found.tallies.patterns heard) (sym sender_is)
+          (outcome found.tallies.octets found.tallies.patterns found.tallies.tallies);
+      stands = record {
+        slots = omega (arith, stands.slots, length-append passed (signal ∷ []));
+        points = points;
+        modulated = modulated;
+        read = found.read;
+        carries = found.carries;
+        not_lost = not_lost;
+        all_taken = taken;
+      };
+    }
   where
     size : ℕ
     size = 4 * line.symbols

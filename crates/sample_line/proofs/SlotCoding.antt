@@ -17,7 +17,8 @@ use Rattle.sample_line.specs.Coder.{Coding, CoderStands, IsCodedAs, bits_in}
 use Rattle.sample_line.proofs.Passing.{slot-added}
 
 pub codes-bits : (coder : Coding) (signals : List Signal) (signal : Signal) (bits : List Bool) → CoderStands coder signals
-    → bits ≡ slot_bits (bits_in coder) coder.writer.phase (slot_of (bits_in coder) signal) → bits ≡ bits_behind (bits_in coder) signals signal
+    → bits ≡ slot_bits (bits_in coder) coder.writer.phase (slot_of (bits_in coder) signal)
+    → bits ≡ bits_behind (bits_in coder) signals signal
 codes-bits coder signals signal bits h e =
     e ∙ ap (λ p. slot_bits (bits_in coder) p (slot_of (bits_in coder) signal)) h.writer.phase_is
 
@@ -40,7 +41,8 @@ codes-labels coder modulator signals signal bits labels h e more =
     }
 
 pub codes-stand : (coder : Coding) (writer : Writer) (modulator : Modulator) (signals : List Signal) (signal : Signal) (bits : List Bool)
-    (labels : List ℕ) → CoderStands coder signals → bits ≡ bits_behind (bits_in coder) signals signal → writer.symbols ≡ coder.writer.symbols
+    (labels : List ℕ) → CoderStands coder signals → bits ≡ bits_behind (bits_in coder) signals signal
+    → writer.symbols ≡ coder.writer.symbols
     → ((slots : List Slot) → WriterStands coder.writer slots → WriterStands writer (slots ++ slot_of (bits_in coder) signal ∷ []))
     → ModulatesToo coder.modulator modulator bits labels
     → CoderStands (record { sender = coder.sender; writer = writer; modulator = modulator }) (signals ++ signal ∷ [])
@@ -57,5 +59,6 @@ codes-stand coder writer modulator signals signal bits labels h e same on more =
           (subst (λ (xs : List Slot). WriterStands writer xs) joined (on (slots_of size signals) h.writer));
       points = points;
       modulator = subst (λ (m : ℕ). ModulatorStands mode modulator (signal_bits (4 * m) (signals ++ signal ∷ [])) points) (sym same)
-          (subst (λ (xs : List Bool). ModulatorStands mode modulator xs points) all (more mode (signal_bits size signals) h.points h.modulator));
+          (subst (λ (xs : List Bool). ModulatorStands mode modulator xs points) all
+          (more mode (signal_bits size signals) h.points h.modulator));
     }

@@ -136,7 +136,8 @@ some-before : (own : Seen) (octets : List (List ℕ)) (patterns : List Seen) (p 
 some-before own octets [] p w = inl refl
 some-before own octets (q ∷ patterns) p w = inr (w.0, (λ e. absurd cc), All-front (λ other. other ≡ own) (q ∷ patterns) p w.2)
 
-last-pattern : (sender : Role) (dlci : ℕ) (s : Sent) (octets : List (List ℕ)) (patterns : List Seen) (p : Seen) → IsWhatWasSent sender dlci s octets (patterns ++ p ∷ [])
+last-pattern : (sender : Role) (dlci : ℕ) (s : Sent) (octets : List (List ℕ)) (patterns : List Seen) (p : Seen)
+    → IsWhatWasSent sender dlci s octets (patterns ++ p ∷ [])
     → (carries s p ≡ true) × (octets ≡ []) × ((patterns ≡ []) ⊎ IsWhatWasSent sender dlci s octets patterns)
 last-pattern sender dlci sent.Mark octets patterns p w = absurd w
 last-pattern sender dlci sent.Flags octets patterns p w = absurd w
@@ -169,15 +170,19 @@ is-adp : (p : Seen) → carries sent.Adp p ≡ true → p ≡ seen.Adp
 is-adp seen.Adp e = refl
 is-adp seen.Odp e = absurd (false≢true e)
 
-first-pattern : (sender : Role) (dlci : ℕ) (s : Sent) (octets : List (List ℕ)) (patterns : List Seen) (p : Seen) → carries s p ≡ true → IsSilent octets patterns
+first-pattern : (sender : Role) (dlci : ℕ) (s : Sent) (octets : List (List ℕ)) (patterns : List Seen) (p : Seen) → carries s p ≡ true
+    → IsSilent octets patterns
     → IsWhatWasSent sender dlci s octets (patterns ++ p ∷ [])
 first-pattern sender dlci sent.Mark octets patterns p e h = absurd (false≢true e)
 first-pattern sender dlci sent.Flags octets patterns p e h = absurd (false≢true e)
 first-pattern sender dlci (sent.Frame frame) octets patterns p e h = absurd (false≢true e)
-first-pattern sender dlci sent.Odp octets patterns p e h = own-more seen.Odp octets patterns p (is-odp p e) h.0 (none-all seen.Odp patterns h.1)
-first-pattern sender dlci sent.Adp octets patterns p e h = own-more seen.Adp octets patterns p (is-adp p e) h.0 (none-all seen.Adp patterns h.1)
+first-pattern sender dlci sent.Odp octets patterns p e h = own-more seen.Odp octets patterns p (is-odp p e) h.0
+    (none-all seen.Odp patterns h.1)
+first-pattern sender dlci sent.Adp octets patterns p e h = own-more seen.Adp octets patterns p (is-adp p e) h.0
+    (none-all seen.Adp patterns h.1)
 
-next-pattern : (sender : Role) (dlci : ℕ) (s : Sent) (octets : List (List ℕ)) (patterns : List Seen) (p : Seen) → carries s p ≡ true → IsWhatWasSent sender dlci s octets patterns
+next-pattern : (sender : Role) (dlci : ℕ) (s : Sent) (octets : List (List ℕ)) (patterns : List Seen) (p : Seen) → carries s p ≡ true
+    → IsWhatWasSent sender dlci s octets patterns
     → IsWhatWasSent sender dlci s octets (patterns ++ p ∷ [])
 next-pattern sender dlci sent.Mark octets patterns p e h = absurd (false≢true e)
 next-pattern sender dlci sent.Flags octets patterns p e h = absurd (false≢true e)
@@ -195,7 +200,8 @@ pattern-more sender dlci s octets patterns p t h = go (carries s p) t refl h
     not-sent : carries s p ≡ false → IsWhatWasSent sender dlci s octets (patterns ++ p ∷ []) → ⊥
     not-sent e w = false≢true (sym e ∙ (last-pattern sender dlci s octets patterns p w).0)
 
-    go : (b : Bool) (t : Tally) → carries s p ≡ b → Tallies sender dlci s octets patterns t → Tallies sender dlci s octets (patterns ++ p ∷ []) (after_pattern b t)
+    go : (b : Bool) (t : Tally) → carries s p ≡ b → Tallies sender dlci s octets patterns t
+        → Tallies sender dlci s octets (patterns ++ p ∷ []) (after_pattern b t)
     go true Silent e h = first-pattern sender dlci s octets patterns p e h
     go false Silent e h = (not-silent, not-sent e)
     go true AsSent e h = next-pattern sender dlci s octets patterns p e h
@@ -209,7 +215,8 @@ pattern-more sender dlci s octets patterns p t h = go (carries s p) t refl h
 
 -- outcomes
 
-pub silent-outcome : (sender : Role) (dlci : ℕ) (s : Sent) (octets : List (List ℕ)) (patterns : List Seen) (h : Heard) → IsSilent octets patterns → IsLostAs s h
+pub silent-outcome : (sender : Role) (dlci : ℕ) (s : Sent) (octets : List (List ℕ)) (patterns : List Seen) (h : Heard)
+    → IsSilent octets patterns → IsLostAs s h
     → IsHeardAs sender dlci s octets patterns h
 silent-outcome sender dlci s octets patterns heard.Nothing silent lost = (lost, silent)
 silent-outcome sender dlci s octets patterns (heard.Lost t) silent lost = (lost.0, lost.1, silent)

@@ -26,7 +26,7 @@ pub record HearsBetween (mode : Mode) (hearer : Hearer) (samples : List Sample) 
   pub hears : Hears mode hearer samples read
   pub tallies : TalliesBetween check sender dlci s earlier read tally
 
--- a sample was heard, or the line is lost with it
-abbrev pub HearsSample : Mode → Hearer → List Sample → Check → Role → ℕ → Sent → List Bool → Result Tally Lost → Type 0
-HearsSample mode hearer samples check sender dlci s earlier (Ok tally) = HearsBetween mode hearer samples check sender dlci s earlier tally
-HearsSample mode hearer samples check sender dlci s earlier (Err lost) = LostIs line_trellis line_depth samples (Some lost.symbol)
+-- these samples were heard, or the line is lost with one of them
+abbrev pub HearsSamples : Mode → Hearer → List Sample → Check → Role → ℕ → Sent → List Bool → Result Tally Lost → Type 0
+HearsSamples mode hearer samples check sender dlci s earlier (Ok tally) = HearsBetween mode hearer samples check sender dlci s earlier tally
+HearsSamples mode hearer samples check sender dlci s earlier (Err lost) = LostIs line_trellis line_depth samples (Some lost.symbol)

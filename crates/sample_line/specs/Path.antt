@@ -33,7 +33,7 @@ pub record CarriesBetween (path : Path) (script : ScriptValue) (points : List Sa
 abbrev pub LosesWith : Role → ScriptValue → List Sample → ℕ → Type 0
 LosesWith sender script points symbol = LostIs line_trellis line_depth (displaced_from script sender 0 points) (Some symbol)
 
--- these points have come to the hearer, or the line is lost with the last of them
+-- these points have come to the hearer, or the line is lost with one of them
 abbrev pub Arrives : Path → ScriptValue → List Sample → Check → Role → ℕ → Sent → List Bool → Result Tally Lost → Type 0
 Arrives path script points check sender dlci s earlier (Ok tally) = CarriesBetween path script points check sender dlci s earlier tally
 Arrives path script points check sender dlci s earlier (Err lost) = LosesWith path.transmitter.sender script points lost.symbol

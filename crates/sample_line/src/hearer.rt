@@ -1,8 +1,8 @@
 // The end that hears: samples to labels, and what is found in their bits.
-ghost use Rattle.std.specs.Prelude.{◌≡◌, ◌+◌, ◌<◌, ◌≤◌, ◌^◌, Bool, List, [], ◌∷◌, ◌++◌, drop, IfOk, None, OnOk};
+ghost use Rattle.std.specs.Prelude.{◌≡◌, ◌+◌, ◌<◌, ◌≤◌, ◌^◌, Bool, List, [], ◌++◌, drop, length, IfOk, None, OnOk};
 ghost use Rattle.scramblers.specs.declared.mode.Mode.{Mode};
 ghost use Rattle.symbol_map.specs.declared.sample.Sample.{Sample};
-ghost use Rattle.sample_line.specs.Hears.{Hears, HearsBetween, HearsSample};
+ghost use Rattle.sample_line.specs.Hears.{Hears, HearsBetween, HearsSamples};
 
 use crate::receiver::{Slot, push_four};
 use crate::tally::Tally;
@@ -74,20 +74,26 @@ impl Hearer {
         tally
     }
 
-    /// The tally once one sample more was heard, and each label that it releases was read.
-    pub fn hear(&mut self, sample: Sample, slot: Slot<'_>, tally: Tally) -> Result<Tally, Lost>
+    /// The tally once these samples were heard, and each label that they release was read.
+    pub fn hear(&mut self, samples: &[Sample], slot: Slot<'_>, tally: Tally) -> Result<Tally, Lost>
         requires channel { slot.framing.dlci < 64 }
         requires pending { self.old.reader.decoder.pending ≡ [] }
-        requires count { self.old.reader.decoder.count < 2 ^ 56 }
-        ensures stands { (mode : Mode) (samples : List Sample) (earlier : List Bool)
-            → HearsBetween mode self.old samples slot.entry.framing.check slot.entry.framing.sender slot.entry.framing.dlci slot.entry.sent.now earlier tally
-            → HearsSample mode self.new (samples ++ sample ∷ []) slot.entry.framing.check slot.entry.framing.sender slot.entry.framing.dlci slot.entry.sent.now earlier result }
+        requires lost { self.old.reader.decoder.lost ≡ None }
+        requires count { self.old.reader.decoder.count + length samples.now ≤ 2 ^ 56 }
+        ensures stands { (mode : Mode) (past : List Sample) (earlier : List Bool)
+            → HearsBetween mode self.old past slot.entry.framing.check slot.entry.framing.sender slot.entry.framing.dlci slot.entry.sent.now earlier tally
+            → HearsSamples mode self.new (past ++ samples.now) slot.entry.framing.check slot.entry.framing.sender slot.entry.framing.dlci slot.entry.sent.now earlier result }
         ensures pending { OnOk result (self.new.reader.decoder.pending ≡ []) }
         ensures lost { OnOk result (self.new.reader.decoder.lost ≡ None) }
         ensures taken { self.new.reader.decoder.lost ≡ None → self.new.reader.decoder.pending ≡ [] }
-        ensures count { self.new.reader.decoder.count ≤ self.old.reader.decoder.count + 1 }
+        ensures count { self.new.reader.decoder.count ≤ self.old.reader.decoder.count + length samples.now }
     {
-        self.reader.push(sample)?;
-        Ok(self.read_labels(slot, tally))
+        let mut tally = tally;
+        let mut at = 0;
+        while at < samples.len() {
+            at += self.reader.push_some(&samples[at..])?;
+            tally = self.read_labels(slot, tally);
+        }
+        Ok(tally)
     }
 }

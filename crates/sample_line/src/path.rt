@@ -1,5 +1,5 @@
 // The way of labels from the end that sends to the end that hears.
-ghost use Rattle.std.specs.Prelude.{◌≡◌, ◌+◌, ◌<◌, ◌≤◌, ◌^◌, Bool, List, [], ◌∷◌, ◌++◌, map, IfOk, None, OnOk};
+ghost use Rattle.std.specs.Prelude.{◌≡◌, ◌+◌, ◌<◌, ◌≤◌, ◌^◌, Bool, List, [], ◌++◌, map, length, take, IfOk, None, OnOk};
 ghost use Rattle.frame_check.specs.declared.sizes.TheConstants.{SLOT};
 ghost use Rattle.symbol_map.specs.declared.sample.Sample.{Sample};
 ghost use Rattle.symbol_map.specs.Points.{point_of};
@@ -9,13 +9,14 @@ ghost use Rattle.sample_line.specs.Path.{Carries, CarriesBetween, Arrives, Passe
 use crate::hearer::Hearer;
 use crate::receiver::Slot;
 use crate::tally::Tally;
-use crate::transmitter::Transmitter;
+use crate::transmitter::{BATCH, Transmitter};
 use crate::{LabelSlot, mode_of};
 use exact_decoder::Lost;
 use noise_script::Script;
 use outside_calls::NoMemory;
 use shared_terms::Role;
 use std::alloc::Global;
+use symbol_map::Sample;
 
 /// What makes samples of labels, and what hears them.
 #[derive(Drop)]
@@ -42,31 +43,38 @@ impl Path {
         })
     }
 
-    /// The tally once one label more has come to the hearer, as a sample.
+    /// The tally once the labels of a slot from a place on, so many, have come to the hearer, as samples.
     fn arrive(
         &mut self,
         script: &Script,
-        label: u8,
+        labels: &LabelSlot,
+        at: usize,
+        count: usize,
         slot: Slot<'_>,
         tally: Tally,
     ) -> Result<Tally, Lost>
         requires channel { slot.framing.dlci < 64 }
-        requires label { label < 32 }
+        requires within { at + count ≤ length labels.now }
+        requires early { at ≤ SLOT }
+        requires few { count ≤ BATCH }
         requires symbol { self.old.transmitter.symbol < 2 ^ 55 }
         requires count { self.old.hearer.reader.decoder.count < 2 ^ 55 }
         requires pending { self.old.hearer.reader.decoder.pending ≡ [] }
-        ensures arrives { (points : List Sample) (earlier : List Bool)
-            → CarriesBetween self.old script.now points slot.entry.framing.check slot.entry.framing.sender slot.entry.framing.dlci slot.entry.sent.now earlier tally
-            → Arrives self.new script.now (points ++ point_of label ∷ []) slot.entry.framing.check slot.entry.framing.sender slot.entry.framing.dlci slot.entry.sent.now earlier result }
+        requires lost { self.old.hearer.reader.decoder.lost ≡ None }
+        ensures arrives { (before : List Sample) (earlier : List Bool)
+            → CarriesBetween self.old script.now (before ++ map point_of (take at labels.now)) slot.entry.framing.check slot.entry.framing.sender slot.entry.framing.dlci slot.entry.sent.now earlier tally
+            → Arrives self.new script.now (before ++ map point_of (take (at + count) labels.now)) slot.entry.framing.check slot.entry.framing.sender slot.entry.framing.dlci slot.entry.sent.now earlier result }
         ensures sender { self.new.transmitter.sender ≡ self.old.transmitter.sender }
-        ensures symbol { self.new.transmitter.symbol ≡ self.old.transmitter.symbol + 1 }
-        ensures count { self.new.hearer.reader.decoder.count ≤ self.old.hearer.reader.decoder.count + 1 }
+        ensures symbol { self.new.transmitter.symbol ≡ self.old.transmitter.symbol + count }
+        ensures count { self.new.hearer.reader.decoder.count ≤ self.old.hearer.reader.decoder.count + count }
         ensures pending { OnOk result (self.new.hearer.reader.decoder.pending ≡ []) }
         ensures lost { OnOk result (self.new.hearer.reader.decoder.lost ≡ None) }
         ensures taken { self.new.hearer.reader.decoder.lost ≡ None → self.new.hearer.reader.decoder.pending ≡ [] }
     {
-        let sample = self.transmitter.send(script, label);
-        self.hearer.hear(sample, slot, tally)
+        let mut samples = [Sample { re: 0, im: 0 }; BATCH];
+        self.transmitter
+            .send_some(script, labels, at, count, &mut samples);
+        self.hearer.hear(&samples[..count], slot, tally)
     }
 
     /// What is received of a slot of labels.
@@ -91,8 +99,11 @@ impl Path {
         ensures taken { self.new.hearer.reader.decoder.lost ≡ None → self.new.hearer.reader.decoder.pending ≡ [] }
     {
         let mut tally = Tally::Silent;
-        for place in 0..labels.len() {
-            tally = self.arrive(script, labels.label(place), slot, tally)?;
+        let mut at = 0;
+        while at < labels.len() {
+            let count = (labels.len() - at).min(BATCH);
+            tally = self.arrive(script, labels, at, count, slot, tally)?;
+            at += count;
         }
         Ok(tally)
     }

@@ -1,5 +1,6 @@
 // Labels become samples, and the script displaces them on their way.
-ghost use Rattle.std.specs.Prelude.{◌≡◌, ◌+◌, ◌<◌, ◌^◌, List, [], ◌∷◌, ◌++◌};
+ghost use Rattle.std.specs.Prelude.{◌≡◌, ◌+◌, ◌<◌, ◌≤◌, ◌^◌, List, [], ◌∷◌, ◌++◌, length, map, take};
+ghost use Rattle.frame_check.specs.declared.sizes.TheConstants.{SLOT};
 ghost use Rattle.symbol_map.specs.declared.sample.Sample.{Sample};
 ghost use Rattle.symbol_map.specs.Points.{point_of};
 ghost use Rattle.noise_script.specs.Script.{ScriptValue};
@@ -8,6 +9,7 @@ ghost use Rattle.noise_script.specs.declared.limits.TheConstants.{OFFSET_MOST};
 ghost use Rattle.sample_line.specs.Recorded.{saturated, displaced};
 ghost use Rattle.sample_line.specs.Transmits.{Transmits};
 
+use crate::LabelSlot;
 use noise_script::{Generators, Offset, Script};
 use shared_terms::Role;
 use symbol_map::{Sample, point};
@@ -35,6 +37,9 @@ fn displaced(offset: Offset, point: Sample) -> Sample
         im: saturated(offset.im + i32::from(point.im)),
     }
 }
+
+/// The most samples that are made, and then heard, at once: fewer than the decoder has room for.
+pub(crate) const BATCH: usize = 128;
 
 /// What makes samples of an end's labels. Symbols are counted from 0 over all slots.
 #[derive(Drop)]
@@ -73,5 +78,28 @@ impl Transmitter {
         let offset = script.offset(&mut self.generators, self.sender, self.symbol);
         self.symbol += 1;
         displaced(offset, point(label))
+    }
+
+    /// The next samples as they arrive, so many, for the labels of a slot from a place on.
+    pub fn send_some(
+        &mut self,
+        script: &Script,
+        labels: &LabelSlot,
+        at: usize,
+        count: usize,
+        samples: &mut [Sample; BATCH],
+    )
+        requires within { at + count ≤ length labels.now }
+        requires early { at ≤ SLOT }
+        requires few { count ≤ BATCH }
+        requires symbol { self.old.symbol < 2 ^ 55 }
+        ensures stands { (before past : List Sample) → Transmits self.old script.now (before ++ map point_of (take at labels.now)) past
+            → Transmits self.new script.now (before ++ map point_of (take (at + count) labels.now)) (past ++ take count samples.new) }
+        ensures sender { self.new.sender ≡ self.old.sender }
+        ensures symbol { self.new.symbol ≡ self.old.symbol + count }
+    {
+        for place in 0..count {
+            samples[place] = self.send(script, labels.label(at + place));
+        }
     }
 }

@@ -16,5 +16,6 @@ returns-clause-tallies c = λ earlier bits has h.
     let seen = c.with_four_seen-tally.ensures.tallied slot.framing.sender slot.framing.dlci bits h.octets h.patterns has.reader h.tallies in
     let found = c.with_four.ensures.tallied bits h.octets (h.patterns ++ map (λ (sight : Sight). sight.seen) seen.sights) has.deframer
     seen.tallies in
-    found-both slot.framing.check slot.framing.sender slot.framing.dlci slot.sent.now earlier bits (bits ++ low_bits 4 c.args.four) c.args.tally
+    found-both slot.framing.check slot.framing.sender slot.framing.dlci slot.sent.now earlier bits (bits ++ low_bits 4 c.args.four)
+    c.args.tally
     c.with_four_seen-tally.result c.with_four.result h seen found

@@ -16,7 +16,8 @@ returns-then-is_whole-clause-tallied c = λ bits octets patterns h tallied.
       pieces = listed (found_at (bits ++ c.args.bit ∷ []));
       pieces_are = pieces-more bits c.args.bit;
       more = option_to_list w.front;
-      passes = whole-passes c.args.slot.framing.check (found_at (bits ++ c.args.bit ∷ [])) c.whole.result.now (option_to_list w.front) answer
+      passes = whole-passes c.args.slot.framing.check (found_at (bits ++ c.args.bit ∷ [])) c.whole.result.now (option_to_list w.front)
+          answer
           (c.whole.ensures.value _ (c.push.ensures.stands bits h)) w.passes;
       tallies = w.tallies;
     }
@@ -29,6 +30,7 @@ returns-else-is_whole-clause-tallied c = λ bits octets patterns h tallied.
       more = [];
       passes = none-passes c.args.slot.framing.check (found_at (bits ++ c.args.bit ∷ []))
           (λ e. c.is_whole.ensures.no c.if-is_whole.false (c.push.ensures.value bits h ∙ e));
-      tallies = subst (λ (xs : List (List ℕ)). Tallies c.args.slot.framing.sender c.args.slot.framing.dlci c.args.slot.sent.now xs patterns c.args.tally)
+      tallies = subst (λ (xs : List (List ℕ)). Tallies c.args.slot.framing.sender c.args.slot.framing.dlci c.args.slot.sent.now xs patterns
+          c.args.tally)
           (sym (append-nil octets)) tallied;
     }

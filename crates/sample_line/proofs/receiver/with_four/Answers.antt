@@ -9,7 +9,8 @@ use Rattle.sample_line.proofs.receiver.with_four.Goals as goal
 
 pub returns-then-pass_four-clause-tallied : goal.returns-then-pass_four-clause-tallied
 returns-then-pass_four-clause-tallied c = λ bits octets patterns h tallied.
-    pieces-none c.args.slot.framing.check c.args.slot.framing.sender c.args.slot.framing.dlci c.args.slot.sent.now bits (bits ++ low_bits 4 c.args.four) octets
+    pieces-none c.args.slot.framing.check c.args.slot.framing.sender c.args.slot.framing.dlci c.args.slot.sent.now bits
+    (bits ++ low_bits 4 c.args.four) octets
     patterns c.args.tally (c.if-pass_four.ensures.quiet refl bits h) tallied
 
 pub returns-clause-stands : goal.returns-clause-stands
@@ -38,7 +39,8 @@ returns-clause-tallied c = λ bits octets patterns h tallied.
     let second = c.with_bit-tally-2.ensures.tallied b1 _ patterns one first.tallies in
     let third = c.with_bit-tally-3.ensures.tallied b2 _ patterns two second.tallies in
     let fourth = c.with_bit.ensures.tallied b3 _ patterns three third.tallies in
-    subst (λ (xs : List Bool). PiecesAreTallied c.args.slot.framing.check c.args.slot.framing.sender c.args.slot.framing.dlci c.args.slot.sent.now bits xs octets
+    subst (λ (xs : List Bool). PiecesAreTallied c.args.slot.framing.check c.args.slot.framing.sender c.args.slot.framing.dlci
+    c.args.slot.sent.now bits xs octets
     patterns c.with_bit.result)
     (four-behind bits _ _ _ _ ∙ ap (λ four. bits ++ four) (quad-bits c.args.four c.requires.four))
     (pieces-then _ _ _ _ bits b1 _ octets patterns _ _ first

@@ -15,8 +15,10 @@ returns-in-Ok c = λ octets patterns h.
       tallies = subst (Tallies slot.framing.sender slot.framing.dlci slot.sent.now (octets ++ option_to_list (Some own.octets)) patterns)
           (sym c.after_octets.ensures)
           (octets-more slot.framing.sender slot.framing.dlci slot.sent.now octets patterns own.octets c.carries_frame.result c.args.tally
-          (λ e. spells-sent slot.framing.sender slot.framing.dlci slot.sent.now c.in-Ok.frame own.octets own.spelling (c.carries_frame.ensures.yes e))
-          (λ e. another-sent slot.framing.sender slot.framing.dlci slot.sent.now c.in-Ok.frame own.octets own.spelling (c.carries_frame.ensures.no e)) h);
+          (λ e. spells-sent slot.framing.sender slot.framing.dlci slot.sent.now c.in-Ok.frame own.octets own.spelling
+          (c.carries_frame.ensures.yes e))
+          (λ e. another-sent slot.framing.sender slot.framing.dlci slot.sent.now c.in-Ok.frame own.octets own.spelling
+          (c.carries_frame.ensures.no e)) h);
     }
 
 pub returns-in-Err-Refused : goal.returns-in-Err-Refused
@@ -37,6 +39,7 @@ returns-in-Err-BadCheck c = λ octets patterns h.
     record {
       front = None;
       passes = inl ((c.in-Err-BadCheck.ensures.fault BadCheck).0 (ap Err c.in-Err-BadCheck.field-0-is), refl);
-      tallies = subst (λ (xs : List (List ℕ)). Tallies c.args.slot.framing.sender c.args.slot.framing.dlci c.args.slot.sent.now xs patterns c.args.tally)
+      tallies = subst (λ (xs : List (List ℕ)). Tallies c.args.slot.framing.sender c.args.slot.framing.dlci c.args.slot.sent.now xs patterns
+          c.args.tally)
           (sym (append-nil octets)) h;
     }

@@ -28,7 +28,8 @@ returns c =
           (codes-bits old signals signal (line_bits c.write_sent.new.out) s c.write_sent.ensures.bits) c.write_labels.ensures);
       stands = λ signals h.
           let s = subst (λ (k : Coding). CoderStands k signals) (sym c.self.view_is) h in
-          subst (λ (k : Coding). CoderStands new (signals ++ signal_of c.args.check k.sender c.args.dlci c.args.sent.now ∷ [])) c.self.view_is
+          subst (λ (k : Coding). CoderStands new (signals ++ signal_of c.args.check k.sender c.args.dlci c.args.sent.now ∷ []))
+          c.self.view_is
           (codes-stand old c.write_sent.new.writer c.write_labels.new.modulator signals signal (line_bits c.write_sent.new.out)
           c.write_labels.new.out s (codes-bits old signals signal (line_bits c.write_sent.new.out) s c.write_sent.ensures.bits)
           c.write_sent.ensures.symbols c.write_sent.ensures.stands c.write_labels.ensures);

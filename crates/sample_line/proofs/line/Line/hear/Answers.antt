@@ -23,7 +23,8 @@ returns-in_err-tally-clause-passes c = λ passed signal h coded.
     (sym (p.1 ∙ ap Err p.2))
     (subst (λ (r : Role). LosesWithin r c.args.script.now (signal_bits (size_of line) passed) (bits_behind (size_of line) passed signal)
     c.in_err-tally.field-0.0.symbol) (sym c.pass.ensures.sender)
-    (lost-within c.args.script.now (sender_of line) (size_of line) passed signal c.args.labels.now stands.points c.in_err-tally.field-0.0.symbol
+    (lost-within c.args.script.now (sender_of line) (size_of line) passed signal c.args.labels.now stands.points
+    c.in_err-tally.field-0.0.symbol
     stands.modulated coded-as
     (subst (λ (r : Role). LosesAmong r c.args.script.now stands.points (map point_of c.args.labels.now) c.in_err-tally.field-0.0.symbol)
     c.pass.ensures.sender lost)))
