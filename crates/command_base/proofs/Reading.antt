@@ -4,7 +4,8 @@ use Rattle.std.proofs.Common.{subst, arith, length-append, length-drop, inl, ◌
 use Rattle.std.proofs.lemmas.List.{take-append-drop, take_all, drop_all}
 use Rattle.plain_lists.specs.Octets.{AreOctets}
 use Rattle.plain_lists.specs.Prefix.{IsPrefixOf}
-use Rattle.outside_calls.specs.Folder.{FolderState, TellsOctets, octets_at, GoesOn, KeepsName, OnlyReads, HasCause, FaultsStand, CountsStand}
+use Rattle.outside_calls.specs.Folder.{FolderState, TellsOctets, octets_at, GoesOn, KeepsName, OnlyReads, HasCause, FaultsStand}
+use Rattle.outside_calls.specs.Folder.{CountsStand}
 use Rattle.outside_calls.specs.declared.folder.FolderFault.{FolderFault}
 use Rattle.outside_calls.specs.declared.folder.FolderFault.TheVariants.{Failed, NoMemory}
 use Rattle.outside_calls.proofs.Steps.{GoesOn-trans, KeepsName-trans, OnlyReads-trans, CountsStand-trans, told_later, octets-kept}

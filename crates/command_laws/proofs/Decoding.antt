@@ -56,7 +56,8 @@ decoded-same rate mode octets recording others count are h sent d =
     let same : content ≡ d.content = content-same rate mode d.mode content d.content whole in
     let alike : mode ≡ d.mode = mode-same rate mode d.mode (ap (λ (xs : List ℕ). slice_index xs 4) whole) in
     let heard : samples_in d.content ≡ h.samples = ap samples_in (sym same) ∙ sent.back.same in
-    let least : IsLeast (trellis_at rate) h.samples d.labels = subst (λ (xs : List Sample). IsLeast (trellis_at rate) xs d.labels) heard d.nearest in
+    let least : IsLeast (trellis_at rate) h.samples d.labels = subst (λ (xs : List Sample). IsLeast (trellis_at rate) xs d.labels) heard
+    d.nearest in
     let labels : d.labels ≡ sent.labels = sent.only.only d.labels least in
     let read : DemodulatesAt rate (tap_of mode) sent.labels d.carries.bits =
     subst (λ (xs : List ℕ). DemodulatesAt rate (tap_of mode) xs d.carries.bits) labels
@@ -67,7 +68,8 @@ decoded-same rate mode octets recording others count are h sent d =
 
 -- such a recording is one that is decoded
 is-recording : (rate : Rate) (mode : Mode) (octets recording : List ℕ) (count : ℕ) → length recording ≤ 8388616
-    → (h : IsRecordingOf rate mode octets recording count) → IsSent rate (tap_of mode) (bits_of octets) h.samples → IsRecording rate recording
+    → (h : IsRecordingOf rate mode octets recording count) → IsSent rate (tap_of mode) (bits_of octets) h.samples
+    → IsRecording rate recording
 is-recording rate mode octets recording count short h sent = record {
   within = short;
   mode = mode;
@@ -77,7 +79,8 @@ is-recording rate mode octets recording count short h sent = record {
   not_lost = λ e. subst (λ (xs : List Sample). LostIs (trellis_at rate) 128 xs None) (sym sent.back.same) (sent.kept e);
 }
 
-module _ (laws : SentLaws) (n : EncodeNames) (m : DecodeNames) (old mid was then : FolderState) (s : Status) (h : encode.Headline old mid n Done)
+module _ (laws : SentLaws) (n : EncodeNames) (m : DecodeNames) (old mid was then : FolderState) (s : Status)
+    (h : encode.Headline old mid n Done)
     (are : AreOfFile n m old mid was) (sound : IsSound was then (inputs_of m) (outputs_of m)) (d : decode.Headline was then m s) where
   abbrev Left : Type 0
   Left = ((s ≡ Done) × (held_at then m.file ≡ Some (octets_at old n.file))) ⊎ (s ≡ NoMemory)
@@ -88,13 +91,18 @@ module _ (laws : SentLaws) (n : EncodeNames) (m : DecodeNames) (old mid was then
       let sent = is-sent laws m.rate (tap_of n.mode) (bits_of (octets_at old n.file)) r.samples r.modulated in
       let right : IsRecording m.rate (octets_at was m.rec) =
       subst (λ (xs : List ℕ). IsRecording m.rate xs) (sym is)
-      (is-recording m.rate n.mode (octets_at old n.file) recording count (subst (λ (xs : List ℕ). length xs ≤ 8388616) is are.rec_short) r sent) in
+      (is-recording m.rate n.mode (octets_at old n.file) recording count (subst (λ (xs : List ℕ). length xs ≤ 8388616) is are.rec_short) r
+      sent) in
       elim (completes sound are.rec_given right) [
         | inl done ↦
             let left = (d.whole done).2 are.rec_given are.file_given in
             let decoded : decode.IsDecoding m.rate recording left.0 =
             subst (λ (xs : List ℕ). decode.IsDecoding m.rate xs left.0) is left.2 in
-            inl (done, left.1 ∙ ap Some (decoded-same m.rate n.mode (octets_at old n.file) recording left.0 count are.file_octets r sent decoded))
+            inl (
+              done,
+              left.1 ∙ ap Some (decoded-same m.rate n.mode (octets_at old n.file) recording left.0 count are.file_octets r sent
+                  decoded),
+            )
         | inr memory ↦ inr memory
       ]
 

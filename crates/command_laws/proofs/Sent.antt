@@ -91,7 +91,8 @@ pub record IsSent (rate : Rate) (tap : ℕ) (bits : List Bool) (samples : List S
 
 turns-small : (q places : List ℕ) → All (λ label. label < 4) (map (turned_at q) places)
 turns-small q [] = All-nil (λ label. label < 4)
-turns-small q (place ∷ places) = All-cons (λ label. label < 4) (turned_at q place) (map (turned_at q) places) (omega arith) (turns-small q places)
+turns-small q (place ∷ places) = All-cons (λ label. label < 4) (turned_at q place) (map (turned_at q) places) (omega arith)
+    (turns-small q places)
 
 -- the one state leads to itself by each label
 quarters-lead : (labels : List ℕ) → All (λ label. label < 4) labels → Leads quarters.next_state 0 labels 0
@@ -112,7 +113,8 @@ is-sent laws Trellis tap bits samples h = record {
   carries = line.comes-back tap bits h.line h.quads h.labels h.end h.scrambled h.in_fours h.are_quads h.encoded;
   back = subst ReadBack (sym h.points)
       (points-back laws.none point_of 32 trellis-test h.labels (Leads-below next_state 8 32 0 h.labels h.end v32_bounded h.encoded.leads));
-  kept = λ e. laws.kept 0 128 h.labels samples (record { start_there = omega arith; end = h.end; leads = h.encoded.leads; exact = h.points })
+  kept = λ e. laws.kept 0 128 h.labels samples
+      (record { start_there = omega arith; end = h.end; leads = h.encoded.leads; exact = h.points })
       (omega arith);
 }
 is-sent laws Quarters tap bits samples h =

@@ -59,11 +59,13 @@ body-is : (new was : FolderState) (name other header body : List ℕ) → IsTrue
     → octets_at was other ≡ octets_at new name → octets_at was other ≡ header ++ body
 body-is new was name other header body told holds same = same ∙ octets-held new name (header ++ body) (holds told)
 
-alike : (f g : FolderState) (name other octets left : List ℕ) → octets ≡ left → Holds f name octets → Holds g other left → LeftAlike f name g other
+alike : (f g : FolderState) (name other octets left : List ℕ) → octets ≡ left → Holds f name octets → Holds g other left
+    → LeftAlike f name g other
 alike f g name other octets left e a b tf tg = b tg ∙ ap Some (sym e) ∙ sym (a tf)
 
 pub taps-leave : TapLaws → TapsLeaveWhatRunsLeft
-taps-leave laws m tapes old new was then n end r is ran told of-run sound completes = by (completes sound ran.script bodies right (told_end end) ran.left tap)
+taps-leave laws m tapes old new was then n end r is ran told of-run sound completes = by
+    (completes sound ran.script bodies right (told_end end) ran.left tap)
   where
     hold : HoldTapes new (Some tapes) (wire_of ran.script) ran.run.turns
     hold = subst (λ (x : Tapes). HoldTapes new x (wire_of ran.script) ran.run.turns) is ran.taped
@@ -97,13 +99,15 @@ taps-leave laws m tapes old new was then n end r is ran told of-run sound comple
       spelled = subst (λ (text : List ℕ). ScriptSpelling text ran.script) (sym of-run.script_is) spelled;
       orig_told = of-run.orig_told;
       orig_short = of-run.orig_short;
-      orig_is = body-is new was tapes.orig n.rec_o (header_of (mode_of Originator)) hold.0.body of-run.orig_left hold.0.holds of-run.orig_is;
+      orig_is = body-is new was tapes.orig n.rec_o (header_of (mode_of Originator)) hold.0.body of-run.orig_left hold.0.holds
+          of-run.orig_is;
       answ_told = of-run.answ_told;
       answ_short = of-run.answ_short;
       answ_is = body-is new was tapes.answ n.rec_a (header_of (mode_of Answerer)) hold.1.body of-run.answ_left hold.1.holds of-run.answ_is;
     }
 
-    passed : (role : Role) → of role ran.left.got ≡ taken_octets (agreed_srej (link_of ran.script ran.files)) (delay_of ran.script) role ran.heard
+    passed : (role : Role) → of role ran.left.got ≡ taken_octets (agreed_srej (link_of ran.script ran.files)) (delay_of ran.script) role
+        ran.heard
     passed role =
         laws.passed (wire_of ran.script) (link_of ran.script ran.files) end ran.left
         (record { may_play = laws.play ran.script ran.files ran.limits; delays = laws.delays ran.script ran.limits }) ran.run role

@@ -24,21 +24,24 @@ abbrev pub ApartNames : Type 0
 ApartNames = (inputs outputs : List (List ℕ)) → are_apart inputs outputs ≡ true → AreNoneOf outputs inputs
 
 -- a name that is among the inputs of outputs that are none of these is none of the outputs
-none-of : (inputs : List (List ℕ)) (name : List ℕ) → ((output : List ℕ) → IsNoneOf output inputs → output ≢ name) → (outputs : List (List ℕ))
+none-of : (inputs : List (List ℕ)) (name : List ℕ) → ((output : List ℕ) → IsNoneOf output inputs → output ≢ name)
+    → (outputs : List (List ℕ))
     → AreNoneOf outputs inputs → IsNoneOf name outputs
 none-of inputs name differs [] apart = tt
 none-of inputs name differs (output ∷ outputs) apart =
     (λ e. differs output apart.0 (sym e), none-of inputs name differs outputs apart.1)
 
 module _ (one : ScriptsAreOne) (old mid new : FolderState) (n : RunNames) (r s : Status) (script : ScriptValue)
-    (apart : AreNoneOf (outputs_of n) (inputs_of n)) (same : (name : List ℕ) → mid.tells name ≡ old.tells name) (h : run.Headline old mid n r)
+    (apart : AreNoneOf (outputs_of n) (inputs_of n)) (same : (name : List ℕ) → mid.tells name ≡ old.tells name)
+    (h : run.Headline old mid n r)
     (completes : Completes mid new (audit_of n) s) (sound : IsSound mid new (audit.inputs_of (audit_of n)) [])
     (right : AreRight mid (audit_of n) script) where
   -- an input holds what it held
   kept : (name : List ℕ) → ((output : List ℕ) → IsNoneOf output (inputs_of n) → output ≢ name) → IsTrue (mid.tells name)
       → octets_at mid name ≡ octets_at old name
   kept name differs told =
-      octets-kept old mid name (h.shared.names name (none-of (inputs_of n) name differs (outputs_of n) apart)) (subst IsTrue (same name) told)
+      octets-kept old mid name (h.shared.names name (none-of (inputs_of n) name differs (outputs_of n) apart))
+      (subst IsTrue (same name) told)
 
   was : (name : List ℕ) → IsTrue (mid.tells name) → IsTrue (old.tells name)
   was name told = subst IsTrue (same name) told
@@ -56,7 +59,8 @@ module _ (one : ScriptsAreOne) (old mid new : FolderState) (n : RunNames) (r s :
       e.are_of.answ_is (was n.names.answ right.answ_told) ∙ sym (kept n.names.answ (λ output a. a.1.0) right.answ_told) in
       let over : RunsTo (wire_of script) (link_of script e.files) end e.left =
       subst (λ (x : ScriptValue). RunsTo (wire_of x) (link_of x e.files) end e.left) is e.run in
-      let of-orig : RunsTo (wire_of script) (link_of script (record { orig = octets_at mid n.names.orig; answ = e.files.answ })) end e.left =
+      let of-orig : RunsTo (wire_of script) (link_of script (record { orig = octets_at mid n.names.orig; answ = e.files.answ })) end
+      e.left =
       subst (λ (o : List ℕ). RunsTo (wire_of script) (link_of script (record { orig = o; answ = e.files.answ })) end e.left) orig over in
       let of-both : InputsRunTo mid (audit_of n) script end e.left =
       subst (λ (w : List ℕ). RunsTo (wire_of script) (link_of script (record { orig = octets_at mid n.names.orig; answ = w })) end e.left)

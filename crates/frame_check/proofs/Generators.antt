@@ -1,5 +1,6 @@
 -- The two generators as the code writes them, and the register at first.
-use Rattle.std.proofs.Common.{◌≡◌, ℕ, zero, suc, ◌-◌, ◌^◌, ◌<◌, inl, inr, Bool, true, false, ◌&&◌, List, nat_eq, slice_index_or, arith, refl, lit<}
+use Rattle.std.proofs.Common.{◌≡◌, ℕ, zero, suc, ◌-◌, ◌^◌, ◌<◌, inl, inr, Bool, true, false, ◌&&◌, List, nat_eq, slice_index_or, arith}
+use Rattle.std.proofs.Common.{refl, lit<}
 use Rattle.std.specs.Int.{bit_at}
 use Rattle.std.proofs.lemmas.Bool.{cases_lt, false≢true}
 use borrow.Author.Tests.{eqb-true}

@@ -1,5 +1,6 @@
 -- Bits that are read in twos and fours, and a sample that is put behind those that are given.
-use Rattle.std.proofs.Common.{◌≡◌, ℕ, zero, suc, ◌+◌, ◌*◌, ◌%◌, ◌<◌, ◌≤◌, ℤ, pos, Bool, List, [], ◌∷◌, ◌++◌, length, get_or, set, nat_eq, refl, ap, ◌∙◌, arith, get_or-set_same, get_or-set_other, length-set, append_assoc}
+use Rattle.std.proofs.Common.{◌≡◌, ℕ, zero, suc, ◌+◌, ◌*◌, ◌%◌, ◌<◌, ◌≤◌, ℤ, pos, Bool, List, [], ◌∷◌, ◌++◌, length, get_or, set, nat_eq}
+use Rattle.std.proofs.Common.{refl, ap, ◌∙◌, arith, get_or-set_same, get_or-set_other, length-set, append_assoc}
 use Rattle.symbol_map.specs.declared.sample.Sample.{Sample}
 use Rattle.gateway.specs.Given.{heard, samples_in}
 

@@ -16,7 +16,8 @@ use Rattle.gateway.specs.declared.any_reader.LineKind.{LineKind}
 use Rattle.gateway.specs.declared.any_reader.LineKind.TheVariants as lines
 use Rattle.gateway.specs.Reads.{Read, ReadsAs, Ends}
 
-pub begun-ends : (line : LineKind) (mode : Mode) (r : Reading Demodulator) (samples : List Sample) (before more : List Bool) (tail : List ℕ) (d : Demodulator)
+pub begun-ends : (line : LineKind) (mode : Mode) (r : Reading Demodulator) (samples : List Sample) (before more : List Bool) (tail : List ℕ)
+    (d : Demodulator)
     → (SamplesRead next_state point_of (DemodulatorStands mode) at_beginning line_depth r samples before
     → IsFinished next_state point_of (DemodulatorStands mode) at_beginning samples before tail d)
     → ((labels : List ℕ) → DemodulatorStands mode d labels before → Read (DemodulatorStands mode) (labels ++ tail) (before ++ more))
@@ -26,10 +27,12 @@ begun-ends lines.Begun mode r samples before more tail d finish put start =
 begun-ends lines.Middle mode r samples before more tail d finish put start = absurd start
 begun-ends lines.Quarters mode r samples before more tail d finish put start = absurd start
 
-pub quarters-end : (line : LineKind) (mode : Mode) (r : Reading QuarterDemodulator) (samples : List Sample) (before more : List Bool) (tail : List ℕ) (d : QuarterDemodulator)
+pub quarters-end : (line : LineKind) (mode : Mode) (r : Reading QuarterDemodulator) (samples : List Sample) (before more : List Bool)
+    (tail : List ℕ) (d : QuarterDemodulator)
     → (SamplesRead next_quarter quarter_of (QuarterDemodulatorStands mode) at_beginning line_depth r samples before
     → IsFinished next_quarter quarter_of (QuarterDemodulatorStands mode) at_beginning samples before tail d)
-    → ((labels : List ℕ) → QuarterDemodulatorStands mode d labels before → Read (QuarterDemodulatorStands mode) (labels ++ tail) (before ++ more))
+    → ((labels : List ℕ) → QuarterDemodulatorStands mode d labels before
+    → Read (QuarterDemodulatorStands mode) (labels ++ tail) (before ++ more))
     → ReadsAs line mode (readers.Quarters r) samples before → Ends line mode samples before more
 quarters-end lines.Begun mode r samples before more tail d finish put start = absurd start
 quarters-end lines.Middle mode r samples before more tail d finish put start = absurd start

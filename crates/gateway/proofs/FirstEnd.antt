@@ -1,5 +1,7 @@
 -- Where a frame alone ends among the bits of a slot.
-use Rattle.std.proofs.Common.{ℕ, zero, suc, ◌+◌, ◌-◌, ◌*◌, ◌≡◌, ◌<◌, ◌≤◌, ◌∷◌, ◌++◌, Bool, true, false, List, [], Option, Some, None, nat_eq, get_or, length, take, refl, ap, sym, subst, ◌∙◌, arith, append_assoc, length-append, zero-add, true≢false}
+use Rattle.std.proofs.Common.{ℕ, zero, suc, ◌+◌, ◌-◌, ◌*◌, ◌≡◌, ◌<◌, ◌≤◌, ◌∷◌, ◌++◌, Bool, true, false, List, [], Option, Some, None}
+use Rattle.std.proofs.Common.{nat_eq, get_or, length, take, refl, ap, sym, subst, ◌∙◌, arith, append_assoc, length-append, zero-add}
+use Rattle.std.proofs.Common.{true≢false}
 use Rattle.std.specs.Option.{option_map}
 use Rattle.std.specs.Prelude.{All, is_some}
 use Rattle.std.proofs.lemmas.List.{append-nil}
@@ -19,15 +21,20 @@ given-grows zero n k e octets = ([], ap (λ j. given j octets) (e ∙ zero-add k
 given-grows (suc more) n k e octets =
     let before = given-grows more (more + k) k refl octets in
     let bit : Bool = nat_eq (get_or octets (more + k) 0) 1 in
-    let same : n ≡ suc (more + k) = omega (arith, e) in
-    (before.0 ++ bit ∷ [], ap (λ j. given j octets) same ∙ ap (λ bits. bits ++ bit ∷ []) before.1 ∙ append_assoc (given k octets) before.0 (bit ∷ []))
+    let same : n ≡ suc (more + k) = omega (arith, e) in (
+      before.0 ++ bit ∷ [],
+      ap (λ j. given j octets) same ∙ ap (λ bits. bits ++ bit ∷ []) before.1
+          ∙ append_assoc (given k octets) before.0 (bit ∷ []),
+    )
 
 -- the first of the pieces ends at the one place that is left for it
-only-end : (at : Option Found) (added tail : List Found) (place : ℕ) (found : Found) → is_some (option_map (λ f. f.piece) at) ≡ true → added ≡ listed at
+only-end : (at : Option Found) (added tail : List Found) (place : ℕ) (found : Found) → is_some (option_map (λ f. f.piece) at) ≡ true
+    → added ≡ listed at
     → All (λ f. (place < f.place) × (f.place ≤ place + 1)) added → listed at ++ tail ≡ found ∷ [] → place + 1 ≡ found.place
 only-end None added tail place found some same places whole = absurd (true≢false (sym some))
 only-end (Some f) added tail place found some same places whole =
-    let here : (place < f.place) × (f.place ≤ place + 1) = (subst (λ (fs : List Found). All (λ g. (place < g.place) × (g.place ≤ place + 1)) fs) same places) 0 f (omega arith) in
+    let here : (place < f.place) × (f.place ≤ place + 1) =
+    (subst (λ (fs : List Found). All (λ g. (place < g.place) × (g.place ≤ place + 1)) fs) same places) 0 f (omega arith) in
     let is_found : f ≡ found = ap (λ fs. get_or fs 0 f) whole in
     let e : place + 1 ≡ f.place = omega (arith, here.0, here.1) in e ∙ ap (λ g. g.place) is_found
 
@@ -53,8 +60,10 @@ first-ends octets place count found within quiet some grow stay whole =
     let all : listed (found_at one) ++ behind.0 ≡ found ∷ [] =
     ap (λ fs. fs ++ behind.0) (sym pieces) ∙ sym behind.1.all ∙ ap pieces_of (sym split.1) ∙ whole in
     let long : length one ≡ place + 1 = length-append bits (bit ∷ []) ∙ ap (λ n. n + 1) (length-given place octets) in
-    let places : All (λ f. (place < f.place) × (f.place ≤ place + 1)) here.0 = λ k d low. let p = here.1.places k d low in
-    (subst (λ (n : ℕ). n < (get_or here.0 k d).place) (length-given place octets) p.0, subst (λ (n : ℕ). (get_or here.0 k d).place ≤ n) long p.1) in
+    let places : All (λ f. (place < f.place) × (f.place ≤ place + 1)) here.0 = λ k d low. let p = here.1.places k d low in (
+      subst (λ (n : ℕ). n < (get_or here.0 k d).place) (length-given place octets) p.0,
+      subst (λ (n : ℕ). (get_or here.0 k d).place ≤ n) long p.1,
+    ) in
     only-end (found_at one) here.0 behind.0 place found some added places all
 
 -- no piece ends with the bit at this place either
@@ -65,11 +74,13 @@ pub none-ends : (octets : List ℕ) (place next : ℕ) → next ≡ suc place �
 none-ends octets place next e quiet none grow =
     let bits : List Bool = given place octets in
     let bit : Bool = nat_eq (get_or octets place 0) 1 in
-    ap (λ k. pieces_of (given k octets)) e ∙ grow bits bit ∙ ap (λ fs. fs ++ listed (found_at (bits ++ bit ∷ []))) quiet ∙ not-listed (found_at (bits ++ bit ∷ [])) none
+    ap (λ k. pieces_of (given k octets)) e ∙ grow bits bit ∙ ap (λ fs. fs ++ listed (found_at (bits ++ bit ∷ []))) quiet
+    ∙ not-listed (found_at (bits ++ bit ∷ [])) none
 
 -- a frame alone in a slot is the one piece of its bits
 pub frame-alone : (size : ℕ) (octets : List ℕ) → IsFrame octets → length (opening 0 (Some octets)) ≤ size
-    → ((n : ℕ) (before : List Slot) (slot : Slot) → AreSlots n 0 (before ++ slot ∷ []) → (added : List Found) × SlotAdds n before slot added)
+    → ((n : ℕ) (before : List Slot) (slot : Slot) → AreSlots n 0 (before ++ slot ∷ []) → (added : List Found)
+    × SlotAdds n before slot added)
     → pieces_of [] ≡ [] → pieces_of (slot_bits size 0 (Flags (Some octets))) ≡ whole_at (length (opening 0 (Some octets))) octets ∷ []
 frame-alone size octets is_frame fits sent none =
     let slot : Slot = Flags (Some octets) in
@@ -81,7 +92,8 @@ frame-alone size octets is_frame fits sent none =
 given-take : (k n : ℕ) → k ≤ n → (octets : List ℕ) → given k octets ≡ take k (given n octets)
 given-take k n le octets =
     let split = given-grows (n - k) n k (omega (arith, le)) octets in
-    sym (take-append_seam (given k octets) split.0) ∙ ap (λ j. take j (given k octets ++ split.0)) (length-given k octets) ∙ ap (take k) (sym split.1)
+    sym (take-append_seam (given k octets) split.0) ∙ ap (λ j. take j (given k octets ++ split.0)) (length-given k octets)
+    ∙ ap (take k) (sym split.1)
 
 -- the bits of a frame alone in a slot, which are put as octets
 pub slot-alone : (symbols w phase : ℕ) (octets out bits : List ℕ) → w ≡ symbols → phase ≡ 0 → length out ≡ w
@@ -91,14 +103,17 @@ slot-alone symbols w phase octets out bits e none count line put =
     ap (λ n. given (4 * n) bits) (sym (count ∙ e)) ∙ put ∙ line ∙ (λ i. slot_bits (4 * e i) (none i) (Flags (Some octets)))
 
 -- they are the frame's where the place is that at which its piece ends
-pub opens : (size count : ℕ) (octets bits : List ℕ) → size ≡ 10460 → IsFrame octets → length (opening 0 (Some octets)) ≤ size → size ≤ length bits
+pub opens : (size count : ℕ) (octets bits : List ℕ) → size ≡ 10460 → IsFrame octets → length (opening 0 (Some octets)) ≤ size
+    → size ≤ length bits
     → given size bits ≡ slot_bits size 0 (Flags (Some octets))
     → ((found : Found) → pieces_of (given size bits) ≡ found ∷ [] → count ≡ found.place)
-    → ((n : ℕ) (before : List Slot) (slot : Slot) → AreSlots n 0 (before ++ slot ∷ []) → (added : List Found) × SlotAdds n before slot added)
+    → ((n : ℕ) (before : List Slot) (slot : Slot) → AreSlots n 0 (before ++ slot ∷ []) → (added : List Found)
+    × SlotAdds n before slot added)
     → pieces_of [] ≡ [] → OpensFrame octets bits count
 opens size count octets bits most is_frame fits room given_is first sent none =
     let line : List Bool = opening 0 (Some octets) in
-    let ends : count ≡ length line = first (whole_at (length line) octets) (ap pieces_of given_is ∙ frame-alone size octets is_frame fits sent none) in
+    let ends : count ≡ length line = first (whole_at (length line) octets)
+    (ap pieces_of given_is ∙ frame-alone size octets is_frame fits sent none) in
     record {
       is_frame = is_frame;
       room = omega (arith, most, room);

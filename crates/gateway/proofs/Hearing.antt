@@ -1,5 +1,6 @@
 -- The bits that octets say by their lowest, one after another.
-use Rattle.std.proofs.Common.{ℕ, zero, suc, ◌+◌, ◌%◌, ◌≡◌, ◌<◌, ◌≤◌, ◌∷◌, ◌++◌, Bool, List, [], Option, None, nat_eq, get_or, length, refl, ap, sym, subst, append_assoc, ◌∙◌, arith, length-append, eq-or-lt_of_le, inl, inr}
+use Rattle.std.proofs.Common.{ℕ, zero, suc, ◌+◌, ◌%◌, ◌≡◌, ◌<◌, ◌≤◌, ◌∷◌, ◌++◌, Bool, List, [], Option, None, nat_eq, get_or, length, refl}
+use Rattle.std.proofs.Common.{ap, sym, subst, append_assoc, ◌∙◌, arith, length-append, eq-or-lt_of_le, inl, inr}
 use Rattle.gateway.specs.Given.{heard}
 
 pub length-heard : (k : ℕ) (octets : List ℕ) → length (heard k octets) ≡ k
@@ -9,7 +10,8 @@ length-heard (suc k) octets =
     length-append (heard k octets) (nat_eq (get_or octets k 0 % 2) 1 ∷ []) ∙ omega (arith, h)
 
 -- one bit more
-pub heard-more : (past : List Bool) (octets : List ℕ) (k k' : ℕ) → k' ≡ suc k → (past ++ heard k octets) ++ nat_eq (get_or octets k 0 % 2) 1 ∷ [] ≡ past ++ heard k' octets
+pub heard-more : (past : List Bool) (octets : List ℕ) (k k' : ℕ) → k' ≡ suc k
+    → (past ++ heard k octets) ++ nat_eq (get_or octets k 0 % 2) 1 ∷ [] ≡ past ++ heard k' octets
 heard-more past octets k k' e = append_assoc past (heard k octets) _ ∙ (λ i. past ++ heard (sym e i) octets)
 
 pub length-heard-behind : (past : List Bool) (octets : List ℕ) (k : ℕ) → length (past ++ heard k octets) ≡ length past + k

@@ -103,7 +103,8 @@ book-grows : (offered delivered : List (List ℕ)) (a b : Account) → Grows a b
 book-grows offered delivered a b (inl (more, e)) h = subst (IsBook offered delivered) (sym e) (record {
   pieces_are = h.pieces_are;
   given_are = h.given_are ∙ sym (take-append-le a.incoming.given a.incoming.taken more h.within);
-  within = let w : a.incoming.given ≤ length a.incoming.taken = h.within in omega (arith, w, length-append {A = List ℕ} a.incoming.taken more);
+  within = let w : a.incoming.given ≤ length a.incoming.taken =
+      h.within in omega (arith, w, length-append {A = List ℕ} a.incoming.taken more);
   blank = h.blank;
 })
 book-grows offered delivered a b (inr (was, e)) h =
@@ -135,7 +136,8 @@ book-given offered delivered a segment e h =
         (lists (cond c (record a { incoming = cond l (record a.incoming { given = a.incoming.given + 1 }) a.incoming }) a))
     go true true j k segment e =
         let within : a.incoming.given < length a.incoming.taken = grind (arith, nat_tests) in
-        subst (λ (o : Option (List ℕ)). IsBook offered (with_delivered o delivered) (record (lists a) { given = a.incoming.given + 1 })) e (record {
+        subst (λ (o : Option (List ℕ)). IsBook offered (with_delivered o delivered) (record (lists a) { given = a.incoming.given + 1 })) e
+        (record {
           pieces_are = h.pieces_are;
           given_are = ap (λ (l : List (List ℕ)). l ++ slice_index_or a.incoming.taken a.incoming.given [] ∷ []) h.given_are
               ∙ sym (take_more a.incoming.taken a.incoming.given [] within);
@@ -241,7 +243,8 @@ led-on : (so sa : Setup) (events : List Event) (event : Event) (p q : Play) → 
 led-on so sa events event p q e h = play-append events (event ∷ []) (start (fresh so) (fresh sa)) ∙ ap (happens event) e ∙ h
 
 -- the own side has another form
-side-of : (check : Check) (role : Role) (x : Account) (slots : List Slot) (new form : EndSide) → new ≡ form → StandsFor new.end.link x → new.end.role ≡ role
+side-of : (check : Check) (role : Role) (x : Account) (slots : List Slot) (new form : EndSide) → new ≡ form → StandsFor new.end.link x
+    → new.end.role ≡ role
     → AllTold check role slots form.line → IsBook form.offered form.delivered (lists x) → IsSide check role x slots new
 side-of check role x slots new form e stands role_is line book = record {
   stands = stands;
@@ -334,7 +337,8 @@ has-heard (Ok b) a link given h = record { account = b; becomes_is = refl; stand
 has-heard (Err fault) a link given h = absurd h
 
 -- an end that has heard this, by the account that it came to
-heard-side : HistoryLaws → (check : Check) (role : Role) (turn : ℕ) (arrived : Arrived) (x b : Account) (slots : List Slot) (old new : EndSide)
+heard-side : HistoryLaws → (check : Check) (role : Role) (turn : ℕ) (arrived : Arrived) (x b : Account) (slots : List Slot)
+    (old new : EndSide)
     → IsSide check role x slots old → hear turn arrived x ≡ Ok b → new ≡ record old { end = new.end } → new.end.role ≡ old.end.role
     → StandsFor new.end.link (after_given b) → IsSide check role (after_given b) slots new
 heard-side laws check role turn arrived x b slots old new h e is role_is stands =
@@ -374,7 +378,8 @@ hears-step laws so sa reads role own peer new h nothing =
           m.hears.role_is heard.stands;
       peer_side = h.peer_side;
       known = knows-as role so sa heard.account (after_given heard.account) h.lx h.y h.ly refl
-          (knows-heard role so sa reads h.x heard.account h.lx h.y h.ly turn arrivals.Nothing (nothing-arrives role so sa h.x h.y) is h.known);
+          (knows-heard role so sa reads h.x heard.account h.lx h.y h.ly turn arrivals.Nothing (nothing-arrives role so sa h.x h.y) is
+          h.known);
     }
 
 gives-at-peer : (role : Role) (x y : Account) (lx ly : List Slot)
@@ -383,7 +388,8 @@ gives-at-peer Originator x y lx ly = refl
 gives-at-peer Answerer x y lx ly = refl
 
 -- an end whose oldest utterance is gone
-shorter-side : (check : Check) (role : Role) (x : Account) (slots left : List Slot) (old new : EndSide) (rest : List Told) → IsSide check role x slots old
+shorter-side : (check : Check) (role : Role) (x : Account) (slots left : List Slot) (old new : EndSide) (rest : List Told)
+    → IsSide check role x slots old
     → new ≡ record old { line = rest } → AllTold check role left rest → IsSide check role x left new
 shorter-side check role x slots left old new rest h is t =
     side-of check role x left new (record old { line = rest }) is
@@ -420,7 +426,8 @@ passes-step laws so sa reads role own peer new after h m =
               (h.led ∙ ap (λ (l : List Slot). at role h.x l h.y h.ly) e) (passes-event role turn h.x h.y heard.account slot left h.ly is))
               (gives-at-peer role h.x heard.account left h.ly);
           own_side = shorter-side (agreed_check so sa) role h.x h.lx left own new m.rest h.own_side m.new_is t.1;
-          peer_side = heard-side laws (agreed_check so sa) (other role) turn (arrives slot.sent) h.y heard.account h.ly peer after h.peer_side is m.hears.new_is
+          peer_side = heard-side laws (agreed_check so sa) (other role) turn (arrives slot.sent) h.y heard.account h.ly peer after
+              h.peer_side is m.hears.new_is
               m.hears.hears.role_is heard.stands;
           known = subst (λ (r : Role). KnowsAt r so sa h.x left (after_given heard.account) h.ly) (other-other role)
               (knows-turned (other role) so sa (after_given heard.account) h.ly h.x left
@@ -449,7 +456,8 @@ loses-step so sa role own peer new h m = go h.lx refl (subst (AllTold (agreed_ch
       known = knows-less role so sa h.x slot left h.y h.ly (subst (λ (l : List Slot). KnowsAt role so sa h.x l h.y h.ly) e h.known);
     }
 
-speaks-step : (so sa : Setup) → Reads so sa → (role : Role) (release : Bool) (own peer new : EndSide) → LastsAt so sa role own peer → SpeaksOf release own new
+speaks-step : (so sa : Setup) → Reads so sa → (role : Role) (release : Bool) (own peer new : EndSide) → LastsAt so sa role own peer
+    → SpeaksOf release own new
     → LastsAt so sa role new peer
 speaks-step so sa reads role release own peer new h m =
     go (speak own.end.state.turn release h.x) refl (m.speaks.says h.x h.own_side.stands)
@@ -500,7 +508,8 @@ stays so sa role own peer new h e is = record {
 
 -- its account changes, and none of its segments
 alters : (so sa : Setup) (role : Role) (own peer new : EndSide) (h : LastsAt so sa role own peer) (event : Event) (b : Account)
-    → happens event (at role h.x h.lx h.y h.ly) ≡ at role b h.lx h.y h.ly → lists b ≡ lists h.x → face b ≡ face h.x → StandsFor new.end.link b
+    → happens event (at role h.x h.lx h.y h.ly) ≡ at role b h.lx h.y h.ly → lists b ≡ lists h.x → face b ≡ face h.x
+    → StandsFor new.end.link b
     → new.end.role ≡ own.end.role → new ≡ record own { end = new.end } → LastsAt so sa role new peer
 alters so sa role own peer new h event b e same shown stands role_is is =
     changes so sa role own peer new h event b e shown
@@ -517,16 +526,19 @@ offered-step so sa role piece own peer new h m = go m.taken refl m.offers.accoun
         let wanted = taken-wanted (length piece) (piece_size h.x) (wants h.x) (sym e ∙ m.offers.answer h.x h.own_side.stands) in
         changes so sa role own peer new h (plays.Is_offered role piece) (after_offer piece h.x)
         (offered-event role piece h.x h.y h.lx h.ly wanted) refl
-        (side-of (agreed_check so sa) role (after_offer piece h.x) h.lx new (record own { end = new.end; offered = with_offered true piece own.offered }) is
+        (side-of (agreed_check so sa) role (after_offer piece h.x) h.lx new
+        (record own { end = new.end; offered = with_offered true piece own.offered }) is
         (k h.x h.own_side.stands) (m.offers.same.role_is ∙ h.own_side.role_is) h.own_side.line
-        (book-offered own.offered own.delivered h.x piece (wants-begun h.x (nat_le (length piece) (piece_size h.x)) wanted) h.own_side.book))
+        (book-offered own.offered own.delivered h.x piece (wants-begun h.x (nat_le (length piece) (piece_size h.x)) wanted)
+        h.own_side.book))
     go false e k is = stays so sa role own peer new h k is
 
 delivered-step : (so sa : Setup) (role : Role) (own peer new : EndSide) → LastsAt so sa role own peer → DeliveredOf own new
     → LastsAt so sa role new peer
 delivered-step so sa role own peer new h m =
     changes so sa role own peer new h (plays.Delivers role) (after_delivery h.x) (delivers-event role h.x h.y h.lx h.ly) (given-face h.x)
-    (side-of (agreed_check so sa) role (after_delivery h.x) h.lx new (record own { end = new.end; delivered = with_delivered m.segment own.delivered }) m.new_is
+    (side-of (agreed_check so sa) role (after_delivery h.x) h.lx new
+    (record own { end = new.end; delivered = with_delivered m.segment own.delivered }) m.new_is
     (m.delivers.account h.x h.own_side.stands) (m.delivers.role_is ∙ h.own_side.role_is) h.own_side.line
     (book-given own.offered own.delivered h.x m.segment (m.delivers.next h.x h.own_side.stands) h.own_side.book))
 
@@ -537,15 +549,18 @@ asked-step so sa role units own peer new h m = go m.answer m.answers
     go : (answer : BreakAsked) → AnswersBreak own.end units new.end answer → LastsAt so sa role new peer
     go asked.Taken k =
         alters so sa role own peer new h (plays.Is_asked role own.end.state.turn units) (after_break_asked own.end.state.turn units h.x)
-        (asked-event role own.end.state.turn units h.x h.y h.lx h.ly) (asked-lists own.end.state.turn units h.x) (asked-face own.end.state.turn units h.x)
+        (asked-event role own.end.state.turn units h.x h.y h.lx h.ly) (asked-lists own.end.state.turn units h.x)
+        (asked-face own.end.state.turn units h.x)
         (k.account h.x h.own_side.stands) k.same.role_is m.new_is
     go asked.Refused k =
         alters so sa role own peer new h (plays.Is_asked role own.end.state.turn units) (after_break_asked own.end.state.turn units h.x)
-        (asked-event role own.end.state.turn units h.x h.y h.lx h.ly) (asked-lists own.end.state.turn units h.x) (asked-face own.end.state.turn units h.x)
+        (asked-event role own.end.state.turn units h.x h.y h.lx h.ly) (asked-lists own.end.state.turn units h.x)
+        (asked-face own.end.state.turn units h.x)
         (k.account h.x h.own_side.stands) k.same.role_is m.new_is
     go asked.Late k = stays so sa role own peer new h k.1 m.new_is
 
-made-at : HistoryLaws → (so sa : Setup) → Reads so sa → (role : Role) (move : Move) (own peer new after : EndSide) → LastsAt so sa role own peer
+made-at : HistoryLaws → (so sa : Setup) → Reads so sa → (role : Role) (move : Move) (own peer new after : EndSide)
+    → LastsAt so sa role own peer
     → IsMade move own peer new after → LastsAt so sa role new after
 made-at laws so sa reads role Passes own peer new after h m = passes-step laws so sa reads role own peer new after h m
 made-at laws so sa reads role (Speaks release) own peer new after h m =
@@ -562,7 +577,8 @@ made-at laws so sa reads role Is_delivered own peer new after h m =
     subst (LastsAt so sa role new) (sym m.1) (delivered-step so sa role own peer new h m.0)
 made-at laws so sa reads role (Is_busy busy) own peer new after h m =
     subst (LastsAt so sa role new) (sym m.1) (alters so sa role own peer new h (plays.Is_busy role busy) (after_busy busy h.x)
-    (busy-event role busy h.x h.y h.lx h.ly) (busy-lists busy h.x) (busy-face busy h.x) (m.0.told.account h.x h.own_side.stands) m.0.told.same.role_is m.0.new_is)
+    (busy-event role busy h.x h.y h.lx h.ly) (busy-lists busy h.x) (busy-face busy h.x) (m.0.told.account h.x h.own_side.stands)
+    m.0.told.same.role_is m.0.new_is)
 
 -- ---- histories
 
@@ -573,7 +589,8 @@ from-role so sa ends Answerer Answerer h = h
 from-role so sa ends Originator Answerer h = turned so sa Originator ends.orig ends.answ h
 from-role so sa ends Answerer Originator h = turned so sa Answerer ends.answ ends.orig h
 
-new-side : (check : Check) (role : Role) (setup : Setup) (side : EndSide) → setup.role ≡ role → Begins setup side → IsSide check role (fresh setup) [] side
+new-side : (check : Check) (role : Role) (setup : Setup) (side : EndSide) → setup.role ≡ role → Begins setup side
+    → IsSide check role (fresh setup) [] side
 new-side check role setup side e b = record {
   stands = b.is_new.stands;
   role_is = b.is_new.role_is ∙ e;
@@ -603,7 +620,8 @@ lasts laws so sa [] ends m h role = from-role so sa ends Originator role (record
   known = knows-first so sa;
 })
 lasts laws so sa (step ∷ steps) ends m h role =
-    from-role so sa ends step.role role (made-at laws so sa (reads-both laws so sa m) step.role step.move (of step.role h.0) (of (other step.role) h.0)
+    from-role so sa ends step.role role
+    (made-at laws so sa (reads-both laws so sa m) step.role step.move (of step.role h.0) (of (other step.role) h.0)
     (of step.role ends) (of (other step.role) ends) (lasts laws so sa steps h.0 m h.1 step.role) h.2)
 
 pub histories_are_plays : HistoryLaws → HistoriesArePlays

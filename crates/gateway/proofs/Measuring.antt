@@ -1,5 +1,6 @@
 -- An octet more that a meter measures.
-use Rattle.std.proofs.Common.{◌≡◌, ◌∙◌, ℕ, suc, ◌+◌, ◌*◌, ◌/◌, ◌%◌, ◌<◌, ℤ, pos, Bool, List, [], ◌∷◌, ◌++◌, get_or, refl, sym, ap, subst, arith, append_assoc}
+use Rattle.std.proofs.Common.{◌≡◌, ◌∙◌, ℕ, suc, ◌+◌, ◌*◌, ◌/◌, ◌%◌, ◌<◌, ℤ, pos, Bool, List, [], ◌∷◌, ◌++◌, get_or, refl, sym, ap, subst}
+use Rattle.std.proofs.Common.{arith, append_assoc}
 use Rattle.plain_lists.specs.Bits.{low_bits, octet_bits, bits_of}
 use Rattle.frame_check.proofs.BitLists.{bits_of-snoc}
 use Rattle.scramblers.specs.declared.mode.Mode.{Mode}
@@ -40,7 +41,8 @@ two-samples parts place first second fr fi sr si =
     ap (λ n. samples_in n parts) two
     ∙ (λ i. (samples_in (2 * place) parts ++ record { re = sym fr i; im = sym fi i } ∷ []) ++ record { re = re i; im = im i } ∷ [])
 
-pub measures-more : (mode : Mode) (new : Measured) (past : List Bool) (samples : List Sample) (octets bits : List ℕ) (parts : List ℤ) (place octet : ℕ)
+pub measures-more : (mode : Mode) (new : Measured) (past : List Bool) (samples : List Sample) (octets bits : List ℕ) (parts : List ℤ)
+    (place octet : ℕ)
     (first second : Sample) → past ++ heard (8 * place) bits ≡ bits_of octets
     → heard (8 * place + 8) bits ≡ heard (8 * place) bits ++ octet_bits octet
     → samples_in (2 * (place + 1)) parts ≡ (samples_in (2 * place) parts ++ first ∷ []) ++ second ∷ []

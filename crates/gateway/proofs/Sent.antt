@@ -1,5 +1,6 @@
 -- What labels that begin others carry, at either rate.
-use Rattle.std.proofs.Common.{◌≡◌, ◌∙◌, ℕ, zero, suc, ◌*◌, ◌≤◌, Bool, List, [], ◌∷◌, ◌++◌, length, take, drop, refl, sym, ap, subst, arith, append_assoc}
+use Rattle.std.proofs.Common.{◌≡◌, ◌∙◌, ℕ, zero, suc, ◌*◌, ◌≤◌, Bool, List, [], ◌∷◌, ◌++◌, length, take, drop, refl, sym, ap, subst, arith}
+use Rattle.std.proofs.Common.{append_assoc}
 use Rattle.std.specs.List.{flat_map}
 use Rattle.std.proofs.Math.Seq.{take-nil}
 use Rattle.std.proofs.lemmas.List.{take-append-drop, take-append-le, take_all}
@@ -27,7 +28,8 @@ pub take-front : {X : Type 0} (front back : List X) → take (length front) (fro
 take-front front back = take-append-le (length front) front back (omega arith) ∙ take_all (length front) front (omega arith)
 
 -- the labels that begin others carry the first of their bits
-pub carries-first : (tap : ℕ) (labels front : List ℕ) (bits given : List Bool) → 1 ≤ tap → Demodulates tap labels bits → Demodulates tap front given
+pub carries-first : (tap : ℕ) (labels front : List ℕ) (bits given : List Bool) → 1 ≤ tap → Demodulates tap labels bits
+    → Demodulates tap front given
     → IsPrefixOf front labels → IsPrefixOf given bits
 carries-first tap labels front bits given low d g (back, e) =
     let n : ℕ = length front in

@@ -1,5 +1,6 @@
 -- What was sent at 9600 bit/s comes back.
-use Rattle.std.proofs.Common.{append-nil, ◌≡◌, ◌∙◌, ℕ, ◌+◌, ◌≤◌, Bool, List, [], ◌∷◌, ◌++◌, length, map, take, drop, None, refl, sym, ap, subst, arith, append_assoc, length-append}
+use Rattle.std.proofs.Common.{append-nil, ◌≡◌, ◌∙◌, ℕ, ◌+◌, ◌≤◌, Bool, List, [], ◌∷◌, ◌++◌, length, map, take, drop, None, refl, sym, ap}
+use Rattle.std.proofs.Common.{subst, arith, append_assoc, length-append}
 use Rattle.std.proofs.lemmas.List.{take-append-drop, take-map}
 use Rattle.plain_lists.specs.Bits.{bits_of}
 use Rattle.plain_lists.specs.Prefix.{IsPrefixOf}
@@ -95,14 +96,16 @@ pub sent-bits-come-back : DecodesNear → SentBitsComeBack
 sent-bits-come-back decodes mode e d sent given samples heard encoded heard_of decoded =
     let l = first-labels mode e sent samples heard_of.first heard_of.later encoded heard_of.parts in
     let same : length l.labels ≡ length heard = sym (ap length l.points ∙ length-points l.labels) ∙ heard_of.same_length in
-    let price : distances heard_of.first heard ≡ cost far_from l.labels heard = ap (λ points. distances points heard) l.points ∙ distances-cost l.labels heard in
+    let price : distances heard_of.first heard ≡ cost far_from l.labels heard = ap (λ points. distances points heard) l.points
+    ∙ distances-cost l.labels heard in
     let near : IsNear sure (only 0) l.labels heard = record {
       end = l.end;
       sequence = record { code_sequence = record { from = 0; starts_there = refl; leads = l.leads }; same_length = same };
       near = omega (arith, price, heard_of.near);
     } in
     follows 126 mode d.reader sent given heard l.labels l.later l.carried same decoded.reads (λ taken stands.
-    let f = decodes 0 128 l.labels taken heard (decoding_of d.reader) (omega arith) near stands in (f.never_lost, f.was_sent, f.few_to_come))
+    let f = decodes 0 128 l.labels taken heard (decoding_of d.reader) (omega arith) near
+    stands in (f.never_lost, f.was_sent, f.few_to_come))
 
 pub sent-bits-come-soon : DecodesNoiseless → SentBitsComeSoon
 sent-bits-come-soon decodes mode e d sent given heard later encoded decoded =
@@ -110,16 +113,19 @@ sent-bits-come-soon decodes mode e d sent given heard later encoded decoded =
     let same : length l.labels ≡ length heard = sym (ap length l.points ∙ length-points l.labels) in
     follows 24 mode d.reader sent given heard l.labels l.later l.carried same decoded.reads (λ taken stands.
     let f = decodes 0 128 l.labels taken heard (decoding_of d.reader) (omega arith)
-    (record { start_there = omega arith; end = l.end; leads = l.leads; exact = l.points }) stands in (f.never_lost, f.was_sent, f.few_to_come))
+    (record { start_there = omega arith; end = l.end; leads = l.leads; exact = l.points })
+    stands in (f.never_lost, f.was_sent, f.few_to_come))
 
 pub all-bits-come-back : OnlySentIsLeast → AllBitsComeBack
 all-bits-come-back least mode (encoders.Quarters m) sent given last samples h ends = absurd h
 all-bits-come-back least mode (encoders.Begun m) sent given last samples h ends =
     let s : Modulates (tap_of mode) sent samples = modulated mode m sent samples h in
-    let only_one : IsOnlyLeast _ samples s.labels = least 0 s.labels samples (record { start_there = omega arith; end = s.end; leads = s.encoded.leads; exact = s.points }) in
+    let only_one : IsOnlyLeast _ samples s.labels = least 0 s.labels samples
+    (record { start_there = omega arith; end = s.end; leads = s.encoded.leads; exact = s.points }) in
     let same : ends.labels ≡ s.labels = only_one.only ends.labels ends.least.least in
     let read : Demodulates (tap_of mode) s.labels (given ++ last) =
-    subst (λ (xs : List ℕ). Demodulates (tap_of mode) xs (given ++ last)) same (demodulated mode ends.carried.reader ends.labels (given ++ last) ends.carried.read) in
+    subst (λ (xs : List ℕ). Demodulates (tap_of mode) xs (given ++ last)) same
+    (demodulated mode ends.carried.reader ends.labels (given ++ last) ends.carried.read) in
     Descrambles_once (tap_of mode) (line_of s.labels) (given ++ last) sent read
     (comes-back (tap_of mode) sent s.line s.quads s.labels s.end s.scrambled s.in_fours s.are_quads s.encoded)
 
@@ -133,4 +139,5 @@ sure-bits-are-given decodes sure-near mode d bits given samples price c low deco
     (subst (λ (xs : List Bool). Demodulates (tap_of mode) labels xs) (sym c.bits_are)
     (comes-back (tap_of mode) (bits_of c.octets) s.line s.quads s.labels s.end s.scrambled s.in_fours s.are_quads s.encoded)) in
     follows 126 mode d.reader bits given samples labels [] carried c.cost.same_length decoded.reads (λ taken stands.
-    let f = decodes 0 128 labels taken samples (decoding_of d.reader) (omega arith) near stands in (f.never_lost, f.was_sent, f.few_to_come))
+    let f = decodes 0 128 labels taken samples (decoding_of d.reader) (omega arith) near
+    stands in (f.never_lost, f.was_sent, f.few_to_come))

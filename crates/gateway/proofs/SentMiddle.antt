@@ -1,5 +1,6 @@
 -- What was sent at 9600 bit/s comes back from the middle of the line, by however many quarters its points are turned.
-use Rattle.std.proofs.Common.{◌≡◌, ◌∙◌, ℕ, zero, suc, ◌+◌, ◌*◌, ◌<◌, ◌≤◌, Bool, List, [], ◌∷◌, ◌++◌, length, map, take, drop, refl, sym, ap, subst, arith, append_assoc, length-append, length-drop, lt-ltb}
+use Rattle.std.proofs.Common.{◌≡◌, ◌∙◌, ℕ, zero, suc, ◌+◌, ◌*◌, ◌<◌, ◌≤◌, Bool, List, [], ◌∷◌, ◌++◌, length, map, take, drop, refl, sym, ap}
+use Rattle.std.proofs.Common.{subst, arith, append_assoc, length-append, length-drop, lt-ltb}
 use Rattle.std.specs.List.{flat_map}
 use Rattle.std.proofs.lemmas.List.{take-append-drop, take-map, drop-map, drop-take, length-map, length-take-le}
 use Rattle.plain_lists.specs.Bits.{low_bits}
@@ -61,7 +62,8 @@ length-turned_by zero samples = refl
 length-turned_by (suc turns) samples = length-map (turned_by turns samples) quarter_turned ∙ length-turned_by turns samples
 
 -- they give what the labels give
-unturned : (tap turns : ℕ) (labels : List ℕ) (bits : List Bool) → IsPickedUp tap (labels_turned turns labels) bits → IsPickedUp tap labels bits
+unturned : (tap turns : ℕ) (labels : List ℕ) (bits : List Bool) → IsPickedUp tap (labels_turned turns labels) bits
+    → IsPickedUp tap labels bits
 unturned tap zero labels bits h = h
 unturned tap (suc turns) labels bits h = unturned tap turns labels bits (record {
   all = h.all;
@@ -74,7 +76,8 @@ turned-near : (bound turns : ℕ) (labels : List ℕ) (samples : List Sample) �
     → IsNear bound at_any (labels_turned turns labels) (turned_by turns samples)
 turned-near bound zero labels samples h = h
 turned-near bound (suc turns) labels samples h =
-    near-turns bound at_any at_any (labels_turned turns labels) (turned_by turns samples) all_states_turn (turned-near bound turns labels samples h)
+    near-turns bound at_any at_any (labels_turned turns labels) (turned_by turns samples) all_states_turn
+    (turned-near bound turns labels samples h)
 
 -- ---- lists
 
@@ -97,7 +100,8 @@ drop-drop {X} m (suc n) (x ∷ xs) = let e : suc (n + m) ≡ suc n + m = omega a
 take-begins : (a b : ℕ) (xs : List Bool) → IsPrefixOf (take a (take b xs)) xs
 take-begins a b xs = (
   drop a (take b xs) ++ drop b xs,
-  sym (append_assoc (take a (take b xs)) (drop a (take b xs)) (drop b xs)) ∙ ap (λ ys. ys ++ drop b xs) (take-append-drop a (take b xs)) ∙ take-append-drop b xs,
+  sym (append_assoc (take a (take b xs)) (drop a (take b xs)) (drop b xs)) ∙ ap (λ ys. ys ++ drop b xs) (take-append-drop a (take b xs))
+      ∙ take-append-drop b xs,
 )
 
 -- ---- what was sent, from a sample on
@@ -114,7 +118,8 @@ given-behind middle tap count taken labels later sent given some low carried wit
     let n : ℕ = length labels in
     let some_sent : List Bool = take (4 * n) sent in
     let own : Demodulates tap labels some_sent =
-    subst (λ (xs : List ℕ). Demodulates tap xs some_sent) (take-front labels later) (first-stay tap n (labels ++ later) sent some carried) in
+    subst (λ (xs : List ℕ). Demodulates tap xs some_sent) (take-front labels later) (first-stay tap n (labels ++ later) sent some carried)
+    in
     let upto : List Bool = take (4 * (count + taken)) some_sent in
     let front : Demodulates tap (take (count + taken) labels) upto = first-stay tap (count + taken) labels some_sent some own in
     let are : given ≡ drop (4 * (count + 1) + 23) upto =
@@ -126,16 +131,29 @@ given-behind middle tap count taken labels later sent given some low carried wit
     let part = drop-begins (4 * count + 27) upto begins.0 in
     let count_is : length (take (count + taken) labels) ≡ count + taken = length-take-le (count + taken) labels within in
     record {
-      were_sent = (part.0, ap (λ xs. xs ++ part.0) here ∙ part.1 ∙ ap (drop (4 * count + 27)) begins.1 ∙ sym (drop-drop 27 (4 * count) sent));
-      long = omega (arith, ap (λ (xs : List Bool). length xs) here, length-drop (4 * count + 27) upto, four-each tap (take (count + taken) labels) upto front, count_is);
+      were_sent = (
+        part.0,
+        ap (λ xs. xs ++ part.0) here ∙ part.1 ∙ ap (drop (4 * count + 27)) begins.1
+            ∙ sym (drop-drop 27 (4 * count) sent),
+      );
+      long = omega (
+        arith,
+        ap (λ (xs : List Bool). length xs) here,
+        length-drop (4 * count + 27) upto,
+        four-each tap (take (count + taken) labels) upto front,
+        count_is,
+      );
     }
 
-follows : ReadersPickUp → MiddleIsSent → DecodesNearOfAny → (mode : Mode) (reader : AnyReader) (sent given : List Bool) (samples heard : List Sample) (count turns : ℕ)
+follows : ReadersPickUp → MiddleIsSent → DecodesNearOfAny
+    → (mode : Mode) (reader : AnyReader) (sent given : List Bool) (samples heard : List Sample) (count turns : ℕ)
     (labels later : List ℕ) → Demodulates (tap_of mode) (labels ++ later) sent → count ≤ length labels
     → IsNear sure_of_any at_any (labels_turned turns (drop count labels)) heard
     → ReadsAs lines.Middle mode reader heard given → FollowsMiddle 116 (decoding_of reader) (drop (4 * count) sent) given heard
-follows pick middle decodes mode (readers.Begun r) sent given samples heard count turns labels later carried within near reads = absurd reads
-follows pick middle decodes mode (readers.Quarters r) sent given samples heard count turns labels later carried within near reads = absurd reads
+follows pick middle decodes mode (readers.Begun r) sent given samples heard count turns labels later carried within near reads = absurd
+    reads
+follows pick middle decodes mode (readers.Quarters r) sent given samples heard count turns labels later carried within near reads = absurd
+    reads
 follows pick middle decodes mode (readers.Middle m) sent given samples heard count turns labels later carried within near reads =
     let p = pick mode 128 m heard given reads in
     let pending : List ℕ = m.reading.decoder.pending in
@@ -163,10 +181,12 @@ pub middle-bits-come-back : ReadersPickUp → MiddleIsSent → DecodesNearOfAny 
 middle-bits-come-back pick middle decodes mode e d sent given samples heard count encoded h decoded =
     let l = first-labels mode e sent samples (h.before ++ h.middle) h.later encoded h.parts in
     let tail : List ℕ = drop count l.labels in
-    let place : drop count (h.before ++ h.middle) ≡ h.middle = ap (λ n. drop n (h.before ++ h.middle)) (sym h.place) ∙ drop-front h.before h.middle in
+    let place : drop count (h.before ++ h.middle) ≡ h.middle = ap (λ n. drop n (h.before ++ h.middle)) (sym h.place)
+    ∙ drop-front h.before h.middle in
     let exact : h.middle ≡ map point_of tail = sym place ∙ ap (drop count) l.points ∙ drop-map point_of count l.labels in
     let long : length tail ≡ length h.noisy = sym (ap (λ (xs : List Sample). length xs) exact ∙ length-points tail) ∙ h.same_length in
-    let price : distances h.middle h.noisy ≡ cost far_from tail h.noisy = ap (λ points. distances points h.noisy) exact ∙ distances-cost tail h.noisy in
+    let price : distances h.middle h.noisy ≡ cost far_from tail h.noisy = ap (λ points. distances points h.noisy) exact
+    ∙ distances-cost tail h.noisy in
     let all : length l.labels ≡ length h.before + length h.middle =
     sym (ap (λ (xs : List Sample). length xs) l.points ∙ length-points l.labels) ∙ length-append h.before h.middle in
     let split = Leads-split next_state 0 (take count l.labels) tail l.end
@@ -174,9 +194,14 @@ middle-bits-come-back pick middle decodes mode e d sent given samples heard coun
     let low : split.0 < 8 = leads-within 0 split.0 (take count l.labels) (omega arith) split.1 in
     let near : IsNear sure_of_any at_any tail h.noisy = record {
       end = l.end;
-      sequence = record { code_sequence = record { from = split.0; starts_there = lt-ltb split.0 8 low; leads = split.2 }; same_length = long };
+      sequence = record {
+        code_sequence = record { from = split.0; starts_there = lt-ltb split.0 8 low; leads = split.2 };
+        same_length = long;
+      };
       near = omega (arith, price, h.near);
     } in
     let turned : IsNear sure_of_any at_any (labels_turned h.turns tail) heard =
-    subst (λ (xs : List Sample). IsNear sure_of_any at_any (labels_turned h.turns tail) xs) (sym h.turned) (turned-near sure_of_any h.turns tail h.noisy near) in
-    follows pick middle decodes mode d.reader sent given samples heard count h.turns l.labels l.later l.carried (omega (arith, all, h.place)) turned decoded.reads
+    subst (λ (xs : List Sample). IsNear sure_of_any at_any (labels_turned h.turns tail) xs) (sym h.turned)
+    (turned-near sure_of_any h.turns tail h.noisy near) in
+    follows pick middle decodes mode d.reader sent given samples heard count h.turns l.labels l.later l.carried
+    (omega (arith, all, h.place)) turned decoded.reads

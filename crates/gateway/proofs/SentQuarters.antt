@@ -1,5 +1,6 @@
 -- What was sent at 4800 bit/s comes back.
-use Rattle.std.proofs.Common.{◌≡◌, ◌∙◌, ℕ, ◌+◌, ◌*◌, ◌<◌, Bool, List, [], ◌∷◌, ◌++◌, length, map, take, drop, get_or, Option, Some, None, refl, sym, ap, subst, arith, append-nil, append_assoc, length-append, All}
+use Rattle.std.proofs.Common.{◌≡◌, ◌∙◌, ℕ, ◌+◌, ◌*◌, ◌<◌, Bool, List, [], ◌∷◌, ◌++◌, length, map, take, drop, get_or, Option, Some, None}
+use Rattle.std.proofs.Common.{refl, sym, ap, subst, arith, append-nil, append_assoc, length-append, All}
 use Rattle.std.specs.List.{range_with_len}
 use Rattle.std.proofs.lemmas.List.{take-append-drop, take-map, length-take-le}
 use Rattle.std.proofs.lemmas.List.Elements.{All-nil, All-cons, All-head, All-tail}
@@ -67,13 +68,15 @@ read-all released read labels front samples few near r =
 never-lost : AllAreReleased → (depth : ℕ) (samples : List Sample) (lost : Option ℕ) → LostIs quarters depth samples lost → lost ≡ None
 never-lost released depth samples None h = refl
 never-lost released depth samples (Some symbol) h =
-    let all : length h.over.front ≡ length (take (symbol + 1) samples) = released (take (symbol + 1) samples) h.over.front h.over.released in
+    let all : length h.over.front ≡ length (take (symbol + 1) samples) = released (take (symbol + 1) samples) h.over.front h.over.released
+    in
     let long : length (take (symbol + 1) samples) ≡ symbol + 1 = length-take-le (symbol + 1) samples (omega (arith, h.within)) in
     absurd (omega (arith, all, long, h.over.over))
 
 turns-small : (q places : List ℕ) → All (λ label. label < 4) (map (turned_at q) places)
 turns-small q [] = All-nil (λ label. label < 4)
-turns-small q (place ∷ places) = All-cons (λ label. label < 4) (turned_at q place) (map (turned_at q) places) (omega arith) (turns-small q places)
+turns-small q (place ∷ places) = All-cons (λ label. label < 4) (turned_at q place) (map (turned_at q) places) (omega arith)
+    (turns-small q places)
 
 -- labels below 4 of which the first are below 4
 few-first : (front back : List ℕ) → All (λ label. label < 4) (front ++ back) → All (λ label. label < 4) front
@@ -107,8 +110,10 @@ first-labels mode (encoders.Quarters m) sent samples first later h e =
     }
 
 -- a decoder that released the labels has given the first of the bits
-follows : AllAreReleased → NearOnesAreRead → (mode : Mode) (reader : AnyReader) (sent given : List Bool) (samples : List Sample) (labels later : List ℕ)
-    → Demodulates (tap_of mode) (labels ++ later) sent → All (λ label. label < 4) labels → AreEachNear half_way (map point_of labels) samples
+follows : AllAreReleased → NearOnesAreRead
+    → (mode : Mode) (reader : AnyReader) (sent given : List Bool) (samples : List Sample) (labels later : List ℕ)
+    → Demodulates (tap_of mode) (labels ++ later) sent → All (λ label. label < 4) labels
+    → AreEachNear half_way (map point_of labels) samples
     → ReadsAs lines.Quarters mode reader samples given → FollowsSent 2 0 (decoding_of reader) sent given samples
 follows released read mode (readers.Begun r) sent given samples labels later carried few near reads = absurd reads
 follows released read mode (readers.Middle r) sent given samples labels later carried few near reads = absurd reads

@@ -1,5 +1,6 @@
 -- The bits of a slot, and the room that it needs.
-use Rattle.std.proofs.Common.{ℕ, zero, suc, ◌+◌, ◌-◌, ◌*◌, ◌/◌, ◌≡◌, ◌<◌, ◌≤◌, ◌∷◌, ◌++◌, Bool, List, [], Option, Some, None, nat_eq, get_or, length, take, refl, ap, sym, subst, ◌∙◌, arith, length-append}
+use Rattle.std.proofs.Common.{ℕ, zero, suc, ◌+◌, ◌-◌, ◌*◌, ◌/◌, ◌≡◌, ◌<◌, ◌≤◌, ◌∷◌, ◌++◌, Bool, List, [], Option, Some, None, nat_eq}
+use Rattle.std.proofs.Common.{get_or, length, take, refl, ap, sym, subst, ◌∙◌, arith, length-append}
 use Rattle.std.proofs.lemmas.Grind.{flat_map-append}
 use Rattle.std.proofs.Math.Logic.{∥∥₁_map}
 use Rattle.std.proofs.lemmas.List.{map-append, take_more}
@@ -32,47 +33,58 @@ length-line_bits (quad ∷ quads) =
     let h = length-line_bits quads in let e = length-append (low_bits 4 quad) (line_bits quads) in omega (arith, h, e)
 
 -- so many quads are a slot's
-pub whole-slot : (quads : List ℕ) (bits : List Bool) (symbols : ℕ) → line_bits quads ≡ bits → length bits ≡ 4 * symbols → length quads ≡ symbols
-whole-slot quads bits symbols same long = let h : 4 * length quads ≡ 4 * symbols = sym (length-line_bits quads) ∙ ap length same ∙ long in omega (arith, h)
+pub whole-slot : (quads : List ℕ) (bits : List Bool) (symbols : ℕ) → line_bits quads ≡ bits → length bits ≡ 4 * symbols
+    → length quads ≡ symbols
+whole-slot quads bits symbols same long = let h : 4 * length quads ≡ 4 * symbols = sym (length-line_bits quads) ∙ ap length same
+    ∙ long in omega (arith, h)
 
 -- a slot that can carry a frame, or none, is one of slots
-pub flags-slot : (symbols phase : ℕ) (frame : Option (List ℕ)) → CanCarry (4 * (symbols - 128)) (FlagSlot frame) → length (opening phase frame) ≤ 4 * (symbols - 128)
+pub flags-slot : (symbols phase : ℕ) (frame : Option (List ℕ)) → CanCarry (4 * (symbols - 128)) (FlagSlot frame)
+    → length (opening phase frame) ≤ 4 * (symbols - 128)
     → IsSlot (4 * symbols) phase (Flags frame)
 flags-slot symbols phase None fits room = omega (arith, room)
 flags-slot symbols phase (Some octets) fits room = (fits.0, omega (arith, room))
 
 -- one quad more
 pub quad-more : (slot bits bits' : List ℕ) (place count : ℕ) → place < length slot → given (4 * place) bits ≡ line_bits (take place slot)
-    → given count bits' ≡ given (4 * place) bits ++ low_bits 4 (get_or slot place 0) → given (4 * (place + 1)) bits' ≡ line_bits (take (place + 1) slot)
+    → given count bits' ≡ given (4 * place) bits ++ low_bits 4 (get_or slot place 0)
+    → given (4 * (place + 1)) bits' ≡ line_bits (take (place + 1) slot)
 quad-more slot bits bits' place count within before put =
-    let long : count ≡ 4 * place + 4 = sym (length-given count bits') ∙ ap length put ∙ length-append (given (4 * place) bits) (low_bits 4 (get_or slot place 0))
+    let long : count ≡ 4 * place + 4 = sym (length-given count bits') ∙ ap length put
+    ∙ length-append (given (4 * place) bits) (low_bits 4 (get_or slot place 0))
     ∙ ap (λ n. n + 4) (length-given (4 * place) bits) in
     let same : 4 * (place + 1) ≡ count = omega (arith, long) in
     ap (λ n. given n bits') same ∙ put ∙ ap (λ bs. bs ++ low_bits 4 (get_or slot place 0)) before
     ∙ sym (flat_map-append (low_bits 4) (take place slot) (get_or slot place 0 ∷ [])) ∙ ap line_bits (sym (take_more slot place 0 within))
 
 -- one slot more, of the kind that was written
-pub stands-more : (before after : Writer) (slot : Slot) → ((slots : List Slot) → WriterStands before slots → WriterStands after (slots ++ slot ∷ []))
+pub stands-more : (before after : Writer) (slot : Slot)
+    → ((slots : List Slot) → WriterStands before slots → WriterStands after (slots ++ slot ∷ []))
     → ∥ ((slots : List Slot) × WriterStands before slots) ∥₁ → ∥ ((slots : List Slot) × WriterStands after slots) ∥₁
 stands-more before after slot more some = ∥∥₁_map some (λ stands. (stands.0 ++ slot ∷ [], more stands.0 stands.1))
 
 -- the bits of one slot more, which are put as octets
 pub slot-more : (symbols w phase : ℕ) (signals : List Signal) (signal : Signal) (out bits : List ℕ) → w ≡ symbols
-    → phase ≡ phase_after (4 * w) (slots_of (4 * symbols) signals) → length out ≡ w → line_bits out ≡ slot_bits (4 * w) phase (slot_of (4 * w) signal)
+    → phase ≡ phase_after (4 * w) (slots_of (4 * symbols) signals) → length out ≡ w
+    → line_bits out ≡ slot_bits (4 * w) phase (slot_of (4 * w) signal)
     → given (4 * length out) bits ≡ line_bits out
-    → ((size : ℕ) (slots : List Slot) (slot : Slot) → sent_bits size (slots ++ slot ∷ []) ≡ sent_bits size slots ++ slot_bits size (phase_after size slots) slot)
+    → ((size : ℕ) (slots : List Slot) (slot : Slot)
+    → sent_bits size (slots ++ slot ∷ []) ≡ sent_bits size slots ++ slot_bits size (phase_after size slots) slot)
     → signal_bits (4 * symbols) (signals ++ signal ∷ []) ≡ signal_bits (4 * symbols) signals ++ given (4 * symbols) bits
 slot-more symbols w phase signals signal out bits e phase_is count line put grows =
     let slots : List Slot = slots_of (4 * symbols) signals in
     let whole : given (4 * symbols) bits ≡ slot_bits (4 * symbols) (phase_after (4 * symbols) slots) (slot_of (4 * symbols) signal) =
     ap (λ n. given (4 * n) bits) (sym (count ∙ e)) ∙ put ∙ line ∙ (λ i. slot_bits (4 * w) (phase_is i) (slot_of (4 * w) signal))
     ∙ (λ i. slot_bits (4 * e i) (phase_after (4 * e i) slots) (slot_of (4 * e i) signal)) in
-    ap (sent_bits (4 * symbols)) (map-append (slot_of (4 * symbols)) signals (signal ∷ [])) ∙ grows (4 * symbols) slots (slot_of (4 * symbols) signal)
+    ap (sent_bits (4 * symbols)) (map-append (slot_of (4 * symbols)) signals (signal ∷ []))
+    ∙ grows (4 * symbols) slots (slot_of (4 * symbols) signal)
     ∙ ap (λ bs. sent_bits (4 * symbols) slots ++ bs) (sym whole)
 
 -- it stands behind the others
 pub stands-behind : (writer : Writer) (symbols w : ℕ) (signals : List Signal) (signal : Signal) → w ≡ symbols
-    → WriterStands writer (slots_of (4 * symbols) signals ++ slot_of (4 * w) signal ∷ []) → WriterStands writer (slots_of (4 * symbols) (signals ++ signal ∷ []))
+    → WriterStands writer (slots_of (4 * symbols) signals ++ slot_of (4 * w) signal ∷ [])
+    → WriterStands writer (slots_of (4 * symbols) (signals ++ signal ∷ []))
 stands-behind writer symbols w signals signal e stands =
     subst (λ (slots : List Slot). WriterStands writer slots)
-    ((λ i. slots_of (4 * symbols) signals ++ slot_of (4 * e i) signal ∷ []) ∙ sym (map-append (slot_of (4 * symbols)) signals (signal ∷ []))) stands
+    ((λ i. slots_of (4 * symbols) signals ++ slot_of (4 * e i) signal ∷ [])
+    ∙ sym (map-append (slot_of (4 * symbols)) signals (signal ∷ []))) stands

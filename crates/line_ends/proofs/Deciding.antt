@@ -142,7 +142,8 @@ once-decided sender dlci frame (x ∷ []) patterns =
     first [] = []
     first (z ∷ zs) = z
 
-    go : Decided (IsFrame frame × (x ≡ spelled frame sender dlci) × (patterns ≡ [])) → Decided (IsFrameOnce sender dlci frame (x ∷ []) patterns)
+    go : Decided (IsFrame frame × (x ≡ spelled frame sender dlci) × (patterns ≡ []))
+        → Decided (IsFrameOnce sender dlci frame (x ∷ []) patterns)
     go (inl h) = inl (x, (h.0, h.1), refl, h.2)
     go (inr n) = inr (λ h. n (h.1.0, ap first h.2 ∙ h.1.1, h.3))
 

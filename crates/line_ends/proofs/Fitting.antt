@@ -37,7 +37,8 @@ fits-one codable script files ts ends t after h r k g role sendable fit =
     let e : (of role t).sent ≡ Some slot = (g.speaking role).sent_is in
     let is : IsSendable slot.sent = sendable slot e in
     let phase : ℕ = phase_after size (slots_of size before) in
-    let can = codable (wire_of script) files ts ends t after h r k g role slot 0 phase (phase-low size 0 (slots_of size before) (omega arith)) e is in
+    let can = codable (wire_of script) files ts ends t after h r k g role slot 0 phase
+    (phase-low size 0 (slots_of size before) (omega arith)) e is in
     let fits : Fits size phase (signal_of slot.check role 0 slot.sent)
     = codable-fits slot.check role 0 (symbols_of script) phase slot.sent
     (spelled-octets slot.check role 0 slot.sent (omega arith) is) can in
@@ -45,7 +46,8 @@ fits-one codable script files ts ends t after h r k g role sendable fit =
     (fit-more size 0 before (signal_of slot.check role 0 slot.sent) fit fits)
 
 -- and so all of them do
-pub fits-all : (codable : SlotsAreCodable) (script : ScriptValue) (files : Both (List ℕ)) (ts : List Turn) (ends : Accounts) → IsInLimits script
+pub fits-all : (codable : SlotsAreCodable) (script : ScriptValue) (files : Both (List ℕ)) (ts : List Turn) (ends : Accounts)
+    → IsInLimits script
     → LineRun (wire_of script) (link_of script files) ts ends → AllSendable ts → (role : Role)
     → AreFit (bits_in script) 0 (signals (wire_of script) role ts)
 fits-all codable script files [] ends h r s role = tt

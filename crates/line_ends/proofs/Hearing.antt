@@ -60,7 +60,8 @@ over laws script files ts ends h r = record {
   run = r.run;
 }
 
-pub agree-on : (check hearing : Check) (s : Sent) → ((frame : Frame) → s ≡ slots.Frame frame → check_for check frame ≡ check_for hearing frame)
+pub agree-on : (check hearing : Check) (s : Sent)
+    → ((frame : Frame) → s ≡ slots.Frame frame → check_for check frame ≡ check_for hearing frame)
     → ChecksAgree check hearing s
 agree-on check hearing slots.Mark f = tt
 agree-on check hearing slots.Odp f = tt

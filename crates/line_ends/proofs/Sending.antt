@@ -135,7 +135,8 @@ file_of script files role = (of role (link_of script files)).user.file
 
 -- what ends hold once they have heard
 pub mid-holds-at : SendLaws → (script : ScriptValue) (files : Both (List ℕ)) (ts : List Turn) (before : Accounts) (t : Turn)
-    (mid : Accounts) → IsInLimits script → Carries (delay_of script) ts t → Hears (length ts) before t mid → HoldBoth (file_of script files) ts before
+    (mid : Accounts) → IsInLimits script → Carries (delay_of script) ts t → Hears (length ts) before t mid
+    → HoldBoth (file_of script files) ts before
     → (role : Role) → Holds (file_of script files role) (of role mid)
 mid-holds-at laws script files ts before t mid h c hearing k role =
     let b = k.holds role in

@@ -37,7 +37,8 @@ turn-named laws script files ts ends t mid h d r s k w role =
     heard-named laws script files ts ends h d r s role (of role t).heard
     (subst (λ z. IsHeardOf (wire_of script) (other role) ts z (of role t).heard) (k role).check_is (w role).heard_of)
 
-run-named : HearLaws → (script : ScriptValue) (files : Both (List ℕ)) (ts : List Turn) (ends : Accounts) → IsInLimits script → IsFaint script
+run-named : HearLaws → (script : ScriptValue) (files : Both (List ℕ)) (ts : List Turn) (ends : Accounts) → IsInLimits script
+    → IsFaint script
     → LineRun (wire_of script) (link_of script files) ts ends → AllSendable ts → AllNamed script ts
 run-named laws script files [] ends h d r s = tt
 run-named laws script files (t ∷ ts) ends h d r s =
@@ -46,7 +47,8 @@ run-named laws script files (t ∷ ts) ends h d r s =
       run-named laws script files ts r.run.0 h d before s.1,
     )
 
-last-named : HearLaws → (script : ScriptValue) (files : Both (List ℕ)) (ts : List Turn) (ends : Accounts) (o : Outcome) (turn : ℕ) (left : Left)
+last-named : HearLaws → (script : ScriptValue) (files : Both (List ℕ)) (ts : List Turn) (ends : Accounts) (o : Outcome) (turn : ℕ)
+    (left : Left)
     → IsInLimits script → IsFaint script
     → LineRun (wire_of script) (link_of script files) ts ends → AllSendable ts
     → (e : EndsInTurn (wire_of script) (link_of script files) ts ends o turn left) → AllNamed script (e.last ∷ ts)

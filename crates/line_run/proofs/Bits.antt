@@ -21,7 +21,8 @@ signals-more c role ts slot t alone e =
     ∙ ap (λ o. and_then (signals c role ts) o ++ signal_of slot.check role c.dlci slot.sent ∷ []) (alone role (length ts))
 
 pub bits-more : (c : Wire) (role : Role) (ts : List Turn) (slot : Spoken) (t : Turn) → IsAlone c → (of role t).sent ≡ Some slot
-    → bits_of c role (t ∷ ts) ≡ bits_of c role ts ++ bits_behind (4 * c.symbols) (signals c role ts) (signal_of slot.check role c.dlci slot.sent)
+    → bits_of c role (t ∷ ts) ≡ bits_of c role ts ++ bits_behind (4 * c.symbols) (signals c role ts)
+    (signal_of slot.check role c.dlci slot.sent)
 bits-more c role ts slot t alone e =
     ap (signal_bits (4 * c.symbols)) (signals-more c role ts slot t alone e)
     ∙ slot-added (4 * c.symbols) (signals c role ts) (signal_of slot.check role c.dlci slot.sent)

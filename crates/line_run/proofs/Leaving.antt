@@ -47,7 +47,8 @@ hearing-in link ts ends t mid Going h = subst (Hears (length ts) ends t) h.2 h.1
 hearing-in link ts ends t mid Done h = h.hearing
 hearing-in link ts ends t mid (Broken role fault) h = h.hearing
 
-in-turn : (laws : RunLaws) (c : Wire) (link : Link) (ts : List Turn) (ends : Accounts) (o : Outcome) (turn : ℕ) (left : Left) → MayRun c link
+in-turn : (laws : RunLaws) (c : Wire) (link : Link) (ts : List Turn) (ends : Accounts) (o : Outcome) (turn : ℕ) (left : Left)
+    → MayRun c link
     → LineRun c link ts ends → EndsInTurn c link ts ends o turn left → ArePrefixes link left
 in-turn laws c link ts ends o turn left m r e =
     left-prefixes link e.mid _ left

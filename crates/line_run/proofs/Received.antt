@@ -326,7 +326,8 @@ heard-sent laws lag line script passed signal check hearing dlci loses s heard f
     follows time fit_s is agree p.recorded_before recorded p.received in
     outcome-once loses sender dlci s (octets_in sender dlci s) (patterns_in s) heard (unhindered loses s)
     (subst (λ (xs : List Seen). IsOutcome loses sender dlci s (octets_in sender dlci s) xs heard) same.1
-    (subst (λ (xs : List (List ℕ)). IsOutcome loses sender dlci s xs p.patterns heard) same.0 p.outcome)) (as-expected loses sender dlci s is)
+    (subst (λ (xs : List (List ℕ)). IsOutcome loses sender dlci s xs p.patterns heard) same.0 p.outcome))
+    (as-expected loses sender dlci s is)
 
 pub never-chance : (loses : Bool) (s : Sent) → unhindered loses s ≡ Chance → ⊥
 never-chance loses sent.Mark e = absurd cc

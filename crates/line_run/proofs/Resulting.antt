@@ -105,7 +105,8 @@ same-left es fs text others a b h k e t =
     left-is es text a h ∙ ap (λ z. left_of z text) e ∙ ap (left_of fs) t ∙ sym (left-is fs others b k)
 
 -- two turns after the same ones, which the same is heard in
-both-heard : (laws : ResultLaws) (c : Wire) (ts : List Turn) (es : Accounts) (t u : Turn) (mid later : Accounts) → Hears (length ts) es t mid
+both-heard : (laws : ResultLaws) (c : Wire) (ts : List Turn) (es : Accounts) (t u : Turn) (mid later : Accounts)
+    → Hears (length ts) es t mid
     → Hears (length ts) es u later → HeardIn c ts t → HeardIn c ts u → heard_in t ≡ heard_in u
 both-heard laws c ts es t u mid later h k p q =
     ap (λ z. record { orig = z; answ = t.answ.heard }) (each Originator)

@@ -26,7 +26,8 @@ use Rattle.link_run.specs.Carried.{sent_ago, has_message, Crosses}
 use Rattle.link_run.specs.Laws.{heard_in, OneRun}
 use Rattle.line_run.specs.Sampled.{Wire, bits_of, bits_before, ArrivesAs, IsHeardOf, HeardIn, IsHeardOver, LineLost, ChanceMatch, LosesLine}
 use Rattle.line_run.specs.Sampled.{IsHeardWell}
-use Rattle.line_run.specs.LineLaws.{SamplesAreCarried, OneIsCarried, HeardOnce, OneLineRun, OneLineEnd, OneLineEndBy, EndsOrIsHeard, EndsOrGoesOn}
+use Rattle.line_run.specs.LineLaws.{SamplesAreCarried, OneIsCarried, HeardOnce, OneLineRun, OneLineEnd, OneLineEndBy, EndsOrIsHeard}
+use Rattle.line_run.specs.LineLaws.{EndsOrGoesOn}
 
 -- a message is what arrives as something
 same-message : (s : Sent) → has_message s ≡ is_message s
@@ -204,8 +205,10 @@ heard-by c ts ends t mid h k role =
     }
 
 pub ends_or_is_heard : SampleLaws → EndsOrIsHeard
-ends_or_is_heard laws c ts checks (LineLost Originator m) h w = lost-not-heard laws c Answerer ts (checks Originator) m (w Originator).heard h (w Originator).is
-ends_or_is_heard laws c ts checks (LineLost Answerer m) h w = lost-not-heard laws c Originator ts (checks Answerer) m (w Answerer).heard h.1 (w Answerer).is
+ends_or_is_heard laws c ts checks (LineLost Originator m) h w = lost-not-heard laws c Answerer ts (checks Originator) m (w Originator).heard
+    h (w Originator).is
+ends_or_is_heard laws c ts checks (LineLost Answerer m) h w = lost-not-heard laws c Originator ts (checks Answerer) m (w Answerer).heard h.1
+    (w Answerer).is
 ends_or_is_heard laws c ts checks (ChanceMatch Originator) h w = well-not-chance laws c Answerer ts (checks Originator) (w Originator) h
 ends_or_is_heard laws c ts checks (ChanceMatch Answerer) h w = well-not-chance laws c Originator ts (checks Answerer) (w Answerer) h.1
 

@@ -41,7 +41,8 @@ lowered-few true n e = omega arith
 lowered-few false n e = absurd cc
 
 -- with SREJ both are small
-pub window-few : (o a : Offer) → ((agree o a).srej ≡ true → (agree o a).window_o ≤ 64) × ((agree o a).srej ≡ true → (agree o a).window_a ≤ 64)
+pub window-few : (o a : Offer) → ((agree o a).srej ≡ true → (agree o a).window_o ≤ 64)
+    × ((agree o a).srej ≡ true → (agree o a).window_a ≤ 64)
 window-few o a = (
   lowered-few (agree o a).srej (min o.tx_window a.rx_window),
   lowered-few (agree o a).srej (min a.tx_window o.rx_window),
@@ -50,7 +51,8 @@ window-few o a = (
 pub after-none : (tap : Tap) (terms : Terms) (x : Tapping) (symbols : ℕ) → x ≡ tapping tap.script no_octets → terms ≡ terms_of x
     → symbols ≡ (line_of x).symbols → tap.at ≡ 8 → tap.turn ≡ 0
     → ListensFor tap.orig.listener terms Originator [] → ListensFor tap.answ.listener terms Answerer []
-    → ReadsOn tap.orig.reader (line_of x) (check_by terms) Originator [] [] → ReadsOn tap.answ.reader (line_of x) (check_by terms) Answerer [] []
+    → ReadsOn tap.orig.reader (line_of x) (check_by terms) Originator [] []
+    → ReadsOn tap.answ.reader (line_of x) (check_by terms) Answerer [] []
     → length tap.orig.piece.items ≡ 4 * symbols → length tap.answ.piece.items ≡ 4 * symbols
     → AreWaiting tap.lines (line_of x) 1 (both_sent_by 0 []) → TapAfter tap x []
 after-none tap terms x symbols e same size at turn lo la ro ra po pa lines =

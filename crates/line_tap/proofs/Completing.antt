@@ -1,5 +1,6 @@
 -- From every answer to that which right inputs have.
-use Rattle.std.proofs.Common.{◌≡◌, ◌⊎◌, inl, inr, ℕ, ◌≤◌, ◌<◌, true, nat_eq, List, [], ◌++◌, length, take, drop, IsTrue, Result, refl, sym, ◌∙◌, ap, subst, arith}
+use Rattle.std.proofs.Common.{◌≡◌, ◌⊎◌, inl, inr, ℕ, ◌≤◌, ◌<◌, true, nat_eq, List, [], ◌++◌, length, take, drop, IsTrue, Result, refl, sym}
+use Rattle.std.proofs.Common.{◌∙◌, ap, subst, arith}
 use Rattle.std.specs.Prelude.{slice_index}
 use Rattle.std.proofs.lemmas.Bool.Decides.{nat_tests}
 use Rattle.std.proofs.lemmas.Bool.{false≢true}
@@ -52,11 +53,13 @@ never-own law old n script bodies (TooLong word) r (inl s) =
 never-own law old n script bodies (TooLong word) r (inr f) = by f.first
   where
     by : (((word ≡ 1) × IsLonger old n.rec_o LIMITS.file)
-        ⊎ (IsWithin old n.rec_o LIMITS.file × (((word ≡ 2) × IsLonger old n.rec_a LIMITS.file) ⊎ (IsWithin old n.rec_a LIMITS.file × ⊥)))) → ⊥
+        ⊎ (IsWithin old n.rec_o LIMITS.file × (((word ≡ 2) × IsLonger old n.rec_a LIMITS.file) ⊎ (IsWithin old n.rec_a LIMITS.file × ⊥))))
+        → ⊥
     by (inl o) = file-fits (length (octets_at old n.rec_o)) r.orig_short (o.1 r.orig_told)
     by (inr (w, inl a)) = file-fits (length (octets_at old n.rec_a)) r.answ_short (a.1 r.answ_told)
     by (inr (w, inr a)) = a.1
-never-own law old n script bodies (BadScript line cause) r s = law (octets_at old n.script) script line cause r.spelled (s.first r.script_told)
+never-own law old n script bodies (BadScript line cause) r s = law (octets_at old n.script) script line cause r.spelled
+    (s.first r.script_told)
 never-own law old n script bodies answer r never = never
 
 -- or for a header
@@ -75,7 +78,8 @@ never-header old name mode body (BadRecording at) told is h =
     header-fits mode at (subst (λ (xs : List ℕ). IsNotHeader mode (take 8 xs) at) is (h told))
 never-header old name mode body answer told is h = h
 
-never-refused : NoFaultInScripts → (old before : FolderState) (n : TapNames) (script : ScriptValue) (bodies : Both (List ℕ)) (answer : Status)
+never-refused : NoFaultInScripts
+    → (old before : FolderState) (n : TapNames) (script : ScriptValue) (bodies : Both (List ℕ)) (answer : Status)
     → AreRight old n script bodies → IsRefused LIMITS old before n (stops.Own answer) → ⊥
 never-refused law old before n script bodies answer r (inl own) = never-own law old n script bodies answer r own
 never-refused law old before n script bodies answer r (inr refused) = elim refused.bad [
@@ -102,21 +106,26 @@ inputs-tap law old before n script bodies found r e =
     let answ : bodies.answ ≡ e.ends.bodies.answ =
     behind-one Answer (octets_at old n.rec_a) bodies.answ e.ends.bodies.answ r.answ_is (e.ends.knows Answerer r.answ_told) in
     let at-orig : TapOf (tapping e.script (record { orig = bodies.orig; answ = e.ends.bodies.answ })) found e.ends.left =
-    subst (λ (o : List ℕ). TapOf (tapping e.script (record { orig = o; answ = e.ends.bodies.answ })) found e.ends.left) (sym orig) e.ends.tap in
+    subst (λ (o : List ℕ). TapOf (tapping e.script (record { orig = o; answ = e.ends.bodies.answ })) found e.ends.left) (sym orig)
+    e.ends.tap in
     let at-both : TapOf (tapping e.script bodies) found e.ends.left =
     subst (λ (a : List ℕ). TapOf (tapping e.script (record { orig = bodies.orig; answ = a })) found e.ends.left) (sym answ) at-orig in
-    subst (λ (s : ScriptValue). TapOf (tapping s bodies) found e.ends.left) (sym (same-script law old before n script bodies found r e)) at-both
+    subst (λ (s : ScriptValue). TapOf (tapping s bodies) found e.ends.left) (sym (same-script law old before n script bodies found r e))
+    at-both
 
-answered : TellsOnce → ScriptsAreOne → (old before new : FolderState) (n : TapNames) (s : Status) (script : ScriptValue) (bodies : Both (List ℕ))
+answered : TellsOnce → ScriptsAreOne
+    → (old before new : FolderState) (n : TapNames) (s : Status) (script : ScriptValue) (bodies : Both (List ℕ))
     (found end : TapEnd) (left : Left) → OnlyOutputs before new [] → AreRight old n script bodies → Tapped LIMITS old before n found
     → TapOf (tapping script bodies) end left → s ≡ answer_of found → Answered new n end left s
 answered once scripts old before new n s script bodies found end left last r e tap is =
     let limits : IsInLimits script = subst IsInLimits (sym (same-script scripts old before n script bodies found r e)) e.limits in
-    let one = once (tapping script bodies) found end e.ends.left left limits (inputs-tap scripts old before n script bodies found r e) tap in
+    let one = once (tapping script bodies) found end e.ends.left left limits (inputs-tap scripts old before n script bodies found r e) tap
+    in
     record {
       answer = is ∙ ap answer_of one.0;
       holds = subst (λ (l : Left). HoldEach new (outputs_of n) (held_of l)) one.1
-          (HoldEach-kept before new (outputs_of n) (held_of e.ends.left) last.goes_on e.ends.holds (keeps-each before new last (outputs_of n)));
+          (HoldEach-kept before new (outputs_of n) (held_of e.ends.left) last.goes_on e.ends.holds
+          (keeps-each before new last (outputs_of n)));
     }
 
 -- the end that an answer names
@@ -127,7 +136,8 @@ own-tapped old before n (ChanceMatch role turn) e = (ends.ChanceMatch role turn,
 own-tapped old before n (BadTap role turn) e = (ends.BadTap role turn, refl, e)
 own-tapped old before n answer e = absurd e
 
-pub completes-of : TellsOnce → ScriptsAreOne → NoFaultInScripts → (words : List (List ℕ)) (old new : FolderState) (n : TapNames) (s : Status)
+pub completes-of : TellsOnce → ScriptsAreOne → NoFaultInScripts
+    → (words : List (List ℕ)) (old new : FolderState) (n : TapNames) (s : Status)
     → Answers (tap_job n) words old new s → Completes old new n s
 completes-of once scripts apart words old new n s a sound script bodies r end left tap = by (comes-to (tap_job n) words old new s a sound)
   where

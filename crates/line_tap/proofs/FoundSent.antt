@@ -204,7 +204,8 @@ piece-behind : FoundLaws → (bits : List Bool) (rest size : ℕ) (octets : List
     → rest + length (opening 0 (Some octets)) ≡ end → OnePiece bits (rest + 24) octets end
 piece-behind laws bits rest size octets end there is at =
     let one = from-flag laws size octets is in
-    let from : drop (rest + 24) bits ≡ drop 24 (slot_bits size 0 (Flags (Some octets))) = sym (drop-drop 24 rest bits) ∙ ap (drop 24) there in
+    let from : drop (rest + 24) bits ≡ drop 24 (slot_bits size 0 (Flags (Some octets))) = sym (drop-drop 24 rest bits)
+    ∙ ap (drop 24) there in
     record {
       found = one.0;
       all = ap pieces_of from ∙ one.1;
@@ -220,7 +221,8 @@ sent-piece laws check sender dlci symbols phase bits frame few codable e =
     let r : ℕ = length (rest_of_flag phase) in
     let octets : List ℕ = checked check sender dlci frame in
     let sendable = laws.sendable check sender dlci symbols phase (sent.Frame frame) codable in
-    let fits = laws.fits check sender dlci symbols phase (sent.Frame frame) (laws.octets check sender dlci (sent.Frame frame) few sendable) codable in
+    let fits = laws.fits check sender dlci symbols phase (sent.Frame frame) (laws.octets check sender dlci (sent.Frame frame) few sendable)
+    codable in
     let room : length (opening 0 (Some octets)) ≤ 4 * symbols - r = omega (arith, fits.1, long-opening phase (Some octets)) in
     piece-behind laws bits r (4 * symbols - r) octets (end_of check sender dlci phase frame)
     (behind-rest-of bits (4 * symbols) phase octets e) (fits.0, room) (sym (long-opening phase (Some octets)))

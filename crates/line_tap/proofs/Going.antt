@@ -62,13 +62,15 @@ pub record Puts (d new : DelayedLine) (sent : Sent) (labels : List ℕ) : Type 0
   pub lag : new.lag ≡ d.lag
   pub line : new.line ≡ d.line
 
-pub waits-again : (d new : DelayedLine) (r : SlotReader) (x : Tapping) (role : Role) (ts : List Turn) (body : List ℕ) (slot : Slot) (check : Check)
+pub waits-again : (d new : DelayedLine) (r : SlotReader) (x : Tapping) (role : Role) (ts : List Turn) (body : List ℕ) (slot : Slot)
+    (check : Check)
     (sent : Sent) → HasRoom d (line_of x) role 1 (sent_by 0 role ts) → ReadsToo r (line_of x) check role ts body slot → slot.sent ≡ sent
     → Puts d new sent slot.labels
     → WaitsFor new (line_of x) role 1 (sent_by 0 role ts ++ (record { dlci = 0; spoken = told check slot.sent }) ∷ [])
 waits-again d new r x role ts body slot check sent h k same p =
     let item : Carried = record { dlci = 0; spoken = told check slot.sent } in
-    let coded : IsCodedAs role (4 * (line_of x).symbols) (map (carried_signal role) (sent_by 0 role ts)) (carried_signal role item) slot.labels =
+    let coded : IsCodedAs role (4 * (line_of x).symbols) (map (carried_signal role) (sent_by 0 role ts)) (carried_signal role item)
+    slot.labels =
     subst (λ l. IsCodedAs role (4 * (line_of x).symbols) l (signal_of check role 0 slot.sent) slot.labels)
     (sym (lone-signals (line_of x) role ts (λ r n. refl))) k.coded in
     sends-behind d new (line_of x) role 1 (sent_by 0 role ts) item h

@@ -40,7 +40,8 @@ both-read start now n orig answ Originator = orig
 both-read start now n orig answ Answerer = answ
 
 -- the script or a length is refused
-pub inputs-refused : (l : Limits) (old new : FolderState) (n : TapNames) (stop : Stop) → Refuses l old new n.script 3 (recordings_of n) 1 stop
+pub inputs-refused : (l : Limits) (old new : FolderState) (n : TapNames) (stop : Stop)
+    → Refuses l old new n.script 3 (recordings_of n) 1 stop
     → IsRefused l old new n stop
 inputs-refused l old new n (Own answer) refused = inl refused
 inputs-refused l old new n (Read fault) refused = inl refused

@@ -39,7 +39,8 @@ told-of old before new n end last e = record {
   are_of = record { script_is = e.opens.reads.spelled; bodies_are = e.ends.knows };
   left = e.ends.left;
   tap = e.ends.tap;
-  holds = HoldEach-kept before new (outputs_of n) (held_of e.ends.left) last.goes_on e.ends.holds (keeps-each before new last (outputs_of n));
+  holds = HoldEach-kept before new (outputs_of n) (held_of e.ends.left) last.goes_on e.ends.holds
+      (keeps-each before new last (outputs_of n));
 }
 
 -- answers by which a tap itself ends
@@ -56,7 +57,8 @@ own-ends words old new n s t a e f =
 
 -- inputs aren't refused by these answers
 not-refused : {P : Type 0} → (old before : FolderState) (n : TapNames) (answer : Status)
-    → (RefusesOwn LIMITS old n.script 3 (recordings_of n) 1 answer → ⊥) → ((mode : Mode) (name : List ℕ) → HasNoHeader old name mode answer → ⊥)
+    → (RefusesOwn LIMITS old n.script 3 (recordings_of n) 1 answer → ⊥)
+    → ((mode : Mode) (name : List ℕ) → HasNoHeader old name mode answer → ⊥)
     → (KeepsAll old before × IsRefused LIMITS old before n (stops.Own answer)) ⊎ P → P
 not-refused old before n answer never none (inl (kept, inl r)) = absurd (never r)
 not-refused old before n answer never none (inl (kept, inr r)) =
@@ -72,10 +74,12 @@ told-by words old new n s Done a last e = let d = done-of (tap_job n) words old 
 )
 told-by words old new n s (LineLost role symbol) a last e =
     told-of old a.before new n _ last
-    (not-refused old a.before n (LineLost role symbol) (λ x. x) (λ mode name x. x) (own-ends words old new n s (LineLost role symbol) a refl e))
+    (not-refused old a.before n (LineLost role symbol) (λ x. x) (λ mode name x. x)
+    (own-ends words old new n s (LineLost role symbol) a refl e))
 told-by words old new n s (ChanceMatch role turn) a last e =
     told-of old a.before new n _ last
-    (not-refused old a.before n (ChanceMatch role turn) (λ x. x) (λ mode name x. x) (own-ends words old new n s (ChanceMatch role turn) a refl e))
+    (not-refused old a.before n (ChanceMatch role turn) (λ x. x) (λ mode name x. x)
+    (own-ends words old new n s (ChanceMatch role turn) a refl e))
 told-by words old new n s (BadTap role turn) a last e =
     told-of old a.before new n _ last
     (not-refused old a.before n (BadTap role turn) (λ x. x) (λ mode name x. x) (own-ends words old new n s (BadTap role turn) a refl e))

@@ -67,7 +67,8 @@ are-few laws tap h = each
 
     each : (role : Role) → (from role tap.lines).line.passed < 2 ^ 40
     each Originator =
-        at Originator _ (passed-few tap.lines.from_orig (line_of h.what) Originator 1 (sent_by 0 Originator h.turns) (h.after.lines Originator))
+        at Originator _ (passed-few tap.lines.from_orig (line_of h.what) Originator 1 (sent_by 0 Originator h.turns)
+        (h.after.lines Originator))
     each Answerer =
         at Answerer _ (passed-few tap.lines.from_answ (line_of h.what) Answerer 1 (sent_by 0 Answerer h.turns) (h.after.lines Answerer))
 
@@ -91,7 +92,8 @@ pub listens-too : (l : Listener) (terms : Terms) (role : Role) (ts : List Turn) 
     → ListensToo l terms role ts t
 listens-too l terms role ts t given h =
     subst (λ g. Listens l terms role (has_passed is_xid role (t ∷ ts)) (has_passed (opens role) role (t ∷ ts))
-    (record (received terms role (t ∷ ts)) { given = length (received terms role ts).taken }) (given_breaks role ts ++ given_in g)) (sym given)
+    (record (received terms role (t ∷ ts)) { given = length (received terms role ts).taken }) (given_breaks role ts ++ given_in g))
+    (sym given)
     (subst (λ i. Listens l terms role (has_passed is_xid role (t ∷ ts)) (has_passed (opens role) role (t ∷ ts)) i
     (given_breaks role ts ++ given_in (given_to role ts (of role t).heard)))
     (taking-given (of role t).heard (received terms role ts) (length (received terms role ts).taken)) h)
@@ -117,7 +119,8 @@ pub hears-these : (tap new : Tap) (x : Tapping) (ts : List Turn) (checks : Both 
     → checks.orig ≡ tap.orig.listener.check → checks.answ ≡ tap.answ.listener.check
     → ArrivesBoth (HaveRoom new.lines (line_of x) 1 (both_sent_by 0 ts)) (line_of x) ts checks heard → HearsThese x ts heard
 hears-these tap new x ts checks heard h o a arrives = record {
-  heard_of = λ role. subst (λ k. IsHeardOf (line_of x) (other role) ts k (of role heard)) (checks-so tap x ts checks h o a role) (arrives.heard_of role);
+  heard_of = λ role. subst (λ k. IsHeardOf (line_of x) (other role) ts k (of role heard)) (checks-so tap x ts checks h o a role)
+      (arrives.heard_of role);
   well = arrives.well;
 }
 

@@ -39,7 +39,8 @@ gives-no-segment false ns nr pf info lengths = sym (append-nil lengths)
 -- ---- segments are handed over
 
 -- what a listener knows beside its segments stays
-pub listens-on : (old mid : Listener) (new : Taking) (terms : Terms) (role : Role) (agreed connected : Bool) (i : Incoming) (lengths : List ℕ)
+pub listens-on : (old mid : Listener) (new : Taking) (terms : Terms) (role : Role) (agreed connected : Bool) (i : Incoming)
+    (lengths : List ℕ)
     → mid ≡ record old { receiver = mid.receiver } → StandsIn new (delivered i) → Listens old terms role agreed connected i lengths
     → Listens (record mid { receiver = new }) terms role agreed connected (delivered i) lengths
 listens-on old mid new terms role agreed connected i lengths beside stands h =

@@ -38,7 +38,8 @@ samples-take (suc n) (a ∷ b ∷ []) h = absurd (omega (arith, h))
 samples-take (suc n) (a ∷ b ∷ c ∷ []) h = absurd (omega (arith, h))
 samples-take (suc n) (a ∷ b ∷ c ∷ d ∷ octets) h =
     let four : 4 * suc n ≡ suc (suc (suc (suc (4 * n)))) = omega arith in
-    ap (λ k. samples_in (take k (a ∷ b ∷ c ∷ d ∷ octets))) four ∙ ap (λ xs. sample_of a b c d ∷ xs) (samples-take n octets (omega (arith, h)))
+    ap (λ k. samples_in (take k (a ∷ b ∷ c ∷ d ∷ octets))) four
+    ∙ ap (λ xs. sample_of a b c d ∷ xs) (samples-take n octets (omega (arith, h)))
 
 -- the octets of the slot of the turn after so many
 abbrev pub piece_of : Wire → ℕ → List ℕ → List ℕ

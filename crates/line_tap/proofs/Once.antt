@@ -89,7 +89,8 @@ heard-same laws x ts t u h k role =
 one-turn : OnceLaws → (x : Tapping) (ts : List Turn) (t u : Turn) → Hears x ts t → Hears x ts u
     → ((role : Role) → (of role t).sent ≡ (of role u).sent) → t ≡ u
 one-turn laws x ts t u h k e =
-    turn-same t u (λ role. side-same (of role t) (of role u) (heard-same laws x ts t u h k role) (h.checks role ∙ sym (k.checks role)) (e role)
+    turn-same t u (λ role. side-same (of role t) (of role u) (heard-same laws x ts t u h k role) (h.checks role ∙ sym (k.checks role))
+    (e role)
     (h.given role ∙ ap (given_to role ts) (heard-same laws x ts t u h k role) ∙ sym (k.given role)))
 
 one-going : OnceLaws → (x : Tapping) (ts : List Turn) (t u : Turn) → IsInLimits x.script → GoesOn x ts t → GoesOn x ts u → t ≡ u
@@ -97,7 +98,8 @@ one-going laws x ts t u w g h =
     one-turn laws x ts t u g.hears h.hears
     (λ role. (g.sends role).sent_is
     ∙ ap (λ s. Some (told (check_by (terms_of x)) s))
-    (holds-once laws (line_of x) (check_by (terms_of x)) role ts (of role x.bodies) (g.sends role).sent (h.sends role).sent (laws.room x.script w).0 (omega arith)
+    (holds-once laws (line_of x) (check_by (terms_of x)) role ts (of role x.bodies) (g.sends role).sent (h.sends role).sent
+    (laws.room x.script w).0 (omega arith)
     (g.sends role).holds (h.sends role).holds)
     ∙ sym (h.sends role).sent_is)
 
@@ -248,7 +250,8 @@ cut x (u ∷ us) n l h =
       | inr more ↦ record { turns = us; count = omega (arith, l, more); tells = h.1; turn = u; goes = h.0 }
     ]
 
-not-longer : OnceLaws → (x : Tapping) (ts us : List Turn) (k : Cause) (left : Left) → IsInLimits x.script → Tells x ts → EndsWith x ts k left
+not-longer : OnceLaws → (x : Tapping) (ts us : List Turn) (k : Cause) (left : Left) → IsInLimits x.script → Tells x ts
+    → EndsWith x ts k left
     → Tells x us → length ts < length us → ⊥
 not-longer laws x ts us k left w h e g l =
     let c = cut x us (length ts) l g in

@@ -30,7 +30,8 @@ use Rattle.link_run.specs.Laws.{given_in, given_breaks}
 use Rattle.link_run.specs.Overheard.{passes_in, has_passed, is_xid, opens}
 use Rattle.link_run.specs.Trace.{side_line, turn_text, trace_text}
 use Rattle.link_run.specs.Listened.{check_by, judged_by, taking_in, received, given_by, given_to}
-use Rattle.line_run.specs.Sampled.{Wire, signal_in, and_then, signals, signals_before, bits_of, bits_before, ArrivesAs, IsHeardOf, IsHeardWell, HeardIn, LosesLine}
+use Rattle.line_run.specs.Sampled.{Wire, signal_in, and_then, signals, signals_before, bits_of, bits_before, ArrivesAs, IsHeardOf}
+use Rattle.line_run.specs.Sampled.{IsHeardWell, HeardIn, LosesLine}
 use Rattle.line_tap.specs.Tapping.{told}
 
 -- a slot, an end in a turn, a turn, as the line tells them
@@ -63,7 +64,8 @@ plain-sent check Originator t = refl
 plain-sent check Answerer t = refl
 
 -- what passed, what was taken and given, and the trace are the same
-plain-passed : (is : Frame → Bool) (check : Check) (role : Role) (ts : List Turn) → has_passed is role (plains check ts) ≡ has_passed is role ts
+plain-passed : (is : Frame → Bool) (check : Check) (role : Role) (ts : List Turn)
+    → has_passed is role (plains check ts) ≡ has_passed is role ts
 plain-passed is check role [] = refl
 plain-passed is check role (t ∷ ts) =
     ap (λ h. passes_in is h || has_passed is role (plains check ts)) (plain-heard check role t)
@@ -104,7 +106,8 @@ plain-text check (t ∷ ts) =
     ap (λ n. trace_text (plains check ts) ++ turn_text n (plain check t)) (length-map ts (plain check))
     ∙ ap (λ l. trace_text (plains check ts) ++ (l ++ side_line (length ts) Answerer (plain_side check t.answ)))
     (plain-line check (length ts) Originator t.orig)
-    ∙ ap (λ l. trace_text (plains check ts) ++ (side_line (length ts) Originator t.orig ++ l)) (plain-line check (length ts) Answerer t.answ)
+    ∙ ap (λ l. trace_text (plains check ts) ++ (side_line (length ts) Originator t.orig ++ l))
+    (plain-line check (length ts) Answerer t.answ)
     ∙ ap (λ l. l ++ turn_text (length ts) t) (plain-text check ts)
 
 -- ---- the slots, where each frame with numbers has that check

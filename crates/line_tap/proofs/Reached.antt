@@ -27,7 +27,8 @@ use Rattle.line_tap.specs.Turn.{held_of, left_of, got_in, added}
 use Rattle.line_tap.specs.Tap.{IsReady, TapAfter, AreReadTo, GoesOnBy, EndsInTurn, EndsReading, StopsInTurn, StopsReadingIn, TurnStops}
 use Rattle.line_tap.specs.Turns.{no_octets, TapEnds, TapStops, TapStopsReading, StopsBy}
 use Rattle.line_tap.proofs.Longer.{longer, tells-longer, got-more}
-use Rattle.line_tap.proofs.Whole.{Rest, rests, more_of, knows-whole, none-short, whole-longer, badly-longer, lost-longer, chance-longer, got-longer, adds-longer}
+use Rattle.line_tap.proofs.Whole.{Rest, rests, more_of, knows-whole, none-short, whole-longer, badly-longer, lost-longer, chance-longer}
+use Rattle.line_tap.proofs.Whole.{got-longer, adds-longer}
 
 -- Some turns were made over what was read, and the outputs hold what they left.
 pub record Reached (tap : Tap) (script : ScriptValue) (start now : FolderState) (n : TapNames) : Type 0 where
@@ -47,7 +48,8 @@ reached-none tap start now n after read created =
 pub less-left : (old new : Tap) → old.at < new.at → IsReady new → TAP_LIMIT - new.at < TAP_LIMIT - old.at
 less-left old new nearer ready = omega (arith, nearer, ready.within)
 
-held-more : (next : FolderState) (name before more all : List ℕ) → Holds next name (before ++ more) → all ≡ before ++ more → Holds next name all
+held-more : (next : FolderState) (name before more all : List ℕ) → Holds next name (before ++ more) → all ≡ before ++ more
+    → Holds next name all
 held-more next name before more all holds e = subst (Holds next name) (sym e) holds
 
 pub reached-going : KeepsTaken → (tap new : Tap) (script : ScriptValue) (start now next : FolderState) (n : TapNames)
@@ -76,7 +78,8 @@ reached-going law tap new script start now next n r on g =
 -- ---- the reading ends
 
 -- it ends so by what was read, and by the whole of it
-tap-ends : (tap : Tap) (script : ScriptValue) (start now next : FolderState) (n : TapNames) (end : TapEnd) (r : Reached tap script start now n)
+tap-ends : (tap : Tap) (script : ScriptValue) (start now next : FolderState) (n : TapNames) (end : TapEnd)
+    (r : Reached tap script start now n)
     (e : EndsInTurn start now next n (tapping script r.bodies) r.turns end) (rest : (role : Role) → Rest start n role (of role e.others))
     → GoesOn now next
     → ((left : Left) → EndsBy (tapping script e.others) r.turns end left
@@ -86,12 +89,18 @@ tap-ends tap script start now next n end r e rest on by = record {
   bodies = (longer (tapping script e.others) (more_of start n e.others rest)).bodies;
   knows = knows-whole start n e.others rest;
   left = _;
-  tap = record { turns = r.turns; tells = tells-longer (tapping script e.others) (more_of start n e.others rest) r.turns e.tells; ended = by _ e.ended };
-  holds = HoldEach-add now next (outputs_of n) (held_of (left_of (tapping script r.bodies) r.turns (trace_text r.turns))) (held_of e.more) on
+  tap = record {
+    turns = r.turns;
+    tells = tells-longer (tapping script e.others) (more_of start n e.others rest) r.turns e.tells;
+    ended = by _ e.ended;
+  };
+  holds = HoldEach-add now next (outputs_of n) (held_of (left_of (tapping script r.bodies) r.turns (trace_text r.turns))) (held_of e.more)
+      on
       r.holds e.writes;
 }
 
-pub reached-done : (tap : Tap) (script : ScriptValue) (start now next : FolderState) (n : TapNames) (turns : ℕ) (r : Reached tap script start now n)
+pub reached-done : (tap : Tap) (script : ScriptValue) (start now next : FolderState) (n : TapNames) (turns : ℕ)
+    (r : Reached tap script start now n)
     → HEAD + TAIL < (line_of (tapping script r.bodies)).symbols → GoesOn now next
     → EndsReading start now next n (tapping script r.bodies) r.turns (ends.IsDone turns) → TapEnds script start next n (ends.IsDone turns)
 reached-done tap script start now next n turns r long on (e, out) =
@@ -115,7 +124,8 @@ stops-so tap script start now next n r long on s =
         tells = tells-longer (tapping script s.others) (more_of start n s.others rest) r.turns s.tells;
         more = s.more;
         adds = adds-longer start n (tapping script s.others) r.turns s.more rest long s.adds;
-        holds = HoldPart-add now next (outputs_of n) (held_of (left_of (tapping script r.bodies) r.turns (trace_text r.turns))) (held_of s.more) on
+        holds = HoldPart-add now next (outputs_of n) (held_of (left_of (tapping script r.bodies) r.turns (trace_text r.turns)))
+            (held_of s.more) on
             r.holds s.writes;
       };
     }
@@ -134,7 +144,8 @@ stops-reading tap script start now next n r on s =
           tells = tells-longer (tapping script s.others) more r.turns s.tells;
           more = s.more;
           adds = inl got;
-          holds = HoldPart-add now next (outputs_of n) (held_of (left_of (tapping script r.bodies) r.turns (trace_text r.turns))) (held_of s.more) on
+          holds = HoldPart-add now next (outputs_of n) (held_of (left_of (tapping script r.bodies) r.turns (trace_text r.turns)))
+              (held_of s.more) on
               r.holds (AddPart-none now next (n.got_o ∷ n.got_a ∷ []) n.trace [] (s.more.got.orig ∷ s.more.got.answ ∷ []) s.more.trace [] tt
               s.writes);
         };
@@ -146,7 +157,8 @@ stops-reading tap script start now next n r on s =
       },
     )
 
-pub reached-stop : (tap : Tap) (script : ScriptValue) (start now next : FolderState) (n : TapNames) (stop : Stop) (r : Reached tap script start now n)
+pub reached-stop : (tap : Tap) (script : ScriptValue) (start now next : FolderState) (n : TapNames) (stop : Stop)
+    (r : Reached tap script start now n)
     → HEAD + TAIL < (line_of (tapping script r.bodies)).symbols → GoesOn now next
     → TurnStops start now next n (tapping script r.bodies) r.turns stop → StopsBy script start next n stop
 reached-stop tap script start now next n (Own (LineLost role symbol)) r long on e =

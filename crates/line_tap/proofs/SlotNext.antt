@@ -1,5 +1,6 @@
 -- The octets of one slot more, behind those of all slots before.
-use Rattle.std.proofs.Common.{◌≡◌, ◌∙◌, ℕ, ◌+◌, ◌*◌, ◌≤◌, ◌<◌, List, [], ◌∷◌, ◌++◌, length, take, drop, arith, length-append, sym, ap, subst}
+use Rattle.std.proofs.Common.{◌≡◌, ◌∙◌, ℕ, ◌+◌, ◌*◌, ◌≤◌, ◌<◌, List, [], ◌∷◌, ◌++◌, length, take, drop, arith, length-append, sym, ap}
+use Rattle.std.proofs.Common.{subst}
 use Rattle.std.proofs.Math.Seq.{take-append_seam, drop-append_seam}
 use Rattle.std.proofs.lemmas.List.{take_all, length-take}
 use Rattle.std.proofs.lemmas.Grind.{common_steps}
@@ -65,7 +66,8 @@ next-of r c check role ts body piece s h count size k =
     let at-piece : IsNext r (signals c role ts) (take (c.symbols * length ts) (samples_in (body ++ piece))) (samples_in piece) s =
     subst (λ p. IsNext r (signals c role ts) (take (c.symbols * length ts) (samples_in (body ++ piece))) (samples_in p) s)
     (piece-behind c (length ts) body piece count size) (held-is-next r c check role ts (body ++ piece) s h k) in
-    subst (λ (l : List Sample). IsNext r (signals c role ts) l (samples_in piece) s) (samples-before c (length ts) body piece count) at-piece
+    subst (λ (l : List Sample). IsNext r (signals c role ts) l (samples_in piece) s) (samples-before c (length ts) body piece count)
+    at-piece
 
 held-of : (r : SlotReader) (c : Wire) (check : Check) (role : Role) (ts : List Turn) (body piece : List ℕ) (s : Sent)
     → ReadsFor r c check role ts → length body ≡ octets_of c (length ts) → length piece ≡ 4 * c.symbols

@@ -156,7 +156,8 @@ labels-next differ r sigs samples more s k x =
 
 -- ---- what a writer wrote, in a reader's words
 
-pub phase-is : (r : SlotReader) (sigs : List Signal) (samples : List Sample) → ReaderStands r sigs samples → r.phase ≡ phase_of r.symbols sigs
+pub phase-is : (r : SlotReader) (sigs : List Signal) (samples : List Sample) → ReaderStands r sigs samples
+    → r.phase ≡ phase_of r.symbols sigs
 phase-is r sigs samples k =
     sym k.in_step.phase ∙ k.writer.phase_is ∙ ap (λ n. phase_after (4 * n) (slots_of (4 * r.symbols) sigs)) k.in_step.symbols
 
@@ -164,7 +165,8 @@ pub written-as : (r : SlotReader) (sigs : List Signal) (samples : List Sample) (
     → bits ≡ slot_bits (4 * r.writer.symbols) r.writer.phase (slot_of (4 * r.writer.symbols) (carries r s))
     → bits ≡ bits_behind (4 * r.symbols) sigs (carries r s)
 written-as r sigs samples s bits k e =
-    e ∙ ap (λ p. slot_bits (4 * r.writer.symbols) p (slot_of (4 * r.writer.symbols) (carries r s))) (k.in_step.phase ∙ phase-is r sigs samples k)
+    e ∙ ap (λ p. slot_bits (4 * r.writer.symbols) p (slot_of (4 * r.writer.symbols) (carries r s)))
+    (k.in_step.phase ∙ phase-is r sigs samples k)
     ∙ ap (λ n. slot_bits (4 * n) (phase_of r.symbols sigs) (slot_of (4 * n) (carries r s))) k.in_step.symbols
 
 pub writer-on : (r : SlotReader) (writer : Writer) (sigs : List Signal) (samples : List Sample) (s : Sent) → ReaderStands r sigs samples
@@ -173,7 +175,8 @@ pub writer-on : (r : SlotReader) (writer : Writer) (sigs : List Signal) (samples
 writer-on r writer sigs samples s k on =
     let size : ℕ = 4 * r.symbols in
     subst (WriterStands writer) (sym (map-append (slot_of size) sigs (carries r s ∷ [])))
-    (subst (λ n. WriterStands writer (slots_of size sigs ++ slot_of (4 * n) (carries r s) ∷ [])) k.in_step.symbols (on (slots_of size sigs) k.writer))
+    (subst (λ n. WriterStands writer (slots_of size sigs ++ slot_of (4 * n) (carries r s) ∷ [])) k.in_step.symbols
+    (on (slots_of size sigs) k.writer))
 
 pub phase-next : (r : SlotReader) (writer : Writer) (sigs : List Signal) (s : Sent) (next : ℕ) → writer.symbols ≡ r.symbols
     → WriterStands writer (slots_of (4 * r.symbols) (sigs ++ carries r s ∷ [])) → r.phase ≡ phase_of r.symbols sigs
@@ -186,7 +189,8 @@ phase-next r writer sigs s next e h p q =
     ∙ ap (λ phase. next_phase size phase (slot_of size (carries r s))) (sym p) ∙ sym q
 
 -- one slot more
-pub bits-more : (r : SlotReader) (sigs : List Signal) (s : Sent) (quads : List ℕ) → line_bits quads ≡ bits_behind (4 * r.symbols) sigs (carries r s)
+pub bits-more : (r : SlotReader) (sigs : List Signal) (s : Sent) (quads : List ℕ)
+    → line_bits quads ≡ bits_behind (4 * r.symbols) sigs (carries r s)
     → signal_bits (4 * r.symbols) sigs ++ line_bits quads ≡ signal_bits (4 * r.symbols) (sigs ++ carries r s ∷ [])
 bits-more r sigs s quads e =
     let size : ℕ = 4 * r.symbols in
@@ -200,12 +204,14 @@ labels-more labels more samples others h k = (
 )
 
 -- the labels of the next slot code it
-pub labels-code : (r : SlotReader) (sigs : List Signal) (samples more : List Sample) (s : Sent) (labels : List ℕ) → ReaderStands r sigs samples
+pub labels-code : (r : SlotReader) (sigs : List Signal) (samples more : List Sample) (s : Sent) (labels : List ℕ)
+    → ReaderStands r sigs samples
     → AreLabels labels more → IsNext r sigs samples more s → IsCodedAs r.framing.sender (4 * r.symbols) sigs (carries r s) labels
 labels-code r sigs samples more s labels k are next =
     let mode : Mode = mode_of r.framing.sender in
     record {
       points = samples;
       earlier = sequence-modulates mode r.demodulator k.labels (bits_before r sigs) samples r.state k.read k.are k.leads;
-      modulated = subst (λ xs. Modulates (tap_of mode) (bits_before r sigs ++ bits_next r sigs s) (samples ++ xs)) (sym are.1) next.modulated;
+      modulated = subst (λ xs. Modulates (tap_of mode) (bits_before r sigs ++ bits_next r sigs s) (samples ++ xs)) (sym are.1)
+          next.modulated;
     }

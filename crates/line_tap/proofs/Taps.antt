@@ -29,9 +29,11 @@ use Rattle.line_tap.specs.Outcomes.{IsBegun, IsRefused, TappedBy, StopsCreating,
 pub headers-later : (start a b : FolderState) (n : TapNames) → AreApartFrom (inputs_of n) (outputs_of n) → OnlyOutputs a b (outputs_of n)
     → AreReadTo start a n no_octets → AreReadTo start b n no_octets
 headers-later start a b n apart only h Originator =
-    let k = inputs-kept a b (inputs_of n) (outputs_of n) apart.1 only.names in ReadTo-kept start a b n.rec_o TAP_LIMIT _ _ (h Originator) only.goes_on k.0
+    let k = inputs-kept a b (inputs_of n) (outputs_of n) apart.1 only.names in ReadTo-kept start a b n.rec_o TAP_LIMIT _ _ (h Originator)
+    only.goes_on k.0
 headers-later start a b n apart only h Answerer =
-    let k = inputs-kept a b (inputs_of n) (outputs_of n) apart.1 only.names in ReadTo-kept start a b n.rec_a TAP_LIMIT _ _ (h Answerer) only.goes_on k.1.0
+    let k = inputs-kept a b (inputs_of n) (outputs_of n) apart.1 only.names in ReadTo-kept start a b n.rec_a TAP_LIMIT _ _ (h Answerer)
+    only.goes_on k.1.0
 
 -- ---- how it ends
 
@@ -56,8 +58,10 @@ ends-creating l old mid new n script b c = record {
 }
 
 -- turns came to their end
-pub ends-turns : (l : Limits) (old mid next : FolderState) (n : TapNames) (script : ScriptValue) (result : Result ℕ Stop) → IsBegun l old mid n script
-    → IsInLimits script → TurnsEnd script old next n result → EndCounts old next (recordings_of n) (outputs_of n) result → Ends l old next n result
+pub ends-turns : (l : Limits) (old mid next : FolderState) (n : TapNames) (script : ScriptValue) (result : Result ℕ Stop)
+    → IsBegun l old mid n script
+    → IsInLimits script → TurnsEnd script old next n result → EndCounts old next (recordings_of n) (outputs_of n) result
+    → Ends l old next n result
 ends-turns l old mid next n script (Ok turns) b limits e counts = record { script = script; opens = b.opens; limits = limits; ends = e }
 ends-turns l old mid next n script (Err (Own (LineLost role symbol))) b limits e counts =
     inr (record { script = script; opens = b.opens; limits = limits; ends = e })

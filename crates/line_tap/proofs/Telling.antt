@@ -41,7 +41,8 @@ use Rattle.link_run.specs.Laws.{RunsOver}
 use Rattle.link_run.specs.Overheard.{agreed_terms, SendsAgreedCheck}
 use Rattle.link_run.specs.Trace.{trace_text}
 use Rattle.link_run.specs.Listened.{check_by, judged_by, given_to, HearsByLine, StaysKnownByLine, RunsByLine}
-use Rattle.line_run.specs.Sampled.{Wire, IsAlone, signal_in, and_then, signals, bits_of, IsHeardOf, IsHeardWell, HeardIn, LineRun, LineEnd, LosesLine}
+use Rattle.line_run.specs.Sampled.{Wire, IsAlone, signal_in, and_then, signals, bits_of, IsHeardOf, IsHeardWell, HeardIn, LineRun, LineEnd}
+use Rattle.line_run.specs.Sampled.{LosesLine}
 use Rattle.line_run.specs.Sampled as lines
 use Rattle.line_run.specs.LineLaws.{SamplesAreCarried, OneIsCarried}
 use Rattle.line_run.specs.Scripted.{wire_of, link_of, ScriptsMayPlay, ScriptsHaveDelays, SlotsHaveRoom}
@@ -97,7 +98,8 @@ all-fit laws c role (t ∷ ts) alone low s k =
     ) in
     subst (λ l. AreFit (4 * c.symbols) 0 l × (length l ≡ suc (length ts))) (sym (signals-more c role ts slot t alone s.0.1)) both
 
-pub length-bits : TellingLaws → (c : Wire) (role : Role) (ts : List Turn) → IsAlone c → HEAD + TAIL < c.symbols → c.dlci < 64 → AllSent role ts
+pub length-bits : TellingLaws → (c : Wire) (role : Role) (ts : List Turn) → IsAlone c → HEAD + TAIL < c.symbols → c.dlci < 64
+    → AllSent role ts
     → AreCoded c role ts → length (bits_of c role ts) ≡ 4 * (c.symbols * length ts)
 length-bits laws c role ts alone long low s k =
     let h = all-fit laws c role ts alone low s k in
@@ -143,7 +145,8 @@ within-all laws c role ts body alone long low s k r =
       count = count;
     }
 
-within-less : TellingLaws → (c : Wire) (role : Role) (ts : List Turn) (t : Turn) (body : List ℕ) → IsAlone c → HEAD + TAIL < c.symbols → c.dlci < 64
+within-less : TellingLaws → (c : Wire) (role : Role) (ts : List Turn) (t : Turn) (body : List ℕ) → IsAlone c → HEAD + TAIL < c.symbols
+    → c.dlci < 64
     → AllSent role (t ∷ ts) → Within c role (t ∷ ts) body → Within c role ts body
 within-less laws c role ts t body alone long low s w =
     let tap : ℕ = tap_of (mode_of role) in
@@ -153,7 +156,8 @@ within-less laws c role ts t body alone long low s w =
     let less : n ≤ c.symbols * suc (length ts) = omega (arith, mul-suc c.symbols (length ts)) in
     let front = modulates-front tap n (bits_of c role ts) (next_bits c slot.check role ts slot.sent)
     (take (c.symbols * suc (length ts)) (samples_in body)) (tap-some role) bits
-    (subst (λ xs. Modulates tap xs (take (c.symbols * suc (length ts)) (samples_in body))) (bits-more c role ts slot t alone s.0.1) w.front) in
+    (subst (λ xs. Modulates tap xs (take (c.symbols * suc (length ts)) (samples_in body))) (bits-more c role ts slot t alone s.0.1) w.front)
+    in
     record {
       coded = w.coded.1;
       front = subst (Modulates tap (bits_of c role ts)) (take-take n (c.symbols * suc (length ts)) (samples_in body) less) front;
@@ -188,7 +192,8 @@ holds-next laws c check role ts t body slot alone e a w =
     let tap : ℕ = tap_of (mode_of role) in
     let n : ℕ = length (plains check ts) + 1 in
     let count : n ≡ suc (length ts) = omega (arith, length-map ts (plain check)) in
-    let has : (frame : Frame) → slot.sent ≡ slots.Frame frame → has_number frame ≡ true → slot.check ≡ check = λ frame f. a.0 slot frame e f in
+    let has : (frame : Frame) → slot.sent ≡ slots.Frame frame → has_number frame ≡ true
+    → slot.check ≡ check = λ frame f. a.0 slot frame e f in
     let sigs = plain-signals c check role ts a.1 in
     let bits : bits_of c role (t ∷ ts) ≡ bits_of c role (plains check ts) ++ next_bits c check role (plains check ts) slot.sent =
     bits-more c role ts slot t alone e
@@ -196,7 +201,8 @@ holds-next laws c check role ts t body slot alone e a w =
     ∙ ap (λ l. signal_bits (4 * c.symbols) l ++ behind l (signal_of check role c.dlci slot.sent)) (sym sigs) in
     record {
       whole = subst (λ m. octets_of c m ≤ length body) (sym count) w.long;
-      codable = subst (λ l. IsCodable check role c.dlci c.symbols (phase_after (4 * c.symbols) (slots_of (4 * c.symbols) l)) slot.sent) (sym sigs)
+      codable = subst (λ l. IsCodable check role c.dlci c.symbols (phase_after (4 * c.symbols) (slots_of (4 * c.symbols) l)) slot.sent)
+          (sym sigs)
           (codable-plain check slot.check role c.dlci c.symbols (phase_behind c role ts) slot.sent has (w.coded.0 slot e));
       modulated = subst (λ m. Modulates tap (bits_of c role (plains check ts) ++ next_bits c check role (plains check ts) slot.sent)
           (take (c.symbols * m) (samples_in body))) (sym count)
@@ -236,7 +242,8 @@ all-checked laws script files (t ∷ ts) ends limits r role =
       all-checked laws script files ts r.run.0 limits before role,
     )
 
-hears-plain : TellingLaws → (script : ScriptValue) (files bodies : Both (List ℕ)) (ts : List Turn) (ends : Accounts) (t : Turn) (mid : Accounts)
+hears-plain : TellingLaws → (script : ScriptValue) (files bodies : Both (List ℕ)) (ts : List Turn) (ends : Accounts) (t : Turn)
+    (mid : Accounts)
     → IsInLimits script → LineRun (wire_of script) (link_of script files) ts ends → HeardIn (wire_of script) ts t
     → run.Hears (length ts) ends t mid
     → Hears (tapping script bodies) (plains (check_in script files) ts) (plain (check_in script files) t)
@@ -276,7 +283,8 @@ tells-run laws script files bodies (t ∷ ts) ends limits r w =
             };
       },
       tells-run laws script files bodies ts r.run.0 limits before
-          (λ role. within-less laws c role ts t (of role bodies) (λ side n. refl) long (omega arith) (all-sent link role (t ∷ ts) ends r.run) (w role)),
+          (λ role. within-less laws c role ts t (of role bodies) (λ side n. refl) long (omega arith)
+          (all-sent link role (t ∷ ts) ends r.run) (w role)),
     )
 
 -- ---- how it ends
@@ -284,7 +292,8 @@ tells-run laws script files bodies (t ∷ ts) ends limits r w =
 silent-plain : (check : Check) (t : Turn) → IsSilent t → IsSilent (plain check t)
 silent-plain check t s role = plain-sent check role t ∙ ap (option_map (plain_slot check)) (s role)
 
-in-turn : TellingLaws → (script : ScriptValue) (files bodies : Both (List ℕ)) (ts : List Turn) (ends : Accounts) (last : Turn) (mid : Accounts)
+in-turn : TellingLaws → (script : ScriptValue) (files bodies : Both (List ℕ)) (ts : List Turn) (ends : Accounts) (last : Turn)
+    (mid : Accounts)
     (turn : ℕ) (left : Left) → IsInLimits script → LineRun (wire_of script) (link_of script files) ts ends
     → ((role : Role) → All (wire_of script) role ts (of role bodies)) → turn ≡ length ts → HeardIn (wire_of script) ts last
     → run.Hears (length ts) ends last mid → IsSilent last → runs.Leaves mid (trace_text (last ∷ ts)) left
@@ -374,7 +383,8 @@ ended laws script files bodies ts ends (runs.LinkLost role segment turn) left li
 ended laws script files bodies ts ends (runs.NotDetected turn) left limits r w e =
     in-turn laws script files bodies ts ends e.last e.mid turn left limits r w e.number e.heard e.is.hearing e.is.silent e.leaves
 ended laws script files bodies ts ends (runs.LineLost role symbol) left limits r w e =
-    on-line laws script files bodies ts ends (lines.LineLost role symbol) (trace_text ts) (trace_text (plains (check_in script files) ts)) left
+    on-line laws script files bodies ts ends (lines.LineLost role symbol) (trace_text ts) (trace_text (plains (check_in script files) ts))
+    left
     limits r e.is e.leaves (sym (plain-text (check_in script files) ts))
 ended laws script files bodies ts ends (runs.ChanceMatch role turn) left limits r w e =
     let check = check_in script files in
@@ -392,7 +402,8 @@ recordings_tell_runs laws script files end left bodies limits r coded recorded =
     let link = link_of script files in
     let long = (laws.room script limits).0 in
     let all : (role : Role) → All c role r.turns (of role bodies) =
-    λ role. within-all laws c role r.turns (of role bodies) (λ side n. refl) long (omega arith) (all-sent link role r.turns r.ends r.run.run)
+    λ role. within-all laws c role r.turns (of role bodies) (λ side n. refl) long (omega arith)
+    (all-sent link role r.turns r.ends r.run.run)
     (coded role) (recorded role) in
     record {
       turns = plains (check_in script files) r.turns;

@@ -1,5 +1,6 @@
 -- What a turn of a tap comes to, at each of its ways out.
-use Rattle.std.proofs.Common.{◌≡◌, ◌⊎◌, inl, inr, ℕ, ◌+◌, ◌*◌, ◌^◌, ◌<◌, ◌≤◌, IsTrue, List, [], ◌∷◌, ◌++◌, length, take, arith, length-append}
+use Rattle.std.proofs.Common.{◌≡◌, ◌⊎◌, inl, inr, ℕ, ◌+◌, ◌*◌, ◌^◌, ◌<◌, ◌≤◌, IsTrue, List, [], ◌∷◌, ◌++◌, length, take, arith}
+use Rattle.std.proofs.Common.{length-append}
 use Rattle.std.proofs.Common.{refl, sym, ◌∙◌, ap, subst, append-nil, append_assoc, None, Result, Ok, Err}
 use Rattle.std.proofs.lemmas.Bool.{cases_lt}
 use Rattle.std.proofs.lemmas.List.{length-take}
@@ -78,8 +79,10 @@ read-still start a b n bodies reads h role =
 
 -- so much was read of each recording in a call
 pub record ReadsPieces (start a b : FolderState) (n : TapNames) (at : ℕ) (orig answ : ℕ) (of_orig of_answ : List ℕ) : Type 0 where
-  pub reads_orig : (octets : List ℕ) → ReadTo start a n.rec_o TAP_LIMIT at octets → ReadTo start b n.rec_o TAP_LIMIT (at + orig) (octets ++ take orig of_orig)
-  pub reads_answ : (octets : List ℕ) → ReadTo start a n.rec_a TAP_LIMIT at octets → ReadTo start b n.rec_a TAP_LIMIT (at + answ) (octets ++ take answ of_answ)
+  pub reads_orig : (octets : List ℕ) → ReadTo start a n.rec_o TAP_LIMIT at octets
+      → ReadTo start b n.rec_o TAP_LIMIT (at + orig) (octets ++ take orig of_orig)
+  pub reads_answ : (octets : List ℕ) → ReadTo start a n.rec_a TAP_LIMIT at octets
+      → ReadTo start b n.rec_a TAP_LIMIT (at + answ) (octets ++ take answ of_answ)
   pub end_orig : (octets : List ℕ) → ReadTo start a n.rec_o TAP_LIMIT at octets → orig < length of_orig → IsTrue (start.tells n.rec_o)
       → octets ++ take orig of_orig ≡ octets_at start n.rec_o
   pub end_answ : (octets : List ℕ) → ReadTo start a n.rec_a TAP_LIMIT at octets → answ < length of_answ → IsTrue (start.tells n.rec_a)
@@ -105,13 +108,15 @@ pub read-on : (start a b : FolderState) (n : TapNames) (bodies : Both (List ℕ)
     → AreReadTo start b n (read_pieces_of bodies orig answ of_orig of_answ)
 read-on start a b n bodies at orig answ of_orig of_answ eo ea h r Originator =
     read-so start b n.rec_o (header_of (mode_of Originator)) bodies.orig of_orig at orig eo r.few_orig
-    (r.reads_orig _ (subst (λ m. ReadTo start a n.rec_o TAP_LIMIT m (header_of (mode_of Originator) ++ bodies.orig)) (sym eo) (h Originator)))
+    (r.reads_orig _ (subst (λ m. ReadTo start a n.rec_o TAP_LIMIT m (header_of (mode_of Originator) ++ bodies.orig)) (sym eo)
+    (h Originator)))
 read-on start a b n bodies at orig answ of_orig of_answ eo ea h r Answerer =
     read-so start b n.rec_a (header_of (mode_of Answerer)) bodies.answ of_answ at answ ea r.few_answ
     (r.reads_answ _ (subst (λ m. ReadTo start a n.rec_a TAP_LIMIT m (header_of (mode_of Answerer) ++ bodies.answ)) (sym ea) (h Answerer)))
 
 out-so : (start a : FolderState) (name header body piece : List ℕ) (at count : ℕ) → at ≡ HEADER + length body
-    → ((l : List ℕ) → ReadTo start a name TAP_LIMIT at l → count < length piece → IsTrue (start.tells name) → l ++ take count piece ≡ octets_at start name)
+    → ((l : List ℕ) → ReadTo start a name TAP_LIMIT at l → count < length piece → IsTrue (start.tells name)
+    → l ++ take count piece ≡ octets_at start name)
     → ReadTo start a name TAP_LIMIT (HEADER + length body) (header ++ body) → count < length piece → IsTrue (start.tells name)
     → header ++ (body ++ take count piece) ≡ octets_at start name
 out-so start a name header body piece at count e ends h less told =
@@ -182,7 +187,8 @@ leaves-turn law x ts t text = record { got_is = got; trace_is = refl }
     got Answerer = sym (got-more law x Answerer ts t)
 
 -- a text by another name
-with-text : (x : Tapping) (ts : List Turn) (text others : List ℕ) (left : Left) → text ≡ others → Leaves x ts text left → Leaves x ts others left
+with-text : (x : Tapping) (ts : List Turn) (text others : List ℕ) (left : Left) → text ≡ others → Leaves x ts text left
+    → Leaves x ts others left
 with-text x ts text others left e h = record { got_is = h.got_is; trace_is = h.trace_is ∙ e }
 
 -- ---- the line ends the reading
@@ -200,7 +206,8 @@ loses-line start a n x ts role symbol tells read e = record {
   more = nothing [];
   ended = record {
     is = e;
-    leaves = with-text x ts (trace_text ts ++ []) (trace_text ts) (joined_left x ts (nothing [])) (append-nil (trace_text ts)) (leaves-none x ts []);
+    leaves = with-text x ts (trace_text ts ++ []) (trace_text ts) (joined_left x ts (nothing [])) (append-nil (trace_text ts))
+        (leaves-none x ts []);
   };
   writes = add-nothing a n;
 }
@@ -244,7 +251,11 @@ stops-at-chance start a b n x ts role number apart tells read e same w part = re
 
 pub adds-got : (x : Tapping) (ts : List Turn) (heard : Both Heard) → HearsThese x ts heard
     → AddsGot x ts (added x ts (silent_in x ts heard) [])
-adds-got x ts heard h = record { turn = silent_in x ts heard; hears = hears-so x ts heard (record { orig = None; answ = None }) h; is = refl }
+adds-got x ts heard h = record {
+  turn = silent_in x ts heard;
+  hears = hears-so x ts heard (record { orig = None; answ = None }) h;
+  is = refl;
+}
 
 pub stops-delivering : (start a b : FolderState) (n : TapNames) (x : Tapping) (ts : List Turn) (heard : Both Heard)
     → AreApartFrom (inputs_of n) (outputs_of n) → Tells x ts → AreReadTo start a n x.bodies → HearsThese x ts heard
@@ -273,7 +284,8 @@ stops-reading start a b c n x ts heard apart tells read h only put reads = recor
 -- ---- both pieces were read
 
 -- The turn was heard, what both ends took is delivered, and both pieces were read.
-pub record HasPieces (tap : Tap) (start a b c : FolderState) (n : TapNames) (x : Tapping) (ts : List Turn) (h : Hearing) (counts : Both ℕ) : Type 0 where
+pub record HasPieces (tap : Tap) (start a b c : FolderState) (n : TapNames) (x : Tapping) (ts : List Turn) (h : Hearing) (counts : Both ℕ) :
+    Type 0 where
   pub apart : AreApartFrom (inputs_of n) (outputs_of n)
   pub hears : HearsSo x ts h
   pub only : OnlyPuts a b (outputs_of n)
@@ -310,7 +322,8 @@ has-count : (tap : Tap) (x : Tapping) (ts : List Turn) → IsBehind tap x ts →
 has-count tap x ts h Originator = h.orig.count
 has-count tap x ts h Answerer = h.answ.count
 
-at-count : (tap : Tap) (x : Tapping) (ts : List Turn) → IsBehind tap x ts → (body : List ℕ) → length body ≡ octets_of (line_of x) (length ts)
+at-count : (tap : Tap) (x : Tapping) (ts : List Turn) → IsBehind tap x ts → (body : List ℕ)
+    → length body ≡ octets_of (line_of x) (length ts)
     → tap.at ≡ HEADER + length body
 at-count tap x ts h body count = h.at ∙ ap (λ n. HEADER + n) (sym count)
 
@@ -320,7 +333,8 @@ pub read-turn : (old new : Tap) (x : Tapping) (ts : List Turn) (heard : Both Hea
 read-turn old new x ts heard same o a l h =
     record { behind = behind-on old new x ts same h.behind; hears = h.hears; orig = rw o h.orig; answ = rw a h.answ; lines = rw l h.lines }
 
-pub has-read-pieces : (old new : Tap) (start b c : FolderState) (n : TapNames) (x : Tapping) (ts : List Turn) (heard : Both Heard) (counts : Both ℕ)
+pub has-read-pieces : (old new : Tap) (start b c : FolderState) (n : TapNames) (x : Tapping) (ts : List Turn) (heard : Both Heard)
+    (counts : Both ℕ)
     → InTurn old x ts heard → InTurn new x ts heard → new.at ≡ old.at → AreReadTo start b n x.bodies
     → ReadsPieces start b c n old.at counts.orig counts.answ new.orig.piece.items new.answ.piece.items
     → HasReadPieces new start c n x ts heard counts
@@ -380,14 +394,28 @@ last-hears x ts h k = record {
   silent = silent x ts h.heard;
 }
 
-none-more : (tap : Tap) (x : Tapping) (ts : List Turn) (counts : Both ℕ) → IsBehind tap x ts → counts.orig ≡ 0 → counts.answ ≡ 0 → (role : Role)
+none-more : (tap : Tap) (x : Tapping) (ts : List Turn) (counts : Both ℕ) → IsBehind tap x ts → counts.orig ≡ 0 → counts.answ ≡ 0
+    → (role : Role)
     → length (of role (read_of tap x counts)) ≤ octets_of (line_of x) (length ts)
 none-more tap x ts counts h eo ea Originator =
-    omega (arith, h.orig.count, eo, length-append {A = ℕ} x.bodies.orig (take counts.orig tap.orig.piece.items), length-take counts.orig tap.orig.piece.items)
+    omega (
+      arith,
+      h.orig.count,
+      eo,
+      length-append {A = ℕ} x.bodies.orig (take counts.orig tap.orig.piece.items),
+      length-take counts.orig tap.orig.piece.items,
+    )
 none-more tap x ts counts h eo ea Answerer =
-    omega (arith, h.answ.count, ea, length-append {A = ℕ} x.bodies.answ (take counts.answ tap.answ.piece.items), length-take counts.answ tap.answ.piece.items)
+    omega (
+      arith,
+      h.answ.count,
+      ea,
+      length-append {A = ℕ} x.bodies.answ (take counts.answ tap.answ.piece.items),
+      length-take counts.answ tap.answ.piece.items,
+    )
 
-pub ends-whole : KeepsTaken → (tap : Tap) (start a b c d : FolderState) (n : TapNames) (x : Tapping) (ts : List Turn) (h : Hearing) (counts : Both ℕ) (turns : ℕ)
+pub ends-whole : KeepsTaken → (tap : Tap) (start a b c d : FolderState) (n : TapNames) (x : Tapping) (ts : List Turn) (h : Hearing)
+    (counts : Both ℕ) (turns : ℕ)
     → HasPieces tap start a b c n x ts h counts → counts.orig ≡ 0 → counts.answ ≡ 0 → turns ≡ length ts + 1 → OnlyWrites c d n.trace
     → Appended c d n.trace (turn_text (length ts) (silent_in x ts h.heard))
     → EndsReading start a d n x ts (ends.IsDone turns)
@@ -447,7 +475,8 @@ some-more : (tap : Tap) (x : Tapping) (ts : List Turn) (counts : Both ℕ) → I
     → (side : Role) × (octets_of (line_of x) (length ts) < length (of side (read_of tap x counts)))
 some-more tap x ts counts h fo fa some = by (cases_lt 0 counts.orig)
   where
-    by : (0 < counts.orig) ⊎ (counts.orig ≤ 0) → (side : Role) × (octets_of (line_of x) (length ts) < length (of side (read_of tap x counts)))
+    by : (0 < counts.orig) ⊎ (counts.orig ≤ 0) → (side : Role)
+        × (octets_of (line_of x) (length ts) < length (of side (read_of tap x counts)))
     by (inl l) = (
       Originator,
       omega (
@@ -474,7 +503,8 @@ some-more tap x ts counts h fo fa some = by (cases_lt 0 counts.orig)
           length-take counts.answ tap.answ.piece.items,
         )
 
-pub ends-badly : KeepsTaken → (tap : Tap) (start a b c : FolderState) (n : TapNames) (x : Tapping) (ts : List Turn) (h : Hearing) (counts : Both ℕ)
+pub ends-badly : KeepsTaken → (tap : Tap) (start a b c : FolderState) (n : TapNames) (x : Tapping) (ts : List Turn) (h : Hearing)
+    (counts : Both ℕ)
     (role : Role) (number : ℕ) → HasPieces tap start a b c n x ts h counts → (counts.orig ≡ 0 → counts.answ ≡ 0 → ⊥) → number ≡ length ts
     → IsFirstRefused (now_of tap x counts) ts role → EndsReading start a c n x ts (ends.BadTap role number)
 unfolding last-hears
@@ -491,7 +521,8 @@ ends-badly law tap start a b c n x ts h counts role number k some same refused =
           last = last-hears y ts h (hears-now tap x ts h counts k.hears);
           some = some-more tap x ts counts k.pieces.turn.behind k.pieces.few_orig k.pieces.few_answ some;
           refused = refused;
-          leaves = with-text y (t ∷ ts) (trace_text ts ++ []) (trace_text ts) (joined_left y ts (added y ts t [])) (append-nil (trace_text ts))
+          leaves = with-text y (t ∷ ts) (trace_text ts ++ []) (trace_text ts) (joined_left y ts (added y ts t []))
+              (append-nil (trace_text ts))
               (leaves-turn law y ts t []);
         };
         writes = add-none a c n (added x ts t []) (put-still tap start a b c n x ts h counts k);
@@ -523,7 +554,8 @@ to-go tap new x ts h counts slots k so read script turn at lo la po pa = record 
 }
 
 pub goes-on-by : (tap new : Tap) (start a b c d : FolderState) (n : TapNames) (x : Tapping) (ts : List Turn) (h : Hearing) (counts : Both ℕ)
-    (slots : Both Slot) → HasPieces tap start a b c n x ts h counts → TapAfter new (now_of tap x counts) (going_in (now_of tap x counts) ts h.heard slots ∷ ts)
+    (slots : Both Slot) → HasPieces tap start a b c n x ts h counts
+    → TapAfter new (now_of tap x counts) (going_in (now_of tap x counts) ts h.heard slots ∷ ts)
     → OnlyWrites c d n.trace
     → Appended c d n.trace (turn_text (length ts) (going_in (now_of tap x counts) ts h.heard slots)) → GoesOnBy new start a d n x ts
 goes-on-by tap new start a b c d n x ts h counts slots k after w put = record {
@@ -534,7 +566,8 @@ goes-on-by tap new start a b c d n x ts h counts slots k after w put = record {
   writes = put-lines tap start a b c d n x ts h counts (turn_text (length ts) (going_in (now_of tap x counts) ts h.heard slots)) k w put;
 }
 
-pub stops-going : (tap mid : Tap) (start a b c d : FolderState) (n : TapNames) (x : Tapping) (ts : List Turn) (h : Hearing) (counts : Both ℕ)
+pub stops-going : (tap mid : Tap) (start a b c d : FolderState) (n : TapNames) (x : Tapping) (ts : List Turn) (h : Hearing)
+    (counts : Both ℕ)
     (slots : Both Slot) → HasPieces tap start a b c n x ts h counts → IsToGo mid (now_of tap x counts) ts h slots → OnlyWrites c d n.trace
     → PartlyAppended c d n.trace (turn_text (length ts) (going_in (now_of tap x counts) ts h.heard slots)) → StopsInTurn start a d n x ts
 stops-going tap mid start a b c d n x ts h counts slots k go w part =
@@ -572,7 +605,8 @@ some-octets tap new x ts heard long k same =
     let room : length new.orig.piece.items ≡ 4 * (line_of x).symbols = rw same k.behind.orig_room in omega (arith, long, room)
 
 -- the tap is ready for the next turn
-pub ready-again : (old mid new : Tap) (x : Tapping) (t : Turn) (ts : List Turn) → IsReady old → TapAfter new x (t ∷ ts) → new.script ≡ old.script
+pub ready-again : (old mid new : Tap) (x : Tapping) (t : Turn) (ts : List Turn) → IsReady old → TapAfter new x (t ∷ ts)
+    → new.script ≡ old.script
     → IsIdle mid.orig.listener (old.turn + 1) → IsIdle mid.answ.listener (old.turn + 1) → new.orig.listener ≡ mid.orig.listener
     → new.answ.listener ≡ mid.answ.listener → new.turn ≡ old.turn + 1 → old.at < new.at → new.at ≤ TAP_LIMIT → IsReady new
 ready-again old mid new x t ts h after script io ia lo la turn more within = record {

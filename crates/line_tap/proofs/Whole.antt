@@ -1,5 +1,6 @@
 -- What the whole recordings tell, where what was read of them tells it.
-use Rattle.std.proofs.Common.{◌≡◌, inl, inr, ℕ, ◌+◌, ◌<◌, ◌≤◌, Bool, true, false, IsTrue, List, [], ◌∷◌, ◌++◌, length, drop, arith, length-append, refl, sym, ◌∙◌, ap, subst, append_assoc, append-nil}
+use Rattle.std.proofs.Common.{◌≡◌, inl, inr, ℕ, ◌+◌, ◌<◌, ◌≤◌, Bool, true, false, IsTrue, List, [], ◌∷◌, ◌++◌, length, drop, arith}
+use Rattle.std.proofs.Common.{length-append, refl, sym, ◌∙◌, ap, subst, append_assoc, append-nil}
 use Rattle.std.proofs.lemmas.Bool.{cases_lt, false≢true}
 use Rattle.std.proofs.lemmas.List.{take-append-drop, length-drop}
 use Rattle.outside_calls.specs.Folder.{FolderState, octets_at}
@@ -30,11 +31,13 @@ use Rattle.line_tap.proofs.Longer.{and_more, longer, holds-longer, holds-shorter
 -- What was read of a recording, and the rest of it; there is none where it was read to its end.
 pub record Rest (start : FolderState) (n : TapNames) (role : Role) (body : List ℕ) : Type 0 where
   pub more : List ℕ
-  pub known : IsTrue (start.tells (recording_of role n)) → octets_at start (recording_of role n) ≡ header_of (mode_of role) ++ (body ++ more)
+  pub known : IsTrue (start.tells (recording_of role n))
+      → octets_at start (recording_of role n) ≡ header_of (mode_of role) ++ (body ++ more)
   pub none : (IsTrue (start.tells (recording_of role n)) → header_of (mode_of role) ++ body ≡ octets_at start (recording_of role n))
       → more ≡ []
 
-pub rest-of : (start now : FolderState) (n : TapNames) (role : Role) (body : List ℕ) → IsReadTo start now n role body → Rest start n role body
+pub rest-of : (start now : FolderState) (n : TapNames) (role : Role) (body : List ℕ) → IsReadTo start now n role body
+    → Rest start n role body
 rest-of start now n role body h = go (start.tells (recording_of role n)) refl
   where
     name : List ℕ
@@ -69,7 +72,8 @@ pub rests : (start now : FolderState) (n : TapNames) (bodies : Both (List ℕ)) 
 rests start now n bodies h role = rest-of start now n role (of role bodies) (h role)
 
 -- what is behind both
-abbrev pub more_of : (start : FolderState) (n : TapNames) (bodies : Both (List ℕ)) → ((role : Role) → Rest start n role (of role bodies)) → Both (List ℕ)
+abbrev pub more_of : (start : FolderState) (n : TapNames) (bodies : Both (List ℕ)) → ((role : Role) → Rest start n role (of role bodies))
+    → Both (List ℕ)
 more_of start n bodies r = record { orig = (r Originator).more; answ = (r Answerer).more }
 
 pub knows-whole : (start : FolderState) (n : TapNames) (bodies : Both (List ℕ)) (r : (role : Role) → Rest start n role (of role bodies))
@@ -81,7 +85,8 @@ knows-whole start n bodies r Answerer = (r Answerer).known
 abbrev pub NoneShort : Tapping → Both (List ℕ) → List Turn → Type 0
 NoneShort x more ts = (role : Role) → length (of role x.bodies) < octets_of (line_of x) (length ts + 1) → of role more ≡ []
 
-pub none-short : (start : FolderState) (n : TapNames) (x : Tapping) (ts : List Turn) (r : (role : Role) → Rest start n role (of role x.bodies))
+pub none-short : (start : FolderState) (n : TapNames) (x : Tapping) (ts : List Turn)
+    (r : (role : Role) → Rest start n role (of role x.bodies))
     → AreReadOut start n x ts → NoneShort x (more_of start n x.bodies r) ts
 none-short start n x ts r out Originator less = (r Originator).none (out Originator less)
 none-short start n x ts r out Answerer less = (r Answerer).none (out Answerer less)

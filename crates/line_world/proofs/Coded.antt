@@ -36,12 +36,16 @@ codes-as e c role stream x signal labels h same k =
     (subst (λ n. IsCodedAs role (4 * n) (signals_of role stream) signal labels) h.symbols
     (subst (λ r. IsCodedAs r (bits_in e.coder) (signals_of role stream) signal labels) h.sends k))
 
-pub codes-on : (e : EndCoder) (coder : Coding) (bits : List ℕ) (c : Wire) (role : Role) (stream : List Carried) (x : Carried) (signal : Signal)
-    → HasCoded e c role stream → signal ≡ carried_signal role x → coder.sender ≡ e.coder.sender → coder.writer.symbols ≡ e.coder.writer.symbols
-    → CoderStands coder (signals_of role stream ++ signal ∷ []) → line_bits bits ≡ bits_behind (bits_in e.coder) (signals_of role stream) signal
+pub codes-on : (e : EndCoder) (coder : Coding) (bits : List ℕ) (c : Wire) (role : Role) (stream : List Carried) (x : Carried)
+    (signal : Signal)
+    → HasCoded e c role stream → signal ≡ carried_signal role x → coder.sender ≡ e.coder.sender
+    → coder.writer.symbols ≡ e.coder.writer.symbols
+    → CoderStands coder (signals_of role stream ++ signal ∷ [])
+    → line_bits bits ≡ bits_behind (bits_in e.coder) (signals_of role stream) signal
     → HasCoded (record { coder = coder; newest = bits }) c role (stream ++ x ∷ [])
 codes-on e coder bits c role stream x signal h same sender symbols stands bits-are = record {
-  stands = subst (CoderStands coder) (ap (λ s. signals_of role stream ++ s ∷ []) same ∙ sym (map-append (carried_signal role) stream (x ∷ []))) stands;
+  stands = subst (CoderStands coder)
+      (ap (λ s. signals_of role stream ++ s ∷ []) same ∙ sym (map-append (carried_signal role) stream (x ∷ []))) stands;
   sends = sender ∙ h.sends;
   symbols = symbols ∙ h.symbols;
   newest = λ front y e-is.

@@ -34,7 +34,8 @@ receives-none a b n apart w = (w.names n.got_o apart.0.0.1.0, (w.names n.got_a a
 pub counts-later : (a b c : FolderState) (n : Written) (fault : RunFault) → CountsStand a b → FaultCounts b c n fault
     → FaultCounts a c n fault
 counts-later a b c n run_faults.ReadFault s h = SomeRose-earlier a.read_faults b.read_faults c.read_faults (inputs_of n) s.faults.reads h
-counts-later a b c n run_faults.WriteFault s h = SomeRose-earlier a.write_faults b.write_faults c.write_faults (outputs_of n) s.faults.writes h
+counts-later a b c n run_faults.WriteFault s h = SomeRose-earlier a.write_faults b.write_faults c.write_faults (outputs_of n)
+    s.faults.writes h
 counts-later a b c n run_faults.NoMemory s h = (FaultsStand-trans s.faults h.0, subst (λ x. Rose x c.refusals) s.refusals h.1)
 counts-later a b c n fault s h = CountsStand-trans s h
 
@@ -48,8 +49,10 @@ counts-front a b inputs outputs others fault h = h
 pub counts-behind : (a b c : FolderState) (inputs outputs others : List (List ℕ)) (fault : RunFault) → IsWriting fault → CountsStand a b
     → FaultCountsOver b c [] others fault → FaultCountsOver a c inputs (outputs ++ others) fault
 counts-behind a b c inputs outputs others run_faults.WriteFault w s h =
-    rose-behind a.write_faults c.write_faults outputs others (SomeRose-earlier a.write_faults b.write_faults c.write_faults others s.faults.writes h)
-counts-behind a b c inputs outputs others run_faults.NoMemory w s h = (FaultsStand-trans s.faults h.0, subst (λ x. Rose x c.refusals) s.refusals h.1)
+    rose-behind a.write_faults c.write_faults outputs others
+    (SomeRose-earlier a.write_faults b.write_faults c.write_faults others s.faults.writes h)
+counts-behind a b c inputs outputs others run_faults.NoMemory w s h =
+    (FaultsStand-trans s.faults h.0, subst (λ x. Rose x c.refusals) s.refusals h.1)
 counts-behind a b c inputs outputs others fault w s h = absurd w
 
 -- ---- which files are known
@@ -82,7 +85,8 @@ stay-known a b n files apart p within = record {
   };
 }
 
-pub others-known : (a b c : FolderState) (n : Written) (files others : Both (List ℕ)) (mid : Accounts) → IsApart n → OnlyPuts a b (outputs_of n)
+pub others-known : (a b c : FolderState) (n : Written) (files others : Both (List ℕ)) (mid : Accounts) → IsApart n
+    → OnlyPuts a b (outputs_of n)
     → OnlyPuts a c (outputs_of n)
     → ReadsBoth b n files (handed mid) others → StayKnown a c n files others
 others-known a b c n files others mid apart p q r = record {

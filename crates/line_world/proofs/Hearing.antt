@@ -1,5 +1,6 @@
 -- What both ends hear in a turn, and are then.
-use Rattle.std.proofs.Common.{◌≡◌, ◌≢◌, ℕ, ◌<◌, ◌≤◌, ◌+◌, ◌^◌, true, false, is_ok, List, [], length, arith, refl, sym, ◌∙◌, ap, subst, Option, None, Ok}
+use Rattle.std.proofs.Common.{◌≡◌, ◌≢◌, ℕ, ◌<◌, ◌≤◌, ◌+◌, ◌^◌, true, false, is_ok, List, [], length, arith, refl, sym, ◌∙◌, ap, subst}
+use Rattle.std.proofs.Common.{Option, None, Ok}
 use Rattle.shared_terms.specs.declared.role.Role.{Role}
 use Rattle.shared_terms.specs.declared.role.Role.TheVariants.{Originator, Answerer}
 use Rattle.shared_terms.specs.Role.{other}
@@ -73,7 +74,8 @@ pub record IsHeardBy (c : Wire) (ts : List Turn) (ends : Accounts) (heard : Both
   pub heard_of : (role : Role) → IsHeardOf c (other role) ts (check_of (of role ends)) (of role heard)
   pub well : (role : Role) → of role heard ≢ Chance
 
-pub heard-by : (l : Lines) (c : Wire) (links : ℕ) (streams : Both (List Carried)) (ts : List Turn) (ends : Accounts) (heard : Both Heard) (checks : Both Check)
+pub heard-by : (l : Lines) (c : Wire) (links : ℕ) (streams : Both (List Carried)) (ts : List Turn) (ends : Accounts) (heard : Both Heard)
+    (checks : Both Check)
     → ((role : Role) → of role checks ≡ check_of (of role ends))
     → ArrivesBoth (HaveArrived l c links streams) c ts checks heard → IsHeardBy c ts ends heard
 heard-by l c links streams ts ends heard checks same a = record {
@@ -108,7 +110,8 @@ both-of ends turn heard mid to_orig to_answ number n o a ho ha Originator =
 both-of ends turn heard mid to_orig to_answ number n o a ho ha Answerer =
     ap (λ t. hear t (arrival heard.answ) ends.answ) (sym n) ∙ ap (λ x. hear number x ends.answ) (sym a) ∙ ha
 
-pub record Hearing (m : Modems) (files : Both (List ℕ)) (ends : Accounts) (heard : Both Heard) (turn : ℕ) (to_orig to_answ : Arrived) : Type 0 where
+pub record Hearing (m : Modems) (files : Both (List ℕ)) (ends : Accounts) (heard : Both Heard) (turn : ℕ) (to_orig to_answ : Arrived)
+    : Type 0 where
   pub orig_is : to_orig ≡ arrival heard.orig
   pub answ_is : to_answ ≡ arrival heard.answ
   pub hears : HearsBoth m.link files ends turn to_orig to_answ
@@ -117,7 +120,8 @@ pub record Hearing (m : Modems) (files : Both (List ℕ)) (ends : Accounts) (hea
 pub has-heard : (old m : Modems) (l : Lines) (c : Wire) (links : ℕ) (streams : Both (List Carried)) (files : Both (List ℕ)) (ts : List Turn)
     (ends : Accounts) (heard : Both Heard) (to_orig to_answ : Arrived)
     → ModemsAfter old c files ts ends → m.turn ≡ old.turn → IsHeardBy c ts ends heard → HaveArrived l c links streams
-    → Hearing m files ends heard old.turn to_orig to_answ → TalliesHeard m.tally ts ends heard → HasHeard m l c links streams files ts ends heard
+    → Hearing m files ends heard old.turn to_orig to_answ → TalliesHeard m.tally ts ends heard
+    → HasHeard m l c links streams files ts ends heard
 has-heard old m l c links streams files ts ends heard to_orig to_answ h number a arrived hearing tally = record {
   mid = hearing.hears.mid;
   stands = record {
@@ -125,7 +129,8 @@ has-heard old m l c links streams files ts ends heard to_orig to_answ h number a
       run = h.run;
       heard_of = a.heard_of;
       well = a.well;
-      hears = both-of ends (length ts) heard hearing.hears.mid to_orig to_answ old.turn h.turn hearing.orig_is hearing.answ_is hearing.hears.orig
+      hears = both-of ends (length ts) heard hearing.hears.mid to_orig to_answ old.turn h.turn hearing.orig_is hearing.answ_is
+          hearing.hears.orig
           hearing.hears.answ;
     };
     link = hearing.hears.stands;

@@ -1,5 +1,6 @@
 -- The line that a world lends its link's turns, on which that is alone.
-use Rattle.std.proofs.Common.{◌≡◌, ℕ, ◌-◌, ◌*◌, ◌<◌, ◌≤◌, ◌^◌, List, [], ◌∷◌, ◌++◌, length, map, take, arith, refl, sym, ◌∙◌, ap, subst, Option, Some, None}
+use Rattle.std.proofs.Common.{◌≡◌, ℕ, ◌-◌, ◌*◌, ◌<◌, ◌≤◌, ◌^◌, List, [], ◌∷◌, ◌++◌, length, map, take, arith, refl, sym, ◌∙◌, ap, subst}
+use Rattle.std.proofs.Common.{Option, Some, None}
 use Rattle.std.specs.Prelude.{is_some, true}
 use Rattle.std.proofs.lemmas.Bool.{false≢true}
 use Rattle.sample_line.specs.Signals.{signal_of}
@@ -114,12 +115,14 @@ passed-by d script role ts line waiting h is =
 
 pub passed-so : (l : Lines) (script : ScriptValue) (role : Role) (ts : List Turn) (line : Kept)
     → LinesWait l (wire_of script) 1 (both_sent_by 0 ts) → line ≡ (from role l.directions).line → HasPassed line script role ts
-passed-so l script Originator ts line h is = passed-by l.directions.from_orig script Originator ts line (λ k. k) (h.directions Originator) is
+passed-so l script Originator ts line h is = passed-by l.directions.from_orig script Originator ts line (λ k. k) (h.directions Originator)
+    is
 passed-so l script Answerer ts line h is = passed-by l.directions.from_answ script Answerer ts line (λ k. k) (h.directions Answerer) is
 
 pub passed-too : (l : Lines) (script : ScriptValue) (role : Role) (ts : List Turn) (line : Kept)
     → HaveArrived l (wire_of script) 1 (both_sent_by 0 ts) → line ≡ (from role l.directions).line → HasPassedToo line script role ts
-passed-too l script Originator ts line h is = passed-by l.directions.from_orig script Originator ts line (λ k. k - 1) (h.directions Originator) is
+passed-too l script Originator ts line h is = passed-by l.directions.from_orig script Originator ts line (λ k. k - 1)
+    (h.directions Originator) is
 passed-too l script Answerer ts line h is = passed-by l.directions.from_answ script Answerer ts line (λ k. k - 1) (h.directions Answerer) is
 
 -- ---- the slots of the last turn

@@ -34,7 +34,8 @@ use Rattle.line_run.specs.Stream.{Carried, carried_signal}
 use Rattle.line_world.specs.Way.{IsOnWay, AreOnWay, Stands, CodesNext, HeardBehind, PassesOldest}
 
 -- as many slots as are said
-pub same-count : (size : ℕ) (role : Role) (before : List Signal) (items : List Slot) (way : List Carried) → AreOnWay size role before items way
+pub same-count : (size : ℕ) (role : Role) (before : List Signal) (items : List Slot) (way : List Carried)
+    → AreOnWay size role before items way
     → length items ≡ length way
 same-count size role before [] [] h = refl
 same-count size role before (slot ∷ items) (x ∷ way) h = ap suc (same-count size role (before ++ carried_signal role x ∷ []) items way h.1)
@@ -133,11 +134,13 @@ heard-so once d new script passed x slot items rest number check dlci heard own 
       room = m.capacity ∙ room ∙ sym m.lag;
     }
 
-loses-so : (stay : LossStays) (d : DelayedLine) (script : ScriptValue) (passed : List Signal) (way : List Carried) (x : Carried) (slot : Slot)
+loses-so : (stay : LossStays) (d : DelayedLine) (script : ScriptValue) (passed : List Signal) (way : List Carried) (x : Carried)
+    (slot : Slot)
     (symbol : ℕ) (line : Kept)
     → Stands d script passed way → IsOnWay (size_of d.line) d.sender passed slot x → sender_of line ≡ sender_of d.line
     → size_of line ≡ size_of d.line
-    → LosesWithin (sender_of line) script (signal_bits (size_of line) passed) (bits_behind (size_of line) passed (carried_signal d.sender x)) symbol
+    → LosesWithin (sender_of line) script (signal_bits (size_of line) passed)
+    (bits_behind (size_of line) passed (carried_signal d.sender x)) symbol
     → LosesAt d.sender script (signal_bits (size_of d.line) (passed ++ carried_signal d.sender x ∷ [])) symbol
 loses-so stay d script passed way x slot symbol line h is same size l = at
   where
@@ -151,10 +154,12 @@ loses-so stay d script passed way x slot symbol line h is same size l = at
     whole = let e = length-modulated _ (before ++ bits) _ is.coded.modulated in omega (arith, e)
 
     within : LosesWithin (sender_of line) script before bits symbol
-    within = subst (λ n. LosesWithin (sender_of line) script (signal_bits n passed) (bits_behind n passed (carried_signal d.sender x)) symbol) size l
+    within = subst (λ n. LosesWithin (sender_of line) script (signal_bits n passed) (bits_behind n passed (carried_signal d.sender x))
+        symbol) size l
 
     lost : LosesAt d.sender script (before ++ bits) symbol
-    lost = subst (λ r. LosesAt r script (before ++ bits) symbol) (same ∙ h.sender) (stay (sender_of line) script before bits symbol whole within)
+    lost = subst (λ r. LosesAt r script (before ++ bits) symbol) (same ∙ h.sender)
+        (stay (sender_of line) script before bits symbol whole within)
 
     at : LosesAt d.sender script (signal_bits (size_of d.line) (passed ++ carried_signal d.sender x ∷ [])) symbol
     at = subst (λ b. LosesAt d.sender script b symbol) (sym (slot-added (size_of d.line) passed (carried_signal d.sender x))) lost
@@ -163,7 +168,8 @@ loses-so stay d script passed way x slot symbol line h is same size l = at
 abbrev pub PassesAll : DelayedLine → DelayedLine → Slot → Check → ScriptValue → ℕ → Bool → Result Heard Lost → Type 0
 PassesAll d new slot check script dlci lost r =
     (passed : List Signal) (signal : Signal) → LineStands d.line script passed
-    → IsCodedAs (sender_of d.line) (size_of d.line) passed signal slot.labels → Passes new.line script passed signal check dlci lost slot.sent r
+    → IsCodedAs (sender_of d.line) (size_of d.line) passed signal slot.labels
+    → Passes new.line script passed signal check dlci lost slot.sent r
 
 passes-front : (d new : DelayedLine) (script : ScriptValue) (passed : List Signal) (way : List Carried) (slot : Slot) (items : List Slot)
     (number : ℕ) (check : Check) (dlci : ℕ) (r : Result Heard Lost) (o : Oldest (size_of d.line) d.sender passed slot items way)
@@ -195,7 +201,8 @@ numbered-sent slots.Adp h = tt
 numbered-sent slots.Flags h = tt
 numbered-sent (slots.Frame frame) h = let f = h.0 in (f.0, f.1)
 
-as-heard : (lost : Bool) (sender : Role) (dlci : ℕ) (s : Sent) (octets : List (List ℕ)) (patterns : List Seen) (heard : Heard) → IsSendable s
+as-heard : (lost : Bool) (sender : Role) (dlci : ℕ) (s : Sent) (octets : List (List ℕ)) (patterns : List Seen) (heard : Heard)
+    → IsSendable s
     → IsOutcome lost sender dlci s octets patterns heard → IsNumbered (arrival heard)
 as-heard lost sender dlci s octets patterns Nothing h o = tt
 as-heard lost sender dlci s octets patterns (LostSlot t) h o = tt
@@ -225,7 +232,8 @@ behind size role before [] [] slot x h k = (subst (λ l. IsOnWay size role l slo
 behind size role before (y ∷ items) (first ∷ way) slot x h k = (
   h.0,
   behind size role (before ++ carried_signal role first ∷ []) items way slot x h.1
-      (subst (λ l. IsOnWay size role l slot x) (sym (append_assoc before (carried_signal role first ∷ []) (map (carried_signal role) way))) k),
+      (subst (λ l. IsOnWay size role l slot x) (sym (append_assoc before (carried_signal role first ∷ []) (map (carried_signal role) way)))
+      k),
 )
 behind size role before (y ∷ items) [] slot x h k = absurd h
 behind size role before [] (first ∷ way) slot x h k = absurd h
@@ -247,14 +255,16 @@ pub record IsPutOn (d new : DelayedLine) (items : List Slot) : Type 0 where
   pub line : new.line ≡ d.line
 
 pub puts-so : (d new : DelayedLine) (script : ScriptValue) (passed : List Signal) (way : List Carried) (slot : Slot) (x : Carried)
-    → Stands d script passed way → CodesNext d passed way x slot.labels → IsPutOn d new (d.slots.items ++ slot ∷ []) → slot.sent ≡ x.spoken.sent
+    → Stands d script passed way → CodesNext d passed way x slot.labels → IsPutOn d new (d.slots.items ++ slot ∷ [])
+    → slot.sent ≡ x.spoken.sent
     → IsSendable x.spoken.sent → Stands new script passed (way ++ x ∷ [])
 puts-so d new script passed way slot x h coded m sent sendable = record {
   line = subst (λ l. LineStands l script passed) (sym m.line) h.line;
   slots = subst (λ s. AreOnWay (size_of new.line) s passed new.slots.items (way ++ x ∷ [])) (sym m.sender)
       (subst (λ n. AreOnWay n d.sender passed new.slots.items (way ++ x ∷ [])) (sym (ap size_of m.line))
       (subst (λ xs. AreOnWay (size_of d.line) d.sender passed xs (way ++ x ∷ [])) (sym m.items_are)
-      (behind (size_of d.line) d.sender passed d.slots.items way slot x h.slots (record { sent = sent; sendable = sendable; coded = coded }))));
+      (behind (size_of d.line) d.sender passed d.slots.items way slot x h.slots
+      (record { sent = sent; sendable = sendable; coded = coded }))));
   sender = ap sender_of m.line ∙ h.sender ∙ sym m.sender;
   room = m.capacity ∙ h.room ∙ sym m.lag;
 }

@@ -116,13 +116,15 @@ held-more next name taken more all holds e = subst (Holds next name) (sym (conca
 
 -- the outputs after a turn that is written
 pub held-turn : HearingsDeliver
-    → (link : Link) (ts : List Turn) (ends : Accounts) (t : Turn) (mid : Accounts) (now next : FolderState) (n : Written) → RunOf link ts ends
+    → (link : Link) (ts : List Turn) (ends : Accounts) (t : Turn) (mid : Accounts) (now next : FolderState) (n : Written)
+    → RunOf link ts ends
     → Hears (length ts) ends t mid
     → GoesOn now next → HoldEach now (outputs_of n) (held_of (left_of ends (trace_text ts)))
     → AddEach now next (outputs_of n) (added mid (turn_text (length ts) t))
     → HoldEach next (outputs_of n) (held_of (left_of mid (trace_text (t ∷ ts))))
 held-turn delivers link ts ends t mid now next n run hears on h w =
-    let held = HoldEach-add now next (outputs_of n) (held_of (left_of ends (trace_text ts))) (added mid (turn_text (length ts) t)) on h w in (
+    let held = HoldEach-add now next (outputs_of n) (held_of (left_of ends (trace_text ts))) (added mid (turn_text (length ts) t)) on h
+    w in (
       held-more next n.got_o ends.orig.incoming.taken (deliveries mid.orig) mid.orig.incoming.taken held.0
           (delivers link ts ends t mid run hears Originator),
       (
@@ -134,12 +136,15 @@ held-turn delivers link ts ends t mid now next n run hears on h w =
 
 -- the run goes on
 unfoldable pub reached-going : HearingsDeliver → SpeakingTakesNothing
-    → (w w' : World) (script : ScriptValue) (n : Written) (tapes : Tapes) (old now next : FolderState) (r : Reached w script n tapes old now)
-    → script_of w' ≡ script_of w → GoesOnBy w'.modems w'.lines (wire_of (script_of w')) 1 (both_sent_by 0 r.turns) now next n r.files r.turns r.ends → OnlyPuts now next (outputs_of n) → CountsStand now next
+    → (w w' : World) (script : ScriptValue) (n : Written) (tapes : Tapes) (old now next : FolderState)
+    (r : Reached w script n tapes old now)
+    → script_of w' ≡ script_of w → GoesOnBy w'.modems w'.lines (wire_of (script_of w')) 1 (both_sent_by 0 r.turns) now next n r.files
+    r.turns r.ends → OnlyPuts now next (outputs_of n) → CountsStand now next
     → Reached w' script n tapes old next
 reached-going delivers speaks w w' script n tapes old now next r same g only stand =
     let mid = g.going.mid in
-    let held = held-turn delivers (link_of (script_of w) r.files) r.turns r.ends g.turn mid now next n r.world.modems.run.run g.going.hearing
+    let held = held-turn delivers (link_of (script_of w) r.files) r.turns r.ends g.turn mid now next n r.world.modems.run.run
+    g.going.hearing
     only.goes_on r.holds g.writes in
     let nothing = speaks (link_of (script_of w') g.others) r.turns r.ends g.turn g.after g.going in
     record {
@@ -176,25 +181,36 @@ ended-turn delivers w v n tapes old now next r outcome number only e = (
       (hearing-in (link_of (script_of v) e.others) r.turns r.ends e.turn e.mid outcome e.makes.is) only.goes_on r.holds e.writes,
 )
 
-run-ends : (script : ScriptValue) (f : FolderState) (n : Written) (tapes : Tapes) (end : RunEnd) (files : Both (List ℕ)) (left : Left) (ts : List Turn)
+run-ends : (script : ScriptValue) (f : FolderState) (n : Written) (tapes : Tapes) (end : RunEnd) (files : Both (List ℕ)) (left : Left)
+    (ts : List Turn)
     (ends : Accounts) → KnowsFiles f n files → LineRun (wire_of script) (link_of script files) ts ends
     → EndsBy (wire_of script) (link_of script files) ts ends end left → HoldEach f (outputs_of n) (held_of left)
     → HoldTapes f tapes (wire_of script) ts → RunEnds script f n tapes end
 run-ends script f n tapes end files left ts ends knows run ended holds t =
-    record { files = files; knows = knows; left = left; run = record { turns = ts; ends = ends; run = run; ended = ended }; holds = holds; taped = t }
+    record {
+      files = files;
+      knows = knows;
+      left = left;
+      run = record { turns = ts; ends = ends; run = run; ended = ended };
+      holds = holds;
+      taped = t;
+    }
 
 -- the run is done
 done-so : HearingsDeliver
     → (w v : World) (n : Written) (tapes : Tapes) (old now next : FolderState) (number : ℕ) (r : Reached w (script_of v) n tapes old now)
-    → EndsInTurn v.modems v.lines (wire_of (script_of v)) 1 (both_sent_by 0 r.turns) now next n r.files r.turns r.ends Done number → OnlyPuts now next (outputs_of n)
+    → EndsInTurn v.modems v.lines (wire_of (script_of v)) 1 (both_sent_by 0 r.turns) now next n r.files r.turns r.ends Done number
+    → OnlyPuts now next (outputs_of n)
     → HoldTapes next tapes (wire_of (script_of v)) r.turns → RunEnds (script_of v) next n tapes (runs.IsDone number)
 done-so delivers w v n tapes old now next number r e only t =
     let k = ended-turn delivers w v n tapes old now next r Done number only e in
     run-ends (script_of v) next n tapes (runs.IsDone number) e.others _ r.turns r.ends (e.known.known r.knows) e.makes.run k.0 k.1 t
 
 pub reached-done : HearingsDeliver
-    → (w v : World) (script : ScriptValue) (n : Written) (tapes : Tapes) (old now next : FolderState) (number : ℕ) (r : Reached w script n tapes old now)
-    → script_of v ≡ script_of w → EndsInTurn v.modems v.lines (wire_of (script_of v)) 1 (both_sent_by 0 r.turns) now next n r.files r.turns r.ends Done number → OnlyPuts now next (outputs_of n)
+    → (w v : World) (script : ScriptValue) (n : Written) (tapes : Tapes) (old now next : FolderState) (number : ℕ)
+    (r : Reached w script n tapes old now)
+    → script_of v ≡ script_of w → EndsInTurn v.modems v.lines (wire_of (script_of v)) 1 (both_sent_by 0 r.turns) now next n r.files r.turns
+    r.ends Done number → OnlyPuts now next (outputs_of n)
     → HoldTapes next tapes (wire_of script) r.turns → RunEnds script next n tapes (runs.IsDone number)
 reached-done delivers w v script n tapes old now next number r same e only t =
     subst (λ s. RunEnds s next n tapes (runs.IsDone number)) (same ∙ r.script_is)
@@ -209,8 +225,10 @@ none-again ts ends t mid h = λ k.
 
 -- with all its turns counted
 pub reached-counts : HearingsDeliver
-    → (w v : World) (script : ScriptValue) (n : Written) (tapes : Tapes) (old now next : FolderState) (number : ℕ) (r : Reached w script n tapes old now)
-    → script_of v ≡ script_of w → EndsInTurn v.modems v.lines (wire_of (script_of v)) 1 (both_sent_by 0 r.turns) now next n r.files r.turns r.ends Done number → OnlyPuts now next (outputs_of n)
+    → (w v : World) (script : ScriptValue) (n : Written) (tapes : Tapes) (old now next : FolderState) (number : ℕ)
+    (r : Reached w script n tapes old now)
+    → script_of v ≡ script_of w → EndsInTurn v.modems v.lines (wire_of (script_of v)) 1 (both_sent_by 0 r.turns) now next n r.files r.turns
+    r.ends Done number → OnlyPuts now next (outputs_of n)
     → HoldTapes next tapes (wire_of script) r.turns → RunCounts script next n tapes number (lost_of v) (again_of v)
 unfolding run-ends ended-turn done-so
 reached-counts delivers w v script n tapes old now next number r same e only t =
@@ -233,7 +251,8 @@ reached-line : (w v : World) (n : Written) (tapes : Tapes) (old now next : Folde
 reached-line w v n tapes old now next role symbol r apart e only t =
     run-ends (script_of v) next n tapes (runs.LineLost role symbol) r.files (left_of r.ends (trace_text r.turns)) r.turns r.ends
     (knows-later now next n r.files apart only r.knows) (run-so w (script_of v) n tapes old now r)
-    (record { is = e.is; leaves = leaves-so r.ends (trace_text r.turns) }) (HoldEach-kept now next (outputs_of n) (held_of (left_of r.ends (trace_text r.turns))) only.goes_on r.holds e.kept) t
+    (record { is = e.is; leaves = leaves-so r.ends (trace_text r.turns) })
+    (HoldEach-kept now next (outputs_of n) (held_of (left_of r.ends (trace_text r.turns))) only.goes_on r.holds e.kept) t
 
 reached-chance : (w v : World) (n : Written) (tapes : Tapes) (old now next : FolderState) (role : Role) (number : ℕ)
     (r : Reached w (script_of v) n tapes old now) → IsApart n
@@ -284,7 +303,8 @@ adds-turn w v n tapes old now next r s = record {
     got Answerer = refl
 
 stopped-turn : (w v : World) (n : Written) (tapes : Tapes) (old now next : FolderState) (r : Reached w (script_of v) n tapes old now)
-    → StopsInTurn v.modems v.lines (wire_of (script_of v)) 1 (both_sent_by 0 r.turns) now next n r.files r.turns r.ends → OnlyPuts now next (outputs_of n)
+    → StopsInTurn v.modems v.lines (wire_of (script_of v)) 1 (both_sent_by 0 r.turns) now next n r.files r.turns r.ends
+    → OnlyPuts now next (outputs_of n)
     → HoldTapes next tapes (wire_of (script_of v)) r.turns → RunStops (script_of v) next n tapes
 stopped-turn w v n tapes old now next r s only t = record {
   files = s.others;
@@ -305,21 +325,25 @@ stopped-turn w v n tapes old now next r s only t = record {
 
 -- as a file is read,
 reached-reading : (w v : World) (n : Written) (tapes : Tapes) (old now next : FolderState) (r : Reached w (script_of v) n tapes old now)
-    → StopsReading v.modems v.lines (wire_of (script_of v)) 1 (both_sent_by 0 r.turns) now next n r.files r.turns r.ends → OnlyPuts now next (outputs_of n)
+    → StopsReading v.modems v.lines (wire_of (script_of v)) 1 (both_sent_by 0 r.turns) now next n r.files r.turns r.ends
+    → OnlyPuts now next (outputs_of n)
     → HoldTapes next tapes (wire_of (script_of v)) r.turns → RunStopsReading (script_of v) next n tapes
 unfolding stopped-turn
 reached-reading w v n tapes old now next r (s, delivered) only t = (
   stopped-turn w v n tapes old now next r s only t,
   record {
     adds = adds-turn w v n tapes old now next r s;
-    holds = HoldEach-add now next (outputs_of n) (held_of (left_of r.ends (trace_text r.turns))) (octets_of s.mid) only.goes_on r.holds delivered;
+    holds = HoldEach-add now next (outputs_of n) (held_of (left_of r.ends (trace_text r.turns))) (octets_of s.mid) only.goes_on r.holds
+        delivered;
     taped = t;
   },
 )
 
 -- or at any of its steps
-reached-stops : (w v : World) (n : Written) (tapes : Tapes) (old now next : FolderState) (r : Reached w (script_of v) n tapes old now) → IsApart n
-    → Stops v.modems v.lines (wire_of (script_of v)) 1 (both_sent_by 0 r.turns) now next n r.files r.turns r.ends → OnlyPuts now next (outputs_of n)
+reached-stops : (w v : World) (n : Written) (tapes : Tapes) (old now next : FolderState) (r : Reached w (script_of v) n tapes old now)
+    → IsApart n
+    → Stops v.modems v.lines (wire_of (script_of v)) 1 (both_sent_by 0 r.turns) now next n r.files r.turns r.ends
+    → OnlyPuts now next (outputs_of n)
     → HoldTapes next tapes (wire_of (script_of v)) r.turns → RunStops (script_of v) next n tapes
 reached-stops w v n tapes old now next r apart (inl s) only t = stopped-turn w v n tapes old now next r s only t
 reached-stops w v n tapes old now next r apart (inr s) only t = record {
@@ -337,7 +361,10 @@ reached-stops w v n tapes old now next r apart (inr s) only t = record {
       kept-none now next n.got_o _ only.goes_on r.holds.0 s.received.0,
       inr (
         kept-none now next n.got_a _ only.goes_on r.holds.1.0 s.received.1.0,
-        inl (HoldsPart-more now next n.trace (trace_text r.turns) (chance_line (length r.turns) s.role) only.goes_on r.holds.1.1.0 s.trace, tt),
+        inl (
+          HoldsPart-more now next n.trace (trace_text r.turns) (chance_line (length r.turns) s.role) only.goes_on r.holds.1.1.0 s.trace,
+          tt,
+        ),
       ),
     );
   };
@@ -350,26 +377,33 @@ reached-stops w v n tapes old now next r apart (inr s) only t = record {
 
 -- a fault ends the run
 fault-so : HearingsDeliver
-    → (w v : World) (n : Written) (tapes : Tapes) (old now next : FolderState) (fault : RunFault) (r : Reached w (script_of v) n tapes old now)
-    → IsApart n → TurnEndsBy v.modems v.lines (wire_of (script_of v)) 1 (both_sent_by 0 r.turns) now next n r.files r.turns r.ends fault → OnlyPuts now next (outputs_of n)
+    → (w v : World) (n : Written) (tapes : Tapes) (old now next : FolderState) (fault : RunFault)
+    (r : Reached w (script_of v) n tapes old now)
+    → IsApart n → TurnEndsBy v.modems v.lines (wire_of (script_of v)) 1 (both_sent_by 0 r.turns) now next n r.files r.turns r.ends fault
+    → OnlyPuts now next (outputs_of n)
     → HoldTapes next tapes (wire_of (script_of v)) r.turns → FaultEnds (script_of v) next n tapes fault
 fault-so delivers w v n tapes old now next faults.ReadFault r apart e only t = reached-reading w v n tapes old now next r e only t
 fault-so delivers w v n tapes old now next faults.WriteFault r apart e only t = reached-stops w v n tapes old now next r apart e only t
 fault-so delivers w v n tapes old now next faults.NoMemory r apart e only t = reached-stops w v n tapes old now next r apart e only t
-fault-so delivers w v n tapes old now next (faults.LineLost role symbol) r apart e only t = reached-line w v n tapes old now next role symbol r apart e only t
-fault-so delivers w v n tapes old now next (faults.ChanceMatch role turn) r apart e only t = reached-chance w v n tapes old now next role turn r apart e only t
+fault-so delivers w v n tapes old now next (faults.LineLost role symbol) r apart e only t = reached-line w v n tapes old now next role
+    symbol r apart e only t
+fault-so delivers w v n tapes old now next (faults.ChanceMatch role turn) r apart e only t = reached-chance w v n tapes old now next role
+    turn r apart e only t
 fault-so delivers w v n tapes old now next (faults.NotDetected turn) r apart e only t =
     let k = ended-turn delivers w v n tapes old now next r (Broken Originator causes.NotDetected) turn only e in
     run-ends (script_of v) next n tapes (runs.NotDetected turn) e.others _ r.turns r.ends (e.known.known r.knows) e.makes.run k.0 k.1 t
 fault-so delivers w v n tapes old now next (faults.LinkLost role segment turn) r apart e only t =
     let k = ended-turn delivers w v n tapes old now next r (Broken role (causes.Spent segment e.0)) turn only e.1 in
-    run-ends (script_of v) next n tapes (runs.LinkLost role segment turn) e.1.others _ r.turns r.ends (e.1.known.known r.knows) e.1.makes.run
+    run-ends (script_of v) next n tapes (runs.LinkLost role segment turn) e.1.others _ r.turns r.ends (e.1.known.known r.knows)
+    e.1.makes.run
     (e.0, k.0) k.1 t
 
 pub reached-fault : HearingsDeliver
-    → (w v : World) (script : ScriptValue) (n : Written) (tapes : Tapes) (old now next : FolderState) (fault : RunFault) (r : Reached w script n tapes old now)
+    → (w v : World) (script : ScriptValue) (n : Written) (tapes : Tapes) (old now next : FolderState) (fault : RunFault)
+    (r : Reached w script n tapes old now)
     → IsApart n
-    → script_of v ≡ script_of w → TurnEndsBy v.modems v.lines (wire_of (script_of v)) 1 (both_sent_by 0 r.turns) now next n r.files r.turns r.ends fault → OnlyPuts now next (outputs_of n)
+    → script_of v ≡ script_of w → TurnEndsBy v.modems v.lines (wire_of (script_of v)) 1 (both_sent_by 0 r.turns) now next n r.files r.turns
+    r.ends fault → OnlyPuts now next (outputs_of n)
     → HoldTapes next tapes (wire_of script) r.turns → FaultEnds script next n tapes fault
 reached-fault delivers w v script n tapes old now next fault r apart same e only t =
     subst (λ s. FaultEnds s next n tapes fault) (same ∙ r.script_is)
@@ -380,8 +414,10 @@ reached-fault delivers w v script n tapes old now next fault r apart same e only
 pub nearer : (turns next : ℕ) → turns < 2 ^ 40 → next ≡ turns + 1 → 2 ^ 40 - next < 2 ^ 40 - turns
 nearer turns next h e = omega (arith, h, e)
 
-pub next-turn : (w w' : World) (script : ScriptValue) (n : Written) (tapes : Tapes) (old now next : FolderState) (r : Reached w script n tapes old now)
-    → GoesOnBy w'.modems w'.lines (wire_of (script_of w')) 1 (both_sent_by 0 r.turns) now next n r.files r.turns r.ends → turn_of w' ≡ turn_of w + 1
+pub next-turn : (w w' : World) (script : ScriptValue) (n : Written) (tapes : Tapes) (old now next : FolderState)
+    (r : Reached w script n tapes old now)
+    → GoesOnBy w'.modems w'.lines (wire_of (script_of w')) 1 (both_sent_by 0 r.turns) now next n r.files r.turns r.ends
+    → turn_of w' ≡ turn_of w + 1
 next-turn w w' script n tapes old now next r g = omega (arith, g.modems.turn, r.world.modems.turn)
 
 -- ---- what both ends sent is recorded
@@ -405,7 +441,8 @@ pub tapes-kept : (now next : FolderState) (n : Written) (tapes : Tapes) → AreA
 tapes-kept now next n tapes apart p = keeps-behind now next (outputs_of n) (tapes_of tapes) apart.0 p
 
 -- as the recordings are written, what the turns left stays
-unfoldable pub reached-put : (w : World) (script : ScriptValue) (n : Written) (tapes : Tapes) (old now next : FolderState) → AreAllApart n tapes
+unfoldable pub reached-put : (w : World) (script : ScriptValue) (n : Written) (tapes : Tapes) (old now next : FolderState)
+    → AreAllApart n tapes
     → Reached w script n tapes old now → OnlyPuts now next (tapes_of tapes) → CountsStand now next → Reached w script n tapes old next
 reached-put w script n tapes old now next apart r p stand = record {
   script_is = r.script_is;
@@ -450,7 +487,8 @@ stops-taping w v n tapes old now next last r apart g only p partly = record {
     got Originator = refl
     got Answerer = refl
 
-    adds : AddsTurn (wire_of (script_of v)) (link_of (script_of v) g.others) r.turns r.ends (more_of g.going.mid (turn_text (length r.turns) g.turn))
+    adds : AddsTurn (wire_of (script_of v)) (link_of (script_of v) g.others) r.turns r.ends
+        (more_of g.going.mid (turn_text (length r.turns) g.turn))
     adds = record {
       turn = g.turn;
       mid = g.going.mid;
@@ -461,10 +499,12 @@ stops-taping w v n tapes old now next last r apart g only p partly = record {
       trace_is = refl;
     }
 
-    all : HoldEach last (outputs_of n) (joined (held_of (left_of r.ends (trace_text r.turns))) (added g.going.mid (turn_text (length r.turns) g.turn)))
+    all : HoldEach last (outputs_of n)
+        (joined (held_of (left_of r.ends (trace_text r.turns))) (added g.going.mid (turn_text (length r.turns) g.turn)))
     all = HoldEach-kept next last (outputs_of n)
         (joined (held_of (left_of r.ends (trace_text r.turns))) (added g.going.mid (turn_text (length r.turns) g.turn))) p.goes_on
-        (HoldEach-add now next (outputs_of n) (held_of (left_of r.ends (trace_text r.turns))) (added g.going.mid (turn_text (length r.turns) g.turn))
+        (HoldEach-add now next (outputs_of n) (held_of (left_of r.ends (trace_text r.turns)))
+        (added g.going.mid (turn_text (length r.turns) g.turn))
         only.goes_on r.holds g.writes) (keeps-front next last (outputs_of n) (tapes_of tapes) apart.0 p)
 
     whole : (name octets piece : List ℕ) → Holds last name (octets ++ piece) → HoldsPart last name octets piece

@@ -104,7 +104,8 @@ reading-fault x NoMemory e = subst IsReading (sym e) tt
 
 pub reading-counts : (old new : FolderState) (n : Written) (x : RunFault) (fault : FolderFault)
     → x ≡ fault_of ReadFault faults.NoMemory fault
-    → SomeCause {T = Unit {0}} old.read_faults new.read_faults (inputs_of n) old.refusals new.refusals (Err fault) → (IsErrOf {T = Unit {0}} {E = FolderFault} (Err fault) NoMemory → FaultsStand old new)
+    → SomeCause {T = Unit {0}} old.read_faults new.read_faults (inputs_of n) old.refusals new.refusals (Err fault)
+    → (IsErrOf {T = Unit {0}} {E = FolderFault} (Err fault) NoMemory → FaultsStand old new)
     → FaultCounts old new n x
 reading-counts old new n x Failed e cause spared = subst (FaultCounts old new n) (sym e) (cause.failed refl)
 reading-counts old new n x NoMemory e cause spared = subst (FaultCounts old new n) (sym e) (spared refl, cause.memory refl)

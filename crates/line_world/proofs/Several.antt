@@ -19,7 +19,8 @@ pub puts-behind : (a b : FolderState) (front behind : List (List ℕ)) → OnlyP
 puts-behind a b front behind p =
     record { goes_on = p.goes_on; names = λ other apart. p.names other (none-behind other front behind apart); said = p.said }
 
-pub rose-front : (before now : List ℕ → ℕ) (front behind : List (List ℕ)) → SomeRose before now front → SomeRose before now (front ++ behind)
+pub rose-front : (before now : List ℕ → ℕ) (front behind : List (List ℕ)) → SomeRose before now front
+    → SomeRose before now (front ++ behind)
 rose-front before now [] behind rose = absurd rose
 rose-front before now (name ∷ front) behind (inl rose) = inl rose
 rose-front before now (name ∷ front) behind (inr rose) = inr (rose-front before now front behind rose)
@@ -62,12 +63,14 @@ without [] name behind apart = apart.1
 without (first ∷ front) name behind apart = (none-without first front name behind apart.0, without front name behind apart.1)
 
 -- names behind others are kept where the others alone are touched, and the other way round
-pub keeps-front : (a b : FolderState) (front behind : List (List ℕ)) → AreApart (front ++ behind) → OnlyPuts a b behind → KeepsEach a b front
+pub keeps-front : (a b : FolderState) (front behind : List (List ℕ)) → AreApart (front ++ behind) → OnlyPuts a b behind
+    → KeepsEach a b front
 keeps-front a b [] behind apart p = tt
 keeps-front a b (name ∷ front) behind apart p =
     (p.names name (none-behind name front behind apart.0), keeps-front a b front behind apart.1 p)
 
-pub keeps-behind : (a b : FolderState) (front behind : List (List ℕ)) → AreApart (front ++ behind) → OnlyPuts a b front → KeepsEach a b behind
+pub keeps-behind : (a b : FolderState) (front behind : List (List ℕ)) → AreApart (front ++ behind) → OnlyPuts a b front
+    → KeepsEach a b behind
 keeps-behind a b front [] apart p = tt
 keeps-behind a b front (name ∷ behind) apart p = (
   p.names name (stands-apart front name behind apart),

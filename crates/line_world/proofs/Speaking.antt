@@ -18,7 +18,8 @@ use Rattle.shared_terms.specs.declared.fault.LinkFault.{LinkFault}
 use Rattle.shared_terms.specs.declared.fault.LinkFault.TheVariants as faults
 use Rattle.link_account.specs.Account.{given_break, check_of}
 use Rattle.link_account.specs.Speak.{Said}
-use Rattle.link_run.specs.Run.{Accounts, Side, Spoken, Turn, GoingTurn, LastTurn, BrokenTurn, IsBroken, BreaksAt, SpeaksAt, spoken, says_at, said_at}
+use Rattle.link_run.specs.Run.{Accounts, Side, Spoken, Turn, GoingTurn, LastTurn, BrokenTurn, IsBroken, BreaksAt, SpeaksAt, spoken, says_at}
+use Rattle.link_run.specs.Run.{said_at}
 use Rattle.link_run.specs.Counts.{CountsByNumber, CountsOn, next_count, again_in, sequence_in}
 use Rattle.link_run.specs.Laws.{IsNamed}
 use Rattle.link_run.specs.Outcomes.{Outcome, TurnIs}
@@ -162,14 +163,17 @@ pub all-codable : SlotsAreCodable
     → (t : SpokenTurn c files ts ends heard mid from_orig from_answ k) → HaveArrived l c links streams
     → IsSendable from_orig → IsSendable from_answ → sent.orig ≡ from_orig → sent.answ ≡ from_answ
     → checks.orig ≡ check_of t.orig.account → checks.answ ≡ check_of t.answ.account → AreCodable l sent checks dlci
-all-codable law c files ts ends heard mid from_orig from_answ sent k l links streams dlci checks size limits o t h sendo senda eo ea co ca Originator =
+all-codable law c files ts ends heard mid from_orig from_answ sent k l links streams dlci checks size limits o t h sendo senda eo ea co ca
+    Originator =
     let d = h.coders Originator in
-    let is : IsCodable (check_of t.orig.account) Originator dlci (slot_symbols (longest_of c.script)) l.orig.coder.writer.phase t.orig.sent =
+    let is : IsCodable (check_of t.orig.account) Originator dlci (slot_symbols (longest_of c.script)) l.orig.coder.writer.phase
+    t.orig.sent =
     law c files ts ends (turn_in heard ends mid (spoken_by t.orig t.answ))
     (ends_of t.orig t.answ) limits o.run t.heard_in t.going Originator (spoken t.orig) dlci
     l.orig.coder.writer.phase d.stands.writer.low refl (subst IsSendable t.orig_sent sendo) in
     rw (co, d.symbols, size, eo, t.orig_sent) is
-all-codable law c files ts ends heard mid from_orig from_answ sent k l links streams dlci checks size limits o t h sendo senda eo ea co ca Answerer =
+all-codable law c files ts ends heard mid from_orig from_answ sent k l links streams dlci checks size limits o t h sendo senda eo ea co ca
+    Answerer =
     let d = h.coders Answerer in
     let is : IsCodable (check_of t.answ.account) Answerer dlci (slot_symbols (longest_of c.script)) l.answ.coder.writer.phase t.answ.sent =
     law c files ts ends (turn_in heard ends mid (spoken_by t.orig t.answ))

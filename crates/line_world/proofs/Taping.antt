@@ -1,5 +1,6 @@
 -- What tapes hold, as turns are recorded and as others are written.
-use Rattle.std.proofs.Common.{◌≡◌, inr, ◌∙◌, ℕ, ◌+◌, ◌<◌, Bool, List, [], ◌∷◌, ◌++◌, length, take, slice_index_or, Option, Some, None, Result, Ok, Err, refl, sym, ap, subst}
+use Rattle.std.proofs.Common.{◌≡◌, inr, ◌∙◌, ℕ, ◌+◌, ◌<◌, Bool, List, [], ◌∷◌, ◌++◌, length, take, slice_index_or, Option, Some, None}
+use Rattle.std.proofs.Common.{Result, Ok, Err, refl, sym, ap, subst}
 use Rattle.std.proofs.Common.{append-nil, append_assoc}
 use Rattle.std.proofs.lemmas.List.{take_more}
 use Rattle.std.proofs.lemmas.Grind.{flat_map-append}
@@ -35,7 +36,8 @@ use Rattle.line_world.specs.declared.tape.Tape.{Tape}
 
 -- one sample more
 pub records-more : (mode : Mode) (old new : Modulator) (bits more : List Bool) (octets made one : List ℕ) (x : Sample)
-    → (r : RecordsBits mode old bits (octets ++ made)) → ModulatorStands mode new (bits ++ more) (r.samples ++ x ∷ []) → one ≡ sample_octets x
+    → (r : RecordsBits mode old bits (octets ++ made)) → ModulatorStands mode new (bits ++ more) (r.samples ++ x ∷ [])
+    → one ≡ sample_octets x
     → RecordsBits mode new (bits ++ more) (octets ++ (made ++ one))
 records-more mode old new bits more octets made one x r stands e = record {
   samples = r.samples ++ x ∷ [];

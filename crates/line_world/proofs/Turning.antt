@@ -139,13 +139,15 @@ halts-so old m l c links streams files ts ends heard mid now h arrived same t he
 abbrev pub Checked : Modems → Accounts → Type 0
 Checked m mid = (role : Role) → of role m.heard_by ≡ check_of (of role mid)
 
-pub checked-so : (old m : Modems) (c : Wire) (files : Both (List ℕ)) (ts : List Turn) (ends : Accounts) (heard : Both Heard) (mid now : Accounts)
+pub checked-so : (old m : Modems) (c : Wire) (files : Both (List ℕ)) (ts : List Turn) (ends : Accounts) (heard : Both Heard)
+    (mid now : Accounts)
     → InTurn old c files ts ends heard mid now → SameBeside old m → Checked m mid
 checked-so old m c files ts ends heard mid now h same role = ap (of role) same.heard_by ∙ h.checks role
 
 -- ---- a fault of the folder
 
-pub writing-ends : (m : Modems) (l : Lines) (c : Wire) (links : ℕ) (streams : Both (List Carried)) (a b : FolderState) (n : Written) (files : Both (List ℕ)) (ts : List Turn) (ends : Accounts)
+pub writing-ends : (m : Modems) (l : Lines) (c : Wire) (links : ℕ) (streams : Both (List Carried)) (a b : FolderState) (n : Written)
+    (files : Both (List ℕ)) (ts : List Turn) (ends : Accounts)
     (fault : RunFault) → IsWriting fault
     → Stops m l c links streams a b n files ts ends → EndsBy m l c links streams a b n files ts ends fault
 writing-ends m l c links streams a b n files ts ends run_faults.WriteFault is h = h
@@ -156,7 +158,8 @@ writing-ends m l c links streams a b n files ts ends (run_faults.ChanceMatch rol
 writing-ends m l c links streams a b n files ts ends (run_faults.NotDetected turn) is h = absurd is
 writing-ends m l c links streams a b n files ts ends (run_faults.LinkLost role segment turn) is h = absurd is
 
-pub reading-ends : (m : Modems) (l : Lines) (c : Wire) (links : ℕ) (streams : Both (List Carried)) (a b : FolderState) (n : Written) (files : Both (List ℕ)) (ts : List Turn) (ends : Accounts)
+pub reading-ends : (m : Modems) (l : Lines) (c : Wire) (links : ℕ) (streams : Both (List Carried)) (a b : FolderState) (n : Written)
+    (files : Both (List ℕ)) (ts : List Turn) (ends : Accounts)
     (fault : RunFault) → IsReading fault
     → StopsReading m l c links streams a b n files ts ends → EndsBy m l c links streams a b n files ts ends fault
 reading-ends m l c links streams a b n files ts ends run_faults.ReadFault is h = h
@@ -169,7 +172,8 @@ reading-ends m l c links streams a b n files ts ends (run_faults.LinkLost role s
 
 -- as what both took is handed over,
 pub stops-handing : MakingLaws
-    → (m : Modems) (l : Lines) (c : Wire) (links : ℕ) (streams : Both (List Carried)) (a b : FolderState) (n : Written) (files : Both (List ℕ)) (ts : List Turn) (ends : Accounts) (heard : Both Heard)
+    → (m : Modems) (l : Lines) (c : Wire) (links : ℕ) (streams : Both (List Carried)) (a b : FolderState) (n : Written)
+    (files : Both (List ℕ)) (ts : List Turn) (ends : Accounts) (heard : Both Heard)
     (mid : Accounts)
     → IsInLimits c.script → IsApart n → AreWithin files → OnlyPuts a b (outputs_of n) → Overhears c files ts ends heard mid
     → Halts m l c links streams ts heard → AddPart a b (outputs_of n) (octets_of mid)
@@ -189,7 +193,8 @@ stops-handing laws m l c links streams a b n files ts ends heard mid limits apar
 
 -- as the files are read,
 pub stops-reading : MakingLaws
-    → (m : Modems) (l : Lines) (c : Wire) (links : ℕ) (streams : Both (List Carried)) (a b : FolderState) (n : Written) (files : Both (List ℕ)) (ts : List Turn) (ends : Accounts) (heard : Both Heard)
+    → (m : Modems) (l : Lines) (c : Wire) (links : ℕ) (streams : Both (List Carried)) (a b : FolderState) (n : Written)
+    (files : Both (List ℕ)) (ts : List Turn) (ends : Accounts) (heard : Both Heard)
     (mid : Accounts)
     → IsInLimits c.script → IsApart n → AreWithin files → OnlyPuts a b (outputs_of n) → Overhears c files ts ends heard mid
     → Halts m l c links streams ts heard → AddEach a b (outputs_of n) (octets_of mid) → StopsReading m l c links streams a b n files ts ends
@@ -209,7 +214,8 @@ stops-reading laws m l c links streams a b n files ts ends heard mid limits apar
     )
 
 -- and as the lines go out.
-pub stops-writing : (m : Modems) (l : Lines) (c : Wire) (links : ℕ) (streams : Both (List Carried)) (a b z : FolderState) (n : Written) (files others : Both (List ℕ)) (ts : List Turn)
+pub stops-writing : (m : Modems) (l : Lines) (c : Wire) (links : ℕ) (streams : Both (List Carried)) (a b z : FolderState) (n : Written)
+    (files others : Both (List ℕ)) (ts : List Turn)
     (ends : Accounts) (heard : Both Heard) (mid : Accounts) → IsApart n
     → StayKnown a z n files others → OnlyPuts a b (outputs_of n) → AddEach a b (outputs_of n) (octets_of mid) → OnlyWrites b z n.trace
     → Halts m l c links streams ts heard → AddsPart c b z n others ts ends heard mid → Stops m l c links streams a z n files ts ends
@@ -227,24 +233,28 @@ stops-writing m l c links streams a b z n files others ts ends heard mid apart k
 
 -- ---- the run ends in this turn
 
-pub ends-in : (m : Modems) (l : Lines) (c : Wire) (links : ℕ) (streams : Both (List Carried)) (a b z : FolderState) (n : Written) (files others : Both (List ℕ)) (ts : List Turn) (ends : Accounts)
+pub ends-in : (m : Modems) (l : Lines) (c : Wire) (links : ℕ) (streams : Both (List Carried)) (a b z : FolderState) (n : Written)
+    (files others : Both (List ℕ)) (ts : List Turn) (ends : Accounts)
     (heard : Both Heard) (mid : Accounts) (outcome : Outcome) (number : ℕ)
-    → IsApart n → number ≡ length ts → StayKnown a z n files others → OnlyPuts a b (outputs_of n) → AddEach a b (outputs_of n) (octets_of mid)
+    → IsApart n → number ≡ length ts → StayKnown a z n files others → OnlyPuts a b (outputs_of n)
+    → AddEach a b (outputs_of n) (octets_of mid)
     → OnlyWrites b z n.trace → Halts m l c links streams ts heard → Checked m mid
     → AddsLines c b z n others ts ends heard mid outcome → EndsInTurn m l c links streams a z n files ts ends outcome number
-ends-in m l c links streams a b z n files others ts ends heard mid outcome number apart e known only delivered lines halts checked p = record {
-  number_is = e;
-  others = others;
-  known = known;
-  turn = p.turn;
-  mid = mid;
-  makes = p.makes;
-  halts = halts p.turn p.hears;
-  checks = checked;
-  writes = AddEach-next a b z (received_of n) n.trace [] (octets_of mid) _ tt apart.0 only.goes_on delivered lines (inr p.trace);
-}
+ends-in m l c links streams a b z n files others ts ends heard mid outcome number apart e known only delivered lines halts checked p =
+    record {
+      number_is = e;
+      others = others;
+      known = known;
+      turn = p.turn;
+      mid = mid;
+      makes = p.makes;
+      halts = halts p.turn p.hears;
+      checks = checked;
+      writes = AddEach-next a b z (received_of n) n.trace [] (octets_of mid) _ tt apart.0 only.goes_on delivered lines (inr p.trace);
+    }
 
-pub speaks-last : (m : Modems) (l : Lines) (c : Wire) (links : ℕ) (streams : Both (List Carried)) (a b z : FolderState) (n : Written) (files others : Both (List ℕ)) (ts : List Turn)
+pub speaks-last : (m : Modems) (l : Lines) (c : Wire) (links : ℕ) (streams : Both (List Carried)) (a b z : FolderState) (n : Written)
+    (files others : Both (List ℕ)) (ts : List Turn)
     (ends : Accounts) (heard : Both Heard) (mid : Accounts) (fault : RunFault)
     → IsApart n → StayKnown a z n files others → OnlyPuts a b (outputs_of n) → AddEach a b (outputs_of n) (octets_of mid)
     → OnlyWrites b z n.trace → Halts m l c links streams ts heard → Checked m mid
@@ -253,17 +263,24 @@ speaks-last m l c links streams a b z n files others ts ends heard mid run_fault
     stops-writing m l c links streams a b z n files others ts ends heard mid apart known only d lines halts h
 speaks-last m l c links streams a b z n files others ts ends heard mid run_faults.NoMemory apart known only d lines halts checked h =
     stops-writing m l c links streams a b z n files others ts ends heard mid apart known only d lines halts h
-speaks-last m l c links streams a b z n files others ts ends heard mid (run_faults.LinkLost role segment turn) apart known only d lines halts checked h =
-    (h.0, ends-in m l c links streams a b z n files others ts ends heard mid (Broken role (faults.Spent segment h.0)) turn apart h.1.0 known only d lines halts checked h.1.1)
-speaks-last m l c links streams a b z n files others ts ends heard mid (run_faults.NotDetected turn) apart known only d lines halts checked h =
-    ends-in m l c links streams a b z n files others ts ends heard mid (Broken Originator faults.NotDetected) turn apart h.0 known only d lines halts checked h.1
+speaks-last m l c links streams a b z n files others ts ends heard mid (run_faults.LinkLost role segment turn) apart known only d lines
+    halts checked h = (
+      h.0,
+      ends-in m l c links streams a b z n files others ts ends heard mid (Broken role (faults.Spent segment h.0)) turn apart h.1.0 known
+          only d lines halts checked h.1.1,
+    )
+speaks-last m l c links streams a b z n files others ts ends heard mid (run_faults.NotDetected turn) apart known only d lines halts checked
+    h =
+    ends-in m l c links streams a b z n files others ts ends heard mid (Broken Originator faults.NotDetected) turn apart h.0 known only d
+    lines halts checked h.1
 speaks-last m l c links streams a b z n files others ts ends heard mid fault apart known only d lines halts checked h = absurd h
 
 -- ---- the run goes on
 
 pub goes-on-by : (m : Modems) (l : Lines) (c : Wire) (links : ℕ) (streams : Both (List Carried)) (a b z : FolderState) (n : Written)
     (files others : Both (List ℕ)) (ts : List Turn) (ends mid : Accounts)
-    → IsApart n → StayKnown a z n files others → OnlyPuts a b (outputs_of n) → AddEach a b (outputs_of n) (octets_of mid) → OnlyWrites b z n.trace
+    → IsApart n → StayKnown a z n files others → OnlyPuts a b (outputs_of n) → AddEach a b (outputs_of n) (octets_of mid)
+    → OnlyWrites b z n.trace
     → HasGone m l c links streams b z n others ts ends mid → GoesOnBy m l c links streams a z n files ts ends
 goes-on-by m l c links streams a b z n files others ts ends mid apart known only delivered lines h = record {
   others = others;

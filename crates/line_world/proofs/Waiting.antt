@@ -28,7 +28,8 @@ use Rattle.line_run.proofs.Slots.{SentAgo, sent-ago}
 use Rattle.line_run.specs.Stream.{Carried, carried_signal, IsDue}
 use Rattle.line_world.specs.declared.direction.DelayedLine.{DelayedLine}
 use Rattle.line_world.proofs.Passing.{same-count}
-use Rattle.line_world.specs.Way.{Stands, CodesNext, HeardBehind, PassesOldest, Arrival, Early, Due, StandsAt, IsOver, WaitsFor, HasRoom, ArrivesAs}
+use Rattle.line_world.specs.Way.{Stands, CodesNext, HeardBehind, PassesOldest, Arrival, Early, Due, StandsAt, IsOver, WaitsFor, HasRoom}
+use Rattle.line_world.specs.Way.{ArrivesAs}
 
 -- one more of a list
 take-one : (n : ℕ) (xs : List Carried) (x : Carried) → drop n xs ≡ x ∷ drop (suc n) xs → take (suc n) xs ≡ take n xs ++ x ∷ []
@@ -90,7 +91,8 @@ heard-as c role ts size passed slot x number hearing heard some same count ago i
       patterns = h.patterns;
       received = h.received;
       outcome = subst (λ n. IsOutcome (loses c.script role n) role c.dlci slot.sent h.octets h.patterns heard) (count ∙ sym s.count)
-          (subst (λ (z : Carried). IsOutcome (loses c.script role number) role c.dlci z.spoken.sent h.octets h.patterns heard) is h.outcome);
+          (subst (λ (z : Carried). IsOutcome (loses c.script role number) role c.dlci z.spoken.sent h.octets h.patterns heard) is
+          h.outcome);
     }
 
 lost-as : (c : Wire) (role : Role) (ts : List Turn) (size : ℕ) (passed : List Signal) (slot : Spoken) (x : Carried) (symbol : ℕ)
@@ -144,7 +146,8 @@ due-lag d c role links stream h = h.lag ∙ ap (λ n. links * n) h.delay
 pub arrives-as : (d new : DelayedLine) (c : Wire) (role : Role) (links : ℕ) (ts : List Turn) (stream : List Carried) (turn : ℕ)
     (hearing : Check) (r : Result Heard Lost)
     → WaitsFor d c role links stream → IsDue c role ts stream (links * delay_of c.script role) → turn ≡ length ts → Moved d new
-    → Arrival d new c.script (map (carried_signal d.sender) (take (length stream - d.lag) stream)) (drop (length stream - d.lag) stream) turn
+    → Arrival d new c.script (map (carried_signal d.sender) (take (length stream - d.lag) stream)) (drop (length stream - d.lag) stream)
+    turn
     hearing c.dlci r
     → ArrivesAs new c role links ts stream hearing r
 arrives-as d new c role links ts stream turn hearing r h due-links number m a = by a
@@ -208,16 +211,21 @@ arrives-as d new c role links ts stream turn hearing r h due-links number m a = 
             → ArrivesAs new c role links ts stream hearing r
         go (Ok heard) p =
             let n : turn - d.delay ≡ length ts - delay_of c.script role = omega (arith, number, h.delay) in (
-              heard-as c role ts (size_of d.line) (map (carried_signal role) (take k stream)) found.0 x (turn - d.delay) hearing heard some size n
+              heard-as c role ts (size_of d.line) (map (carried_signal role) (take k stream)) found.0 x (turn - d.delay) hearing heard some
+                  size n
                   found.1 is found.3
-                  (subst (λ s. HeardBehind c.script s (size_of d.line) c.dlci (map (carried_signal s) (take k stream)) (turn - d.delay) hearing x
+                  (subst (λ s. HeardBehind c.script s (size_of d.line) c.dlci (map (carried_signal s) (take k stream)) (turn - d.delay)
+                  hearing x
                   heard) h.sends p.0),
               room (suc k) (omega (arith, enough, h.lag_some)) (subst (λ l. Stands new c.script l (drop (suc k) stream)) one-more
-                  (subst (Stands new c.script (map (carried_signal d.sender) (take k stream) ++ carried_signal d.sender x ∷ [])) rest-is p.1)),
+                  (subst (Stands new c.script (map (carried_signal d.sender) (take k stream) ++ carried_signal d.sender x ∷ [])) rest-is
+                  p.1)),
             )
         go (Err lost) p =
-            lost-as c role ts (size_of d.line) (map (carried_signal role) (take k stream)) found.0 x lost.symbol some size found.1 is found.3
-            (subst (λ s. LosesAt s c.script (signal_bits (size_of d.line) (map (carried_signal s) (take k stream) ++ carried_signal s x ∷ []))
+            lost-as c role ts (size_of d.line) (map (carried_signal role) (take k stream)) found.0 x lost.symbol some size found.1 is
+            found.3
+            (subst (λ s. LosesAt s c.script
+            (signal_bits (size_of d.line) (map (carried_signal s) (take k stream) ++ carried_signal s x ∷ []))
             lost.symbol) h.sends p)
 
     by : Arrival d new c.script (map (carried_signal d.sender) (take k stream)) (drop k stream) turn hearing c.dlci r
@@ -247,7 +255,8 @@ sends-behind d new c role links stream x h m stands =
     let same : k ≡ length (stream ++ x ∷ []) - new.lag = omega (arith, h.lag_some, m.lag, length-append {A = Carried} stream (x ∷ [])) in
     let there : Stands new c.script (map (carried_signal d.sender) (take k (stream ++ x ∷ []))) (drop k (stream ++ x ∷ [])) =
     subst (λ l. Stands new c.script (map (carried_signal d.sender) (take k (stream ++ x ∷ []))) l) (sym (drop-front k stream (x ∷ []) few))
-    (subst (λ l. Stands new c.script (map (carried_signal d.sender) l) (drop k stream ++ x ∷ [])) (sym (take-front k stream (x ∷ []) few)) stands)
+    (subst (λ l. Stands new c.script (map (carried_signal d.sender) l) (drop k stream ++ x ∷ [])) (sym (take-front k stream (x ∷ []) few))
+    stands)
     in
     let n : ℕ = length (stream ++ x ∷ []) - new.lag in
     still-over d new c role links stream (stream ++ x ∷ []) (d.lag - 1) new.lag h m
@@ -265,7 +274,8 @@ pub role-hears : (d new : DelayedLine) (c : Wire) (role : Role) (links : ℕ) (t
 role-hears d new c role links ts stream turn hearing script dlci r h due script-is dlci-is number m a =
     arrives-as d new c role links ts stream turn hearing r h due number m
     (subst (λ n. Arrival d new c.script passed way turn hearing n r) (sym dlci-is)
-    (subst (λ s. ((l : List Signal) (w : List Carried) → Stands d s l w → Arrival d new s l w turn hearing dlci r)) (sym script-is) a passed way
+    (subst (λ s. ((l : List Signal) (w : List Carried) → Stands d s l w → Arrival d new s l w turn hearing dlci r)) (sym script-is) a passed
+    way
     h.stands))
   where
     passed : List Signal
@@ -290,7 +300,8 @@ pub room-of : (d : DelayedLine) (c : Wire) (role : Role) (links : ℕ) (stream :
     → length d.slots.items < d.lag
 room-of d c role links stream h =
     let k = length stream - (d.lag - 1) in
-    let count = same-count (size_of d.line) d.sender (map (carried_signal d.sender) (take k stream)) d.slots.items (drop k stream) h.stands.slots in
+    let count = same-count (size_of d.line) d.sender (map (carried_signal d.sender) (take k stream)) d.slots.items (drop k stream)
+    h.stands.slots in
     omega (arith, count, length-drop k stream, h.lag_some)
 
 pub stands-of : (d : DelayedLine) (c : Wire) (role : Role) (links : ℕ) (stream : List Carried) (script : ScriptValue)
@@ -330,8 +341,10 @@ waits-first d c role links stands sends symbols delay lag many some = record {
     none = omega arith
 
 -- labels that a slot is coded as behind all that was sent are one slot more behind those on their way
-pub codes-next : (d : DelayedLine) (c : Wire) (role : Role) (links : ℕ) (stream : List Carried) (waiting : ℕ) (x : Carried) (labels : List ℕ)
-    → IsOver d c role links stream waiting → IsCodedAs role (4 * c.symbols) (map (carried_signal role) stream) (carried_signal role x) labels
+pub codes-next : (d : DelayedLine) (c : Wire) (role : Role) (links : ℕ) (stream : List Carried) (waiting : ℕ) (x : Carried)
+    (labels : List ℕ)
+    → IsOver d c role links stream waiting
+    → IsCodedAs role (4 * c.symbols) (map (carried_signal role) stream) (carried_signal role x) labels
     → CodesNext d (map (carried_signal d.sender) (take (length stream - waiting) stream)) (drop (length stream - waiting) stream) x labels
 codes-next d c role links stream waiting x labels h coded =
     let k : ℕ = length stream - waiting in
@@ -357,7 +370,8 @@ hears-both left c ts checks to_orig to_answ ho ha wo wa lines = record { heard_o
     well Originator = wo
     well Answerer = wa
 
-pub room-both : (orig answ : DelayedLine) (c : Wire) (links : ℕ) (streams : Both (List Carried)) → HasRoom orig c Originator links streams.orig
+pub room-both : (orig answ : DelayedLine) (c : Wire) (links : ℕ) (streams : Both (List Carried))
+    → HasRoom orig c Originator links streams.orig
     → HasRoom answ c Answerer links streams.answ → HaveRoom (record { from_orig = orig; from_answ = answ }) c links streams
 room-both orig answ c links streams ho ha Originator = ho
 room-both orig answ c links streams ho ha Answerer = ha

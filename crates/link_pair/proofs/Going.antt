@@ -448,7 +448,8 @@ has-ended h l m c links streams f n files ts ends found is channel waits e = rec
 
 abbrev pub AnswersSo : Modems → Modems → Lines → Lines → ScriptValue → FolderState → FolderState → Written → Result Step RunFault → Type 0
 AnswersSo m m' l l' script old new n answer =
-    (beside : Role → ℕ → Option Signal) (links : ℕ) (streams : Both (List Carried)) (files : Both (List ℕ)) (ts : List Turn) (ends : Accounts)
+    (beside : Role → ℕ → Option Signal) (links : ℕ) (streams : Both (List Carried)) (files : Both (List ℕ)) (ts : List Turn)
+    (ends : Accounts)
     → ModemsAfter m (wire_at script m.dlci beside) files ts ends → AreWithin files
     → LinesWait l (wire_at script m.dlci beside) links streams → AreDue (wire_at script m.dlci beside) links ts streams
     → TurnAnswers m' l' (wire_at script m.dlci beside) links streams old new n files ts ends answer

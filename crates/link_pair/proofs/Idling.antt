@@ -109,7 +109,8 @@ pub has-idled : (h : Half) (l m : Lines) (script : ScriptValue) (beside : Role �
     (streams : Both (List Carried)) (f : FolderState) (n : Written) (files : Both (List ℕ)) (round : ℕ) (p : Progress) (checks : Both Check)
     (heard : Both Heard) (a : AtEnd h script beside files round p) → h.modems.dlci ≡ h.dlci → KnowsFiles f n files → HoldLeft f n p
     → checks ≡ h.modems.heard_by
-    → ArrivesBoth (HaveArrived m (wire_at script h.dlci beside) links streams) (wire_at script h.dlci beside) (turns_on_line round p) checks heard
+    → ArrivesBoth (HaveArrived m (wire_at script h.dlci beside) links streams) (wire_at script h.dlci beside) (turns_on_line round p) checks
+    heard
     → LinesWait l (wire_at script h.dlci beside) links (and_sent streams h.dlci idle_turn)
     → HasCome h l (wire_at script h.dlci beside) links streams f n round p
 has-idled h l m script beside links streams f n files round p checks heard a channel knows holds same arrives waits =

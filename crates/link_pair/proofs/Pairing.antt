@@ -78,7 +78,15 @@ pub waits-over : (l : Lines) (script : ScriptValue) (dlci at : ℕ) (b d : Besid
 waits-over l script dlci at b d links streams h = record {
   directions = λ role.
       let k = h.directions role in
-      record { stands = k.stands; sends = k.sends; symbols = k.symbols; delay = k.delay; lag = k.lag; some = k.some; lag_some = k.lag_some };
+      record {
+        stands = k.stands;
+        sends = k.sends;
+        symbols = k.symbols;
+        delay = k.delay;
+        lag = k.lag;
+        some = k.some;
+        lag_some = k.lag_some;
+      };
   coders = λ role.
       let k = h.coders role in
       record { stands = k.stands; sends = k.sends; symbols = k.symbols; newest = k.newest };
@@ -202,7 +210,8 @@ passed laws x f n m link a = each
           arith,
           short,
           long Answerer,
-          passed-few x.lines.directions.from_answ (first_wire x.script (turns_in a.q)) Answerer 2 (of Answerer (streams_at link x.round a.p a.q))
+          passed-few x.lines.directions.from_answ (first_wire x.script (turns_in a.q)) Answerer 2
+              (of Answerer (streams_at link x.round a.p a.q))
               (a.lines.directions Answerer),
         )
 

@@ -56,7 +56,8 @@ same-prefix script files Originator got h = h
 same-prefix script files Answerer got h = h
 
 -- what a link that goes on has given its users
-pub given-is : (ts : List Turn) (ends : Accounts) (role : Role) → of role (left_by (Goes ts ends)).got ≡ concat (of role ends).incoming.taken
+pub given-is : (ts : List Turn) (ends : Accounts) (role : Role)
+    → of role (left_by (Goes ts ends)).got ≡ concat (of role ends).incoming.taken
 given-is ts ends Originator = refl
 given-is ts ends Answerer = refl
 

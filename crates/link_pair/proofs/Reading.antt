@@ -52,11 +52,18 @@ listed (w0 ∷ w1 ∷ []) d0 d1 d2 d3 d4 d5 d6 d7 d8 d9 d10 l m e0 e1 e2 e3 e4 e
 listed (w0 ∷ w1 ∷ w2 ∷ []) d0 d1 d2 d3 d4 d5 d6 d7 d8 d9 d10 l m e0 e1 e2 e3 e4 e5 e6 e7 e8 e9 e10 = absurd (omega (arith, l))
 listed (w0 ∷ w1 ∷ w2 ∷ w3 ∷ []) d0 d1 d2 d3 d4 d5 d6 d7 d8 d9 d10 l m e0 e1 e2 e3 e4 e5 e6 e7 e8 e9 e10 = absurd (omega (arith, l))
 listed (w0 ∷ w1 ∷ w2 ∷ w3 ∷ w4 ∷ []) d0 d1 d2 d3 d4 d5 d6 d7 d8 d9 d10 l m e0 e1 e2 e3 e4 e5 e6 e7 e8 e9 e10 = absurd (omega (arith, l))
-listed (w0 ∷ w1 ∷ w2 ∷ w3 ∷ w4 ∷ w5 ∷ []) d0 d1 d2 d3 d4 d5 d6 d7 d8 d9 d10 l m e0 e1 e2 e3 e4 e5 e6 e7 e8 e9 e10 = absurd (omega (arith, l))
-listed (w0 ∷ w1 ∷ w2 ∷ w3 ∷ w4 ∷ w5 ∷ w6 ∷ []) d0 d1 d2 d3 d4 d5 d6 d7 d8 d9 d10 l m e0 e1 e2 e3 e4 e5 e6 e7 e8 e9 e10 = absurd (omega (arith, l))
-listed (w0 ∷ w1 ∷ w2 ∷ w3 ∷ w4 ∷ w5 ∷ w6 ∷ w7 ∷ []) d0 d1 d2 d3 d4 d5 d6 d7 d8 d9 d10 l m e0 e1 e2 e3 e4 e5 e6 e7 e8 e9 e10 = absurd (omega (arith, l))
-listed (w0 ∷ w1 ∷ w2 ∷ w3 ∷ w4 ∷ w5 ∷ w6 ∷ w7 ∷ w8 ∷ []) d0 d1 d2 d3 d4 d5 d6 d7 d8 d9 d10 l m e0 e1 e2 e3 e4 e5 e6 e7 e8 e9 e10 = absurd (omega (arith, l))
-listed (w0 ∷ w1 ∷ w2 ∷ w3 ∷ w4 ∷ w5 ∷ w6 ∷ w7 ∷ w8 ∷ w9 ∷ []) d0 d1 d2 d3 d4 d5 d6 d7 d8 d9 d10 l m e0 e1 e2 e3 e4 e5 e6 e7 e8 e9 e10 = absurd (omega (arith, l))
-listed (w0 ∷ w1 ∷ w2 ∷ w3 ∷ w4 ∷ w5 ∷ w6 ∷ w7 ∷ w8 ∷ w9 ∷ w10 ∷ []) d0 d1 d2 d3 d4 d5 d6 d7 d8 d9 d10 l m e0 e1 e2 e3 e4 e5 e6 e7 e8 e9 e10 =
+listed (w0 ∷ w1 ∷ w2 ∷ w3 ∷ w4 ∷ w5 ∷ []) d0 d1 d2 d3 d4 d5 d6 d7 d8 d9 d10 l m e0 e1 e2 e3 e4 e5 e6 e7 e8 e9 e10 = absurd
+    (omega (arith, l))
+listed (w0 ∷ w1 ∷ w2 ∷ w3 ∷ w4 ∷ w5 ∷ w6 ∷ []) d0 d1 d2 d3 d4 d5 d6 d7 d8 d9 d10 l m e0 e1 e2 e3 e4 e5 e6 e7 e8 e9 e10 = absurd
+    (omega (arith, l))
+listed (w0 ∷ w1 ∷ w2 ∷ w3 ∷ w4 ∷ w5 ∷ w6 ∷ w7 ∷ []) d0 d1 d2 d3 d4 d5 d6 d7 d8 d9 d10 l m e0 e1 e2 e3 e4 e5 e6 e7 e8 e9 e10 = absurd
+    (omega (arith, l))
+listed (w0 ∷ w1 ∷ w2 ∷ w3 ∷ w4 ∷ w5 ∷ w6 ∷ w7 ∷ w8 ∷ []) d0 d1 d2 d3 d4 d5 d6 d7 d8 d9 d10 l m e0 e1 e2 e3 e4 e5 e6 e7 e8 e9 e10 = absurd
+    (omega (arith, l))
+listed (w0 ∷ w1 ∷ w2 ∷ w3 ∷ w4 ∷ w5 ∷ w6 ∷ w7 ∷ w8 ∷ w9 ∷ []) d0 d1 d2 d3 d4 d5 d6 d7 d8 d9 d10 l m e0 e1 e2 e3 e4 e5 e6 e7 e8 e9 e10 =
+    absurd (omega (arith, l))
+listed (w0 ∷ w1 ∷ w2 ∷ w3 ∷ w4 ∷ w5 ∷ w6 ∷ w7 ∷ w8 ∷ w9 ∷ w10 ∷ []) d0 d1 d2 d3 d4 d5 d6 d7 d8 d9 d10 l m e0 e1 e2 e3 e4 e5 e6 e7 e8 e9
+    e10 =
     λ k. sym e0 k ∷ sym e1 k ∷ sym e2 k ∷ sym e3 k ∷ sym e4 k ∷ sym e5 k ∷ sym e6 k ∷ sym e7 k ∷ sym e8 k ∷ sym e9 k ∷ sym e10 k ∷ []
-listed (w0 ∷ w1 ∷ w2 ∷ w3 ∷ w4 ∷ w5 ∷ w6 ∷ w7 ∷ w8 ∷ w9 ∷ w10 ∷ w11 ∷ ws) d0 d1 d2 d3 d4 d5 d6 d7 d8 d9 d10 l m e0 e1 e2 e3 e4 e5 e6 e7 e8 e9 e10 = absurd (omega (arith, m))
+listed (w0 ∷ w1 ∷ w2 ∷ w3 ∷ w4 ∷ w5 ∷ w6 ∷ w7 ∷ w8 ∷ w9 ∷ w10 ∷ w11 ∷ ws) d0 d1 d2 d3 d4 d5 d6 d7 d8 d9 d10 l m e0 e1 e2 e3 e4 e5 e6 e7 e8
+    e9 e10 = absurd (omega (arith, m))

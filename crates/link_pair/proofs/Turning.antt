@@ -32,7 +32,8 @@ use Rattle.line_world.specs.declared.step.RunFault.{RunFault}
 use Rattle.line_world.specs.declared.step.RunFault.TheVariants as faults
 use Rattle.link_pair.specs.declared.two_links.Pair.{Pair}
 use Rattle.link_pair.specs.declared.two_links.Endings.{Endings}
-use Rattle.link_pair.specs.Half.{run_end, last_turn, left_by, HoldLeft, Follows, HasCome, IsEndedByLine, LinkStops, LinkStopsReading, IsStopped}
+use Rattle.link_pair.specs.Half.{run_end, last_turn, left_by, HoldLeft, Follows, HasCome, IsEndedByLine, LinkStops, LinkStopsReading}
+use Rattle.link_pair.specs.Half.{IsStopped}
 use Rattle.link_pair.specs.Half.{HalfEnds, HalfAt, HalfAnswers}
 use Rattle.link_pair.specs.Pair.{both_ended, streams_at, Awaits, HaveEnded, last_round, EndedIn, StopsIn, FaultEndsIn, Comes}
 use Rattle.link_pair.proofs.Beside.{AllApart, first-beside, second-beside, known-beside, held-beside}
@@ -188,7 +189,8 @@ ends-first laws x h l old new n m a endings around some answers = (
         (ended-before (second_wire x.script (turns_in a.p)) a.others x.round a.q a.at.second second-over)
 
     first-turn : last_turn endings.first ≡ length o.ts
-    first-turn = last-turn-is (first_wire x.script (turns_in a.q)) (link_of x.script k.others) (suc x.round) k.next o.ts o.ends endings.first
+    first-turn = last-turn-is (first_wire x.script (turns_in a.q)) (link_of x.script k.others) (suc x.round) k.next o.ts o.ends
+        endings.first
         o.left o.first_is k.lasts
 
     second-turn : last_turn endings.second ≡ length o.us
@@ -434,7 +436,8 @@ fault-first laws x h l old new n m a fault around answers =
 
 pub fault-second : PairLaws
     → (x : Pair) (h : Half) (l : Lines) (old new : FolderState) (n m : Written) (a : Awaits x old n m Second) (fault : RunFault)
-    → Leaves old new n m m → Answers x.second x.lines x.script old new m x.round h l (Err fault) → FaultEndsIn x.script new n m x.round fault
+    → Leaves old new n m m → Answers x.second x.lines x.script old new m x.round h l (Err fault)
+    → FaultEndsIn x.script new n m x.round fault
 fault-second laws x h l old new n m a fault around answers =
     go fault (answers (after_first (turns_in a.p)) 2 (streams_at Second x.round a.p a.q) a.others a.q (second-at laws x old n m a))
   where

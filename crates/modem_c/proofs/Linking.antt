@@ -1,5 +1,6 @@
 -- What the calls of an end of the link answer.
-use Rattle.std.proofs.Common.{◌≡◌, ℕ, ◌≤◌, ◌⊎◌, inl, inr, ℤ, to_z, of_z, w32, Bool, List, length, drop, Option, Some, None, Result, Ok, Err, sym, ap, subst, arith, length-append}
+use Rattle.std.proofs.Common.{◌≡◌, ℕ, ◌≤◌, ◌⊎◌, inl, inr, ℤ, to_z, of_z, w32, Bool, List, length, drop, Option, Some, None, Result, Ok, Err}
+use Rattle.std.proofs.Common.{sym, ap, subst, arith, length-append}
 use Rattle.std.specs.Prelude.{IsSomeAnd}
 use Rattle.link_account.specs.declared.setup.Setup.{Setup}
 use Rattle.lapm_frames.specs.declared.seen.Seen.TheVariants as seen
@@ -41,7 +42,8 @@ pub delivered-within : (old new : Endpoint) (before after : List ℕ) (count : �
 delivered-within old new before after count code (inl next) = go next.segment next.written
   where
     go : (segment : Option (List ℕ)) → DeliveredAs segment before after count code → count ≤ length after
-    go (Some segment) h = subst (λ (v : List ℕ). count ≤ length v) (sym h.2) (subst (λ (n : ℕ). n ≤ length (room_with segment before)) (sym h.1) (within-room segment before))
+    go (Some segment) h = subst (λ (v : List ℕ). count ≤ length v) (sym h.2)
+        (subst (λ (n : ℕ). n ≤ length (room_with segment before)) (sym h.1) (within-room segment before))
     go None h = let none : count ≡ 0 = h.1 in omega (arith, none)
 delivered-within old new before after count code (inr full) = let none : count ≡ 0 = full.3 in omega (arith, none)
 

@@ -2,7 +2,8 @@
 use Rattle.std.proofs.Common.{Option, Some, None, IsSomeAnd}
 use Rattle.gateway.specs.SignalLaws as gateway
 use Rattle.modem_c.specs.Led.{decoder_in, encoder_in}
-use Rattle.modem_c.specs.SignalLaws.{SentBitsComeBack, SentBitsComeSoon, AllBitsComeBack, MiddleBitsComeBack, SureBitsAreGiven, QuarterBitsComeBack, AllQuarterBitsComeBack}
+use Rattle.modem_c.specs.SignalLaws.{SentBitsComeBack, SentBitsComeSoon, AllBitsComeBack, MiddleBitsComeBack, SureBitsAreGiven}
+use Rattle.modem_c.specs.SignalLaws.{QuarterBitsComeBack, AllQuarterBitsComeBack}
 
 of-it : {A R : Type 0} {P : A → Type 0} (o : Option A) → IsSomeAnd o P → ((a : A) → P a → R) → R
 of-it None h f = absurd h

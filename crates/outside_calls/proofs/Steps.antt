@@ -1,7 +1,8 @@
 -- What follows from several calls of a folder in a row.
 use Rattle.std.specs.Prelude.{◌≡◌, ℕ, ◌≤◌, IsTrue, List, [], ◌++◌, Some, unwrap_or, refl}
 use Rattle.std.proofs.Common.{sym, ◌∙◌, ap, subst, arith, append-nil, inl, inr}
-use Rattle.outside_calls.specs.Folder.{FolderState, held_at, octets_at, GoesOn, KeepsName, OnlyReads, Adds, Appended, PartlyAppended, FaultsStand, CountsStand, Rose}
+use Rattle.outside_calls.specs.Folder.{FolderState, held_at, octets_at, GoesOn, KeepsName, OnlyReads, Adds, Appended, PartlyAppended}
+use Rattle.outside_calls.specs.Folder.{FaultsStand, CountsStand, Rose}
 
 -- nothing happened
 pub GoesOn-refl : (a : FolderState) → GoesOn a a

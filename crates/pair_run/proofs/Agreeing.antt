@@ -1,5 +1,6 @@
 -- A link's turns depend on what went beside them by then, and on nothing that goes there later.
-use Rattle.std.proofs.Common.{◌≡◌, ℕ, zero, suc, ◌+◌, ◌-◌, ◌<◌, ◌≤◌, Bool, true, false, cond, nat_eq, List, [], ◌∷◌, ◌++◌, length, drop, arith}
+use Rattle.std.proofs.Common.{◌≡◌, ℕ, zero, suc, ◌+◌, ◌-◌, ◌<◌, ◌≤◌, Bool, true, false, cond, nat_eq, List, [], ◌∷◌, ◌++◌, length, drop}
+use Rattle.std.proofs.Common.{arith}
 use Rattle.std.proofs.Common.{refl, sym, ◌∙◌, ap, subst, Option, Some, None}
 use Rattle.std.proofs.lemmas.Bool.Decides.{nat_tests}
 use Rattle.std.proofs.lemmas.List.{length-drop}
@@ -133,7 +134,8 @@ pub length-lasting : (n : ℕ) (ts : List Turn) → length (lasting n ts) ≡ n 
 length-lasting zero ts = omega arith
 length-lasting (suc n) ts = omega (arith, length-lasting n ts)
 
-same-idly : (script : ScriptValue) (dlci : ℕ) (b d : Beside) → ((role : Role) → 1 ≤ delay_of script role) → (ts : List Turn) (ends : Accounts)
+same-idly : (script : ScriptValue) (dlci : ℕ) (b d : Beside) → ((role : Role) → 1 ≤ delay_of script role)
+    → (ts : List Turn) (ends : Accounts)
     → SameBelow (length ts) b d → HearsIdly (wire_at script dlci b) ts ends → HearsIdly (wire_at script dlci d) ts ends
 same-idly script dlci b d delays ts ends s h role = record {
   heard = (h role).heard;
@@ -154,7 +156,10 @@ same-idles script dlci b d delays ends (suc n) ts s h = (
 pub same-lasts : (script : ScriptValue) (dlci : ℕ) (b d : Beside) → ((role : Role) → 1 ≤ delay_of script role) → (link : Link) (rounds : ℕ)
     (p : Progress) → SameBelow rounds b d → Lasts (wire_at script dlci b) link rounds p → Lasts (wire_at script dlci d) link rounds p
 same-lasts script dlci b d delays link rounds (Goes ts ends) s h =
-    record { run = same-run script dlci b d delays link ts ends (fewer (length ts) rounds b d (omega (arith, h.count)) s) h.run; count = h.count }
+    record {
+      run = same-run script dlci b d delays link ts ends (fewer (length ts) rounds b d (omega (arith, h.count)) s) h.run;
+      count = h.count;
+    }
 same-lasts script dlci b d delays link rounds (Ended ts ends end left) s h =
     let few : length h.ran.turns ≤ rounds = omega (arith, ap length h.turns_are, h.before) in
     let near : SameBelow (length h.ran.turns) b d = fewer (length h.ran.turns) rounds b d few s in

@@ -141,7 +141,8 @@ pub next-of : NextLaws → (script : ScriptValue) (files : Both (List ℕ)) (dlc
     → IsInLimits script → ((role : Role) → 1 ≤ delay_of script role) → AllFitting (bits_in script) dlci (turns_in p)
     → BesideFits (bits_in script) beside
     → Lasts (wire_at script dlci beside) (link_of script files) rounds p → NextOf script dlci beside (link_of script files) rounds p
-next-of laws script files dlci beside rounds (Goes ts ends) h delays fits b l = go (turn-decided laws script dlci beside ts ends delays fits b)
+next-of laws script files dlci beside rounds (Goes ts ends) h delays fits b l = go
+    (turn-decided laws script dlci beside ts ends delays fits b)
   where
     go : ((end : LineEnd) × EndsLine (wire_at script dlci beside) ts ends end) ⊎ HearsIdly (wire_at script dlci beside) ts ends
         → NextOf script dlci beside (link_of script files) rounds (Goes ts ends)

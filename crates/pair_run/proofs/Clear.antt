@@ -106,7 +106,8 @@ heard-behind laws script dlci beside sender earlier t hearing slot heard d is ag
     let signal : Signal = signal_of slot.check sender dlci slot.sent in
     let recorded : Records script sender (signal_bits (bits_in script) (before ++ signal ∷ [])) a.samples
     = subst (λ l. Records script sender (signal_bits (bits_in script) l) a.samples) s.signal_is a.recorded in
-    let same = laws.received script slot.check hearing sender dlci (symbols_of script) before slot.sent a.before a.samples a.octets a.patterns
+    let same = laws.received script slot.check hearing sender dlci (symbols_of script) before slot.sent a.before a.samples a.octets
+    a.patterns
     (d sender (symbols_of script * (length before + 1))) (long script) s.fits is agree a.recorded_before recorded a.received in
     let lose : Bool = loses script sender (length earlier) in
     laws.one lose sender dlci slot.sent (octets_in sender dlci slot.sent) (patterns_in slot.sent) heard (unhindered lose slot.sent)

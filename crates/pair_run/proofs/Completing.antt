@@ -27,5 +27,6 @@ unstarved-pairs-are-done law script files others a b left leaves h e f g =
 pub quiet-pairs-are-done : FaintPairsAreIsolated → CompletesQuiet → QuietPairsAreDone
 quiet-pairs-are-done law quiet script files others end left leaves h q o oo r =
     let i = law script files others end left leaves h q.faint o oo r in
-    let d = both-so i.first i.second (quiet script files i.first left h q o i.first_runs) (quiet script others i.second leaves h q oo i.second_runs)
+    let d = both-so i.first i.second (quiet script files i.first left h q o i.first_runs)
+    (quiet script others i.second leaves h q oo i.second_runs)
     in (d.0, d.1, i.end_is ∙ d.2)

@@ -29,7 +29,8 @@ use Rattle.line_run.specs.Sampled.{HeardIn, IsHeardOf, LineRun}
 use Rattle.line_run.specs.Scripted.{wire_of, link_of}
 use Rattle.line_run.specs.Ends.{IsDone, Left, OneResult}
 use Rattle.line_ends.specs.Completes.{ScriptRunsTo, DisplacesNone, DisplacesNoneIsFaint, AreOfOctets}
-use Rattle.pair_run.specs.Made.{Way, Next, Goes, Ends_run, Stops, Made, IsMade, EndsAs, turn_with, both_said, crossing, speaking, hearing, next}
+use Rattle.pair_run.specs.Made.{Way, Next, Goes, Ends_run, Stops, Made, IsMade, EndsAs, turn_with, both_said, crossing, speaking, hearing}
+use Rattle.pair_run.specs.Made.{next}
 use Rattle.pair_run.specs.Made.{heard_by, made, runs, with_last, all_turns}
 use Rattle.pair_run.specs.Ends.{BothDone, end_of, PairRunsTo}
 use Rattle.xid_params.specs.Offers.{IsAllowed}
@@ -38,7 +39,8 @@ use Rattle.pair_run.proofs.Fitting.{none-beside}
 use Rattle.pair_run.proofs.Clear.{bits_in, due, due_of, due-heard, due-well}
 use Rattle.pair_run.proofs.Isolating.{IsolationLaws, MaySend, clear-on, agrees-on}
 use Rattle.line_run.proofs.WhatIsLeft.{left_of, leaves-so}
-use Rattle.pair_run.specs.Rows.{plain_offer, no_lines, one_octet_each, fifteen_segments, way_of, first_made, second_made, EndsSo, PairEndsSo}
+use Rattle.pair_run.specs.Rows.{plain_offer, no_lines, one_octet_each, fifteen_segments, way_of, first_made, second_made, EndsSo}
+use Rattle.pair_run.specs.Rows.{PairEndsSo}
 use Rattle.pair_run.specs.Rows.{RowsHold}
 
 -- what crosses a way is what is to be heard
@@ -107,7 +109,8 @@ abbrev LastDue : ScriptValue → List Turn → Option Turn → Type 0
 LastDue script ts None = Unit {0}
 LastDue script ts (Some t) = TurnDue script ts t
 
-made-due : (count : ℕ) (link : Link) (script : ScriptValue) (ts : List Turn) (ends : Accounts) (n : Next) → AllDue script ts → NextDue script ts n
+made-due : (count : ℕ) (link : Link) (script : ScriptValue) (ts : List Turn) (ends : Accounts) (n : Next) → AllDue script ts
+    → NextDue script ts n
     → AllDue script (made count link (way_of script) ts ends n).turns
     × LastDue script (made count link (way_of script) ts ends n).turns (made count link (way_of script) ts ends n).last
 made-due zero link script ts ends n h k = (h, tt)
@@ -118,7 +121,8 @@ made-due (suc count) link script ts ends Stops h k = (h, tt)
 
 -- so it is heard on the line of samples
 due-in : IsolationLaws → (script : ScriptValue) (files : Both (List ℕ)) → MaySend script files → (ts : List Turn) (ends : Accounts)
-    → LineRun (wire_of script) (link_of script files) ts ends → (t : Turn) (mid : Accounts) → Hears (length ts) ends t mid → TurnDue script ts t
+    → LineRun (wire_of script) (link_of script files) ts ends → (t : Turn) (mid : Accounts) → Hears (length ts) ends t mid
+    → TurnDue script ts t
     → HeardIn (wire_of script) ts t
 due-in laws script files m ts ends r t mid h k role = record {
   heard_of = subst (IsHeardOf (wire_of script) (other role) ts (of role t).check) (sym (k role))
@@ -264,7 +268,8 @@ both-so laws files others o oo f g m n first second a b x y =
   where
     is-made : (these : Both (List ℕ)) (made : Made) → made ≡ runs 100 (link_of no_lines these) (way_of no_lines)
         → IsMade (link_of no_lines these) (way_of no_lines) made
-    is-made these made e = subst (IsMade (link_of no_lines these) (way_of no_lines)) (sym e) (laws.computed 100 (link_of no_lines these) (way_of no_lines))
+    is-made these made e = subst (IsMade (link_of no_lines these) (way_of no_lines)) (sym e)
+        (laws.computed 100 (link_of no_lines these) (way_of no_lines))
 
     is-due : (these : Both (List ℕ)) (made : Made) → made ≡ runs 100 (link_of no_lines these) (way_of no_lines)
         → AllDue no_lines made.turns × LastDue no_lines made.turns made.last

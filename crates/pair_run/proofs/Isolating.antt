@@ -46,7 +46,8 @@ pub record MaySend (script : ScriptValue) (files : Both (List ℕ)) : Type 0 whe
   pub faint : IsFaint script
   pub octets : AreOfOctets script files
 
-pub fitting-on : IsolationLaws → (script : ScriptValue) (files : Both (List ℕ)) (dlci : ℕ) (beside : Beside) (ts : List Turn) (ends : Accounts)
+pub fitting-on : IsolationLaws → (script : ScriptValue) (files : Both (List ℕ)) (dlci : ℕ) (beside : Beside) (ts : List Turn)
+    (ends : Accounts)
     → IsInLimits script → AreOfOctets script files → LineRun (wire_at script dlci beside) (link_of script files) ts ends → (at : ℕ)
     → at < 64 → AllFitting (bits_in script) at ts
 fitting-on laws script files dlci beside ts ends h o r at low =
@@ -54,7 +55,8 @@ fitting-on laws script files dlci beside ts ends h o r at low =
     (laws.octets (wire_at script dlci beside) files ts ends h o r) at low
 
 -- a run's line is clear on any channel, beside whatever fits
-pub clear-on : IsolationLaws → (script : ScriptValue) (files : Both (List ℕ)) (dlci : ℕ) (beside : Beside) (ts : List Turn) (ends : Accounts)
+pub clear-on : IsolationLaws → (script : ScriptValue) (files : Both (List ℕ)) (dlci : ℕ) (beside : Beside) (ts : List Turn)
+    (ends : Accounts)
     → MaySend script files → LineRun (wire_at script dlci beside) (link_of script files) ts ends
     → (at : ℕ) (near : Beside) → at < 64 → BesideFits (bits_in script) near → IsClear script at near ts
 clear-on laws script files dlci beside ts ends m r at near low b = record {
@@ -66,7 +68,8 @@ clear-on laws script files dlci beside ts ends m r at near low b = record {
 }
 
 -- and both ends judge by the right check
-pub agrees-on : IsolationLaws → (script : ScriptValue) (files : Both (List ℕ)) (dlci : ℕ) (beside : Beside) (ts : List Turn) (ends : Accounts)
+pub agrees-on : IsolationLaws → (script : ScriptValue) (files : Both (List ℕ)) (dlci : ℕ) (beside : Beside) (ts : List Turn)
+    (ends : Accounts)
     → IsInLimits script → LineRun (wire_at script dlci beside) (link_of script files) ts ends → (role : Role)
     → Agrees script (other role) ts (check_of (of role ends))
 agrees-on laws script files dlci beside ts ends h r role = λ slot e.

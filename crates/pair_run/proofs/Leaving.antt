@@ -20,10 +20,12 @@ use Rattle.line_ends.specs.Causes.{LostLinksWereStarved}
 use Rattle.pair_run.specs.Beside.{first_dlci, second_dlci, after_second, after_first, first_wire, second_wire}
 use Rattle.line_run.specs.Scripted.{wire_at}
 use Rattle.pair_run.specs.Pair.{Progress, Goes, Ended, turns_in, Lasts}
-use Rattle.pair_run.specs.Ends.{Which, First, Second, PairEnd, BothDone, end_of, line_end, is_going, LeavesOf, BothEnd, LineEnds, PairRunsTo}
+use Rattle.pair_run.specs.Ends.{Which, First, Second, PairEnd, BothDone, end_of, line_end, is_going, LeavesOf, BothEnd, LineEnds}
+use Rattle.pair_run.specs.Ends.{PairRunsTo}
 use Rattle.pair_run.specs.Ends.{by_links, by_line}
 use Rattle.pair_run.specs.Ends as pairs
-use Rattle.pair_run.specs.Laws.{ArePrefixes, PairsLeavePrefixes, AreWhole, DonePairsAreWhole, PairedLinksWereStarved, IsRunOver, PairedLinksRun}
+use Rattle.pair_run.specs.Laws.{ArePrefixes, PairsLeavePrefixes, AreWhole, DonePairsAreWhole, PairedLinksWereStarved, IsRunOver}
+use Rattle.pair_run.specs.Laws.{PairedLinksRun}
 use Rattle.pair_run.specs.Laws.{AreFewRounds, AreShort, PairsHaveFewRounds}
 use Rattle.pair_run.proofs.Clear.{Beside}
 

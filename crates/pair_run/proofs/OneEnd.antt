@@ -113,7 +113,12 @@ both-stop script files others p q a = go (cases_lt n m)
 
     go : (n < m) ⊎ (m ≤ n) → BothStop script files others p q
     go (inl l) = record { link = Second; round = m; at = at (suc m) m (omega (arith, l)) (omega (arith, l)); count = omega (arith, l) }
-    go (inr l) = record { link = First; round = suc n; at = at (suc n) (suc n) (omega (arith, l)) (omega (arith, l)); count = omega (arith, l) }
+    go (inr l) = record {
+      link = First;
+      round = suc n;
+      at = at (suc n) (suc n) (omega (arith, l)) (omega (arith, l));
+      count = omega (arith, l);
+    }
 
 -- the parts of an ended link
 abbrev end-in : Progress → RunEnd
@@ -205,7 +210,8 @@ one-pair-result laws script files others a b left other leaves more h r s = go r
         there f.at in
         absurd (going-not (is_going f.p) (is_going f.q) (ap is_going (sym one.0)) (ap is_going (sym one.1)) f.going)
     go (by_line link round cause f g) (by_line way turn reason k l) =
-        let place = one-place laws.same script files others delays link way round turn f.p f.q k.p k.q f.at (On_line cause f.is f.going) k.at
+        let place = one-place laws.same script files others delays link way round turn f.p f.q k.p k.q f.at (On_line cause f.is f.going)
+        k.at
         (On_line reason k.is k.going) in
         let there : LineEnds script files others way turn cause left leaves =
         same-place (λ l n. LineEnds script files others l n cause left leaves) link way round turn place f in

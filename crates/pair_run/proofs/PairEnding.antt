@@ -129,7 +129,8 @@ second-turn laws script files others v round p q a g on =
     beside = first-beside (bits_in script) (turns_in p)
         (fitting laws script files first_dlci (after_second (turns_in q)) (suc round) p v.limits v.octets a.first 0 (omega arith))
 
-    near : (next : Progress) → ((at : ℕ) (role : Role) (r : ℕ) → r < round → slot_in at role (turns_in q) r ≡ slot_in at role (turns_in next) r)
+    near : (next : Progress) → ((at : ℕ) (role : Role) (r : ℕ) → r < round
+        → slot_in at role (turns_in q) r ≡ slot_in at role (turns_in next) r)
         → (role : Role) (r : ℕ) → r < suc round → after_second (turns_in q) role r ≡ after_second (turns_in next) role r
     near next same role zero l = refl
     near next same role (suc r) l = ap Some (same second_dlci role r (omega (arith, l)))
@@ -210,7 +211,8 @@ ends-within laws script files others v zero round p q a g l = absurd (go (either
     go (inl e) = omega (arith, l, ((laws.few script files others round round p q v.limits v.short v.shorts a).0 e).below)
     go (inr e) = omega (arith, l, ((laws.few script files others round round p q v.limits v.short v.shorts a).1 e.1).below)
 ends-within laws script files others v (suc n) round p q a g l =
-    first-turn laws script files others v round p q a g (λ r s b h. ends-within laws script files others v n (suc round) r s b h (omega (arith, l)))
+    first-turn laws script files others v round p q a g
+    (λ r s b h. ends-within laws script files others v n (suc round) r s b h (omega (arith, l)))
 
 pub each-pair-ends : EndLaws → EachPairEnds
 each-pair-ends laws script files others h short shorts o oo =

@@ -121,7 +121,8 @@ pub second-slots-are-due : SecondSlotsAreDue
 second-slots-are-due script files others round p q a role some =
     due-beside script second_dlci (after_first (turns_on_line (suc round) p)) (after_first (turns_in p)) role (turns_on_line round q)
     (first_sent role (turns_on_line (suc round) p) (turns_on_line round q)) (2 * delay_of script role) (first-same (suc round) p)
-    (go (turns_on_line (suc round) p) (length-on-line script first_dlci (after_second (turns_in q)) (link_of script files) (suc round) p a.first)
+    (go (turns_on_line (suc round) p)
+    (length-on-line script first_dlci (after_second (turns_in q)) (link_of script files) (suc round) p a.first)
     (sent-on-line script first_dlci (after_second (turns_in q)) (link_of script files) (suc round) (suc round) p a.first role))
   where
     us : List Turn

@@ -46,7 +46,8 @@ same-heard laws c ts ends t u mid later h k p q =
         (subst (λ z. IsHeardOf c (other role) ts z (of role u).heard) (k role).check_is (q role).heard_of)
 
 -- one turn is made behind these, with one outcome
-same-turn : (laws : SameLaws) (c : Wire) (link : Link) (ts : List Turn) (ends : Accounts) (t u : Turn) (mid later : Accounts) (a b : Outcome)
+same-turn : (laws : SameLaws) (c : Wire) (link : Link) (ts : List Turn) (ends : Accounts) (t u : Turn) (mid later : Accounts)
+    (a b : Outcome)
     → TurnIs link ts ends t mid a → TurnIs link ts ends u later b → HeardIn c ts t → HeardIn c ts u
     → (t ≡ u) × (mid ≡ later) × (a ≡ b)
 same-turn laws c link ts ends t u mid later a b h k p q =
@@ -143,12 +144,14 @@ ended-once laws c link ts us ends others a b left leaves e f = go (compare (leng
         let there : LastTurnIs c link us f.before ends a left =
         subst (λ vs. LastTurnIs c link vs f.before ends a left) same.0
         (subst (λ z. LastTurnIs c link ts z ends a left) same.1 e.last) in
-        let s = same-turn laws c link us f.before there.last f.last.last ends others there.outcome f.last.outcome there.is f.last.is there.heard
+        let s = same-turn laws c link us f.before there.last f.last.last ends others there.outcome f.last.outcome there.is f.last.is
+        there.heard
         f.last.heard in
         let end-is : a ≡ b = sym there.named_is ∙ ap (named (length us)) s.2 ∙ f.last.named_is in
         let left-same : left ≡ leaves =
         left-is ends (trace_text (there.last ∷ us)) left there.leaves ∙ ap (λ t. left_of ends (trace_text (t ∷ us))) s.0
-        ∙ ap (λ z. left_of z (trace_text (f.last.last ∷ us))) s.1 ∙ sym (left-is others (trace_text (f.last.last ∷ us)) leaves f.last.leaves) in
+        ∙ ap (λ z. left_of z (trace_text (f.last.last ∷ us))) s.1
+        ∙ sym (left-is others (trace_text (f.last.last ∷ us)) leaves f.last.leaves) in
         ap (λ vs. Ended vs ends a left) same.0 ∙ ap (λ z. Ended us z a left) s.1 ∙ ap (λ z. Ended us others z left) end-is
         ∙ ap (Ended us others b) left-same
 

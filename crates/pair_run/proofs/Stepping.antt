@@ -22,11 +22,13 @@ use Rattle.pair_run.proofs.Agreeing.{same-lasts, slot-stays}
 pub record Before (script : ScriptValue) (dlci : ℕ) (beside : Beside) (link : Link) (rounds : ℕ) (p : Progress) : Type 0 where
   pub earlier : Progress
   pub lasts : Lasts (wire_at script dlci beside) link rounds earlier
-  pub same : (at : ℕ) (role : Role) (round : ℕ) → round < rounds → slot_in at role (turns_in p) round ≡ slot_in at role (turns_in earlier) round
+  pub same : (at : ℕ) (role : Role) (round : ℕ) → round < rounds
+      → slot_in at role (turns_in p) round ≡ slot_in at role (turns_in earlier) round
   pub well : HearsIdly (wire_at script dlci beside) (turns_on_line rounds earlier) (ends_in earlier)
   pub stays : is_going earlier ≡ false → p ≡ earlier
 
-before-ended : (script : ScriptValue) (dlci : ℕ) (beside : Beside) (link : Link) (rounds : ℕ) (ts : List Turn) (ends : Accounts) (end : RunEnd)
+before-ended : (script : ScriptValue) (dlci : ℕ) (beside : Beside) (link : Link) (rounds : ℕ) (ts : List Turn) (ends : Accounts)
+    (end : RunEnd)
     (left : Left) → Lasts (wire_at script dlci beside) link (suc rounds) (Ended ts ends end left)
     → (rounds ≡ length ts) ⊎ (length ts < rounds) → Before script dlci beside link rounds (Ended ts ends end left)
 before-ended script dlci beside link rounds ts ends end left h (inl e) =
@@ -114,7 +116,8 @@ before-second script files others delays rounds p q a =
     e : Before script second_dlci (after_first (turns_in p)) (link_of script others) rounds q
     e = before-of script second_dlci (after_first (turns_in p)) (link_of script others) rounds q a.second
 
-    beside : (role : Role) (round : ℕ) → round < suc rounds → after_second (turns_in q) role round ≡ after_second (turns_in e.earlier) role round
+    beside : (role : Role) (round : ℕ) → round < suc rounds
+        → after_second (turns_in q) role round ≡ after_second (turns_in e.earlier) role round
     beside role zero l = refl
     beside role (suc round) l = ap Some (e.same second_dlci role round (omega (arith, l)))
 

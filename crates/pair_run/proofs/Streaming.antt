@@ -1,6 +1,7 @@
 -- The slots of both links in one stream are those that each link's channel has.
 use Rattle.std.proofs.Common.{◌≡◌, ℕ, zero, suc, ◌+◌, ◌-◌, ◌*◌, ◌<◌, ◌≤◌, Bool, true, false, cond, nat_eq, List, [], ◌∷◌, ◌++◌}
-use Rattle.std.proofs.Common.{length, map, take, drop, arith, length-append, refl, sym, ◌∙◌, ap, subst, Option, Some, None, append-nil, append_assoc}
+use Rattle.std.proofs.Common.{length, map, take, drop, arith, length-append, refl, sym, ◌∙◌, ap, subst, Option, Some, None, append-nil}
+use Rattle.std.proofs.Common.{append_assoc}
 use Rattle.std.specs.Prelude.{is_some}
 use Rattle.std.proofs.lemmas.Bool.{false≢true}
 use Rattle.std.proofs.lemmas.Bool.Decides.{nat_tests}
@@ -268,7 +269,8 @@ second-due script role t ts us some h k e = record {
         let place : length stream - 2 * d ≡ length front = omega (arith, count, front-count, length-drop d ts, l, some, e) in
         let q = cut-at stream front x tail (length stream - 2 * d) cut place in
         let behind : drop (d - 1) ts ≡ b.turn ∷ drop d ts = b.behind ∙ ap (λ n. b.turn ∷ drop n ts) up in
-        let newer : slot_in first_dlci role (b.turn ∷ drop d ts) (length (drop d us)) ≡ signal_or_flags first_dlci role (of role b.turn).sent =
+        let newer : slot_in first_dlci role (b.turn ∷ drop d ts) (length (drop d us)) ≡ signal_or_flags first_dlci role
+        (of role b.turn).sent =
         newest first_dlci role b.turn (drop d ts) (length (drop d us)) (sym few) in
         let same-slots : (r : Role) (round : ℕ) → round < suc (length (drop d us))
         → after_first (b.turn ∷ drop d ts) r round ≡ after_first (t ∷ ts) r round =

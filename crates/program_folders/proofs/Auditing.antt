@@ -10,7 +10,8 @@ use Rattle.std.specs.Cmp.Lexicographic.{slice_cmp, nat_list_cmp_total}
 use Rattle.std.specs.declared.cmp.Ordering.{Ordering}
 use Rattle.std.specs.declared.cmp.Ordering.TheVariants.{Less, Equal, Greater}
 use Rattle.std.proofs.lemmas.Slice.Eq.{bytes_eq-Decides}
-use Rattle.outside_calls.specs.Folder.{Files, FolderState, held_at, octets_at, raised, Rose, CountsStand, KeepsName, OnlyReads, OnlyWrites, HasCause}
+use Rattle.outside_calls.specs.Folder.{Files, FolderState, held_at, octets_at, raised, Rose, CountsStand, KeepsName, OnlyReads, OnlyWrites}
+use Rattle.outside_calls.specs.Folder.{HasCause}
 use Rattle.plain_lists.specs.Octets.{AreOctets}
 use Rattle.outside_calls.specs.Folder.{ReadsFront, TellsOctets, Appended, Created}
 use Rattle.outside_calls.specs.declared.folder.FolderFault.{FolderFault}
@@ -80,15 +81,18 @@ module _ (n : Swallowed) where
       let o : octets_at (audit_state i n text r) name ≡ text =
       ap (λ (q : List ℕ). octets_at (audit_state i n text r) q) (same-name name n.trace e)
       ∙ ap (λ o. unwrap_or o []) (at-name i.held n.trace text) in
-      subst (λ (t : List ℕ). (count ≡ min (length before) (length (drop at t))) × (after ≡ take count (drop at t) ++ drop count before)) (sym o)
+      subst (λ (t : List ℕ). (count ≡ min (length before) (length (drop at t))) × (after ≡ take count (drop at t) ++ drop count before))
+      (sym o)
       (c ∙ ap (λ k. min (length before) k) (sym (length-drop at text)), f)
 
   pub reads-on : (i : FolderState) (text : List ℕ) (r : ℕ) (name : List ℕ) (at : ℕ) (before after : List ℕ) (count : ℕ)
-      → bytes_eq name n.trace ≡ false → ReadsFront i name at before after count → ReadsFront (audit_state i n text r) name at before after count
+      → bytes_eq name n.trace ≡ false → ReadsFront i name at before after count
+      → ReadsFront (audit_state i n text r) name at before after count
   reads-on i text r name at before after count e f t =
       let o : octets_at (audit_state i n text r) name ≡ octets_at i name =
       ap (λ o. unwrap_or o []) (at-other i.held n.trace text name (other-name name n.trace e)) in
-      subst (λ (t : List ℕ). (count ≡ min (length before) (length (drop at t))) × (after ≡ take count (drop at t) ++ drop count before)) (sym o)
+      subst (λ (t : List ℕ). (count ≡ min (length before) (length (drop at t))) × (after ≡ take count (drop at t) ++ drop count before))
+      (sym o)
       (f (told i name e t))
 
   -- what is told of a name stays, where the folder handed in keeps its names
@@ -204,7 +208,8 @@ module _ (n : Swallowed) where
       → bytes_eq name n.got_o ≡ true ⊎ bytes_eq name n.got_a ≡ true → Appended (audit_state i n text r) (audit_state i n text r) name piece
   swallows i text piece r name e s t = absurd (untold i name e s t)
 
-  pub reads-on-ok : (i : FolderState) (text : List ℕ) (r : ℕ) (name : List ℕ) (at : ℕ) (before after : List ℕ) (result : Result ℕ FolderFault)
+  pub reads-on-ok : (i : FolderState) (text : List ℕ) (r : ℕ) (name : List ℕ) (at : ℕ) (before after : List ℕ)
+      (result : Result ℕ FolderFault)
       → bytes_eq name n.trace ≡ false → IfOk result (ReadsFront i name at before after)
       → IfOk result (ReadsFront (audit_state i n text r) name at before after)
   reads-on-ok i text r name at before after (Ok count) e h = reads-on i text r name at before after count e h

@@ -14,7 +14,8 @@ abbrev lines : ℕ → ℕ → ℕ → ℕ
 lines x y = four_keys (above 3 x + above 1 y) (above 1 x + below 3 y + 8) (below 3 x + below 1 y + 16) (below 1 x + above 3 y + 24)
 
 abbrev pub products : ℕ → ℕ → ℕ → ℕ
-products x y = four_keys (4 * (262144 - (3 * x + y)) + 0) (4 * (262144 - (196608 + x - 3 * y)) + 1) (4 * (3 * x + y) + 2) (4 * (196608 + x - 3 * y) + 3)
+products x y = four_keys (4 * (262144 - (3 * x + y)) + 0) (4 * (262144 - (196608 + x - 3 * y)) + 1) (4 * (3 * x + y) + 2)
+    (4 * (196608 + x - 3 * y) + 3)
 
 by_lines : (x y : ℕ) → x < 65536 → y < 65536 → (i : ℕ) → i < 4 → IsKey x y i (lines x y i) (distance_of (point_of i) (sample_at x y))
 by_lines x y lx ly = each_of_four (λ i. IsKey x y i (lines x y i) (distance_of (point_of i) (sample_at x y)))

@@ -1,5 +1,6 @@
 -- The step of the one state.
-use Rattle.std.proofs.Common.{◌≡◌, ◌∙◌, ℕ, zero, suc, ◌+◌, ◌*◌, ◌%◌, ◌<◌, ◌≤◌, ◌^◌, List, [], ◌∷◌, length, slice_index, refl, arith, ap, sym, subst}
+use Rattle.std.proofs.Common.{◌≡◌, ◌∙◌, ℕ, zero, suc, ◌+◌, ◌*◌, ◌%◌, ◌<◌, ◌≤◌, ◌^◌, List, [], ◌∷◌, length, slice_index, refl, arith, ap}
+use Rattle.std.proofs.Common.{sym, subst}
 use Rattle.symbol_map.specs.declared.sample.Sample.{Sample}
 use Rattle.symbol_map.specs.Distance.{distance_of}
 use Rattle.exact_decoder.specs.Keys.{IsNearest, IsLeastWay}
@@ -40,7 +41,8 @@ advanced sample sums label long none h = record {
   settled = record {
     sums_long = long;
     column_long = refl;
-    levels = of_one (λ s. slice_index sums s ≡ leveled (slice_index (own ∷ []) s) own s) (none ∙ omega (arith, leveled-near own own 0 near));
+    levels = of_one (λ s. slice_index sums s ≡ leveled (slice_index (own ∷ []) s) own s)
+        (none ∙ omega (arith, leveled-near own own 0 near));
     choices = of_one (λ s. choice_at (choice_by 0 label ∷ []) s ≡ chosen (slice_index (own ∷ []) s) own)
         (ap (λ n. choice_by n label) (omega arith) ∙ ap (λ n. choice_by (own % 256) n) (omega (arith, h.within))
         ∙ sym (ap choice_in (settled-near own own near)));

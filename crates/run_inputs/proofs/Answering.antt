@@ -69,7 +69,8 @@ module _ (test : Status → Bool) (own : IsOfOwn test) where
   own-end (Err (stops.Say fault)) t k e = absurd (no-fault WriteFault fault t own.write e k)
   own-end (Err stops.NoMemory) t k e = absurd (passes-none own.memory e k)
 
-  pub stopped-so : {D : Type 0} (line_of : D → List ℕ) (words : List (List ℕ)) (before new : FolderState) (end : Result D Stop) (s t : Status)
+  pub stopped-so : {D : Type 0} (line_of : D → List ℕ) (words : List (List ℕ)) (before new : FolderState) (end : Result D Stop)
+      (s t : Status)
       → SaysLast line_of words before new end s → s ≡ t → test t ≡ true → end ≡ Err (stops.Own t)
   stopped-so line_of words before new end s t says e k =
       own-end end t k (last-plain line_of words before new end s t says e (record {

@@ -11,7 +11,8 @@ use Rattle.command_base.specs.Inputs.{IsWithin}
 use Rattle.run_inputs.specs.Files.{KeptOrPrefix}
 
 -- a file as it was before all of them
-pub file-is : (old next : FolderState) (name file : List ℕ) (limit : ℕ) → GoesOn old next → KeepsName old next name → IsWithin old name limit
+pub file-is : (old next : FolderState) (name file : List ℕ) (limit : ℕ) → GoesOn old next → KeepsName old next name
+    → IsWithin old name limit
     → limit ≤ file_limit
     → (IsTrue (next.tells name) → file ≡ take file_limit (octets_at next name)) → IsTrue (old.tells name) → file ≡ octets_at old name
 file-is old next name file limit on kept within few known told =

@@ -32,7 +32,8 @@ module _ (laws : VerdictLaws) (text octets : List ℕ) where
       let lines : a.lines ≡ b.lines = laws.cut text a.lines b.lines a.cut b.cut in
       a.count_is ∙ ap (λ (l : List (List ℕ)). length l) lines ∙ sym b.count_is
 
-  one-end : (d e : Difference) → DiffersIn text octets d.line d.cause → DiffersIn text octets e.line e.cause → ◌≡◌ {A = Result ℕ Difference} (Err d) (Err e)
+  one-end : (d e : Difference) → DiffersIn text octets d.line d.cause → DiffersIn text octets e.line e.cause
+      → ◌≡◌ {A = Result ℕ Difference} (Err d) (Err e)
   unfolding difference-at
   one-end d e a b =
       let same = one-difference d.line e.line d.cause e.cause a b in same-end d.line e.line d.cause e.cause same.0 same.1

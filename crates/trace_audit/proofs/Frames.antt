@@ -10,8 +10,10 @@ use Rattle.break_signals.specs.declared.word.BreakWord.TheVariants.{Brk, Ack}
 use Rattle.line_texts.specs.FrameText.{kind_word, poll_word, number_word}
 use Rattle.trace_audit.specs.Cutting.{behind, first_of, front_of, rest_of, is_no_space}
 use Rattle.trace_audit.specs.Pieces.{behind_shape, behind_frame, behind_signal, behind_lost, behind_heard, behind_sent}
-use Rattle.trace_audit.specs.Grammar.{Shape, Numbered, Supervisory, Commanding, Responding, Rejecting, Exchanging, Unnumbered, count_bound, shape_named}
-use Rattle.trace_audit.specs.Grammar.{FrameWords, AreInRange, IsBreak, count_word, information_word, shape_text, IsFrameText, IsSignal, odp, adp, frame}
+use Rattle.trace_audit.specs.Grammar.{Shape, Numbered, Supervisory, Commanding, Responding, Rejecting, Exchanging, Unnumbered, count_bound}
+use Rattle.trace_audit.specs.Grammar.{shape_named}
+use Rattle.trace_audit.specs.Grammar.{FrameWords, AreInRange, IsBreak, count_word, information_word, shape_text, IsFrameText, IsSignal, odp}
+use Rattle.trace_audit.specs.Grammar.{adp, frame}
 use Rattle.trace_audit.specs.Grammar.{IsHeard, nothing, lost, passed, IsSent, mark, flags, none, signal}
 use Rattle.trace_audit.proofs.Fronts.{chained, either, behind-is, front-rest}
 use Rattle.trace_audit.proofs.Shapes.{Stops, shape-reads, shape-is}
@@ -26,7 +28,8 @@ step : {P : Type 0} (b : Bool) (s shape : Shape) (rest : Option Shape) → cond 
 step true s shape rest e f g = f refl cc
 step false s shape rest e f g = g e
 
-named : (P : List ℕ → Shape → Type 0) (name label : List ℕ) (s shape : Shape) → P label s → bytes_eq name label ≡ true → s ≡ shape → P name shape
+named : (P : List ℕ → Shape → Type 0) (name label : List ℕ) (s shape : Shape) → P label s → bytes_eq name label ≡ true → s ≡ shape
+    → P name shape
 named P name label s shape p e f = subst (λ n. P n shape) (sym (same-bytes name label e)) (subst (P label) f p)
 
 -- what holds of each name with its shape
@@ -46,26 +49,113 @@ pub at-names : (P : List ℕ → Shape → Type 0)
     → P (codes "ui") Unnumbered
     → (name : List ℕ) (shape : Shape) → shape_named name ≡ Some shape → P name shape
 at-names P p0 p1 p2 p3 p4 p5 p6 p7 p8 p9 p10 p11 p12 name shape e =
-    step (bytes_eq name (codes "i")) Numbered shape (cond (bytes_eq name (codes "rr")) (Some Supervisory) (cond (bytes_eq name (codes "rnr")) (Some Supervisory) (cond (bytes_eq name (codes "rej")) (Some Supervisory) (cond (bytes_eq name (codes "srej")) (Some Supervisory) (cond (bytes_eq name (codes "sabme")) (Some Commanding) (cond (bytes_eq name (codes "disc")) (Some Commanding) (cond (bytes_eq name (codes "ua")) (Some Responding) (cond (bytes_eq name (codes "dm")) (Some Responding) (cond (bytes_eq name (codes "frmr")) (Some Rejecting) (cond (bytes_eq name (codes "xid")) (Some Exchanging) (cond (bytes_eq name (codes "test")) (Some Exchanging) (cond (bytes_eq name (codes "ui")) (Some Unnumbered) None)))))))))))) e (named P name (codes "i") Numbered shape p0) (λ e1.
-    step (bytes_eq name (codes "rr")) Supervisory shape (cond (bytes_eq name (codes "rnr")) (Some Supervisory) (cond (bytes_eq name (codes "rej")) (Some Supervisory) (cond (bytes_eq name (codes "srej")) (Some Supervisory) (cond (bytes_eq name (codes "sabme")) (Some Commanding) (cond (bytes_eq name (codes "disc")) (Some Commanding) (cond (bytes_eq name (codes "ua")) (Some Responding) (cond (bytes_eq name (codes "dm")) (Some Responding) (cond (bytes_eq name (codes "frmr")) (Some Rejecting) (cond (bytes_eq name (codes "xid")) (Some Exchanging) (cond (bytes_eq name (codes "test")) (Some Exchanging) (cond (bytes_eq name (codes "ui")) (Some Unnumbered) None))))))))))) e1 (named P name (codes "rr") Supervisory shape p1) (λ e2.
-    step (bytes_eq name (codes "rnr")) Supervisory shape (cond (bytes_eq name (codes "rej")) (Some Supervisory) (cond (bytes_eq name (codes "srej")) (Some Supervisory) (cond (bytes_eq name (codes "sabme")) (Some Commanding) (cond (bytes_eq name (codes "disc")) (Some Commanding) (cond (bytes_eq name (codes "ua")) (Some Responding) (cond (bytes_eq name (codes "dm")) (Some Responding) (cond (bytes_eq name (codes "frmr")) (Some Rejecting) (cond (bytes_eq name (codes "xid")) (Some Exchanging) (cond (bytes_eq name (codes "test")) (Some Exchanging) (cond (bytes_eq name (codes "ui")) (Some Unnumbered) None)))))))))) e2 (named P name (codes "rnr") Supervisory shape p2) (λ e3.
-    step (bytes_eq name (codes "rej")) Supervisory shape (cond (bytes_eq name (codes "srej")) (Some Supervisory) (cond (bytes_eq name (codes "sabme")) (Some Commanding) (cond (bytes_eq name (codes "disc")) (Some Commanding) (cond (bytes_eq name (codes "ua")) (Some Responding) (cond (bytes_eq name (codes "dm")) (Some Responding) (cond (bytes_eq name (codes "frmr")) (Some Rejecting) (cond (bytes_eq name (codes "xid")) (Some Exchanging) (cond (bytes_eq name (codes "test")) (Some Exchanging) (cond (bytes_eq name (codes "ui")) (Some Unnumbered) None))))))))) e3 (named P name (codes "rej") Supervisory shape p3) (λ e4.
-    step (bytes_eq name (codes "srej")) Supervisory shape (cond (bytes_eq name (codes "sabme")) (Some Commanding) (cond (bytes_eq name (codes "disc")) (Some Commanding) (cond (bytes_eq name (codes "ua")) (Some Responding) (cond (bytes_eq name (codes "dm")) (Some Responding) (cond (bytes_eq name (codes "frmr")) (Some Rejecting) (cond (bytes_eq name (codes "xid")) (Some Exchanging) (cond (bytes_eq name (codes "test")) (Some Exchanging) (cond (bytes_eq name (codes "ui")) (Some Unnumbered) None)))))))) e4 (named P name (codes "srej") Supervisory shape p4) (λ e5.
-    step (bytes_eq name (codes "sabme")) Commanding shape (cond (bytes_eq name (codes "disc")) (Some Commanding) (cond (bytes_eq name (codes "ua")) (Some Responding) (cond (bytes_eq name (codes "dm")) (Some Responding) (cond (bytes_eq name (codes "frmr")) (Some Rejecting) (cond (bytes_eq name (codes "xid")) (Some Exchanging) (cond (bytes_eq name (codes "test")) (Some Exchanging) (cond (bytes_eq name (codes "ui")) (Some Unnumbered) None))))))) e5 (named P name (codes "sabme") Commanding shape p5) (λ e6.
-    step (bytes_eq name (codes "disc")) Commanding shape (cond (bytes_eq name (codes "ua")) (Some Responding) (cond (bytes_eq name (codes "dm")) (Some Responding) (cond (bytes_eq name (codes "frmr")) (Some Rejecting) (cond (bytes_eq name (codes "xid")) (Some Exchanging) (cond (bytes_eq name (codes "test")) (Some Exchanging) (cond (bytes_eq name (codes "ui")) (Some Unnumbered) None)))))) e6 (named P name (codes "disc") Commanding shape p6) (λ e7.
-    step (bytes_eq name (codes "ua")) Responding shape (cond (bytes_eq name (codes "dm")) (Some Responding) (cond (bytes_eq name (codes "frmr")) (Some Rejecting) (cond (bytes_eq name (codes "xid")) (Some Exchanging) (cond (bytes_eq name (codes "test")) (Some Exchanging) (cond (bytes_eq name (codes "ui")) (Some Unnumbered) None))))) e7 (named P name (codes "ua") Responding shape p7) (λ e8.
-    step (bytes_eq name (codes "dm")) Responding shape (cond (bytes_eq name (codes "frmr")) (Some Rejecting) (cond (bytes_eq name (codes "xid")) (Some Exchanging) (cond (bytes_eq name (codes "test")) (Some Exchanging) (cond (bytes_eq name (codes "ui")) (Some Unnumbered) None)))) e8 (named P name (codes "dm") Responding shape p8) (λ e9.
-    step (bytes_eq name (codes "frmr")) Rejecting shape (cond (bytes_eq name (codes "xid")) (Some Exchanging) (cond (bytes_eq name (codes "test")) (Some Exchanging) (cond (bytes_eq name (codes "ui")) (Some Unnumbered) None))) e9 (named P name (codes "frmr") Rejecting shape p9) (λ e10.
-    step (bytes_eq name (codes "xid")) Exchanging shape (cond (bytes_eq name (codes "test")) (Some Exchanging) (cond (bytes_eq name (codes "ui")) (Some Unnumbered) None)) e10 (named P name (codes "xid") Exchanging shape p10) (λ e11.
-    step (bytes_eq name (codes "test")) Exchanging shape (cond (bytes_eq name (codes "ui")) (Some Unnumbered) None) e11 (named P name (codes "test") Exchanging shape p11) (λ e12.
+    step (bytes_eq name (codes "i")) Numbered shape
+    (cond (bytes_eq name (codes "rr")) (Some Supervisory)
+    (cond (bytes_eq name (codes "rnr")) (Some Supervisory)
+    (cond (bytes_eq name (codes "rej")) (Some Supervisory)
+    (cond (bytes_eq name (codes "srej")) (Some Supervisory)
+    (cond (bytes_eq name (codes "sabme")) (Some Commanding)
+    (cond (bytes_eq name (codes "disc")) (Some Commanding)
+    (cond (bytes_eq name (codes "ua")) (Some Responding)
+    (cond (bytes_eq name (codes "dm")) (Some Responding)
+    (cond (bytes_eq name (codes "frmr")) (Some Rejecting)
+    (cond (bytes_eq name (codes "xid")) (Some Exchanging)
+    (cond (bytes_eq name (codes "test")) (Some Exchanging)
+    (cond (bytes_eq name (codes "ui")) (Some Unnumbered) None)))))))))))) e
+    (named P name (codes "i") Numbered shape p0) (λ e1.
+    step (bytes_eq name (codes "rr")) Supervisory shape
+    (cond (bytes_eq name (codes "rnr")) (Some Supervisory)
+    (cond (bytes_eq name (codes "rej")) (Some Supervisory)
+    (cond (bytes_eq name (codes "srej")) (Some Supervisory)
+    (cond (bytes_eq name (codes "sabme")) (Some Commanding)
+    (cond (bytes_eq name (codes "disc")) (Some Commanding)
+    (cond (bytes_eq name (codes "ua")) (Some Responding)
+    (cond (bytes_eq name (codes "dm")) (Some Responding)
+    (cond (bytes_eq name (codes "frmr")) (Some Rejecting)
+    (cond (bytes_eq name (codes "xid")) (Some Exchanging)
+    (cond (bytes_eq name (codes "test")) (Some Exchanging)
+    (cond (bytes_eq name (codes "ui")) (Some Unnumbered) None))))))))))) e1
+    (named P name (codes "rr") Supervisory shape p1) (λ e2.
+    step (bytes_eq name (codes "rnr")) Supervisory shape
+    (cond (bytes_eq name (codes "rej")) (Some Supervisory)
+    (cond (bytes_eq name (codes "srej")) (Some Supervisory)
+    (cond (bytes_eq name (codes "sabme")) (Some Commanding)
+    (cond (bytes_eq name (codes "disc")) (Some Commanding)
+    (cond (bytes_eq name (codes "ua")) (Some Responding)
+    (cond (bytes_eq name (codes "dm")) (Some Responding)
+    (cond (bytes_eq name (codes "frmr")) (Some Rejecting)
+    (cond (bytes_eq name (codes "xid")) (Some Exchanging)
+    (cond (bytes_eq name (codes "test")) (Some Exchanging)
+    (cond (bytes_eq name (codes "ui")) (Some Unnumbered) None)))))))))) e2
+    (named P name (codes "rnr") Supervisory shape p2) (λ e3.
+    step (bytes_eq name (codes "rej")) Supervisory shape
+    (cond (bytes_eq name (codes "srej")) (Some Supervisory)
+    (cond (bytes_eq name (codes "sabme")) (Some Commanding)
+    (cond (bytes_eq name (codes "disc")) (Some Commanding)
+    (cond (bytes_eq name (codes "ua")) (Some Responding)
+    (cond (bytes_eq name (codes "dm")) (Some Responding)
+    (cond (bytes_eq name (codes "frmr")) (Some Rejecting)
+    (cond (bytes_eq name (codes "xid")) (Some Exchanging)
+    (cond (bytes_eq name (codes "test")) (Some Exchanging)
+    (cond (bytes_eq name (codes "ui")) (Some Unnumbered) None))))))))) e3
+    (named P name (codes "rej") Supervisory shape p3) (λ e4.
+    step (bytes_eq name (codes "srej")) Supervisory shape
+    (cond (bytes_eq name (codes "sabme")) (Some Commanding)
+    (cond (bytes_eq name (codes "disc")) (Some Commanding)
+    (cond (bytes_eq name (codes "ua")) (Some Responding)
+    (cond (bytes_eq name (codes "dm")) (Some Responding)
+    (cond (bytes_eq name (codes "frmr")) (Some Rejecting)
+    (cond (bytes_eq name (codes "xid")) (Some Exchanging)
+    (cond (bytes_eq name (codes "test")) (Some Exchanging)
+    (cond (bytes_eq name (codes "ui")) (Some Unnumbered) None)))))))) e4
+    (named P name (codes "srej") Supervisory shape p4) (λ e5.
+    step (bytes_eq name (codes "sabme")) Commanding shape
+    (cond (bytes_eq name (codes "disc")) (Some Commanding)
+    (cond (bytes_eq name (codes "ua")) (Some Responding)
+    (cond (bytes_eq name (codes "dm")) (Some Responding)
+    (cond (bytes_eq name (codes "frmr")) (Some Rejecting)
+    (cond (bytes_eq name (codes "xid")) (Some Exchanging)
+    (cond (bytes_eq name (codes "test")) (Some Exchanging)
+    (cond (bytes_eq name (codes "ui")) (Some Unnumbered) None))))))) e5
+    (named P name (codes "sabme") Commanding shape p5) (λ e6.
+    step (bytes_eq name (codes "disc")) Commanding shape
+    (cond (bytes_eq name (codes "ua")) (Some Responding)
+    (cond (bytes_eq name (codes "dm")) (Some Responding)
+    (cond (bytes_eq name (codes "frmr")) (Some Rejecting)
+    (cond (bytes_eq name (codes "xid")) (Some Exchanging)
+    (cond (bytes_eq name (codes "test")) (Some Exchanging)
+    (cond (bytes_eq name (codes "ui")) (Some Unnumbered) None)))))) e6
+    (named P name (codes "disc") Commanding shape p6) (λ e7.
+    step (bytes_eq name (codes "ua")) Responding shape
+    (cond (bytes_eq name (codes "dm")) (Some Responding)
+    (cond (bytes_eq name (codes "frmr")) (Some Rejecting)
+    (cond (bytes_eq name (codes "xid")) (Some Exchanging)
+    (cond (bytes_eq name (codes "test")) (Some Exchanging) (cond (bytes_eq name (codes "ui")) (Some Unnumbered) None))))) e7
+    (named P name (codes "ua") Responding shape p7) (λ e8.
+    step (bytes_eq name (codes "dm")) Responding shape
+    (cond (bytes_eq name (codes "frmr")) (Some Rejecting)
+    (cond (bytes_eq name (codes "xid")) (Some Exchanging)
+    (cond (bytes_eq name (codes "test")) (Some Exchanging) (cond (bytes_eq name (codes "ui")) (Some Unnumbered) None)))) e8
+    (named P name (codes "dm") Responding shape p8) (λ e9.
+    step (bytes_eq name (codes "frmr")) Rejecting shape
+    (cond (bytes_eq name (codes "xid")) (Some Exchanging)
+    (cond (bytes_eq name (codes "test")) (Some Exchanging) (cond (bytes_eq name (codes "ui")) (Some Unnumbered) None))) e9
+    (named P name (codes "frmr") Rejecting shape p9) (λ e10.
+    step (bytes_eq name (codes "xid")) Exchanging shape
+    (cond (bytes_eq name (codes "test")) (Some Exchanging) (cond (bytes_eq name (codes "ui")) (Some Unnumbered) None)) e10
+    (named P name (codes "xid") Exchanging shape p10) (λ e11.
+    step (bytes_eq name (codes "test")) Exchanging shape (cond (bytes_eq name (codes "ui")) (Some Unnumbered) None) e11
+    (named P name (codes "test") Exchanging shape p11) (λ e12.
     step (bytes_eq name (codes "ui")) Unnumbered shape None e12 (named P name (codes "ui") Unnumbered shape p12) (λ e13.
     absurd cc)))))))))))))
 
 -- a name begins nothing but a frame
 abbrev BeginsFrame : List ℕ → Shape → Type 0
 BeginsFrame name shape = (text : List ℕ)
-    → (behind_frame (name ++ 32 ∷ text) ≡ behind_shape shape (32 ∷ text)) × (behind_signal (name ++ 32 ∷ text) ≡ behind_frame (name ++ 32 ∷ text))
-    × (behind_heard (name ++ 32 ∷ text) ≡ behind_frame (name ++ 32 ∷ text)) × (behind_sent (name ++ 32 ∷ text) ≡ behind_frame (name ++ 32 ∷ text))
+    → (behind_frame (name ++ 32 ∷ text) ≡ behind_shape shape (32 ∷ text))
+    × (behind_signal (name ++ 32 ∷ text) ≡ behind_frame (name ++ 32 ∷ text))
+    × (behind_heard (name ++ 32 ∷ text) ≡ behind_frame (name ++ 32 ∷ text))
+    × (behind_sent (name ++ 32 ∷ text) ≡ behind_frame (name ++ 32 ∷ text))
 
 begins-frame : (name : List ℕ) (shape : Shape) → shape_named name ≡ Some shape → BeginsFrame name shape
 begins-frame =
@@ -111,7 +201,8 @@ spaced : (shape : Shape) (w : FrameWords) (rest : List ℕ) → (text : List ℕ
 spaced Numbered w rest = (_, refl)
 spaced Supervisory w rest = go w.command
   where
-    go : (command : Bool) → (text : List ℕ) × ((kind_word command ++ (number_word (codes " r=") w.nr ++ poll_word w.pf)) ++ rest ≡ 32 ∷ text)
+    go : (command : Bool) → (text : List ℕ)
+        × ((kind_word command ++ (number_word (codes " r=") w.nr ++ poll_word w.pf)) ++ rest ≡ 32 ∷ text)
     go true = (_, refl)
     go false = (_, refl)
 spaced Commanding w rest = (_, refl)
@@ -124,7 +215,8 @@ spaced Exchanging w rest = go w.command
     go false = (_, refl)
 spaced Unnumbered w rest = go w.command
   where
-    go : (command : Bool) → (text : List ℕ) × ((kind_word command ++ (poll_word w.pf ++ information_word w.word w.count)) ++ rest ≡ 32 ∷ text)
+    go : (command : Bool) → (text : List ℕ)
+        × ((kind_word command ++ (poll_word w.pf ++ information_word w.word w.count)) ++ rest ≡ 32 ∷ text)
     go true = (_, refl)
     go false = (_, refl)
 
@@ -244,7 +336,8 @@ sent-reads text rest (signal f) s = sent-signal text rest f s
 
 pub sent-is : (text rest : List ℕ) → behind_sent text ≡ Some rest → Found IsSent text rest
 sent-is text rest e =
-    elim (either (behind (codes "mark") text) (first_of (behind (codes "flags") text) (first_of (behind (codes "none") text) (behind_signal text))) rest e) [
+    elim (either (behind (codes "mark") text)
+    (first_of (behind (codes "flags") text) (first_of (behind (codes "none") text) (behind_signal text))) rest e) [
       | inl a ↦ (codes "mark", mark refl, behind-is (codes "mark") text rest a)
       | inr b ↦ elim (either (behind (codes "flags") text) (first_of (behind (codes "none") text) (behind_signal text)) rest b) [
         | inl a ↦ (codes "flags", flags refl, behind-is (codes "flags") text rest a)
@@ -293,11 +386,13 @@ length-shape : (shape : Shape) (w : FrameWords) → AreInRange w → length (sha
 length-shape Numbered w r =
     two (number_word (codes " s=") w.ns) (number_word (codes " r=") w.nr ++ (poll_word w.pf ++ count_word w.count)) 16 36
     (length-number (codes " s=") w.ns (omega (arith, r.ns)))
-    (two (number_word (codes " r=") w.nr) (poll_word w.pf ++ count_word w.count) 16 20 (length-number (codes " r=") w.nr (omega (arith, r.nr)))
+    (two (number_word (codes " r=") w.nr) (poll_word w.pf ++ count_word w.count) 16 20
+    (length-number (codes " r=") w.nr (omega (arith, r.nr)))
     (two (poll_word w.pf) (count_word w.count) 4 16 (length-poll w.pf) (length-number (codes " n=") w.count r.count)))
 length-shape Supervisory w r =
     let l = two (kind_word w.command) (number_word (codes " r=") w.nr ++ poll_word w.pf) 4 20 (length-kind w.command)
-    (two (number_word (codes " r=") w.nr) (poll_word w.pf) 16 4 (length-number (codes " r=") w.nr (omega (arith, r.nr))) (length-poll w.pf)) in
+    (two (number_word (codes " r=") w.nr) (poll_word w.pf) 16 4 (length-number (codes " r=") w.nr (omega (arith, r.nr))) (length-poll w.pf))
+    in
     omega (arith, l)
 length-shape Commanding w r = let l = two (kind_word true) (poll_word w.pf) 4 4 (length-kind true) (length-poll w.pf) in omega (arith, l)
 length-shape Responding w r = let l = two (kind_word false) (poll_word w.pf) 4 4 (length-kind false) (length-poll w.pf) in omega (arith, l)
@@ -337,7 +432,8 @@ pub heard-short : (text : List ℕ) → IsHeard text → IsShort 62 text
 heard-short text (nothing e) = literal text (codes "-") 62 e (omega arith, omega arith)
 heard-short text (lost front f e) =
     let s = signal-short front f in
-    literal text (codes "lost " ++ front) 62 e (omega (arith, length-append {A = ℕ} (codes "lost ") front), omega (arith, s.1, length-append {A = ℕ} (codes "lost ") front))
+    literal text (codes "lost " ++ front) 62 e
+    (omega (arith, length-append {A = ℕ} (codes "lost ") front), omega (arith, s.1, length-append {A = ℕ} (codes "lost ") front))
 heard-short text (passed f) = let s = signal-short text f in (s.0, omega (arith, s.1))
 
 pub sent-short : (text : List ℕ) → IsSent text → IsShort 57 text

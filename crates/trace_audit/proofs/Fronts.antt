@@ -1,6 +1,7 @@
 -- What a text begins with: pieces from its front, and octets that pass a test.
 use Rattle.std.proofs.Common.{◌≡◌, ℕ, ◌<◌, ◌≤◌, Bool, true, false, cond, eqb, List, [], ◌∷◌, ◌++◌, length, take, drop, get_or}
-use Rattle.std.proofs.Common.{Option, Some, None, refl, sym, ap, ◌∙◌, append_assoc, ◌⊎◌, inl, inr, eq-eqb, append-nil, drop-cons, take-append-drop}
+use Rattle.std.proofs.Common.{Option, Some, None, refl, sym, ap, ◌∙◌, append_assoc, ◌⊎◌, inl, inr, eq-eqb, append-nil, drop-cons}
+use Rattle.std.proofs.Common.{take-append-drop}
 use Rattle.std.proofs.lemmas.Bool.{and_parts, eqb-true}
 use Rattle.std.proofs.lemmas.List.{take_all}
 use Rattle.std.specs.List.{list_all}
@@ -105,7 +106,8 @@ begins-at test text at h e = rw (drop-cons text at 0 h) e
 pub cut-front : (test : ℕ → Bool) (text : List ℕ) (at : ℕ) → at < length text → list_all test (take at text) ≡ true
     → test (get_or text at 0) ≡ false → take at text ≡ front_of test text
 cut-front test text at h a e =
-    sym (ap (front_of test) (sym (take-append-drop at text)) ∙ front-reads test (take at text) (drop at text) a (begins-at test text at h e))
+    sym (ap (front_of test) (sym (take-append-drop at text))
+    ∙ front-reads test (take at text) (drop at text) a (begins-at test text at h e))
 
 pub cut-rest : (test : ℕ → Bool) (text : List ℕ) (at : ℕ) → at < length text → list_all test (take at text) ≡ true
     → test (get_or text at 0) ≡ false → drop at text ≡ rest_of test text

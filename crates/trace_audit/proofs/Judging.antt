@@ -1,5 +1,6 @@
 -- From every answer to the headline, and to which answer right inputs have.
-use Rattle.std.proofs.Common.{◌≡◌, ◌⊎◌, inl, inr, ℕ, ◌≤◌, ◌<◌, List, ◌++◌, length, Option, Result, Ok, Err, refl, sym, ◌∙◌, ap, subst, arith}
+use Rattle.std.proofs.Common.{◌≡◌, ◌⊎◌, inl, inr, ℕ, ◌≤◌, ◌<◌, List, ◌++◌, length, Option, Result, Ok, Err, refl, sym, ◌∙◌, ap, subst}
+use Rattle.std.proofs.Common.{arith}
 use Rattle.std.specs.Option.{option_map}
 use Rattle.outside_calls.specs.Folder.{FolderState, octets_at}
 use Rattle.outside_calls.specs.declared.folder.FolderFault.TheVariants as folder
@@ -49,7 +50,8 @@ audited-so f n found a = record {
 differs-so : (old before : FolderState) (n : AuditNames) (end : Result ℕ Stop) (line : ℕ) (cause : AuditCause) → Ends old before n end
     → end_status end ≡ AuditNo line cause → Audits old n (Err (record { line = line; cause = cause }))
 differs-so old before n (Ok lines) line cause e f = absurd cc
-differs-so old before n (Err (stops.Own answer)) line cause e f = by (subst (λ (s : Status). RefusesOwn LIMITS old n.script 3 (files_of n) 1 s ⊎ AnswersOwn old n s) f e)
+differs-so old before n (Err (stops.Own answer)) line cause e f = by
+    (subst (λ (s : Status). RefusesOwn LIMITS old n.script 3 (files_of n) 1 s ⊎ AnswersOwn old n s) f e)
   where
     by : ⊥ ⊎ Audits old n (Err (record { line = line; cause = cause })) → Audits old n (Err (record { line = line; cause = cause }))
     by (inl never) = absurd never
@@ -115,12 +117,14 @@ pub record JudgeLaws : Type 0 where
   pub apart : NoFaultInScripts
   pub verdict : VerdictLaws
 
-module _ (laws : JudgeLaws) (old : FolderState) (n : AuditNames) (script : ScriptValue) (r : AreRight old n script) (end : RunEnd) (left : Left)
+module _ (laws : JudgeLaws) (old : FolderState) (n : AuditNames) (script : ScriptValue) (r : AreRight old n script) (end : RunEnd)
+    (left : Left)
     (run : InputsRunTo old n script end left) where
   -- the run that was made leaves what that of the inputs leaves
   same-left : (found : Result ℕ Difference) (a : Audits old n found) → a.left ≡ left
   same-left found a =
-      let same : a.script ≡ script = laws.one (octets_at old n.script) a.script script (a.takes.are_open.opens.reads.spelled r.script_told) r.spelled in
+      let same : a.script ≡ script = laws.one (octets_at old n.script) a.script script (a.takes.are_open.opens.reads.spelled r.script_told)
+      r.spelled in
       let over : RunsTo (wire_of script) (link_of script a.files) a.end a.left =
       subst (λ (s : ScriptValue). RunsTo (wire_of s) (link_of s a.files) a.end a.left) same a.run in
       let of-orig : RunsTo (wire_of script) (link_of script (record { orig = octets_at old n.orig; answ = a.files.answ })) a.end a.left =
@@ -202,7 +206,8 @@ yes-is-the-trace old new n h told =
       spelled = a.are_of.script_is told.script;
       end = a.end;
       left = a.left;
-      run = subst (λ (w : List ℕ). RunsTo (wire_of a.script) (link_of a.script (record { orig = octets_at old n.orig; answ = w })) a.end a.left)
+      run = subst (λ (w : List ℕ). RunsTo (wire_of a.script) (link_of a.script (record { orig = octets_at old n.orig; answ = w })) a.end
+          a.left)
           (a.are_of.answ_is told.answ) of-orig;
       same = (a.found_is told.trace).same;
     }

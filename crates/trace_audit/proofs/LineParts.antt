@@ -12,7 +12,8 @@ use Rattle.trace_audit.specs.declared.line.LineText.{LineText}
 use Rattle.trace_audit.specs.Cutting.{behind, number_at}
 use Rattle.trace_audit.specs.Pieces.{behind_heard, behind_sent}
 use Rattle.trace_audit.specs.Grammar.{count_bound, IsHeard, IsSent, IsChance, IsPlain, HasParts}
-use Rattle.trace_audit.specs.Reading.{before, heard_at, sent_at, role_or, role_at, ends_in, given_at, sent_and_given, reply_at, plain_line, chance_parts, plain_at, body_at, behind_turn, line_in}
+use Rattle.trace_audit.specs.Reading.{before, heard_at, sent_at, role_or, role_at, ends_in, given_at, sent_and_given, reply_at, plain_line}
+use Rattle.trace_audit.specs.Reading.{chance_parts, plain_at, body_at, behind_turn, line_in}
 use Rattle.trace_audit.proofs.Fronts.{chained, mapped, behind-is, some-is}
 use Rattle.trace_audit.proofs.Numbers.{number-reads, number-is}
 use Rattle.trace_audit.proofs.Shapes.{Stops}
@@ -47,11 +48,13 @@ sent-few text rest e = let p = sent-is text rest e in few text p.0 rest p.2 (ome
 
 heard-at-reads : (text rest : List ℕ) → IsHeard text → Stops rest → heard_at (text ++ rest) ≡ Some (text, rest)
 heard-at-reads text rest h s =
-    ap (option_map (λ (r : List ℕ). (before (text ++ rest) r, r))) (heard-reads text rest h s) ∙ ap (λ (f : List ℕ). Some (f, rest)) (before-front text rest)
+    ap (option_map (λ (r : List ℕ). (before (text ++ rest) r, r))) (heard-reads text rest h s)
+    ∙ ap (λ (f : List ℕ). Some (f, rest)) (before-front text rest)
 
 sent-at-reads : (text rest : List ℕ) → IsSent text → Stops rest → sent_at (text ++ rest) ≡ Some (text, rest)
 sent-at-reads text rest h s =
-    ap (option_map (λ (r : List ℕ). (before (text ++ rest) r, r))) (sent-reads text rest h s) ∙ ap (λ (f : List ℕ). Some (f, rest)) (before-front text rest)
+    ap (option_map (λ (r : List ℕ). (before (text ++ rest) r, r))) (sent-reads text rest h s)
+    ∙ ap (λ (f : List ℕ). Some (f, rest)) (before-front text rest)
 
 abbrev Pair : Type 0
 Pair = List ℕ × List ℕ
@@ -109,7 +112,8 @@ pub given-none : (text field : List ℕ) (n : ℕ) (rest : List ℕ) → (length
     → Some (n, rest) ≡ number_at 256 field → (length rest == 0) ≡ false → None ≡ given_at text
 given-none [] field n rest s b e m = absurd cc
 given-none (x ∷ text) field n rest s b e m = sym (
-    ap (λ o. option_and_then ends_in (option_and_then (number_at 256) o)) (sym b) ∙ ap (option_and_then ends_in) (sym e) ∙ ends-none n rest m
+    ap (λ o. option_and_then ends_in (option_and_then (number_at 256) o)) (sym b) ∙ ap (option_and_then ends_in) (sym e)
+    ∙ ends-none n rest m
     )
 
 given-stops : (given : Option ℕ) → Stops (break_word given)
@@ -216,7 +220,8 @@ plain-line : (line : List ℕ) (t : LineText) → IsPlain line t → t.turn < co
 plain-line line t p h =
     let rest : List ℕ = t.arrived ++ (codes " > " ++ (t.sent ++ break_word t.given)) in
     ap line_in p.line_is
-    ∙ body-reads t.turn t.role rest t (no-chance t.turn t.role rest t (plain-reads t.turn t.role t.arrived t.sent t.given p.arrived p.sent p.given)) h
+    ∙ body-reads t.turn t.role rest t
+    (no-chance t.turn t.role rest t (plain-reads t.turn t.role t.arrived t.sent t.given p.arrived p.sent p.given)) h
 
 -- what has parts is read as these
 pub line-reads : (line : List ℕ) (t : LineText) → HasParts line t → line_in line ≡ Some t
@@ -224,7 +229,8 @@ line-reads line t h = elim h.parts [ inl c ↦ chance-line line t c h.turn | inr
 
 -- what a body is
 abbrev BodyIs : ℕ → Role → List ℕ → LineText → Type 0
-BodyIs turn role rest t = (t.turn ≡ turn) × (t.role ≡ role) × (IsChance (line_begins t.turn t.role ++ rest) t ⊎ IsPlain (line_begins t.turn t.role ++ rest) t)
+BodyIs turn role rest t = (t.turn ≡ turn) × (t.role ≡ role)
+    × (IsChance (line_begins t.turn t.role ++ rest) t ⊎ IsPlain (line_begins t.turn t.role ++ rest) t)
 
 chance-body : (turn : ℕ) (role : Role) (rest : List ℕ) → rest ≡ codes "chance" → BodyIs turn role rest (chance_parts turn role)
 chance-body turn role rest e =
@@ -253,7 +259,8 @@ body-is turn role rest t e = go (bytes_eq rest (codes "chance")) refl e
     go : (b : Bool) → bytes_eq rest (codes "chance") ≡ b → cond b (Some (chance_parts turn role)) (plain_at turn role rest) ≡ Some t
         → BodyIs turn role rest t
     go true same f =
-        subst (BodyIs turn role rest) (some-is (chance_parts turn role) t f) (chance-body turn role rest (same-bytes rest (codes "chance") same))
+        subst (BodyIs turn role rest) (some-is (chance_parts turn role) t f)
+        (chance-body turn role rest (same-bytes rest (codes "chance") same))
     go false same f = plain-body turn role rest t f
 
 -- what is read has these parts

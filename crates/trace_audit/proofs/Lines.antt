@@ -36,7 +36,8 @@ module _ (text : List ℕ) (lines : List (List ℕ)) where
     count_is = omega (arith, h.count_is, length-append {A = List ℕ} lines (line ∷ []));
   }
 
-  pub differs-now : (at count : ℕ) (line : List ℕ) (cause : AuditCause) → HasLines text lines at count → LineDiffers line (drop at text) cause
+  pub differs-now : (at count : ℕ) (line : List ℕ) (cause : AuditCause) → HasLines text lines at count
+      → LineDiffers line (drop at text) cause
       → DiffersIn text (lines ++ line ∷ []) (count + 1) cause
   differs-now at count line cause h d = record {
     before = lines;
@@ -173,7 +174,8 @@ no-difference line rest Sent g d = d.other g
 no-difference line rest Break g d = d.other g
 
 -- a text that has the lines up to one isn't first different before it
-pub not-before : (lines : List (List ℕ)) (text : List ℕ) (m n : ℕ) (c d : AuditCause) (a : FirstDiffers lines text m c) (b : FirstDiffers lines text n d)
+pub not-before : (lines : List (List ℕ)) (text : List ℕ) (m n : ℕ) (c d : AuditCause) (a : FirstDiffers lines text m c)
+    (b : FirstDiffers lines text n d)
     → length a.before < length b.before → ⊥
 not-before lines text m n c d a b h =
     let s = split-more a.before a.more b.before b.more (sym a.lines_is ∙ b.lines_is) h in
@@ -196,4 +198,5 @@ same-text lines text n c e a = go a.more refl
 
     go : (more : List (List ℕ)) → a.more ≡ more → ⊥
     go [] m = (subst (λ l. RestDiffers l a.rest c) m a.differs).1 (rest-is ∙ ap text_of m)
-    go (line ∷ more) m = no-difference line a.rest c (text_of more, rest-is ∙ ap text_of m) (subst (λ l. RestDiffers l a.rest c) m a.differs)
+    go (line ∷ more) m = no-difference line a.rest c (text_of more, rest-is ∙ ap text_of m)
+        (subst (λ l. RestDiffers l a.rest c) m a.differs)

@@ -1,5 +1,6 @@
 -- Numbers in decimal digits without leading zeros.
-use Rattle.std.proofs.Common.{◌≡◌, ℕ, zero, suc, ◌^◌, ◌<◌, ◌≤◌, Bool, true, false, not, ◌&&◌, cond, eqb, List, [], ◌∷◌, ◌++◌, length, get_or}
+use Rattle.std.proofs.Common.{◌≡◌, ℕ, zero, suc, ◌^◌, ◌<◌, ◌≤◌, Bool, true, false, not, ◌&&◌, cond, eqb, List, [], ◌∷◌, ◌++◌, length}
+use Rattle.std.proofs.Common.{get_or}
 use Rattle.std.proofs.Common.{Option, Some, None, refl, sym, ap, subst, ◌∙◌, arith, append_assoc}
 use Rattle.std.specs.Prelude.{decimal, nat_le, nat_lt}
 use Rattle.std.specs.List.{list_all}
@@ -46,7 +47,8 @@ tested false b c v n e = absurd cc
 led : (word : List ℕ) → leads_well word ≡ true → 0 < length word → get_or word 0 0 ≡ 48 → length word ≡ 1
 led [] l h z = omega (arith, h)
 led (x ∷ []) l h z = refl
-led (x ∷ y ∷ word) l h z = absurd (go (eqb x 48) (grind (arith, nat_tests, z)) (nat_le 2 (length (x ∷ y ∷ word))) (is-most 2 (length (x ∷ y ∷ word)) (omega arith)) l)
+led (x ∷ y ∷ word) l h z = absurd
+    (go (eqb x 48) (grind (arith, nat_tests, z)) (nat_le 2 (length (x ∷ y ∷ word))) (is-most 2 (length (x ∷ y ∷ word)) (omega arith)) l)
   where
     go : (b : Bool) → b ≡ true → (a : Bool) → a ≡ true → not (a && b) ≡ true → ⊥
     go true e true f l = cc
@@ -78,7 +80,8 @@ past-is n m h = grind (arith, nat_tests, h)
 pub read-none : (bound : ℕ) (text : List ℕ) → None ≡ plain_number (front_of is_digit text) → None ≡ number_at bound text
 read-none bound text e = ap (λ (o : Option ℕ). option_map (λ n. (n, rest_of is_digit text)) (option_and_then (if_below bound) o)) e
 
-pub read-below : (bound n : ℕ) (text rest : List ℕ) → Some n ≡ plain_number (front_of is_digit text) → rest ≡ rest_of is_digit text → n < bound
+pub read-below : (bound n : ℕ) (text rest : List ℕ) → Some n ≡ plain_number (front_of is_digit text) → rest ≡ rest_of is_digit text
+    → n < bound
     → Some (n, rest) ≡ number_at bound text
 read-below bound n text rest e r h = rw (sym e, r, below-is n bound h) refl
 
@@ -90,19 +93,26 @@ pub number-reads : (bound n : ℕ) (rest : List ℕ) → n < bound → bound ≤
 number-reads bound n rest h fits stops =
     let small : IsSmall n = omega (arith, h, fits) in
     let digits : list_all is_digit (decimal n) ≡ true = digits_decimal numerals n small in
-    rw (front-reads is_digit (decimal n) rest digits stops, rest-reads is_digit (decimal n) rest digits stops, plain-reads n small, below-is n bound h) refl
+    rw (
+      front-reads is_digit (decimal n) rest digits stops,
+      rest-reads is_digit (decimal n) rest digits stops,
+      plain-reads n small,
+      below-is n bound h,
+    ) refl
 
 pub number-is : (bound : ℕ) (text : List ℕ) (n : ℕ) (rest : List ℕ) → number_at bound text ≡ Some (n, rest)
     → (n < bound) × (text ≡ decimal n ++ rest)
 number-is bound text n rest e =
-    let m = mapped (λ (n : ℕ). (n, rest_of is_digit text)) (option_and_then (if_below bound) (plain_number (front_of is_digit text))) (n, rest) e in
+    let m = mapped (λ (n : ℕ). (n, rest_of is_digit text)) (option_and_then (if_below bound) (plain_number (front_of is_digit text)))
+    (n, rest) e in
     let c = chained (if_below bound) (plain_number (front_of is_digit text)) m.0 m.1 in
     let b = bounded c.0 bound m.0 c.2 in
     let front : front_of is_digit text ≡ decimal c.0 = plain-is (front_of is_digit text) c.0 c.1 in
     let is_n : m.0 ≡ n = ap (λ (p : ℕ × List ℕ). p.0) m.2 in
     let is_rest : rest_of is_digit text ≡ rest = ap (λ (p : ℕ × List ℕ). p.1) m.2 in (
       subst (λ k. k < bound) is_n b.1,
-      sym (front-rest is_digit text) ∙ ap (λ l. l ++ rest_of is_digit text) (front ∙ ap decimal (b.0 ∙ is_n)) ∙ ap (λ l. decimal n ++ l) is_rest,
+      sym (front-rest is_digit text) ∙ ap (λ l. l ++ rest_of is_digit text) (front ∙ ap decimal (b.0 ∙ is_n))
+          ∙ ap (λ l. decimal n ++ l) is_rest,
     )
 
 pub behind-number-reads : (bound n : ℕ) (rest : List ℕ) → n < bound → bound ≤ 2 ^ 64 → begins is_digit rest ≡ false

@@ -3,7 +3,8 @@ use Rattle.std.proofs.Common.{◌≡◌, ℕ, ◌+◌, List, [], ◌∷◌, ◌+
 use Rattle.std.proofs.lemmas.Bool.{cases_lt}
 use Rattle.trace_audit.proofs.LineParts.{one-reading}
 use Rattle.trace_audit.specs.declared.line.LineText.{LineText}
-use Rattle.trace_audit.specs.Differences.{text_of, IsRead, StopsIn, PartsDiffer, ReadsDiffer, OwnDiffers, Departs, LineDiffers, RestDiffers, FirstDiffers}
+use Rattle.trace_audit.specs.Differences.{text_of, IsRead, StopsIn, PartsDiffer, ReadsDiffer, OwnDiffers, Departs, LineDiffers, RestDiffers}
+use Rattle.trace_audit.specs.Differences.{FirstDiffers}
 use Rattle.shared_terms.specs.declared.audit_cause.AuditCause.{AuditCause}
 use Rattle.shared_terms.specs.declared.audit_cause.AuditCause.TheVariants.{End, Beyond, Spelling, Turn, Role, Arrived, Sent, Break}
 use Rattle.trace_audit.proofs.Lines.{not-before, split-same, front-same}
@@ -57,7 +58,8 @@ reads-one : (line own : List ℕ) (c d : AuditCause) → ReadsDiffer line own c 
 reads-one line own c d p q =
     let right : q.right ≡ p.right = one-reading line q.right p.right q.right_is p.right_is in
     let other : q.other ≡ p.other = one-reading own q.other p.other q.other_is p.other_is in
-    parts-one p.right p.other c d p.differ (subst (λ a. PartsDiffer a p.other d) right (subst (λ b. PartsDiffer q.right b d) other q.differ))
+    parts-one p.right p.other c d p.differ
+    (subst (λ a. PartsDiffer a p.other d) right (subst (λ b. PartsDiffer q.right b d) other q.differ))
 
 own-cases : (line own : List ℕ) (c : AuditCause) → OwnDiffers line own c → ((c ≡ Spelling) × (IsRead own → ⊥)) ⊎ ReadsDiffer line own c
 own-cases line own End p = absurd p
@@ -120,7 +122,8 @@ one-difference lines text m n c d a b = elim (cases_lt (length a.before) (length
         let rest : a.rest ≡ b.rest = front-same (text_of a.before) a.rest b.rest
         (sym a.text_is ∙ b.text_is ∙ ap (λ l. text_of l ++ b.rest) (sym s.0)) in (
           a.number_is ∙ ap (λ k. k + 1) same ∙ sym b.number_is,
-          rest-one a.more a.rest c d a.differs (subst (λ l. RestDiffers l a.rest d) (sym s.1) (subst (λ r. RestDiffers b.more r d) (sym rest) b.differs)),
+          rest-one a.more a.rest c d a.differs
+              (subst (λ l. RestDiffers l a.rest d) (sym s.1) (subst (λ r. RestDiffers b.more r d) (sym rest) b.differs)),
         )
   ]
 ]

@@ -1,5 +1,6 @@
 -- From the phases of an audit to how it ends.
-use Rattle.std.proofs.Common.{◌≡◌, inl, inr, ℕ, ◌<◌, ◌≤◌, IsTrue, List, [], ◌∷◌, length, Result, Ok, Err, refl, sym, ◌∙◌, ap, subst, take, arith}
+use Rattle.std.proofs.Common.{◌≡◌, inl, inr, ℕ, ◌<◌, ◌≤◌, IsTrue, List, [], ◌∷◌, length, Result, Ok, Err, refl, sym, ◌∙◌, ap, subst, take}
+use Rattle.std.proofs.Common.{arith}
 use Rattle.std.proofs.lemmas.List.{take_all}
 use Rattle.outside_calls.specs.Folder.{FolderState, octets_at, OnlyReads, CountsStand}
 use Rattle.outside_calls.specs.declared.folder.FolderFault.{FolderFault}
@@ -55,7 +56,8 @@ refused-trace old mid new n script (stops.Say fault) are r stand h = absurd h
 refused-trace old mid new n script stops.NoMemory are r stand h = absurd h
 
 -- the trace is within its limit
-pub within-earlier : (old mid : FolderState) (name : List ℕ) (limit : ℕ) → OnlyReads old mid → IsWithin mid name limit → IsWithin old name limit
+pub within-earlier : (old mid : FolderState) (name : List ℕ) (limit : ℕ) → OnlyReads old mid → IsWithin mid name limit
+    → IsWithin old name limit
 within-earlier old mid name limit r h told =
     subst (λ (o : List ℕ). length o ≤ limit) (octets-kept old mid name (r.names name) told) (h (told_later r.goes_on name told))
 
@@ -108,7 +110,8 @@ file-is : (old new : FolderState) (name file : List ℕ) → OnlyReads old new �
     → (IsTrue (new.tells name) → file ≡ take file_limit (octets_at new name)) → IsTrue (old.tells name) → file ≡ octets_at old name
 file-is old new name file r within known told =
     let same : octets_at new name ≡ octets_at old name = octets-kept old new name (r.names name) told in
-    known (told_later r.goes_on name told) ∙ ap (take file_limit) same ∙ take_all file_limit (octets_at old name) (omega (arith, within told))
+    known (told_later r.goes_on name told) ∙ ap (take file_limit) same
+    ∙ take_all file_limit (octets_at old name) (omega (arith, within told))
 
 module _ (begin now new : FolderState) (n : AuditNames) (m : Written) (script : ScriptValue) (b : IsBegun begin now n script)
     (orig : m.orig ≡ n.orig) (answ : m.answ ≡ n.answ) (read : OnlyReads now new) where
@@ -136,7 +139,8 @@ module _ (begin now new : FolderState) (n : AuditNames) (m : Written) (script : 
     run = f.run;
     found_is = λ told.
         subst (λ (o : List ℕ). IsFound f.left.trace o found)
-        (ap (take trace_limit) (octets-kept begin new n.trace (all.names n.trace) told) ∙ take_all trace_limit (octets_at begin n.trace) (b.trace told))
+        (ap (take trace_limit) (octets-kept begin new n.trace (all.names n.trace) told)
+        ∙ take_all trace_limit (octets_at begin n.trace) (b.trace told))
         (f.found_is (told_later all.goes_on n.trace told));
   }
 

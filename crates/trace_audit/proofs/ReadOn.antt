@@ -1,5 +1,6 @@
 -- The octets of a text where it is to be read on.
-use Rattle.std.proofs.Common.{◌≡◌, ◌∙◌, ℕ, ◌-◌, ◌<◌, ◌≤◌, min, List, [], length, length-take, length-drop, take, take-take, drop, Some, sym, ap, arith}
+use Rattle.std.proofs.Common.{◌≡◌, ◌∙◌, ℕ, ◌-◌, ◌<◌, ◌≤◌, min, List, [], length, length-take, length-drop, take, take-take, drop, Some, sym}
+use Rattle.std.proofs.Common.{ap, arith}
 use Rattle.std.proofs.lemmas.List.{take_all, take_min, drop-take, drop_all}
 use Rattle.trace_audit.specs.Compared.{HasWindow, place_of}
 use Rattle.trace_audit.specs.declared.comparison.Comparison.{Comparison}

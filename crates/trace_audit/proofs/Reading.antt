@@ -1,5 +1,6 @@
 -- Both lines of a turn are lines that are read.
-use Rattle.std.proofs.Common.{◌≡◌, ℕ, ◌<◌, ◌≤◌, ◌^◌, Bool, true, false, cond, nat_lt, List, [], ◌∷◌, length, slice_index_or, arith, refl, sym}
+use Rattle.std.proofs.Common.{◌≡◌, ℕ, ◌<◌, ◌≤◌, ◌^◌, Bool, true, false, cond, nat_lt, List, [], ◌∷◌, length, slice_index_or, arith, refl}
+use Rattle.std.proofs.Common.{sym}
 use Rattle.std.proofs.Common.{◌∙◌, subst, Option, Some, None}
 use Rattle.std.specs.Prelude.{IfSome, unwrap_or}
 use Rattle.std.specs.Option.{option_map}
@@ -125,7 +126,8 @@ module _ (laws : SendLaws) (script : ScriptValue) (files : Both (List ℕ)) (ts 
   sent-line (Some slot) f = let k = f slot refl in sent-read slot.sent k.0 k.1
 
   line-read : (t : Turn) (mid : Accounts) (outcome : Outcome) → HeardIn (wire_of script) ts t
-      → TurnIs (link_of script files) ts ends t mid outcome → length ts < 2 ^ 40 → (role : Role) → IsReadable (line_of (length ts) role (of role t))
+      → TurnIs (link_of script files) ts ends t mid outcome → length ts < 2 ^ 40 → (role : Role)
+      → IsReadable (line_of (length ts) role (of role t))
   line-read t mid outcome heard is early role =
       let hearing = hearing-in (link_of script files) ts ends t mid outcome is in
       let carries : Carries (delay_of script) ts t = laws.one (wire_of script) ts t heard in
@@ -139,7 +141,8 @@ module _ (laws : SendLaws) (script : ScriptValue) (files : Both (List ℕ)) (ts 
         turn = early;
         arrived = arrived.0;
         sent = sent-line (of role t).sent (spoken-read t mid outcome heard is role);
-        given = subst (λ (g : Option ℕ). IfSome g (λ units. units < 256)) (sym (hearing role).given_is) (given-read (of role mid) holds.owes);
+        given = subst (λ (g : Option ℕ). IfSome g (λ units. units < 256)) (sym (hearing role).given_is)
+            (given-read (of role mid) holds.owes);
         no_reply = λ c. let n : false ≡ true = sym arrived.1 ∙ c in absurd cc;
         no_break = λ c. let n : false ≡ true = sym arrived.1 ∙ c in absurd cc;
       }

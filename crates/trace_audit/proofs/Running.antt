@@ -1,5 +1,6 @@
 -- The turns of an audit, one after the other, up to what is found.
-use Rattle.std.proofs.Common.{◌≡◌, inl, inr, ℕ, ◌+◌, ◌*◌, ◌<◌, ◌^◌, Bool, true, false, List, [], ◌∷◌, ◌++◌, length, Result, Ok, Err, refl, sym, ◌∙◌, ap, subst, take, arith, length-append}
+use Rattle.std.proofs.Common.{◌≡◌, inl, inr, ℕ, ◌+◌, ◌*◌, ◌<◌, ◌^◌, Bool, true, false, List, [], ◌∷◌, ◌++◌, length, Result, Ok, Err, refl}
+use Rattle.std.proofs.Common.{sym, ◌∙◌, ap, subst, take, arith, length-append}
 use Rattle.std.specs.Prelude.{IsTrue, MatchResult}
 use Rattle.outside_calls.specs.Folder.{FolderState, OnlyReads, CountsStand}
 use Rattle.outside_calls.specs.declared.folder.FolderFault.TheVariants as folder
@@ -33,7 +34,8 @@ trace-count (t ∷ ts) =
     omega (arith, trace-count ts, length-append {A = List ℕ} (trace_lines ts) (turn_lines (length ts) t))
 
 -- what was read doesn't change what is known
-knows-read : (a b : FolderState) (n : Written) (files : Both (List ℕ)) → IsApart n → OnlyReads a b → KnowsFiles a n files → KnowsFiles b n files
+knows-read : (a b : FolderState) (n : Written) (files : Both (List ℕ)) → IsApart n → OnlyReads a b → KnowsFiles a n files
+    → KnowsFiles b n files
 knows-read a b n files apart r k = knows-later a b n files apart (OnlyPuts-reads a b (outputs_of n) r) k
 
 comes-read : (goes_on : Bool) (w : World) (a b : FolderState) (n : Written) (lines : List (List ℕ)) → IsApart n → OnlyReads a b
@@ -182,11 +184,13 @@ module _ (v : World) (mid new : FolderState) (n : Written) (trace : List ℕ) (c
         (found-is (audited mid trace) found (ends (audited mid trace) h.lines (h.compared was) (has was)));
   }
 
-  run-is : (script : ScriptValue) (found : Result ℕ Difference) → RunFound script new n trace found → RunIs script new n trace (found_end found)
+  run-is : (script : ScriptValue) (found : Result ℕ Difference) → RunFound script new n trace found
+      → RunIs script new n trace (found_end found)
   run-is script (Ok lines) r = r
   run-is script (Err d) r = r
 
-  pub ends-so : (script : ScriptValue) (window : List ℕ) (found : Result ℕ Difference) → script_of v ≡ script → IsApart n → OnlyReads mid new
+  pub ends-so : (script : ScriptValue) (window : List ℕ) (found : Result ℕ Difference) → script_of v ≡ script → IsApart n
+      → OnlyReads mid new
       → (IsTrue (mid.tells trace) → HasWindow (audited mid trace) c 1 window)
       → ((text : List ℕ) (lines : List (List ℕ)) → Compared text lines c → HasWindow text c 1 window
       → MatchResult found (λ count. (text ≡ text_of lines) × (count ≡ length lines)) (λ d. FirstDiffers lines text d.line d.cause))

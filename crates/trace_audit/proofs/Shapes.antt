@@ -8,8 +8,10 @@ use Rattle.break_signals.specs.declared.word.BreakWord.TheVariants.{Brk, Ack}
 use Rattle.line_texts.specs.FrameText.{kind_word, poll_word, number_word, break_words}
 use Rattle.noise_script.specs.Numbers.{is_digit}
 use Rattle.trace_audit.specs.Cutting.{behind, first_of, behind_number, behind_labelled}
-use Rattle.trace_audit.specs.Pieces.{behind_direction, behind_poll, behind_count, behind_break, behind_labelled_break, behind_information, behind_shape}
-use Rattle.trace_audit.specs.Grammar.{Shape, Numbered, Supervisory, Commanding, Responding, Rejecting, Exchanging, Unnumbered, number_bound, count_bound}
+use Rattle.trace_audit.specs.Pieces.{behind_direction, behind_poll, behind_count, behind_break, behind_labelled_break, behind_information}
+use Rattle.trace_audit.specs.Pieces.{behind_shape}
+use Rattle.trace_audit.specs.Grammar.{Shape, Numbered, Supervisory, Commanding, Responding, Rejecting, Exchanging, Unnumbered, number_bound}
+use Rattle.trace_audit.specs.Grammar.{count_bound}
 use Rattle.trace_audit.specs.Grammar.{FrameWords, AreInRange, IsBreak, count_word, information_word, shape_text}
 use Rattle.trace_audit.proofs.Fronts.{chained, either, behind-reads, behind-is, begins, chain2, chain3, chain4, join2, join3, join4}
 use Rattle.trace_audit.proofs.Numbers.{behind-number-reads, behind-number-is, labelled-reads, labelled-is}
@@ -59,7 +61,8 @@ count-is text rest e = labelled-is (codes " n=") count_bound text rest e
 break-reads : (number units : ℕ) (rest : List ℕ) → number < 2 → units < 256 → Stops rest
     → behind_break ((decimal number ++ number_word (codes " ") units) ++ rest) ≡ Some rest
 break-reads number units rest h k s =
-    chain2 (behind_number 2) (behind_labelled (codes " ") 256) (behind_number 2) (behind_number 2) (decimal number) (number_word (codes " ") units) rest
+    chain2 (behind_number 2) (behind_labelled (codes " ") 256) (behind_number 2) (behind_number 2) (decimal number)
+    (number_word (codes " ") units) rest
     (behind-number-reads 2 number (number_word (codes " ") units ++ rest) h (omega arith) refl)
     (labelled-reads (codes " ") 256 units rest k (omega arith) s)
 
@@ -126,7 +129,8 @@ shape-reads Numbered w rest r s =
     (count-reads w.count rest r.count s)
 shape-reads Supervisory w rest r s =
     let nr = number_word (codes " r=") w.nr in
-    chain3 behind_direction (behind_labelled (codes " r=") number_bound) behind_poll behind_poll (kind_word w.command) nr (poll_word w.pf) rest
+    chain3 behind_direction (behind_labelled (codes " r=") number_bound) behind_poll behind_poll (kind_word w.command) nr (poll_word w.pf)
+    rest
     (direction-reads w.command (nr ++ (poll_word w.pf ++ rest)))
     (labelled-reads (codes " r=") number_bound w.nr (poll_word w.pf ++ rest) r.nr (omega arith) (poll-stops w.pf rest))
     (poll-reads w.pf rest)
@@ -157,16 +161,19 @@ ShapeIs shape text rest = (w : FrameWords) × AreInRange w × (text ≡ shape_te
 abbrev words : Bool → ℕ → ℕ → Bool → ℕ → Option BreakWord → FrameWords
 words command ns nr pf n word = record { name = []; command = command; ns = ns; nr = nr; pf = pf; count = n; word = word }
 
-within : (command : Bool) (ns nr : ℕ) (pf : Bool) (n : ℕ) (word : Option BreakWord) → ns < number_bound → nr < number_bound → n < count_bound
+within : (command : Bool) (ns nr : ℕ) (pf : Bool) (n : ℕ) (word : Option BreakWord) → ns < number_bound → nr < number_bound
+    → n < count_bound
     → IfSome word IsBreak → AreInRange (words command ns nr pf n word)
 within command ns nr pf n word a b c d = record { ns = a; nr = b; count = c; word = d }
 
 pub shape-is : (shape : Shape) (text rest : List ℕ) → behind_shape shape text ≡ Some rest → ShapeIs shape text rest
 shape-is Numbered text rest e =
     let c = chained behind_count
-    (option_and_then behind_poll (option_and_then (behind_labelled (codes " r=") number_bound) (behind_labelled (codes " s=") number_bound text)))
+    (option_and_then behind_poll (option_and_then (behind_labelled (codes " r=") number_bound)
+    (behind_labelled (codes " s=") number_bound text)))
     rest e in
-    let d = chained behind_poll (option_and_then (behind_labelled (codes " r=") number_bound) (behind_labelled (codes " s=") number_bound text)) c.0 c.1 in
+    let d = chained behind_poll (option_and_then (behind_labelled (codes " r=") number_bound)
+    (behind_labelled (codes " s=") number_bound text)) c.0 c.1 in
     let f = chained (behind_labelled (codes " r=") number_bound) (behind_labelled (codes " s=") number_bound text) d.0 d.1 in
     let n = count-is c.0 rest c.2 in
     let p = poll-is d.0 c.0 d.2 in
@@ -174,7 +181,8 @@ shape-is Numbered text rest e =
     let s = labelled-is (codes " s=") number_bound text f.0 f.1 in (
       words true s.0 r.0 p.0 n.0 None,
       within true s.0 r.0 p.0 n.0 None s.1 r.1 n.1 tt,
-      join4 text (number_word (codes " s=") s.0) f.0 (number_word (codes " r=") r.0) d.0 (poll_word p.0) c.0 (count_word n.0) rest s.2 r.2 p.1 n.2,
+      join4 text (number_word (codes " s=") s.0) f.0 (number_word (codes " r=") r.0) d.0 (poll_word p.0) c.0 (count_word n.0) rest s.2 r.2
+          p.1 n.2,
     )
 shape-is Supervisory text rest e =
     let c = chained behind_poll (option_and_then (behind_labelled (codes " r=") number_bound) (behind_direction text)) rest e in

@@ -1,5 +1,6 @@
 -- The lines of a text, compared one after the other.
-use Rattle.std.proofs.Common.{◌≡◌, ◌≢◌, ℕ, ◌+◌, ◌<◌, List, [], ◌∷◌, ◌++◌, length, take, drop, refl, sym, ◌∙◌, ap, subst, arith, append_assoc, append-nil, length-append}
+use Rattle.std.proofs.Common.{◌≡◌, ◌≢◌, ℕ, ◌+◌, ◌<◌, List, [], ◌∷◌, ◌++◌, length, take, drop, refl, sym, ◌∙◌, ap, subst, arith}
+use Rattle.std.proofs.Common.{append_assoc, append-nil, length-append}
 use Rattle.std.specs.Prelude.{IsTrue}
 use Rattle.outside_calls.specs.Folder.{FolderState, OnlyReads}
 use Rattle.outside_calls.proofs.Steps.{told_later, octets-kept}
@@ -30,7 +31,8 @@ splits (first ∷ more) text line rest some e whole front behind =
     record {
       more = more;
       lines_is = ap (λ (x : List ℕ). x ∷ more) (sym l);
-      rest_is = behind ∙ ap (λ (x : List ℕ). drop 1 (rest_of is_no_feed x)) e ∙ ap (λ (x : List ℕ). drop 1 x) (first-rest first more whole.0);
+      rest_is = behind ∙ ap (λ (x : List ℕ). drop 1 (rest_of is_no_feed x)) e
+          ∙ ap (λ (x : List ℕ). drop 1 x) (first-rest first more whole.0);
     }
 
 -- Of a text's lines these were compared, and those are left.
@@ -44,7 +46,8 @@ pub record Midway (Told : Type 0) (octets text rest : List ℕ) (start now : Com
   pub compared : (before : List (List ℕ)) → Told → Compared octets before start → Compared octets (before ++ done) now
   pub counted : (n : ℕ) → IsFew n start → IsFew (n + length done) now
 
-pub midway-start : (Told : Type 0) (octets text : List ℕ) (lines : List (List ℕ)) (start : Comparison) → text ≡ text_of lines → AreLines lines
+pub midway-start : (Told : Type 0) (octets text : List ℕ) (lines : List (List ℕ)) (start : Comparison) → text ≡ text_of lines
+    → AreLines lines
     → HasFew (length lines) start → Midway Told octets text text start start
 midway-start Told octets text lines start e are few = record {
   done = [];

@@ -17,7 +17,8 @@ use Rattle.line_texts.specs.FrameText.{kind_word, poll_word, number_word}
 use Rattle.line_texts.specs.LineText.{line_begins, break_word}
 use Rattle.trace_audit.specs.declared.line.LineText.{LineText}
 use Rattle.trace_audit.specs.Grammar.{Shape, Numbered, Supervisory, Commanding, Responding, Rejecting, Exchanging, Unnumbered, count_bound}
-use Rattle.trace_audit.specs.Grammar.{FrameWords, AreInRange, IsBreak, count_word, information_word, shape_text, IsFrameText, IsSignal, odp, adp, frame}
+use Rattle.trace_audit.specs.Grammar.{FrameWords, AreInRange, IsBreak, count_word, information_word, shape_text, IsFrameText, IsSignal, odp}
+use Rattle.trace_audit.specs.Grammar.{adp, frame}
 use Rattle.trace_audit.specs.Grammar.{IsHeard, nothing, lost, passed, IsSent, mark, flags, none, signal, HasParts}
 use Rattle.trace_audit.proofs.Frames.{at-names}
 use Rattle.trace_audit.specs.Cutting.{is_no_feed}
@@ -75,7 +76,8 @@ shape-whole Supervisory w r =
 shape-whole Commanding w r = joined (kind_word true) (poll_word w.pf) refl (poll w.pf)
 shape-whole Responding w r = joined (kind_word false) (poll_word w.pf) refl (poll w.pf)
 shape-whole Rejecting w r =
-    joined (kind_word false) (poll_word w.pf ++ count_word w.count) refl (joined (poll_word w.pf) (count_word w.count) (poll w.pf) (labelled (codes " n=") w.count refl r.count))
+    joined (kind_word false) (poll_word w.pf ++ count_word w.count) refl
+    (joined (poll_word w.pf) (count_word w.count) (poll w.pf) (labelled (codes " n=") w.count refl r.count))
 shape-whole Exchanging w r =
     joined (kind_word w.command) _ (kind w.command)
     (joined (poll_word w.pf) (count_word w.count) (poll w.pf) (labelled (codes " n=") w.count refl r.count))
@@ -132,5 +134,6 @@ parts-whole line t h = elim h.parts [
   | inr p ↦ is-literal line (line_begins t.turn t.role ++ (t.arrived ++ (codes " > " ++ (t.sent ++ break_word t.given)))) p.line_is
       (joined (line_begins t.turn t.role) (t.arrived ++ (codes " > " ++ (t.sent ++ break_word t.given))) (begins-whole t.turn t.role h.turn)
       (joined t.arrived (codes " > " ++ (t.sent ++ break_word t.given)) (heard-whole t.arrived p.arrived)
-      (joined (codes " > ") (t.sent ++ break_word t.given) refl (joined t.sent (break_word t.given) (sent-whole t.sent p.sent) (given-whole t.given p.given)))))
+      (joined (codes " > ") (t.sent ++ break_word t.given) refl
+      (joined t.sent (break_word t.given) (sent-whole t.sent p.sent) (given-whole t.given p.given)))))
 ]

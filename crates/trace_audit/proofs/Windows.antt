@@ -1,6 +1,8 @@
 -- What the octets that a text begins with tell of it.
-use Rattle.std.proofs.Common.{◌≡◌, ◌≢◌, ℕ, zero, suc, ◌+◌, ◌-◌, ◌<◌, ◌≤◌, Bool, true, false, not, ◌&&◌, cond, eqb, List, [], ◌∷◌, ◌++◌, length, take, drop}
-use Rattle.std.proofs.Common.{refl, sym, ap, subst, ◌∙◌, arith, append_assoc, ◌⊎◌, inl, inr, length-append, append-nil, take-append-drop, length-take}
+use Rattle.std.proofs.Common.{◌≡◌, ◌≢◌, ℕ, zero, suc, ◌+◌, ◌-◌, ◌<◌, ◌≤◌, Bool, true, false, not, ◌&&◌, cond, eqb, List, [], ◌∷◌, ◌++◌}
+use Rattle.std.proofs.Common.{length, take, drop}
+use Rattle.std.proofs.Common.{refl, sym, ap, subst, ◌∙◌, arith, append_assoc, ◌⊎◌, inl, inr, length-append, append-nil, take-append-drop}
+use Rattle.std.proofs.Common.{length-take}
 use Rattle.std.specs.Prelude.{◌==◌}
 use Rattle.std.specs.List.{list_all}
 use Rattle.std.specs.Str.{bytes_eq}
@@ -130,7 +132,8 @@ longer (x ∷ front) tail h = let p = and_parts (is_no_feed x) (list_all is_no_f
 pub given-differs : (line own : List ℕ) (a b : LineText) → HasParts line a → HasParts own b → a.turn ≡ b.turn → a.role ≡ b.role
     → a.arrived ≡ b.arrived → a.sent ≡ b.sent → (line ≡ own → ⊥) → a.given ≢ b.given
 given-differs line own a b h k turn role arrived sent apart given =
-    let same : b ≡ a = λ i. record { turn = sym turn i; role = sym role i; arrived = sym arrived i; sent = sym sent i; given = sym given i } in
+    let same : b ≡ a = λ i. record { turn = sym turn i; role = sym role i; arrived = sym arrived i; sent = sym sent i; given = sym given i }
+    in
     apart (one-line line own a h (subst (HasParts own) same k))
 
 module _ (line window rest : List ℕ) (whole : IsWhole line) (short : length line ≤ 160) (is_window : window ≡ take 162 rest) where
@@ -148,8 +151,11 @@ module _ (line window rest : List ℕ) (whole : IsWhole line) (short : length li
   goes-on f some =
       let t = fed-behind (rest_of is_no_feed window) some (rest-stops is_no_feed window) in
       let w : window ≡ fed line ++ t.0 = sym (front-rest is_no_feed window) ∙ ap (λ x. x ++ rest_of is_no_feed window) f
-      ∙ ap (λ x. line ++ x) t.1 ∙ sym (append_assoc line (10 ∷ []) t.0) in
-      (t.0 ++ drop 162 rest, whole-rest 162 rest window is_window ∙ ap (λ x. x ++ drop 162 rest) w ∙ append_assoc (fed line) t.0 (drop 162 rest))
+      ∙ ap (λ x. line ++ x) t.1 ∙ sym (append_assoc line (10 ∷ []) t.0) in (
+        t.0 ++ drop 162 rest,
+        whole-rest 162 rest window is_window ∙ ap (λ x. x ++ drop 162 rest) w
+            ∙ append_assoc (fed line) t.0 (drop 162 rest),
+      )
 
   -- it ends within the line
   pub stops-within : (more : List ℕ) → line ≡ front_of is_no_feed window ++ more → front_of is_no_feed window ≢ line
@@ -163,7 +169,8 @@ module _ (line window rest : List ℕ) (whole : IsWhole line) (short : length li
       let r : rest ≡ front_of is_no_feed window = short-front 162 rest window is_window (omega (arith, l, m, short)) ∙ w in (
         more ++ 10 ∷ [],
         some more,
-        ap (λ t. t ++ (more ++ 10 ∷ [])) r ∙ sym (append_assoc (front_of is_no_feed window) more (10 ∷ [])) ∙ ap (λ t. t ++ 10 ∷ []) (sym e),
+        ap (λ t. t ++ (more ++ 10 ∷ [])) r ∙ sym (append_assoc (front_of is_no_feed window) more (10 ∷ []))
+            ∙ ap (λ t. t ++ 10 ∷ []) (sym e),
       )
     where
       some : (more : List ℕ) → more ++ 10 ∷ [] ≢ []
@@ -177,8 +184,10 @@ module _ (line window rest : List ℕ) (whole : IsWhole line) (short : length li
       let l : length rest + length u.0 ≡ length line = sym (length-append {A = ℕ} rest u.0) ∙ ap (λ (t : List ℕ). length t) u.2 in
       let w : window ≡ rest = is_window ∙ take_all 162 rest (omega (arith, l, short)) in
       let all : IsWhole rest = all-front rest u.0 (subst IsWhole (sym u.2) whole) in
-      let f : front_of is_no_feed window ≡ rest = ap (front_of is_no_feed) (w ∙ sym (append-nil rest)) ∙ front-reads is_no_feed rest [] all refl in
-      let b : rest_of is_no_feed window ≡ [] = ap (rest_of is_no_feed) (w ∙ sym (append-nil rest)) ∙ rest-reads is_no_feed rest [] all refl in
+      let f : front_of is_no_feed window ≡ rest = ap (front_of is_no_feed) (w ∙ sym (append-nil rest))
+      ∙ front-reads is_no_feed rest [] all refl in
+      let b : rest_of is_no_feed window ≡ [] = ap (rest_of is_no_feed) (w ∙ sym (append-nil rest))
+      ∙ rest-reads is_no_feed rest [] all refl in
       (u.0, sym u.2 ∙ ap (λ t. t ++ u.0) (sym f), b)
 
   -- where it goes on with the line, the window begins with it
@@ -216,7 +225,8 @@ module _ (line window rest : List ℕ) (whole : IsWhole line) (short : length li
         | inr many ↦ let w : window ≡ front_of is_no_feed window = sym (front-rest is_no_feed window)
             ∙ ap (λ t. front_of is_no_feed window ++ t) b ∙ append-nil (front_of is_no_feed window) in
             let l : length window ≡ length (front_of is_no_feed window) = ap (λ (t : List ℕ). length t) w in
-            let r : rest ≡ front_of is_no_feed window ++ drop 162 rest = whole-rest 162 rest window is_window ∙ ap (λ t. t ++ drop 162 rest) w in
+            let r : rest ≡ front_of is_no_feed window ++ drop 162 rest = whole-rest 162 rest window is_window
+            ∙ ap (λ t. t ++ drop 162 rest) w in
             let long : length (front_of is_no_feed window) ≤ length (own_line rest) =
             subst (λ t. length (front_of is_no_feed window) ≤ length (own_line t)) (sym r)
             (longer (front_of is_no_feed window) (drop 162 rest) (front-passes is_no_feed window)) in
@@ -225,7 +235,8 @@ module _ (line window rest : List ℕ) (whole : IsWhole line) (short : length li
       go (x ∷ tail) b =
           let some : rest_of is_no_feed window ≢ [] = λ e. cons-nil x tail (sym b ∙ e) in
           let t = fed-behind (rest_of is_no_feed window) some (rest-stops is_no_feed window) in
-          let w : window ≡ front_of is_no_feed window ++ 10 ∷ t.0 = sym (front-rest is_no_feed window) ∙ ap (λ y. front_of is_no_feed window ++ y) t.1 in
+          let w : window ≡ front_of is_no_feed window ++ 10 ∷ t.0 = sym (front-rest is_no_feed window)
+          ∙ ap (λ y. front_of is_no_feed window ++ y) t.1 in
           let r : rest ≡ front_of is_no_feed window ++ 10 ∷ (t.0 ++ drop 162 rest) =
           whole-rest 162 rest window is_window ∙ ap (λ y. y ++ drop 162 rest) w
           ∙ append_assoc (front_of is_no_feed window) (10 ∷ t.0) (drop 162 rest) in

@@ -1,6 +1,7 @@
 -- What is written of a line has its parts.
 use Rattle.std.proofs.Common.{◌≡◌, ℕ, ◌<◌, ◌≤◌, Bool, true, false, cond, ◌||◌, nat_eq, nat_lt, List, [], ◌∷◌, ◌++◌, length, codes, decimal}
-use Rattle.std.proofs.Common.{Option, Some, None, Result, Ok, Err, refl, sym, ap, subst, ◌∙◌, arith, append_assoc, length-append, append-nil, inl, inr}
+use Rattle.std.proofs.Common.{Option, Some, None, Result, Ok, Err, refl, sym, ap, subst, ◌∙◌, arith, append_assoc, length-append}
+use Rattle.std.proofs.Common.{append-nil, inl, inr}
 use Rattle.std.specs.Prelude.{IfSome}
 use Rattle.std.proofs.lemmas.Bool.Decides.{nat_tests}
 use Rattle.std.proofs.lemmas.Fmt.{length-decimal-le}
@@ -22,13 +23,16 @@ use Rattle.break_signals.specs.declared.fault.BreakFault.TheVariants.{Kind, Numb
 use Rattle.break_signals.specs.Words.{word_in, spelled}
 use Rattle.break_signals.proofs.Spelling.{is_spelled_back_always}
 use Rattle.line_texts.specs.FrameText.{IsInformation, kind_word, poll_word, number_word, if_word, break_in, frame_text, information_words}
-use Rattle.line_texts.specs.LineText.{slot_word, heard_word, sent_word, break_word, is_chance, line_begins, chance_line, trace_line, line_text}
+use Rattle.line_texts.specs.LineText.{slot_word, heard_word, sent_word, break_word, is_chance, line_begins, chance_line, trace_line}
+use Rattle.line_texts.specs.LineText.{line_text}
 use Rattle.line_texts.specs.declared.trace_line.TraceLine.{TraceLine}
-use Rattle.trace_audit.specs.Grammar.{Shape, Numbered, Supervisory, Commanding, Responding, Rejecting, Exchanging, Unnumbered, number_bound, count_bound, shape_named}
+use Rattle.trace_audit.specs.Grammar.{Shape, Numbered, Supervisory, Commanding, Responding, Rejecting, Exchanging, Unnumbered, number_bound}
+use Rattle.trace_audit.specs.Grammar.{count_bound, shape_named}
 use Rattle.trace_audit.specs.Grammar.{FrameWords, IsBreak, count_word, information_word, shape_text, IsFrameText, IsSignal, odp, adp, frame}
 use Rattle.trace_audit.specs.Grammar.{IsHeard, nothing, lost, passed, IsSent, mark, flags, none, signal, HasParts}
 use Rattle.trace_audit.specs.Reading.{chance_parts}
-use Rattle.trace_audit.specs.Written.{IsReadableFrame, IsReadableSent, IsReadableSignal, IsReadableHeard, IsReadable, text_of_line, parts_of_line}
+use Rattle.trace_audit.specs.Written.{IsReadableFrame, IsReadableSent, IsReadableSignal, IsReadableHeard, IsReadable, text_of_line}
+use Rattle.trace_audit.specs.Written.{parts_of_line}
 use Rattle.trace_audit.proofs.Frames.{heard-short, sent-short}
 
 -- ---- breaks
@@ -41,12 +45,15 @@ number_in (Ack number units) = number
 of-three : (kind number units : ℕ) (word : BreakWord) (a b c : Bool) → nat_lt number 2 ≡ c
     → cond a (cond c (Ok (cond b (Brk number units) (Ack number units))) (Err (Number number))) (Err (Kind kind)) ≡ Ok word
     → number_in word < 2
-of-three kind number units word true true true is e = let w : Brk number units ≡ word = cc in subst (λ w. number_in w < 2) w (grind (arith, nat_tests, is))
-of-three kind number units word true false true is e = let w : Ack number units ≡ word = cc in subst (λ w. number_in w < 2) w (grind (arith, nat_tests, is))
+of-three kind number units word true true true is e = let w : Brk number units ≡ word = cc in subst (λ w. number_in w < 2) w
+    (grind (arith, nat_tests, is))
+of-three kind number units word true false true is e = let w : Ack number units ≡ word = cc in subst (λ w. number_in w < 2) w
+    (grind (arith, nat_tests, is))
 of-three kind number units word true b false is e = absurd cc
 of-three kind number units word false b c is e = absurd cc
 
-of-others : (kind : ℕ) (word : BreakWord) (fault : BreakFault) (a : Bool) → cond a (Err fault) (Err (Kind kind)) ≡ Ok word → number_in word < 2
+of-others : (kind : ℕ) (word : BreakWord) (fault : BreakFault) (a : Bool) → cond a (Err fault) (Err (Kind kind)) ≡ Ok word
+    → number_in word < 2
 of-others kind word fault true e = absurd cc
 of-others kind word fault false e = absurd cc
 
@@ -126,7 +133,8 @@ frame-is-text (frames.Dm pf) h = bare Responding (codes "dm") false pf refl refl
 frame-is-text (frames.Frmr pf info) h =
     informed Rejecting (codes "frmr") false pf (length info) None (count_word (length info)) refl h.2 tt refl
 frame-is-text (frames.Ui command pf info) h =
-    informed Unnumbered (codes "ui") command pf (length info) (if_word (word_in info)) (information_words (if_word (word_in info)) (Some info)) refl
+    informed Unnumbered (codes "ui") command pf (length info) (if_word (word_in info))
+    (information_words (if_word (word_in info)) (Some info)) refl
     h.2 h.3
     (ap (λ t. kind_word command ++ (poll_word pf ++ t)) (sym (said (if_word (word_in info)) info)))
 frame-is-text (frames.Xid command pf info) h =
@@ -242,7 +250,8 @@ plain-has-parts line h c =
       });
     }
 
-chance-has-parts : (turn : ℕ) (role : Role) → turn < count_bound → HasParts (line_begins turn role ++ codes "chance") (chance_parts turn role)
+chance-has-parts : (turn : ℕ) (role : Role) → turn < count_bound
+    → HasParts (line_begins turn role ++ codes "chance") (chance_parts turn role)
 chance-has-parts turn role low = record {
   short = omega (arith, length-begins turn role low, length-append {A = ℕ} (line_begins turn role) (codes "chance"));
   turn = low;
@@ -268,6 +277,7 @@ line-is-fed line = go (is_chance line.arrived)
   where
     go : (b : Bool) → cond b (chance_line line.turn line.role) (trace_line line.turn line.role line.arrived line.sent line.given)
         ≡ cond b (line_begins line.turn line.role ++ codes "chance")
-        (line_begins line.turn line.role ++ heard_word line.arrived ++ codes " > " ++ sent_word line.sent ++ break_word line.given) ++ codes "\n"
+        (line_begins line.turn line.role ++ heard_word line.arrived ++ codes " > " ++ sent_word line.sent ++ break_word line.given) ++ codes
+        "\n"
     go true = refl
     go false = refl

@@ -11,7 +11,8 @@ use Rattle.command_base.specs.declared.limits.TheConstants.{HEX_LIMIT}
 use Rattle.command_base.specs.declared.status.Status.{Status}
 use Rattle.command_base.specs.declared.status.Status.TheVariants.{Done, Usage, BadScript, BadRecording, BadHex, BadXid, TooLong, ReadFault}
 use Rattle.command_base.specs.declared.status.Status.TheVariants.{WriteFault}
-use Rattle.command_base.specs.declared.status.Status.TheVariants.{LineLost, NotDetected, LinkLost, ChanceMatch, NoMemory, PeerFault, AuditNo, BadTap, PairLinkLost, PairNotDetected}
+use Rattle.command_base.specs.declared.status.Status.TheVariants.{LineLost, NotDetected, LinkLost, ChanceMatch, NoMemory, PeerFault}
+use Rattle.command_base.specs.declared.status.Status.TheVariants.{AuditNo, BadTap, PairLinkLost, PairNotDetected}
 use Rattle.command_base.specs.declared.stop.Stop.TheVariants.{Own}
 use Rattle.command_base.specs.Stops.{IsOwn}
 use Rattle.command_base.specs.Job.{SaysStop, Answers}

@@ -27,7 +27,8 @@ use Rattle.link_run.specs.Run.{Party, Spoken, spoken}
 use Rattle.link_run.specs.Alone.{LoneTurn, LoneRun, LoneBroken, OneLoneRun, hangs_up, lone_served}
 use Rattle.line_world.specs.OneEnd.Heard.{EndsWith, IsQuiet, AreQuiet, IsFirst, stream, slot_bits}
 use Rattle.line_world.specs.OneEnd.Peer.{Past, TurnIs, Outcome, Going, Closed, Broken, HearsSlots, party_of}
-use Rattle.line_world.specs.OneEnd.Laws.{OneIsHeard, OnePeerRun, OnePeerTurn, HearingBreaks, PeersFaultsAreHeard, OtherFaultsAreWants, IsPeers}
+use Rattle.line_world.specs.OneEnd.Laws.{OneIsHeard, OnePeerRun, OnePeerTurn, HearingBreaks, PeersFaultsAreHeard, OtherFaultsAreWants}
+use Rattle.line_world.specs.OneEnd.Laws.{IsPeers}
 use Rattle.line_world.proofs.OneEnd.Breaking.{hears-peers, speaks-wants}
 
 -- ---- what ends with one bit

@@ -7,7 +7,8 @@ use Rattle.link_account.specs.Account.{Account}
 use Rattle.link_run.specs.Alone.{LoneTurn, LoneRun}
 use Rattle.line_world.specs.OneEnd.Peer.{Past, PeerTurn, Outcome, Going, Closed, Broken, HearsSlots, party_of}
 use Rattle.line_world.specs.OneEnd.Laws.{OnePeerRun, OnePeerTurn}
-use Rattle.run_commands.specs.Peering.Runs.{Left, PeerEnd, IsDone, GivesUp, HearsAll, IsPast, MakesTurn, RunsTo, left_of, left_after, slot_at}
+use Rattle.run_commands.specs.Peering.Runs.{Left, PeerEnd, IsDone, GivesUp, HearsAll, IsPast, MakesTurn, RunsTo, left_of, left_after}
+use Rattle.run_commands.specs.Peering.Runs.{slot_at}
 use Rattle.run_commands.specs.Peering.Runs.{slots_before}
 use Rattle.run_commands.specs.Peering.Laws.{OneResult}
 

@@ -199,7 +199,8 @@ stops-in start mid next n p octets slot turn a number s =
         left = left_after n.role (over s.others p) s.turn s.octets;
         makes = makes-turn n.role
             (over s.others p) octets slot k.rest turn s.outcome s.turn s.octets number a.count a.slots_are a.some k.cut s.is;
-        holds = subst (λ m. HoldPart next (outputs_of n) (held_of (left_of n.role p)) (s.octets ∷ turn_line n.role m s.turn ∷ [])) (sym number)
+        holds = subst (λ m. HoldPart next (outputs_of n) (held_of (left_of n.role p)) (s.octets ∷ turn_line n.role m s.turn ∷ []))
+            (sym number)
             (HoldPart-add mid next (outputs_of n) (held_of (left_of n.role p)) (added n.role p s.turn s.octets) a.only.goes_on a.holds
             s.writes);
       };
@@ -393,7 +394,8 @@ not-read start old mid n s r reads =
     }
 
 -- a slot is read, and a turn made
-pub around : (start old mid next : FolderState) (n : Names) (s : Single) (r : Reached start old n s) (slot : List ℕ) → AreNoneOf (outputs_of n) (inputs_of n)
+pub around : (start old mid next : FolderState) (n : Names) (s : Single) (r : Reached start old n s) (slot : List ℕ)
+    → AreNoneOf (outputs_of n) (inputs_of n)
     → OnlyReads old mid
     → ReadTo start mid n.bits FILE_LIMIT (slot_octets * length r.past.turns + length slot) (r.octets ++ slot) → 1 ≤ length slot
     → length slot ≤ slot_octets
@@ -464,7 +466,8 @@ own-fault role links.PeerRefused turn = tt
 
 -- a fault of a turn, behind what counted none
 pub fault-counts : (old mid next : FolderState) (n : Names) (turn : ℕ) (fault : SingleFault) → CountsStand old mid
-    → FaultCounts mid next (n.file ∷ []) (outputs_of n) fault → StopCounts old next (inputs_of n) (outputs_of n) (fault_stop n.role turn fault)
+    → FaultCounts mid next (n.file ∷ []) (outputs_of n) fault
+    → StopCounts old next (inputs_of n) (outputs_of n) (fault_stop n.role turn fault)
 fault-counts old mid next n turn faults.ReadFault stand rose =
     stop-earlier old mid next (inputs_of n) (outputs_of n) (Read folder.Failed) stand (file-fails mid next n folder.Failed rose)
 fault-counts old mid next n turn faults.WriteFault stand rose =

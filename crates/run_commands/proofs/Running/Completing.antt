@@ -50,7 +50,8 @@ never-refused law old n script (TooLong word) r (inl s) =
 never-refused law old n script (TooLong word) r (inr f) = by f.first
   where
     by : (((word ≡ 1) × IsLonger old n.names.orig LIMITS.file)
-        ⊎ (IsWithin old n.names.orig LIMITS.file × (((word ≡ 2) × IsLonger old n.names.answ LIMITS.file) ⊎ (IsWithin old n.names.answ LIMITS.file × ⊥)))) → ⊥
+        ⊎ (IsWithin old n.names.orig LIMITS.file
+        × (((word ≡ 2) × IsLonger old n.names.answ LIMITS.file) ⊎ (IsWithin old n.names.answ LIMITS.file × ⊥)))) → ⊥
     by (inl o) = file-fits (length (octets_at old n.names.orig)) r.orig_short (o.1 r.orig_told)
     by (inr (w, inl a)) = file-fits (length (octets_at old n.names.answ)) r.answ_short (a.1 r.answ_told)
     by (inr (w, inr a)) = a.1
@@ -176,7 +177,8 @@ inputs-run : ScriptsAreOne → (old before : FolderState) (n : RunNames) (script
 inputs-run law old before n script found r e =
     let same : script ≡ e.script = law (octets_at old n.script) script e.script r.spelled (e.takes.opens.reads.spelled r.script_told) in
     let at-orig : ScriptRunsTo e.script (record { orig = octets_at old n.names.orig; answ = e.files.answ }) found e.left =
-    subst (λ (o : List ℕ). ScriptRunsTo e.script (record { orig = o; answ = e.files.answ }) found e.left) (e.takes.orig r.orig_told) e.run in
+    subst (λ (o : List ℕ). ScriptRunsTo e.script (record { orig = o; answ = e.files.answ }) found e.left) (e.takes.orig r.orig_told) e.run
+    in
     let at-files : ScriptRunsTo e.script (files_at old n) found e.left =
     subst (λ (a : List ℕ). ScriptRunsTo e.script (record { orig = octets_at old n.names.orig; answ = a }) found e.left)
     (e.takes.answ r.answ_told) at-orig in

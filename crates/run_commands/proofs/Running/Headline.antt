@@ -42,7 +42,8 @@ whole-of laws old before new n turn g kept e =
     laws.whole (wire_of e.script) (link_of e.script e.files) turn e.left (may-run laws (wire_of e.script) e.files e.takes.limits) e.run in (
       (λ ts tg. kept n.names.got_o (told_later g n.names.got_o tg) ∙ e.holds.0 (told_later g n.names.got_o tg)
           ∙ ap Some (w Originator ∙ e.takes.answ ts)),
-      (λ ts tg. kept n.names.got_a (told_later g n.names.got_a tg) ∙ e.holds.1.0 (told_later g n.names.got_a tg) ∙ ap Some (w Answerer ∙ e.takes.orig ts)),
+      (λ ts tg. kept n.names.got_a (told_later g n.names.got_a tg) ∙ e.holds.1.0 (told_later g n.names.got_a tg)
+          ∙ ap Some (w Answerer ∙ e.takes.orig ts)),
     )
 
 -- a run that ended by itself

@@ -23,7 +23,8 @@ pub heads : (a b : FolderState) (name header : List ℕ) → GoesOn a b → Hold
 heads a b name header on none put = Holds-more a b name [] header on none put
 
 -- it is the recording of no turns
-pub begins : (tape : Tape) (a b : FolderState) (c : Wire) (role : Role) (name : List ℕ) → TapeStands tape c role [] [] → tape.name.now ≡ name
+pub begins : (tape : Tape) (a b : FolderState) (c : Wire) (role : Role) (name : List ℕ) → TapeStands tape c role [] []
+    → tape.name.now ≡ name
     → GoesOn a b → Holds a name [] → Appended a b name (header_of (mode_of role)) → KeepsTape tape b c role []
 begins tape a b c role name stands is on none put = record {
   body = [];
@@ -74,7 +75,8 @@ touches-both a b c name other first next =
     OnlyOutputs-trans (name ∷ other ∷ []) (touches-first a b name (other ∷ []) first)
     (record { goes_on = next.goes_on; names = λ any none. next.names any none.1.0 })
 
-pub first-fails : (old new : FolderState) (name : List ℕ) (names : List (List ℕ)) (fault : FolderFault) → WriteFails old new (name ∷ []) fault
+pub first-fails : (old new : FolderState) (name : List ℕ) (names : List (List ℕ)) (fault : FolderFault)
+    → WriteFails old new (name ∷ []) fault
     → WriteFails old new (name ∷ names) fault
 first-fails old new name names folder.Failed (inl rose) = inl rose
 first-fails old new name names folder.Failed (inr never) = absurd never

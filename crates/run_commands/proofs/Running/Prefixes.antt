@@ -114,7 +114,10 @@ both-creating old before n g (inl (o, (a, rest))) = record { got_o = empty-of ol
 both-creating old before n g (inr (o, inl (a, rest))) =
     record { got_o = empty-of old before n.names.got_o n.names.answ g (inr o); got_a = empty-of old before n.names.got_a n.names.orig g a }
 both-creating old before n g (inr (o, inr (a, rest))) =
-    record { got_o = empty-of old before n.names.got_o n.names.answ g (inr o); got_a = empty-of old before n.names.got_a n.names.orig g (inr a) }
+    record {
+      got_o = empty-of old before n.names.got_o n.names.answ g (inr o);
+      got_a = empty-of old before n.names.got_a n.names.orig g (inr a);
+    }
 
 both-heading : (old before : FolderState) (n : RunNames) → GoesOn old before → StopsHeading LIMITS old before n → BothPrefix old before n
 both-heading old before n g h = record {

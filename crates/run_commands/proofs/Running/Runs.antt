@@ -100,7 +100,8 @@ ran-to old mid now next n script end p r =
     }
 
 -- or for the folder
-stops-in : LineRunsEndSoon → (old mid now next : FolderState) (n : RunNames) (script : ScriptValue) → Phases LIMITS old mid now next n script
+stops-in : LineRunsEndSoon → (old mid now next : FolderState) (n : RunNames) (script : ScriptValue)
+    → Phases LIMITS old mid now next n script
     → RunStops script next n.names n.tapes → StopsInTurn LIMITS old next n
 stops-in soon old mid now next n script p r =
     record {
@@ -112,14 +113,16 @@ stops-in soon old mid now next n script p r =
       few = soon (wire_of script) r.files r.stops.turns r.stops.ends p.begun.limits r.stops.run;
     }
 
-stops-in-reading : LineRunsEndSoon → (old mid now next : FolderState) (n : RunNames) (script : ScriptValue) → Phases LIMITS old mid now next n script
+stops-in-reading : LineRunsEndSoon → (old mid now next : FolderState) (n : RunNames) (script : ScriptValue)
+    → Phases LIMITS old mid now next n script
     → RunStopsReading script next n.names n.tapes → StopsInReading LIMITS old next n
 unfolding stops-in
 stops-in-reading soon old mid now next n script p r = (stops-in soon old mid now next n script p r.0, r.1)
 
 -- a turn's fault ended the run
 pub ends-in-turn : LineRunsEndSoon → (old mid now next : FolderState) (n : RunNames) (script : ScriptValue) (fault : RunFault)
-    → Phases LIMITS old mid now next n script → FaultCountsOver now next (files_of n) (outputs_of n) fault → FaultEnds script next n.names n.tapes fault
+    → Phases LIMITS old mid now next n script → FaultCountsOver now next (files_of n) (outputs_of n) fault
+    → FaultEnds script next n.names n.tapes fault
     → EndsBy LIMITS old next n (fault_stop fault)
 ends-in-turn soon old mid now next n script faults.ReadFault p counts e =
     inr (

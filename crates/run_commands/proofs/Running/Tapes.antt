@@ -31,7 +31,8 @@ use Rattle.run_commands.specs.Running.Tapes.{HeadsPartly, TapeBegun, TapesBegun}
 
 -- ---- the script and the files that were taken
 
-pub are-of : (f : FolderState) (n : RunNames) (script : ScriptValue) (files : Both (List ℕ)) → Takes LIMITS f n script files → AreOf f n script files
+pub are-of : (f : FolderState) (n : RunNames) (script : ScriptValue) (files : Both (List ℕ)) → Takes LIMITS f n script files
+    → AreOf f n script files
 are-of f n script files takes = record {
   script_is = takes.opens.reads.spelled;
   orig_is = takes.orig;
@@ -114,7 +115,8 @@ module _ (old before : FolderState) (n : RunNames) (script : ScriptValue) (files
         (HoldsFront-part before name (header_of (mode_of role) ++ h.body) h.more h.holds);
   }))
 
-  pub both-turns : (tapes : Tapes) (ts : List Turn) (ends : Accounts) → LineRun c (link_of script files) ts ends → HoldTapes before tapes c ts
+  pub both-turns : (tapes : Tapes) (ts : List Turn) (ends : Accounts) → LineRun c (link_of script files) ts ends
+      → HoldTapes before tapes c ts
       → TapesBegun old before n tapes
   both-turns None ts ends run h = tt
   both-turns (Some names) ts ends run h =
@@ -144,7 +146,8 @@ tapes-stopped old before n e = by e.taped
         (record { run = (e.stops.ends, e.stops.run.run, on.1); heard = (s.adds.heard, e.stops.run.heard) }) s.taped
 
 -- before the first turn
-tapes-kept : (old before : FolderState) (n : RunNames) (tapes : Tapes) → KeepsEach old before (tapes_of tapes) → TapesBegun old before n tapes
+tapes-kept : (old before : FolderState) (n : RunNames) (tapes : Tapes) → KeepsEach old before (tapes_of tapes)
+    → TapesBegun old before n tapes
 tapes-kept old before n None k = tt
 tapes-kept old before n (Some names) k = (inl k.0, inl k.1.0)
 
@@ -197,6 +200,7 @@ tapes-by old before n (stops.Write fault) (inr (inl h)) = tapes-headed old befor
 tapes-by old before n (stops.Write fault) (inr (inr e)) = tapes-stopped old before n e
 tapes-by old before n (stops.Say fault) never = absurd never
 
-pub tapes-of : (old before : FolderState) (n : RunNames) (end : Result ℕ Stop) → EndsSo LIMITS old before n end → TapesBegun old before n n.tapes
+pub tapes-of : (old before : FolderState) (n : RunNames) (end : Result ℕ Stop) → EndsSo LIMITS old before n end
+    → TapesBegun old before n n.tapes
 tapes-of old before n (Ok turn) e = tapes-ran old before n _ e
 tapes-of old before n (Err stop) e = tapes-by old before n stop e

@@ -50,7 +50,8 @@ files-are seed a b d files m k =
     let next : KeepsEach (sure_folder b) (sure_folder d) (inputs_of soak_names) =
     inputs-kept (sure_folder b) (sure_folder d) (inputs_of soak_names) soak_outputs apart.1 m.turns.names in
     let orig : files.orig ≡ soak_file seed Originator
-    = file-is seed a b d soak_names.orig files.orig (soak_file seed Originator) first.0 next.0 m.holds.orig m.holds.orig_size (k.orig refl) in
+    = file-is seed a b d soak_names.orig files.orig (soak_file seed Originator) first.0 next.0 m.holds.orig m.holds.orig_size (k.orig refl)
+    in
     let answ : files.answ ≡ soak_file seed Answerer
     = file-is seed a b d soak_names.answ files.answ (soak_file seed Answerer) first.1.0 next.1.0 m.holds.answ m.holds.answ_size
     (k.answ refl) in

@@ -13,7 +13,8 @@ returns-in-Ok g c =
     length-take-le count c.read_part.new.piece (subst (λ n. count ≤ n) (sym c.read_part.ensures.kept) c.in-Ok.ensures.bound) in
     record {
       more = λ start octets r.
-          ReadTo-more start old new c.args.name.now c.args.limit c.args.at count octets _ r c.read_part.ensures.reads long c.in-Ok.ensures.front;
+          ReadTo-more start old new c.args.name.now c.args.limit c.args.at count octets _ r c.read_part.ensures.reads long
+          c.in-Ok.ensures.front;
       end = λ start octets r few told.
           ReadTo-end start old new c.args.name.now c.args.limit c.args.at count _ octets _ r c.read_part.ensures.reads long
           c.in-Ok.ensures.front c.in-Ok.ensures.count few told;

@@ -10,7 +10,8 @@ returns-clause-ok g c = λ found piece octets.
     on-ok-map {P = Said now new c.as_slice.result.now} c.say_line.result
     (λ said. record {
       line = c.as_slice.result.now;
-      is_line = subst (λ (xs : List ℕ). IsLine c.args.sender found xs) (sym c.as_slice.ensures.items) (c.put_piece.ensures found piece octets);
+      is_line = subst (λ (xs : List ℕ). IsLine c.args.sender found xs) (sym c.as_slice.ensures.items)
+          (c.put_piece.ensures found piece octets);
       said = said;
     }) c.say_line.ensures.ok
 
@@ -20,6 +21,7 @@ returns-clause-err g c = λ found piece octets.
     on-err-map {P = PartlySaid now new c.as_slice.result.now} c.say_line.result
     (λ said. record {
       line = c.as_slice.result.now;
-      is_line = subst (λ (xs : List ℕ). IsLine c.args.sender found xs) (sym c.as_slice.ensures.items) (c.put_piece.ensures found piece octets);
+      is_line = subst (λ (xs : List ℕ). IsLine c.args.sender found xs) (sym c.as_slice.ensures.items)
+          (c.put_piece.ensures found piece octets);
       said = said;
     }) c.say_line.ensures.err

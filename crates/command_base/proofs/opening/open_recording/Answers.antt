@@ -80,4 +80,9 @@ returns-in-Err-read_piece g c =
     let fails = read-earlier (g.F.Folder.state c.args.folder.now) (g.F.Folder.state c.within_limit.new.folder)
     (g.F.Folder.state c.read_piece.new.folder) (c.args.name.now ∷ []) c.in-Err-read_piece.fault c.in-Ok.ensures.stand
     c.in-Err-read_piece.ensures.fails in
-    record { ok = tt; err = fails; reads = OnlyReads-trans c.within_limit.ensures.reads c.read_piece.ensures.reads; counts = λ outputs. fails }
+    record {
+      ok = tt;
+      err = fails;
+      reads = OnlyReads-trans c.within_limit.ensures.reads c.read_piece.ensures.reads;
+      counts = λ outputs. fails;
+    }

@@ -7,7 +7,8 @@ use Rattle.outside_calls.proofs.OnlyOutputs.{OnlyOutputs-refl}
 use Rattle.outside_calls.specs.declared.folder.FolderFault.{FolderFault}
 use Rattle.outside_calls.specs.Outputs.{AreApart, Creates, CreatesPart, OnlyOutputs}
 use Rattle.command_base.specs.Stops.{WriteFails}
-use Rattle.command_base.proofs.Creating.{CreatesPart-first, CreatesPart-none, OnlyOutputs-first, OnlyOutputs-none, WriteFails-first, WriteFails-later}
+use Rattle.command_base.proofs.Creating.{CreatesPart-first, CreatesPart-none, OnlyOutputs-first, OnlyOutputs-none, WriteFails-first}
+use Rattle.command_base.proofs.Creating.{WriteFails-later}
 use Rattle.command_base.proofs.Saying.{on-ok-map, on-err-map, if-err-map}
 use Rattle.command_base.proofs.output.+create_outputs.Goals as goal
 
@@ -41,7 +42,8 @@ returns-in-Ok g t c =
           (λ creates. subst (Creates new) (sym e)
           (Holds-kept mid new name [] others.goes_on c.in-Ok.ensures.ok (others.names name apart.0), creates)) c.create_outputs.ensures.ok;
       err = on-err-map {P = CreatesPart mid new names} c.create_outputs.result
-          (λ part. subst (CreatesPart old new) (sym e) (CreatesPart-first old mid new name names apart.0 first c.in-Ok.ensures.ok others part))
+          (λ part. subst (CreatesPart old new) (sym e)
+          (CreatesPart-first old mid new name names apart.0 first c.in-Ok.ensures.ok others part))
           c.create_outputs.ensures.err;
       only = subst (OnlyOutputs old new) (sym e) (OnlyOutputs-first old mid new name names first others);
       said = c.create_outputs.ensures.said ∙ first.said;

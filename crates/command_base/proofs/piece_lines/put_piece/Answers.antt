@@ -18,15 +18,18 @@ returns-in-Ragged c = λ found piece octets.
 
 pub returns-in-Aborted : goal.returns-in-Aborted
 returns-in-Aborted c = λ found piece octets.
-    line-of c.args.sender found pieces.Aborted c.args.octets.now IsAborted c.extend-in-Aborted.new.self (piece ∙ c.in-Aborted.is) octets refl
+    line-of c.args.sender found pieces.Aborted c.args.octets.now IsAborted c.extend-in-Aborted.new.self (piece ∙ c.in-Aborted.is) octets
+    refl
     (c.extend-in-Aborted.ensures ∙ ap (λ line. line ++ codes "aborted\n") c.requires)
 
 pub returns-in-TooLong : goal.returns-in-TooLong
 returns-in-TooLong c = λ found piece octets.
-    line-of c.args.sender found pieces.TooLong c.args.octets.now IsTooLong c.extend-in-TooLong.new.self (piece ∙ c.in-TooLong.is) octets refl
+    line-of c.args.sender found pieces.TooLong c.args.octets.now IsTooLong c.extend-in-TooLong.new.self (piece ∙ c.in-TooLong.is) octets
+    refl
     (c.extend-in-TooLong.ensures ∙ ap (λ line. line ++ codes "too long\n") c.requires)
 
 pub returns-in-TooShort : goal.returns-in-TooShort
 returns-in-TooShort c = λ found piece octets.
-    line-of c.args.sender found pieces.TooShort c.args.octets.now IsTooShort c.extend-in-TooShort.new.self (piece ∙ c.in-TooShort.is) octets refl
+    line-of c.args.sender found pieces.TooShort c.args.octets.now IsTooShort c.extend-in-TooShort.new.self (piece ∙ c.in-TooShort.is) octets
+    refl
     (c.extend-in-TooShort.ensures ∙ ap (λ line. line ++ codes "too short\n") c.requires)

@@ -5,7 +5,8 @@ use Rattle.gateway.proofs.bit_groups.four_at.Goals as goal
 pub returns-clause-bits : goal.returns-clause-bits
 returns-clause-bits c =
     let bits = c.args.bits.now in let at = c.args.at in
-    let w : ℕ = get_or bits at 0 in let x : ℕ = get_or bits (at + 1) 0 in let y : ℕ = get_or bits (at + 2) 0 in let z : ℕ = get_or bits (at + 3) 0 in
+    let w : ℕ = get_or bits at 0 in let x : ℕ = get_or bits (at + 1) 0 in let y : ℕ = get_or bits (at + 2) 0 in let z : ℕ = get_or bits
+    (at + 3) 0 in
     let n : ℕ = w % 2 + 2 * (x % 2) + 4 * (y % 2) + 8 * (z % 2) in
     let ew : w % 2 ≡ n % 2 = omega arith in
     let ex : x % 2 ≡ n / 2 % 2 = omega arith in

@@ -13,7 +13,8 @@ invariant-loop-bits l = record {
   next : l.next ≤ length l.bits;
   count : (decoding_of l.reader).count ≡ (decoding_of l.fn.reader).count;
   lost : (decoding_of l.reader).lost ≡ (decoding_of l.fn.reader).lost;
-  reads : (line : LineKind) (mode : Mode) (samples : List Sample) (before : List Bool) → ReadsAs line mode l.fn.reader samples (before ++ given l.at l.fn.bits)
+  reads : (line : LineKind) (mode : Mode) (samples : List Sample) (before : List Bool)
+      → ReadsAs line mode l.fn.reader samples (before ++ given l.at l.fn.bits)
       → ReadsAs line mode l.reader samples (before ++ given l.next l.bits);
 }
 

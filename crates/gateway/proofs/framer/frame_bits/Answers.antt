@@ -9,6 +9,8 @@ returns c = let octets = c.args.octets.now in let bits = c.put_slot.new.bits in
     let short = c.opening_is_short.ensures.with_frame 0 octets (omega arith) in
     let fits : length (opening 0 (Some octets)) ≤ 10460 = let high = is_frame.high in omega (arith, short, high) in
     let room : 10460 ≤ length bits = let same = c.put_slot.auto.bits in omega (arith, c.if-bits-lt-FRAME_BITS.false, same) in
-    let line = slot-alone 2615 c.new.result.symbols c.new.result.phase octets c.write_flags.new.out bits c.new.ensures.symbols c.new.ensures.stands.phase_is
+    let line = slot-alone 2615 c.new.result.symbols c.new.result.phase octets c.write_flags.new.out bits c.new.ensures.symbols
+    c.new.ensures.stands.phase_is
     c.write_flags.ensures.count c.write_flags.ensures.bits c.put_slot.ensures in
-    opens 10460 c.first_end.result octets bits refl is_frame fits room line c.first_end.ensures c.found_is_sent.ensures c.pieces_grow.ensures.none
+    opens 10460 c.first_end.result octets bits refl is_frame fits room line c.first_end.ensures c.found_is_sent.ensures
+    c.pieces_grow.ensures.none

@@ -1,4 +1,5 @@
-use Rattle.gateway.proofs.Histories.{HistoryLaws, histories_are_plays, histories_keep_prefixes, speaking_breaks_for_want, hearing_never_breaks}
+use Rattle.gateway.proofs.Histories.{HistoryLaws, histories_are_plays, histories_keep_prefixes, speaking_breaks_for_want}
+use Rattle.gateway.proofs.Histories.{hearing_never_breaks}
 use Rattle.gateway.proofs.laws.histories.Goals as goal
 
 pub returns : goal.returns

@@ -12,4 +12,5 @@ returns-clause-samples c =
     let imaginary : SFits w16 c.args.sample.im = search rules in
     let re : to_z w16 (of_z w16 c.args.sample.re) ≡ c.args.sample.re = to_z-of_z w16 c.args.sample.re real in
     let im : to_z w16 (of_z w16 c.args.sample.im) ≡ c.args.sample.im = to_z-of_z w16 c.args.sample.im imaginary in
-    (λ i. samples_in (k + 1) (set (set c.args.parts.now (2 * k) (re i)) (2 * k + 1) (im i))) ∙ samples-put c.args.parts.now k c.args.sample c.requires
+    (λ i. samples_in (k + 1) (set (set c.args.parts.now (2 * k) (re i)) (2 * k + 1) (im i)))
+    ∙ samples-put c.args.parts.now k c.args.sample c.requires

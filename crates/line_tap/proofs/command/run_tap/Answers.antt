@@ -34,7 +34,8 @@ returns-in-Ok-tap_turns-clause-ends g c = λ begin b.
     ) in
     ends-turns LIMITS begin mid next n c.args.tap.now.script (Ok c.in-Ok-tap_turns.turns) b c.requires.ready.limits
     (c.in-Ok-tap_turns.ensures.ends begin (headers-later begin mid now n apart c.in-Ok.ensures.only b.headers))
-    (end-earlier {D = ℕ} begin now next (recordings_of n) (outputs_of n) (Ok c.in-Ok-tap_turns.turns) (CountsStand-trans b.stand c.in-Ok.ensures.stand)
+    (end-earlier {D = ℕ} begin now next (recordings_of n) (outputs_of n) (Ok c.in-Ok-tap_turns.turns)
+    (CountsStand-trans b.stand c.in-Ok.ensures.stand)
     c.in-Ok-tap_turns.ensures.counts)
 
 pub returns-in-Ok-tap_turns-clause-only : goal.returns-in-Ok-tap_turns-clause-only
@@ -54,7 +55,8 @@ returns-in-Err-tap_turns-clause-ends g c = λ begin b.
     ) in
     ends-turns LIMITS begin mid next n c.args.tap.now.script (Err c.in-Err-tap_turns.stop) b c.requires.ready.limits
     (c.in-Err-tap_turns.ensures.ends begin (headers-later begin mid now n apart c.in-Ok.ensures.only b.headers))
-    (end-earlier {D = ℕ} begin now next (recordings_of n) (outputs_of n) (Err c.in-Err-tap_turns.stop) (CountsStand-trans b.stand c.in-Ok.ensures.stand)
+    (end-earlier {D = ℕ} begin now next (recordings_of n) (outputs_of n) (Err c.in-Err-tap_turns.stop)
+    (CountsStand-trans b.stand c.in-Ok.ensures.stand)
     c.in-Err-tap_turns.ensures.counts)
 
 pub returns-in-Err-tap_turns-clause-only : goal.returns-in-Err-tap_turns-clause-only

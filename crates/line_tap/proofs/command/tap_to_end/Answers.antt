@@ -64,7 +64,8 @@ run_tap-requires-clause-ready g c = c.in-Ok-new.ensures.ready
 
 pub run_tap-requires-clause-first : goal.run_tap-requires-clause-first
 run_tap-requires-clause-first g c =
-    subst (λ (s : ScriptValue). TapAfter c.in-Ok-new.tap (tapping s no_octets) []) (sym c.in-Ok-new.ensures.script) c.in-Ok-new.ensures.first
+    subst (λ (s : ScriptValue). TapAfter c.in-Ok-new.tap (tapping s no_octets) []) (sym c.in-Ok-new.ensures.script)
+    c.in-Ok-new.ensures.first
 
 pub run_tap-requires-clause-apart : goal.run_tap-requires-clause-apart
 run_tap-requires-clause-apart g c = c.requires

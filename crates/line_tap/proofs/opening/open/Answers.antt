@@ -94,7 +94,8 @@ returns-in-Err-clause-opened g c = tt
 
 pub returns-in-Err-clause-refused : goal.returns-in-Err-clause-refused
 returns-in-Err-clause-refused g c =
-    inputs-refused LIMITS (g.F.Folder.state c.args.folder.now) (g.F.Folder.state c.open_inputs.new.folder) (named c.args.words.now) c.in-Err.stop
+    inputs-refused LIMITS (g.F.Folder.state c.args.folder.now) (g.F.Folder.state c.open_inputs.new.folder) (named c.args.words.now)
+    c.in-Err.stop
     c.in-Err.ensures.refused
 
 pub returns-in-Err-clause-reads : goal.returns-in-Err-clause-reads

@@ -57,13 +57,16 @@ returns-in-Err-clause-fails g c =
 
 pub returns-in-Ok-read_into-clause-orig : goal.returns-in-Ok-read_into-clause-orig
 returns-in-Ok-read_into-clause-orig g c = λ start octets h.
-    ReadTo-kept start (g.F.Folder.state c.read_into.new.folder) (g.F.Folder.state c.read_into-2.new.folder) c.args.names.now.rec_o.now TAP_LIMIT _ _
-    (c.in-Ok.ensures.more start octets h) c.in-Ok-read_into.ensures.reads.goes_on (c.in-Ok-read_into.ensures.reads.names c.args.names.now.rec_o.now)
+    ReadTo-kept start (g.F.Folder.state c.read_into.new.folder) (g.F.Folder.state c.read_into-2.new.folder) c.args.names.now.rec_o.now
+    TAP_LIMIT _ _
+    (c.in-Ok.ensures.more start octets h) c.in-Ok-read_into.ensures.reads.goes_on
+    (c.in-Ok-read_into.ensures.reads.names c.args.names.now.rec_o.now)
 
 pub returns-in-Ok-read_into-clause-answ : goal.returns-in-Ok-read_into-clause-answ
 returns-in-Ok-read_into-clause-answ g c = λ start octets h.
     c.in-Ok-read_into.ensures.more start octets
-    (ReadTo-kept start (g.F.Folder.state c.args.folder.now) (g.F.Folder.state c.read_into.new.folder) c.args.names.now.rec_a.now TAP_LIMIT _ _ h c.in-Ok.ensures.reads.goes_on
+    (ReadTo-kept start (g.F.Folder.state c.args.folder.now) (g.F.Folder.state c.read_into.new.folder) c.args.names.now.rec_a.now TAP_LIMIT _
+    _ h c.in-Ok.ensures.reads.goes_on
     (c.in-Ok.ensures.reads.names c.args.names.now.rec_a.now))
 
 pub returns-in-Ok-read_into-clause-orig_end : goal.returns-in-Ok-read_into-clause-orig_end
@@ -72,7 +75,8 @@ returns-in-Ok-read_into-clause-orig_end g c = c.in-Ok.ensures.end
 pub returns-in-Ok-read_into-clause-answ_end : goal.returns-in-Ok-read_into-clause-answ_end
 returns-in-Ok-read_into-clause-answ_end g c = λ start octets h.
     c.in-Ok-read_into.ensures.end start octets
-    (ReadTo-kept start (g.F.Folder.state c.args.folder.now) (g.F.Folder.state c.read_into.new.folder) c.args.names.now.rec_a.now TAP_LIMIT _ _ h c.in-Ok.ensures.reads.goes_on
+    (ReadTo-kept start (g.F.Folder.state c.args.folder.now) (g.F.Folder.state c.read_into.new.folder) c.args.names.now.rec_a.now TAP_LIMIT _
+    _ h c.in-Ok.ensures.reads.goes_on
     (c.in-Ok.ensures.reads.names c.args.names.now.rec_a.now))
 
 pub returns-in-Ok-read_into-clause-orig_bound : goal.returns-in-Ok-read_into-clause-orig_bound
@@ -142,4 +146,5 @@ pub returns-in-Err-read_into-clause-fails : goal.returns-in-Err-read_into-clause
 returns-in-Err-read_into-clause-fails g c =
     stop-earlier (g.F.Folder.state c.args.folder.now) (g.F.Folder.state c.read_into.new.folder) (g.F.Folder.state c.read_into-2.new.folder)
     (recordings_of (named c.args.names.now)) [] (Read c.in-Err-read_into.fault) c.in-Ok.ensures.stand
-    (read-among (g.F.Folder.state c.read_into.new.folder) (g.F.Folder.state c.read_into-2.new.folder) (c.args.names.now.rec_o.now ∷ []) c.args.names.now.rec_a.now [] c.in-Err-read_into.fault c.in-Err-read_into.ensures.fails)
+    (read-among (g.F.Folder.state c.read_into.new.folder) (g.F.Folder.state c.read_into-2.new.folder) (c.args.names.now.rec_o.now ∷ [])
+    c.args.names.now.rec_a.now [] c.in-Err-read_into.fault c.in-Err-read_into.ensures.fails)

@@ -19,6 +19,8 @@ returns-clause-sendable c =
 
 pub returns-clause-is : goal.returns-clause-is
 returns-clause-is c =
-    subst (λ found. IfSome found (λ frame. c.args.octets.now ≡ checked c.args.framing.check c.args.framing.sender c.args.framing.dlci frame))
+    subst (λ found. IfSome found (λ frame. c.args.octets.now ≡ checked c.args.framing.check c.args.framing.sender c.args.framing.dlci
+    frame))
     (sym c.ok.ensures.value)
-    (ok-spelled c.args.framing.check c.args.framing.sender c.args.framing.dlci c.args.octets.now c.read_checked.result c.read_checked.ensures.ok)
+    (ok-spelled c.args.framing.check c.args.framing.sender c.args.framing.dlci c.args.octets.now c.read_checked.result
+    c.read_checked.ensures.ok)

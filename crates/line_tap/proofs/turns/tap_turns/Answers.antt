@@ -67,7 +67,8 @@ returns-in-Err-clause-only g c =
 pub returns-in-Err-clause-counts : goal.returns-in-Err-clause-counts
 returns-in-Err-clause-counts g c =
     stop-earlier (g.F.Folder.state c.args.folder.now) (g.F.Folder.state c.loop-turns.folder) (g.F.Folder.state c.turn.new.folder)
-    (recordings_of (named c.args.names.now)) (outputs_of (named c.args.names.now)) c.in-Err.stop c.loop-turns.invariant.stand c.in-Err.ensures.counts
+    (recordings_of (named c.args.names.now)) (outputs_of (named c.args.names.now)) c.in-Err.stop c.loop-turns.invariant.stand
+    c.in-Err.ensures.counts
 
 pub turn-requires-clause-ready : goal.turn-requires-clause-ready
 turn-requires-clause-ready g c = c.loop-turns.invariant.ready

@@ -58,9 +58,11 @@ returns-clause-octets g c = go c.read_at.result c.read_at.ensures.octets
     go (Err fault) h = tt
 
 pub overflow_mul-at : goal.overflow_mul-at
-overflow_mul-at g c = let at-is : c.from.result * c.args.number ≡ c.args.size * c.args.number = ap (λ n. n * c.args.number) c.from.ensures in
+overflow_mul-at g c = let at-is : c.from.result * c.args.number ≡ c.args.size * c.args.number = ap (λ n. n * c.args.number) c.from.ensures
+    in
     omega (arith, at-is, c.requires.within, c.requires.limit)
 
 pub overflow_sub-left : goal.overflow_sub-left
-overflow_sub-left g c = let at-is : c.from.result * c.args.number ≡ c.args.size * c.args.number = ap (λ n. n * c.args.number) c.from.ensures in
+overflow_sub-left g c = let at-is : c.from.result * c.args.number ≡ c.args.size * c.args.number = ap (λ n. n * c.args.number) c.from.ensures
+    in
     omega (arith, at-is, c.requires.within)

@@ -35,7 +35,8 @@ returns-clause-records g c = λ files ts t ends w k.
     (c.record-2.ensures.records (script_of c.args.world.now) Answerer ts t (c.sent-2.ensures.sent files ts t ends w) answ)
 
 pub returns-in-Err-clause-only : goal.returns-in-Err-clause-only
-returns-in-Err-clause-only g c = OnlyPuts-one _ _ [] c.args.tapes.now.orig.name.now (c.args.tapes.now.answ.name.now ∷ []) c.record.ensures.only
+returns-in-Err-clause-only g c = OnlyPuts-one _ _ [] c.args.tapes.now.orig.name.now (c.args.tapes.now.answ.name.now ∷ [])
+    c.record.ensures.only
 
 pub returns-in-Err-clause-counts : goal.returns-in-Err-clause-counts
 returns-in-Err-clause-counts g c =

@@ -15,20 +15,27 @@ loop-place-preserved c = record {
   stands = λ mode bits octets r.
       let before = c.loop-place.invariant.stands mode bits octets r in
       let more : List Bool = low_bits 4 c.quad.result in
-      let at-bits = quads-more c.args.slot.now c.loop-place.place c.quad.result bits (omega (arith, c.loop-place-test.true, c.len-place-end.ensures.count)) c.quad.ensures.value in
-      let pushed = records-more mode c.loop-place.modulator c.push-sample.new.self (bits ++ line_bits (take c.loop-place.place c.args.slot.now))
-      more octets c.loop-place.out c.octets_of.result c.push-sample.result before (c.push-sample.ensures mode _ before.samples before.stands)
+      let at-bits = quads-more c.args.slot.now c.loop-place.place c.quad.result bits
+      (omega (arith, c.loop-place-test.true, c.len-place-end.ensures.count)) c.quad.ensures.value in
+      let pushed = records-more mode c.loop-place.modulator c.push-sample.new.self
+      (bits ++ line_bits (take c.loop-place.place c.args.slot.now))
+      more octets c.loop-place.out c.octets_of.result c.push-sample.result before
+      (c.push-sample.ensures mode _ before.samples before.stands)
       c.octets_of.ensures in
-      subst (λ (o : List ℕ). RecordsBits mode c.push-sample.new.self (bits ++ line_bits (take (c.loop-place.place + 1) c.args.slot.now)) (octets ++ o))
+      subst (λ (o : List ℕ). RecordsBits mode c.push-sample.new.self (bits ++ line_bits (take (c.loop-place.place + 1) c.args.slot.now))
+      (octets ++ o))
       (sym c.extend.ensures)
-      (subst (λ (b : List Bool). RecordsBits mode c.push-sample.new.self b (octets ++ (c.loop-place.out ++ c.octets_of.result))) at-bits pushed);
+      (subst (λ (b : List Bool). RecordsBits mode c.push-sample.new.self b (octets ++ (c.loop-place.out ++ c.octets_of.result))) at-bits
+      pushed);
 }
 
 pub loop-place-init : goal.loop-place-init
 loop-place-init c = record {
   room = ap length c.requires;
-  stands = λ mode bits octets r. subst (λ (b : List Bool). RecordsBits mode c.args.modulator.now b (octets ++ c.args.out.now)) (sym (append-nil bits))
-      (subst (λ (o : List ℕ). RecordsBits mode c.args.modulator.now bits o) (sym (append-nil octets) ∙ ap (λ o. octets ++ o) (sym c.requires)) r);
+  stands = λ mode bits octets r. subst (λ (b : List Bool). RecordsBits mode c.args.modulator.now b (octets ++ c.args.out.now))
+      (sym (append-nil bits))
+      (subst (λ (o : List ℕ). RecordsBits mode c.args.modulator.now bits o)
+      (sym (append-nil octets) ∙ ap (λ o. octets ++ o) (sym c.requires)) r);
 }
 
 pub quad-requires : goal.quad-requires

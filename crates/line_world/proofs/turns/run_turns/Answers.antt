@@ -11,7 +11,8 @@ use Rattle.line_world.specs.Tapes.{HoldTapes, HoldTapesPartly}
 use Rattle.line_world.specs.Taping.{KeepTapes, tape_names}
 use Rattle.line_world.specs.Turn.{FaultCountsOver}
 use Rattle.line_world.specs.World.{script_of}
-use Rattle.line_world.proofs.Reached.{reached-start, reached-going, reached-put, reached-taping, reached-done, reached-counts, reached-fault}
+use Rattle.line_world.proofs.Reached.{reached-start, reached-going, reached-put, reached-taping, reached-done, reached-counts}
+use Rattle.line_world.proofs.Reached.{reached-fault}
 use Rattle.line_world.proofs.Reached.{nearer, next-turn, tapes-kept, apart-outputs}
 use Rattle.line_world.proofs.Several.{puts-front, puts-behind, apart-behind}
 use Rattle.line_world.proofs.Folders.{counts-later, counts-front, counts-behind}
@@ -75,7 +76,8 @@ loop-tapes-preserved g c =
       named = c.in-Ok.ensures.names ∙ c.loop-tapes.invariant.named;
       taped = subst (λ (s : ScriptValue). KeepTapes c.record_turn.new.tapes last (wire_of s) (going.turn ∷ r.turns))
           (c.in-Ok-Going.ensures.script ∙ r.script_is)
-          (c.in-Ok.ensures.records going.others r.turns going.turn going.after (record { modems = going.modems; lines = going.lines }) kept);
+          (c.in-Ok.ensures.records going.others r.turns going.turn going.after (record { modems = going.modems; lines = going.lines })
+          kept);
       ready = (rw c.in-Ok-Going.field-0-is at c.in-Ok-Going.ensures.ready) refl;
       came = g.met.F.Folder.came_on _ _ _ (g.met.F.Folder.came_on _ _ _ c.loop-tapes.invariant.came c.in-Ok-Going.ensures.came)
           c.in-Ok.ensures.came;
@@ -121,7 +123,8 @@ returns-in-Err-record_turn-clause-only g c =
     subst (λ (names : Tapes). OnlyPuts next last (tapes_of names)) c.loop-tapes.invariant.named c.in-Err-record_turn.ensures.only in
     OnlyPuts-trans old next last (outputs_of n ++ tapes_of tapes)
     (OnlyPuts-trans old now next (outputs_of n ++ tapes_of tapes) r.only
-    (puts-front now next (outputs_of n) (tapes_of tapes) c.in-Ok-Going.ensures.only)) (puts-behind next last (outputs_of n) (tapes_of tapes) puts)
+    (puts-front now next (outputs_of n) (tapes_of tapes) c.in-Ok-Going.ensures.only))
+    (puts-behind next last (outputs_of n) (tapes_of tapes) puts)
 
 pub returns-in-Err-record_turn-clause-counts : goal.returns-in-Err-record_turn-clause-counts
 returns-in-Err-record_turn-clause-counts g c =
@@ -157,7 +160,8 @@ returns-in-Ok-Done-clause-run g c =
     (tapes-kept now next n tapes c.requires.apart c.in-Ok-Done.ensures.only)
     (subst (λ (names : Tapes). HoldTapes now names (wire_of script) r.turns) c.loop-tapes.invariant.named
     (keep-holds c.loop-tapes.tapes now (wire_of script) r.turns c.loop-tapes.invariant.taped)) in
-    reached-done c.turns_deliver_what_came.ensures.hearing c.loop-tapes.world c.turn.new.self script n tapes old now next c.in-Ok-Done.turn r
+    reached-done c.turns_deliver_what_came.ensures.hearing c.loop-tapes.world c.turn.new.self script n tapes old now next c.in-Ok-Done.turn
+    r
     c.in-Ok-Done.ensures.script ((rw c.in-Ok-Done.field-0-is at c.in-Ok-Done.ensures.turn) r.files r.turns r.ends r.world r.knows.within)
     c.in-Ok-Done.ensures.only held
 
@@ -175,7 +179,8 @@ returns-in-Ok-Done-clause-tally g c =
     (tapes-kept now next n tapes c.requires.apart c.in-Ok-Done.ensures.only)
     (subst (λ (names : Tapes). HoldTapes now names (wire_of script) r.turns) c.loop-tapes.invariant.named
     (keep-holds c.loop-tapes.tapes now (wire_of script) r.turns c.loop-tapes.invariant.taped)) in
-    reached-counts c.turns_deliver_what_came.ensures.hearing c.loop-tapes.world c.turn.new.self script n tapes old now next c.in-Ok-Done.turn r
+    reached-counts c.turns_deliver_what_came.ensures.hearing c.loop-tapes.world c.turn.new.self script n tapes old now next
+    c.in-Ok-Done.turn r
     c.in-Ok-Done.ensures.script ((rw c.in-Ok-Done.field-0-is at c.in-Ok-Done.ensures.turn) r.files r.turns r.ends r.world r.knows.within)
     c.in-Ok-Done.ensures.only held
 

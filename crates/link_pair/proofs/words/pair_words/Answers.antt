@@ -13,12 +13,20 @@ returns-in_default-clause-names c = elim c.in_default.branch [
 
 pub returns-then-not-are_apart-clause-names : goal.returns-then-not-are_apart-clause-names
 returns-then-not-are_apart-clause-names c =
-    let list = listed c.args.words.now c.orig_1-item.result c.answ_1-item.result c.orig_2-item.result c.answ_2-item.result c.script-item.result c.got_o_1-item.result c.got_a_1-item.result c.got_o_2-item.result c.got_a_2-item.result c.trace_1-item.result c.trace_2-item.result c.in-len11.len_at_least c.in-len11.len_below c.orig_1-item.is c.answ_1-item.is c.orig_2-item.is c.answ_2-item.is c.script-item.is c.got_o_1-item.is c.got_a_1-item.is c.got_o_2-item.is c.got_a_2-item.is c.trace_1-item.is c.trace_2-item.is in
+    let list = listed c.args.words.now c.orig_1-item.result c.answ_1-item.result c.orig_2-item.result c.answ_2-item.result
+    c.script-item.result c.got_o_1-item.result c.got_a_1-item.result c.got_o_2-item.result c.got_a_2-item.result c.trace_1-item.result
+    c.trace_2-item.result c.in-len11.len_at_least c.in-len11.len_below c.orig_1-item.is c.answ_1-item.is c.orig_2-item.is
+    c.answ_2-item.is c.script-item.is c.got_o_1-item.is c.got_a_1-item.is c.got_o_2-item.is c.got_a_2-item.is c.trace_1-item.is
+    c.trace_2-item.is in
     subst (λ ws. None ≡ names_of (map string_bytes ws)) (sym list) (search rules)
 
 pub returns-clause-names : goal.returns-clause-names
 returns-clause-names c =
-    let list = listed c.args.words.now c.orig_1-item.result c.answ_1-item.result c.orig_2-item.result c.answ_2-item.result c.script-item.result c.got_o_1-item.result c.got_a_1-item.result c.got_o_2-item.result c.got_a_2-item.result c.trace_1-item.result c.trace_2-item.result c.in-len11.len_at_least c.in-len11.len_below c.orig_1-item.is c.answ_1-item.is c.orig_2-item.is c.answ_2-item.is c.script-item.is c.got_o_1-item.is c.got_a_1-item.is c.got_o_2-item.is c.got_a_2-item.is c.trace_1-item.is c.trace_2-item.is in
+    let list = listed c.args.words.now c.orig_1-item.result c.answ_1-item.result c.orig_2-item.result c.answ_2-item.result
+    c.script-item.result c.got_o_1-item.result c.got_a_1-item.result c.got_o_2-item.result c.got_a_2-item.result c.trace_1-item.result
+    c.trace_2-item.result c.in-len11.len_at_least c.in-len11.len_below c.orig_1-item.is c.answ_1-item.is c.orig_2-item.is
+    c.answ_2-item.is c.script-item.is c.got_o_1-item.is c.got_a_1-item.is c.got_o_2-item.is c.got_a_2-item.is c.trace_1-item.is
+    c.trace_2-item.is in
     subst (λ ws. Some (named
     (record {
       script = c.as_str-script.result;

@@ -23,7 +23,8 @@ returns-in-Late-clause-pushed c = λ sender check past start. let bits = c.args.
 
 pub returns-in-Piece-clause-reads : goal.returns-in-Piece-clause-reads
 returns-in-Piece-clause-reads c = λ sender check past start.
-    subst (λ (read : ℕ). HasHeard sender check c.push-read.new.self (past ++ heard read c.args.bits.now)) (sym c.tell_piece.ensures.read) (c.push-read.ensures.reads sender check past start)
+    subst (λ (read : ℕ). HasHeard sender check c.push-read.new.self (past ++ heard read c.args.bits.now)) (sym c.tell_piece.ensures.read)
+    (c.push-read.ensures.reads sender check past start)
 
 pub returns-in-Piece-clause-pushed : goal.returns-in-Piece-clause-pushed
 returns-in-Piece-clause-pushed c = λ sender check past start. let bits = c.args.bits.now in let read = c.push-read.result.0 in
@@ -31,9 +32,11 @@ returns-in-Piece-clause-pushed c = λ sender check past start. let bits = c.args
     Stopped (stops.Piece c.in-Piece.piece) c.if-room-lt-INFO.false
     (subst (λ (n : ℕ). StopsAt past bits n (stops.Piece c.in-Piece.piece)) same
     (subst (λ (stop : FrameStop). StopsAt past bits read stop) c.in-Piece.is (c.push-read.ensures.stops sender check past start)))
-    (c.tell_piece.ensures.ended ∙ c.heard-found.ensures sender check (past ++ heard read bits) (c.push-read.ensures.reads sender check past start)
+    (c.tell_piece.ensures.ended ∙ c.heard-found.ensures sender check (past ++ heard read bits)
+    (c.push-read.ensures.reads sender check past start)
     ∙ ap (λ (n : ℕ). length (past ++ heard n bits)) same) (
       refl,
-      subst (λ (n : ℕ). Tells sender check (past ++ heard n bits) c.in-Piece.piece c.tell_piece.new.found c.args.room.now c.tell_piece.new.room) same
+      subst (λ (n : ℕ). Tells sender check (past ++ heard n bits) c.in-Piece.piece c.tell_piece.new.found c.args.room.now
+          c.tell_piece.new.room) same
           (c.tell_piece.ensures.tells sender check (past ++ heard read bits) (c.push-read.ensures.reads sender check past start)),
     )

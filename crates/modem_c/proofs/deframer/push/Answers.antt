@@ -10,5 +10,7 @@ returns-in-Deframer-clause-deframes c = λ sender check past start.
 
 pub returns-in-Deframer-clause-pushed : goal.returns-in-Deframer-clause-pushed
 returns-in-Deframer-clause-pushed c = λ sender check past start.
-    subst (λ (code : ℤ). Pushed sender check past c.args.bits.now c.hear.new.found c.args.room.now c.hear.new.room code) (sym (code_back c.hear.result c.hear.type_inv))
-    (c.hear.ensures.pushed sender check past (subst (λ (machine : Machine). Deframes sender check (Some machine) past) c.in-Deframer.is start))
+    subst (λ (code : ℤ). Pushed sender check past c.args.bits.now c.hear.new.found c.args.room.now c.hear.new.room code)
+    (sym (code_back c.hear.result c.hear.type_inv))
+    (c.hear.ensures.pushed sender check past
+    (subst (λ (machine : Machine). Deframes sender check (Some machine) past) c.in-Deframer.is start))

@@ -18,15 +18,20 @@ returns-in-Ok-clause-frames c = λ symbols signals signal start by done.
 
 pub returns-in-Ok-clause-slotted : goal.returns-in-Ok-clause-slotted
 returns-in-Ok-clause-slotted c = λ symbols signals start.
-    done-slot symbols signals (signal_by c.args.kind c.args.octets.now) (signal_of c.in-Some.told) c.args.bits.now c.slot.new.bits c.slot.new.self c.in-Ok.count
+    done-slot symbols signals (signal_by c.args.kind c.args.octets.now) (signal_of c.in-Some.told) c.args.bits.now c.slot.new.bits
+    c.slot.new.self c.in-Ok.count
     c.in-Some.ensures (c.in-Ok.ensures.writes symbols signals start)
 
 pub returns-in-Err-BadFrame-clause-slotted : goal.returns-in-Err-BadFrame-clause-slotted
 returns-in-Err-BadFrame-clause-slotted c = λ symbols signals start.
-    bad-slot symbols signals (signal_by c.args.kind c.args.octets.now) (signal_of c.in-Some.told) c.args.writer.now c.slot.new.self c.args.bits.now c.slot.new.bits
-    c.args.written.now c.in-Err-BadFrame.field-0 c.in-Some.ensures c.in-Err-BadFrame.field-0-is (c.in-Err-BadFrame.ensures.writes symbols signals start) c.requires
+    bad-slot symbols signals (signal_by c.args.kind c.args.octets.now) (signal_of c.in-Some.told) c.args.writer.now c.slot.new.self
+    c.args.bits.now c.slot.new.bits
+    c.args.written.now c.in-Err-BadFrame.field-0 c.in-Some.ensures c.in-Err-BadFrame.field-0-is
+    (c.in-Err-BadFrame.ensures.writes symbols signals start) c.requires
 
 pub returns-in-Err-Full-clause-slotted : goal.returns-in-Err-Full-clause-slotted
 returns-in-Err-Full-clause-slotted c = λ symbols signals start.
-    full-slot symbols signals (signal_by c.args.kind c.args.octets.now) (signal_of c.in-Some.told) c.args.writer.now c.slot.new.self c.args.bits.now c.slot.new.bits
-    c.args.written.now c.in-Err-Full.field-0 c.in-Some.ensures c.in-Err-Full.field-0-is (c.in-Err-Full.ensures.writes symbols signals start) c.requires
+    full-slot symbols signals (signal_by c.args.kind c.args.octets.now) (signal_of c.in-Some.told) c.args.writer.now c.slot.new.self
+    c.args.bits.now c.slot.new.bits
+    c.args.written.now c.in-Err-Full.field-0 c.in-Some.ensures c.in-Err-Full.field-0-is (c.in-Err-Full.ensures.writes symbols signals start)
+    c.requires

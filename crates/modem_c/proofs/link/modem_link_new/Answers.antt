@@ -14,7 +14,8 @@ returns-in-Ok-Some c =
     let setup : Setup = c.in-Some.setup in
     let is = subst (λ (v : Option Endpoint). MatchOption v (IsSetUp setup → ⊥) (λ end. IsSetUp setup × IsNew setup end))
     c.in-Ok-Some.field-0-is c.in-Ok-Some.ensures in
-    subst (λ (v : Option Setup). AnswersSetup v c.args.handle.now.value c.make.new.handle.value (to_z w32 (of_z w32 c.make.result))) c.in-Some.ensures
+    subst (λ (v : Option Setup). AnswersSetup v c.args.handle.now.value c.make.new.handle.value (to_z w32 (of_z w32 c.make.result)))
+    c.in-Some.ensures
     (made setup c.in-Ok-Some.end c.args.handle.now.value c.make.new.handle.value c.make.result is.0 is.1 c.make.ensures)
 
 pub returns-in-Err : goal.returns-in-Err

@@ -5,7 +5,8 @@ use Rattle.modem_c.specs.Offers.OfferWritten.{Done, NoRoom}
 use Rattle.modem_c.proofs.xid.modem_xid_write.Goals as goal
 
 pub returns-then-room-lt-SPELLING-clause-writes : goal.returns-then-room-lt-SPELLING-clause-writes
-returns-then-room-lt-SPELLING-clause-writes c = NoRoom c.in-Some.allowed c.in-Some.ensures.0 c.in-Some.ensures.1 c.if-room-lt-SPELLING.true refl
+returns-then-room-lt-SPELLING-clause-writes c = NoRoom c.in-Some.allowed c.in-Some.ensures.0 c.in-Some.ensures.1 c.if-room-lt-SPELLING.true
+    refl
     (record { count_is = refl; written = refl })
 
 pub returns-clause-writes : goal.returns-clause-writes

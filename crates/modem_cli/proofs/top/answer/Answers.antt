@@ -7,7 +7,8 @@ use Rattle.modem_cli.proofs.top.answer.Goals as goal
 
 pub returns-in-Pickup-clause-headline : goal.returns-in-Pickup-clause-headline
 returns-in-Pickup-clause-headline g c =
-    subst (λ (it : AskedInCode). (promise (named it)).Headline (g.F.Folder.state c.args.folder.now) (g.F.Folder.state c.pickup.new.folder) c.pickup.result)
+    subst (λ (it : AskedInCode). (promise (named it)).Headline (g.F.Folder.state c.args.folder.now) (g.F.Folder.state c.pickup.new.folder)
+    c.pickup.result)
     (sym c.in-Pickup.is) c.pickup.ensures.headline
 
 pub returns-in-Pickup-clause-answer : goal.returns-in-Pickup-clause-answer
@@ -18,7 +19,8 @@ returns-in-Pickup-clause-answer g c =
 
 pub returns-in-Pickup-clause-completes : goal.returns-in-Pickup-clause-completes
 returns-in-Pickup-clause-completes g c =
-    subst (λ (it : AskedInCode). (promise (named it)).Completes (g.F.Folder.state c.args.folder.now) (g.F.Folder.state c.pickup.new.folder) c.pickup.result)
+    subst (λ (it : AskedInCode). (promise (named it)).Completes (g.F.Folder.state c.args.folder.now) (g.F.Folder.state c.pickup.new.folder)
+    c.pickup.result)
     (sym c.in-Pickup.is) c.pickup.ensures.completes
 
 pub returns-in-Pickup-clause-stand : goal.returns-in-Pickup-clause-stand

@@ -22,7 +22,8 @@ loop-at-smaller c = less-left (length c.args.line.now) c.loop-at.at c.loop-at-te
 
 pub loop-at-preserved : goal.loop-at-preserved
 loop-at-preserved c =
-    sym (blank-skipped c.args.line.now c.loop-at.at c.loop-at-test.true (sym c.is_blank.ensures ∙ c.if-not-is_blank.false)) ∙ c.loop-at.invariant
+    sym (blank-skipped c.args.line.now c.loop-at.at c.loop-at-test.true (sym c.is_blank.ensures ∙ c.if-not-is_blank.false))
+    ∙ c.loop-at.invariant
 
 pub returns-then-not-is_blank : goal.returns-then-not-is_blank
 returns-then-not-is_blank c =

@@ -4,7 +4,8 @@ use Rattle.std.specs.Int.{w16, w128, cast_signed, cast_unsigned}
 use Rattle.std.proofs.lemmas.Int.{ints}
 use Rattle.noise_script.specs.Numbers.{is_signed, signed_value_of}
 use Rattle.noise_script.proofs.numbers.read_signed.Goals as goal
-use Rattle.noise_script.proofs.numbers.read_signed.Goals.{then-value-from-via-then-value-from, then-value-from-via-else-value-from+then-value-from-2}
+use Rattle.noise_script.proofs.numbers.read_signed.Goals.{then-value-from-via-then-value-from}
+use Rattle.noise_script.proofs.numbers.read_signed.Goals.{then-value-from-via-else-value-from+then-value-from-2}
 
 pub returns-then-value-from : goal.returns-then-value-from
 returns-then-value-from c =

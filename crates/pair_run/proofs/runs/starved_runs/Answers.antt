@@ -12,7 +12,12 @@ lost_turns = all_turns (runs 200 hundred_each (way 1 (loses 100000 40) []))
 
 spans : (span : ℕ) → span ≤ 5 → SpanLoses 20 (max 1 1) lost_turns span
 spans zero few = record { turn = 142; within = lit< tt; in_span = record { behind = lit< tt; before = lit≤ tt }; lost = (Answerer, tt) }
-spans (suc zero) few = record { turn = 122; within = lit< tt; in_span = record { behind = lit< tt; before = lit≤ tt }; lost = (Answerer, tt) }
+spans (suc zero) few = record {
+  turn = 122;
+  within = lit< tt;
+  in_span = record { behind = lit< tt; before = lit≤ tt };
+  lost = (Answerer, tt);
+}
 spans (suc (suc zero)) few =
     record { turn = 102; within = lit< tt; in_span = record { behind = lit< tt; before = lit≤ tt }; lost = (Answerer, tt) }
 spans (suc (suc (suc zero))) few =

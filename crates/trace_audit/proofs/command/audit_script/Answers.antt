@@ -41,7 +41,8 @@ pub returns-in-Err-clause-counts : goal.returns-in-Err-clause-counts
 returns-in-Err-clause-counts g c = FaultsStand-refl (g.F.Folder.state c.args.folder.now)
 
 pub returns-in-Err-new-clause-ends : goal.returns-in-Err-new-clause-ends
-returns-in-Err-new-clause-ends g c = λ begin b. no-memory begin (g.F.Folder.state c.args.folder.now) (named c.args.words.now) c.args.script b
+returns-in-Err-new-clause-ends g c = λ begin b. no-memory begin (g.F.Folder.state c.args.folder.now) (named c.args.words.now) c.args.script
+    b
 
 pub returns-in-Err-new-clause-reads : goal.returns-in-Err-new-clause-reads
 returns-in-Err-new-clause-reads g c = OnlyReads-refl (g.F.Folder.state c.args.folder.now)

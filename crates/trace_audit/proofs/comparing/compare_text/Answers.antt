@@ -5,7 +5,8 @@ use Rattle.trace_audit.specs.Compared.{audited}
 use Rattle.outside_calls.proofs.Steps.{OnlyReads-refl, OnlyReads-trans, CountsStand-refl, CountsStand-trans}
 use Rattle.command_base.proofs.Jobs.{stop-earlier}
 use Rattle.trace_audit.proofs.Windows.{empty, full}
-use Rattle.trace_audit.proofs.Splitting.{midway-start, next, next-line, next-few, shorter, midway-on, all-compared, all-counted, compared-later}
+use Rattle.trace_audit.proofs.Splitting.{midway-start, next, next-line, next-few, shorter, midway-on, all-compared, all-counted}
+use Rattle.trace_audit.proofs.Splitting.{compared-later}
 use Rattle.trace_audit.proofs.comparing.compare_text.Goals as goal
 
 pub loop-rest-init : goal.loop-rest-init
@@ -53,7 +54,8 @@ loop-rest-preserved g c =
     record {
       midway = midway-on _ _ _ _ _ _ i.midway line behind c.compare_line.new.comparison
           (next _ _ _ _ _ _ i.midway line behind some c.first_line.ensures.line c.first_line.ensures.rest)
-          (compared-later old now c.args.trace.now c.loop-rest.comparison c.compare_line.new.comparison line i.reads c.in-Ok.ensures.compared)
+          (compared-later old now c.args.trace.now c.loop-rest.comparison c.compare_line.new.comparison line i.reads
+          c.in-Ok.ensures.compared)
           c.in-Ok.ensures.few;
       reads = OnlyReads-trans i.reads c.in-Ok.ensures.reads;
       stand = CountsStand-trans i.stand c.in-Ok.ensures.counts;

@@ -4,7 +4,8 @@ use Rattle.std.proofs.lemmas.Slice.Eq.{starts_is}
 use Rattle.trace_audit.specs.Differences.{OwnDiffers}
 use Rattle.trace_audit.proofs.Windows.{stops-fed, goes-on, stops-within, departs, equal, unequal, empty, full, false-no}
 use Rattle.trace_audit.proofs.difference.difference.Goals as goal
-use Rattle.trace_audit.proofs.difference.difference.Goals.{else-is_empty-2-via-then-is_empty-2+else-starts_with, else-is_empty-2-via-else-is_empty-2}
+use Rattle.trace_audit.proofs.difference.difference.Goals.{else-is_empty-2-via-then-is_empty-2+else-starts_with}
+use Rattle.trace_audit.proofs.difference.difference.Goals.{else-is_empty-2-via-else-is_empty-2}
 
 pub returns-then-is_empty : goal.returns-then-is_empty
 returns-then-is_empty c = λ rest is_window.
@@ -22,7 +23,8 @@ pub returns-then-starts_with : goal.returns-then-starts_with
 returns-then-starts_with c = λ rest is_window.
     let own : List ℕ = c.cut_line.result.0.now in
     let begins = (starts_is Decides-eqb c.args.line.now own c.starts_with.result c.starts_with.ensures.value).0 c.if-starts_with.true in
-    stops-within c.args.line.now c.args.window.now rest c.requires.line c.requires.read.1.short is_window (drop (length own) c.args.line.now)
+    stops-within c.args.line.now c.args.window.now rest c.requires.line c.requires.read.1.short is_window
+    (drop (length own) c.args.line.now)
     (begins ∙ ap (λ (f : List ℕ). f ++ drop (length own) c.args.line.now) c.cut_line.ensures.front)
     (λ e. unequal _ _ (sym c.eq.ensures ∙ c.if-eq.false) (c.cut_line.ensures.front ∙ e))
     (sym c.cut_line.ensures.rest ∙ empty _ (sym c.is_empty-2.ensures ∙ c.if-is_empty-2.true))

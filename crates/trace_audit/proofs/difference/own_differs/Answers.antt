@@ -34,7 +34,11 @@ returns-then-ne-2 c = record {
   other = c.in-Ok.other;
   right_is = c.in-Ok-read_text.ensures.ok;
   other_is = c.in-Ok.ensures.ok;
-  differ = (c.if-right-other.false, same_true the_type (search rules) _ _ (unnot _ (sym c.if-ne.ensures)), differ _ _ (sym c.if-ne-2.ensures));
+  differ = (
+    c.if-right-other.false,
+    same_true the_type (search rules) _ _ (unnot _ (sym c.if-ne.ensures)),
+    differ _ _ (sym c.if-ne-2.ensures),
+  );
 }
 
 pub returns-then-ne-3 : goal.returns-then-ne-3

@@ -11,7 +11,8 @@ use Rattle.sample_line.specs.Line.{Kept, LineStands, Passes, size_of, sender_of}
 use Rattle.sample_line.specs.Coder.{Coding, CoderStands, IsCodedAs, bits_in}
 use Rattle.world_tests.proofs.lines.through.Goals as goal
 
-goes-on : (line : Kept) (coder : Coding) (script : ScriptValue) (passed : List Signal) (signal : Signal) (check : Check) (dlci : ℕ) (loses : Bool)
+goes-on : (line : Kept) (coder : Coding) (script : ScriptValue) (passed : List Signal) (signal : Signal) (check : Check) (dlci : ℕ)
+    (loses : Bool)
     (s : Sent) (r : Result Heard Lost) → CoderStands coder (passed ++ signal ∷ [])
     → Passes line script passed signal check dlci loses s r
     → OnOk r ((all : List Signal) × LineStands line script all × CoderStands coder all)

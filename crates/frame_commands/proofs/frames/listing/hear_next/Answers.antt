@@ -49,7 +49,8 @@ pub returns-in-Ok-eq0-clause-ok : goal.returns-in-Ok-eq0-clause-ok
 returns-in-Ok-eq0-clause-ok g c = λ start h.
     let still = heard-still start (g.F.Folder.state c.args.folder.now) (g.F.Folder.state c.read_piece.new.folder)
     (named c.args.names.now) c.args.listener.now c.args.at h c.in-Ok-eq0.ensures.reads in
-    subst (λ (n : ℕ). HeardTo start (g.F.Folder.state c.read_piece.new.folder) (named c.args.names.now) c.args.listener.now n) (omega arith) still
+    subst (λ (n : ℕ). HeardTo start (g.F.Folder.state c.read_piece.new.folder) (named c.args.names.now) c.args.listener.now n) (omega arith)
+    still
 
 pub returns-in-Ok-eq0-clause-only : goal.returns-in-Ok-eq0-clause-only
 returns-in-Ok-eq0-clause-only g c = OnlyOutputs-reads [] c.in-Ok-eq0.ensures.reads

@@ -21,7 +21,8 @@ returns-in-Some-push-clause-stops c = λ sender check past start. let k = c.loop
     k,
     refl,
     c.loop-place.invariant.quiet past start.stands,
-    ap answer_of (sym (heard-more past bits k (k + 1) (omega arith))) ∙ sym (c.push.ensures.value (past ++ heard k bits) (c.loop-place.invariant.stands past start.stands)) ∙ c.in-Some-push.is,
+    ap answer_of (sym (heard-more past bits k (k + 1) (omega arith)))
+        ∙ sym (c.push.ensures.value (past ++ heard k bits) (c.loop-place.invariant.stands past start.stands)) ∙ c.in-Some-push.is,
   ),
 )
 
@@ -30,7 +31,8 @@ loop-place-preserved c = let k = c.loop-place.place in let bits = c.args.bits.no
   stands = λ past start. subst (λ (all : List Bool). DeframerStands c.push.new.self all) (heard-more past bits k (k + 1) (omega arith))
       (c.push.ensures.stands (past ++ heard k bits) (c.loop-place.invariant.stands past start));
   quiet = λ past start. none_more answer_of past bits k (k + 1) (omega arith) (c.loop-place.invariant.quiet past start)
-      (ap answer_of (sym (heard-more past bits k (k + 1) (omega arith))) ∙ sym (c.push.ensures.value (past ++ heard k bits) (c.loop-place.invariant.stands past start)) ∙ c.in_default-push.is);
+      (ap answer_of (sym (heard-more past bits k (k + 1) (omega arith)))
+      ∙ sym (c.push.ensures.value (past ++ heard k bits) (c.loop-place.invariant.stands past start)) ∙ c.in_default-push.is);
   sender = c.loop-place.invariant.sender;
   check = c.loop-place.invariant.check;
   heard = c.loop-place.invariant.heard;

@@ -15,7 +15,8 @@ returns-in-Some-clause-sees c = λ past start. let k = c.loop-place.place in let
   k,
   refl,
   c.loop-place.invariant.quiet past start,
-  ap seen_at (sym (heard-more past bits k (k + 1) (omega arith))) ∙ sym (c.push.ensures.value (past ++ heard k bits) (c.loop-place.invariant.stands past start)) ∙ c.in-Some.is,
+  ap seen_at (sym (heard-more past bits k (k + 1) (omega arith)))
+      ∙ sym (c.push.ensures.value (past ++ heard k bits) (c.loop-place.invariant.stands past start)) ∙ c.in-Some.is,
 )
 
 pub loop-place-preserved : goal.loop-place-preserved
@@ -23,5 +24,6 @@ loop-place-preserved c = let k = c.loop-place.place in let bits = c.args.bits.no
   stands = λ past start. subst (λ (all : List Bool). ReaderStands c.push.new.self all) (heard-more past bits k (k + 1) (omega arith))
       (c.push.ensures.stands (past ++ heard k bits) (c.loop-place.invariant.stands past start));
   quiet = λ past start. none_more seen_at past bits k (k + 1) (omega arith) (c.loop-place.invariant.quiet past start)
-      (ap seen_at (sym (heard-more past bits k (k + 1) (omega arith))) ∙ sym (c.push.ensures.value (past ++ heard k bits) (c.loop-place.invariant.stands past start)) ∙ c.in_default.is);
+      (ap seen_at (sym (heard-more past bits k (k + 1) (omega arith)))
+      ∙ sym (c.push.ensures.value (past ++ heard k bits) (c.loop-place.invariant.stands past start)) ∙ c.in_default.is);
 }

@@ -19,11 +19,14 @@ returns-clause-writes c = λ symbols signals start.
     let signal : Signal = signal_of c.args.told.now in record {
       carries = subst (λ (n : ℕ). Carries n signal) start.symbols_are (c.if-not-can_carry.ensures.0 refl);
       count_is = let s = start.symbols_are in let n = c.from-count.ensures in omega (arith, n, s);
-      room = let same_bits = c.put_slot.auto.bits in let s = start.symbols_are in let n = c.from-count.ensures in omega (arith, c.if-bits-count.false, n, s, same_bits);
+      room = let same_bits = c.put_slot.auto.bits in let s = start.symbols_are in let n =
+          c.from-count.ensures in omega (arith, c.if-bits-count.false, n, s, same_bits);
       writes = record {
         symbols_are = start.symbols_are;
-        stands = stands-behind c.write_told.new.writer symbols c.args.self.now.writer.symbols signals signal same (c.write_told.ensures.stands (slots_of (4 * symbols) signals) start.stands);
+        stands = stands-behind c.write_told.new.writer symbols c.args.self.now.writer.symbols signals signal same
+            (c.write_told.ensures.stands (slots_of (4 * symbols) signals) start.stands);
       };
-      bits_are = slot-more symbols c.args.self.now.writer.symbols c.args.self.now.writer.phase signals signal c.write_told.new.out c.put_slot.new.bits same
+      bits_are = slot-more symbols c.args.self.now.writer.symbols c.args.self.now.writer.phase signals signal c.write_told.new.out
+          c.put_slot.new.bits same
           start.stands.phase_is c.write_told.ensures.count c.write_told.ensures.bits c.put_slot.ensures c.sent_grows.ensures.bits;
     }

@@ -10,8 +10,10 @@ returns-in-Ok c = record {
   state_is = refl;
   hears = λ a h. record {
     arrived = c.arrived_of-arrived.result;
-    arrives = arrives-as _ _ c.args.self.role c.args.carried.now _ a (c.check.ensures a h) c.other.ensures c.arrived_of-arrived.ensures.arrives;
-    becomes = heard-ok a c.in-Ok.link _ _ _ c.given_break-given.ensures.answer c.given_break-given.ensures.account (c.in-Ok.ensures.hears a h);
+    arrives = arrives-as _ _ c.args.self.role c.args.carried.now _ a (c.check.ensures a h) c.other.ensures
+        c.arrived_of-arrived.ensures.arrives;
+    becomes = heard-ok a c.in-Ok.link _ _ _ c.given_break-given.ensures.answer c.given_break-given.ensures.account
+        (c.in-Ok.ensures.hears a h);
   };
 }
 
@@ -23,7 +25,8 @@ returns-in-Err c = record {
   state_is = refl;
   hears = λ a h. record {
     arrived = c.arrived_of-arrived.result;
-    arrives = arrives-as _ _ c.args.self.role c.args.carried.now _ a (c.check.ensures a h) c.other.ensures c.arrived_of-arrived.ensures.arrives;
+    arrives = arrives-as _ _ c.args.self.role c.args.carried.now _ a (c.check.ensures a h) c.other.ensures
+        c.arrived_of-arrived.ensures.arrives;
     becomes = heard-err a c.in-Err.broken _ (c.in-Err.ensures.hears a h);
   };
 }

@@ -10,8 +10,10 @@ loop-place-preserved c = record {
       let bits = c.args.bits.now in let parts = c.args.parts.now in let place = c.loop-place.place in
       let first = c.sample_at-first.result in let second = c.sample_at-second.result in
       let here = c.loop-place.invariant.measures mode past samples start in
-      measures-more mode c.push.new.self past samples here.octets bits parts place c.octet_at.result first second here.bits_are c.octet_at.ensures
-      (two-samples parts place first second c.sample_at-first.ensures.re c.sample_at-first.ensures.im c.sample_at-second.ensures.re c.sample_at-second.ensures.im)
+      measures-more mode c.push.new.self past samples here.octets bits parts place c.octet_at.result first second here.bits_are
+      c.octet_at.ensures
+      (two-samples parts place first second c.sample_at-first.ensures.re c.sample_at-first.ensures.im c.sample_at-second.ensures.re
+      c.sample_at-second.ensures.im)
       (c.push.ensures.stands mode here.octets (samples ++ samples_in (2 * place) parts) here.measured);
 }
 
@@ -20,5 +22,6 @@ returns-clause-measures c = λ mode past samples start.
     let bits = c.args.bits.now in let parts = c.args.parts.now in
     let all : c.loop-place.place ≡ c.min-count.result = omega (arith, c.loop-place-test.false) in
     let here = subst (λ (n : ℕ). Measures mode c.loop-place.margin (past ++ heard (8 * n) bits) (samples ++ samples_in (2 * n) parts)) all
-    (c.loop-place.invariant.measures mode past samples (record { octets = start.octets; bits_are = start.bits_are; measured = start.measured })) in
+    (c.loop-place.invariant.measures mode past samples
+    (record { octets = start.octets; bits_are = start.bits_are; measured = start.measured })) in
     record { octets = here.octets; bits_are = here.bits_are; measured = here.measured }

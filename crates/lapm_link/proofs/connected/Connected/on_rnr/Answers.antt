@@ -9,7 +9,8 @@ use Rattle.lapm_link.specs.declared.connected.Connected.{Connected}
 use Rattle.lapm_link.specs.Taking.{taken_as}
 use Rattle.lapm_link.specs.Stands.{Becomes, Links}
 use Rattle.lapm_link.proofs.connected.Connected.on_rnr.Goals as goal
-use Rattle.lapm_link.proofs.connected.Connected.on_rnr.Goals.{then-ends, else-ends, then-self, else-self+then-command, else-self+else-command}
+use Rattle.lapm_link.proofs.connected.Connected.on_rnr.Goals.{then-ends, else-ends, then-self, else-self+then-command}
+use Rattle.lapm_link.proofs.connected.Connected.on_rnr.Goals.{else-self+else-command}
 
 -- a refused number stays refused
 refused : (f : Account → Account) (r : Result Account LinkFault) (end : Connected) (fault : LinkFault) → Becomes r end (Err fault)
@@ -60,7 +61,8 @@ returns-clause-becomes c = λ a h.
       | else-self+then-command w ↦
           w.self-is ∙ sym (ap (λ r. r || polls) w.if-self.false ∙ ap (λ command. command && c.args.pf) w.if-command.true)
       | else-self+else-command w ↦
-          w.self-is ∙ w.if-command.false ∙ sym (ap (λ r. r || polls) w.if-self.false ∙ ap (λ command. command && c.args.pf) w.if-command.false)
+          w.self-is ∙ w.if-command.false ∙ sym
+          (ap (λ r. r || polls) w.if-self.false ∙ ap (λ command. command && c.args.pf) w.if-command.false)
     ] in
     rw (sym by)
     (goes_on _ _ c.on_number.new.self _ (c.in_ok-on_number.ensures.becomes a h) (λ b k. record {

@@ -19,7 +19,8 @@ returns-then-self-clause-becomes c = λ a h. elim c.then-self.branch [
 ]
 
 -- an answerer that has heard no number
-owes_ua : (end : Connected) (pf : Bool) (a : Account) → (a.numbered || is_originator a.setup.role) ≡ false → Links end (owing (answers.Ua pf) a)
+owes_ua : (end : Connected) (pf : Bool) (a : Account) → (a.numbered || is_originator a.setup.role) ≡ false
+    → Links end (owing (answers.Ua pf) a)
     → Becomes (on_sabme pf a) end (Ok tt)
 owes_ua end pf a e h =
     subst (λ (b : Bool). Becomes (if b then Err (peer_reset a) else Ok (owing (answers.Ua pf) a)) end (Ok tt)) (sym e) h

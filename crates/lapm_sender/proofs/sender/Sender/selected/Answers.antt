@@ -12,7 +12,8 @@ returns-in-Some-clause-answer c = λ o stands.
     let stood = subst (λ sender. StandsOut sender o) (sym c.self.view_is) stands in
     let front = c.front.ensures ∙ stood.front_is in
     let out : is_outstanding o ≡ true = sym (c.outstanding.ensures.outstanding o stands) ∙ c.if-outstanding.true in
-    let heard : Some n ≡ meant o.front (o.high - 1) c.args.nr = c.in-Some.ensures ∙ (λ k. meant (front k) (stood.high_is k - 1) c.args.nr) in
+    let heard : Some n ≡ meant o.front (o.high - 1) c.args.nr = c.in-Some.ensures
+    ∙ (λ k. meant (front k) (stood.high_is k - 1) c.args.nr) in
     record {
       part = record o { chosen = with_number n o.chosen };
       is_after = sym (λ k. if sym out k then option_map (λ number. record o { chosen = with_number number o.chosen }) (heard k) else None);

@@ -6,7 +6,8 @@ use Rattle.lapm_sender.proofs.sender.Sender.wants.Goals as goal
 pub returns-then-next-front-clause-value : goal.returns-then-next-front-clause-value
 returns-then-next-front-clause-value c =
     let kept = c.self.inside.segments.kept in
-    let few : length kept < c.self.inside.window = omega (arith, c.if-next-front.true, c.end-next.ensures.end, c.front.ensures, c.from.ensures) in
+    let few : length kept < c.self.inside.window =
+    omega (arith, c.if-next-front.true, c.end-next.ensures.end, c.front.ensures, c.from.ensures) in
     let number = c.self.inside.segments.front + length kept in
     ap Some c.end-next.ensures.end
     ∙ sym (λ k. if not (c.if-not-self.true k) && lt-ltb (length kept) c.self.inside.window few k then Some number else None)

@@ -18,7 +18,8 @@ returns-clause-some c = λ channel check role ts body h.
     let size : length piece ≡ 4 * channel.symbols = omega (arith, c.requires.size, h.reads.symbols) in
     let all : piece ≡ take c.args.count piece = sym (take_all c.args.count piece (omega arith)) in
     let next : (sent : Sent)
-    → ReadsSlot c.args.self.now.reader c.read.new.self (signals channel role ts) (samples_in body) (samples_in c.deref.result.now) c.read.new.labels sent
+    → ReadsSlot c.args.self.now.reader c.read.new.self (signals channel role ts) (samples_in body) (samples_in c.deref.result.now)
+    c.read.new.labels sent
     → ReadsNext c.read.new.self channel check role ts (body ++ take c.args.count piece) (slot_as sent c.read.new.labels) =
     λ sent read.
     subst (λ p. ReadsNext c.read.new.self channel check role ts (body ++ p) (slot_as sent c.read.new.labels)) all
@@ -36,12 +37,14 @@ returns-clause-none c = λ channel check role ts body h fit.
     let piece : List ℕ = c.args.self.now.piece.items in
     let size : length piece ≡ 4 * channel.symbols = omega (arith, c.requires.size, h.reads.symbols) in
     let all : piece ≡ take c.args.count piece = sym (take_all c.args.count piece (omega arith)) in
-    let next : ((s : Sent) → IsNext c.args.self.now.reader (signals channel role ts) (samples_in body) (samples_in c.deref.result.now) s → ⊥)
+    let next : ((s : Sent) → IsNext c.args.self.now.reader (signals channel role ts) (samples_in body) (samples_in c.deref.result.now) s
+    → ⊥)
     → (s : Sent) → HoldsNext channel check role ts (body ++ take c.args.count piece) s → ⊥ =
     λ none.
     subst (λ p. (s : Sent) → HoldsNext channel check role ts (body ++ p) s → ⊥) all
     (none-held c.args.self.now.reader channel check role ts body piece h size
-    (subst (λ p. (s : Sent) → IsNext c.args.self.now.reader (signals channel role ts) (samples_in body) (samples_in p) s → ⊥) c.deref.ensures.value
+    (subst (λ p. (s : Sent) → IsNext c.args.self.now.reader (signals channel role ts) (samples_in body) (samples_in p) s → ⊥)
+    c.deref.ensures.value
     none)) in
     none-then c.read.result (c.read.ensures.none (signals channel role ts) (samples_in body) h.stands
     (subst (λ n. AreFit (4 * n) 0 (signals channel role ts)) (sym h.reads.symbols) fit)) next

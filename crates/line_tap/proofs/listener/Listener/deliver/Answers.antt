@@ -63,7 +63,8 @@ returns-in-Err-clause-err g c = λ i h.
     (λ s. c.if-not-deliver.ensures.segment _ s k.stands)) part
 
 pub loop-segment-smaller : goal.loop-segment-smaller
-loop-segment-smaller g c = fewer-ready c.loop-segment.self.receiver c.deliver.new.self c.if-not-deliver.ensures.value c.if-not-deliver.ensures.left
+loop-segment-smaller g c = fewer-ready c.loop-segment.self.receiver c.deliver.new.self c.if-not-deliver.ensures.value
+    c.if-not-deliver.ensures.left
 
 pub returns-then-not-deliver-clause-stands : goal.returns-then-not-deliver-clause-stands
 returns-then-not-deliver-clause-stands g c = λ terms role agreed connected i lengths h.

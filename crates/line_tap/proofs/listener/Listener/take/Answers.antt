@@ -15,7 +15,8 @@ returns-in-I-clause-stands c = λ terms role agreed connected i lengths h.
     (subst (λ b. Listens c.take_segment.new.self terms role agreed b (after_take c.in-I.ns c.in-I.info i)
     (lengths ++ given_in (given_by connected (Passed (slots.Frame (I c.in-I.ns c.in-I.nr c.in-I.pf c.in-I.info))) lengths)))
     (sym (opens-no-segment role c.in-I.ns c.in-I.nr c.in-I.pf c.in-I.info connected))
-    (subst (λ l. Listens c.take_segment.new.self terms role agreed connected (after_take c.in-I.ns c.in-I.info i) l) (gives-no-segment connected c.in-I.ns c.in-I.nr c.in-I.pf c.in-I.info lengths)
+    (subst (λ l. Listens c.take_segment.new.self terms role agreed connected (after_take c.in-I.ns c.in-I.info i) l)
+    (gives-no-segment connected c.in-I.ns c.in-I.nr c.in-I.pf c.in-I.info lengths)
     (c.take_segment.ensures.stands terms role agreed connected i lengths h)))
 
 pub returns-then-self-clause-given : goal.returns-then-self-clause-given

@@ -9,7 +9,8 @@ use Rattle.line_tap.proofs.listener.Listener.take_word.Goals as goal
 pub returns-in-Brk-clause-given : goal.returns-in-Brk-clause-given
 returns-in-Brk-clause-given c = λ terms role agreed connected i lengths h.
     subst (λ (w : BreakWord). c.take.result ≡ given_by_word (Ok w) lengths) (sym c.in-Brk.is)
-    (c.take.ensures.gives (record { lengths = lengths; ack = c.args.self.now.breaks.ack }) (record { expected_is = h.breaks; ack_is = refl }))
+    (c.take.ensures.gives (record { lengths = lengths; ack = c.args.self.now.breaks.ack })
+    (record { expected_is = h.breaks; ack_is = refl }))
 
 pub returns-in-Brk-clause-stands : goal.returns-in-Brk-clause-stands
 returns-in-Brk-clause-stands c = λ terms role agreed connected i lengths h.

@@ -60,7 +60,8 @@ returns-in_err-phase-clause-none c = λ sigs samples k fit.
     ∙ ap (λ q. slot_bits (4 * r.symbols) r.phase (slot_of (4 * r.symbols) (carries r q))) (sym is) in
     c.in_err-phase.ensures.none
     (subst (EndsAt r.framing.check r.framing.sender r.framing.dlci r.phase c.guess-sent.result) (sym c.end.ensures)
-    (found-sent r.framing.check r.framing.sender r.framing.dlci r.symbols r.phase (line_bits c.read_labels.new.bits) c.frame_in-found.new.self
+    (found-sent r.framing.check r.framing.sender r.framing.dlci r.symbols r.phase (line_bits c.read_labels.new.bits)
+    c.frame_in-found.new.self
     c.frame_in-found.result c.guess-sent.result c.frame_in-found.ensures.at c.guess-sent.ensures.guess codable same))
     codable in
     subst (λ q. IfNone q ((s : Sent) → IsNext r sigs samples more s → ⊥)) (sym c.from_residual-in_err-phase.ensures) refuted
@@ -94,7 +95,8 @@ frame_in-found-requires-clause-long c =
 pub write_again-requires-clause-codable : goal.write_again-requires-clause-codable
 write_again-requires-clause-codable c =
     let r = c.args.self.now in
-    subst (λ n. IsCodable r.framing.check r.framing.sender r.framing.dlci n r.writer.phase c.guess-sent.result) (sym c.requires.writer.symbols)
+    subst (λ n. IsCodable r.framing.check r.framing.sender r.framing.dlci n r.writer.phase c.guess-sent.result)
+    (sym c.requires.writer.symbols)
     (subst (λ p. IsCodable r.framing.check r.framing.sender r.framing.dlci r.symbols p c.guess-sent.result) (sym c.requires.writer.phase)
     c.in_ok-phase.ensures.codable)
 
@@ -156,13 +158,15 @@ pub phase_behind-requires-clause-by : goal.phase_behind-requires-clause-by
 phase_behind-requires-clause-by c =
     let r = c.args.self.now in
     subst (EndsBy r.framing.check r.framing.sender r.framing.dlci r.phase c.guess-sent.result) (sym c.end.ensures)
-    (found-ends r.framing.check r.framing.sender r.framing.dlci r.symbols r.phase (line_bits c.read_labels.new.bits) c.frame_in-found.new.self
+    (found-ends r.framing.check r.framing.sender r.framing.dlci r.symbols r.phase (line_bits c.read_labels.new.bits)
+    c.frame_in-found.new.self
     c.frame_in-found.result c.guess-sent.result c.frame_in-found.ensures.at c.guess-sent.ensures.guess)
 
 pub write_again-requires-clause-octets : goal.write_again-requires-clause-octets
 write_again-requires-clause-octets c =
     let r = c.args.self.now in
-    found-lent r.framing.check r.framing.sender r.framing.dlci r.symbols r.phase (line_bits c.read_labels.new.bits) c.frame_in-found.new.self
+    found-lent r.framing.check r.framing.sender r.framing.dlci r.symbols r.phase (line_bits c.read_labels.new.bits)
+    c.frame_in-found.new.self
     c.octets.result.now c.frame_in-found.result c.guess-sent.result c.frame_in-found.ensures.at c.guess-sent.ensures.guess c.octets.ensures
 
 pub returns-in_err-state-clause-some : goal.returns-in_err-state-clause-some

@@ -51,7 +51,8 @@ returns-clause-found c = λ symbols long.
     let first =
     subst (λ n. EndsFirst c.end_of_piece.new.deframer bits (n + 24) c.in_ok-end.end) c.rest_bits-opens.ensures.value
     c.in_ok-end.ensures.some in
-    finds-there c.args.framing.check c.args.framing.sender c.args.framing.dlci symbols c.args.phase bits c.frame_of.result long c.requires.phase
+    finds-there c.args.framing.check c.args.framing.sender c.args.framing.dlci symbols c.args.phase bits c.frame_of.result long
+    c.requires.phase
     (ap (bit_of bits) place ∙ sym c.bit_in.ensures ∙ c.if-not-bit_in.false)
     (first-there laws c.args.framing.check c.args.framing.sender c.args.framing.dlci symbols c.args.phase bits c.end_of_piece.new.deframer
     c.in_ok-end.end c.whole.result.now c.frame_of.result c.requires.channel first (c.whole.ensures.value _ first.stands)

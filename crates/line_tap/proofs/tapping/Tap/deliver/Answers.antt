@@ -85,7 +85,8 @@ returns-in-Err-deliver-clause-script g c = refl
 pub returns-in-Err-clause-only : goal.returns-in-Err-clause-only
 returns-in-Err-clause-only g c =
     let n : TapNames = named c.args.names.now in
-    OnlyPuts-one (g.F.Folder.state c.args.folder.now) (g.F.Folder.state c.deliver.new.folder) [] n.got_o (n.got_a ∷ n.trace ∷ []) c.in-Err.ensures.only
+    OnlyPuts-one (g.F.Folder.state c.args.folder.now) (g.F.Folder.state c.deliver.new.folder) [] n.got_o (n.got_a ∷ n.trace ∷ [])
+    c.in-Err.ensures.only
 
 pub returns-in-Err-clause-fails : goal.returns-in-Err-clause-fails
 returns-in-Err-clause-fails g c =

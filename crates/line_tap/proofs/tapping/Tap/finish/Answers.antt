@@ -13,7 +13,8 @@ returns-in-Ok-clause-ok g c = λ x ts number h.
 pub returns-in-Err-clause-err : goal.returns-in-Err-clause-err
 returns-in-Err-clause-err g c = λ x ts number h.
     subst (PartlyAppended (g.F.Folder.state c.args.folder.now) (g.F.Folder.state c.append_turn.new.folder) (named c.args.names.now).trace)
-    (text-is c.args.self.now.turn x ts c.args.hearing.now None (record { orig = None; answ = None }) number h refl refl) c.in-Err.ensures.err
+    (text-is c.args.self.now.turn x ts c.args.hearing.now None (record { orig = None; answ = None }) number h refl refl)
+    c.in-Err.ensures.err
 
 pub returns-in-Ok-clause-err : goal.returns-in-Ok-clause-err
 returns-in-Ok-clause-err g c = tt

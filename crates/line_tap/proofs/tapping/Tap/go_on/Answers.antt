@@ -68,7 +68,10 @@ returns-clause-ok g c = λ x ts k.
       }),
       subst (Appended (g.F.Folder.state c.args.folder.now) (g.F.Folder.state c.append_turn.new.folder) (named c.args.names.now).trace)
           (text-is tap.turn x ts c.args.hearing.now (Some c.args.sent)
-          (record { orig = Some (told (check_by (terms_of x)) slots.orig.sent); answ = Some (told (check_by (terms_of x)) slots.answ.sent) })
+          (record {
+            orig = Some (told (check_by (terms_of x)) slots.orig.sent);
+            answ = Some (told (check_by (terms_of x)) slots.answ.sent);
+          })
           k.turn k.hears refl refl) c.in-Ok.ensures.ok,
     )
 

@@ -57,7 +57,8 @@ returns-in-Ok-clause-hears c = λ x ts h.
     let checks : Both Check = record { orig = c.check.result; answ = c.check-2.result } in
     let heard : Both Heard = c.in-Ok.heard in
     let arrives = c.in-Ok.ensures.arrives (line_of x) 1 ts (both_sent_by 0 ts) h.lines
-    (are-due laws x ts (subst IsInLimits h.behind.script_is c.requires.limits) h.behind.tells) (sym h.behind.script_is) refl h.behind.turn in (
+    (are-due laws x ts (subst IsInLimits h.behind.script_is c.requires.limits) h.behind.tells) (sym h.behind.script_is) refl
+    h.behind.turn in (
       record {
         behind = behind-on tap new x ts
             (record { script = refl; turn = refl; at = refl; orig = refl; answ = refl; orig_piece = refl; answ_piece = refl }) h.behind;

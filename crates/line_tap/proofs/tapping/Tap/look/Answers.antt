@@ -22,7 +22,8 @@ returns-in-None-clause-looks c = λ x ts heard h.
       sendable = c.codable_slots_fit.ensures.sendable;
       octets = c.codable_slots_fit.ensures.octets;
     } in
-    c.in-None.ensures.none (line_of x) (check_by (terms_of x)) Originator ts x.bodies.orig h.behind.orig (told-fit laws x ts h.behind.tells Originator)
+    c.in-None.ensures.none (line_of x) (check_by (terms_of x)) Originator ts x.bodies.orig h.behind.orig
+    (told-fit laws x ts h.behind.tells Originator)
 
 pub returns-in-Some-read-clause-looks : goal.returns-in-Some-read-clause-looks
 returns-in-Some-read-clause-looks c = λ x ts heard h.
@@ -52,13 +53,15 @@ returns-in-None-read-clause-looks c = λ x ts heard h.
     )
 
 pub read-requires-clause-size : goal.read-requires-clause-size
-read-requires-clause-size c = let h = c.requires.stands in c.args.self.now.orig.piece.ok.0 ∙ h.3.behind.orig_room ∙ ap (λ n. 4 * n) (sym h.3.behind.orig.reads.symbols)
+read-requires-clause-size c = let h = c.requires.stands in c.args.self.now.orig.piece.ok.0 ∙ h.3.behind.orig_room
+    ∙ ap (λ n. 4 * n) (sym h.3.behind.orig.reads.symbols)
 
 pub read-requires-clause-count : goal.read-requires-clause-count
 read-requires-clause-count c = subst (λ (n : ℕ). c.args.counts.now.orig ≤ n) (sym c.args.self.now.orig.piece.ok.0) c.requires.orig
 
 pub read-requires-2-clause-size : goal.read-requires-2-clause-size
-read-requires-2-clause-size c = let h = c.requires.stands in c.args.self.now.answ.piece.ok.0 ∙ h.3.behind.answ_room ∙ ap (λ n. 4 * n) (sym h.3.behind.answ.reads.symbols)
+read-requires-2-clause-size c = let h = c.requires.stands in c.args.self.now.answ.piece.ok.0 ∙ h.3.behind.answ_room
+    ∙ ap (λ n. 4 * n) (sym h.3.behind.answ.reads.symbols)
 
 pub read-requires-2-clause-count : goal.read-requires-2-clause-count
 read-requires-2-clause-count c = subst (λ (n : ℕ). c.args.counts.now.answ ≤ n) (sym c.args.self.now.answ.piece.ok.0) c.requires.answ

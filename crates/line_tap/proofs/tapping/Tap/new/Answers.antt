@@ -29,11 +29,13 @@ returns-clause-first c =
       turn = 0;
     } in
     let x : Tapping = tapping c.args.script no_octets in
-    let terms : c.agree-terms.result ≡ terms_of x = c.agree-terms.ensures ∙ (λ k. agree (c.offer.ensures.value k) (c.offer-2.ensures.value k)) in
+    let terms : c.agree-terms.result ≡ terms_of x = c.agree-terms.ensures
+    ∙ (λ k. agree (c.offer.ensures.value k) (c.offer-2.ensures.value k)) in
     after-none tap c.agree-terms.result x c.slot_symbols-symbols.result refl terms c.slot_symbols-symbols.ensures.value refl refl
     c.in_ok-orig.ensures.listens c.in_ok-answ.ensures.listens
     (c.in_ok-orig.ensures.reads (line_of x) (sym c.slot_symbols-symbols.ensures.value) refl)
-    (c.in_ok-answ.ensures.reads (line_of x) (sym c.slot_symbols-symbols.ensures.value) refl) c.in_ok-orig.ensures.room c.in_ok-answ.ensures.room
+    (c.in_ok-answ.ensures.reads (line_of x) (sym c.slot_symbols-symbols.ensures.value) refl) c.in_ok-orig.ensures.room
+    c.in_ok-answ.ensures.room
     (c.in_ok-lines.ensures 0 (λ role turn. None))
 
 pub returns-clause-ready : goal.returns-clause-ready
@@ -47,7 +49,8 @@ returns-clause-ready c =
       turn = 0;
     } in
     let x : Tapping = tapping c.args.script no_octets in
-    let terms : c.agree-terms.result ≡ terms_of x = c.agree-terms.ensures ∙ (λ k. agree (c.offer.ensures.value k) (c.offer-2.ensures.value k)) in
+    let terms : c.agree-terms.result ≡ terms_of x = c.agree-terms.ensures
+    ∙ (λ k. agree (c.offer.ensures.value k) (c.offer-2.ensures.value k)) in
     record {
       limits = c.is_in_limits.ensures;
       orig = c.in_ok-orig.ensures.idle;
@@ -73,22 +76,28 @@ pub returns-in_err-lines-clause-first : goal.returns-in_err-lines-clause-first
 returns-in_err-lines-clause-first c = let p = err_from_is_err_and c.from_residual.result c.from_residual.ensures.1 in rw p.1 tt
 
 pub returns-in_err-orig-clause-script : goal.returns-in_err-orig-clause-script
-returns-in_err-orig-clause-script c = let p = err_from_is_err_and c.from_residual-in_err-orig.result c.from_residual-in_err-orig.ensures.1 in rw p.1 tt
+returns-in_err-orig-clause-script c = let p = err_from_is_err_and c.from_residual-in_err-orig.result
+    c.from_residual-in_err-orig.ensures.1 in rw p.1 tt
 
 pub returns-in_err-orig-clause-ready : goal.returns-in_err-orig-clause-ready
-returns-in_err-orig-clause-ready c = let p = err_from_is_err_and c.from_residual-in_err-orig.result c.from_residual-in_err-orig.ensures.1 in rw p.1 tt
+returns-in_err-orig-clause-ready c = let p = err_from_is_err_and c.from_residual-in_err-orig.result
+    c.from_residual-in_err-orig.ensures.1 in rw p.1 tt
 
 pub returns-in_err-orig-clause-first : goal.returns-in_err-orig-clause-first
-returns-in_err-orig-clause-first c = let p = err_from_is_err_and c.from_residual-in_err-orig.result c.from_residual-in_err-orig.ensures.1 in rw p.1 tt
+returns-in_err-orig-clause-first c = let p = err_from_is_err_and c.from_residual-in_err-orig.result
+    c.from_residual-in_err-orig.ensures.1 in rw p.1 tt
 
 pub returns-in_err-answ-clause-script : goal.returns-in_err-answ-clause-script
-returns-in_err-answ-clause-script c = let p = err_from_is_err_and c.from_residual-in_err-answ.result c.from_residual-in_err-answ.ensures.1 in rw p.1 tt
+returns-in_err-answ-clause-script c = let p = err_from_is_err_and c.from_residual-in_err-answ.result
+    c.from_residual-in_err-answ.ensures.1 in rw p.1 tt
 
 pub returns-in_err-answ-clause-ready : goal.returns-in_err-answ-clause-ready
-returns-in_err-answ-clause-ready c = let p = err_from_is_err_and c.from_residual-in_err-answ.result c.from_residual-in_err-answ.ensures.1 in rw p.1 tt
+returns-in_err-answ-clause-ready c = let p = err_from_is_err_and c.from_residual-in_err-answ.result
+    c.from_residual-in_err-answ.ensures.1 in rw p.1 tt
 
 pub returns-in_err-answ-clause-first : goal.returns-in_err-answ-clause-first
-returns-in_err-answ-clause-first c = let p = err_from_is_err_and c.from_residual-in_err-answ.result c.from_residual-in_err-answ.ensures.1 in rw p.1 tt
+returns-in_err-answ-clause-first c = let p = err_from_is_err_and c.from_residual-in_err-answ.result
+    c.from_residual-in_err-answ.ensures.1 in rw p.1 tt
 
 pub returns-clause-script : goal.returns-clause-script
 returns-clause-script c = refl

@@ -25,8 +25,10 @@ returns-in-Ok-clause-pieces g c = λ start x ts heard h read.
     }) refl refl refl h) refl read (record {
       reads_orig = c.in-Ok.ensures.orig start;
       reads_answ = c.in-Ok.ensures.answ start;
-      end_orig = λ octets k less. c.in-Ok.ensures.orig_end start octets k (subst (λ (n : ℕ). c.in-Ok.counts.orig < n) (sym c.read_pieces.new.orig.ok.0) less);
-      end_answ = λ octets k less. c.in-Ok.ensures.answ_end start octets k (subst (λ (n : ℕ). c.in-Ok.counts.answ < n) (sym c.read_pieces.new.answ.ok.0) less);
+      end_orig = λ octets k less. c.in-Ok.ensures.orig_end start octets k
+          (subst (λ (n : ℕ). c.in-Ok.counts.orig < n) (sym c.read_pieces.new.orig.ok.0) less);
+      end_answ = λ octets k less. c.in-Ok.ensures.answ_end start octets k
+          (subst (λ (n : ℕ). c.in-Ok.counts.answ < n) (sym c.read_pieces.new.answ.ok.0) less);
       few_orig = subst (λ (n : ℕ). c.in-Ok.counts.orig ≤ n) c.read_pieces.new.orig.ok.0 c.in-Ok.ensures.orig_bound;
       few_answ = subst (λ (n : ℕ). c.in-Ok.counts.answ ≤ n) c.read_pieces.new.answ.ok.0 c.in-Ok.ensures.answ_bound;
     })

@@ -19,7 +19,8 @@ use Rattle.line_world.specs.Faults.{end_of}
 pub returns-in-Err-Lost-clause-turn : goal.returns-in-Err-Lost-clause-turn
 returns-in-Err-Lost-clause-turn g c = λ start x ts h read.
     rw (c.in-Err-Lost.field-0-is)
-    (loses-line start (g.F.Folder.state c.args.folder.now) (named c.args.names.now) x ts c.in-Err-Lost.role c.in-Err-Lost.symbol h.behind.tells read
+    (loses-line start (g.F.Folder.state c.args.folder.now) (named c.args.names.now) x ts c.in-Err-Lost.role c.in-Err-Lost.symbol
+    h.behind.tells read
     (subst (λ (e : LineEnd). EndsLine x ts (end_of e)) c.in-Err-Lost.field-0-is (c.in-Err-Lost.ensures.hears x ts h)))
 
 pub returns-in-Err-Chance-clause-turn : goal.returns-in-Err-Chance-clause-turn
@@ -56,7 +57,8 @@ returns-in-Err-look-clause-turn g c = λ start x ts h read.
     read (c.in-Ok.ensures.hears x ts h) c.in-Ok-deliver.ensures.only c.in-Ok-read.ensures.reads
     (c.in-Ok-deliver.ensures.ok x ts c.in-Ok.hearing.heard) (c.in-Ok-deliver.ensures.stands x ts c.in-Ok.hearing.heard)
     (c.in-Ok-read.ensures.pieces start x ts c.in-Ok.hearing.heard) in
-    ends-badly c.keeps_taken.ensures c.read.new.self start a b r n x ts c.in-Ok.hearing c.in-Ok-read.counts c.in-Err-look.role c.look.new.self.turn k
+    ends-badly c.keeps_taken.ensures c.read.new.self start a b r n x ts c.in-Ok.hearing c.in-Ok-read.counts c.in-Err-look.role
+    c.look.new.self.turn k
     (c.if-are_none.ensures.some refl) (c.in-Err-look.ensures.turn ∙ k.pieces.turn.behind.turn)
     (c.in-Err-look.ensures.looks x ts c.in-Ok.hearing.heard k.pieces.turn)
 
@@ -72,12 +74,16 @@ returns-in-Ok-go_on-clause-turn g c = λ start x ts h read.
     read (c.in-Ok.ensures.hears x ts h) c.in-Ok-deliver.ensures.only c.in-Ok-read.ensures.reads
     (c.in-Ok-deliver.ensures.ok x ts c.in-Ok.hearing.heard) (c.in-Ok-deliver.ensures.stands x ts c.in-Ok.hearing.heard)
     (c.in-Ok-read.ensures.pieces start x ts c.in-Ok.hearing.heard) in
-    let go : IsToGo c.look.new.self (now_of c.read.new.self x c.in-Ok-read.counts) ts c.in-Ok.hearing (slots_as c.in-Ok-look.sent c.look.new.labels) =
-    to-go c.read.new.self c.look.new.self x ts c.in-Ok.hearing c.in-Ok-read.counts (slots_as c.in-Ok-look.sent c.look.new.labels) k.pieces.turn k.hears
+    let go : IsToGo c.look.new.self (now_of c.read.new.self x c.in-Ok-read.counts) ts c.in-Ok.hearing
+    (slots_as c.in-Ok-look.sent c.look.new.labels) =
+    to-go c.read.new.self c.look.new.self x ts c.in-Ok.hearing c.in-Ok-read.counts (slots_as c.in-Ok-look.sent c.look.new.labels)
+    k.pieces.turn k.hears
     (c.in-Ok-look.ensures.looks x ts c.in-Ok.hearing.heard k.pieces.turn) c.in-Ok-look.ensures.script c.in-Ok-look.ensures.turn
-    c.in-Ok-look.ensures.at c.in-Ok-look.ensures.orig c.in-Ok-look.ensures.answ c.in-Ok-look.ensures.orig_piece c.in-Ok-look.ensures.answ_piece in
+    c.in-Ok-look.ensures.at c.in-Ok-look.ensures.orig c.in-Ok-look.ensures.answ c.in-Ok-look.ensures.orig_piece
+    c.in-Ok-look.ensures.answ_piece in
     let after = c.in-Ok-go_on.ensures.ok (now_of c.read.new.self x c.in-Ok-read.counts) ts go in
-    goes-on-by c.read.new.self c.go_on.new.self start a b r d n x ts c.in-Ok.hearing c.in-Ok-read.counts (slots_as c.in-Ok-look.sent c.look.new.labels) k after.0
+    goes-on-by c.read.new.self c.go_on.new.self start a b r d n x ts c.in-Ok.hearing c.in-Ok-read.counts
+    (slots_as c.in-Ok-look.sent c.look.new.labels) k after.0
     c.in-Ok-go_on.ensures.only after.1
 
 pub returns-in-Err-go_on-clause-turn : goal.returns-in-Err-go_on-clause-turn
@@ -92,11 +98,15 @@ returns-in-Err-go_on-clause-turn g c = λ start x ts h read.
     read (c.in-Ok.ensures.hears x ts h) c.in-Ok-deliver.ensures.only c.in-Ok-read.ensures.reads
     (c.in-Ok-deliver.ensures.ok x ts c.in-Ok.hearing.heard) (c.in-Ok-deliver.ensures.stands x ts c.in-Ok.hearing.heard)
     (c.in-Ok-read.ensures.pieces start x ts c.in-Ok.hearing.heard) in
-    let go : IsToGo c.look.new.self (now_of c.read.new.self x c.in-Ok-read.counts) ts c.in-Ok.hearing (slots_as c.in-Ok-look.sent c.look.new.labels) =
-    to-go c.read.new.self c.look.new.self x ts c.in-Ok.hearing c.in-Ok-read.counts (slots_as c.in-Ok-look.sent c.look.new.labels) k.pieces.turn k.hears
+    let go : IsToGo c.look.new.self (now_of c.read.new.self x c.in-Ok-read.counts) ts c.in-Ok.hearing
+    (slots_as c.in-Ok-look.sent c.look.new.labels) =
+    to-go c.read.new.self c.look.new.self x ts c.in-Ok.hearing c.in-Ok-read.counts (slots_as c.in-Ok-look.sent c.look.new.labels)
+    k.pieces.turn k.hears
     (c.in-Ok-look.ensures.looks x ts c.in-Ok.hearing.heard k.pieces.turn) c.in-Ok-look.ensures.script c.in-Ok-look.ensures.turn
-    c.in-Ok-look.ensures.at c.in-Ok-look.ensures.orig c.in-Ok-look.ensures.answ c.in-Ok-look.ensures.orig_piece c.in-Ok-look.ensures.answ_piece in
-    stops-going c.read.new.self c.look.new.self start a b r d n x ts c.in-Ok.hearing c.in-Ok-read.counts (slots_as c.in-Ok-look.sent c.look.new.labels) k go
+    c.in-Ok-look.ensures.at c.in-Ok-look.ensures.orig c.in-Ok-look.ensures.answ c.in-Ok-look.ensures.orig_piece
+    c.in-Ok-look.ensures.answ_piece in
+    stops-going c.read.new.self c.look.new.self start a b r d n x ts c.in-Ok.hearing c.in-Ok-read.counts
+    (slots_as c.in-Ok-look.sent c.look.new.labels) k go
     c.in-Err-go_on.ensures.only (c.in-Err-go_on.ensures.err (now_of c.read.new.self x c.in-Ok-read.counts) ts go)
 
 pub returns-in-Ok-finish-clause-turn : goal.returns-in-Ok-finish-clause-turn
@@ -112,7 +122,8 @@ returns-in-Ok-finish-clause-turn g c = λ start x ts h read.
     (c.in-Ok-deliver.ensures.ok x ts c.in-Ok.hearing.heard) (c.in-Ok-deliver.ensures.stands x ts c.in-Ok.hearing.heard)
     (c.in-Ok-read.ensures.pieces start x ts c.in-Ok.hearing.heard) in
     ends-whole c.keeps_taken.ensures c.read.new.self start a b r d n x ts c.in-Ok.hearing c.in-Ok-read.counts (c.read.new.self.turn + 1) k
-    (c.if-are_none.ensures.orig refl) (c.if-are_none.ensures.answ refl) (ap (λ m. m + 1) k.pieces.turn.behind.turn) c.in-Ok-finish.ensures.only
+    (c.if-are_none.ensures.orig refl) (c.if-are_none.ensures.answ refl) (ap (λ m. m + 1) k.pieces.turn.behind.turn)
+    c.in-Ok-finish.ensures.only
     (c.in-Ok-finish.ensures.ok x ts k.pieces.turn.behind.turn k.hears)
 
 pub returns-in-Err-finish-clause-turn : goal.returns-in-Err-finish-clause-turn
@@ -200,7 +211,8 @@ go_on-requires-clause-stands g c =
     let ts = r0.turns in
     let heard = c.in-Ok.ensures.hears x ts r0.after in
     let turn = c.in-Ok-read.ensures.stands x ts c.in-Ok.hearing.heard (c.in-Ok-deliver.ensures.stands x ts c.in-Ok.hearing.heard heard.0) in
-    let go : IsToGo c.look.new.self (now_of c.read.new.self x c.in-Ok-read.counts) ts c.in-Ok.hearing (slots_as c.in-Ok-look.sent c.look.new.labels) =
+    let go : IsToGo c.look.new.self (now_of c.read.new.self x c.in-Ok-read.counts) ts c.in-Ok.hearing
+    (slots_as c.in-Ok-look.sent c.look.new.labels) =
     to-go c.read.new.self c.look.new.self x ts c.in-Ok.hearing c.in-Ok-read.counts (slots_as c.in-Ok-look.sent c.look.new.labels) turn
     (so-heard c.hear.new.self x ts c.in-Ok.hearing heard) (c.in-Ok-look.ensures.looks x ts c.in-Ok.hearing.heard turn)
     c.in-Ok-look.ensures.script c.in-Ok-look.ensures.turn c.in-Ok-look.ensures.at
@@ -214,7 +226,8 @@ returns-in-Ok-go_on-clause-ready g c = λ same.
     let ts = r0.turns in
     let heard = c.in-Ok.ensures.hears x ts r0.after in
     let turn = c.in-Ok-read.ensures.stands x ts c.in-Ok.hearing.heard (c.in-Ok-deliver.ensures.stands x ts c.in-Ok.hearing.heard heard.0) in
-    let go : IsToGo c.look.new.self (now_of c.read.new.self x c.in-Ok-read.counts) ts c.in-Ok.hearing (slots_as c.in-Ok-look.sent c.look.new.labels) =
+    let go : IsToGo c.look.new.self (now_of c.read.new.self x c.in-Ok-read.counts) ts c.in-Ok.hearing
+    (slots_as c.in-Ok-look.sent c.look.new.labels) =
     to-go c.read.new.self c.look.new.self x ts c.in-Ok.hearing c.in-Ok-read.counts (slots_as c.in-Ok-look.sent c.look.new.labels) turn
     (so-heard c.hear.new.self x ts c.in-Ok.hearing heard) (c.in-Ok-look.ensures.looks x ts c.in-Ok.hearing.heard turn)
     c.in-Ok-look.ensures.script c.in-Ok-look.ensures.turn c.in-Ok-look.ensures.at
@@ -225,9 +238,11 @@ returns-in-Ok-go_on-clause-ready g c = λ same.
     let same : c.look.new.self.at ≡ c.args.self.now.at =
     c.in-Ok-look.ensures.at ∙ c.in-Ok-read.ensures.at ∙ c.in-Ok-deliver.ensures.at ∙ c.in-Ok.ensures.at in
     let more = nearer-by c.args.self.now c.look.new.self c.go_on.new.self same room c.in-Ok-go_on.ensures.at in
-    let whole = whole-orig c.read.new.self c.look.new.self x ts c.in-Ok.hearing c.in-Ok-read.counts (slots_as c.in-Ok-look.sent c.look.new.labels) turn
+    let whole = whole-orig c.read.new.self c.look.new.self x ts c.in-Ok.hearing c.in-Ok-read.counts
+    (slots_as c.in-Ok-look.sent c.look.new.labels) turn
     c.in-Ok-read.ensures.orig_few go in
-    let within = within-by c.read.new.self c.look.new.self c.go_on.new.self c.deliver.new.self.at c.in-Ok-read.counts.orig c.in-Ok-read.ensures.at
+    let within = within-by c.read.new.self c.look.new.self c.go_on.new.self c.deliver.new.self.at c.in-Ok-read.counts.orig
+    c.in-Ok-read.ensures.at
     c.in-Ok-look.ensures.at c.in-Ok-look.ensures.orig_piece whole c.in-Ok-read.ensures.within c.in-Ok-go_on.ensures.at in
     ready-again c.args.self.now c.deliver.new.self c.go_on.new.self (now_of c.read.new.self x c.in-Ok-read.counts)
     (going_in (now_of c.read.new.self x c.in-Ok-read.counts) ts c.in-Ok.hearing.heard (slots_as c.in-Ok-look.sent c.look.new.labels)) ts r0
@@ -238,7 +253,8 @@ returns-in-Ok-go_on-clause-ready g c = λ same.
     (c.in-Ok-go_on.ensures.orig ∙ c.in-Ok-look.ensures.orig ∙ c.in-Ok-read.ensures.orig)
     (c.in-Ok-go_on.ensures.answ ∙ c.in-Ok-look.ensures.answ ∙ c.in-Ok-read.ensures.answ)
     (c.in-Ok-go_on.ensures.turn
-    ∙ ap (λ n. n + 1) (c.in-Ok-look.ensures.turn ∙ c.in-Ok-read.ensures.turn ∙ c.in-Ok-deliver.ensures.turn ∙ c.in-Ok.ensures.turn)) more within
+    ∙ ap (λ n. n + 1) (c.in-Ok-look.ensures.turn ∙ c.in-Ok-read.ensures.turn ∙ c.in-Ok-deliver.ensures.turn ∙ c.in-Ok.ensures.turn)) more
+    within
 
 pub returns-in-Ok-go_on-clause-nearer : goal.returns-in-Ok-go_on-clause-nearer
 returns-in-Ok-go_on-clause-nearer g c = λ same.
@@ -272,13 +288,16 @@ pub returns-in-Err-finish-clause-script : goal.returns-in-Err-finish-clause-scri
 returns-in-Err-finish-clause-script g c = c.in-Ok-read.ensures.script ∙ c.in-Ok-deliver.ensures.script ∙ c.in-Ok.ensures.script
 
 pub returns-in-Err-look-clause-script : goal.returns-in-Err-look-clause-script
-returns-in-Err-look-clause-script g c = c.in-Err-look.ensures.script ∙ c.in-Ok-read.ensures.script ∙ c.in-Ok-deliver.ensures.script ∙ c.in-Ok.ensures.script
+returns-in-Err-look-clause-script g c = c.in-Err-look.ensures.script ∙ c.in-Ok-read.ensures.script ∙ c.in-Ok-deliver.ensures.script
+    ∙ c.in-Ok.ensures.script
 
 pub returns-in-Ok-go_on-clause-script : goal.returns-in-Ok-go_on-clause-script
-returns-in-Ok-go_on-clause-script g c = c.in-Ok-go_on.ensures.script ∙ c.in-Ok-look.ensures.script ∙ c.in-Ok-read.ensures.script ∙ c.in-Ok-deliver.ensures.script ∙ c.in-Ok.ensures.script
+returns-in-Ok-go_on-clause-script g c = c.in-Ok-go_on.ensures.script ∙ c.in-Ok-look.ensures.script ∙ c.in-Ok-read.ensures.script
+    ∙ c.in-Ok-deliver.ensures.script ∙ c.in-Ok.ensures.script
 
 pub returns-in-Err-go_on-clause-script : goal.returns-in-Err-go_on-clause-script
-returns-in-Err-go_on-clause-script g c = c.in-Err-go_on.ensures.script ∙ c.in-Ok-look.ensures.script ∙ c.in-Ok-read.ensures.script ∙ c.in-Ok-deliver.ensures.script ∙ c.in-Ok.ensures.script
+returns-in-Err-go_on-clause-script g c = c.in-Err-go_on.ensures.script ∙ c.in-Ok-look.ensures.script ∙ c.in-Ok-read.ensures.script
+    ∙ c.in-Ok-deliver.ensures.script ∙ c.in-Ok.ensures.script
 
 pub returns-in-Err-Lost-clause-ready : goal.returns-in-Err-Lost-clause-ready
 returns-in-Err-Lost-clause-ready g c = λ same. is-stopped same
@@ -359,7 +378,8 @@ pub read-requires : goal.read-requires
 read-requires g c = within-still c.args.self.now c.deliver.new.self c.requires.ready (c.in-Ok-deliver.ensures.at ∙ c.in-Ok.ensures.at)
 
 pub look-requires-clause-limits : goal.look-requires-clause-limits
-look-requires-clause-limits g c = subst IsInLimits (sym (c.in-Ok-read.ensures.script ∙ c.in-Ok-deliver.ensures.script ∙ c.in-Ok.ensures.script)) c.requires.ready.limits
+look-requires-clause-limits g c = subst IsInLimits
+    (sym (c.in-Ok-read.ensures.script ∙ c.in-Ok-deliver.ensures.script ∙ c.in-Ok.ensures.script)) c.requires.ready.limits
 
 pub look-requires-clause-orig : goal.look-requires-clause-orig
 look-requires-clause-orig g c = c.in-Ok-read.ensures.orig_few

@@ -25,7 +25,8 @@ returns-in-Some-clause-arrives c = λ passed way h.
     record { line = c.hear.new.self; sender = d.sender; delay = d.delay; lag = d.lag; slots = c.pop_front.new.self } in
     let o : Oldest (size_of d.line) d.sender passed c.in-Some.slot (drop 1 d.slots.items) way =
     oldest (size_of d.line) d.sender passed c.in-Some.slot (drop 1 d.slots.items) way
-    (subst (λ xs. AreOnWay (size_of d.line) d.sender passed xs way) (first-of d.slots.items c.in-Some.slot c.in-Some.ensures.value) h.slots) in
+    (subst (λ xs. AreOnWay (size_of d.line) d.sender passed xs way) (first-of d.slots.items c.in-Some.slot c.in-Some.ensures.value) h.slots)
+    in
     let count = same-count (size_of d.line) d.sender passed d.slots.items way h.slots in
     let full : d.lag ≤ length way = omega (arith, c.if-len-from.false, c.len.ensures.len, c.from.ensures, count) in
     let number = c.args.turn - d.delay in
@@ -52,7 +53,8 @@ returns-in-Some-clause-numbered c =
     record { line = c.hear.new.self; sender = d.sender; delay = d.delay; lag = d.lag; slots = c.pop_front.new.self } in
     let o : Oldest (size_of d.line) d.sender w.0 c.in-Some.slot (drop 1 d.slots.items) w.1 =
     oldest (size_of d.line) d.sender w.0 c.in-Some.slot (drop 1 d.slots.items) w.1
-    (subst (λ xs. AreOnWay (size_of d.line) d.sender w.0 xs w.1) (first-of d.slots.items c.in-Some.slot c.in-Some.ensures.value) w.2.slots) in
+    (subst (λ xs. AreOnWay (size_of d.line) d.sender w.0 xs w.1) (first-of d.slots.items c.in-Some.slot c.in-Some.ensures.value) w.2.slots)
+    in
     let lost = c.loses-loses.ensures ∙ ap (λ n. loses c.args.script.now d.sender (c.args.turn - n)) c.from-in-Some.ensures in
     numbered-by d new c.args.script.now w.0 w.1 c.in-Some.slot (drop 1 d.slots.items) (c.args.turn - d.delay) c.args.check c.args.dlci
     c.hear.result o w.2

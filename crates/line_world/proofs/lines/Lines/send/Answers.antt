@@ -49,7 +49,8 @@ returns c = record {
               symbols = ap (λ (l : Kept). l.symbols) c.put.ensures.line;
             })
             (c.put.ensures.stands channel.script _ _ more.orig (h.directions Originator).stands
-            (codes-next from_orig channel Originator links streams.orig (from_orig.lag - 1) more.orig c.code-labels.result (h.directions Originator)
+            (codes-next from_orig channel Originator links streams.orig (from_orig.lag - 1) more.orig c.code-labels.result
+            (h.directions Originator)
             (c.code-labels.ensures.labels channel Originator streams.orig more.orig (h.coders Originator) o)) o.sent_is))
             (sends-behind from_answ c.put-2.new.self channel Answerer links streams.answ more.answ (h.directions Answerer)
             (record {
@@ -59,7 +60,8 @@ returns c = record {
               symbols = ap (λ (l : Kept). l.symbols) c.put-2.ensures.line;
             })
             (c.put-2.ensures.stands channel.script _ _ more.answ (h.directions Answerer).stands
-            (codes-next from_answ channel Answerer links streams.answ (from_answ.lag - 1) more.answ c.code-labels-2.result (h.directions Answerer)
+            (codes-next from_answ channel Answerer links streams.answ (from_answ.lag - 1) more.answ c.code-labels-2.result
+            (h.directions Answerer)
             (c.code-labels-2.ensures.labels channel Answerer streams.answ more.answ (h.coders Answerer) a)) a.sent_is));
         coders = both-coded lines channel (and_more streams more)
             (c.code-labels.ensures.stands channel Originator streams.orig more.orig (h.coders Originator) o)

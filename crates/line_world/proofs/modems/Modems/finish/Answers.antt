@@ -37,5 +37,6 @@ returns-in-Err-clause-part g c = λ channel files ts ends mid h closed go ga.
     let text = text-is c.args.self.now.turn ts ends mid c.args.heard.now c.args.given.now
     None none-sent
     (o.well Originator) (o.well Answerer) h.turn go ga refl refl in
-    adds-part channel f new n files ts ends c.args.heard.now mid none-sent Done o (last-turn channel files ts ends c.args.heard.now mid o closed)
+    adds-part channel f new n files ts ends c.args.heard.now mid none-sent Done o
+    (last-turn channel files ts ends c.args.heard.now mid o closed)
     (subst (PartlyAppended f new n.trace) text c.in-Err.ensures.err)

@@ -4,7 +4,8 @@ use Rattle.line_run.specs.Scripted.{wire_at}
 use Rattle.line_world.specs.Lines.{ArrivesBoth, HaveArrived}
 use Rattle.line_world.specs.Link.{HearsWell}
 use Rattle.link_run.specs.Run.{arrival}
-use Rattle.line_world.proofs.Hearing.{HearingLaws, IsHeardBy, few-turns, early-turns, heard-by, hears-well, has-heard, tallies-heard, lost-so}
+use Rattle.line_world.proofs.Hearing.{HearingLaws, IsHeardBy, few-turns, early-turns, heard-by, hears-well, has-heard, tallies-heard}
+use Rattle.line_world.proofs.Hearing.{lost-so}
 use Rattle.line_world.proofs.modems.Modems.hear.Goals as goal
 
 pub arrive-requires : goal.arrive-requires
@@ -66,13 +67,15 @@ returns-clause-hears c = λ channel links streams files ts ends script dlci h wa
     let a : ArrivesBoth (HaveArrived c.arrive.new.self channel links streams) channel ts c.checks-checks.result c.in-Ok.heard =
     c.in-Ok.ensures.arrives channel links ts streams waits due script dlci h.turn in
     let by : IsHeardBy channel ts ends c.in-Ok.heard =
-    heard-by c.arrive.new.self channel links streams ts ends c.in-Ok.heard c.checks-checks.result (c.checks-checks.ensures files ends h.link) a in
+    heard-by c.arrive.new.self channel links streams ts ends c.in-Ok.heard c.checks-checks.result
+    (c.checks-checks.ensures files ends h.link) a in
     let well : HearsWell ends _ (arrival c.in-Ok.heard.orig) (arrival c.in-Ok.heard.answ) =
     hears-well laws channel files ts ends c.in-Ok.heard (subst IsInLimits (sym script) r.limits) h.run by in
     let so : HearsWell ends c.args.self.now.turn c.arrived.result c.arrived-2.result =
     rw (h.turn, c.arrived.ensures, c.arrived-2.ensures) well in
     let hears = c.hear-2.ensures.hears files ends h.link so in
-    has-heard c.args.self.now _ c.arrive.new.self channel links streams files ts ends c.in-Ok.heard c.arrived.result c.arrived-2.result h refl by
+    has-heard c.args.self.now _ c.arrive.new.self channel links streams files ts ends c.in-Ok.heard c.arrived.result c.arrived-2.result h
+    refl by
     a.lines
     (record {
       orig_is = c.arrived.ensures;

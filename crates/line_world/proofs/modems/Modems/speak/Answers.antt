@@ -10,7 +10,8 @@ use Rattle.link_run.specs.Outcomes.{Going, Broken}
 use Rattle.line_run.specs.Names.{written}
 use Rattle.line_world.specs.Mid.{served, turn_in}
 use Rattle.line_world.proofs.Hearing.{none-sent}
-use Rattle.line_world.proofs.Speaking.{SpokenTurn, GoingLaws, spoken_by, ends_of, spoken-turn, broken-turn, text-is, all-codable, put_by, are-put}
+use Rattle.line_world.proofs.Speaking.{SpokenTurn, GoingLaws, spoken_by, ends_of, spoken-turn, broken-turn, text-is, all-codable, put_by}
+use Rattle.line_world.proofs.Speaking.{are-put}
 use Rattle.line_world.proofs.Speaking.{goes-on, ends-so, counts-so, stops-so, adds-part}
 use Rattle.line_world.proofs.modems.Modems.speak.Goals as goal
 
@@ -54,7 +55,8 @@ send-requires-in-Ok-clause-codable g c =
     c.in-Ok.sent.answ) (sym is.script_is) (c.in-Ok.ensures.speaks files (served v files (length ts) mid) h.stands.link)) in
     all-codable c.slots_have_room.ensures.codable channel files ts ends c.args.heard.now mid c.in-Ok.sent.orig c.in-Ok.sent.answ
     c.in-Ok.sent c.speak.new.self c.args.lines.now w.1 w.2 c.args.self.now.dlci c.checks-checks.result
-    (is.symbols_are ∙ ap (λ x. slot_symbols (longest_of x)) (sym is.script_is)) (subst IsInLimits (sym is.script_is) c.requires.limits) o t w.9
+    (is.symbols_are ∙ ap (λ x. slot_symbols (longest_of x)) (sym is.script_is)) (subst IsInLimits (sym is.script_is) c.requires.limits) o t
+    w.9
     c.in-Ok.ensures.orig_sendable c.in-Ok.ensures.answ_sendable
     refl refl
     (c.checks-checks.ensures files (ends_of t.orig t.answ) t.stands Originator)
@@ -74,9 +76,11 @@ link_fault-requires g c =
     let o = h.stands.overhears in
     let b = broken-turn channel files ts ends c.args.heard.now mid c.args.self.now.turn c.in-Err.breaking.role c.in-Err.breaking.fault
     h.stands.turn o h.going
-    (subst (λ x. BreaksAt (link_of x files) c.args.self.now.turn (served v files (length ts) mid) c.in-Err.breaking.role c.in-Err.breaking.fault)
+    (subst (λ x. BreaksAt (link_of x files) c.args.self.now.turn (served v files (length ts) mid) c.in-Err.breaking.role
+    c.in-Err.breaking.fault)
     (sym is.script_is) (c.in-Err.ensures.speaks files (served v files (length ts) mid) h.stands.link)) in
-    c.each_turn_is_made.ensures.named _ ts ends (turn_in c.args.heard.now ends mid none-sent) mid c.in-Err.breaking.role c.in-Err.breaking.fault
+    c.each_turn_is_made.ensures.named _ ts ends (turn_in c.args.heard.now ends mid none-sent) mid c.in-Err.breaking.role
+    c.in-Err.breaking.fault
     (c.scripts_make_links.ensures.ends v files (subst IsInLimits (sym is.script_is) c.requires.limits)) o.run.run b
 
 pub returns-in-Ok-write_turn-clause-speaks : goal.returns-in-Ok-write_turn-clause-speaks
@@ -102,7 +106,8 @@ returns-in-Ok-write_turn-clause-speaks g c = λ channel links streams files ts e
       one = c.samples_are_carried.ensures.turn;
       counted = c.segments_are_counted_by_their_numbers.ensures.turn;
     } in
-    goes-on laws channel c.args.self.now.tally _ c.send-in-Ok.new.self links streams f new n files ts ends c.args.heard.now mid c.in-Ok.sent.orig
+    goes-on laws channel c.args.self.now.tally _ c.send-in-Ok.new.self links streams f new n files ts ends c.args.heard.now mid
+    c.in-Ok.sent.orig
     c.in-Ok.sent.answ (subst IsInLimits (sym is.script_is) c.requires.limits) (λ k. h.stands.turn k + 1) refl o t h.stands.tally
     (record { lost = c.send.ensures.lost; again = c.send.ensures.again; orig = c.send.ensures.orig; answ = c.send.ensures.answ })
     (c.send-in-Ok.ensures.waits channel links streams (put_by channel.dlci t.orig t.answ) arrived
@@ -125,14 +130,16 @@ returns-in-Ok-write_turn-2-clause-speaks g c = λ channel links streams files ts
     let role = c.in-Err.breaking.role in
     let fault = c.in-Err.breaking.fault in
     let b = broken-turn channel files ts ends c.args.heard.now mid c.args.self.now.turn role fault h.stands.turn o h.going
-    (subst (λ x. BreaksAt (link_of x files) c.args.self.now.turn (served v files (length ts) mid) c.in-Err.breaking.role c.in-Err.breaking.fault)
+    (subst (λ x. BreaksAt (link_of x files) c.args.self.now.turn (served v files (length ts) mid) c.in-Err.breaking.role
+    c.in-Err.breaking.fault)
     (sym is.script_is) (c.in-Err.ensures.speaks files (served v files (length ts) mid) h.stands.link)) in
     let named = c.each_turn_is_made.ensures.named _ ts ends (turn_in c.args.heard.now ends mid none-sent) mid role fault
     (c.scripts_make_links.ensures.ends v files (subst IsInLimits (sym is.script_is) c.requires.limits)) o.run.run b in
     let text = text-is c.args.self.now.turn ts ends mid c.args.heard.now c.args.given.now
     None none-sent
     (o.well Originator) (o.well Answerer) h.stands.turn go ga refl refl in
-    rw c.link_fault.ensures (ends-so channel f new n files ts ends c.args.heard.now mid c.args.self.now.turn role fault h.stands.turn named o b
+    rw c.link_fault.ensures (ends-so channel f new n files ts ends c.args.heard.now mid c.args.self.now.turn role fault h.stands.turn named
+    o b
     (subst (Appended f new n.trace) text c.in-Ok-write_turn-2.ensures.ok))
 
 pub returns-in-Ok-write_turn-2-clause-counts : goal.returns-in-Ok-write_turn-2-clause-counts
@@ -149,7 +156,8 @@ returns-in-Ok-write_turn-2-clause-counts g c =
     let o = h.stands.overhears in
     let b = broken-turn channel files ts ends c.args.heard.now mid c.args.self.now.turn c.in-Err.breaking.role c.in-Err.breaking.fault
     h.stands.turn o h.going
-    (subst (λ x. BreaksAt (link_of x files) c.args.self.now.turn (served v files (length ts) mid) c.in-Err.breaking.role c.in-Err.breaking.fault)
+    (subst (λ x. BreaksAt (link_of x files) c.args.self.now.turn (served v files (length ts) mid) c.in-Err.breaking.role
+    c.in-Err.breaking.fault)
     (sym is.script_is) (c.in-Err.ensures.speaks files (served v files (length ts) mid) h.stands.link)) in
     let named = c.each_turn_is_made.ensures.named _ ts ends
     (turn_in c.args.heard.now ends mid none-sent) mid c.in-Err.breaking.role c.in-Err.breaking.fault
@@ -168,7 +176,8 @@ returns-in-Err-write_turn-2-clause-speaks g c = λ channel links streams files t
     let role = c.in-Err.breaking.role in
     let fault = c.in-Err.breaking.fault in
     let b = broken-turn channel files ts ends c.args.heard.now mid c.args.self.now.turn role fault h.stands.turn o h.going
-    (subst (λ x. BreaksAt (link_of x files) c.args.self.now.turn (served v files (length ts) mid) c.in-Err.breaking.role c.in-Err.breaking.fault)
+    (subst (λ x. BreaksAt (link_of x files) c.args.self.now.turn (served v files (length ts) mid) c.in-Err.breaking.role
+    c.in-Err.breaking.fault)
     (sym is.script_is) (c.in-Err.ensures.speaks files (served v files (length ts) mid) h.stands.link)) in
     let text = text-is c.args.self.now.turn ts ends mid c.args.heard.now c.args.given.now
     None none-sent

@@ -13,7 +13,8 @@ use Rattle.line_world.specs.Mid.{handed, served}
 use Rattle.line_world.proofs.Hearing.{early-turns}
 use Rattle.line_world.proofs.Serving.{phase-delivered}
 use Rattle.line_world.proofs.Folders.{lines-only, counts-later, stay-known, others-known}
-use Rattle.line_world.proofs.Turning.{MakingLaws, writing-ends, reading-ends, same-beside, halts-so, checked-so, stops-handing, stops-reading, stops-writing, ends-in}
+use Rattle.line_world.proofs.Turning.{MakingLaws, writing-ends, reading-ends, same-beside, halts-so, checked-so, stops-handing}
+use Rattle.line_world.proofs.Turning.{stops-reading, stops-writing, ends-in}
 use Rattle.line_world.proofs.Turning.{speaks-last, goes-on-by, kept-on}
 use Rattle.outside_calls.proofs.Steps.{CountsStand-refl}
 use Rattle.outside_calls.proofs.Putting.{OnlyPuts-refl}
@@ -54,9 +55,11 @@ returns-in-Err-clause-turn g c = λ beside links streams files ts ends h within 
       made = c.each_turn_is_made.ensures.made;
     } in
     writing-ends w c.hear.new.lines channel links streams a b n files ts ends c.in-Err.fault c.in-Err.ensures.write
-    (stops-handing laws w c.hear.new.lines channel links streams a b n files ts ends c.in-Ok.heard has.mid c.requires.ready.limits c.requires.apart within c.hand_over.ensures.only
+    (stops-handing laws w c.hear.new.lines channel links streams a b n files ts ends c.in-Ok.heard has.mid c.requires.ready.limits
+    c.requires.apart within c.hand_over.ensures.only
     has.stands.overhears
-    (halts-so c.hear.new.self w c.hear.new.lines channel links streams files ts ends c.in-Ok.heard has.mid has.mid has.stands has.lines c.hand_over.ensures.beside)
+    (halts-so c.hear.new.self w c.hear.new.lines channel links streams files ts ends c.in-Ok.heard has.mid has.mid has.stands has.lines
+    c.hand_over.ensures.beside)
     (c.in-Err.ensures.part channel files ts ends c.in-Ok.heard has.mid has.stands))
 
 pub returns-in-Ok-finish-clause-turn : goal.returns-in-Ok-finish-clause-turn
@@ -71,16 +74,20 @@ returns-in-Ok-finish-clause-turn g c = λ beside links streams files ts ends h w
     let closed = sym (ap is_closed (phase-delivered has.mid.orig)) ∙ sym (c.is_closed.ensures files (handed has.mid) hands.stands.link)
     ∙ c.if-is_closed.true in
     let w = c.hand_over.new.self in
-    ends-in w c.hear.new.lines channel links streams a b d n files files ts ends c.in-Ok.heard has.mid Done w.turn c.requires.apart hands.stands.turn
-    (stay-known a d n files c.requires.apart (OnlyPuts-trans a b d (outputs_of n) c.hand_over.ensures.only (lines-only b d n c.finish.ensures.only)) within)
+    ends-in w c.hear.new.lines channel links streams a b d n files files ts ends c.in-Ok.heard has.mid Done w.turn c.requires.apart
+    hands.stands.turn
+    (stay-known a d n files c.requires.apart
+    (OnlyPuts-trans a b d (outputs_of n) c.hand_over.ensures.only (lines-only b d n c.finish.ensures.only)) within)
     c.hand_over.ensures.only hands.delivered c.finish.ensures.only
-    (halts-so w w c.hear.new.lines channel links streams files ts ends c.in-Ok.heard has.mid (handed has.mid) hands.stands has.lines (same-beside w))
+    (halts-so w w c.hear.new.lines channel links streams files ts ends c.in-Ok.heard has.mid (handed has.mid) hands.stands has.lines
+    (same-beside w))
     (checked-so w w channel files ts ends c.in-Ok.heard has.mid (handed has.mid) hands.stands (same-beside w))
     (c.in-Ok-finish.ensures.adds channel files ts ends has.mid hands.stands closed hands.orig_given hands.answ_given)
 
 pub returns-in-Ok-finish-clause-only : goal.returns-in-Ok-finish-clause-only
 returns-in-Ok-finish-clause-only g c =
-    OnlyPuts-trans _ _ _ (outputs_of (written c.args.names.now)) c.hand_over.ensures.only (lines-only _ _ (written c.args.names.now) c.finish.ensures.only)
+    OnlyPuts-trans _ _ _ (outputs_of (written c.args.names.now)) c.hand_over.ensures.only
+    (lines-only _ _ (written c.args.names.now) c.finish.ensures.only)
 
 pub returns-in-Ok-finish-clause-counts : goal.returns-in-Ok-finish-clause-counts
 returns-in-Ok-finish-clause-counts g c = CountsStand-trans c.in-Ok-hand_over.ensures.counts c.in-Ok-finish.ensures.counts
@@ -99,14 +106,17 @@ returns-in-Err-finish-clause-turn g c = λ beside links streams files ts ends h 
     ∙ c.if-is_closed.true in
     writing-ends w c.hear.new.lines channel links streams a d n files ts ends c.in-Err-finish.fault c.in-Err-finish.ensures.write
     (stops-writing w c.hear.new.lines channel links streams a b d n files files ts ends c.in-Ok.heard has.mid c.requires.apart
-    (stay-known a d n files c.requires.apart (OnlyPuts-trans a b d (outputs_of n) c.hand_over.ensures.only (lines-only b d n c.finish.ensures.only)) within)
+    (stay-known a d n files c.requires.apart
+    (OnlyPuts-trans a b d (outputs_of n) c.hand_over.ensures.only (lines-only b d n c.finish.ensures.only)) within)
     c.hand_over.ensures.only hands.delivered c.finish.ensures.only
-    (halts-so w w c.hear.new.lines channel links streams files ts ends c.in-Ok.heard has.mid (handed has.mid) hands.stands has.lines (same-beside w))
+    (halts-so w w c.hear.new.lines channel links streams files ts ends c.in-Ok.heard has.mid (handed has.mid) hands.stands has.lines
+    (same-beside w))
     (c.in-Err-finish.ensures.part channel files ts ends has.mid hands.stands closed hands.orig_given hands.answ_given))
 
 pub returns-in-Err-finish-clause-only : goal.returns-in-Err-finish-clause-only
 returns-in-Err-finish-clause-only g c =
-    OnlyPuts-trans _ _ _ (outputs_of (written c.args.names.now)) c.hand_over.ensures.only (lines-only _ _ (written c.args.names.now) c.finish.ensures.only)
+    OnlyPuts-trans _ _ _ (outputs_of (written c.args.names.now)) c.hand_over.ensures.only
+    (lines-only _ _ (written c.args.names.now) c.finish.ensures.only)
 
 pub returns-in-Err-finish-clause-counts : goal.returns-in-Err-finish-clause-counts
 returns-in-Err-finish-clause-counts g c =
@@ -150,17 +160,20 @@ returns-in-Err-serve-clause-turn g c = λ beside links streams files ts ends h w
       made = c.each_turn_is_made.ensures.made;
     } in
     reading-ends w c.hear.new.lines channel links streams a d n files ts ends c.in-Err-serve.fault c.in-Err-serve.ensures.read
-    (stops-reading laws w c.hear.new.lines channel links streams a d n files ts ends c.in-Ok.heard has.mid c.requires.ready.limits c.requires.apart within
+    (stops-reading laws w c.hear.new.lines channel links streams a d n files ts ends c.in-Ok.heard has.mid c.requires.ready.limits
+    c.requires.apart within
     (OnlyPuts-trans a b d (outputs_of n) c.hand_over.ensures.only (OnlyPuts-reads b d (outputs_of n) c.serve.ensures.only))
     hands.stands.overhears
-    (halts-so c.hand_over.new.self w c.hear.new.lines channel links streams files ts ends c.in-Ok.heard has.mid (handed has.mid) hands.stands
+    (halts-so c.hand_over.new.self w c.hear.new.lines channel links streams files ts ends c.in-Ok.heard has.mid (handed has.mid)
+    hands.stands
     has.lines c.serve.ensures.beside)
     (AddEach-kept a b d (outputs_of n) (octets_of has.mid) c.hand_over.ensures.only.goes_on hands.delivered
     (KeepsEach-reads b d (outputs_of n) c.serve.ensures.only)))
 
 pub returns-in-Err-serve-clause-only : goal.returns-in-Err-serve-clause-only
 returns-in-Err-serve-clause-only g c =
-    OnlyPuts-trans _ _ _ (outputs_of (written c.args.names.now)) c.hand_over.ensures.only (OnlyPuts-reads _ _ (outputs_of (written c.args.names.now)) c.serve.ensures.only)
+    OnlyPuts-trans _ _ _ (outputs_of (written c.args.names.now)) c.hand_over.ensures.only
+    (OnlyPuts-reads _ _ (outputs_of (written c.args.names.now)) c.serve.ensures.only)
 
 pub returns-in-Err-serve-clause-counts : goal.returns-in-Err-serve-clause-counts
 returns-in-Err-serve-clause-counts g c =
@@ -202,7 +215,11 @@ speak-requires-clause-stands g c =
       r.turns,
       r.ends,
       has.mid,
-      record { script_is = refl; dlci_is = sym (c.serve.ensures.beside.dlci ∙ c.hand_over.ensures.beside.dlci ∙ c.hear.ensures.dlci); symbols_are = refl },
+      record {
+        script_is = refl;
+        dlci_is = sym (c.serve.ensures.beside.dlci ∙ c.hand_over.ensures.beside.dlci ∙ c.hear.ensures.dlci);
+        symbols_are = refl;
+      },
       record { stands = s.stands; going = still },
       has.lines,
     )
@@ -221,7 +238,11 @@ returns-in-Ok-speak-clause-turn g c = λ beside links streams files ts ends h wi
     ∙ c.if-is_closed.false in
     let s = c.in-Ok-serve.ensures.serves channel files ts ends c.in-Ok.heard has.mid refl hands.stands within in
     let gone = c.in-Ok-speak.ensures.speaks channel links streams s.others ts ends has.mid
-    (record { script_is = refl; dlci_is = sym (c.serve.ensures.beside.dlci ∙ c.hand_over.ensures.beside.dlci ∙ c.hear.ensures.dlci); symbols_are = refl })
+    (record {
+      script_is = refl;
+      dlci_is = sym (c.serve.ensures.beside.dlci ∙ c.hand_over.ensures.beside.dlci ∙ c.hear.ensures.dlci);
+      symbols_are = refl;
+    })
     (record { stands = s.stands; going = still }) has.lines hands.orig_given hands.answ_given in
     let only-d = OnlyPuts-trans a b d (outputs_of n) c.hand_over.ensures.only (OnlyPuts-reads b d (outputs_of n) c.serve.ensures.only) in
     let only-z = OnlyPuts-trans a d z (outputs_of n) only-d (lines-only d z n c.speak.ensures.only) in
@@ -244,7 +265,8 @@ returns-in-Ok-speak-clause-kept g c = λ going.
 pub returns-in-Ok-speak-clause-only : goal.returns-in-Ok-speak-clause-only
 returns-in-Ok-speak-clause-only g c =
     let n = written c.args.names.now in
-    OnlyPuts-trans _ _ _ (outputs_of n) (OnlyPuts-trans _ _ _ (outputs_of n) c.hand_over.ensures.only (OnlyPuts-reads _ _ (outputs_of n) c.serve.ensures.only))
+    OnlyPuts-trans _ _ _ (outputs_of n)
+    (OnlyPuts-trans _ _ _ (outputs_of n) c.hand_over.ensures.only (OnlyPuts-reads _ _ (outputs_of n) c.serve.ensures.only))
     (lines-only _ _ n c.speak.ensures.only)
 
 pub returns-in-Ok-speak-clause-counts : goal.returns-in-Ok-speak-clause-counts
@@ -265,11 +287,16 @@ returns-in-Err-speak-clause-turn g c = λ beside links streams files ts ends h w
     ∙ c.if-is_closed.false in
     let s = c.in-Ok-serve.ensures.serves channel files ts ends c.in-Ok.heard has.mid refl hands.stands within in
     let last = c.in-Err-speak.ensures.speaks channel links streams s.others ts ends has.mid
-    (record { script_is = refl; dlci_is = sym (c.serve.ensures.beside.dlci ∙ c.hand_over.ensures.beside.dlci ∙ c.hear.ensures.dlci); symbols_are = refl })
+    (record {
+      script_is = refl;
+      dlci_is = sym (c.serve.ensures.beside.dlci ∙ c.hand_over.ensures.beside.dlci ∙ c.hear.ensures.dlci);
+      symbols_are = refl;
+    })
     (record { stands = s.stands; going = still }) has.lines hands.orig_given hands.answ_given in
     let only-d = OnlyPuts-trans a b d (outputs_of n) c.hand_over.ensures.only (OnlyPuts-reads b d (outputs_of n) c.serve.ensures.only) in
     let only-z = OnlyPuts-trans a d z (outputs_of n) only-d (lines-only d z n c.speak.ensures.only) in
-    speaks-last c.speak.new.self c.speak.new.lines channel links streams a d z n files s.others ts ends c.in-Ok.heard has.mid c.in-Err-speak.fault c.requires.apart
+    speaks-last c.speak.new.self c.speak.new.lines channel links streams a d z n files s.others ts ends c.in-Ok.heard has.mid
+    c.in-Err-speak.fault c.requires.apart
     (others-known a b z n files s.others has.mid c.requires.apart c.hand_over.ensures.only only-z s.reads) only-d
     (AddEach-kept a b d (outputs_of n) (octets_of has.mid) c.hand_over.ensures.only.goes_on hands.delivered
     (KeepsEach-reads b d (outputs_of n) c.serve.ensures.only)) c.speak.ensures.only
@@ -282,7 +309,8 @@ returns-in-Err-speak-clause-turn g c = λ beside links streams files ts ends h w
 pub returns-in-Err-speak-clause-only : goal.returns-in-Err-speak-clause-only
 returns-in-Err-speak-clause-only g c =
     let n = written c.args.names.now in
-    OnlyPuts-trans _ _ _ (outputs_of n) (OnlyPuts-trans _ _ _ (outputs_of n) c.hand_over.ensures.only (OnlyPuts-reads _ _ (outputs_of n) c.serve.ensures.only))
+    OnlyPuts-trans _ _ _ (outputs_of n)
+    (OnlyPuts-trans _ _ _ (outputs_of n) c.hand_over.ensures.only (OnlyPuts-reads _ _ (outputs_of n) c.serve.ensures.only))
     (lines-only _ _ n c.speak.ensures.only)
 
 pub returns-in-Err-speak-clause-counts : goal.returns-in-Err-speak-clause-counts
@@ -331,7 +359,8 @@ returns-in-Err-Chance-clause-counts g c = c.meet_chance.ensures.counts
 
 pub serve-requires-clause-early : goal.serve-requires-clause-early
 serve-requires-clause-early g c =
-    rw (c.hand_over.ensures.beside.turn, c.hear.ensures.turn) (early-turns c.line_runs_end_soon.ensures.within_limits c.args.self.now c.args.script.now c.args.lines.now c.requires.ready)
+    rw (c.hand_over.ensures.beside.turn, c.hear.ensures.turn)
+    (early-turns c.line_runs_end_soon.ensures.within_limits c.args.self.now c.args.script.now c.args.lines.now c.requires.ready)
 
 pub hear-requires : goal.hear-requires
 hear-requires g c = record { ready = c.requires.ready }
@@ -421,11 +450,13 @@ pub returns-in-Err-serve-clause-came : goal.returns-in-Err-serve-clause-came
 returns-in-Err-serve-clause-came g c = g.met.F.Folder.came_on _ _ _ c.hand_over.ensures.came c.serve.ensures.came
 
 pub speak-requires-clause-channel : goal.speak-requires-clause-channel
-speak-requires-clause-channel g c = subst (λ n. n < 64) (sym (c.serve.ensures.beside.dlci ∙ c.hand_over.ensures.beside.dlci ∙ c.hear.ensures.dlci))
+speak-requires-clause-channel g c = subst (λ n. n < 64)
+    (sym (c.serve.ensures.beside.dlci ∙ c.hand_over.ensures.beside.dlci ∙ c.hear.ensures.dlci))
     c.requires.ready.kept.channel
 
 pub returns-in-Ok-speak-clause-channel : goal.returns-in-Ok-speak-clause-channel
-returns-in-Ok-speak-clause-channel g c = c.speak.ensures.dlci ∙ c.serve.ensures.beside.dlci ∙ c.hand_over.ensures.beside.dlci ∙ c.hear.ensures.dlci
+returns-in-Ok-speak-clause-channel g c = c.speak.ensures.dlci ∙ c.serve.ensures.beside.dlci ∙ c.hand_over.ensures.beside.dlci
+    ∙ c.hear.ensures.dlci
 
 pub returns-in-Ok-speak-clause-spoke : goal.returns-in-Ok-speak-clause-spoke
 returns-in-Ok-speak-clause-spoke g c = c.in-Ok-speak.ensures.spoke
@@ -438,7 +469,8 @@ pub returns-in-Err-speak-clause-kept : goal.returns-in-Err-speak-clause-kept
 returns-in-Err-speak-clause-kept g c = λ e. no-step e
 
 pub returns-in-Err-speak-clause-channel : goal.returns-in-Err-speak-clause-channel
-returns-in-Err-speak-clause-channel g c = c.speak.ensures.dlci ∙ c.serve.ensures.beside.dlci ∙ c.hand_over.ensures.beside.dlci ∙ c.hear.ensures.dlci
+returns-in-Err-speak-clause-channel g c = c.speak.ensures.dlci ∙ c.serve.ensures.beside.dlci ∙ c.hand_over.ensures.beside.dlci
+    ∙ c.hear.ensures.dlci
 
 pub returns-in-Err-speak-clause-spoke : goal.returns-in-Err-speak-clause-spoke
 returns-in-Err-speak-clause-spoke g c =

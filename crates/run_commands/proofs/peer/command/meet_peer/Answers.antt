@@ -38,7 +38,8 @@ returns-in-Err-clause-ends g c =
     c.in-Err.stop c.in-Err.ensures.reads c.in-Err.ensures.refused
 
 pub returns-in-Err-clause-only : goal.returns-in-Err-clause-only
-returns-in-Err-clause-only g c = OnlyPuts-reads (g.F.Folder.state c.args.folder.now) (g.F.Folder.state c.within_limit.new.folder) (outputs_of (named c.args.words.now)) c.in-Err.ensures.reads
+returns-in-Err-clause-only g c = OnlyPuts-reads (g.F.Folder.state c.args.folder.now) (g.F.Folder.state c.within_limit.new.folder)
+    (outputs_of (named c.args.words.now)) c.in-Err.ensures.reads
 
 pub returns-in-Err-clause-counts : goal.returns-in-Err-clause-counts
 returns-in-Err-clause-counts g c =

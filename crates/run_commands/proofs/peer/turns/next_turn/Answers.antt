@@ -191,14 +191,16 @@ turn-requires-clause-apart g c =
 -- ---- no turn was made
 
 pub returns-in-Ok-eq0-clause-only : goal.returns-in-Ok-eq0-clause-only
-returns-in-Ok-eq0-clause-only g c = OnlyPuts-reads (g.F.Folder.state c.args.folder.now) (g.F.Folder.state c.read_piece.new.folder) (outputs_of (named c.args.words.now))
+returns-in-Ok-eq0-clause-only g c = OnlyPuts-reads (g.F.Folder.state c.args.folder.now) (g.F.Folder.state c.read_piece.new.folder)
+    (outputs_of (named c.args.words.now))
     c.in-Ok-eq0.ensures.reads
 
 pub returns-in-Ok-eq0-clause-counts : goal.returns-in-Ok-eq0-clause-counts
 returns-in-Ok-eq0-clause-counts g c = c.in-Ok-eq0.ensures.stand
 
 pub returns-in-Err-clause-only : goal.returns-in-Err-clause-only
-returns-in-Err-clause-only g c = OnlyPuts-reads (g.F.Folder.state c.args.folder.now) (g.F.Folder.state c.read_piece.new.folder) (outputs_of (named c.args.words.now))
+returns-in-Err-clause-only g c = OnlyPuts-reads (g.F.Folder.state c.args.folder.now) (g.F.Folder.state c.read_piece.new.folder)
+    (outputs_of (named c.args.words.now))
     c.in-Err.ensures.reads
 
 pub returns-in-Err-clause-counts : goal.returns-in-Err-clause-counts

@@ -33,7 +33,8 @@ loop-turns-preserved g c =
       reached = λ start r. (rw c.in-Ok-None.field-0-is at c.in-Ok-None.ensures.going) start (before.reached start r) refl;
       ready = ((rw c.in-Ok-None.field-0-is at c.in-Ok-None.ensures.next) refl).0;
       within = ((rw c.in-Ok-None.field-0-is at c.in-Ok-None.ensures.next) refl).1;
-      only = OnlyPuts-trans (g.F.Folder.state c.args.folder.now) (g.F.Folder.state c.loop-turns.folder) (g.F.Folder.state c.next_turn.new.folder)
+      only = OnlyPuts-trans (g.F.Folder.state c.args.folder.now) (g.F.Folder.state c.loop-turns.folder)
+          (g.F.Folder.state c.next_turn.new.folder)
           (outputs_of (named c.args.words.now)) before.only c.in-Ok-None.ensures.only;
       stand = CountsStand-trans before.stand c.in-Ok-None.ensures.counts;
     }

@@ -97,7 +97,8 @@ returns-in-Err-run_turns-clause-ends g c = λ begin b.
           (c.apart_names_differ.ensures.inputs (inputs_of n) (outputs_of n) c.requires.apart)).1;
       stand = c.in-Ok.ensures.stand;
     })
-    (subst (λ (tapes : Tapes). FaultCountsOver now next (written.inputs_of n.names) (written.outputs_of n.names ++ tapes_of tapes) fault) c.in-Ok.ensures.ok.0
+    (subst (λ (tapes : Tapes). FaultCountsOver now next (written.inputs_of n.names) (written.outputs_of n.names ++ tapes_of tapes) fault)
+    c.in-Ok.ensures.ok.0
     c.in-Err-run_turns.ensures.counts)
     (subst (λ (tapes : Tapes). FaultEnds script next n.names tapes fault) c.in-Ok.ensures.ok.0
     c.in-Err-run_turns.ensures.run))
@@ -125,5 +126,6 @@ returns-in-Err-run_turns-clause-counts g c =
     subst (StopCounts mid next (inputs_of n) (outputs_of n)) (sym c.stop_of.ensures)
     (stop-earlier mid now next (inputs_of n) (outputs_of n) _ c.in-Ok.ensures.stand
     (turn-counts now next n fault
-    (subst (λ (tapes : Tapes). FaultCountsOver now next (written.inputs_of n.names) (written.outputs_of n.names ++ tapes_of tapes) fault) c.in-Ok.ensures.ok.0
+    (subst (λ (tapes : Tapes). FaultCountsOver now next (written.inputs_of n.names) (written.outputs_of n.names ++ tapes_of tapes) fault)
+    c.in-Ok.ensures.ok.0
     c.in-Err-run_turns.ensures.counts)))

@@ -9,7 +9,8 @@ use Rattle.line_world.specs.OneEnd.Peer.{Closed, after, over}
 use Rattle.line_world.specs.OneEnd.Single.{inputs_of, named, outputs_of}
 use Rattle.line_world.specs.OneEnd.Turn.{EndsBy}
 use Rattle.line_world.proofs.OneEnd.Folders.{got-only, trace-only, trace-counts, read-counts, counts-later, stays-known, others-known}
-use Rattle.line_world.proofs.OneEnd.Turning.{broke-off, hands-over, not-handed, not-read, writing-ends, reading-ends, made, stopped-so, ended, gone-on}
+use Rattle.line_world.proofs.OneEnd.Turning.{broke-off, hands-over, not-handed, not-read, writing-ends, reading-ends, made, stopped-so}
+use Rattle.line_world.proofs.OneEnd.Turning.{ended, gone-on}
 use Rattle.line_world.proofs.OneEnd.Turning.{counted-later}
 use Rattle.line_world.specs.OneEnd.Mid.{handed}
 use Rattle.std.proofs.Common.{◌<◌, ◌^◌}
@@ -219,13 +220,17 @@ returns-in-Err-serve-clause-only g c =
 pub returns-in-Ok-speak-clause-only : goal.returns-in-Ok-speak-clause-only
 returns-in-Ok-speak-clause-only g c =
     let n = named c.args.file.now c.args.got.now c.args.trace.now in
-    OnlyPuts-trans _ _ _ (outputs_of n) (OnlyPuts-trans _ _ _ (outputs_of n) (got-only _ _ n c.hand_over.ensures.only) (OnlyPuts-reads _ _ (outputs_of n) c.serve.ensures.only))
+    OnlyPuts-trans _ _ _ (outputs_of n)
+    (OnlyPuts-trans _ _ _ (outputs_of n) (got-only _ _ n c.hand_over.ensures.only)
+    (OnlyPuts-reads _ _ (outputs_of n) c.serve.ensures.only))
     (trace-only _ _ n c.speak.ensures.only)
 
 pub returns-in-Err-speak-clause-only : goal.returns-in-Err-speak-clause-only
 returns-in-Err-speak-clause-only g c =
     let n = named c.args.file.now c.args.got.now c.args.trace.now in
-    OnlyPuts-trans _ _ _ (outputs_of n) (OnlyPuts-trans _ _ _ (outputs_of n) (got-only _ _ n c.hand_over.ensures.only) (OnlyPuts-reads _ _ (outputs_of n) c.serve.ensures.only))
+    OnlyPuts-trans _ _ _ (outputs_of n)
+    (OnlyPuts-trans _ _ _ (outputs_of n) (got-only _ _ n c.hand_over.ensures.only)
+    (OnlyPuts-reads _ _ (outputs_of n) c.serve.ensures.only))
     (trace-only _ _ n c.speak.ensures.only)
 
 pub returns-in-Ok-finish-clause-counts : goal.returns-in-Ok-finish-clause-counts
