@@ -11,7 +11,7 @@ use Rattle.link_run.specs.Run.{Accounts, Turn}
 use Rattle.link_run.specs.Laws.{RunsOver, DoneIsWhole, HearingsGiveAllBreaks}
 use Rattle.turn_losses.specs.Losses.{OriginatorWantsPattern, UndetectedOnTime, StarvedLosesMany}
 use Rattle.turn_losses.specs.Tries.{GivesUpForLosses, GivesUpUnbroken}
-use Rattle.turn_losses.proofs.Parting.{later-loses}
+use Rattle.turn_losses.proofs.Periods.{later-loses}
 use Rattle.turn_losses.specs.Breaks.{GivesUpStarved}
 use Rattle.line_run.specs.Sampled.{Wire, LineRun}
 use Rattle.line_run.specs.Scripted.{period_of, link_of, break_line, ScriptsMayPlay, ScriptsHaveDelays}
