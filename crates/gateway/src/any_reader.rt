@@ -1,9 +1,11 @@
 // The readers of a line from its beginning, at both rates, and from its middle, as one.
-ghost use Rattle.std.specs.Prelude.{◌≡◌, ◌+◌, ◌<◌, ◌≤◌, ◌^◌, ◌++◌, ◌∷◌, Bool, List, [], Some, None, length, drop, IfOk, MatchOption};
+ghost use Rattle.std.specs.Prelude.{◌≡◌, ◌+◌, ◌<◌, ◌≤◌, ◌^◌, ◌++◌, ◌∷◌, Bool, List, [], Some, None, length, drop, IfOk, MatchOption, MatchResult};
 ghost use Rattle.plain_lists.specs.Bits.{low_bits};
 ghost use Rattle.scramblers.specs.declared.mode.Mode.{Mode};
 ghost use Rattle.symbol_map.specs.declared.sample.Sample.{Sample};
-ghost use Rattle.line_coding.specs.MiddleReading.{bits_of_taken};
+ghost use Rattle.exact_decoder.specs.Batches.{heard_of};
+ghost use Rattle.exact_decoder.specs.Surviving.V32.{line_depth};
+ghost use Rattle.line_coding.specs.MiddleReading.{MiddleRead, bits_of_taken};
 ghost use Rattle.gateway.specs.declared.any_reader.LineKind.{LineKind};
 ghost use Rattle.gateway.specs.Decoding.{decoding_of};
 ghost use Rattle.gateway.specs.Reads.{ReadsAs};
@@ -70,6 +72,27 @@ fn bits_taken(taken: Taken) -> LabelBits
     }
 }
 
+/// The first of the samples, if there is one: how many.
+fn push_first(reader: &mut MiddleReader<DEPTH>, samples: &[Sample]) -> Result<usize, Lost>
+    requires taken { reader.old.reading.decoder.pending ≡ [] }
+    requires lost { reader.old.reading.decoder.lost ≡ None }
+    requires count { reader.old.reading.decoder.count + length samples.now ≤ 2 ^ 56 }
+    ensures reads { (mode : Mode) (past : List Sample) (bits : List Bool) → MiddleRead mode line_depth reader.old past bits
+        → MiddleRead mode line_depth reader.new (past ++ heard_of result samples.now) bits }
+    ensures answer { MatchResult result (λ _. reader.new.reading.decoder.lost ≡ None) (λ lost. reader.new.reading.decoder.lost ≡ Some lost.symbol) }
+    ensures within { IfOk result (λ heard. heard ≤ length samples.now) }
+    ensures some { IfOk result (λ heard. 1 ≤ length samples.now → 1 ≤ heard) }
+    ensures count { IfOk result (λ heard. reader.new.reading.decoder.count ≤ reader.old.reading.decoder.count + heard) }
+{
+    if samples.is_empty() {
+        return Ok(0);
+    }
+    match reader.push(samples[0]) {
+        Ok(()) => Ok(1),
+        Err(lost) => Err(lost),
+    }
+}
+
 impl AnyReader {
     /// A reader before a line's first sample. All memory is taken here.
     pub fn new(alloc: Global, line: LineKind, mode: Mode) -> Result<AnyReader, NoMemory>
@@ -85,19 +108,24 @@ impl AnyReader {
         }
     }
 
-    /// One sample more. Whether that lost the line is told by `lost`.
-    pub fn push(&mut self, sample: Sample)
+    /// As many of the samples as there is room for, at least one where there is one: how many. In the middle of a line it is one at a time.
+    /// `Lost` comes with the first sample that loses the line.
+    pub fn push_some(&mut self, samples: &[Sample]) -> Result<usize, Lost>
         requires taken { (decoding_of self.old).pending ≡ [] }
-        requires count { (decoding_of self.old).count < 2 ^ 56 }
-        ensures reads { (line : LineKind) (mode : Mode) (samples : List Sample) (bits : List Bool) → ReadsAs line mode self.old samples bits
-            → ReadsAs line mode self.new (samples ++ sample ∷ []) bits }
-        ensures count { (decoding_of self.new).count ≤ (decoding_of self.old).count + 1 }
+        requires lost { (decoding_of self.old).lost ≡ None }
+        requires count { (decoding_of self.old).count + length samples.now ≤ 2 ^ 56 }
+        ensures reads { (line : LineKind) (mode : Mode) (past : List Sample) (bits : List Bool) → ReadsAs line mode self.old past bits
+            → ReadsAs line mode self.new (past ++ heard_of result samples.now) bits }
+        ensures answer { MatchResult result (λ _. (decoding_of self.new).lost ≡ None) (λ lost. (decoding_of self.new).lost ≡ Some lost.symbol) }
+        ensures within { IfOk result (λ heard. heard ≤ length samples.now) }
+        ensures some { IfOk result (λ heard. 1 ≤ length samples.now → 1 ≤ heard) }
+        ensures count { IfOk result (λ heard. (decoding_of self.new).count ≤ (decoding_of self.old).count + heard) }
     {
-        let _said = match self {
-            AnyReader::Begun(reader) => reader.push(sample),
-            AnyReader::Middle(reader) => reader.push(sample),
-            AnyReader::Quarters(reader) => reader.push(sample),
-        };
+        match self {
+            AnyReader::Begun(reader) => reader.push_some(samples),
+            AnyReader::Middle(reader) => push_first(reader, samples),
+            AnyReader::Quarters(reader) => reader.push_some(samples),
+        }
     }
 
     /// The bits of the oldest label that is released and not yet taken.

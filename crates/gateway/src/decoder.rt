@@ -1,5 +1,5 @@
 // Samples to bits, as they come, into room that the caller has.
-ghost use Rattle.std.specs.Prelude.{◌≡◌, ◌≢◌, ◌+◌, ◌*◌, ◌<◌, ◌≤◌, ◌^◌, ◌++◌, ℕ, Bool, List, [], All, length, IfOk, MatchOption, MatchResult};
+ghost use Rattle.std.specs.Prelude.{◌≡◌, ◌≢◌, ◌+◌, ◌*◌, ◌<◌, ◌≤◌, ◌^◌, ◌++◌, ℕ, Bool, List, [], None, All, length, take, IfOk, MatchOption, MatchResult};
 ghost use Rattle.scramblers.specs.declared.mode.Mode.{Mode};
 ghost use Rattle.symbol_map.specs.declared.sample.Sample.{Sample};
 ghost use Rattle.gateway.specs.declared.any_reader.LineKind.{LineKind};
@@ -10,7 +10,7 @@ ghost use Rattle.gateway.specs.Stopped.{IsIdle, IsStopped, IsUnfinished};
 
 use crate::any_reader::{AnyReader, LineKind};
 use crate::label_bits::{LabelBits, put_bits};
-use crate::parts::sample_at;
+use crate::parts::{BATCH, copy_samples};
 use line_coding::{Demodulate, Demodulator};
 use outside_calls::NoMemory;
 use rate_4800::Demodulator as QuarterDemodulator;
@@ -53,7 +53,7 @@ pub struct Pushed {
 pub struct SampleDecoder {
     reader: AnyReader,
     samples: u64,
-    ghost few: { (decoding_of reader).count ≤ samples },
+    ghost few: { (decoding_of reader).lost ≡ None → (decoding_of reader).count ≤ samples },
     ghost early: { samples ≤ 2 ^ 50 },
 }
 
@@ -115,6 +115,16 @@ fn put_labels<D: Demodulate<LABELS>, const LABELS: usize>(
     at
 }
 
+/// How many of so many samples were read, the last of which lost the line with this symbol, behind so many others.
+fn read_until(symbol: u64, before: u64, most: usize) -> usize
+    requires { 1 ≤ most }
+    ensures some { 1 ≤ result }
+    ensures within { result ≤ most }
+    ensures value { before ≤ symbol → symbol < before + most → before + result ≡ symbol + 1 }
+{
+    (symbol.saturating_sub(before).min(most as u64 - 1) + 1) as usize
+}
+
 impl SampleDecoder {
     ghost use Rattle.gateway.specs.Decoded.{HasDecoded};
     ghost use Rattle.gateway.specs.Stops.{StopsSo};
@@ -127,6 +137,30 @@ impl SampleDecoder {
             reader: AnyReader::new(alloc, line, mode)?,
             samples: 0,
         })
+    }
+
+    /// Hears as many of the samples as there is room for: how many. Behind the one that loses the line none is read.
+    fn hear(&mut self, samples: &[Sample]) -> usize
+        requires idle { IsIdle (decoding_of self.old.reader) }
+        requires some { 1 ≤ length samples.now }
+        requires early { self.old.samples + length samples.now ≤ 2 ^ 50 }
+        ensures decodes { (line : LineKind) (mode : Mode) (past : List Sample) (bits : List Bool) → HasDecoded line mode self.old past bits
+            → HasDecoded line mode self.new (past ++ take result samples.now) bits }
+        ensures some { 1 ≤ result }
+        ensures within { result ≤ length samples.now }
+        ensures samples { self.new.samples ≡ self.old.samples + result }
+    {
+        match self.reader.push_some(samples) {
+            Ok(read) => {
+                self.samples += read as u64;
+                read
+            }
+            Err(lost) => {
+                let read = read_until(lost.symbol, self.samples, samples.len());
+                self.samples += read as u64;
+                read
+            }
+        }
     }
 
     /// Samples more, a real and an imaginary part each, and the bits of the labels that they release, an octet each. Once the line is lost
@@ -147,8 +181,10 @@ impl SampleDecoder {
                 stop: DecoderStop::Late,
             };
         }
+        let mut samples = [Sample { re: 0, im: 0 }; BATCH];
         let mut written = 0;
-        for read in 0..count {
+        let mut read = 0;
+        while read < count {
             written = take_bits(&mut self.reader, bits, written);
             if let Some(stop) = stop_of(&self.reader) {
                 return Pushed {
@@ -157,8 +193,8 @@ impl SampleDecoder {
                     stop,
                 };
             }
-            self.reader.push(sample_at(parts, read));
-            self.samples += 1;
+            let copied = copy_samples(parts, read, count, &mut samples);
+            read += self.hear(&samples[..copied]);
         }
         written = take_bits(&mut self.reader, bits, written);
         let stop = match stop_of(&self.reader) {

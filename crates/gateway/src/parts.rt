@@ -1,5 +1,5 @@
 // Samples as two parts each, real and imaginary by turns.
-ghost use Rattle.std.specs.Prelude.{◌≡◌, ◌+◌, ◌*◌, ◌<◌, ◌++◌, [], ◌∷◌, length, slice_index_or, pos};
+ghost use Rattle.std.specs.Prelude.{◌≡◌, ◌+◌, ◌*◌, ◌<◌, ◌≤◌, ◌++◌, [], ◌∷◌, length, take, slice_index_or, pos};
 ghost use Rattle.gateway.specs.Given.{samples_in};
 
 use symbol_map::Sample;
@@ -14,6 +14,30 @@ pub(crate) fn sample_at(parts: &[i16], place: usize) -> Sample
         re: parts[2 * place],
         im: parts[2 * place + 1],
     }
+}
+
+/// The most samples that are handed to a decoder at once. It has room for one more.
+pub(crate) const BATCH: usize = 128;
+
+/// Puts the samples from a place on into the list, up to this other place or as many as there is room for: how many.
+pub(crate) fn copy_samples(
+    parts: &[i16],
+    at: usize,
+    end: usize,
+    samples: &mut [Sample; BATCH],
+) -> usize
+    requires low { at ≤ end }
+    requires high { 2 * end ≤ length parts.now }
+    ensures samples { samples_in at parts.now ++ take result samples.new ≡ samples_in (at + result) parts.now }
+    ensures within { at + result ≤ end }
+    ensures few { result ≤ BATCH }
+    ensures some { at < end → 1 ≤ result }
+{
+    let count = (end - at).min(BATCH);
+    for place in 0..count {
+        samples[place] = sample_at(parts, at + place);
+    }
+    count
 }
 
 /// Puts the sample at this place.
