@@ -1,5 +1,5 @@
 // The decoder beside survivors as whole lists, which is the definition as plainly as can be.
-ghost use Rattle.std.specs.Prelude.{◌≡◌, ◌<◌, ◌≤◌, ◌^◌, [], OnOk};
+ghost use Rattle.std.specs.Prelude.{◌≡◌, ◌<◌, ◌≤◌, ◌^◌, [], length, OnOk};
 
 use super::assert_row;
 use exact_decoder::{Decoder, Lost};
@@ -268,8 +268,34 @@ fn ends_alike(rt: &impl Abort, decoder: Line, beside: &mut Beside) -> Result<Opt
     Ok(None)
 }
 
+// What a decoder gives that is handed so many samples at once, and with which symbol it loses the line.
+fn batched(
+    rt: &impl Abort,
+    alloc: Global,
+    samples: &[Sample],
+    batch: usize,
+) -> Result<(Vec<u8>, Option<u64>), NoMemory>
+    requires batch { 1 ≤ batch }
+    requires few { batch ≤ 400 }
+    requires short { length samples.now ≤ 400 }
+{
+    let mut decoder: Line = Decoder::new(alloc, V32Code, 0)?;
+    let mut taken = Vec::new(alloc);
+    let mut at = 0;
+    while at < samples.len() {
+        let end = samples.len().min(at + batch);
+        let pushed = decoder.push_some(&samples[at..end]);
+        take_all(rt, &mut decoder, &mut taken)?;
+        match pushed {
+            Ok(heard) => at += heard,
+            Err(lost) => return Ok((taken, Some(lost.symbol))),
+        }
+    }
+    Ok((taken, None))
+}
+
 // With which symbol the line is lost, where from the symbol `middle` on all samples lie in the middle of the map. After each sample
-// the decoder has released what all survivors begin with.
+// the decoder has released what all survivors begin with, and one that hears several at once gives the same in the end.
 fn lost_with(
     rt: &impl Abort,
     alloc: Global,
@@ -280,14 +306,21 @@ fn lost_with(
 {
     let mut decoder: Line = Decoder::new(alloc, V32Code, 0)?;
     let mut beside = Beside::new(alloc)?;
+    let mut samples = [Sample { re: 0, im: 0 }; 400];
     for symbol in 0..400u32 {
         let sample = beside.hear(alloc, symbol, middle, spread)?;
+        samples[symbol as usize] = sample;
         let pushed = decoder.push(sample);
         take_all(rt, &mut decoder, &mut beside.taken)?;
         assert!(rt; beside.agrees(&pushed, symbol));
-        if let Err(lost) = pushed {
-            return Ok(Some(lost.symbol));
+        if pushed.is_err() {
+            break;
         }
+    }
+    let lost = decoder.lost().map(|lost| lost.symbol);
+    for batch in [2, 7, 128, 400] {
+        let (taken, ended) = batched(rt, alloc, &samples, batch)?;
+        assert!(rt; ended == lost && taken.as_slice() == beside.taken.as_slice());
     }
     ends_alike(rt, decoder, &mut beside)
 }
