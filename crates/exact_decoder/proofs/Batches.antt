@@ -1,6 +1,6 @@
 -- Several samples more.
-use Rattle.std.proofs.Common.{◌≡◌, ℕ, ◌+◌, ◌<◌, ◌≤◌, min, inl, inr, Bool, List, [], ◌∷◌, ◌++◌, length, Option, arith, append_assoc}
-use Rattle.std.proofs.Common.{length-append, sym, ap, subst}
+use Rattle.std.proofs.Common.{◌≡◌, ℕ, ◌+◌, ◌≤◌, min, inl, inr, List, [], ◌∷◌, ◌++◌, length, Option, arith, append_assoc}
+use Rattle.std.proofs.Common.{length-append, sym, subst}
 use Rattle.std.proofs.lemmas.Bool.{cases_lt}
 use Rattle.std.proofs.lemmas.List.{append-nil}
 use Rattle.std.proofs.Math.Nat.{min-le_left, min-le_right, min-eq_left, min-eq_right}

@@ -1,12 +1,11 @@
 -- What hearing and speaking make of the segments of an account: those offered, those taken, and how many are given.
-use Rattle.std.proofs.Common.{◌≡◌, ◌∙◌, ◌⊎◌, inl, inr, ℕ, Bool, true, false, cond, List, [], ◌∷◌, ◌++◌, refl, sym, ap, Some, Ok, Err}
+use Rattle.std.proofs.Common.{◌≡◌, ◌∙◌, ◌⊎◌, inl, inr, ℕ, Bool, true, false, cond, List, [], ◌∷◌, ◌++◌, refl, sym, ap, Ok}
 use Rattle.link_account.proofs.Names.{append-nil, Arrived, Outgoing, Incoming, after_take, after_kind, kind_of, offset, KeepsTaken, Took}
-use Rattle.link_account.proofs.Names.{InOrder, Kept, Repeat, Gap, LinkFault, NotDetected, Spent, Account, hear, trying, Said, speak}
+use Rattle.link_account.proofs.Names.{InOrder, Kept, Repeat, Gap, Account, hear, trying, Said, speak}
 use Rattle.lapm_receiver.specs.Incoming.{after_asked}
-use Rattle.shared_terms.specs.declared.fault.LinkFault.TheVariants.{BadAck, PeerReset, PeerRefused}
 use Rattle.link_account.specs.declared.phase.Phase.{Phase}
 use Rattle.link_account.specs.declared.phase.Phase.TheVariants.{Detecting, Negotiating, Establishing, Connected, Releasing, Closed}
-use Rattle.link_account.specs.Laws.{has_begun, WantsAnswers}
+use Rattle.link_account.specs.Laws.{has_begun}
 use Rattle.link_account.proofs.HearWays.{NumberKeeps, acked, acked_back, acked-keeps, acked_back-keeps, resumed-keeps, refused}
 use Rattle.link_account.proofs.SpeakWays.{linked-alike, tries-alike, next-keeps}
 use Rattle.link_account.proofs.HearWays as hears

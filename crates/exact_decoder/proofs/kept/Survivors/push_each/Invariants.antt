@@ -1,4 +1,4 @@
-use Rattle.std.proofs.Common.{ℕ, ◌≤◌, take}
+use Rattle.std.proofs.Common.{◌≤◌, take}
 use Rattle.exact_decoder.specs.Kept.{Covered}
 use Rattle.exact_decoder.specs.Batches.{SteppedEach}
 use Rattle.exact_decoder.proofs.kept.Survivors.push_each.Given as goal

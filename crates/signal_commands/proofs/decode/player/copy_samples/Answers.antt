@@ -1,5 +1,4 @@
-use Rattle.std.proofs.Common.{◌≡◌, ◌∙◌, ◌+◌, ◌<◌, ◌*◌, ◌++◌, length, take, ap, arith, length-set}
-use Rattle.std.proofs.Math.Nat.{min-le_right}
+use Rattle.std.proofs.Common.{◌∙◌, ◌<◌, ◌*◌, ◌++◌, length, take, ap, arith, length-set}
 use Rattle.std.proofs.lemmas.List.{take_more_set}
 use Rattle.recordings.specs.Samples.{samples_in}
 use Rattle.signal_commands.proofs.Decoding.Batches.{one-copied, few-copied}
