@@ -74,8 +74,8 @@ uninstall:
 	rm -f "$(BIN)" "$(PAGE)" "$(LIBRARY_PAGE)" "$(ROOT)/include/modem.h" "$(LIB)"/libmodem.* "$(LIB)/pkgconfig/modem.pc"
 	rm -rf "$(SHARE)" "$(DOCS)" "$(dir $(PROVED))"
 
-# The built program with all that its users need, with the code and the definitions that the pages name, and a sum of it, in out/. The same text and the
-# same program give the same archive, octet for octet: make it again, and compare the sums.
+# The built program with all that its users need, with the code and the definitions that the pages name, in out/, and the sums of the program, of the library
+# and of the archive. The same text, built again by the same kit, has the same sums.
 dist: proved library
 	rm -rf out/$(NAME) && mkdir -p out/$(NAME)/lib out/$(NAME)/include
 	cp -r CHANGELOG.md CONTRIBUTING.md Makefile README.md VERSION docs example library python out/$(NAME)
@@ -84,6 +84,7 @@ dist: proved library
 	$(OWN) out/$(NAME)/*.md
 	for it in crates/*/src crates/*/specs; do mkdir -p "out/$(NAME)/$$it" && cp -r "$$it" "out/$(NAME)/$$(dirname "$$it")" || exit 1; done
 	install $(PROGRAM) out/$(NAME)/modem
+	cd out/$(NAME) && sha256sum modem lib/libmodem.a lib/libmodem.so.$(VERSION)
 	mkdir out/$(NAME)/tools && cd tools && cp -r $(TOOLS) browser.py check pictures try_notebook try_page wireshark ../out/$(NAME)/tools
 	cd out && tar --sort=name --mode=u+rw,go=rX --owner=0 --group=0 --numeric-owner --mtime="@$(MADE)" -c $(NAME) | gzip -n >$(NAME).tar.gz
 	cd out && rm -rf $(NAME) && sha256sum $(NAME).tar.gz >$(NAME).tar.gz.sha256 && cat $(NAME).tar.gz.sha256

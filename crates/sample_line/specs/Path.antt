@@ -38,7 +38,7 @@ abbrev pub Arrives : Path → ScriptValue → List Sample → Check → Role →
 Arrives path script points check sender dlci s earlier (Ok tally) = CarriesBetween path script points check sender dlci s earlier tally
 Arrives path script points check sender dlci s earlier (Err lost) = LosesWith path.transmitter.sender script points lost.symbol
 
--- the line is lost with the last of the first points of a slot
+-- the line is lost with one of the first points of a slot
 pub record LosesAmong (sender : Role) (script : ScriptValue) (before points : List Sample) (symbol : ℕ) : Type 0 where
   pub first : List Sample
   pub rest : List Sample
@@ -58,7 +58,7 @@ pub record LosesAt (sender : Role) (script : ScriptValue) (bits : List Bool) (sy
   pub recorded : Records script sender bits samples
   pub lost : LostIs line_trellis line_depth samples (Some symbol)
 
--- with the last of the first bits of a slot
+-- with one of the first bits of a slot
 pub record LosesWithin (sender : Role) (script : ScriptValue) (before bits : List Bool) (symbol : ℕ) : Type 0 where
   pub first : List Bool
   pub rest : List Bool
