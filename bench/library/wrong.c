@@ -163,6 +163,13 @@ static void frames(void)
     modem_free(&deframer);
 }
 
+/* No octet that is written for a bit is anything but 0 or 1. */
+static void bits_alone(size_t written)
+{
+    for (size_t i = 0; i < written; i++)
+        assert(bits[i] <= 1);
+}
+
 static void random_calls(long calls)
 {
     modem_link handles[4] = {MODEM_NONE, MODEM_NONE, MODEM_NONE, MODEM_NONE};
@@ -191,8 +198,9 @@ static void random_calls(long calls)
         case 6: case 7:
             code = modem_decoder_push(any, parts, a % 64, bits, b % 128, &progress);
             assert(progress.written <= b % 128 && 2 * progress.read <= a % 64);
+            bits_alone(progress.written);
             break;
-        case 8: code = modem_decoder_finish(any, bits, b, &progress); assert(progress.written <= b); break;
+        case 8: code = modem_decoder_finish(any, bits, b, &progress); assert(progress.written <= b); bits_alone(progress.written); break;
         case 9: case 10:
             code = modem_encoder_push(any, bits, b, parts, a, &progress);
             assert(progress.read <= b && 2 * progress.written <= a);
@@ -206,8 +214,8 @@ static void random_calls(long calls)
         case 15: code = modem_deframer_octets(any, room, c, &count); assert(count <= c); break;
         case 16: code = modem_deframer_set_check(any, (uint8_t)(rand() % 3)); break;
         case 17: code = modem_frame_write(&frame, room, c, (uint8_t)(rand() % 3), (uint8_t)(rand() % 3), bits, b, &count); assert(count <= b); break;
-        case 18: code = modem_frame_bits(room, c, bits, rand() % 2 ? sizeof bits : b, &count); assert(count <= sizeof bits); break;
-        case 19: code = modem_framer_slot(any, (uint32_t)rand() % 6, room, c % 64, bits, rand() % 2 ? sizeof bits : b, &count); assert(count <= sizeof bits); break;
+        case 18: code = modem_frame_bits(room, c, bits, rand() % 2 ? sizeof bits : b, &count); assert(count <= sizeof bits); bits_alone(count); break;
+        case 19: code = modem_framer_slot(any, (uint32_t)rand() % 6, room, c % 64, bits, rand() % 2 ? sizeof bits : b, &count); assert(count <= sizeof bits); bits_alone(count); break;
         case 20: code = modem_xid_read(room, c, &offer, &xid_fault); break;
         case 21:
             offer = (modem_offer){(uint16_t)(rand() % 1100), 128, 15, (uint8_t)rand(), (uint8_t)(rand() % 3), 0};
