@@ -4,7 +4,7 @@ ghost use Rattle.scramblers.specs.declared.mode.Mode.{Mode};
 ghost use Rattle.symbol_map.specs.declared.sample.Sample.{Sample};
 ghost use Rattle.gateway.specs.declared.any_reader.LineKind.{LineKind};
 ghost use Rattle.gateway.specs.Decoding.{decoding_of};
-ghost use Rattle.gateway.specs.Given.{given, samples_in};
+ghost use Rattle.gateway.specs.Given.{given, samples_in, AreBits};
 ghost use Rattle.gateway.specs.Reads.{Read, ReadsAs, Ends};
 ghost use Rattle.gateway.specs.Stopped.{IsIdle, IsStopped, IsUnfinished};
 
@@ -64,6 +64,7 @@ fn take_bits(reader: &mut AnyReader, bits: &mut [u8], at: usize) -> usize
     ensures next { result ≤ length bits.new }
     ensures reads { (line : LineKind) (mode : Mode) (samples : List Sample) (before : List Bool) → ReadsAs line mode reader.old samples (before ++ given at bits.old)
         → ReadsAs line mode reader.new samples (before ++ given result bits.new) }
+    ensures bits { AreBits at bits.old → AreBits result bits.new }
     ensures full { (decoding_of reader.new).pending ≢ [] → length bits.new < result + 4 }
     ensures lost { (decoding_of reader.new).lost ≡ (decoding_of reader.old).lost }
     ensures count { (decoding_of reader.new).count ≡ (decoding_of reader.old).count }
@@ -104,6 +105,7 @@ fn put_labels<D: Demodulate<LABELS>, const LABELS: usize>(
     requires carries { count ≡ D.BITS }
     ensures reads { (mode : Mode) (before : List ℕ) (read : List Bool) → D.reads mode demodulator before read
         → Read (D.reads mode) (before ++ labels.now) (read ++ given result bits.new) }
+    ensures bits { AreBits result bits.new }
     ensures length { length bits.new ≡ length bits.old }
     ensures within { result ≤ length bits.new }
 {
@@ -168,6 +170,7 @@ impl SampleDecoder {
     pub fn push(&mut self, parts: &[i16], bits: &mut [u8]) -> Pushed
         ensures decodes { (line : LineKind) (mode : Mode) (samples : List Sample) (before : List Bool) → HasDecoded line mode self.old samples before
             → HasDecoded line mode self.new (samples ++ samples_in result.read parts.now) (before ++ given result.written bits.new) }
+        ensures bits { AreBits result.written bits.new }
         ensures stops { StopsSo result.stop self.old (length parts.now) (length bits.new) result.read result.written self.new }
         ensures length { length bits.new ≡ length bits.old }
         ensures read { 2 * result.read ≤ length parts.now }
@@ -213,6 +216,7 @@ impl SampleDecoder {
     pub fn finish(self, bits: &mut [u8]) -> Result<usize, (SampleDecoder, DecoderStop)>
         ensures ends { (line : LineKind) (mode : Mode) (samples : List Sample) (before : List Bool) → HasDecoded line mode self samples before
             → IfOk result (λ written. Ends line mode samples before (given written bits.new)) }
+        ensures bits { IfOk result (λ written. AreBits written bits.new) }
         ensures answer { MatchResult result (λ _. IsIdle (decoding_of self.reader) × (512 ≤ length bits.new))
             (λ stopped. (stopped.0 ≡ self) × IsUnfinished stopped.1 (decoding_of self.reader) (length bits.new)) }
         ensures length { length bits.new ≡ length bits.old }

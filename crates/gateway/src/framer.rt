@@ -1,5 +1,5 @@
 // Frames, patterns, flags and ones to bits, in slots, and a frame alone.
-ghost use Rattle.std.specs.Prelude.{◌≡◌, ◌+◌, ◌-◌, ◌*◌, ◌<◌, ◌≤◌, ◌↔◌, ◌++◌, ◌∷◌, [], ℕ, List, IsTrue, IfErr, MatchOption, length};
+ghost use Rattle.std.specs.Prelude.{◌≡◌, ◌+◌, ◌-◌, ◌*◌, ◌<◌, ◌≤◌, ◌↔◌, ◌++◌, ◌∷◌, [], ℕ, List, IsTrue, IfOk, IfErr, MatchOption, length};
 ghost use Rattle.std.specs.Option.{option_copied};
 ghost use Rattle.frame_check.specs.declared.sizes.TheConstants.{SLOT};
 ghost use Rattle.bit_stuffing.specs.BitSlot.{line_bits};
@@ -9,7 +9,7 @@ ghost use Rattle.bit_stuffing.specs.SlotWriter.{WriterStands};
 ghost use Rattle.bit_stuffing.specs.declared.slot_writer.TheConstants.{HEAD, TAIL};
 ghost use Rattle.detection.specs.Slots.{CanCarry, slot_of};
 ghost use Rattle.detection.specs.Slots.Signal.{FlagSlot, MarkSlot, PatternSlot};
-ghost use Rattle.gateway.specs.Given.{given};
+ghost use Rattle.gateway.specs.Given.{given, AreBits};
 ghost use Rattle.gateway.specs.FrameBits.{FrameBits};
 ghost use Rattle.gateway.specs.Signals.{signal_of};
 
@@ -117,7 +117,8 @@ fn write_told(writer: &mut SlotWriter, symbols: u16, told: &Told, out: &mut BitS
 /// Puts a slot's bits into the room, an octet each.
 fn put_slot(slot: &BitSlot, bits: &mut [u8])
     requires { 4 * length slot.now ≤ length bits.old }
-    ensures { given (4 * length slot.now) bits.new ≡ line_bits slot.now }
+    ensures given { given (4 * length slot.now) bits.new ≡ line_bits slot.now }
+    ensures bits { AreBits (4 * length slot.now) bits.new }
 {
     for place in 0..slot.len() {
         let quad = LabelBits {
@@ -163,6 +164,7 @@ impl FrameWriter {
     pub fn slot(&mut self, told: &Told, bits: &mut [u8]) -> Result<usize, SlotStop>
         ensures writes { (symbols : ℕ) (signals : List Signal) → HasWritten symbols self.old signals
             → SlotWritten symbols signals (signal_of told.now) self.old bits.old self.new bits.new result }
+        ensures bits { IfOk result (λ count. AreBits count bits.new) }
         ensures stays { IfErr result (λ stop. (self.new ≡ self.old) × (bits.new ≡ bits.old)) }
     {
         if !can_carry(self.symbols, told) {
@@ -190,7 +192,8 @@ fn is_frame(octets: &[u8]) -> bool
 /// Where the one piece ends that the first so many bits have.
 fn first_end(bits: &[u8], count: usize) -> usize
     requires { count ≤ length bits.now }
-    ensures { (found : Found) → pieces_of (given count bits.now) ≡ found ∷ [] → result ≡ found.place }
+    ensures within { result ≤ count }
+    ensures end { (found : Found) → pieces_of (given count bits.now) ≡ found ∷ [] → result ≡ found.place }
 {
     pieces_grow();
     pieces_stay();
@@ -208,7 +211,8 @@ pub const FRAME_BITS: usize = 4 * SLOT;
 
 /// The bits of a frame's octets with their check, an octet each: four flags, the frame and its closing flag: how many.
 pub fn frame_bits(octets: &[u8], bits: &mut [u8]) -> Result<usize, SlotStop>
-    ensures { FrameBits octets.now bits.old bits.new result }
+    ensures writes { FrameBits octets.now bits.old bits.new result }
+    ensures bits { IfOk result (λ count. AreBits count bits.new) }
 {
     if !is_frame(octets) {
         return Err(SlotStop::BadFrame);

@@ -1,7 +1,7 @@
 // The bits of a label.
 ghost use Rattle.std.specs.Prelude.{◌≡◌, ◌+◌, ◌++◌, ◌≤◌, length};
 ghost use Rattle.plain_lists.specs.Bits.{low_bits};
-ghost use Rattle.gateway.specs.Given.{given};
+ghost use Rattle.gateway.specs.Given.{given, AreBits};
 
 /// Up to four bits.
 #[derive(Clone, Copy)]
@@ -17,8 +17,9 @@ pub(crate) fn put_bits(bits: LabelBits, out: &mut [u8], at: usize) -> usize
     requires few { bits.count ≤ 4 }
     requires room { at + 4 ≤ length out.old }
     ensures length { length out.new ≡ length out.old }
-    ensures next { result ≤ at + 4 }
+    ensures next { result ≡ at + bits.count }
     ensures within { result ≤ length out.new }
+    ensures bits { AreBits at out.old → AreBits result out.new }
     ensures given { given result out.new ≡ given at out.old ++ low_bits bits.count bits.number }
 {
     // All four places are written, whatever the count: what stands behind it is written over next, or is no bit of the result.

@@ -3,7 +3,7 @@ ghost use Rattle.std.specs.Prelude.{◌≡◌, ◌*◌, ◌≤◌, ◌++◌, [],
 ghost use Rattle.scramblers.specs.declared.mode.Mode.{Mode};
 ghost use Rattle.symbol_map.specs.declared.sample.Sample.{Sample};
 ghost use Rattle.gateway.specs.declared.any_reader.LineKind.{LineKind};
-ghost use Rattle.gateway.specs.Given.{given, samples_in};
+ghost use Rattle.gateway.specs.Given.{given, samples_in, AreBits};
 ghost use Rattle.gateway.specs.Reads.{Ends};
 ghost use Rattle.modem_c.specs.declared.machine.Machine.TheVariants as machines;
 ghost use Rattle.modem_c.specs.Answered.{Missing, Answered, MadeOfBoth};
@@ -78,6 +78,7 @@ fn push(machine: &mut Machine, parts: &[i16], bits: &mut [u8], progress: &mut Pr
     requires { progress.old ≡ nothing_done }
     ensures decodes { (line : LineKind) (mode : Mode) (samples : List Sample) (before : List Bool) → Decodes line mode (Some machine.old) samples before
         → Decodes line mode (Some machine.new) (samples ++ samples_in progress.new.read parts.now) (before ++ given progress.new.written bits.new) }
+    ensures bits { AreBits progress.new.written bits.new }
     ensures answer { Answered (decoder_in (Some machine.old)) (Some machine.old) (Some machine.new) result
         (λ old. IsSomeAnd (decoder_in (Some machine.new)) (PushAnswers old (length parts.now) (length bits.new) result progress.new)) }
     ensures none { decoder_in (Some machine.old) ≡ None → progress.new ≡ nothing_done }
@@ -126,6 +127,7 @@ pub extern "C" fn modem_decoder_push(
 ) -> i32
     ensures decodes { (line : LineKind) (mode : Mode) (samples : List Sample) (before : List Bool) → Decodes line mode handle.old.value samples before
         → Decodes line mode handle.new.value (samples ++ samples_in progress.new.read parts.now) (before ++ given progress.new.written bits.new) }
+    ensures bits { AreBits progress.new.written bits.new }
     ensures answer { Answered (decoder_in handle.old.value) handle.old.value handle.new.value result
         (λ old. IsSomeAnd (decoder_in handle.new.value) (PushAnswers old (length parts.now) (length bits.new) result progress.new)) }
     ensures none { decoder_in handle.old.value ≡ None → progress.new ≡ nothing_done }
@@ -153,6 +155,7 @@ pub extern "C" fn modem_decoder_finish(
 ) -> i32
     ensures ends { (line : LineKind) (mode : Mode) (samples : List Sample) (before : List Bool) → Decodes line mode handle.old.value samples before
         → result ≡ DONE → Ends line mode samples before (given progress.new.written bits.new) }
+    ensures bits { AreBits progress.new.written bits.new }
     ensures answer { Answered (decoder_in handle.old.value) handle.old.value handle.new.value result
         (λ old. FinishAnswers old (length bits.new) result progress.new handle.old.value handle.new.value) }
     ensures none { decoder_in handle.old.value ≡ None → progress.new ≡ nothing_done }

@@ -1,6 +1,7 @@
 // Frames, patterns, flags and ones to bits.
 ghost use Rattle.std.specs.Prelude.{◌≡◌, ◌≢◌, ◌≤◌, ◌∷◌, ◌++◌, [], ℕ, List, Some, MatchOption, pos, length};
 ghost use Rattle.detection.specs.Slots.{CanCarry, Signal};
+ghost use Rattle.gateway.specs.Given.{AreBits};
 ghost use Rattle.gateway.specs.Signals.{signal_of};
 ghost use Rattle.gateway.specs.SlotsWritten.{HasWritten};
 ghost use Rattle.modem_c.specs.Answered.{AnswersKind};
@@ -64,6 +65,7 @@ fn write(
         → result ≡ pos 0 → HasWritten symbols writer.new (signals ++ signal ∷ []) }
     ensures slotted { (symbols : ℕ) (signals : List Signal) → HasWritten symbols writer.old signals
         → SlottedBy symbols signals (signal_by kind octets.now) bits.old bits.new written.new result }
+    ensures bits { AreBits written.new bits.new }
     ensures kind { (result ≢ EMPTY) × (result ≢ WRONG_KIND) }
     ensures stays { result ≢ pos 0 → writer.new ≡ writer.old }
 {
@@ -93,6 +95,7 @@ fn write_to(
         → signal_by kind octets.now ≡ Some signal → result ≡ pos 0 → Frames symbols (Some machine.new) (signals ++ signal ∷ []) }
     ensures slotted { (symbols : ℕ) (signals : List Signal) → Frames symbols (Some machine.old) signals
         → SlottedBy symbols signals (signal_by kind octets.now) bits.old bits.new written.new result }
+    ensures bits { AreBits written.new bits.new }
     ensures kind { AnswersKind (Some machine.old) (framer_in (Some machine.old)) result }
     ensures stays { result ≢ pos 0 → machine.new ≡ machine.old }
 {
@@ -118,6 +121,7 @@ pub extern "C" fn modem_framer_slot(
         → signal_by kind octets.now ≡ Some signal → result ≡ pos 0 → Frames symbols handle.new.value (signals ++ signal ∷ []) }
     ensures slotted { (symbols : ℕ) (signals : List Signal) → Frames symbols handle.old.value signals
         → SlottedBy symbols signals (signal_by kind octets.now) bits.old bits.new written.new result }
+    ensures bits { AreBits written.new bits.new }
     ensures kind { AnswersKind handle.old.value (framer_in handle.old.value) result }
     ensures stays { result ≢ pos 0 → handle.new.value ≡ handle.old.value }
     ensures length { length bits.new ≡ length bits.old }
@@ -135,7 +139,8 @@ pub extern "C" fn modem_framer_slot(
 /// 1031, and its closing flag. There is to be room for 10,460.
 #[unsafe(no_mangle)]
 pub extern "C" fn modem_frame_bits(octets: &[u8], bits: &mut [u8], written: &mut usize) -> i32
-    ensures { FrameAlone octets.now bits.old bits.new written.new result }
+    ensures writes { FrameAlone octets.now bits.old bits.new written.new result }
+    ensures bits { AreBits written.new bits.new }
 {
     *written = 0;
     match frame_bits(octets, bits) {

@@ -44,10 +44,13 @@ fn samples_become_bits(rt: HostRuntime) -> Result<(), Fail> {
 fn a_push_without_room_is_full(rt: HostRuntime) -> Result<(), Fail> {
     let mut decoder = SampleDecoder::new(rt.alloc(), LineKind::Quarters, Mode::Call)?;
     let mut bits = [9; 4];
+    // Both samples are read at once, and then the bits of both wait for room.
     let pushed = decoder.push(&ZEROS, &mut bits[..3]);
-    assert!(rt; pushed.read == 1 && pushed.written == 0 && pushed.stop == DecoderStop::Full);
-    let pushed = decoder.push(&ZEROS[2..], &mut bits);
-    assert!(rt; pushed.read == 0 || pushed.written > 0);
+    assert!(rt; pushed.read == 2 && pushed.written == 0 && pushed.stop == DecoderStop::Full);
+    let pushed = decoder.push(&ZEROS[4..], &mut bits);
+    assert!(rt; pushed.read == 0 && pushed.written == 2 && pushed.stop == DecoderStop::Full);
+    let pushed = decoder.push(&ZEROS[4..], &mut bits);
+    assert!(rt; pushed.read == 0 && pushed.written == 2 && pushed.stop == DecoderStop::All);
     Ok(())
 }
 

@@ -1,12 +1,13 @@
 use Rattle.std.proofs.Common.{◌≡◌, ◌*◌, ◌≤◌, ◌++◌, Bool, ℕ, List, length, take}
 use Rattle.scramblers.specs.declared.mode.Mode.{Mode}
-use Rattle.gateway.specs.Given.{given}
+use Rattle.gateway.specs.Given.{given, AreBits}
 use Rattle.gateway.proofs.decoder.put_labels.Given as goal
 
 abbrev pub invariant-loop-label : goal.invariant-loop-label
 invariant-loop-label g l = record {
   same : length l.bits ≡ length l.fn.bits;
   at : l.at ≤ 4 * l.label-index;
+  bits : AreBits l.at l.bits;
   reads : (mode : Mode) (before : List ℕ) (read : List Bool) → g.D.Demodulate.reads mode l.fn.demodulator before read
       → g.D.Demodulate.reads mode l.demodulator (before ++ take l.label-index l.labels) (read ++ given l.at l.bits);
 }

@@ -3,7 +3,7 @@ use Rattle.scramblers.specs.declared.mode.Mode.{Mode}
 use Rattle.symbol_map.specs.declared.sample.Sample.{Sample}
 use Rattle.gateway.specs.declared.any_reader.LineKind.{LineKind}
 use Rattle.gateway.specs.Decoding.{decoding_of}
-use Rattle.gateway.specs.Given.{given}
+use Rattle.gateway.specs.Given.{given, AreBits}
 use Rattle.gateway.specs.Reads.{ReadsAs}
 use Rattle.gateway.proofs.decoder.take_bits.Given as goal
 
@@ -13,6 +13,7 @@ invariant-loop-bits l = record {
   next : l.next ≤ length l.bits;
   count : (decoding_of l.reader).count ≡ (decoding_of l.fn.reader).count;
   lost : (decoding_of l.reader).lost ≡ (decoding_of l.fn.reader).lost;
+  bits : AreBits l.at l.fn.bits → AreBits l.next l.bits;
   reads : (line : LineKind) (mode : Mode) (samples : List Sample) (before : List Bool)
       → ReadsAs line mode l.fn.reader samples (before ++ given l.at l.fn.bits)
       → ReadsAs line mode l.reader samples (before ++ given l.next l.bits);

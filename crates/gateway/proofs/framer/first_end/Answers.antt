@@ -5,8 +5,8 @@ use Rattle.gateway.specs.Given.{given}
 use Rattle.gateway.proofs.FirstEnd.{first-ends, none-ends}
 use Rattle.gateway.proofs.framer.first_end.Goals as goal
 
-pub returns-then-is_some : goal.returns-then-is_some
-returns-then-is_some c = λ found whole. let place = c.loop-place.place in
+pub returns-then-is_some-clause-end : goal.returns-then-is_some-clause-end
+returns-then-is_some-clause-end c = λ found whole. let place = c.loop-place.place in
     first-ends c.args.bits.now place c.args.count found c.loop-place-test.true c.loop-place.invariant.quiet
     (ap is_some (sym (c.push.ensures.value (given place c.args.bits.now) c.loop-place.invariant.stands)) ∙ sym c.is_some.ensures
     ∙ c.if-is_some.true)

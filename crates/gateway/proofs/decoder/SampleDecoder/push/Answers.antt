@@ -19,6 +19,7 @@ loop-read-preserved c =
       written = c.take_bits-written.ensures.next;
       within = omega (arith, copied.ensures.within, few);
       samples = omega (arith, c.hear-read.ensures.samples, i.samples);
+      bits = c.take_bits-written.ensures.bits i.bits;
       decodes = λ line mode past before start.
           let parts = c.args.parts.now in
           let so_far = past ++ samples_in c.loop-read.read parts in

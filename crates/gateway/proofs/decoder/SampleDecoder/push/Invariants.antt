@@ -3,7 +3,7 @@ use Rattle.scramblers.specs.declared.mode.Mode.{Mode}
 use Rattle.symbol_map.specs.declared.sample.Sample.{Sample}
 use Rattle.gateway.specs.declared.any_reader.LineKind.{LineKind}
 use Rattle.gateway.specs.Decoded.{HasDecoded}
-use Rattle.gateway.specs.Given.{given, samples_in}
+use Rattle.gateway.specs.Given.{given, samples_in, AreBits}
 use Rattle.gateway.proofs.decoder.SampleDecoder.push.Given as goal
 
 abbrev pub invariant-loop-read : goal.invariant-loop-read
@@ -12,6 +12,7 @@ invariant-loop-read l = record {
   written : l.written ≤ length l.bits;
   within : l.read ≤ length l.parts / 2;
   samples : l.self.samples ≡ l.fn.self.samples + l.read;
+  bits : AreBits l.written l.bits;
   decodes : (line : LineKind) (mode : Mode) (samples : List Sample) (before : List Bool) → HasDecoded line mode l.fn.self samples before
       → HasDecoded line mode l.self (samples ++ samples_in l.read l.parts) (before ++ given l.written l.bits);
 }

@@ -1,5 +1,6 @@
-use Rattle.std.proofs.Common.{ℕ, ◌≡◌, ◌*◌, refl, subst, ◌∙◌, arith}
+use Rattle.std.proofs.Common.{ℕ, ◌≡◌, ◌*◌, length, refl, subst, ◌∙◌, arith}
 use Rattle.detection.specs.Slots.{Signal, slots_of}
+use Rattle.gateway.specs.Given.{AreBits}
 use Rattle.gateway.specs.Signals.{signal_of}
 use Rattle.gateway.specs.SlotsWritten.{Carries}
 use Rattle.gateway.proofs.Slotted.{slot-more, stands-behind, stands-more}
@@ -28,5 +29,11 @@ returns-clause-writes c = λ symbols signals start.
       };
       bits_are = slot-more symbols c.args.self.now.writer.symbols c.args.self.now.writer.phase signals signal c.write_told.new.out
           c.put_slot.new.bits same
-          start.stands.phase_is c.write_told.ensures.count c.write_told.ensures.bits c.put_slot.ensures c.sent_grows.ensures.bits;
+          start.stands.phase_is c.write_told.ensures.count c.write_told.ensures.bits c.put_slot.ensures.given c.sent_grows.ensures.bits;
     }
+
+pub returns-clause-bits : goal.returns-clause-bits
+returns-clause-bits c =
+    let whole : 4 * length c.write_told.new.out ≡ 4 * c.from-count.result = let n = c.write_told.ensures.count in
+    let s = c.args.self.now.same in let count = c.from-count.ensures in omega (arith, n, s, count) in
+    subst (λ (count : ℕ). AreBits count c.put_slot.new.bits) whole c.put_slot.ensures.bits
