@@ -1,7 +1,8 @@
 -- What is heard, one more bit at a time.
 use Rattle.std.proofs.Common.{◌≡◌, inl, inr, ◌∙◌, ℕ, ◌+◌, ◌-◌, ◌/◌, ◌^◌, ◌<◌, ◌≤◌, Bool, false, List, [], ◌∷◌, ◌++◌, length, take, get_or}
 use Rattle.std.proofs.Common.{nat_eq, bit_and}
-use Rattle.std.proofs.Common.{replicate, refl, sym, ap, subst, arith, append_assoc, length-append}
+use Rattle.std.proofs.Common.{Option, None, Some, replicate, refl, sym, ap, subst, arith, append_assoc, append-nil, length-append}
+use Rattle.std.specs.Option.{option_map_or}
 use Rattle.std.proofs.lemmas.List.{take_more, take_all, take-append-le, get_or_append_left, get_or-append_right, length-replicate}
 use Rattle.std.proofs.lemmas.List.{get_or-replicate}
 use Rattle.std.proofs.lemmas.Bool.{cases_lt}
@@ -11,14 +12,19 @@ use Rattle.frame_check.proofs.BitLists.{length-low_bits, get_or-low_bits, bits_o
 use Rattle.frame_check.specs.declared.check.Check.TheVariants.{Sixteen}
 use Rattle.shared_terms.specs.declared.role.Role.{Role}
 use Rattle.bit_stuffing.specs.Pieces.{IsLent}
-use Rattle.bit_stuffing.specs.Found.{lent_of}
-use Rattle.detection.specs.Patterns.{EndsPattern}
+use Rattle.bit_stuffing.specs.Found.{Found, found_at, lent_of, listed, pieces_of}
+use Rattle.bit_stuffing.proofs.Found.{lent-is, lent-once, pieces-more}
+use Rattle.bit_stuffing.proofs.Sent.{pieces-stay}
+use Rattle.detection.specs.Patterns.{EndsPattern, IsSeen, seen_at}
+use Rattle.detection.specs.Sights.{sights_at, sights_of}
+use Rattle.detection.proofs.Answered.{seen-is}
+use Rattle.detection.proofs.Sightings.{sights-more, sights-stay}
 use Rattle.lapm_frames.specs.declared.frame.Frame.{Frame}
 use Rattle.lapm_frames.specs.Checked.{SpellsFrame}
 use Rattle.lapm_frames.specs.declared.seen.Seen.{Seen}
 use Rattle.lapm_frames.specs.declared.arrived.Arrived.{Arrived}
 use Rattle.lapm_frames.specs.declared.arrived.Arrived.TheVariants as arrivals
-use Rattle.line_world.specs.OneEnd.Heard.{EndsWith, EndsSo, IsQuiet, AreQuiet, IsFirst, IsHeard, first, filled, slot_octets}
+use Rattle.line_world.specs.OneEnd.Heard.{EndsWith, IsQuiet, AreQuiet, IsFirst, IsHeard, filled, slot_octets}
 
 -- ---- what ends with one bit
 
@@ -69,18 +75,95 @@ first-more peer earlier bits bit a f = record {
   ends = f.ends;
 }
 
-first-now : (peer : Role) (earlier bits : List Bool) (bit : Bool) (a : Arrived) → AreQuiet peer earlier bits
+pub first-now : (peer : Role) (earlier bits : List Bool) (bit : Bool) (a : Arrived) → AreQuiet peer earlier bits
     → EndsWith peer (earlier ++ bits ++ bit ∷ []) a → IsFirst peer earlier (bits ++ bit ∷ []) a
 first-now peer earlier bits bit a before now = record { quiet = bits; last = bit; rest = []; bits_are = refl; before = before; ends = now }
 
-pub heard-more : (peer : Role) (earlier bits : List Bool) (bit : Bool) (heard next : Arrived) → IsHeard peer earlier bits heard
-    → EndsSo peer (earlier ++ bits ++ bit ∷ []) next
-    → IsHeard peer earlier (bits ++ bit ∷ []) (first heard next)
-heard-more peer earlier bits bit arrivals.Nothing arrivals.Nothing h e = quiet-more peer earlier bits bit h e
-heard-more peer earlier bits bit arrivals.Nothing (arrivals.Pattern seen) h e = first-now peer earlier bits bit (arrivals.Pattern seen) h e
-heard-more peer earlier bits bit arrivals.Nothing (arrivals.Frame frame) h e = first-now peer earlier bits bit (arrivals.Frame frame) h e
-heard-more peer earlier bits bit (arrivals.Pattern seen) next h e = first-more peer earlier bits bit (arrivals.Pattern seen) h
-heard-more peer earlier bits bit (arrivals.Frame frame) next h e = first-more peer earlier bits bit (arrivals.Frame frame) h
+-- what was heard stays, where nothing ends with the next bit
+pub heard-still : (peer : Role) (earlier bits : List Bool) (bit : Bool) (heard : Arrived) → IsHeard peer earlier bits heard
+    → IsQuiet peer (earlier ++ bits ++ bit ∷ []) → IsHeard peer earlier (bits ++ bit ∷ []) heard
+heard-still peer earlier bits bit arrivals.Nothing h e = quiet-more peer earlier bits bit h e
+heard-still peer earlier bits bit (arrivals.Pattern seen) h e = first-more peer earlier bits bit (arrivals.Pattern seen) h
+heard-still peer earlier bits bit (arrivals.Frame frame) h e = first-more peer earlier bits bit (arrivals.Frame frame) h
+
+-- and where it isn't nothing, whatever ends there
+pub heard-before : (peer : Role) (earlier bits : List Bool) (bit : Bool) (heard : Arrived) → (heard ≡ arrivals.Nothing → ⊥)
+    → IsHeard peer earlier bits heard → IsHeard peer earlier (bits ++ bit ∷ []) heard
+heard-before peer earlier bits bit arrivals.Nothing some h = absurd (some refl)
+heard-before peer earlier bits bit (arrivals.Pattern seen) some h = first-more peer earlier bits bit (arrivals.Pattern seen) h
+heard-before peer earlier bits bit (arrivals.Frame frame) some h = first-more peer earlier bits bit (arrivals.Frame frame) h
+
+-- ---- what is heard of bits with which nothing ends
+
+empty : {A : Type 0} (xs : List A) → length xs ≡ 0 → xs ≡ []
+empty [] e = refl
+empty (x ∷ xs) e = absurd (omega (arith, e))
+
+none-listed : (o : Option Found) → listed o ≡ [] → o ≡ None
+none-listed None e = refl
+none-listed (Some found) e = absurd cc
+
+none-seen : (place : ℕ) (o : Option Seen) → sights_at place o ≡ [] → o ≡ None
+none-seen place None e = refl
+none-seen place (Some seen) e = absurd cc
+
+-- where a list with two more behind it is as it was, neither has anything
+neither : {A : Type 0} (front one two : List A) → (front ++ one) ++ two ≡ front → (one ≡ []) × (two ≡ [])
+neither front one two e =
+    let long = ap length e in
+    let all = length-append (front ++ one) two in
+    let before = length-append front one in
+    (empty one (omega (arith, long, all, before)), empty two (omega (arith, long, all, before)))
+
+-- no piece is found at the first of these bits, nor behind it
+no-piece : (past : List Bool) (bit : Bool) (more : List Bool) → pieces_of (past ++ bit ∷ more) ≡ pieces_of past
+    → (found_at (past ++ bit ∷ []) ≡ None) × (pieces_of ((past ++ bit ∷ []) ++ more) ≡ pieces_of (past ++ bit ∷ []))
+no-piece past bit more e =
+    let added = pieces-stay (past ++ bit ∷ []) more in
+    let none = neither (pieces_of past) (listed (found_at (past ++ bit ∷ []))) added.0
+    (ap (λ f. f ++ added.0) (sym (pieces-more past bit)) ∙ sym added.1.all ∙ ap pieces_of (append_assoc past (bit ∷ []) more) ∙ e) in
+    (
+      none-listed (found_at (past ++ bit ∷ [])) none.0,
+      added.1.all ∙ ap (λ f. pieces_of (past ++ bit ∷ []) ++ f) none.1 ∙ append-nil (pieces_of (past ++ bit ∷ [])),
+    )
+
+-- and no pattern is seen
+no-sight : (past : List Bool) (bit : Bool) (more : List Bool) → sights_of (past ++ bit ∷ more) ≡ sights_of past
+    → (seen_at (past ++ bit ∷ []) ≡ None) × (sights_of ((past ++ bit ∷ []) ++ more) ≡ sights_of (past ++ bit ∷ []))
+no-sight past bit more e =
+    let added = sights-stay (past ++ bit ∷ []) more in
+    let none = neither (sights_of past) (sights_at (length past + 1) (seen_at (past ++ bit ∷ []))) added.0
+    (ap (λ s. s ++ added.0) (sym (sights-more past bit)) ∙ sym added.1.all ∙ ap sights_of (append_assoc past (bit ∷ []) more) ∙ e) in
+    (
+      none-seen (length past + 1) (seen_at (past ++ bit ∷ [])) none.0,
+      added.1.all ∙ ap (λ s. sights_of (past ++ bit ∷ []) ++ s) none.1 ∙ append-nil (sights_of (past ++ bit ∷ [])),
+    )
+
+-- where neither is found nothing ends
+quiet-at : (peer : Role) (bits : List Bool) → found_at bits ≡ None → seen_at bits ≡ None → IsQuiet peer bits
+quiet-at peer bits no_piece no_sight arrivals.Nothing e = e
+quiet-at peer bits no_piece no_sight (arrivals.Pattern seen) e = subst (IsSeen bits) no_sight (seen-is bits) seen e
+quiet-at peer bits no_piece no_sight (arrivals.Frame frame) e =
+    let none : e.0 ≡ [] =
+    lent-once bits e.0 (lent_of bits) (inl e.1) (lent-is bits) ∙ ap (λ o. option_map_or (λ (f : Found). f.octets) o []) no_piece in
+    no-frame peer frame (subst (λ (o : List ℕ). SpellsFrame Sixteen peer 0 o frame) none e.2)
+
+-- bits that add no piece and no pattern leave what was heard
+pub heard-quiet : (peer : Role) (earlier bits more : List Bool) (heard : Arrived)
+    → pieces_of ((earlier ++ bits) ++ more) ≡ pieces_of (earlier ++ bits) → sights_of ((earlier ++ bits) ++ more) ≡ sights_of (earlier ++ bits)
+    → IsHeard peer earlier bits heard → IsHeard peer earlier (bits ++ more) heard
+heard-quiet peer earlier bits [] heard pieces sights h = subst (λ (b : List Bool). IsHeard peer earlier b heard) (sym (append-nil bits)) h
+heard-quiet peer earlier bits (bit ∷ more) heard pieces sights h =
+    let same : (earlier ++ bits) ++ bit ∷ [] ≡ earlier ++ (bits ++ bit ∷ []) = append_assoc earlier bits (bit ∷ []) in
+    let piece = no-piece (earlier ++ bits) bit more pieces in
+    let sight = no-sight (earlier ++ bits) bit more sights in
+    let quiet : IsQuiet peer (earlier ++ (bits ++ bit ∷ [])) =
+    subst (IsQuiet peer) same (quiet-at peer ((earlier ++ bits) ++ bit ∷ []) piece.0 sight.0) in
+    subst (λ (b : List Bool). IsHeard peer earlier b heard) (append_assoc bits (bit ∷ []) more)
+    (heard-quiet peer earlier (bits ++ bit ∷ []) more heard
+    (subst (λ (b : List Bool). pieces_of (b ++ more) ≡ pieces_of b) same piece.1)
+    (subst (λ (b : List Bool). sights_of (b ++ more) ≡ sights_of b) same sight.1)
+    (heard-still peer earlier bits bit heard h quiet))
 
 -- ---- bits of an octet, octets of a slot
 

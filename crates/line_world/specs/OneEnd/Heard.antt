@@ -53,13 +53,3 @@ pub record IsFirst (peer : Role) (earlier bits : List Bool) (a : Arrived) : Type
 abbrev pub IsHeard : Role → List Bool → List Bool → Arrived → Type 0
 IsHeard peer earlier bits Nothing = AreQuiet peer earlier bits
 IsHeard peer earlier bits a = IsFirst peer earlier bits a
-
--- the first of two things that are heard in a row
-abbrev pub first : Arrived → Arrived → Arrived
-first Nothing later = later
-first earlier later = earlier
-
--- what ends with the last of the bits, or nothing
-abbrev pub EndsSo : Role → List Bool → Arrived → Type 0
-EndsSo peer bits Nothing = IsQuiet peer bits
-EndsSo peer bits a = EndsWith peer bits a

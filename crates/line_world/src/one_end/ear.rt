@@ -6,7 +6,7 @@ ghost use Rattle.lapm_frames.specs.declared.frame.Frame.{Frame};
 ghost use Rattle.lapm_frames.specs.Checked.{SpellsFrame};
 ghost use Rattle.link_account.specs.Numbers.{IsNumbered, HasNumbers};
 ghost use Rattle.line_world.specs.declared.one_end.limits.TheConstants.{SLOT_OCTETS};
-ghost use Rattle.line_world.specs.OneEnd.Heard.{EndsSo, IsHeard, filled, first, slot_bits};
+ghost use Rattle.line_world.specs.OneEnd.Heard.{IsHeard, filled, slot_bits};
 ghost use Rattle.detection.specs.Ear.{HasHeard};
 
 use crate::one_end::limits::SLOT_OCTETS;
@@ -28,17 +28,6 @@ fn frame_in(whole: &[u8], peer: Role) -> Option<Frame>
     }
 }
 
-/// The first of two things that are heard in a row.
-fn first(earlier: Arrived, later: Arrived) -> Arrived
-    ensures value { result ≡ first earlier later }
-    ensures numbers { IsNumbered earlier → IsNumbered later → IsNumbered result }
-{
-    match earlier {
-        Arrived::Nothing => later,
-        heard => heard,
-    }
-}
-
 /// The octet of a slot at that place: a short slot is filled with ones.
 fn octet_at(slot: &[u8], place: usize) -> u8
     requires place { place < SLOT_OCTETS }
@@ -51,38 +40,40 @@ fn octet_at(slot: &[u8], place: usize) -> u8
     }
 }
 
-/// What ends with the next bit.
-fn hear_bit(ear: &mut Ear, bit: bool, peer: Role) -> Arrived
+/// The next bit, with what ends there where nothing was heard before. What is heard is large: it is written once, where it is heard.
+fn hear_bit(ear: &mut Ear, bit: bool, peer: Role, heard: &mut Arrived)
+    requires { IsNumbered heard.old }
     ensures stands { (bits : List Bool) → HasHeard ear.old bits → HasHeard ear.new (bits ++ bit ∷ []) }
-    ensures ends { (bits : List Bool) → HasHeard ear.old bits → EndsSo peer (bits ++ bit ∷ []) result }
-    ensures numbers { IsNumbered result }
+    ensures heard { (earlier bits : List Bool) → HasHeard ear.old (earlier ++ bits) → IsHeard peer earlier bits heard.old
+        → IsHeard peer earlier (bits ++ bit ∷ []) heard.new }
+    ensures numbers { IsNumbered heard.new }
 {
     one_lent();
     let pattern = ear.reader.push(bit);
     ear.deframer.push(bit);
-    if let Some(seen) = pattern {
-        return Arrived::Pattern(seen);
-    }
-    match frame_in(ear.deframer.whole(), peer) {
-        Some(frame) => Arrived::Frame(frame),
-        None => Arrived::Nothing,
+    if let Arrived::Nothing = heard {
+        if let Some(seen) = pattern {
+            *heard = Arrived::Pattern(seen);
+        } else if let Some(frame) = frame_in(ear.deframer.whole(), peer) {
+            *heard = Arrived::Frame(frame);
+        }
     }
 }
 
 /// What was heard first, once the bits of an octet came behind what was heard before.
-fn hear_octet(ear: &mut Ear, octet: u8, peer: Role, heard: Arrived) -> Arrived
-    requires { IsNumbered heard }
+fn hear_octet(ear: &mut Ear, octet: u8, peer: Role, heard: &mut Arrived)
+    requires { IsNumbered heard.old }
     ensures stands { (bits : List Bool) → HasHeard ear.old bits → HasHeard ear.new (bits ++ octet_bits octet) }
-    ensures heard { (earlier bits : List Bool) → HasHeard ear.old (earlier ++ bits) → IsHeard peer earlier bits heard
-        → IsHeard peer earlier (bits ++ octet_bits octet) result }
-    ensures numbers { IsNumbered result }
+    ensures heard { (earlier bits : List Bool) → HasHeard ear.old (earlier ++ bits) → IsHeard peer earlier bits heard.old
+        → IsHeard peer earlier (bits ++ octet_bits octet) heard.new }
+    ensures numbers { IsNumbered heard.new }
 {
-    let mut heard = heard;
-    for place in 0..8u32 {
-        let next = hear_bit(ear, (octet >> place) & 1 == 1, peer);
-        heard = first(heard, next);
+    if ear.pass(octet) {
+        return;
     }
-    heard
+    for place in 0..8u32 {
+        hear_bit(ear, (octet >> place) & 1 == 1, peer, heard);
+    }
 }
 
 /// What is heard in a slot of these octets, or fewer.
@@ -94,7 +85,7 @@ pub(crate) fn hear_slot(ear: &mut Ear, slot: &[u8], peer: Role) -> Arrived
 {
     let mut heard = Arrived::Nothing;
     for place in 0..SLOT_OCTETS {
-        heard = hear_octet(ear, octet_at(slot, place), peer, heard);
+        hear_octet(ear, octet_at(slot, place), peer, &mut heard);
     }
     heard
 }
