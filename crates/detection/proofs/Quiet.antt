@@ -1,4 +1,4 @@
--- Four bits with which no pattern ends.
+-- Four bits, or eight, with which no pattern ends.
 use Rattle.std.proofs.Common.{◌≡◌, inl, inr, ℕ, ◌+◌, ◌-◌, ◌*◌, ◌/◌, ◌%◌, ◌^◌, ◌<◌, ◌≤◌, min, Bool, true}
 use Rattle.std.proofs.Common.{List, ◌++◌, length, get_or, take, drop, reverse, None, bit_and, bit_or, lit≤, arith, length-append}
 use Rattle.std.proofs.Common.{refl, sym}
@@ -11,7 +11,7 @@ use Rattle.std.proofs.lemmas.List.{append-nil, reverse-append, length-reverse, t
 use Rattle.std.proofs.lemmas.List.{get_or-append_right, get_or-replicate}
 use Rattle.std.proofs.lemmas.Nat.{shr-shr, or_shifted}
 use Rattle.std.proofs.lemmas.Nat.Bits.{bit_at_and, bit_at_cat_low, bit_at_cat_high, bit_at-zero}
-use Rattle.plain_lists.specs.Bits.{number, low_bits}
+use Rattle.plain_lists.specs.Bits.{number, low_bits, octet_bits}
 use Rattle.lapm_frames.specs.declared.seen.Seen.{Seen}
 use Rattle.detection.specs.Patterns.{ones, seen_at, EndsPattern, second}
 use Rattle.detection.specs.Sights.{sights_of}
@@ -92,7 +92,7 @@ eight-ones bits none i set =
         behind twos 2 (i + j) (pair j (omega arith)) (subst (λ n. bit_at twos n ≡ 1) next (pair (j + 2) (omega arith)))
 
 -- a pattern ends with eight ones
-ends-ones : (latest : ℕ) (seen : Seen) (bits more : List Bool) → ReaderStands latest (bits ++ more) → length more ≤ 4
+ends-ones : (latest : ℕ) (seen : Seen) (bits more : List Bool) → ReaderStands latest (bits ++ more) → length more ≤ 8
     → EndsPattern seen bits
     → (j : ℕ) → j < 8 → bit_at latest (length more + j) ≡ 1
 ends-ones latest seen bits more h few p j l =
@@ -109,20 +109,36 @@ ends-ones latest seen bits more h few p j l =
     ∙ ap (λ n. get_or (reverse bits) n true) place ∙ ap (λ r. get_or r j true) turned
     ∙ get_or_append_left (ones 8) (reverse front) true j l ∙ get_or-replicate 8 j true true l)
 
-pub none-seen : (latest four : ℕ) (past : List Bool) → ReaderStands latest (past ++ low_bits 4 four)
-    → ((i : ℕ) → ((j : ℕ) → j < 8 → bit_at (latest % 65536) (i + j) ≡ 1) → ⊥) → sights_of (past ++ low_bits 4 four) ≡ sights_of past
-none-seen latest four past h none =
-    sights-ranged past (low_bits 4 four) (λ p. seen_at (take (length past + p) (past ++ low_bits 4 four))) (λ p low high. refl)
-    ∙ ap (λ l. sights_of past ++ l) (ranged-none (λ p. seen_at (take (length past + p) (past ++ low_bits 4 four))) (length past) 4 each)
+-- where eight ones in a row stand nowhere in the latest sixteen bits, no pattern ends with any of the last eight
+pub none-seen : (latest : ℕ) (past new : List Bool) → length new ≤ 8 → ReaderStands latest (past ++ new)
+    → ((i : ℕ) → ((j : ℕ) → j < 8 → bit_at (latest % 65536) (i + j) ≡ 1) → ⊥) → sights_of (past ++ new) ≡ sights_of past
+none-seen latest past new few h none =
+    sights-ranged past new (λ p. seen_at (take (length past + p) (past ++ new))) (λ p low high. refl)
+    ∙ ap (λ l. sights_of past ++ l) (ranged-none (λ p. seen_at (take (length past + p) (past ++ new))) (length past) (length new) each)
     ∙ append-nil (sights_of past)
   where
-    each : (p : ℕ) → 0 < p → p ≤ 4 → seen_at (take (length past + p) (past ++ low_bits 4 four)) ≡ None
+    each : (p : ℕ) → 0 < p → p ≤ length new → seen_at (take (length past + p) (past ++ new)) ≡ None
     each p low high =
-        let all = past ++ low_bits 4 four in
+        let all = past ++ new in
         let bits = take (length past + p) all in
         let more = drop (length past + p) all in
         let joined : bits ++ more ≡ all = take-append-drop (length past + p) all in
-        let few : length more ≡ 4 - p = omega (arith, length-drop (length past + p) all, length-append past (low_bits 4 four)) in
+        let left : length more ≡ length new - p = omega (arith, length-drop (length past + p) all, length-append past new) in
         sym (seen-once bits None (λ seen ends. none (length more) (λ j l.
-        bit_at-rem latest 16 (length more + j) (omega (arith, few))
-        ∙ ends-ones latest seen bits more (subst (ReaderStands latest) (sym joined) h) (omega (arith, few)) ends j l)))
+        bit_at-rem latest 16 (length more + j) (omega (arith, left, few, low))
+        ∙ ends-ones latest seen bits more (subst (ReaderStands latest) (sym joined) h) (omega (arith, left, few)) ends j l)))
+
+-- an octet's bits are those of its two fours
+pub octet-fours : (past : List Bool) (octet : ℕ) → octet < 256
+    → (past ++ low_bits 4 (octet % 16)) ++ low_bits 4 (octet / 16) ≡ past ++ octet_bits octet
+octet-fours past octet small =
+    append_assoc past (low_bits 4 (octet % 16)) (low_bits 4 (octet / 16)) ∙ ap (λ l. past ++ l) halves
+  where
+    halves : low_bits 4 (octet % 16) ++ low_bits 4 (octet / 16) ≡ octet_bits octet
+    halves =
+        let a0 : octet % 16 % 2 ≡ octet % 2 = omega arith in
+        let a1 : octet % 16 / 2 % 2 ≡ octet / 2 % 2 = omega arith in
+        let a2 : octet % 16 / 2 / 2 % 2 ≡ octet / 2 / 2 % 2 = omega arith in
+        let a3 : octet % 16 / 2 / 2 / 2 % 2 ≡ octet / 2 / 2 / 2 % 2 = omega arith in
+        let b : octet / 2 / 2 / 2 / 2 ≡ octet / 16 = omega arith in
+        rw (a0, a1, a2, a3, b) refl

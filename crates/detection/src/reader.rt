@@ -1,7 +1,7 @@
 // Patterns in a stream of bits.
 ghost use Rattle.std.specs.Prelude.{◌≡◌, ◌+◌, ◌<◌, ◌≤◌, ◌↔◌, ℕ, List, Bool, IsTrue, true, false, ◌++◌, reverse};
 ghost use Rattle.std.specs.Int.{bit_at};
-ghost use Rattle.plain_lists.specs.Bits.{low_bits};
+ghost use Rattle.plain_lists.specs.Bits.{low_bits, octet_bits};
 ghost use Rattle.detection.specs.Patterns.{EndsPattern, longest_gap};
 ghost use Rattle.detection.specs.Reader.{Holds, ReaderStands, LeftBehind, LeftBehindOnce, whole_pattern};
 
@@ -76,6 +76,13 @@ fn behind_four(latest: u128, four: u8) -> u128
     (latest << 4) | u128::from(turned(four))
 }
 
+/// The latest bits behind the eight bits of an octet more.
+fn behind_octet(latest: u128, octet: u8) -> u128
+    ensures { (past : List Bool) → ReaderStands latest past → ReaderStands result (past ++ octet_bits octet) }
+{
+    behind_four(behind_four(latest, octet % 16), octet / 16)
+}
+
 /// Whether eight of the bits are ones in a row.
 fn has_eight_ones(bits: u16) -> bool
     ensures { result ≡ false → (i : ℕ) → ((j : ℕ) → j < 8 → bit_at bits (i + j) ≡ 1) → ⊥ }
@@ -145,6 +152,21 @@ impl PatternReader {
         ensures stays { result ≡ false → self.new ≡ self.old }
     {
         let latest = behind_four(self.latest, four);
+        if has_eight_ones((latest % 0x1_0000) as u16) {
+            return false;
+        }
+        self.latest = latest;
+        true
+    }
+    /// Goes on by the eight bits of an octet, the low one first, as by four.
+    pub fn pass_octet(&mut self, octet: u8) -> bool
+        ensures stands { result ≡ true → (past : List Bool) → ReaderStands self.old past
+            → ReaderStands self.new (past ++ octet_bits octet) }
+        ensures quiet { result ≡ true → (past : List Bool) → ReaderStands self.old past
+            → sights_of (past ++ octet_bits octet) ≡ sights_of past }
+        ensures stays { result ≡ false → self.new ≡ self.old }
+    {
+        let latest = behind_octet(self.latest, octet);
         if has_eight_ones((latest % 0x1_0000) as u16) {
             return false;
         }

@@ -1,4 +1,5 @@
-use Rattle.std.proofs.Common.{sym, subst}
+use Rattle.std.proofs.Common.{lit≤, sym, subst}
+use Rattle.plain_lists.specs.Bits.{low_bits}
 use Rattle.detection.specs.Reader.{ReaderStands}
 use Rattle.detection.proofs.Quiet.{none-seen}
 use Rattle.detection.proofs.reader.PatternReader.pass_four.Goals as goal
@@ -6,5 +7,5 @@ use Rattle.detection.proofs.reader.PatternReader.pass_four.Goals as goal
 pub returns-clause-quiet : goal.returns-clause-quiet
 returns-clause-quiet c = λ e past h.
     let s = subst (λ v. ReaderStands v past) (sym c.self.view_is) h in
-    none-seen c.behind_four-latest.result c.args.four past (c.behind_four-latest.ensures past s)
+    none-seen c.behind_four-latest.result past (low_bits 4 c.args.four) (lit≤ tt) (c.behind_four-latest.ensures past s)
     (c.has_eight_ones.ensures c.if-has_eight_ones.false)
