@@ -109,7 +109,7 @@ impl Model for PatternReader {
 }
 
 impl PatternReader {
-    ghost use Rattle.std.specs.Prelude.{[], ◌∷◌};
+    ghost use Rattle.std.specs.Prelude.{[], ◌∷◌, IfSome};
     ghost use Rattle.detection.specs.Patterns.{IsSeen, seen_at};
     ghost use Rattle.detection.specs.Sights.{sights_of};
 
@@ -158,6 +158,20 @@ impl PatternReader {
         self.latest = latest;
         true
     }
+
+    /// The reader behind the eight bits of an octet more, the low one first, where it is plain that no pattern ends with any of them.
+    pub(crate) fn behind(&self, octet: u8) -> Option<PatternReader>
+        ensures stands { IfSome result (λ next. (past : List Bool) → ReaderStands self.now past → ReaderStands next (past ++ octet_bits octet)) }
+        ensures quiet { IfSome result (λ _. (past : List Bool) → ReaderStands self.now past → sights_of (past ++ octet_bits octet) ≡ sights_of past) }
+    {
+        let latest = behind_octet(self.latest, octet);
+        if has_eight_ones((latest % 0x1_0000) as u16) {
+            None
+        } else {
+            Some(PatternReader { latest })
+        }
+    }
+
     /// Goes on by the eight bits of an octet, the low one first, as by four.
     pub fn pass_octet(&mut self, octet: u8) -> bool
         ensures stands { result ≡ true → (past : List Bool) → ReaderStands self.old past
@@ -166,11 +180,12 @@ impl PatternReader {
             → sights_of (past ++ octet_bits octet) ≡ sights_of past }
         ensures stays { result ≡ false → self.new ≡ self.old }
     {
-        let latest = behind_octet(self.latest, octet);
-        if has_eight_ones((latest % 0x1_0000) as u16) {
-            return false;
+        match self.behind(octet) {
+            Some(next) => {
+                *self = next;
+                true
+            }
+            None => false,
         }
-        self.latest = latest;
-        true
     }
 }
