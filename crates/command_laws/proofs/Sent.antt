@@ -9,7 +9,7 @@ use Rattle.symbol_map.specs.Points.{point_of}
 use Rattle.symbol_map.specs.Distance.{distance_of}
 use Rattle.symbol_map.specs.Laws.{NoDistanceIsEqual}
 use Rattle.symbol_map.specs.Finite.{each_below, at_each}
-use Rattle.differential.specs.Turned.{turned, turned_at}
+use Rattle.trellis_tables.specs.Differential.Turned.{turned, turned_at}
 use Rattle.trellis_tables.specs.Sequences.{Leads}
 use Rattle.trellis_tables.specs.Table.{next_state}
 use Rattle.trellis_tables.specs.V32Laws.{v32_bounded}

@@ -11,8 +11,8 @@ use Rattle.scramblers.specs.declared.mode.Mode.TheVariants.{Call, Answer}
 use Rattle.scramblers.specs.Mode.{tap_of}
 use Rattle.scramblers.specs.Scrambles.{Descrambles}
 use Rattle.scramblers.proofs.Readings.{Descrambles_once, Descrambles_from_Scrambles, Scrambles_from_Descrambles, Scrambles-take}
-use Rattle.differential.specs.Turned.{unturned}
-use Rattle.differential.proofs.Inverses.{unturned-take}
+use Rattle.trellis_tables.specs.Differential.Turned.{unturned}
+use Rattle.trellis_tables.proofs.Turning.Inverses.{unturned-take}
 use Rattle.line_coding.specs.Demodulates.{line_of, Demodulates}
 use Rattle.line_coding.proofs.Readings.{first-stay}
 use Rattle.rate_4800.specs.Demodulates as quarter

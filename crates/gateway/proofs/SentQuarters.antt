@@ -8,8 +8,8 @@ use Rattle.scramblers.specs.declared.mode.Mode.{Mode}
 use Rattle.scramblers.specs.Mode.{tap_of}
 use Rattle.scramblers.proofs.Readings.{Descrambles_once}
 use Rattle.symbol_map.specs.declared.sample.Sample.{Sample}
-use Rattle.differential.specs.Turned.{turned, turned_at}
-use Rattle.differential.proofs.Places.{length-unturned}
+use Rattle.trellis_tables.specs.Differential.Turned.{turned, turned_at}
+use Rattle.trellis_tables.proofs.Turning.Places.{length-unturned}
 use Rattle.exact_decoder.specs.Surviving.Survivors.{IsReleased, LostIs}
 use Rattle.exact_decoder.proofs.Surviving.Least.{some-released}
 use Rattle.exact_decoder.specs.Decoder.{heard}

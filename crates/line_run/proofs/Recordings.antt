@@ -5,8 +5,8 @@ use Rattle.std.proofs.Math.Nat.{mul_assoc}
 use Rattle.std.specs.List.{flat_map}
 use Rattle.std.proofs.lemmas.List.Elements.{All-nil, All-cons, All-head, All-tail}
 use Rattle.plain_lists.specs.Bits.{low_bits, number}
-use Rattle.differential.specs.Turned.{turned}
-use Rattle.differential.proofs.Places.{turned-snoc}
+use Rattle.trellis_tables.specs.Differential.Turned.{turned}
+use Rattle.trellis_tables.proofs.Turning.Places.{turned-snoc}
 use Rattle.scramblers.specs.Mode.{tap_of}
 use Rattle.scramblers.specs.Scrambles.{Scrambles}
 use Rattle.scramblers.specs.Stream.{earlier}

@@ -18,7 +18,7 @@ use Rattle.trellis_tables.specs.Sequences.{Leads}
 use Rattle.trellis_tables.proofs.Readings.{Encodes_quads_of}
 use Rattle.trellis_tables.proofs.Sequences.{Leads-split, Leads_once}
 use Rattle.line_coding.specs.Demodulates.{line_of, DemodulatorStands}
-use Rattle.differential.specs.Turned.{unturned_at}
+use Rattle.trellis_tables.specs.Differential.Turned.{unturned_at}
 use Rattle.symbol_map.specs.Labels.{y_of}
 use Rattle.std.specs.List.{range_with_len}
 use Rattle.std.proofs.Math.Seq.{take-append_seam, drop-append_seam}

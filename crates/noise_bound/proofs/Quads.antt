@@ -8,7 +8,7 @@ use Rattle.plain_lists.specs.Bits.{low_bits}
 use Rattle.plain_lists.specs.Prefix.{IsPrefixOf}
 use Rattle.symbol_map.specs.Labels.{q3q4_of, y_of}
 use Rattle.symbol_map.specs.Laws.{turned_label}
-use Rattle.differential.specs.Turned.{unturned_at}
+use Rattle.trellis_tables.specs.Differential.Turned.{unturned_at}
 use Rattle.trellis_tables.specs.Quads.{quad_of}
 use Rattle.trellis_tables.specs.LabelReader.{quads_of, quad_at}
 use Rattle.trellis_tables.proofs.Readings.{quads_of-take, quads_of-turned, length-quads_of, get_or-quads_of}

@@ -5,8 +5,8 @@ use Rattle.std.proofs.lemmas.Grind.{flat_map-append}
 use Rattle.plain_lists.specs.Bits.{low_bits}
 use Rattle.scramblers.specs.Scrambles.{Scrambles, Descrambles}
 use Rattle.scramblers.proofs.Readings.{Descrambles_from_Scrambles}
-use Rattle.differential.specs.Turned.{turned}
-use Rattle.differential.proofs.Inverses.{unturned-turned}
+use Rattle.trellis_tables.specs.Differential.Turned.{turned}
+use Rattle.trellis_tables.proofs.Turning.Inverses.{unturned-turned}
 use Rattle.rate_4800.specs.Demodulates.{Demodulates}
 
 pub twos-more : (line : List Bool) (turns : List ℕ) (turn : ℕ) → line ≡ flat_map (low_bits 2) turns

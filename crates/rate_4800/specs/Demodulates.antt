@@ -4,8 +4,8 @@ use Rattle.std.specs.List.{flat_map}
 use Rattle.plain_lists.specs.Bits.{low_bits}
 use Rattle.scramblers.specs.Scrambles.{Descrambles}
 use Rattle.scramblers.specs.declared.mode.Mode.{Mode}
-use Rattle.differential.specs.Turned.{unturned}
-use Rattle.differential.specs.Machines.{UnturnerStands}
+use Rattle.trellis_tables.specs.Differential.Turned.{unturned}
+use Rattle.trellis_tables.specs.Differential.Machines.{UnturnerStands}
 use Rattle.line_coding.specs.Modes.{DescramblesAs}
 use Rattle.rate_4800.specs.declared.demodulator.Demodulator.{Demodulator}
 

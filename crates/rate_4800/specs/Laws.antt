@@ -7,7 +7,7 @@ use Rattle.symbol_map.specs.declared.sample.Sample.{Sample}
 use Rattle.symbol_map.specs.Distance.{distance_of}
 use Rattle.exact_decoder.specs.Surviving.Trellises.{Trellis, trellis_of}
 use Rattle.exact_decoder.specs.Surviving.Survivors.{IsReleased}
-use Rattle.differential.specs.Turned.{turned}
+use Rattle.trellis_tables.specs.Differential.Turned.{turned}
 use Rattle.rate_4800.specs.Code.{next_state, point_of}
 use Rattle.rate_4800.specs.Demodulates.{Demodulates}
 

@@ -4,8 +4,8 @@ use Rattle.std.specs.List.{flat_map}
 use Rattle.plain_lists.specs.Bits.{low_bits}
 use Rattle.scramblers.specs.Scrambles.{Scrambles}
 use Rattle.scramblers.specs.declared.mode.Mode.{Mode}
-use Rattle.differential.specs.Turned.{turned}
-use Rattle.differential.specs.Machines.{TurnerStands}
+use Rattle.trellis_tables.specs.Differential.Turned.{turned}
+use Rattle.trellis_tables.specs.Differential.Machines.{TurnerStands}
 use Rattle.symbol_map.specs.declared.sample.Sample.{Sample}
 use Rattle.line_coding.specs.Modes.{ScramblesAs}
 use Rattle.rate_4800.specs.Code.{point_of}

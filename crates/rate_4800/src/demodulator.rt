@@ -4,7 +4,7 @@ ghost use Rattle.plain_lists.specs.Bits.{low_bits};
 ghost use Rattle.scramblers.specs.declared.mode.Mode.{Mode};
 ghost use Rattle.rate_4800.specs.Demodulates.{DemodulatorStands};
 
-use differential::Unturner;
+use trellis_tables::differential::Unturner;
 use line_coding::{Demodulate, ModeDescrambler};
 use scramblers::Mode;
 

@@ -6,7 +6,7 @@ ghost use Rattle.symbol_map.specs.declared.sample.Sample.{Sample};
 ghost use Rattle.rate_4800.specs.Modulates.{ModulatorStands};
 
 use crate::code::Rate4800;
-use differential::Turner;
+use trellis_tables::differential::Turner;
 use line_coding::ModeScrambler;
 use scramblers::Mode;
 use symbol_map::Sample;

@@ -1,5 +1,5 @@
 // Turns there and back.
-use differential::{Turner, Unturner};
+use trellis_tables::differential::{Turner, Unturner};
 
 /// Turns, and what they add up to.
 const TURNS: &[(u8, u8)] = &[(1, 1), (0, 1), (3, 0), (2, 2), (3, 1), (2, 3)];

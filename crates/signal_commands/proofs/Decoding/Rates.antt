@@ -7,8 +7,8 @@ use Rattle.std.proofs.lemmas.List.{take-append-drop, length-take}
 use Rattle.plain_lists.specs.Bits.{low_bits}
 use Rattle.scramblers.specs.declared.mode.Mode.{Mode}
 use Rattle.scramblers.specs.Mode.{tap_of}
-use Rattle.differential.specs.Turned.{unturned}
-use Rattle.differential.proofs.Inverses.{unturned-take}
+use Rattle.trellis_tables.specs.Differential.Turned.{unturned}
+use Rattle.trellis_tables.proofs.Turning.Inverses.{unturned-take}
 use Rattle.symbol_map.specs.declared.sample.Sample.{Sample}
 use Rattle.trellis_tables.specs.LabelReader.{quads_of}
 use Rattle.trellis_tables.proofs.Readings.{quads_of-take}

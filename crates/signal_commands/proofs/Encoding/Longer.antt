@@ -12,7 +12,7 @@ use Rattle.scramblers.specs.declared.mode.Mode.TheVariants.{Call, Answer}
 use Rattle.scramblers.specs.Mode.{tap_of}
 use Rattle.scramblers.specs.Scrambles.{Scrambles}
 use Rattle.scramblers.proofs.Streams.{Scrambles-more}
-use Rattle.differential.proofs.Places.{turned-snoc}
+use Rattle.trellis_tables.proofs.Turning.Places.{turned-snoc}
 use Rattle.symbol_map.specs.declared.sample.Sample.{Sample}
 use Rattle.symbol_map.specs.Labels.{label_of}
 use Rattle.symbol_map.specs.Points.{point_of}

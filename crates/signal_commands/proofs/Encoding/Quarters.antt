@@ -8,8 +8,8 @@ use Rattle.plain_lists.specs.Xor.{xor}
 use Rattle.scramblers.specs.Stream.{earlier}
 use Rattle.scramblers.specs.Scrambles.{Scrambles}
 use Rattle.scramblers.proofs.Streams.{Scrambles-more}
-use Rattle.differential.specs.Turned.{turned}
-use Rattle.differential.proofs.Places.{turned-snoc}
+use Rattle.trellis_tables.specs.Differential.Turned.{turned}
+use Rattle.trellis_tables.proofs.Turning.Places.{turned-snoc}
 use Rattle.symbol_map.specs.declared.sample.Sample.{Sample}
 use Rattle.rate_4800.specs.Code.{point_of}
 use Rattle.rate_4800.specs.Modulates.{Modulates}

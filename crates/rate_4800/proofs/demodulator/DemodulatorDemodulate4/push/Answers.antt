@@ -1,6 +1,6 @@
 use Rattle.std.proofs.Common.{ℕ, Bool, List, [], ◌∷◌, ◌++◌, subst, refl}
-use Rattle.differential.specs.Turned.{unturned}
-use Rattle.differential.specs.Machines.{UnturnerStands}
+use Rattle.trellis_tables.specs.Differential.Turned.{unturned}
+use Rattle.trellis_tables.specs.Differential.Machines.{UnturnerStands}
 use Rattle.plain_lists.specs.Bits.{low_bits}
 use Rattle.std.specs.List.{flat_map}
 use Rattle.std.proofs.Common.{◌∙◌, ap}
