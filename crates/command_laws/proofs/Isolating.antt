@@ -25,8 +25,8 @@ use Rattle.line_world.specs.Turns.{held_of}
 use Rattle.run_commands.specs.Running.Ends.{run_job}
 use Rattle.run_commands.specs.Running.Ends as run_ends
 use Rattle.run_commands.proofs.Running.Headline as run_answers
-use Rattle.pair_run.specs.Ends.{Which, First, Second, PairEnd, BothDone}
-use Rattle.pair_run.specs.Laws.{AreIsolated, FaintPairsAreIsolated}
+use Rattle.link_pair.specs.Pairs.Ends.{Which, First, Second, PairEnd, BothDone}
+use Rattle.link_pair.specs.Pairs.Laws.{AreIsolated, FaintPairsAreIsolated}
 use Rattle.link_pair.specs.Words.{Names, inputs_of, run_of}
 use Rattle.link_pair.specs.Ends.{RanTo, pair_job}
 use Rattle.run_inputs.specs.Answers.{EndsRun}

@@ -7,3 +7,6 @@ mod Named
 mod Picking
 mod Decoding
 mod Isolating
+mod Making
+mod Computing
+mod Texts

@@ -9,7 +9,7 @@ use Rattle.command_base.specs.Job.{Answers}
 use Rattle.run_inputs.specs.Answers.{EndsRun}
 use Rattle.run_inputs.specs.Words as alone
 use Rattle.run_commands.specs.Running.Ends.{run_job}
-use Rattle.pair_run.specs.Ends.{Which}
+use Rattle.link_pair.specs.Pairs.Ends.{Which}
 use Rattle.link_pair.specs.Words.{Names, inputs_of, run_of}
 use Rattle.link_pair.specs.Headline.{AreTold}
 use Rattle.link_pair.specs.Answers.{EndsPair}

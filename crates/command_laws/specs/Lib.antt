@@ -3,3 +3,4 @@ pub mod Traces
 pub mod Files
 pub mod Pickups
 pub mod Isolates
+pub mod Worked

@@ -10,8 +10,8 @@ use Rattle.link_run.specs.Run.{start}
 use Rattle.line_run.specs.Scripted.{link_of}
 use Rattle.line_run.specs.Names.{Written}
 use Rattle.line_world.proofs.Reached.{files_at, knows-told}
-use Rattle.pair_run.specs.Pair.{Goes}
-use Rattle.pair_run.specs.Ends.{First}
+use Rattle.link_pair.specs.Pairs.Pair.{Goes}
+use Rattle.link_pair.specs.Pairs.Ends.{First}
 use Rattle.line_world.specs.declared.step.RunFault.{RunFault}
 use Rattle.line_world.specs.declared.step.RunFault.TheVariants as faults
 use Rattle.link_pair.specs.declared.two_links.Pair.{Pair}

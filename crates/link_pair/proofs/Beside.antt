@@ -11,7 +11,7 @@ use Rattle.line_world.specs.Station.{file_at}
 use Rattle.line_run.specs.Names.{Written, inputs_of, outputs_of}
 use Rattle.line_world.specs.Turns.{held_of}
 use Rattle.line_world.specs.World.{KnowsFiles}
-use Rattle.pair_run.specs.Pair.{Progress}
+use Rattle.link_pair.specs.Pairs.Pair.{Progress}
 use Rattle.line_world.specs.declared.step.RunFault.{RunFault}
 use Rattle.line_world.specs.declared.step.RunFault.TheVariants as faults
 use Rattle.line_world.specs.Turn.{FaultCountsOver}

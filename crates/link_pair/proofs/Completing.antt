@@ -30,9 +30,9 @@ use Rattle.line_run.specs.Names.{Written}
 use Rattle.line_run.specs.Names as written
 use Rattle.line_world.specs.Turns.{held_of}
 use Rattle.line_ends.specs.Completes.{NamesFew, IsUndisturbed}
-use Rattle.pair_run.specs.Beside.{first_wire, second_wire}
-use Rattle.pair_run.specs.Ends.{IsByLine, PairEnd, BothDone, end_of, line_end, PairRunsTo, by_links, by_line}
-use Rattle.pair_run.specs.Laws.{OnePairResult, FaintPairsAreIsolated, EndsDone, UnstarvedPairsAreDone, QuietPairsAreDone}
+use Rattle.link_pair.specs.Pairs.Beside.{first_wire, second_wire}
+use Rattle.link_pair.specs.Pairs.Ends.{IsByLine, PairEnd, BothDone, end_of, line_end, PairRunsTo, by_links, by_line}
+use Rattle.link_pair.specs.Pairs.Laws.{OnePairResult, FaintPairsAreIsolated, EndsDone, UnstarvedPairsAreDone, QuietPairsAreDone}
 use Rattle.link_pair.specs.declared.command.LastTurns.{LastTurns}
 use Rattle.link_pair.specs.Words.{Names, files_of}
 use Rattle.link_pair.specs.Answers.{answer_of, result_of}

@@ -43,8 +43,8 @@ use Rattle.line_world.specs.Turns.{AddsTurn, held_of}
 use Rattle.line_world.specs.World.{KnowsFiles}
 use Rattle.line_world.proofs.Folders.{IsApart}
 use Rattle.line_world.proofs.Reached.{held-turn, knows-later, none_got}
-use Rattle.pair_run.specs.Beside.{idle_turn, lasting}
-use Rattle.pair_run.specs.Pair.{Progress, Goes, Ended, turns_on_line, last_ends, IsByLink, IdlesFor, GoesFor, Lasts}
+use Rattle.link_pair.specs.Pairs.Beside.{idle_turn, lasting}
+use Rattle.link_pair.specs.Pairs.Pair.{Progress, Goes, Ended, turns_on_line, last_ends, IsByLink, IdlesFor, GoesFor, Lasts}
 use Rattle.link_pair.specs.declared.half.Half.{Half}
 use Rattle.link_pair.specs.declared.half.LinkEnd.{LinkEnd}
 use Rattle.link_pair.specs.declared.half.LinkEnd.TheVariants as link_ends

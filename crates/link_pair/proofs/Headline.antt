@@ -35,10 +35,10 @@ use Rattle.line_ends.specs.ReadOff.{AreReadOff}
 use Rattle.run_inputs.proofs.Files.{prefix-later}
 use Rattle.line_ends.proofs.ReadingOff.{run-read, turns-read}
 use Rattle.line_ends.proofs.RunLaws.{may-run, runs-over}
-use Rattle.pair_run.specs.Beside.{first_wire, second_wire}
-use Rattle.pair_run.specs.Pair.{Progress, Goes, Ended, turns_in, Lasts}
-use Rattle.pair_run.specs.Ends.{PairEnd, BothDone, LinkLost, NotDetected, LineLost, ChanceMatch, LeavesOf, PairRunsTo, by_links, by_line}
-use Rattle.pair_run.specs.Laws.{AreIsolated, FaintPairsAreIsolated}
+use Rattle.link_pair.specs.Pairs.Beside.{first_wire, second_wire}
+use Rattle.link_pair.specs.Pairs.Pair.{Progress, Goes, Ended, turns_in, Lasts}
+use Rattle.link_pair.specs.Pairs.Ends.{PairEnd, BothDone, LinkLost, NotDetected, LineLost, ChanceMatch, LeavesOf, PairRunsTo, by_links, by_line}
+use Rattle.link_pair.specs.Pairs.Laws.{AreIsolated, FaintPairsAreIsolated}
 use Rattle.link_pair.specs.Half.{left_by}
 use Rattle.link_pair.specs.declared.command.LastTurns.{LastTurns}
 use Rattle.link_pair.specs.Words.{Names, files_of, inputs_of}

@@ -32,9 +32,9 @@ use Rattle.line_world.specs.Turns.{held_of}
 use Rattle.line_world.specs.World.{KnowsFiles}
 use Rattle.line_world.proofs.Folders.{IsApart, receives-none, lines-only}
 use Rattle.line_world.proofs.Reached.{knows-later, none_got}
-use Rattle.pair_run.specs.Beside.{idle_turn, lasting}
-use Rattle.pair_run.specs.Pair.{Progress, Goes, Ended, turns_on_line, HearsIdly, IdlesFor, HasEnded, Lasts}
-use Rattle.pair_run.proofs.Agreeing.{length-lasting}
+use Rattle.link_pair.specs.Pairs.Beside.{idle_turn, lasting}
+use Rattle.link_pair.specs.Pairs.Pair.{Progress, Goes, Ended, turns_on_line, HearsIdly, IdlesFor, HasEnded, Lasts}
+use Rattle.link_pair.proofs.Pairs.Agreeing.{length-lasting}
 use Rattle.link_pair.specs.declared.half.Half.{Half}
 use Rattle.link_pair.specs.declared.half.LinkEnd.{LinkEnd}
 use Rattle.line_world.specs.declared.step.RunFault.{RunFault}

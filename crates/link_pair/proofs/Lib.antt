@@ -1,3 +1,4 @@
+pub mod Pairs
 mod Reading
 mod Running
 mod Refusing

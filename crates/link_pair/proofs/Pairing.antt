@@ -19,15 +19,15 @@ use Rattle.line_world.proofs.Waiting.{passed-few}
 use Rattle.line_world.specs.declared.modems.Modems.{Modems}
 use Rattle.line_run.specs.Names.{Written}
 use Rattle.line_world.specs.Link.{AreWithin}
-use Rattle.pair_run.specs.Beside.{first_dlci, second_dlci, slot_in, after_second, after_first, first_wire, second_wire}
-use Rattle.pair_run.specs.Pair.{Progress, Goes, Ended, turns_in, turns_on_line, Lasts, PairAt}
-use Rattle.pair_run.specs.Ends.{Which, First, Second, is_going, firsts_at}
-use Rattle.pair_run.specs.Stream.{both_sent, first_sent}
-use Rattle.pair_run.specs.Laws.{AreFewRounds, AreShort, PairsHaveFewRounds, FirstSlotsAreDue, SecondSlotsAreDue}
-use Rattle.pair_run.proofs.Clear.{Beside}
-use Rattle.pair_run.proofs.Agreeing.{same-lasts, slot-stays}
-use Rattle.pair_run.proofs.Streaming.{both-length}
-use Rattle.pair_run.proofs.Placing.{sent-on-line, length-on-line}
+use Rattle.link_pair.specs.Pairs.Beside.{first_dlci, second_dlci, slot_in, after_second, after_first, first_wire, second_wire}
+use Rattle.link_pair.specs.Pairs.Pair.{Progress, Goes, Ended, turns_in, turns_on_line, Lasts, PairAt}
+use Rattle.link_pair.specs.Pairs.Ends.{Which, First, Second, is_going, firsts_at}
+use Rattle.link_pair.specs.Pairs.Stream.{both_sent, first_sent}
+use Rattle.link_pair.specs.Pairs.Laws.{AreFewRounds, AreShort, PairsHaveFewRounds, FirstSlotsAreDue, SecondSlotsAreDue}
+use Rattle.link_pair.proofs.Pairs.Clear.{Beside}
+use Rattle.link_pair.proofs.Pairs.Agreeing.{same-lasts, slot-stays}
+use Rattle.link_pair.proofs.Pairs.Streaming.{both-length}
+use Rattle.link_pair.proofs.Pairs.Placing.{sent-on-line, length-on-line}
 use Rattle.link_pair.specs.declared.half.LinkEnd.{LinkEnd}
 use Rattle.link_pair.specs.declared.two_links.Pair.{Pair}
 use Rattle.link_pair.specs.declared.two_links.Endings.{Endings}

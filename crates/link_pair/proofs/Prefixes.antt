@@ -28,10 +28,10 @@ use Rattle.line_world.specs.Turns.{AddsTurn, held_of}
 use Rattle.run_inputs.specs.Files.{KeptOrPrefix}
 use Rattle.line_ends.proofs.RunLaws.{RunLaws, may-run, runs-over}
 use Rattle.run_inputs.proofs.Files.{prefix-of, part-of, empty-of}
-use Rattle.pair_run.specs.Beside.{first_wire, second_wire}
-use Rattle.pair_run.specs.Pair.{Progress, Goes, Ended, turns_in, Lasts, PairAt}
-use Rattle.pair_run.specs.Ends.{Which, First, Second, BothDone, firsts_at}
-use Rattle.pair_run.specs.Laws.{ArePrefixes, PairsLeavePrefixes, DonePairsAreWhole, FaintPairsAreIsolated}
+use Rattle.link_pair.specs.Pairs.Beside.{first_wire, second_wire}
+use Rattle.link_pair.specs.Pairs.Pair.{Progress, Goes, Ended, turns_in, Lasts, PairAt}
+use Rattle.link_pair.specs.Pairs.Ends.{Which, First, Second, BothDone, firsts_at}
+use Rattle.link_pair.specs.Pairs.Laws.{ArePrefixes, PairsLeavePrefixes, DonePairsAreWhole, FaintPairsAreIsolated}
 use Rattle.link_pair.specs.Half.{left_by, AddsMore, LinkStops, LinkStopsReading}
 use Rattle.link_pair.specs.Pair.{StopsTurn}
 use Rattle.link_pair.specs.declared.command.LastTurns.{LastTurns}

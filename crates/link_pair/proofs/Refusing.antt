@@ -10,7 +10,7 @@ use Rattle.command_base.specs.Status.{IsRefusal}
 use Rattle.command_base.specs.Stops.{end_status}
 use Rattle.command_base.proofs.Jobs.{refusal-own}
 use Rattle.run_inputs.specs.declared.limits.TheConstants.{LIMITS}
-use Rattle.pair_run.specs.Ends.{PairEnd, BothDone}
+use Rattle.link_pair.specs.Pairs.Ends.{PairEnd, BothDone}
 use Rattle.link_pair.specs.declared.command.LastTurns.{LastTurns}
 use Rattle.link_pair.specs.Words.{Names}
 use Rattle.link_pair.specs.Answers.{answer_of, result_of}

@@ -20,9 +20,9 @@ use Rattle.run_inputs.specs.declared.limits.Limits.{Limits}
 use Rattle.run_inputs.specs.declared.limits.TheConstants.{LIMITS}
 use Rattle.run_inputs.specs.Inputs.{Refuses}
 use Rattle.run_inputs.proofs.Files.{file-is}
-use Rattle.pair_run.specs.Beside.{first_wire, second_wire}
-use Rattle.pair_run.specs.Pair.{Progress, Goes, Ended, turns_in, Lasts}
-use Rattle.pair_run.specs.Ends.{PairEnd, BothDone, LineLost, ChanceMatch}
+use Rattle.link_pair.specs.Pairs.Beside.{first_wire, second_wire}
+use Rattle.link_pair.specs.Pairs.Pair.{Progress, Goes, Ended, turns_in, Lasts}
+use Rattle.link_pair.specs.Pairs.Ends.{PairEnd, BothDone, LineLost, ChanceMatch}
 use Rattle.line_world.specs.declared.step.RunFault.{RunFault}
 use Rattle.line_world.specs.declared.step.RunFault.TheVariants as faults
 use Rattle.line_world.specs.Turn.{FaultCountsOver}

@@ -19,12 +19,12 @@ use Rattle.line_run.specs.Stream.{Carried}
 use Rattle.line_world.specs.Lines.{LinesWait}
 use Rattle.line_world.specs.declared.lines.Lines.{Lines}
 use Rattle.line_run.specs.Names.{Written, outputs_of}
-use Rattle.pair_run.specs.Beside.{first_dlci, second_dlci, after_second, after_first, first_wire, second_wire}
-use Rattle.pair_run.specs.Pair.{Progress, Goes, Ended, turns_in, HasEnded, Lasts, PairAt}
-use Rattle.pair_run.specs.Ends.{First, Second, is_going, LeavesOf, BothEnd, by_links, by_line}
-use Rattle.pair_run.specs.Ends as pairs
-use Rattle.pair_run.proofs.Clear.{Beside}
-use Rattle.pair_run.proofs.Placing.{length-on-line}
+use Rattle.link_pair.specs.Pairs.Beside.{first_dlci, second_dlci, after_second, after_first, first_wire, second_wire}
+use Rattle.link_pair.specs.Pairs.Pair.{Progress, Goes, Ended, turns_in, HasEnded, Lasts, PairAt}
+use Rattle.link_pair.specs.Pairs.Ends.{First, Second, is_going, LeavesOf, BothEnd, by_links, by_line}
+use Rattle.link_pair.specs.Pairs.Ends as pairs
+use Rattle.link_pair.proofs.Pairs.Clear.{Beside}
+use Rattle.link_pair.proofs.Pairs.Placing.{length-on-line}
 use Rattle.link_pair.specs.declared.half.Half.{Half}
 use Rattle.link_pair.specs.declared.half.LinkEnd.{LinkEnd}
 use Rattle.link_pair.specs.declared.half.LinkEnd.TheVariants as link_ends

@@ -6,7 +6,7 @@ use Rattle.command_base.specs.declared.status.Status.{Status}
 use Rattle.command_base.specs.declared.status.Status.TheVariants as status
 use Rattle.command_base.specs.declared.stop.Stop.{Stop}
 use Rattle.command_base.specs.declared.stop.Stop.TheVariants.{Own}
-use Rattle.pair_run.specs.Ends.{Which, First, Second, PairEnd, BothDone, LinkLost, NotDetected, LineLost, ChanceMatch}
+use Rattle.link_pair.specs.Pairs.Ends.{Which, First, Second, PairEnd, BothDone, LinkLost, NotDetected, LineLost, ChanceMatch}
 use Rattle.run_inputs.specs.Answers.{answer_of as run_answer}
 use Rattle.line_world.specs.declared.step.RunFault.{RunFault}
 use Rattle.line_world.specs.declared.step.RunFault.TheVariants as faults

@@ -17,8 +17,8 @@ use Rattle.line_run.specs.Names.{Written}
 use Rattle.line_run.specs.Names as written
 use Rattle.line_world.specs.Turns.{held_of}
 use Rattle.line_ends.specs.Completes.{NamesFew, IsUndisturbed}
-use Rattle.pair_run.specs.Beside.{first_wire, second_wire}
-use Rattle.pair_run.specs.Ends.{PairEnd, IsByLine, BothEnd, PairRunsTo}
+use Rattle.link_pair.specs.Pairs.Beside.{first_wire, second_wire}
+use Rattle.link_pair.specs.Pairs.Ends.{PairEnd, IsByLine, BothEnd, PairRunsTo}
 use Rattle.link_pair.specs.Words.{Names, inputs_of, outputs_of}
 use Rattle.link_pair.specs.Answers.{answer_of}
 

@@ -20,9 +20,9 @@ use Rattle.command_base.specs.Lines.{both_done_line}
 use Rattle.run_inputs.specs.declared.limits.Limits.{Limits}
 use Rattle.run_inputs.specs.declared.limits.TheConstants.{LIMITS}
 use Rattle.run_inputs.specs.Inputs.{Opens, RefusesOwn, FailsToRead}
-use Rattle.pair_run.specs.Beside.{first_wire, second_wire}
-use Rattle.pair_run.specs.Pair.{Progress, Goes, Ended, turns_in, Lasts}
-use Rattle.pair_run.specs.Ends.{PairEnd, BothDone}
+use Rattle.link_pair.specs.Pairs.Beside.{first_wire, second_wire}
+use Rattle.link_pair.specs.Pairs.Pair.{Progress, Goes, Ended, turns_in, Lasts}
+use Rattle.link_pair.specs.Pairs.Ends.{PairEnd, BothDone}
 use Rattle.link_pair.specs.Half.{LinkStops, LinkStopsReading}
 use Rattle.link_pair.specs.Pair.{PairEnded, PairStops}
 use Rattle.link_pair.specs.declared.command.LastTurns.{LastTurns}

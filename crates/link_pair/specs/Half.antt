@@ -29,8 +29,8 @@ use Rattle.line_world.specs.Modems.{AreKept, has_turns}
 use Rattle.line_world.specs.Tally.{Tallies}
 use Rattle.line_world.specs.Turns.{AddsTurn, AddsChance, held_of}
 use Rattle.line_world.specs.World.{KnowsFiles}
-use Rattle.pair_run.specs.Pair.{Progress, Goes, Ended, turns_in, ends_in, turns_on_line, Lasts}
-use Rattle.pair_run.specs.Ends.{LeavesOf, text_of}
+use Rattle.link_pair.specs.Pairs.Pair.{Progress, Goes, Ended, turns_in, ends_in, turns_on_line, Lasts}
+use Rattle.link_pair.specs.Pairs.Ends.{LeavesOf, text_of}
 use Rattle.link_pair.specs.declared.half.Half.{Half}
 use Rattle.link_pair.specs.declared.half.LinkEnd.{LinkEnd}
 use Rattle.link_pair.specs.declared.half.LinkEnd.TheVariants as link_ends

@@ -21,11 +21,11 @@ use Rattle.command_base.specs.Lines.{both_done_line}
 use Rattle.line_run.specs.Names.{Written}
 use Rattle.run_inputs.specs.Files.{KeptOrPrefix, HoldsWhole}
 use Rattle.line_ends.specs.ReadOff.{AreReadOff}
-use Rattle.pair_run.specs.Beside.{first_wire, second_wire}
-use Rattle.pair_run.specs.Pair.{Progress, Goes, Ended, turns_in, Lasts, PairAt}
-use Rattle.pair_run.specs.Ends.{PairEnd, BothDone, firsts_at, PairRunsTo}
-use Rattle.pair_run.specs.Ends.{by_links, by_line}
-use Rattle.pair_run.specs.Laws.{AreIsolated}
+use Rattle.link_pair.specs.Pairs.Beside.{first_wire, second_wire}
+use Rattle.link_pair.specs.Pairs.Pair.{Progress, Goes, Ended, turns_in, Lasts, PairAt}
+use Rattle.link_pair.specs.Pairs.Ends.{PairEnd, BothDone, firsts_at, PairRunsTo}
+use Rattle.link_pair.specs.Pairs.Ends.{by_links, by_line}
+use Rattle.link_pair.specs.Pairs.Laws.{AreIsolated}
 use Rattle.link_pair.specs.Words.{Names, inputs_of, outputs_of}
 use Rattle.link_pair.specs.Answers.{ByAnswer}
 use Rattle.link_pair.specs.Ends.{AreFiles, IsFew}

@@ -15,10 +15,10 @@ use Rattle.line_world.specs.Lines.{LinesWait, none_sent}
 use Rattle.line_run.specs.Names.{Written, outputs_of, written}
 use Rattle.line_world.specs.Turns.{held_of}
 use Rattle.line_world.specs.World.{KnowsFiles}
-use Rattle.pair_run.specs.Beside.{first_dlci, second_dlci, first_wire, second_wire}
-use Rattle.pair_run.specs.Pair.{Progress, turns_in, turns_on_line, PairAt}
-use Rattle.pair_run.specs.Ends.{Which, First, Second, PairEnd, end_of, is_going, firsts_at, PairRunsTo, by_links, by_line}
-use Rattle.pair_run.specs.Stream.{both_sent, first_sent}
+use Rattle.link_pair.specs.Pairs.Beside.{first_dlci, second_dlci, first_wire, second_wire}
+use Rattle.link_pair.specs.Pairs.Pair.{Progress, turns_in, turns_on_line, PairAt}
+use Rattle.link_pair.specs.Pairs.Ends.{Which, First, Second, PairEnd, end_of, is_going, firsts_at, PairRunsTo, by_links, by_line}
+use Rattle.link_pair.specs.Pairs.Stream.{both_sent, first_sent}
 use Rattle.link_pair.specs.declared.half.LinkEnd.{LinkEnd}
 use Rattle.line_world.specs.declared.step.RunFault.{RunFault}
 use Rattle.line_world.specs.declared.step.RunFault.TheVariants as faults

@@ -3,7 +3,7 @@ use Rattle.std.specs.Prelude.{ℕ, List, [], ◌∷◌, ◌++◌, Option, None}
 use Rattle.command_base.specs.Apart.{where_apart}
 use Rattle.run_inputs.specs.Words.{RunNames}
 use Rattle.line_run.specs.Names.{Written, written}
-use Rattle.pair_run.specs.Ends.{Which, First, Second}
+use Rattle.link_pair.specs.Pairs.Ends.{Which, First, Second}
 use Rattle.link_pair.specs.Pair.{all_inputs, all_outputs}
 use Rattle.link_pair.specs.declared.words.PairWords.{PairWords}
 

@@ -7,7 +7,7 @@ ghost use Rattle.command_base.specs.Stops.{EndCounts, WriteFails};
 ghost use Rattle.command_base.specs.Apart.{are_apart};
 ghost use Rattle.link_pair.specs.Pair.{IsFirst, script_of};
 ghost use Rattle.link_pair.specs.Words.{named, inputs_of, outputs_of};
-ghost use Rattle.pair_run.specs.Ends.{end_of};
+ghost use Rattle.link_pair.specs.Pairs.Ends.{end_of};
 ghost use Rattle.link_pair.specs.Half.{run_end};
 ghost use Rattle.link_pair.specs.Answers.{last_turn_of, result_of};
 ghost use Rattle.link_pair.specs.Ends.{Ends, IsBegun, pair_job};

@@ -10,8 +10,8 @@ ghost use Rattle.outside_calls.specs.Outputs.{AreApartFrom, OnlyPuts};
 ghost use Rattle.line_world.specs.Lines.{LinesWait, HaveArrived};
 ghost use Rattle.line_world.specs.Turn.{CountsOver};
 ghost use Rattle.line_run.specs.Names.{inputs_of, outputs_of, written};
-ghost use Rattle.pair_run.specs.Beside.{idle_turn};
-ghost use Rattle.pair_run.specs.Pair.{Progress};
+ghost use Rattle.link_pair.specs.Pairs.Beside.{idle_turn};
+ghost use Rattle.link_pair.specs.Pairs.Pair.{Progress};
 ghost use Rattle.link_pair.specs.Half as halves;
 
 use frame_check::Check;

@@ -18,7 +18,7 @@ use line_run::laws::{
 };
 use link_run::laws::{prefixes, turns_deliver_what_came, what_passed_is_taken};
 use noise_script::laws::{one_answer, spelled_scripts_are_in_limits};
-use pair_run::laws::{one_pair_result, pairs_are_isolated, pairs_complete, pairs_leave_prefixes};
+use crate::pair_laws::{one_pair_result, pairs_are_isolated, pairs_complete, pairs_leave_prefixes};
 
 /// Whatever a pair answers, its headline holds.
 pub(crate) fn answers_keep_the_headline()

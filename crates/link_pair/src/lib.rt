@@ -6,6 +6,9 @@
 //! that are lent to its turns. Once it has ended its ends send flags and hear nothing, but what arrives of its slots can still end the
 //! pair.
 //!
+//! [`pair_laws`] says what holds of all pairs: what each link is given begins the other end's file, a pair has one result, and where no
+//! symbol is displaced, or the noise is faint, each link runs as it would alone.
+//!
 //! The command `pair`: two links over one line of samples, each between two ends that send each other a file. A pure function of the words
 //! and of the folder that are handed in. [`pair`] does what the words say that [`pair_words`] reads.
 #![tactic(auto)]
@@ -13,6 +16,7 @@
 mod command;
 mod half;
 mod laws;
+pub mod pair_laws;
 mod rounds;
 mod two_links;
 mod words;

@@ -8,7 +8,7 @@ ghost use Rattle.link_pair.specs.Pair.{FaultEnds, HaveEnded, IsFirst, inputs_in,
 use crate::{Endings, Pair, PairNames};
 use line_world::RunFault;
 use outside_calls::Folder;
-use pair_run::laws::pairs_have_few_rounds;
+use crate::pair_laws::pairs_have_few_rounds;
 
 /// Rounds are made until the pair ends: how both links ended, or why it ended before, by the folder or the line. A symbol of the line counts
 /// those of both links, and a turn is the round.

@@ -3,14 +3,14 @@ ghost use Rattle.std.specs.Prelude.{◌≡◌, Option, Result, IfOk};
 ghost use Rattle.outside_calls.specs.Outputs.{AreApartFrom, OnlyPuts};
 ghost use Rattle.line_run.specs.Names.{written};
 ghost use Rattle.line_world.specs.Turn.{CountsOver};
-ghost use Rattle.pair_run.specs.Ends.{First, Second};
+ghost use Rattle.link_pair.specs.Pairs.Ends.{First, Second};
 
 use crate::{Half, LinkEnd};
 use line_run::laws::scripts_make_links;
 use line_world::{Lines, Names, RunFault};
 use noise_script::Script;
 use outside_calls::{Folder, NoMemory};
-use pair_run::laws::{pairs_have_few_rounds, slots_are_due};
+use crate::pair_laws::{pairs_have_few_rounds, slots_are_due};
 use std::alloc::Global;
 
 /// The names of a pair's files: those of the first link, and those of the second.

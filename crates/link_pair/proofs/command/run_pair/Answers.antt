@@ -7,7 +7,7 @@ use Rattle.noise_script.specs.Script.{ScriptValue}
 use Rattle.command_base.specs.Stops.{StopCounts, EndCounts}
 use Rattle.command_base.proofs.Jobs.{stop-earlier}
 use Rattle.run_inputs.specs.declared.limits.TheConstants.{LIMITS}
-use Rattle.pair_run.specs.Ends.{end_of}
+use Rattle.link_pair.specs.Pairs.Ends.{end_of}
 use Rattle.link_pair.specs.Half.{run_end}
 use Rattle.link_pair.specs.Pair.{script_of}
 use Rattle.link_pair.specs.Words.{Names, named, inputs_of, outputs_of}

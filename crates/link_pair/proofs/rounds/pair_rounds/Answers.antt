@@ -4,7 +4,7 @@ use Rattle.outside_calls.proofs.Steps.{CountsStand-refl, CountsStand-trans}
 use Rattle.outside_calls.proofs.Putting.{OnlyPuts-refl, OnlyPuts-trans}
 use Rattle.noise_script.specs.Script.{ScriptValue}
 use Rattle.line_run.specs.Names.{Written, written}
-use Rattle.pair_run.specs.Ends.{First, Second}
+use Rattle.link_pair.specs.Pairs.Ends.{First, Second}
 use Rattle.link_pair.specs.Pair.{Comes, FaultEnds, HaveEnded, all_inputs, all_outputs, round_of, script_of}
 use Rattle.link_pair.proofs.Pairing.{few-rounds}
 use Rattle.link_pair.proofs.Beginning.{begins, nearer, fault-ends, counts-later}

@@ -4,7 +4,7 @@ use Rattle.line_run.specs.Sampled.{EndsLineBy}
 use Rattle.line_run.specs.Scripted.{wire_at}
 use Rattle.line_world.specs.declared.directions.LineEnd.{LineEnd}
 use Rattle.line_run.specs.Names.{outputs_of, written}
-use Rattle.pair_run.specs.Pair.{turns_on_line}
+use Rattle.link_pair.specs.Pairs.Pair.{turns_on_line}
 use Rattle.link_pair.proofs.Idling.{at-end, count-at, has-idled, lost-idly, met-idly, stopped-idly, writes-ends}
 use Rattle.std.proofs.Common.{[], ◌∷◌}
 use Rattle.outside_calls.proofs.Steps.{CountsStand-refl}

@@ -1,0 +1,140 @@
+-- The slots of a pair in the order in which they are sent: as each link's turn begins, the slot that is due is that link's.
+use Rattle.std.proofs.Common.{◌≡◌, ℕ, zero, suc, ◌-◌, ◌*◌, ◌<◌, ◌≤◌, Bool, true, false, cond, nat_eq, List, [], ◌∷◌, length, drop}
+use Rattle.std.proofs.Common.{arith, refl, sym, ◌∙◌, ap, Some, None}
+use Rattle.std.specs.Prelude.{is_some}
+use Rattle.std.proofs.lemmas.Bool.Decides.{nat_tests}
+use Rattle.shared_terms.specs.declared.role.Role.{Role}
+use Rattle.shared_terms.specs.declared.role.Role.TheVariants.{Originator, Answerer}
+use Rattle.shared_terms.specs.Both.{of}
+use Rattle.detection.specs.Slots.Signal.{FlagSlot}
+use Rattle.noise_script.specs.Script.{ScriptValue, delay_of}
+use Rattle.link_run.specs.Run.{Link, Turn}
+use Rattle.line_run.specs.Scripted.{link_of}
+use Rattle.link_pair.specs.Pairs.Beside.{first_dlci, second_dlci, signal_or_flags, slot_in, after_second, after_first}
+use Rattle.line_run.specs.Scripted.{wire_at}
+use Rattle.link_pair.specs.Pairs.Beside.{second_wire, idle_turn, lasting}
+use Rattle.link_pair.specs.Pairs.Pair.{Progress, Goes, Ended, turns_in, turns_on_line, Lasts}
+use Rattle.line_run.specs.Stream.{Carried, AreSent, IsDue}
+use Rattle.line_run.proofs.Streaming.{run-sent}
+use Rattle.link_pair.specs.Pairs.Stream.{both_sent, first_sent}
+use Rattle.link_pair.specs.Pairs.Laws.{FirstSlotsAreDue, SecondSlotsAreDue}
+use Rattle.link_pair.proofs.Pairs.Clear.{Beside}
+use Rattle.link_pair.proofs.Pairs.Pairing.{has-run}
+use Rattle.link_pair.proofs.Pairs.Agreeing.{same-before, length-lasting}
+use Rattle.link_pair.proofs.Pairs.Streaming.{first-due, second-due}
+
+lasting-sent : (role : Role) (n : ℕ) (ts : List Turn) → AreSent role ts → AreSent role (lasting n ts)
+lasting-sent role zero ts h = h
+lasting-sent role (suc n) ts h = (idle role, lasting-sent role n ts h)
+  where
+    idle : (role : Role) → is_some (of role idle_turn).sent ≡ true
+    idle Originator = refl
+    idle Answerer = refl
+
+pub sent-on-line : (script : ScriptValue) (dlci : ℕ) (beside : Beside) (link : Link) (count rounds : ℕ) (p : Progress)
+    → Lasts (wire_at script dlci beside) link count p → (role : Role) → AreSent role (turns_on_line rounds p)
+sent-on-line script dlci beside link count rounds (Goes ts ends) h role = run-sent link role ts ends h.run.run
+sent-on-line script dlci beside link count rounds (Ended ts ends end left) h role =
+    let r = has-run (wire_at script dlci beside) link count (Ended ts ends end left) h in
+    lasting-sent role (rounds - length ts) ts (run-sent link role ts r.before r.run.run)
+
+pub length-on-line : (script : ScriptValue) (dlci : ℕ) (beside : Beside) (link : Link) (rounds : ℕ) (p : Progress)
+    → Lasts (wire_at script dlci beside) link rounds p → length (turns_on_line rounds p) ≡ rounds
+length-on-line script dlci beside link rounds (Goes ts ends) h = h.count
+length-on-line script dlci beside link rounds (Ended ts ends end left) h =
+    omega (arith, length-lasting (rounds - length ts) ts, h.before)
+
+-- behind its last turn a link sends flags
+slot-behind : (dlci : ℕ) (role : Role) (ts : List Turn) (round : ℕ) → length ts ≤ round → slot_in dlci role ts round ≡ FlagSlot None
+slot-behind dlci role [] round l = refl
+slot-behind dlci role (t ∷ ts) round l =
+    go (nat_eq round (length ts)) (differs round (length ts) l) (slot-behind dlci role ts round (omega (arith, l)))
+  where
+    differs : (m n : ℕ) → n < m → nat_eq m n ≡ false
+    differs m n k = grind (arith, nat_tests)
+
+    go : (b : Bool) → b ≡ false → slot_in dlci role ts round ≡ FlagSlot None
+        → cond b (signal_or_flags dlci role (of role t).sent) (slot_in dlci role ts round) ≡ FlagSlot None
+    go false e f = f
+    go true e f = absurd cc
+
+slot-lasting : (dlci : ℕ) (role : Role) (n : ℕ) (ts : List Turn) (round : ℕ)
+    → slot_in dlci role (lasting n ts) round ≡ slot_in dlci role ts round
+slot-lasting dlci role zero ts round = refl
+slot-lasting dlci role (suc n) ts round =
+    go (nat_eq round (length (lasting n ts))) (is-at round (length (lasting n ts))) (slot-lasting dlci role n ts round)
+  where
+    is-at : (m k : ℕ) → nat_eq m k ≡ true → m ≡ k
+    is-at m k e = grind (arith, nat_tests, e)
+
+    idle : (role : Role) → signal_or_flags dlci role (of role idle_turn).sent ≡ FlagSlot None
+    idle Originator = refl
+    idle Answerer = refl
+
+    go : (b : Bool) → (b ≡ true → round ≡ length (lasting n ts)) → slot_in dlci role (lasting n ts) round ≡ slot_in dlci role ts round
+        → cond b (signal_or_flags dlci role (of role idle_turn).sent) (slot_in dlci role (lasting n ts) round) ≡ slot_in dlci role ts round
+    go false f h = h
+    go true f h = idle role ∙ sym (slot-behind dlci role ts round (omega (arith, f refl, length-lasting n ts)))
+
+slot-on-line : (dlci : ℕ) (role : Role) (rounds : ℕ) (p : Progress) (round : ℕ)
+    → slot_in dlci role (turns_on_line rounds p) round ≡ slot_in dlci role (turns_in p) round
+slot-on-line dlci role rounds (Goes ts ends) round = refl
+slot-on-line dlci role rounds (Ended ts ends end left) round = slot-lasting dlci role (rounds - length ts) ts round
+
+-- a slot that is due beside one thing is due beside another that is the same
+due-beside : (script : ScriptValue) (dlci : ℕ) (b d : Beside) (role : Role) (ts : List Turn) (stream : List Carried) (lag : ℕ)
+    → ((r : Role) (round : ℕ) → b r round ≡ d r round)
+    → IsDue (wire_at script dlci b) role ts stream lag → IsDue (wire_at script dlci d) role ts stream lag
+due-beside script dlci b d role ts stream lag same h = record {
+  early = h.early;
+  late = h.late;
+  due = λ l. let w = h.due l in (
+    w.0,
+    w.1,
+    w.2,
+    w.3 ∙ same-before script dlci b d role (drop (delay_of script role) ts) (λ r round less. same r round),
+  );
+}
+
+second-same : (rounds : ℕ) (q : Progress) (role : Role) (round : ℕ)
+    → after_second (turns_on_line rounds q) role round ≡ after_second (turns_in q) role round
+second-same rounds q role zero = refl
+second-same rounds q role (suc round) = ap Some (slot-on-line second_dlci role rounds q round)
+
+first-same : (rounds : ℕ) (p : Progress) (role : Role) (round : ℕ)
+    → after_first (turns_on_line rounds p) role round ≡ after_first (turns_in p) role round
+first-same rounds p role round = ap Some (slot-on-line first_dlci role rounds p round)
+
+-- As the first link's turn begins in a round, its slot is due,
+pub first-slots-are-due : FirstSlotsAreDue
+first-slots-are-due script files others round p q a role some =
+    due-beside script first_dlci (after_second (turns_on_line round q)) (after_second (turns_in q)) role (turns_on_line round p)
+    (both_sent role (turns_on_line round p) (turns_on_line round q)) (2 * delay_of script role) (second-same round q)
+    (first-due script role (turns_on_line round p) (turns_on_line round q) some
+    (sent-on-line script first_dlci (after_second (turns_in q)) (link_of script files) round round p a.first role)
+    (sent-on-line script second_dlci (after_first (turns_in p)) (link_of script others) round round q a.second role)
+    (length-on-line script first_dlci (after_second (turns_in q)) (link_of script files) round p a.first
+    ∙ sym (length-on-line script second_dlci (after_first (turns_in p)) (link_of script others) round q a.second)))
+
+-- and as the second's begins, that link's.
+pub second-slots-are-due : SecondSlotsAreDue
+second-slots-are-due script files others round p q a role some =
+    due-beside script second_dlci (after_first (turns_on_line (suc round) p)) (after_first (turns_in p)) role (turns_on_line round q)
+    (first_sent role (turns_on_line (suc round) p) (turns_on_line round q)) (2 * delay_of script role) (first-same (suc round) p)
+    (go (turns_on_line (suc round) p)
+    (length-on-line script first_dlci (after_second (turns_in q)) (link_of script files) (suc round) p a.first)
+    (sent-on-line script first_dlci (after_second (turns_in q)) (link_of script files) (suc round) (suc round) p a.first role))
+  where
+    us : List Turn
+    us = turns_on_line round q
+
+    count : length us ≡ round
+    count = length-on-line script second_dlci (after_first (turns_in p)) (link_of script others) round q a.second
+
+    sent : AreSent role us
+    sent = sent-on-line script second_dlci (after_first (turns_in p)) (link_of script others) round round q a.second role
+
+    go : (ts : List Turn) → length ts ≡ suc round → AreSent role ts
+        → IsDue (second_wire script ts) role us (first_sent role ts us) (2 * delay_of script role)
+    go [] e h = absurd (omega (arith, e))
+    go (t ∷ ts) e h = second-due script role t ts us some h sent (omega (arith, e, count))

@@ -1,8 +1,0 @@
-use Rattle.std.proofs.Common.{refl}
-use Rattle.pair_run.proofs.runs.links_that_end.Goals as goal
-
-pub returns : goal.returns
-returns c = record {
-  lost = record { broken = refl; last = refl; orig = refl; answ = refl };
-  undetected = record { broken = refl; last = refl; orig = refl; answ = refl };
-}

@@ -1,5 +1,0 @@
-use Rattle.std.proofs.Common.{refl}
-use Rattle.pair_run.proofs.runs.ua_is_lost.Goals as goal
-
-pub returns : goal.returns
-returns c = record { done = refl; last = refl; orig = refl; answ = refl; orig_account = refl; answ_account = refl }
