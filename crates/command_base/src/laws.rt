@@ -2,7 +2,8 @@
 ghost use Rattle.std.specs.Prelude.{◌≡◌, ℕ, List, true};
 ghost use Rattle.outside_calls.specs.Outputs.{AreApart, AreNoneOf};
 ghost use Rattle.command_base.specs.Apart.{are_apart};
-ghost use Rattle.command_base.specs.declared.limits.TheConstants.{FILE_LIMIT, RECORDING_LIMIT, HEX_LIMIT};
+ghost use Rattle.command_base.specs.declared.limits.TheConstants.{RECORDING_LIMIT, HEX_LIMIT};
+ghost use Rattle.shared_terms.specs.declared.limits.TheConstants.{FILE_LIMIT};
 
 /// How many octets each input may have, but for the files that a run sends: a file 1,048,576, a recording 8,388,616, hexadecimal digits 512.
 pub fn limits_in_octets()

@@ -1,8 +1,5 @@
 // The limits of inputs, in octets.
 
-/// The most octets of the file of `encode` and of the bits of `frames`.
-pub const FILE_LIMIT: u64 = 1_048_576;
-
 /// The most octets of a recording: its header, and two samples for each octet of the longest file.
 pub const RECORDING_LIMIT: u64 = 8_388_616;
 

@@ -12,9 +12,9 @@ use line_ends::laws::{octets_are_sendable, undisplaced_runs_have_faint_noise};
 use line_run::direction::{codable_slots_fit, slots_that_fit_follow_one_another};
 use line_run::laws::{one_result, runs_leave_prefixes, scripts_make_links, slots_have_room};
 use line_tap::laws::recordings_tell_runs;
+use link_pair::pair_laws::pairs_are_isolated;
 use noise_bound::noiseless::few_labels_are_unreleased;
 use noise_script::laws::{one_answer, spelled_scripts_are_in_limits};
-use link_pair::pair_laws::pairs_are_isolated;
 use rate_4800::Rate4800;
 use signal_commands::pickup::laws::{
     later_pieces_stand_behind, middles_give_what_was_sent, samples_give_one_list,

@@ -4,6 +4,7 @@ pub mod Recorded
 pub mod Stream
 pub mod Scripted
 pub mod Ends
+pub mod Faults
 pub mod LineLaws
 pub mod Scripts
 pub mod Fitting

@@ -5,7 +5,9 @@
 #![tactic(auto)]
 
 pub mod direction;
+mod fault;
 pub mod laws;
 mod names;
 
+pub use fault::RunFault;
 pub use names::Names;

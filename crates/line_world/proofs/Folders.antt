@@ -11,8 +11,8 @@ use Rattle.turn_bound.specs.Limits.{file_limit}
 use Rattle.line_world.specs.Station.{file_at}
 use Rattle.line_run.specs.Names.{Written, inputs_of, outputs_of, received_of}
 use Rattle.line_world.specs.Link.{AreWithin}
-use Rattle.line_world.specs.declared.step.RunFault.{RunFault}
-use Rattle.line_world.specs.declared.step.RunFault.TheVariants as run_faults
+use Rattle.line_run.specs.declared.fault.RunFault.{RunFault}
+use Rattle.line_run.specs.declared.fault.RunFault.TheVariants as run_faults
 use Rattle.line_world.specs.World.{StayKnown, KnowsFiles}
 use Rattle.line_world.specs.Turn.{FaultCounts, FaultCountsOver, IsWriting}
 use Rattle.line_world.proofs.Several.{rose-front, rose-behind}

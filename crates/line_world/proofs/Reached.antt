@@ -28,8 +28,8 @@ use Rattle.line_run.specs.Names.{Written, inputs_of, outputs_of}
 use Rattle.line_world.specs.Link.{octets_of}
 use Rattle.line_world.specs.Station.{file_at}
 use Rattle.line_world.specs.declared.world.World.{World}
-use Rattle.line_world.specs.declared.step.RunFault.{RunFault}
-use Rattle.line_world.specs.declared.step.RunFault.TheVariants as faults
+use Rattle.line_run.specs.declared.fault.RunFault.{RunFault}
+use Rattle.line_run.specs.declared.fault.RunFault.TheVariants as faults
 use Rattle.line_world.specs.World.{KnowsFiles, WorldAfter, script_of, turn_of, lost_of, again_of}
 use Rattle.line_world.specs.Turn.{added, GoesOnBy, EndsInTurn, LosesLine, MeetsChance, StopsInTurn}
 use Rattle.line_world.specs.Turn.{StopsReading, Stops, IsWriting}

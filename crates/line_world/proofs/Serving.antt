@@ -18,9 +18,9 @@ use Rattle.line_run.specs.Sampled.{Wire}
 use Rattle.lapm_frames.specs.declared.heard.Heard.{Heard}
 use Rattle.line_run.specs.Names.{Written, inputs_of, outputs_of}
 use Rattle.outside_calls.specs.Outputs.{SomeCause}
-use Rattle.line_world.specs.declared.step.RunFault.{RunFault}
-use Rattle.line_world.specs.declared.step.RunFault.TheVariants.{ReadFault, WriteFault}
-use Rattle.line_world.specs.declared.step.RunFault.TheVariants as faults
+use Rattle.line_run.specs.declared.fault.RunFault.{RunFault}
+use Rattle.line_run.specs.declared.fault.RunFault.TheVariants.{ReadFault, WriteFault}
+use Rattle.line_run.specs.declared.fault.RunFault.TheVariants as faults
 use Rattle.line_world.specs.Faults.{fault_of}
 use Rattle.line_world.specs.Turn.{IsReading, IsWriting, FaultCounts}
 use Rattle.line_world.specs.Mid.{Overhears, ReadsBoth, handed, served, turn_in}

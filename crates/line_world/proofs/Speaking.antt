@@ -36,8 +36,8 @@ use Rattle.line_run.specs.Stream.{Carried}
 use Rattle.line_world.specs.Lines.{LinesWait, HaveArrived, AreCodable, ArePut, and_more}
 use Rattle.line_world.specs.declared.modems.Modems.{Modems}
 use Rattle.line_world.specs.declared.tally.Tally.{Tally}
-use Rattle.line_world.specs.declared.step.RunFault.{RunFault}
-use Rattle.line_world.specs.declared.step.RunFault.TheVariants as run_faults
+use Rattle.line_run.specs.declared.fault.RunFault.{RunFault}
+use Rattle.line_run.specs.declared.fault.RunFault.TheVariants as run_faults
 use Rattle.line_world.specs.Tally.{Tallies}
 use Rattle.line_world.specs.Texts.{lines_of}
 use Rattle.line_world.specs.Turn.{IsWriting, FaultCounts}

@@ -31,7 +31,7 @@ use Rattle.line_world.specs.World.{HasSent}
 use Rattle.line_run.specs.Recorded.{Tapes, tapes_of}
 use Rattle.line_world.specs.Tapes.{HoldsTape, HoldsTapePart, HoldTapes}
 use Rattle.line_world.specs.Taping.{RecordsBits, TapeStands, KeepsTape, TakesSlot, KeepTapes, TakeTurn, tape_names}
-use Rattle.line_world.specs.declared.step.RunFault.{RunFault}
+use Rattle.line_run.specs.declared.fault.RunFault.{RunFault}
 use Rattle.line_world.specs.declared.tape.Tape.{Tape}
 
 -- one sample more

@@ -1,29 +1,20 @@
--- Why there is no further turn: which end of a run a fault is, and which fault it is that a folder fails, or an end breaks.
-use Rattle.std.specs.Prelude.{ℕ, Option, Some, None}
+-- Why there is no further turn: which fault it is that a folder fails, or an end breaks.
+use Rattle.std.specs.Prelude.{ℕ}
 use Rattle.outside_calls.specs.declared.folder.FolderFault.{FolderFault}
 use Rattle.outside_calls.specs.declared.folder.FolderFault.TheVariants as folder
 use Rattle.shared_terms.specs.declared.role.Role.{Role}
 use Rattle.shared_terms.specs.declared.fault.LinkFault.{LinkFault}
 use Rattle.shared_terms.specs.declared.fault.LinkFault.TheVariants as link
 use Rattle.line_run.specs.Sampled as lines
-use Rattle.line_run.specs.Ends.{RunEnd, LinkLost, NotDetected, LineLost, ChanceMatch}
 use Rattle.line_world.specs.declared.directions.LineEnd.{LineEnd}
 use Rattle.line_world.specs.declared.directions.LineEnd.TheVariants as ways
-use Rattle.line_world.specs.declared.step.RunFault.{RunFault}
-use Rattle.line_world.specs.declared.step.RunFault.TheVariants as faults
+use Rattle.line_run.specs.declared.fault.RunFault.{RunFault}
+use Rattle.line_run.specs.declared.fault.RunFault.TheVariants as faults
 
 -- how the line ends a run
 abbrev pub end_of : LineEnd → lines.LineEnd
 end_of (ways.Lost role symbol) = lines.LineLost role symbol
 end_of (ways.Chance role) = lines.ChanceMatch role
-
--- how a run ended whose turns end by this fault; by one of the folder it didn't
-abbrev pub fault_end : RunFault → Option RunEnd
-fault_end (faults.LinkLost role segment turn) = Some (LinkLost role segment turn)
-fault_end (faults.NotDetected turn) = Some (NotDetected turn)
-fault_end (faults.LineLost role symbol) = Some (LineLost role symbol)
-fault_end (faults.ChanceMatch role turn) = Some (ChanceMatch role turn)
-fault_end fault = None
 
 -- why a run ends in which an end breaks; in a run an end has no fault but these two, so the last row is for none
 abbrev pub fault_named : ℕ → Role → LinkFault → RunFault

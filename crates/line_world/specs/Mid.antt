@@ -25,13 +25,14 @@ use Rattle.line_world.specs.Station.{ReadsOn}
 use Rattle.line_run.specs.Names.{Written, outputs_of}
 use Rattle.line_world.specs.Link.{LinkStands, both_ends, octets_of, served_on}
 use Rattle.line_run.specs.Stream.{Carried, and_sent}
-use Rattle.line_world.specs.Faults.{end_of, fault_end}
+use Rattle.line_world.specs.Faults.{end_of}
+use Rattle.line_run.specs.Faults.{fault_end}
 use Rattle.line_world.specs.Lines.{LinesWait, HaveArrived}
 use Rattle.line_world.specs.declared.lines.Lines.{Lines}
 use Rattle.line_world.specs.declared.modems.Modems.{Modems}
 use Rattle.line_world.specs.declared.tally.Tally.{Tally}
-use Rattle.line_world.specs.declared.step.RunFault.{RunFault}
-use Rattle.line_world.specs.declared.step.RunFault.TheVariants as run_faults
+use Rattle.line_run.specs.declared.fault.RunFault.{RunFault}
+use Rattle.line_run.specs.declared.fault.RunFault.TheVariants as run_faults
 use Rattle.line_world.specs.Modems.{ModemsAfter}
 use Rattle.line_world.specs.Turn.{MakesTurn, HearsNone}
 

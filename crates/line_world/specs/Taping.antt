@@ -16,7 +16,7 @@ use Rattle.link_run.specs.Run.{Turn}
 use Rattle.line_run.specs.Sampled.{Wire, bits_of}
 use Rattle.line_run.specs.Recorded.{Tapes}
 use Rattle.line_world.specs.Tapes.{HoldsTapePart, HoldTapesPartly}
-use Rattle.line_world.specs.declared.step.RunFault.{RunFault}
+use Rattle.line_run.specs.declared.fault.RunFault.{RunFault}
 use Rattle.line_world.specs.declared.tape.Tape.{Tape}
 
 -- A modulator has made samples of these bits, which have these octets.

@@ -18,14 +18,14 @@ use Rattle.line_run.specs.Scripted.{link_of}
 use Rattle.line_run.specs.Names.{Written, inputs_of, outputs_of, received_of}
 use Rattle.line_world.specs.Link.{octets_of}
 use Rattle.line_run.specs.Stream.{Carried, and_sent}
-use Rattle.line_world.specs.Faults.{fault_end}
+use Rattle.line_run.specs.Faults.{fault_end}
 use Rattle.line_world.specs.Lines.{LinesWait, HaveArrived}
 use Rattle.line_world.specs.declared.lines.Lines.{Lines}
 use Rattle.line_world.specs.declared.modems.Modems.{Modems}
 use Rattle.line_world.specs.declared.step.Step.{Step}
 use Rattle.line_world.specs.declared.step.Step.TheVariants as steps
-use Rattle.line_world.specs.declared.step.RunFault.{RunFault}
-use Rattle.line_world.specs.declared.step.RunFault.TheVariants as run_faults
+use Rattle.line_run.specs.declared.fault.RunFault.{RunFault}
+use Rattle.line_run.specs.declared.fault.RunFault.TheVariants as run_faults
 use Rattle.line_world.specs.Modems.{ModemsAfter}
 use Rattle.line_world.specs.World.{StayKnown}
 

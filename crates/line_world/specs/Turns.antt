@@ -20,10 +20,10 @@ use Rattle.outside_calls.specs.Outputs.{HoldEach, HoldPart, joined}
 use Rattle.line_run.specs.Names.{Written, outputs_of}
 use Rattle.line_run.specs.Recorded.{Tapes}
 use Rattle.line_world.specs.Tapes.{HoldTapes, HoldTapesPartly}
-use Rattle.line_world.specs.Faults.{fault_end}
+use Rattle.line_run.specs.Faults.{fault_end}
 use Rattle.line_world.specs.World.{KnowsFiles}
-use Rattle.line_world.specs.declared.step.RunFault.{RunFault}
-use Rattle.line_world.specs.declared.step.RunFault.TheVariants as faults
+use Rattle.line_run.specs.declared.fault.RunFault.{RunFault}
+use Rattle.line_run.specs.declared.fault.RunFault.TheVariants as faults
 
 -- what is left of each output
 abbrev pub held_of : Left → List (List ℕ)

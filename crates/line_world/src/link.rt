@@ -20,14 +20,13 @@ ghost use Rattle.line_world.specs.Link.{HearsOn};
 ghost use Rattle.link_account.specs.Hear.{hear};
 
 use crate::Station;
-use crate::limit::FILE_LIMIT;
 use frame_check::Check;
 use lapm_link::{Arrived, LinkFault, Phase, Sent, Setup};
 use line_run::Names;
 use line_run::laws::scripts_make_links;
 use noise_script::Script;
 use outside_calls::{Folder, FolderFault, NoMemory};
-use shared_terms::{Both, Role};
+use shared_terms::{Both, RUN_FILE_LIMIT, Role};
 use std::alloc::Global;
 
 /// Two stations.
@@ -231,11 +230,11 @@ impl Link {
         ensures spared { IsErrOf result FolderFault.NoMemory → FaultsStand (F.state folder.old) (F.state folder.new) }
         ensures came { F.came folder.old folder.new }
     {
-        match self.orig.supply(folder, names.orig, FILE_LIMIT) {
+        match self.orig.supply(folder, names.orig, RUN_FILE_LIMIT) {
             Ok(()) => {}
             Err(fault) => return Err(fault),
         }
-        match self.answ.supply(folder, names.answ, FILE_LIMIT) {
+        match self.answ.supply(folder, names.answ, RUN_FILE_LIMIT) {
             Ok(()) => Ok(()),
             Err(fault) => Err(fault),
         }

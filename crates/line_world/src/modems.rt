@@ -21,11 +21,12 @@ ghost use Rattle.link_account.specs.Account.{check_of, given_break};
 ghost use Rattle.noise_script.specs.Script.{IsInLimits};
 
 use crate::fault::folder_fault;
-use crate::step::{RunFault, Step};
+use crate::step::Step;
 use crate::tally::Tally;
 use crate::turn_text::{link_fault, write_chance, write_turn};
 use crate::{LineEnd, Lines, Link, Names, arrived};
 use frame_check::Check;
+use line_run::RunFault;
 use line_run::laws::{
     line_runs_end_soon, samples_are_carried, scripts_make_links, slots_have_room,
 };
@@ -287,7 +288,7 @@ impl Modems {
 
     /// One turn, over a line that is lent to it, which other links may share: both ends hear, what they took is written, they are offered what
     /// they want and served, and they speak. The names, the line and the script of all turns are the same. A file that is sent ends at
-    /// [`crate::FILE_LIMIT`] octets.
+    /// [`RUN_FILE_LIMIT`](shared_terms::RUN_FILE_LIMIT) octets.
     pub fn turn<F: Folder>(
         &mut self,
         lines: &mut Lines,

@@ -8,7 +8,7 @@ mod line;
 mod single;
 mod step;
 
-pub use limits::{FILE_LIMIT, SLOT_OCTETS};
+pub use limits::SLOT_OCTETS;
 pub use shared_terms::LinkFault;
 pub use single::Single;
 pub use step::{SingleFault, SingleStep};

@@ -1,7 +1,5 @@
 // What a turn answers.
 
-use shared_terms::Role;
-
 /// What comes after a turn.
 #[derive(Clone, Copy, PartialEq, Eq)]
 pub enum Step {
@@ -9,23 +7,4 @@ pub enum Step {
     Going,
     /// Both files have crossed. `turn` is the number of this last turn.
     Done { turn: u64 },
-}
-
-/// Why a run ends with less than both files. Where the line ends it, the role is that of the end that hears.
-#[derive(Clone, Copy, PartialEq, Eq)]
-pub enum RunFault {
-    /// A file that is sent was not read.
-    ReadFault,
-    /// An output was not written.
-    WriteFault,
-    /// The symbol counts all of that direction from 0.
-    LineLost { role: Role, symbol: u64 },
-    /// Something else than what was sent was received.
-    ChanceMatch { role: Role, turn: u64 },
-    /// The originator saw no pattern of the answerer's.
-    NotDetected { turn: u64 },
-    /// The tries of the end of that role are spent; its first segment that wasn't acknowledged is this one.
-    LinkLost { role: Role, segment: u64, turn: u64 },
-    /// The folder had no memory.
-    NoMemory,
 }

@@ -17,10 +17,10 @@ ghost use Rattle.line_world.specs.Turn.{CountsOver, IsWriting};
 
 use crate::World;
 use crate::fault::folder_fault;
-use crate::step::RunFault;
 use bit_stuffing::BitSlot;
 use frame_check::Octets;
 use line_coding::Modulator;
+use line_run::RunFault;
 use outside_calls::Folder;
 use recordings::octets_of;
 use sample_line::mode_of;

@@ -10,10 +10,10 @@ ghost use Rattle.line_world.specs.Faults.{fault_named};
 ghost use Rattle.link_run.specs.Laws.{IsNamed};
 
 use crate::fault::folder_fault;
-use crate::step::RunFault;
 use crate::{Breaking, Names, append_chance, append_turn};
 use lapm_frames::{Heard, Sent};
 use lapm_link::LinkFault;
+use line_run::RunFault;
 use outside_calls::Folder;
 use shared_terms::{Both, Role};
 

@@ -14,7 +14,8 @@ ghost use Rattle.line_world.specs.Turns.{TurnsEnd, RunCounts};
 
 use crate::laws::turns_are_few;
 use crate::tape::record_turn;
-use crate::{Names, RunFault, Step, Tape, World};
+use crate::{Names, Step, Tape, World};
+use line_run::RunFault;
 use link_run::laws::turns_deliver_what_came;
 use outside_calls::Folder;
 use shared_terms::Both;

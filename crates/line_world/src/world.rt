@@ -9,9 +9,10 @@ ghost use Rattle.line_run.specs.Names.{inputs_of, outputs_of, written};
 ghost use Rattle.line_world.specs.Link.{AreWithin};
 ghost use Rattle.outside_calls.specs.Outputs.{AreApartFrom, OnlyPuts};
 
-use crate::step::{RunFault, Step};
+use crate::step::Step;
 use crate::{Lines, Modems, Names};
 use bit_stuffing::BitSlot;
+use line_run::RunFault;
 use line_run::laws::{line_runs_end_soon, scripts_make_links, slots_are_due_alone};
 use noise_script::Script;
 use outside_calls::{Folder, NoMemory};
@@ -68,7 +69,7 @@ impl World {
     }
 
     /// One turn: both ends hear, what they took is written, they are offered what they want and served, and they speak. The names of all
-    /// turns are the same. A file that is sent ends at [`crate::FILE_LIMIT`] octets.
+    /// turns are the same. A file that is sent ends at [`RUN_FILE_LIMIT`](shared_terms::RUN_FILE_LIMIT) octets.
     pub fn turn<F: Folder>(&mut self, folder: &mut F, names: &Names<'_>) -> Result<Step, RunFault>
         requires ready { IsReady self.old }
         requires apart { AreApartFrom (inputs_of (written names.now)) (outputs_of (written names.now)) }

@@ -12,8 +12,8 @@ use Rattle.line_run.specs.Names.{Written}
 use Rattle.line_world.proofs.Reached.{files_at, knows-told}
 use Rattle.link_pair.specs.Pairs.Pair.{Goes}
 use Rattle.link_pair.specs.Pairs.Ends.{First}
-use Rattle.line_world.specs.declared.step.RunFault.{RunFault}
-use Rattle.line_world.specs.declared.step.RunFault.TheVariants as faults
+use Rattle.line_run.specs.declared.fault.RunFault.{RunFault}
+use Rattle.line_run.specs.declared.fault.RunFault.TheVariants as faults
 use Rattle.link_pair.specs.declared.two_links.Pair.{Pair}
 use Rattle.line_world.specs.Turn.{CountsOver, FaultCountsOver}
 use Rattle.link_pair.specs.Pair.{all_outputs, IsFirst, Awaits, FaultEnds, FaultEndsIn}

@@ -12,8 +12,8 @@ use Rattle.line_run.specs.Names.{Written, inputs_of, outputs_of}
 use Rattle.line_world.specs.Turns.{held_of}
 use Rattle.line_world.specs.World.{KnowsFiles}
 use Rattle.link_pair.specs.Pairs.Pair.{Progress}
-use Rattle.line_world.specs.declared.step.RunFault.{RunFault}
-use Rattle.line_world.specs.declared.step.RunFault.TheVariants as faults
+use Rattle.line_run.specs.declared.fault.RunFault.{RunFault}
+use Rattle.line_run.specs.declared.fault.RunFault.TheVariants as faults
 use Rattle.line_world.specs.Turn.{FaultCountsOver}
 use Rattle.link_pair.specs.Half.{left_by, HoldLeft}
 use Rattle.link_pair.specs.Pair.{all_inputs, all_outputs}

@@ -37,8 +37,8 @@ use Rattle.link_pair.specs.Pairs.Pair.{Progress, Goes, Ended, turns_on_line, Hea
 use Rattle.link_pair.proofs.Pairs.Agreeing.{length-lasting}
 use Rattle.link_pair.specs.declared.half.Half.{Half}
 use Rattle.link_pair.specs.declared.half.LinkEnd.{LinkEnd}
-use Rattle.line_world.specs.declared.step.RunFault.{RunFault}
-use Rattle.line_world.specs.declared.step.RunFault.TheVariants as faults
+use Rattle.line_run.specs.declared.fault.RunFault.{RunFault}
+use Rattle.line_run.specs.declared.fault.RunFault.TheVariants as faults
 use Rattle.line_world.specs.Turn.{IsWriting}
 use Rattle.link_pair.specs.Half.{HasStopped, StandsFor, HoldLeft, HasCome, IsEndedByLine, LinkStops, IsStopped, HalfEnds}
 use Rattle.link_pair.proofs.Going.{kept-none}

@@ -23,8 +23,8 @@ use Rattle.run_inputs.proofs.Files.{file-is}
 use Rattle.link_pair.specs.Pairs.Beside.{first_wire, second_wire}
 use Rattle.link_pair.specs.Pairs.Pair.{Progress, Goes, Ended, turns_in, Lasts}
 use Rattle.link_pair.specs.Pairs.Ends.{PairEnd, BothDone, LineLost, ChanceMatch}
-use Rattle.line_world.specs.declared.step.RunFault.{RunFault}
-use Rattle.line_world.specs.declared.step.RunFault.TheVariants as faults
+use Rattle.line_run.specs.declared.fault.RunFault.{RunFault}
+use Rattle.line_run.specs.declared.fault.RunFault.TheVariants as faults
 use Rattle.line_world.specs.Turn.{FaultCountsOver}
 use Rattle.link_pair.specs.Half.{LinkStops, LinkStopsReading}
 use Rattle.link_pair.specs.Pair.{PairEnded, PairStops, FaultEnds}

@@ -28,8 +28,8 @@ use Rattle.link_pair.proofs.Pairs.Placing.{length-on-line}
 use Rattle.link_pair.specs.declared.half.Half.{Half}
 use Rattle.link_pair.specs.declared.half.LinkEnd.{LinkEnd}
 use Rattle.link_pair.specs.declared.half.LinkEnd.TheVariants as link_ends
-use Rattle.line_world.specs.declared.step.RunFault.{RunFault}
-use Rattle.line_world.specs.declared.step.RunFault.TheVariants as faults
+use Rattle.line_run.specs.declared.fault.RunFault.{RunFault}
+use Rattle.line_run.specs.declared.fault.RunFault.TheVariants as faults
 use Rattle.link_pair.specs.declared.two_links.Pair.{Pair}
 use Rattle.link_pair.specs.declared.two_links.Endings.{Endings}
 use Rattle.link_pair.specs.Half.{run_end, last_turn, left_by, HoldLeft, Follows, HasCome, IsEndedByLine, LinkStops, LinkStopsReading}

@@ -8,8 +8,8 @@ use Rattle.command_base.specs.declared.stop.Stop.{Stop}
 use Rattle.command_base.specs.declared.stop.Stop.TheVariants.{Own}
 use Rattle.link_pair.specs.Pairs.Ends.{Which, First, Second, PairEnd, BothDone, LinkLost, NotDetected, LineLost, ChanceMatch}
 use Rattle.run_inputs.specs.Answers.{answer_of as run_answer}
-use Rattle.line_world.specs.declared.step.RunFault.{RunFault}
-use Rattle.line_world.specs.declared.step.RunFault.TheVariants as faults
+use Rattle.line_run.specs.declared.fault.RunFault.{RunFault}
+use Rattle.line_run.specs.declared.fault.RunFault.TheVariants as faults
 use Rattle.link_pair.specs.declared.command.LastTurns.{LastTurns}
 
 -- the number of a link

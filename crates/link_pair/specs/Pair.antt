@@ -20,8 +20,8 @@ use Rattle.link_pair.specs.Pairs.Pair.{Progress, turns_in, turns_on_line, PairAt
 use Rattle.link_pair.specs.Pairs.Ends.{Which, First, Second, PairEnd, end_of, is_going, firsts_at, PairRunsTo, by_links, by_line}
 use Rattle.link_pair.specs.Pairs.Stream.{both_sent, first_sent}
 use Rattle.link_pair.specs.declared.half.LinkEnd.{LinkEnd}
-use Rattle.line_world.specs.declared.step.RunFault.{RunFault}
-use Rattle.line_world.specs.declared.step.RunFault.TheVariants as faults
+use Rattle.line_run.specs.declared.fault.RunFault.{RunFault}
+use Rattle.line_run.specs.declared.fault.RunFault.TheVariants as faults
 use Rattle.link_pair.specs.declared.two_links.Pair.{Pair}
 use Rattle.link_pair.specs.declared.two_links.Endings.{Endings}
 use Rattle.link_pair.specs.declared.two_links.PairNames.{PairNames}

@@ -16,8 +16,9 @@ ghost use Rattle.link_pair.specs.Half as halves;
 
 use frame_check::Check;
 use lapm_frames::Sent;
+use line_run::RunFault;
 use line_run::laws::scripts_make_links;
-use line_world::{LineEnd, Lines, Modems, Names, RunFault, Step, write_chance};
+use line_world::{LineEnd, Lines, Modems, Names, Step, write_chance};
 use link_run::laws::turns_deliver_what_came;
 use noise_script::Script;
 use outside_calls::{Folder, NoMemory};

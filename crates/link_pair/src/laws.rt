@@ -8,6 +8,7 @@ ghost use Rattle.link_pair.specs.Ends.{pair_job};
 ghost use Rattle.link_pair.specs.Headline.{Headline};
 ghost use Rattle.link_pair.specs.Completes.{Completes};
 
+use crate::pair_laws::{one_pair_result, pairs_are_isolated, pairs_complete, pairs_leave_prefixes};
 use exact_decoder::survivors::released_labels_begin_a_least_sequence;
 use line_ends::laws::{
     few_losses_keep_links, lost_links_were_starved, undisplaced_runs_have_faint_noise,
@@ -18,7 +19,6 @@ use line_run::laws::{
 };
 use link_run::laws::{prefixes, turns_deliver_what_came, what_passed_is_taken};
 use noise_script::laws::{one_answer, spelled_scripts_are_in_limits};
-use crate::pair_laws::{one_pair_result, pairs_are_isolated, pairs_complete, pairs_leave_prefixes};
 
 /// Whatever a pair answers, its headline holds.
 pub(crate) fn answers_keep_the_headline()

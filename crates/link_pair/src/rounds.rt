@@ -5,10 +5,10 @@ ghost use Rattle.line_run.specs.Names.{written};
 ghost use Rattle.line_world.specs.Turn.{CountsOver};
 ghost use Rattle.link_pair.specs.Pair.{FaultEnds, HaveEnded, IsFirst, inputs_in, outputs_in, script_of};
 
-use crate::{Endings, Pair, PairNames};
-use line_world::RunFault;
-use outside_calls::Folder;
 use crate::pair_laws::pairs_have_few_rounds;
+use crate::{Endings, Pair, PairNames};
+use line_run::RunFault;
+use outside_calls::Folder;
 
 /// Rounds are made until the pair ends: how both links ended, or why it ended before, by the folder or the line. A symbol of the line counts
 /// those of both links, and a turn is the round.

@@ -5,12 +5,13 @@ ghost use Rattle.line_run.specs.Names.{written};
 ghost use Rattle.line_world.specs.Turn.{CountsOver};
 ghost use Rattle.link_pair.specs.Pairs.Ends.{First, Second};
 
+use crate::pair_laws::{pairs_have_few_rounds, slots_are_due};
 use crate::{Half, LinkEnd};
+use line_run::RunFault;
 use line_run::laws::scripts_make_links;
-use line_world::{Lines, Names, RunFault};
+use line_world::{Lines, Names};
 use noise_script::Script;
 use outside_calls::{Folder, NoMemory};
-use crate::pair_laws::{pairs_have_few_rounds, slots_are_due};
 use std::alloc::Global;
 
 /// The names of a pair's files: those of the first link, and those of the second.

@@ -6,7 +6,7 @@ use Rattle.plain_lists.specs.Prefix.{IsPrefixOf}
 use Rattle.outside_calls.specs.Folder.{FolderState, octets_at, GoesOn, KeepsName}
 use Rattle.outside_calls.specs.Outputs.{Holds, HoldsPart, KeptOrEmpty}
 use Rattle.outside_calls.proofs.Steps.{KeepsName-trans, octets-kept, told_later}
-use Rattle.line_world.specs.Limits.{file_limit}
+use Rattle.turn_bound.specs.Limits.{file_limit}
 use Rattle.command_base.specs.Inputs.{IsWithin}
 use Rattle.run_inputs.specs.Files.{KeptOrPrefix}
 

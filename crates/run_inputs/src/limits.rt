@@ -1,7 +1,7 @@
 // The limits of a run's inputs.
 
-use line_world::FILE_LIMIT;
 use noise_script::SCRIPT_OCTETS;
+use shared_terms::RUN_FILE_LIMIT;
 
 /// The most octets of a script and of a file that is sent.
 #[derive(Clone, Copy)]
@@ -15,5 +15,5 @@ pub struct Limits {
 /// The limits of a run.
 pub const LIMITS: Limits = Limits {
     script: SCRIPT_OCTETS as u64,
-    file: FILE_LIMIT,
+    file: RUN_FILE_LIMIT,
 };

@@ -3,7 +3,7 @@ ghost use Rattle.std.specs.Prelude.{◌≡◌};
 ghost use Rattle.run_inputs.specs.Answers.{fault_stop};
 
 use command_base::{Status, Stop};
-use line_world::RunFault;
+use line_run::RunFault;
 use outside_calls::FolderFault;
 
 /// Why a job stops whose turns end by this fault.

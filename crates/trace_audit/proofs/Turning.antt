@@ -25,8 +25,8 @@ use Rattle.line_world.specs.Turn as turns
 use Rattle.line_world.specs.declared.world.World.{World}
 use Rattle.line_world.specs.declared.step.Step.{Step}
 use Rattle.line_world.specs.declared.step.Step.TheVariants as steps
-use Rattle.line_world.specs.declared.step.RunFault.{RunFault}
-use Rattle.line_world.specs.declared.step.RunFault.TheVariants as faults
+use Rattle.line_run.specs.declared.fault.RunFault.{RunFault}
+use Rattle.line_run.specs.declared.fault.RunFault.TheVariants as faults
 use Rattle.line_world.proofs.Folders.{IsApart}
 use Rattle.line_world.proofs.Reached.{knows-later}
 use Rattle.command_base.specs.declared.stop.Stop.{Stop}

@@ -16,8 +16,8 @@ use Rattle.line_world.specs.Turn.{TurnAnswers, TurnCounts}
 use Rattle.line_world.specs.declared.world.World.{World}
 use Rattle.line_world.specs.declared.step.Step.{Step}
 use Rattle.line_world.specs.declared.step.Step.TheVariants as steps
-use Rattle.line_world.specs.declared.step.RunFault.{RunFault}
-use Rattle.line_world.specs.declared.step.RunFault.TheVariants as faults
+use Rattle.line_run.specs.declared.fault.RunFault.{RunFault}
+use Rattle.line_run.specs.declared.fault.RunFault.TheVariants as faults
 use Rattle.command_base.specs.declared.stop.Stop.{Stop}
 use Rattle.command_base.specs.declared.stop.Stop.TheVariants.{Own, Read, Write, Say, NoMemory}
 use Rattle.command_base.specs.declared.status.Status.TheVariants.{AuditNo}

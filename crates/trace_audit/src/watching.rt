@@ -12,8 +12,9 @@ ghost use Rattle.trace_audit.specs.Turns.{IsReading, StillRuns, TurnMade, Watche
 use crate::readable::{traces_are_read, traces_have_lines};
 use command_base::Stop;
 use frame_check::Octets;
+use line_run::RunFault;
 use line_world::laws::turns_are_few;
-use line_world::{Names, RunFault, Step, TURN_TEXT, World};
+use line_world::{Names, Step, TURN_TEXT, World};
 use outside_calls::{Folder, FolderFault};
 use program_folders::AuditFolder;
 

@@ -1,11 +1,12 @@
 // The sizes and limits of all crates.
 use super::assert_row;
 use bit_stuffing::{HEAD, SHORTEST, TAIL};
-use command_base::{FILE_LIMIT, HEX_LIMIT, RECORDING_LIMIT};
+use command_base::{HEX_LIMIT, RECORDING_LIMIT};
 use frame_check::{INFO, SLOT, WHOLE};
 use line_tap::TAP_LIMIT;
 use noise_script::{BREAK_LINES, BUSY_LINES, HIT_LINES, LOSE_LINES, NOISE_LINES, SCRIPT_OCTETS};
 use run_inputs::LIMITS;
+use shared_terms::FILE_LIMIT;
 use trace_audit::TRACE_LIMIT;
 
 /// The sizes and limits by their numbers: contracts name them, and would follow another number.

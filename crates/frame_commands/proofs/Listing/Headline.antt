@@ -1,7 +1,7 @@
 -- From every answer to what the command promises.
 use Rattle.std.proofs.Common.{ℕ, ◌≤◌, ◌<◌, List, [], ◌++◌, length, Result, subst, arith}
 use Rattle.outside_calls.specs.Folder.{FolderState, octets_at, Said}
-use Rattle.command_base.specs.declared.limits.TheConstants.{FILE_LIMIT}
+use Rattle.shared_terms.specs.declared.limits.TheConstants.{FILE_LIMIT}
 use Rattle.command_base.specs.declared.status.Status.{Status}
 use Rattle.command_base.specs.declared.stop.Stop.{Stop}
 use Rattle.command_base.specs.Job.{Answers}

@@ -3,7 +3,7 @@ use Rattle.std.specs.Prelude.{◌≡◌, ◌⊎◌, ℕ, IsTrue, List, [], ◌�
 use Rattle.outside_calls.specs.Folder.{FolderState, octets_at, Said, PartlySaid}
 use Rattle.plain_lists.specs.Bits.{bits_of}
 use Rattle.bit_stuffing.specs.Found.{Found, pieces_of}
-use Rattle.command_base.specs.declared.limits.TheConstants.{FILE_LIMIT}
+use Rattle.shared_terms.specs.declared.limits.TheConstants.{FILE_LIMIT}
 use Rattle.command_base.specs.Inputs.{IsWithin, IsLonger}
 use Rattle.command_base.specs.Job.{Job}
 use Rattle.command_base.specs.Lines.{pieces_line}

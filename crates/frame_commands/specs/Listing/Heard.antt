@@ -2,7 +2,7 @@
 use Rattle.std.specs.Prelude.{◌≡◌, ℕ, List, []}
 use Rattle.outside_calls.specs.Folder.{FolderState, OnlyReads}
 use Rattle.plain_lists.specs.Bits.{bits_of}
-use Rattle.command_base.specs.declared.limits.TheConstants.{FILE_LIMIT}
+use Rattle.shared_terms.specs.declared.limits.TheConstants.{FILE_LIMIT}
 use Rattle.command_base.specs.Inputs.{IsWithin, ReadTo}
 use Rattle.outside_calls.specs.Outputs.{OnlyOutputs}
 use Rattle.frame_commands.specs.Listing.Words.{FramesNames}

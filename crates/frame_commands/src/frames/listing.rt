@@ -1,7 +1,7 @@
 // A file's bits, listed piece by piece.
 ghost use Rattle.std.specs.Prelude.{◌≡◌, ◌≤◌, ◌+◌, ◌*◌, [], ◌∷◌, IfOk, IfErr};
 ghost use Rattle.outside_calls.specs.Folder.{FolderState};
-ghost use Rattle.command_base.specs.declared.limits.TheConstants.{FILE_LIMIT};
+ghost use Rattle.shared_terms.specs.declared.limits.TheConstants.{FILE_LIMIT};
 ghost use Rattle.outside_calls.specs.Outputs.{OnlyOutputs};
 ghost use Rattle.command_base.specs.Stops.{EndCounts};
 ghost use Rattle.frame_commands.specs.Listing.Words.{named};
@@ -9,8 +9,9 @@ ghost use Rattle.frame_commands.specs.Listing.Heard.{Begun, HeardTo};
 ghost use Rattle.frame_commands.specs.Listing.Ends.{SaysAll, EndsBy, Ends};
 
 use crate::frames::words::FramesWords;
-use command_base::{FILE_LIMIT, Listener, Stop, read_piece, within_limit};
+use command_base::{Listener, Stop, read_piece, within_limit};
 use outside_calls::Folder;
+use shared_terms::FILE_LIMIT;
 
 /// The place of the stream's name among the words.
 const BITS: usize = 2;

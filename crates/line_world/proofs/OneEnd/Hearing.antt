@@ -121,8 +121,7 @@ no-piece : (past : List Bool) (bit : Bool) (more : List Bool) → pieces_of (pas
 no-piece past bit more e =
     let added = pieces-stay (past ++ bit ∷ []) more in
     let none = neither (pieces_of past) (listed (found_at (past ++ bit ∷ []))) added.0
-    (ap (λ f. f ++ added.0) (sym (pieces-more past bit)) ∙ sym added.1.all ∙ ap pieces_of (append_assoc past (bit ∷ []) more) ∙ e) in
-    (
+    (ap (λ f. f ++ added.0) (sym (pieces-more past bit)) ∙ sym added.1.all ∙ ap pieces_of (append_assoc past (bit ∷ []) more) ∙ e) in (
       none-listed (found_at (past ++ bit ∷ [])) none.0,
       added.1.all ∙ ap (λ f. pieces_of (past ++ bit ∷ []) ++ f) none.1 ∙ append-nil (pieces_of (past ++ bit ∷ [])),
     )
@@ -133,8 +132,7 @@ no-sight : (past : List Bool) (bit : Bool) (more : List Bool) → sights_of (pas
 no-sight past bit more e =
     let added = sights-stay (past ++ bit ∷ []) more in
     let none = neither (sights_of past) (sights_at (length past + 1) (seen_at (past ++ bit ∷ []))) added.0
-    (ap (λ s. s ++ added.0) (sym (sights-more past bit)) ∙ sym added.1.all ∙ ap sights_of (append_assoc past (bit ∷ []) more) ∙ e) in
-    (
+    (ap (λ s. s ++ added.0) (sym (sights-more past bit)) ∙ sym added.1.all ∙ ap sights_of (append_assoc past (bit ∷ []) more) ∙ e) in (
       none-seen (length past + 1) (seen_at (past ++ bit ∷ [])) none.0,
       added.1.all ∙ ap (λ s. sights_of (past ++ bit ∷ []) ++ s) none.1 ∙ append-nil (sights_of (past ++ bit ∷ [])),
     )

@@ -15,7 +15,7 @@ ghost use Rattle.line_world.specs.OneEnd.Peer.{Past, Closed, heard_as, setup_of}
 
 use crate::fault::folder_fault;
 use crate::one_end::ear::hear_slot;
-use crate::one_end::limits::{FILE_LIMIT, SLOT_OCTETS};
+use crate::one_end::limits::SLOT_OCTETS;
 use crate::one_end::line::{TurnWords, line_of};
 use crate::one_end::step::{SingleFault, SingleStep};
 use crate::{Station, append_line};
@@ -24,7 +24,7 @@ use lapm_frames::{Arrived, Sent};
 use lapm_link::{Phase, Setup};
 use link_run::laws::{one_lone_run, the_file_of_one_counts_as_far_as_it_was_read};
 use outside_calls::{Folder, NoMemory};
-use shared_terms::{LinkFault, Role};
+use shared_terms::{FILE_LIMIT, LinkFault, Role};
 use std::alloc::Global;
 use xid_params::default_offer;
 

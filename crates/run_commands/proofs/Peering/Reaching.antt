@@ -21,7 +21,7 @@ use Rattle.line_world.specs.OneEnd.Heard.{slot_octets}
 use Rattle.line_world.specs.OneEnd.Peer.{Past, PeerRun, PeerTurn, Outcome, Going, Closed, Broken, party_of, after, over, turn_line}
 use Rattle.line_world.specs.OneEnd.Single.{KnowsFile, SingleAfter, file_limit}
 use Rattle.line_world.specs.OneEnd.Turn.{Makes, Stops, added, StopsInReading as TurnStopsInReading, EndsBy as TurnEndsBy, FaultCounts}
-use Rattle.command_base.specs.declared.limits.TheConstants.{FILE_LIMIT}
+use Rattle.shared_terms.specs.declared.limits.TheConstants.{FILE_LIMIT}
 use Rattle.command_base.specs.declared.stop.Stop.TheVariants.{Read, Write}
 use Rattle.command_base.specs.Inputs.{IsWithin, ReadTo}
 use Rattle.command_base.specs.Stops.{IsOwn, ReadFails, StopCounts}

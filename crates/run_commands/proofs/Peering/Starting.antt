@@ -13,7 +13,7 @@ use Rattle.line_world.specs.OneEnd.Heard.{slot_octets}
 use Rattle.line_world.specs.OneEnd.Peer.{Past, Going, PeerRun, after, over, setup_of}
 use Rattle.line_world.specs.OneEnd.Single.{SingleAfter, file_limit}
 use Rattle.line_world.specs.OneEnd.Turn.{Makes, GoesOnBy}
-use Rattle.command_base.specs.declared.limits.TheConstants.{FILE_LIMIT}
+use Rattle.shared_terms.specs.declared.limits.TheConstants.{FILE_LIMIT}
 use Rattle.command_base.specs.declared.stop.Stop.{Stop}
 use Rattle.command_base.specs.declared.stop.Stop.TheVariants.{Own, Read, Write, Say, NoMemory}
 use Rattle.command_base.specs.Inputs.{IsWithin, IsNotWithin}

@@ -7,8 +7,8 @@ use Rattle.noise_script.specs.Script.{ScriptValue}
 use Rattle.line_run.specs.Ends.{RunEnd}
 use Rattle.line_run.specs.Scripted.{wire_of}
 use Rattle.line_run.specs.Scripts.{LineRunsEndSoon}
-use Rattle.line_world.specs.declared.step.RunFault.{RunFault}
-use Rattle.line_world.specs.declared.step.RunFault.TheVariants as faults
+use Rattle.line_run.specs.declared.fault.RunFault.{RunFault}
+use Rattle.line_run.specs.declared.fault.RunFault.TheVariants as faults
 use Rattle.line_world.specs.World.{KnowsFiles}
 use Rattle.line_world.specs.Turn.{FaultCountsOver}
 use Rattle.command_base.specs.declared.stop.Stop.{Stop}

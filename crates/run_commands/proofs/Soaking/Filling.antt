@@ -9,8 +9,8 @@ use Rattle.program_folders.specs.Sure.{SureState, sure_folder}
 use Rattle.shared_terms.specs.declared.role.Role.TheVariants.{Originator, Answerer}
 use Rattle.outside_calls.specs.Outputs.{AreApartFrom, SomeRose}
 use Rattle.line_run.specs.Names.{inputs_of, outputs_of}
-use Rattle.line_world.specs.declared.step.RunFault.{RunFault}
-use Rattle.line_world.specs.declared.step.RunFault.TheVariants as faults
+use Rattle.line_run.specs.declared.fault.RunFault.{RunFault}
+use Rattle.line_run.specs.declared.fault.RunFault.TheVariants as faults
 use Rattle.line_world.specs.Turn.{FaultCounts}
 use Rattle.run_commands.specs.Soaking.Soak.{soak_file}
 use Rattle.run_commands.specs.Soaking.Folder.{HoldsFiles, soak_names}

@@ -14,8 +14,8 @@ use Rattle.line_run.specs.Scripted.{link_of}
 use Rattle.line_world.specs.Limits.{file_limit}
 use Rattle.line_run.specs.Names.{Written, inputs_of, outputs_of}
 use Rattle.line_world.specs.World.{KnowsFiles}
-use Rattle.line_world.specs.declared.step.RunFault.{RunFault}
-use Rattle.line_world.specs.declared.step.RunFault.TheVariants as faults
+use Rattle.line_run.specs.declared.fault.RunFault.{RunFault}
+use Rattle.line_run.specs.declared.fault.RunFault.TheVariants as faults
 use Rattle.line_world.specs.Turn.{FaultCounts}
 use Rattle.outside_calls.specs.Outputs.{KeepsEach, OnlyOutputs, OnlyPuts}
 use Rattle.outside_calls.proofs.Putting.{inputs-kept}

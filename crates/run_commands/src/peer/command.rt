@@ -19,11 +19,11 @@ use crate::peer::laws::one_result;
 use crate::peer::turns::run_turns;
 use crate::peer::words::PeerWords;
 use command_base::{
-    FILE_LIMIT, Status, Stop, apart_names_differ, create_outputs, done_line, tell, tell_stop,
-    within_limit,
+    Status, Stop, apart_names_differ, create_outputs, done_line, tell, tell_stop, within_limit,
 };
 use line_world::one_end::Single;
 use outside_calls::Folder;
+use shared_terms::FILE_LIMIT;
 use std::alloc::Global;
 
 /// The places of the inputs' names among the words.

@@ -1,7 +1,7 @@
 // Turns against the peer's slots, up to the end of a run.
 ghost use Rattle.std.specs.Prelude.{◌≡◌, ℕ, ◌*◌, ◌+◌, ◌≤◌, Ok, None, true, length, IfOk, IfErr, IfSome};
 ghost use Rattle.outside_calls.specs.Folder.{FolderState};
-ghost use Rattle.command_base.specs.declared.limits.TheConstants.{FILE_LIMIT};
+ghost use Rattle.shared_terms.specs.declared.limits.TheConstants.{FILE_LIMIT};
 ghost use Rattle.outside_calls.specs.Outputs.{OnlyPuts};
 ghost use Rattle.command_base.specs.Stops.{EndCounts};
 ghost use Rattle.command_base.specs.Apart.{are_apart};
@@ -13,11 +13,11 @@ ghost use Rattle.run_commands.specs.Peering.Runs.{IsDone};
 ghost use Rattle.run_commands.specs.Peering.Turns.{Reached, fault_stop};
 
 use crate::peer::words::PeerWords;
-use command_base::{FILE_LIMIT, LinkFault, Status, Stop, apart_names_differ, read_piece};
+use command_base::{LinkFault, Status, Stop, apart_names_differ, read_piece};
 use line_world::one_end::{SLOT_OCTETS, Single, SingleFault, SingleStep};
 use link_run::laws::lone_turns_deliver_what_came;
 use outside_calls::{Folder, FolderFault};
-use shared_terms::Role;
+use shared_terms::{FILE_LIMIT, Role};
 
 /// The answer of an end that gives its link up in this turn.
 fn status_of(role: Role, fault: LinkFault, turn: u64) -> Status

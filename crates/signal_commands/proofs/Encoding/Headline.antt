@@ -4,7 +4,7 @@ use Rattle.std.specs.Option.{option_map}
 use Rattle.outside_calls.specs.Folder.{FolderState, octets_at, GoesOn, KeepsName}
 use Rattle.outside_calls.proofs.Steps.{KeepsName-trans}
 use Rattle.signal_commands.specs.Encoding.Recorder.{IsRecordingOf}
-use Rattle.command_base.specs.declared.limits.TheConstants.{FILE_LIMIT}
+use Rattle.shared_terms.specs.declared.limits.TheConstants.{FILE_LIMIT}
 use Rattle.command_base.specs.declared.status.Status.{Status}
 use Rattle.command_base.specs.declared.stop.Stop.{Stop}
 use Rattle.command_base.specs.declared.stop.Stop.TheVariants.{Own, Read, Write, Say, NoMemory}

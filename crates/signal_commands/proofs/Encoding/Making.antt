@@ -15,7 +15,7 @@ use Rattle.signal_commands.specs.declared.encode.recorder.Recorder.TheVariants a
 use Rattle.signal_commands.specs.declared.encode.recorder.Recorder.{Recorder}
 use Rattle.recordings.specs.Recording.{header_at, samples_each}
 use Rattle.signal_commands.specs.Encoding.Recorder.{IsRecordingOf, RecorderStands}
-use Rattle.command_base.specs.declared.limits.TheConstants.{FILE_LIMIT}
+use Rattle.shared_terms.specs.declared.limits.TheConstants.{FILE_LIMIT}
 use Rattle.command_base.specs.declared.stop.Stop.{Stop}
 use Rattle.command_base.specs.declared.stop.Stop.TheVariants.{Own, Read, Write, Say, NoMemory}
 use Rattle.command_base.specs.Inputs.{IsWithin, IsNotWithin, ReadTo}

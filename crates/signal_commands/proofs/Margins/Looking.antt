@@ -3,7 +3,8 @@ use Rattle.std.proofs.Common.{inl, inr, ℕ, List, [], ◌∷◌, sym, subst}
 use Rattle.outside_calls.specs.Folder.{FolderState, OnlyReads, CountsStand}
 use Rattle.outside_calls.specs.declared.folder.FolderFault.{FolderFault}
 use Rattle.outside_calls.specs.declared.folder.FolderFault.TheVariants as folder
-use Rattle.command_base.specs.declared.limits.TheConstants.{FILE_LIMIT, RECORDING_LIMIT}
+use Rattle.command_base.specs.declared.limits.TheConstants.{RECORDING_LIMIT}
+use Rattle.shared_terms.specs.declared.limits.TheConstants.{FILE_LIMIT}
 use Rattle.command_base.specs.declared.stop.Stop.{Stop}
 use Rattle.command_base.specs.declared.stop.Stop.TheVariants.{Own, Read, Write, Say, NoMemory}
 use Rattle.command_base.specs.Inputs.{IsWithin, IsNotWithin}

@@ -17,7 +17,8 @@ use Rattle.recordings.specs.Samples.{sample_at, samples_in}
 use Rattle.recordings.proofs.Samples.{samples_in-more, samples_in-append}
 use Rattle.command_base.specs.Recordings.{ReadBehind, IsAtEnd}
 use Rattle.command_base.proofs.Behind.{behind-more, reads-all}
-use Rattle.command_base.specs.declared.limits.TheConstants.{FILE_LIMIT, RECORDING_LIMIT}
+use Rattle.command_base.specs.declared.limits.TheConstants.{RECORDING_LIMIT}
+use Rattle.shared_terms.specs.declared.limits.TheConstants.{FILE_LIMIT}
 use Rattle.command_base.specs.Inputs.{ReadTo}
 use Rattle.command_base.proofs.Reading.{ReadTo-none, ReadTo-kept}
 use Rattle.signal_commands.specs.Margins.Words.{MarginNames}

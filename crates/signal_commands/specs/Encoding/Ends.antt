@@ -4,7 +4,7 @@ use Rattle.std.specs.Prelude.{◌≡◌, ◌⊎◌, ℕ, IsTrue, List, Result, O
 use Rattle.plain_lists.specs.Prefix.{IsPrefixOf}
 use Rattle.outside_calls.specs.Folder.{FolderState, octets_at, KeepsName}
 use Rattle.signal_commands.specs.Encoding.Recorder.{IsRecordingOf}
-use Rattle.command_base.specs.declared.limits.TheConstants.{FILE_LIMIT}
+use Rattle.shared_terms.specs.declared.limits.TheConstants.{FILE_LIMIT}
 use Rattle.command_base.specs.Inputs.{IsWithin, IsLonger}
 use Rattle.outside_calls.specs.Outputs.{Holds, HoldsFront, KeepsAll, SaysNothing}
 use Rattle.command_base.specs.Job.{Job}

@@ -4,7 +4,7 @@ use Rattle.outside_calls.specs.Folder.{FolderState}
 use Rattle.signal_commands.specs.declared.encode.recorder.Recorder.{Recorder}
 use Rattle.recordings.specs.Recording.{header_at}
 use Rattle.signal_commands.specs.Encoding.Recorder.{RecorderStands}
-use Rattle.command_base.specs.declared.limits.TheConstants.{FILE_LIMIT}
+use Rattle.shared_terms.specs.declared.limits.TheConstants.{FILE_LIMIT}
 use Rattle.command_base.specs.Inputs.{IsWithin, ReadTo}
 use Rattle.outside_calls.specs.Outputs.{Holds, OnlyOutput}
 use Rattle.signal_commands.specs.Encoding.Words.{EncodeNames}

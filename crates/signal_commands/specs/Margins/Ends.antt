@@ -11,7 +11,8 @@ use Rattle.recordings.specs.declared.header.TheConstants.{HEADER}
 use Rattle.recordings.specs.Recording.{header_of}
 use Rattle.recordings.specs.Samples.{samples_in}
 use Rattle.command_base.specs.Recordings.{ReadsRecording, HasNoHeader}
-use Rattle.command_base.specs.declared.limits.TheConstants.{FILE_LIMIT, RECORDING_LIMIT}
+use Rattle.command_base.specs.declared.limits.TheConstants.{RECORDING_LIMIT}
+use Rattle.shared_terms.specs.declared.limits.TheConstants.{FILE_LIMIT}
 use Rattle.command_base.specs.declared.status.Status.{Status}
 use Rattle.command_base.specs.declared.status.Status.TheVariants.{TooLong, BadRecording}
 use Rattle.command_base.specs.declared.stop.Stop.{Stop}

@@ -5,7 +5,7 @@ ghost use Rattle.scramblers.specs.declared.mode.Mode.{Mode};
 ghost use Rattle.recordings.specs.declared.rate.Rate.{Rate};
 ghost use Rattle.recordings.specs.Recording.{samples_each};
 ghost use Rattle.signal_commands.specs.Encoding.Recorder.{RecorderStands};
-ghost use Rattle.command_base.specs.declared.limits.TheConstants.{FILE_LIMIT};
+ghost use Rattle.shared_terms.specs.declared.limits.TheConstants.{FILE_LIMIT};
 ghost use Rattle.outside_calls.specs.Outputs.{OnlyOutput};
 ghost use Rattle.command_base.specs.Stops.{EndCounts};
 ghost use Rattle.command_base.specs.Apart.{are_apart};
@@ -15,10 +15,11 @@ ghost use Rattle.signal_commands.specs.Encoding.Recorded.{Begun, RecordedTo};
 
 use crate::encode::recorder::{RECORDED, Recorder};
 use crate::encode::words::EncodeWords;
-use command_base::{FILE_LIMIT, Stop, append_output, create_output, read_piece, within_limit};
+use command_base::{Stop, append_output, create_output, read_piece, within_limit};
 use frame_check::Octets;
 use outside_calls::Folder;
 use recordings::header_octets;
+use shared_terms::FILE_LIMIT;
 
 /// The place of the file's name among the words.
 const FILE: usize = 2;

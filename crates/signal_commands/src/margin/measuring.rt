@@ -4,7 +4,7 @@ ghost use Rattle.scramblers.specs.declared.mode.Mode.{Mode};
 ghost use Rattle.symbol_map.specs.declared.sample.Sample.{Sample};
 ghost use Rattle.outside_calls.specs.Folder.{FolderState, OnlyReads};
 ghost use Rattle.noise_bound.specs.Margins.{MarginStands};
-ghost use Rattle.command_base.specs.declared.limits.TheConstants.{FILE_LIMIT};
+ghost use Rattle.shared_terms.specs.declared.limits.TheConstants.{FILE_LIMIT};
 ghost use Rattle.command_base.specs.Stops.{EndCounts};
 ghost use Rattle.recordings.specs.declared.header.TheConstants.{HEADER};
 ghost use Rattle.recordings.specs.Samples.{samples_in};
@@ -14,11 +14,12 @@ ghost use Rattle.signal_commands.specs.Margins.Ends.{EndsBy, Ends};
 ghost use Rattle.signal_commands.specs.Margins.Measuring.{Opened, MeasuredTo};
 
 use crate::margin::words::MarginWords;
-use command_base::{FILE_LIMIT, RECORDING_LIMIT, Status, Stop, read_piece};
+use command_base::{RECORDING_LIMIT, Status, Stop, read_piece};
 use noise_bound::Margin;
 use outside_calls::Folder;
 use recordings::{HEADER, SAMPLE, sample_at};
 use scramblers::Mode;
+use shared_terms::FILE_LIMIT;
 
 /// How many octets of the recording an octet of the file has: two samples.
 const RECORDED: usize = 2 * SAMPLE;

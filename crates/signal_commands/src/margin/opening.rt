@@ -6,10 +6,11 @@ ghost use Rattle.signal_commands.specs.Margins.Words.{named, inputs_of};
 ghost use Rattle.signal_commands.specs.Margins.Ends.{AreOpen, EndsBy};
 
 use crate::margin::words::MarginWords;
-use command_base::{FILE_LIMIT, RECORDING_LIMIT, Status, Stop, read_piece, within_limit};
+use command_base::{RECORDING_LIMIT, Status, Stop, read_piece, within_limit};
 use outside_calls::Folder;
 use recordings::{HEADER, Rate, read_header};
 use scramblers::Mode;
+use shared_terms::FILE_LIMIT;
 
 /// The place of the recording's name among the words.
 const REC: usize = 1;

@@ -6,7 +6,7 @@ use Rattle.line_run.specs.Names.{written}
 use Rattle.line_world.specs.Modems.{ModemsAfter}
 use Rattle.line_world.specs.Turn.{GoesOnBy, TurnAnswers}
 use Rattle.line_world.specs.declared.step.Step.{Step}
-use Rattle.line_world.specs.declared.step.RunFault.{RunFault}
+use Rattle.line_run.specs.declared.fault.RunFault.{RunFault}
 use Rattle.line_world.proofs.Lending.{LoneLaws, alone, are-due, lends}
 use Rattle.line_world.proofs.world.World.turn.Goals as goal
 

@@ -1,6 +1,6 @@
 use Rattle.outside_calls.specs.Folder.{FolderState}
 use Rattle.outside_calls.proofs.Steps.{OnlyReads-trans, FaultsStand-trans, CountsStand-trans}
-use Rattle.command_base.specs.declared.limits.TheConstants.{FILE_LIMIT}
+use Rattle.shared_terms.specs.declared.limits.TheConstants.{FILE_LIMIT}
 use Rattle.command_base.proofs.Jobs.{stop-earlier, end-earlier}
 use Rattle.outside_calls.proofs.Putting.{OnlyPuts-reads, OnlyPuts-trans}
 use Rattle.run_commands.specs.Peering.Words.{Names, named, inputs_of, outputs_of}

@@ -5,7 +5,7 @@ use Rattle.outside_calls.specs.Folder.{FolderState, octets_at}
 use Rattle.outside_calls.proofs.Putting.{OnlyPuts-reads}
 use Rattle.outside_calls.proofs.Steps.{CountsStand-trans}
 use Rattle.shared_terms.specs.declared.role.Role.{Role}
-use Rattle.command_base.specs.declared.limits.TheConstants.{FILE_LIMIT}
+use Rattle.shared_terms.specs.declared.limits.TheConstants.{FILE_LIMIT}
 use Rattle.command_base.specs.Inputs.{ReadTo}
 use Rattle.command_base.specs.declared.stop.Stop.{Stop}
 use Rattle.command_base.specs.Stops.{StopCounts}

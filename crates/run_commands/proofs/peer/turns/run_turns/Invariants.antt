@@ -1,6 +1,6 @@
 use Rattle.std.proofs.Common.{◌-◌, ◌*◌, ◌≤◌}
 use Rattle.outside_calls.specs.Folder.{FolderState, CountsStand}
-use Rattle.command_base.specs.declared.limits.TheConstants.{FILE_LIMIT}
+use Rattle.shared_terms.specs.declared.limits.TheConstants.{FILE_LIMIT}
 use Rattle.outside_calls.specs.Outputs.{OnlyPuts}
 use Rattle.line_world.specs.OneEnd.Heard.{slot_octets}
 use Rattle.line_world.specs.OneEnd.Single.{IsReady, turn_of}

@@ -4,7 +4,8 @@ use Rattle.outside_calls.specs.Folder.{FolderState}
 use Rattle.outside_calls.proofs.Steps.{OnlyReads-trans, CountsStand-trans}
 use Rattle.command_base.specs.declared.stop.Stop.TheVariants.{Read}
 use Rattle.command_base.proofs.Jobs.{stop-earlier}
-use Rattle.command_base.specs.declared.limits.TheConstants.{FILE_LIMIT, RECORDING_LIMIT}
+use Rattle.command_base.specs.declared.limits.TheConstants.{RECORDING_LIMIT}
+use Rattle.shared_terms.specs.declared.limits.TheConstants.{FILE_LIMIT}
 use Rattle.command_base.specs.Inputs.{ReadTo}
 use Rattle.command_base.proofs.Reading.{ReadTo-kept}
 use Rattle.recordings.specs.Recording.{header_of}

@@ -1,6 +1,6 @@
 use Rattle.std.proofs.Common.{◌≡◌, ◌≤◌, ◌-◌}
 use Rattle.outside_calls.specs.Folder.{FolderState, OnlyReads, CountsStand}
-use Rattle.command_base.specs.declared.limits.TheConstants.{FILE_LIMIT}
+use Rattle.shared_terms.specs.declared.limits.TheConstants.{FILE_LIMIT}
 use Rattle.signal_commands.specs.Margins.Words.{named}
 use Rattle.signal_commands.specs.Margins.Measuring.{Opened, MeasuredTo}
 use Rattle.signal_commands.proofs.margin.measuring.measure_to_end.Given as goal
