@@ -2,7 +2,7 @@
 use Rattle.std.proofs.Common.{◌≡◌, ℕ, zero, suc, ◌+◌, ◌*◌, ◌/◌, ◌%◌, ◌^◌, ◌<◌, ◌≤◌, Bool, true, false, [], ◌∷◌, ◌++◌, nat_eq, arith, refl}
 use Rattle.std.proofs.Common.{ap}
 use Rattle.std.proofs.Math.Nat.{pow-suc, pow-le-pow_right}
-use Rattle.plain_lists.specs.Bits.{low_bits, number}
+use Rattle.frame_check.specs.Bits.{low_bits, number}
 
 twice : (k : ℕ) → 2 ^ suc k ≡ 2 * 2 ^ k
 twice k = omega (arith, pow-suc 2 k)

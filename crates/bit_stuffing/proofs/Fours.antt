@@ -5,7 +5,7 @@ use Rattle.std.proofs.Common.{inl, inr}
 use Rattle.std.proofs.lemmas.Bool.{cases_lt, false≢true, eqb-true, eq-eqb, ltb-true, lt-ltb, le-ltb, and_parts}
 use Rattle.std.proofs.lemmas.List.{append-nil}
 use Rattle.std.specs.Int.{bit_at}
-use Rattle.plain_lists.specs.Bits.{number, low_bits}
+use Rattle.frame_check.specs.Bits.{number, low_bits}
 use Rattle.bit_stuffing.specs.Flags.{bit_of, OpenedAt}
 use Rattle.bit_stuffing.specs.Pieces.{EndsWhole}
 use Rattle.bit_stuffing.specs.Found.{pieces_of}

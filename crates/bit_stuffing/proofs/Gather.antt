@@ -4,7 +4,7 @@ use Rattle.std.proofs.Common.{length-append, append_assoc, cond, refl, sym, â—Œâ
 use Rattle.std.proofs.lemmas.List.{append-nil}
 use Rattle.std.proofs.lemmas.List.Elements.{All-append, All-cons, All-nil}
 use Rattle.frame_check.specs.declared.sizes.TheConstants.{WHOLE}
-use Rattle.plain_lists.specs.Bits.{low_bits, bits_of}
+use Rattle.frame_check.specs.Bits.{low_bits, bits_of}
 use Rattle.frame_check.proofs.BitLists.{length-low_bits, length-bits_of, bits_of-snoc}
 use Rattle.bit_stuffing.specs.declared.piece.Piece.{Piece}
 use Rattle.bit_stuffing.specs.declared.piece.Piece.TheVariants.{Whole, Ragged, Aborted, TooLong, TooShort}

@@ -5,7 +5,7 @@ use Rattle.std.specs.Bool.{beq}
 use Rattle.std.specs.Cmp.Lexicographic.{pointwise}
 use Rattle.std.proofs.lemmas.Bool.{false≢true, ltb-true, ltb-false, eqb-true, eq-eqb}
 use Rattle.frame_check.specs.declared.sizes.TheConstants.{WHOLE}
-use Rattle.plain_lists.specs.Bits.{octets_of}
+use Rattle.frame_check.specs.Bits.{octets_of}
 use Rattle.frame_check.proofs.BitLists.{bits_of-octets_of, octets_of-are_octets, length-octets_of, same_octets}
 use Rattle.bit_stuffing.specs.declared.piece.Piece.{Piece}
 use Rattle.bit_stuffing.specs.declared.piece.Piece.TheVariants.{Whole, Ragged, Aborted, TooLong, TooShort}

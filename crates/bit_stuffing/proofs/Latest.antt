@@ -7,7 +7,7 @@ use Rattle.std.proofs.lemmas.Bool.Decides.{nat_tests}
 use Rattle.std.specs.Int.{bit_at}
 use Rattle.std.proofs.lemmas.Bool.{cases_lt}
 use Rattle.std.proofs.lemmas.Nat.{shr_split}
-use Rattle.plain_lists.specs.Bits.{number}
+use Rattle.frame_check.specs.Bits.{number}
 use Rattle.bit_stuffing.specs.Flags.{bit_of, flag, FlagEndsAt, SevenOnesEndAt}
 use Rattle.bit_stuffing.specs.Deframer.{back, HoldsLatest}
 

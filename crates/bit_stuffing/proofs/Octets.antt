@@ -5,7 +5,7 @@ use Rattle.std.proofs.lemmas.Bool.{cases_lt, false≢true, eqb-true, and_parts}
 use Rattle.std.proofs.lemmas.List.{append-nil}
 use Rattle.std.proofs.lemmas.List.Elements.{All-append, All-cons, All-nil}
 use Rattle.frame_check.proofs.BitLists.{bits_of-snoc}
-use Rattle.plain_lists.specs.Bits.{low_bits, octet_bits, bits_of}
+use Rattle.frame_check.specs.Bits.{low_bits, octet_bits, bits_of}
 use Rattle.bit_stuffing.specs.Stuffing.{stuffed, room_behind, removed, room_after}
 use Rattle.bit_stuffing.specs.Deframer.{Gathering, KeepsBits, Gathers, has_room, is_plain, room_behind_octet, room_behind_four}
 use Rattle.bit_stuffing.proofs.Latest.{below8}

@@ -4,7 +4,7 @@ use Rattle.std.proofs.Common.{length, take, drop, Option, Some, None, IfSome, le
 use Rattle.std.proofs.lemmas.Bool.{cases_lt}
 use Rattle.std.proofs.lemmas.List.{drop-append-le, take-append-le}
 use Rattle.std.proofs.lemmas.Grind.{common_steps}
-use Rattle.plain_lists.specs.Bits.{low_bits, octet_bits}
+use Rattle.frame_check.specs.Bits.{low_bits, octet_bits}
 use Rattle.bit_stuffing.specs.Flags.{OpenedAt}
 use Rattle.bit_stuffing.specs.Pieces.{content}
 use Rattle.bit_stuffing.specs.Deframer.{CountsSince, Finding, Finds, Gathering, Gathers, HoldsLatest, IsQuiet, LeavesFour, PassesBits}

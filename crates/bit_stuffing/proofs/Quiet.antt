@@ -7,7 +7,7 @@ use Rattle.std.proofs.lemmas.Bool.Decides.{nat_tests}
 use Rattle.std.proofs.lemmas.List.{append-nil}
 use Rattle.std.proofs.lemmas.Nat.Bits.{bit_at_and, bit_at-suc, bit_at_cat_low, bit_at_cat_high, bit_at-zero}
 use Rattle.std.specs.Int.{bit_at}
-use Rattle.plain_lists.specs.Bits.{number, octet_bits}
+use Rattle.frame_check.specs.Bits.{number, octet_bits}
 use Rattle.bit_stuffing.specs.Flags.{bit_of, FlagEndsAt, SevenOnesEndAt, OpenedAt}
 use Rattle.bit_stuffing.specs.Deframer.{back, HoldsLatest, CountsSince, Finding, Finds, IsQuiet}
 use Rattle.bit_stuffing.specs.Found.{pieces_of, listed}

@@ -6,7 +6,7 @@ use Rattle.std.specs.List.{starts_with, ends_with}
 use Rattle.std.specs.Cmp.Lexicographic.{pointwise}
 use Rattle.std.proofs.lemmas.Bool.{cases_lt, false≢true}
 use Rattle.std.proofs.lemmas.List.{append-nil, length-replicate, get_or-replicate, get_or-take, get_or_default, same_lists}
-use Rattle.plain_lists.specs.Bits.{bits_of}
+use Rattle.frame_check.specs.Bits.{bits_of}
 use Rattle.frame_check.proofs.BitLists.{length-bits_of}
 use Rattle.bit_stuffing.specs.Flags.{bit_of, flag, FlagEndsAt}
 use Rattle.bit_stuffing.specs.Stuffing.{stuffed}

@@ -1,6 +1,6 @@
 -- Worked values of the definitions.
 use Rattle.std.proofs.Common.{◌≡◌, replicate, true, false, [], ◌∷◌, ◌++◌, refl, Some}
-use Rattle.plain_lists.specs.Bits.{bits_of}
+use Rattle.frame_check.specs.Bits.{bits_of}
 use Rattle.bit_stuffing.specs.declared.piece.Piece.TheVariants.{Whole, Ragged, Aborted}
 use Rattle.bit_stuffing.specs.Flags.{flag}
 use Rattle.bit_stuffing.specs.Stuffing.{stuffed}

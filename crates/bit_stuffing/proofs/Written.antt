@@ -5,7 +5,7 @@ use Rattle.std.proofs.Common.{take, drop, get_or, bit_and, arith, length-append,
 use Rattle.std.proofs.lemmas.Grind.{flat_map-append}
 use Rattle.std.proofs.lemmas.List.{append-nil, take_more, take_all, take-append-drop, get_or-drop}
 use Rattle.std.proofs.lemmas.Nat.{and_mask}
-use Rattle.plain_lists.specs.Bits.{low_bits, octet_bits, bits_of}
+use Rattle.frame_check.specs.Bits.{low_bits, octet_bits, bits_of}
 use Rattle.frame_check.proofs.BitLists.{length-low_bits, get_or-low_bits, bits_of-snoc, bits_of-append}
 use Rattle.bit_stuffing.specs.declared.pen.Pen.{Pen}
 use Rattle.bit_stuffing.specs.BitSlot.{line_bits}

@@ -3,12 +3,12 @@ use Rattle.std.specs.Prelude.{◌≡◌, ℕ, ◌+◌, ◌-◌, ◌*◌, ◌/◌
 use Rattle.std.specs.Prelude.{List, ◌++◌, length, take, drop, min, Option, Some, None}
 use Rattle.std.specs.Int.{bit_at}
 use Rattle.frame_check.specs.declared.sizes.TheConstants.{WHOLE}
-use Rattle.plain_lists.specs.Bits.{number, low_bits, octet_bits, bits_of}
+use Rattle.frame_check.specs.Bits.{number, low_bits, octet_bits, bits_of}
 use Rattle.bit_stuffing.specs.Flags.{bit_of, OpenedAt, FlagEndsAt, SevenOnesEndAt}
 use Rattle.bit_stuffing.specs.Stuffing.{removed, room_after}
 use Rattle.bit_stuffing.specs.Pieces.{content, EndsWhole}
 use Rattle.bit_stuffing.specs.Found.{pieces_of}
-use Rattle.plain_lists.specs.Octets.{AreOctets}
+use Rattle.frame_check.specs.Octets.{AreOctets}
 
 -- the bit so many places back from the end, where ones stand before the first
 abbrev pub back : List Bool → ℕ → Bool

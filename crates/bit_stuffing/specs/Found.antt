@@ -5,7 +5,7 @@ use Rattle.std.specs.List.{ends_with}
 use Rattle.std.specs.Cmp.Lexicographic.{pointwise}
 use Rattle.std.specs.Option.{option_map, option_map_or}
 use Rattle.frame_check.specs.declared.sizes.TheConstants.{WHOLE}
-use Rattle.plain_lists.specs.Bits.{octets_of}
+use Rattle.frame_check.specs.Bits.{octets_of}
 use Rattle.bit_stuffing.specs.declared.piece.Piece.{Piece}
 use Rattle.bit_stuffing.specs.declared.piece.Piece.TheVariants.{Whole, Ragged, Aborted, TooLong, TooShort}
 use Rattle.bit_stuffing.specs.declared.piece.TheConstants.{SHORTEST}

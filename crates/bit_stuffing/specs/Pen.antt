@@ -1,6 +1,6 @@
 -- The bits that are written into a slot.
 use Rattle.std.specs.Prelude.{ℕ, ◌++◌, Bool, List}
-use Rattle.plain_lists.specs.Bits.{low_bits}
+use Rattle.frame_check.specs.Bits.{low_bits}
 use Rattle.bit_stuffing.specs.declared.pen.Pen.{Pen}
 use Rattle.bit_stuffing.specs.BitSlot.{line_bits}
 

@@ -1,13 +1,13 @@
 -- The answer at each bit of a stream, by the places of the flags in all bits so far.
 use Rattle.std.specs.Prelude.{◌≡◌, ◌⊎◌, ℕ, ◌-◌, ◌*◌, ◌<◌, ◌≤◌, Bool, List, [], ◌∷◌, ◌++◌, length, take, drop, Option, Some, None}
 use Rattle.frame_check.specs.declared.sizes.TheConstants.{WHOLE}
-use Rattle.plain_lists.specs.Bits.{bits_of}
+use Rattle.frame_check.specs.Bits.{bits_of}
 use Rattle.bit_stuffing.specs.declared.piece.Piece.{Piece}
 use Rattle.bit_stuffing.specs.declared.piece.Piece.TheVariants.{Whole, Ragged, Aborted, TooLong, TooShort}
 use Rattle.bit_stuffing.specs.declared.piece.TheConstants.{SHORTEST}
 use Rattle.bit_stuffing.specs.Flags.{Aborts, Closes}
 use Rattle.bit_stuffing.specs.Stuffing.{Stuffs, removed}
-use Rattle.plain_lists.specs.Octets.{AreOctets}
+use Rattle.frame_check.specs.Octets.{AreOctets}
 
 -- what stands between the flag that ends at place p and the flag that the last eight bits are
 abbrev pub content : List Bool → ℕ → List Bool

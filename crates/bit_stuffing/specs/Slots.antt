@@ -3,11 +3,11 @@ use Rattle.std.specs.Prelude.{◌≡◌, ℕ, zero, suc, ◌-◌, ◌/◌, ◌%�
 use Rattle.std.specs.Bool.{beq}
 use Rattle.std.specs.List.{starts_with}
 use Rattle.frame_check.specs.declared.sizes.TheConstants.{WHOLE}
-use Rattle.plain_lists.specs.Bits.{bits_of}
+use Rattle.frame_check.specs.Bits.{bits_of}
 use Rattle.bit_stuffing.specs.declared.piece.TheConstants.{SHORTEST}
 use Rattle.bit_stuffing.specs.Flags.{flag, FlagEndsAt, SevenOnesEndAt}
 use Rattle.bit_stuffing.specs.Stuffing.{stuffed}
-use Rattle.plain_lists.specs.Octets.{AreOctets}
+use Rattle.frame_check.specs.Octets.{AreOctets}
 
 -- What a slot carries: bits that are given, which begin at once, or flags with or without a frame (its octets, with the check).
 pub data Slot : Type 0 where

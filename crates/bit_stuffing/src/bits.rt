@@ -1,6 +1,6 @@
 // Bits that are gathered to a number, the low one first.
 ghost use Rattle.std.specs.Prelude.{◌≡◌, ◌+◌, ◌*◌, ◌/◌, ◌<◌, ◌^◌, [], ◌∷◌, ◌++◌};
-ghost use Rattle.plain_lists.specs.Bits.{low_bits};
+ghost use Rattle.frame_check.specs.Bits.{low_bits};
 
 /// A number of so many bits with one more bit above them.
 pub(crate) fn with_bit(part: u8, held: u8, bit: bool) -> u8

@@ -38,7 +38,7 @@ fn is_whole(piece: Piece) -> bool
 
 impl Deframer {
     ghost use Rattle.std.specs.Prelude.{ℕ, ◌+◌, ◌-◌, ◌<◌, ◌≤◌, length, take, drop, List, Bool, true, false, [], ◌∷◌, ◌++◌, Some, IfSome};
-    ghost use Rattle.plain_lists.specs.Bits.{low_bits, octet_bits};
+    ghost use Rattle.frame_check.specs.Bits.{low_bits, octet_bits};
     ghost use Rattle.bit_stuffing.specs.Flags.{OpenedAt};
     ghost use Rattle.bit_stuffing.specs.Pieces.{IsAnswer, IsLent, content};
     ghost use Rattle.bit_stuffing.specs.Found.{answer_of, lent_of, pieces_of};

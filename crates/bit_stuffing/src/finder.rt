@@ -2,7 +2,7 @@
 // end the piece.
 ghost use Rattle.std.specs.Prelude.{◌≡◌, ◌⊎◌, ◌≤◌, ◌<◌, ◌+◌, ◌-◌, ◌*◌, ◌↔◌, ℕ, IsTrue, true, false, Some, None, List, Bool, [], ◌∷◌, ◌++◌, length, drop};
 ghost use Rattle.std.specs.Int.{bit_at};
-ghost use Rattle.plain_lists.specs.Bits.{low_bits, octet_bits};
+ghost use Rattle.frame_check.specs.Bits.{low_bits, octet_bits};
 ghost use Rattle.bit_stuffing.specs.Flags.{FlagEndsAt, SevenOnesEndAt};
 ghost use Rattle.bit_stuffing.specs.Deframer.{HoldsLatest};
 ghost use Rattle.bit_stuffing.specs.Fours.{six_ones, since_none, since_flag, since_four};

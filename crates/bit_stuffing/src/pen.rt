@@ -1,6 +1,6 @@
 // Bits that are written into a slot.
 ghost use Rattle.std.specs.Prelude.{◌≡◌, ◌+◌, ◌-◌, ◌*◌, ◌%◌, ◌<◌, ◌≤◌, ◌^◌, [], ◌∷◌, ◌++◌, length, take, drop};
-ghost use Rattle.plain_lists.specs.Bits.{octet_bits, bits_of};
+ghost use Rattle.frame_check.specs.Bits.{octet_bits, bits_of};
 ghost use Rattle.bit_stuffing.specs.Flags.{bit_of, flag};
 ghost use Rattle.bit_stuffing.specs.Slots.{fill, flags, framed, rest_of_flag};
 ghost use Rattle.bit_stuffing.specs.Stuffing.{stuffed, room_behind};

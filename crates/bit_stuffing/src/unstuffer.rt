@@ -1,6 +1,6 @@
 // The octets of a content, as the bits between two flags come in.
 ghost use Rattle.std.specs.Prelude.{◌≡◌, ◌≤◌, ◌<◌, ◌+◌, ◌*◌, ◌/◌, ◌^◌, true, false, List, Bool, [], ◌∷◌, ◌++◌, length};
-ghost use Rattle.plain_lists.specs.Bits.{low_bits, octet_bits};
+ghost use Rattle.frame_check.specs.Bits.{low_bits, octet_bits};
 ghost use Rattle.bit_stuffing.specs.Deframer.{has_room, is_plain, room_behind_octet, room_behind_four};
 ghost use Rattle.frame_check.specs.declared.sizes.TheConstants.{WHOLE};
 

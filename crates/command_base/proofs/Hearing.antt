@@ -9,7 +9,7 @@ use Rattle.outside_calls.specs.Folder.{FolderState, OnlyReads, OnlySays, CountsS
 use Rattle.outside_calls.specs.declared.folder.FolderFault.{FolderFault}
 use Rattle.outside_calls.specs.declared.folder.FolderFault.TheVariants as folder
 use Rattle.outside_calls.proofs.Steps.{GoesOn-refl, FaultsStand-trans, CountsStand-refl, CountsStand-trans}
-use Rattle.plain_lists.specs.Bits.{low_bits, octet_bits, bits_of}
+use Rattle.frame_check.specs.Bits.{low_bits, octet_bits, bits_of}
 use Rattle.frame_check.proofs.BitLists.{length-low_bits, get_or-low_bits, bits_of-snoc, bits_of-append}
 use Rattle.bit_stuffing.specs.declared.piece.Piece.{Piece}
 use Rattle.bit_stuffing.specs.Found.{Found, found_at, pieces_of, listed, answer_of, lent_of}

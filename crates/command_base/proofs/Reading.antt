@@ -2,8 +2,8 @@
 use Rattle.std.proofs.Common.{◌≡◌, ◌∙◌, ℕ, ◌+◌, ◌-◌, ◌≤◌, ◌<◌, min, List, [], ◌++◌, IsTrue, length, take, take-add, drop, refl, sym, ap}
 use Rattle.std.proofs.Common.{subst, arith, length-append, length-drop, inl, ◌∷◌, Err, IsErrOf}
 use Rattle.std.proofs.lemmas.List.{take-append-drop, take_all, drop_all}
-use Rattle.plain_lists.specs.Octets.{AreOctets}
-use Rattle.plain_lists.specs.Prefix.{IsPrefixOf}
+use Rattle.frame_check.specs.Octets.{AreOctets}
+use Rattle.shared_terms.specs.Prefix.{IsPrefixOf}
 use Rattle.outside_calls.specs.Folder.{FolderState, TellsOctets, octets_at, GoesOn, KeepsName, OnlyReads, HasCause, FaultsStand}
 use Rattle.outside_calls.specs.Folder.{CountsStand}
 use Rattle.outside_calls.specs.declared.folder.FolderFault.{FolderFault}

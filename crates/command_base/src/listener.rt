@@ -1,7 +1,7 @@
 // A listener to a stream of bits, who says what each piece is.
 ghost use Rattle.std.specs.Prelude.{◌≡◌, ◌≤◌, ◌<◌, ◌+◌, ◌*◌, ◌^◌, Bool, List, [], ◌∷◌, ◌++◌, OnOk, OnErr, IfErr, length};
 ghost use Rattle.outside_calls.specs.Folder.{FolderState, OnlySays, CountsStand};
-ghost use Rattle.plain_lists.specs.Bits.{low_bits, octet_bits, bits_of};
+ghost use Rattle.frame_check.specs.Bits.{low_bits, octet_bits, bits_of};
 ghost use Rattle.command_base.specs.Stops.{SayFails};
 ghost use Rattle.bit_stuffing.specs.Found.{Found};
 ghost use Rattle.command_base.specs.Heard.{Heard, Hears, PartlyHeard, LeftAt, SaysPiece, PartlySaysPiece};

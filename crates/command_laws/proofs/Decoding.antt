@@ -2,8 +2,8 @@
 use Rattle.std.proofs.Common.{◌≡◌, ◌∙◌, inl, inr, ◌⊎◌, ℕ, ◌<◌, ◌≤◌, Bool, List, [], ◌∷◌, ◌++◌, length, slice_index, Some, None}
 use Rattle.std.proofs.Common.{refl, sym, ap, subst, arith, append-nil, length-append}
 use Rattle.std.specs.List.{flat_map}
-use Rattle.plain_lists.specs.Bits.{bits_of}
-use Rattle.plain_lists.specs.Octets.{AreOctets}
+use Rattle.frame_check.specs.Bits.{bits_of}
+use Rattle.frame_check.specs.Octets.{AreOctets}
 use Rattle.frame_check.proofs.BitLists.{length-bits_of, same_octets}
 use Rattle.scramblers.specs.declared.mode.Mode.{Mode}
 use Rattle.scramblers.specs.declared.mode.Mode.TheVariants.{Call, Answer}

@@ -4,7 +4,7 @@ use Rattle.std.proofs.Common.{map, take, drop, slice_index}
 use Rattle.std.proofs.Common.{refl, sym, ap, subst, arith, None}
 use Rattle.std.proofs.Math.Nat.{mul_assoc}
 use Rattle.std.proofs.lemmas.List.{append-nil, append_cancel_left, map-append, take-append-drop, take_all}
-use Rattle.plain_lists.specs.Prefix.{IsPrefixOf}
+use Rattle.shared_terms.specs.Prefix.{IsPrefixOf}
 use Rattle.scramblers.specs.declared.mode.Mode.{Mode}
 use Rattle.scramblers.specs.declared.mode.Mode.TheVariants.{Call, Answer}
 use Rattle.scramblers.specs.Mode.{tap_of}

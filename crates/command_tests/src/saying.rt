@@ -6,9 +6,9 @@ use command_base::{
 };
 use lapm_frames::FrameFault;
 use noise_script::{Generators, read_script};
-use outside_calls::{FolderFault, NoMemory};
+use outside_calls::FolderFault;
 use outside_core::MemoryFolder;
-use shared_terms::{AuditCause, Cause, Role};
+use shared_terms::{AuditCause, Cause, NoMemory, Role};
 use std::alloc::Global;
 use std::fmt::{Debug, Display};
 use std::process::Abort;

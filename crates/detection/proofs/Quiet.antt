@@ -11,7 +11,7 @@ use Rattle.std.proofs.lemmas.List.{append-nil, reverse-append, length-reverse, t
 use Rattle.std.proofs.lemmas.List.{get_or-append_right, get_or-replicate}
 use Rattle.std.proofs.lemmas.Nat.{shr-shr, or_shifted}
 use Rattle.std.proofs.lemmas.Nat.Bits.{bit_at_and, bit_at_cat_low, bit_at_cat_high, bit_at-zero}
-use Rattle.plain_lists.specs.Bits.{number, low_bits, octet_bits}
+use Rattle.frame_check.specs.Bits.{number, low_bits, octet_bits}
 use Rattle.lapm_frames.specs.declared.seen.Seen.{Seen}
 use Rattle.detection.specs.Patterns.{ones, seen_at, EndsPattern, second}
 use Rattle.detection.specs.Sights.{sights_of}

@@ -9,7 +9,7 @@ use Rattle.std.proofs.lemmas.List.{get_or_default, get_or_past, same_lists}
 use Rattle.std.proofs.lemmas.Nat.{shr-shr, shr_split, or_shifted}
 use Rattle.std.proofs.lemmas.Nat.Bits.{bit_at-lt, bit_at-suc, bit_at_lowest, bit_at_ones, bit_at_cat_low, bit_at-trailing_ones}
 use Rattle.std.proofs.lemmas.Nat.Bits.{same_from_bits_below}
-use Rattle.plain_lists.specs.Bits.{number, low_bits}
+use Rattle.frame_check.specs.Bits.{number, low_bits}
 use Rattle.frame_check.proofs.BitLists.{length-low_bits, get_or-low_bits}
 use Rattle.detection.specs.Patterns.{ones}
 use Rattle.detection.specs.Reader.{Holds, ReaderStands, EndsCharacter}

@@ -1,7 +1,7 @@
 -- What a reader of patterns keeps, and the bits for which it stands.
 use Rattle.std.specs.Prelude.{◌≡◌, ℕ, ◌+◌, ◌-◌, ◌<◌, ◌≤◌, Bool, true, List, ◌++◌, reverse, slice_index_or, Option, Some, None}
 use Rattle.std.specs.Int.{bit_at}
-use Rattle.plain_lists.specs.Bits.{number}
+use Rattle.frame_check.specs.Bits.{number}
 use Rattle.lapm_frames.specs.declared.seen.Seen.{Seen}
 use Rattle.detection.specs.Patterns.{first, second, ones, shortest_gap, longest_gap}
 

@@ -1,7 +1,7 @@
 // The characters of the patterns, as the latest bits of a stream.
 ghost use Rattle.std.specs.Prelude.{◌≡◌, ◌<◌};
 ghost use Rattle.std.specs.Prelude.{reverse};
-ghost use Rattle.plain_lists.specs.Bits.{low_bits};
+ghost use Rattle.frame_check.specs.Bits.{low_bits};
 ghost use Rattle.detection.specs.Patterns.{first, second};
 
 use crate::Seen;

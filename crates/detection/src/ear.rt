@@ -1,6 +1,6 @@
 // What finds pieces and patterns in one stream of bits.
 ghost use Rattle.std.specs.Prelude.{◌≡◌, [], ◌++◌, List, Bool, true, false};
-ghost use Rattle.plain_lists.specs.Bits.{octet_bits};
+ghost use Rattle.frame_check.specs.Bits.{octet_bits};
 ghost use Rattle.bit_stuffing.specs.Found.{pieces_of};
 ghost use Rattle.detection.specs.Ear.{HasHeard};
 ghost use Rattle.detection.specs.Sights.{sights_of};

@@ -1,7 +1,7 @@
 // Patterns in a stream of bits.
 ghost use Rattle.std.specs.Prelude.{◌≡◌, ◌+◌, ◌<◌, ◌≤◌, ◌↔◌, ℕ, List, Bool, IsTrue, true, false, ◌++◌, reverse};
 ghost use Rattle.std.specs.Int.{bit_at};
-ghost use Rattle.plain_lists.specs.Bits.{low_bits, octet_bits};
+ghost use Rattle.frame_check.specs.Bits.{low_bits, octet_bits};
 ghost use Rattle.detection.specs.Patterns.{EndsPattern, longest_gap};
 ghost use Rattle.detection.specs.Reader.{Holds, ReaderStands, LeftBehind, LeftBehindOnce, whole_pattern};
 

@@ -9,7 +9,7 @@ use Rattle.symbol_map.proofs.Distances.{equal_from_no_distance, no_distance_from
 use Rattle.trellis_tables.specs.Sequences.{Leads, IsCodeSequence, cost}
 use Rattle.trellis_tables.specs.Codes.{IsBounded, StaysWithin, EntersOnce, Reaches, PointsDiffer}
 use Rattle.trellis_tables.proofs.Sequences.{Leads-take}
-use Rattle.plain_lists.specs.Prefix.{IsPrefixOf}
+use Rattle.shared_terms.specs.Prefix.{IsPrefixOf}
 use Rattle.exact_decoder.specs.Surviving.Orders.{Beats}
 use Rattle.exact_decoder.specs.Surviving.Trellises.{Trellis, trellis_of, IsSequence, HasLaws}
 use Rattle.exact_decoder.specs.Surviving.Survivors.{IsSurvivor, IsReleased, IsLost, LostIs}

@@ -7,7 +7,7 @@ use Rattle.std.proofs.lemmas.List.{append-nil, take-append-le, take_all}
 use Rattle.symbol_map.specs.declared.sample.Sample.{Sample}
 use Rattle.trellis_tables.specs.Sequences.{cost}
 use Rattle.trellis_tables.specs.Codes.{IsBounded, EntersOnce}
-use Rattle.plain_lists.specs.Prefix.{IsPrefixOf}
+use Rattle.shared_terms.specs.Prefix.{IsPrefixOf}
 use Rattle.exact_decoder.specs.Surviving.Trellises.{Trellis, trellis_of}
 use Rattle.exact_decoder.specs.Surviving.Survivors.{IsSurvivor, IsCommon, IsReleased, IsOver, IsLost, LostIs}
 use Rattle.exact_decoder.specs.Surviving.Steps.{KnowsState, Keeps, GoesOn}

@@ -1,6 +1,6 @@
 -- Laws of a code's decoders, over its table of next states, its points, and the states that sequences may start in.
 use Rattle.std.specs.Prelude.{◌≡◌, ℕ, ◌+◌, ◌<◌, ◌≤◌, Bool, true, List, ◌++◌, length, map, take, Option}
-use Rattle.plain_lists.specs.Prefix.{IsPrefixOf}
+use Rattle.shared_terms.specs.Prefix.{IsPrefixOf}
 use Rattle.symbol_map.specs.declared.sample.Sample.{Sample}
 use Rattle.trellis_tables.specs.Sequences.{IsCodeSequence}
 use Rattle.exact_decoder.specs.Surviving.Trellises.{Trellis, trellis_of}

@@ -10,7 +10,7 @@ use crate::kept::Survivors;
 use crate::labels::Labels;
 use crate::step::ViterbiStep;
 use crate::tail::Tail;
-use outside_calls::NoMemory;
+use shared_terms::NoMemory;
 use std::alloc::Global;
 use std::marker::Model;
 use symbol_map::Sample;

@@ -11,7 +11,7 @@ use Rattle.std.proofs.lemmas.Nat.{shr_split}
 use Rattle.std.proofs.lemmas.Nat.Bits.{bit_at_lowest, bit_at-suc, bit_at-lt, bit_at_cat_low, bit_at_cat_high, same_from_bits_below}
 use Rattle.std.proofs.Math.Nat.{pow-succ', pow-le-pow_right}
 use Rattle.std.proofs.lemmas.Bool.Decides.{nat_tests}
-use Rattle.plain_lists.specs.Bits.{low_bits, octet_bits, bits_of, number, number_of, octets_of}
+use Rattle.frame_check.specs.Bits.{low_bits, octet_bits, bits_of, number, number_of, octets_of}
 
 -- the bits of a number
 

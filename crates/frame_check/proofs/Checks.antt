@@ -12,7 +12,7 @@ use Rattle.std.specs.Cmp.Lexicographic.{pointwise}
 use Rattle.std.specs.Prelude.{IsTrue}
 use Rattle.frame_check.specs.declared.check.Check.{Check}
 use Rattle.frame_check.specs.declared.check.Check.TheVariants.{Sixteen, ThirtyTwo}
-use Rattle.plain_lists.specs.Bits.{bits_of, low_bits, number}
+use Rattle.frame_check.specs.Bits.{bits_of, low_bits, number}
 use Rattle.frame_check.specs.FrameCheck.{coefficient, width_of, generator_of, Leaves, IsCheckOf, IsChecked, Passes}
 use Rattle.frame_check.specs.Division.{remainder_of, check_of, with_check, count_of}
 use Rattle.frame_check.specs.Register.{Holds}

@@ -5,7 +5,7 @@ use Rattle.std.specs.Int.{bit_at}
 use Rattle.std.proofs.lemmas.Bool.{cases_lt, false≢true}
 use borrow.Author.Tests.{eqb-true}
 use Rattle.frame_check.specs.declared.check.Check.TheVariants.{Sixteen, ThirtyTwo}
-use Rattle.plain_lists.specs.Bits.{number}
+use Rattle.frame_check.specs.Bits.{number}
 use Rattle.frame_check.specs.FrameCheck.{coefficient, all_ones, generator_of}
 use Rattle.frame_check.specs.Register.{Mirrors, Holds, Divides, AreFours, after_zeros}
 use Rattle.frame_check.specs.declared.register.TheConstants.{SIXTEEN, THIRTY_TWO}

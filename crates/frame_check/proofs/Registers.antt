@@ -6,9 +6,9 @@ use Rattle.std.proofs.lemmas.Nat.Bits.{bit_at-suc, bit_at-zero, bit_at_above, bi
 use Rattle.std.specs.Int.{bit_at}
 use Rattle.std.proofs.lemmas.Nat.{pow_pos, xor_comm, xor_lt, xor_shr, xor_block, and_mask}
 use Rattle.std.proofs.Math.Nat.{pow-succ'}
-use Rattle.plain_lists.specs.Bits.{number, low_bits, octet_bits, bits_of}
+use Rattle.frame_check.specs.Bits.{number, low_bits, octet_bits, bits_of}
 use Rattle.frame_check.specs.FrameCheck.{coefficient}
-use Rattle.plain_lists.specs.Xor.{xor}
+use Rattle.frame_check.specs.Xor.{xor}
 use Rattle.frame_check.specs.Division.{next_remainder, remainder_from}
 use Rattle.frame_check.specs.Register.{Mirrors, Holds, Divides, AreFours, after_zero, after_zeros}
 use Rattle.frame_check.proofs.Polynomials.{xor_false, coefficient-behind, coefficient-lowest, at_power-other, coefficient-chosen}

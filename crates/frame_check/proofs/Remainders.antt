@@ -6,7 +6,7 @@ use Rattle.std.proofs.lemmas.Grind.{common_steps}
 use Rattle.std.proofs.lemmas.List.{reverse-append}
 use Rattle.std.proofs.Math.Nat.{eq-or-lt_of_le}
 use Rattle.frame_check.specs.FrameCheck.{coefficient, Same, plus, times, raised, all_ones, Leaves}
-use Rattle.plain_lists.specs.Xor.{xor}
+use Rattle.frame_check.specs.Xor.{xor}
 use Rattle.frame_check.specs.Division.{next_remainder, remainder_from}
 use Rattle.frame_check.proofs.Polynomials.{xor_false, xor_twice, regroup, coefficient-plus, length-plus, coefficient-past}
 use Rattle.frame_check.proofs.Polynomials.{coefficient-behind, raised-suc, raised-nothing, coefficient-chosen, at_power, at_power-other}

@@ -4,7 +4,7 @@ use Rattle.std.proofs.Common.{if◌then◌else◌, arith, refl, sym, ◌∙◌, 
 use Rattle.std.proofs.lemmas.Grind.{common_steps}
 use Rattle.std.proofs.lemmas.List.{same_lists}
 use Rattle.frame_check.specs.FrameCheck.{coefficient, Same, plus, times, raised, all_ones, Leaves}
-use Rattle.plain_lists.specs.Xor.{xor}
+use Rattle.frame_check.specs.Xor.{xor}
 use Rattle.frame_check.proofs.Polynomials.{xor_false, coefficient-plus, coefficient-past, coefficient-chosen}
 
 -- the lowest coefficient of a quotient, and the rest of it

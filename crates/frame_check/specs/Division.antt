@@ -1,9 +1,9 @@
 -- The frame check as a function: long division, a bit at a time. That it gives the one check of the definition is a law.
 use Rattle.std.specs.Prelude.{ℕ, ◌/◌, Bool, false, not, if◌then◌else◌, List, [], ◌∷◌, ◌++◌, map, reverse, take}
 use Rattle.frame_check.specs.declared.check.Check.{Check}
-use Rattle.plain_lists.specs.Bits.{bits_of, octets_of}
+use Rattle.frame_check.specs.Bits.{bits_of, octets_of}
 use Rattle.frame_check.specs.FrameCheck.{coefficient, plus, all_ones, width_of, generator_of}
-use Rattle.plain_lists.specs.Xor.{xor}
+use Rattle.frame_check.specs.Xor.{xor}
 
 -- the remainder that is left once one more bit follows: where x·R and x^width·bit have the power x^width, the generator is taken away
 abbrev pub next_remainder : ℕ → List Bool → List Bool → Bool → List Bool

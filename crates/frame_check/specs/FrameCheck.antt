@@ -3,9 +3,9 @@
 use Rattle.std.specs.Prelude.{◌≡◌, ℕ, Bool, true, false, not, if◌then◌else◌, List, [], ◌∷◌, ◌++◌, length, map, reverse, replicate, slice_index_or}
 use Rattle.frame_check.specs.declared.check.Check.{Check}
 use Rattle.frame_check.specs.declared.check.Check.TheVariants.{Sixteen, ThirtyTwo}
-use Rattle.plain_lists.specs.Bits.{bits_of}
-use Rattle.plain_lists.specs.Xor.{xor}
-use Rattle.plain_lists.specs.Octets.{AreOctets}
+use Rattle.frame_check.specs.Bits.{bits_of}
+use Rattle.frame_check.specs.Xor.{xor}
+use Rattle.frame_check.specs.Octets.{AreOctets}
 
 -- the coefficient of a power
 abbrev pub coefficient : List Bool → ℕ → Bool

@@ -2,7 +2,7 @@
 use Rattle.std.specs.Prelude.{◌≡◌, ℕ, zero, suc, ◌+◌, ◌-◌, ◌/◌, ◌%◌, ◌<◌, ◌≤◌, ◌^◌, Bool, true, if◌then◌else◌, List, length, nat_eq, slice_index_or}
 use Rattle.std.specs.Int.{bit_at}
 use Rattle.std.specs.Int.RustNames.{bit_xor}
-use Rattle.plain_lists.specs.Bits.{number}
+use Rattle.frame_check.specs.Bits.{number}
 use Rattle.frame_check.specs.FrameCheck.{coefficient}
 
 -- the low bit of the register is the coefficient of the highest power below the width

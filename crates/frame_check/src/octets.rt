@@ -1,7 +1,7 @@
 // Lists of octets of bounded length, which take no memory.
 ghost use Rattle.std.specs.Prelude.{◌≡◌, ◌≤◌, ◌<◌, ◌+◌, ◌==◌, [], ◌∷◌, ◌++◌, length, nat_eq};
 ghost use Rattle.std.specs.Cmp.{partial_equiv_from_equiv};
-ghost use Rattle.plain_lists.specs.Octets.{AreOctets};
+ghost use Rattle.frame_check.specs.Octets.{AreOctets};
 ghost use Rattle.std.specs.Cmp.Lexicographic.{pointwise, nat_list_eq_equiv};
 
 use crate::{INFO, WHOLE};
@@ -23,7 +23,7 @@ pub type Whole = Octets<WHOLE>;
 
 impl<const CAP: usize> Model for Octets<CAP> {
     ghost use Rattle.std.specs.Prelude.{List, ℕ, length, ◌≤◌};
-    ghost use Rattle.plain_lists.specs.Octets.{AreOctets};
+    ghost use Rattle.frame_check.specs.Octets.{AreOctets};
 
     ghost Value = { List ℕ };
 

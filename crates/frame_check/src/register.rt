@@ -1,6 +1,6 @@
 // The register that divides: bits go in at its low end, and it holds the remainder of those so far.
 ghost use Rattle.std.specs.Prelude.{◌≡◌, ℕ, List, Bool};
-ghost use Rattle.plain_lists.specs.Bits.{octet_bits, bits_of};
+ghost use Rattle.frame_check.specs.Bits.{octet_bits, bits_of};
 ghost use Rattle.frame_check.specs.Division.{remainder_from};
 ghost use Rattle.frame_check.specs.Register.{AreFours, Divides, Holds, after_zeros};
 

@@ -2,8 +2,8 @@
 use Rattle.std.proofs.Common.{append-nil, ◌≡◌, ◌∙◌, ℕ, ◌+◌, ◌≤◌, Bool, List, [], ◌∷◌, ◌++◌, length, map, take, drop, None, refl, sym, ap}
 use Rattle.std.proofs.Common.{subst, arith, append_assoc, length-append}
 use Rattle.std.proofs.lemmas.List.{take-append-drop, take-map}
-use Rattle.plain_lists.specs.Bits.{bits_of}
-use Rattle.plain_lists.specs.Prefix.{IsPrefixOf}
+use Rattle.frame_check.specs.Bits.{bits_of}
+use Rattle.shared_terms.specs.Prefix.{IsPrefixOf}
 use Rattle.scramblers.specs.declared.mode.Mode.{Mode}
 use Rattle.scramblers.specs.Mode.{tap_of}
 use Rattle.scramblers.proofs.Readings.{Descrambles_once}

@@ -4,7 +4,7 @@ use Rattle.std.proofs.Common.{get_or, length, take, refl, ap, sym, subst, ◌∙
 use Rattle.std.proofs.lemmas.Grind.{flat_map-append}
 use Rattle.std.proofs.Math.Logic.{∥∥₁_map}
 use Rattle.std.proofs.lemmas.List.{map-append, take_more}
-use Rattle.plain_lists.specs.Bits.{low_bits}
+use Rattle.frame_check.specs.Bits.{low_bits}
 use Rattle.bit_stuffing.specs.BitSlot.{line_bits}
 use Rattle.bit_stuffing.specs.Slots.{Slot, IsSlot, opening, phase_after, sent_bits, slot_bits}
 use Rattle.bit_stuffing.specs.Slots.Slot.{Flags}

@@ -1,6 +1,6 @@
 -- Laws that join an encoder and a decoder.
 use Rattle.std.specs.Prelude.{◌≡◌, ℕ, zero, suc, ◌+◌, ◌*◌, ◌<◌, ◌≤◌, Bool, List, [], ◌∷◌, ◌++◌, length, map, drop, None}
-use Rattle.plain_lists.specs.Prefix.{IsPrefixOf}
+use Rattle.shared_terms.specs.Prefix.{IsPrefixOf}
 use Rattle.scramblers.specs.declared.mode.Mode.{Mode}
 use Rattle.symbol_map.specs.declared.sample.Sample.{Sample}
 use Rattle.symbol_map.specs.Distance.{distance_of, quarter_turned}

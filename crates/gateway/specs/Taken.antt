@@ -1,6 +1,6 @@
 -- The bits of a label that is taken.
 use Rattle.std.specs.Prelude.{Bool, List, [], Option, Some, None}
-use Rattle.plain_lists.specs.Bits.{low_bits}
+use Rattle.frame_check.specs.Bits.{low_bits}
 use Rattle.gateway.specs.declared.label_bits.LabelBits.{LabelBits}
 
 abbrev pub taken_bits : Option LabelBits → List Bool

@@ -1,6 +1,6 @@
 // The readers of a line from its beginning, at both rates, and from its middle, as one.
 ghost use Rattle.std.specs.Prelude.{◌≡◌, ◌+◌, ◌<◌, ◌≤◌, ◌^◌, ◌++◌, ◌∷◌, Bool, List, [], Some, None, length, drop, IfOk, MatchOption, MatchResult};
-ghost use Rattle.plain_lists.specs.Bits.{low_bits};
+ghost use Rattle.frame_check.specs.Bits.{low_bits};
 ghost use Rattle.scramblers.specs.declared.mode.Mode.{Mode};
 ghost use Rattle.symbol_map.specs.declared.sample.Sample.{Sample};
 ghost use Rattle.exact_decoder.specs.Batches.{heard_of};
@@ -14,9 +14,9 @@ ghost use Rattle.gateway.specs.Taken.{taken_bits};
 use crate::label_bits::LabelBits;
 use exact_decoder::{Lost, Tail};
 use line_coding::{DEPTH, Demodulate, LineReader, MiddleReader, Taken};
-use outside_calls::NoMemory;
 use rate_4800::{QuarterReader, Rate4800};
 use scramblers::Mode;
+use shared_terms::NoMemory;
 use std::alloc::Global;
 use symbol_map::Sample;
 use trellis_tables::V32Code;

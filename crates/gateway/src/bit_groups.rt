@@ -1,6 +1,6 @@
 // Bits with an octet each, of which the lowest bit counts, as numbers that have the first one lowest.
 ghost use Rattle.std.specs.Prelude.{◌≡◌, ◌+◌, ◌<◌, ◌≤◌, ◌++◌, length};
-ghost use Rattle.plain_lists.specs.Bits.{low_bits, octet_bits};
+ghost use Rattle.frame_check.specs.Bits.{low_bits, octet_bits};
 ghost use Rattle.gateway.specs.Given.{heard};
 
 /// The number of four bits from this place on.

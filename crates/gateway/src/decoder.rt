@@ -12,9 +12,9 @@ use crate::any_reader::{AnyReader, LineKind};
 use crate::label_bits::{LabelBits, put_bits};
 use crate::parts::{BATCH, copy_samples};
 use line_coding::{Demodulate, Demodulator};
-use outside_calls::NoMemory;
 use rate_4800::Demodulator as QuarterDemodulator;
 use scramblers::Mode;
+use shared_terms::NoMemory;
 use std::alloc::Global;
 use symbol_map::Sample;
 

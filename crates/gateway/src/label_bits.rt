@@ -1,6 +1,6 @@
 // The bits of a label.
 ghost use Rattle.std.specs.Prelude.{◌≡◌, ◌+◌, ◌++◌, ◌≤◌, length};
-ghost use Rattle.plain_lists.specs.Bits.{low_bits};
+ghost use Rattle.frame_check.specs.Bits.{low_bits};
 ghost use Rattle.gateway.specs.Given.{given, AreBits};
 
 /// Up to four bits.

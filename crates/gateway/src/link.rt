@@ -9,8 +9,7 @@ ghost use Rattle.gateway.specs.TurnStates.{times_heard, most_turns};
 use crate::turns::{Carried, Told, arrived_of, told_of};
 use frame_check::{Check, Info};
 use lapm_link::{AnyEnd, Detecting, LinkFault, Phase, Sent, Setup};
-use outside_calls::NoMemory;
-use shared_terms::Role;
+use shared_terms::{NoMemory, Role};
 use std::alloc::Global;
 
 /// No end has more turns.

@@ -1,6 +1,6 @@
 // The information of frames that are sent.
 ghost use Rattle.std.specs.Prelude.{◌≡◌, ◌≤◌, length};
-ghost use Rattle.plain_lists.specs.Octets.{AreOctets};
+ghost use Rattle.frame_check.specs.Octets.{AreOctets};
 ghost use Rattle.frame_check.specs.declared.sizes.TheConstants.{INFO};
 
 use frame_check::Info;

@@ -15,8 +15,7 @@ use crate::{AnyEnd, Arrived, Broken, LinkFault, Sent, Setup};
 use frame_check::Info;
 use lapm_frames::{Frame, Seen};
 use link_account::Answer;
-use outside_calls::NoMemory;
-use shared_terms::{Role, wait};
+use shared_terms::{NoMemory, Role, wait};
 use std::alloc::Global;
 use xid_params::default_offer;
 

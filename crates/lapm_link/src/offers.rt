@@ -1,6 +1,6 @@
 // Offers in the information of XID frames.
 ghost use Rattle.std.specs.Prelude.{◌≡◌, ◌≤◌, length, IfSome};
-ghost use Rattle.plain_lists.specs.Octets.{AreOctets};
+ghost use Rattle.frame_check.specs.Octets.{AreOctets};
 ghost use Rattle.frame_check.specs.declared.sizes.TheConstants.{INFO};
 ghost use Rattle.shared_terms.specs.declared.role.Role.{Role};
 ghost use Rattle.xid_params.specs.Terms.{agree};

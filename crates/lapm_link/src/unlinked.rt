@@ -12,7 +12,7 @@ use crate::{Sent, Setup};
 use lapm_receiver::Receiver;
 use lapm_sender::Sender;
 use link_account::Answer;
-use outside_calls::NoMemory;
+use shared_terms::NoMemory;
 use std::alloc::Global;
 use xid_params::{Offer, Terms};
 

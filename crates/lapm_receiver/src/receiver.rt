@@ -6,7 +6,7 @@ ghost use Rattle.std.specs.Option.{option_map};
 use crate::slots::Slots;
 use crate::took::Took;
 use frame_check::Info;
-use outside_calls::NoMemory;
+use shared_terms::NoMemory;
 use std::alloc::Global;
 use std::marker::Model;
 

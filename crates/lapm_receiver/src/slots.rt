@@ -9,7 +9,7 @@ ghost use Rattle.lapm_receiver.specs.Slots.{is_empty, info_at, missing_among, Is
 
 use circular_buffer::HeapCircularBuffer;
 use frame_check::Info;
-use outside_calls::NoMemory;
+use shared_terms::NoMemory;
 use std::alloc::Global;
 use std::marker::Model;
 

@@ -8,7 +8,7 @@ ghost use Rattle.lapm_sender.specs.Numbers.{with_number, from_number};
 
 use circular_buffer::HeapCircularBuffer;
 use frame_check::Info;
-use outside_calls::NoMemory;
+use shared_terms::NoMemory;
 use std::alloc::Global;
 use std::marker::Model;
 

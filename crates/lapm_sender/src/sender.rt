@@ -6,7 +6,7 @@ use crate::faults::{BadAck, Spent};
 use crate::numbers::{meant_by, modulo};
 use crate::segments::Segments;
 use frame_check::Info;
-use outside_calls::NoMemory;
+use shared_terms::NoMemory;
 use std::alloc::Global;
 use std::marker::Model;
 

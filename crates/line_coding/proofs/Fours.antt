@@ -2,7 +2,7 @@
 use Rattle.std.proofs.Common.{◌≡◌, ◌∙◌, ℕ, ◌<◌, ◌/◌, ◌%◌, Bool, List, [], ◌∷◌, ◌++◌, sym, ap, arith, append-nil, nat_eq}
 use Rattle.std.specs.List.{flat_map}
 use Rattle.std.proofs.lemmas.Grind.{flat_map-append}
-use Rattle.plain_lists.specs.Bits.{low_bits}
+use Rattle.frame_check.specs.Bits.{low_bits}
 
 pub fours-more : (line : List Bool) (quads : List ℕ) (quad : ℕ) (four : List Bool) → line ≡ flat_map (low_bits 4) quads
     → low_bits 4 quad ≡ four → line ++ four ≡ flat_map (low_bits 4) (quads ++ quad ∷ [])

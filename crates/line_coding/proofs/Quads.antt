@@ -5,7 +5,7 @@ use Rattle.std.specs.List.{flat_map}
 use Rattle.std.proofs.Math.Seq.{drop-nil}
 use Rattle.std.proofs.lemmas.Bool.Decides.{nat_tests}
 use Rattle.std.proofs.lemmas.List.{ext_get_or, get_or-drop, length-drop, length-map}
-use Rattle.plain_lists.specs.Bits.{low_bits}
+use Rattle.frame_check.specs.Bits.{low_bits}
 use Rattle.trellis_tables.specs.Differential.Turned.{unturned_at, before}
 use Rattle.symbol_map.specs.Labels.{y_of, q3q4_of}
 use Rattle.symbol_map.specs.Laws.{turned_label}

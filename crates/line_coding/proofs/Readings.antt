@@ -3,7 +3,7 @@ use Rattle.std.proofs.Common.{◌≡◌, ◌∙◌, ℕ, zero, suc, ◌*◌, ◌
 use Rattle.std.proofs.Common.{All}
 use Rattle.std.specs.List.{flat_map}
 use Rattle.std.proofs.Math.Seq.{take-nil}
-use Rattle.plain_lists.specs.Bits.{low_bits}
+use Rattle.frame_check.specs.Bits.{low_bits}
 use Rattle.scramblers.specs.Scrambles.{Scrambles, Descrambles}
 use Rattle.scramblers.proofs.Readings.{Descrambles_from_Scrambles, Scrambles_from_Descrambles, Scrambles-take}
 use Rattle.trellis_tables.specs.Encoder.{Encodes}

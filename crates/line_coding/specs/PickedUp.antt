@@ -1,7 +1,7 @@
 -- What labels carry that are picked up in the middle of a line.
 use Rattle.std.specs.Prelude.{◌≡◌, ℕ, Bool, List, drop}
 use Rattle.std.specs.List.{flat_map}
-use Rattle.plain_lists.specs.Bits.{low_bits}
+use Rattle.frame_check.specs.Bits.{low_bits}
 use Rattle.scramblers.specs.Scrambles.{Descrambles}
 use Rattle.trellis_tables.specs.LabelReader.{quads_of}
 

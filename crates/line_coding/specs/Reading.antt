@@ -1,6 +1,6 @@
 -- For which samples and bits a reader of samples stands, over a code's table of next states, its points, and what it is to read labels as bits.
 use Rattle.std.specs.Prelude.{ℕ, Bool, List, [], ◌++◌, Option, Some, None}
-use Rattle.plain_lists.specs.Bits.{low_bits}
+use Rattle.frame_check.specs.Bits.{low_bits}
 use Rattle.symbol_map.specs.declared.sample.Sample.{Sample}
 use Rattle.exact_decoder.specs.Surviving.Trellises.{trellis_of}
 use Rattle.exact_decoder.specs.Surviving.Survivors.{IsFirstLeast}

@@ -6,8 +6,8 @@ ghost use Rattle.line_coding.specs.MiddleReading.{MiddleRead, bits_taken};
 
 use crate::line::LineReader;
 use exact_decoder::Lost;
-use outside_calls::NoMemory;
 use scramblers::Mode;
+use shared_terms::NoMemory;
 use std::alloc::Global;
 use std::marker::Model;
 use symbol_map::Sample;

@@ -8,8 +8,8 @@ ghost use Rattle.exact_decoder.specs.Batches.{heard_of};
 
 use crate::demodulator::Demodulate;
 use exact_decoder::{Decoder, Lost, Tail, ViterbiStep};
-use outside_calls::NoMemory;
 use scramblers::Mode;
+use shared_terms::NoMemory;
 use std::alloc::Global;
 use std::marker::Model;
 use symbol_map::Sample;

@@ -1,6 +1,6 @@
 // The scrambler and the descrambler of either mode.
 ghost use Rattle.std.specs.Prelude.{◌≡◌, ◌<◌, Bool, List, [], ◌∷◌, ◌++◌};
-ghost use Rattle.plain_lists.specs.Bits.{low_bits};
+ghost use Rattle.frame_check.specs.Bits.{low_bits};
 ghost use Rattle.scramblers.specs.declared.mode.Mode.{Mode};
 ghost use Rattle.line_coding.specs.Modes.{ScramblesAs, DescramblesAs};
 

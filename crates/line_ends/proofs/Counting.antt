@@ -4,7 +4,7 @@ use Rattle.std.proofs.Common.{inl, inr, arith, refl, sym, ap, subst}
 use Rattle.std.specs.List.{list_any}
 use Rattle.std.proofs.lemmas.Bool.{cases_lt}
 use Rattle.std.proofs.lemmas.Bool.Decides.{nat_tests}
-use Rattle.plain_lists.specs.Bits.{number}
+use Rattle.frame_check.specs.Bits.{number}
 use Rattle.shared_terms.specs.declared.role.Role.{Role}
 use Rattle.shared_terms.specs.declared.role.Role.TheVariants.{Originator, Answerer}
 use Rattle.shared_terms.specs.Role.{other, same_role}

@@ -3,7 +3,7 @@ use Rattle.std.proofs.Common.{◌≡◌, ℕ, List, ◌∷◌, length, sym, ◌�
 use Rattle.shared_terms.specs.declared.role.Role.{Role}
 use Rattle.shared_terms.specs.Role.{other}
 use Rattle.shared_terms.specs.Both.{of}
-use Rattle.plain_lists.specs.Prefix.{IsPrefixOf}
+use Rattle.shared_terms.specs.Prefix.{IsPrefixOf}
 use Rattle.noise_script.specs.Script.{delay_of}
 use Rattle.link_run.specs.Run.{Link, Accounts, Turn, Hears}
 use Rattle.link_run.specs.Outcomes.{Outcome, Going, Done, Broken, TurnIs}

@@ -4,13 +4,13 @@ use Rattle.std.proofs.Common.{sum, Some, refl, sym, ap, subst, arith, All, appen
 use Rattle.std.proofs.Math.Nat.{mul_assoc}
 use Rattle.std.specs.List.{flat_map}
 use Rattle.std.proofs.lemmas.List.Elements.{All-nil, All-cons, All-head, All-tail}
-use Rattle.plain_lists.specs.Bits.{low_bits, number}
+use Rattle.frame_check.specs.Bits.{low_bits, number}
 use Rattle.trellis_tables.specs.Differential.Turned.{turned}
 use Rattle.trellis_tables.proofs.Turning.Places.{turned-snoc}
 use Rattle.scramblers.specs.Mode.{tap_of}
 use Rattle.scramblers.specs.Scrambles.{Scrambles}
 use Rattle.scramblers.specs.Stream.{earlier}
-use Rattle.plain_lists.specs.Xor.{xor}
+use Rattle.frame_check.specs.Xor.{xor}
 use Rattle.scramblers.proofs.Streams.{Scrambles-more}
 use Rattle.symbol_map.specs.declared.sample.Sample.{Sample}
 use Rattle.symbol_map.specs.Points.{point_of}

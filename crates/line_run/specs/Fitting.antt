@@ -5,7 +5,7 @@ use Rattle.bit_stuffing.specs.Slots as slots
 use Rattle.bit_stuffing.specs.Slots.{opening, next_phase}
 use Rattle.detection.specs.Slots.{Signal, slot_of}
 use Rattle.detection.specs.Slots.Signal.{PatternSlot, MarkSlot, FlagSlot}
-use Rattle.plain_lists.specs.Octets.{AreOctets}
+use Rattle.frame_check.specs.Octets.{AreOctets}
 
 -- What fits a slot of this size, behind so many bits of an unfinished flag: a frame that a deframer takes, behind whose closing flag
 -- the bits of TAIL symbols are left.

@@ -6,7 +6,7 @@ use Rattle.std.specs.Prelude.{IfSome}
 use Rattle.std.proofs.Math.Seq.{drop-append_seam}
 use Rattle.std.proofs.lemmas.Bool.{false≢true}
 use Rattle.std.proofs.lemmas.List.{append_assoc, drop-drop, get_or-append-add, get_or_append_left, length-take-le, take-append-drop}
-use Rattle.plain_lists.specs.Bits.{low_bits, bits_of}
+use Rattle.frame_check.specs.Bits.{low_bits, bits_of}
 use Rattle.frame_check.specs.declared.check.Check.{Check}
 use Rattle.frame_check.specs.Division.{check_of}
 use Rattle.bit_stuffing.specs.declared.slot_writer.TheConstants.{HEAD, TAIL}

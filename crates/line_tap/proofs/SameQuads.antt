@@ -3,7 +3,7 @@ use Rattle.std.proofs.Common.{◌≡◌, ◌∙◌, ℕ, zero, suc, ◌-◌, ◌
 use Rattle.std.proofs.Common.{◌⊎◌, inl, inr, ◌+◌, refl, sym, ap, subst, arith}
 use Rattle.std.specs.Prelude.{◌&&◌}
 use Rattle.std.proofs.lemmas.Bool.{eqb-true, eqb-false, and_parts, cases_lt, false≢true}
-use Rattle.plain_lists.specs.Bits.{low_bits, number_of}
+use Rattle.frame_check.specs.Bits.{low_bits, number_of}
 use Rattle.bit_stuffing.specs.BitSlot.{line_bits}
 use Rattle.bit_stuffing.proofs.Written.{length-line_bits}
 use Rattle.symbol_map.specs.Finite.{each_below, at_each}

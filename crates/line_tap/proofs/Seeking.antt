@@ -4,7 +4,7 @@ use Rattle.std.proofs.Common.{slice_index, Option, Some, None, All, refl, sym, a
 use Rattle.std.specs.Option.{option_map, option_map_or}
 use Rattle.std.proofs.lemmas.Grind.{flat_map-append}
 use Rattle.std.proofs.lemmas.List.{append_assoc, length-take-le, take-append-drop, drop-append-le, drop_all, take_at, take_more}
-use Rattle.plain_lists.specs.Bits.{low_bits, bits_of, octet_bits}
+use Rattle.frame_check.specs.Bits.{low_bits, bits_of, octet_bits}
 use Rattle.bit_stuffing.specs.declared.piece.Piece.{Piece}
 use Rattle.bit_stuffing.specs.declared.piece.Piece.TheVariants.{Whole}
 use Rattle.bit_stuffing.specs.BitSlot.{line_bits}

@@ -20,9 +20,8 @@ use crate::listener::{Listener, agreed_check};
 use bit_stuffing::{HEAD, TAIL};
 use frame_check::SLOT;
 use lapm_frames::Sent;
-use outside_calls::NoMemory;
 use sample_line::{Framing, LabelSlot};
-use shared_terms::Role;
+use shared_terms::{NoMemory, Role};
 use std::alloc::Global;
 use xid_params::Terms;
 

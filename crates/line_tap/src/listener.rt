@@ -21,8 +21,8 @@ use break_signals::{BreakReceiver, BreakWord, read_break};
 use frame_check::{Check, Info};
 use lapm_frames::{Frame, Heard, Sent};
 use lapm_receiver::Receiver;
-use outside_calls::{Folder, FolderFault, NoMemory};
-use shared_terms::Role;
+use outside_calls::{Folder, FolderFault};
+use shared_terms::{NoMemory, Role};
 use std::alloc::Global;
 use xid_params::Terms;
 

@@ -7,7 +7,7 @@ use Rattle.std.proofs.lemmas.List.{append-nil, append_assoc}
 use Rattle.std.proofs.lemmas.List.Folds.{concat-append}
 use Rattle.std.specs.Prelude.{slice_index_or, is_some, unwrap_or}
 use Rattle.std.specs.List.{concat}
-use Rattle.plain_lists.specs.Prefix.{IsPrefixOf}
+use Rattle.shared_terms.specs.Prefix.{IsPrefixOf}
 use Rattle.outside_calls.specs.Folder.{FolderState, held_at, octets_at, GoesOn, OnlyWrites, Appended, PartlyAppended, Adds}
 use Rattle.outside_calls.proofs.Steps.{GoesOn-refl, GoesOn-trans, KeepsName-trans, told_later, octets-kept, octets-held}
 use Rattle.lapm_receiver.specs.Incoming.{after_delivered}

@@ -15,10 +15,9 @@ use frame_check::Check;
 use lapm_frames::Sent;
 use line_run::direction::losses_stay;
 use noise_script::Script;
-use outside_calls::NoMemory;
 use sample_line::laws::recordings_grow;
 use sample_line::{Heard, LabelSlot, Line};
-use shared_terms::Role;
+use shared_terms::{NoMemory, Role};
 use std::alloc::Global;
 
 /// A direction of the line: what its sender sends arrives so many turns later, behind what was sent before.

@@ -17,9 +17,8 @@ use bit_stuffing::{HEAD, TAIL};
 use frame_check::Check;
 use line_run::laws::{scripts_make_links, slots_have_room};
 use noise_script::Script;
-use outside_calls::NoMemory;
 use sample_line::{Heard, Line};
-use shared_terms::{Both, Role};
+use shared_terms::{Both, NoMemory, Role};
 use std::alloc::Global;
 
 /// How the line ends a run as a turn begins. The role is that of the end that hears.

@@ -20,9 +20,8 @@ use bit_stuffing::BitSlot;
 use frame_check::Check;
 use lapm_frames::Sent;
 use noise_script::Script;
-use outside_calls::NoMemory;
 use sample_line::{Heard, Line};
-use shared_terms::{Both, Role};
+use shared_terms::{Both, NoMemory, Role};
 use std::alloc::Global;
 
 /// The line of a script with its ends' coders: what they send is coded once, where it is sent.

@@ -25,8 +25,8 @@ use lapm_link::{Arrived, LinkFault, Phase, Sent, Setup};
 use line_run::Names;
 use line_run::laws::scripts_make_links;
 use noise_script::Script;
-use outside_calls::{Folder, FolderFault, NoMemory};
-use shared_terms::{Both, RUN_FILE_LIMIT, Role};
+use outside_calls::{Folder, FolderFault};
+use shared_terms::{Both, NoMemory, RUN_FILE_LIMIT, Role};
 use std::alloc::Global;
 
 /// Two stations.

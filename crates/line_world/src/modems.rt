@@ -35,9 +35,9 @@ use link_run::laws::{
     segments_are_counted_by_their_numbers,
 };
 use noise_script::Script;
-use outside_calls::{Folder, NoMemory};
+use outside_calls::Folder;
 use sample_line::Heard;
-use shared_terms::{Both, Role};
+use shared_terms::{Both, NoMemory, Role};
 use std::alloc::Global;
 
 /// Two ends of a link with their users, as a turn takes them.

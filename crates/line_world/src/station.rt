@@ -8,7 +8,8 @@ use lapm_link::{AnyEnd, Arrived, Broken, Closed, Detecting, LinkFault, Phase, Se
 use link_run::laws::{
     pieces_are_offered_until_none_is_wanted, segments_are_offered_as_they_are_read,
 };
-use outside_calls::{Folder, FolderFault, NoMemory};
+use outside_calls::{Folder, FolderFault};
+use shared_terms::NoMemory;
 use std::alloc::Global;
 use std::mem::replace;
 

@@ -15,9 +15,9 @@ use bit_stuffing::BitSlot;
 use line_run::RunFault;
 use line_run::laws::{line_runs_end_soon, scripts_make_links, slots_are_due_alone};
 use noise_script::Script;
-use outside_calls::{Folder, NoMemory};
+use outside_calls::Folder;
 use sample_line::Line;
-use shared_terms::Role;
+use shared_terms::{NoMemory, Role};
 use std::alloc::Global;
 
 /// Two ends with their users, and the line between them.

@@ -23,7 +23,7 @@ pub use Rattle.link_account.specs.Laws.{MayPlay}
 pub use Rattle.link_account.specs.Play.{Play, Slot, arrives}
 pub use Rattle.link_account.specs.Speak.{Said, frame_for, may_send, nr_of, ready_frame, says, speak, speak_in, speak_linked}
 pub use Rattle.link_account.specs.Speak.{speak_releasing, spent, steps}
-pub use Rattle.plain_lists.specs.Prefix.{IsPrefixOf}
+pub use Rattle.shared_terms.specs.Prefix.{IsPrefixOf}
 pub use Rattle.shared_terms.specs.Both.{Both, of}
 pub use Rattle.shared_terms.specs.Role.{is_originator, other}
 pub use Rattle.shared_terms.specs.declared.fault.LinkFault.{LinkFault}

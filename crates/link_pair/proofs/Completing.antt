@@ -1,7 +1,7 @@
 -- Where the inputs are right and the line carries both links to their ends, they are done, but for want of memory.
 use Rattle.std.proofs.Common.{◌≡◌, ◌⊎◌, inl, inr, ℕ, ◌+◌, ◌≤◌, ◌<◌, IsTrue, List, [], ◌∷◌, length, refl, sym, ◌∙◌, ap, subst, arith}
 use Rattle.std.proofs.Common.{Result, Err}
-use Rattle.plain_lists.specs.Octets.{AreOctets}
+use Rattle.frame_check.specs.Octets.{AreOctets}
 use Rattle.outside_calls.specs.Folder.{FolderState, octets_at}
 use Rattle.outside_calls.specs.Outputs.{HoldEach, OnlyOutputs, KeepsEach}
 use Rattle.outside_calls.proofs.Putting.{HoldEach-kept}

@@ -1,7 +1,7 @@
 -- From every answer to the headline.
 use Rattle.std.proofs.Common.{◌≡◌, ◌⊎◌, inl, inr, ℕ, Bool, true, false, List, [], ◌++◌, Some, Err, refl, sym, ◌∙◌, ap, subst}
 use Rattle.std.specs.Option.{option_map}
-use Rattle.plain_lists.specs.Octets.{AreOctets}
+use Rattle.frame_check.specs.Octets.{AreOctets}
 use Rattle.outside_calls.specs.Folder.{FolderState, GoesOn, octets_at}
 use Rattle.outside_calls.proofs.Steps.{told_later}
 use Rattle.outside_calls.specs.Outputs.{Holds, HoldEach, KeepsAll, OnlyOutputs}

@@ -3,7 +3,7 @@ use Rattle.std.proofs.Common.{◌≡◌, inl, inr, ℕ, suc, List, [], ◌∷◌
 use Rattle.std.proofs.Common.{append-nil}
 use Rattle.std.proofs.lemmas.List.Folds.{concat-append}
 use Rattle.std.specs.List.{concat}
-use Rattle.plain_lists.specs.Prefix.{IsPrefixOf}
+use Rattle.shared_terms.specs.Prefix.{IsPrefixOf}
 use Rattle.outside_calls.specs.Folder.{FolderState, GoesOn}
 use Rattle.outside_calls.specs.Outputs.{Holds, HoldsPart, HoldEach, HoldPart, KeptOrEmpty, KeepsAll, KeepsEach, CreatesPart}
 use Rattle.shared_terms.specs.declared.role.Role.{Role}

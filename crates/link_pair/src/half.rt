@@ -21,8 +21,8 @@ use line_run::laws::scripts_make_links;
 use line_world::{LineEnd, Lines, Modems, Names, Step, write_chance};
 use link_run::laws::turns_deliver_what_came;
 use noise_script::Script;
-use outside_calls::{Folder, NoMemory};
-use shared_terms::{Both, Role};
+use outside_calls::Folder;
+use shared_terms::{Both, NoMemory, Role};
 use std::alloc::Global;
 
 /// How a link of a pair ended, and in which turn.

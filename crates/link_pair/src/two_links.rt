@@ -11,7 +11,8 @@ use line_run::RunFault;
 use line_run::laws::scripts_make_links;
 use line_world::{Lines, Names};
 use noise_script::Script;
-use outside_calls::{Folder, NoMemory};
+use outside_calls::Folder;
+use shared_terms::NoMemory;
 use std::alloc::Global;
 
 /// The names of a pair's files: those of the first link, and those of the second.

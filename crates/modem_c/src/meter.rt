@@ -1,6 +1,6 @@
 // How good a decoding is.
 ghost use Rattle.std.specs.Prelude.{◌≡◌, ◌*◌, ◌/◌, ◌≤◌, ◌++◌, [], Bool, List, Some, None, MatchResult, length, nat_lt};
-ghost use Rattle.plain_lists.specs.Bits.{number};
+ghost use Rattle.frame_check.specs.Bits.{number};
 ghost use Rattle.scramblers.specs.declared.mode.Mode.{Mode};
 ghost use Rattle.symbol_map.specs.declared.sample.Sample.{Sample};
 ghost use Rattle.noise_bound.specs.Near.{sure};

@@ -1,7 +1,7 @@
 // What ends offer one another by XID, and what they agree on.
 ghost use Rattle.std.specs.Prelude.{◌≡◌, ◌≤◌, ◌↔◌, Bool, IsTrue, MatchOption, length};
 ghost use Rattle.frame_check.specs.declared.sizes.TheConstants.{INFO};
-ghost use Rattle.plain_lists.specs.Bits as bits;
+ghost use Rattle.frame_check.specs.Bits as bits;
 ghost use Rattle.xid_params.specs.declared.offer.Offer.{Offer};
 ghost use Rattle.xid_params.specs.declared.terms.Terms.{Terms};
 ghost use Rattle.xid_params.specs.Faults.{place_of};

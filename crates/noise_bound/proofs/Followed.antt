@@ -10,7 +10,7 @@ use Rattle.trellis_tables.specs.Table.{next_state}
 use Rattle.trellis_tables.specs.Laws.{far_from}
 use Rattle.trellis_tables.proofs.Sequences.{Leads-take}
 use Rattle.exact_decoder.specs.Surviving.Trellises.{IsSequence, HasLaws}
-use Rattle.plain_lists.specs.Prefix.{IsPrefixOf}
+use Rattle.shared_terms.specs.Prefix.{IsPrefixOf}
 use Rattle.exact_decoder.specs.Surviving.Orders.{Beats}
 use Rattle.exact_decoder.specs.Surviving.Survivors.{IsSurvivor, IsReleased, LostIs}
 use Rattle.exact_decoder.proofs.Surviving.Fronts.{lost-once}

@@ -6,8 +6,8 @@ use Rattle.std.proofs.lemmas.Bool.{cases_lt}
 use Rattle.std.proofs.lemmas.Bool.Decides.{nat_tests}
 use Rattle.std.proofs.lemmas.List.{ext_get_or, get_or-take, get_or_append_left, take_at, take-append-le, take-append-drop, take-map}
 use Rattle.std.proofs.lemmas.List.{length-take-le}
-use Rattle.plain_lists.specs.Bits.{low_bits}
-use Rattle.plain_lists.specs.Prefix.{IsPrefixOf}
+use Rattle.frame_check.specs.Bits.{low_bits}
+use Rattle.shared_terms.specs.Prefix.{IsPrefixOf}
 use Rattle.scramblers.specs.declared.mode.Mode.{Mode}
 use Rattle.scramblers.specs.Mode.{tap_of}
 use Rattle.scramblers.specs.Stream.{earlier}

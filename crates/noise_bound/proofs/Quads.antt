@@ -4,8 +4,8 @@ use Rattle.std.proofs.Common.{length-append, refl, sym, ◌∙◌, ap}
 use Rattle.std.specs.List.{flat_map}
 use Rattle.std.proofs.lemmas.Grind.{flat_map-append}
 use Rattle.std.proofs.lemmas.List.{take_at, take-append-drop, get_or-drop, get_or_append_left, length-map}
-use Rattle.plain_lists.specs.Bits.{low_bits}
-use Rattle.plain_lists.specs.Prefix.{IsPrefixOf}
+use Rattle.frame_check.specs.Bits.{low_bits}
+use Rattle.shared_terms.specs.Prefix.{IsPrefixOf}
 use Rattle.symbol_map.specs.Labels.{q3q4_of, y_of}
 use Rattle.symbol_map.specs.Laws.{turned_label}
 use Rattle.trellis_tables.specs.Differential.Turned.{unturned_at}

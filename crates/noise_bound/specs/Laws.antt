@@ -1,6 +1,6 @@
 -- Laws of recordings with little noise, and of the same after a quarter turn.
 use Rattle.std.specs.Prelude.{◌≡◌, ◌≢◌, ℕ, ◌<◌, ◌≤◌, Bool, List, length, map, take, slice_index, None}
-use Rattle.plain_lists.specs.Prefix.{IsPrefixOf}
+use Rattle.shared_terms.specs.Prefix.{IsPrefixOf}
 use Rattle.scramblers.specs.declared.mode.Mode.{Mode}
 use Rattle.scramblers.specs.Stream.{bit_at_place}
 use Rattle.symbol_map.specs.declared.sample.Sample.{Sample}

@@ -1,6 +1,6 @@
 -- What is released of a recording and of the same after a quarter turn, and how the two may differ.
 use Rattle.std.specs.Prelude.{◌≡◌, ℕ, ◌+◌, ◌⊎◌, Bool, List, map, take}
-use Rattle.plain_lists.specs.Prefix.{IsPrefixOf}
+use Rattle.shared_terms.specs.Prefix.{IsPrefixOf}
 use Rattle.symbol_map.specs.declared.sample.Sample.{Sample}
 use Rattle.symbol_map.specs.Distance.{quarter_turned}
 use Rattle.exact_decoder.specs.Surviving.Survivors.{IsReleased}

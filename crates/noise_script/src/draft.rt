@@ -9,8 +9,7 @@ ghost use Rattle.noise_script.specs.Script.{IsInLimits};
 use crate::entry::{Delays, Entry, Length, Window};
 use crate::offered::{NOTHING_OFFERED, Offered};
 use crate::{Break, Hit, Loss, Noise, Pause, Script};
-use outside_calls::NoMemory;
-use shared_terms::Role;
+use shared_terms::{NoMemory, Role};
 use std::alloc::Global;
 
 pub(crate) struct Draft {

@@ -2,7 +2,7 @@
 ghost use Rattle.std.specs.Prelude.{◌≡◌};
 
 use crate::Cause;
-use outside_calls::NoMemory;
+use shared_terms::NoMemory;
 
 /// Why a text is read as no script.
 #[derive(Clone, Copy, Debug, PartialEq, Eq)]

@@ -1,6 +1,6 @@
 -- What an output holds after one step more.
 use Rattle.std.proofs.Common.{◌∙◌, inl, inr, ℕ, List, [], ◌++◌, Some, refl, sym, ap, subst, append-nil, append_assoc}
-use Rattle.plain_lists.specs.Prefix.{IsPrefixOf}
+use Rattle.shared_terms.specs.Prefix.{IsPrefixOf}
 use Rattle.outside_calls.specs.Folder.{FolderState, GoesOn, KeepsName, Adds, Appended, PartlyAppended}
 use Rattle.outside_calls.proofs.Steps.{octets-held}
 use Rattle.outside_calls.specs.Outputs.{Holds, HoldsFront, HoldsPart}

@@ -1,7 +1,7 @@
 -- What a command leaves of its outputs. What is said of a name holds where the folder tells it; a name that holds no octets
 -- is held.
 use Rattle.std.specs.Prelude.{◌≡◌, ◌≢◌, ◌⊎◌, ℕ, ◌++◌, IsTrue, List, [], ◌∷◌, Some, Result, IsErrOf}
-use Rattle.plain_lists.specs.Prefix.{IsPrefixOf}
+use Rattle.shared_terms.specs.Prefix.{IsPrefixOf}
 use Rattle.outside_calls.specs.Folder.{FolderState, held_at, GoesOn, KeepsName, Adds, PartlyAppended, Rose}
 use Rattle.outside_calls.specs.declared.folder.FolderFault.{FolderFault}
 use Rattle.outside_calls.specs.declared.folder.FolderFault.TheVariants.{Failed, NoMemory}

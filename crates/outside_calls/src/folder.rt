@@ -2,7 +2,6 @@
 ghost use Rattle.std.specs.Prelude.{◌⊎◌, ◌≤◌, length, IfOk, OnOk, OnErr, IsErrOf};
 ghost use Rattle.outside_calls.specs.Folder.{FolderState, OnlyReads, OnlyWrites, OnlySays, KeepsName, HasCause, FaultsStand, CountsStand, ReadsFront, TellsOctets, Appended, PartlyAppended, Created, Said, PartlySaid, IsFaultOf};
 
-use std::alloc::{AllocError, AllocFailed};
 use std::io::{self, ErrorKind};
 use thiserror::Error;
 
@@ -25,23 +24,6 @@ impl From<io::Error> for FolderFault {
             ErrorKind::OutOfMemory => FolderFault::NoMemory,
             _ => FolderFault::Failed,
         }
-    }
-}
-
-/// Memory was not found.
-#[derive(Clone, Copy, Debug, PartialEq, Eq, Error)]
-#[error("no memory")]
-pub struct NoMemory;
-
-impl From<AllocError> for NoMemory {
-    fn from(_error: AllocError) -> NoMemory {
-        NoMemory
-    }
-}
-
-impl<T: Drop> From<AllocFailed<T>> for NoMemory {
-    fn from(_error: AllocFailed<T>) -> NoMemory {
-        NoMemory
     }
 }
 

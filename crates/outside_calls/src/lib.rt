@@ -1,4 +1,4 @@
-//! What a program asks of what is outside it: a folder of named files with a place to say lines, and memory.
+//! What a program asks of what is outside it: a folder of named files with a place to say lines.
 //!
 //! [`Folder`] is what a program is written against. It says of each call what it reads, writes or says, what it leaves
 //! alone, and which count rose where the call failed. `specs/Outputs.antt` says what a folder holds of outputs that are written piece by
@@ -7,4 +7,4 @@
 
 mod folder;
 
-pub use folder::{Folder, FolderFault, NoMemory};
+pub use folder::{Folder, FolderFault};

@@ -7,5 +7,6 @@
 mod memory;
 
 pub use memory::MemoryFolder;
-pub use outside_calls::{Folder, FolderFault, NoMemory};
+pub use outside_calls::{Folder, FolderFault};
 pub use program_folders::{DiskFolder, SureFolder, copy_from, fill, write_all};
+pub use shared_terms::NoMemory;

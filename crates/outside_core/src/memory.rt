@@ -5,8 +5,9 @@ ghost use Rattle.std.specs.FinMap as finite;
 ghost use Rattle.outside_calls.specs.Folder.{ReadsFront, OnlyReads, OnlyWrites, OnlySays, HasCause, FaultsStand, CountsStand, TellsOctets, KeepsName, Appended, PartlyAppended, Created, Said, PartlySaid};
 ghost use Rattle.outside_core.specs.Memory.{memory_folder, FailsNext, AfterRead, AfterWrite};
 
-use outside_calls::{Folder, FolderFault, NoMemory};
+use outside_calls::{Folder, FolderFault};
 use program_folders::{Store, copy_from};
+use shared_terms::NoMemory;
 use std::alloc::Global;
 use std::marker::Model;
 

@@ -12,7 +12,7 @@ use Rattle.std.specs.declared.cmp.Ordering.TheVariants.{Less, Equal, Greater}
 use Rattle.std.proofs.lemmas.Slice.Eq.{bytes_eq-Decides}
 use Rattle.outside_calls.specs.Folder.{Files, FolderState, held_at, octets_at, raised, Rose, CountsStand, KeepsName, OnlyReads, OnlyWrites}
 use Rattle.outside_calls.specs.Folder.{HasCause}
-use Rattle.plain_lists.specs.Octets.{AreOctets}
+use Rattle.frame_check.specs.Octets.{AreOctets}
 use Rattle.outside_calls.specs.Folder.{ReadsFront, TellsOctets, Appended, Created}
 use Rattle.outside_calls.specs.declared.folder.FolderFault.{FolderFault}
 use Rattle.program_folders.specs.Audited.{Swallowed, audit_tells, sum_of, audit_state}

@@ -1,7 +1,7 @@
 -- What a whole read or write does to the octets that a reader has left or a writer holds, where those are known.
 use Rattle.std.specs.Prelude.{ℕ, ◌<◌, List, length, Option}
 use Rattle.std.specs.Io.KnownBytes.{Appends, Consumes, IsAtEnd}
-use Rattle.plain_lists.specs.Prefix.{IsPrefixOf}
+use Rattle.shared_terms.specs.Prefix.{IsPrefixOf}
 
 -- a prefix of the piece was put behind what the writer held
 abbrev pub AppendsPart : Option (List ℕ) → Option (List ℕ) → List ℕ → Type 0

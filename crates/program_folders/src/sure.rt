@@ -7,7 +7,8 @@ ghost use Rattle.program_folders.specs.Sure.{sure_folder, counted, AfterSureWrit
 
 use crate::store::Store;
 use crate::transfer::copy_from;
-use outside_calls::{Folder, FolderFault, NoMemory};
+use outside_calls::{Folder, FolderFault};
+use shared_terms::NoMemory;
 use std::alloc::Global;
 use std::marker::Model;
 

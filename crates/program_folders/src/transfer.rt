@@ -1,7 +1,7 @@
 // Octets between files and buffers.
 ghost use Rattle.std.specs.Prelude.{◌≡◌, ◌≤◌, ◌-◌, ◌++◌, length, take, drop, min, IfOk, OnOk, OnErr};
 ghost use Rattle.std.specs.Io.KnownBytes.{Appends};
-ghost use Rattle.plain_lists.specs.Octets.{AreOctets};
+ghost use Rattle.frame_check.specs.Octets.{AreOctets};
 ghost use Rattle.program_folders.specs.Transfer.{AppendsPart, ReadsUp};
 
 use outside_calls::FolderFault;

@@ -1,7 +1,7 @@
 -- What bits labels carry.
 use Rattle.std.specs.Prelude.{ℕ, Bool, List}
 use Rattle.std.specs.List.{flat_map}
-use Rattle.plain_lists.specs.Bits.{low_bits}
+use Rattle.frame_check.specs.Bits.{low_bits}
 use Rattle.scramblers.specs.Scrambles.{Descrambles}
 use Rattle.scramblers.specs.declared.mode.Mode.{Mode}
 use Rattle.trellis_tables.specs.Differential.Turned.{unturned}

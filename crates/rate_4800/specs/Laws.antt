@@ -1,7 +1,7 @@
 -- Laws of the four-point code: what its decoder makes of samples, and that bits come back.
 use Rattle.std.specs.Prelude.{◌≡◌, ℕ, ◌<◌, Bool, List, All, ◌∷◌, ◌++◌, length, nat_eq}
 use Rattle.std.specs.List.{flat_map}
-use Rattle.plain_lists.specs.Bits.{low_bits}
+use Rattle.frame_check.specs.Bits.{low_bits}
 use Rattle.scramblers.specs.Scrambles.{Scrambles}
 use Rattle.symbol_map.specs.declared.sample.Sample.{Sample}
 use Rattle.symbol_map.specs.Distance.{distance_of}

@@ -1,7 +1,7 @@
 -- What a modulator makes of bits.
 use Rattle.std.specs.Prelude.{◌≡◌, ℕ, ◌<◌, Bool, List, All, map}
 use Rattle.std.specs.List.{flat_map}
-use Rattle.plain_lists.specs.Bits.{low_bits}
+use Rattle.frame_check.specs.Bits.{low_bits}
 use Rattle.scramblers.specs.Scrambles.{Scrambles}
 use Rattle.scramblers.specs.declared.mode.Mode.{Mode}
 use Rattle.trellis_tables.specs.Differential.Turned.{turned}

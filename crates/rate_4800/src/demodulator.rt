@@ -1,12 +1,12 @@
 // Labels become bits.
 ghost use Rattle.std.specs.Prelude.{◌≡◌, ◌<◌, ◌^◌, ℕ, Bool, List, [], ◌∷◌, ◌++◌};
-ghost use Rattle.plain_lists.specs.Bits.{low_bits};
+ghost use Rattle.frame_check.specs.Bits.{low_bits};
 ghost use Rattle.scramblers.specs.declared.mode.Mode.{Mode};
 ghost use Rattle.rate_4800.specs.Demodulates.{DemodulatorStands};
 
-use trellis_tables::differential::Unturner;
 use line_coding::{Demodulate, ModeDescrambler};
 use scramblers::Mode;
+use trellis_tables::differential::Unturner;
 
 /// A demodulator of what a modem of a mode sent. The register of its descrambler is zero and the label 0 before the first.
 #[derive(Drop)]

@@ -1,16 +1,16 @@
 // Bits become samples.
 ghost use Rattle.std.specs.Prelude.{◌≡◌, ◌<◌, Bool, List, [], ◌∷◌, ◌++◌};
-ghost use Rattle.plain_lists.specs.Bits.{low_bits};
+ghost use Rattle.frame_check.specs.Bits.{low_bits};
 ghost use Rattle.scramblers.specs.declared.mode.Mode.{Mode};
 ghost use Rattle.symbol_map.specs.declared.sample.Sample.{Sample};
 ghost use Rattle.rate_4800.specs.Modulates.{ModulatorStands};
 
 use crate::code::Rate4800;
-use trellis_tables::differential::Turner;
 use line_coding::ModeScrambler;
 use scramblers::Mode;
 use symbol_map::Sample;
 use trellis_tables::TrellisCode;
+use trellis_tables::differential::Turner;
 
 /// A modulator of a mode. The register of its scrambler is zero and its sum of turns 0 before the first bit.
 #[derive(Drop)]

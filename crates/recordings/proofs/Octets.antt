@@ -3,7 +3,7 @@ use Rattle.std.proofs.Common.{◌≡◌, ◌∙◌, ℕ, ◌+◌, ◌/◌, ◌%�
 use Rattle.std.proofs.Common.{append_assoc, length-append}
 use Rattle.std.specs.List.{flat_map}
 use Rattle.std.proofs.lemmas.Grind.{flat_map-append}
-use Rattle.plain_lists.specs.Bits.{low_bits, octet_bits, bits_of}
+use Rattle.frame_check.specs.Bits.{low_bits, octet_bits, bits_of}
 use Rattle.symbol_map.specs.declared.sample.Sample.{Sample}
 use Rattle.recordings.specs.Recording.{sample_octets}
 

@@ -1,6 +1,6 @@
 -- What is promised of a received file. What is said of a name's octets holds where the folder tells that name.
 use Rattle.std.specs.Prelude.{◌≡◌, ◌⊎◌, ℕ, IsTrue, List, Some}
-use Rattle.plain_lists.specs.Prefix.{IsPrefixOf}
+use Rattle.shared_terms.specs.Prefix.{IsPrefixOf}
 use Rattle.outside_calls.specs.Folder.{FolderState, held_at, octets_at, KeepsName}
 
 -- a received file is as it was, or holds the beginning of the other end's file

@@ -8,7 +8,7 @@ use Rattle.std.proofs.lemmas.List.{length-map, take-append-drop, take-map}
 use Rattle.std.proofs.lemmas.List.Elements.{All-nil, All-take}
 use Rattle.frame_check.specs.declared.check.Check.{Check}
 use Rattle.frame_check.proofs.Checks.{fronts-one}
-use Rattle.plain_lists.specs.Bits.{low_bits}
+use Rattle.frame_check.specs.Bits.{low_bits}
 use Rattle.scramblers.specs.Mode.{tap_of}
 use Rattle.scramblers.proofs.Readings.{Scrambles_once, Scrambles-take, Descrambles_once}
 use Rattle.symbol_map.specs.declared.sample.Sample.{Sample}

@@ -20,8 +20,7 @@ use exact_decoder::Lost;
 use frame_check::Check;
 use lapm_frames::Sent;
 use noise_script::Script;
-use outside_calls::NoMemory;
-use shared_terms::Role;
+use shared_terms::{NoMemory, Role};
 use std::alloc::Global;
 use std::marker::Model;
 

@@ -13,8 +13,7 @@ use crate::transmitter::{BATCH, Transmitter};
 use crate::{LabelSlot, mode_of};
 use exact_decoder::Lost;
 use noise_script::Script;
-use outside_calls::NoMemory;
-use shared_terms::Role;
+use shared_terms::{NoMemory, Role};
 use std::alloc::Global;
 use symbol_map::Sample;
 

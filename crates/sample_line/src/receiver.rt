@@ -1,6 +1,6 @@
 // The receiver behind the decoder: what is found in the bits.
 ghost use Rattle.std.specs.Prelude.{◌≡◌, ◌<◌, true, false, Some, ℕ, Bool, List, [], ◌∷◌, ◌++◌};
-ghost use Rattle.plain_lists.specs.Bits.{low_bits};
+ghost use Rattle.frame_check.specs.Bits.{low_bits};
 ghost use Rattle.bit_stuffing.specs.Deframer.{DeframerStands};
 ghost use Rattle.bit_stuffing.specs.declared.piece.Piece.{Piece};
 ghost use Rattle.shared_terms.specs.declared.role.Role.{Role};

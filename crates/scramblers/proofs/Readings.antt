@@ -6,7 +6,7 @@ use Rattle.std.proofs.lemmas.Bool.Decides.{nat_tests}
 use Rattle.std.proofs.lemmas.Bool.{cases_lt}
 use Rattle.std.proofs.lemmas.List.{ext_get_or}
 use Rattle.scramblers.specs.Stream.{bit_at_place, earlier}
-use Rattle.plain_lists.specs.Xor.{xor}
+use Rattle.frame_check.specs.Xor.{xor}
 use Rattle.scramblers.specs.Scrambles.{Scrambles, Descrambles}
 use Rattle.scramblers.specs.Laws.{SameBefore}
 

@@ -1,7 +1,7 @@
 -- Scrambling with the generating polynomial 1 + x^-tap + x^-23, and its inverse, as equations of two lists of bits.
 use Rattle.std.specs.Prelude.{◌≡◌, ℕ, ◌<◌, Bool, List, length}
 use Rattle.scramblers.specs.Stream.{bit_at_place, earlier}
-use Rattle.plain_lists.specs.Xor.{xor}
+use Rattle.frame_check.specs.Xor.{xor}
 
 -- each bit of the line is the input's bit at its place, turned by the line's own bits tap places and 23 places before
 pub record Scrambles (tap : ℕ) (input line : List Bool) : Type 0 where

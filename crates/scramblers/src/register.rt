@@ -1,7 +1,7 @@
 // The latest bits of a line, as a number: the last one highest.
 ghost use Rattle.std.specs.Prelude.{◌≡◌, ℕ, ◌-◌, ◌<◌, ◌≤◌, List, Bool, [], ◌∷◌, ◌++◌, length};
 ghost use Rattle.std.specs.Int.{bit_at};
-ghost use Rattle.plain_lists.specs.Bits.{low_bits};
+ghost use Rattle.frame_check.specs.Bits.{low_bits};
 ghost use Rattle.scramblers.specs.Stream.{earlier};
 ghost use Rattle.scramblers.specs.Register.{number, Holds};
 

@@ -1,6 +1,6 @@
 // The scrambler.
 ghost use Rattle.std.specs.Prelude.{◌≡◌, ◌<◌, ◌≤◌, List, Bool, [], ◌∷◌, ◌++◌};
-ghost use Rattle.plain_lists.specs.Bits.{low_bits};
+ghost use Rattle.frame_check.specs.Bits.{low_bits};
 ghost use Rattle.scramblers.specs.Machines.{ScramblerStands};
 
 use crate::register::{DEGREE, bit_before, four_before, shifted, shifted_by_four};

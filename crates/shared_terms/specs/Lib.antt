@@ -1,3 +1,4 @@
+pub mod Prefix
 pub mod Role
 pub mod Both
 pub mod Timer

@@ -8,6 +8,7 @@ mod both;
 mod cause;
 mod fault;
 mod limits;
+mod memory;
 mod role;
 mod timer;
 
@@ -16,5 +17,6 @@ pub use both::Both;
 pub use cause::Cause;
 pub use fault::LinkFault;
 pub use limits::{FILE_LIMIT, RUN_FILE_LIMIT};
+pub use memory::NoMemory;
 pub use role::Role;
 pub use timer::{is_expired, wait, waited_since};

@@ -3,8 +3,8 @@ ghost use Rattle.std.specs.Prelude.{◌≡◌, ◌+◌, ◌≤◌, ◌<◌, [], 
 
 use super::assert_row;
 use exact_decoder::{Decoder, Lost, ViterbiStep};
-use outside_calls::NoMemory;
 use rate_4800::Rate4800;
+use shared_terms::NoMemory;
 use std::alloc::Global;
 use std::process::Abort;
 use symbol_map::{Sample, distance};

@@ -2,8 +2,8 @@
 ghost use Rattle.std.specs.Prelude.{◌≡◌, [], OnOk};
 
 use line_coding::{LineReader, MiddleReader, Modulator, Taken};
-use outside_calls::NoMemory;
 use scramblers::Mode;
+use shared_terms::NoMemory;
 use std::alloc::Global;
 use std::process::Abort;
 use symbol_map::Sample;

@@ -1,8 +1,8 @@
 // The rate of 4800 bit/s.
 use line_coding::Demodulate;
-use outside_calls::NoMemory;
 use rate_4800::{Demodulator, Modulator, QuarterReader, Rate4800};
 use scramblers::Mode;
+use shared_terms::NoMemory;
 use std::alloc::Global;
 use symbol_map::Sample;
 

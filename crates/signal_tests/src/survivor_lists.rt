@@ -3,7 +3,7 @@ ghost use Rattle.std.specs.Prelude.{◌≡◌, ◌<◌, ◌≤◌, ◌^◌, [], 
 
 use super::assert_row;
 use exact_decoder::{Decoder, Lost};
-use outside_calls::NoMemory;
+use shared_terms::NoMemory;
 use std::alloc::Global;
 use std::process::Abort;
 use symbol_map::{Sample, distance};

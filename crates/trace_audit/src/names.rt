@@ -6,7 +6,7 @@ ghost use Rattle.trace_audit.specs.Made.{names_written};
 
 use crate::AuditWords;
 use line_world::Names;
-use outside_calls::NoMemory;
+use shared_terms::NoMemory;
 use std::alloc::Global;
 
 /// The names of the three outputs that a run would write. They differ from one another and from all names of the audit, since they are

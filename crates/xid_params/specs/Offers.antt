@@ -8,7 +8,7 @@ use Rattle.xid_params.specs.declared.parameter.Parameter.TheVariants.{Functions,
 use Rattle.xid_params.specs.Parts.{Part, group_octets, named}
 use Rattle.xid_params.specs.Parameters.{identifier_of, stands_well, offer_of, ParametersSpell}
 use Rattle.xid_params.specs.Terms.{default_offer}
-use Rattle.plain_lists.specs.Octets.{AreOctets}
+use Rattle.frame_check.specs.Octets.{AreOctets}
 
 -- The field begins with 82 and these groups, none of which is FF, and goes on so.
 pub record Passes (octets : List ℕ) (groups : List Part) (rest : List ℕ) : Type 0 where

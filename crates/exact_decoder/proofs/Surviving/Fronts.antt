@@ -4,7 +4,7 @@ use Rattle.std.proofs.Common.{refl, sym, ◌∙◌, ap, subst, Option, Some, Non
 use Rattle.std.proofs.lemmas.List.{append-nil, take-append-drop, take_all, take-take, take_at, take-append-le}
 use Rattle.std.proofs.lemmas.Bool.{cases_lt, cases_eq}
 use Rattle.exact_decoder.specs.Surviving.Trellises.{Trellis}
-use Rattle.plain_lists.specs.Prefix.{IsPrefixOf}
+use Rattle.shared_terms.specs.Prefix.{IsPrefixOf}
 use Rattle.exact_decoder.specs.Surviving.Survivors.{IsSurvivor, IsCommon, IsReleased, IsOver, IsLost, LostIs}
 use Rattle.exact_decoder.proofs.Surviving.Bellman.{length-snoc, survivor-cut}
 

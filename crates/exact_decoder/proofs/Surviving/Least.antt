@@ -5,7 +5,7 @@ use Rattle.std.proofs.lemmas.Bool.{cases_lt, cases_eq}
 use Rattle.std.proofs.lemmas.List.{take_at, take-take, take-append-drop}
 use Rattle.trellis_tables.specs.Sequences.{cost}
 use Rattle.exact_decoder.specs.Surviving.Trellises.{Trellis, IsSequence, HasLaws}
-use Rattle.plain_lists.specs.Prefix.{IsPrefixOf}
+use Rattle.shared_terms.specs.Prefix.{IsPrefixOf}
 use Rattle.exact_decoder.specs.Surviving.Survivors.{IsSurvivor, IsCommon, IsReleased, IsLeast}
 use Rattle.exact_decoder.proofs.Surviving.Release.{survivor-one}
 use Rattle.exact_decoder.proofs.Surviving.Bellman.{least_cost}

@@ -1,7 +1,7 @@
 -- A state has one survivor; a prefix of two lists that part is a prefix of what they share.
 use Rattle.std.proofs.Common.{◌≡◌, ◌≢◌, ℕ, ◌≤◌, ◌⊎◌, inl, inr, List, [], ◌∷◌, ◌++◌, arith, refl, sym, ◌∙◌, ap, subst, Option, Some}
 use Rattle.std.proofs.lemmas.List.{append-nil}
-use Rattle.plain_lists.specs.Prefix.{IsPrefixOf}
+use Rattle.shared_terms.specs.Prefix.{IsPrefixOf}
 use Rattle.exact_decoder.specs.Surviving.Orders.{LessFromLast, Beats}
 use Rattle.exact_decoder.specs.Surviving.Trellises.{Trellis}
 use Rattle.exact_decoder.specs.Surviving.Survivors.{IsSurvivor, IsReleased, IsFirstLeast}

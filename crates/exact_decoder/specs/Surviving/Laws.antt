@@ -1,6 +1,6 @@
 -- Laws of survivors, of what they release and of where a line is lost, each as a fact about a trellis.
 use Rattle.std.specs.Prelude.{◌≡◌, ℕ, List, ◌++◌, length, take, Option, Some}
-use Rattle.plain_lists.specs.Prefix.{IsPrefixOf}
+use Rattle.shared_terms.specs.Prefix.{IsPrefixOf}
 use Rattle.symbol_map.specs.declared.sample.Sample.{Sample}
 use Rattle.exact_decoder.specs.Surviving.Trellises.{Trellis, IsSequence, HasLaws}
 use Rattle.exact_decoder.specs.Surviving.Survivors.{IsSurvivor, IsReleased, IsLeast, IsFirstLeast, LostIs}

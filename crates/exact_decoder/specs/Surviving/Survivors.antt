@@ -1,6 +1,6 @@
 -- Survivors of a trellis against samples, what they release, and where a line is lost.
 use Rattle.std.specs.Prelude.{◌≡◌, ℕ, ◌+◌, ◌<◌, ◌≤◌, ◌⊎◌, List, length, take, Option, Some, None}
-use Rattle.plain_lists.specs.Prefix.{IsPrefixOf}
+use Rattle.shared_terms.specs.Prefix.{IsPrefixOf}
 use Rattle.trellis_tables.specs.Sequences.{cost}
 use Rattle.exact_decoder.specs.Surviving.Trellises.{Trellis, IsSequence}
 use Rattle.exact_decoder.specs.Surviving.Orders.{Beats}

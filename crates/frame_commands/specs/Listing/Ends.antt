@@ -1,7 +1,7 @@
 -- How a listing ends, before its last line is said. What is said of a name's octets holds where the folder tells that name.
 use Rattle.std.specs.Prelude.{◌≡◌, ◌⊎◌, ℕ, IsTrue, List, [], ◌∷◌, ◌++◌, length, Result, Ok, Err}
 use Rattle.outside_calls.specs.Folder.{FolderState, octets_at, Said, PartlySaid}
-use Rattle.plain_lists.specs.Bits.{bits_of}
+use Rattle.frame_check.specs.Bits.{bits_of}
 use Rattle.bit_stuffing.specs.Found.{Found, pieces_of}
 use Rattle.shared_terms.specs.declared.limits.TheConstants.{FILE_LIMIT}
 use Rattle.command_base.specs.Inputs.{IsWithin, IsLonger}

@@ -1,7 +1,7 @@
 -- How far a file of bits was heard.
 use Rattle.std.specs.Prelude.{◌≡◌, ℕ, List, []}
 use Rattle.outside_calls.specs.Folder.{FolderState, OnlyReads}
-use Rattle.plain_lists.specs.Bits.{bits_of}
+use Rattle.frame_check.specs.Bits.{bits_of}
 use Rattle.shared_terms.specs.declared.limits.TheConstants.{FILE_LIMIT}
 use Rattle.command_base.specs.Inputs.{IsWithin, ReadTo}
 use Rattle.outside_calls.specs.Outputs.{OnlyOutputs}

@@ -1,6 +1,6 @@
 -- What an end hears of the recorded bits of any peer, slot by slot.
 use Rattle.std.specs.Prelude.{◌≡◌, ℕ, ◌+◌, ◌-◌, ◌<◌, Bool, List, [], ◌∷◌, ◌++◌, length, take, replicate}
-use Rattle.plain_lists.specs.Bits.{bits_of}
+use Rattle.frame_check.specs.Bits.{bits_of}
 use Rattle.frame_check.specs.declared.check.Check.TheVariants.{Sixteen}
 use Rattle.shared_terms.specs.declared.role.Role.{Role}
 use Rattle.bit_stuffing.specs.Pieces.{EndsWhole}

@@ -1,6 +1,6 @@
 // What is heard in a stream of bits.
 ghost use Rattle.std.specs.Prelude.{◌≡◌, ◌≤◌, ◌<◌, ◌+◌, ℕ, Bool, List, [], ◌∷◌, ◌++◌, length, slice_index_or, IfSome, IfNone};
-ghost use Rattle.plain_lists.specs.Bits.{octet_bits, bits_of};
+ghost use Rattle.frame_check.specs.Bits.{octet_bits, bits_of};
 ghost use Rattle.frame_check.specs.declared.check.Check.TheVariants.{Sixteen};
 ghost use Rattle.lapm_frames.specs.declared.frame.Frame.{Frame};
 ghost use Rattle.lapm_frames.specs.Checked.{SpellsFrame};

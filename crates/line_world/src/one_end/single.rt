@@ -23,8 +23,8 @@ use detection::Ear;
 use lapm_frames::{Arrived, Sent};
 use lapm_link::{Phase, Setup};
 use link_run::laws::{one_lone_run, the_file_of_one_counts_as_far_as_it_was_read};
-use outside_calls::{Folder, NoMemory};
-use shared_terms::{FILE_LIMIT, LinkFault, Role};
+use outside_calls::Folder;
+use shared_terms::{FILE_LIMIT, LinkFault, NoMemory, Role};
 use std::alloc::Global;
 use xid_params::default_offer;
 

@@ -1,6 +1,6 @@
 -- Where the inputs are right and the line carries their run to its end, the run is done, but for want of memory.
 use Rattle.std.proofs.Common.{◌≡◌, ◌⊎◌, inl, inr, ℕ, ◌≤◌, ◌<◌, List, [], ◌∷◌, length, sym, ◌∙◌, ap, subst, arith, Result}
-use Rattle.plain_lists.specs.Octets.{AreOctets}
+use Rattle.frame_check.specs.Octets.{AreOctets}
 use Rattle.shared_terms.specs.declared.role.Role.{Role}
 use Rattle.shared_terms.specs.declared.role.Role.TheVariants.{Originator, Answerer}
 use Rattle.shared_terms.specs.Both.{Both, of}

@@ -4,8 +4,7 @@ ghost use Rattle.run_commands.specs.Soaking.Drawing.{word_octets, drawn_octets};
 ghost use Rattle.run_commands.specs.Soaking.Soak.{soak_file};
 
 use crate::soak::drawing::drawn_word;
-use outside_calls::NoMemory;
-use shared_terms::Role;
+use shared_terms::{NoMemory, Role};
 use std::alloc::Global;
 
 /// The words of a file.

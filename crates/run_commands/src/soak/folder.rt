@@ -10,9 +10,9 @@ ghost use Rattle.run_commands.specs.Soaking.Folder.{HoldsFiles, soak_names, soak
 use crate::soak::files::soak_file;
 use command_base::create_outputs;
 use line_world::Names;
-use outside_calls::{FolderFault, NoMemory};
+use outside_calls::FolderFault;
 use program_folders::SureFolder;
-use shared_terms::Role;
+use shared_terms::{NoMemory, Role};
 use std::alloc::Global;
 
 /// The names that the soak's folder has.

@@ -8,8 +8,7 @@ use crate::soak::files::{FILE_WORDS, put_octets};
 use itoa::Buffer;
 use noise_script::laws::noisy_lines_spell;
 use noise_script::{Script, ScriptFault, read_script};
-use outside_calls::NoMemory;
-use shared_terms::Role;
+use shared_terms::{NoMemory, Role};
 use std::alloc::Global;
 
 /// The slots that are to be lost.

@@ -7,7 +7,7 @@ use Rattle.symbol_map.specs.declared.sample.Sample.{Sample}
 use Rattle.scramblers.specs.declared.mode.Mode.{Mode}
 use Rattle.scramblers.specs.Mode.{tap_of}
 use Rattle.shared_terms.specs.declared.role.Role.{Role}
-use Rattle.plain_lists.specs.Prefix.{IsPrefixOf}
+use Rattle.shared_terms.specs.Prefix.{IsPrefixOf}
 use Rattle.outside_calls.specs.Folder.{FolderState, octets_at, GoesOn, KeepsName}
 use Rattle.outside_calls.proofs.Steps.{KeepsName-trans, told_later}
 use Rattle.outside_calls.specs.declared.folder.FolderFault.TheVariants as folder

@@ -7,11 +7,11 @@ use Rattle.std.proofs.lemmas.Grind.{flat_map-append}
 use Rattle.std.proofs.lemmas.List.{take-append-drop, length-take, length-drop}
 use Rattle.std.proofs.lemmas.List.Elements.{All-append}
 use Rattle.std.proofs.lemmas.List.FromFn.{length-map-range_with_len, get_or-map-range_with_len}
-use Rattle.plain_lists.specs.Prefix.{IsPrefixOf}
-use Rattle.plain_lists.specs.Bits.{octet_bits, bits_of, octets_of}
+use Rattle.shared_terms.specs.Prefix.{IsPrefixOf}
+use Rattle.frame_check.specs.Bits.{octet_bits, bits_of, octets_of}
 use Rattle.frame_check.proofs.BitLists.{bits_of-octets_of, octets_of-are_octets}
 use Rattle.scramblers.specs.Stream.{bit_at_place, earlier}
-use Rattle.plain_lists.specs.Xor.{xor}
+use Rattle.frame_check.specs.Xor.{xor}
 use Rattle.scramblers.specs.Scrambles.{Scrambles, Descrambles}
 use Rattle.symbol_map.specs.declared.sample.Sample.{Sample}
 use Rattle.exact_decoder.specs.Surviving.Survivors.{IsReleased}

@@ -5,8 +5,8 @@ use Rattle.std.specs.List.{flat_map}
 use Rattle.std.proofs.lemmas.Grind.{flat_map-append}
 use Rattle.std.proofs.lemmas.List.{map-append}
 use Rattle.std.proofs.lemmas.List.Elements.{All-push}
-use Rattle.plain_lists.specs.Prefix.{IsPrefixOf}
-use Rattle.plain_lists.specs.Bits.{low_bits, octet_bits, bits_of, number}
+use Rattle.shared_terms.specs.Prefix.{IsPrefixOf}
+use Rattle.frame_check.specs.Bits.{low_bits, octet_bits, bits_of, number}
 use Rattle.scramblers.specs.declared.mode.Mode.{Mode}
 use Rattle.scramblers.specs.declared.mode.Mode.TheVariants.{Call, Answer}
 use Rattle.scramblers.specs.Mode.{tap_of}

@@ -2,11 +2,11 @@
 use Rattle.std.proofs.Common.{◌≡◌, ◌≢◌, ◌∙◌, inl, inr, ℕ, ◌+◌, ◌*◌, Bool, true, false, IsTrue, List, [], ◌∷◌, ◌++◌, length, refl, sym, ap}
 use Rattle.std.proofs.Common.{subst}
 use Rattle.std.proofs.Common.{arith, rules, append-nil, append_assoc}
-use Rattle.plain_lists.specs.Prefix.{IsPrefixOf}
+use Rattle.shared_terms.specs.Prefix.{IsPrefixOf}
 use Rattle.outside_calls.specs.Folder.{FolderState, octets_at, OnlyReads, OnlyWrites, Appended, PartlyAppended}
 use Rattle.outside_calls.proofs.Steps.{KeepsName-trans}
 use Rattle.scramblers.specs.declared.mode.Mode.{Mode}
-use Rattle.plain_lists.specs.Bits.{bits_of}
+use Rattle.frame_check.specs.Bits.{bits_of}
 use Rattle.line_coding.proofs.Standing.{modulated}
 use Rattle.rate_4800.proofs.Standing.{modulated as quarters-modulated}
 use Rattle.recordings.specs.declared.rate.Rate.{Rate}

@@ -3,8 +3,8 @@ use Rattle.std.proofs.Common.{◌≡◌, ◌∙◌, ℕ, ◌+◌, ◌*◌, ◌%�
 use Rattle.std.proofs.Common.{subst, arith, append_assoc}
 use Rattle.std.proofs.lemmas.List.{map-append}
 use Rattle.std.proofs.lemmas.List.Elements.{All-push}
-use Rattle.plain_lists.specs.Bits.{low_bits, number}
-use Rattle.plain_lists.specs.Xor.{xor}
+use Rattle.frame_check.specs.Bits.{low_bits, number}
+use Rattle.frame_check.specs.Xor.{xor}
 use Rattle.scramblers.specs.Stream.{earlier}
 use Rattle.scramblers.specs.Scrambles.{Scrambles}
 use Rattle.scramblers.proofs.Streams.{Scrambles-more}

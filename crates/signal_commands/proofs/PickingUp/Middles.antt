@@ -4,8 +4,8 @@ use Rattle.std.proofs.Common.{None, ◌-◌, [], ◌∷◌, subst, arith, length
 use Rattle.std.proofs.Math.Seq.{take-nil}
 use Rattle.std.specs.List.{flat_map}
 use Rattle.std.proofs.lemmas.List.{take-append-drop, take_all, take_at, drop-take, drop-map, take-map, length-map, length-take}
-use Rattle.plain_lists.specs.Bits.{low_bits}
-use Rattle.plain_lists.specs.Prefix.{IsPrefixOf}
+use Rattle.frame_check.specs.Bits.{low_bits}
+use Rattle.shared_terms.specs.Prefix.{IsPrefixOf}
 use Rattle.scramblers.specs.declared.mode.Mode.{Mode}
 use Rattle.scramblers.specs.declared.mode.Mode.TheVariants.{Call, Answer}
 use Rattle.scramblers.specs.Mode.{tap_of}

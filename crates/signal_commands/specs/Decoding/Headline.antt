@@ -5,7 +5,7 @@ use Rattle.symbol_map.specs.declared.sample.Sample.{Sample}
 use Rattle.shared_terms.specs.declared.role.Role.{Role}
 use Rattle.scramblers.specs.declared.mode.Mode.{Mode}
 use Rattle.scramblers.specs.Mode.{tap_of}
-use Rattle.plain_lists.specs.Prefix.{IsPrefixOf}
+use Rattle.shared_terms.specs.Prefix.{IsPrefixOf}
 use Rattle.outside_calls.specs.Folder.{FolderState, held_at, octets_at, KeepsName, Said}
 use Rattle.recordings.specs.declared.rate.Rate.{Rate}
 use Rattle.recordings.specs.declared.rate.Rate.TheVariants as rates

@@ -1,7 +1,7 @@
 -- The whole octets that labels carry.
 use Rattle.std.specs.Prelude.{◌≡◌, ℕ, ◌<◌, ◌≤◌, ◌^◌, Bool, List, [], ◌++◌, length, Option, Some, None}
-use Rattle.plain_lists.specs.Bits.{low_bits, bits_of}
-use Rattle.plain_lists.specs.Octets.{AreOctets}
+use Rattle.frame_check.specs.Bits.{low_bits, bits_of}
+use Rattle.frame_check.specs.Octets.{AreOctets}
 use Rattle.recordings.specs.declared.rate.Rate.{Rate}
 use Rattle.signal_commands.specs.declared.decode.octet_joiner.Bits.{Bits}
 use Rattle.signal_commands.specs.Decoding.Rates.{DemodulatesAt}

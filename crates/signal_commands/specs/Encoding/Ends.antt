@@ -1,7 +1,7 @@
 -- How the making of a recording ends, before its line is said. What is said of a name's octets holds where the folder
 -- tells that name.
 use Rattle.std.specs.Prelude.{◌≡◌, ◌⊎◌, ℕ, IsTrue, List, Result, Ok, Err}
-use Rattle.plain_lists.specs.Prefix.{IsPrefixOf}
+use Rattle.shared_terms.specs.Prefix.{IsPrefixOf}
 use Rattle.outside_calls.specs.Folder.{FolderState, octets_at, KeepsName}
 use Rattle.signal_commands.specs.Encoding.Recorder.{IsRecordingOf}
 use Rattle.shared_terms.specs.declared.limits.TheConstants.{FILE_LIMIT}

@@ -1,7 +1,7 @@
 -- What the recording of a file is: the samples of what is sent of its octets.
 use Rattle.std.specs.Prelude.{◌≡◌, ℕ, ◌*◌, Bool, List, length}
 use Rattle.std.specs.List.{flat_map}
-use Rattle.plain_lists.specs.Bits.{bits_of}
+use Rattle.frame_check.specs.Bits.{bits_of}
 use Rattle.scramblers.specs.declared.mode.Mode.{Mode}
 use Rattle.scramblers.specs.Mode.{tap_of}
 use Rattle.symbol_map.specs.declared.sample.Sample.{Sample}

@@ -1,6 +1,6 @@
 // Bits become octets.
 ghost use Rattle.std.specs.Prelude.{◌≡◌, ◌<◌, ◌≤◌, ◌+◌, ◌*◌, ◌^◌, ◌++◌, [], ℕ, Bool, List, length, option_to_list};
-ghost use Rattle.plain_lists.specs.Bits.{low_bits};
+ghost use Rattle.frame_check.specs.Bits.{low_bits};
 ghost use Rattle.signal_commands.specs.Decoding.Octets.{AreFew, bits_in, OctetsJoined};
 
 use std::marker::Model;

@@ -12,10 +12,10 @@ use crate::decode::rate_reader::RateReader;
 use exact_decoder::Lost;
 use frame_check::Octets;
 use line_coding::{DEPTH, Demodulate, Demodulator};
-use outside_calls::NoMemory;
 use rate_4800::Demodulator as QuarterDemodulator;
 use recordings::Rate;
 use scramblers::Mode;
+use shared_terms::NoMemory;
 use std::alloc::Global;
 use symbol_map::Sample;
 

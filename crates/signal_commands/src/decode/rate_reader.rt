@@ -11,10 +11,10 @@ ghost use Rattle.signal_commands.specs.Decoding.Playing.{decoding_of, ReadsAt, I
 use crate::decode::octet_joiner::Bits;
 use exact_decoder::Lost;
 use line_coding::{DEPTH, LineReader};
-use outside_calls::NoMemory;
 use rate_4800::{QuarterReader, Rate4800};
 use recordings::Rate;
 use scramblers::Mode;
+use shared_terms::NoMemory;
 use std::alloc::Global;
 use symbol_map::Sample;
 use trellis_tables::V32Code;

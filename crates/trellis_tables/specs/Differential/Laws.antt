@@ -1,7 +1,7 @@
 -- Laws of differential coding, over all lists of numbers below 4.
 use Rattle.std.specs.Prelude.{◌≡◌, ℕ, ◌+◌, ◌/◌, ◌%◌, ◌<◌, ◌≤◌, List, length, map, take, slice_index, All}
 use Rattle.trellis_tables.specs.Differential.Turned.{turned, before, unturned}
-use Rattle.plain_lists.specs.Xor.{xor_ℕ, and_ℕ}
+use Rattle.trellis_tables.specs.Xor.{xor_ℕ, and_ℕ}
 
 -- each number is a quarter turn below 4
 abbrev pub AreTurns : List ℕ → Type 0

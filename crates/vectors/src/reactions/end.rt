@@ -10,7 +10,7 @@ use super::slot::Slot;
 use super::stage::Stage;
 use frame_check::{Check, Info};
 use lapm_link::{AnyEnd, Arrived, Broken, Detecting, LinkFault, Phase, Sent, Setup};
-use outside_calls::NoMemory;
+use shared_terms::NoMemory;
 use std::alloc::Global;
 
 /// What an end was seen to do, with the words of a `Reaction`.

@@ -13,8 +13,7 @@ use super::stage::Stage;
 use frame_check::Info;
 use lapm_frames::{Frame, Seen};
 use lapm_link::{AnyEnd, Arrived, Closed, LinkFault, Phase, Sent, Setup};
-use outside_calls::NoMemory;
-use shared_terms::Role;
+use shared_terms::{NoMemory, Role};
 use std::alloc::Global;
 use std::test::Fail;
 

@@ -1,5 +1,5 @@
 use Rattle.std.proofs.Common.{◌≡◌, rules}
-use Rattle.plain_lists.specs.Bits.{number}
+use Rattle.frame_check.specs.Bits.{number}
 use Rattle.bit_stuffing.proofs.BitLists.{bits-more, more-lt, added}
 use Rattle.bit_stuffing.proofs.bits.with_bit.Goals as goal
 

@@ -1,5 +1,5 @@
 use Rattle.std.proofs.Common.{◌*◌, ◌%◌, ◌^◌, ◌++◌, bit_or, sym, subst}
-use Rattle.plain_lists.specs.Bits.{low_bits}
+use Rattle.frame_check.specs.Bits.{low_bits}
 use Rattle.detection.specs.Reader.{ReaderStands}
 use Rattle.detection.proofs.Quiet.{four-turned}
 use Rattle.detection.proofs.reader.behind_four.Goals as goal

@@ -1,5 +1,5 @@
 use Rattle.std.proofs.Common.{◌++◌, ◌%◌, subst}
-use Rattle.plain_lists.specs.Bits.{low_bits}
+use Rattle.frame_check.specs.Bits.{low_bits}
 use Rattle.detection.specs.Reader.{ReaderStands}
 use Rattle.detection.proofs.Quiet.{octet-fours}
 use Rattle.detection.proofs.reader.behind_octet.Goals as goal

@@ -1,5 +1,5 @@
 use Rattle.std.proofs.Common.{◌≡◌, arith, ◌∙◌, ap, sym, subst, bit_xor}
-use Rattle.plain_lists.specs.Bits.{octet_bits}
+use Rattle.frame_check.specs.Bits.{octet_bits}
 use Rattle.frame_check.specs.Division.{remainder_from}
 use Rattle.frame_check.specs.Register.{Holds, after_zeros}
 use Rattle.frame_check.proofs.Registers.{Holds-bits, after_zeros-more}

@@ -1,5 +1,5 @@
 use Rattle.std.proofs.Common.{◌<◌, length, subst, sym, take, arith}
-use Rattle.plain_lists.specs.Bits.{bits_of}
+use Rattle.frame_check.specs.Bits.{bits_of}
 use Rattle.frame_check.specs.Division.{remainder_from}
 use Rattle.frame_check.specs.Register.{Holds}
 use Rattle.frame_check.proofs.Registers.{remainder_from-next_octet}

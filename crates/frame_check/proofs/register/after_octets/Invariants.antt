@@ -1,5 +1,5 @@
 use Rattle.std.proofs.Common.{ℕ, Bool, List, take}
-use Rattle.plain_lists.specs.Bits.{bits_of}
+use Rattle.frame_check.specs.Bits.{bits_of}
 use Rattle.frame_check.specs.Division.{remainder_from}
 use Rattle.frame_check.specs.Register.{Divides, Holds}
 use Rattle.frame_check.proofs.register.after_octets.Given as goal

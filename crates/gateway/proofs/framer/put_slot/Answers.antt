@@ -1,5 +1,5 @@
 use Rattle.std.proofs.Common.{ℕ, ◌<◌, ◌++◌, ◌+◌, ◌*◌, ◌≡◌, length, ◌∙◌, ap, subst, arith}
-use Rattle.plain_lists.specs.Bits.{low_bits}
+use Rattle.frame_check.specs.Bits.{low_bits}
 use Rattle.gateway.specs.Given.{given, AreBits}
 use Rattle.gateway.proofs.Slotted.{quad-more}
 use Rattle.gateway.proofs.framer.put_slot.Goals as goal

@@ -1,6 +1,6 @@
 use Rattle.std.proofs.Common.{◌≡◌, ◌++◌, ◌+◌, ◌∙◌, ℕ, Bool, List, length, take, sym, ap, subst, arith, length-append}
 use Rattle.bit_stuffing.specs.BitSlot.{line_bits}
-use Rattle.plain_lists.specs.Bits.{low_bits}
+use Rattle.frame_check.specs.Bits.{low_bits}
 use Rattle.line_world.specs.Taping.{RecordsBits}
 use Rattle.line_world.proofs.Taping.{records-more, quads-more}
 use Rattle.std.proofs.Common.{append-nil}

@@ -1,5 +1,5 @@
 use Rattle.std.proofs.Common.{◌++◌, map}
-use Rattle.plain_lists.specs.Bits.{low_bits}
+use Rattle.frame_check.specs.Bits.{low_bits}
 use Rattle.detection.specs.Sights.{Sight}
 use Rattle.sample_line.proofs.Finding.{found-both}
 use Rattle.sample_line.proofs.receiver.push_four.Goals as goal

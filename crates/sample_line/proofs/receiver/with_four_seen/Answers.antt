@@ -1,7 +1,7 @@
 use Rattle.std.proofs.Common.{◌∙◌, ◌/◌, ◌%◌, nat_eq, List, Bool, [], ◌∷◌, ◌++◌, ap, subst, sym, refl}
 use Rattle.scramblers.proofs.Streams.{four-behind}
 use Rattle.line_coding.proofs.Fours.{quad-bits}
-use Rattle.plain_lists.specs.Bits.{low_bits}
+use Rattle.frame_check.specs.Bits.{low_bits}
 use Rattle.detection.specs.Reader.{ReaderStands}
 use Rattle.sample_line.specs.Tallies.{PatternsAreTallied}
 use Rattle.sample_line.proofs.Finding.{patterns-none, patterns-then}

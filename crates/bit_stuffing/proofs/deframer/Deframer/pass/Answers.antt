@@ -1,5 +1,5 @@
 use Rattle.std.proofs.Common.{ℕ, ◌≡◌, ◌+◌, ◌≤◌, ◌∙◌, length, drop, refl, sym, ap, subst}
-use Rattle.plain_lists.specs.Bits.{octet_bits}
+use Rattle.frame_check.specs.Bits.{octet_bits}
 use Rattle.bit_stuffing.specs.Flags.{OpenedAt}
 use Rattle.bit_stuffing.specs.Deframer.{Finds, Gathers, DeframerStands}
 use Rattle.bit_stuffing.proofs.Quiet.{quiet-rests}

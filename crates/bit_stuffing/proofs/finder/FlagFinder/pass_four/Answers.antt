@@ -1,5 +1,5 @@
 use Rattle.std.proofs.Common.{◌≡◌, ◌/◌, Some, sym, subst}
-use Rattle.plain_lists.specs.Bits.{low_bits}
+use Rattle.frame_check.specs.Bits.{low_bits}
 use Rattle.bit_stuffing.specs.Deframer.{Finding, Finds, PassesBits}
 use Rattle.bit_stuffing.specs.Fours.{since_four}
 use Rattle.bit_stuffing.proofs.Fours.{passes-four}

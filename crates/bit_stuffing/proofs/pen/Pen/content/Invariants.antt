@@ -1,5 +1,5 @@
 use Rattle.std.proofs.Common.{◌≡◌, ◌++◌, take}
-use Rattle.plain_lists.specs.Bits.{bits_of}
+use Rattle.frame_check.specs.Bits.{bits_of}
 use Rattle.bit_stuffing.specs.Pen.{written}
 use Rattle.bit_stuffing.specs.Stuffing.{stuffed, room_behind}
 use Rattle.bit_stuffing.proofs.pen.Pen.content.Given as goal

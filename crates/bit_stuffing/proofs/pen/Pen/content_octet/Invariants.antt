@@ -1,5 +1,5 @@
 use Rattle.std.proofs.Common.{◌≡◌, ◌++◌, take}
-use Rattle.plain_lists.specs.Bits.{octet_bits}
+use Rattle.frame_check.specs.Bits.{octet_bits}
 use Rattle.bit_stuffing.specs.Pen.{written}
 use Rattle.bit_stuffing.specs.Stuffing.{stuffed, room_behind}
 use Rattle.bit_stuffing.proofs.pen.Pen.content_octet.Given as goal

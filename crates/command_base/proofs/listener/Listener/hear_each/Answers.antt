@@ -2,7 +2,7 @@ use Rattle.std.proofs.Common.{◌∙◌, ◌+◌, ◌≤◌, ◌/◌, ◌^◌, B
 use Rattle.std.proofs.Common.{bit_and, ap, subst, arith}
 use Rattle.std.proofs.lemmas.List.{take_all, take-append-drop}
 use Rattle.outside_calls.specs.Folder.{FolderState}
-use Rattle.plain_lists.specs.Bits.{low_bits}
+use Rattle.frame_check.specs.Bits.{low_bits}
 use Rattle.frame_check.proofs.BitLists.{length-low_bits}
 use Rattle.command_base.specs.Heard.{Hears}
 use Rattle.command_base.proofs.Hearing.{bit-more, hears-none, hears-on, hears-part}

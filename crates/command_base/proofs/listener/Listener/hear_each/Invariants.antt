@@ -1,5 +1,5 @@
 use Rattle.std.proofs.Common.{◌≤◌, ◌+◌, Ok, take}
-use Rattle.plain_lists.specs.Bits.{low_bits}
+use Rattle.frame_check.specs.Bits.{low_bits}
 use Rattle.command_base.specs.Heard.{Hears}
 use Rattle.command_base.proofs.listener.Listener.hear_each.Given as goal
 

@@ -1,6 +1,6 @@
 use Rattle.std.proofs.Common.{◌≡◌, ◌∙◌, ◌%◌, ◌/◌, Bool, List, Ok, Err, refl, ap, subst}
 use Rattle.outside_calls.specs.Folder.{FolderState}
-use Rattle.plain_lists.specs.Bits.{low_bits, octet_bits}
+use Rattle.frame_check.specs.Bits.{low_bits, octet_bits}
 use Rattle.bit_stuffing.specs.Deframer.{Kept}
 use Rattle.command_base.specs.Heard.{Listening, Hears}
 use Rattle.command_base.proofs.Hearing.{octet-fours, hears-quiet, hears-on, hears-part}

@@ -1,5 +1,5 @@
 use Rattle.std.proofs.Common.{◌≤◌, ◌+◌, ◌*◌, Ok, take}
-use Rattle.plain_lists.specs.Bits.{bits_of}
+use Rattle.frame_check.specs.Bits.{bits_of}
 use Rattle.command_base.specs.Heard.{Hears}
 use Rattle.command_base.proofs.listener.Listener.hear_octets.Given as goal
 

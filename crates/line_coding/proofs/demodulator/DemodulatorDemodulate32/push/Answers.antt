@@ -1,6 +1,6 @@
 use Rattle.std.proofs.Common.{◌∙◌, ℕ, Bool, List, [], ◌∷◌, ◌++◌, ap, subst, refl}
 use Rattle.std.specs.List.{flat_map}
-use Rattle.plain_lists.specs.Bits.{low_bits}
+use Rattle.frame_check.specs.Bits.{low_bits}
 use Rattle.trellis_tables.specs.LabelReader.{LabelReaderStands, quads_of}
 use Rattle.line_coding.specs.Modes.{DescramblesAs}
 use Rattle.line_coding.specs.Demodulates.{line_of}

@@ -1,5 +1,5 @@
 use Rattle.std.proofs.Common.{◌+◌, ◌/◌, ◌^◌, Bool, List, ◌++◌, take, nat_eq, bit_and, sym, subst, arith}
-use Rattle.plain_lists.specs.Bits.{octet_bits}
+use Rattle.frame_check.specs.Bits.{octet_bits}
 use Rattle.lapm_frames.specs.declared.arrived.Arrived.{Arrived}
 use Rattle.line_world.specs.OneEnd.Heard.{IsHeard, first}
 use Rattle.detection.specs.Ear.{HasHeard}

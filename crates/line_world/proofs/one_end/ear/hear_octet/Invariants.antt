@@ -1,5 +1,5 @@
 use Rattle.std.proofs.Common.{Bool, List, ◌++◌, take}
-use Rattle.plain_lists.specs.Bits.{octet_bits}
+use Rattle.frame_check.specs.Bits.{octet_bits}
 use Rattle.link_account.specs.Numbers.{IsNumbered}
 use Rattle.line_world.specs.OneEnd.Heard.{IsHeard}
 use Rattle.detection.specs.Ear.{HasHeard}

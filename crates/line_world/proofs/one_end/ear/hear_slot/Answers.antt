@@ -1,5 +1,5 @@
 use Rattle.std.proofs.Common.{ℕ, Bool, List, ◌++◌, take, ap, sym, ◌∙◌, subst, arith, append-nil}
-use Rattle.plain_lists.specs.Bits.{octet_bits, bits_of}
+use Rattle.frame_check.specs.Bits.{octet_bits, bits_of}
 use Rattle.line_world.specs.OneEnd.Heard.{IsHeard, filled}
 use Rattle.detection.specs.Ear.{HasHeard}
 use Rattle.line_world.proofs.OneEnd.Hearing.{append-again, slot-more}

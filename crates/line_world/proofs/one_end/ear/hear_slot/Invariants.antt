@@ -1,5 +1,5 @@
 use Rattle.std.proofs.Common.{Bool, List, ◌++◌, take}
-use Rattle.plain_lists.specs.Bits.{bits_of}
+use Rattle.frame_check.specs.Bits.{bits_of}
 use Rattle.link_account.specs.Numbers.{IsNumbered}
 use Rattle.line_world.specs.OneEnd.Heard.{IsHeard, filled}
 use Rattle.detection.specs.Ear.{HasHeard}

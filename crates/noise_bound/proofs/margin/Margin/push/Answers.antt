@@ -1,5 +1,5 @@
 use Rattle.std.proofs.Common.{◌+◌, [], ◌∷◌, ◌++◌, Bool, List, refl, sym, subst, arith}
-use Rattle.plain_lists.specs.Bits.{bits_of}
+use Rattle.frame_check.specs.Bits.{bits_of}
 use Rattle.line_coding.specs.Modulates.{ModulatorStands}
 use Rattle.recordings.proofs.Octets.{bits-more}
 use Rattle.noise_bound.specs.Margins.{Measured, MarginStands}

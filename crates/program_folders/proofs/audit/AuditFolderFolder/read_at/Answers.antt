@@ -1,6 +1,6 @@
 use Rattle.std.proofs.Common.{sym, subst, ◌∙◌, ap, List, ℕ, ◌-◌, min, length, take, drop, ◌++◌}
 use Rattle.program_folders.specs.Audited.{Swallowed}
-use Rattle.plain_lists.specs.Octets.{AreOctets}
+use Rattle.frame_check.specs.Octets.{AreOctets}
 use Rattle.program_folders.proofs.Auditing.{reads-trace, reads-on-ok, only-reads, tells-trace, tells-inner}
 use Rattle.program_folders.proofs.audit.AuditFolderFolder.read_at.Goals as goal
 

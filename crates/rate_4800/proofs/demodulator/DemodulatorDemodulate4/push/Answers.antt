@@ -1,7 +1,7 @@
 use Rattle.std.proofs.Common.{ℕ, Bool, List, [], ◌∷◌, ◌++◌, subst, refl}
 use Rattle.trellis_tables.specs.Differential.Turned.{unturned}
 use Rattle.trellis_tables.specs.Differential.Machines.{UnturnerStands}
-use Rattle.plain_lists.specs.Bits.{low_bits}
+use Rattle.frame_check.specs.Bits.{low_bits}
 use Rattle.std.specs.List.{flat_map}
 use Rattle.std.proofs.Common.{◌∙◌, ap}
 use Rattle.line_coding.specs.Modes.{DescramblesAs}

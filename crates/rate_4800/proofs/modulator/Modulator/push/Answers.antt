@@ -1,7 +1,7 @@
 use Rattle.std.proofs.Common.{◌∙◌, ℕ, ◌<◌, [], ◌∷◌, ◌++◌, sym, ap, map}
 use Rattle.std.proofs.lemmas.List.Elements.{All-push}
 use Rattle.std.proofs.lemmas.List.{map-append}
-use Rattle.plain_lists.specs.Bits.{low_bits}
+use Rattle.frame_check.specs.Bits.{low_bits}
 use Rattle.rate_4800.specs.Code.{point_of}
 use Rattle.rate_4800.proofs.Twos.{twos-more}
 use Rattle.rate_4800.proofs.modulator.Modulator.push.Goals as goal

@@ -1,5 +1,5 @@
 use Rattle.std.proofs.Common.{◌∙◌, ℕ, Bool, List, [], ◌∷◌, ◌++◌, ap, subst, arith}
-use Rattle.plain_lists.specs.Bits.{bits_of}
+use Rattle.frame_check.specs.Bits.{bits_of}
 use Rattle.symbol_map.specs.declared.sample.Sample.{Sample}
 use Rattle.rate_4800.specs.Modulates.{ModulatorStands}
 use Rattle.recordings.specs.Recording.{sample_octets}

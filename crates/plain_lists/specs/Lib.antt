@@ -1,4 +1,0 @@
-pub mod Prefix
-pub mod Octets
-pub mod Bits
-pub mod Xor
