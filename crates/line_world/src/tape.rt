@@ -27,7 +27,7 @@ use sample_line::mode_of;
 use shared_terms::{Both, Role};
 
 /// The octets of the samples of the largest slot: four for each of its symbols.
-const SLOT_OCTETS: usize = 10_460;
+const RECORDED_SLOT: usize = 10_460;
 
 /// A recording of what an end sends: all its slots are one stream of samples, before the line adds anything to them.
 #[derive(Drop)]
@@ -37,11 +37,11 @@ pub struct Tape<'a> {
     /// The modulator that has made the samples of all slots so far.
     modulator: Modulator,
     /// The samples of the latest slot, in a room that isn't cleared for each slot anew.
-    octets: Octets<SLOT_OCTETS>,
+    octets: Octets<RECORDED_SLOT>,
 }
 
 /// Writes the octets of a slot's samples, which go behind those of all slots before.
-fn write_samples(modulator: &mut Modulator, slot: &BitSlot, out: &mut Octets<SLOT_OCTETS>)
+fn write_samples(modulator: &mut Modulator, slot: &BitSlot, out: &mut Octets<RECORDED_SLOT>)
     requires { out.old ≡ [] }
     ensures { (mode : Mode) (bits : List Bool) (octets : List ℕ) → RecordsBits mode modulator.old bits octets
         → RecordsBits mode modulator.new (bits ++ line_bits slot.now) (octets ++ out.new) }

@@ -1,4 +1,5 @@
 use Rattle.std.proofs.Common.{Bool, List, Some, None, arith, sym, subst}
+use Rattle.detection.specs.Patterns.{longest_gap}
 use Rattle.detection.specs.Reader.{LeftBehind, LeftBehindOnce}
 use Rattle.detection.proofs.Readings.{none-once, some-once}
 use Rattle.detection.proofs.reader.before_pattern.Goals as goal
@@ -15,5 +16,5 @@ returns c = λ width recent wide h.
     let later = subst (λ (l : List Bool). LeftBehind width l c.args.most recent (Some c.in_ok-rest.rest)) c.second.ensures.bits
     (c.in_ok-rest.ensures width recent (omega arith) h) in
     some-once width c.args.seen c.args.most c.in_ok-rest.rest recent c.before_character-2.result wide later
-    (λ wide middle room g. subst (λ (l : List Bool). LeftBehind wide l 17 middle c.before_character-2.result) c.first.ensures.bits
+    (λ wide middle room g. subst (λ (l : List Bool). LeftBehind wide l longest_gap middle c.before_character-2.result) c.first.ensures.bits
     (c.before_character-2.ensures wide middle room g))
