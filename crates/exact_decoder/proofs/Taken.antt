@@ -129,4 +129,4 @@ stands-popped-two table points depth starts k count old new lost samples taken (
     subst (DecoderStands table points starts depth (decoding_of k count new lost) samples)
     (append_assoc taken (two.0 ∷ []) (two.1 ∷ []))
     (stands-taken table points depth starts middle (decoding_of k count new lost) samples (taken ++ two.0 ∷ []) two.1 refl refl
-        (stands-taken table points depth starts (decoding_of k count old lost) middle samples taken two.0 (turned-two old new two p) refl h))
+    (stands-taken table points depth starts (decoding_of k count old lost) middle samples taken two.0 (turned-two old new two p) refl h))

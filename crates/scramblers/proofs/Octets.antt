@@ -1,12 +1,12 @@
 -- Bits that stand above a register go on a line and are descrambled, the lowest first.
-use Rattle.std.proofs.Common.{◌≡◌, ◌∙◌, ℕ, zero, suc, ◌+◌, ◌-◌, ◌*◌, ◌/◌, ◌%◌, ◌^◌, ◌<◌, ◌≤◌, ◌⊎◌, inl, inr, Bool, true, false, List, [], ◌∷◌, ◌++◌}
+use Rattle.std.proofs.Common.{◌≡◌, ◌∙◌, ℕ, zero, suc, ◌+◌, ◌-◌, ◌*◌, ◌/◌, ◌^◌, ◌<◌, ◌≤◌, ◌⊎◌, inl, inr, Bool, true, false, List, [], ◌∷◌, ◌++◌}
 use Rattle.std.proofs.Common.{length, append_assoc, append-nil, arith, refl, sym, ap, subst, nat_eq, bit_xor}
 use Rattle.std.proofs.lemmas.Bool.{cases_lt}
 use Rattle.std.proofs.lemmas.Nat.Bits.{bit_at_cat_low, bit_at_cat_high, bit_at_lowest, bit_at-suc, bit_at-lt}
 use Rattle.std.proofs.lemmas.Nat.{shr-shr}
 use native.Mathlib.Nat.{div-one}
 use Rattle.std.specs.Int.{bit_at}
-use Rattle.plain_lists.specs.Bits.{low_bits, octet_bits}
+use Rattle.plain_lists.specs.Bits.{low_bits}
 use Rattle.plain_lists.specs.Xor.{xor}
 use Rattle.scramblers.specs.Stream.{earlier}
 use Rattle.scramblers.specs.Register.{number, Holds}
@@ -66,9 +66,9 @@ follows (suc n) tap r x y line output low high above read d h =
     let rest = follows n tap (r / 2) (x / 2) (y / 2) (line ++ has_bit r 32 ∷ []) (output ++ has_bit y 0 ∷ []) low high
     (λ i l. ap (λ b. nat_eq b 1) (sym (bit_at-suc x i)) ∙ above (suc i) (omega arith) ∙ down (32 + i) (32 + suc i) (omega arith))
     (λ i l. ap (λ b. nat_eq b 1) (sym (bit_at-suc y i)) ∙ read (suc i) (omega arith)
-        ∙ ap (λ b. xor (xor b (has_bit r (32 - tap + suc i))) (has_bit r (9 + suc i))) (down (32 + i) (32 + suc i) (omega arith))
-        ∙ ap (λ b. xor (xor (has_bit (r / 2) (32 + i)) b) (has_bit r (9 + suc i))) (down (32 - tap + i) (32 - tap + suc i) (omega arith))
-        ∙ ap (λ b. xor (xor (has_bit (r / 2) (32 + i)) (has_bit (r / 2) (32 - tap + i))) b) (down (9 + i) (9 + suc i) (omega arith)))
+    ∙ ap (λ b. xor (xor b (has_bit r (32 - tap + suc i))) (has_bit r (9 + suc i))) (down (32 + i) (32 + suc i) (omega arith))
+    ∙ ap (λ b. xor (xor (has_bit (r / 2) (32 + i)) b) (has_bit r (9 + suc i))) (down (32 - tap + i) (32 - tap + suc i) (omega arith))
+    ∙ ap (λ b. xor (xor (has_bit (r / 2) (32 + i)) (has_bit (r / 2) (32 - tap + i))) b) (down (9 + i) (9 + suc i) (omega arith)))
     (Descrambles-more tap line output (has_bit r 32) (has_bit y 0) low d first) (Holds-next r line h) in
     let lines : (line ++ has_bit r 32 ∷ []) ++ low_bits n (x / 2) ≡ line ++ low_bits (suc n) x =
     append_assoc line (has_bit r 32 ∷ []) (low_bits n (x / 2))
@@ -107,7 +107,7 @@ octet-follows tap octet register near far line output low high fits n f d h =
     let all : ℕ = octet * 2 ^ 32 + register in
     follows 8 tap all octet (bit_xor (bit_xor octet near) far) line output low high (above-octet octet register fits)
     (λ i l. turned octet near far i (has_bit all (32 - tap + i)) (has_bit all (9 + i))
-        (n i l ∙ bit-number (bit_at all (32 - tap + i)) (bit_at-lt all (32 - tap + i)))
-        (f i l ∙ bit-number (bit_at all (9 + i)) (bit_at-lt all (9 + i)))
-        ∙ ap (λ b. xor (xor b (has_bit all (32 - tap + i))) (has_bit all (9 + i))) (above-octet octet register fits i l))
+    (n i l ∙ bit-number (bit_at all (32 - tap + i)) (bit_at-lt all (32 - tap + i)))
+    (f i l ∙ bit-number (bit_at all (9 + i)) (bit_at-lt all (9 + i)))
+    ∙ ap (λ b. xor (xor b (has_bit all (32 - tap + i))) (has_bit all (9 + i))) (above-octet octet register fits i l))
     d (with-above octet register line fits h)

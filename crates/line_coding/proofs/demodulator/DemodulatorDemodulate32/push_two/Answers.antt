@@ -1,4 +1,4 @@
-use Rattle.std.proofs.Common.{◌∙◌, ◌+◌, ◌*◌, Bool, List, ℕ, [], ◌∷◌, ◌++◌, sym, ap, subst, append_assoc}
+use Rattle.std.proofs.Common.{◌≡◌, ◌∙◌, Bool, List, ℕ, [], ◌∷◌, ◌++◌, refl, ap, subst, append_assoc}
 use Rattle.std.specs.List.{flat_map}
 use Rattle.plain_lists.specs.Bits.{low_bits, octet_bits}
 use Rattle.trellis_tables.specs.LabelReader.{LabelReaderStands, quads_of}
@@ -14,7 +14,7 @@ returns-clause-stands c mode labels bits s =
     let all : (labels ++ c.args.first ∷ []) ++ c.args.second ∷ [] ≡ labels ++ c.args.first ∷ c.args.second ∷ [] =
     append_assoc labels (c.args.first ∷ []) (c.args.second ∷ []) in
     let read = subst (λ (l : List ℕ). LabelReaderStands c.push-high.new.self l
-        ((quads_of labels ++ c.push-low.result ∷ []) ++ c.push-high.result ∷ [])) all second in
+    ((quads_of labels ++ c.push-low.result ∷ []) ++ c.push-high.result ∷ [])) all second in
     let line = octets-more (line_of labels) (quads_of labels) c.push-low.result c.push-high.result c.push-low.ensures.bound
     c.push-high.ensures.bound refl ∙ ap (λ quads. flat_map (low_bits 4) quads) read.quads_is in
     record {

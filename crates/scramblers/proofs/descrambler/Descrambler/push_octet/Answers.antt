@@ -1,4 +1,4 @@
-use Rattle.std.proofs.Common.{◌≡◌, ◌∙◌, ℕ, ◌+◌, ◌-◌, ◌*◌, ◌/◌, ◌^◌, ◌<◌, ◌++◌, sym, ap, subst, rules}
+use Rattle.std.proofs.Common.{◌∙◌, ℕ, ◌+◌, ◌-◌, ◌/◌, ◌^◌, ◌<◌, ◌++◌, sym, ap, subst, rules}
 use Rattle.std.specs.Int.{bit_at}
 use Rattle.plain_lists.specs.Bits.{octet_bits}
 use Rattle.scramblers.specs.Register.{Holds}
