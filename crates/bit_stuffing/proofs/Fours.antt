@@ -1,18 +1,19 @@
--- A finder of flags at four bits with which nothing ends: each case is computed.
+-- A finder of flags at four bits with which nothing ends, or at eight of flags that follow one another: each case is computed.
 use Rattle.std.proofs.Common.{◌≡◌, ℕ, ◌+◌, ◌-◌, ◌*◌, ◌/◌, ◌%◌, ◌<◌, ◌≤◌, Bool, true, false, ◌&&◌, if◌then◌else◌, nat_eq}
-use Rattle.std.proofs.Common.{nat_lt, List, [], ◌∷◌, ◌++◌, length, Option, Some, None, arith, append_assoc, refl, sym, ◌∙◌, ap, subst}
+use Rattle.std.proofs.Common.{nat_lt, List, [], ◌∷◌, ◌++◌, length, Option, Some, None, lit≤, arith, append_assoc, refl, sym, ◌∙◌, ap, subst}
 use Rattle.std.proofs.Common.{inl, inr}
 use Rattle.std.proofs.lemmas.Bool.{cases_lt, false≢true, eqb-true, eq-eqb, ltb-true, lt-ltb, le-ltb, and_parts}
 use Rattle.std.proofs.lemmas.List.{append-nil}
-use Rattle.std.specs.Int.{bit_at}
-use Rattle.frame_check.specs.Bits.{number, low_bits}
+use Rattle.std.specs.Int.{bit_at, rotate_right}
+use Rattle.std.specs.Int.Width.{w8}
+use Rattle.frame_check.specs.Bits.{number, low_bits, octet_bits}
 use Rattle.bit_stuffing.specs.Flags.{bit_of, OpenedAt}
 use Rattle.bit_stuffing.specs.Pieces.{EndsWhole}
 use Rattle.bit_stuffing.specs.Found.{pieces_of}
 use Rattle.bit_stuffing.specs.Deframer.{back, HoldsLatest, CountsSince, Finding, Finds, PassesBits}
 use Rattle.bit_stuffing.specs.Fours.{since_four}
 use Rattle.bit_stuffing.proofs.Latest.{back-within, back-past, latest-shifted}
-use Rattle.bit_stuffing.proofs.Quiet.{number-is}
+use Rattle.bit_stuffing.proofs.Quiet.{number-is, latest-octet}
 use Rattle.bit_stuffing.proofs.Octets.{each_below, at_each}
 use Rattle.bit_stuffing.proofs.Ones.{CountsOnes}
 use Rattle.bit_stuffing.proofs.Openings.{opened-once}
@@ -210,42 +211,66 @@ latest-four latest four past small h =
     joined : (a b c d : Bool) → (((past ++ a ∷ []) ++ b ∷ []) ++ c ∷ []) ++ d ∷ [] ≡ past ++ a ∷ b ∷ c ∷ d ∷ []
     joined a b c d = simp append_assoc refl
 
-pub passes-four : (finding : Finding) (past : List Bool) (four : ℕ) (since : Option ℕ) → four < 16 → Finds finding past
-    → since_four finding.latest finding.since four ≡ Some since
-    → PassesBits (record { latest = (256 * four + finding.latest) / 16; since = since }) past (low_bits 4 four)
-passes-four finding past four since small h e = record {
-  finds = record {
-    holds = latest-four finding.latest four past small h.holds;
-    counts = subst (λ s. CountsSince s (past ++ bits)) same counts.since;
-  };
+-- bits of which the counters say that nothing is found
+passes-bits : (finding next : Finding) (past bits : List Bool) → 0 < length bits → Finds finding past
+    → HoldsLatest next.latest (past ++ bits) → said_test (counters finding.latest finding.since) bits (Some next.since) ≡ true
+    → PassesBits next past bits
+passes-bits finding next past bits some h holds said = record {
+  finds = record { holds = holds; counts = subst (λ s. CountsSince s (past ++ bits)) same counts.since };
   pieces = pieces-along past bits ∙ ap (λ l. pieces_of past ++ l) (along-still k past bits before still) ∙ append-nil (pieces_of past);
-  closes = still-closes k past bits before still (omega arith);
+  closes = still-closes k past bits before still some;
   opened = opened-before k past bits before parts.2;
 }
   where
-    bits : List Bool
-    bits = low_bits 4 four
-
     k : Counters
     k = counters finding.latest finding.since
 
     before : Counts k past
     before = counts-latest finding past h
 
-    said : still_test k bits && (same_since (run k bits).since since && far_test k bits) ≡ true
-    said = subst (λ o. said_test k bits o ≡ true) e (case-said finding.latest four finding.since past h.holds.low small h.counts)
-
-    parts : (still_test k bits ≡ true) × (same_since (run k bits).since since ≡ true) × (far_test k bits ≡ true)
+    parts : (still_test k bits ≡ true) × (same_since (run k bits).since next.since ≡ true) × (far_test k bits ≡ true)
     parts =
-        let first = and_parts (still_test k bits) (same_since (run k bits).since since && far_test k bits) said in
-        let last = and_parts (same_since (run k bits).since since) (far_test k bits) first.1 in
+        let first = and_parts (still_test k bits) (same_since (run k bits).since next.since && far_test k bits) said in
+        let last = and_parts (same_since (run k bits).since next.since) (far_test k bits) first.1 in
         (first.0, last.0, last.1)
 
     still : Still k bits
     still = still-of k bits parts.0
 
-    same : (run k bits).since ≡ since
-    same = same-of (run k bits).since since parts.1
+    same : (run k bits).since ≡ next.since
+    same = same-of (run k bits).since next.since parts.1
 
     counts : Counts (run k bits) (past ++ bits)
     counts = counts-run k past bits before
+
+pub passes-four : (finding : Finding) (past : List Bool) (four : ℕ) (since : Option ℕ) → four < 16 → Finds finding past
+    → since_four finding.latest finding.since four ≡ Some since
+    → PassesBits (record { latest = (256 * four + finding.latest) / 16; since = since }) past (low_bits 4 four)
+passes-four finding past four since small h e =
+    passes-bits finding (record { latest = (256 * four + finding.latest) / 16; since = since }) past (low_bits 4 four) (lit≤ tt) h
+    (latest-four finding.latest four past small h.holds)
+    (subst (λ o. said_test (counters finding.latest finding.since) (low_bits 4 four) o ≡ true) e
+    (case-said finding.latest four finding.since past h.holds.low small h.counts))
+
+-- flags that follow one another, once more
+
+abbrev flags_test : ℕ → Bool
+flags_test count =
+    let octet = rotate_right w8 126 count in
+    said_test (counters octet (Some count)) (octet_bits octet) (Some (Some count))
+
+all_flags : each_below 8 flags_test ≡ true
+all_flags = refl
+
+pub passes-flags : (finding : Finding) (past : List Bool) (octet count : ℕ) → Finds finding past → finding.since ≡ Some count
+    → count < 8 → octet ≡ finding.latest → octet ≡ rotate_right w8 126 count → PassesBits finding past (octet_bits octet)
+passes-flags finding past octet count h since near latest turned =
+    passes-bits finding finding past (octet_bits octet) (lit≤ tt) h
+    (subst (λ n. HoldsLatest n (past ++ octet_bits octet)) latest (latest-octet octet past small))
+    (subst (λ n. said_test (counters n finding.since) (octet_bits octet) (Some finding.since) ≡ true) latest
+    (subst (λ o. said_test (counters octet o) (octet_bits octet) (Some o) ≡ true) (sym since)
+    (subst (λ n. said_test (counters n (Some count)) (octet_bits n) (Some (Some count)) ≡ true) (sym turned)
+    (at_each 8 flags_test all_flags count near))))
+  where
+    small : octet < 256
+    small = subst (λ n. n < 256) (sym latest) h.holds.low

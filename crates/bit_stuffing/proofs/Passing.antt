@@ -189,3 +189,20 @@ four-stands finding g four past passes gathered = record {
       (gathered (far-since finding (past ++ low_bits 4 four) passes.finds p o far) p (passes.opened p o far) (omega (arith, far, long)));
   lends = passes.closes;
 }
+
+-- Flags follow one another: of what stands behind the latest one nothing was to be gathered.
+pub flags-stands : (finding : Finding) (g : Gathering) (past bits : List Bool) → PassesBits finding past bits
+    → IfSome finding.since (λ count. count < 8)
+    → DeframerStands (record { finding = finding; gathering = g; lent = false }) (past ++ bits)
+flags-stands finding g past bits passes near = record {
+  finds = passes.finds;
+  gathers = λ p o far. absurd (too_far p o far finding.since passes.finds.counts near);
+  lends = passes.closes;
+}
+  where
+    too_far : (p : ℕ) → OpenedAt (past ++ bits) p → p + 8 ≤ length (past ++ bits) → (since : Option ℕ) → CountsSince since (past ++ bits)
+        → IfSome since (λ count. count < 8) → ⊥
+    too_far p o far None k less = k p o
+    too_far p o far (Some count) k less =
+        let same : p ≡ k.0 = opened-once (past ++ bits) p k.0 o k.1 in
+        omega (arith, k.2, same, far, less)

@@ -120,6 +120,22 @@ impl Deframer {
         true
     }
 
+    /// Goes on by the bits of an octet, the low one first, where flags follow one another before it and with it: whether it did. Nothing
+    /// ends with any of them, nothing is gathered, and no octets are lent then.
+    pub fn pass_flags(&mut self, octet: u8) -> bool
+        ensures stands { result ≡ true → (past : List Bool) → DeframerStands self.old past
+            → DeframerStands self.new (past ++ octet_bits octet) }
+        ensures quiet { result ≡ true → (past : List Bool) → DeframerStands self.old past
+            → pieces_of (past ++ octet_bits octet) ≡ pieces_of past }
+        ensures stays { result ≡ false → self.new ≡ self.old }
+    {
+        if !self.finder.is_flags(octet) {
+            return false;
+        }
+        self.lent = false;
+        true
+    }
+
     /// Gathers the bits that four more hand on.
     fn gather_four(&mut self)
         ensures gathers { (past : List Bool) → DeframerStands self.old past

@@ -198,6 +198,20 @@ impl FlagFinder {
         }
     }
 
+    /// Whether flags follow one another, and go on so with the octet: the flag that is open stands fewer than eight bits back, and the
+    /// octet is the one before it once more.
+    pub(crate) fn is_flags(&self, octet: u8) -> bool
+        ensures passes { result ≡ true → (past : List Bool) → Finds self.now past → PassesBits self.now past (octet_bits octet) }
+        ensures near { result ≡ true → IfSome self.now.since (λ count. count < 8) }
+    {
+        match self.since {
+            Some(count) if count < 8 => {
+                octet == self.latest && octet == FLAG.rotate_right(u32::from(count))
+            }
+            _ => false,
+        }
+    }
+
     /// The latest eight bits, where they stand behind the flag that is open.
     pub(crate) fn leaving_octet(&self) -> Option<u8>
         ensures octet { IfSome result (λ octet. (past : List Bool) → Finds self.now past

@@ -11,7 +11,7 @@ use Rattle.std.proofs.lemmas.List.{append-nil, reverse-append, length-reverse, t
 use Rattle.std.proofs.lemmas.List.{get_or-append_right, get_or-replicate}
 use Rattle.std.proofs.lemmas.Nat.{shr-shr, or_shifted}
 use Rattle.std.proofs.lemmas.Nat.Bits.{bit_at_and, bit_at_cat_low, bit_at_cat_high, bit_at-zero}
-use Rattle.frame_check.specs.Bits.{number, low_bits, octet_bits}
+use Rattle.frame_check.specs.Bits.{number, low_bits}
 use Rattle.lapm_frames.specs.declared.seen.Seen.{Seen}
 use Rattle.detection.specs.Patterns.{ones, seen_at, EndsPattern, second}
 use Rattle.detection.specs.Sights.{sights_of}
@@ -127,18 +127,3 @@ none-seen latest past new few h none =
         sym (seen-once bits None (λ seen ends. none (length more) (λ j l.
         bit_at-rem latest 16 (length more + j) (omega (arith, left, few, low))
         ∙ ends-ones latest seen bits more (subst (ReaderStands latest) (sym joined) h) (omega (arith, left, few)) ends j l)))
-
--- an octet's bits are those of its two fours
-pub octet-fours : (past : List Bool) (octet : ℕ) → octet < 256
-    → (past ++ low_bits 4 (octet % 16)) ++ low_bits 4 (octet / 16) ≡ past ++ octet_bits octet
-octet-fours past octet small =
-    append_assoc past (low_bits 4 (octet % 16)) (low_bits 4 (octet / 16)) ∙ ap (λ l. past ++ l) halves
-  where
-    halves : low_bits 4 (octet % 16) ++ low_bits 4 (octet / 16) ≡ octet_bits octet
-    halves =
-        let a0 : octet % 16 % 2 ≡ octet % 2 = omega arith in
-        let a1 : octet % 16 / 2 % 2 ≡ octet / 2 % 2 = omega arith in
-        let a2 : octet % 16 / 2 / 2 % 2 ≡ octet / 2 / 2 % 2 = omega arith in
-        let a3 : octet % 16 / 2 / 2 / 2 % 2 ≡ octet / 2 / 2 / 2 % 2 = omega arith in
-        let b : octet / 2 / 2 / 2 / 2 ≡ octet / 16 = omega arith in
-        rw (a0, a1, a2, a3, b) refl

@@ -1,7 +1,7 @@
 -- The decoder after a label is taken, and at its end.
 use Rattle.std.proofs.Common.{◌≡◌, ℕ, ◌<◌, Bool, List, [], ◌∷◌, ◌++◌, length, drop, reverse, All, Option, Some, None, IfSome, MatchOption}
 use Rattle.std.proofs.Common.{option_to_list, append_assoc, refl, sym, ◌∙◌, ap, subst, arith}
-use Rattle.std.proofs.lemmas.List.{append-nil, reverse-append}
+use Rattle.std.proofs.lemmas.List.{append-nil, reverse-append, length-reverse}
 use Rattle.std.proofs.lemmas.List.Elements.{All-head, All-tail, All-same}
 use Rattle.symbol_map.specs.declared.sample.Sample.{Sample}
 use Rattle.exact_decoder.specs.Surviving.Trellises.{trellis_of}
@@ -9,7 +9,7 @@ use Rattle.exact_decoder.specs.Surviving.Survivors.{IsReleased, IsFirstLeast}
 use Rattle.exact_decoder.specs.Columns.{tail_at}
 use Rattle.exact_decoder.specs.Kept.{Kept, KeepsSurvivors, IsLeastSum}
 use Rattle.exact_decoder.specs.Memory.{opened}
-use Rattle.exact_decoder.specs.Decoder.{Decoding, decoding_of, IsSound, DecoderStands, heard}
+use Rattle.exact_decoder.specs.Decoder.{Decoding, decoding_of, IsSound, DecoderStands, heard, two_in}
 use Rattle.exact_decoder.proofs.Least.{final-of}
 
 pub stands-taken : (table : ℕ → ℕ → Option ℕ) (points : ℕ → Sample) (depth : ℕ) (starts : ℕ → Bool) (d new : Decoding)
@@ -89,3 +89,44 @@ stands-popped table points depth starts k count old new lost samples taken None 
 stands-popped table points depth starts k count old new lost samples taken (Some label) p h =
     stands-taken table points depth starts (decoding_of k count old lost) (decoding_of k count new lost) samples taken label
     (turned old new label p) refl h
+
+-- what taking the last two labels of a list gives
+abbrev pub IsPoppedTwo : List ℕ → List ℕ → Option (ℕ × ℕ) → Type 0
+IsPoppedTwo old new r = MatchOption r ((length old < 2) × (new ≡ old)) (λ two. old ≡ new ++ two.1 ∷ two.0 ∷ [])
+
+turned-two : (old new : List ℕ) (two : ℕ × ℕ) → old ≡ new ++ two.1 ∷ two.0 ∷ [] → reverse old ≡ two.0 ∷ two.1 ∷ reverse new
+turned-two old new two e = ap reverse e ∙ reverse-append new (two.1 ∷ two.0 ∷ [])
+
+pub sound-popped-two : (table : ℕ → ℕ → Option ℕ) (states labels reach depth : ℕ) (k : Kept) (count : ℕ) (old new : List ℕ) (lost : Option ℕ)
+    (r : Option (ℕ × ℕ)) → IsPoppedTwo old new r → IsSound table states labels reach depth (decoding_of k count old lost)
+    → IsSound table states labels reach depth (decoding_of k count new lost) × IfSome r (λ two. (two.0 < labels) × (two.1 < labels))
+sound-popped-two table states labels reach depth k count old new lost None p h =
+    (subst (λ l. IsSound table states labels reach depth (decoding_of k count l lost)) (sym p.1) h, tt)
+sound-popped-two table states labels reach depth k count old new lost (Some two) p h =
+    let first = sound-taken table states labels reach depth (decoding_of k count old lost) two.0 (two.1 ∷ reverse new)
+    (turned-two old new two p) h in
+    let second = sound-taken table states labels reach depth (record (decoding_of k count old lost) { pending = two.1 ∷ reverse new }) two.1
+    (reverse new) refl first.1 in
+    (second.1, (first.0, second.0))
+
+-- the labels that are taken, and those that are left
+pub popped-two-first : (k : Kept) (count : ℕ) (old new : List ℕ) (lost : Option ℕ) (r : Option (ℕ × ℕ)) (d : Decoding)
+    → decoding_of k count old lost ≡ d → IsPoppedTwo old new r
+    → MatchOption r ((length d.pending < 2) × (decoding_of k count new lost ≡ d)) (λ two. d.pending ≡ two.0 ∷ two.1 ∷ reverse new)
+popped-two-first k count old new lost None d e p =
+    (omega (arith, p.0, ap (λ (v : Decoding). length v.pending) e, length-reverse old), ap (λ l. decoding_of k count l lost) p.1 ∙ e)
+popped-two-first k count old new lost (Some two) d e p = sym (ap (λ (v : Decoding). v.pending) e) ∙ turned-two old new two p
+
+pub stands-popped-two : (table : ℕ → ℕ → Option ℕ) (points : ℕ → Sample) (depth : ℕ) (starts : ℕ → Bool) (k : Kept) (count : ℕ)
+    (old new : List ℕ) (lost : Option ℕ) (samples : List Sample) (taken : List ℕ) (r : Option (ℕ × ℕ)) → IsPoppedTwo old new r
+    → DecoderStands table points starts depth (decoding_of k count old lost) samples taken
+    → DecoderStands table points starts depth (decoding_of k count new lost) samples (taken ++ two_in r)
+stands-popped-two table points depth starts k count old new lost samples taken None p h =
+    subst (DecoderStands table points starts depth (decoding_of k count new lost) samples) (sym (append-nil taken))
+    (subst (λ l. DecoderStands table points starts depth (decoding_of k count l lost) samples taken) (sym p.1) h)
+stands-popped-two table points depth starts k count old new lost samples taken (Some two) p h =
+    let middle : Decoding = record (decoding_of k count old lost) { pending = two.1 ∷ reverse new } in
+    subst (DecoderStands table points starts depth (decoding_of k count new lost) samples)
+    (append_assoc taken (two.0 ∷ []) (two.1 ∷ []))
+    (stands-taken table points depth starts middle (decoding_of k count new lost) samples (taken ++ two.0 ∷ []) two.1 refl refl
+    (stands-taken table points depth starts (decoding_of k count old lost) middle samples taken two.0 (turned-two old new two p) refl h))

@@ -1,5 +1,5 @@
 -- For which past a decoder stands: the samples that were pushed and the labels that were taken.
-use Rattle.std.specs.Prelude.{◌≡◌, ℕ, ◌+◌, ◌*◌, ◌^◌, ◌<◌, ◌≤◌, Bool, List, ◌++◌, length, take, reverse, min, All, Option, Some, None}
+use Rattle.std.specs.Prelude.{◌≡◌, ℕ, ◌+◌, ◌*◌, ◌^◌, ◌<◌, ◌≤◌, Bool, List, [], ◌∷◌, ◌++◌, length, take, reverse, min, All, Option, Some, None}
 use Rattle.symbol_map.specs.declared.sample.Sample.{Sample}
 use Rattle.exact_decoder.specs.Surviving.Trellises.{trellis_of}
 use Rattle.exact_decoder.specs.Surviving.Survivors.{IsReleased, LostIs}
@@ -55,3 +55,8 @@ pub record DecoderStands (table : ℕ → ℕ → Option ℕ) (points : ℕ → 
   pub lost : LostIs (trellis_of table points starts) depth samples d.lost
   pub released : IsReleased (trellis_of table points starts) (heard d.lost samples) (taken ++ d.pending)
   pub keeps : d.lost ≡ None → KeepsSurvivors (trellis_of table points starts) (opened d.memory) samples (taken ++ d.pending)
+
+-- the two labels of a pair, if there is one
+abbrev pub two_in : Option (ℕ × ℕ) → List ℕ
+two_in None = []
+two_in (Some two) = two.0 ∷ two.1 ∷ []

@@ -3,7 +3,7 @@ ghost use Rattle.std.specs.Prelude.{◌≡◌, ℕ, IfOk, IfSome, ◌↔◌, nat
 ghost use Rattle.symbol_map.specs.declared.sample.Sample.{Sample};
 ghost use Rattle.exact_decoder.specs.Surviving.Trellises.{trellis_of};
 ghost use Rattle.exact_decoder.specs.Surviving.Survivors.{IsFirstLeast};
-ghost use Rattle.exact_decoder.specs.Decoder.{DecoderStands};
+ghost use Rattle.exact_decoder.specs.Decoder.{DecoderStands, two_in};
 ghost use Rattle.exact_decoder.specs.Batches.{heard_of};
 
 use crate::kept::Survivors;
@@ -176,6 +176,17 @@ impl<
         ensures bound { IfSome result (λ label. label < LABELS) }
     {
         self.pending.pop()
+    }
+
+    /// The two oldest labels that are released and not yet taken, where there are two: the older one first.
+    pub fn take_two(&mut self) -> Option<(u8, u8)>
+        ensures stands { (starts : ℕ → Bool) (samples : List Sample) (taken : List ℕ) → DecoderStands C.table C.points starts DEPTH self.old samples taken
+            → DecoderStands C.table C.points starts DEPTH self.new samples (taken ++ two_in result) }
+        ensures first { MatchOption result ((length self.old.pending < 2) × (self.new ≡ self.old)) (λ two. self.old.pending ≡ two.0 ∷ two.1 ∷ self.new.pending) }
+        ensures rest { self.new ≡ record self.old { pending = self.new.pending } }
+        ensures bound { IfSome result (λ two. (two.0 < LABELS) × (two.1 < LABELS)) }
+    {
+        self.pending.pop_two()
     }
 
     /// How many labels are released and not taken.

@@ -1,5 +1,5 @@
 // Labels become bits.
-ghost use Rattle.std.specs.Prelude.{◌≡◌, ◌<◌, ◌^◌, ℕ, Bool, List, [], ◌∷◌, ◌++◌};
+ghost use Rattle.std.specs.Prelude.{◌≡◌, ◌+◌, ◌<◌, ◌^◌, ℕ, Bool, List, [], ◌∷◌, ◌++◌};
 ghost use Rattle.frame_check.specs.Bits.{low_bits};
 ghost use Rattle.scramblers.specs.declared.mode.Mode.{Mode};
 ghost use Rattle.line_coding.specs.Demodulates.{DemodulatorStands};
@@ -28,6 +28,14 @@ pub trait Demodulate<const LABELS: usize>: Drop {
         ensures stands { (mode : Mode) (labels : List ℕ) (bits : List Bool) → reads mode self.old labels bits
             → reads mode self.new (labels ++ label ∷ []) (bits ++ low_bits BITS result) }
         ensures bound { result < 2 ^ BITS };
+
+    /// The next bits, for the next two labels, in a number that has the first one lowest.
+    fn push_two(&mut self, first: u8, second: u8) -> u8
+        requires first { first < LABELS }
+        requires second { second < LABELS }
+        ensures stands { (mode : Mode) (labels : List ℕ) (bits : List Bool) → reads mode self.old labels bits
+            → reads mode self.new (labels ++ first ∷ second ∷ []) (bits ++ low_bits (BITS + BITS) result) }
+        ensures bound { result < 2 ^ (BITS + BITS) };
 }
 
 /// A demodulator of what a modem of a mode sent. The register of its descrambler is zero and y is 0 before the first label.
@@ -56,5 +64,11 @@ impl Demodulate<32> for Demodulator {
     fn push(&mut self, label: u8) -> u8 {
         let quad = self.reader.push(label);
         self.descrambler.push_four(quad)
+    }
+
+    fn push_two(&mut self, first: u8, second: u8) -> u8 {
+        let low = self.reader.push(first);
+        let high = self.reader.push(second);
+        self.descrambler.push_octet(low + 16 * high)
     }
 }

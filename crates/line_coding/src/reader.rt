@@ -148,6 +148,22 @@ impl<
         }
     }
 
+    /// The bits of the two oldest labels that are released and not yet taken, where there are two, in a number that has the first one lowest.
+    pub fn take_two(&mut self) -> Option<u8>
+        ensures stands { (mode : Mode) (starts : ℕ → Bool) (samples : List Sample) (bits : List Bool) → SamplesRead C.table C.points (D.reads mode) starts DEPTH self.old samples bits
+            → SamplesRead C.table C.points (D.reads mode) starts DEPTH self.new samples (bits ++ bits_in (D.BITS + D.BITS) result) }
+        ensures first { MatchOption result (length self.old.decoder.pending < 2)
+            (λ number. (number < 2 ^ (D.BITS + D.BITS)) × (length self.old.decoder.pending ≡ length self.new.decoder.pending + 2)) }
+        ensures stays { result ≡ None → self.new ≡ self.old }
+        ensures count { self.new.decoder.count ≡ self.old.decoder.count }
+        ensures lost { self.new.decoder.lost ≡ self.old.decoder.lost }
+    {
+        match self.decoder.take_two() {
+            Some((first, second)) => Some(self.demodulator.push_two(first, second)),
+            None => None,
+        }
+    }
+
     /// The decoder.
     pub fn decoder(&self) -> &Decoder<C, STATES, LABELS, DEPTH>
         ensures { result.now ≡ self.now.decoder }

@@ -1,6 +1,6 @@
 // The scrambler and the descrambler of either mode.
 ghost use Rattle.std.specs.Prelude.{◌≡◌, ◌<◌, Bool, List, [], ◌∷◌, ◌++◌};
-ghost use Rattle.frame_check.specs.Bits.{low_bits};
+ghost use Rattle.frame_check.specs.Bits.{low_bits, octet_bits};
 ghost use Rattle.scramblers.specs.declared.mode.Mode.{Mode};
 ghost use Rattle.line_coding.specs.Modes.{ScramblesAs, DescramblesAs};
 
@@ -124,6 +124,17 @@ impl ModeDescrambler {
         match self {
             ModeDescrambler::Call(descrambler) => descrambler.push_four(four),
             ModeDescrambler::Answer(descrambler) => descrambler.push_four(four),
+        }
+    }
+
+    /// The output's next eight bits, for the line's next eight.
+    pub fn push_octet(&mut self, octet: u8) -> u8
+        ensures { (mode : Mode) (line output : List Bool) → DescramblesAs mode self.old line output
+            → DescramblesAs mode self.new (line ++ octet_bits octet) (output ++ octet_bits result) }
+    {
+        match self {
+            ModeDescrambler::Call(descrambler) => descrambler.push_octet(octet),
+            ModeDescrambler::Answer(descrambler) => descrambler.push_octet(octet),
         }
     }
 }

@@ -1,5 +1,5 @@
 -- Bits that are put behind a list in twos, and what is read of them.
-use Rattle.std.proofs.Common.{◌≡◌, ◌∙◌, ℕ, ◌<◌, Bool, List, [], ◌∷◌, ◌++◌, sym, ap, subst, append-nil, All}
+use Rattle.std.proofs.Common.{◌≡◌, ◌∙◌, ℕ, ◌+◌, ◌*◌, ◌/◌, ◌%◌, ◌<◌, Bool, List, [], ◌∷◌, ◌++◌, refl, sym, ap, subst, append-nil, append_assoc, All, arith}
 use Rattle.std.specs.List.{flat_map}
 use Rattle.std.proofs.lemmas.Grind.{flat_map-append}
 use Rattle.frame_check.specs.Bits.{low_bits}
@@ -14,6 +14,21 @@ pub twos-more : (line : List Bool) (turns : List ℕ) (turn : ℕ) → line ≡ 
 twos-more line turns turn e =
     ap (λ xs. xs ++ low_bits 2 turn) e ∙ ap (λ ys. flat_map (low_bits 2) turns ++ ys) (sym (append-nil (low_bits 2 turn)))
     ∙ sym (flat_map-append (low_bits 2) turns (turn ∷ []))
+
+-- the bits of two turns in one number
+two-turns : (low high : ℕ) → low < 4 → low_bits 4 (low + 4 * high) ≡ low_bits 2 low ++ low_bits 2 high
+two-turns low high few =
+    let n : ℕ = low + 4 * high in
+    let e0 : n % 2 ≡ low % 2 = omega arith in
+    let e1 : n / 2 % 2 ≡ low / 2 % 2 = omega arith in
+    let e2 : n / 2 / 2 ≡ high = omega (arith, few) in
+    rw (e0, e1, e2) refl
+
+pub fours-more : (line : List Bool) (turns : List ℕ) (low high : ℕ) → low < 4 → line ≡ flat_map (low_bits 2) turns
+    → line ++ low_bits 4 (low + 4 * high) ≡ flat_map (low_bits 2) ((turns ++ low ∷ []) ++ high ∷ [])
+fours-more line turns low high few e =
+    ap (λ l. line ++ l) (two-turns low high few) ∙ sym (append_assoc line (low_bits 2 low) (low_bits 2 high))
+    ∙ twos-more (line ++ low_bits 2 low) (turns ++ low ∷ []) high (twos-more line turns low e)
 
 pub comes-back : (tap : ℕ) (bits line : List Bool) (turns : List ℕ)
     → Scrambles tap bits line → line ≡ flat_map (low_bits 2) turns → All (λ n. n < 4) turns → Demodulates tap (turned turns) bits

@@ -35,4 +35,10 @@ impl Demodulate<4> for Demodulator {
         let turns = self.unturner.decode(label);
         self.descrambler.push_two(turns)
     }
+
+    fn push_two(&mut self, first: u8, second: u8) -> u8 {
+        let low = self.unturner.decode(first);
+        let high = self.unturner.decode(second);
+        self.descrambler.push_four(low + 4 * high)
+    }
 }

@@ -4,7 +4,7 @@ ghost use Rattle.scramblers.specs.declared.mode.Mode.{Mode};
 ghost use Rattle.symbol_map.specs.declared.sample.Sample.{Sample};
 ghost use Rattle.sample_line.specs.Hears.{Hears, HearsBetween, HearsSamples};
 
-use crate::receiver::{Slot, push_four};
+use crate::receiver::{Slot, push_four, push_octet};
 use crate::tally::Tally;
 use detection::Ear;
 use exact_decoder::{Decoder, Lost};
@@ -57,6 +57,23 @@ impl Hearer {
         }
     }
 
+    /// The tally once the two oldest labels that the decoder released were read, if there are two.
+    fn read_two(&mut self, slot: Slot<'_>, tally: Tally) -> Tally
+        requires { slot.framing.dlci < 64 }
+        ensures stands { (mode : Mode) (samples : List Sample) (earlier : List Bool)
+            → HearsBetween mode self.old samples slot.entry.framing.check slot.entry.framing.sender slot.entry.framing.dlci slot.entry.sent.now earlier tally
+            → HearsBetween mode self.new samples slot.entry.framing.check slot.entry.framing.sender slot.entry.framing.dlci slot.entry.sent.now earlier result }
+        ensures pending { 2 ≤ length self.old.reader.decoder.pending
+            → length self.old.reader.decoder.pending ≡ length self.new.reader.decoder.pending + 2 }
+        ensures count { self.new.reader.decoder.count ≡ self.old.reader.decoder.count }
+        ensures lost { self.new.reader.decoder.lost ≡ self.old.reader.decoder.lost }
+    {
+        match self.reader.take_two() {
+            Some(octet) => push_octet(&mut self.ear, octet, slot, tally),
+            None => tally,
+        }
+    }
+
     /// The tally once all labels that the decoder released were read.
     fn read_labels(&mut self, slot: Slot<'_>, tally: Tally) -> Tally
         requires { slot.framing.dlci < 64 }
@@ -68,10 +85,10 @@ impl Hearer {
         ensures lost { self.new.reader.decoder.lost ≡ self.old.reader.decoder.lost }
     {
         let mut tally = tally;
-        for _ in 0..self.reader.pending() {
-            tally = self.read_label(slot, tally);
+        for _ in 0..self.reader.pending() / 2 {
+            tally = self.read_two(slot, tally);
         }
-        tally
+        self.read_label(slot, tally)
     }
 
     /// The tally once these samples were heard, and each label that they release was read.

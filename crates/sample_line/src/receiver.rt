@@ -1,6 +1,6 @@
 // The receiver behind the decoder: what is found in the bits.
 ghost use Rattle.std.specs.Prelude.{◌≡◌, ◌<◌, true, false, Some, ℕ, Bool, List, [], ◌∷◌, ◌++◌};
-ghost use Rattle.frame_check.specs.Bits.{low_bits};
+ghost use Rattle.frame_check.specs.Bits.{low_bits, octet_bits};
 ghost use Rattle.bit_stuffing.specs.Deframer.{DeframerStands};
 ghost use Rattle.bit_stuffing.specs.declared.piece.Piece.{Piece};
 ghost use Rattle.shared_terms.specs.declared.role.Role.{Role};
@@ -84,6 +84,24 @@ fn with_four(deframer: &mut Deframer, four: u8, slot: Slot<'_>, tally: Tally) ->
     with_bit(deframer, four / 8 == 1, slot, tally)
 }
 
+/// The tally once the deframer took the bits of an octet more: with the pieces that end there. Mostly flags follow one another.
+fn with_octet(deframer: &mut Deframer, octet: u8, slot: Slot<'_>, tally: Tally) -> Tally
+    requires { slot.framing.dlci < 64 }
+    ensures stands { (bits : List Bool) → DeframerStands deframer.old bits → DeframerStands deframer.new (bits ++ octet_bits octet) }
+    ensures tallied { (bits : List Bool) (octets : List (List ℕ)) (patterns : List Seen) → DeframerStands deframer.old bits
+        → Tallies slot.entry.framing.sender slot.entry.framing.dlci slot.entry.sent.now octets patterns tally
+        → PiecesAreTallied slot.entry.framing.check slot.entry.framing.sender slot.entry.framing.dlci slot.entry.sent.now bits (bits ++ octet_bits octet) octets patterns result }
+{
+    if deframer.pass_flags(octet) {
+        return tally;
+    }
+    if deframer.pass(octet) {
+        return tally;
+    }
+    let tally = with_four(deframer, octet % 16, slot, tally);
+    with_four(deframer, octet / 16, slot, tally)
+}
+
 /// The tally once the reader took one bit more: with the pattern that ends there, if one does.
 fn with_bit_seen(reader: &mut PatternReader, bit: bool, sent: &Sent, tally: Tally) -> Tally
     ensures stands { (bits : List Bool) → ReaderStands reader.old bits → ReaderStands reader.new (bits ++ bit ∷ []) }
@@ -112,6 +130,20 @@ fn with_four_seen(reader: &mut PatternReader, four: u8, sent: &Sent, tally: Tall
     with_bit_seen(reader, four / 8 == 1, sent, tally)
 }
 
+/// The tally once the reader took the bits of an octet more: with the patterns that end there.
+fn with_octet_seen(reader: &mut PatternReader, octet: u8, sent: &Sent, tally: Tally) -> Tally
+    ensures stands { (bits : List Bool) → ReaderStands reader.old bits → ReaderStands reader.new (bits ++ octet_bits octet) }
+    ensures tallied { (sender : Role) (dlci : ℕ) (bits : List Bool) (octets : List (List ℕ)) (patterns : List Seen) → ReaderStands reader.old bits
+        → Tallies sender dlci sent.now octets patterns tally
+        → PatternsAreTallied sender dlci sent.now bits (bits ++ octet_bits octet) octets patterns result }
+{
+    if reader.pass_octet(octet) {
+        return tally;
+    }
+    let tally = with_four_seen(reader, octet % 16, sent, tally);
+    with_four_seen(reader, octet / 16, sent, tally)
+}
+
 /// The tally once four bits more were read.
 pub(crate) fn push_four(ear: &mut Ear, four: u8, slot: Slot<'_>, tally: Tally) -> Tally
     requires channel { slot.framing.dlci < 64 }
@@ -123,4 +155,16 @@ pub(crate) fn push_four(ear: &mut Ear, four: u8, slot: Slot<'_>, tally: Tally) -
 {
     let tally = with_four_seen(&mut ear.reader, four, slot.sent, tally);
     with_four(&mut ear.deframer, four, slot, tally)
+}
+
+/// The tally once the bits of an octet more were read, the low one first.
+pub(crate) fn push_octet(ear: &mut Ear, octet: u8, slot: Slot<'_>, tally: Tally) -> Tally
+    requires { slot.framing.dlci < 64 }
+    ensures stands { (bits : List Bool) → HasHeard ear.old bits → HasHeard ear.new (bits ++ octet_bits octet) }
+    ensures tallies { (earlier bits : List Bool) → HasHeard ear.old bits
+        → TalliesBetween slot.entry.framing.check slot.entry.framing.sender slot.entry.framing.dlci slot.entry.sent.now earlier bits tally
+        → TalliesBetween slot.entry.framing.check slot.entry.framing.sender slot.entry.framing.dlci slot.entry.sent.now earlier (bits ++ octet_bits octet) result }
+{
+    let tally = with_octet_seen(&mut ear.reader, octet, slot.sent, tally);
+    with_octet(&mut ear.deframer, octet, slot, tally)
 }

@@ -75,7 +75,7 @@ low_four n =
     ∙ ap (λ x. has_bit n 0 ∷ has_bit n 1 ∷ has_bit n 2 ∷ nat_eq x 1 ∷ []) b3
 
 -- a bit that is 0 or 1 is the number of its truth value
-bit-number : (m : ℕ) → m < 2 → m ≡ number (nat_eq m 1)
+pub bit-number : (m : ℕ) → m < 2 → m ≡ number (nat_eq m 1)
 bit-number m low = go m low
   where
     go : (m : ℕ) → m < 2 → m ≡ number (nat_eq m 1)

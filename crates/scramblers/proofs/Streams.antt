@@ -33,7 +33,7 @@ pub earlier-append : (line : List Bool) (bit : Bool) (i k : ℕ) → i ≤ lengt
 earlier-append line bit i k within low = grind (arith, common_steps, nat_tests)
 
 -- what is written at a place, as both equations have it
-abbrev turned_at : ℕ → Bool → List Bool → ℕ → Bool
+abbrev pub turned_at : ℕ → Bool → List Bool → ℕ → Bool
 turned_at tap bit line i = xor (xor bit (earlier line i tap)) (earlier line i 23)
 
 turned-append : (tap : ℕ) (bit : Bool) (line : List Bool) (last : Bool) (i : ℕ) → 1 ≤ tap → i ≤ length line

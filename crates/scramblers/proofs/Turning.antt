@@ -24,7 +24,7 @@ odd (suc zero) false true low = refl
 odd (suc zero) false false low = refl
 odd (suc (suc m)) b c low = absurd (omega (arith, low))
 
-turned : (four near far i : ℕ) (b c : Bool) → bit_at near i ≡ number b → bit_at far i ≡ number c
+pub turned : (four near far i : ℕ) (b c : Bool) → bit_at near i ≡ number b → bit_at far i ≡ number c
     → has_bit (bit_xor (bit_xor four near) far) i ≡ xor (xor (has_bit four i) b) c
 turned four near far i b c e f =
     ap (λ n. nat_eq n 1) (bit_at_xor (bit_xor four near) far i ∙ ap (λ n. (n + bit_at far i) % 2) (bit_at_xor four near i)

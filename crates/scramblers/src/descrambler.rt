@@ -1,9 +1,12 @@
 // The descrambler.
 ghost use Rattle.std.specs.Prelude.{◌≡◌, ◌<◌, ◌≤◌, List, Bool, [], ◌∷◌, ◌++◌};
-ghost use Rattle.frame_check.specs.Bits.{low_bits};
+ghost use Rattle.frame_check.specs.Bits.{low_bits, octet_bits};
 ghost use Rattle.scramblers.specs.Machines.{DescramblerStands};
 
-use crate::register::{DEGREE, bit_before, four_before, shifted, shifted_by_four};
+use crate::register::{
+    DEGREE, bit_before, four_before, octet_before, shifted, shifted_by_four, shifted_by_octet,
+    with_octet,
+};
 use std::marker::Model;
 
 /// The inverse of the [`Scrambler`](crate::Scrambler) with the same TAP. It keeps the latest bits of the line,
@@ -55,5 +58,15 @@ impl<const TAP: usize> Descrambler<TAP> {
         let read = four ^ four_before(self.register, TAP) ^ four_before(self.register, DEGREE);
         self.register = shifted_by_four(self.register, four);
         read
+    }
+
+    /// The output's next eight bits, for the line's next eight: the first one is lowest.
+    pub fn push_octet(&mut self, octet: u8) -> u8
+        ensures { (line output : List Bool) → DescramblerStands TAP self.old line output
+            → DescramblerStands TAP self.new (line ++ octet_bits octet) (output ++ octet_bits result) }
+    {
+        let line = with_octet(self.register, octet);
+        self.register = shifted_by_octet(line);
+        octet ^ octet_before(line, TAP) ^ octet_before(line, DEGREE)
     }
 }

@@ -1,7 +1,7 @@
 use Rattle.std.proofs.Common.{◌++◌, ◌%◌, subst}
 use Rattle.frame_check.specs.Bits.{low_bits}
 use Rattle.detection.specs.Reader.{ReaderStands}
-use Rattle.detection.proofs.Quiet.{octet-fours}
+use Rattle.detection.proofs.Octets.{octet-fours}
 use Rattle.detection.proofs.reader.behind_octet.Goals as goal
 
 pub returns : goal.returns

@@ -1,4 +1,4 @@
-use Rattle.std.proofs.Common.{◌≡◌, ◌+◌, length, List, Bool}
+use Rattle.std.proofs.Common.{◌≡◌, ◌+◌, ◌*◌, length, List, Bool}
 use Rattle.scramblers.specs.declared.mode.Mode.{Mode}
 use Rattle.symbol_map.specs.declared.sample.Sample.{Sample}
 use Rattle.sample_line.specs.Hears.{HearsBetween}
@@ -10,7 +10,7 @@ invariant-loop l = record {
       → HearsBetween mode l.fn.self samples l.slot.framing.check l.slot.framing.sender l.slot.framing.dlci l.slot.sent.now earlier
       l.fn.tally
       → HearsBetween mode l.self samples l.slot.framing.check l.slot.framing.sender l.slot.framing.dlci l.slot.sent.now earlier l.tally;
-  left : length l.self.reader.decoder.pending + l.counter ≡ length l.fn.self.reader.decoder.pending;
+  left : length l.self.reader.decoder.pending + 2 * l.counter ≡ length l.fn.self.reader.decoder.pending;
   count : l.self.reader.decoder.count ≡ l.fn.self.reader.decoder.count;
   lost : l.self.reader.decoder.lost ≡ l.fn.self.reader.decoder.lost;
 }

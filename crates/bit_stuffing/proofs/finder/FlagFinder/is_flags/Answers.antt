@@ -1,0 +1,15 @@
+use Rattle.std.proofs.Common.{◌∙◌, sym, subst, ap}
+use Rattle.std.proofs.lemmas.Bool.{eqb-true}
+use Rattle.std.specs.Int.{rotate_right}
+use Rattle.std.specs.Int.Width.{w8}
+use Rattle.frame_check.specs.Bits.{octet_bits}
+use Rattle.bit_stuffing.specs.Deframer.{Finds, PassesBits}
+use Rattle.bit_stuffing.proofs.Fours.{passes-flags}
+use Rattle.bit_stuffing.proofs.finder.FlagFinder.is_flags.Goals as goal
+
+pub returns-then-octet-self-clause-passes : goal.returns-then-octet-self-clause-passes
+returns-then-octet-self-clause-passes c = λ e past h.
+    let s = subst (λ v. Finds v past) (sym c.self.view_is) h in
+    subst (λ v. PassesBits v past (octet_bits c.args.octet)) c.self.view_is
+    (passes-flags _ past c.args.octet c.in-Some.count s c.in-Some.is c.if-count-lt8.true c.if-octet-self.true
+    (eqb-true c.args.octet c.rotate_right.result e ∙ c.rotate_right.ensures ∙ ap (rotate_right w8 126) c.from.ensures))
