@@ -29,7 +29,8 @@ use Rattle.line_run.specs.Sampled.{HeardIn, IsHeardOf, LineRun}
 use Rattle.line_run.specs.Scripted.{wire_of, link_of}
 use Rattle.line_run.specs.Ends.{IsDone, Left, OneResult}
 use Rattle.line_ends.specs.Completes.{ScriptRunsTo, DisplacesNone, DisplacesNoneIsFaint, AreOfOctets}
-use Rattle.command_laws.specs.Worked.Made.{Way, Next, Goes, Ends_run, Stops, Made, IsMade, EndsAs, turn_with, both_said, crossing, speaking, hearing}
+use Rattle.command_laws.specs.Worked.Made.{Way, Next, Goes, Ends_run, Stops, Made, IsMade, EndsAs, turn_with, both_said, crossing}
+use Rattle.command_laws.specs.Worked.Made.{speaking, hearing}
 use Rattle.command_laws.specs.Worked.Made.{next}
 use Rattle.command_laws.specs.Worked.Made.{heard_by, made, runs, with_last, all_turns}
 use Rattle.link_pair.specs.Pairs.Ends.{BothDone, end_of, PairRunsTo}

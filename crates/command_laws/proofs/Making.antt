@@ -15,7 +15,8 @@ use Rattle.link_run.specs.End.{is_closed}
 use Rattle.link_run.specs.Run.{Link, Accounts, Turn, Spoken, arrival, Hears, Speaks, IsSilent, said_at, GoingTurn, RunOf, start}
 use Rattle.link_run.specs.Carried.{sent_ago, has_message, Crosses, Carries, IsCarried}
 use Rattle.link_run.specs.Outcomes.{TurnIs}
-use Rattle.command_laws.specs.Worked.Made.{Way, Next, Goes, Ends_run, Stops, turn_with, both_said, crossing, speaking, hearing, next, heard_by}
+use Rattle.command_laws.specs.Worked.Made.{Way, Next, Goes, Ends_run, Stops, turn_with, both_said, crossing, speaking, hearing, next}
+use Rattle.command_laws.specs.Worked.Made.{heard_by}
 use Rattle.command_laws.specs.Worked.Made.{made, runs, IsMade}
 
 abbrev IsNext : Link → List Turn → Accounts → Next → Type 0

@@ -148,7 +148,8 @@ quiet-at peer bits no_piece no_sight (arrivals.Frame frame) e =
 
 -- bits that add no piece and no pattern leave what was heard
 pub heard-quiet : (peer : Role) (earlier bits more : List Bool) (heard : Arrived)
-    → pieces_of ((earlier ++ bits) ++ more) ≡ pieces_of (earlier ++ bits) → sights_of ((earlier ++ bits) ++ more) ≡ sights_of (earlier ++ bits)
+    → pieces_of ((earlier ++ bits) ++ more) ≡ pieces_of (earlier ++ bits)
+    → sights_of ((earlier ++ bits) ++ more) ≡ sights_of (earlier ++ bits)
     → IsHeard peer earlier bits heard → IsHeard peer earlier (bits ++ more) heard
 heard-quiet peer earlier bits [] heard pieces sights h = subst (λ (b : List Bool). IsHeard peer earlier b heard) (sym (append-nil bits)) h
 heard-quiet peer earlier bits (bit ∷ more) heard pieces sights h =

@@ -19,7 +19,8 @@ use Rattle.line_run.specs.Scripted.{wire_at}
 use Rattle.link_pair.specs.Pairs.Pair.{Progress, Goes, Ended, turns_in, ends_in, turns_on_line, Lasts, PairAt}
 use Rattle.link_pair.specs.Pairs.Ends.{Which, First, Second, EndsTurn, by_links, by_line}
 use Rattle.link_pair.specs.Pairs.Laws.{FaintPairsAreIsolated, UndisplacedPairsAreIsolated}
-use Rattle.link_pair.proofs.Pairs.Fitting.{AllFitting, BesideFits, second-beside, first-beside, none-beside, fitting-lasting, sendable-lasting}
+use Rattle.link_pair.proofs.Pairs.Fitting.{AllFitting, BesideFits, second-beside, first-beside, none-beside, fitting-lasting}
+use Rattle.link_pair.proofs.Pairs.Fitting.{sendable-lasting}
 use Rattle.link_pair.proofs.Pairs.Clear.{Beside, bits_in, IsClear, Agrees, heard-due, due-well, not-lost}
 use Rattle.link_pair.proofs.Pairs.Isolating.{IsolationLaws, MaySend, fitting-on, clear-on, agrees-on, runs-move}
 use Rattle.link_pair.proofs.Pairs.Idling.{Judges, agrees-lasting, judges-last}
