@@ -16,8 +16,7 @@ release_one-requires g c =
     let columns = c.args.ring.now in
     let live = c.step_back-agreed.new.live in
     let (left, back) = c.step_back-agreed.ensures.back in
-    let first = take c.step_back-agreed.result c.step_back-agreed.new.labels in
-    (
+    let first = take c.step_back-agreed.result c.step_back-agreed.new.labels in (
       omega arith,
       (
         c.requires.columns,
