@@ -1,5 +1,5 @@
 // What the decoder does with each sample.
-ghost use Rattle.std.specs.Prelude.{◌≡◌, ℕ, ◌%◌, ◌<◌, ◌≤◌, ◌^◌, length, slice_index, MatchOption};
+ghost use Rattle.std.specs.Prelude.{◌≡◌, ℕ, ◌%◌, ◌<◌, ◌≤◌, ◌^◌, length, slice_index, true, MatchOption};
 ghost use Rattle.exact_decoder.specs.Traced.{choices_of, Differ, Agree, AreBefore};
 ghost use Rattle.exact_decoder.specs.Advances.{Advances};
 
@@ -30,6 +30,13 @@ pub trait ViterbiStep<const STATES: usize, const LABELS: usize>: TrellisCode<STA
         ensures label { MatchOption result (Differ STATES live.old (choices_of column.now)) (Agree STATES live.old (choices_of column.now)) }
     {
         go_back_plainly::<STATES>(column, live)
+    }
+
+    /// Whether all states of a list are one.
+    fn have_met(&self, live: &[u8; STATES]) -> bool
+        ensures { result ≡ true → (s : ℕ) → s < STATES → slice_index live.now s ≡ slice_index live.now 0 }
+    {
+        have_met_plainly::<STATES>(live)
     }
 }
 
@@ -70,4 +77,16 @@ pub fn go_back_plainly<const STATES: usize>(
         live[place] = choice.before;
     }
     if same { Some(first) } else { None }
+}
+
+/// Whether all states of a list are one, for any code.
+fn have_met_plainly<const STATES: usize>(live: &[u8; STATES]) -> bool
+    ensures { result ≡ true → (s : ℕ) → s < STATES → slice_index live.now s ≡ slice_index live.now 0 }
+{
+    for place in 0..STATES {
+        if live[place] != live[0] {
+            return false;
+        }
+    }
+    true
 }

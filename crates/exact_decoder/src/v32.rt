@@ -247,4 +247,8 @@ impl ViterbiStep<8, 32> for V32Code {
             None
         }
     }
+
+    fn have_met(&self, live: &[u8; 8]) -> bool {
+        is_one(u8x8::from_slice(live))
+    }
 }

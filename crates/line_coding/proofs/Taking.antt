@@ -38,9 +38,9 @@ sixth all more bits taken e n six four =
       counted = omega (arith, both);
     }
 
-later : (all more bits : List Bool) (taken : ℕ) → bits ≡ drop 27 all → 4 * taken ≡ min 28 (length all) → 6 < taken → length more ≡ 4
+later : (all more bits : List Bool) (taken : ℕ) → bits ≡ drop 27 all → 4 * taken ≡ min 28 (length all) → 6 < taken
     → Behind all more (bits ++ more) taken
-later all more bits taken e n l four =
+later all more bits taken e n l =
     let both : length (all ++ more) ≡ length all + length more = length-append all more in
     record {
       given_is = ap (λ l. l ++ more) e ∙ sym (drop-append-le 27 all more (omega arith));
@@ -78,13 +78,12 @@ middle-sixth mode depth old new taken four samples bits six small reads h =
       counted = b.counted;
     }
 
-pub middle-later : (mode : Mode) (depth : ℕ) (old new : LineReading) (taken four : ℕ) (samples : List Sample) (bits : List Bool) → 6 < taken
-    → Reads mode depth old new samples (low_bits 4 four)
-    → MiddleRead mode depth (middle_of old taken) samples bits
-    → MiddleRead mode depth (middle_of new taken) samples (bits ++ low_bits 4 four)
-middle-later mode depth old new taken four samples bits l reads h =
-    let b = later h.all (low_bits 4 four) bits taken h.bits_are h.counted l refl in
-    record { all = h.all ++ low_bits 4 four; read = reads h.all h.read; bits_are = b.given_is; counted = b.counted }
+pub middle-later : (mode : Mode) (depth : ℕ) (old new : LineReading) (taken : ℕ) (more : List Bool) (samples : List Sample)
+    (bits : List Bool) → 6 < taken → Reads mode depth old new samples more
+    → MiddleRead mode depth (middle_of old taken) samples bits → MiddleRead mode depth (middle_of new taken) samples (bits ++ more)
+middle-later mode depth old new taken more samples bits l reads h =
+    let b = later h.all more bits taken h.bits_are h.counted l in
+    record { all = h.all ++ more; read = reads h.all h.read; bits_are = b.given_is; counted = b.counted }
 
 pub middle-none : (mode : Mode) (depth : ℕ) (old new : LineReading) (taken : ℕ) (samples : List Sample) (bits : List Bool)
     → Reads mode depth old new samples []

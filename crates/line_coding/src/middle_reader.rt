@@ -1,8 +1,10 @@
 // Samples from the middle of a line become bits.
-ghost use Rattle.std.specs.Prelude.{◌≡◌, ℕ, ◌+◌, ◌<◌, ◌≤◌, ◌^◌, Bool, List, [], ◌∷◌, ◌++◌, Some, None, length, drop, IfOk, MatchOption, MatchResult};
+ghost use Rattle.std.specs.Prelude.{◌≡◌, ℕ, ◌+◌, ◌<◌, ◌≤◌, ◌^◌, Bool, List, [], ◌∷◌, ◌++◌, Some, None, length, drop, IfOk, IfSome, MatchOption, MatchResult};
 ghost use Rattle.scramblers.specs.declared.mode.Mode.{Mode};
 ghost use Rattle.symbol_map.specs.declared.sample.Sample.{Sample};
+ghost use Rattle.line_coding.specs.Reading.{bits_in};
 ghost use Rattle.line_coding.specs.MiddleReading.{MiddleRead, bits_taken};
+ghost use Rattle.exact_decoder.specs.Batches.{heard_of};
 
 use crate::line::LineReader;
 use exact_decoder::Lost;
@@ -61,6 +63,22 @@ impl<const DEPTH: usize> MiddleReader<DEPTH> {
         })
     }
 
+    /// As many of the samples as there is room for, at least one where there is one: how many. `Lost` comes with the first sample after
+    /// which more than `DEPTH` labels are unreleased, of which no call hears one more, and again with each later call.
+    pub fn push_some(&mut self, samples: &[Sample]) -> Result<usize, Lost>
+        requires taken { self.old.reading.decoder.pending ≡ [] }
+        requires count { self.old.reading.decoder.count + length samples.now ≤ 2 ^ 56 }
+        ensures stands { (mode : Mode) (past : List Sample) (bits : List Bool) → MiddleRead mode DEPTH self.old past bits
+            → MiddleRead mode DEPTH self.new (past ++ heard_of result samples.now) bits }
+        ensures answer { MatchResult result (λ _. self.new.reading.decoder.lost ≡ None) (λ lost. self.new.reading.decoder.lost ≡ Some lost.symbol) }
+        ensures within { IfOk result (λ heard. heard ≤ length samples.now) }
+        ensures some { IfOk result (λ heard. 1 ≤ length samples.now → 1 ≤ heard) }
+        ensures count { MatchResult result (λ heard. self.new.reading.decoder.count ≤ self.old.reading.decoder.count + heard)
+            (λ _. self.new.reading.decoder.count ≤ self.old.reading.decoder.count + length samples.now) }
+    {
+        self.reader.push_some(samples)
+    }
+
     /// One sample more. `Lost` comes with the first sample after which more than `DEPTH` labels are unreleased, and again with each later
     /// one.
     pub fn push(&mut self, sample: Sample) -> Result<(), Lost>
@@ -98,6 +116,21 @@ impl<const DEPTH: usize> MiddleReader<DEPTH> {
                 Some(Taken::Four(four))
             }
         }
+    }
+
+    /// The bits of the two oldest labels that are released and not yet taken, where there are two, and the register is full.
+    pub fn take_octet(&mut self) -> Option<u8>
+        ensures stands { (mode : Mode) (samples : List Sample) (bits : List Bool) → MiddleRead mode DEPTH self.old samples bits
+            → MiddleRead mode DEPTH self.new samples (bits ++ bits_in 8 result) }
+        ensures two { IfSome result (λ _. length self.old.reading.decoder.pending ≡ length self.new.reading.decoder.pending + 2) }
+        ensures stays { result ≡ None → self.new ≡ self.old }
+        ensures count { self.new.reading.decoder.count ≡ self.old.reading.decoder.count }
+        ensures lost { self.new.reading.decoder.lost ≡ self.old.reading.decoder.lost }
+    {
+        if self.taken <= SILENT {
+            return None;
+        }
+        self.reader.take_two()
     }
 
     /// How many labels are released and not taken.

@@ -37,11 +37,11 @@ above (suc count) more low high l h =
     }
 
 -- they have room in 16 bits
-pub not-wrapped : (count more low high : ℕ) → count < 8 → more ≤ 4 → low < 2 ^ count → high < 2 ^ more
+pub not-wrapped : (count more low high : ℕ) → count < 8 → more ≤ 8 → low < 2 ^ count → high < 2 ^ more
     → high * 2 ^ count % 65536 ≡ high * 2 ^ count
 not-wrapped count more low high few few_more l h =
     let base : 0 < 2 = omega arith in
-    let most : count + more ≤ 11 = omega arith in
+    let most : count + more ≤ 15 = omega arith in
     omega (arith, (above count more low high l h).small, pow-le-pow_right base most)
 
 -- what is above an octet
@@ -69,7 +69,7 @@ bits-behind waiting bits before octets n e j =
 -- an octet is whole with them
 pub joined-octet : (waiting bits : Bits) (before : List Bool) (octets : List ℕ) (n : ℕ)
     → bits_in waiting ++ bits_in bits ≡ low_bits (waiting.count + bits.count) n
-    → n < 2 ^ (waiting.count + bits.count) → bits.count ≤ 4 → 8 ≤ waiting.count + bits.count → OctetsJoined waiting before octets
+    → n < 2 ^ (waiting.count + bits.count) → bits.count ≤ 8 → 8 ≤ waiting.count + bits.count → OctetsJoined waiting before octets
     → OctetsJoined (record { count = waiting.count + bits.count - 8; number = n / 256 }) (before ++ bits_in bits) (octets ++ n % 256 ∷ [])
 joined-octet waiting bits before octets n e small most many j =
     let count : ℕ = waiting.count + bits.count - 8 in

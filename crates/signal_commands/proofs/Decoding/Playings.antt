@@ -43,10 +43,9 @@ takes-octets rate mode p samples octets h =
     }
 
 -- some bits more
-pub hears-more : (rate : Rate) (mode : Mode) (p next : Playback) (samples : List Sample) (octets more : List ℕ) (bits : Bits)
-    → ((before : List Bool) → ReadsAt rate mode p.reader samples before → ReadsAt rate mode next.reader samples (before ++ bits_in bits))
-    → ((before : List Bool) (octets : List ℕ) → OctetsJoined p.joiner before octets
-    → OctetsJoined next.joiner (before ++ bits_in bits) (octets ++ more))
-    → Hears rate mode p samples octets → Hears rate mode next samples (octets ++ more)
+pub hears-more : (rate : Rate) (mode : Mode) (p next : Playback) (samples : List Sample) (octets more : List ℕ) (bits : List Bool)
+    → ((before : List Bool) → ReadsAt rate mode p.reader samples before → ReadsAt rate mode next.reader samples (before ++ bits))
+    → ((before : List Bool) → OctetsJoined p.joiner before octets → OctetsJoined next.joiner (before ++ bits) more)
+    → Hears rate mode p samples octets → Hears rate mode next samples more
 hears-more rate mode p next samples octets more bits read joined h =
-    record { bits = h.bits ++ bits_in bits; read = read h.bits h.read; joined = joined h.bits octets h.joined }
+    record { bits = h.bits ++ bits; read = read h.bits h.read; joined = joined h.bits h.joined }

@@ -19,15 +19,15 @@ pub record Carries (rate : Rate) (tap : ℕ) (labels octets : List ℕ) : Type 0
   pub read : DemodulatesAt rate tap labels bits
   pub whole : AreWholeOctets bits octets
 
--- a number of at most four bits
-abbrev pub AreFew : Bits → Type 0
-AreFew bits = (bits.count ≤ 4) × (bits.number < 2 ^ bits.count)
+-- a number of at most so many bits
+abbrev pub AreFew : ℕ → Bits → Type 0
+AreFew most bits = (bits.count ≤ most) × (bits.number < 2 ^ bits.count)
 
 -- those bits, the first one lowest
 abbrev pub bits_in : Bits → List Bool
 bits_in bits = low_bits bits.count bits.number
 
--- none where there is no label
+-- none where none are taken
 abbrev pub taken_bits : Option Bits → List Bool
 taken_bits None = []
 taken_bits (Some bits) = bits_in bits

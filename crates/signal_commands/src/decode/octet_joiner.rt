@@ -18,7 +18,7 @@ pub(crate) struct Bits {
 fn joined(low: Bits, high: Bits) -> u16
     requires count { low.count < 8 }
     requires low { low.number < 2 ^ low.count }
-    requires few { AreFew high }
+    requires few { AreFew 8 high }
     ensures bits { bits_in low ++ bits_in high ≡ low_bits (low.count + high.count) result }
     ensures small { result < 2 ^ (low.count + high.count) }
 {
@@ -66,7 +66,7 @@ impl OctetJoiner {
 
     /// The octet that is whole with these bits, if one is.
     pub fn push(&mut self, bits: Bits) -> Option<u8>
-        requires { AreFew bits }
+        requires { AreFew 8 bits }
         ensures joined { (before : List Bool) (octets : List ℕ) → OctetsJoined self.old before octets
             → OctetsJoined self.new (before ++ bits_in bits) (octets ++ option_to_list result) }
         ensures count { 8 * length (option_to_list result) + self.new.count ≡ self.old.count + bits.count }

@@ -1,10 +1,11 @@
 // A recording's samples, played into the decoder.
-ghost use Rattle.std.specs.Prelude.{◌≡◌, ◌<◌, ◌≤◌, ◌+◌, ◌^◌, ◌++◌, ◌∷◌, [], ℕ, List, length, IfOk, None, Some, MatchResult, All, option_to_list};
+ghost use Rattle.std.specs.Prelude.{◌≡◌, ◌<◌, ◌≤◌, ◌+◌, ◌*◌, ◌^◌, ◌++◌, ◌∷◌, [], ℕ, Bool, List, length, IfOk, None, Some, MatchResult, All, option_to_list};
 ghost use Rattle.scramblers.specs.declared.mode.Mode.{Mode};
 ghost use Rattle.scramblers.specs.Mode.{tap_of};
 ghost use Rattle.recordings.specs.declared.rate.Rate.{Rate};
 ghost use Rattle.symbol_map.specs.declared.sample.Sample.{Sample};
 ghost use Rattle.exact_decoder.specs.Batches.{heard_of};
+ghost use Rattle.signal_commands.specs.Decoding.Octets.{AreFew, bits_in, OctetsJoined};
 ghost use Rattle.signal_commands.specs.Decoding.Playing.{decoding_of, Hears, IsReady, Finishes, LabelsJoined, ReadToEnd};
 
 use crate::decode::octet_joiner::{Bits, OctetJoiner};
@@ -43,6 +44,19 @@ impl Drop for Playback {
     }
 }
 
+/// Puts the octet that is whole with these bits behind the others, if one is.
+fn join(joiner: &mut OctetJoiner, bits: Bits, octets: &mut Octets<ROOM>)
+    requires few { AreFew 8 bits }
+    requires room { 8 * length octets.old + joiner.old.count + bits.count < 8 * ROOM + 8 }
+    ensures joined { (before : List Bool) (given : List ℕ) → OctetsJoined joiner.old before (given ++ octets.old)
+        → OctetsJoined joiner.new (before ++ bits_in bits) (given ++ octets.new) }
+    ensures count { 8 * length octets.new + joiner.new.count ≡ 8 * length octets.old + joiner.old.count + bits.count }
+{
+    if let Some(octet) = joiner.push(bits) {
+        octets.push(octet);
+    }
+}
+
 impl Playback {
     /// A recording before its first sample. All memory is taken here.
     pub fn new(alloc: Global, rate: Rate, mode: Mode) -> Result<Playback, NoMemory>
@@ -67,10 +81,11 @@ impl Playback {
     {
         let _few_labels = self.reader.pending();
         let _few_bits = self.joiner.waiting();
-        while let Some(bits) = self.reader.take() {
-            if let Some(octet) = self.joiner.push(bits) {
-                octets.push(octet);
-            }
+        while let Some(two) = self.reader.take_two() {
+            join(&mut self.joiner, two, octets);
+        }
+        if let Some(one) = self.reader.take() {
+            join(&mut self.joiner, one, octets);
         }
     }
 

@@ -28,7 +28,7 @@ pub(crate) enum RateReader {
     Quarters(QuarterReader<DEPTH>),
 }
 
-/// The bits of a label that carries so many, if there is one.
+/// A number of so many bits, if there is one.
 fn bits_of(number: Option<u8>, count: u8) -> Option<Bits>
     ensures { result ≡ option_map (λ n. record { count = count; number = n }) number }
 {
@@ -77,7 +77,7 @@ impl RateReader {
         ensures reads { (rate : Rate) (mode : Mode) (samples : List Sample) (bits : List Bool) → ReadsAt rate mode self.old samples bits
             → ReadsAt rate mode self.new samples (bits ++ taken_bits result) }
         ensures first { MatchOption result ((decoding_of self.old).pending ≡ [])
-            (λ bits. AreFew bits × (length (decoding_of self.old).pending ≡ length (decoding_of self.new).pending + 1)) }
+            (λ bits. AreFew 4 bits × (length (decoding_of self.old).pending ≡ length (decoding_of self.new).pending + 1)) }
         ensures pending { (decoding_of self.new).pending ≡ drop 1 (decoding_of self.old).pending }
         ensures count { (decoding_of self.new).count ≡ (decoding_of self.old).count }
         ensures lost { (decoding_of self.new).lost ≡ (decoding_of self.old).lost }
@@ -85,6 +85,22 @@ impl RateReader {
         match self {
             RateReader::Trellis(reader) => bits_of(reader.take(), 4),
             RateReader::Quarters(reader) => bits_of(reader.take(), 2),
+        }
+    }
+
+    /// The bits of the two oldest labels that are released and not yet taken, where there are two.
+    pub fn take_two(&mut self) -> Option<Bits>
+        ensures reads { (rate : Rate) (mode : Mode) (samples : List Sample) (bits : List Bool) → ReadsAt rate mode self.old samples bits
+            → ReadsAt rate mode self.new samples (bits ++ taken_bits result) }
+        ensures first { MatchOption result (length (decoding_of self.old).pending < 2)
+            (λ bits. AreFew 8 bits × (length (decoding_of self.old).pending ≡ length (decoding_of self.new).pending + 2)) }
+        ensures stays { result ≡ None → self.new ≡ self.old }
+        ensures count { (decoding_of self.new).count ≡ (decoding_of self.old).count }
+        ensures lost { (decoding_of self.new).lost ≡ (decoding_of self.old).lost }
+    {
+        match self {
+            RateReader::Trellis(reader) => bits_of(reader.take_two(), 8),
+            RateReader::Quarters(reader) => bits_of(reader.take_two(), 4),
         }
     }
 

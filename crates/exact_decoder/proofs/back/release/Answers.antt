@@ -1,6 +1,6 @@
-use Rattle.std.proofs.Common.{◌≡◌, ◌-◌, arith, sym, subst, take}
+use Rattle.std.proofs.Common.{◌≡◌, ◌+◌, ◌-◌, arith, sym, subst, take, slice_index}
 use Rattle.exact_decoder.specs.Traced.{Splits}
-use Rattle.exact_decoder.proofs.Walking.{back-none, first-long}
+use Rattle.exact_decoder.proofs.Walking.{back-none, back-within, back-met, first-long}
 use Rattle.exact_decoder.proofs.back.release.Goals as goal
 
 pub loop-back-init : goal.loop-back-init
@@ -9,6 +9,43 @@ loop-back-init g c = record {
   agreed = omega arith;
   back = (0, back-none g.row.STATES c.args.ring.now c.all_states-live.result c.all_states-live.ensures);
 }
+
+pub release_one-requires : goal.release_one-requires
+release_one-requires g c =
+    let few = g.met.C.TrellisCode.states_few in
+    let columns = c.args.ring.now in
+    let live = c.step_back-agreed.new.live in
+    let (left, back) = c.step_back-agreed.ensures.back in
+    let first = take c.step_back-agreed.result c.step_back-agreed.new.labels in (
+      omega arith,
+      (
+        c.requires.columns,
+        (
+          omega arith,
+          (
+            c.requires.within,
+            (
+              c.requires.room,
+              (
+                omega (arith, few.1),
+                (
+                  back-within g.row.STATES g.row.LABELS columns (c.loop-back.back + 1) left live first c.requires.columns back 0
+                      (omega (arith, few.0)),
+                  (
+                    c.step_back-agreed.ensures.agreed,
+                    (
+                      left,
+                      back-met g.row.STATES columns (c.loop-back.back + 1) left (slice_index live 0) live first
+                          (c.have_met.ensures c.if-have_met.true) back,
+                    ),
+                  ),
+                ),
+              ),
+            ),
+          ),
+        ),
+      ),
+    )
 
 pub returns : goal.returns
 returns g c =

@@ -5,8 +5,8 @@ use Rattle.recordings.specs.declared.rate.Rate.{Rate}
 use Rattle.signal_commands.specs.Decoding.Playing.{decoding_of, Hears}
 use Rattle.signal_commands.proofs.decode.playback.Playback.take_octets.Given as goal
 
-abbrev pub invariant-loop-bits : goal.invariant-loop-bits
-invariant-loop-bits l = record {
+abbrev pub invariant-loop-two : goal.invariant-loop-two
+invariant-loop-two l = record {
   hears : (rate : Rate) (mode : Mode) (samples : List Sample) (before : List ℕ) → Hears rate mode l.fn.self samples (before ++ l.fn.octets)
       → Hears rate mode l.self samples (before ++ l.octets);
   lost : (decoding_of l.self.reader).lost ≡ (decoding_of l.fn.self.reader).lost;
@@ -15,5 +15,5 @@ invariant-loop-bits l = record {
       ≤ 8 * length l.fn.octets + 7 + 4 * length (decoding_of l.fn.self.reader).pending;
 }
 
-abbrev pub decreases-loop-bits : goal.decreases-loop-bits
-decreases-loop-bits l = length (decoding_of l.self.reader).pending
+abbrev pub decreases-loop-two : goal.decreases-loop-two
+decreases-loop-two l = length (decoding_of l.self.reader).pending

@@ -1,0 +1,32 @@
+use Rattle.std.proofs.Common.{◌≡◌, ◌<◌, ◌+◌, ◌-◌, ℕ, ◌∷◌, [], ap, sym, subst, arith, length, length-append, take, replicate}
+use Rattle.exact_decoder.specs.Traced.{choices_of, Splits}
+use Rattle.exact_decoder.proofs.Walking.{back-one, first-long, first-more}
+use Rattle.exact_decoder.proofs.back.release_one.Goals as goal
+
+pub put_behind-requires-clause-room : goal.put_behind-requires-clause-room
+put_behind-requires-clause-room g c =
+    let i = c.loop-back.invariant in
+    omega (arith, c.requires.room, i.back.1.splits.count, first-long c.loop-back.labels c.loop-back.agreed i.agreed)
+
+pub loop-back-preserved : goal.loop-back-preserved
+loop-back-preserved g c =
+    let i = c.loop-back.invariant in
+    let here = c.choice-choice.result in
+    let first = take c.loop-back.agreed c.loop-back.labels in
+    record {
+      state = subst (λ n. n < g.row.STATES) (ap (λ c. c.before) (sym c.choice-choice.ensures))
+          (c.column.ensures.column.before c.loop-back.state i.state);
+      agreed = omega (
+        arith,
+        ap length c.put_behind.ensures,
+        first-long c.loop-back.labels c.loop-back.agreed i.agreed,
+        length-append {A = ℕ} first (here.label ∷ []),
+      );
+      back = (
+        i.back.0,
+        back-one g.row.STATES c.args.ring.now (choices_of c.column.result.now) c.loop-back.back i.back.0 c.loop-back.state here.before
+            here.label first (take (c.loop-back.agreed + 1) c.put_behind.new.self) c.column.ensures.next
+            (ap (λ c. c.before) c.choice-choice.ensures) (ap (λ c. c.label) c.choice-choice.ensures)
+            (first-more c.loop-back.labels c.put_behind.new.self c.loop-back.agreed here.label i.agreed c.put_behind.ensures) i.back.1,
+      );
+    }
