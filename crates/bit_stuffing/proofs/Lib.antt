@@ -17,6 +17,7 @@ mod Counters
 mod Quiet
 mod Octets
 mod Fours
+pub mod Halves
 mod Passing
 mod States
 mod Frames

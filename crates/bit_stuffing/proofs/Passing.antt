@@ -72,15 +72,6 @@ drop-past [] xs n = let e : length {A = Bool} [] + n ≡ n = omega arith in ap (
 drop-past (x ∷ front) xs n = let e : length (x ∷ front) + n ≡ suc (length front + n) = omega arith in
     ap (λ m. drop m (x ∷ front ++ xs)) e ∙ drop-past front xs n
 
--- four bits have no part in the higher ones
-pub low-four : (octet : ℕ) → low_bits 4 (octet % 16) ≡ low_bits 4 octet
-low-four octet =
-    let e0 : octet % 16 % 2 ≡ octet % 2 = omega arith in
-    let e1 : octet % 16 / 2 % 2 ≡ octet / 2 % 2 = omega arith in
-    let e2 : octet % 16 / 2 / 2 % 2 ≡ octet / 2 / 2 % 2 = omega arith in
-    let e3 : octet % 16 / 2 / 2 / 2 % 2 ≡ octet / 2 / 2 / 2 % 2 = omega arith in
-    rw (e0, e1, e2, e3) refl
-
 -- the bits that are four places back or more, by the latest eight
 back-four : (past : List Bool) (octet : ℕ) → 8 ≤ length past → drop (length past - 8) past ≡ octet_bits octet
     → take (length past - 4) past ≡ take (length past - 8) past ++ low_bits 4 octet

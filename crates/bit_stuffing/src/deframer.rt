@@ -104,6 +104,7 @@ impl Deframer {
 
     /// Goes on by the bits of an octet, the low one first, where it is plain that nothing ends with any of them: whether it did.
     /// Where it answers true no octets are lent.
+    #[inline(always)]
     pub fn pass(&mut self, octet: u8) -> bool
         ensures stands { result ≡ true → (past : List Bool) → DeframerStands self.old past
             → DeframerStands self.new (past ++ octet_bits octet) }

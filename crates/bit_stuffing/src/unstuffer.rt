@@ -154,8 +154,17 @@ impl Unstuffer {
         if !self.over && self.octets.len() + 1 < WHOLE && is_plain(self.room, octet) {
             self.keep_octet(octet);
         } else {
-            self.push_each(octet, 8);
+            self.push_fours(octet);
         }
+    }
+
+    /// The next eight bits of the line, four at once. It isn't inlined, so that no octet without an inserted zero pays for its registers.
+    #[inline(never)]
+    fn push_fours(&mut self, octet: u8)
+        ensures { (line : List Bool) → Gathers self.old line → Gathers self.new (line ++ octet_bits octet) }
+    {
+        self.push_four(octet % 16);
+        self.push_four(octet / 16);
     }
 
     /// The next four bits of the line, the low one first.

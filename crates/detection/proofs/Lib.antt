@@ -11,4 +11,3 @@ mod Inside
 mod Sent
 mod Worked
 pub mod OneSignal
-pub mod Octets

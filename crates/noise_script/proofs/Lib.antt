@@ -12,3 +12,4 @@ pub mod Unique
 pub mod Exists
 pub mod Noisy
 pub mod Generated
+mod Still

@@ -13,6 +13,10 @@ use Rattle.shared_terms.specs.Role.{same_role}
 abbrev pub covers : ℕ → ℕ → ℕ → Bool
 covers from count place = nat_le from place && nat_lt place (from + count)
 
+-- where neither count is 0: one of count places from that one on is one of most places from start on
+abbrev pub meets : ℕ → ℕ → ℕ → ℕ → Bool
+meets from count start most = if nat_le from start then nat_lt start (from + count) else nat_lt from (start + most)
+
 -- no offset
 abbrev pub nothing : Offset
 nothing = record { re = pos 0; im = pos 0 }

@@ -1,6 +1,7 @@
 // Offsets of samples, as the lines of a script give them.
-ghost use Rattle.std.specs.Prelude.{◌≡◌, ◌+◌, ◌<◌, ◌≤◌, ◌*◌, ◌-◌, ◌^◌, length, map};
-ghost use Rattle.noise_script.specs.Offsets.{plus, sum_of, IsWithin, drawn, drawn_offset, covers, hit_offset, noise_offset, IsQuiet, AreQuiet};
+ghost use Rattle.std.specs.Prelude.{◌≡◌, ◌+◌, ◌<◌, ◌≤◌, ◌*◌, ◌-◌, ◌^◌, ◌&&◌, length, map};
+ghost use Rattle.std.specs.List.{list_any};
+ghost use Rattle.noise_script.specs.Offsets.{plus, sum_of, IsWithin, drawn, drawn_offset, covers, meets, hit_offset, noise_offset, IsQuiet, AreQuiet};
 ghost use Rattle.shared_terms.specs.Role.{same_role};
 
 use crate::generators::{Generator, Generators};
@@ -24,6 +25,17 @@ pub(crate) fn covers(from: u64, count: u32, place: u64) -> bool
     ensures { result ≡ covers from count place }
 {
     from <= place && place - from < u64::from(count)
+}
+
+/// Whether one of `count` places from `from` on is one of `most` places from `start` on.
+fn meets(from: u64, count: u32, start: u64, most: u32) -> bool
+    ensures { result ≡ meets from count start most }
+{
+    if from <= start {
+        start - from < u64::from(count)
+    } else {
+        from - start < u64::from(most)
+    }
 }
 
 /// The sum of two offsets that are far from overflowing.
@@ -126,4 +138,18 @@ pub(crate) fn total(hits: Offset, noises: Offset) -> Offset
     ensures small { IsWithin OFFSET_MOST result }
 {
     plus(hits, noises)
+}
+
+/// Whether a hit line reaches one of `count` symbols of a role.
+pub(crate) fn some_hit(hits: &[Hit], sender: Role, from: u64, count: u32) -> bool
+    ensures { result ≡ list_any (λ hit. same_role hit.role sender && meets hit.from hit.count from count) hits.now }
+{
+    hits.iter().any(|hit| hit.role == sender && meets(hit.from, hit.count, from, count))
+}
+
+/// Whether a noise line does.
+pub(crate) fn some_noise(noises: &[Noise], sender: Role, from: u64, count: u32) -> bool
+    ensures { result ≡ list_any (λ noise. same_role noise.role sender && meets noise.from noise.count from count) noises.now }
+{
+    noises.iter().any(|noise| noise.role == sender && meets(noise.from, noise.count, from, count))
 }

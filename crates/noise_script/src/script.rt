@@ -1,11 +1,11 @@
 // What the line and the ends' users do, by a script.
-ghost use Rattle.std.specs.Prelude.{◌≡◌, ◌≤◌};
+ghost use Rattle.std.specs.Prelude.{◌≡◌, ◌≤◌, ◌<◌, ◌+◌, ℕ, true};
 ghost use Rattle.noise_script.specs.Script.{delay_of, offer_of, loses, offset_of, break_of, is_busy};
 ghost use Rattle.noise_script.specs.Breaks.{break_in};
-ghost use Rattle.noise_script.specs.Offsets.{IsWithin};
+ghost use Rattle.noise_script.specs.Offsets.{IsWithin, nothing};
 ghost use Rattle.xid_params.specs.Offers.{IsAllowed};
 
-use crate::offset::{covers, offset_of_hits, offset_of_noises, total};
+use crate::offset::{covers, offset_of_hits, offset_of_noises, some_hit, some_noise, total};
 use crate::{Break, Generators, Hit, Loss, Noise, OFFSET_MOST, Offset, Pause};
 use shared_terms::Role;
 use std::marker::Model;
@@ -141,6 +141,17 @@ impl Script {
             offset_of_hits(&self.hits, sender, symbol),
             offset_of_noises(&self.noises, generators, sender, symbol),
         )
+    }
+
+    /// Whether it is plain that nothing is added to any of so many symbols that a role sends from one on: no line of the role's symbols
+    /// reaches them. One look spares one for each of the symbols.
+    pub fn is_still(&self, sender: Role, from: u64, count: u32) -> bool
+        ensures { result ≡ true → (symbol : ℕ) → from ≤ symbol → symbol < from + count → offset_of self.now sender symbol ≡ nothing }
+    {
+        if some_hit(&self.hits, sender, from, count) {
+            return false;
+        }
+        !some_noise(&self.noises, sender, from, count)
     }
 
     /// The turn of a role's break and its length in units of 10 ms. It is None where the role has no break of that index: they

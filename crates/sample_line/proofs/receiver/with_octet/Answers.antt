@@ -1,7 +1,7 @@
 use Rattle.std.proofs.Common.{◌%◌, ◌∙◌, List, Bool, ◌++◌, subst, sym, refl}
 use Rattle.frame_check.specs.Bits.{low_bits, octet_bits}
 use Rattle.bit_stuffing.specs.Deframer.{DeframerStands}
-use Rattle.detection.proofs.Octets.{octet-fours}
+use Rattle.bit_stuffing.proofs.Halves.{octet-fours}
 use Rattle.sample_line.specs.Tallies.{PiecesAreTallied}
 use Rattle.sample_line.proofs.Finding.{pieces-none, pieces-then}
 use Rattle.sample_line.proofs.receiver.with_octet.Goals as goal
@@ -22,7 +22,7 @@ pub returns-clause-stands : goal.returns-clause-stands
 returns-clause-stands c = λ bits h.
     let start : DeframerStands c.pass.new.self bits =
     subst (λ v. DeframerStands v bits) (sym (c.pass.ensures.stays c.if-pass.false ∙ c.pass_flags.ensures.stays c.if-pass_flags.false)) h in
-    subst (λ (xs : List Bool). DeframerStands c.with_four.new.deframer xs) (octet-fours bits c.args.octet c.ranges.octet.fits)
+    subst (λ (xs : List Bool). DeframerStands c.with_four.new.deframer xs) (octet-fours bits c.args.octet)
     (c.with_four.ensures.stands (bits ++ low_bits 4 (c.args.octet % 16)) (c.with_four-tally.ensures.stands bits start))
 
 pub returns-clause-tallied : goal.returns-clause-tallied
@@ -34,5 +34,5 @@ returns-clause-tallied c = λ bits octets patterns h tallied.
     let second = c.with_four.ensures.tallied half _ patterns (c.with_four-tally.ensures.stands bits start) first.tallies in
     subst (λ (xs : List Bool). PiecesAreTallied c.args.slot.framing.check c.args.slot.framing.sender c.args.slot.framing.dlci
     c.args.slot.sent.now bits xs octets patterns c.with_four.result)
-    (octet-fours bits c.args.octet c.ranges.octet.fits)
+    (octet-fours bits c.args.octet)
     (pieces-then _ _ _ _ bits half _ octets patterns _ _ first second)

@@ -1,7 +1,7 @@
 use Rattle.std.proofs.Common.{◌%◌, List, Bool, ◌++◌, subst, sym, refl}
 use Rattle.frame_check.specs.Bits.{low_bits, octet_bits}
 use Rattle.detection.specs.Reader.{ReaderStands}
-use Rattle.detection.proofs.Octets.{octet-fours}
+use Rattle.bit_stuffing.proofs.Halves.{octet-fours}
 use Rattle.sample_line.specs.Tallies.{PatternsAreTallied}
 use Rattle.sample_line.proofs.Finding.{patterns-none, patterns-then}
 use Rattle.sample_line.proofs.receiver.with_octet_seen.Goals as goal
@@ -15,7 +15,7 @@ pub returns-clause-stands : goal.returns-clause-stands
 returns-clause-stands c = λ bits h.
     let start : ReaderStands c.pass_octet.new.self bits =
     subst (λ v. ReaderStands v bits) (sym (c.pass_octet.ensures.stays c.if-pass_octet.false)) h in
-    subst (λ (xs : List Bool). ReaderStands c.with_four_seen.new.reader xs) (octet-fours bits c.args.octet c.ranges.octet.fits)
+    subst (λ (xs : List Bool). ReaderStands c.with_four_seen.new.reader xs) (octet-fours bits c.args.octet)
     (c.with_four_seen.ensures.stands (bits ++ low_bits 4 (c.args.octet % 16)) (c.with_four_seen-tally.ensures.stands bits start))
 
 pub returns-clause-tallied : goal.returns-clause-tallied
@@ -27,5 +27,5 @@ returns-clause-tallied c = λ sender dlci bits octets patterns h tallied.
     let second = c.with_four_seen.ensures.tallied sender dlci half octets _ (c.with_four_seen-tally.ensures.stands bits start)
     first.tallies in
     subst (λ (xs : List Bool). PatternsAreTallied sender dlci c.args.sent.now bits xs octets patterns c.with_four_seen.result)
-    (octet-fours bits c.args.octet c.ranges.octet.fits)
+    (octet-fours bits c.args.octet)
     (patterns-then _ _ _ bits half _ octets patterns _ _ first second)

@@ -1,5 +1,5 @@
 use Rattle.std.proofs.Common.{◌∙◌, ◌<◌, length, drop, arith, sym, ap, subst}
-use Rattle.plain_lists.specs.Bits.{low_bits}
+use Rattle.frame_check.specs.Bits.{low_bits}
 use Rattle.exact_decoder.specs.Surviving.V32.{at_any}
 use Rattle.line_coding.specs.MiddleReading.{Middle, MiddleRead}
 use Rattle.line_coding.proofs.Taking.{middle-early, middle-sixth, middle-later, middle-none}

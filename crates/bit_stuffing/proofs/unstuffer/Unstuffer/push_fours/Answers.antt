@@ -1,0 +1,10 @@
+use Rattle.std.proofs.Common.{◌%◌, ◌++◌, subst}
+use Rattle.frame_check.specs.Bits.{low_bits}
+use Rattle.bit_stuffing.specs.Deframer.{Gathers}
+use Rattle.bit_stuffing.proofs.Halves.{octet-fours}
+use Rattle.bit_stuffing.proofs.unstuffer.Unstuffer.push_fours.Goals as goal
+
+pub returns : goal.returns
+returns c = λ line h.
+    subst (Gathers c.push_four-2.new.self) (octet-fours line c.args.octet)
+    (c.push_four-2.ensures (line ++ low_bits 4 (c.args.octet % 16)) (c.push_four.ensures line h))
