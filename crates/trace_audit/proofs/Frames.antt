@@ -28,9 +28,11 @@ step : {P : Type 0} (b : Bool) (s shape : Shape) (rest : Option Shape) → cond 
 step true s shape rest e f g = f refl cc
 step false s shape rest e f g = g e
 
-named : (P : List ℕ → Shape → Type 0) (name label : List ℕ) (s shape : Shape) → P label s → bytes_eq name label ≡ true → s ≡ shape
-    → P name shape
-named P name label s shape p e f = subst (λ n. P n shape) (sym (same-bytes name label e)) (subst (P label) f p)
+-- the name is this one, or what stands behind it has the shape
+at : (P : List ℕ → Shape → Type 0) (name label : List ℕ) (s shape : Shape) (rest : Option Shape)
+    → cond (bytes_eq name label) (Some s) rest ≡ Some shape → P label s → (rest ≡ Some shape → P name shape) → P name shape
+at P name label s shape rest e p other =
+    step (bytes_eq name label) s shape rest e (λ same is. subst (λ n. P n shape) (sym (same-bytes name label same)) (subst (P label) is p)) other
 
 -- what holds of each name with its shape
 pub at-names : (P : List ℕ → Shape → Type 0)
@@ -49,104 +51,19 @@ pub at-names : (P : List ℕ → Shape → Type 0)
     → P (codes "ui") Unnumbered
     → (name : List ℕ) (shape : Shape) → shape_named name ≡ Some shape → P name shape
 at-names P p0 p1 p2 p3 p4 p5 p6 p7 p8 p9 p10 p11 p12 name shape e =
-    step (bytes_eq name (codes "i")) Numbered shape
-    (cond (bytes_eq name (codes "rr")) (Some Supervisory)
-    (cond (bytes_eq name (codes "rnr")) (Some Supervisory)
-    (cond (bytes_eq name (codes "rej")) (Some Supervisory)
-    (cond (bytes_eq name (codes "srej")) (Some Supervisory)
-    (cond (bytes_eq name (codes "sabme")) (Some Commanding)
-    (cond (bytes_eq name (codes "disc")) (Some Commanding)
-    (cond (bytes_eq name (codes "ua")) (Some Responding)
-    (cond (bytes_eq name (codes "dm")) (Some Responding)
-    (cond (bytes_eq name (codes "frmr")) (Some Rejecting)
-    (cond (bytes_eq name (codes "xid")) (Some Exchanging)
-    (cond (bytes_eq name (codes "test")) (Some Exchanging)
-    (cond (bytes_eq name (codes "ui")) (Some Unnumbered) None)))))))))))) e
-    (named P name (codes "i") Numbered shape p0) (λ e1.
-    step (bytes_eq name (codes "rr")) Supervisory shape
-    (cond (bytes_eq name (codes "rnr")) (Some Supervisory)
-    (cond (bytes_eq name (codes "rej")) (Some Supervisory)
-    (cond (bytes_eq name (codes "srej")) (Some Supervisory)
-    (cond (bytes_eq name (codes "sabme")) (Some Commanding)
-    (cond (bytes_eq name (codes "disc")) (Some Commanding)
-    (cond (bytes_eq name (codes "ua")) (Some Responding)
-    (cond (bytes_eq name (codes "dm")) (Some Responding)
-    (cond (bytes_eq name (codes "frmr")) (Some Rejecting)
-    (cond (bytes_eq name (codes "xid")) (Some Exchanging)
-    (cond (bytes_eq name (codes "test")) (Some Exchanging)
-    (cond (bytes_eq name (codes "ui")) (Some Unnumbered) None))))))))))) e1
-    (named P name (codes "rr") Supervisory shape p1) (λ e2.
-    step (bytes_eq name (codes "rnr")) Supervisory shape
-    (cond (bytes_eq name (codes "rej")) (Some Supervisory)
-    (cond (bytes_eq name (codes "srej")) (Some Supervisory)
-    (cond (bytes_eq name (codes "sabme")) (Some Commanding)
-    (cond (bytes_eq name (codes "disc")) (Some Commanding)
-    (cond (bytes_eq name (codes "ua")) (Some Responding)
-    (cond (bytes_eq name (codes "dm")) (Some Responding)
-    (cond (bytes_eq name (codes "frmr")) (Some Rejecting)
-    (cond (bytes_eq name (codes "xid")) (Some Exchanging)
-    (cond (bytes_eq name (codes "test")) (Some Exchanging)
-    (cond (bytes_eq name (codes "ui")) (Some Unnumbered) None)))))))))) e2
-    (named P name (codes "rnr") Supervisory shape p2) (λ e3.
-    step (bytes_eq name (codes "rej")) Supervisory shape
-    (cond (bytes_eq name (codes "srej")) (Some Supervisory)
-    (cond (bytes_eq name (codes "sabme")) (Some Commanding)
-    (cond (bytes_eq name (codes "disc")) (Some Commanding)
-    (cond (bytes_eq name (codes "ua")) (Some Responding)
-    (cond (bytes_eq name (codes "dm")) (Some Responding)
-    (cond (bytes_eq name (codes "frmr")) (Some Rejecting)
-    (cond (bytes_eq name (codes "xid")) (Some Exchanging)
-    (cond (bytes_eq name (codes "test")) (Some Exchanging)
-    (cond (bytes_eq name (codes "ui")) (Some Unnumbered) None))))))))) e3
-    (named P name (codes "rej") Supervisory shape p3) (λ e4.
-    step (bytes_eq name (codes "srej")) Supervisory shape
-    (cond (bytes_eq name (codes "sabme")) (Some Commanding)
-    (cond (bytes_eq name (codes "disc")) (Some Commanding)
-    (cond (bytes_eq name (codes "ua")) (Some Responding)
-    (cond (bytes_eq name (codes "dm")) (Some Responding)
-    (cond (bytes_eq name (codes "frmr")) (Some Rejecting)
-    (cond (bytes_eq name (codes "xid")) (Some Exchanging)
-    (cond (bytes_eq name (codes "test")) (Some Exchanging)
-    (cond (bytes_eq name (codes "ui")) (Some Unnumbered) None)))))))) e4
-    (named P name (codes "srej") Supervisory shape p4) (λ e5.
-    step (bytes_eq name (codes "sabme")) Commanding shape
-    (cond (bytes_eq name (codes "disc")) (Some Commanding)
-    (cond (bytes_eq name (codes "ua")) (Some Responding)
-    (cond (bytes_eq name (codes "dm")) (Some Responding)
-    (cond (bytes_eq name (codes "frmr")) (Some Rejecting)
-    (cond (bytes_eq name (codes "xid")) (Some Exchanging)
-    (cond (bytes_eq name (codes "test")) (Some Exchanging)
-    (cond (bytes_eq name (codes "ui")) (Some Unnumbered) None))))))) e5
-    (named P name (codes "sabme") Commanding shape p5) (λ e6.
-    step (bytes_eq name (codes "disc")) Commanding shape
-    (cond (bytes_eq name (codes "ua")) (Some Responding)
-    (cond (bytes_eq name (codes "dm")) (Some Responding)
-    (cond (bytes_eq name (codes "frmr")) (Some Rejecting)
-    (cond (bytes_eq name (codes "xid")) (Some Exchanging)
-    (cond (bytes_eq name (codes "test")) (Some Exchanging)
-    (cond (bytes_eq name (codes "ui")) (Some Unnumbered) None)))))) e6
-    (named P name (codes "disc") Commanding shape p6) (λ e7.
-    step (bytes_eq name (codes "ua")) Responding shape
-    (cond (bytes_eq name (codes "dm")) (Some Responding)
-    (cond (bytes_eq name (codes "frmr")) (Some Rejecting)
-    (cond (bytes_eq name (codes "xid")) (Some Exchanging)
-    (cond (bytes_eq name (codes "test")) (Some Exchanging) (cond (bytes_eq name (codes "ui")) (Some Unnumbered) None))))) e7
-    (named P name (codes "ua") Responding shape p7) (λ e8.
-    step (bytes_eq name (codes "dm")) Responding shape
-    (cond (bytes_eq name (codes "frmr")) (Some Rejecting)
-    (cond (bytes_eq name (codes "xid")) (Some Exchanging)
-    (cond (bytes_eq name (codes "test")) (Some Exchanging) (cond (bytes_eq name (codes "ui")) (Some Unnumbered) None)))) e8
-    (named P name (codes "dm") Responding shape p8) (λ e9.
-    step (bytes_eq name (codes "frmr")) Rejecting shape
-    (cond (bytes_eq name (codes "xid")) (Some Exchanging)
-    (cond (bytes_eq name (codes "test")) (Some Exchanging) (cond (bytes_eq name (codes "ui")) (Some Unnumbered) None))) e9
-    (named P name (codes "frmr") Rejecting shape p9) (λ e10.
-    step (bytes_eq name (codes "xid")) Exchanging shape
-    (cond (bytes_eq name (codes "test")) (Some Exchanging) (cond (bytes_eq name (codes "ui")) (Some Unnumbered) None)) e10
-    (named P name (codes "xid") Exchanging shape p10) (λ e11.
-    step (bytes_eq name (codes "test")) Exchanging shape (cond (bytes_eq name (codes "ui")) (Some Unnumbered) None) e11
-    (named P name (codes "test") Exchanging shape p11) (λ e12.
-    step (bytes_eq name (codes "ui")) Unnumbered shape None e12 (named P name (codes "ui") Unnumbered shape p12) (λ e13.
+    at P name (codes "i") Numbered shape _ e p0 (λ e1.
+    at P name (codes "rr") Supervisory shape _ e1 p1 (λ e2.
+    at P name (codes "rnr") Supervisory shape _ e2 p2 (λ e3.
+    at P name (codes "rej") Supervisory shape _ e3 p3 (λ e4.
+    at P name (codes "srej") Supervisory shape _ e4 p4 (λ e5.
+    at P name (codes "sabme") Commanding shape _ e5 p5 (λ e6.
+    at P name (codes "disc") Commanding shape _ e6 p6 (λ e7.
+    at P name (codes "ua") Responding shape _ e7 p7 (λ e8.
+    at P name (codes "dm") Responding shape _ e8 p8 (λ e9.
+    at P name (codes "frmr") Rejecting shape _ e9 p9 (λ e10.
+    at P name (codes "xid") Exchanging shape _ e10 p10 (λ e11.
+    at P name (codes "test") Exchanging shape _ e11 p11 (λ e12.
+    at P name (codes "ui") Unnumbered shape _ e12 p12 (λ e13.
     absurd cc)))))))))))))
 
 -- a name begins nothing but a frame
