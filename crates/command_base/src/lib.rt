@@ -26,7 +26,7 @@ pub use input::{read_file, read_part, read_piece, within_limit};
 pub use laws::{apart_names_differ, limits_in_octets};
 pub use limits::{HEX_LIMIT, RECORDING_LIMIT};
 pub use lines::{
-    LINE, Line, both_done_line, count_line, done_line, margin_line, octets_line, pieces_line,
+    LINE, ResultLine, both_done_line, count_line, done_line, margin_line, octets_line, pieces_line,
     samples_line, soak_line, true_line, turns_line, usage_line,
 };
 pub use listener::Listener;

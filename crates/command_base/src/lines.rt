@@ -15,10 +15,10 @@ use xid_params::XidFault;
 pub const LINE: usize = 160;
 
 /// A line that is to be said, with the line feed at its end.
-pub type Line = Octets<LINE>;
+pub type ResultLine = Octets<LINE>;
 
 /// Puts a word, and the number of a place behind it.
-fn put_place(line: &mut Line, word: &str, at: usize)
+fn put_place(line: &mut ResultLine, word: &str, at: usize)
     requires { length line.old + length word.now + 24 ≤ LINE }
     ensures text { line.new ≡ line.old ++ word.now ++ codes " at " ++ decimal at }
     ensures room { length line.new ≤ length line.old + length word.now + 24 }
@@ -29,7 +29,7 @@ fn put_place(line: &mut Line, word: &str, at: usize)
 }
 
 /// Puts why a field spells no offer.
-fn put_xid_fault(line: &mut Line, fault: XidFault)
+fn put_xid_fault(line: &mut ResultLine, fault: XidFault)
     requires { length line.old + 32 ≤ LINE }
     ensures text { line.new ≡ line.old ++ xid_words fault }
     ensures room { length line.new ≤ length line.old + 32 }
@@ -44,7 +44,7 @@ fn put_xid_fault(line: &mut Line, fault: XidFault)
 }
 
 /// Puts what an end can't take of its peer.
-fn put_peer_fault(line: &mut Line, fault: LinkFault)
+fn put_peer_fault(line: &mut ResultLine, fault: LinkFault)
     requires { length line.old + 90 ≤ LINE }
     ensures text { line.new ≡ line.old ++ peer_words fault }
     ensures room { length line.new ≤ length line.old + 90 }
@@ -65,73 +65,73 @@ fn put_peer_fault(line: &mut Line, fault: LinkFault)
 }
 
 /// The line of a word and a number.
-pub fn count_line(word: &str, number: u64) -> Line
+pub fn count_line(word: &str, number: u64) -> ResultLine
     requires { length word.now ≤ 8 }
     ensures { result ≡ count_line word.now number }
 {
-    let mut line = Line::new();
+    let mut line = ResultLine::new();
     line.extend(word.as_bytes());
     put_last_number(&mut line, b" ", number);
     line
 }
 
 /// The line of a run that is done, with its last turn.
-pub fn done_line(turn: u64) -> Line
+pub fn done_line(turn: u64) -> ResultLine
     ensures { result ≡ done_line turn }
 {
     count_line("done", turn)
 }
 
 /// The line of a recording that is written, with the number of its samples.
-pub fn samples_line(samples: u64) -> Line
+pub fn samples_line(samples: u64) -> ResultLine
     ensures { result ≡ samples_line samples }
 {
     count_line("samples", samples)
 }
 
 /// The line of a recording that is read, with the number of octets found in it.
-pub fn octets_line(octets: u64) -> Line
+pub fn octets_line(octets: u64) -> ResultLine
     ensures { result ≡ octets_line octets }
 {
     count_line("octets", octets)
 }
 
 /// The line behind the pieces of a stream of bits, with their number.
-pub fn pieces_line(pieces: u64) -> Line
+pub fn pieces_line(pieces: u64) -> ResultLine
     ensures { result ≡ pieces_line pieces }
 {
     count_line("pieces", pieces)
 }
 
 /// The line of a line's tap, with the number of its turns.
-pub fn turns_line(turns: u64) -> Line
+pub fn turns_line(turns: u64) -> ResultLine
     ensures { result ≡ turns_line turns }
 {
     count_line("turns", turns)
 }
 
 /// The line of two links that are done, each with its last turn.
-pub fn both_done_line(first: u64, second: u64) -> Line
+pub fn both_done_line(first: u64, second: u64) -> ResultLine
     ensures { result ≡ both_done_line first second }
 {
-    let mut line = Line::new();
+    let mut line = ResultLine::new();
     put_number(&mut line, b"done ", first);
     put_last_number(&mut line, b" ", second);
     line
 }
 
 /// The line of a trace that is a run's, with the number of its lines.
-pub fn true_line(lines: u64) -> Line
+pub fn true_line(lines: u64) -> ResultLine
     ensures { result ≡ true_line lines }
 {
-    let mut line = Line::new();
+    let mut line = ResultLine::new();
     put_number(&mut line, b"true ", lines);
     line.extend(b" lines\n");
     line
 }
 
 /// Puts a word, and a number in decimal digits behind it.
-fn put_number(line: &mut Line, word: &[u8], number: u64)
+fn put_number(line: &mut ResultLine, word: &[u8], number: u64)
     requires { length line.old + length word.now + 20 ≤ LINE }
     ensures text { line.new ≡ line.old ++ word.now ++ decimal number }
     ensures room { length line.new ≤ length line.old + length word.now + 20 }
@@ -141,10 +141,10 @@ fn put_number(line: &mut Line, word: &[u8], number: u64)
 }
 
 /// The line of a soak that is done, with its seed, its last turn, how many slots were lost, and how many segments went again.
-pub fn soak_line(seed: u64, turn: u64, lost: u64, again: u64) -> Line
+pub fn soak_line(seed: u64, turn: u64, lost: u64, again: u64) -> ResultLine
     ensures { result ≡ soak_line seed turn lost again }
 {
-    let mut line = Line::new();
+    let mut line = ResultLine::new();
     put_number(&mut line, b"soak ", seed);
     put_number(&mut line, b" done ", turn);
     put_number(&mut line, b" lost ", lost);
@@ -153,10 +153,10 @@ pub fn soak_line(seed: u64, turn: u64, lost: u64, again: u64) -> Line
 }
 
 /// The line of octets that were held against a recording: what they cost, and whether that is so little that they are told for certain.
-pub fn margin_line(cost: u64, sure: bool) -> Line
+pub fn margin_line(cost: u64, sure: bool) -> ResultLine
     ensures { result ≡ margin_line cost sure }
 {
-    let mut line = Line::new();
+    let mut line = ResultLine::new();
     put_number(&mut line, b"cost ", cost);
     if sure {
         line.extend(b" sure 1\n");
@@ -167,7 +167,7 @@ pub fn margin_line(cost: u64, sure: bool) -> Line
 }
 
 /// Puts words behind the first one, each behind a comma.
-fn put_behind(line: &mut Line, words: &[&str])
+fn put_behind(line: &mut ResultLine, words: &[&str])
     requires { length line.old + length (listed_behind (map (λ word. word.now) words.now)) ≤ LINE }
     ensures { line.new ≡ line.old ++ listed_behind (map (λ word. word.now) words.now) }
 {
@@ -182,11 +182,11 @@ fn put_behind(line: &mut Line, words: &[&str])
 }
 
 /// The line that tells how the program is used: the words of its commands, in this order.
-pub fn usage_line(commands: &[&str]) -> Line
+pub fn usage_line(commands: &[&str]) -> ResultLine
     requires { length (usage_line (map (λ word. word.now) commands.now)) ≤ LINE }
     ensures { result ≡ usage_line (map (λ word. word.now) commands.now) }
 {
-    let mut line = Line::new();
+    let mut line = ResultLine::new();
     line.extend(b"usage: modem ");
     match commands.split_first() {
         None => {}
@@ -200,7 +200,7 @@ pub fn usage_line(commands: &[&str]) -> Line
 }
 
 /// Puts words, a number in decimal digits behind them, and the line's end.
-fn put_last_number(line: &mut Line, words: &[u8], number: u64)
+fn put_last_number(line: &mut ResultLine, words: &[u8], number: u64)
     requires { length line.old + length words.now + 21 ≤ LINE }
     ensures { line.new ≡ line.old ++ words.now ++ decimal number ++ codes "\n" }
 {
@@ -209,7 +209,7 @@ fn put_last_number(line: &mut Line, words: &[u8], number: u64)
 }
 
 /// Puts words, and the name of an end behind them.
-fn put_role(line: &mut Line, words: &[u8], role: Role)
+fn put_role(line: &mut ResultLine, words: &[u8], role: Role)
     requires { length line.old + length words.now + 10 ≤ LINE }
     ensures text { line.new ≡ line.old ++ words.now ++ role_word role }
     ensures room { length line.new ≤ length line.old + length words.now + 10 }
@@ -219,7 +219,7 @@ fn put_role(line: &mut Line, words: &[u8], role: Role)
 }
 
 /// Puts the line of a faulty script.
-fn put_script_fault(line: &mut Line, number: u32, cause: Cause)
+fn put_script_fault(line: &mut ResultLine, number: u32, cause: Cause)
     requires { line.old ≡ [] }
     ensures { line.new ≡ codes "bad script: line " ++ decimal number ++ codes ": " ++ cause_word cause ++ codes "\n" }
 {
@@ -230,7 +230,7 @@ fn put_script_fault(line: &mut Line, number: u32, cause: Cause)
 }
 
 /// Puts the line of a trace that isn't a run's.
-fn put_audit_no(line: &mut Line, number: u64, cause: AuditCause)
+fn put_audit_no(line: &mut ResultLine, number: u64, cause: AuditCause)
     requires { line.old ≡ [] }
     ensures { line.new ≡ codes "false line " ++ decimal number ++ codes ": " ++ audit_word cause ++ codes "\n" }
 {
@@ -241,7 +241,7 @@ fn put_audit_no(line: &mut Line, number: u64, cause: AuditCause)
 }
 
 /// Puts the line of a fault of an XID field.
-fn put_bad_xid(line: &mut Line, fault: XidFault)
+fn put_bad_xid(line: &mut ResultLine, fault: XidFault)
     requires { line.old ≡ [] }
     ensures { line.new ≡ codes "bad xid: " ++ xid_words fault ++ codes "\n" }
 {
@@ -251,7 +251,7 @@ fn put_bad_xid(line: &mut Line, fault: XidFault)
 }
 
 /// Puts words, the name of an end, words behind it, a number, and the line's end.
-fn put_role_at(line: &mut Line, words: &[u8], role: Role, behind: &[u8], number: u64)
+fn put_role_at(line: &mut ResultLine, words: &[u8], role: Role, behind: &[u8], number: u64)
     requires { length line.old + length words.now + length behind.now + 31 ≤ LINE }
     ensures { line.new ≡ line.old ++ words.now ++ role_word role ++ behind.now ++ decimal number ++ codes "\n" }
 {
@@ -260,7 +260,7 @@ fn put_role_at(line: &mut Line, words: &[u8], role: Role, behind: &[u8], number:
 }
 
 /// Puts which end lost its link, with which segment, and when.
-fn put_lost_link(line: &mut Line, words: &[u8], role: Role, segment: u64, turn: u64)
+fn put_lost_link(line: &mut ResultLine, words: &[u8], role: Role, segment: u64, turn: u64)
     requires { length line.old + length words.now + 66 ≤ LINE }
     ensures { line.new ≡ line.old ++ words.now ++ role_word role ++ codes " segment " ++ decimal segment ++ codes " turn " ++ decimal turn ++ codes "\n" }
 {
@@ -270,7 +270,7 @@ fn put_lost_link(line: &mut Line, words: &[u8], role: Role, segment: u64, turn: 
 }
 
 /// Puts the line of a peer that broke the link.
-fn put_peer_turn(line: &mut Line, fault: LinkFault, turn: u64)
+fn put_peer_turn(line: &mut ResultLine, fault: LinkFault, turn: u64)
     requires { line.old ≡ [] }
     ensures { line.new ≡ codes "peer fault: " ++ peer_words fault ++ codes " turn " ++ decimal turn ++ codes "\n" }
 {
@@ -280,7 +280,7 @@ fn put_peer_turn(line: &mut Line, fault: LinkFault, turn: u64)
 }
 
 /// Puts the line of a link of a pair that is lost.
-fn put_pair_lost_link(line: &mut Line, link: u8, role: Role, segment: u64, turn: u64)
+fn put_pair_lost_link(line: &mut ResultLine, link: u8, role: Role, segment: u64, turn: u64)
     requires { line.old ≡ [] }
     ensures { line.new ≡ codes "link lost: link " ++ decimal link ++ codes " " ++ role_word role ++ codes " segment " ++ decimal segment ++ codes " turn " ++ decimal turn ++ codes "\n" }
 {
@@ -289,7 +289,7 @@ fn put_pair_lost_link(line: &mut Line, link: u8, role: Role, segment: u64, turn:
 }
 
 /// Puts the line of a link of a pair whose originator saw no pattern.
-fn put_pair_undetected(line: &mut Line, link: u8, turn: u64)
+fn put_pair_undetected(line: &mut ResultLine, link: u8, turn: u64)
     requires { line.old ≡ [] }
     ensures { line.new ≡ codes "not detected: link " ++ decimal link ++ codes " turn " ++ decimal turn ++ codes "\n" }
 {
@@ -298,7 +298,7 @@ fn put_pair_undetected(line: &mut Line, link: u8, turn: u64)
 }
 
 /// Puts the line of a status that says no word of the command line.
-fn put_short(line: &mut Line, status: Status)
+fn put_short(line: &mut ResultLine, status: Status)
     requires { line.old ≡ [] }
     ensures { line.new ≡ short_line status }
 {
@@ -343,10 +343,10 @@ fn put_short(line: &mut Line, status: Status)
 }
 
 /// The line of a status that says no word of the command line.
-pub(crate) fn short_line(status: Status) -> Line
+pub(crate) fn short_line(status: Status) -> ResultLine
     ensures { result ≡ short_line status }
 {
-    let mut line = Line::new();
+    let mut line = ResultLine::new();
     put_short(&mut line, status);
     line
 }

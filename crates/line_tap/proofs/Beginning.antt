@@ -11,7 +11,7 @@ use Rattle.link_run.specs.Listened.{check_by}
 use Rattle.line_tap.specs.Tapping.{Tapping, tapping, line_of, terms_of}
 use Rattle.line_tap.specs.declared.tapping.Tap.{Tap}
 use Rattle.line_tap.specs.End.{ReadsOn}
-use Rattle.line_tap.specs.Listener.{ListensFor}
+use Rattle.line_tap.specs.EndListener.{ListensFor}
 use Rattle.line_tap.specs.Tap.{TapAfter}
 use Rattle.line_tap.specs.Turns.{no_octets}
 

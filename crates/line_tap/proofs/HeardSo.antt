@@ -26,9 +26,9 @@ use Rattle.line_run.specs.Stream.{AreSent, IsDue, sent_by, both_sent_by}
 use Rattle.line_world.specs.Lines.{AreDue, ArrivesBoth, HaveRoom, PassedFew, from}
 use Rattle.line_world.proofs.Waiting.{passed-few}
 use Rattle.line_tap.specs.Tapping.{Tapping, line_of, terms_of, Tells}
-use Rattle.line_tap.specs.declared.listener.Listener.{Listener}
+use Rattle.line_tap.specs.declared.listener.EndListener.{EndListener}
 use Rattle.line_tap.specs.declared.tapping.Tap.{Tap}
-use Rattle.line_tap.specs.Listener.{Listens, Overhears, ListensToo, delivered}
+use Rattle.line_tap.specs.EndListener.{Listens, Overhears, ListensToo, delivered}
 use Rattle.line_tap.specs.Tap.{IsBehind, TapAfter, IsReady, HearsThese}
 
 -- ---- the slots of turns that the recordings tell are due
@@ -85,7 +85,7 @@ taking-given : (heard : Heard) (i : Incoming) (g : ℕ) → taking_in heard (rec
 taking-given (Passed (slots.Frame (I ns nr pf info))) i g = kind-given (kind_of ns i) (offset i ns) info i g
 taking-given heard i g = refl
 
-pub listens-too : (l : Listener) (terms : Terms) (role : Role) (ts : List Turn) (t : Turn)
+pub listens-too : (l : EndListener) (terms : Terms) (role : Role) (ts : List Turn) (t : Turn)
     → (of role t).given ≡ given_to role ts (of role t).heard
     → Overhears l terms role (has_passed is_xid role ts) (has_passed (opens role) role ts) (delivered (received terms role ts))
     (given_breaks role ts) (of role t).heard

@@ -13,8 +13,8 @@ use Rattle.break_signals.specs.Breaks.{with_given}
 use Rattle.xid_params.specs.declared.terms.Terms.{Terms}
 use Rattle.lapm_receiver.specs.Incoming.{Incoming}
 use Rattle.lapm_receiver.specs.Taking.{Taking, StandsIn}
-use Rattle.line_tap.specs.declared.listener.Listener.{Listener}
-use Rattle.line_tap.specs.Listener.{Listens, IsIdle, HasTaken, delivered}
+use Rattle.line_tap.specs.declared.listener.EndListener.{EndListener}
+use Rattle.line_tap.specs.EndListener.{Listens, IsIdle, HasTaken, delivered}
 
 -- one break more
 pub with-given : (o : Option ℕ) (lengths : List ℕ) → with_given o lengths ≡ lengths ++ given_in o
@@ -39,12 +39,12 @@ gives-no-segment false ns nr pf info lengths = sym (append-nil lengths)
 -- ---- segments are handed over
 
 -- what a listener knows beside its segments stays
-pub listens-on : (old mid : Listener) (new : Taking) (terms : Terms) (role : Role) (agreed connected : Bool) (i : Incoming)
+pub listens-on : (old mid : EndListener) (new : Taking) (terms : Terms) (role : Role) (agreed connected : Bool) (i : Incoming)
     (lengths : List ℕ)
     → mid ≡ record old { receiver = mid.receiver } → StandsIn new (delivered i) → Listens old terms role agreed connected i lengths
     → Listens (record mid { receiver = new }) terms role agreed connected (delivered i) lengths
 listens-on old mid new terms role agreed connected i lengths beside stands h =
-    subst (λ (l : Listener). Listens (record l { receiver = new }) terms role agreed connected (delivered i) lengths) (sym beside) (record {
+    subst (λ (l : EndListener). Listens (record l { receiver = new }) terms role agreed connected (delivered i) lengths) (sym beside) (record {
       role_is = h.role_is;
       check_is = h.check_is;
       agreed_is = h.agreed_is;
@@ -53,7 +53,7 @@ listens-on old mid new terms role agreed connected i lengths beside stands h =
       connected_is = h.connected_is;
     })
 
-pub idle-again : (old new : Listener) (turns : ℕ) → new.receiver.window ≡ old.receiver.window → new.receiver.taken ≡ old.receiver.taken
+pub idle-again : (old new : EndListener) (turns : ℕ) → new.receiver.window ≡ old.receiver.window → new.receiver.taken ≡ old.receiver.taken
     → length new.receiver.ready ≡ 0 → HasTaken old turns → IsIdle new turns
 idle-again old new turns window taken none h = record {
   taken = record { begun = subst (λ (n : ℕ). 1 ≤ n) (sym window) h.begun; few = subst (λ (n : ℕ). n ≤ 127 * turns) (sym taken) h.few };

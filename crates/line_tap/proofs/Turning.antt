@@ -30,14 +30,14 @@ use Rattle.line_tap.specs.Ends as ends
 use Rattle.command_base.specs.declared.stop.Stop.{Stop}
 use Rattle.command_base.specs.Inputs.{ReadTo}
 use Rattle.line_tap.specs.declared.limits.TheConstants.{TAP_LIMIT}
-use Rattle.line_tap.specs.declared.step.Step.{Step}
-use Rattle.line_tap.specs.declared.step.Step.TheVariants.{Going, Done}
+use Rattle.line_tap.specs.declared.step.TapStep.{TapStep}
+use Rattle.line_tap.specs.declared.step.TapStep.TheVariants.{Going, Done}
 use Rattle.line_tap.specs.declared.tapping.Tap.{Tap}
 use Rattle.line_tap.specs.declared.tapping.Hearing.{Hearing}
 use Rattle.line_tap.specs.End.{Slot}
 use Rattle.bit_stuffing.specs.declared.slot_writer.TheConstants.{HEAD, TAIL}
 use Rattle.noise_script.specs.Script.{IsInLimits}
-use Rattle.line_tap.specs.Listener.{IsIdle}
+use Rattle.line_tap.specs.EndListener.{IsIdle}
 use Rattle.line_tap.specs.Names.{TapNames, recording_of, inputs_of, outputs_of}
 use Rattle.line_tap.specs.Turn.{held_of, left_of, added, AddsGot}
 use Rattle.line_tap.specs.Tap.{AreReadTo, AreReadOut, HearsThese, HearsTurn, HasHeard, HearsSo, InTurn, silent_in, got_pieces}
@@ -634,10 +634,10 @@ only-written a b c d n p r w =
 -- ---- what stands at each way out
 
 -- an answer that isn't that the reading goes on
-pub is-stopped : {stop : Stop} {P : Type 0} → ◌≡◌ {A = Result Step Stop} (Err stop) (Ok Going) → P
+pub is-stopped : {stop : Stop} {P : Type 0} → ◌≡◌ {A = Result TapStep Stop} (Err stop) (Ok Going) → P
 is-stopped e = absurd cc
 
-pub is-done : {turns : ℕ} {P : Type 0} → ◌≡◌ {A = Result Step Stop} (Ok (Done turns)) (Ok Going) → P
+pub is-done : {turns : ℕ} {P : Type 0} → ◌≡◌ {A = Result TapStep Stop} (Ok (Done turns)) (Ok Going) → P
 is-done e = absurd cc
 
 -- the place and the turn are those before the turn

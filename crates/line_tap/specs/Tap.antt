@@ -34,12 +34,12 @@ use Rattle.command_base.specs.declared.stop.Stop.{Stop}
 use Rattle.command_base.specs.declared.stop.Stop.TheVariants.{Own, Read, Write, Say, NoMemory}
 use Rattle.command_base.specs.Inputs.{ReadTo}
 use Rattle.line_tap.specs.declared.limits.TheConstants.{TAP_LIMIT}
-use Rattle.line_tap.specs.declared.step.Step.{Step}
-use Rattle.line_tap.specs.declared.step.Step.TheVariants as steps
+use Rattle.line_tap.specs.declared.step.TapStep.{TapStep}
+use Rattle.line_tap.specs.declared.step.TapStep.TheVariants as steps
 use Rattle.line_tap.specs.declared.tapping.Tap.{Tap}
 use Rattle.line_tap.specs.declared.tapping.Hearing.{Hearing}
 use Rattle.line_tap.specs.End.{ReadsOn, Slot, slot_as}
-use Rattle.line_tap.specs.Listener.{IsIdle, ListensFor, ListensToo}
+use Rattle.line_tap.specs.EndListener.{IsIdle, ListensFor, ListensToo}
 use Rattle.line_tap.specs.Answers.{stop_by}
 use Rattle.line_tap.specs.Names.{TapNames, recording_of, outputs_of}
 use Rattle.line_tap.specs.Turn.{held_of, left_of, added, AddsGot, AddsTurn, AddsChance}
@@ -205,7 +205,7 @@ TurnStops start old now n x ts (Say fault) = ⊥
 TurnStops start old now n x ts NoMemory = ⊥
 
 -- what a turn answers, after these
-abbrev pub TurnAnswers : Tap → FolderState → FolderState → FolderState → TapNames → Tapping → List Turn → Result Step Stop → Type 0
+abbrev pub TurnAnswers : Tap → FolderState → FolderState → FolderState → TapNames → Tapping → List Turn → Result TapStep Stop → Type 0
 TurnAnswers tap start old now n x ts (Ok steps.Going) = GoesOnBy tap start old now n x ts
 TurnAnswers tap start old now n x ts (Ok (steps.Done turns)) = EndsReading start old now n x ts (ends.IsDone turns)
 TurnAnswers tap start old now n x ts (Err stop) = TurnStops start old now n x ts stop

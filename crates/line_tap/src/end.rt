@@ -16,7 +16,7 @@ ghost use Rattle.line_tap.specs.Tapping.{HoldsNext};
 
 use crate::SlotReader;
 use crate::limits::DLCI;
-use crate::listener::{Listener, agreed_check};
+use crate::listener::{EndListener, agreed_check};
 use bit_stuffing::{HEAD, TAIL};
 use frame_check::SLOT;
 use lapm_frames::Sent;
@@ -28,7 +28,7 @@ use xid_params::Terms;
 /// What there is of an end.
 pub struct TappedEnd {
     /// Who hears what passes to it.
-    pub listener: Listener,
+    pub listener: EndListener,
     /// What reads its slots.
     pub reader: SlotReader,
     /// The octets of a slot of its recording.
@@ -60,7 +60,7 @@ fn zeros(alloc: Global, count: usize) -> Result<Vec<u8>, NoMemory>
 impl TappedEnd {
     ghost use Rattle.line_tap.specs.declared.end.TappedEnd.{TappedEnd};
     ghost use Rattle.line_tap.specs.End.{ReadsOn, ReadsNext, slot_as};
-    ghost use Rattle.line_tap.specs.Listener.{IsIdle, ListensFor};
+    ghost use Rattle.line_tap.specs.EndListener.{IsIdle, ListensFor};
 
     /// An end before the first turn, by these terms, whose slots have so many symbols. It takes all its memory.
     pub fn new(
@@ -85,7 +85,7 @@ impl TappedEnd {
             dlci: DLCI,
         };
         Ok(TappedEnd {
-            listener: Listener::new(alloc, role, terms)?,
+            listener: EndListener::new(alloc, role, terms)?,
             reader: SlotReader::new(framing, symbols),
             piece: zeros(alloc, 4 * usize::from(symbols))?,
         })

@@ -27,7 +27,7 @@ use std::alloc::Global;
 use xid_params::Terms;
 
 /// One who hears what passes to an end, and knows what both ends offer.
-pub struct Listener {
+pub struct EndListener {
     /// The end.
     role: Role,
     /// By which the end judges the frames with numbers.
@@ -42,10 +42,10 @@ pub struct Listener {
     connected: bool,
 }
 
-impl Drop for Listener {
+impl Drop for EndListener {
     // for the prover: so it is dropped by a call, and its fields are not dropped anew wherever one is.
     fn drop(self) {
-        let Listener {
+        let EndListener {
             role: _,
             check: _,
             agreed: _,
@@ -77,12 +77,12 @@ fn window(role: Role, terms: &Terms) -> u8
     }
 }
 
-impl Listener {
-    ghost use Rattle.line_tap.specs.declared.listener.Listener.{Listener};
-    ghost use Rattle.line_tap.specs.Listener.{Listens, Overhears, IsIdle, HasTaken, delivered};
+impl EndListener {
+    ghost use Rattle.line_tap.specs.declared.listener.EndListener.{EndListener};
+    ghost use Rattle.line_tap.specs.EndListener.{Listens, Overhears, IsIdle, HasTaken, delivered};
 
     /// A listener that has heard nothing. It takes all its memory here.
-    pub fn new(alloc: Global, role: Role, terms: &Terms) -> Result<Listener, NoMemory>
+    pub fn new(alloc: Global, role: Role, terms: &Terms) -> Result<EndListener, NoMemory>
         requires low { 1 ≤ window_for (other role) terms.now }
         requires high { window_for (other role) terms.now ≤ 127 }
         requires srej { terms.now.srej ≡ Bool.true → window_for (other role) terms.now ≤ 64 }
@@ -92,7 +92,7 @@ impl Listener {
         let window = window(role, terms);
         let mut receiver = Receiver::new(alloc, window)?;
         receiver.begin(window, terms.srej);
-        Ok(Listener {
+        Ok(EndListener {
             role,
             check: Check::Sixteen,
             agreed: agreed_check(terms),

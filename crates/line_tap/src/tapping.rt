@@ -13,14 +13,14 @@ ghost use Rattle.shared_terms.specs.Both.{Both as BothValue};
 ghost use Rattle.line_tap.specs.Tapping.{Tapping, Tells, tapping};
 ghost use Rattle.line_tap.specs.Ends.{EndsLine};
 ghost use Rattle.line_tap.specs.Names.{named, inputs_of, outputs_of, recordings_of};
-ghost use Rattle.line_tap.specs.Listener.{IsIdle, HasTaken};
+ghost use Rattle.line_tap.specs.EndListener.{IsIdle, HasTaken};
 ghost use Rattle.line_tap.specs.Turns.{no_octets};
 
 use crate::end::TappedEnd;
 use crate::limits::{DLCI, TAP_LIMIT};
 use crate::names::TapWords;
 use crate::pieces::read_pieces;
-use crate::step::Step;
+use crate::step::TapStep;
 use command_base::{Status, Stop};
 use lapm_frames::{Heard, Sent};
 use lapm_receiver::laws::keeps_taken;
@@ -333,7 +333,7 @@ impl Tap {
     }
 
     /// One turn: both ends hear, what they took is written, and both slots of it are read and go on the line. The names of all turns are the same.
-    pub fn turn<F: Folder>(&mut self, folder: &mut F, names: &TapWords<'_>) -> Result<Step, Stop>
+    pub fn turn<F: Folder>(&mut self, folder: &mut F, names: &TapWords<'_>) -> Result<TapStep, Stop>
         requires ready { IsReady self.old }
         requires apart { AreApartFrom (inputs_of (named names.now)) (outputs_of (named names.now)) }
 
@@ -341,8 +341,8 @@ impl Tap {
         ensures turn { (start : FolderState) (x : Tapping) (ts : List Turn) → TapAfter self.old x ts → AreReadTo start (F.state folder.old) (named names.now) x.bodies
             → TurnAnswers self.new start (F.state folder.old) (F.state folder.new) (named names.now) x ts result }
         ensures script { self.new.script ≡ self.old.script }
-        ensures ready { result ≡ Ok Step.Going → IsReady self.new }
-        ensures nearer { result ≡ Ok Step.Going → self.old.at < self.new.at }
+        ensures ready { result ≡ Ok TapStep.Going → IsReady self.new }
+        ensures nearer { result ≡ Ok TapStep.Going → self.old.at < self.new.at }
 
         // It touches the outputs alone, and a fault has its cause.
         ensures only { OnlyPuts (F.state folder.old) (F.state folder.new) (outputs_of (named names.now)) }
@@ -372,7 +372,7 @@ impl Tap {
         };
         if are_none(&counts) {
             return match self.finish(folder, names, &hearing) {
-                Ok(()) => Ok(Step::Done {
+                Ok(()) => Ok(TapStep::Done {
                     turns: self.turn + 1,
                 }),
                 Err(fault) => Err(Stop::Write(fault)),
@@ -388,7 +388,7 @@ impl Tap {
             }
         };
         match self.go_on(folder, names, &hearing, sent, labels) {
-            Ok(()) => Ok(Step::Going),
+            Ok(()) => Ok(TapStep::Going),
             Err(fault) => Err(Stop::Write(fault)),
         }
     }

@@ -9,7 +9,7 @@ ghost use Rattle.line_tap.specs.Tap.{IsReady, TapAfter, AreReadTo};
 ghost use Rattle.line_tap.specs.Turns.{TurnsEnd, no_octets};
 
 use crate::names::TapWords;
-use crate::step::Step;
+use crate::step::TapStep;
 use crate::tapping::Tap;
 use command_base::Stop;
 use lapm_receiver::laws::keeps_taken;
@@ -35,8 +35,8 @@ pub fn tap_turns<F: Folder>(
     slots_have_room();
     loop {
         match tap.turn(folder, names) {
-            Ok(Step::Going) => {}
-            Ok(Step::Done { turns }) => return Ok(turns),
+            Ok(TapStep::Going) => {}
+            Ok(TapStep::Done { turns }) => return Ok(turns),
             Err(stop) => return Err(stop),
         }
     }

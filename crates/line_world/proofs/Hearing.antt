@@ -26,7 +26,7 @@ use Rattle.line_run.specs.Stream.{Carried}
 use Rattle.line_world.specs.Lines.{ArrivesBoth, HaveArrived}
 use Rattle.line_world.specs.declared.directions.LineEnd.{LineEnd}
 use Rattle.line_world.specs.declared.modems.Modems.{Modems}
-use Rattle.line_world.specs.declared.tally.Tally.{Tally}
+use Rattle.line_world.specs.declared.tally.Counts.{Counts}
 use Rattle.line_world.specs.Modems.{AreKept, AreReady, ModemsAfter}
 use Rattle.line_world.specs.Tally.{Tallies}
 use Rattle.line_world.specs.Mid.{Overhears, TalliesHeard, HasHeard, turn_in}
@@ -141,7 +141,7 @@ has-heard old m l c links streams files ts ends heard to_orig to_answ h number a
   lines = arrived;
 }
 
-pub tallies-heard : (old new : Tally) (ts : List Turn) (ends : Accounts) (heard : Both Heard) → Tallies old ts ends
+pub tallies-heard : (old new : Counts) (ts : List Turn) (ends : Accounts) (heard : Both Heard) → Tallies old ts ends
     → new ≡ record old { lost = old.lost + lost_in heard.orig + lost_in heard.answ }
     → TalliesHeard new ts ends heard
 tallies-heard old new ts ends heard h e = rw e (record {
@@ -159,7 +159,7 @@ lost-so c ts ends checks end same h = subst (λ f. EndsLineBy c ts f (end_of end
 
 -- ---- before the first turn
 
-abbrev pub nothing-counted : Tally
+abbrev pub nothing-counted : Counts
 nothing-counted = record { lost = 0; again = 0; orig = 0; answ = 0 }
 
 pub begins : (m : Modems) (c : Wire) (script : ScriptValue) (files : Both (List ℕ)) → c.script ≡ script

@@ -28,13 +28,13 @@ use Rattle.sample_line.proofs.Passing.{line-heard, slot-added}
 use Rattle.line_run.specs.Laws.{LossStays}
 use Rattle.link_account.specs.Numbers.{IsNumbered}
 use Rattle.link_run.specs.Run.{arrival}
-use Rattle.line_world.specs.declared.slot.Slot.{Slot}
+use Rattle.line_world.specs.declared.slot.SentSlot.{SentSlot}
 use Rattle.line_world.specs.declared.direction.DelayedLine.{DelayedLine}
 use Rattle.line_run.specs.Stream.{Carried, carried_signal}
 use Rattle.line_world.specs.Way.{IsOnWay, AreOnWay, Stands, CodesNext, HeardBehind, PassesOldest}
 
 -- as many slots as are said
-pub same-count : (size : ℕ) (role : Role) (before : List Signal) (items : List Slot) (way : List Carried)
+pub same-count : (size : ℕ) (role : Role) (before : List Signal) (items : List SentSlot) (way : List Carried)
     → AreOnWay size role before items way
     → length items ≡ length way
 same-count size role before [] [] h = refl
@@ -43,24 +43,24 @@ same-count size role before (slot ∷ items) [] h = absurd h
 same-count size role before [] (x ∷ way) h = absurd h
 
 -- the oldest one
-pub record Oldest (size : ℕ) (role : Role) (passed : List Signal) (slot : Slot) (items : List Slot) (way : List Carried) : Type 0 where
+pub record Oldest (size : ℕ) (role : Role) (passed : List Signal) (slot : SentSlot) (items : List SentSlot) (way : List Carried) : Type 0 where
   pub x : Carried
   pub rest : List Carried
   pub way_is : way ≡ x ∷ rest
   pub is : IsOnWay size role passed slot x
   pub others : AreOnWay size role (passed ++ carried_signal role x ∷ []) items rest
 
-pub oldest : (size : ℕ) (role : Role) (passed : List Signal) (slot : Slot) (items : List Slot) (way : List Carried)
+pub oldest : (size : ℕ) (role : Role) (passed : List Signal) (slot : SentSlot) (items : List SentSlot) (way : List Carried)
     → AreOnWay size role passed (slot ∷ items) way → Oldest size role passed slot items way
 oldest size role passed slot items [] h = absurd h
 oldest size role passed slot items (x ∷ way) h = record { x = x; rest = way; way_is = refl; is = h.0; others = h.1 }
 
 -- the front of a list that has one
-pub first-of : (slots : List Slot) (slot : Slot) → Some slot ≡ slice_get slots 0 → slots ≡ slot ∷ drop 1 slots
+pub first-of : (slots : List SentSlot) (slot : SentSlot) → Some slot ≡ slice_get slots 0 → slots ≡ slot ∷ drop 1 slots
 first-of [] slot e = absurd cc
 first-of (x ∷ slots) slot e = go e
   where
-    value : Option Slot → Slot
+    value : Option SentSlot → SentSlot
     value (Some y) = y
     value None = x
 
@@ -68,7 +68,7 @@ first-of (x ∷ slots) slot e = go e
     go z = ap (λ y. y ∷ slots) (sym (ap value z))
 
 -- a direction that the call has moved on
-pub record MovesOn (d new : DelayedLine) (items : List Slot) : Type 0 where
+pub record MovesOn (d new : DelayedLine) (items : List SentSlot) : Type 0 where
   pub sender : new.sender ≡ d.sender
   pub lag : new.lag ≡ d.lag
   pub items_are : new.slots.items ≡ items
@@ -77,8 +77,8 @@ pub record MovesOn (d new : DelayedLine) (items : List Slot) : Type 0 where
   pub symbols : new.line.symbols ≡ d.line.symbols
 
 -- what the line makes of the oldest slot
-heard-so : (once : RecordedOnce) (d new : DelayedLine) (script : ScriptValue) (passed : List Signal) (x : Carried) (slot : Slot)
-    (items : List Slot) (rest : List Carried) (number : ℕ) (check : Check) (dlci : ℕ) (heard : Heard)
+heard-so : (once : RecordedOnce) (d new : DelayedLine) (script : ScriptValue) (passed : List Signal) (x : Carried) (slot : SentSlot)
+    (items : List SentSlot) (rest : List Carried) (number : ℕ) (check : Check) (dlci : ℕ) (heard : Heard)
     → sender_of d.line ≡ d.sender → d.slots.capacity ≡ d.lag → IsOnWay (size_of d.line) d.sender passed slot x
     → AreOnWay (size_of d.line) d.sender (passed ++ carried_signal d.sender x ∷ []) items rest → MovesOn d new items
     → PassesSlot new.line script passed (carried_signal d.sender x) check dlci (loses script d.sender number) slot.sent heard
@@ -135,7 +135,7 @@ heard-so once d new script passed x slot items rest number check dlci heard own 
     }
 
 loses-so : (stay : LossStays) (d : DelayedLine) (script : ScriptValue) (passed : List Signal) (way : List Carried) (x : Carried)
-    (slot : Slot)
+    (slot : SentSlot)
     (symbol : ℕ) (line : Kept)
     → Stands d script passed way → IsOnWay (size_of d.line) d.sender passed slot x → sender_of line ≡ sender_of d.line
     → size_of line ≡ size_of d.line
@@ -165,13 +165,13 @@ loses-so stay d script passed way x slot symbol line h is same size l = at
     at = subst (λ b. LosesAt d.sender script b symbol) (sym (slot-added (size_of d.line) passed (carried_signal d.sender x))) lost
 
 -- what the line's call says, whatever passed before
-abbrev pub PassesAll : DelayedLine → DelayedLine → Slot → Check → ScriptValue → ℕ → Bool → Result Heard Lost → Type 0
+abbrev pub PassesAll : DelayedLine → DelayedLine → SentSlot → Check → ScriptValue → ℕ → Bool → Result Heard Lost → Type 0
 PassesAll d new slot check script dlci lost r =
     (passed : List Signal) (signal : Signal) → LineStands d.line script passed
     → IsCodedAs (sender_of d.line) (size_of d.line) passed signal slot.labels
     → Passes new.line script passed signal check dlci lost slot.sent r
 
-passes-front : (d new : DelayedLine) (script : ScriptValue) (passed : List Signal) (way : List Carried) (slot : Slot) (items : List Slot)
+passes-front : (d new : DelayedLine) (script : ScriptValue) (passed : List Signal) (way : List Carried) (slot : SentSlot) (items : List SentSlot)
     (number : ℕ) (check : Check) (dlci : ℕ) (r : Result Heard Lost) (o : Oldest (size_of d.line) d.sender passed slot items way)
     → Stands d script passed way → PassesAll d new slot check script dlci (loses script d.sender number) r
     → Passes new.line script passed (carried_signal d.sender o.x) check dlci (loses script d.sender number) slot.sent r
@@ -180,7 +180,7 @@ passes-front d new script passed way slot items number check dlci r o h p =
     (subst (λ s. IsCodedAs s (size_of d.line) passed (carried_signal d.sender o.x) slot.labels) (sym h.sender) o.is.coded)
 
 pub passes-oldest : (once : RecordedOnce) (stay : LossStays) (d new : DelayedLine) (script : ScriptValue) (passed : List Signal)
-    (way : List Carried) (slot : Slot) (items : List Slot) (number : ℕ) (check : Check) (dlci : ℕ) (r : Result Heard Lost)
+    (way : List Carried) (slot : SentSlot) (items : List SentSlot) (number : ℕ) (check : Check) (dlci : ℕ) (r : Result Heard Lost)
     → (o : Oldest (size_of d.line) d.sender passed slot items way)
     → Stands d script passed way → MovesOn d new items → PassesAll d new slot check script dlci (loses script d.sender number) r
     → PassesOldest d new script passed o.x o.rest number check dlci r
@@ -210,7 +210,7 @@ as-heard lost sender dlci s octets patterns Chance h o = tt
 as-heard true sender dlci s octets patterns (Passed t) h o = absurd o
 as-heard false sender dlci s octets patterns (Passed t) h o = subst (λ x. IsNumbered (arrival (Passed x))) (sym o.0) (numbered-sent s h)
 
-pub numbered-by : (d new : DelayedLine) (script : ScriptValue) (passed : List Signal) (way : List Carried) (slot : Slot) (items : List Slot)
+pub numbered-by : (d new : DelayedLine) (script : ScriptValue) (passed : List Signal) (way : List Carried) (slot : SentSlot) (items : List SentSlot)
     (number : ℕ) (check : Check) (dlci : ℕ) (r : Result Heard Lost) → (o : Oldest (size_of d.line) d.sender passed slot items way)
     → Stands d script passed way → PassesAll d new slot check script dlci (loses script d.sender number) r
     → IfOk r (λ heard. IsNumbered (arrival heard))
@@ -225,7 +225,7 @@ numbered-by d new script passed way slot items number check dlci r o h p =
     go (Err lost) q = tt
 
 -- one more slot behind those on their way
-pub behind : (size : ℕ) (role : Role) (before : List Signal) (items : List Slot) (way : List Carried) (slot : Slot) (x : Carried)
+pub behind : (size : ℕ) (role : Role) (before : List Signal) (items : List SentSlot) (way : List Carried) (slot : SentSlot) (x : Carried)
     → AreOnWay size role before items way → IsOnWay size role (before ++ map (carried_signal role) way) slot x
     → AreOnWay size role before (items ++ slot ∷ []) (way ++ x ∷ [])
 behind size role before [] [] slot x h k = (subst (λ l. IsOnWay size role l slot x) (append-nil before) k, tt)
@@ -239,7 +239,7 @@ behind size role before (y ∷ items) [] slot x h k = absurd h
 behind size role before [] (first ∷ way) slot x h k = absurd h
 
 -- where there is room nothing is pushed out
-pub all-kept : (items : List Slot) (slot : Slot) (room : ℕ) → length items < room
+pub all-kept : (items : List SentSlot) (slot : SentSlot) (room : ℕ) → length items < room
     → drop (length (items ++ slot ∷ []) - room) (items ++ slot ∷ []) ≡ items ++ slot ∷ []
 all-kept items slot room h = go (length (items ++ slot ∷ []) - room) (omega (arith, h, length-append items (slot ∷ [])))
   where
@@ -247,14 +247,14 @@ all-kept items slot room h = go (length (items ++ slot ∷ []) - room) (omega (a
     go n e = rw e refl
 
 -- a direction on which a slot was put
-pub record IsPutOn (d new : DelayedLine) (items : List Slot) : Type 0 where
+pub record IsPutOn (d new : DelayedLine) (items : List SentSlot) : Type 0 where
   pub sender : new.sender ≡ d.sender
   pub lag : new.lag ≡ d.lag
   pub items_are : new.slots.items ≡ items
   pub capacity : new.slots.capacity ≡ d.slots.capacity
   pub line : new.line ≡ d.line
 
-pub puts-so : (d new : DelayedLine) (script : ScriptValue) (passed : List Signal) (way : List Carried) (slot : Slot) (x : Carried)
+pub puts-so : (d new : DelayedLine) (script : ScriptValue) (passed : List Signal) (way : List Carried) (slot : SentSlot) (x : Carried)
     → Stands d script passed way → CodesNext d passed way x slot.labels → IsPutOn d new (d.slots.items ++ slot ∷ [])
     → slot.sent ≡ x.spoken.sent
     → IsSendable x.spoken.sent → Stands new script passed (way ++ x ∷ [])

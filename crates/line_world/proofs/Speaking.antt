@@ -35,7 +35,7 @@ use Rattle.line_world.specs.Link.{LinkStands, SaysBoth}
 use Rattle.line_run.specs.Stream.{Carried}
 use Rattle.line_world.specs.Lines.{LinesWait, HaveArrived, AreCodable, ArePut, and_more}
 use Rattle.line_world.specs.declared.modems.Modems.{Modems}
-use Rattle.line_world.specs.declared.tally.Tally.{Tally}
+use Rattle.line_world.specs.declared.tally.Counts.{Counts}
 use Rattle.line_run.specs.declared.fault.RunFault.{RunFault}
 use Rattle.line_run.specs.declared.fault.RunFault.TheVariants as run_faults
 use Rattle.line_world.specs.Tally.{Tallies}
@@ -200,7 +200,7 @@ pub record GoingLaws : Type 0 where
   pub counted : CountsByNumber
 
 -- a tally counted what both sent
-pub record CountsSent (old new : Tally) (from_orig from_answ : Sent) : Type 0 where
+pub record CountsSent (old new : Counts) (from_orig from_answ : Sent) : Type 0 where
   pub lost : new.lost ≡ old.lost
   pub again : new.again ≡ old.again + again_in (sequence_in from_orig) old.orig + again_in (sequence_in from_answ) old.answ
   pub orig : new.orig ≡ next_count (sequence_in from_orig) old.orig
@@ -208,7 +208,7 @@ pub record CountsSent (old new : Tally) (from_orig from_answ : Sent) : Type 0 wh
 
 pub tallies-on : GoingLaws → (c : Wire) (files : Both (List ℕ)) (ts : List Turn) (ends : Accounts) (heard : Both Heard) (mid : Accounts)
     (from_orig from_answ : Sent) (k : Link)
-    (old new : Tally) → IsInLimits c.script → Overhears c files ts ends heard mid
+    (old new : Counts) → IsInLimits c.script → Overhears c files ts ends heard mid
     → (t : SpokenTurn c files ts ends heard mid from_orig from_answ k)
     → TalliesHeard old ts ends heard → CountsSent old new from_orig from_answ
     → Tallies new (turn_in heard ends mid (spoken_by t.orig t.answ) ∷ ts) (ends_of t.orig t.answ)
@@ -230,7 +230,7 @@ tallies-on laws c files ts ends heard mid from_orig from_answ k old new limits o
       answ = n.answ ∙ (λ i. next_count (sequence_in (t.answ_sent i)) (h.answ i)) ∙ sym ca.high;
     }
 
-pub goes-on : GoingLaws → (c : Wire) (old : Tally) (m : Modems) (l : Lines) (links : ℕ) (streams : Both (List Carried))
+pub goes-on : GoingLaws → (c : Wire) (old : Counts) (m : Modems) (l : Lines) (links : ℕ) (streams : Both (List Carried))
     (f new : FolderState) (n : Written) (files : Both (List ℕ))
     (ts : List Turn) (ends : Accounts) (heard : Both Heard) (mid : Accounts)
     (from_orig from_answ : Sent) → IsInLimits c.script → m.turn ≡ length ts + 1 → m.spoke ≡ true

@@ -37,7 +37,7 @@ use Rattle.line_world.specs.Tally.{IsFew}
 use Rattle.line_world.specs.Turn.{SendsNone, MakesTurn, Stops, StopsReading, EndsBy, EndsInTurn, GoesOnBy, IsWriting, IsReading}
 use Rattle.line_world.specs.Turn.{added}
 use Rattle.line_world.specs.Mid.{Overhears, InTurn, SameBeside, HasGone, HearsThese, AddsLines, AddsPart, SpeaksLast, turn_in}
-use Rattle.line_world.specs.declared.tally.Tally.{Tally}
+use Rattle.line_world.specs.declared.tally.Counts.{Counts}
 use Rattle.link_run.specs.Counts.{lost_in, lost_slots}
 use Rattle.line_world.proofs.Speaking.{hears-these}
 use Rattle.line_world.proofs.Hearing.{heard-in, none-sent, runs-over}
@@ -131,8 +131,8 @@ halts-so old m l c links streams files ts ends heard mid now h arrived same t he
     let answ = sym (hears Answerer) in
     record {
       lines = arrived;
-      lost = ap (λ (x : Tally). x.lost) same.tally ∙ h.tally.lost ∙ (λ k. lost_slots ts + lost_in (orig k) + lost_in (answ k));
-      again = ap (λ (x : Tally). x.again) same.tally ∙ h.tally.again;
+      lost = ap (λ (x : Counts). x.lost) same.tally ∙ h.tally.lost ∙ (λ k. lost_slots ts + lost_in (orig k) + lost_in (answ k));
+      again = ap (λ (x : Counts). x.again) same.tally ∙ h.tally.again;
     }
 
 -- what both hear with once they have heard

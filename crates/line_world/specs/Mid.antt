@@ -30,7 +30,7 @@ use Rattle.line_run.specs.Faults.{fault_end}
 use Rattle.line_world.specs.Lines.{LinesWait, HaveArrived}
 use Rattle.line_world.specs.declared.lines.Lines.{Lines}
 use Rattle.line_world.specs.declared.modems.Modems.{Modems}
-use Rattle.line_world.specs.declared.tally.Tally.{Tally}
+use Rattle.line_world.specs.declared.tally.Counts.{Counts}
 use Rattle.line_run.specs.declared.fault.RunFault.{RunFault}
 use Rattle.line_run.specs.declared.fault.RunFault.TheVariants as run_faults
 use Rattle.line_world.specs.Modems.{ModemsAfter}
@@ -68,7 +68,7 @@ abbrev pub served : ScriptValue → Both (List ℕ) → ℕ → Accounts → Acc
 served script files turn mid = served_on script turn (supplied files (handed mid))
 
 -- A tally of these turns, and of what is heard in the next one.
-pub record TalliesHeard (t : Tally) (ts : List Turn) (ends : Accounts) (heard : Both Heard) : Type 0 where
+pub record TalliesHeard (t : Counts) (ts : List Turn) (ends : Accounts) (heard : Both Heard) : Type 0 where
   pub lost : t.lost ≡ lost_slots ts + lost_in heard.orig + lost_in heard.answ
   pub again : t.again ≡ sent_again ts
   pub orig : t.orig ≡ ends.orig.outgoing.high

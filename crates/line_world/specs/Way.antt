@@ -21,17 +21,17 @@ use Rattle.sample_line.specs.Path.{LosesAt}
 use Rattle.sample_line.specs.Line.{Kept, LineStands, sender_of, size_of}
 use Rattle.sample_line.specs.Coder.{IsCodedAs}
 use Rattle.line_run.specs.Stream.{Carried, carried_signal}
-use Rattle.line_world.specs.declared.slot.Slot.{Slot}
+use Rattle.line_world.specs.declared.slot.SentSlot.{SentSlot}
 use Rattle.line_world.specs.declared.direction.DelayedLine.{DelayedLine}
 
 -- A slot is what was sent, which an end may send, coded behind all slots before.
-pub record IsOnWay (size : ℕ) (role : Role) (before : List Signal) (slot : Slot) (x : Carried) : Type 0 where
+pub record IsOnWay (size : ℕ) (role : Role) (before : List Signal) (slot : SentSlot) (x : Carried) : Type 0 where
   pub sent : slot.sent ≡ x.spoken.sent
   pub sendable : IsSendable x.spoken.sent
   pub coded : IsCodedAs role size before (carried_signal role x) slot.labels
 
 -- so are these, the oldest first
-abbrev pub AreOnWay : ℕ → Role → List Signal → List Slot → List Carried → Type 0
+abbrev pub AreOnWay : ℕ → Role → List Signal → List SentSlot → List Carried → Type 0
 AreOnWay size role before [] [] = Unit {0}
 AreOnWay size role before (slot ∷ slots) (x ∷ way) = IsOnWay size role before slot x × AreOnWay size role (before ++ carried_signal role x ∷ []) slots way
 AreOnWay size role before (slot ∷ slots) [] = ⊥

@@ -8,7 +8,7 @@ ghost use Rattle.link_run.specs.Run.{arrival};
 ghost use Rattle.line_run.specs.Stream.{Carried};
 ghost use Rattle.line_world.specs.Way.{Stands, CodesNext, Arrival};
 
-use crate::slot::Slot;
+use crate::slot::SentSlot;
 use circular_buffer::HeapCircularBuffer;
 use exact_decoder::Lost;
 use frame_check::Check;
@@ -31,7 +31,7 @@ pub struct DelayedLine {
     /// How many slots are on their way at a time: those of so many turns, of each link.
     lag: u16,
     /// The slots on their way, the oldest first.
-    slots: HeapCircularBuffer<Slot>,
+    slots: HeapCircularBuffer<SentSlot>,
 }
 
 impl Drop for DelayedLine {
@@ -125,7 +125,7 @@ impl DelayedLine {
         ensures line { self.new.line ≡ self.old.line }
     {
         // It is taken: fewer slots are on their way than the ring was made for.
-        let _ = self.slots.push_back(Slot { labels, sent });
+        let _ = self.slots.push_back(SentSlot { labels, sent });
     }
 
     /// The line through which the slots pass that have arrived.

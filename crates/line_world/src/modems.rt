@@ -22,7 +22,7 @@ ghost use Rattle.noise_script.specs.Script.{IsInLimits};
 
 use crate::fault::folder_fault;
 use crate::step::Step;
-use crate::tally::Tally;
+use crate::tally::Counts;
 use crate::turn_text::{link_fault, write_chance, write_turn};
 use crate::{LineEnd, Lines, Link, Names, arrived};
 use frame_check::Check;
@@ -49,7 +49,7 @@ pub struct Modems {
     /// How many turns were made.
     turn: u64,
     /// What the turns so far show in numbers.
-    tally: Tally,
+    tally: Counts,
     /// The checks of both ends once they had heard in the last turn.
     heard_by: Both<Check>,
     /// Both sent in the last turn.
@@ -91,7 +91,7 @@ impl Modems {
             link,
             dlci,
             turn: 0,
-            tally: Tally::new(),
+            tally: Counts::new(),
             heard_by,
             spoke: false,
         })

@@ -7,7 +7,7 @@ use shared_terms::Both;
 
 /// Counts over the turns of a run.
 #[derive(Drop)]
-pub(crate) struct Tally {
+pub(crate) struct Counts {
     /// Slots that were lost.
     pub lost: u64,
     /// I frames whose segment had been sent before.
@@ -59,15 +59,15 @@ fn count(sent: &Sent, segments: &mut u64, again: &mut u64)
     }
 }
 
-impl Tally {
-    ghost use Rattle.line_world.specs.declared.tally.Tally.{Tally};
+impl Counts {
+    ghost use Rattle.line_world.specs.declared.tally.Counts.{Counts};
     ghost use Rattle.line_world.specs.Tally.{IsFew};
 
     /// Before the first turn.
-    pub fn new() -> Tally
+    pub fn new() -> Counts
         ensures { result ≡ record { lost = 0; again = 0; orig = 0; answ = 0 } }
     {
-        Tally {
+        Counts {
             lost: 0,
             again: 0,
             orig: 0,

@@ -5,7 +5,7 @@ ghost use Rattle.command_base.specs.Status.{PassesNoneOver};
 ghost use Rattle.modem_cli.specs.Modem.{Nothing, commands, asked, asked_by, promise, usage};
 ghost use Rattle.modem_cli.specs.Named.{named};
 
-use command_base::{Line, Status, tell, usage_line};
+use command_base::{ResultLine, Status, tell, usage_line};
 use frame_commands::frames::{FramesWords, frames, frames_words};
 use frame_commands::xid::{xid, xid_words};
 use line_tap::{TapWords, tap, tap_words};
@@ -78,7 +78,7 @@ fn read_words(words: &[String]) -> Option<Asked<'_>>
 }
 
 /// How the program is used.
-fn usage() -> Line
+fn usage() -> ResultLine
     ensures { result ≡ usage }
 {
     usage_line(&[

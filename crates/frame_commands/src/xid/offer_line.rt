@@ -2,12 +2,12 @@
 ghost use Rattle.std.specs.Prelude.{◌≡◌, ◌≤◌, ◌+◌, ◌++◌, length, decimal, ◌<◌, ◌^◌};
 ghost use Rattle.frame_commands.specs.Explaining.OfferLine.{offer_line, flag_word};
 
-use command_base::{LINE, Line};
+use command_base::{LINE, ResultLine};
 use line_texts::put_decimal;
 use xid_params::Offer;
 
 /// Puts a word behind the line, and a number in decimal digits behind the word.
-fn put(line: &mut Line, word: &[u8], number: u64)
+fn put(line: &mut ResultLine, word: &[u8], number: u64)
     requires { length line.old + length word.now + 20 ≤ LINE }
     ensures text { line.new ≡ line.old ++ word.now ++ decimal number }
     ensures room { length line.new ≤ length line.old + length word.now + 20 }
@@ -17,7 +17,7 @@ fn put(line: &mut Line, word: &[u8], number: u64)
 }
 
 /// Puts a word behind the line, and behind it 1 where the function is offered and 0 where it isn't.
-fn put_flag(line: &mut Line, word: &[u8], flag: bool)
+fn put_flag(line: &mut ResultLine, word: &[u8], flag: bool)
     requires { length line.old + length word.now + 1 ≤ LINE }
     ensures text { line.new ≡ line.old ++ word.now ++ flag_word flag }
     ensures room { length line.new ≤ length line.old + length word.now + 1 }
@@ -27,10 +27,10 @@ fn put_flag(line: &mut Line, word: &[u8], flag: bool)
 }
 
 /// The line of an offer: windows in segments, lengths in octets, and the functions that are offered.
-pub(crate) fn offer_line(offer: &Offer) -> Line
+pub(crate) fn offer_line(offer: &Offer) -> ResultLine
     ensures { result ≡ offer_line offer.now }
 {
-    let mut line = Line::new();
+    let mut line = ResultLine::new();
     put(&mut line, b"window tx=", u64::from(offer.tx_window));
     put(&mut line, b" rx=", u64::from(offer.rx_window));
     put(&mut line, b" length tx=", u64::from(offer.tx_len));

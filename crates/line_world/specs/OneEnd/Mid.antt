@@ -14,7 +14,7 @@ use Rattle.detection.specs.Ear.{HasHeard}
 use Rattle.line_world.specs.OneEnd.Peer.{Past, PeerRun, PeerTurn, Outcome, Going, Broken, after, over, turn_line}
 use Rattle.line_world.specs.OneEnd.Single.{SingleAfter, file_limit}
 use Rattle.line_world.specs.declared.one_end.single.Single.{Single}
-use Rattle.line_world.specs.declared.one_end.single.Breaking.{Breaking}
+use Rattle.line_world.specs.declared.one_end.single.HeardBreak.{HeardBreak}
 use Rattle.line_world.specs.declared.one_end.step.SingleFault.{SingleFault}
 use Rattle.line_world.specs.declared.one_end.step.SingleFault.TheVariants as faults
 
@@ -35,7 +35,7 @@ pub record BreaksOff (s : Single) (p : Past) (slot : List ℕ) (arrived : Arrive
   pub turn : s.turn ≡ length p.turns
 
 -- what hearing answers
-abbrev pub HearsTurn : Single → Past → List ℕ → Result Arrived Breaking → Type 0
+abbrev pub HearsTurn : Single → Past → List ℕ → Result Arrived HeardBreak → Type 0
 HearsTurn s p slot (Ok arrived) = (mid : Account) × InTurn s p slot arrived mid mid
 HearsTurn s p slot (Err breaking) = BreaksOff s p slot breaking.arrived breaking.fault
 

@@ -54,7 +54,7 @@ impl Drop for Single {
 
 /// An end that breaks as it hears: what it heard, and why.
 #[derive(Drop)]
-pub(crate) struct Breaking {
+pub(crate) struct HeardBreak {
     /// What the end heard in that turn.
     pub arrived: Arrived,
     /// Why it breaks.
@@ -115,7 +115,7 @@ impl Single {
     }
 
     /// The end hears what is heard in a slot.
-    fn hear(&mut self, slot: &[u8]) -> Result<Arrived, Breaking>
+    fn hear(&mut self, slot: &[u8]) -> Result<Arrived, HeardBreak>
         requires ready { IsReady self.old }
         requires early { self.old.turn < 2 ^ 40 }
         requires short { length slot.now ≤ SLOT_OCTETS }
@@ -127,7 +127,7 @@ impl Single {
         let arrived = hear_slot(&mut self.ear, slot, self.role.other());
         match self.station.hear(self.turn, &arrived) {
             Ok(()) => Ok(arrived),
-            Err(fault) => Err(Breaking { arrived, fault }),
+            Err(fault) => Err(HeardBreak { arrived, fault }),
         }
     }
 
@@ -227,7 +227,7 @@ impl Single {
     }
 
     /// The end broke as it heard: nothing is sent, and the turn's line goes out.
-    fn break_off<F: Folder>(&self, folder: &mut F, trace: &str, breaking: Breaking) -> SingleFault
+    fn break_off<F: Folder>(&self, folder: &mut F, trace: &str, breaking: HeardBreak) -> SingleFault
         ensures ends { (p : Past) (slot : List ℕ) → BreaksOff self.now p slot breaking.arrived breaking.fault
             → EndsLine self.now (F.state folder.old) (F.state folder.new) trace.now p slot [] result }
         ensures only { OnlyWrites (F.state folder.old) (F.state folder.new) trace.now }

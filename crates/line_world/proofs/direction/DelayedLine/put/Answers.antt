@@ -1,7 +1,7 @@
 use Rattle.std.proofs.Common.{◌<◌, length, arith, refl, sym, ◌∙◌, ap, subst}
 use Rattle.lapm_frames.specs.Sendable.{IsSendable}
 use Rattle.line_world.specs.declared.direction.DelayedLine.{DelayedLine}
-use Rattle.line_world.specs.declared.slot.Slot.{Slot}
+use Rattle.line_world.specs.declared.slot.SentSlot.{SentSlot}
 use Rattle.line_world.proofs.Passing.{puts-so, all-kept}
 use Rattle.line_world.proofs.direction.DelayedLine.put.Goals as goal
 
@@ -9,7 +9,7 @@ pub returns-clause-stands : goal.returns-clause-stands
 returns-clause-stands c = λ script passed way x h coded sent.
     let d : DelayedLine = c.args.self.now in
     let new : DelayedLine = record d { slots = c.push_back.new.self } in
-    let slot : Slot = record { labels = c.args.labels; sent = c.args.sent } in
+    let slot : SentSlot = record { labels = c.args.labels; sent = c.args.sent } in
     let room : length d.slots.items < d.slots.capacity = omega (arith, c.requires.room, h.room) in
     let kept = all-kept d.slots.items slot d.slots.capacity room in
     puts-so d new script passed way slot x h coded

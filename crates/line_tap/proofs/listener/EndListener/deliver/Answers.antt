@@ -3,12 +3,12 @@ use Rattle.outside_calls.specs.Folder.{FolderState, Appended, PartlyAppended}
 use Rattle.outside_calls.proofs.Steps.{FaultsStand-trans, CountsStand-refl, CountsStand-trans}
 use Rattle.line_world.proofs.Handing.{writes-on, writes-none}
 use Rattle.lapm_receiver.specs.Taking.{Taking, StandsIn}
-use Rattle.line_tap.specs.declared.listener.Listener.{Listener}
-use Rattle.line_tap.specs.Listener.{delivered}
+use Rattle.line_tap.specs.declared.listener.EndListener.{EndListener}
+use Rattle.line_tap.specs.EndListener.{delivered}
 use Rattle.line_tap.proofs.Causes.{no-fault, cause-earlier}
 use Rattle.line_tap.proofs.Listening.{listens-on, idle-again}
 use Rattle.line_tap.proofs.Handing.{fewer-ready, handing-starts, next-is, handing-next, handing-ends, handing-stops}
-use Rattle.line_tap.proofs.listener.Listener.deliver.Goals as goal
+use Rattle.line_tap.proofs.listener.EndListener.deliver.Goals as goal
 
 pub loop-segment-init : goal.loop-segment-init
 loop-segment-init g c = record {
@@ -42,7 +42,7 @@ loop-segment-preserved g c =
           (next-is c.loop-segment.self.receiver i k.given c.deliver.new.out (c.if-not-deliver.ensures.answer _ k.stands)
           (λ s. c.if-not-deliver.ensures.segment _ s k.stands))
           (c.if-not-deliver.ensures.stands _ k.stands) put;
-      beside = ap (λ (l : Listener). record l { receiver = c.deliver.new.self }) old.beside;
+      beside = ap (λ (l : EndListener). record l { receiver = c.deliver.new.self }) old.beside;
       window = ap (λ (r : Taking). r.window) c.if-not-deliver.ensures.value ∙ old.window;
       taken = ap (λ (r : Taking). r.taken) c.if-not-deliver.ensures.value ∙ old.taken;
       only = writes-on start now next name old.only c.in-Ok.ensures.only;

@@ -1,4 +1,4 @@
-use Rattle.line_tap.proofs.listener.Listener.take_segment.Goals as goal
+use Rattle.line_tap.proofs.listener.EndListener.take_segment.Goals as goal
 
 pub returns-clause-stands : goal.returns-clause-stands
 returns-clause-stands c = λ terms role agreed connected i lengths h. record {

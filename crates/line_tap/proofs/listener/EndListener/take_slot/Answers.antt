@@ -1,8 +1,8 @@
 use Rattle.std.proofs.Common.{sym, subst}
 use Rattle.lapm_frames.specs.declared.sent.Sent.{Sent}
 use Rattle.lapm_frames.specs.declared.heard.Heard.TheVariants.{Passed}
-use Rattle.line_tap.specs.Listener.{Overhears}
-use Rattle.line_tap.proofs.listener.Listener.take_slot.Goals as goal
+use Rattle.line_tap.specs.EndListener.{Overhears}
+use Rattle.line_tap.proofs.listener.EndListener.take_slot.Goals as goal
 
 pub returns-in-Frame-clause-stands : goal.returns-in-Frame-clause-stands
 returns-in-Frame-clause-stands c = λ terms role agreed connected i lengths h.

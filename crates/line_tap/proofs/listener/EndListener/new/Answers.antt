@@ -1,7 +1,7 @@
 use Rattle.std.proofs.Common.{refl, subst}
 use Rattle.lapm_receiver.specs.Incoming.{begun}
 use Rattle.lapm_receiver.specs.Taking.{StandsIn}
-use Rattle.line_tap.proofs.listener.Listener.new.Goals as goal
+use Rattle.line_tap.proofs.listener.EndListener.new.Goals as goal
 
 pub returns-clause-stands : goal.returns-clause-stands
 returns-clause-stands c = record {

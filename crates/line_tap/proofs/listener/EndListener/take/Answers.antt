@@ -5,9 +5,9 @@ use Rattle.lapm_frames.specs.declared.sent.Sent.TheVariants as slots
 use Rattle.lapm_receiver.specs.Incoming.{after_take}
 use Rattle.link_run.specs.Laws.{given_in}
 use Rattle.link_run.specs.Listened.{given_by}
-use Rattle.line_tap.specs.Listener.{Listens}
+use Rattle.line_tap.specs.EndListener.{Listens}
 use Rattle.line_tap.proofs.Listening.{gives-no-segment, opens-no-segment, opens-no-word}
-use Rattle.line_tap.proofs.listener.Listener.take.Goals as goal
+use Rattle.line_tap.proofs.listener.EndListener.take.Goals as goal
 
 pub returns-in-I-clause-stands : goal.returns-in-I-clause-stands
 returns-in-I-clause-stands c = λ terms role agreed connected i lengths h.

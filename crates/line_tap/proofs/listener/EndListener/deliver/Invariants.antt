@@ -3,7 +3,7 @@ use Rattle.outside_calls.specs.Folder.{OnlyWrites, CountsStand}
 use Rattle.lapm_receiver.specs.Incoming.{Incoming}
 use Rattle.lapm_receiver.specs.Taking.{StandsIn}
 use Rattle.line_tap.proofs.Handing.{Handing}
-use Rattle.line_tap.proofs.listener.Listener.deliver.Given as goal
+use Rattle.line_tap.proofs.listener.EndListener.deliver.Given as goal
 
 abbrev pub invariant-loop-segment : goal.invariant-loop-segment
 invariant-loop-segment g l = record {

@@ -1,7 +1,7 @@
 use Rattle.std.proofs.Common.{sym, subst}
 use Rattle.lapm_frames.specs.declared.heard.Heard.{Heard}
-use Rattle.line_tap.specs.Listener.{Overhears}
-use Rattle.line_tap.proofs.listener.Listener.hear.Goals as goal
+use Rattle.line_tap.specs.EndListener.{Overhears}
+use Rattle.line_tap.proofs.listener.EndListener.hear.Goals as goal
 
 pub returns-in-Passed-clause-stands : goal.returns-in-Passed-clause-stands
 returns-in-Passed-clause-stands c = λ terms role agreed connected i lengths h.

@@ -4,7 +4,7 @@ use Rattle.break_signals.specs.Breaks.{TheirBreaks, gives}
 use Rattle.link_run.specs.Laws.{given_in}
 use Rattle.link_run.specs.Listened.{given_by_word}
 use Rattle.line_tap.proofs.Listening.{with-given}
-use Rattle.line_tap.proofs.listener.Listener.take_word.Goals as goal
+use Rattle.line_tap.proofs.listener.EndListener.take_word.Goals as goal
 
 pub returns-in-Brk-clause-given : goal.returns-in-Brk-clause-given
 returns-in-Brk-clause-given c = λ terms role agreed connected i lengths h.
