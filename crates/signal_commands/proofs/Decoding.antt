@@ -2,7 +2,6 @@ pub mod Joined
 pub mod Rates
 pub mod Playings
 pub mod Finishing
-pub mod Batches
 pub mod Longer
 pub mod Parts
 pub mod Steps

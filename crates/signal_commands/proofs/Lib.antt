@@ -1,3 +1,4 @@
+pub mod Batches
 pub mod Encoding
 pub mod Decoding
 pub mod PickingUp

@@ -2,6 +2,7 @@
 //! beginning or from anywhere, and `margin` says how much noise it bore. Each is a pure function of the words and of the folder that are handed in.
 #![tactic(auto)]
 
+mod batch;
 pub mod decode;
 pub mod encode;
 pub mod margin;

@@ -1,5 +1,5 @@
 -- A player goes on, and what was said of what it played.
-use Rattle.std.proofs.Common.{◌≡◌, ◌∙◌, ℕ, ◌+◌, ◌≤◌, Bool, List, [], ◌++◌, length, length-append, drop, refl, sym, ap, subst, arith}
+use Rattle.std.proofs.Common.{◌≡◌, ◌∙◌, ℕ, ◌+◌, ◌≤◌, Bool, List, [], ◌++◌, length, length-append, take, drop, Result, Ok, Err, refl, sym, ap, subst, arith}
 use Rattle.std.proofs.Common.{append-nil, append_assoc, Option, Some, None}
 use Rattle.std.proofs.lemmas.List.{take-append-drop, take-append-le, length-take}
 use Rattle.scramblers.specs.declared.mode.Mode.{Mode}
@@ -11,12 +11,12 @@ use Rattle.exact_decoder.specs.Surviving.Survivors.{IsReleased, LostIs}
 use Rattle.exact_decoder.proofs.Surviving.Fronts.{lost-stays, over-before}
 use Rattle.exact_decoder.specs.Surviving.V32.{any_trellis, line_depth}
 use Rattle.exact_decoder.specs.Decoder.{heard}
+use Rattle.exact_decoder.specs.Batches.{heard_of}
 use Rattle.bit_stuffing.specs.Found.{pieces_of}
 use Rattle.bit_stuffing.proofs.Sent.{pieces-stay}
 use Rattle.command_base.specs.declared.stop.Stop.{Stop}
 use Rattle.command_base.specs.declared.stop.Stop.TheVariants.{Own, Read, Write, Say, NoMemory}
-use Rattle.line_coding.specs.MiddleReading.{Middle, MiddleRead, bits_of_taken}
-use Rattle.line_coding.specs.declared.middle_reader.Taken.{Taken}
+use Rattle.line_coding.specs.MiddleReading.{Middle, MiddleRead}
 use Rattle.line_coding.proofs.Readers.{readers_pick_up}
 use Rattle.command_base.specs.Readings.{AreLines}
 use Rattle.command_base.specs.Heard.{Listening, Heard, PartlyHeard}
@@ -26,22 +26,21 @@ use Rattle.signal_commands.specs.PickingUp.Gives.{AreFollowed, SaysPieces}
 use Rattle.signal_commands.specs.PickingUp.Playing.{Playing, playing_of, Plays, IsReady, SaysSome, LosesLine, StopsPlay}
 use Rattle.signal_commands.proofs.PickingUp.Longer.{bits-longer, tap-low}
 
--- one label more is taken, and its bits are heard
+-- bits more are taken and heard
 pub plays-taken : (start now new : FolderState) (mode : Mode) (reader next : Middle) (listener later : Listening) (samples : List Sample)
-    (taken : Taken)
-    → ((bits : List Bool) → MiddleRead mode line_depth reader samples bits
-    → MiddleRead mode line_depth next samples (bits ++ bits_of_taken taken))
-    → ((start : FolderState) (bits : List Bool) → Heard start now listener bits → Heard start new later (bits ++ bits_of_taken taken))
+    (more : List Bool)
+    → ((bits : List Bool) → MiddleRead mode line_depth reader samples bits → MiddleRead mode line_depth next samples (bits ++ more))
+    → ((start : FolderState) (bits : List Bool) → Heard start now listener bits → Heard start new later (bits ++ more))
     → later.sender ≡ listener.sender → Plays start now mode (playing_of reader listener) samples
     → Plays start new mode (playing_of next later) samples
-plays-taken start now new mode reader next listener later samples taken reads hears same h = record {
-  bits = h.bits ++ bits_of_taken taken;
+plays-taken start now new mode reader next listener later samples more reads hears same h = record {
+  bits = h.bits ++ more;
   read = reads h.bits h.read;
   heard = hears start h.bits h.heard;
   sender_is = same ∙ h.sender_is;
 }
 
--- one sample more is read
+-- samples more are read
 pub plays-pushed : (start now : FolderState) (mode : Mode) (reader next : Middle) (listener : Listening) (samples more : List Sample)
     → ((bits : List Bool) → MiddleRead mode line_depth reader samples bits → MiddleRead mode line_depth next more bits)
     → Plays start now mode (playing_of reader listener) samples → Plays start now mode (playing_of next listener) more
@@ -81,6 +80,20 @@ followed-longer samples more first f =
       front = (rest ++ more, sym (append_assoc first rest more) ∙ ap (λ (xs : List Sample). xs ++ more) f.front.1);
       not_lost = λ n l over. f.not_lost n l (over-before any_trellis line_depth samples more n (omega (arith, l, counts)) over);
     }
+
+-- a line was not said of the samples that were heard, nor then of all that were handed over
+pub says-all : {E : Type 0} (start now : FolderState) (mode : Mode) (past samples : List Sample) (pushed : Result ℕ E)
+    → SaysSome start now mode (past ++ heard_of pushed samples) → SaysSome start now mode (past ++ samples)
+says-all start now mode past samples (Ok heard) s =
+    let whole : (past ++ take heard samples) ++ drop heard samples ≡ past ++ samples =
+    append_assoc past (take heard samples) (drop heard samples) ∙ ap (λ (xs : List Sample). past ++ xs) (take-append-drop heard samples) in
+    record {
+      first = s.first;
+      followed = subst (λ (xs : List Sample). AreFollowed xs s.first) whole
+          (followed-longer (past ++ take heard samples) (drop heard samples) s.first s.followed);
+      says = s.says;
+    }
+says-all start now mode past samples (Err lost) s = s
 
 -- what a player has played is lost where its decoder says
 pub plays-lost : (start now : FolderState) (mode : Mode) (p : Playing) (samples : List Sample) → Plays start now mode p samples

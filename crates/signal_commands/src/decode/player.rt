@@ -16,35 +16,16 @@ ghost use Rattle.recordings.specs.declared.header.TheConstants.{HEADER};
 ghost use Rattle.recordings.specs.Samples.{samples_in};
 ghost use Rattle.command_base.specs.Recordings.{IsAtEnd};
 
+use crate::batch::{BATCH, copy_samples};
 use crate::decode::playback::{Playback, ROOM};
 use crate::decode::words::DecodeWords;
 use command_base::{PIECE, Status, Stop, append_output, hearer_of, read_samples};
 use exact_decoder::Lost;
 use frame_check::Octets;
-use line_coding::DEPTH;
 use outside_calls::Folder;
-use recordings::{HEADER, SAMPLE, sample_at};
+use recordings::{HEADER, SAMPLE};
 use scramblers::Mode;
 use symbol_map::Sample;
-
-/// The most samples that are handed to the decoder at once. It has room for one more.
-const BATCH: usize = DEPTH;
-
-/// Puts the samples of a piece from a place on into the list, as far as both go: how many.
-fn copy_samples(piece: &[u8], at: usize, samples: &mut [Sample; BATCH]) -> usize
-    requires few { length piece.now ≤ PIECE }
-    requires within { 4 * at ≤ length piece.now }
-    ensures samples { samples_in (take (4 * at) piece.now) ++ take result samples.new ≡ samples_in (take (4 * (at + result)) piece.now) }
-    ensures within { 4 * (at + result) ≤ length piece.now }
-    ensures few { result ≤ BATCH }
-    ensures some { 4 * at + 4 ≤ length piece.now → 1 ≤ result }
-{
-    let count = (piece.len() / SAMPLE - at).min(BATCH);
-    for place in 0..count {
-        samples[place] = sample_at(piece, at + place);
-    }
-    count
-}
 
 /// Plays the whole samples of a piece, up to the one that loses the line.
 fn play_piece(playback: &mut Playback, piece: &[u8], octets: &mut Octets<ROOM>) -> Result<(), Lost>

@@ -1,10 +1,14 @@
 // A recording's samples, picked up and heard.
-ghost use Rattle.std.specs.Prelude.{◌≡◌, ◌≤◌, ◌<◌, ◌+◌, ◌^◌, ◌++◌, ◌∷◌, [], ℕ, Bool, List, IfOk, IfErr, OnOk, OnErr};
+ghost use Rattle.std.specs.Prelude.{◌≡◌, ◌≤◌, ◌<◌, ◌+◌, ◌*◌, ◌^◌, ◌++◌, [], ℕ, Bool, List, length, take, IfOk, IfErr, OnOk, OnErr};
 ghost use Rattle.scramblers.specs.declared.mode.Mode.{Mode};
 ghost use Rattle.symbol_map.specs.declared.sample.Sample.{Sample};
 ghost use Rattle.outside_calls.specs.Folder.{FolderState, OnlySays, CountsStand};
 ghost use Rattle.command_base.specs.Stops.{SayFails, EndCounts};
+<<<<<<< HEAD
 ghost use Rattle.frame_check.specs.Bits.{low_bits};
+=======
+ghost use Rattle.frame_check.specs.Bits.{low_bits, octet_bits};
+>>>>>>> 21a8440feb03780232c284bee955971a67e00893
 ghost use Rattle.line_coding.specs.MiddleReading.{bits_of_taken};
 ghost use Rattle.command_base.specs.Heard.{Heard, PartlyHeard};
 ghost use Rattle.signal_commands.specs.PickingUp.Playing.{Plays, IsReady, SaysSome, StopsPlay};
@@ -78,6 +82,26 @@ fn hear_taken<F: Folder>(
     listener.hear_low(folder, octet, count)
 }
 
+/// Hears the bits of an octet.
+fn hear_octet<F: Folder>(
+    folder: &mut F,
+    listener: &mut Listener,
+    octet: u8,
+) -> Result<(), FolderFault>
+    requires { listener.old.pieces < 2 ^ 60 }
+    ensures ok { (start : FolderState) (bits : List Bool) → Heard start (F.state folder.old) listener.old bits
+        → OnOk result (Heard start (F.state folder.new) listener.new (bits ++ octet_bits octet)) }
+    ensures err { (start : FolderState) (bits : List Bool) → Heard start (F.state folder.old) listener.old bits
+        → OnErr result (PartlyHeard start (F.state folder.new) listener.old.sender (bits ++ octet_bits octet)) }
+    ensures only { OnlySays (F.state folder.old) (F.state folder.new) }
+    ensures fails { IfErr result (SayFails (F.state folder.old) (F.state folder.new)) }
+    ensures stand { OnOk result (CountsStand (F.state folder.old) (F.state folder.new)) }
+    ensures sender { listener.new.sender ≡ listener.old.sender }
+    ensures pieces { listener.new.pieces ≤ listener.old.pieces + 8 }
+{
+    listener.hear(folder, &[octet])
+}
+
 impl Player {
     /// A recording before its first sample. All memory is taken here.
     pub fn new(alloc: Global, mode: Mode) -> Result<Player, NoMemory>
@@ -97,8 +121,33 @@ impl Player {
         self.listener.pieces()
     }
 
-    /// Hears the bits of the labels that are released.
-    fn hear_released<F: Folder>(&mut self, folder: &mut F) -> Result<(), FolderFault>
+    /// Hears the bits of the labels that are released, of two at a time, once the register is full. At most one of them is left then.
+    fn hear_pairs<F: Folder>(&mut self, folder: &mut F) -> Result<(), FolderFault>
+        requires { self.old.listener.pieces < 2 ^ 59 }
+        ensures ok { (start : FolderState) (mode : Mode) (samples : List Sample) → Plays start (F.state folder.old) mode self.old samples
+            → OnOk result (Plays start (F.state folder.new) mode self.new samples) }
+        ensures err { (start : FolderState) (mode : Mode) (samples : List Sample) → Plays start (F.state folder.old) mode self.old samples
+            → OnErr result (SaysSome start (F.state folder.new) mode samples) }
+        ensures lost { OnOk result (self.new.reader.reading.decoder.lost ≡ self.old.reader.reading.decoder.lost) }
+        ensures count { OnOk result (self.new.reader.reading.decoder.count ≡ self.old.reader.reading.decoder.count) }
+        ensures pieces { OnOk result (self.new.listener.pieces + 4 * length self.new.reader.reading.decoder.pending
+            ≤ self.old.listener.pieces + 4 * length self.old.reader.reading.decoder.pending) }
+        ensures only { OnlySays (F.state folder.old) (F.state folder.new) }
+        ensures fails { IfErr result (SayFails (F.state folder.old) (F.state folder.new)) }
+        ensures stand { OnOk result (CountsStand (F.state folder.old) (F.state folder.new)) }
+    {
+        let _few = self.reader.pending();
+        while let Some(octet) = self.reader.take_octet() {
+            match hear_octet(folder, &mut self.listener, octet) {
+                Ok(()) => {}
+                Err(fault) => return Err(fault),
+            }
+        }
+        Ok(())
+    }
+
+    /// Hears the bits of the labels that are released, of one at a time.
+    fn hear_each<F: Folder>(&mut self, folder: &mut F) -> Result<(), FolderFault>
         requires { self.old.listener.pieces < 2 ^ 60 }
         ensures ok { (start : FolderState) (mode : Mode) (samples : List Sample) → Plays start (F.state folder.old) mode self.old samples
             → OnOk result (Plays start (F.state folder.new) mode self.new samples) }
@@ -107,7 +156,7 @@ impl Player {
         ensures taken { OnOk result (self.new.reader.reading.decoder.pending ≡ []) }
         ensures lost { OnOk result (self.new.reader.reading.decoder.lost ≡ self.old.reader.reading.decoder.lost) }
         ensures count { OnOk result (self.new.reader.reading.decoder.count ≡ self.old.reader.reading.decoder.count) }
-        ensures pieces { OnOk result (self.new.listener.pieces ≤ self.old.listener.pieces + 516) }
+        ensures pieces { OnOk result (self.new.listener.pieces ≤ self.old.listener.pieces + 4 * length self.old.reader.reading.decoder.pending) }
         ensures only { OnlySays (F.state folder.old) (F.state folder.new) }
         ensures fails { IfErr result (SayFails (F.state folder.old) (F.state folder.new)) }
         ensures stand { OnOk result (CountsStand (F.state folder.old) (F.state folder.new)) }
@@ -122,31 +171,56 @@ impl Player {
         Ok(())
     }
 
-    /// One sample more: the lines of the pieces are said that end in the bits that it releases.
-    pub fn push<F: Folder>(
+    /// Hears the bits of the labels that are released.
+    fn hear_released<F: Folder>(&mut self, folder: &mut F) -> Result<(), FolderFault>
+        requires { self.old.listener.pieces < 2 ^ 59 }
+        ensures ok { (start : FolderState) (mode : Mode) (samples : List Sample) → Plays start (F.state folder.old) mode self.old samples
+            → OnOk result (Plays start (F.state folder.new) mode self.new samples) }
+        ensures err { (start : FolderState) (mode : Mode) (samples : List Sample) → Plays start (F.state folder.old) mode self.old samples
+            → OnErr result (SaysSome start (F.state folder.new) mode samples) }
+        ensures taken { OnOk result (self.new.reader.reading.decoder.pending ≡ []) }
+        ensures lost { OnOk result (self.new.reader.reading.decoder.lost ≡ self.old.reader.reading.decoder.lost) }
+        ensures count { OnOk result (self.new.reader.reading.decoder.count ≡ self.old.reader.reading.decoder.count) }
+        ensures pieces { OnOk result (self.new.listener.pieces ≤ self.old.listener.pieces + 516) }
+        ensures only { OnlySays (F.state folder.old) (F.state folder.new) }
+        ensures fails { IfErr result (SayFails (F.state folder.old) (F.state folder.new)) }
+        ensures stand { OnOk result (CountsStand (F.state folder.old) (F.state folder.new)) }
+    {
+        let _few = self.reader.pending();
+        match self.hear_pairs(folder) {
+            Ok(()) => self.hear_each(folder),
+            Err(fault) => Err(fault),
+        }
+    }
+
+    /// As many of the samples as there is room for, at least one: how many. The lines of the pieces are said that end in the bits that they
+    /// release.
+    pub fn push_some<F: Folder>(
         &mut self,
         folder: &mut F,
         mode: Mode,
-        sample: Sample,
-    ) -> Result<(), Stop>
+        samples: &[Sample],
+    ) -> Result<usize, Stop>
+        requires some { 1 ≤ length samples.now }
         requires taken { self.old.reader.reading.decoder.pending ≡ [] }
-        requires count { self.old.reader.reading.decoder.count < 2 ^ 56 }
-        requires pieces { self.old.listener.pieces < 2 ^ 60 }
-        ensures ok { (start : FolderState) (samples : List Sample) → Plays start (F.state folder.old) mode self.old samples
-            → OnOk result (Plays start (F.state folder.new) mode self.new (samples ++ sample ∷ [])) }
-        ensures err { (start : FolderState) (samples : List Sample) → Plays start (F.state folder.old) mode self.old samples
-            → IfErr result (StopsPlay start (F.state folder.new) mode (samples ++ sample ∷ [])) }
-        ensures ready { (most : ℕ) → IsReady self.old most → OnOk result (IsReady self.new (most + 1)) }
+        requires count { self.old.reader.reading.decoder.count + length samples.now ≤ 2 ^ 56 }
+        requires pieces { self.old.listener.pieces < 2 ^ 59 }
+        ensures ok { (start : FolderState) (past : List Sample) → Plays start (F.state folder.old) mode self.old past
+            → IfOk result (λ heard. Plays start (F.state folder.new) mode self.new (past ++ take heard samples.now)) }
+        ensures err { (start : FolderState) (past : List Sample) → Plays start (F.state folder.old) mode self.old past
+            → IfErr result (StopsPlay start (F.state folder.new) mode (past ++ samples.now)) }
+        ensures within { IfOk result (λ heard. (1 ≤ heard) × (heard ≤ length samples.now)) }
+        ensures ready { (most : ℕ) → IsReady self.old most → IfOk result (λ heard. IsReady self.new (most + heard)) }
         ensures only { OnlySays (F.state folder.old) (F.state folder.new) }
         ensures counts { (inputs : List (List ℕ)) → EndCounts (F.state folder.old) (F.state folder.new) inputs [] result }
     {
-        let pushed = self.reader.push(sample);
+        let pushed = self.reader.push_some(samples);
         match self.hear_released(folder) {
             Ok(()) => {}
             Err(fault) => return Err(Stop::Say(fault)),
         }
         match pushed {
-            Ok(()) => Ok(()),
+            Ok(heard) => Ok(heard),
             Err(lost) => Err(Stop::Own(Status::LineLost {
                 role: hearer_of(mode),
                 symbol: lost.symbol,

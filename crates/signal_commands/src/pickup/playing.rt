@@ -11,11 +11,13 @@ ghost use Rattle.command_base.specs.Recordings.{IsAtEnd};
 ghost use Rattle.signal_commands.specs.PickingUp.Playing.{Plays, IsReady, StopsPlay, PlayedTo};
 ghost use Rattle.signal_commands.specs.PickingUp.Ends.{EndsBy, Ends};
 
+use crate::batch::{BATCH, copy_samples};
 use crate::pickup::player::Player;
 use command_base::{PIECE, Status, Stop, read_samples};
 use outside_calls::Folder;
-use recordings::{HEADER, SAMPLE, sample_at};
+use recordings::{HEADER, SAMPLE};
 use scramblers::Mode;
+use symbol_map::Sample;
 
 /// Plays the whole samples of a piece, up to the one that loses the line.
 fn play_piece<F: Folder>(
@@ -34,9 +36,12 @@ fn play_piece<F: Folder>(
     ensures only { OnlySays (F.state folder.old) (F.state folder.new) }
     ensures counts { (inputs : List (List ℕ)) → EndCounts (F.state folder.old) (F.state folder.new) inputs [] result }
 {
-    for place in 0..piece.len() / SAMPLE {
-        match player.push(folder, mode, sample_at(piece, place)) {
-            Ok(()) => {}
+    let mut samples = [Sample { re: 0, im: 0 }; BATCH];
+    let mut at = 0;
+    while at < piece.len() / SAMPLE {
+        let count = copy_samples(piece, at, &mut samples);
+        match player.push_some(folder, mode, &samples[..count]) {
+            Ok(heard) => at += heard,
             Err(stop) => return Err(stop),
         }
     }

@@ -1,4 +1,4 @@
-use Rattle.std.proofs.Common.{◌≡◌, ◌<◌, ◌+◌, ◌-◌, ℕ, ◌∷◌, [], ap, sym, subst, arith, length, length-append, take, replicate}
+use Rattle.std.proofs.Common.{◌≡◌, ◌<◌, ◌+◌, ◌-◌, ℕ, ◌∷◌, [], ap, sym, subst, arith, length, length-append, take}
 use Rattle.exact_decoder.specs.Traced.{choices_of, Splits}
 use Rattle.exact_decoder.proofs.Walking.{back-one, first-long, first-more}
 use Rattle.exact_decoder.proofs.back.release_one.Goals as goal
@@ -7,6 +7,20 @@ pub put_behind-requires-clause-room : goal.put_behind-requires-clause-room
 put_behind-requires-clause-room g c =
     let i = c.loop-back.invariant in
     omega (arith, c.requires.room, i.back.1.splits.count, first-long c.loop-back.labels c.loop-back.agreed i.agreed)
+
+pub returns : goal.returns
+returns g c =
+    let i = c.loop-back.invariant in
+    let columns = c.args.ring.now in
+    let agreed = c.loop-back.agreed in
+    let first = take agreed c.loop-back.labels in
+    let (left, back) = i.back in
+    let all : c.loop-back.back ≡ c.args.unreleased = omega (arith, c.requires.from, c.loop-back.auto, c.loop-back-test.false) in
+    let left_is : left ≡ c.args.from - c.args.agreed =
+    omega (arith, all, i.moved, back.splits.count, first-long c.loop-back.labels agreed i.agreed) in
+    subst (λ l. Splits g.row.STATES columns c.args.unreleased (c.args.from - c.args.agreed) l) (sym c.shorten.ensures)
+    (subst (λ n. Splits g.row.STATES columns n (c.args.from - c.args.agreed) first) all
+    (subst (λ m. Splits g.row.STATES columns c.loop-back.back m first) left_is back.splits))
 
 pub loop-back-preserved : goal.loop-back-preserved
 loop-back-preserved g c =
@@ -22,6 +36,7 @@ loop-back-preserved g c =
         first-long c.loop-back.labels c.loop-back.agreed i.agreed,
         length-append {A = ℕ} first (here.label ∷ []),
       );
+      moved = omega (arith, i.moved);
       back = (
         i.back.0,
         back-one g.row.STATES c.args.ring.now (choices_of c.column.result.now) c.loop-back.back i.back.0 c.loop-back.state here.before

@@ -1,4 +1,4 @@
-use Rattle.std.proofs.Common.{◌∙◌, sym, ap, subst, refl}
+use Rattle.std.proofs.Common.{sym, ap, subst}
 use Rattle.exact_decoder.specs.Memory.{opened}
 use Rattle.exact_decoder.specs.Decoder.{Decoding, decoding_of, DecoderStands}
 use Rattle.exact_decoder.proofs.Taken.{sound-popped-two, popped-two-first, stands-popped-two}

@@ -1,4 +1,4 @@
-use Rattle.std.proofs.Common.{◌≡◌, ℕ, length, slice_index, take, refl, ◌∙◌, sym, arith}
+use Rattle.std.proofs.Common.{◌≡◌, length, slice_index, take, ◌∙◌, sym, arith}
 use Rattle.std.proofs.lemmas.List.{take_all}
 use Rattle.exact_decoder.proofs.Vectors.{lanes, lanes-are}
 use Rattle.exact_decoder.proofs.Alike.{all-one}

@@ -3,7 +3,7 @@ use Rattle.symbol_map.specs.declared.sample.Sample.{Sample}
 use Rattle.recordings.specs.Samples.{samples_in}
 use Rattle.recordings.proofs.Samples.{samples_in-all, samples_in-split}
 use Rattle.signal_commands.specs.Decoding.Playing.{Hears}
-use Rattle.signal_commands.proofs.Decoding.Batches.{some-more, some-heard}
+use Rattle.signal_commands.proofs.Batches.{some-more, some-heard}
 use Rattle.signal_commands.proofs.decode.player.play_piece.Goals as goal
 
 pub loop-at-preserved : goal.loop-at-preserved

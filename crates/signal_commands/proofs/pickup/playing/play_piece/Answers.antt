@@ -1,82 +1,91 @@
-use Rattle.std.proofs.Common.{◌≡◌, ◌∙◌, ◌≤◌, ◌+◌, ◌*◌, ◌/◌, ◌++◌, ◌∷◌, ℕ, List, [], length, take, sym, ap, subst, arith, append_assoc}
+use Rattle.std.proofs.Common.{◌≡◌, ◌∙◌, ◌≤◌, ◌+◌, ◌*◌, ◌/◌, ◌++◌, ℕ, List, [], length, take, sym, ap, subst, arith, append_assoc}
+use Rattle.std.proofs.lemmas.List.{length-take-le}
 use Rattle.symbol_map.specs.declared.sample.Sample.{Sample}
 use Rattle.outside_calls.specs.Folder.{FolderState}
 use Rattle.outside_calls.proofs.Steps.{CountsStand-trans}
 use Rattle.command_base.specs.declared.limits.TheConstants.{RECORDING_LIMIT}
 use Rattle.command_base.proofs.Jobs.{stop-earlier}
-use Rattle.recordings.specs.Samples.{sample_at, samples_in}
-use Rattle.recordings.proofs.Samples.{samples_in-more, samples_in-all, samples_in-split}
+use Rattle.recordings.specs.Samples.{samples_in}
+use Rattle.recordings.proofs.Samples.{samples_in-all, samples_in-split}
 use Rattle.command_base.proofs.Hearing.{says-trans}
 use Rattle.signal_commands.specs.PickingUp.Playing.{Plays, IsReady, StopsPlay}
+use Rattle.signal_commands.proofs.Batches.{some-more, some-heard}
 use Rattle.signal_commands.proofs.PickingUp.Playings.{ready-later, stops-longer}
 use Rattle.signal_commands.proofs.pickup.playing.play_piece.Goals as goal
 
-pub push-requires-clause-taken : goal.push-requires-clause-taken
-push-requires-clause-taken g c = let r = c.loop-place.invariant.ready RECORDING_LIMIT c.requires.ready in r.all_taken
+pub push_some-requires-clause-some : goal.push_some-requires-clause-some
+push_some-requires-clause-some g c =
+    let copied = c.copy_samples-count in
+    subst (λ (n : ℕ). 1 ≤ n)
+    (sym (length-take-le copied.result copied.new.samples (omega (arith, copied.array_long, copied.ensures.few))))
+    (copied.ensures.some (omega (arith, c.loop-at-test.true)))
 
-pub push-requires-clause-count : goal.push-requires-clause-count
-push-requires-clause-count g c = let r = c.loop-place.invariant.ready RECORDING_LIMIT c.requires.ready in
-    omega (arith, r.count, c.loop-place-test.true, c.requires.few)
+pub push_some-requires-clause-taken : goal.push_some-requires-clause-taken
+push_some-requires-clause-taken g c = let r = c.loop-at.invariant.ready RECORDING_LIMIT c.requires.ready in r.all_taken
 
-pub push-requires-clause-pieces : goal.push-requires-clause-pieces
-push-requires-clause-pieces g c = let r = c.loop-place.invariant.ready RECORDING_LIMIT c.requires.ready in
-    omega (arith, r.pieces, c.loop-place-test.true, c.requires.few)
+pub push_some-requires-clause-count : goal.push_some-requires-clause-count
+push_some-requires-clause-count g c =
+    let r = c.loop-at.invariant.ready RECORDING_LIMIT c.requires.ready in
+    let copied = c.copy_samples-count in
+    let long = length-take-le copied.result copied.new.samples (omega (arith, copied.array_long, copied.ensures.few)) in
+    omega (arith, long, copied.ensures.few, r.count, c.loop-at-test.true, c.requires.few)
 
--- one sample more behind those of a piece
-one-more : (samples : List Sample) (piece : List ℕ) (p : ℕ) (sample : Sample) → 4 * p + 4 ≤ length piece → sample ≡ sample_at piece p
-    → (samples ++ samples_in (take (4 * p) piece)) ++ sample ∷ [] ≡ samples ++ samples_in (take (4 * (p + 1)) piece)
-one-more samples piece p sample within e =
-    append_assoc samples (samples_in (take (4 * p) piece)) (sample ∷ [])
-    ∙ ap (λ (s : Sample). samples ++ (samples_in (take (4 * p) piece) ++ s ∷ [])) e
-    ∙ ap (λ (xs : List Sample). samples ++ xs) (sym (samples_in-more p piece within))
+pub push_some-requires-clause-pieces : goal.push_some-requires-clause-pieces
+push_some-requires-clause-pieces g c = let r = c.loop-at.invariant.ready RECORDING_LIMIT c.requires.ready in
+    omega (arith, r.pieces, c.loop-at-test.true, c.requires.few)
 
 pub returns-in-Err-clause-err : goal.returns-in-Err-clause-err
 returns-in-Err-clause-err g c start samples h =
-    let new : FolderState = g.F.Folder.state c.push.new.folder in
-    let place : ℕ = c.loop-place.place in
+    let new : FolderState = g.F.Folder.state c.push_some.new.folder in
+    let i = c.loop-at.invariant in
+    let copied = c.copy_samples-count in
     let piece : List ℕ = c.args.piece.now in
-    let within : 4 * place + 4 ≤ length piece = omega (arith, c.loop-place-test.true) in
-    let upto : ℕ = 4 * (place + 1) in
+    let upto : ℕ = 4 * (c.loop-at.at + copied.result) in
     let split = samples_in-split upto piece in
     let stops : StopsPlay start new c.args.mode (samples ++ samples_in (take upto piece)) c.in-Err.stop =
     subst (λ (xs : List Sample). StopsPlay start new c.args.mode xs c.in-Err.stop)
-    (one-more samples piece place c.sample_at.result within c.sample_at.ensures)
-    (c.in-Err.ensures.err start (samples ++ samples_in (take (4 * place) piece)) (c.loop-place.invariant.plays start samples h)) in
+    (append_assoc samples (samples_in (take (4 * c.loop-at.at) piece)) (take copied.result copied.new.samples)
+    ∙ ap (λ (xs : List Sample). samples ++ xs) copied.ensures.samples)
+    (c.in-Err.ensures.err start (samples ++ samples_in (take (4 * c.loop-at.at) piece)) (i.plays start samples h)) in
     subst (λ (xs : List Sample). StopsPlay start new c.args.mode xs c.in-Err.stop)
     (append_assoc samples (samples_in (take upto piece)) split.0 ∙ ap (λ (xs : List Sample). samples ++ xs) (sym split.1))
     (stops-longer start new c.args.mode (samples ++ samples_in (take upto piece)) split.0 c.in-Err.stop stops)
 
 pub returns-in-Err-clause-counts : goal.returns-in-Err-clause-counts
 returns-in-Err-clause-counts g c inputs =
-    stop-earlier (g.F.Folder.state c.args.folder.now) (g.F.Folder.state c.loop-place.folder)
-    (g.F.Folder.state c.push.new.folder) inputs [] c.in-Err.stop c.loop-place.invariant.stand (c.in-Err.ensures.counts inputs)
+    stop-earlier (g.F.Folder.state c.args.folder.now) (g.F.Folder.state c.loop-at.folder)
+    (g.F.Folder.state c.push_some.new.folder) inputs [] c.in-Err.stop c.loop-at.invariant.stand (c.in-Err.ensures.counts inputs)
 
-pub loop-place-preserved : goal.loop-place-preserved
-loop-place-preserved g c =
-    let i = c.loop-place.invariant in
+pub loop-at-preserved : goal.loop-at-preserved
+loop-at-preserved g c =
+    let i = c.loop-at.invariant in
     let old : FolderState = g.F.Folder.state c.args.folder.now in
-    let now : FolderState = g.F.Folder.state c.loop-place.folder in
-    let new : FolderState = g.F.Folder.state c.push.new.folder in
-    let place : ℕ = c.loop-place.place in
-    let piece : List ℕ = c.args.piece.now in
-    let within : 4 * place + 4 ≤ length piece = omega (arith, c.loop-place-test.true) in
+    let now : FolderState = g.F.Folder.state c.loop-at.folder in
+    let new : FolderState = g.F.Folder.state c.push_some.new.folder in
+    let copied = c.copy_samples-count in
+    let heard = c.in-Ok.heard in
+    let given : 1 ≤ copied.result = copied.ensures.some (omega (arith, c.loop-at-test.true)) in
+    let few = some-heard copied.result heard copied.new.samples (omega (arith, copied.array_long, copied.ensures.few))
+    c.in-Ok.ensures.within.1 (λ some. c.in-Ok.ensures.within.0) given in
     record {
-      plays = λ start samples h. subst (λ (xs : List Sample). Plays start new c.args.mode c.push.new.self xs)
-          (one-more samples piece place c.sample_at.result within c.sample_at.ensures)
-          (c.in-Ok.ensures.ok start (samples ++ samples_in (take (4 * place) piece)) (i.plays start samples h));
-      ready = λ most r. (let same : most + place + 1 ≡ most + (place + 1) = omega arith in
-          subst (λ (m : ℕ). IsReady c.push.new.self m) same (c.in-Ok.ensures.ready (most + place) (i.ready most r)));
-      only = says-trans old now new i.only c.push.ensures.only;
+      plays = λ start samples h. subst (λ (xs : List Sample). Plays start new c.args.mode c.push_some.new.self xs)
+          (some-more samples c.args.piece.now c.loop-at.at copied.result heard (take copied.result copied.new.samples)
+          copied.ensures.samples copied.ensures.within few.1)
+          (c.in-Ok.ensures.ok start (samples ++ samples_in (take (4 * c.loop-at.at) c.args.piece.now)) (i.plays start samples h));
+      ready = λ most r. (let same : most + c.loop-at.at + heard ≡ most + (c.loop-at.at + heard) = omega arith in
+          subst (λ (m : ℕ). IsReady c.push_some.new.self m) same (c.in-Ok.ensures.ready (most + c.loop-at.at) (i.ready most r)));
+      only = says-trans old now new i.only c.push_some.ensures.only;
       stand = CountsStand-trans i.stand (c.in-Ok.ensures.counts []);
+      within = omega (arith, copied.ensures.within, few.1);
     }
 
 pub returns-clause-ok : goal.returns-clause-ok
 returns-clause-ok g c start samples h =
-    let all : length c.args.piece.now / 4 ≤ c.loop-place.place = omega (arith, c.loop-place-test.false) in
-    subst (λ (xs : List Sample). Plays start (g.F.Folder.state c.loop-place.folder) c.args.mode c.loop-place.player (samples ++ xs))
-    (samples_in-all c.loop-place.place c.args.piece.now all) (c.loop-place.invariant.plays start samples h)
+    let all : length c.args.piece.now / 4 ≤ c.loop-at.at = omega (arith, c.loop-at-test.false) in
+    subst (λ (xs : List Sample). Plays start (g.F.Folder.state c.loop-at.folder) c.args.mode c.loop-at.player (samples ++ xs))
+    (samples_in-all c.loop-at.at c.args.piece.now all) (c.loop-at.invariant.plays start samples h)
 
 pub returns-clause-ready : goal.returns-clause-ready
 returns-clause-ready g c most r =
-    ready-later c.loop-place.player (most + c.loop-place.place) (most + length c.args.piece.now)
-    (omega (arith, c.loop-place.auto.place-end)) (c.loop-place.invariant.ready most r)
+    ready-later c.loop-at.player (most + c.loop-at.at) (most + length c.args.piece.now)
+    (omega (arith, c.loop-at.invariant.within)) (c.loop-at.invariant.ready most r)

@@ -1,15 +1,19 @@
-use Rattle.std.proofs.Common.{ℕ, ◌+◌, ◌*◌, List, ◌++◌, take}
+use Rattle.std.proofs.Common.{ℕ, ◌≤◌, ◌+◌, ◌-◌, ◌*◌, ◌/◌, List, ◌++◌, length, take}
 use Rattle.symbol_map.specs.declared.sample.Sample.{Sample}
 use Rattle.outside_calls.specs.Folder.{FolderState, OnlySays, CountsStand}
 use Rattle.recordings.specs.Samples.{samples_in}
 use Rattle.signal_commands.specs.PickingUp.Playing.{Plays, IsReady}
 use Rattle.signal_commands.proofs.pickup.playing.play_piece.Given as goal
 
-abbrev pub invariant-loop-place : goal.invariant-loop-place
-invariant-loop-place g l = record {
+abbrev pub invariant-loop-at : goal.invariant-loop-at
+invariant-loop-at g l = record {
   plays : (start : FolderState) (samples : List Sample) → Plays start (g.F.Folder.state l.fn.folder) l.mode l.fn.player samples
-      → Plays start (g.F.Folder.state l.folder) l.mode l.player (samples ++ samples_in (take (4 * l.place) l.piece));
-  ready : (most : ℕ) → IsReady l.fn.player most → IsReady l.player (most + l.place);
+      → Plays start (g.F.Folder.state l.folder) l.mode l.player (samples ++ samples_in (take (4 * l.at) l.piece));
+  ready : (most : ℕ) → IsReady l.fn.player most → IsReady l.player (most + l.at);
   only : OnlySays (g.F.Folder.state l.fn.folder) (g.F.Folder.state l.folder);
   stand : CountsStand (g.F.Folder.state l.fn.folder) (g.F.Folder.state l.folder);
+  within : 4 * l.at ≤ length l.piece;
 }
+
+abbrev pub decreases-loop-at : goal.decreases-loop-at
+decreases-loop-at g l = length l.piece / 4 - l.at

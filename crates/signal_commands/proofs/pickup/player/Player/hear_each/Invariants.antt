@@ -3,7 +3,7 @@ use Rattle.scramblers.specs.declared.mode.Mode.{Mode}
 use Rattle.symbol_map.specs.declared.sample.Sample.{Sample}
 use Rattle.outside_calls.specs.Folder.{FolderState, OnlySays, CountsStand}
 use Rattle.signal_commands.specs.PickingUp.Playing.{Plays, playing_of}
-use Rattle.signal_commands.proofs.pickup.player.Player.hear_released.Given as goal
+use Rattle.signal_commands.proofs.pickup.player.Player.hear_each.Given as goal
 
 abbrev pub invariant-loop-taken : goal.invariant-loop-taken
 invariant-loop-taken g l = record {

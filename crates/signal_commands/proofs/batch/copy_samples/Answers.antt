@@ -1,8 +1,8 @@
 use Rattle.std.proofs.Common.{◌∙◌, ◌<◌, ◌*◌, ◌++◌, length, take, ap, arith, length-set}
 use Rattle.std.proofs.lemmas.List.{take_more_set}
 use Rattle.recordings.specs.Samples.{samples_in}
-use Rattle.signal_commands.proofs.Decoding.Batches.{one-copied, few-copied}
-use Rattle.signal_commands.proofs.decode.player.copy_samples.Goals as goal
+use Rattle.signal_commands.proofs.Batches.{one-copied, few-copied}
+use Rattle.signal_commands.proofs.batch.copy_samples.Goals as goal
 
 pub loop-place-preserved : goal.loop-place-preserved
 loop-place-preserved c =

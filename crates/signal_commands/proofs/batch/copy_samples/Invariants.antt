@@ -1,6 +1,6 @@
 use Rattle.std.proofs.Common.{◌≡◌, ◌+◌, ◌*◌, ◌++◌, length, take}
 use Rattle.recordings.specs.Samples.{samples_in}
-use Rattle.signal_commands.proofs.decode.player.copy_samples.Given as goal
+use Rattle.signal_commands.proofs.batch.copy_samples.Given as goal
 
 abbrev pub invariant-loop-place : goal.invariant-loop-place
 invariant-loop-place l = record {

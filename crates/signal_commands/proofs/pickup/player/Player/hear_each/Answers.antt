@@ -6,7 +6,7 @@ use Rattle.exact_decoder.specs.Surviving.V32.{line_depth}
 use Rattle.command_base.proofs.Hearing.{says-trans}
 use Rattle.signal_commands.specs.PickingUp.Playing.{Playing, Plays}
 use Rattle.signal_commands.proofs.PickingUp.Playings.{plays-taken, says-some}
-use Rattle.signal_commands.proofs.pickup.player.Player.hear_released.Goals as goal
+use Rattle.signal_commands.proofs.pickup.player.Player.hear_each.Goals as goal
 
 pub loop-taken-preserved : goal.loop-taken-preserved
 loop-taken-preserved g c =
@@ -17,7 +17,7 @@ loop-taken-preserved g c =
     record {
       plays = λ start mode samples h.
           plays-taken start now new mode c.loop-taken.self-inside.reader c.take.new.self c.loop-taken.self-inside.listener
-          c.hear_taken.new.listener samples c.in-Some.taken (c.in-Some.ensures.stands mode samples) c.in-Ok.ensures.ok
+          c.hear_taken.new.listener samples (bits_of_taken c.in-Some.taken) (c.in-Some.ensures.stands mode samples) c.in-Ok.ensures.ok
           c.hear_taken.ensures.sender (i.plays start mode samples h);
       lost = c.in-Some.ensures.lost ∙ i.lost;
       count = c.in-Some.ensures.count ∙ i.count;
@@ -75,7 +75,6 @@ returns-clause-pieces g c =
     omega (
       arith,
       c.loop-taken.invariant.room,
-      c.pending-few.ensures.few,
       ap (λ (p : Playing). p.listener.pieces) c.self.view_is,
       ap (λ (p : Playing). length p.reader.reading.decoder.pending) c.self.view_is,
     )

@@ -1,0 +1,21 @@
+use Rattle.std.proofs.Common.{◌≡◌, ◌≤◌, ◌+◌, ◌*◌, List, length}
+use Rattle.scramblers.specs.declared.mode.Mode.{Mode}
+use Rattle.symbol_map.specs.declared.sample.Sample.{Sample}
+use Rattle.outside_calls.specs.Folder.{FolderState, OnlySays, CountsStand}
+use Rattle.signal_commands.specs.PickingUp.Playing.{Plays, playing_of}
+use Rattle.signal_commands.proofs.pickup.player.Player.hear_pairs.Given as goal
+
+abbrev pub invariant-loop-octet : goal.invariant-loop-octet
+invariant-loop-octet g l = record {
+  plays : (start : FolderState) (mode : Mode) (samples : List Sample) → Plays start (g.F.Folder.state l.fn.folder) mode l.fn.self samples
+      → Plays start (g.F.Folder.state l.folder) mode (playing_of l.self-inside.reader l.self-inside.listener) samples;
+  lost : l.self-inside.reader.reading.decoder.lost ≡ l.fn.self.reader.reading.decoder.lost;
+  count : l.self-inside.reader.reading.decoder.count ≡ l.fn.self.reader.reading.decoder.count;
+  room : l.self-inside.listener.pieces + 4 * length l.self-inside.reader.reading.decoder.pending ≤ l.fn.self.listener.pieces + 4 * length
+      l.fn.self.reader.reading.decoder.pending;
+  only : OnlySays (g.F.Folder.state l.fn.folder) (g.F.Folder.state l.folder);
+  stand : CountsStand (g.F.Folder.state l.fn.folder) (g.F.Folder.state l.folder);
+}
+
+abbrev pub decreases-loop-octet : goal.decreases-loop-octet
+decreases-loop-octet g l = length l.self-inside.reader.reading.decoder.pending
