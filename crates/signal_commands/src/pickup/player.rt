@@ -4,11 +4,7 @@ ghost use Rattle.scramblers.specs.declared.mode.Mode.{Mode};
 ghost use Rattle.symbol_map.specs.declared.sample.Sample.{Sample};
 ghost use Rattle.outside_calls.specs.Folder.{FolderState, OnlySays, CountsStand};
 ghost use Rattle.command_base.specs.Stops.{SayFails, EndCounts};
-<<<<<<< HEAD
-ghost use Rattle.frame_check.specs.Bits.{low_bits};
-=======
 ghost use Rattle.frame_check.specs.Bits.{low_bits, octet_bits};
->>>>>>> 21a8440feb03780232c284bee955971a67e00893
 ghost use Rattle.line_coding.specs.MiddleReading.{bits_of_taken};
 ghost use Rattle.command_base.specs.Heard.{Heard, PartlyHeard};
 ghost use Rattle.signal_commands.specs.PickingUp.Playing.{Plays, IsReady, SaysSome, StopsPlay};
@@ -16,8 +12,8 @@ ghost use Rattle.signal_commands.specs.PickingUp.Playing.{Plays, IsReady, SaysSo
 use command_base::{Listener, Status, Stop, hearer_of, sender_of};
 use line_coding::{DEPTH, MiddleReader, Taken};
 use outside_calls::{Folder, FolderFault};
-use scramblers::Mode;
 use shared_terms::NoMemory;
+use scramblers::Mode;
 use std::alloc::Global;
 use std::marker::Model;
 use symbol_map::Sample;
