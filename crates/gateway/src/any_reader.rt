@@ -72,27 +72,6 @@ fn bits_taken(taken: Taken) -> LabelBits
     }
 }
 
-/// The first of the samples, if there is one: how many.
-fn push_first(reader: &mut MiddleReader<DEPTH>, samples: &[Sample]) -> Result<usize, Lost>
-    requires taken { reader.old.reading.decoder.pending ≡ [] }
-    requires lost { reader.old.reading.decoder.lost ≡ None }
-    requires count { reader.old.reading.decoder.count + length samples.now ≤ 2 ^ 56 }
-    ensures reads { (mode : Mode) (past : List Sample) (bits : List Bool) → MiddleRead mode line_depth reader.old past bits
-        → MiddleRead mode line_depth reader.new (past ++ heard_of result samples.now) bits }
-    ensures answer { MatchResult result (λ _. reader.new.reading.decoder.lost ≡ None) (λ lost. reader.new.reading.decoder.lost ≡ Some lost.symbol) }
-    ensures within { IfOk result (λ heard. heard ≤ length samples.now) }
-    ensures some { IfOk result (λ heard. 1 ≤ length samples.now → 1 ≤ heard) }
-    ensures count { IfOk result (λ heard. reader.new.reading.decoder.count ≤ reader.old.reading.decoder.count + heard) }
-{
-    if samples.is_empty() {
-        return Ok(0);
-    }
-    match reader.push(samples[0]) {
-        Ok(()) => Ok(1),
-        Err(lost) => Err(lost),
-    }
-}
-
 impl AnyReader {
     /// A reader before a line's first sample. All memory is taken here.
     pub fn new(alloc: Global, line: LineKind, mode: Mode) -> Result<AnyReader, NoMemory>
@@ -108,8 +87,8 @@ impl AnyReader {
         }
     }
 
-    /// As many of the samples as there is room for, at least one where there is one: how many. In the middle of a line it is one at a time.
-    /// `Lost` comes with the first sample that loses the line.
+    /// As many of the samples as there is room for, at least one where there is one: how many. `Lost` comes with the first sample that loses
+    /// the line.
     pub fn push_some(&mut self, samples: &[Sample]) -> Result<usize, Lost>
         requires taken { (decoding_of self.old).pending ≡ [] }
         requires lost { (decoding_of self.old).lost ≡ None }
@@ -123,7 +102,7 @@ impl AnyReader {
     {
         match self {
             AnyReader::Begun(reader) => reader.push_some(samples),
-            AnyReader::Middle(reader) => push_first(reader, samples),
+            AnyReader::Middle(reader) => reader.push_some(samples),
             AnyReader::Quarters(reader) => reader.push_some(samples),
         }
     }
