@@ -46,6 +46,17 @@ label-read (suc n) quads highs i within = elim (cases_lt i n) [
       ∙ rw (gone, last) refl
 ]
 
+-- that label by the octet of eight high bits in which its own is
+pub eight-label : (quads highs : List ℕ) (group k : ℕ) → k < 8
+    → slice_index_or quads (4 * group + k / 2) 0 / 2 ^ (4 * (k % 2)) % 16 + 16 * (slice_index_or highs group 0 / 2 ^ k % 2)
+    ≡ label_at quads highs (8 * group + k)
+eight-label quads highs group k few =
+    let quad : (8 * group + k) / 2 ≡ 4 * group + k / 2 = omega arith in
+    let half : (8 * group + k) % 2 ≡ k % 2 = omega arith in
+    let high : (8 * group + k) / 8 ≡ group = omega (arith, few) in
+    let bit : (8 * group + k) % 8 ≡ k = omega (arith, few) in
+    rw (quad, half, high, bit) refl
+
 -- ---- bits at a place of an octet
 
 -- an octet with bits from a place on, and its own below it
