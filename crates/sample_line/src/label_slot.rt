@@ -126,4 +126,17 @@ impl LabelSlot {
         self.highs[i / 8] = with_bits(self.highs[i / 8], i % 8, label / 16);
         self.count = i + 1;
     }
+    /// Puts two labels behind an even number of others.
+    pub(crate) fn push_two(&mut self, first: u8, second: u8)
+        requires even { length self.old % 2 ≡ 0 }
+        requires room { length self.old + 2 ≤ SLOT }
+        requires first { first < 32 }
+        requires second { second < 32 }
+        ensures { self.new ≡ self.old ++ first ∷ second ∷ [] }
+    {
+        let i = self.count;
+        self.quads[i / 2] = first % 16 + 16 * (second % 16);
+        self.highs[i / 8] = with_bits(self.highs[i / 8], i % 8, first / 16 + 2 * (second / 16));
+        self.count = i + 2;
+    }
 }
