@@ -7,3 +7,4 @@ pub mod Once
 pub mod Arriving
 pub mod Fitting
 pub mod Packing
+mod Sending

@@ -1,5 +1,5 @@
 -- Labels that are packed, and read again.
-use Rattle.std.proofs.Common.{◌≡◌, ℕ, zero, suc, ◌+◌, ◌*◌, ◌-◌, ◌/◌, ◌%◌, ◌^◌, ◌<◌, ◌≤◌, List, [], ◌∷◌, ◌++◌, length, length-append}
+use Rattle.std.proofs.Common.{◌≡◌, ℕ, zero, suc, ◌+◌, ◌*◌, ◌-◌, ◌/◌, ◌%◌, ◌^◌, ◌<◌, ◌≤◌, List, [], ◌∷◌, ◌++◌, length, length-append, length-set, append_assoc}
 use Rattle.std.proofs.Common.{slice_index_or, slice_set, inl, inr, refl, sym, ◌∙◌, ap, subst, mod-lt, arith}
 use Rattle.std.proofs.lemmas.Bool.{cases_lt, cases_eq}
 use Rattle.std.proofs.lemmas.Nat.{shr_high, pow_pos, pow-add, mod-pow-add}
@@ -45,6 +45,17 @@ label-read (suc n) quads highs i within = elim (cases_lt i n) [
       get_or-append_right (labels_in n quads highs) (label_at quads highs n ∷ []) n i 0 (labels-length n quads highs) high
       ∙ rw (gone, last) refl
 ]
+
+-- that label by the octet of eight high bits in which its own is
+pub eight-label : (quads highs : List ℕ) (group k : ℕ) → k < 8
+    → slice_index_or quads (4 * group + k / 2) 0 / 2 ^ (4 * (k % 2)) % 16 + 16 * (slice_index_or highs group 0 / 2 ^ k % 2)
+    ≡ label_at quads highs (8 * group + k)
+eight-label quads highs group k few =
+    let quad : (8 * group + k) / 2 ≡ 4 * group + k / 2 = omega arith in
+    let half : (8 * group + k) % 2 ≡ k % 2 = omega arith in
+    let high : (8 * group + k) / 8 ≡ group = omega (arith, few) in
+    let bit : (8 * group + k) % 8 ≡ k = omega (arith, few) in
+    rw (quad, half, high, bit) refl
 
 -- ---- bits at a place of an octet
 
@@ -140,3 +151,87 @@ pushed quads highs n label low high small =
     field-put highs (n / 8) (n % 8) (label / 16) high in
     let last : label_at others higher n ≡ label = rw (quad, one) (omega (arith, small)) in
     ap (λ (m : ℕ). labels_in m others higher) next ∙ rw (front, last) refl
+
+-- ---- two labels behind an even number of others
+
+set-set : (xs : List ℕ) (i a b : ℕ) → slice_set (slice_set xs i a) i b ≡ slice_set xs i b
+set-set [] i a b = refl
+set-set (x ∷ xs) zero a b = refl
+set-set (x ∷ xs) (suc i) a b = ap (λ (l : List ℕ). x ∷ l) (set-set xs i a b)
+
+-- a bit behind another
+put-both : (octet place one other : ℕ) → place < 8 → place % 2 ≡ 0 → one < 2 → other < 2
+    → put (put octet place one) (place + 1) other ≡ put octet place (one + 2 * other)
+put-both octet zero one other low even a b = omega (arith, a, b)
+put-both octet (suc zero) one other low even a b = absurd (omega (arith, even))
+put-both octet (suc (suc zero)) one other low even a b = omega (arith, a, b)
+put-both octet (suc (suc (suc zero))) one other low even a b = absurd (omega (arith, even))
+put-both octet (suc (suc (suc (suc zero)))) one other low even a b = omega (arith, a, b)
+put-both octet (suc (suc (suc (suc (suc zero))))) one other low even a b = absurd (omega (arith, even))
+put-both octet (suc (suc (suc (suc (suc (suc zero)))))) one other low even a b = omega (arith, a, b)
+put-both octet (suc (suc (suc (suc (suc (suc (suc place))))))) one other low even a b =
+    let last : place ≡ 0 = omega (arith, low) in
+    absurd (omega (arith, even, last))
+
+pub pushed-two : (quads highs : List ℕ) (n first second : ℕ) → n % 2 ≡ 0 → n / 2 < length quads → n / 8 < length highs → first < 32
+    → second < 32
+    → labels_in (n + 2) (slice_set quads (n / 2) (first % 16 + 16 * (second % 16)))
+    (slice_set highs (n / 8) (put (slice_index_or highs (n / 8) 0) (n % 8) (first / 16 + 2 * (second / 16))))
+    ≡ labels_in n quads highs ++ first ∷ second ∷ []
+pushed-two quads highs n first second even low high small other =
+    let next : n + 1 + 1 ≡ n + 2 = omega arith in
+    let two = pushed quads_one highs_one (n + 1) second (omega (arith, half, low, length-set quads (n / 2) quad))
+    (omega (arith, eighth, high, length-set highs (n / 8) bit)) other in
+    sym (ap (λ (m : ℕ). labels_in m quads_all highs_all) next) ∙ sym (ap (λ (l : List ℕ). labels_in (n + 1 + 1) l highs_all) quads_same)
+    ∙ sym (ap (labels_in (n + 1 + 1) (slice_set quads_one ((n + 1) / 2) (put (slice_index_or quads_one ((n + 1) / 2) 0)
+    (4 * ((n + 1) % 2)) (second % 16)))) highs_same)
+    ∙ two ∙ ap (λ (l : List ℕ). l ++ second ∷ []) (pushed quads highs n first low high small)
+    ∙ append_assoc (labels_in n quads highs) (first ∷ []) (second ∷ [])
+  where
+    quad : ℕ
+    quad = put (slice_index_or quads (n / 2) 0) (4 * (n % 2)) (first % 16)
+
+    bit : ℕ
+    bit = put (slice_index_or highs (n / 8) 0) (n % 8) (first / 16)
+
+    quads_one : List ℕ
+    quads_one = slice_set quads (n / 2) quad
+
+    highs_one : List ℕ
+    highs_one = slice_set highs (n / 8) bit
+
+    quads_all : List ℕ
+    quads_all = slice_set quads (n / 2) (first % 16 + 16 * (second % 16))
+
+    highs_all : List ℕ
+    highs_all = slice_set highs (n / 8) (put (slice_index_or highs (n / 8) 0) (n % 8) (first / 16 + 2 * (second / 16)))
+
+    half : (n + 1) / 2 ≡ n / 2
+    half = omega (arith, even)
+
+    odd : (n + 1) % 2 ≡ 1
+    odd = omega (arith, even)
+
+    eighth : (n + 1) / 8 ≡ n / 8
+    eighth = omega (arith, even)
+
+    behind : (n + 1) % 8 ≡ n % 8 + 1
+    behind = omega (arith, even)
+
+    quads_same : slice_set quads_one ((n + 1) / 2) (put (slice_index_or quads_one ((n + 1) / 2) 0) (4 * ((n + 1) % 2)) (second % 16)) ≡ quads_all
+    quads_same =
+        let both : put quad 4 (second % 16) ≡ first % 16 + 16 * (second % 16) =
+        ap (λ (r : ℕ). put (put (slice_index_or quads (n / 2) 0) (4 * r) (first % 16)) 4 (second % 16)) even ∙ omega arith in
+        ap (λ (i : ℕ). slice_set quads_one i (put (slice_index_or quads_one i 0) (4 * ((n + 1) % 2)) (second % 16))) half
+        ∙ ap (λ (r : ℕ). slice_set quads_one (n / 2) (put (slice_index_or quads_one (n / 2) 0) (4 * r) (second % 16))) odd
+        ∙ ap (λ (o : ℕ). slice_set quads_one (n / 2) (put o 4 (second % 16))) (get_or-set_same quads (n / 2) quad 0 low)
+        ∙ set-set quads (n / 2) quad (put quad 4 (second % 16)) ∙ ap (slice_set quads (n / 2)) both
+
+    highs_same : slice_set highs_one ((n + 1) / 8) (put (slice_index_or highs_one ((n + 1) / 8) 0) ((n + 1) % 8) (second / 16)) ≡ highs_all
+    highs_same =
+        ap (λ (i : ℕ). slice_set highs_one i (put (slice_index_or highs_one i 0) ((n + 1) % 8) (second / 16))) eighth
+        ∙ ap (λ (r : ℕ). slice_set highs_one (n / 8) (put (slice_index_or highs_one (n / 8) 0) r (second / 16))) behind
+        ∙ ap (λ (o : ℕ). slice_set highs_one (n / 8) (put o (n % 8 + 1) (second / 16))) (get_or-set_same highs (n / 8) bit 0 high)
+        ∙ set-set highs (n / 8) bit (put bit (n % 8 + 1) (second / 16))
+        ∙ ap (slice_set highs (n / 8)) (put-both (slice_index_or highs (n / 8) 0) (n % 8) (first / 16) (second / 16) (omega arith)
+        (omega (arith, even)) (omega (arith, small)) (omega (arith, other)))

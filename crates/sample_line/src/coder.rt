@@ -1,5 +1,5 @@
 // Slots become labels.
-ghost use Rattle.std.specs.Prelude.{◌≡◌, ◌+◌, ◌*◌, ◌<◌, ◌≤◌, Bool, List, [], ◌∷◌, ◌++◌, map};
+ghost use Rattle.std.specs.Prelude.{◌≡◌, ◌+◌, ◌*◌, ◌%◌, ◌<◌, ◌≤◌, Bool, List, [], ◌∷◌, ◌++◌, length, map, take};
 ghost use Rattle.frame_check.specs.declared.sizes.TheConstants.{SLOT};
 ghost use Rattle.scramblers.specs.declared.mode.Mode.{Mode};
 ghost use Rattle.symbol_map.specs.declared.sample.Sample.{Sample};
@@ -58,14 +58,46 @@ impl Model for Coder {
     ghost invariant = { λ c. (c.symbols ≡ c.writer.symbols) × (HEAD + TAIL < c.symbols) × (c.symbols ≤ SLOT) };
 }
 
+/// Writes the labels of two quads of a slot.
+fn write_two(modulator: &mut Modulator, bits: &BitSlot, place: usize, out: &mut LabelSlot)
+    requires within { place + 2 ≤ length bits.now }
+    requires room { place + 2 ≤ SLOT }
+    requires even { place % 2 ≡ 0 }
+    requires behind { length out.old ≡ place }
+    ensures behind { length out.new ≡ place + 2 }
+    ensures stands { (mode : Mode) (before : List Bool) (points : List Sample)
+        → ModulatorStands mode modulator.old (before ++ line_bits (take place bits.now)) (points ++ map point_of out.old)
+        → ModulatorStands mode modulator.new (before ++ line_bits (take (place + 2) bits.now)) (points ++ map point_of out.new) }
+{
+    let first = modulator.label(bits.quad(place));
+    let second = modulator.label(bits.quad(place + 1));
+    out.push_two(first, second);
+}
+
+/// Writes the label of the last quad, where they are odd.
+fn write_last(modulator: &mut Modulator, bits: &BitSlot, place: usize, out: &mut LabelSlot)
+    requires within { place < length bits.now }
+    requires room { place < SLOT }
+    requires behind { length out.old ≡ place }
+    ensures stands { (mode : Mode) (before : List Bool) (points : List Sample)
+        → ModulatorStands mode modulator.old (before ++ line_bits (take place bits.now)) (points ++ map point_of out.old)
+        → ModulatorStands mode modulator.new (before ++ line_bits (take (place + 1) bits.now)) (points ++ map point_of out.new) }
+{
+    out.push(modulator.label(bits.quad(place)));
+}
+
 /// Writes the labels of a slot's bits.
 fn write_labels(modulator: &mut Modulator, bits: &BitSlot, out: &mut LabelSlot)
     requires { out.old ≡ [] }
     ensures { (mode : Mode) (before : List Bool) (points : List Sample) → ModulatorStands mode modulator.old before points
         → ModulatorStands mode modulator.new (before ++ line_bits bits.now) (points ++ map point_of out.new) }
 {
-    for place in 0..bits.len() {
-        out.push(modulator.label(bits.quad(place)));
+    let count = bits.len();
+    for pair in 0..count / 2 {
+        write_two(modulator, bits, 2 * pair, out);
+    }
+    if count % 2 == 1 {
+        write_last(modulator, bits, count - 1, out);
     }
 }
 

@@ -1,6 +1,8 @@
 // The labels of a slot, five bits each: a line of long delay holds more than a hundred slots.
-ghost use Rattle.std.specs.Prelude.{◌≡◌, ◌<◌, ◌≤◌, ◌+◌, ◌*◌, ◌%◌, ◌^◌, [], ◌∷◌, ◌++◌, length, slice_index};
+ghost use Rattle.std.specs.Prelude.{◌≡◌, ◌<◌, ◌≤◌, ◌+◌, ◌*◌, ◌%◌, ◌^◌, ℕ, [], ◌∷◌, ◌++◌, length, slice_index};
+ghost use Rattle.sample_line.specs.declared.transmitter.TheConstants.{BATCH};
 
+use crate::transmitter::BATCH;
 use frame_check::SLOT;
 use std::marker::Model;
 
@@ -78,6 +80,34 @@ impl LabelSlot {
         quad + 16 * high
     }
 
+    /// Puts eight labels from a multiple of eight on to a place on. Those behind the slot's last one are any.
+    fn put_eight(&self, group: usize, place: usize, out: &mut [u8; BATCH])
+        requires within { 8 * group < length self.now }
+        requires room { place + 8 ≤ BATCH }
+        ensures value { (k : ℕ) → k < 8 → 8 * group + k < length self.now → slice_index out.new (place + k) ≡ slice_index self.now (8 * group + k) }
+        ensures bound { (k : ℕ) → k < 8 → slice_index out.new (place + k) < 32 }
+        ensures before { (j : ℕ) → j < place → slice_index out.new j ≡ slice_index out.old j }
+    {
+        let highs = self.highs[group];
+        for k in 0..8usize {
+            let quads = self.quads[4 * group + k / 2];
+            out[place + k] = (quads >> (4 * (k % 2))) % 16 + 16 * ((highs >> k) % 2);
+        }
+    }
+
+    /// Puts so many labels from a multiple of eight on, eight from five octets at a time.
+    pub(crate) fn unpack(&self, at: usize, count: usize, out: &mut [u8; BATCH])
+        requires multiple { at % 8 ≡ 0 }
+        requires within { at + count ≤ length self.now }
+        requires few { count ≤ BATCH }
+        ensures value { (k : ℕ) → k < count → slice_index out.new k ≡ slice_index self.now (at + k) }
+        ensures bound { (k : ℕ) → k < count → slice_index out.new k < 32 }
+    {
+        for eight in 0..(count + 7) / 8 {
+            self.put_eight(at / 8 + eight, 8 * eight, out);
+        }
+    }
+
     /// Takes all labels out.
     pub fn clear(&mut self)
         ensures { self.new ≡ [] }
@@ -95,5 +125,18 @@ impl LabelSlot {
         self.quads[i / 2] = with_bits(self.quads[i / 2], 4 * (i % 2), label % 16);
         self.highs[i / 8] = with_bits(self.highs[i / 8], i % 8, label / 16);
         self.count = i + 1;
+    }
+    /// Puts two labels behind an even number of others.
+    pub(crate) fn push_two(&mut self, first: u8, second: u8)
+        requires even { length self.old % 2 ≡ 0 }
+        requires room { length self.old + 2 ≤ SLOT }
+        requires first { first < 32 }
+        requires second { second < 32 }
+        ensures { self.new ≡ self.old ++ first ∷ second ∷ [] }
+    {
+        let i = self.count;
+        self.quads[i / 2] = first % 16 + 16 * (second % 16);
+        self.highs[i / 8] = with_bits(self.highs[i / 8], i % 8, first / 16 + 2 * (second / 16));
+        self.count = i + 2;
     }
 }

@@ -1,5 +1,5 @@
 // The way of labels from the end that sends to the end that hears.
-ghost use Rattle.std.specs.Prelude.{◌≡◌, ◌+◌, ◌<◌, ◌≤◌, ◌^◌, Bool, List, [], ◌++◌, map, length, take, IfOk, None, OnOk};
+ghost use Rattle.std.specs.Prelude.{◌≡◌, ◌+◌, ◌<◌, ◌≤◌, ◌^◌, ◌%◌, Bool, List, [], ◌++◌, map, length, take, IfOk, None, OnOk};
 ghost use Rattle.frame_check.specs.declared.sizes.TheConstants.{SLOT};
 ghost use Rattle.symbol_map.specs.declared.sample.Sample.{Sample};
 ghost use Rattle.symbol_map.specs.Points.{point_of};
@@ -42,7 +42,7 @@ impl Path {
         })
     }
 
-    /// The tally once the labels of a slot from a place on, so many, have come to the hearer, as samples.
+    /// The tally once the labels of a slot from a multiple of eight on, so many, have come to the hearer, as samples.
     fn arrive(
         &mut self,
         script: &Script,
@@ -53,6 +53,7 @@ impl Path {
         tally: Tally,
     ) -> Result<Tally, Lost>
         requires channel { slot.framing.dlci < 64 }
+        requires multiple { at % 8 ≡ 0 }
         requires within { at + count ≤ length labels.now }
         requires early { at ≤ SLOT }
         requires few { count ≤ BATCH }

@@ -1,5 +1,5 @@
 // Labels become samples, and the script displaces them on their way.
-ghost use Rattle.std.specs.Prelude.{◌≡◌, ◌+◌, ◌<◌, ◌≤◌, ◌^◌, List, [], ◌∷◌, ◌++◌, length, map, take};
+ghost use Rattle.std.specs.Prelude.{◌≡◌, ◌+◌, ◌<◌, ◌≤◌, ◌^◌, ◌%◌, ℕ, List, [], ◌∷◌, ◌++◌, length, map, take, slice_index};
 ghost use Rattle.frame_check.specs.declared.sizes.TheConstants.{SLOT};
 ghost use Rattle.symbol_map.specs.declared.sample.Sample.{Sample};
 ghost use Rattle.symbol_map.specs.Points.{point_of};
@@ -80,26 +80,67 @@ impl Transmitter {
         displaced(offset, point(label))
     }
 
-    /// The next samples as they arrive, so many, for the labels of a slot from a place on.
-    pub fn send_some(
+    /// The next samples as they arrive, so many, for these labels.
+    fn send_each(
         &mut self,
         script: &Script,
-        labels: &LabelSlot,
-        at: usize,
+        labels: &[u8; BATCH],
         count: usize,
         samples: &mut [Sample; BATCH],
     )
-        requires within { at + count ≤ length labels.now }
-        requires early { at ≤ SLOT }
         requires few { count ≤ BATCH }
+        requires small { (k : ℕ) → k < count → slice_index labels.now k < 32 }
         requires symbol { self.old.symbol < 2 ^ 55 }
-        ensures stands { (before past : List Sample) → Transmits self.old script.now (before ++ map point_of (take at labels.now)) past
-            → Transmits self.new script.now (before ++ map point_of (take (at + count) labels.now)) (past ++ take count samples.new) }
+        ensures stands { (points past : List Sample) → Transmits self.old script.now points past
+            → Transmits self.new script.now (points ++ map point_of (take count labels.now)) (past ++ take count samples.new) }
         ensures sender { self.new.sender ≡ self.old.sender }
         ensures symbol { self.new.symbol ≡ self.old.symbol + count }
     {
         for place in 0..count {
-            samples[place] = self.send(script, labels.label(at + place));
+            samples[place] = self.send(script, labels[place]);
+        }
+    }
+
+    /// The same where no line of the script reaches one of them: they are the labels' points.
+    fn send_still(&mut self, labels: &[u8; BATCH], count: usize, samples: &mut [Sample; BATCH])
+        requires few { count ≤ BATCH }
+        requires small { (k : ℕ) → k < count → slice_index labels.now k < 32 }
+        requires symbol { self.old.symbol < 2 ^ 55 }
+        ensures points { take count samples.new ≡ map point_of (take count labels.now) }
+        ensures sender { self.new.sender ≡ self.old.sender }
+        ensures symbol { self.new.symbol ≡ self.old.symbol + count }
+    {
+        for place in 0..count {
+            samples[place] = point(labels[place]);
+        }
+        self.symbol += count as u64;
+    }
+
+    /// The next samples as they arrive, so many, for the labels of a slot from a multiple of eight on.
+    pub fn send_some(
+        &mut self,
+        script: &Script,
+        slot: &LabelSlot,
+        at: usize,
+        count: usize,
+        samples: &mut [Sample; BATCH],
+    )
+        requires multiple { at % 8 ≡ 0 }
+        requires within { at + count ≤ length slot.now }
+        requires early { at ≤ SLOT }
+        requires few { count ≤ BATCH }
+        requires symbol { self.old.symbol < 2 ^ 55 }
+        ensures stands { (before past : List Sample) → Transmits self.old script.now (before ++ map point_of (take at slot.now)) past
+            → Transmits self.new script.now (before ++ map point_of (take (at + count) slot.now)) (past ++ take count samples.new) }
+        ensures sender { self.new.sender ≡ self.old.sender }
+        ensures symbol { self.new.symbol ≡ self.old.symbol + count }
+    {
+        let mut labels = [0; BATCH];
+        slot.unpack(at, count, &mut labels);
+        if script.is_still(self.sender, self.symbol, count as u32) {
+            self.send_still(&labels, count, samples);
+        } else {
+            self.send_each(script, &labels, count, samples);
         }
     }
 }

@@ -17,6 +17,7 @@ loop-at-init c = record {
   symbol = omega arith;
   count = omega arith;
   within = omega arith;
+  multiple = λ more. omega arith;
   pending = c.requires.pending;
   lost = c.requires.lost;
 }
@@ -34,6 +35,14 @@ loop-at-preserved c =
       symbol = omega (arith, c.arrive.ensures.symbol, i.symbol);
       count = omega (arith, c.arrive.ensures.count, i.count);
       within = omega (arith, i.within, c.len.ensures.count, c.min-count.ensures, min-le_left (c.len-in-loop-at.result - c.loop-at.at) 128);
+      multiple = λ more. omega (
+        arith,
+        more,
+        c.len.ensures.count,
+        c.min-count.ensures,
+        i.multiple
+            (omega (arith, c.loop-at-test.true, c.len.ensures.count)),
+      );
       pending = c.in_ok-tally.ensures.pending;
       lost = c.in_ok-tally.ensures.lost;
     }

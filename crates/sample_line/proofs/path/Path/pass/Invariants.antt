@@ -1,4 +1,4 @@
-use Rattle.std.proofs.Common.{◌≡◌, ◌+◌, ◌-◌, ◌≤◌, ◌++◌, [], None, length, map, take, List, Bool}
+use Rattle.std.proofs.Common.{◌≡◌, ◌+◌, ◌-◌, ◌%◌, ◌<◌, ◌≤◌, ◌++◌, [], None, length, map, take, List, Bool}
 use Rattle.symbol_map.specs.declared.sample.Sample.{Sample}
 use Rattle.symbol_map.specs.Points.{point_of}
 use Rattle.sample_line.specs.Path.{Carries, CarriesBetween}
@@ -14,6 +14,7 @@ invariant-loop-at l = record {
   symbol : l.self.transmitter.symbol ≡ l.fn.self.transmitter.symbol + l.at;
   count : l.self.hearer.reader.decoder.count ≤ l.fn.self.hearer.reader.decoder.count + l.at;
   within : l.at ≤ length l.labels;
+  multiple : l.at < length l.labels → l.at % 8 ≡ 0;
   pending : l.self.hearer.reader.decoder.pending ≡ [];
   lost : l.self.hearer.reader.decoder.lost ≡ None;
 }
