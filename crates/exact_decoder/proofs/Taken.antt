@@ -97,7 +97,8 @@ IsPoppedTwo old new r = MatchOption r ((length old < 2) × (new ≡ old)) (λ tw
 turned-two : (old new : List ℕ) (two : ℕ × ℕ) → old ≡ new ++ two.1 ∷ two.0 ∷ [] → reverse old ≡ two.0 ∷ two.1 ∷ reverse new
 turned-two old new two e = ap reverse e ∙ reverse-append new (two.1 ∷ two.0 ∷ [])
 
-pub sound-popped-two : (table : ℕ → ℕ → Option ℕ) (states labels reach depth : ℕ) (k : Kept) (count : ℕ) (old new : List ℕ) (lost : Option ℕ)
+pub sound-popped-two : (table : ℕ → ℕ → Option ℕ) (states labels reach depth : ℕ) (k : Kept) (count : ℕ)
+    (old new : List ℕ) (lost : Option ℕ)
     (r : Option (ℕ × ℕ)) → IsPoppedTwo old new r → IsSound table states labels reach depth (decoding_of k count old lost)
     → IsSound table states labels reach depth (decoding_of k count new lost) × IfSome r (λ two. (two.0 < labels) × (two.1 < labels))
 sound-popped-two table states labels reach depth k count old new lost None p h =

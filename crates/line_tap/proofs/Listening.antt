@@ -44,7 +44,8 @@ pub listens-on : (old mid : EndListener) (new : Taking) (terms : Terms) (role : 
     → mid ≡ record old { receiver = mid.receiver } → StandsIn new (delivered i) → Listens old terms role agreed connected i lengths
     → Listens (record mid { receiver = new }) terms role agreed connected (delivered i) lengths
 listens-on old mid new terms role agreed connected i lengths beside stands h =
-    subst (λ (l : EndListener). Listens (record l { receiver = new }) terms role agreed connected (delivered i) lengths) (sym beside) (record {
+    subst (λ (l : EndListener). Listens (record l { receiver = new }) terms role agreed connected (delivered i) lengths) (sym beside)
+    (record {
       role_is = h.role_is;
       check_is = h.check_is;
       agreed_is = h.agreed_is;

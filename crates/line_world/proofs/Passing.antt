@@ -43,7 +43,8 @@ same-count size role before (slot ∷ items) [] h = absurd h
 same-count size role before [] (x ∷ way) h = absurd h
 
 -- the oldest one
-pub record Oldest (size : ℕ) (role : Role) (passed : List Signal) (slot : SentSlot) (items : List SentSlot) (way : List Carried) : Type 0 where
+pub record Oldest (size : ℕ) (role : Role) (passed : List Signal) (slot : SentSlot) (items : List SentSlot)
+    (way : List Carried) : Type 0 where
   pub x : Carried
   pub rest : List Carried
   pub way_is : way ≡ x ∷ rest
@@ -171,7 +172,8 @@ PassesAll d new slot check script dlci lost r =
     → IsCodedAs (sender_of d.line) (size_of d.line) passed signal slot.labels
     → Passes new.line script passed signal check dlci lost slot.sent r
 
-passes-front : (d new : DelayedLine) (script : ScriptValue) (passed : List Signal) (way : List Carried) (slot : SentSlot) (items : List SentSlot)
+passes-front : (d new : DelayedLine) (script : ScriptValue) (passed : List Signal) (way : List Carried) (slot : SentSlot)
+    (items : List SentSlot)
     (number : ℕ) (check : Check) (dlci : ℕ) (r : Result Heard Lost) (o : Oldest (size_of d.line) d.sender passed slot items way)
     → Stands d script passed way → PassesAll d new slot check script dlci (loses script d.sender number) r
     → Passes new.line script passed (carried_signal d.sender o.x) check dlci (loses script d.sender number) slot.sent r
@@ -210,7 +212,8 @@ as-heard lost sender dlci s octets patterns Chance h o = tt
 as-heard true sender dlci s octets patterns (Passed t) h o = absurd o
 as-heard false sender dlci s octets patterns (Passed t) h o = subst (λ x. IsNumbered (arrival (Passed x))) (sym o.0) (numbered-sent s h)
 
-pub numbered-by : (d new : DelayedLine) (script : ScriptValue) (passed : List Signal) (way : List Carried) (slot : SentSlot) (items : List SentSlot)
+pub numbered-by : (d new : DelayedLine) (script : ScriptValue) (passed : List Signal) (way : List Carried) (slot : SentSlot)
+    (items : List SentSlot)
     (number : ℕ) (check : Check) (dlci : ℕ) (r : Result Heard Lost) → (o : Oldest (size_of d.line) d.sender passed slot items way)
     → Stands d script passed way → PassesAll d new slot check script dlci (loses script d.sender number) r
     → IfOk r (λ heard. IsNumbered (arrival heard))

@@ -1,5 +1,6 @@
 -- Labels that are packed, and read again.
-use Rattle.std.proofs.Common.{◌≡◌, ℕ, zero, suc, ◌+◌, ◌*◌, ◌-◌, ◌/◌, ◌%◌, ◌^◌, ◌<◌, ◌≤◌, List, [], ◌∷◌, ◌++◌, length, length-append, length-set, append_assoc}
+use Rattle.std.proofs.Common.{◌≡◌, ℕ, zero, suc, ◌+◌, ◌*◌, ◌-◌, ◌/◌, ◌%◌, ◌^◌, ◌<◌, ◌≤◌, List, [], ◌∷◌, ◌++◌, length, length-append}
+use Rattle.std.proofs.Common.{length-set, append_assoc}
 use Rattle.std.proofs.Common.{slice_index_or, slice_set, inl, inr, refl, sym, ◌∙◌, ap, subst, mod-lt, arith}
 use Rattle.std.proofs.lemmas.Bool.{cases_lt, cases_eq}
 use Rattle.std.proofs.lemmas.Nat.{shr_high, pow_pos, pow-add, mod-pow-add}
@@ -218,7 +219,8 @@ pushed-two quads highs n first second even low high small other =
     behind : (n + 1) % 8 ≡ n % 8 + 1
     behind = omega (arith, even)
 
-    quads_same : slice_set quads_one ((n + 1) / 2) (put (slice_index_or quads_one ((n + 1) / 2) 0) (4 * ((n + 1) % 2)) (second % 16)) ≡ quads_all
+    quads_same : slice_set quads_one ((n + 1) / 2) (put (slice_index_or quads_one ((n + 1) / 2) 0) (4 * ((n + 1) % 2)) (second % 16))
+        ≡ quads_all
     quads_same =
         let both : put quad 4 (second % 16) ≡ first % 16 + 16 * (second % 16) =
         ap (λ (r : ℕ). put (put (slice_index_or quads (n / 2) 0) (4 * r) (first % 16)) 4 (second % 16)) even ∙ omega arith in

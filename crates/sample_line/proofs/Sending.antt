@@ -1,5 +1,6 @@
 -- Samples of labels of which a batch is sent at once.
-use Rattle.std.proofs.Common.{◌≡◌, ◌∙◌, ℕ, ◌+◌, ◌<◌, ◌≤◌, ◌&&◌, ℤ, pos, negsuc, nat_eq, Bool, true, false, List, [], ◌∷◌, ◌++◌, length, map, take, drop}
+use Rattle.std.proofs.Common.{◌≡◌, ◌∙◌, ℕ, ◌+◌, ◌<◌, ◌≤◌, ◌&&◌, ℤ, pos, negsuc, nat_eq, Bool, true, false, List, [], ◌∷◌, ◌++◌, length}
+use Rattle.std.proofs.Common.{map, take, drop}
 use Rattle.std.proofs.Common.{get_or, arith, refl, sym, ap, subst, append_assoc, length-append, length-drop, suc}
 use Rattle.std.proofs.Math.Seq.{take-add}
 use Rattle.std.proofs.lemmas.Bool.{and_parts, eqb-true, false≢true}
@@ -99,7 +100,14 @@ pub still-sent : (old new : Transmitter) (script : ScriptValue) (points past sam
     → new.sender ≡ old.sender → new.symbol ≡ old.symbol + count → samples ≡ map point_of (take count labels)
     → Transmits old script points past → Transmits new script (points ++ map point_of (take count labels)) (past ++ samples)
 still-sent old new script points past samples labels count room small still same next are h = record {
-  counted = omega (arith, next, h.counted, long, length-append points (map point_of (take count labels)), length-map (take count labels) point_of);
+  counted = omega (
+    arith,
+    next,
+    h.counted,
+    long,
+    length-append points (map point_of (take count labels)),
+    length-map (take count labels) point_of,
+  );
   samples_are = ap (λ xs. past ++ xs) are ∙ ap (λ xs. xs ++ map point_of (take count labels)) h.samples_are
       ∙ ap (λ xs. displaced_from script old.sender 0 points ++ xs) (sym displaced_is)
       ∙ sym (displaced-append script old.sender 0 points (map point_of (take count labels)))
@@ -112,7 +120,8 @@ still-sent old new script points past samples labels count room small still same
     place : old.symbol ≡ 0 + length points
     place = omega (arith, h.counted)
 
-    displaced_is : displaced_from script old.sender (0 + length points) (map point_of (take count labels)) ≡ map point_of (take count labels)
+    displaced_is : displaced_from script old.sender (0 + length points) (map point_of (take count labels))
+        ≡ map point_of (take count labels)
     displaced_is = displaced-still script old.sender (0 + length points) (take count labels)
         (λ k low. let few : k < count = omega (arith, low, long) in
         subst (λ x. x < 32) (sym (get_or-take count labels k 0 few)) (small k few))

@@ -1,5 +1,6 @@
 -- Bits that stand above a register go on a line and are descrambled, the lowest first.
-use Rattle.std.proofs.Common.{◌≡◌, ◌∙◌, ℕ, zero, suc, ◌+◌, ◌-◌, ◌*◌, ◌/◌, ◌^◌, ◌<◌, ◌≤◌, ◌⊎◌, inl, inr, Bool, true, false, List, [], ◌∷◌, ◌++◌}
+use Rattle.std.proofs.Common.{◌≡◌, ◌∙◌, ℕ, zero, suc, ◌+◌, ◌-◌, ◌*◌, ◌/◌, ◌^◌, ◌<◌, ◌≤◌, ◌⊎◌, inl, inr, Bool, true, false, List, []}
+use Rattle.std.proofs.Common.{◌∷◌, ◌++◌}
 use Rattle.std.proofs.Common.{length, append_assoc, append-nil, arith, refl, sym, ap, subst, nat_eq, bit_xor}
 use Rattle.std.proofs.lemmas.Bool.{cases_lt}
 use Rattle.std.proofs.lemmas.Nat.Bits.{bit_at_cat_low, bit_at_cat_high, bit_at_lowest, bit_at-suc, bit_at-lt}
@@ -31,7 +32,8 @@ Holds-next r line h = record { recent = λ places low high. first_or_later place
         rw one (sym (bit_at-suc r 31) ∙ bit-number (bit_at r 32) (bit_at-lt r 32) ∙ ap number (sym (earlier-last line (has_bit r 32))))
 
 -- a bit of the register is the one so many places before
-seen : (r places : ℕ) (line : List Bool) → 1 ≤ places → places ≤ 23 → Holds r line → has_bit r (32 - places) ≡ earlier line (length line) places
+seen : (r places : ℕ) (line : List Bool) → 1 ≤ places → places ≤ 23 → Holds r line
+    → has_bit r (32 - places) ≡ earlier line (length line) places
 seen r places line low high h = ap (λ n. nat_eq n 1) (h.recent places low high) ∙ number-back (earlier line (length line) places)
   where
     number-back : (b : Bool) → nat_eq (number b) 1 ≡ b
@@ -53,7 +55,8 @@ pub record Follows (n tap r x y : ℕ) (line output : List Bool) : Type 0 where
 pub follows : (n tap r x y : ℕ) (line output : List Bool) → 1 ≤ tap → tap ≤ 22 → AreAbove n r x → AreRead n tap r y
     → Descrambles tap line output → Holds r line → Follows n tap r x y line output
 follows zero tap r x y line output low high above read d h = record {
-  descrambled = subst (λ (p : List Bool × List Bool). Descrambles tap p.0 p.1) (λ i. (sym (append-nil line) i, sym (append-nil output) i)) d;
+  descrambled = subst (λ (p : List Bool × List Bool). Descrambles tap p.0 p.1)
+      (λ i. (sym (append-nil line) i, sym (append-nil output) i)) d;
   holds = subst (λ (p : ℕ × List Bool). Holds p.0 p.1) (λ i. (sym (div-one r) i, sym (append-nil line) i)) h;
 }
 follows (suc n) tap r x y line output low high above read d h =

@@ -32,7 +32,8 @@ step false s shape rest e f g = g e
 at : (P : List ℕ → Shape → Type 0) (name label : List ℕ) (s shape : Shape) (rest : Option Shape)
     → cond (bytes_eq name label) (Some s) rest ≡ Some shape → P label s → (rest ≡ Some shape → P name shape) → P name shape
 at P name label s shape rest e p other =
-    step (bytes_eq name label) s shape rest e (λ same is. subst (λ n. P n shape) (sym (same-bytes name label same)) (subst (P label) is p)) other
+    step (bytes_eq name label) s shape rest e (λ same is. subst (λ n. P n shape) (sym (same-bytes name label same))
+    (subst (P label) is p)) other
 
 -- what holds of each name with its shape
 pub at-names : (P : List ℕ → Shape → Type 0)

@@ -12,8 +12,8 @@ ghost use Rattle.signal_commands.specs.PickingUp.Playing.{Plays, IsReady, SaysSo
 use command_base::{Listener, Status, Stop, hearer_of, sender_of};
 use line_coding::{DEPTH, MiddleReader, Taken};
 use outside_calls::{Folder, FolderFault};
-use shared_terms::NoMemory;
 use scramblers::Mode;
+use shared_terms::NoMemory;
 use std::alloc::Global;
 use std::marker::Model;
 use symbol_map::Sample;

@@ -18,7 +18,8 @@ returns-clause-stands c = λ mode before points h.
     let behind : place + 1 < length bits = omega (arith, c.requires.within) in
     let two : place + 1 + 1 ≡ place + 2 = omega arith in
     let one = c.label-first.ensures.stands mode (before ++ line_bits (take place bits)) (points ++ map point_of out) h in
-    let started = subst (λ (xs : List Bool). ModulatorStands mode c.label-first.new.self xs ((points ++ map point_of out) ++ point_of first ∷ []))
+    let started = subst (λ (xs : List Bool). ModulatorStands mode c.label-first.new.self xs
+    ((points ++ map point_of out) ++ point_of first ∷ []))
     (sent-part before bits place c.quad.result within c.quad.ensures.value) one in
     let more = c.label-second.ensures.stands mode (before ++ line_bits (take (place + 1) bits))
     ((points ++ map point_of out) ++ point_of first ∷ []) started in

@@ -13,7 +13,8 @@ returns-clause-stands c = λ bits h. record {
 pub returns-clause-tallies : goal.returns-clause-tallies
 returns-clause-tallies c = λ earlier bits has h.
     let slot = c.args.slot in
-    let seen = c.with_octet_seen-tally.ensures.tallied slot.framing.sender slot.framing.dlci bits h.octets h.patterns has.reader h.tallies in
+    let seen = c.with_octet_seen-tally.ensures.tallied slot.framing.sender slot.framing.dlci bits h.octets h.patterns
+    has.reader h.tallies in
     let found = c.with_octet.ensures.tallied bits h.octets (h.patterns ++ map (λ (sight : Sight). sight.seen) seen.sights) has.deframer
     seen.tallies in
     found-both slot.framing.check slot.framing.sender slot.framing.dlci slot.sent.now earlier bits (bits ++ octet_bits c.args.octet)

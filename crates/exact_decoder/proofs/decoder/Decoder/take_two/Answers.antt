@@ -8,8 +8,8 @@ pub invariant_of-self : goal.invariant_of-self
 unfolding opened
 invariant_of-self g c =
     let t = g.C.TrellisCode in
-    (sound-popped-two t.table g.row.STATES g.row.LABELS t.REACH g.row.DEPTH c.self.inside.survivors c.self.inside.count c.self.inside.pending
-    c.pop_two.new.self c.self.inside.lost c.pop_two.result c.pop_two.ensures c.self.invariant).0
+    (sound-popped-two t.table g.row.STATES g.row.LABELS t.REACH g.row.DEPTH c.self.inside.survivors c.self.inside.count
+    c.self.inside.pending c.pop_two.new.self c.self.inside.lost c.pop_two.result c.pop_two.ensures c.self.invariant).0
 
 pub returns : goal.returns
 unfolding opened

@@ -20,6 +20,7 @@ returns-clause-stands c mode labels bits s =
     record {
       reader = subst (λ (quads : List ℕ). LabelReaderStands c.push-high.new.self (labels ++ c.args.first ∷ c.args.second ∷ []) quads)
           read.quads_is read;
-      descrambler = subst (λ (line : List Bool). DescramblesAs mode c.push_octet.new.self line (bits ++ octet_bits c.push_octet.result)) line
+      descrambler = subst (λ (line : List Bool). DescramblesAs mode c.push_octet.new.self line
+          (bits ++ octet_bits c.push_octet.result)) line
           (c.push_octet.ensures mode (line_of labels) bits s.descrambler);
     }

@@ -34,7 +34,8 @@ returns-else-self-eq-SILENT g c =
     let many : 6 < c.self.inside.taken = omega (arith, c.if-self-lt-SILENT.false, c.if-self-eq-SILENT.false) in
     record {
       stands = λ mode samples bits h.
-          middle-later mode g.row.DEPTH c.self.inside.reader c.take.new.self c.self.inside.taken (low_bits 4 c.in-Some.four) samples bits many
+          middle-later mode g.row.DEPTH c.self.inside.reader c.take.new.self c.self.inside.taken
+          (low_bits 4 c.in-Some.four) samples bits many
           (c.in-Some.ensures.stands mode at_any samples)
           (subst (λ (m : Middle). MiddleRead mode g.row.DEPTH m samples bits) (sym c.self.view_is) h);
       first = ap (λ (m : Middle). length m.reading.decoder.pending) (sym c.self.view_is) ∙ c.in-Some.ensures.first.1;

@@ -15,7 +15,8 @@ none-of false e = refl
 
 pub returns : goal.returns
 returns c = λ e.
-    let any_hit : List Hit → Bool = list_any (λ hit. same_role hit.role c.args.sender && meets hit.from hit.count c.args.from c.args.count) in
+    let any_hit : List Hit → Bool =
+    list_any (λ hit. same_role hit.role c.args.sender && meets hit.from hit.count c.args.from c.args.count) in
     let any_noise : List Noise → Bool =
     list_any (λ noise. same_role noise.role c.args.sender && meets noise.from noise.count c.args.from c.args.count) in
     let hits = ap any_hit (sym (c.deref.ensures.value ∙ ap (λ (v : ScriptValue). v.hits) c.self.view_is)) in

@@ -1,4 +1,5 @@
-use Rattle.std.proofs.Common.{◌≡◌, ◌∙◌, ◌<◌, ◌+◌, ◌*◌, ◌/◌, ◌%◌, ◌^◌, ℕ, List, length, slice_index, slice_index_or, slice_set, inl, inr, sym, ap, subst, arith, length-set}
+use Rattle.std.proofs.Common.{◌≡◌, ◌∙◌, ◌<◌, ◌+◌, ◌*◌, ◌/◌, ◌%◌, ◌^◌, ℕ, List, length, slice_index, slice_index_or, slice_set, inl}
+use Rattle.std.proofs.Common.{inr, sym, ap, subst, arith, length-set}
 use Rattle.std.proofs.lemmas.Bool.{cases_lt}
 use Rattle.std.proofs.lemmas.List.{get_or-set_same, get_or-set_other}
 use Rattle.sample_line.proofs.Packing.{labels-count, label-read, eight-label}
@@ -56,7 +57,12 @@ loop-k-preserved c =
         | inl before ↦ get_or-set_other out (place + k) (place + j) label 0 (λ e. omega (arith, e, before)) ∙ i.value j before within
         | inr not_before ↦
             let last : j ≡ k = omega (arith, low, not_before) in
-            let here : 8 * group + k < c.self.inside.count = omega (arith, within, last, labels-count c.self.inside.count c.self.inside.quads c.self.inside.highs c.args.self.now c.self.view_is) in
+            let here : 8 * group + k < c.self.inside.count = omega (
+              arith,
+              within,
+              last,
+              labels-count c.self.inside.count c.self.inside.quads c.self.inside.highs c.args.self.now c.self.view_is,
+            ) in
             ap (λ (m : ℕ). slice_index (slice_set out (place + k) label) (place + m)) last
             ∙ get_or-set_same out (place + k) label 0 room
             ∙ eight-label quads highs group k c.loop-k-test.true

@@ -28,7 +28,8 @@ loop-place-preserved c =
       long = length-set c.loop-place.samples place c.send.result ∙ i.long;
       stands = λ points past h.
           let sent = c.send.ensures.stands _ _ (i.stands points past h) in
-          subst (λ (l : List Sample). Transmits c.send.new.self c.args.script.now (points ++ map point_of (take (place + 1) labels)) (past ++ l))
+          subst (λ (l : List Sample). Transmits c.send.new.self c.args.script.now (points ++ map point_of (take (place + 1) labels))
+          (past ++ l))
           (sym (take_more_set c.loop-place.samples place c.send.result room))
           (subst (Transmits c.send.new.self c.args.script.now (points ++ map point_of (take (place + 1) labels)))
           (append_assoc past (take place c.loop-place.samples) (c.send.result ∷ []))

@@ -12,7 +12,8 @@ returns-then-is_still-clause-stands c = λ before past h.
     let room : c.args.count ≤ length labels = omega (arith, c.unpack.array_long, c.requires.few) in
     subst (λ points. Transmits c.send_still.new.self c.args.script.now points (past ++ samples))
     (unpacked c.args.slot.now labels c.args.at c.args.count c.requires.within room c.unpack.ensures.value before)
-    (still-sent c.args.self.now c.send_still.new.self c.args.script.now (before ++ map point_of (take c.args.at c.args.slot.now)) past samples
+    (still-sent c.args.self.now c.send_still.new.self c.args.script.now
+    (before ++ map point_of (take c.args.at c.args.slot.now)) past samples
     labels c.args.count room c.unpack.ensures.bound
     (λ n low high. c.if-is_still.ensures refl n low (omega (arith, high, c.requires.few)))
     c.send_still.ensures.sender c.send_still.ensures.symbol c.send_still.ensures.points h)
