@@ -16,9 +16,7 @@ use Rattle.bit_stuffing.specs.Found.{Found, found_at, lent_of, listed, pieces_of
 use Rattle.bit_stuffing.proofs.Found.{lent-is, lent-once, pieces-more}
 use Rattle.bit_stuffing.proofs.Sent.{pieces-stay}
 use Rattle.detection.specs.Patterns.{EndsPattern, IsSeen, seen_at}
-use Rattle.detection.specs.Sights.{sights_at, sights_of}
-use Rattle.detection.proofs.Answered.{seen-is}
-use Rattle.detection.proofs.Sightings.{sights-more, sights-stay}
+use Rattle.detection.specs.Sights.{Sight, SightsAdded, sights_at, sights_of}
 use Rattle.lapm_frames.specs.declared.frame.Frame.{Frame}
 use Rattle.lapm_frames.specs.Checked.{SpellsFrame}
 use Rattle.lapm_frames.specs.declared.seen.Seen.{Seen}
@@ -126,43 +124,47 @@ no-piece past bit more e =
       added.1.all ∙ ap (λ f. pieces_of (past ++ bit ∷ []) ++ f) none.1 ∙ append-nil (pieces_of (past ++ bit ∷ [])),
     )
 
+-- what the laws of patterns say
+pub record SightLaws : Type 0 where
+  pub seen : (bits : List Bool) → IsSeen bits (seen_at bits)
+  pub grow : (bits : List Bool) (bit : Bool)
+      → sights_of (bits ++ bit ∷ []) ≡ sights_of bits ++ sights_at (length bits + 1) (seen_at (bits ++ bit ∷ []))
+  pub stay : (bits more : List Bool) → (added : List Sight) × SightsAdded bits more added
+
 -- and no pattern is seen
-no-sight : (past : List Bool) (bit : Bool) (more : List Bool) → sights_of (past ++ bit ∷ more) ≡ sights_of past
+no-sight : SightLaws → (past : List Bool) (bit : Bool) (more : List Bool) → sights_of (past ++ bit ∷ more) ≡ sights_of past
     → (seen_at (past ++ bit ∷ []) ≡ None) × (sights_of ((past ++ bit ∷ []) ++ more) ≡ sights_of (past ++ bit ∷ []))
-no-sight past bit more e =
-    let added = sights-stay (past ++ bit ∷ []) more in
+no-sight laws past bit more e =
+    let added = laws.stay (past ++ bit ∷ []) more in
     let none = neither (sights_of past) (sights_at (length past + 1) (seen_at (past ++ bit ∷ []))) added.0
-    (ap (λ s. s ++ added.0) (sym (sights-more past bit)) ∙ sym added.1.all ∙ ap sights_of (append_assoc past (bit ∷ []) more) ∙ e) in (
+    (ap (λ s. s ++ added.0) (sym (laws.grow past bit)) ∙ sym added.1.all ∙ ap sights_of (append_assoc past (bit ∷ []) more) ∙ e) in (
       none-seen (length past + 1) (seen_at (past ++ bit ∷ [])) none.0,
       added.1.all ∙ ap (λ s. sights_of (past ++ bit ∷ []) ++ s) none.1 ∙ append-nil (sights_of (past ++ bit ∷ [])),
     )
 
 -- where neither is found nothing ends
-quiet-at : (peer : Role) (bits : List Bool) → found_at bits ≡ None → seen_at bits ≡ None → IsQuiet peer bits
-quiet-at peer bits no_piece no_sight arrivals.Nothing e = e
-quiet-at peer bits no_piece no_sight (arrivals.Pattern seen) e = subst (IsSeen bits) no_sight (seen-is bits) seen e
-quiet-at peer bits no_piece no_sight (arrivals.Frame frame) e =
+quiet-at : SightLaws → (peer : Role) (bits : List Bool) → found_at bits ≡ None → seen_at bits ≡ None → IsQuiet peer bits
+quiet-at laws peer bits no_piece no_sight arrivals.Nothing e = e
+quiet-at laws peer bits no_piece no_sight (arrivals.Pattern seen) e = subst (IsSeen bits) no_sight (laws.seen bits) seen e
+quiet-at laws peer bits no_piece no_sight (arrivals.Frame frame) e =
     let none : e.0 ≡ [] =
     lent-once bits e.0 (lent_of bits) (inl e.1) (lent-is bits) ∙ ap (λ o. option_map_or (λ (f : Found). f.octets) o []) no_piece in
     no-frame peer frame (subst (λ (o : List ℕ). SpellsFrame Sixteen peer 0 o frame) none e.2)
 
 -- bits that add no piece and no pattern leave what was heard
-pub heard-quiet : (peer : Role) (earlier bits more : List Bool) (heard : Arrived)
-    → pieces_of ((earlier ++ bits) ++ more) ≡ pieces_of (earlier ++ bits)
-    → sights_of ((earlier ++ bits) ++ more) ≡ sights_of (earlier ++ bits)
+pub heard-quiet : SightLaws → (peer : Role) (earlier bits more : List Bool) (heard : Arrived)
+    → pieces_of ((earlier ++ bits) ++ more) ≡ pieces_of (earlier ++ bits) → sights_of ((earlier ++ bits) ++ more) ≡ sights_of (earlier ++ bits)
     → IsHeard peer earlier bits heard → IsHeard peer earlier (bits ++ more) heard
-heard-quiet peer earlier bits [] heard pieces sights h = subst (λ (b : List Bool). IsHeard peer earlier b heard) (sym (append-nil bits)) h
-heard-quiet peer earlier bits (bit ∷ more) heard pieces sights h =
+heard-quiet laws peer earlier bits [] heard pieces sights h = subst (λ (b : List Bool). IsHeard peer earlier b heard) (sym (append-nil bits)) h
+heard-quiet laws peer earlier bits (bit ∷ more) heard pieces sights h =
     let same : (earlier ++ bits) ++ bit ∷ [] ≡ earlier ++ (bits ++ bit ∷ []) = append_assoc earlier bits (bit ∷ []) in
     let piece = no-piece (earlier ++ bits) bit more pieces in
-    let sight = no-sight (earlier ++ bits) bit more sights in
-    let quiet : IsQuiet peer (earlier ++ (bits ++ bit ∷ [])) =
-    subst (IsQuiet peer) same (quiet-at peer ((earlier ++ bits) ++ bit ∷ []) piece.0 sight.0) in
+    let sight = no-sight laws (earlier ++ bits) bit more sights in
     subst (λ (b : List Bool). IsHeard peer earlier b heard) (append_assoc bits (bit ∷ []) more)
-    (heard-quiet peer earlier (bits ++ bit ∷ []) more heard
+    (heard-quiet laws peer earlier (bits ++ bit ∷ []) more heard
     (subst (λ (b : List Bool). pieces_of (b ++ more) ≡ pieces_of b) same piece.1)
     (subst (λ (b : List Bool). sights_of (b ++ more) ≡ sights_of b) same sight.1)
-    (heard-still peer earlier bits bit heard h quiet))
+    (heard-still peer earlier bits bit heard h (quiet-at laws peer ((earlier ++ bits) ++ bit ∷ []) piece.0 sight.0)))
 
 -- ---- bits of an octet, octets of a slot
 

@@ -12,6 +12,7 @@ ghost use Rattle.detection.specs.Ear.{HasHeard};
 use crate::one_end::limits::SLOT_OCTETS;
 use bit_stuffing::laws::one_lent;
 use detection::Ear;
+use detection::laws::{one_answer, sights_grow, sights_stay};
 use frame_check::Check;
 use lapm_frames::{Arrived, Frame, read_checked};
 use shared_terms::Role;
@@ -68,6 +69,9 @@ fn hear_octet(ear: &mut Ear, octet: u8, peer: Role, heard: &mut Arrived)
         → IsHeard peer earlier (bits ++ octet_bits octet) heard.new }
     ensures numbers { IsNumbered heard.new }
 {
+    one_answer();
+    sights_grow();
+    sights_stay();
     if ear.pass(octet) {
         return;
     }

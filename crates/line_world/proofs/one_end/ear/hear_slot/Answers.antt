@@ -24,12 +24,12 @@ loop-place-preserved c =
     let more = slot-more c.args.slot.now place c.octet_at.result c.requires (omega (arith, c.loop-place-test.true)) c.octet_at.ensures in
     record {
       stands =
-          λ bits h. subst (λ (b : List Bool). HasHeard c.hear_octet-heard.new.ear b)
+          λ bits h. subst (λ (b : List Bool). HasHeard c.hear_octet.new.ear b)
           (append-again bits front (octet_bits c.octet_at.result) ∙ ap (λ b. bits ++ b) more)
-          (c.hear_octet-heard.ensures.stands (bits ++ front) (i.stands bits h));
-      heard = λ bits h. subst (λ (b : List Bool). IsHeard c.args.peer bits b c.hear_octet-heard.result) more
-          (c.hear_octet-heard.ensures.heard bits front (i.stands bits h) (i.heard bits h));
-      numbers = c.hear_octet-heard.ensures.numbers;
+          (c.hear_octet.ensures.stands (bits ++ front) (i.stands bits h));
+      heard = λ bits h. subst (λ (b : List Bool). IsHeard c.args.peer bits b c.hear_octet.new.heard) more
+          (c.hear_octet.ensures.heard bits front (i.stands bits h) (i.heard bits h));
+      numbers = c.hear_octet.ensures.numbers;
     }
 
 pub octet_at-requires-clause-place : goal.octet_at-requires-clause-place
@@ -38,8 +38,8 @@ octet_at-requires-clause-place c = c.loop-place-test.true
 pub octet_at-requires-clause-short : goal.octet_at-requires-clause-short
 octet_at-requires-clause-short c = c.requires
 
-pub hear_octet-heard-requires : goal.hear_octet-heard-requires
-hear_octet-heard-requires c = c.loop-place.invariant.numbers
+pub hear_octet-requires : goal.hear_octet-requires
+hear_octet-requires c = c.loop-place.invariant.numbers
 
 pub returns-clause-stands : goal.returns-clause-stands
 returns-clause-stands c = λ bits h.
