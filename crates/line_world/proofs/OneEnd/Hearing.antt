@@ -153,9 +153,11 @@ quiet-at laws peer bits no_piece no_sight (arrivals.Frame frame) e =
 
 -- bits that add no piece and no pattern leave what was heard
 pub heard-quiet : SightLaws → (peer : Role) (earlier bits more : List Bool) (heard : Arrived)
-    → pieces_of ((earlier ++ bits) ++ more) ≡ pieces_of (earlier ++ bits) → sights_of ((earlier ++ bits) ++ more) ≡ sights_of (earlier ++ bits)
+    → pieces_of ((earlier ++ bits) ++ more) ≡ pieces_of (earlier ++ bits)
+    → sights_of ((earlier ++ bits) ++ more) ≡ sights_of (earlier ++ bits)
     → IsHeard peer earlier bits heard → IsHeard peer earlier (bits ++ more) heard
-heard-quiet laws peer earlier bits [] heard pieces sights h = subst (λ (b : List Bool). IsHeard peer earlier b heard) (sym (append-nil bits)) h
+heard-quiet laws peer earlier bits [] heard pieces sights h = subst (λ (b : List Bool). IsHeard peer earlier b heard) (sym
+    (append-nil bits)) h
 heard-quiet laws peer earlier bits (bit ∷ more) heard pieces sights h =
     let same : (earlier ++ bits) ++ bit ∷ [] ≡ earlier ++ (bits ++ bit ∷ []) = append_assoc earlier bits (bit ∷ []) in
     let piece = no-piece (earlier ++ bits) bit more pieces in
