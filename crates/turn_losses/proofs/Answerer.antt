@@ -1,11 +1,10 @@
 -- A Connected answerer that gives up was starved.
-use Rattle.std.proofs.Common.{inl, inr, ◌≡◌, ℕ, ◌<◌, ◌≤◌, Bool, true, false, List, length, arith, refl, sym, ◌∙◌, ap, subst, Some}
-use Rattle.std.proofs.Common.{None}
+use Rattle.std.proofs.Common.{inl, inr, ◌≡◌, ℕ, ◌<◌, ◌≤◌, Bool, true, false, List, length, arith, refl, sym, ◌∙◌, ap, subst, Some, None}
 use Rattle.link_account.proofs.Names.{Role, Originator, Answerer, is_connected, IsAllowed}
 use Rattle.link_run.proofs.Names.{Phase, Connected, is_released, Link, Accounts, Turn, Hears, arrival, RunsOver}
 use Rattle.turn_losses.specs.Losses.{AnswererWantsAnswers}
 use Rattle.turn_losses.proofs.Room.{begins-roomy}
-use Rattle.turn_losses.proofs.Tracing.{Known, known, Timed, timed, rated, Traced, traced, silent-of}
+use Rattle.turn_losses.proofs.Tracing.{Known, known, Timed, timed, rated, silent-of, timed-run}
 use Rattle.turn_losses.proofs.Numbering.{Plays, allowed, fits-at, counts-of}
 use Rattle.turn_losses.proofs.Wanting.{LastTry, last-try, wants-answers}
 use Rattle.turn_losses.proofs.PollHear.{PollHeard, poll-hears, linked-connected}
@@ -13,8 +12,8 @@ use Rattle.turn_losses.proofs.PollLaws.{two-ends, turned}
 use Rattle.turn_losses.proofs.PeriodLaws.{linked-on, connected-back}
 use Rattle.turn_losses.proofs.Numbered.{numbered-linked}
 use Rattle.turn_losses.proofs.Starving.{all-but-one}
-use Rattle.turn_losses.proofs.Names.{KeepsTime, Rates, rates, IsOf, LosesEach, past, of_arrived, is_poll, is_linked, EndRun}
-use Rattle.turn_losses.proofs.Names.{end_run}
+use Rattle.turn_losses.proofs.Names.{KeepsTime, Rates, rates, IsOf, LosesEach, past, of_arrived, is_poll, is_linked, EndRun, TimedRun}
+use Rattle.turn_losses.proofs.Names.{end_of}
 
 only-connected : (p : Phase) → is_linked p ≡ true → is_released p ≡ false → is_connected p ≡ true
 only-connected Connected l r = refl
@@ -24,9 +23,8 @@ pub answerer-each : Plays → (tries period : ℕ) (delay : Role → ℕ) (link 
     (mid : Accounts)
     → KeepsTime tries period delay link → RunsOver link delay ts before → Hears (length ts) before t mid
     → is_released mid.orig.phase ≡ false → LastTry tries period (length ts) before.answ → LosesEach period tries (length ts) ts
-answerer-each laws tries period delay link ts before t mid kt run hearing going last =
-    wants-answers tries period delay link ts w.state w.deed kt w.trace Answerer
-    (counts-of laws tries period delay link ts w.state w.deed kt run.may_play w.trace Answerer)
+answerer-each laws tries period delay link ts before t mid kt run hearing going last = wants-answers w Answerer
+    (counts-of laws w run.may_play Answerer)
     (subst (λ (x : Accounts). LastTry tries period turns x.answ) (sym w.last) last) both
   where
     z : Rates
@@ -35,14 +33,14 @@ answerer-each laws tries period delay link ts before t mid kt run hearing going 
     turns : ℕ
     turns = length ts
 
-    w : Traced period delay link ts before
-    w = traced tries period delay link ts before kt run.run run.carried
+    w : TimedRun
+    w = timed-run tries period delay link ts before kt run.run run.carried
 
     e : EndRun
-    e = end_run delay w.state w.deed Answerer
+    e = end_of w Answerer
 
     o : EndRun
-    o = end_run delay w.state w.deed Originator
+    o = end_of w Originator
 
     k : (r : Role) → Known z link turns before r
     k r = known tries period delay link ts before kt run.run run.carried r
@@ -58,8 +56,7 @@ answerer-each laws tries period delay link ts before t mid kt run hearing going 
         (silent-of z (length us) (length us) Answerer x.answ.phase x.answ h.stands refl c n) ∙ q in cc
 
     linked-last : is_linked before.orig.phase ≡ true
-    linked-last = ap (λ (x : Accounts). is_linked x.orig.phase) (sym w.last)
-        ∙ numbered-linked tries period delay link ts w.state w.deed kt w.trace Answerer turns (omega arith)
+    linked-last = ap (λ (x : Accounts). is_linked x.orig.phase) (sym w.last) ∙ numbered-linked w Answerer turns (omega arith)
         (ap (λ (x : Accounts). x.answ.numbered) w.last
         ∙ counted before.answ.numbered before ts (k Answerer) last.connected last.set last.runs refl)
 
@@ -80,8 +77,8 @@ answerer-each laws tries period delay link ts before t mid kt run hearing going 
         let from = (h.polls Answerer).made_from made (linked-connected (w.state s).answ.phase c) in
         let n = counted (w.state s).answ.numbered (w.state s) (past ts s)
         (known tries period delay link (past ts s) (w.state s) kt h.run h.carried Answerer) c from.1 from.2 refl in
-        let first = numbered-linked tries period delay link ts w.state w.deed kt w.trace Answerer s (omega (arith, l)) n in
-        let back = turned period turns e o (two-ends tries period delay link ts w.state w.deed kt w.trace Answerer) in
+        let first = numbered-linked w Answerer s (omega (arith, l)) n in
+        let back = turned period turns e o (two-ends w Answerer) in
         connected-back period turns o e back u turns high (omega arith) (linked-on period turns o e back s u low high first)
         (ap (λ (x : Accounts). is_connected x.orig.phase) w.last ∙ peer-last)
 

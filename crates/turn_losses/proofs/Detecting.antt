@@ -12,14 +12,14 @@ use Rattle.link_run.proofs.Speaking.{speaks-phase}
 use Rattle.turn_losses.proofs.Periods.{once, times, loses-of}
 use Rattle.turn_losses.specs.Losses.{OriginatorWantsPattern, UndetectedIsStarved}
 use Rattle.link_account.proofs.HearWays.{numbers-alike}
-use Rattle.link_account.proofs.SpeakWays.{tries-alike, linked-so, why-broken, Undetected, Spends}
-use Rattle.turn_losses.proofs.Tracing.{known, timed, rated, Traced, traced}
+use Rattle.link_account.proofs.SpeakWays.{why-broken, Undetected, Spends}
+use Rattle.turn_losses.proofs.Tracing.{known, timed, rated, timed-run}
 use Rattle.turn_losses.proofs.PollLaws.{two-ends}
 use Rattle.turn_losses.proofs.PeriodLaws.{NoneLost}
 use Rattle.turn_losses.proofs.PeriodHolds.{LostIn, lost-or-none}
 use Rattle.turn_losses.proofs.Starving.{all-but-one}
 use Rattle.turn_losses.proofs.Names.{KeepsTime, Rates, rates, IsOf, arrived_rnrs, served_account, heard-ok, hears-well, Served, serves-all}
-use Rattle.turn_losses.proofs.Names.{PeriodLoses, past, sent_or, EndRun, TwoEnds, end_run}
+use Rattle.turn_losses.proofs.Names.{PeriodLoses, past, sent_or, EndRun, TwoEnds, TimedRun, end_of}
 use Rattle.lapm_frames.specs.declared.seen.Seen.TheVariants as seens
 use Rattle.lapm_frames.specs.declared.sent.Sent.TheVariants as slots
 use Rattle.lapm_frames.specs.declared.arrived.Arrived.TheVariants as arrivals
@@ -189,17 +189,17 @@ wants-pattern spends tries period delay link ts before t mid kt run c broken num
     turns : ℕ
     turns = length ts
 
-    w : Traced period delay link ts before
-    w = traced tries period delay link ts before kt run c
+    w : TimedRun
+    w = timed-run tries period delay link ts before kt run c
 
     e : EndRun
-    e = end_run delay w.state w.deed Originator
+    e = end_of w Originator
 
     o : EndRun
-    o = end_run delay w.state w.deed Answerer
+    o = end_of w Answerer
 
     k : TwoEnds period turns e o
-    k = two-ends tries period delay link ts w.state w.deed kt w.trace Originator
+    k = two-ends w Originator
 
     role-at : (r : Role) (n : ℕ) (us : List Turn) (x : Accounts) → RunOf link us x → IsCarried delay us → (of r x).setup.role ≡ r
     role-at r n us x run' c' =
@@ -337,7 +337,7 @@ wants-pattern spends tries period delay link ts before t mid kt run c broken num
         go : LostIn e o (y + 1) (period - 1) ⊎ NoneLost e o (y + 1) (period - 1) → PeriodLoses period turns ts number
         go (inr none) = absurd (no-answer y room none)
         go (inl lost) = let g = long-enough in
-            loses-of period delay link ts w.state w.deed w.trace Originator y number (omega (arith, p)) (omega (arith, less', g)) lost
+            loses-of w Originator y number (omega (arith, p)) (omega (arith, less', g)) lost
 
 pub undetected-starved : SpendsOnTime → UndetectedIsStarved
 undetected-starved spends tries period delay link ts before t mid kt run c broken =

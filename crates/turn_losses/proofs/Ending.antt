@@ -6,7 +6,7 @@ use Rattle.link_run.proofs.Names.{is_released, Link, Accounts, Turn, Hears, arri
 use Rattle.turn_bound.specs.Together.{Together}
 use Rattle.turn_losses.proofs.Periods.{once}
 use Rattle.turn_losses.proofs.Truths.{clash}
-use Rattle.turn_losses.proofs.Tracing.{Traced, traced}
+use Rattle.turn_losses.proofs.Tracing.{timed-run}
 use Rattle.turn_losses.proofs.AnswerTurn.{connected-is}
 use Rattle.turn_losses.proofs.LineLaw.{was-sent}
 use Rattle.turn_losses.proofs.PollLaws.{two-ends}
@@ -18,23 +18,20 @@ use Rattle.turn_losses.proofs.Waiting.{BreakPeriod, break-periods}
 use Rattle.turn_losses.proofs.Losing.{connected-loses, last-ends}
 use Rattle.turn_losses.proofs.Quiet.{answ-no-sabme}
 use Rattle.turn_losses.proofs.Spending.{LastWait}
-use Rattle.turn_losses.proofs.Names.{KeepsTime, StandTogether, of_arrived, PeriodLoses, LosesEach, Deed, Trace, past, TwoEnds, end_run}
+use Rattle.turn_losses.proofs.Names.{KeepsTime, StandTogether, of_arrived, PeriodLoses, LosesEach, past, TwoEnds, TimedRun, end_of}
 
 -- the periods of the break that waits at the end
-pub periods-of : (tries period : ℕ) (delay : Role → ℕ) (link : Link) (ts : List Turn) (state : ℕ → Accounts) (deed : ℕ → Deed)
-    → (kt : KeepsTime tries period delay link) → (w : Trace period delay link ts state deed) → (r : Role)
-    → LastWait tries period (length ts) (of r (state (length ts))) → (n : ℕ) → n < tries + 1
-    → (s : ℕ) × (s + (n + 1) * period ≡ length ts) × BreakPeriod period (length ts) (number_of (of r (state (length ts))))
-    (end_run delay state deed r) (deeds-of tries period delay link ts state deed kt w r) s
-periods-of tries period delay link ts state deed kt w r l n less =
-    break-periods period (length ts) (end_run delay state deed r) (deeds-of tries period delay link ts state deed kt w r)
-    (breaking tries period delay link ts state deed kt w r) (first r) tries (number_of (of r (state (length ts))))
+pub periods-of : (w : TimedRun) → (r : Role) → LastWait w.tries w.period (length w.ts) (of r (w.state (length w.ts))) → (n : ℕ)
+    → n < w.tries + 1 → (s : ℕ) × (s + (n + 1) * w.period ≡ length w.ts)
+    × BreakPeriod w.period (length w.ts) (number_of (of r (w.state (length w.ts)))) (end_of w r) (deeds-of w r) s
+periods-of w r l n less = break-periods w.period (length w.ts) (end_of w r) (deeds-of w r)
+    (breaking w r) (first r) w.tries (number_of (of r (w.state (length w.ts))))
     (record { connected = l.connected; waiting = l.waiting; numbered = refl }) l.count l.now n
     (omega (arith, less))
   where
-    first : (r : Role) → is_connected (of r (state 0)).phase ≡ false
-    first Originator = ap (λ (y : Accounts). is_connected y.orig.phase) w.starts
-    first Answerer = ap (λ (y : Accounts). is_connected y.answ.phase) w.starts
+    first : (r : Role) → is_connected (of r (w.state 0)).phase ≡ false
+    first Originator = ap (λ (y : Accounts). is_connected y.orig.phase) w.trace.starts
+    first Answerer = ap (λ (y : Accounts). is_connected y.answ.phase) w.trace.starts
 
 pub number-small : (x : ℕ) → x % 2 < 2
 number-small x = omega arith
@@ -55,19 +52,19 @@ pub originator-breaks : ReadsWritten → StandTogether → (tries period : ℕ) 
     → Hears (length ts) before t mid → is_connected mid.orig.phase ≡ true → LastWait tries period (length ts) before.orig
     → waits (served_at link (length ts) mid Originator).account.own_breaks ≡ true → LosesEach period (tries + 1) (length ts) (t ∷ ts)
 originator-breaks reads together tries period delay link ts before t mid kt run cs hearing cm l waiting n less = go
-    (periods-of tries period delay link ts w.state w.deed kt w.trace Originator last n less)
+    (periods-of w Originator last n less)
   where
     turns : ℕ
     turns = length ts
 
-    w : Traced period delay link ts before
-    w = traced tries period delay link ts before kt run.run run.carried
+    w : TimedRun
+    w = timed-run tries period delay link ts before kt run.run run.carried
 
     last : LastWait tries period turns (w.state turns).orig
     last = subst (λ (x : Accounts). LastWait tries period turns x.orig) (sym w.last) l
 
-    k : TwoEnds period turns (end_run delay w.state w.deed Originator) (end_run delay w.state w.deed Answerer)
-    k = two-ends tries period delay link ts w.state w.deed kt w.trace Originator
+    k : TwoEnds period turns (end_of w Originator) (end_of w Answerer)
+    k = two-ends w Originator
 
     same : (x : ℕ) → x ≤ turns → turns ≤ x → x ≡ turns
     same x a b = omega (arith, a, b)
@@ -84,16 +81,14 @@ originator-breaks reads together tries period delay link ts before t mid kt run 
     ]
 
     go : (s : ℕ) × (s + (n + 1) * period ≡ turns) × BreakPeriod period turns (number_of (w.state turns).orig)
-        (end_run delay w.state w.deed Originator) (deeds-of tries period delay link ts w.state w.deed kt w.trace Originator) s
-        → PeriodLoses period turns (t ∷ ts) n
+        (end_of w Originator) (deeds-of w Originator) s → PeriodLoses period turns (t ∷ ts) n
     go (s, q, bp) =
         let m = once period n in
-        connected-loses reads tries period delay link ts w.state w.deed kt run.may_play w.trace t cs Originator
+        connected-loses reads w run.may_play t cs Originator
         (number_of (w.state turns).orig) s n (number-small (w.state turns).orig.own_breaks.answered) q bp
         (λ u a b. peer u (omega (arith, b, q, m)) (bp.stays u a b).connected)
-        (λ u a b f. let c = was-sent (delay Answerer) turns is_sabme (end_run delay w.state w.deed Answerer).slot
-        (end_run delay w.state w.deed Originator).heard (end_run delay w.state w.deed Originator).loses k.hears u
-        (omega (arith, b, q, m)) f in
-        answ-no-sabme tries period delay link ts w.state w.deed kt w.trace (u - delay Answerer) (omega (arith, b, q, m)) c.1)
+        (λ u a b f. let c = was-sent (delay Answerer) turns is_sabme (end_of w Answerer).slot
+        (end_of w Originator).heard (end_of w Originator).loses k.hears u (omega (arith, b, q, m)) f in
+        answ-no-sabme w (u - delay Answerer) (omega (arith, b, q, m)) c.1)
         (λ g f. none-last link ts before t mid Originator tries period hearing cm l waiting
         (ap (λ (x : Accounts). of_arrived (of_word (ack_of (number_of x.orig))) (arrival t.orig.heard)) (sym w.last) ∙ f))

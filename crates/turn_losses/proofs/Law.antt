@@ -1,8 +1,7 @@
 -- Whatever an end gives up for, the run was starved.
 use Rattle.std.proofs.Common.{◌⊎◌, inl, inr, ◌≡◌, ℕ, ◌+◌, ◌≤◌, Bool, true, false, cond, ◌∷◌, length, arith, refl, sym, ◌∙◌, ap, subst}
 use Rattle.link_account.proofs.Names.{Role, Originator, Answerer, of, ReadsWritten, IsAllowed, waits, LinkFault, Account, is_connected}
-use Rattle.link_run.proofs.Names.{Phase, Releasing, is_released, is_closed}
-use Rattle.link_run.proofs.Names.{arrival, served_at}
+use Rattle.link_run.proofs.Names.{Phase, Releasing, is_released, is_closed, arrival, served_at}
 use Rattle.link_account.specs.Account.{break_waits}
 use Rattle.link_run.specs.Run.{BrokenTurn}
 use Rattle.link_run.specs.Starved.{IsStarved}

@@ -1,24 +1,18 @@
 use Rattle.std.proofs.Common.{◌⊎◌, inl, inr, ◌≡◌, ℕ, zero, suc, ◌+◌, ◌-◌, ◌<◌, ◌≤◌, Bool, true, false, cond, List, [], ◌∷◌, length, arith}
 use Rattle.std.proofs.Common.{refl, sym, ◌∙◌, ap, subst, Some, None}
 use Rattle.link_account.proofs.Names.{cases_lt, Role, Frame, Sent, Arrived, Account, is_connected, arrives, slice_get, other, of}
-use Rattle.link_run.proofs.Names.{Link, Accounts, Turn, arrival, Crosses, sent_in}
-use Rattle.link_run.specs.Carried.{HasDelays}
+use Rattle.link_run.proofs.Names.{arrival, Crosses, sent_in}
 use Rattle.turn_bound.proofs.Tied.{sent_of, none-heard, one-heard}
 use Rattle.turn_losses.proofs.Polls.{Polls, WasSent}
-use Rattle.turn_losses.proofs.Names.{is_lost, past, sent_or, Deed, Trace, is_poll, of_frame, of_arrived, is_linked, poll_due}
-use Rattle.turn_losses.proofs.Names.{PollTurn, ArrivesLate, arrives-flag}
+use Rattle.turn_losses.proofs.Names.{is_lost, past, sent_or, is_poll, of_frame, of_arrived, is_linked, poll_due, PollTurn, ArrivesLate}
+use Rattle.turn_losses.proofs.Names.{arrives-flag, TimedRun}
 use Rattle.lapm_frames.specs.declared.arrived.Arrived.TheVariants as arrivals
 
 -- the turn so many turns ago
-pub looked : (period : ℕ) (delay : Role → ℕ) (link : Link) (ts : List Turn) (state : ℕ → Accounts) (deed : ℕ → Deed)
-    → Trace period delay link ts state deed
-    → (k t : ℕ) → t + k < length ts → slice_get (past ts (t + k + 1)) k ≡ Some (deed t).turn
-looked period delay link ts state deed w zero t l =
-    ap (λ n. slice_get (past ts n) 0) (omega arith) ∙ ap (λ us. slice_get us 0) (w.grows t (omega (arith, l)))
-looked period delay link ts state deed w (suc k) t l =
-    ap (λ n. slice_get (past ts n) (suc k)) (omega arith)
-    ∙ (ap (λ us. slice_get us (suc k)) (w.grows (t + k + 1) (omega (arith, l)))
-    ∙ looked period delay link ts state deed w k t (omega (arith, l)))
+pub looked : (w : TimedRun) → (k t : ℕ) → t + k < length w.ts → slice_get (past w.ts (t + k + 1)) k ≡ Some (w.deed t).turn
+looked w zero t l = ap (λ n. slice_get (past w.ts n) 0) (omega arith) ∙ ap (λ us. slice_get us 0) (w.trace.grows t (omega (arith, l)))
+looked w (suc k) t l = ap (λ n. slice_get (past w.ts n) (suc k)) (omega arith)
+    ∙ (ap (λ us. slice_get us (suc k)) (w.trace.grows (t + k + 1) (omega (arith, l))) ∙ looked w k t (omega (arith, l)))
 
 get-none : {A : Type 0} (xs : List A) (k : ℕ) → length xs ≤ k → slice_get xs k ≡ None
 get-none [] k l = refl
@@ -26,36 +20,34 @@ get-none (x ∷ xs) zero l = absurd (omega (arith, l))
 get-none (x ∷ xs) (suc k) l = get-none xs k (omega (arith, l))
 
 -- both lines of a run
-pub arrives-late : (period : ℕ) (delay : Role → ℕ) (link : Link) (ts : List Turn) (state : ℕ → Accounts) (deed : ℕ → Deed) → HasDelays delay
-    → Trace period delay link ts state deed → (role : Role)
-    → (t : ℕ) → t < length ts
-    → ArrivesLate (delay (other role)) t (is_lost (of role (deed t).turn).heard) (λ n. sent_or (of (other role) (deed n).turn).sent)
-    (arrival (of role (deed t).turn).heard)
-arrives-late period delay link ts state deed some w role t within = record { early = early; late = late }
+pub arrives-late : (w : TimedRun) → (role : Role) → (t : ℕ) → t < length w.ts
+    → ArrivesLate (w.delay (other role)) t (is_lost (of role (w.deed t).turn).heard) (λ n. sent_or (of (other role) (w.deed n).turn).sent)
+    (arrival (of role (w.deed t).turn).heard)
+arrives-late w role t within = record { early = early; late = late }
   where
     d : ℕ
-    d = delay (other role)
+    d = w.delay (other role)
 
-    crosses : Crosses (sent_in (other role) (slice_get (past ts t) (d - 1))) (of role (deed t).turn).heard
-    crosses = (w.happens t within).carries role
+    crosses : Crosses (sent_in (other role) (slice_get (past w.ts t) (d - 1))) (of role (w.deed t).turn).heard
+    crosses = (w.trace.happens t within).carries role
 
-    early : t < d → arrival (of role (deed t).turn).heard ≡ arrivals.Nothing
+    early : t < d → arrival (of role (w.deed t).turn).heard ≡ arrivals.Nothing
     early l =
-        let number = (w.happens t within).number in
-        sym (none-heard (sent_in (other role) (slice_get (past ts t) (d - 1))) (of role (deed t).turn).heard
-        (ap (sent_in (other role)) (get-none (past ts t) (d - 1) (omega (arith, number, l)))) crosses)
+        let number = (w.trace.happens t within).number in
+        sym (none-heard (sent_in (other role) (slice_get (past w.ts t) (d - 1))) (of role (w.deed t).turn).heard
+        (ap (sent_in (other role)) (get-none (past w.ts t) (d - 1) (omega (arith, number, l)))) crosses)
 
-    late : d ≤ t → arrival (of role (deed t).turn).heard ≡ cond (is_lost (of role (deed t).turn).heard) arrivals.Nothing
-        (arrives (sent_or (of (other role) (deed (t - d)).turn).sent))
+    late : d ≤ t → arrival (of role (w.deed t).turn).heard ≡ cond (is_lost (of role (w.deed t).turn).heard) arrivals.Nothing
+        (arrives (sent_or (of (other role) (w.deed (t - d)).turn).sent))
     late g =
-        let one = some (other role) in
-        let seen : slice_get (past ts (t - d + (d - 1) + 1)) (d - 1) ≡ Some (deed (t - d)).turn =
-        looked period delay link ts state deed w (d - 1) (t - d) (omega (arith, g, one, within)) in
-        let turn : slice_get (past ts t) (d - 1) ≡ Some (deed (t - d)).turn =
-        ap (λ n. slice_get (past ts n) (d - 1)) (omega (arith, g, one)) ∙ seen in
-        let s = (w.happens (t - d) (omega (arith, g, within))).speaking (other role) in
-        sym (one-heard (sent_in (other role) (slice_get (past ts t) (d - 1))) (sent_or (of (other role) (deed (t - d)).turn).sent)
-        (of role (deed t).turn).heard
+        let one = w.keeps.delays (other role) in
+        let seen : slice_get (past w.ts (t - d + (d - 1) + 1)) (d - 1) ≡ Some (w.deed (t - d)).turn =
+        looked w (d - 1) (t - d) (omega (arith, g, one, within)) in
+        let turn : slice_get (past w.ts t) (d - 1) ≡ Some (w.deed (t - d)).turn =
+        ap (λ n. slice_get (past w.ts n) (d - 1)) (omega (arith, g, one)) ∙ seen in
+        let s = (w.trace.happens (t - d) (omega (arith, g, within))).speaking (other role) in
+        sym (one-heard (sent_in (other role) (slice_get (past w.ts t) (d - 1))) (sent_or (of (other role) (w.deed (t - d)).turn).sent)
+        (of role (w.deed t).turn).heard
         (ap (λ m. sent_of (sent_in (other role) m)) turn ∙ (ap sent_of s.sent_is ∙ ap (λ m. Some (sent_or m)) (sym s.sent_is))) crosses)
 
 -- a frame of some kind that is heard was sent

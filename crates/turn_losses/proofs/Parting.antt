@@ -20,7 +20,7 @@ use Rattle.turn_losses.specs.Losses.{AnswererWantsAnswers}
 use Rattle.turn_losses.proofs.PollHear.{PollHeard, poll-hears, linked-connected}
 use Rattle.turn_losses.proofs.PollSpeak.{poll-speaks}
 use Rattle.turn_losses.proofs.AnswerTurn.{connected-is, linked-sends}
-use Rattle.turn_losses.proofs.Tracing.{Known, known, Timed, timed, rated, Traced, traced, silent-of, past-all}
+use Rattle.turn_losses.proofs.Tracing.{Known, known, Timed, timed, rated, silent-of, past-all, timed-run}
 use Rattle.turn_losses.proofs.Numbering.{Plays, allowed, fits-at, counts-of}
 use Rattle.turn_losses.proofs.Numbered.{numbered-linked}
 use Rattle.turn_losses.proofs.LineLaw.{is-heard, looked}
@@ -41,8 +41,8 @@ use Rattle.turn_losses.proofs.Setups.{start-setup, heard-as}
 use Rattle.turn_losses.proofs.TryAnswering.{can_answer, answer-due}
 use Rattle.turn_losses.proofs.Trying.{TryTurn, TriesSo, Tried, tried, tries-so}
 use Rattle.turn_losses.proofs.Names.{KeepsTime, Rates, rates, Sends, IsOf, Stands, arrived_rnrs, HeardAs, of_frame, of_arrived, Served}
-use Rattle.turn_losses.proofs.Names.{serves-all, serves-well, arrives-flag, is_lost, is_poll, PeriodLoses, LosesEach, is_linked, Deed}
-use Rattle.turn_losses.proofs.Names.{Happens, Trace, past, sent_or, EndRun, TwoEnds, end_run, hears_final}
+use Rattle.turn_losses.proofs.Names.{serves-all, serves-well, arrives-flag, is_lost, is_poll, PeriodLoses, LosesEach, is_linked, Happens}
+use Rattle.turn_losses.proofs.Names.{past, sent_or, EndRun, TwoEnds, hears_final, TimedRun, end_of}
 use Rattle.lapm_frames.specs.declared.sent.Sent.TheVariants as slots
 use Rattle.lapm_frames.specs.declared.arrived.Arrived.TheVariants as arrivals
 
@@ -166,16 +166,15 @@ told-says turn release b said e h n = go release (is_originator b.setup.role) (s
     go false y q = let wrong : true ≡ false = sym (ap is_connected (linked-phase turn b said q ∙ e)) ∙ n in cc
 
 -- The turn in which the originator is told to release: it releases from then on.
-pub record ToldIn (link : Link) (deed : ℕ → Deed) (o : EndRun) (t : ℕ) : Type 0 where
+pub record ToldIn (w : TimedRun) (o : EndRun) (t : ℕ) : Type 0 where
   pub turn : ℕ
   pub before : turn < t
   pub was : is_linked (o.account turn).phase ≡ true → is_connected (o.account turn).phase ≡ true
   pub since : (u : ℕ) → turn < u → u ≤ t → (o.account u).phase ≡ Releasing
-  pub told : Released link turn (deed turn).mid
+  pub told : Released w.link turn (w.deed turn).mid
 
-longer-told : (link : Link) (deed : ℕ → Deed) (o : EndRun) (u : ℕ) → ToldIn link deed o u → (o.account (u + 1)).phase ≡ Releasing
-    → ToldIn link deed o (u + 1)
-longer-told link deed o u a now = let b = a.before in record {
+longer-told : (w : TimedRun) (o : EndRun) (u : ℕ) → ToldIn w o u → (o.account (u + 1)).phase ≡ Releasing → ToldIn w o (u + 1)
+longer-told w o u a now = let b = a.before in record {
   turn = a.turn;
   before = omega (arith, b);
   was = a.was;
@@ -214,22 +213,18 @@ pub setup-role : (tries period : ℕ) (delay : Role → ℕ) (link : Link) (us :
     → RunOf link us y → IsCarried delay us → (r : Role) → (of r y).setup.role ≡ r
 setup-role tries period delay link us y kt run c r = ap (λ s. s.role) (start-setup tries period delay link us y kt run c r) ∙ kt.roles r
 
-not-releasing : (tries period : ℕ) (delay : Role → ℕ) (link : Link) (ts : List Turn) (state : ℕ → Accounts) (deed : ℕ → Deed)
-    → KeepsTime tries period delay link → Trace period delay link ts state deed → (state 0).orig.phase ≡ Releasing → ⊥
-not-releasing tries period delay link ts state deed kt w q = let there : Detecting ≡ Releasing = ap (λ (y : Accounts). y.orig.phase)
-    (sym w.starts) ∙ q in cc
+not-releasing : (w : TimedRun) → (w.state 0).orig.phase ≡ Releasing → ⊥
+not-releasing w q = let there : Detecting ≡ Releasing = ap (λ (y : Accounts). y.orig.phase) (sym w.trace.starts) ∙ q in cc
 
 -- when it was told
-pub told-at : ReadsWritten → (tries period : ℕ) (delay : Role → ℕ) (link : Link) (ts : List Turn) (state : ℕ → Accounts) (deed : ℕ → Deed)
-    → KeepsTime tries period delay link → MayPlay link.orig.setup link.answ.setup → Trace period delay link ts state deed
-    → (u : ℕ) → u ≤ length ts → (state u).orig.phase ≡ Releasing → ToldIn link deed (end_run delay state deed Originator) u
-told-at reads tries period delay link ts state deed kt m w zero y q = absurd (not-releasing tries period delay link ts state deed kt w q)
-told-at reads tries period delay link ts state deed kt m w (suc u) y q = subst (ToldIn link deed (end_run delay state deed Originator))
-    (next u) (go (tries-so reads tries period delay link ts state deed kt m w Releasing refl u (omega (arith, y)) now)
-    (λ f. told-at reads tries period delay link ts state deed kt m w u (omega (arith, y)) f))
+pub told-at : ReadsWritten → (w : TimedRun) → MayPlay w.link.orig.setup w.link.answ.setup → (u : ℕ) → u ≤ length w.ts
+    → (w.state u).orig.phase ≡ Releasing → ToldIn w (end_of w Originator) u
+told-at reads w m zero y q = absurd (not-releasing w q)
+told-at reads w m (suc u) y q = subst (ToldIn w (end_of w Originator))
+    (next u) (go (tries-so reads w m Releasing refl u (omega (arith, y)) now) (λ f. told-at reads w m u (omega (arith, y)) f))
   where
     o : EndRun
-    o = end_run delay state deed Originator
+    o = end_of w Originator
 
     next : (m : ℕ) → m + 1 ≡ suc m
     next m = omega arith
@@ -237,47 +232,48 @@ told-at reads tries period delay link ts state deed kt m w (suc u) y q = subst (
     now : (o.account (u + 1)).phase ≡ Releasing
     now = ap (λ m. (o.account m).phase) (next u) ∙ q
 
-    h : Happens period delay link (past ts u) u (state u) (deed u) (state (u + 1))
-    h = w.happens u (omega (arith, y))
+    h : Happens w.period w.delay w.link (past w.ts u) u (w.state u) (w.deed u) (w.state (u + 1))
+    h = w.trace.happens u (omega (arith, y))
 
-    s : SpeaksAt (said_at link u (deed u).mid Originator) (deed u).turn.orig (state (u + 1)).orig
+    s : SpeaksAt (said_at w.link u (w.deed u).mid Originator) (w.deed u).turn.orig (w.state (u + 1)).orig
     s = h.speaking Originator
 
     b : Account
-    b = (served_at link u (deed u).mid Originator).account
+    b = (served_at w.link u (w.deed u).mid Originator).account
 
-    b-is : b.phase ≡ (deed u).mid.orig.phase
-    b-is = (serves-all link.orig.user u (is_released (deed u).mid.orig.phase) (deed u).mid.orig).phase
+    b-is : b.phase ≡ (w.deed u).mid.orig.phase
+    b-is = (serves-all w.link.orig.user u (is_released (w.deed u).mid.orig.phase) (w.deed u).mid.orig).phase
 
-    role : (state u).orig.setup.role ≡ Originator
-    role = setup-role tries period delay link (past ts u) (state u) kt h.run h.carried Originator
+    role : (w.state u).orig.setup.role ≡ Originator
+    role = setup-role w.tries w.period w.delay w.link (past w.ts u) (w.state u) w.keeps h.run h.carried Originator
 
-    polled : PollHeard Originator u (of_arrived is_poll (arrival (deed u).turn.orig.heard)) (state u).orig (deed u).mid.orig
-    polled = poll-hears Originator (arrival (deed u).turn.orig.heard) u (state u).orig role
-        (known tries period delay link (past ts u) (state u) kt h.run h.carried Originator).none_due.answer (deed u).mid.orig
+    polled : PollHeard Originator u (of_arrived is_poll (arrival (w.deed u).turn.orig.heard)) (w.state u).orig (w.deed u).mid.orig
+    polled = poll-hears Originator (arrival (w.deed u).turn.orig.heard) u (w.state u).orig role
+        (known w.tries w.period w.delay w.link (past w.ts u) (w.state u) w.keeps h.run h.carried Originator).none_due.answer
+        (w.deed u).mid.orig
         (h.hearing Originator).hears
 
     linked-b : is_linked b.phase ≡ true
-    linked-b = sym (poll-speaks u (releases link u (deed u).mid) b s.said s.says).linked
+    linked-b = sym (poll-speaks u (releases w.link u (w.deed u).mid) b s.said s.says).linked
         ∙ (ap (λ (a : Account). is_linked a.phase) (sym s.after_is) ∙ ap is_linked now)
 
-    go : TryTurn period u Releasing (o.heard u) (o.slot u) (o.account u) (o.account (u + 1))
-        → ((o.account u).phase ≡ Releasing → ToldIn link deed o u) → ToldIn link deed o (u + 1)
-    go (inr (inl ((g, _), _, _, _, _))) again = longer-told link deed o u (again g) now
-    go (inr (inr ((g, _), _, _, _))) again = longer-told link deed o u (again g) now
+    go : TryTurn w.period u Releasing (o.heard u) (o.slot u) (o.account u) (o.account (u + 1))
+        → ((o.account u).phase ≡ Releasing → ToldIn w o u) → ToldIn w o (u + 1)
+    go (inr (inl ((g, _), _, _, _, _))) again = longer-told w o u (again g) now
+    go (inr (inr ((g, _), _, _, _))) again = longer-told w o u (again g) now
     go (inl (anew, set, count, sends)) again = record {
       turn = u;
       before = omega arith;
       was = was;
       since = λ m lo hi. ap (λ j. (o.account j).phase) (omega (arith, lo, hi)) ∙ now;
-      told = told-release link u (deed u).mid told;
+      told = told-release w.link u (w.deed u).mid told;
     }
       where
         connected-b : b.phase ≡ Connected
         connected-b = by (is_connected b.phase) refl
           where
-            trying-so : (deed u).mid.orig.phase ≡ Releasing → ⊥
-            trying-so g = elim (try-heard (arrival (deed u).turn.orig.heard) u (state u).orig (deed u).mid.orig role
+            trying-so : (w.deed u).mid.orig.phase ≡ Releasing → ⊥
+            trying-so g = elim (try-heard (arrival (w.deed u).turn.orig.heard) u (w.state u).orig (w.deed u).mid.orig role
                 (h.hearing Originator).hears Releasing refl g) [
                   | inl m ↦ anew m.0
                   | inr z ↦ z.1 refl
@@ -291,8 +287,8 @@ told-at reads tries period delay link ts state deed kt m w (suc u) y q = subst (
             by true f = connected-is b.phase f
             by false f = absurd (either (connected-or b.phase linked-b f))
 
-        told : releases link u (deed u).mid ≡ true
-        told = told-says u (releases link u (deed u).mid) b s.said connected-b s.says
+        told : releases w.link u (w.deed u).mid ≡ true
+        told = told-says u (releases w.link u (w.deed u).mid) b s.said connected-b s.says
             (ap (λ (a : Account). is_connected a.phase) (sym s.after_is) ∙ ap is_connected now)
 
         was : is_linked (o.account u).phase ≡ true → is_connected (o.account u).phase ≡ true
@@ -302,53 +298,49 @@ told-at reads tries period delay link ts state deed kt m w (suc u) y q = subst (
         ]
 
 -- what is known of the answerer's segments then
-abbrev HeardIn : (tries period : ℕ) (delay : Role → ℕ) (ts : List Turn) (state : ℕ → Accounts) (deed : ℕ → Deed) → ℕ → Type 0
-HeardIn tries period delay ts state deed u = (q : Phase) × HeardAs (rates tries period) (length (state u).answ.outgoing.pieces) 0
-    (length (past ts u)) ((rates tries period).quota * arrived_rnrs (arrival (deed u).turn.answ.heard)) Answerer (state u).answ.phase
-    (state u).answ q (deed u).mid.answ
+abbrev HeardIn : TimedRun → ℕ → Type 0
+HeardIn w u = (q : Phase) × HeardAs (rates w.tries w.period) (length (w.state u).answ.outgoing.pieces) 0 (length (past w.ts u))
+    ((rates w.tries w.period).quota * arrived_rnrs (arrival (w.deed u).turn.answ.heard)) Answerer (w.state u).answ.phase
+    (w.state u).answ q (w.deed u).mid.answ
 
-heard-at : (tries period : ℕ) (delay : Role → ℕ) (link : Link) (ts : List Turn) (state : ℕ → Accounts) (deed : ℕ → Deed)
-    → KeepsTime tries period delay link → Trace period delay link ts state deed → (u : ℕ) → u < length ts
-    → HeardIn tries period delay ts state deed u
-heard-at tries period delay link ts state deed kt w u b =
-    let h = w.happens u b in
-    heard-as tries period delay link (past ts u) (state u) kt h.run h.carried Answerer (arrival (deed u).turn.answ.heard) (deed u).mid.answ
-    (ap (λ m. hear m (arrival (deed u).turn.answ.heard) (state u).answ) h.number ∙ (h.hearing Answerer).hears)
+heard-at : (w : TimedRun) → (u : ℕ) → u < length w.ts → HeardIn w u
+heard-at w u b =
+    let h = w.trace.happens u b in
+    heard-as w.tries w.period w.delay w.link (past w.ts u) (w.state u) w.keeps h.run h.carried Answerer (arrival (w.deed u).turn.answ.heard)
+    (w.deed u).mid.answ
+    (ap (λ m. hear m (arrival (w.deed u).turn.answ.heard) (w.state u).answ) h.number ∙ (h.hearing Answerer).hears)
 
-pub mid-connected : (tries period : ℕ) (delay : Role → ℕ) (link : Link) (ts : List Turn) (state : ℕ → Accounts) (deed : ℕ → Deed)
-    → KeepsTime tries period delay link → Trace period delay link ts state deed → (u : ℕ) → u < length ts
-    → is_connected (state (u + 1)).answ.phase ≡ true → is_connected (deed u).mid.answ.phase ≡ true
-mid-connected tries period delay link ts state deed kt w u b g =
-    let h = w.happens u b in
+pub mid-connected : (w : TimedRun) → (u : ℕ) → u < length w.ts → is_connected (w.state (u + 1)).answ.phase ≡ true
+    → is_connected (w.deed u).mid.answ.phase ≡ true
+mid-connected w u b g =
+    let h = w.trace.happens u b in
     let s = h.speaking Answerer in
-    let a : Account = (served_at link u (deed u).mid Answerer).account in
-    ap is_connected (sym (serves-all link.answ.user u (is_released (deed u).mid.orig.phase) (deed u).mid.answ).phase)
+    let a : Account = (served_at w.link u (w.deed u).mid Answerer).account in
+    ap is_connected (sym (serves-all w.link.answ.user u (is_released (w.deed u).mid.orig.phase) (w.deed u).mid.answ).phase)
     ∙ ((poll-speaks u false a s.said s.says).connected
     (ap (λ (y : Account). is_connected y.phase) (sym s.after_is) ∙ g)).0
 
 -- where the answerer is told in a turn that it is whole, its clock runs for a poll or a pause alone
-whole-stops : (tries period : ℕ) (delay : Role → ℕ) (link : Link) (ts : List Turn) (state : ℕ → Accounts) (deed : ℕ → Deed)
-    → KeepsTime tries period delay link → Trace period delay link ts state deed → (v : ℕ) → v < length ts → Released link v (deed v).mid
-    → (deed v).mid.answ.outgoing.awaited ≡ false → (deed v).mid.answ.outgoing.paused ≡ false → (deed v).mid.answ.wait.timer ≡ None
-whole-stops tries period delay link ts state deed kt w v b told f g = none m.wait.timer
-    (sends.cause ∙ still (nat_lt m.outgoing.front m.outgoing.high) idle)
+whole-stops : (w : TimedRun) → (v : ℕ) → v < length w.ts → Released w.link v (w.deed v).mid → (w.deed v).mid.answ.outgoing.awaited ≡ false
+    → (w.deed v).mid.answ.outgoing.paused ≡ false → (w.deed v).mid.answ.wait.timer ≡ None
+whole-stops w v b told f g = none m.wait.timer (sends.cause ∙ still (nat_lt m.outgoing.front m.outgoing.high) idle)
   where
     m : Account
-    m = (deed v).mid.answ
+    m = (w.deed v).mid.answ
 
-    hd : HeardIn tries period delay ts state deed v
-    hd = heard-at tries period delay link ts state deed kt w v b
+    hd : HeardIn w v
+    hd = heard-at w v b
 
-    s : Served v (length link.answ.user.breaks) (is_busy v link.answ.user.busy) m (served_at link v (deed v).mid Answerer).account
-    s = serves-all link.answ.user v (is_released (deed v).mid.orig.phase) m
+    s : Served v (length w.link.answ.user.breaks) (is_busy v w.link.answ.user.busy) m (served_at w.link v (w.deed v).mid Answerer).account
+    s = serves-all w.link.answ.user v (is_released (w.deed v).mid.orig.phase) m
 
-    sends : Sends (rates tries period) (length (past ts v) + 1) (length (past ts v)) m.outgoing m.wait.timer
-    sends = linked-sends (rates tries period) (length (past ts v) + 1) (length (past ts v)) Answerer hd.0 m hd.1.stands
+    sends : Sends (rates w.tries w.period) (length (past w.ts v) + 1) (length (past w.ts v)) m.outgoing m.wait.timer
+    sends = linked-sends (rates w.tries w.period) (length (past w.ts v) + 1) (length (past w.ts v)) Answerer hd.0 m hd.1.stands
         (ap is_connected (sym hd.1.phase) ∙ (ap is_connected (sym s.phase) ∙ told.connected))
 
     idle : nat_lt m.outgoing.front m.outgoing.high ≡ false
     idle =
-        let all = whole-is (served_at link v (deed v).mid Answerer).account.outgoing told.done in
+        let all = whole-is (served_at w.link v (w.deed v).mid Answerer).account.outgoing told.done in
         let front = ap (λ o. o.front) s.longer.outgoing in let longer = s.longer.longer in let high = sends.high_pieces in
         let done : m.outgoing.high ≤ m.outgoing.front = omega (arith, all, front, longer, high) in grind (arith, nat_tests, done)
 
@@ -365,47 +357,45 @@ disc-heard : (arrived : Arrived) (turn : ℕ) (a mid : Account) → a.setup.role
 disc-heard arrived turn a mid r c k h = ap is_connected
     (answer-due Releasing arrived turn a mid r (ap (λ p. can_answer Releasing p a.numbered) (connected-is a.phase c)) k h).0
 
-disc-closes : (tries period : ℕ) (delay : Role → ℕ) (link : Link) (ts : List Turn) (state : ℕ → Accounts) (deed : ℕ → Deed)
-    → KeepsTime tries period delay link → Trace period delay link ts state deed → (u : ℕ) → u < length ts
-    → is_connected (state u).answ.phase ≡ true → is_connected (state (u + 1)).answ.phase ≡ true
-    → of_arrived (asks Releasing) (arrival (deed u).turn.answ.heard) ≡ true → ⊥
-disc-closes tries period delay link ts state deed kt w u b f g k =
-    let h = w.happens u b in
-    let role = setup-role tries period delay link (past ts u) (state u) kt h.run h.carried Answerer in
-    let closed = disc-heard (arrival (deed u).turn.answ.heard) u (state u).answ (deed u).mid.answ role f k (h.hearing Answerer).hears in
-    let wrong : true ≡ false = sym (mid-connected tries period delay link ts state deed kt w u b g) ∙ closed in cc
+disc-closes : (w : TimedRun) → (u : ℕ) → u < length w.ts → is_connected (w.state u).answ.phase ≡ true
+    → is_connected (w.state (u + 1)).answ.phase ≡ true → of_arrived (asks Releasing) (arrival (w.deed u).turn.answ.heard) ≡ true → ⊥
+disc-closes w u b f g k =
+    let h = w.trace.happens u b in
+    let role = setup-role w.tries w.period w.delay w.link (past w.ts u) (w.state u) w.keeps h.run h.carried Answerer in
+    let closed = disc-heard (arrival (w.deed u).turn.answ.heard) u (w.state u).answ (w.deed u).mid.answ role f k (h.hearing Answerer).hears
+    in
+    let wrong : true ≡ false = sym (mid-connected w u b g) ∙ closed in cc
 
 -- A DISC that comes in the last turn of a run, where the answerer is still Connected once it has heard, is lost.
-last-disc : (tries period : ℕ) (delay : Role → ℕ) (link : Link) (ts : List Turn) (state : ℕ → Accounts) (deed : ℕ → Deed)
-    → KeepsTime tries period delay link → Trace period delay link ts state deed → (t : Turn) → Carries delay ts t → (before mid : Account)
-    → before.setup.role ≡ Answerer → is_connected before.phase ≡ true → hear (length ts) (arrival t.answ.heard) before ≡ Ok mid
-    → is_connected mid.phase ≡ true → (s : ℕ) → s + delay Originator ≡ length ts
-    → of_frame (asks Releasing) (sent_or (deed s).turn.orig.sent) ≡ true → is_lost t.answ.heard ≡ true
-last-disc tries period delay link ts state deed kt w t cs before mid r c h cm s same sends = by (is_lost t.answ.heard) refl
+last-disc : (w : TimedRun) → (t : Turn) → Carries w.delay w.ts t → (before mid : Account) → before.setup.role ≡ Answerer
+    → is_connected before.phase ≡ true → hear (length w.ts) (arrival t.answ.heard) before ≡ Ok mid → is_connected mid.phase ≡ true → (s : ℕ)
+    → s + w.delay Originator ≡ length w.ts → of_frame (asks Releasing) (sent_or (w.deed s).turn.orig.sent) ≡ true
+    → is_lost t.answ.heard ≡ true
+last-disc w t cs before mid r c h cm s same sends = by (is_lost t.answ.heard) refl
   where
-    d : 1 ≤ delay Originator
-    d = kt.delays Originator
+    d : 1 ≤ w.delay Originator
+    d = w.keeps.delays Originator
 
-    within : s < length ts
+    within : s < length w.ts
     within = omega (arith, same, d)
 
-    s' : SpeaksAt (said_at link s (deed s).mid Originator) (deed s).turn.orig (state (s + 1)).orig
-    s' = (w.happens s within).speaking Originator
+    s' : SpeaksAt (said_at w.link s (w.deed s).mid Originator) (w.deed s).turn.orig (w.state (s + 1)).orig
+    s' = (w.trace.happens s within).speaking Originator
 
-    on-line : sent_in Originator (slice_get ts (delay Originator - 1)) ≡ (deed s).turn.orig.sent
-    on-line = ap (sent_in Originator) (ap (λ us. slice_get us (delay Originator - 1)) (sym (past-all ts))
-        ∙ (ap (λ m. slice_get (past ts m) (delay Originator - 1)) (omega (arith, same, d))
-        ∙ looked period delay link ts state deed w (delay Originator - 1) s (omega (arith, same, d))))
+    on-line : sent_in Originator (slice_get w.ts (w.delay Originator - 1)) ≡ (w.deed s).turn.orig.sent
+    on-line = ap (sent_in Originator) (ap (λ us. slice_get us (w.delay Originator - 1)) (sym (past-all w.ts))
+        ∙ (ap (λ m. slice_get (past w.ts m) (w.delay Originator - 1)) (omega (arith, same, d))
+        ∙ looked w (w.delay Originator - 1) s (omega (arith, same, d))))
 
     by : (x : Bool) → is_lost t.answ.heard ≡ x → is_lost t.answ.heard ≡ true
     by true f = f
     by false f =
-        let heard : arrival t.answ.heard ≡ arrives (sent_or (deed s).turn.orig.sent) = passes-as
-        (sent_in Originator (slice_get ts (delay Originator - 1))) s'.said t.answ.heard (on-line ∙ s'.sent_is) (cs Answerer) f
+        let heard : arrival t.answ.heard ≡ arrives (sent_or (w.deed s).turn.orig.sent) = passes-as
+        (sent_in Originator (slice_get w.ts (w.delay Originator - 1))) s'.said t.answ.heard (on-line ∙ s'.sent_is) (cs Answerer) f
         ∙ ap (λ j. arrives (sent_or j)) (sym s'.sent_is) in
         let hears : of_arrived (asks Releasing) (arrival t.answ.heard) ≡ true = ap (of_arrived (asks Releasing)) heard
-        ∙ (arrives-flag (asks Releasing) (sent_or (deed s).turn.orig.sent) ∙ sends) in
-        let wrong : true ≡ false = sym cm ∙ disc-heard (arrival t.answ.heard) (length ts) before mid r c hears h in cc
+        ∙ (arrives-flag (asks Releasing) (sent_or (w.deed s).turn.orig.sent) ∙ sends) in
+        let wrong : true ≡ false = sym cm ∙ disc-heard (arrival t.answ.heard) (length w.ts) before mid r c hears h in cc
 
 -- A run in which an answerer gives up that waits for no break's answer, while the originator releases.
 pub parted-each : Plays → ReadsWritten → (tries period : ℕ) (delay : Role → ℕ) (link : Link) (ts : List Turn) (before : Accounts) (t : Turn)
@@ -421,23 +411,23 @@ parted-each laws reads tries period delay link ts before t mid kt run cs hearing
     z : Rates
     z = rates tries period
 
-    w : Traced period delay link ts before
-    w = traced tries period delay link ts before kt run.run run.carried
+    w : TimedRun
+    w = timed-run tries period delay link ts before kt run.run run.carried
 
     e : EndRun
-    e = end_run delay w.state w.deed Answerer
+    e = end_of w Answerer
 
     o : EndRun
-    o = end_run delay w.state w.deed Originator
+    o = end_of w Originator
 
     k : TwoEnds period turns e o
-    k = two-ends tries period delay link ts w.state w.deed kt w.trace Answerer
+    k = two-ends w Answerer
 
     k' : TwoEnds period turns o e
     k' = turned period turns e o k
 
     c : Counts turns e o
-    c = counts-of laws tries period delay link ts w.state w.deed kt run.may_play w.trace Answerer
+    c = counts-of laws w run.may_play Answerer
 
     p : period ≡ 2 * (e.delay + o.delay) + 16
     p = k.period_is
@@ -471,7 +461,7 @@ parted-each laws reads tries period delay link ts before t mid kt run cs hearing
     releasing-last = ap (λ (y : Accounts). y.orig.phase) w.last ∙ releasing
 
     tries-on : TriesSo period turns Releasing o
-    tries-on = tries-so reads tries period delay link ts w.state w.deed kt run.may_play w.trace Releasing refl
+    tries-on = tries-so reads w run.may_play Releasing refl
 
     not-first : (o.account 0).phase ≡ Releasing → ⊥
     not-first q = let there : Detecting ≡ Releasing = ap (λ (y : Accounts). y.orig.phase) (sym w.trace.starts) ∙ q in cc
@@ -479,8 +469,8 @@ parted-each laws reads tries period delay link ts before t mid kt run cs hearing
     try-at : (u : ℕ) → u ≤ turns → (o.account u).phase ≡ Releasing → Tried period Releasing o u
     try-at = tried period turns Releasing o long tries-on not-first
 
-    v : ToldIn link w.deed o turns
-    v = told-at reads tries period delay link ts w.state w.deed kt run.may_play w.trace turns (omega arith) releasing-last
+    v : ToldIn w o turns
+    v = told-at reads w run.may_play turns (omega arith) releasing-last
 
     -- its clock runs once it heard a number, so its peer is Connected or was
     counted : (b : Bool) (y : Accounts) (us : List Turn) → Known z link (length us) y Answerer → is_connected y.answ.phase ≡ true → (s : ℕ)
@@ -495,7 +485,7 @@ parted-each laws reads tries period delay link ts before t mid kt run cs hearing
         let from = (h.polls Answerer).made_from made (linked-connected (w.state s).answ.phase f) in
         let m = counted (w.state s).answ.numbered (w.state s) (past ts s)
         (known tries period delay link (past ts s) (w.state s) kt h.run h.carried Answerer) f from.1 from.2 refl in
-        numbered-linked tries period delay link ts w.state w.deed kt w.trace Answerer s (omega (arith, b)) m
+        numbered-linked w Answerer s (omega (arith, b)) m
 
     -- its DISC was lost: in a turn of the run, or in the last one
     disc-lost : (s : ℕ) → s + (n + 1) * period ≡ turns → s + period ≤ turns → is_connected (e.account s).phase ≡ true
@@ -521,14 +511,12 @@ parted-each laws reads tries period delay link ts before t mid kt run cs hearing
         in-time = omega (arith, early, p)
 
         arrives-at : (i.set + o.delay < turns) ⊎ (turns ≤ i.set + o.delay) → PeriodLoses period turns (t ∷ ts) n
-        arrives-at (inl b) = loses-at period delay link ts w.state w.deed w.trace t s n q (i.set + o.delay) late in-time b Answerer
+        arrives-at (inl b) = loses-at w t s n q (i.set + o.delay) late in-time b Answerer
             (lost-there (is_lost (w.deed (i.set + o.delay)).turn.answ.heard) refl)
           where
             lost-there : (x : Bool) → e.loses (i.set + o.delay) ≡ x → e.loses (i.set + o.delay) ≡ true
             lost-there true f = f
-            lost-there false f = absurd
-                (disc-closes tries period delay link ts w.state w.deed kt w.trace (i.set + o.delay) b
-                (ce-late (i.set + o.delay) late (omega (arith, b)))
+            lost-there false f = absurd (disc-closes w (i.set + o.delay) b (ce-late (i.set + o.delay) late (omega (arith, b)))
                 (ce-late (i.set + o.delay + 1) (omega (arith, late)) (omega (arith, b)))
                 (is-heard o.delay turns (asks Releasing) o.slot e.heard e.loses k.hears i.set b f ∙ i.sends))
         arrives-at (inr b) = last-turn (omega (arith, in-time, within, b))
@@ -537,7 +525,7 @@ parted-each laws reads tries period delay link ts before t mid kt run cs hearing
             last-turn same = loses-last period t ts s n long q (omega (arith, within, same, in-time)) Answerer lost-now
               where
                 lost-now : is_lost t.answ.heard ≡ true
-                lost-now = last-disc tries period delay link ts w.state w.deed kt w.trace t cs before.answ mid.answ
+                lost-now = last-disc w t cs before.answ mid.answ
                     (setup-role tries period delay link ts before kt run.run run.carried Answerer) last.connected
                     (hearing Answerer).hears cm i.set same i.sends
 
@@ -563,12 +551,11 @@ parted-each laws reads tries period delay link ts before t mid kt run cs hearing
                 (v.was (linked-on period turns o e k' s v.turn (omega (arith, lo, hi)) (omega (arith, before-end)) linked-s))
 
             on : LostIn e o (s + 1) (period - 1) ⊎ NoneLost e o (s + 1) (period - 1) → PeriodLoses period turns (t ∷ ts) n
-            on (inl lost) = later-loses period t ts n
-                (loses-of period delay link ts w.state w.deed w.trace Answerer s n long q' lost)
+            on (inl lost) = later-loses period t ts n (loses-of w Answerer s n long q' lost)
             on (inr none) = absurd (elim (cases_lt v.turn (s + period)) [
               | inl b ↦ parted-stops period turns e o k c s v.turn within b late un co
                   (await-hears (e.heard v.turn) v.turn (e.account v.turn) (e.mid v.turn) at-v (h.hearing Answerer).hears)
-                  (whole-stops tries period delay link ts w.state w.deed kt w.trace v.turn before-end v.told)
+                  (whole-stops w v.turn before-end v.told)
                   (count-hears z (e.heard v.turn) (length (past ts v.turn)) (e.account v.turn) (e.mid v.turn) at-v
                   (linked-sends z (length (past ts v.turn)) (length (past ts v.turn)) Answerer (e.account v.turn).phase (e.account v.turn)
                   (known tries period delay link (past ts v.turn) (w.state v.turn) kt h.run h.carried Answerer).stands at-v)

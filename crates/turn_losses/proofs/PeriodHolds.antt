@@ -1,7 +1,7 @@
-use Rattle.std.proofs.Common.{◌⊎◌, inl, inr, ◌≡◌, ℕ, zero, suc, ◌+◌, ◌<◌, ◌≤◌, ◌&&◌, Bool, true, false, arith, refl, sym, ◌∙◌, ap}
-use Rattle.std.proofs.Common.{Some, List, length, ◌%◌, ◌-◌}
+use Rattle.std.proofs.Common.{◌⊎◌, inl, inr, ◌≡◌, ℕ, zero, suc, ◌+◌, ◌<◌, ◌≤◌, ◌&&◌, Bool, true, false, arith, refl, sym, ◌∙◌, ap, Some}
+use Rattle.std.proofs.Common.{length, ◌%◌, ◌-◌}
 use Rattle.link_account.proofs.Names.{cases_lt, Account, is_connected, Said, Role, other, of}
-use Rattle.link_run.proofs.Names.{Link, Accounts, Turn, served_at}
+use Rattle.link_run.proofs.Names.{served_at}
 use Rattle.turn_losses.proofs.Answered.{SendsSegment, AnswerTurn}
 use Rattle.turn_losses.proofs.KeepsPolls.{Answers, StillAwaited}
 use Rattle.turn_losses.proofs.LineLaw.{SetSince, set-since}
@@ -9,7 +9,7 @@ use Rattle.turn_losses.proofs.PollLaws.{two-ends, reply-matches}
 use Rattle.turn_losses.proofs.PeriodLaws.{still-awaited, answer-comes, NoneLost, StayConnected}
 use Rattle.turn_losses.proofs.NumberHear.{ns_sent}
 use Rattle.turn_losses.proofs.Acknowledged.{Counts, acknowledged}
-use Rattle.turn_losses.proofs.Names.{KeepsTime, past, Deed, Happens, Trace, EndRun, TwoEnds, end_run, hears_poll, hears_final}
+use Rattle.turn_losses.proofs.Names.{past, Happens, EndRun, TwoEnds, hears_poll, hears_final, TimedRun, end_of}
 
 -- while the answer to a poll is on its way, the clock doesn't expire
 pub unexpired : (period turns : ℕ) (e o : EndRun) → TwoEnds period turns e o → (t : ℕ) → t < turns → is_connected (e.account t).phase ≡ true
@@ -38,22 +38,19 @@ poll-answered period turns e o k t within c h mid b said after c' answers =
     not-due false y p q = cc
 
 -- in a turn of a run an end's retry count is 0 once it has heard, or it sends the first segment that isn't acknowledged
-abbrev pub SendsFirst : (period : ℕ) (delay : Role → ℕ) (link : Link) (ts : List Turn) (state : ℕ → Accounts) (deed : ℕ → Deed)
-    → Trace period delay link ts state deed → Role → ℕ → Type 0
-SendsFirst period delay link ts state deed w role t =
-    (l : t < length ts) × SendsSegment (of role (deed t).mid).outgoing.front (served_at link t (deed t).mid role).account
-    ((w.happens t l).speaking role).said
+abbrev pub SendsFirst : (w : TimedRun) → Role → ℕ → Type 0
+SendsFirst w role t =
+    (l : t < length w.ts) × SendsSegment (of role (w.deed t).mid).outgoing.front (served_at w.link t (w.deed t).mid role).account
+    ((w.trace.happens t l).speaking role).said
 
-pub end-answered : (tries period : ℕ) (delay : Role → ℕ) (link : Link) (ts : List Turn) (state : ℕ → Accounts) (deed : ℕ → Deed)
-    → KeepsTime tries period delay link → (w : Trace period delay link ts state deed) → (role : Role)
-    → (t : ℕ) → t < length ts → is_connected (of role (state t)).phase ≡ true → is_connected (of role (state (t + 1))).phase ≡ true
-    → hears_final (end_run delay state deed role) t ≡ true
-    → ((of role (deed t).mid).outgoing.count ≡ 0) ⊎ SendsFirst period delay link ts state deed w role t
-end-answered tries period delay link ts state deed k w role t within c c' h =
-    let g : Happens period delay link (past ts t) t (state t) (deed t) (state (t + 1)) = w.happens t within in
-    elim (poll-answered period (length ts) (end_run delay state deed role) (end_run delay state deed (other role))
-    (two-ends tries period delay link ts state deed k w role) t within c h (of role (deed t).mid)
-    (served_at link t (deed t).mid role).account (g.speaking role).said (g.speaking role).after_is c' (g.answers role)) [
+pub end-answered : (w : TimedRun) → (role : Role) → (t : ℕ) → t < length w.ts → is_connected (of role (w.state t)).phase ≡ true
+    → is_connected (of role (w.state (t + 1))).phase ≡ true → hears_final (end_of w role) t ≡ true
+    → ((of role (w.deed t).mid).outgoing.count ≡ 0) ⊎ SendsFirst w role t
+end-answered w role t within c c' h =
+    let g : Happens w.period w.delay w.link (past w.ts t) t (w.state t) (w.deed t) (w.state (t + 1)) = w.trace.happens t within in
+    elim (poll-answered w.period (length w.ts) (end_of w role) (end_of w (other role))
+    (two-ends w role) t within c h (of role (w.deed t).mid)
+    (served_at w.link t (w.deed t).mid role).account (g.speaking role).said (g.speaking role).after_is c' (g.answers role)) [
       | inl x ↦
           inl x
       | inr y ↦ inr (within, y)

@@ -1,5 +1,4 @@
-use Rattle.std.proofs.Common.{◌⊎◌, inl, inr, ◌≡◌, ℕ, zero, suc, ◌+◌, ◌<◌, ◌≤◌, ◌||◌, Bool, true, false, cond, arith, refl, ◌∙◌}
-use Rattle.std.proofs.Common.{ap, subst}
+use Rattle.std.proofs.Common.{◌⊎◌, inl, inr, ◌≡◌, ℕ, zero, suc, ◌+◌, ◌<◌, ◌≤◌, ◌||◌, Bool, true, false, cond, arith, refl, ◌∙◌, ap, subst}
 use Rattle.link_account.proofs.Names.{cases_lt, is_connected}
 use Rattle.turn_losses.proofs.KeepsPolls.{Answers, StillAwaited}
 use Rattle.turn_losses.proofs.LineLaw.{is-heard}

@@ -1,41 +1,39 @@
-use Rattle.std.proofs.Common.{◌⊎◌, inl, inr, ◌≡◌, ℕ, ◌+◌, ◌-◌, ◌*◌, ◌<◌, ◌≤◌, true, false, arith, ap, List, length}
+use Rattle.std.proofs.Common.{◌⊎◌, inl, inr, ◌≡◌, ℕ, ◌+◌, ◌-◌, ◌*◌, ◌<◌, ◌≤◌, true, false, arith, ap, length}
 use Rattle.link_account.proofs.Names.{is_connected, Role, Originator, Answerer, other, of}
-use Rattle.link_run.proofs.Names.{Link, Accounts, Turn, arrival}
+use Rattle.link_run.proofs.Names.{arrival}
 use Rattle.turn_losses.proofs.Polls.{Polls, WasSent, Fresh}
 use Rattle.turn_losses.proofs.KeepsPolls.{Answers}
 use Rattle.turn_losses.proofs.LineLaw.{arrives-late, was-sent, are-polls}
 use Rattle.turn_losses.proofs.PollsFresh.{polls-fresh, sent-soon, sent-apart}
-use Rattle.turn_losses.proofs.Names.{KeepsTime, is_lost, sent_or, Deed, Trace, is_poll, is_final, poll_due, EndRun, ArrivesLate, TwoEnds}
-use Rattle.turn_losses.proofs.Names.{end_run, sends_poll, hears_poll, sends_final, hears_final}
+use Rattle.turn_losses.proofs.Names.{is_lost, sent_or, is_poll, is_final, poll_due, EndRun, ArrivesLate, TwoEnds, sends_poll, hears_poll}
+use Rattle.turn_losses.proofs.Names.{sends_final, hears_final, TimedRun, end_of}
 
-pub two-ends : (tries period : ℕ) (delay : Role → ℕ) (link : Link) (ts : List Turn) (state : ℕ → Accounts) (deed : ℕ → Deed)
-    → KeepsTime tries period delay link → Trace period delay link ts state deed
-    → (role : Role) → TwoEnds period (length ts) (end_run delay state deed role) (end_run delay state deed (other role))
-two-ends tries period delay link ts state deed k w role = record {
-  own = λ t l. (w.happens t l).polls role;
-  other = λ t l. (w.happens t l).polls (other role);
-  hears = arrives-late period delay link ts state deed k.delays w role;
+pub two-ends : (w : TimedRun) → (role : Role) → TwoEnds w.period (length w.ts) (end_of w role) (end_of w (other role))
+two-ends w role = record {
+  own = λ t l. (w.trace.happens t l).polls role;
+  other = λ t l. (w.trace.happens t l).polls (other role);
+  hears = arrives-late w role;
   is_heard = heard role;
   own_first = none role;
   other_first = none (other role);
-  own_delay = k.delays role;
-  other_delay = k.delays (other role);
+  own_delay = w.keeps.delays role;
+  other_delay = w.keeps.delays (other role);
   period_is = sum role;
 }
   where
-    heard : (r : Role) → (t : ℕ) → t < length ts
-        → ArrivesLate (delay r) t (is_lost (of (other r) (deed t).turn).heard) (λ n. sent_or (of r (deed n).turn).sent)
-        (arrival (of (other r) (deed t).turn).heard)
-    heard Originator = arrives-late period delay link ts state deed k.delays w Answerer
-    heard Answerer = arrives-late period delay link ts state deed k.delays w Originator
+    heard : (r : Role) → (t : ℕ) → t < length w.ts
+        → ArrivesLate (w.delay r) t (is_lost (of (other r) (w.deed t).turn).heard) (λ n. sent_or (of r (w.deed n).turn).sent)
+        (arrival (of (other r) (w.deed t).turn).heard)
+    heard Originator = arrives-late w Answerer
+    heard Answerer = arrives-late w Originator
 
-    none : (r : Role) → poll_due (of r (state 0)) ≡ false
-    none Originator = ap (λ s. poll_due s.orig) w.starts
-    none Answerer = ap (λ s. poll_due s.answ) w.starts
+    none : (r : Role) → poll_due (of r (w.state 0)) ≡ false
+    none Originator = ap (λ s. poll_due s.orig) w.trace.starts
+    none Answerer = ap (λ s. poll_due s.answ) w.trace.starts
 
-    sum : (r : Role) → period ≡ 2 * (delay r + delay (other r)) + 16
-    sum Originator = k.period_is
-    sum Answerer = let p = k.period_is in omega (arith, p)
+    sum : (r : Role) → w.period ≡ 2 * (w.delay r + w.delay (other r)) + 16
+    sum Originator = w.keeps.period_is
+    sum Answerer = let p = w.keeps.period_is in omega (arith, p)
 
 -- the same seen from the other end
 pub turned : (period turns : ℕ) (e o : EndRun) → TwoEnds period turns e o → TwoEnds period turns o e

@@ -1,15 +1,15 @@
 -- An answerer that gives up while its break waits was starved: one period is let off, that in which the originator becomes Connected.
 use Rattle.std.proofs.Common.{◌⊎◌, inl, inr, ◌≡◌, ◌≢◌, ℕ, zero, suc, ◌+◌, ◌-◌, ◌*◌, ◌<◌, ◌≤◌, Bool, true, false, max, List, ◌∷◌, length}
 use Rattle.std.proofs.Common.{arith, refl, sym, ◌∙◌, ap, subst}
-use Rattle.link_account.proofs.Names.{cases_lt, Role, Originator, Answerer, of, ReadsWritten, waits, is_connected}
-use Rattle.link_run.proofs.Names.{Phase, Detecting, Establishing, Connected, Closed, is_closed, Link, Accounts}
-use Rattle.link_run.proofs.Names.{Turn, RunOf, Hears, arrival, served_at, Carries, IsCarried, RunsOver, LosesSome}
+use Rattle.link_account.proofs.Names.{cases_lt, Role, Originator, Answerer, of, ReadsWritten, waits, is_connected, MayPlay}
+use Rattle.link_run.proofs.Names.{Phase, Detecting, Establishing, Connected, Closed, is_closed, Link, Accounts, Turn, RunOf, Hears, arrival}
+use Rattle.link_run.proofs.Names.{served_at, Carries, IsCarried, RunsOver, LosesSome}
 use Rattle.link_run.specs.Starved.{SpanLoses, IsStarved, turn_at}
 use Rattle.turn_losses.proofs.Truths.{not-true}
 use Rattle.turn_losses.proofs.Keeping.{turn-is}
 use Rattle.turn_losses.proofs.Periods.{once, lost-is, later-turn, newest, times}
 use Rattle.turn_losses.proofs.PollHear.{poll-hears}
-use Rattle.turn_losses.proofs.Tracing.{known, Traced, traced}
+use Rattle.turn_losses.proofs.Tracing.{known, timed-run}
 use Rattle.turn_losses.proofs.LineLaw.{is-heard}
 use Rattle.turn_losses.proofs.PollLaws.{two-ends}
 use Rattle.turn_losses.proofs.PeriodLaws.{linked-on}
@@ -27,8 +27,8 @@ use Rattle.turn_losses.proofs.Quiet.{sabmes-of, meeting-of}
 use Rattle.turn_losses.proofs.Spending.{LastWait}
 use Rattle.turn_losses.proofs.Ending.{periods-of, number-small, none-last}
 use Rattle.turn_losses.proofs.Peering.{peer-connected, not-closed}
-use Rattle.turn_losses.proofs.Names.{KeepsTime, is_begun, of_frame, of_arrived, is_lost, PeriodLoses, is_linked, past, EndRun}
-use Rattle.turn_losses.proofs.Names.{TwoEnds, end_run}
+use Rattle.turn_losses.proofs.Names.{KeepsTime, is_begun, of_frame, of_arrived, is_lost, PeriodLoses, is_linked, past, EndRun, TwoEnds}
+use Rattle.turn_losses.proofs.Names.{TimedRun, end_of}
 
 -- a span's loss
 span-at : (period delay : ℕ) (t : Turn) (ts : List Turn) (s n u : ℕ) → s + (n + 1) * period ≡ length ts → s < u + delay → u ≤ s + period
@@ -57,62 +57,57 @@ connected-begun Connected e = refl
 connected-begun p e = cc
 
 -- While the originator isn't linked up to its end, a period loses a SABME or a UA, or did so a delay before it.
-pub unlinked-loses : ReadsWritten → (tries period : ℕ) (delay : Role → ℕ) (link : Link) (ts : List Turn) (before : Accounts) (t : Turn)
-    (mid : Accounts) → (kt : KeepsTime tries period delay link) → RunsOver link delay ts before → Carries delay ts t
-    → Hears (length ts) before t mid
-    → (w : Traced period delay link ts before) → (s n : ℕ) → s + (n + 1) * period ≡ length ts
-    → ((u : ℕ) → s < u → u ≤ s + period → is_connected (w.state u).answ.phase ≡ true)
-    → is_linked (w.state (s + period)).orig.phase ≡ false
-    → (s + period < length ts → is_linked (w.state (s + period + 1)).orig.phase ≡ false)
-    → (s + period ≡ length ts → is_linked mid.orig.phase ≡ false)
-    → SpanLoses period (max (delay Originator) (delay Answerer)) (t ∷ ts) n
-unlinked-loses reads tries period delay link ts before t mid kt run cs hearing w s n q answ un later last = sabme
-    (is_lost (w.deed u).turn.answ.heard) refl
+pub unlinked-loses : ReadsWritten → (w : TimedRun) → MayPlay w.link.orig.setup w.link.answ.setup → (t : Turn) → Carries w.delay w.ts t
+    → (mid : Accounts) → Hears (length w.ts) w.ends t mid → (s n : ℕ) → s + (n + 1) * w.period ≡ length w.ts
+    → ((u : ℕ) → s < u → u ≤ s + w.period → is_connected (w.state u).answ.phase ≡ true)
+    → is_linked (w.state (s + w.period)).orig.phase ≡ false
+    → (s + w.period < length w.ts → is_linked (w.state (s + w.period + 1)).orig.phase ≡ false)
+    → (s + w.period ≡ length w.ts → is_linked mid.orig.phase ≡ false)
+    → SpanLoses w.period (max (w.delay Originator) (w.delay Answerer)) (t ∷ w.ts) n
+unlinked-loses reads w may t cs mid hearing s n q answ un later last = sabme (is_lost (w.deed u).turn.answ.heard) refl
   where
     turns : ℕ
-    turns = length ts
+    turns = length w.ts
 
     o : EndRun
-    o = end_run delay w.state w.deed Originator
+    o = end_of w Originator
 
     e : EndRun
-    e = end_run delay w.state w.deed Answerer
+    e = end_of w Answerer
 
-    k : TwoEnds period turns o e
-    k = two-ends tries period delay link ts w.state w.deed kt w.trace Originator
+    k : TwoEnds w.period turns o e
+    k = two-ends w Originator
 
     d : 1 ≤ o.delay
     d = k.own_delay
 
-    long : 1 ≤ period
+    long : 1 ≤ w.period
     long = omega (arith, k.period_is)
 
-    wide : e.delay ≤ max (delay Originator) (delay Answerer)
-    wide = max-second (delay Originator) (delay Answerer)
+    wide : e.delay ≤ max (w.delay Originator) (w.delay Answerer)
+    wide = max-second (w.delay Originator) (w.delay Answerer)
 
-    within : s + period ≤ turns
-    within = let m = once period n in omega (arith, q, m)
+    within : s + w.period ≤ turns
+    within = let m = once w.period n in omega (arith, q, m)
 
-    est : (u : ℕ) → s < u → u ≤ s + period → (w.state u).orig.phase ≡ Establishing
-    est u a b = only-establishing (w.state u).orig.phase
-        (begun-established tries period delay link ts w.state w.deed kt w.trace u (omega (arith, b, within))
+    est : (u : ℕ) → s < u → u ≤ s + w.period → (w.state u).orig.phase ≡ Establishing
+    est u a b = only-establishing (w.state u).orig.phase (begun-established w u (omega (arith, b, within))
         (connected-begun (w.state u).answ.phase (answ u a b)))
         (not-true (is_linked (w.state u).orig.phase)
-        (λ f. let wrong : true ≡ false = sym (linked-on period turns o e k u (s + period) b within f) ∙ un in cc))
+        (λ f. let wrong : true ≡ false = sym (linked-on w.period turns o e k u (s + w.period) b within f) ∙ un in cc))
 
     x : ℕ
-    x = s + period - (o.delay + e.delay)
+    x = s + w.period - (o.delay + e.delay)
 
-    i : Tried period Establishing o (x + 1)
-    i = tried period turns Establishing o long
-        (tries-so reads tries period delay link ts w.state w.deed kt run.may_play w.trace Establishing refl)
+    i : Tried w.period Establishing o (x + 1)
+    i = tried w.period turns Establishing o long (tries-so reads w may Establishing refl)
         (λ f. let wrong : Detecting ≡ Establishing = ap (λ (y : Accounts). y.orig.phase) (sym w.trace.starts) ∙ f in cc) (x + 1)
         (omega (arith, within, k.period_is, d)) (est (x + 1) (omega (arith, k.period_is)) (omega (arith, k.period_is, d)))
 
     before-x : i.set ≤ x
     before-x = let b = i.before in omega (arith, b)
 
-    after-x : x + 1 ≤ i.set + period
+    after-x : x + 1 ≤ i.set + w.period
     after-x = i.within
 
     u : ℕ
@@ -124,7 +119,7 @@ unlinked-loses reads tries period delay link ts before t mid kt run cs hearing w
     u-low : s < u + e.delay
     u-low = omega (arith, after-x, k.period_is)
 
-    u-high : u + e.delay ≤ s + period
+    u-high : u + e.delay ≤ s + w.period
     u-high = omega (arith, before-x, k.period_is)
 
     u-phase : (w.state u).orig.phase ≡ Establishing
@@ -134,15 +129,15 @@ unlinked-loses reads tries period delay link ts before t mid kt run cs hearing w
           (omega (arith, d)) g
     ]
 
-    at : (v : ℕ) → (b : v < turns) → (r : Role) → is_lost (of r (w.deed v).turn).heard ≡ true → LosesSome (turn_at v (t ∷ ts))
-    at v b r f = subst LosesSome (sym (later-turn v t ts b ∙ turn-is period delay link ts w.state w.deed w.trace v b))
-        (r, lost-is (of r (w.deed v).turn).heard f)
+    at : (v : ℕ) → (b : v < turns) → (r : Role) → is_lost (of r (w.deed v).turn).heard ≡ true → LosesSome (turn_at v (t ∷ w.ts))
+    at v b r f = subst LosesSome (sym (later-turn v t w.ts b ∙ turn-is w v b)) (r, lost-is (of r (w.deed v).turn).heard f)
 
     v : ℕ
     v = u + e.delay
 
-    sabme : (b : Bool) → is_lost (w.deed u).turn.answ.heard ≡ b → SpanLoses period (max (delay Originator) (delay Answerer)) (t ∷ ts) n
-    sabme true f = span-at period (max (delay Originator) (delay Answerer)) t ts s n u q (omega (arith, u-low, wide))
+    sabme : (b : Bool) → is_lost (w.deed u).turn.answ.heard ≡ b → SpanLoses w.period (max (w.delay Originator) (w.delay Answerer))
+        (t ∷ w.ts) n
+    sabme true f = span-at w.period (max (w.delay Originator) (w.delay Answerer)) t w.ts s n u q (omega (arith, u-low, wide))
         (omega (arith, u-high)) (omega (arith, u-in)) (at u u-in Answerer f)
     sabme false f = ua (cases_lt v turns)
       where
@@ -150,33 +145,32 @@ unlinked-loses reads tries period delay link ts before t mid kt run cs hearing w
         heard = is-heard o.delay turns (asks Establishing) o.slot e.heard e.loses k.is_heard i.set u-in f ∙ i.sends
 
         answered : of_frame (moves_on Establishing) (e.slot u) ≡ true
-        answered = answers-so reads tries period delay link ts w.state w.deed kt run.may_play w.trace Establishing refl u u-in u-phase heard
+        answered = answers-so reads w may Establishing refl u u-in u-phase heard
 
-        ua : (v < turns) ⊎ (turns ≤ v) → SpanLoses period (max (delay Originator) (delay Answerer)) (t ∷ ts) n
+        ua : (v < turns) ⊎ (turns ≤ v) → SpanLoses w.period (max (w.delay Originator) (w.delay Answerer)) (t ∷ w.ts) n
         ua (inl l) = on (is_lost (w.deed v).turn.orig.heard) refl
           where
             next : (w.state (v + 1)).orig.phase ≡ Establishing
-            next = elim (cases_lt v (s + period)) [
+            next = elim (cases_lt v (s + w.period)) [
               | inl g ↦ est (v + 1) (omega (arith, u-low)) (omega (arith, g))
               | inr g ↦ at-border (omega (arith, g, u-high))
             ]
               where
-                at-border : v ≡ s + period → (w.state (v + 1)).orig.phase ≡ Establishing
-                at-border f' = only-establishing (w.state (v + 1)).orig.phase
-                    (established-on tries period delay link ts w.state w.deed kt w.trace v 1 (omega (arith, l))
+                at-border : v ≡ s + w.period → (w.state (v + 1)).orig.phase ≡ Establishing
+                at-border f' = only-establishing (w.state (v + 1)).orig.phase (established-on w v 1 (omega (arith, l))
                     (ap is_established (est v (omega (arith, u-low)) u-high)))
                     (ap (λ y. is_linked (w.state (y + 1)).orig.phase) f' ∙ later (omega (arith, f', l)))
 
-            on : (b : Bool) → is_lost (w.deed v).turn.orig.heard ≡ b → SpanLoses period (max (delay Originator) (delay Answerer)) (t ∷ ts) n
-            on true g = span-at period (max (delay Originator) (delay Answerer)) t ts s n v q (omega (arith, u-low)) u-high
+            on : (b : Bool) → is_lost (w.deed v).turn.orig.heard ≡ b → SpanLoses w.period (max (w.delay Originator) (w.delay Answerer))
+                (t ∷ w.ts) n
+            on true g = span-at w.period (max (w.delay Originator) (w.delay Answerer)) t w.ts s n v q (omega (arith, u-low)) u-high
                 (omega (arith, l)) (at v l Originator g)
-            on false g = absurd (unheard
-                (tries-so reads tries period delay link ts w.state w.deed kt run.may_play w.trace Establishing refl v l next))
+            on false g = absurd (unheard (tries-so reads w may Establishing refl v l next))
               where
                 hears : of_arrived (moves_on Establishing) (o.heard v) ≡ true
                 hears = is-heard e.delay turns (moves_on Establishing) e.slot o.heard o.loses k.hears u l g ∙ answered
 
-                unheard : TryTurn period v Establishing (o.heard v) (o.slot v) (o.account v) (o.account (v + 1)) → ⊥
+                unheard : TryTurn w.period v Establishing (o.heard v) (o.slot v) (o.account v) (o.account (v + 1)) → ⊥
                 unheard (inl (first, _, _, _)) = first (est v (omega (arith, u-low)) u-high)
                 unheard (inr (inl ((_, y), _, _, _, _))) = let wrong : true ≡ false = sym hears ∙ y in cc
                 unheard (inr (inr ((_, y), _, _, _))) = let wrong : true ≡ false = sym hears ∙ y in cc
@@ -185,29 +179,28 @@ unlinked-loses reads tries period delay link ts before t mid kt run cs hearing w
             v-is : v ≡ turns
             v-is = omega (arith, g, u-high, within)
 
-            border : s + period ≡ turns
+            border : s + w.period ≡ turns
             border = omega (arith, g, u-high, within)
 
-            on : (b : Bool) → is_lost t.orig.heard ≡ b → SpanLoses period (max (delay Originator) (delay Answerer)) (t ∷ ts) n
-            on true f' = span-at period (max (delay Originator) (delay Answerer)) t ts s n turns q (omega (arith, border, long))
-                (omega (arith, border)) (omega arith) (subst LosesSome (sym (newest t ts)) (Originator, lost-is t.orig.heard f'))
+            on : (b : Bool) → is_lost t.orig.heard ≡ b → SpanLoses w.period (max (w.delay Originator) (w.delay Answerer)) (t ∷ w.ts) n
+            on true f' = span-at w.period (max (w.delay Originator) (w.delay Answerer)) t w.ts s n turns q (omega (arith, border, long))
+                (omega (arith, border)) (omega arith) (subst LosesSome (sym (newest t w.ts)) (Originator, lost-is t.orig.heard f'))
             on false f' =
                 let comes : of_arrived (moves_on Establishing) (arrival t.orig.heard) ≡ true = last-heard
-                (moves_on Establishing) period delay link ts w.state w.deed w.trace t cs Originator k.other_delay u v-is f' ∙ answered in
-                let was : before.orig.phase ≡ Establishing = ap (λ (y : Accounts). y.orig.phase) (sym w.last)
+                (moves_on Establishing) w t cs Originator k.other_delay u v-is f' ∙ answered in
+                let was : w.ends.orig.phase ≡ Establishing = ap (λ (y : Accounts). y.orig.phase) (sym w.last)
                 ∙ (ap (λ y. (w.state y).orig.phase) (sym v-is) ∙ est v (omega (arith, u-low)) u-high) in
-                let role = setup-role tries period delay link ts before kt run.run run.carried Originator in
-                let none = (known tries period delay link ts before kt run.run run.carried Originator).none_due.answer in
+                let role = setup-role w.tries w.period w.delay w.link w.ts w.ends w.keeps w.run w.carried Originator in
+                let none = (known w.tries w.period w.delay w.link w.ts w.ends w.keeps w.run w.carried Originator).none_due.answer in
                 let still = only-establishing mid.orig.phase
-                (stays-established (arrival t.orig.heard) turns before.orig mid.orig (hearing Originator).hears
+                (stays-established (arrival t.orig.heard) turns w.ends.orig mid.orig (hearing Originator).hears
                 (ap is_established was)) (last border) in
                 absurd (unheard comes
-                (try-heard (arrival t.orig.heard) turns before.orig mid.orig role (hearing Originator).hears Establishing refl still)
-                was)
+                (try-heard (arrival t.orig.heard) turns w.ends.orig mid.orig role (hearing Originator).hears Establishing refl still) was)
               where
                 unheard : of_arrived (moves_on Establishing) (arrival t.orig.heard) ≡ true
-                    → TryGoesOn Establishing (arrival t.orig.heard) before.orig mid.orig
-                    ⊎ TryBegins turns Establishing before.orig mid.orig → before.orig.phase ≡ Establishing → ⊥
+                    → TryGoesOn Establishing (arrival t.orig.heard) w.ends.orig mid.orig
+                    ⊎ TryBegins turns Establishing w.ends.orig mid.orig → w.ends.orig.phase ≡ Establishing → ⊥
                 unheard comes (inl (_, _, y)) was = let wrong : true ≡ false = sym comes ∙ y in cc
                 unheard comes (inr (never, _, _, _, _)) was = never was
 
@@ -251,20 +244,20 @@ answerer-breaks reads tries period delay link ts before t mid kt run cs hearing 
     turns : ℕ
     turns = length ts
 
-    w : Traced period delay link ts before
-    w = traced tries period delay link ts before kt run.run run.carried
+    w : TimedRun
+    w = timed-run tries period delay link ts before kt run.run run.carried
 
     last : LastWait tries period turns (w.state turns).answ
     last = subst (λ (x : Accounts). LastWait tries period turns x.answ) (sym w.last) l
 
     o : EndRun
-    o = end_run delay w.state w.deed Originator
+    o = end_of w Originator
 
     e : EndRun
-    e = end_run delay w.state w.deed Answerer
+    e = end_of w Answerer
 
     k : TwoEnds period turns o e
-    k = two-ends tries period delay link ts w.state w.deed kt w.trace Originator
+    k = two-ends w Originator
 
     role : (us : List Turn) (y : Accounts) → RunOf link us y → IsCarried delay us → y.orig.setup.role ≡ Originator
     role us y run' c' = setup-role tries period delay link us y kt run' c' Originator
@@ -281,10 +274,9 @@ answerer-breaks reads tries period delay link ts before t mid kt run cs hearing 
 
     one-period : (n : ℕ) → n < tries + 1 → SpanLoses period (max (delay Originator) (delay Answerer)) (t ∷ ts) n
         ⊎ Joins period ts w.state mid n
-    one-period n less = at (periods-of tries period delay link ts w.state w.deed kt w.trace Answerer last n less)
+    one-period n less = at (periods-of w Answerer last n less)
       where
-        at : (s : ℕ) × (s + (n + 1) * period ≡ turns) × BreakPeriod period turns (number_of (w.state turns).answ) e
-            (deeds-of tries period delay link ts w.state w.deed kt w.trace Answerer) s
+        at : (s : ℕ) × (s + (n + 1) * period ≡ turns) × BreakPeriod period turns (number_of (w.state turns).answ) e (deeds-of w Answerer) s
             → SpanLoses period (max (delay Originator) (delay Answerer)) (t ∷ ts) n ⊎ Joins period ts w.state mid n
         at (s, q, bp) = by (is_linked (w.state (s + 1)).orig.phase) refl
           where
@@ -293,16 +285,13 @@ answerer-breaks reads tries period delay link ts before t mid kt run cs hearing 
 
             by : (b : Bool) → is_linked (w.state (s + 1)).orig.phase ≡ b
                 → SpanLoses period (max (delay Originator) (delay Answerer)) (t ∷ ts) n ⊎ Joins period ts w.state mid n
-            by true f = inl (of-period period delay t ts n
-                (connected-loses reads tries period delay link ts w.state w.deed kt run.may_play w.trace t cs Answerer
+            by true f = inl (of-period period delay t ts n (connected-loses reads w run.may_play t cs Answerer
                 (number_of (w.state turns).answ) s n (number-small (w.state turns).answ.own_breaks.answered) q bp
-                (λ u a b. let x = bp.stays u a b in peer-connected reads tries period delay link ts w.state w.deed kt run.may_play w.trace
+                (λ u a b. let x = bp.stays u a b in peer-connected reads w run.may_play
                 u (omega (arith, b, within)) (open-at u (omega (arith, b, within)))
                 (linked-on period turns o e k (s + 1) u (omega (arith, a)) (omega (arith, b, within)) f) x.connected x.waiting)
-                (λ u a b g. no-sabme-heard period turns o e k
-                (sabmes-of reads tries period delay link ts w.state w.deed kt run.may_play w.trace)
-                (meeting-of tries period delay link ts w.state w.deed kt w.trace) s (omega (arith, within, k.period_is)) f u a
-                (omega (arith, b, within)) g)
+                (λ u a b g. no-sabme-heard period turns o e k (sabmes-of reads w run.may_play)
+                (meeting-of w) s (omega (arith, within, k.period_is)) f u a (omega (arith, b, within)) g)
                 (λ g h. none-last link ts before t mid Answerer tries period hearing cm l waiting
                 (ap (λ (x : Accounts). of_arrived (of_word (ack_of (number_of x.answ))) (arrival t.answ.heard)) (sym w.last) ∙ h))))
             by false f = after (cases_lt (s + period) turns)
@@ -310,8 +299,7 @@ answerer-breaks reads tries period delay link ts before t mid kt run cs hearing 
                 out : (s + period < turns → is_linked (w.state (s + period + 1)).orig.phase ≡ false)
                     → (s + period ≡ turns → is_linked mid.orig.phase ≡ false) → is_linked (w.state (s + period)).orig.phase ≡ false
                     → SpanLoses period (max (delay Originator) (delay Answerer)) (t ∷ ts) n ⊎ Joins period ts w.state mid n
-                out a b c = inl (unlinked-loses reads tries period delay link ts before t mid kt run cs hearing w s n q
-                    (λ u x y. (bp.stays u x y).connected) c a b)
+                out a b c = inl (unlinked-loses reads w run.may_play t cs mid hearing s n q (λ u x y. (bp.stays u x y).connected) c a b)
 
                 after : (s + period < turns) ⊎ (turns ≤ s + period)
                     → SpanLoses period (max (delay Originator) (delay Answerer)) (t ∷ ts) n ⊎ Joins period ts w.state mid n

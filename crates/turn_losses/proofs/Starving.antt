@@ -8,21 +8,20 @@ use Rattle.turn_losses.proofs.Periods.{later-turn}
 use Rattle.turn_losses.specs.Losses.{OriginatorWantsAnswers, OriginatorIsStarved}
 use Rattle.turn_losses.proofs.AnswerTurn.{connected-is}
 use Rattle.turn_losses.proofs.Room.{begins-roomy}
-use Rattle.turn_losses.proofs.Tracing.{Known, known, Timed, timed, rated, Traced, traced}
+use Rattle.turn_losses.proofs.Tracing.{Known, known, Timed, timed, rated, timed-run}
 use Rattle.turn_losses.proofs.Numbering.{Plays, allowed, fits-at, counts-of}
 use Rattle.turn_losses.proofs.Wanting.{LastTry, last-try, wants-answers}
-use Rattle.turn_losses.proofs.Names.{KeepsTime, StandTogether, Rates, rates, IsOf, PeriodLoses, LosesEach, past}
+use Rattle.turn_losses.proofs.Names.{KeepsTime, StandTogether, Rates, rates, IsOf, PeriodLoses, LosesEach, past, TimedRun}
 
 pub originator-each : Plays → StandTogether → (tries period : ℕ) (delay : Role → ℕ) (link : Link) (ts : List Turn) (before : Accounts)
     → KeepsTime tries period delay link → RunsOver link delay ts before → LastTry tries period (length ts) before.orig
     → LosesEach period tries (length ts) ts
-originator-each laws together tries period delay link ts before kt run last =
-    wants-answers tries period delay link ts w.state w.deed kt w.trace Originator
-    (counts-of laws tries period delay link ts w.state w.deed kt run.may_play w.trace Originator)
+originator-each laws together tries period delay link ts before kt run last = wants-answers w Originator
+    (counts-of laws w run.may_play Originator)
     (subst (λ (x : Accounts). LastTry tries period (length ts) x.orig) (sym w.last) last) both
   where
-    w : Traced period delay link ts before
-    w = traced tries period delay link ts before kt run.run run.carried
+    w : TimedRun
+    w = timed-run tries period delay link ts before kt run.run run.carried
 
     joined : (x : Accounts) → Together x → is_connected x.orig.phase ≡ true → is_connected x.answ.phase ≡ true
     joined x h c = ap is_connected (h.answ (connected-is x.orig.phase c))

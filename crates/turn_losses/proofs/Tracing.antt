@@ -1,7 +1,7 @@
 use Rattle.std.proofs.Common.{◌⊎◌, inl, inr, ◌≡◌, ℕ, suc, ◌+◌, ◌*◌, ◌<◌, ◌≤◌, Bool, true, false, cond, nat_lt, List, [], ◌∷◌, length, arith}
 use Rattle.std.proofs.Common.{refl, sym, ◌∙◌, ap, subst, None, Ok, map}
-use Rattle.link_account.proofs.Names.{nat_tests, Role, Originator, Answerer, Arrived, Account, is_connected, hear, Said}
-use Rattle.link_account.proofs.Names.{speak, cases_lt, of}
+use Rattle.link_account.proofs.Names.{nat_tests, Role, Originator, Answerer, Arrived, Account, is_connected, hear, Said, speak, cases_lt}
+use Rattle.link_account.proofs.Names.{of}
 use Rattle.link_run.proofs.Names.{Phase, Detecting, Negotiating, Establishing, Connected, Releasing, Closed, User, is_busy, is_closed}
 use Rattle.link_run.proofs.Names.{is_released, Link, Accounts, Turn, RunOf, GoingTurn, start, arrival, served_at, said_at, releases}
 use Rattle.link_run.proofs.Names.{Carries, IsCarried}
@@ -17,8 +17,8 @@ use Rattle.turn_losses.proofs.Awaiting.{await-hears}
 use Rattle.turn_losses.proofs.Polling.{Early}
 use Rattle.turn_bound.proofs.Tied.{Tied, tied, keeps, link_of, turn_of, state_of, turns-length}
 use Rattle.turn_losses.proofs.Names.{Rates, AreRates, rates, IsOf, Stands, arrived_rnrs, served_account, heard-ok, hears-well, serves-well}
-use Rattle.turn_losses.proofs.Names.{NoneDue, Served, serves-all, Deed, Happens, Trace, past, sent_or, is_poll, is_final, of_arrived}
-use Rattle.turn_losses.proofs.Names.{is_linked, PollTurn, KeepsTime}
+use Rattle.turn_losses.proofs.Names.{NoneDue, Served, serves-all, Deed, Happens, Trace, TimedRun, past, sent_or, is_poll, is_final}
+use Rattle.turn_losses.proofs.Names.{of_arrived, is_linked, PollTurn, KeepsTime}
 use Rattle.lapm_frames.specs.declared.heard.Heard.TheVariants as heards
 use Rattle.frame_check.specs.declared.check.Check.TheVariants as checks
 
@@ -360,6 +360,29 @@ traced tries period delay link (t ∷ ts) ends k (before, run, g) c =
     let w = traced tries period delay link ts before k run c.1 in
     let d = turn-happens tries period delay link ts before t ends k run c.1 c.0 g w.early in
     (longer period delay link ts before t d.0 ends w d.1 d.2).traced
+
+abbrev pub timed-of : (tries period : ℕ) (delay : Role → ℕ) (link : Link) (ts : List Turn) (ends : Accounts)
+    → KeepsTime tries period delay link → RunOf link ts ends → IsCarried delay ts → Traced period delay link ts ends → TimedRun
+timed-of tries period delay link ts ends k run c w = record {
+  tries = tries;
+  period = period;
+  delay = delay;
+  link = link;
+  ts = ts;
+  ends = ends;
+  keeps = k;
+  run = run;
+  carried = c;
+  state = w.state;
+  deed = w.deed;
+  trace = w.trace;
+  last = w.last;
+}
+
+abbrev pub timed-run : (tries period : ℕ) (delay : Role → ℕ) (link : Link) (ts : List Turn) (ends : Accounts)
+    → KeepsTime tries period delay link → RunOf link ts ends → IsCarried delay ts → TimedRun
+timed-run tries period delay link ts ends k run c = timed-of tries period delay link ts ends k run c
+    (traced tries period delay link ts ends k run c)
 
 -- and so is one more turn of it
 pub traced-turn : (tries period : ℕ) (delay : Role → ℕ) (link : Link) (ts : List Turn) (before : Accounts) (t : Turn) (after : Accounts)

@@ -1,19 +1,19 @@
 -- An originator that gives up while it tries a frame.
-use Rattle.std.proofs.Common.{◌⊎◌, inl, inr, ◌≡◌, ℕ, ◌+◌, ◌*◌, ◌≤◌, Bool, true, false, cond, nat_le, length, arith, refl}
-use Rattle.std.proofs.Common.{sym, ◌∙◌, ap, Ok, Err}
-use Rattle.link_account.proofs.Names.{Originator, Frame, Sabme, Disc, Xid, written, ReadsWritten, Spent, NotDetected}
-use Rattle.link_account.proofs.Names.{Account, is_connected, says, speak, speak_in}
+use Rattle.std.proofs.Common.{◌⊎◌, inl, inr, ◌≡◌, ℕ, ◌+◌, ◌*◌, ◌≤◌, Bool, true, false, cond, nat_le, length, arith, refl, sym, ◌∙◌, ap, Ok}
+use Rattle.std.proofs.Common.{Err}
+use Rattle.link_account.proofs.Names.{Originator, Frame, Sabme, Disc, Xid, written, ReadsWritten, Spent, NotDetected, Account, is_connected}
+use Rattle.link_account.proofs.Names.{says, speak, speak_in}
 use Rattle.link_run.proofs.Names.{Phase, Detecting, Negotiating, Establishing, Connected, Releasing, Closed, is_busy, is_released}
 use Rattle.link_run.proofs.Names.{is_closed, Accounts, arrival, served_at, releases}
 use Rattle.link_account.specs.Speak.{speak_detecting, speak_negotiating, u_try}
 use Rattle.turn_losses.proofs.Periods.{once, loses-of}
-use Rattle.turn_losses.proofs.Tracing.{Traced, traced}
+use Rattle.turn_losses.proofs.Tracing.{timed-run}
 use Rattle.turn_losses.proofs.Starving.{all-but-one}
 use Rattle.turn_losses.specs.Tries.{OriginatorWantsFrame}
 use Rattle.turn_losses.proofs.Moving.{is_trying, try-heard, TryGoesOn, TryBegins, try-spent}
 use Rattle.turn_losses.proofs.Setups.{start-setup, heard-setup, served-setup}
 use Rattle.turn_losses.proofs.Trying.{TriesSo, tries-so, unanswered, unanswered-loses}
-use Rattle.turn_losses.proofs.Names.{Served, serves-all, LosesEach, EndRun, end_run}
+use Rattle.turn_losses.proofs.Names.{Served, serves-all, LosesEach, EndRun, TimedRun, end_of}
 use Rattle.lapm_frames.specs.declared.sent.Sent.TheVariants as slots
 
 -- which try is spent
@@ -47,11 +47,11 @@ originator-wants-frame reads tries period delay link ts before t mid segment sin
     turns : ℕ
     turns = length ts
 
-    w : Traced period delay link ts before
-    w = traced tries period delay link ts before kt run.run run.carried
+    w : TimedRun
+    w = timed-run tries period delay link ts before kt run.run run.carried
 
     e : EndRun
-    e = end_run delay w.state w.deed Originator
+    e = end_of w Originator
 
     long : 1 ≤ period
     long = let q = kt.period_is in omega (arith, q)
@@ -87,7 +87,7 @@ originator-wants-frame reads tries period delay link ts before t mid segment sin
     count = ap (λ v. v.try_count) (sym s.wait) ∙ (why.2 ∙ (ap (λ x. x.tries) b-setup ∙ (kt.timed Originator).tries_are))
 
     tries-on : TriesSo period turns p e
-    tries-on = tries-so reads tries period delay link ts w.state w.deed kt run.may_play w.trace p trying
+    tries-on = tries-so reads w run.may_play p trying
 
     none : (w.state 0).orig.phase ≡ p → ⊥
     none q = let there : is_trying Detecting ≡ true = ap (λ (x : Accounts). is_trying x.orig.phase) (sym w.trace.starts)
@@ -115,6 +115,5 @@ originator-wants-frame reads tries period delay link ts before t mid segment sin
         (omega (arith, less)) in
         let one = once period n in
         let q = x.1 in
-        loses-of period delay link ts w.state w.deed w.trace Originator x.0 n long q
-        (unanswered-loses reads tries period delay link ts w.state w.deed kt run.may_play w.trace p trying x.0
-        (omega (arith, q, one)) x.2)
+        loses-of w Originator x.0 n long q
+        (unanswered-loses reads w run.may_play p trying x.0 (omega (arith, q, one)) x.2)

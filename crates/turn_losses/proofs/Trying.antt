@@ -1,10 +1,10 @@
 -- The tries of an originator by the turn: when each went, and what is lost where none is answered.
-use Rattle.std.proofs.Common.{◌⊎◌, inl, inr, ◌≡◌, ℕ, ◌+◌, ◌-◌, ◌*◌, ◌<◌, ◌≤◌, not, Bool, true, false, List, length, arith, refl, sym, ◌∙◌}
-use Rattle.std.proofs.Common.{ap, subst, Some, Ok}
-use Rattle.link_account.proofs.Names.{is_some, cases_lt, Role, Originator, Answerer, offer_in, written, IsAllowed, ReadsWritten, Sent}
-use Rattle.link_account.proofs.Names.{Arrived, Account, hear, MayPlay, Said, speak}
+use Rattle.std.proofs.Common.{◌⊎◌, inl, inr, ◌≡◌, ℕ, ◌+◌, ◌-◌, ◌*◌, ◌<◌, ◌≤◌, not, Bool, true, false, length, arith, refl, sym, ◌∙◌, ap}
+use Rattle.std.proofs.Common.{subst, Some, Ok}
+use Rattle.link_account.proofs.Names.{is_some, cases_lt, Originator, Answerer, offer_in, written, IsAllowed, ReadsWritten, Sent, Arrived}
+use Rattle.link_account.proofs.Names.{Account, hear, MayPlay, Said, speak}
 use Rattle.link_run.proofs.Names.{Phase, Detecting, Negotiating, Establishing, Connected, Releasing, Closed, Setup, User, is_busy}
-use Rattle.link_run.proofs.Names.{is_released, is_closed, Link, Accounts, Turn, SpeaksAt, arrival, served_at, said_at}
+use Rattle.link_run.proofs.Names.{is_released, is_closed, SpeaksAt, arrival, served_at, said_at}
 use Rattle.turn_losses.proofs.Truths.{not-true}
 use Rattle.turn_losses.proofs.Numbering.{allowed}
 use Rattle.turn_losses.proofs.Numbered.{numbered-linked}
@@ -19,8 +19,8 @@ use Rattle.turn_losses.proofs.TryAnswering.{can_answer, AnswerDue, answer-due, s
 use Rattle.turn_losses.proofs.Setups.{start-setup, heard-setup, served-setup, Met, met}
 use Rattle.turn_losses.proofs.Phasing.{is_established, begun-established}
 use Rattle.turn_losses.proofs.Clocks.{Ticked, Unanswered, last, chain}
-use Rattle.turn_losses.proofs.Names.{KeepsTime, rates, Stands, is_begun, of_frame, of_arrived, served_account, Served, serves-all}
-use Rattle.turn_losses.proofs.Names.{is_linked, Deed, Happens, Trace, past, sent_or, EndRun, TwoEnds, end_run}
+use Rattle.turn_losses.proofs.Names.{rates, Stands, is_begun, of_frame, of_arrived, served_account, Served, serves-all, is_linked, Happens}
+use Rattle.turn_losses.proofs.Names.{past, sent_or, EndRun, TwoEnds, TimedRun, end_of}
 use Rattle.turn_losses.proofs.Clocks.Ticked.{Begins, Expires, Stays}
 
 -- A turn after which an end tries: the try begins in it, or goes on unanswered, and goes again or not.
@@ -158,30 +158,31 @@ tried period turns p e long h none t l f =
     }
 
 -- What both ends of a run are to each other while the originator tries.
-pub tries-so : ReadsWritten → (tries period : ℕ) (delay : Role → ℕ) (link : Link) (ts : List Turn) (state : ℕ → Accounts) (deed : ℕ → Deed)
-    → KeepsTime tries period delay link → MayPlay link.orig.setup link.answ.setup → Trace period delay link ts state deed
-    → (p : Phase) → is_trying p ≡ true → TriesSo period (length ts) p (end_run delay state deed Originator)
-tries-so reads tries period delay link ts state deed kt m w p t u l f =
-    subst (λ x. TryTurn period u p (arrival (deed u).turn.orig.heard) x (state u).orig (state (u + 1)).orig) (ap sent_or (sym s.sent_is))
-    (subst (λ x. TryTurn period u p (arrival (deed u).turn.orig.heard) s.said.sent (state u).orig x) (sym s.after_is)
-    (try-turn link.orig.user period u p (arrival (deed u).turn.orig.heard) (state u).orig (deed u).mid.orig
-    (is_released (deed u).mid.orig.phase) (release_of link u (deed u).mid Originator) s.said
-    (ap (λ x. x.role) (start-setup tries period delay link (past ts u) (state u) kt h.run h.carried Originator) ∙ kt.roles Originator)
-    (ap (λ x. x.role) mid-setup ∙ kt.roles Originator) (ap (λ x. x.period) mid-setup ∙ (kt.timed Originator).period_is)
-    (let q = kt.period_is in omega (arith, q))
-    (ap is_some (reads-own reads (deed u).mid.orig.setup (subst (λ x. IsAllowed x.offer) (sym mid-setup) (allowed link m Originator))))
+pub tries-so : ReadsWritten → (w : TimedRun) → MayPlay w.link.orig.setup w.link.answ.setup → (p : Phase) → is_trying p ≡ true
+    → TriesSo w.period (length w.ts) p (end_of w Originator)
+tries-so reads w m p t u l f =
+    subst (λ x. TryTurn w.period u p (arrival (w.deed u).turn.orig.heard) x (w.state u).orig (w.state (u + 1)).orig)
+    (ap sent_or (sym s.sent_is))
+    (subst (λ x. TryTurn w.period u p (arrival (w.deed u).turn.orig.heard) s.said.sent (w.state u).orig x) (sym s.after_is)
+    (try-turn w.link.orig.user w.period u p (arrival (w.deed u).turn.orig.heard) (w.state u).orig (w.deed u).mid.orig
+    (is_released (w.deed u).mid.orig.phase) (release_of w.link u (w.deed u).mid Originator) s.said
+    (ap (λ x. x.role) (start-setup w.tries w.period w.delay w.link (past w.ts u) (w.state u) w.keeps h.run h.carried Originator)
+    ∙ w.keeps.roles Originator)
+    (ap (λ x. x.role) mid-setup ∙ w.keeps.roles Originator) (ap (λ x. x.period) mid-setup ∙ (w.keeps.timed Originator).period_is)
+    (let q = w.keeps.period_is in omega (arith, q))
+    (ap is_some (reads-own reads (w.deed u).mid.orig.setup (subst (λ x. IsAllowed x.offer) (sym mid-setup) (allowed w.link m Originator))))
     (h.hearing Originator).hears s.says t (ap (λ (x : Account). x.phase) (sym s.after_is) ∙ f)))
   where
-    h : Happens period delay link (past ts u) u (state u) (deed u) (state (u + 1))
-    h = w.happens u l
+    h : Happens w.period w.delay w.link (past w.ts u) u (w.state u) (w.deed u) (w.state (u + 1))
+    h = w.trace.happens u l
 
-    s : SpeaksAt (said_at link u (deed u).mid Originator) (deed u).turn.orig (state (u + 1)).orig
+    s : SpeaksAt (said_at w.link u (w.deed u).mid Originator) (w.deed u).turn.orig (w.state (u + 1)).orig
     s = h.speaking Originator
 
-    mid-setup : (deed u).mid.orig.setup ≡ link.orig.setup
-    mid-setup = heard-setup tries period delay link (past ts u) (state u) kt h.run h.carried Originator (arrival (deed u).turn.orig.heard)
-        (deed u).mid.orig
-        (ap (λ n. hear n (arrival (deed u).turn.orig.heard) (state u).orig) h.number ∙ (h.hearing Originator).hears)
+    mid-setup : (w.deed u).mid.orig.setup ≡ w.link.orig.setup
+    mid-setup = heard-setup w.tries w.period w.delay w.link (past w.ts u) (w.state u) w.keeps h.run h.carried Originator
+        (arrival (w.deed u).turn.orig.heard) (w.deed u).mid.orig
+        (ap (λ n. hear n (arrival (w.deed u).turn.orig.heard) (w.state u).orig) h.number ∙ (h.hearing Originator).hears)
 
     reads-own : ReadsWritten → (x : Setup) → IsAllowed x.offer → offer_in (written x.offer) ≡ Some x.offer
     reads-own r x a = r x.offer a
@@ -214,62 +215,58 @@ answerable Releasing Releasing n t e r x y z = absurd (r refl)
 answerable Releasing Closed n t e r x y z = refl
 
 -- The answerer answers in the turn in which it hears.
-pub answers-so : ReadsWritten → (tries period : ℕ) (delay : Role → ℕ) (link : Link) (ts : List Turn) (state : ℕ → Accounts)
-    (deed : ℕ → Deed)
-    → KeepsTime tries period delay link → MayPlay link.orig.setup link.answ.setup → Trace period delay link ts state deed
-    → (p : Phase) → is_trying p ≡ true → (u : ℕ) → u < length ts → (state u).orig.phase ≡ p
-    → of_arrived (asks p) (arrival (deed u).turn.answ.heard) ≡ true → of_frame (moves_on p) (sent_or (deed u).turn.answ.sent) ≡ true
-answers-so reads tries period delay link ts state deed kt m w p t u l f k =
-    ap (λ x. of_frame (moves_on p) (sent_or x)) s.sent_is
-    ∙ says-due p u (served_at link u (deed u).mid Answerer).account s.said (ap (λ x. x.role) b-setup ∙ kt.roles Answerer)
-    (ap (λ x. is_some (offer_in (written x.offer))) b-setup ∙ ap is_some (reads link.answ.setup.offer (allowed link m Answerer)))
+pub answers-so : ReadsWritten → (w : TimedRun) → MayPlay w.link.orig.setup w.link.answ.setup → (p : Phase) → is_trying p ≡ true → (u : ℕ)
+    → u < length w.ts → (w.state u).orig.phase ≡ p → of_arrived (asks p) (arrival (w.deed u).turn.answ.heard) ≡ true
+    → of_frame (moves_on p) (sent_or (w.deed u).turn.answ.sent) ≡ true
+answers-so reads w m p t u l f k = ap (λ x. of_frame (moves_on p) (sent_or x)) s.sent_is
+    ∙ says-due p u (served_at w.link u (w.deed u).mid Answerer).account s.said (ap (λ x. x.role) b-setup ∙ w.keeps.roles Answerer)
+    (ap (λ x. is_some (offer_in (written x.offer))) b-setup ∙ ap is_some (reads w.link.answ.setup.offer (allowed w.link m Answerer)))
     served-due s.says
   where
-    h : Happens period delay link (past ts u) u (state u) (deed u) (state (u + 1))
-    h = w.happens u l
+    h : Happens w.period w.delay w.link (past w.ts u) u (w.state u) (w.deed u) (w.state (u + 1))
+    h = w.trace.happens u l
 
-    s : SpeaksAt (said_at link u (deed u).mid Answerer) (deed u).turn.answ (state (u + 1)).answ
+    s : SpeaksAt (said_at w.link u (w.deed u).mid Answerer) (w.deed u).turn.answ (w.state (u + 1)).answ
     s = h.speaking Answerer
 
     mid : Account
-    mid = (deed u).mid.answ
+    mid = (w.deed u).mid.answ
 
-    mid-setup : mid.setup ≡ link.answ.setup
-    mid-setup = heard-setup tries period delay link (past ts u) (state u) kt h.run h.carried Answerer
-        (arrival (deed u).turn.answ.heard) mid (ap (λ n. hear n (arrival (deed u).turn.answ.heard) (state u).answ) h.number
+    mid-setup : mid.setup ≡ w.link.answ.setup
+    mid-setup = heard-setup w.tries w.period w.delay w.link (past w.ts u) (w.state u) w.keeps h.run h.carried Answerer
+        (arrival (w.deed u).turn.answ.heard) mid (ap (λ n. hear n (arrival (w.deed u).turn.answ.heard) (w.state u).answ) h.number
         ∙ (h.hearing Answerer).hears)
 
-    v : Served u (length link.answ.user.breaks) (is_busy u link.answ.user.busy) mid (served_at link u (deed u).mid Answerer).account
-    v = serves-all link.answ.user u (is_released (deed u).mid.orig.phase) mid
+    v : Served u (length w.link.answ.user.breaks) (is_busy u w.link.answ.user.busy) mid (served_at w.link u (w.deed u).mid Answerer).account
+    v = serves-all w.link.answ.user u (is_released (w.deed u).mid.orig.phase) mid
 
-    b-setup : (served_at link u (deed u).mid Answerer).account.setup ≡ link.answ.setup
-    b-setup = served-setup link.answ.user u (is_released (deed u).mid.orig.phase) mid ∙ mid-setup
+    b-setup : (served_at w.link u (w.deed u).mid Answerer).account.setup ≡ w.link.answ.setup
+    b-setup = served-setup w.link.answ.user u (is_released (w.deed u).mid.orig.phase) mid ∙ mid-setup
 
-    never : (q : Phase) → Stands (rates tries period) (length (past ts u)) (length (past ts u)) Answerer q (state u).answ ≡ ⊥
-        → (state u).answ.phase ≡ q → ⊥
+    never : (q : Phase) → Stands (rates w.tries w.period) (length (past w.ts u)) (length (past w.ts u)) Answerer q (w.state u).answ ≡ ⊥
+        → (w.state u).answ.phase ≡ q → ⊥
     never q e g = subst (λ x. x) e
-        (subst (λ x. Stands (rates tries period) (length (past ts u)) (length (past ts u)) Answerer x (state u).answ) g
-        (known tries period delay link (past ts u) (state u) kt h.run h.carried Answerer).stands)
+        (subst (λ x. Stands (rates w.tries w.period) (length (past w.ts u)) (length (past w.ts u)) Answerer x (w.state u).answ) g
+        (known w.tries w.period w.delay w.link (past w.ts u) (w.state u) w.keeps h.run h.carried Answerer).stands)
 
-    both : Met (state u)
-    both = met tries period delay link (past ts u) (state u) kt h.run h.carried
+    both : Met (w.state u)
+    both = met w.tries w.period w.delay w.link (past w.ts u) (w.state u) w.keeps h.run h.carried
 
-    can : can_answer p (state u).answ.phase (state u).answ.numbered ≡ true
-    can = answerable p (state u).answ.phase (state u).answ.numbered t (never Establishing refl) (never Releasing refl)
-        (λ q. not-true (is_begun (state u).answ.phase)
-        (λ b. let wrong : true ≡ false = sym (begun-established tries period delay link ts state deed kt w u (omega (arith, l)) b)
+    can : can_answer p (w.state u).answ.phase (w.state u).answ.numbered ≡ true
+    can = answerable p (w.state u).answ.phase (w.state u).answ.numbered t (never Establishing refl) (never Releasing refl)
+        (λ q. not-true (is_begun (w.state u).answ.phase) (λ b. let wrong : true ≡ false = sym (begun-established w u (omega (arith, l)) b)
         ∙ ap is_established (f ∙ q) in cc))
         (λ q. (
-          not-true (state u).answ.numbered
-              (λ n. let wrong : true ≡ false = sym
-              (numbered-linked tries period delay link ts state deed kt w Answerer u (omega (arith, l)) n) ∙ ap is_linked (f ∙ q) in cc),
-          not-true (is_closed (state u).answ.phase) (λ c. let wrong : true ≡ false = sym (both.closed c) ∙ ap is_released (f ∙ q) in cc),
+          not-true (w.state u).answ.numbered (λ n. let wrong : true ≡ false = sym
+              (numbered-linked w Answerer u (omega (arith, l)) n) ∙ ap is_linked (f ∙ q) in cc),
+          not-true (is_closed (w.state u).answ.phase) (λ c. let wrong : true ≡ false = sym (both.closed c) ∙ ap is_released (f ∙ q) in cc),
         ))
         (λ q. both.begun (ap is_begun (f ∙ q)))
 
     due : AnswerDue p mid
-    due = answer-due p (arrival (deed u).turn.answ.heard) u (state u).answ mid
-        (ap (λ x. x.role) (start-setup tries period delay link (past ts u) (state u) kt h.run h.carried Answerer) ∙ kt.roles Answerer) can
+    due = answer-due p (arrival (w.deed u).turn.answ.heard) u (w.state u).answ mid
+        (ap (λ x. x.role) (start-setup w.tries w.period w.delay w.link (past w.ts u) (w.state u) w.keeps h.run h.carried Answerer)
+        ∙ w.keeps.roles Answerer) can
         k (h.hearing Answerer).hears
 
     moved : (q : Phase) (a b : Account) → b.phase ≡ a.phase → b.owes.answer ≡ a.owes.answer → AnswerDue q a → AnswerDue q b
@@ -281,28 +278,25 @@ answers-so reads tries period delay link ts state deed kt m w p t u l f k =
     moved Connected a b x y d = d
     moved Closed a b x y d = d
 
-    served-due : AnswerDue p (served_at link u (deed u).mid Answerer).account
-    served-due = moved p mid (served_at link u (deed u).mid Answerer).account v.phase v.answer due
+    served-due : AnswerDue p (served_at w.link u (w.deed u).mid Answerer).account
+    served-due = moved p mid (served_at w.link u (w.deed u).mid Answerer).account v.phase v.answer due
 
 -- So where none moves the originator on for a whole period, something was lost in it.
-pub unanswered-loses : ReadsWritten → (tries period : ℕ) (delay : Role → ℕ) (link : Link) (ts : List Turn) (state : ℕ → Accounts)
-    (deed : ℕ → Deed) → KeepsTime tries period delay link → MayPlay link.orig.setup link.answ.setup
-    → Trace period delay link ts state deed
-    → (p : Phase) → is_trying p ≡ true → (s : ℕ) → s + period ≤ length ts → TryUnanswered period p (end_run delay state deed Originator)
-    (length ts) s
-    → LostIn (end_run delay state deed Originator) (end_run delay state deed Answerer) (s + 1) (period - 1)
-unanswered-loses reads tries period delay link ts state deed kt m w p t s within x = go (lost-or-none e o (s + 1) (period - 1))
+pub unanswered-loses : ReadsWritten → (w : TimedRun) → MayPlay w.link.orig.setup w.link.answ.setup → (p : Phase) → is_trying p ≡ true
+    → (s : ℕ) → s + w.period ≤ length w.ts → TryUnanswered w.period p (end_of w Originator) (length w.ts) s
+    → LostIn (end_of w Originator) (end_of w Answerer) (s + 1) (w.period - 1)
+unanswered-loses reads w m p t s within x = go (lost-or-none e o (s + 1) (w.period - 1))
   where
     e : EndRun
-    e = end_run delay state deed Originator
+    e = end_of w Originator
 
     o : EndRun
-    o = end_run delay state deed Answerer
+    o = end_of w Answerer
 
-    k : TwoEnds period (length ts) e o
-    k = two-ends tries period delay link ts state deed kt w Originator
+    k : TwoEnds w.period (length w.ts) e o
+    k = two-ends w Originator
 
-    per : period ≡ 2 * (e.delay + o.delay) + 16
+    per : w.period ≡ 2 * (e.delay + o.delay) + 16
     per = k.period_is
 
     d : 1 ≤ e.delay
@@ -311,16 +305,16 @@ unanswered-loses reads tries period delay link ts state deed kt m w p t s within
     d' : 1 ≤ o.delay
     d' = k.other_delay
 
-    go : LostIn e o (s + 1) (period - 1) ⊎ NoneLost e o (s + 1) (period - 1) → LostIn e o (s + 1) (period - 1)
+    go : LostIn e o (s + 1) (w.period - 1) ⊎ NoneLost e o (s + 1) (w.period - 1) → LostIn e o (s + 1) (w.period - 1)
     go (inl lost) = lost
     go (inr none) =
         let v : ℕ = s + e.delay in
         let y : ℕ = v + o.delay in
-        let reaches : of_arrived (asks p) (o.heard v) ≡ true = is-heard e.delay (length ts) (asks p) e.slot o.heard o.loses k.is_heard s
+        let reaches : of_arrived (asks p) (o.heard v) ≡ true = is-heard e.delay (length w.ts) (asks p) e.slot o.heard o.loses k.is_heard s
         (omega (arith, within, per)) (none v (omega (arith, d)) (omega (arith, per))).1 ∙ x.asked in
-        let answered : of_frame (moves_on p) (o.slot v) ≡ true = answers-so reads tries period delay link ts state deed kt m w p t v
+        let answered : of_frame (moves_on p) (o.slot v) ≡ true = answers-so reads w m p t v
         (omega (arith, within, per)) (x.ran v (omega (arith, d)) (omega (arith, per))) reaches in
-        let hears : of_arrived (moves_on p) (e.heard y) ≡ true = is-heard o.delay (length ts)
+        let hears : of_arrived (moves_on p) (e.heard y) ≡ true = is-heard o.delay (length w.ts)
         (moves_on p) o.slot e.heard e.loses k.hears v (omega (arith, within, per)) (none y (omega (arith, d)) (omega (arith, per))).0
         ∙ answered in
         let wrong : true ≡ false = sym hears ∙ (x.stayed y (omega (arith, d)) (omega (arith, per))).0 in

@@ -6,7 +6,7 @@ use Rattle.turn_bound.proofs.MeetHear.{of_frame, of_arrived}
 use Rattle.turn_bound.proofs.Tied.{is_lost}
 use Rattle.turn_losses.specs.Polls.{is_poll, is_final}
 use Rattle.turn_losses.proofs.Polling.{poll_due, PollTurn}
-use Rattle.turn_losses.proofs.Trace.{Deed, sent_or}
+use Rattle.turn_losses.proofs.Trace.{Deed, TimedRun, sent_or}
 use Rattle.lapm_frames.specs.declared.arrived.Arrived.TheVariants as arrivals
 
 -- one end by the turn: its account before it and once it has heard, what arrives and is lost, what it sends, and whether a poll becomes due
@@ -33,6 +33,9 @@ end_run delay state deed role = record {
   count = λ t. (of role (deed t).mid).outgoing.count;
   mid = λ t. of role (deed t).mid;
 }
+
+abbrev pub end_of : TimedRun → Role → EndRun
+end_of w role = end_run w.delay w.state w.deed role
 
 -- what arrives is what was sent so many turns before, or is lost
 pub record ArrivesLate (delay turn : ℕ) (loses : Bool) (f : ℕ → Sent) (arrived : Arrived) : Type 0 where

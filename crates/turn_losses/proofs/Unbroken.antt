@@ -1,6 +1,6 @@
 -- Where a user asks for no break, none waits.
-use Rattle.std.proofs.Common.{inl, inr, ◌≡◌, ℕ, Bool, true, false, cond, List, [], ◌∷◌, length, arith, refl, sym, ◌∙◌, ap, subst}
-use Rattle.std.proofs.Common.{Result, Ok, Err}
+use Rattle.std.proofs.Common.{inl, inr, ◌≡◌, ℕ, Bool, true, false, cond, List, [], ◌∷◌, length, arith, refl, sym, ◌∙◌, ap, subst, Result}
+use Rattle.std.proofs.Common.{Ok, Err}
 use Rattle.link_account.proofs.Names.{nat_tests, Role, Originator, Answerer, of, OwnBreaks, waits, Arrived, LinkFault, Account}
 use Rattle.link_account.proofs.Names.{is_connected, hear, Said, speak}
 use Rattle.link_run.proofs.Names.{Phase, BreakLine, is_busy, is_released, Link, Accounts, Turn, RunOf, SpeaksAt, arrival, served_at}

@@ -1,10 +1,8 @@
 -- Why a Connected end breaks, and what was lost then.
-use Rattle.std.proofs.Common.{◌⊎◌, inl, inr, ◌≡◌, ℕ, ◌+◌, ◌*◌, ◌<◌, ◌≤◌, Bool, true, false, List, length, arith, refl, sym, ◌∙◌, ap}
-use Rattle.std.proofs.Common.{Some, Ok, Err}
-use Rattle.link_account.proofs.Names.{nat_tests, Role, other, of, waits, Arrived, LinkFault, Account}
-use Rattle.link_account.proofs.Names.{is_connected, hear, speak, false≢true}
-use Rattle.link_run.proofs.Names.{Connected, Releasing, User, is_busy, Link, Accounts, Turn, Phase, Detecting, Negotiating}
-use Rattle.link_run.proofs.Names.{Establishing}
+use Rattle.std.proofs.Common.{◌⊎◌, inl, inr, ◌≡◌, ℕ, ◌+◌, ◌*◌, ◌<◌, ◌≤◌, Bool, true, false, length, arith, refl, sym, ◌∙◌, ap, Some, Ok}
+use Rattle.std.proofs.Common.{Err}
+use Rattle.link_account.proofs.Names.{nat_tests, Role, other, of, waits, Arrived, LinkFault, Account, is_connected, hear, speak, false≢true}
+use Rattle.link_run.proofs.Names.{Connected, Releasing, User, is_busy, Phase, Detecting, Negotiating, Establishing}
 use Rattle.turn_losses.proofs.Periods.{once, loses-of}
 use Rattle.turn_losses.proofs.PollHear.{PollHeard, poll-hears}
 use Rattle.turn_losses.proofs.AnswerTurn.{linked-sends, connected-is}
@@ -14,9 +12,9 @@ use Rattle.turn_losses.proofs.PollLaws.{two-ends}
 use Rattle.turn_losses.proofs.PeriodHolds.{period-loses}
 use Rattle.turn_losses.proofs.Expiries.{Uncleared, expiries}
 use Rattle.turn_losses.proofs.Acknowledged.{Counts}
-use Rattle.turn_losses.proofs.Names.{KeepsTime, NoneDue, Rates, rates, AreRates, Sends, IsOf, Stands, arrived_rnrs, served_account, HeardAs}
-use Rattle.turn_losses.proofs.Names.{of_arrived, heard-ok, is_poll, hears-well, serves-well, Served, serves-all, PeriodLoses}
-use Rattle.turn_losses.proofs.Names.{LosesEach, is_linked, Deed, Trace, EndRun, TwoEnds, end_run}
+use Rattle.turn_losses.proofs.Names.{NoneDue, Rates, rates, AreRates, Sends, IsOf, Stands, arrived_rnrs, served_account, HeardAs}
+use Rattle.turn_losses.proofs.Names.{of_arrived, heard-ok, is_poll, hears-well, serves-well, Served, serves-all, PeriodLoses, LosesEach}
+use Rattle.turn_losses.proofs.Names.{is_linked, EndRun, TwoEnds, TimedRun, end_of}
 
 -- the segments' clock expires with the last try
 pub record SpendsTries (turn : ℕ) (b : Account) : Type 0 where
@@ -157,34 +155,31 @@ last-try tries period user turn role arrived a mid released release fault y k h 
 
 -- a turn in which an end hears nothing of what was sent
 -- So where both ends stay Connected, something was lost in each of the last periods.
-pub wants-answers : (tries period : ℕ) (delay : Role → ℕ) (link : Link) (ts : List Turn) (state : ℕ → Accounts) (deed : ℕ → Deed)
-    → KeepsTime tries period delay link → (w : Trace period delay link ts state deed) → (role : Role)
-    → Counts (length ts) (end_run delay state deed role) (end_run delay state deed (other role))
-    → LastTry tries period (length ts) (of role (state (length ts)))
-    → ((s u : ℕ) → s < length ts → s ≤ u → u ≤ length ts → (deed s).made role ≡ true → is_connected (of role (state s)).phase ≡ true
-    → is_connected (of role (state u)).phase ≡ true → is_connected (of (other role) (state u)).phase ≡ true)
-    → LosesEach period tries (length ts) ts
-wants-answers tries period delay link ts state deed kt w role c l both n less =
-    lost-at (expiries period turns e o k c tries l.set l.connected l.count l.runs l.now n less)
+pub wants-answers : (w : TimedRun) → (role : Role) → Counts (length w.ts) (end_of w role) (end_of w (other role))
+    → LastTry w.tries w.period (length w.ts) (of role (w.state (length w.ts)))
+    → ((s u : ℕ) → s < length w.ts → s ≤ u → u ≤ length w.ts → (w.deed s).made role ≡ true → is_connected (of role (w.state s)).phase ≡ true
+    → is_connected (of role (w.state u)).phase ≡ true → is_connected (of (other role) (w.state u)).phase ≡ true)
+    → LosesEach w.period w.tries (length w.ts) w.ts
+wants-answers w role c l both n less = lost-at (expiries w.period turns e o k c w.tries l.set l.connected l.count l.runs l.now n less)
   where
     turns : ℕ
-    turns = length ts
+    turns = length w.ts
 
     e : EndRun
-    e = end_run delay state deed role
+    e = end_of w role
 
     o : EndRun
-    o = end_run delay state deed (other role)
+    o = end_of w (other role)
 
-    k : TwoEnds period turns e o
-    k = two-ends tries period delay link ts state deed kt w role
+    k : TwoEnds w.period turns e o
+    k = two-ends w role
 
-    long : 1 ≤ period
-    long = let p = kt.period_is in omega (arith, p)
+    long : 1 ≤ w.period
+    long = let p = w.keeps.period_is in omega (arith, p)
 
-    lost-at : (s : ℕ) × (s + (n + 1) * period ≡ turns) × Uncleared period e s → PeriodLoses period turns ts n
+    lost-at : (s : ℕ) × (s + (n + 1) * w.period ≡ turns) × Uncleared w.period e s → PeriodLoses w.period turns w.ts n
     lost-at (s, q, x) =
-        let same = once period n in
-        let end : s + period ≤ turns = omega (arith, q, same) in
-        loses-of period delay link ts state deed w role s n long q (period-loses period turns e o k c s end x.made x.on
+        let same = once w.period n in
+        let end : s + w.period ≤ turns = omega (arith, q, same) in
+        loses-of w role s n long q (period-loses w.period turns e o k c s end x.made x.on
         (λ u a b. both s u (omega (arith, end, long)) a (omega (arith, b, end)) x.made x.connected (x.on u a b)) x.uncleared)

@@ -1,6 +1,6 @@
 -- How soon a BRK goes, and the BRKACK that answers it.
-use Rattle.std.proofs.Common.{◌⊎◌, inl, inr, ◌≡◌, ℕ, zero, suc, ◌+◌, ◌-◌, ◌<◌, ◌≤◌, ◌&&◌, Bool, true, false, nat_le, arith, refl, sym}
-use Rattle.std.proofs.Common.{◌∙◌, ap, subst}
+use Rattle.std.proofs.Common.{◌⊎◌, inl, inr, ◌≡◌, ℕ, zero, suc, ◌+◌, ◌-◌, ◌<◌, ◌≤◌, ◌&&◌, Bool, true, false, nat_le, arith, refl, sym, ◌∙◌}
+use Rattle.std.proofs.Common.{ap, subst}
 use Rattle.link_account.proofs.Names.{cases_lt, nat_tests, waits, Account, is_connected}
 use Rattle.turn_losses.proofs.Truths.{not-true, and-two, and-drop, clash}
 use Rattle.turn_losses.proofs.PollHear.{linked-connected}
