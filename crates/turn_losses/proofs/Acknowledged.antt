@@ -2,14 +2,14 @@
 use Rattle.std.proofs.Common.{◌⊎◌, inl, inr, ◌≡◌, ℕ, zero, suc, ◌+◌, ◌-◌, ◌%◌, ◌<◌, ◌≤◌, ◌&&◌, Bool, true, false, cond, nat_lt, nat_le}
 use Rattle.std.proofs.Common.{length, arith, refl, sym, ◌∙◌, ap, Option, Some, None}
 use Rattle.link_account.proofs.Names.{is_some, cases_lt, nat_tests, Frame, I, Rr, Rnr, Rej, Srej, Sabme, Disc, Ua, Dm, Ui, Xid, meant, Sent}
-use Rattle.link_account.proofs.Names.{Arrived, is_connected, arrives}
+use Rattle.link_account.proofs.Names.{Arrived, is_connected, arrives, waits}
 use Rattle.lapm_frames.specs.declared.frame.Frame.TheVariants.{Frmr, Test}
 use Rattle.turn_losses.proofs.KeepsPolls.{Answers}
 use Rattle.turn_losses.proofs.NumberHear.{frame_nr, nr_heard, ns_heard, nr_sent, ns_sent, NumbersHeard}
 use Rattle.turn_losses.proofs.NumberTurn.{NumberTurn}
 use Rattle.turn_losses.proofs.Room.{Room}
 use Rattle.turn_losses.proofs.PollLaws.{reply-matches}
-use Rattle.turn_losses.proofs.PeriodLaws.{linked-on, connected-back, awaits-on, NoneLost, StayConnected}
+use Rattle.turn_losses.proofs.PeriodLaws.{awaits-on, NoneLost, StayConnected, connected-since}
 use Rattle.turn_losses.proofs.Names.{of_arrived, is_final, is_linked, EndRun, ArrivesLate, TwoEnds, hears_final}
 use Rattle.lapm_frames.specs.declared.sent.Sent.TheVariants as slots
 use Rattle.lapm_frames.specs.declared.arrived.Arrived.TheVariants as arrivals
@@ -230,11 +230,9 @@ acknowledged period turns e o k c u within final sends ce co lost = go-told (own
             (k.own m.due (omega (arith, low, high, within))).made_linked m.made in
             let cu = ce u (omega arith) (omega arith) in
             let after-due : m.due + 1 ≤ y = omega (arith, fr, tr, due-before, k.own_delay) in
-            let cy = connected-back period turns e o k y u (omega (arith, high)) (omega (arith, within))
-            (linked-on period turns e o k (m.due + 1) y after-due (omega (arith, high, within)) linked) cu in
-            let cy' = connected-back period turns e o k (y + 1) u high (omega (arith, within))
-            (linked-on period turns e o k (m.due + 1) (y + 1) (omega (arith, after-due)) (omega (arith, high, within)) linked) cu in
-            let sent = (c.own y (omega (arith, high, within)) cy cy').segment ns from.1 in
+            let on = connected-since period turns e o k (m.due + 1) u (omega (arith, within)) linked cu in
+            let sent = (c.own y (omega (arith, high, within)) (on y after-due (omega (arith, high)))
+            (on (y + 1) (omega (arith, after-due)) high)).segment ns from.1 in
             let waits = awaits-on period turns e o k u (omega (arith, within)) cu m (y + 1) low high in
             let wrong : true ≡ false = sym waits ∙ sent in cc
 

@@ -12,6 +12,7 @@ use Rattle.turn_losses.proofs.AnswerTurn.{connected-is}
 use Rattle.turn_losses.specs.Tries.{OriginatorWantsFrame, AnswererWantsAnswer, IsForLosses, GivesUpForLosses}
 use Rattle.turn_losses.proofs.Parting.{answerer-gives-up}
 use Rattle.turn_losses.proofs.Periods.{later-loses}
+use Rattle.turn_losses.proofs.Tracing.{timed-run}
 
 -- what the laws say of each case
 pub record Cases : Type 0 where
@@ -66,7 +67,7 @@ gives-up laws tries period delay link ts before t mid role fault kt run cs broke
         let h = laws.answ tries period delay link ts before t mid segment since kt run cs b (waits-not Answerer c q) in
         record { each = h.0; all = λ e. cc; starved = h.1 }
     answ-spent segment since b q false c = let wrong : true ≡ false = sym
-        (answerer-gives-up tries period delay link ts before t mid (Spent segment since) kt run b) ∙ c in cc
+        (answerer-gives-up (timed-run tries period delay link ts before kt run.run run.carried) t mid (Spent segment since) b) ∙ c in cc
 
     undetected : BrokenTurn link ts before t mid Originator NotDetected → (c : Bool) → IsForLosses tries period delay ts t c
     undetected b c =

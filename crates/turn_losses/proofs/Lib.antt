@@ -10,6 +10,9 @@ pub mod PollsFresh
 pub mod Words
 mod HeardNumber
 pub mod PollHear
+mod InTurn
+mod EndTurn
+mod Follows
 pub mod PollSpeak
 pub mod PollTurn
 pub mod Answering

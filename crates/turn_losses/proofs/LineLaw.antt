@@ -1,11 +1,15 @@
 use Rattle.std.proofs.Common.{◌⊎◌, inl, inr, ◌≡◌, ℕ, zero, suc, ◌+◌, ◌-◌, ◌<◌, ◌≤◌, Bool, true, false, cond, List, [], ◌∷◌, length, arith}
-use Rattle.std.proofs.Common.{refl, sym, ◌∙◌, ap, subst, Some, None}
-use Rattle.link_account.proofs.Names.{cases_lt, Role, Frame, Sent, Arrived, Account, is_connected, arrives, slice_get, other, of}
-use Rattle.link_run.proofs.Names.{arrival, Crosses, sent_in}
+use Rattle.std.proofs.Common.{refl, sym, ◌∙◌, ap, subst, Some, None, Option}
+use Rattle.link_account.proofs.Names.{cases_lt, Role, Frame, Sent, Arrived, Account, is_connected, arrives, slice_get, other, of, Chance}
+use Rattle.link_account.proofs.Names.{Heard, Lost, Nothing, Passed, Said}
+use Rattle.link_run.proofs.Names.{arrival, Crosses, sent_in, Carries, SpeaksAt, Spoken, Turn, said_at, spoken}
 use Rattle.turn_bound.proofs.Tied.{sent_of, none-heard, one-heard}
 use Rattle.turn_losses.proofs.Polls.{Polls, WasSent}
 use Rattle.turn_losses.proofs.Names.{is_lost, past, sent_or, is_poll, of_frame, of_arrived, is_linked, poll_due, PollTurn, ArrivesLate}
 use Rattle.turn_losses.proofs.Names.{arrives-flag, TimedRun}
+use Rattle.link_run.specs.Carried.{has_message}
+use Rattle.turn_losses.proofs.Tracing.{past-all}
+use Rattle.lapm_frames.specs.declared.sent.Sent.TheVariants as slots
 use Rattle.lapm_frames.specs.declared.arrived.Arrived.TheVariants as arrivals
 
 -- the turn so many turns ago
@@ -72,6 +76,43 @@ is-heard delay turns kind f arrived loses h t within passes =
     ap (of_arrived kind) ((h (t + delay) within).late (omega arith)
     ∙ (ap (λ b. cond b arrivals.Nothing (arrives (f (t + delay - delay)))) passes ∙ ap (λ n. arrives (f n)) back))
     ∙ arrives-flag kind (f t)
+
+-- what passes of a slot
+passes-as : (m : Option Spoken) (said : Said) (heard : Heard) → m ≡ Some (spoken said) → Crosses m heard → is_lost heard ≡ false
+    → arrival heard ≡ arrives said.sent
+passes-as None said heard e c l = cc
+passes-as (Some slot) said Nothing e c l = let same : slot ≡ spoken said = cc in sym (silent-arrives slot.sent c)
+    ∙ ap (λ (x : Spoken). arrives x.sent) same
+  where
+    silent-arrives : (s : Sent) → has_message s ≡ false → arrives s ≡ arrivals.Nothing
+    silent-arrives slots.Mark f = refl
+    silent-arrives slots.Flags f = refl
+    silent-arrives slots.Odp f = cc
+    silent-arrives slots.Adp f = cc
+    silent-arrives (slots.Frame frame) f = cc
+passes-as (Some slot) said (Passed s) e c l = let same : slot ≡ spoken said = cc in ap arrives c.0
+    ∙ ap (λ (x : Spoken). arrives x.sent) same
+passes-as (Some slot) said (Lost s) e c l = cc
+passes-as (Some slot) said Chance e c l = absurd c
+
+-- what one role sent so long before the last turn arrives in it, unless it is lost
+pub last-heard : (kind : Frame → Bool) (w : TimedRun) (t : Turn) → Carries w.delay w.ts t → (r : Role) (s : ℕ)
+    → s + w.delay (other r) ≡ length w.ts → is_lost (of r t).heard ≡ false
+    → of_arrived kind (arrival (of r t).heard) ≡ of_frame kind (sent_or (of (other r) (w.deed s).turn).sent)
+last-heard kind w t cs r s same f =
+    ap (of_arrived kind) (passes-as (sent_in (other r) (slice_get w.ts (w.delay (other r) - 1))) x.said (of r t).heard (on-line ∙ x.sent_is)
+    (cs r) f ∙ ap (λ j. arrives (sent_or j)) (sym x.sent_is)) ∙ arrives-flag kind (sent_or (of (other r) (w.deed s).turn).sent)
+  where
+    d : 1 ≤ w.delay (other r)
+    d = w.keeps.delays (other r)
+
+    x : SpeaksAt (said_at w.link s (w.deed s).mid (other r)) (of (other r) (w.deed s).turn) (of (other r) (w.state (s + 1)))
+    x = (w.trace.happens s (omega (arith, same, d))).speaking (other r)
+
+    on-line : sent_in (other r) (slice_get w.ts (w.delay (other r) - 1)) ≡ (of (other r) (w.deed s).turn).sent
+    on-line = ap (sent_in (other r)) (ap (λ us. slice_get us (w.delay (other r) - 1)) (sym (past-all w.ts))
+        ∙ (ap (λ m. slice_get (past w.ts m) (w.delay (other r) - 1)) (omega (arith, same, d))
+        ∙ looked w (w.delay (other r) - 1) s (omega (arith, same, d))))
 
 -- Polls that became due at one end are a period apart: while its clock runs, it was set no earlier than the last of them.
 pub record SetSince (s : ℕ) (a : Account) : Type 0 where

@@ -1,46 +1,24 @@
 -- What is lost in each period of a waiting break, while the other end is Connected.
 use Rattle.std.proofs.Common.{◌⊎◌, inl, inr, ◌≡◌, ℕ, ◌+◌, ◌-◌, ◌*◌, ◌<◌, ◌≤◌, Bool, true, false, ◌∷◌, length, arith, refl, sym, ◌∙◌, ap, Ok}
-use Rattle.link_account.proofs.Names.{slice_get, cases_lt, nat_tests, Role, Originator, Answerer, other, of, Frame, ReadsWritten, waits}
-use Rattle.link_account.proofs.Names.{Arrived, Account, is_connected, MayPlay, hear, arrives}
-use Rattle.link_run.proofs.Names.{User, is_busy, Accounts, Turn, SpeaksAt, arrival, said_at, Carries, sent_in}
+use Rattle.link_account.proofs.Names.{cases_lt, nat_tests, Role, Originator, Answerer, other, of, ReadsWritten, waits, Arrived, Account}
+use Rattle.link_account.proofs.Names.{is_connected, MayPlay, hear}
+use Rattle.link_run.proofs.Names.{User, is_busy, Accounts, Turn, arrival, Carries}
 use Rattle.turn_losses.proofs.Truths.{clash, not-true}
 use Rattle.turn_losses.proofs.Periods.{once, loses-at, loses-last}
-use Rattle.turn_losses.proofs.Tracing.{past-all}
-use Rattle.turn_losses.proofs.LineLaw.{is-heard, looked, was-sent}
+use Rattle.turn_losses.proofs.LineLaw.{is-heard, was-sent, last-heard}
 use Rattle.turn_losses.proofs.PollLaws.{two-ends}
 use Rattle.turn_losses.proofs.PeriodLaws.{NoneLost}
 use Rattle.turn_losses.proofs.PeriodHolds.{LostIn, lost-or-none}
 use Rattle.turn_losses.proofs.AnswerTurn.{connected-is}
-use Rattle.turn_losses.proofs.Parting.{passes-as}
 use Rattle.turn_losses.proofs.Establishing.{is_sabme}
-use Rattle.turn_losses.proofs.BreakHear.{of_word, ack_of, break-heard}
+use Rattle.turn_losses.proofs.BreakHear.{break-heard}
 use Rattle.turn_losses.proofs.BreakTurn.{waits-not, Deeds, ServedBreaks, number_of, brk_due}
 use Rattle.turn_losses.proofs.View.{deeds-of, breaking, served-own}
 use Rattle.turn_losses.proofs.Waiting.{BreakPeriod, break-answered}
 use Rattle.turn_losses.proofs.Quiet.{answers-sabme, sends-sabme-so}
-use Rattle.turn_losses.proofs.Names.{of_frame, of_arrived, arrives-flag, serves-all, served_account, is_lost, PeriodLoses, past, sent_or}
-use Rattle.turn_losses.proofs.Names.{EndRun, TwoEnds, TimedRun, end_of}
-
--- what one role sent so long before the last turn arrives in it, unless it is lost
-pub last-heard : (kind : Frame → Bool) (w : TimedRun) → (t : Turn) → Carries w.delay w.ts t → (r : Role) → 1 ≤ w.delay (other r) → (s : ℕ)
-    → s + w.delay (other r) ≡ length w.ts → is_lost (of r t).heard ≡ false
-    → of_arrived kind (arrival (of r t).heard) ≡ of_frame kind (sent_or (of (other r) (w.deed s).turn).sent)
-last-heard kind w t cs r d s same f = ap (of_arrived kind) heard ∙ arrives-flag kind (sent_or (of (other r) (w.deed s).turn).sent)
-  where
-    within : s < length w.ts
-    within = omega (arith, same, d)
-
-    s' : SpeaksAt (said_at w.link s (w.deed s).mid (other r)) (of (other r) (w.deed s).turn) (of (other r) (w.state (s + 1)))
-    s' = (w.trace.happens s within).speaking (other r)
-
-    on-line : sent_in (other r) (slice_get w.ts (w.delay (other r) - 1)) ≡ (of (other r) (w.deed s).turn).sent
-    on-line = ap (sent_in (other r)) (ap (λ us. slice_get us (w.delay (other r) - 1)) (sym (past-all w.ts))
-        ∙ (ap (λ m. slice_get (past w.ts m) (w.delay (other r) - 1)) (omega (arith, same, d))
-        ∙ looked w (w.delay (other r) - 1) s (omega (arith, same, d))))
-
-    heard : arrival (of r t).heard ≡ arrives (sent_or (of (other r) (w.deed s).turn).sent)
-    heard = passes-as (sent_in (other r) (slice_get w.ts (w.delay (other r) - 1))) s'.said (of r t).heard (on-line ∙ s'.sent_is) (cs r) f
-        ∙ ap (λ j. arrives (sent_or j)) (sym s'.sent_is)
+use Rattle.turn_losses.proofs.Names.{of_frame, of_arrived, serves-all, served_account, is_lost, PeriodLoses, EndRun, TwoEnds, TimedRun}
+use Rattle.turn_losses.proofs.Names.{end_of}
+use Rattle.turn_losses.proofs.Words.{ack_of, of_word}
 
 -- the answer in the last turn ends the wait
 pub last-ends : (user : User) (turn : ℕ) (released : Bool) (arrived : Arrived) (a mid : Account) → is_connected a.phase ≡ true
@@ -115,7 +93,7 @@ connected-loses reads w m t cs r number s n small q bp co na last-no = go (lost-
         let c = was-sent e.delay turns is_sabme e.slot o.heard o.loses k.is_heard u (omega (arith, b, within)) heard in
         let v : ℕ = u - e.delay in
         clash (is_connected (e.account (v + 1)).phase) (bp.stays (v + 1) (omega (arith, a)) (omega (arith, a, b, k.own_delay))).connected
-        (sends-sabme-so reads w m r v (omega (arith, b, within)) c.1))
+        (sends-sabme-so w r v (omega (arith, b, within)) c.1))
 
     some : (u : ℕ) → s < u → u ≤ s + w.period → u < turns → (e.loses u ≡ true) ⊎ (o.loses u ≡ true)
         → PeriodLoses w.period turns (t ∷ w.ts) n
@@ -158,4 +136,4 @@ connected-loses reads w m t cs r number s n small q bp co na last-no = go (lost-
 
             at-end : s + w.period ≡ turns → (b : Bool) → is_lost (of r t).heard ≡ b → PeriodLoses w.period turns (t ∷ w.ts) n
             at-end g true x = loses-last w.period t w.ts s n long q g r x
-            at-end g false x = absurd (last-no g (last-heard (of_word (ack_of number)) w t cs r k.other_delay z (f ∙ g) x ∙ sent))
+            at-end g false x = absurd (last-no g (last-heard (of_word (ack_of number)) w t cs r z (f ∙ g) x ∙ sent))

@@ -1,20 +1,20 @@
 -- The numbers of both ends of a run.
-use Rattle.std.proofs.Common.{inl, inr, ◌≡◌, ℕ, zero, suc, ◌+◌, ◌*◌, ◌%◌, ◌<◌, ◌≤◌, Bool, true, false, cond, List, length, length-append}
-use Rattle.std.proofs.Common.{arith, refl, sym, ◌∙◌, ap, subst, Option, Some}
-use Rattle.link_account.proofs.Names.{Role, Originator, Answerer, other, of, IsPrefixOf, IsAllowed, Arrived, Account, is_connected, hear}
-use Rattle.link_account.proofs.Names.{MayPlay}
-use Rattle.link_run.proofs.Names.{is_released, Link, Accounts, Spoken, Turn, arrival, RunsOver}
+use Rattle.std.proofs.Common.{inl, inr, ◌≡◌, ℕ, zero, suc, ◌+◌, ◌%◌, ◌<◌, ◌≤◌, Bool, true, false, cond, List, length, length-append, arith}
+use Rattle.std.proofs.Common.{refl, sym, ◌∙◌, ap, subst, Option, Some}
+use Rattle.link_account.proofs.Names.{Role, Originator, Answerer, other, of, IsPrefixOf, IsAllowed, Account, is_connected, MayPlay}
+use Rattle.link_run.proofs.Names.{Link, Accounts, Spoken, Turn, RunsOver}
 use Rattle.link_account.specs.Account.{first_terms}
 use Rattle.link_account.specs.Laws.{TakesInOrder, AcknowledgesTaken}
 use Rattle.link_run.specs.Laws.{RunsArePlays, HearingsArePlays, IsPlayed}
 use Rattle.link_run.specs.Overheard.{AgreesByXid, has_passed, is_xid, agreed_terms}
-use Rattle.turn_losses.proofs.Tracing.{Known, known, timed, rated, release_of, said-as, untimed-of}
+use Rattle.turn_losses.proofs.Tracing.{release_of, untimed-of}
 use Rattle.turn_losses.proofs.NumberHear.{ns_sent}
 use Rattle.turn_losses.proofs.NumberTurn.{NumberTurn, number-turn, Begins, begins-turn}
 use Rattle.turn_losses.proofs.Room.{Room, Fits, fits-second}
 use Rattle.turn_losses.proofs.Acknowledged.{Counts}
 use Rattle.turn_losses.proofs.PeriodHolds.{SendsFirst, end-answered}
-use Rattle.turn_losses.proofs.Names.{Rates, rates, IsOf, arrived_rnrs, heard-ok, hears-well, is_linked, past, sent_or, TimedRun, end_of}
+use Rattle.turn_losses.proofs.Names.{rates, is_linked, past, sent_or, TimedRun, end_of}
+use Rattle.turn_losses.proofs.EndTurn.{end-turn, starts-fresh}
 
 -- what the laws of plays and of frames say
 pub record Plays : Type 0 where
@@ -85,74 +85,38 @@ counts-of laws w m role = record {
   answered = λ t l c c' h. elim (end-answered w role t l c c' h) [ inl x ↦ inl x | inr y ↦ inr (segment t y) ];
 }
   where
-    z : Rates
-    z = rates w.tries w.period
-
     none : (r : Role) → is_connected (of r (w.state 0)).phase ≡ false
-    none Originator = ap (λ s. is_connected s.orig.phase) w.trace.starts
-    none Answerer = ap (λ s. is_connected s.answ.phase) w.trace.starts
+    none r = ap (λ (a : Account). is_connected a.phase) (starts-fresh w r)
 
     segment : (t : ℕ) → SendsFirst w role t
         → ns_sent (sent_or (of role (w.deed t).turn).sent) ≡ Some ((of role (w.deed t).mid).outgoing.front % 128)
     segment t (l, s) = ap (λ x. ns_sent (sent_or x)) ((w.trace.happens t l).speaking role).sent_is ∙ ap ns_sent s.sent
 
-    known-at : (r : Role) (t : ℕ) → t < length w.ts → Known z w.link t (w.state t) r
-    known-at r t l = let h = w.trace.happens t l in
-        subst (λ n. Known z w.link n (w.state t) r) h.number (known w.tries w.period w.delay w.link (past w.ts t) (w.state t) w.keeps h.run
-        h.carried r)
-
     numbers : (r : Role) (t : ℕ) → t < length w.ts → is_connected (of r (w.state t)).phase ≡ true
         → is_connected (of r (w.state (t + 1))).phase ≡ true
-        → NumberTurn (arrival (of r (w.deed t).turn).heard) (sent_or (of r (w.deed t).turn).sent) (of r (w.state t)) (of r (w.deed t).mid)
-        (of r (w.state (t + 1)))
+        → NumberTurn ((end_of w r).heard t) ((end_of w r).slot t) (of r (w.state t)) (of r (w.deed t).mid) (of r (w.state (t + 1)))
     numbers r t l ca cc' =
-        let h = w.trace.happens t l in
-        let s = h.speaking r in
-        let k = known-at r t l in
-        let tm = timed w.tries w.period w.delay w.link w.keeps r in
-        subst (λ x. NumberTurn (arrival (of r (w.deed t).turn).heard) x (of r (w.state t)) (of r (w.deed t).mid) (of r (w.state (t + 1))))
-        (ap sent_or (sym s.sent_is))
-        (subst (λ x. NumberTurn (arrival (of r (w.deed t).turn).heard) s.said.sent (of r (w.state t)) (of r (w.deed t).mid) x)
-        (sym s.after_is)
-        (number-turn (of r w.link).user t r (arrival (of r (w.deed t).turn).heard) (of r (w.state t)) (of r (w.deed t).mid)
-        (is_released (w.deed t).mid.orig.phase) (release_of w.link t (w.deed t).mid r) s.said
-        (ap (λ x. x.role) k.setup ∙ tm.role_is) k.none_due (h.hearing r).hears (sym (said-as w.link t (w.deed t).mid r) ∙ s.says) ca
-        (ap (λ (x : Account). is_connected x.phase) (sym s.after_is) ∙ cc')))
+        let g = end-turn w r t l in
+        subst (λ x. NumberTurn ((end_of w r).heard t) x (of r (w.state t)) (of r (w.deed t).mid) (of r (w.state (t + 1)))) (sym g.slot)
+        (subst (NumberTurn ((end_of w r).heard t) g.said.sent (of r (w.state t)) (of r (w.deed t).mid)) (sym g.after)
+        (number-turn g.in_turn (release_of w.link t (w.deed t).mid r) g.says
+        (ap (λ (x : Account). is_connected x.phase) (sym g.after) ∙ cc') ca))
 
     fits-terms : (r : Role) (t : ℕ) → t < length w.ts → Fits (of r (w.state t)).terms
     fits-terms r t l =
         let h = w.trace.happens t l in
-        fits-at laws w.link w.delay (past w.ts t) (w.state t) (record {
-          may_play = m;
-          delays = w.keeps.delays;
-          carried = h.carried;
-          run = h.run;
-        }) r
+        fits-at laws w.link w.delay (past w.ts t) (w.state t)
+        (record { may_play = m; delays = w.keeps.delays; carried = h.carried; run = h.run }) r
 
     begun : (r : Role) (t : ℕ) → t < length w.ts → is_linked (of r (w.state t)).phase ≡ false
         → is_connected (of r (w.state (t + 1))).phase ≡ true → Begins (of r (w.state (t + 1)))
     begun r t l ua cc' =
-        let h = w.trace.happens t l in
-        let s = h.speaking r in
-        let k = known-at r t l in
-        let tm = timed w.tries w.period w.delay w.link w.keeps r in
-        let y = rated w.tries w.period w.delay w.link w.keeps in
-        let a : Account = of r (w.state t) in
-        let mid : Account = of r (w.deed t).mid in
-        let arrived : Arrived = arrival (of r (w.deed t).turn).heard in
-        let is-of : IsOf z a.setup = subst (IsOf z) (sym k.setup) tm.is_of in
-        let heard = heard-ok z (length a.outgoing.pieces) 0 t (z.quota * arrived_rnrs arrived) r a.phase a mid (hear t arrived a)
-        (h.hearing r).hears
-        (hears-well z (length a.outgoing.pieces) 0 t r a.phase arrived a y is-of k.stands refl (ap (λ x. x.role) k.setup ∙ tm.role_is)
-        (omega arith)) in
-        let long = y.period in
-        subst Begins (sym s.after_is)
-        (begins-turn (of r w.link).user t w.period r arrived a mid (is_released (w.deed t).mid.orig.phase)
-        (release_of w.link t (w.deed t).mid r) s.said (ap (λ x. x.role) k.setup ∙ tm.role_is) k.none_due
-        (untimed-of z t t r a.phase a k.stands ua) (ap (λ x. x.period) heard.1.setup ∙ is-of.period) (omega (arith, long))
-        (fits-terms r t l) (subst IsAllowed (ap (λ x. x.offer) (sym k.setup)) (allowed w.link m r))
-        (h.hearing r).hears (sym (said-as w.link t (w.deed t).mid r) ∙ s.says) ua
-        (ap (λ (x : Account). is_connected x.phase) (sym s.after_is) ∙ cc'))
+        let g = end-turn w r t l in
+        let i = g.in_turn in
+        subst Begins (sym g.after)
+        (begins-turn i (release_of w.link t (w.deed t).mid r) g.says (ap (λ (x : Account). is_connected x.phase) (sym g.after) ∙ cc')
+        (untimed-of (rates w.tries w.period) t t r (of r (w.state t)).phase (of r (w.state t)) i.stands ua)
+        (fits-terms r t l) (subst IsAllowed (ap (λ x. x.offer) (sym i.setup)) (allowed w.link m r)) ua)
 
     rooms : (r : Role) (t : ℕ) → t ≤ length w.ts → is_connected (of r (w.state t)).phase ≡ true → Room (of r (w.state t))
     rooms r zero l c = let wrong : true ≡ false = sym c ∙ none r in cc

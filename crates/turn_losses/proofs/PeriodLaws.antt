@@ -5,27 +5,29 @@ use Rattle.turn_losses.proofs.LineLaw.{is-heard}
 use Rattle.turn_losses.proofs.PollLaws.{turned, due-apart, reply-at-once, poll-fresh, polls-apart, reply-matches}
 use Rattle.turn_losses.proofs.Names.{is_poll, is_final, is_linked, poll_due, PollTurn, EndRun, TwoEnds, sends_poll, hears_poll, sends_final}
 use Rattle.turn_losses.proofs.Names.{hears_final}
+use Rattle.turn_losses.proofs.Follows.{kept-on}
+use Rattle.turn_losses.proofs.Truths.{clash, not-true}
+use Rattle.turn_losses.proofs.Clocks.{last}
 
 -- an end that was Connected stays so, or is told to release or Closed, for good
 pub linked-on : (period turns : ℕ) (e o : EndRun) → TwoEnds period turns e o → (s t : ℕ) → s ≤ t → t ≤ turns
     → is_linked (e.account s).phase ≡ true → is_linked (e.account t).phase ≡ true
-linked-on period turns e o k s zero less within h = subst (λ n. is_linked (e.account n).phase ≡ true) (omega (arith, less)) h
-linked-on period turns e o k s (suc t) less within h = elim (cases_lt t s) [
-  | inl l ↦ subst (λ n. is_linked (e.account n).phase ≡ true) (omega (arith, less, l)) h
-  | inr g ↦ subst (λ n. is_linked (e.account n).phase ≡ true) (omega arith)
-      ((k.own t (omega (arith, within))).linked (linked-on period turns e o k s t g (omega (arith, within)) h))
-]
+linked-on period turns e o k = kept-on turns (λ t. is_linked (e.account t).phase ≡ true) (λ u l. (k.own u l).linked)
 
 -- where it is Connected it was so ever since
-pub connected-back : (period turns : ℕ) (e o : EndRun) → TwoEnds period turns e o → (s t : ℕ) → s ≤ t → t ≤ turns
-    → is_linked (e.account s).phase ≡ true → is_connected (e.account t).phase ≡ true → is_connected (e.account s).phase ≡ true
-connected-back period turns e o k s zero less within h c = subst (λ n. is_connected (e.account n).phase ≡ true) (omega (arith, less)) c
-connected-back period turns e o k s (suc t) less within h c = elim (cases_lt t s) [
-  | inl l ↦ subst (λ n. is_connected (e.account n).phase ≡ true) (omega (arith, less, l)) c
-  | inr g ↦ connected-back period turns e o k s t g (omega (arith, within)) h
-      ((k.own t (omega (arith, within))).timer (subst (λ n. is_connected (e.account n).phase ≡ true) (omega arith) c)
-      (linked-on period turns e o k s t g (omega (arith, within)) h)).0
-]
+pub connected-since : (period turns : ℕ) (e o : EndRun) → TwoEnds period turns e o → (s t : ℕ) → t ≤ turns
+    → is_linked (e.account s).phase ≡ true → is_connected (e.account t).phase ≡ true
+    → (u : ℕ) → s ≤ u → u ≤ t → is_connected (e.account u).phase ≡ true
+connected-since period turns e o k s t within h c u low high = by (is_connected (e.account u).phase) refl
+  where
+    by : (x : Bool) → is_connected (e.account u).phase ≡ x → is_connected (e.account u).phase ≡ true
+    by true q = q
+    by false q = clash (is_connected (e.account t).phase) c
+        (kept-on turns (λ v. (is_linked (e.account v).phase ≡ true) × (is_connected (e.account v).phase ≡ false)) (λ v l x. (
+          (k.own v l).linked x.0,
+          not-true (is_connected (e.account (v + 1)).phase) (λ y. clash (is_connected (e.account v).phase) ((k.own v l).timer y x.0).0 x.1),
+        ))
+        u t high within (linked-on period turns e o k s u low (omega (arith, high, within)) h, q)).1
 
 -- The poll that a response with F = 1 answers is awaited from when it became due.
 pub awaits-on : (period turns : ℕ) (e o : EndRun) → TwoEnds period turns e o → (t : ℕ) → t < turns → is_connected (e.account t).phase ≡ true
@@ -51,8 +53,7 @@ awaits-on period turns e o k t within c m = awaits
     linked = (k.own m.due (omega (arith, before, within))).made_linked m.made
 
     connected : (u : ℕ) → m.due < u → u ≤ t → is_connected (e.account u).phase ≡ true
-    connected u l g = connected-back period turns e o k u t g (omega (arith, within))
-        (linked-on period turns e o k (m.due + 1) u (omega (arith, l)) (omega (arith, g, within)) linked) c
+    connected u l g = connected-since period turns e o k (m.due + 1) t (omega (arith, within)) linked c u (omega (arith, l)) g
 
     -- no answer came between
     no-answer : (u : ℕ) → m.due < u → u < t → (b : Bool) → hears_final e u ≡ b → b ≡ false

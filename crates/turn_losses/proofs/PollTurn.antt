@@ -7,6 +7,7 @@ use Rattle.turn_losses.proofs.PollHear.{PollHeard, linked-connected}
 use Rattle.turn_losses.proofs.PollSpeak.{SaidPoll, SpeakPoll}
 use Rattle.turn_losses.proofs.Polling.{Early}
 use Rattle.turn_losses.proofs.Names.{NoneDue, is_poll, is_final, of_frame, is_linked, poll_due, PollTurn}
+use Rattle.turn_bound.proofs.Tied.{keeps}
 
 unlinked-released : (p : Phase) → is_linked p ≡ false → is_released p ≡ false
 unlinked-released Releasing e = cc

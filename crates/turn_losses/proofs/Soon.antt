@@ -3,11 +3,12 @@ use Rattle.std.proofs.Common.{◌⊎◌, inl, inr, ◌≡◌, ℕ, zero, suc, �
 use Rattle.std.proofs.Common.{subst, Option, Some, None}
 use Rattle.link_account.proofs.Names.{cases_lt, BreakWord, waits, Account, is_connected}
 use Rattle.turn_losses.proofs.Truths.{clash}
-use Rattle.turn_losses.proofs.BreakHear.{of_word, brk_of, ack_of, any_brk, pends, pends_of}
 use Rattle.turn_losses.proofs.BreakTurn.{Deeds, BreakTurn, number_of, brk_due, ack_due, ack_due_of, was_special}
 use Rattle.turn_losses.proofs.Counting.{hits, once, at-most-made, all-held, no-hits, after-acks}
 use Rattle.turn_losses.proofs.Windows.{Breaking, replies-apart, polls-far, hurries-twice, brks-heard, sum-at-most}
 use Rattle.turn_losses.proofs.Names.{of_frame, of_arrived, EndRun, TwoEnds, sends_poll, sends_final}
+use Rattle.turn_losses.proofs.Words.{ack_of, any_brk, brk_of, of_word, pends_of, pends}
+use Rattle.turn_losses.proofs.Moving.{asks}
 
 abbrev pub AllConnected : EndRun → ℕ → ℕ → Type 0
 AllConnected e s n = (t : ℕ) → s < t → t ≤ s + n → is_connected (e.account t).phase ≡ true

@@ -1,34 +1,30 @@
 -- An answerer that gives up while its break waits was starved: one period is let off, that in which the originator becomes Connected.
 use Rattle.std.proofs.Common.{◌⊎◌, inl, inr, ◌≡◌, ◌≢◌, ℕ, zero, suc, ◌+◌, ◌-◌, ◌*◌, ◌<◌, ◌≤◌, Bool, true, false, max, List, ◌∷◌, length}
 use Rattle.std.proofs.Common.{arith, refl, sym, ◌∙◌, ap, subst}
-use Rattle.link_account.proofs.Names.{cases_lt, Role, Originator, Answerer, of, ReadsWritten, waits, is_connected, MayPlay}
-use Rattle.link_run.proofs.Names.{Phase, Detecting, Establishing, Connected, Closed, is_closed, Link, Accounts, Turn, RunOf, Hears, arrival}
-use Rattle.link_run.proofs.Names.{served_at, Carries, IsCarried, RunsOver, LosesSome}
+use Rattle.link_account.proofs.Names.{cases_lt, Role, Originator, Answerer, of, ReadsWritten, waits, is_connected, MayPlay, other}
+use Rattle.link_run.proofs.Names.{Phase, Detecting, Establishing, Connected, Closed, is_closed, Accounts, Turn, Hears, arrival, served_at}
+use Rattle.link_run.proofs.Names.{Carries, LosesSome}
 use Rattle.link_run.specs.Starved.{SpanLoses, IsStarved, turn_at}
 use Rattle.turn_losses.proofs.Truths.{not-true}
 use Rattle.turn_losses.proofs.Keeping.{turn-is}
-use Rattle.turn_losses.proofs.Periods.{once, lost-is, later-turn, newest, times}
-use Rattle.turn_losses.proofs.PollHear.{poll-hears}
-use Rattle.turn_losses.proofs.Tracing.{known, timed-run}
-use Rattle.turn_losses.proofs.LineLaw.{is-heard}
+use Rattle.turn_losses.proofs.Periods.{lost-is, later-turn, newest, times, once}
+use Rattle.turn_losses.proofs.LineLaw.{is-heard, last-heard}
 use Rattle.turn_losses.proofs.PollLaws.{two-ends}
 use Rattle.turn_losses.proofs.PeriodLaws.{linked-on}
 use Rattle.turn_losses.proofs.Moving.{asks, moves_on, TryGoesOn, TryBegins, try-heard}
-use Rattle.turn_losses.proofs.Parting.{setup-role}
-use Rattle.turn_losses.proofs.Phasing.{is_established, established-on, stays-established, begun-established}
+use Rattle.turn_losses.proofs.Phasing.{is_established, stays-established, begun-established, established-next}
 use Rattle.turn_losses.proofs.Trying.{TryTurn, Tried, tried, tries-so, answers-so}
-use Rattle.turn_losses.proofs.BreakHear.{of_word, ack_of}
 use Rattle.turn_losses.proofs.BreakTurn.{number_of}
 use Rattle.turn_losses.proofs.View.{deeds-of}
 use Rattle.turn_losses.proofs.Flight.{no-sabme-heard, only-establishing}
 use Rattle.turn_losses.proofs.Waiting.{BreakPeriod}
-use Rattle.turn_losses.proofs.Losing.{connected-loses, last-heard}
-use Rattle.turn_losses.proofs.Quiet.{sabmes-of, meeting-of}
+use Rattle.turn_losses.proofs.Losing.{connected-loses}
 use Rattle.turn_losses.proofs.Spending.{LastWait}
 use Rattle.turn_losses.proofs.Ending.{periods-of, number-small, none-last}
 use Rattle.turn_losses.proofs.Peering.{peer-connected, not-closed}
-use Rattle.turn_losses.proofs.Names.{KeepsTime, is_begun, of_frame, of_arrived, is_lost, PeriodLoses, is_linked, past, EndRun, TwoEnds}
-use Rattle.turn_losses.proofs.Names.{TimedRun, end_of}
+use Rattle.turn_losses.proofs.Names.{is_begun, of_frame, of_arrived, is_lost, PeriodLoses, is_linked, EndRun, TwoEnds, TimedRun, end_of}
+use Rattle.turn_losses.proofs.Words.{ack_of, of_word}
+use Rattle.turn_losses.proofs.EndTurn.{end-turn, last-turn}
 
 -- a span's loss
 span-at : (period delay : ℕ) (t : Turn) (ts : List Turn) (s n u : ℕ) → s + (n + 1) * period ≡ length ts → s < u + delay → u ≤ s + period
@@ -157,7 +153,7 @@ unlinked-loses reads w may t cs mid hearing s n q answ un later last = sabme (is
             ]
               where
                 at-border : v ≡ s + w.period → (w.state (v + 1)).orig.phase ≡ Establishing
-                at-border f' = only-establishing (w.state (v + 1)).orig.phase (established-on w v 1 (omega (arith, l))
+                at-border f' = only-establishing (w.state (v + 1)).orig.phase (established-next w v l
                     (ap is_established (est v (omega (arith, u-low)) u-high)))
                     (ap (λ y. is_linked (w.state (y + 1)).orig.phase) f' ∙ later (omega (arith, f', l)))
 
@@ -187,11 +183,10 @@ unlinked-loses reads w may t cs mid hearing s n q answ un later last = sabme (is
                 (omega (arith, border)) (omega arith) (subst LosesSome (sym (newest t w.ts)) (Originator, lost-is t.orig.heard f'))
             on false f' =
                 let comes : of_arrived (moves_on Establishing) (arrival t.orig.heard) ≡ true = last-heard
-                (moves_on Establishing) w t cs Originator k.other_delay u v-is f' ∙ answered in
+                (moves_on Establishing) w t cs Originator u v-is f' ∙ answered in
                 let was : w.ends.orig.phase ≡ Establishing = ap (λ (y : Accounts). y.orig.phase) (sym w.last)
                 ∙ (ap (λ y. (w.state y).orig.phase) (sym v-is) ∙ est v (omega (arith, u-low)) u-high) in
-                let role = setup-role w.tries w.period w.delay w.link w.ts w.ends w.keeps w.run w.carried Originator in
-                let none = (known w.tries w.period w.delay w.link w.ts w.ends w.keeps w.run w.carried Originator).none_due.answer in
+                let role = (last-turn w t mid hearing Originator).role_is in
                 let still = only-establishing mid.orig.phase
                 (stays-established (arrival t.orig.heard) turns w.ends.orig mid.orig (hearing Originator).hears
                 (ap is_established was)) (last border) in
@@ -230,25 +225,17 @@ one-joins period turns o e k ts state mid same at n m less a b =
     twice : (q j : ℕ) → (j + 2) * q ≡ (j + 1) * q + q
     twice q j = grind (arith)
 
-    once : (q j : ℕ) → (j + 1) * q ≡ j * q + q
-    once q j = grind (arith)
-
-pub answerer-breaks : ReadsWritten → (tries period : ℕ) (delay : Role → ℕ) (link : Link) (ts : List Turn) (before : Accounts) (t : Turn)
-    (mid : Accounts) → (kt : KeepsTime tries period delay link) → RunsOver link delay ts before → Carries delay ts t
-    → Hears (length ts) before t mid → is_closed mid.orig.phase ≡ false → is_connected mid.answ.phase ≡ true
-    → LastWait tries period (length ts) before.answ → waits (served_at link (length ts) mid Answerer).account.own_breaks ≡ true
-    → IsStarved tries period delay (t ∷ ts)
-answerer-breaks reads tries period delay link ts before t mid kt run cs hearing going cm l waiting = starved
-    (search (tries + 1) (omega arith))
+pub answerer-breaks : ReadsWritten → (w : TimedRun) → MayPlay w.link.orig.setup w.link.answ.setup → (t : Turn) (mid : Accounts)
+    → Carries w.delay w.ts t → Hears (length w.ts) w.ends t mid → is_closed mid.orig.phase ≡ false → is_connected mid.answ.phase ≡ true
+    → LastWait w.tries w.period (length w.ts) w.ends.answ → waits (served_at w.link (length w.ts) mid Answerer).account.own_breaks ≡ true
+    → IsStarved w.tries w.period w.delay (t ∷ w.ts)
+answerer-breaks reads w may t mid cs hearing going cm l waiting = starved (search (w.tries + 1) (omega arith))
   where
     turns : ℕ
-    turns = length ts
+    turns = length w.ts
 
-    w : TimedRun
-    w = timed-run tries period delay link ts before kt run.run run.carried
-
-    last : LastWait tries period turns (w.state turns).answ
-    last = subst (λ (x : Accounts). LastWait tries period turns x.answ) (sym w.last) l
+    last : LastWait w.tries w.period turns (w.state turns).answ
+    last = subst (λ (x : Accounts). LastWait w.tries w.period turns x.answ) (sym w.last) l
 
     o : EndRun
     o = end_of w Originator
@@ -256,116 +243,109 @@ answerer-breaks reads tries period delay link ts before t mid kt run cs hearing 
     e : EndRun
     e = end_of w Answerer
 
-    k : TwoEnds period turns o e
+    k : TwoEnds w.period turns o e
     k = two-ends w Originator
-
-    role : (us : List Turn) (y : Accounts) → RunOf link us y → IsCarried delay us → y.orig.setup.role ≡ Originator
-    role us y run' c' = setup-role tries period delay link us y kt run' c' Originator
 
     -- the originator is Closed at no time
     open-at : (u : ℕ) → u ≤ turns → (w.state u).orig.phase ≡ Closed → ⊥
     open-at u b f = elim (cases_lt u turns) [
-      | inl y ↦ (let h = w.trace.happens u y in not-closed (arrival (w.deed u).turn.orig.heard) u (w.state u).orig (w.deed u).mid.orig
-          (role (past ts u) (w.state u) h.run h.carried) (h.hearing Originator).hears h.going f)
-      | inr y ↦ not-closed (arrival t.orig.heard) turns before.orig mid.orig (role ts before run.run run.carried)
+      | inl y ↦ (let i = (end-turn w Originator u y).in_turn in
+          not-closed (o.heard u) u (o.account u) (o.mid u) i.role_is i.hears (w.trace.happens u y).going f)
+      | inr y ↦ not-closed (arrival t.orig.heard) turns w.ends.orig mid.orig (last-turn w t mid hearing Originator).role_is
           (hearing Originator).hears going
           (ap (λ (x : Accounts). x.orig.phase) (sym w.last) ∙ (ap (λ x. (w.state x).orig.phase) (omega (arith, b, y)) ∙ f))
     ]
 
-    one-period : (n : ℕ) → n < tries + 1 → SpanLoses period (max (delay Originator) (delay Answerer)) (t ∷ ts) n
-        ⊎ Joins period ts w.state mid n
+    one-period : (n : ℕ) → n < w.tries + 1 → SpanLoses w.period (max (w.delay Originator) (w.delay Answerer)) (t ∷ w.ts) n
+        ⊎ Joins w.period w.ts w.state mid n
     one-period n less = at (periods-of w Answerer last n less)
       where
-        at : (s : ℕ) × (s + (n + 1) * period ≡ turns) × BreakPeriod period turns (number_of (w.state turns).answ) e (deeds-of w Answerer) s
-            → SpanLoses period (max (delay Originator) (delay Answerer)) (t ∷ ts) n ⊎ Joins period ts w.state mid n
+        at : (s : ℕ) × (s + (n + 1) * w.period ≡ turns) × BreakPeriod w.period turns (number_of (w.state turns).answ) e
+            (deeds-of w Answerer) s
+            → SpanLoses w.period (max (w.delay Originator) (w.delay Answerer)) (t ∷ w.ts) n ⊎ Joins w.period w.ts w.state mid n
         at (s, q, bp) = by (is_linked (w.state (s + 1)).orig.phase) refl
           where
-            within : s + period ≤ turns
-            within = let m = once period n in omega (arith, q, m)
+            within : s + w.period ≤ turns
+            within = let m = once w.period n in omega (arith, q, m)
 
             by : (b : Bool) → is_linked (w.state (s + 1)).orig.phase ≡ b
-                → SpanLoses period (max (delay Originator) (delay Answerer)) (t ∷ ts) n ⊎ Joins period ts w.state mid n
-            by true f = inl (of-period period delay t ts n (connected-loses reads w run.may_play t cs Answerer
+                → SpanLoses w.period (max (w.delay Originator) (w.delay Answerer)) (t ∷ w.ts) n ⊎ Joins w.period w.ts w.state mid n
+            by true f = inl (of-period w.period w.delay t w.ts n (connected-loses reads w may t cs Answerer
                 (number_of (w.state turns).answ) s n (number-small (w.state turns).answ.own_breaks.answered) q bp
-                (λ u a b. let x = bp.stays u a b in peer-connected reads w run.may_play
+                (λ u a b. let x = bp.stays u a b in peer-connected reads w may
                 u (omega (arith, b, within)) (open-at u (omega (arith, b, within)))
-                (linked-on period turns o e k (s + 1) u (omega (arith, a)) (omega (arith, b, within)) f) x.connected x.waiting)
-                (λ u a b g. no-sabme-heard period turns o e k (sabmes-of reads w run.may_play)
-                (meeting-of w) s (omega (arith, within, k.period_is)) f u a (omega (arith, b, within)) g)
-                (λ g h. none-last link ts before t mid Answerer tries period hearing cm l waiting
+                (linked-on w.period turns o e k (s + 1) u (omega (arith, a)) (omega (arith, b, within)) f) x.connected x.waiting)
+                (λ u a b g. no-sabme-heard reads w may s (omega (arith, within, k.period_is)) f u a (omega (arith, b, within)) g)
+                (λ g h. none-last w.link w.ts w.ends t mid Answerer w.tries w.period hearing cm l waiting
                 (ap (λ (x : Accounts). of_arrived (of_word (ack_of (number_of x.answ))) (arrival t.answ.heard)) (sym w.last) ∙ h))))
-            by false f = after (cases_lt (s + period) turns)
+            by false f = after (cases_lt (s + w.period) turns)
               where
-                out : (s + period < turns → is_linked (w.state (s + period + 1)).orig.phase ≡ false)
-                    → (s + period ≡ turns → is_linked mid.orig.phase ≡ false) → is_linked (w.state (s + period)).orig.phase ≡ false
-                    → SpanLoses period (max (delay Originator) (delay Answerer)) (t ∷ ts) n ⊎ Joins period ts w.state mid n
-                out a b c = inl (unlinked-loses reads w run.may_play t cs mid hearing s n q (λ u x y. (bp.stays u x y).connected) c a b)
+                out : (s + w.period < turns → is_linked (w.state (s + w.period + 1)).orig.phase ≡ false)
+                    → (s + w.period ≡ turns → is_linked mid.orig.phase ≡ false) → is_linked (w.state (s + w.period)).orig.phase ≡ false
+                    → SpanLoses w.period (max (w.delay Originator) (w.delay Answerer)) (t ∷ w.ts) n ⊎ Joins w.period w.ts w.state mid n
+                out a b c = inl (unlinked-loses reads w may t cs mid hearing s n q (λ u x y. (bp.stays u x y).connected) c a b)
 
-                after : (s + period < turns) ⊎ (turns ≤ s + period)
-                    → SpanLoses period (max (delay Originator) (delay Answerer)) (t ∷ ts) n ⊎ Joins period ts w.state mid n
-                after (inl g) = on (is_linked (w.state (s + period + 1)).orig.phase) refl
+                after : (s + w.period < turns) ⊎ (turns ≤ s + w.period)
+                    → SpanLoses w.period (max (w.delay Originator) (w.delay Answerer)) (t ∷ w.ts) n ⊎ Joins w.period w.ts w.state mid n
+                after (inl g) = on (is_linked (w.state (s + w.period + 1)).orig.phase) refl
                   where
-                    on : (b : Bool) → is_linked (w.state (s + period + 1)).orig.phase ≡ b
-                        → SpanLoses period (max (delay Originator) (delay Answerer)) (t ∷ ts) n ⊎ Joins period ts w.state mid n
+                    on : (b : Bool) → is_linked (w.state (s + w.period + 1)).orig.phase ≡ b
+                        → SpanLoses w.period (max (w.delay Originator) (w.delay Answerer)) (t ∷ w.ts) n ⊎ Joins w.period w.ts w.state mid n
                     on true x = inr (record { start = s; number = q; before = f; after = λ y. x })
-                    on false x = out (λ y. x) (λ y. absurd (omega (arith, y, g)))
-                        (not-true (is_linked (w.state (s + period)).orig.phase)
+                    on false x = out (λ y. x) (λ y. absurd (omega (arith, y, g))) (not-true (is_linked (w.state (s + w.period)).orig.phase)
                         (λ y. let wrong : true ≡ false = sym
-                        (linked-on period turns o e k (s + period) (s + period + 1) (omega arith) (omega (arith, g)) y) ∙ x in cc))
+                        (linked-on w.period turns o e k (s + w.period) (s + w.period + 1) (omega arith) (omega (arith, g)) y) ∙ x in cc))
                 after (inr g) = on (is_linked mid.orig.phase) refl
                   where
-                    border : s + period ≡ turns
+                    border : s + w.period ≡ turns
                     border = omega (arith, g, within)
 
-                    linked-heard : is_linked before.orig.phase ≡ true → is_linked mid.orig.phase ≡ true
-                    linked-heard y = (poll-hears Originator (arrival t.orig.heard) turns before.orig (role ts before run.run run.carried)
-                        (known tries period delay link ts before kt run.run run.carried Originator).none_due.answer mid.orig
-                        (hearing Originator).hears).linked y
+                    linked-heard : is_linked w.ends.orig.phase ≡ true → is_linked mid.orig.phase ≡ true
+                    linked-heard = (last-turn w t mid hearing Originator).polls.linked
 
-                    on : (b : Bool) → is_linked mid.orig.phase ≡ b → SpanLoses period (max (delay Originator) (delay Answerer)) (t ∷ ts) n
-                        ⊎ Joins period ts w.state mid n
+                    on : (b : Bool) → is_linked mid.orig.phase ≡ b → SpanLoses w.period (max (w.delay Originator) (w.delay Answerer))
+                        (t ∷ w.ts) n ⊎ Joins w.period w.ts w.state mid n
                     on true x = inr (record { start = s; number = q; before = f; after = λ y. absurd (omega (arith, y, border)) })
                     on false x = out (λ y. absurd (omega (arith, y, border))) (λ y. x)
-                        (not-true (is_linked (w.state (s + period)).orig.phase)
-                        (λ y. let wrong : true ≡ false = sym
+                        (not-true (is_linked (w.state (s + w.period)).orig.phase) (λ y. let wrong : true ≡ false = sym
                         (linked-heard (ap (λ (z : Accounts). is_linked z.orig.phase) (sym w.last)
                         ∙ (ap (λ z. is_linked (w.state z).orig.phase) (sym border) ∙ y))) ∙ x in cc))
 
     -- all of the latest periods, or the one that is let off
-    search : (m : ℕ) → m ≤ tries + 1 → ((n : ℕ) → n < m → SpanLoses period (max (delay Originator) (delay Answerer)) (t ∷ ts) n)
-        ⊎ ((n : ℕ) × (n < m) × Joins period ts w.state mid n)
+    search : (m : ℕ) → m ≤ w.tries + 1 → ((n : ℕ) → n < m → SpanLoses w.period (max (w.delay Originator) (w.delay Answerer)) (t ∷ w.ts) n)
+        ⊎ ((n : ℕ) × (n < m) × Joins w.period w.ts w.state mid n)
     search m b = up m b
       where
-        up : (j : ℕ) → j ≤ tries + 1 → ((n : ℕ) → n < j → SpanLoses period (max (delay Originator) (delay Answerer)) (t ∷ ts) n)
-            ⊎ ((n : ℕ) × (n < j) × Joins period ts w.state mid n)
+        up : (j : ℕ) → j ≤ w.tries + 1 → ((n : ℕ) → n < j → SpanLoses w.period (max (w.delay Originator) (w.delay Answerer)) (t ∷ w.ts) n)
+            ⊎ ((n : ℕ) × (n < j) × Joins w.period w.ts w.state mid n)
         up zero g = inl (λ n x. absurd (omega (arith, x)))
         up (suc j) g = step j (one-period j (omega (arith, g))) (up j (omega (arith, g)))
           where
-            step : (j : ℕ) → SpanLoses period (max (delay Originator) (delay Answerer)) (t ∷ ts) j ⊎ Joins period ts w.state mid j
-                → ((n : ℕ) → n < j → SpanLoses period (max (delay Originator) (delay Answerer)) (t ∷ ts) n)
-                ⊎ ((n : ℕ) × (n < j) × Joins period ts w.state mid n)
-                → ((n : ℕ) → n < suc j → SpanLoses period (max (delay Originator) (delay Answerer)) (t ∷ ts) n)
-                ⊎ ((n : ℕ) × (n < suc j) × Joins period ts w.state mid n)
+            step : (j : ℕ) → SpanLoses w.period (max (w.delay Originator) (w.delay Answerer)) (t ∷ w.ts) j
+                ⊎ Joins w.period w.ts w.state mid j
+                → ((n : ℕ) → n < j → SpanLoses w.period (max (w.delay Originator) (w.delay Answerer)) (t ∷ w.ts) n)
+                ⊎ ((n : ℕ) × (n < j) × Joins w.period w.ts w.state mid n)
+                → ((n : ℕ) → n < suc j → SpanLoses w.period (max (w.delay Originator) (w.delay Answerer)) (t ∷ w.ts) n)
+                ⊎ ((n : ℕ) × (n < suc j) × Joins w.period w.ts w.state mid n)
             step j (inr x) r = inr (j, omega arith, x)
             step j (inl x) (inr (n, y, z)) = inr (n, omega (arith, y), z)
             step j (inl x) (inl f) = inl
                 (λ n y. elim (cases_lt n j) [
                   | inl z ↦ f n z
-                  | inr z ↦ subst (SpanLoses period (max (delay Originator) (delay Answerer)) (t ∷ ts))
-                      (omega (arith, y, z)) x
+                  | inr z ↦ subst (SpanLoses w.period (max (w.delay Originator) (w.delay Answerer)) (t ∷ w.ts)) (omega (arith, y, z)) x
                 ])
 
-    starved : ((n : ℕ) → n < tries + 1 → SpanLoses period (max (delay Originator) (delay Answerer)) (t ∷ ts) n)
-        ⊎ ((n : ℕ) × (n < tries + 1) × Joins period ts w.state mid n) → IsStarved tries period delay (t ∷ ts)
-    starved (inl f) = record { spared = tries + 1; each = λ n few other. f n (omega (arith, few)) }
+    starved : ((n : ℕ) → n < w.tries + 1 → SpanLoses w.period (max (w.delay Originator) (w.delay Answerer)) (t ∷ w.ts) n)
+        ⊎ ((n : ℕ) × (n < w.tries + 1) × Joins w.period w.ts w.state mid n) → IsStarved w.tries w.period w.delay (t ∷ w.ts)
+    starved (inl f) = record { spared = w.tries + 1; each = λ n few other. f n (omega (arith, few)) }
     starved (inr (m, y, joins)) = record { spared = m; each = λ n few other. by n other (one-period n (omega (arith, few))) }
       where
-        by : (n : ℕ) → n ≢ m → SpanLoses period (max (delay Originator) (delay Answerer)) (t ∷ ts) n ⊎ Joins period ts w.state mid n
-            → SpanLoses period (max (delay Originator) (delay Answerer)) (t ∷ ts) n
+        by : (n : ℕ) → n ≢ m → SpanLoses w.period (max (w.delay Originator) (w.delay Answerer)) (t ∷ w.ts) n
+            ⊎ Joins w.period w.ts w.state mid n → SpanLoses w.period (max (w.delay Originator) (w.delay Answerer)) (t ∷ w.ts) n
         by n other (inl x) = x
         by n other (inr x) = elim (cases_lt n m) [
-          | inl z ↦ absurd (one-joins period turns o e k ts w.state mid refl (λ u. refl) n m z x joins)
-          | inr z ↦ absurd (one-joins period turns o e k ts w.state mid refl (λ u. refl) m n (differs n m z other) joins x)
+          | inl z ↦ absurd (one-joins w.period turns o e k w.ts w.state mid refl (λ u. refl) n m z x joins)
+          | inr z ↦ absurd (one-joins w.period turns o e k w.ts w.state mid refl (λ u. refl) m n (differs n m z other) joins x)
         ]
           where
             differs : (a b : ℕ) → b ≤ a → a ≢ b → b < a

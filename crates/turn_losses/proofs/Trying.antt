@@ -1,14 +1,14 @@
 -- The tries of an originator by the turn: when each went, and what is lost where none is answered.
 use Rattle.std.proofs.Common.{◌⊎◌, inl, inr, ◌≡◌, ℕ, ◌+◌, ◌-◌, ◌*◌, ◌<◌, ◌≤◌, not, Bool, true, false, length, arith, refl, sym, ◌∙◌, ap}
-use Rattle.std.proofs.Common.{subst, Some, Ok}
-use Rattle.link_account.proofs.Names.{is_some, cases_lt, Originator, Answerer, offer_in, written, IsAllowed, ReadsWritten, Sent, Arrived}
-use Rattle.link_account.proofs.Names.{Account, hear, MayPlay, Said, speak}
-use Rattle.link_run.proofs.Names.{Phase, Detecting, Negotiating, Establishing, Connected, Releasing, Closed, Setup, User, is_busy}
-use Rattle.link_run.proofs.Names.{is_released, is_closed, SpeaksAt, arrival, served_at, said_at}
+use Rattle.std.proofs.Common.{subst, Ok}
+use Rattle.link_account.proofs.Names.{is_some, cases_lt, Originator, Answerer, offer_in, written, ReadsWritten, Sent, Arrived, Account}
+use Rattle.link_account.proofs.Names.{MayPlay, Said, speak}
+use Rattle.link_run.proofs.Names.{Phase, Detecting, Negotiating, Establishing, Connected, Releasing, Closed, is_released, is_closed}
+use Rattle.link_run.proofs.Names.{arrival, Link}
 use Rattle.turn_losses.proofs.Truths.{not-true}
 use Rattle.turn_losses.proofs.Numbering.{allowed}
 use Rattle.turn_losses.proofs.Numbered.{numbered-linked}
-use Rattle.turn_losses.proofs.Tracing.{known, release_of}
+use Rattle.turn_losses.proofs.Tracing.{release_of}
 use Rattle.turn_losses.proofs.LineLaw.{is-heard}
 use Rattle.turn_losses.proofs.PollLaws.{two-ends}
 use Rattle.turn_losses.proofs.PeriodLaws.{NoneLost}
@@ -16,12 +16,13 @@ use Rattle.turn_losses.proofs.PeriodHolds.{LostIn, lost-or-none}
 use Rattle.turn_losses.proofs.Moving.{is_trying, asks, moves_on, TryGoesOn, TryBegins, try-heard, TriesAgain, TryStands, TryIsNew, try-says}
 use Rattle.turn_losses.proofs.Moving.{releasing-stays}
 use Rattle.turn_losses.proofs.TryAnswering.{can_answer, AnswerDue, answer-due, says-due}
-use Rattle.turn_losses.proofs.Setups.{start-setup, heard-setup, served-setup, Met, met}
+use Rattle.turn_losses.proofs.Setups.{Met, met}
 use Rattle.turn_losses.proofs.Phasing.{is_established, begun-established}
 use Rattle.turn_losses.proofs.Clocks.{Ticked, Unanswered, last, chain}
-use Rattle.turn_losses.proofs.Names.{rates, Stands, is_begun, of_frame, of_arrived, served_account, Served, serves-all, is_linked, Happens}
-use Rattle.turn_losses.proofs.Names.{past, sent_or, EndRun, TwoEnds, TimedRun, end_of}
+use Rattle.turn_losses.proofs.Names.{rates, Stands, is_begun, of_frame, of_arrived, is_linked, sent_or, EndRun, TwoEnds, TimedRun, end_of}
 use Rattle.turn_losses.proofs.Clocks.Ticked.{Begins, Expires, Stays}
+use Rattle.turn_losses.proofs.EndTurn.{EndTurn, end-turn}
+use Rattle.turn_losses.proofs.InTurn.{InTurn}
 
 -- A turn after which an end tries: the try begins in it, or goes on unanswered, and goes again or not.
 abbrev pub GoesUnanswered : Phase → Arrived → Account → Type 0
@@ -35,59 +36,49 @@ TryTurn period turn p arrived sent a c =
     ⊎ (GoesUnanswered p arrived a × (turn ≡ a.wait.try_set + period → ⊥) × (c.wait.try_set ≡ a.wait.try_set)
     × (c.wait.try_count ≡ a.wait.try_count))
 
-try-turn : (user : User) (period turn : ℕ) (p : Phase) (arrived : Arrived) (a mid : Account) (released release : Bool) (said : Said)
-    → a.setup.role ≡ Originator → mid.setup.role ≡ Originator → mid.setup.period ≡ period → 1 ≤ period
-    → is_some (offer_in (written mid.setup.offer)) ≡ true → hear turn arrived a ≡ Ok mid
-    → speak turn release (served_account user turn released mid) ≡ Ok said → is_trying p ≡ true → said.account.phase ≡ p
-    → TryTurn period turn p arrived said.sent a said.account
-try-turn user period turn p arrived a mid released release said r r' per long offers hears speaks t e = go said-so
-  where
-    b : Account
-    b = served_account user turn released mid
+module _ {tries period : ℕ} {link : Link} {turn : ℕ} {a : Account} {arrived : Arrived} {mid b : Account} {said : Said}
+    (i : InTurn tries period link Originator turn a arrived mid b) where
+  try-turn : (release : Bool) → is_some (offer_in (written link.orig.setup.offer)) ≡ true → speak turn release b ≡ Ok said → (p : Phase)
+      → is_trying p ≡ true → said.account.phase ≡ p → TryTurn period turn p arrived said.sent a said.account
+  try-turn release offers speaks p t e = go (try-says turn release b said i.b_role (omega (arith, i.b_period, i.long))
+      (ap (λ x. is_some (offer_in (written x.offer))) i.b_setup ∙ offers) speaks p t e)
+    where
+      heard : mid.phase ≡ p → TryGoesOn p arrived a mid ⊎ TryBegins turn p a mid
+      heard f = try-heard arrived turn a mid i.role_is i.hears p t f
 
-    s : Served turn (length user.breaks) (is_busy turn user.busy) mid b
-    s = serves-all user turn released mid
+      set-is : b.wait.try_set ≡ mid.wait.try_set
+      set-is = ap (λ w. w.try_set) i.served.wait
 
-    heard : mid.phase ≡ p → TryGoesOn p arrived a mid ⊎ TryBegins turn p a mid
-    heard f = try-heard arrived turn a mid r hears p t f
+      again : TryGoesOn p arrived a mid ⊎ TryBegins turn p a mid → TriesAgain p turn b said
+          → TryTurn period turn p arrived said.sent a said.account
+      again (inl (x, w, n)) (due, set, count, sends) =
+          let same = ap (λ v. v.try_set) w in let same' = ap (λ v. v.try_count) w in let bc = ap (λ v. v.try_count) i.served.wait in
+          inr (inl ((x, n), omega (arith, due, set-is, same, i.b_period), set, omega (arith, count, bc, same'), sends))
+      again (inr (x, y, try, set', count')) (due, set, count, sends) = absurd (omega (arith, due, set-is, set', i.b_period, i.long))
 
-    said-so : ((b.phase ≡ p) × (TriesAgain p turn b said ⊎ TryStands p turn b said)) ⊎ TryIsNew p turn b said
-    said-so = try-says turn release b said (ap (λ x. x.role) s.setup ∙ r')
-        (let q = ap (λ x. x.period) s.setup in omega (arith, q, per, long)) (ap (λ x. is_some (offer_in (written x.offer))) s.setup
-        ∙ offers) speaks p t e
+      stands : TryGoesOn p arrived a mid ⊎ TryBegins turn p a mid → TryStands p turn b said
+          → TryTurn period turn p arrived said.sent a said.account
+      stands (inl (x, w, n)) (due, set, count, sends) =
+          let same = ap (λ v. v.try_set) w in
+          inr (inr (
+            (x, n),
+            (λ q. due (omega (arith, q, set-is, same, i.b_period))),
+            set ∙ (set-is ∙ same),
+            count ∙ (ap (λ v. v.try_count) i.served.wait ∙ ap (λ v. v.try_count) w),
+          ))
+      stands (inr (x, y, try, set', count')) (due, set, count, sends) = inl
+          (x, set ∙ (set-is ∙ set'), count ∙ (ap (λ v. v.try_count) i.served.wait ∙ count'), sends (ap (λ v. v.try) i.served.wait ∙ try))
 
-    set-is : b.wait.try_set ≡ mid.wait.try_set
-    set-is = ap (λ w. w.try_set) s.wait
-
-    b-period : b.setup.period ≡ period
-    b-period = ap (λ x. x.period) s.setup ∙ per
-
-    again : TryGoesOn p arrived a mid ⊎ TryBegins turn p a mid → TriesAgain p turn b said
-        → TryTurn period turn p arrived said.sent a said.account
-    again (inl (x, w, n)) (due, set, count, sends) =
-        let same = ap (λ v. v.try_set) w in let same' = ap (λ v. v.try_count) w in let bc = ap (λ v. v.try_count) s.wait in
-        inr (inl ((x, n), omega (arith, due, set-is, same, b-period), set, omega (arith, count, bc, same'), sends))
-    again (inr (x, y, try, set', count')) (due, set, count, sends) = absurd (omega (arith, due, set-is, set', b-period, long))
-
-    stands : TryGoesOn p arrived a mid ⊎ TryBegins turn p a mid → TryStands p turn b said
-        → TryTurn period turn p arrived said.sent a said.account
-    stands (inl (x, w, n)) (due, set, count, sends) =
-        let same = ap (λ v. v.try_set) w in
-        inr (inr (
-          (x, n),
-          (λ q. due (omega (arith, q, set-is, same, b-period))),
-          set ∙ (set-is ∙ same),
-          count
-              ∙ (ap (λ v. v.try_count) s.wait ∙ ap (λ v. v.try_count) w),
-        ))
-    stands (inr (x, y, try, set', count')) (due, set, count, sends) = inl
-        (x, set ∙ (set-is ∙ set'), count ∙ (ap (λ v. v.try_count) s.wait ∙ count'), sends (ap (λ v. v.try) s.wait ∙ try))
-
-    go : ((b.phase ≡ p) × (TriesAgain p turn b said ⊎ TryStands p turn b said)) ⊎ TryIsNew p turn b said
-        → TryTurn period turn p arrived said.sent a said.account
-    go (inl (f, inl x)) = again (heard (sym s.phase ∙ f)) x
-    go (inl (f, inr x)) = stands (heard (sym s.phase ∙ f)) x
-    go (inr (f, q, set, count, sends)) = inl ((λ x. releasing-stays arrived turn a mid (x ∙ q) hears (sym s.phase ∙ f)), set, count, sends)
+      go : ((b.phase ≡ p) × (TriesAgain p turn b said ⊎ TryStands p turn b said)) ⊎ TryIsNew p turn b said
+          → TryTurn period turn p arrived said.sent a said.account
+      go (inl (f, inl x)) = again (heard (sym i.served.phase ∙ f)) x
+      go (inl (f, inr x)) = stands (heard (sym i.served.phase ∙ f)) x
+      go (inr (f, q, set, count, sends)) = inl (
+        (λ x. releasing-stays arrived turn a mid (x ∙ q) i.hears (sym i.served.phase ∙ f)),
+        set,
+        count,
+        sends,
+      )
 
 abbrev pub TriesSo : (period turns : ℕ) → Phase → EndRun → Type 0
 TriesSo period turns p e = (t : ℕ) → t < turns → (e.account (t + 1)).phase ≡ p
@@ -157,35 +148,28 @@ tried period turns p e long h none t l f =
       since = i.ran;
     }
 
+-- what expires in a turn in which it goes was set no earlier than it goes
+pub since-try : (period turns : ℕ) (p : Phase) (e : EndRun) → TriesSo period turns p e → ((e.account 0).phase ≡ p → ⊥) → (r q : ℕ) → r < q
+    → q ≤ turns → (e.account q).phase ≡ p → ((e.account r).phase ≡ p → r ≡ (e.account r).wait.try_set + period)
+    → r ≤ (e.account q).wait.try_set
+since-try period turns p e h none r q before within f due =
+    let i = last period turns (IsTrying p e) (Unmoved period p e) (Asks p e) (IsSet e) (count_of e) (λ u s r a b. sym a ∙ b) none
+    (ticks period turns p e h) q within f in
+    elim (cases_lt i.at r) [
+      | inl l ↦ absurd ((i.stayed r l before).1 (due (i.ran r l (omega (arith, before)))))
+      | inr g ↦ (let s = i.set q i.before (omega arith) in omega (arith, g, s))
+    ]
+
 -- What both ends of a run are to each other while the originator tries.
 pub tries-so : ReadsWritten → (w : TimedRun) → MayPlay w.link.orig.setup w.link.answ.setup → (p : Phase) → is_trying p ≡ true
     → TriesSo w.period (length w.ts) p (end_of w Originator)
 tries-so reads w m p t u l f =
-    subst (λ x. TryTurn w.period u p (arrival (w.deed u).turn.orig.heard) x (w.state u).orig (w.state (u + 1)).orig)
-    (ap sent_or (sym s.sent_is))
-    (subst (λ x. TryTurn w.period u p (arrival (w.deed u).turn.orig.heard) s.said.sent (w.state u).orig x) (sym s.after_is)
-    (try-turn w.link.orig.user w.period u p (arrival (w.deed u).turn.orig.heard) (w.state u).orig (w.deed u).mid.orig
-    (is_released (w.deed u).mid.orig.phase) (release_of w.link u (w.deed u).mid Originator) s.said
-    (ap (λ x. x.role) (start-setup w.tries w.period w.delay w.link (past w.ts u) (w.state u) w.keeps h.run h.carried Originator)
-    ∙ w.keeps.roles Originator)
-    (ap (λ x. x.role) mid-setup ∙ w.keeps.roles Originator) (ap (λ x. x.period) mid-setup ∙ (w.keeps.timed Originator).period_is)
-    (let q = w.keeps.period_is in omega (arith, q))
-    (ap is_some (reads-own reads (w.deed u).mid.orig.setup (subst (λ x. IsAllowed x.offer) (sym mid-setup) (allowed w.link m Originator))))
-    (h.hearing Originator).hears s.says t (ap (λ (x : Account). x.phase) (sym s.after_is) ∙ f)))
-  where
-    h : Happens w.period w.delay w.link (past w.ts u) u (w.state u) (w.deed u) (w.state (u + 1))
-    h = w.trace.happens u l
-
-    s : SpeaksAt (said_at w.link u (w.deed u).mid Originator) (w.deed u).turn.orig (w.state (u + 1)).orig
-    s = h.speaking Originator
-
-    mid-setup : (w.deed u).mid.orig.setup ≡ w.link.orig.setup
-    mid-setup = heard-setup w.tries w.period w.delay w.link (past w.ts u) (w.state u) w.keeps h.run h.carried Originator
-        (arrival (w.deed u).turn.orig.heard) (w.deed u).mid.orig
-        (ap (λ n. hear n (arrival (w.deed u).turn.orig.heard) (w.state u).orig) h.number ∙ (h.hearing Originator).hears)
-
-    reads-own : ReadsWritten → (x : Setup) → IsAllowed x.offer → offer_in (written x.offer) ≡ Some x.offer
-    reads-own r x a = r x.offer a
+    let g = end-turn w Originator u l in
+    subst (λ x. TryTurn w.period u p (arrival (w.deed u).turn.orig.heard) x (w.state u).orig (w.state (u + 1)).orig) (sym g.slot)
+    (subst (TryTurn w.period u p (arrival (w.deed u).turn.orig.heard) g.said.sent (w.state u).orig) (sym g.after)
+    (try-turn g.in_turn (release_of w.link u (w.deed u).mid Originator)
+    (ap is_some (reads w.link.orig.setup.offer (allowed w.link m Originator)))
+    g.says p t (ap (λ (x : Account). x.phase) (sym g.after) ∙ f)))
 
 -- an answerer can answer what is tried
 answerable : (p q : Phase) (n : Bool) → is_trying p ≡ true → (q ≡ Establishing → ⊥) → (q ≡ Releasing → ⊥)
@@ -218,39 +202,19 @@ answerable Releasing Closed n t e r x y z = refl
 pub answers-so : ReadsWritten → (w : TimedRun) → MayPlay w.link.orig.setup w.link.answ.setup → (p : Phase) → is_trying p ≡ true → (u : ℕ)
     → u < length w.ts → (w.state u).orig.phase ≡ p → of_arrived (asks p) (arrival (w.deed u).turn.answ.heard) ≡ true
     → of_frame (moves_on p) (sent_or (w.deed u).turn.answ.sent) ≡ true
-answers-so reads w m p t u l f k = ap (λ x. of_frame (moves_on p) (sent_or x)) s.sent_is
-    ∙ says-due p u (served_at w.link u (w.deed u).mid Answerer).account s.said (ap (λ x. x.role) b-setup ∙ w.keeps.roles Answerer)
-    (ap (λ x. is_some (offer_in (written x.offer))) b-setup ∙ ap is_some (reads w.link.answ.setup.offer (allowed w.link m Answerer)))
-    served-due s.says
+answers-so reads w m p t u l f k = ap (of_frame (moves_on p)) g.slot ∙ says-due p u ((end_of w Answerer).served u) g.said g.in_turn.b_role
+    (ap (λ x. is_some (offer_in (written x.offer))) g.in_turn.b_setup
+    ∙ ap is_some (reads w.link.answ.setup.offer (allowed w.link m Answerer)))
+    (moved p (w.deed u).mid.answ ((end_of w Answerer).served u) g.in_turn.served.phase g.in_turn.served.answer due) g.says
   where
-    h : Happens w.period w.delay w.link (past w.ts u) u (w.state u) (w.deed u) (w.state (u + 1))
-    h = w.trace.happens u l
+    g : EndTurn w Answerer u
+    g = end-turn w Answerer u l
 
-    s : SpeaksAt (said_at w.link u (w.deed u).mid Answerer) (w.deed u).turn.answ (w.state (u + 1)).answ
-    s = h.speaking Answerer
-
-    mid : Account
-    mid = (w.deed u).mid.answ
-
-    mid-setup : mid.setup ≡ w.link.answ.setup
-    mid-setup = heard-setup w.tries w.period w.delay w.link (past w.ts u) (w.state u) w.keeps h.run h.carried Answerer
-        (arrival (w.deed u).turn.answ.heard) mid (ap (λ n. hear n (arrival (w.deed u).turn.answ.heard) (w.state u).answ) h.number
-        ∙ (h.hearing Answerer).hears)
-
-    v : Served u (length w.link.answ.user.breaks) (is_busy u w.link.answ.user.busy) mid (served_at w.link u (w.deed u).mid Answerer).account
-    v = serves-all w.link.answ.user u (is_released (w.deed u).mid.orig.phase) mid
-
-    b-setup : (served_at w.link u (w.deed u).mid Answerer).account.setup ≡ w.link.answ.setup
-    b-setup = served-setup w.link.answ.user u (is_released (w.deed u).mid.orig.phase) mid ∙ mid-setup
-
-    never : (q : Phase) → Stands (rates w.tries w.period) (length (past w.ts u)) (length (past w.ts u)) Answerer q (w.state u).answ ≡ ⊥
-        → (w.state u).answ.phase ≡ q → ⊥
-    never q e g = subst (λ x. x) e
-        (subst (λ x. Stands (rates w.tries w.period) (length (past w.ts u)) (length (past w.ts u)) Answerer x (w.state u).answ) g
-        (known w.tries w.period w.delay w.link (past w.ts u) (w.state u) w.keeps h.run h.carried Answerer).stands)
+    never : (q : Phase) → Stands (rates w.tries w.period) u u Answerer q (w.state u).answ ≡ ⊥ → (w.state u).answ.phase ≡ q → ⊥
+    never q e h = subst (λ x. x) e (subst (λ x. Stands (rates w.tries w.period) u u Answerer x (w.state u).answ) h g.in_turn.stands)
 
     both : Met (w.state u)
-    both = met w.tries w.period w.delay w.link (past w.ts u) (w.state u) w.keeps h.run h.carried
+    both = met w u l
 
     can : can_answer p (w.state u).answ.phase (w.state u).answ.numbered ≡ true
     can = answerable p (w.state u).answ.phase (w.state u).answ.numbered t (never Establishing refl) (never Releasing refl)
@@ -263,11 +227,8 @@ answers-so reads w m p t u l f k = ap (λ x. of_frame (moves_on p) (sent_or x)) 
         ))
         (λ q. both.begun (ap is_begun (f ∙ q)))
 
-    due : AnswerDue p mid
-    due = answer-due p (arrival (w.deed u).turn.answ.heard) u (w.state u).answ mid
-        (ap (λ x. x.role) (start-setup w.tries w.period w.delay w.link (past w.ts u) (w.state u) w.keeps h.run h.carried Answerer)
-        ∙ w.keeps.roles Answerer) can
-        k (h.hearing Answerer).hears
+    due : AnswerDue p (w.deed u).mid.answ
+    due = answer-due p (arrival (w.deed u).turn.answ.heard) u (w.state u).answ (w.deed u).mid.answ g.in_turn.role_is can k g.in_turn.hears
 
     moved : (q : Phase) (a b : Account) → b.phase ≡ a.phase → b.owes.answer ≡ a.owes.answer → AnswerDue q a → AnswerDue q b
     moved Negotiating a b x y (g, d) = (x ∙ g, y ∙ d)
@@ -277,9 +238,6 @@ answers-so reads w m p t u l f k = ap (λ x. of_frame (moves_on p) (sent_or x)) 
     moved Detecting a b x y d = d
     moved Connected a b x y d = d
     moved Closed a b x y d = d
-
-    served-due : AnswerDue p (served_at w.link u (w.deed u).mid Answerer).account
-    served-due = moved p mid (served_at w.link u (w.deed u).mid Answerer).account v.phase v.answer due
 
 -- So where none moves the originator on for a whole period, something was lost in it.
 pub unanswered-loses : ReadsWritten → (w : TimedRun) → MayPlay w.link.orig.setup w.link.answ.setup → (p : Phase) → is_trying p ≡ true

@@ -6,12 +6,12 @@ use Rattle.turn_losses.proofs.LineLaw.{was-sent, is-heard}
 use Rattle.turn_losses.proofs.PollLaws.{turned}
 use Rattle.turn_losses.proofs.PeriodLaws.{NoneLost}
 use Rattle.turn_losses.proofs.Clocks.{Ticked, chain}
-use Rattle.turn_losses.proofs.BreakHear.{of_word, brk_of, ack_of, any_brk}
 use Rattle.turn_losses.proofs.BreakTurn.{Deeds, BreakTurn, number_of, brk_due}
 use Rattle.turn_losses.proofs.Windows.{Breaking}
 use Rattle.turn_losses.proofs.Soon.{brk-goes, ack-goes}
 use Rattle.turn_losses.proofs.Names.{of_frame, of_arrived, EndRun, TwoEnds}
 use Rattle.turn_losses.proofs.Clocks.Ticked.{Begins, Expires, Stays}
+use Rattle.turn_losses.proofs.Words.{ack_of, any_brk, brk_of, of_word}
 
 -- the end is Connected in these turns, and waits with one number
 pub record Waits (number : ℕ) (a : Account) : Type 0 where

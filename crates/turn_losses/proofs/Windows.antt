@@ -6,11 +6,11 @@ use Rattle.turn_losses.proofs.Truths.{not-true, and-two, and-drop, clash}
 use Rattle.turn_losses.proofs.PollHear.{linked-connected}
 use Rattle.turn_losses.proofs.LineLaw.{was-sent}
 use Rattle.turn_losses.proofs.PollLaws.{turned, polls-apart, reply-from, reply-matches}
-use Rattle.turn_losses.proofs.PeriodLaws.{linked-on, connected-back}
-use Rattle.turn_losses.proofs.BreakHear.{of_word, any_brk}
+use Rattle.turn_losses.proofs.PeriodLaws.{connected-since}
 use Rattle.turn_losses.proofs.BreakTurn.{Deeds, BreakTurn, brk_due, is_urgent}
 use Rattle.turn_losses.proofs.Counting.{hits, one_if, once, twice, at-most-made}
 use Rattle.turn_losses.proofs.Names.{of_frame, of_arrived, is_poll, EndRun, TwoEnds, sends_poll, sends_final, hears_final}
+use Rattle.turn_losses.proofs.Words.{any_brk, of_word}
 
 -- an end's breaks by the turn
 pub record Breaking (period turns : ℕ) (e : EndRun) (d : ℕ → Deeds) : Type 0 where
@@ -41,8 +41,8 @@ since-made period turns e o d k h m (suc n) l made c1 c = subst (λ t. Since m (
     now = ap (λ x. is_connected (e.account x).phase) (omega arith) ∙ c
 
     before : is_connected (e.account t).phase ≡ true
-    before = connected-back period turns e o k t (t + 1) (omega arith) (omega (arith, l))
-        (linked-on period turns e o k (m + 1) t (omega arith) (omega (arith, l)) (linked-connected (e.account (m + 1)).phase c1)) now
+    before = connected-since period turns e o k (m + 1) (t + 1) (omega (arith, l)) (linked-connected (e.account (m + 1)).phase c1) now t
+        (omega arith) (omega arith)
 
     x : BreakTurn period t (e.heard t) (e.slot t) (d t) (e.account t) (e.account (t + 1))
     x = h.turn t (omega (arith, l)) now
@@ -78,9 +78,8 @@ made-apart period turns e o d k h s t less within ms mt cs ct = elim ((h.turn t 
 ]
   where
     before : is_connected (e.account t).phase ≡ true
-    before = connected-back period turns e o k t (t + 1) (omega arith) (omega (arith, within))
-        (linked-on period turns e o k (s + 1) t (omega (arith, less)) (omega (arith, within))
-        (linked-connected (e.account (s + 1)).phase cs)) ct
+    before = connected-since period turns e o k (s + 1) (t + 1) (omega (arith, within)) (linked-connected (e.account (s + 1)).phase cs) ct t
+        (omega (arith, less)) (omega arith)
 
     same : s + 1 + (t - (s + 1)) ≡ t
     same = omega (arith, less)
