@@ -1,8 +1,8 @@
 -- What holds all through a run where no user is busy.
 use Rattle.std.proofs.Common.{◌≡◌, ℕ, zero, suc, ◌+◌, ◌-◌, ◌*◌, ◌≤◌, Bool, true, false, List, [], ◌∷◌, drop, map, length, arith, refl, sym}
 use Rattle.std.proofs.Common.{◌∙◌, ap, subst, Option, Some, None, Result, Ok, Err}
-use Rattle.link_account.proofs.Names.{slice_get, AllByRecursion, Role, Originator, Answerer, other, of, Heard, Nothing, Passed, Lost}
-use Rattle.link_account.proofs.Names.{Chance, LinkFault, Account, is_connected, Said, speak}
+use Rattle.link_account.proofs.Names.{slice_get, AllByRecursion, Role, Originator, Answerer, other, of, Heard, Passed}
+use Rattle.link_account.proofs.Names.{LinkFault, Account, is_connected, Said, speak}
 use Rattle.link_run.proofs.Names.{User, is_busy, is_released, Link, Accounts, Spoken, Turn, GoingTurn, RunOf, said_at, releases, arrival}
 use Rattle.link_run.proofs.Names.{Crosses, Carries, IsCarried, sent_in, sent_ago}
 use Rattle.link_run.proofs.Names.{Hears}
@@ -136,11 +136,9 @@ all-get (t ∷ ts) (suc n) h role = all-get ts n h.1 role
 -- so is what arrives
 pub light-heard : (m : Option Spoken) (heard : Heard) → Crosses m heard → LightSlot m
     → (arrived_weight (arrival heard) ≤ 2) × (arrived_rnrs (arrival heard) ≡ 0)
-light-heard m Nothing c l = (omega arith, refl)
-light-heard m (Lost s) c l = (omega arith, refl)
 light-heard None (Passed s) c l = absurd c
 light-heard (Some slot) (Passed s) c l = (omega (arith, l.0, ap weight c.0, arrives-weight s), arrives-rnrs s ∙ (ap rnrs c.0 ∙ l.1))
-light-heard m Chance c l = (omega arith, refl)
+light-heard m p c l = (omega arith, refl)
 
 pub light-arrival : (delay : Role → ℕ) (link : Link) (ts : List Turn) (ends : Accounts) (t : Turn) (role : Role) → NeverBusy link
     → RunOf link ts ends → Carries delay ts t
@@ -255,11 +253,9 @@ split (suc k) (t ∷ ts) = go (split k ts)
     go (Within x rest e f g) = Within x rest e f g
 
 crossed-polls : (m : Option Spoken) (heard : Heard) → Crosses m heard → one_if (of_arrived frame_poll (arrival heard)) ≤ poll_in m
-crossed-polls m Nothing c = omega arith
-crossed-polls m (Lost s) c = omega arith
 crossed-polls None (Passed s) c = absurd c
 crossed-polls (Some slot) (Passed s) c = omega (arith, ap one_if (arrives-flag frame_poll s ∙ ap (of_frame frame_poll) c.0))
-crossed-polls m Chance c = omega arith
+crossed-polls m p c = omega arith
 
 pub heard-sent : (delay : Role → ℕ) (d n : ℕ) (ts : List Turn) (role : Role) → delay (other role) ≡ d → 1 ≤ d → IsCarried delay ts
     → polls_heard n role ts ≤ polls_sent n (other role) (drop d ts)

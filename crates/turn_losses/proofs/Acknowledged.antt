@@ -1,9 +1,8 @@
 -- What an end sends at the answer to its poll is acknowledged, where no line is lost.
 use Rattle.std.proofs.Common.{◌⊎◌, inl, inr, ◌≡◌, ℕ, zero, suc, ◌+◌, ◌-◌, ◌%◌, ◌<◌, ◌≤◌, ◌&&◌, Bool, true, false, cond, nat_lt, nat_le}
 use Rattle.std.proofs.Common.{length, arith, refl, sym, ◌∙◌, ap, Option, Some, None}
-use Rattle.link_account.proofs.Names.{is_some, cases_lt, nat_tests, Frame, I, Rr, Rnr, Rej, Srej, Sabme, Disc, Ua, Dm, Ui, Xid, meant, Sent}
-use Rattle.link_account.proofs.Names.{Arrived, is_connected, arrives, waits}
-use Rattle.lapm_frames.specs.declared.frame.Frame.TheVariants.{Frmr, Test}
+use Rattle.link_account.proofs.Names.{is_some, cases_lt, nat_tests, Frame, I, Rr, Rnr, Rej, meant, Sent, Arrived, is_connected, arrives}
+use Rattle.link_account.proofs.Names.{waits}
 use Rattle.turn_losses.proofs.KeepsPolls.{Answers}
 use Rattle.turn_losses.proofs.NumberHear.{frame_nr, nr_heard, ns_heard, nr_sent, ns_sent, NumbersHeard}
 use Rattle.turn_losses.proofs.NumberTurn.{NumberTurn}
@@ -84,15 +83,7 @@ final-nr (Rr c nr pf) e = refl
 final-nr (Rnr c nr pf) e = refl
 final-nr (Rej c nr pf) e = refl
 final-nr (I ns nr pf info) e = refl
-final-nr (Srej c nr pf) e = cc
-final-nr (Sabme pf) e = cc
-final-nr (Disc pf) e = cc
-final-nr (Ua pf) e = cc
-final-nr (Dm pf) e = cc
-final-nr (Frmr pf info) e = cc
-final-nr (Ui c pf info) e = cc
-final-nr (Xid c pf info) e = cc
-final-nr (Test c pf info) e = cc
+final-nr p e = cc
 
 final-told : (x : Arrived) → of_arrived is_final x ≡ true → (n : ℕ) × (nr_heard x ≡ Some n)
 final-told arrivals.Nothing e = cc

@@ -2,7 +2,7 @@ use Rattle.std.proofs.Common.{◌⊎◌, inl, inr, ◌≡◌, ℕ, ◌+◌, ◌<
 use Rattle.std.proofs.Common.{subst, Option, Some, None, Ok}
 use Rattle.link_account.proofs.Names.{nat_tests, Role, Originator, Answerer, Disc, is_outstanding, Arrived, Account, is_connected}
 use Rattle.link_account.proofs.Names.{is_originator, hear, trying, Said, speak_linked, speak, speak_in, speak_releasing, of}
-use Rattle.link_run.proofs.Names.{Phase, Detecting, Negotiating, Establishing, Connected, Releasing, Closed, is_busy, is_released, Link}
+use Rattle.link_run.proofs.Names.{Phase, Connected, Releasing, is_busy, is_released, Link}
 use Rattle.link_account.specs.Speak.{timer_expires}
 use Rattle.link_account.proofs.SpeakWays.{OnSaid, tries-alike, by-tries}
 use Rattle.turn_losses.proofs.Answered.{SendsSegment, AnswerTurn}
@@ -16,11 +16,7 @@ pub linked-sends : (z : Rates) (before turn : ℕ) (r : Role) (p : Phase) (a : A
     → Sends z before turn a.outgoing a.wait.timer
 linked-sends z before turn Originator Connected a st e = st.sends
 linked-sends z before turn Answerer Connected a st e = st.sends
-linked-sends z before turn r Detecting a st e = cc
-linked-sends z before turn r Negotiating a st e = cc
-linked-sends z before turn r Establishing a st e = cc
-linked-sends z before turn r Releasing a st e = cc
-linked-sends z before turn r Closed a st e = cc
+linked-sends z before turn r p a st e = cc
 
 pub connected-is : (p : Phase) → is_connected p ≡ true → p ≡ Connected
 connected-is Connected e = refl

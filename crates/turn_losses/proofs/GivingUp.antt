@@ -2,7 +2,6 @@
 use Rattle.std.proofs.Common.{◌≡◌, ℕ, ◌+◌, Bool, true, false, cond, ◌∷◌, length, arith, refl, sym, ◌∙◌, ap}
 use Rattle.link_account.proofs.Names.{Role, Originator, Answerer, of, waits, LinkFault, Spent, NotDetected, is_connected}
 use Rattle.link_run.proofs.Names.{is_released, served_at}
-use Rattle.shared_terms.specs.declared.fault.LinkFault.TheVariants.{BadAck, PeerReset, PeerRefused}
 use Rattle.link_account.specs.Account.{break_waits}
 use Rattle.link_run.specs.Run.{BrokenTurn}
 use Rattle.link_run.specs.Laws.{EachEndIsNamed, IsNamed}
@@ -86,6 +85,4 @@ gives-up laws tries period delay link ts before t mid role fault kt run cs broke
     go Answerer (Spent segment since) b n q = answ-spent segment since b q (is_connected mid.answ.phase) refl
     go Originator NotDetected b n q = undetected b (is_connected mid.orig.phase)
     go Answerer NotDetected b n q = cc
-    go r (BadAck nr va high) b n q = absurd n
-    go r (PeerReset va vr) b n q = absurd n
-    go r PeerRefused b n q = absurd n
+    go r p b n q = absurd n

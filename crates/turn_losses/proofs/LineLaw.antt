@@ -87,9 +87,7 @@ passes-as (Some slot) said Nothing e c l = let same : slot ≡ spoken said = cc 
     silent-arrives : (s : Sent) → has_message s ≡ false → arrives s ≡ arrivals.Nothing
     silent-arrives slots.Mark f = refl
     silent-arrives slots.Flags f = refl
-    silent-arrives slots.Odp f = cc
-    silent-arrives slots.Adp f = cc
-    silent-arrives (slots.Frame frame) f = cc
+    silent-arrives p f = cc
 passes-as (Some slot) said (Passed s) e c l = let same : slot ≡ spoken said = cc in ap arrives c.0
     ∙ ap (λ (x : Spoken). arrives x.sent) same
 passes-as (Some slot) said (Lost s) e c l = cc

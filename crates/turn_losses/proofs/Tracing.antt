@@ -40,12 +40,7 @@ served-heard role turn breaks busy polled a b c s h = record {
 pub silent-of : (z : Rates) (before turn : ℕ) (r : Role) (p : Phase) (a : Account) → Stands z before turn r p a → r ≡ Answerer
     → is_connected p ≡ true → a.numbered ≡ false → a.wait.timer ≡ None
 silent-of z before turn Answerer Connected a st e f n = (st.silent n).1
-silent-of z before turn Originator p a st e f n = cc
-silent-of z before turn Answerer Detecting a st e f n = cc
-silent-of z before turn Answerer Negotiating a st e f n = cc
-silent-of z before turn Answerer Establishing a st e f n = cc
-silent-of z before turn Answerer Releasing a st e f n = cc
-silent-of z before turn Answerer Closed a st e f n = cc
+silent-of z before turn q x a st e f n = cc
 
 pub untimed-of : (z : Rates) (before turn : ℕ) (r : Role) (p : Phase) (a : Account) → Stands z before turn r p a → is_linked p ≡ false
     → a.wait.timer ≡ None

@@ -235,9 +235,7 @@ answers-so reads w m p t u l f k = ap (of_frame (moves_on p)) g.slot ∙ says-du
     moved Establishing a b x y (g, d) = (x ∙ g, y ∙ d)
     moved Releasing a b x y (g, inl d) = (x ∙ g, inl (y ∙ d))
     moved Releasing a b x y (g, inr d) = (x ∙ g, inr (y ∙ d))
-    moved Detecting a b x y d = d
-    moved Connected a b x y d = d
-    moved Closed a b x y d = d
+    moved p a b x y d = d
 
 -- So where none moves the originator on for a whole period, something was lost in it.
 pub unanswered-loses : ReadsWritten → (w : TimedRun) → MayPlay w.link.orig.setup w.link.answ.setup → (p : Phase) → is_trying p ≡ true

@@ -24,11 +24,7 @@ pub linked-of : (z : Rates) (before turn : ℕ) (r : Role) (p : Phase) (a : Acco
     → Linked z before turn r a
 linked-of z before turn Originator Connected a s e = s
 linked-of z before turn Answerer Connected a s e = s
-linked-of z before turn r Detecting a s e = cc
-linked-of z before turn r Negotiating a s e = cc
-linked-of z before turn r Establishing a s e = cc
-linked-of z before turn r Releasing a s e = cc
-linked-of z before turn r Closed a s e = cc
+linked-of z before turn r p a s e = cc
 
 pub unlinked-of : (z : Rates) (before turn : ℕ) (r : Role) (p : Phase) (a : Account) → Stands z before turn r p a → is_linked p ≡ false
     → Unlinked a
