@@ -18,6 +18,16 @@ kept-in P s (suc t) less next h = elim (cases_lt t s) [
 pub kept-on : (turns : ℕ) (P : ℕ → Type 0) → ((u : ℕ) → u < turns → P u → P (u + 1)) → (s t : ℕ) → s ≤ t → t ≤ turns → P s → P t
 kept-on turns P next s t less within h = kept-in P s t less (λ u x y. next u (omega (arith, y, within))) h
 
+-- of so many numbers each has the one, or some has the other
+pub all-or-one : (P Q : ℕ → Type 0) (m : ℕ) → ((n : ℕ) → n < m → P n ⊎ Q n) → ((n : ℕ) → n < m → P n) ⊎ ((n : ℕ) × (n < m) × Q n)
+all-or-one P Q zero h = inl (λ n x. absurd (omega (arith, x)))
+all-or-one P Q (suc m) h = by (h m (omega arith)) (all-or-one P Q m (λ n x. h n (omega (arith, x))))
+  where
+    by : P m ⊎ Q m → ((n : ℕ) → n < m → P n) ⊎ ((n : ℕ) × (n < m) × Q n) → ((n : ℕ) → n < suc m → P n) ⊎ ((n : ℕ) × (n < suc m) × Q n)
+    by (inr x) r = inr (m, omega arith, x)
+    by (inl x) (inr (n, y, z)) = inr (n, omega (arith, y), z)
+    by (inl x) (inl f) = inl (λ n y. elim (cases_lt n m) [ inl z ↦ f n z | inr z ↦ subst P (omega (arith, y, z)) x ])
+
 -- where an end has the one, the other end has the other
 module _ (w : TimedRun) (r : Role) (kind : Frame → Bool) (has stays : Account → Bool) (first : has (fresh (of r w.link).setup) ≡ false)
     (from : (u : ℕ) → u < length w.ts → has (of r (w.state (u + 1))) ≡ true

@@ -1,14 +1,12 @@
 use Rattle.std.proofs.Common.{◌⊎◌, inl, inr, ◌≡◌, ℕ, zero, suc, ◌+◌, ◌-◌, ◌<◌, ◌≤◌, Bool, true, false, cond, List, [], ◌∷◌, length, arith}
-use Rattle.std.proofs.Common.{refl, sym, ◌∙◌, ap, subst, Some, None, Option}
-use Rattle.link_account.proofs.Names.{cases_lt, Role, Frame, Sent, Arrived, Account, is_connected, arrives, slice_get, other, of, Chance}
-use Rattle.link_account.proofs.Names.{Heard, Lost, Nothing, Passed, Said}
-use Rattle.link_run.proofs.Names.{arrival, Crosses, sent_in, Carries, SpeaksAt, Spoken, Turn, said_at, spoken}
+use Rattle.std.proofs.Common.{refl, sym, ◌∙◌, ap, subst, Some, None}
+use Rattle.link_account.proofs.Names.{cases_lt, Role, Frame, Sent, Arrived, Account, is_connected, arrives, slice_get, other, of}
+use Rattle.link_run.proofs.Names.{arrival, sent_in, Carries, Turn}
 use Rattle.turn_bound.proofs.Tied.{sent_of, none-heard, one-heard}
 use Rattle.turn_losses.proofs.Polls.{Polls, WasSent}
 use Rattle.turn_losses.proofs.Names.{is_lost, past, sent_or, is_poll, of_frame, of_arrived, is_linked, poll_due, PollTurn, ArrivesLate}
-use Rattle.turn_losses.proofs.Names.{arrives-flag, TimedRun}
-use Rattle.link_run.specs.Carried.{has_message}
-use Rattle.turn_losses.proofs.Tracing.{past-all}
+use Rattle.turn_losses.proofs.Names.{arrives-flag, TimedRun, end_of}
+use Rattle.turn_losses.proofs.Tracing.{past-all, past-length}
 use Rattle.lapm_frames.specs.declared.sent.Sent.TheVariants as slots
 use Rattle.lapm_frames.specs.declared.arrived.Arrived.TheVariants as arrivals
 
@@ -23,36 +21,36 @@ get-none [] k l = refl
 get-none (x ∷ xs) zero l = absurd (omega (arith, l))
 get-none (x ∷ xs) (suc k) l = get-none xs k (omega (arith, l))
 
--- both lines of a run
-pub arrives-late : (w : TimedRun) → (role : Role) → (t : ℕ) → t < length w.ts
-    → ArrivesLate (w.delay (other role)) t (is_lost (of role (w.deed t).turn).heard) (λ n. sent_or (of (other role) (w.deed n).turn).sent)
-    (arrival (of role (w.deed t).turn).heard)
-arrives-late w role t within = record { early = early; late = late }
+-- what a line carries in a turn of a run, or in the one behind it
+pub carries-late : (w : TimedRun) (t : ℕ) → t ≤ length w.ts → (x : Turn) → Carries w.delay (past w.ts t) x → (role : Role)
+    → ArrivesLate (w.delay (other role)) t (is_lost (of role x).heard) (end_of w (other role)).slot (arrival (of role x).heard)
+carries-late w t within x carries role = record { early = early; late = late }
   where
     d : ℕ
     d = w.delay (other role)
 
-    crosses : Crosses (sent_in (other role) (slice_get (past w.ts t) (d - 1))) (of role (w.deed t).turn).heard
-    crosses = (w.trace.happens t within).carries role
+    one : 1 ≤ d
+    one = w.keeps.delays (other role)
 
-    early : t < d → arrival (of role (w.deed t).turn).heard ≡ arrivals.Nothing
-    early l =
-        let number = (w.trace.happens t within).number in
-        sym (none-heard (sent_in (other role) (slice_get (past w.ts t) (d - 1))) (of role (w.deed t).turn).heard
-        (ap (sent_in (other role)) (get-none (past w.ts t) (d - 1) (omega (arith, number, l)))) crosses)
+    early : t < d → arrival (of role x).heard ≡ arrivals.Nothing
+    early l = let number = past-length w.ts t within in
+        sym (none-heard (sent_in (other role) (slice_get (past w.ts t) (d - 1))) (of role x).heard
+        (ap (sent_in (other role)) (get-none (past w.ts t) (d - 1) (omega (arith, number, l)))) (carries role))
 
-    late : d ≤ t → arrival (of role (w.deed t).turn).heard ≡ cond (is_lost (of role (w.deed t).turn).heard) arrivals.Nothing
-        (arrives (sent_or (of (other role) (w.deed (t - d)).turn).sent))
+    late : d ≤ t → arrival (of role x).heard ≡ cond (is_lost (of role x).heard) arrivals.Nothing
+        (arrives ((end_of w (other role)).slot (t - d)))
     late g =
-        let one = w.keeps.delays (other role) in
-        let seen : slice_get (past w.ts (t - d + (d - 1) + 1)) (d - 1) ≡ Some (w.deed (t - d)).turn =
-        looked w (d - 1) (t - d) (omega (arith, g, one, within)) in
         let turn : slice_get (past w.ts t) (d - 1) ≡ Some (w.deed (t - d)).turn =
-        ap (λ n. slice_get (past w.ts n) (d - 1)) (omega (arith, g, one)) ∙ seen in
-        let s = (w.trace.happens (t - d) (omega (arith, g, within))).speaking (other role) in
-        sym (one-heard (sent_in (other role) (slice_get (past w.ts t) (d - 1))) (sent_or (of (other role) (w.deed (t - d)).turn).sent)
-        (of role (w.deed t).turn).heard
-        (ap (λ m. sent_of (sent_in (other role) m)) turn ∙ (ap sent_of s.sent_is ∙ ap (λ m. Some (sent_or m)) (sym s.sent_is))) crosses)
+        ap (λ n. slice_get (past w.ts n) (d - 1)) (omega (arith, g, one)) ∙ looked w (d - 1) (t - d) (omega (arith, g, one, within)) in
+        let s = (w.trace.happens (t - d) (omega (arith, g, within, one))).speaking (other role) in
+        sym (one-heard (sent_in (other role) (slice_get (past w.ts t) (d - 1))) ((end_of w (other role)).slot (t - d)) (of role x).heard
+        (ap (λ m. sent_of (sent_in (other role) m)) turn ∙ (ap sent_of s.sent_is ∙ ap (λ m. Some (sent_or m)) (sym s.sent_is)))
+        (carries role))
+
+-- both lines of a run
+pub arrives-late : (w : TimedRun) → (role : Role) → (t : ℕ) → t < length w.ts
+    → ArrivesLate (w.delay (other role)) t ((end_of w role).loses t) (end_of w (other role)).slot ((end_of w role).heard t)
+arrives-late w role t within = carries-late w t (omega (arith, within)) (w.deed t).turn (w.trace.happens t within).carries role
 
 -- a frame of some kind that is heard was sent
 pub was-sent : (delay turns : ℕ) (kind : Frame → Bool) (f : ℕ → Sent) (arrived : ℕ → Arrived) (loses : ℕ → Bool)
@@ -77,40 +75,15 @@ is-heard delay turns kind f arrived loses h t within passes =
     ∙ (ap (λ b. cond b arrivals.Nothing (arrives (f (t + delay - delay)))) passes ∙ ap (λ n. arrives (f n)) back))
     ∙ arrives-flag kind (f t)
 
--- what passes of a slot
-passes-as : (m : Option Spoken) (said : Said) (heard : Heard) → m ≡ Some (spoken said) → Crosses m heard → is_lost heard ≡ false
-    → arrival heard ≡ arrives said.sent
-passes-as None said heard e c l = cc
-passes-as (Some slot) said Nothing e c l = let same : slot ≡ spoken said = cc in sym (silent-arrives slot.sent c)
-    ∙ ap (λ (x : Spoken). arrives x.sent) same
-  where
-    silent-arrives : (s : Sent) → has_message s ≡ false → arrives s ≡ arrivals.Nothing
-    silent-arrives slots.Mark f = refl
-    silent-arrives slots.Flags f = refl
-    silent-arrives p f = cc
-passes-as (Some slot) said (Passed s) e c l = let same : slot ≡ spoken said = cc in ap arrives c.0
-    ∙ ap (λ (x : Spoken). arrives x.sent) same
-passes-as (Some slot) said (Lost s) e c l = cc
-passes-as (Some slot) said Chance e c l = absurd c
-
 -- what one role sent so long before the last turn arrives in it, unless it is lost
 pub last-heard : (kind : Frame → Bool) (w : TimedRun) (t : Turn) → Carries w.delay w.ts t → (r : Role) (s : ℕ)
     → s + w.delay (other r) ≡ length w.ts → is_lost (of r t).heard ≡ false
-    → of_arrived kind (arrival (of r t).heard) ≡ of_frame kind (sent_or (of (other r) (w.deed s).turn).sent)
-last-heard kind w t cs r s same f =
-    ap (of_arrived kind) (passes-as (sent_in (other r) (slice_get w.ts (w.delay (other r) - 1))) x.said (of r t).heard (on-line ∙ x.sent_is)
-    (cs r) f ∙ ap (λ j. arrives (sent_or j)) (sym x.sent_is)) ∙ arrives-flag kind (sent_or (of (other r) (w.deed s).turn).sent)
-  where
-    d : 1 ≤ w.delay (other r)
-    d = w.keeps.delays (other r)
-
-    x : SpeaksAt (said_at w.link s (w.deed s).mid (other r)) (of (other r) (w.deed s).turn) (of (other r) (w.state (s + 1)))
-    x = (w.trace.happens s (omega (arith, same, d))).speaking (other r)
-
-    on-line : sent_in (other r) (slice_get w.ts (w.delay (other r) - 1)) ≡ (of (other r) (w.deed s).turn).sent
-    on-line = ap (sent_in (other r)) (ap (λ us. slice_get us (w.delay (other r) - 1)) (sym (past-all w.ts))
-        ∙ (ap (λ m. slice_get (past w.ts m) (w.delay (other r) - 1)) (omega (arith, same, d))
-        ∙ looked w (w.delay (other r) - 1) s (omega (arith, same, d))))
+    → of_arrived kind (arrival (of r t).heard) ≡ of_frame kind ((end_of w (other r)).slot s)
+last-heard kind w t cs r s same f = ap (of_arrived kind)
+    ((carries-late w (length w.ts) (omega arith) t (subst (λ us. Carries w.delay us t) (sym (past-all w.ts)) cs) r).late
+    (omega (arith, same))
+    ∙ (ap (λ b. cond b arrivals.Nothing (arrives ((end_of w (other r)).slot (length w.ts - w.delay (other r))))) f
+    ∙ ap (λ n. arrives ((end_of w (other r)).slot n)) (omega (arith, same)))) ∙ arrives-flag kind ((end_of w (other r)).slot s)
 
 -- Polls that became due at one end are a period apart: while its clock runs, it was set no earlier than the last of them.
 pub record SetSince (s : ℕ) (a : Account) : Type 0 where

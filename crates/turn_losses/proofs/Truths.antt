@@ -7,6 +7,10 @@ use Rattle.turn_losses.proofs.Names.{is_linked}
 pub clash : {A : Type 0} (b : Bool) → b ≡ true → b ≡ false → A
 clash b e f = let wrong : true ≡ false = sym e ∙ f in cc
 
+pub is-true : (b : Bool) → (b ≡ false → ⊥) → b ≡ true
+is-true true f = refl
+is-true false f = absurd (f refl)
+
 pub not-true : (b : Bool) → (b ≡ true → ⊥) → b ≡ false
 not-true true f = absurd (f refl)
 not-true false f = refl
