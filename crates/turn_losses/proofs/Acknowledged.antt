@@ -110,11 +110,11 @@ beyond : (f r nr : ℕ) → f + 1 ≤ r → r ≤ f + 127 → f % 128 ≡ nr →
 beyond f r nr h1 h2 h3 h4 = omega (arith, h1, h2, h3, h4)
 
 -- the front stands, or the retry count is 0 in a turn
-pub front-or-cleared : (turns : ℕ) (e o : EndRun) → Counts turns e o → (s : ℕ) → (n : ℕ) → s + n ≤ turns → StayConnected e s (s + n)
+pub front-or-cleared : {turns : ℕ} {e o : EndRun} → Counts turns e o → (s : ℕ) → (n : ℕ) → s + n ≤ turns → StayConnected e s (s + n)
     → ((e.account (s + n)).outgoing.front ≡ (e.account s).outgoing.front)
     ⊎ ((v : ℕ) × (s ≤ v) × (v < s + n) × ((e.mid v).outgoing.count ≡ 0))
-front-or-cleared turns e o c s zero l h = inl (ap (λ t. (e.account t).outgoing.front) (omega arith))
-front-or-cleared turns e o c s (suc n) l h = go (front-or-cleared turns e o c s n (omega (arith, l)) (λ t x y. h t x (omega (arith, y))))
+front-or-cleared {turns} {e} {o} c s zero l h = inl (ap (λ t. (e.account t).outgoing.front) (omega arith))
+front-or-cleared {turns} {e} {o} c s (suc n) l h = go (front-or-cleared c s n (omega (arith, l)) (λ t x y. h t x (omega (arith, y))))
   where
     t : ℕ
     t = s + n
@@ -132,16 +132,16 @@ front-or-cleared turns e o c s (suc n) l h = go (front-or-cleared turns e o c s 
     ]
 
 -- what is taken stays taken
-taken-rises : (turns : ℕ) (e o : EndRun) → Counts turns e o → (s n : ℕ) → s + n ≤ turns → StayConnected o s (s + n)
+taken-rises : {turns : ℕ} {e o : EndRun} → Counts turns e o → (s n : ℕ) → s + n ≤ turns → StayConnected o s (s + n)
     → length (o.account s).incoming.taken ≤ length (o.account (s + n)).incoming.taken
-taken-rises turns e o c s zero l h = let q = ap (λ t. length (o.account t).incoming.taken) (same s) in omega (arith, q)
+taken-rises {turns} {e} {o} c s zero l h = let q = ap (λ t. length (o.account t).incoming.taken) (same s) in omega (arith, q)
   where
     same : (x : ℕ) → x + 0 ≡ x
     same x = omega arith
-taken-rises turns e o c s (suc n) l h =
+taken-rises {turns} {e} {o} c s (suc n) l h =
     let t : ℕ = s + n in
     let w = c.other t (omega (arith, l)) (h t (omega arith) (omega arith)) (h (t + 1) (omega arith) (omega arith)) in
-    let before = taken-rises turns e o c s n (omega (arith, l)) (λ u x y. h u x (omega (arith, y))) in
+    let before = taken-rises c s n (omega (arith, l)) (λ u x y. h u x (omega (arith, y))) in
     let low = w.heard.incoming.low in
     let after = ap length w.taken in
     let there : length (o.account (s + suc n)).incoming.taken ≡ length (o.account (t + 1)).incoming.taken =
@@ -150,19 +150,19 @@ taken-rises turns e o c s (suc n) l h =
 
 -- The first segment that isn't acknowledged, sent in the turn in which the answer to a poll is heard: the retry count is 0 within a round
 -- trip and a turn.
-pub acknowledged : (period turns : ℕ) (e o : EndRun) → TwoEnds period turns e o → Counts turns e o → (u : ℕ)
+pub acknowledged : {period turns : ℕ} {e o : EndRun} → TwoEnds period turns e o → Counts turns e o → (u : ℕ)
     → u + (e.delay + o.delay) + 1 < turns → hears_final e u ≡ true
     → ns_sent (e.slot u) ≡ Some ((e.mid u).outgoing.front % 128)
     → StayConnected e u (u + (e.delay + o.delay) + 2) → StayConnected o (u - o.delay) (u + (e.delay + o.delay) + 2)
     → NoneLost e o (u + 1) (e.delay + o.delay + 1)
     → (v : ℕ) × (u < v) × (v ≤ u + (e.delay + o.delay) + 1) × ((e.mid v).outgoing.count ≡ 0)
-acknowledged period turns e o k c u within final sends ce co lost = go-told (own-numbers.heard)
+acknowledged {period} {turns} {e} {o} k c u within final sends ce co lost = go-told (own-numbers.heard)
   where
     d' : 1 ≤ o.delay
     d' = k.other_delay
 
     m : Answers u e o
-    m = reply-matches period turns e o k u (omega (arith, within)) final
+    m = reply-matches k u (omega (arith, within)) final
 
     trip : m.sent + (e.delay + o.delay) ≡ u
     trip = m.round_trip
@@ -221,10 +221,10 @@ acknowledged period turns e o k c u within final sends ce co lost = go-told (own
             (k.own m.due (omega (arith, low, high, within))).made_linked m.made in
             let cu = ce u (omega arith) (omega arith) in
             let after-due : m.due + 1 ≤ y = omega (arith, fr, tr, due-before, k.own_delay) in
-            let on = connected-since period turns e o k (m.due + 1) u (omega (arith, within)) linked cu in
+            let on = connected-since k (m.due + 1) u (omega (arith, within)) linked cu in
             let sent = (c.own y (omega (arith, high, within)) (on y after-due (omega (arith, high)))
             (on (y + 1) (omega (arith, after-due)) high)).segment ns from.1 in
-            let waits = awaits-on period turns e o k u (omega (arith, within)) cu m (y + 1) low high in
+            let waits = awaits-on k u (omega (arith, within)) cu m (y + 1) low high in
             let wrong : true ≡ false = sym waits ∙ sent in cc
 
     stands-at : (t : ℕ) → w + 1 ≤ t → t ≤ x → length (o.account t).incoming.taken ≡ r
@@ -310,8 +310,7 @@ acknowledged period turns e o k c u within final sends ce co lost = go-told (own
 
                     hears : (nr' : ℕ) × (nr_sent (o.slot y) ≡ Some nr')
                         → (v : ℕ) × (u < v) × (v ≤ u + (e.delay + o.delay) + 1) × ((e.mid v).outgoing.count ≡ 0)
-                    hears (nr', said) = moved
-                        (front-or-cleared turns e o c (u + 1) (v - (u + 1)) (omega (arith, u-v, v-in, within))
+                    hears (nr', said) = moved (front-or-cleared c (u + 1) (v - (u + 1)) (omega (arith, u-v, v-in, within))
                         (λ t a b. ce t (omega (arith, a)) (omega (arith, b, u-v, v-in)))) ev.heard.advance
                       where
                         comes-back : nr_heard (e.heard v) ≡ Some nr'
@@ -336,7 +335,7 @@ acknowledged period turns e o k c u within final sends ce co lost = go-told (own
                             let means' = meant-is (e.account v).outgoing.front (e.account v).outgoing.high nr' (e.mid v).outgoing.front
                             (ev.heard.acked nr' comes-back) in
                             let agrees : f % 128 ≡ nr' = ap (λ n. n % 128) (sym (p ∙ there)) ∙ means'.2 in
-                            let rises = taken-rises turns e o c (y + 1) (v - (y + 1)) (omega (arith, d', v-in, within))
+                            let rises = taken-rises c (y + 1) (v - (y + 1)) (omega (arith, d', v-in, within))
                             (λ t a b. co t (omega (arith, a, ly)) (omega (arith, b, v-in, d'))) in
                             let after = ap length oy.taken in
                             let same-v : length (o.account (y + 1 + (v - (y + 1)))).incoming.taken ≡ length (o.account v).incoming.taken =

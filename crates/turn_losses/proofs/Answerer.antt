@@ -61,7 +61,7 @@ answerer-each laws w may t mid hearing going last = wants-answers w Answerer (co
         → is_connected (w.state u).answ.phase ≡ true → is_connected (w.state u).orig.phase ≡ true
     both s u l low high made c c' =
         let from = ((w.trace.happens s l).polls Answerer).made_from made (linked-connected (w.state s).answ.phase c) in
-        connected-since w.period turns (end_of w Originator) (end_of w Answerer) (two-ends w Originator) s turns (omega arith)
+        connected-since (two-ends w Originator) s turns (omega arith)
         (peer-linked w s l c from.1 from.2) (ap (λ (x : Accounts). is_connected x.orig.phase) w.last ∙ peer-last) u low high
 
 pub answerer-wants : Plays → AnswererWantsAnswers

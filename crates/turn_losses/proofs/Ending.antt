@@ -21,8 +21,7 @@ use Rattle.turn_losses.proofs.Starving.{peer-connected-at}
 pub periods-of : (w : TimedRun) → (r : Role) → LastWait w.tries w.period (length w.ts) (of r (w.state (length w.ts))) → (n : ℕ)
     → n < w.tries + 1 → (s : ℕ) × (s + (n + 1) * w.period ≡ length w.ts)
     × BreakPeriod w.period (length w.ts) (number_of (of r (w.state (length w.ts)))) (end_of w r) (deeds-of w r) s
-periods-of w r l n less = break-periods w.period (length w.ts) (end_of w r) (deeds-of w r)
-    (breaking w r) (first r) w.tries (number_of (of r (w.state (length w.ts))))
+periods-of w r l n less = break-periods (breaking w r) (first r) w.tries (number_of (of r (w.state (length w.ts))))
     (record { connected = l.connected; waiting = l.waiting; numbered = refl }) l.count l.now n
     (omega (arith, less))
   where
@@ -67,8 +66,7 @@ originator-breaks reads together w may t mid cs hearing cm l waiting n less = go
         connected-loses reads w may t cs Originator
         (number_of (w.state turns).orig) s n (number-small (w.state turns).orig.own_breaks.answered) q bp
         (λ u a b. peer-connected-at together w u (omega (arith, b, q, m)) (bp.stays u a b).connected)
-        (λ u a b f. let c = was-sent (w.delay Answerer) turns is_sabme (end_of w Answerer).slot
-        (end_of w Originator).heard (end_of w Originator).loses k.hears u (omega (arith, b, q, m)) f in
+        (λ u a b f. let c = was-sent is_sabme k.hears u (omega (arith, b, q, m)) f in
         answ-no-sabme w (u - w.delay Answerer) (omega (arith, b, q, m)) c.1)
         (λ g f. none-last w.link w.ts w.ends t mid Originator w.tries w.period hearing cm l waiting
         (ap (λ (x : Accounts). of_arrived (of_word (ack_of (number_of x.orig))) (arrival t.orig.heard)) (sym w.last) ∙ f))

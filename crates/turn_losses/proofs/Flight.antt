@@ -104,7 +104,7 @@ pub no-sabme-heard : ReadsWritten → (w : TimedRun) → MayPlay w.link.orig.set
     → of_arrived is_sabme ((end_of w Answerer).heard t) ≡ true → ⊥
 no-sabme-heard reads w m s inside linked t low within heard = elim (cases_lt s q) [
   | inl g ↦ clash (is_linked (o.account (q + 1)).phase)
-      (linked-on w.period turns o e k (s + 1) (q + 1) (omega (arith, g)) (omega (arith, within)) linked) (ap is_linked was)
+      (linked-on k (s + 1) (q + 1) (omega (arith, g)) (omega (arith, within)) linked) (ap is_linked was)
   | inr g ↦ clash (is_linked (o.account (s + 1)).phase) linked
       (kept-in (λ u. is_linked (o.account u).phase ≡ false) (q + 1) (s + 1) (omega (arith, g))
       (λ z a b u. not-true (is_linked (o.account (z + 1)).phase) (meets z (omega (arith, a)) (omega (arith, b)) u)) (ap is_linked was))
@@ -126,7 +126,7 @@ no-sabme-heard reads w m s inside linked t low within heard = elim (cases_lt s q
     q = t - o.delay
 
     came : (o.delay ≤ t) × (of_frame is_sabme (o.slot q) ≡ true)
-    came = was-sent o.delay turns is_sabme o.slot e.heard e.loses k.is_heard t within heard
+    came = was-sent is_sabme k.is_heard t within heard
 
     was : (o.account (q + 1)).phase ≡ Establishing
     was = (sabme-sent w q (omega (arith, within)) came.1).0
@@ -137,8 +137,7 @@ no-sabme-heard reads w m s inside linked t low within heard = elim (cases_lt s q
     between r z rz zl f g u a b = only-establishing (o.account u).phase
         (kept-on turns (λ v. is_established (o.account v).phase ≡ true) (established-next w) r u a (omega (arith, b, zl))
         (ap is_established f))
-        (not-true (is_linked (o.account u).phase) (λ j. clash (is_linked (o.account z).phase) (linked-on w.period turns o e k u z b zl j)
-        g))
+        (not-true (is_linked (o.account u).phase) (λ j. clash (is_linked (o.account z).phase) (linked-on k u z b zl j) g))
 
     meets : (z : ℕ) → q < z → z ≤ s → is_linked (o.account z).phase ≡ false → is_linked (o.account (z + 1)).phase ≡ true → ⊥
     meets z a b u l = elim ((answer-by (e.heard y) y (e.account y) (e.mid y) g.in_turn.none_due.answer g.in_turn.hears).ua
@@ -156,7 +155,7 @@ no-sabme-heard reads w m s inside linked t low within heard = elim (cases_lt s q
 
         sent : (e.delay ≤ z) × (of_frame frame_ua (e.slot y) ≡ true)
         sent = let h = end-turn w Originator z z-in in
-            was-sent e.delay turns frame_ua e.slot o.heard o.loses k.hears z z-in
+            was-sent frame_ua k.hears z z-in
             (heard-ua (o.heard z) z (o.account z) (o.mid z) zp h.in_turn.hears (sym h.linked ∙ l))
 
         g : EndTurn w Answerer y
@@ -164,7 +163,7 @@ no-sabme-heard reads w m s inside linked t low within heard = elim (cases_lt s q
 
         parts : of_arrived frame_disc (e.heard y) ≡ true → ⊥
         parts f =
-            let c = was-sent o.delay turns frame_disc o.slot e.heard e.loses k.is_heard y (omega (arith, z-in)) f in
+            let c = was-sent frame_disc k.is_heard y (omega (arith, z-in)) f in
             let c0 = c.0 in let s0 = sent.0 in
             let v : ℕ = y - o.delay in
             let h = end-turn w Originator v (omega (arith, z-in)) in
@@ -172,11 +171,11 @@ no-sabme-heard reads w m s inside linked t low within heard = elim (cases_lt s q
             ∙ released-linked h.said.account.phase ((speaks-so v (release_of w.link v (w.deed v).mid Originator) (o.served v) h.said
             h.says).disc (ap (of_frame frame_disc) (sym h.slot) ∙ c.1)) in
             clash (is_linked (o.account z).phase)
-            (linked-on w.period turns o e k (v + 1) z (omega (arith, c0, s0, k.other_delay)) (omega (arith, z-in)) j) u
+            (linked-on k (v + 1) z (omega (arith, c0, s0, k.other_delay)) (omega (arith, z-in)) j) u
 
         again : of_arrived is_sabme (e.heard y) ≡ true → ⊥
         again f =
-            let c = was-sent o.delay turns is_sabme o.slot e.heard e.loses k.is_heard y (omega (arith, z-in)) f in
+            let c = was-sent is_sabme k.is_heard y (omega (arith, z-in)) f in
             let c0 = c.0 in let s0 = sent.0 in let t0 = came.0 in
             let r : ℕ = y - o.delay in
             let earlier : r < q = omega (arith, c0, s0, t0, b, low, k.other_delay) in

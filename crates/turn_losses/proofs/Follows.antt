@@ -49,6 +49,6 @@ module _ (w : TimedRun) (r : Role) (kind : Frame → Bool) (has stays : Account 
           → (has (of r (w.state u)) ≡ true → stays (of (other r) (w.state u)) ≡ true) → stays (of (other r) (w.state (u + 1))) ≡ true
       by (inl q) again = next u (omega (arith, l)) (again q)
       by (inr q) again =
-          let x = was-sent o.delay (length w.ts) kind o.slot e.heard e.loses (two-ends w r).hears u (omega (arith, l)) q in
+          let x = was-sent kind (two-ends w r).hears u (omega (arith, l)) q in
           kept-on (length w.ts) (λ v. stays (of (other r) (w.state v)) ≡ true) next (u - o.delay + 1) (u + 1) (omega arith)
           (omega (arith, l)) (sent (u - o.delay) (omega (arith, l)) x.1)

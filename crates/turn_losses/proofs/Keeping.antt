@@ -15,15 +15,15 @@ use Rattle.turn_losses.proofs.Names.{of_frame, of_arrived, is_poll, is_final, De
 use Rattle.turn_losses.proofs.Names.{sends_final, hears_final, TimedRun, end_of}
 use Rattle.lapm_frames.specs.declared.sent.Sent.TheVariants as slots
 
-keeps-polls : (period turns : ℕ) (e o : EndRun) → TwoEnds period turns e o → KeepsPolls period turns e o
-keeps-polls period turns e o k = record {
-  due_apart = due-apart period turns e o k;
-  fresh = λ t l d. (poll-fresh period turns e o k t l d, poll-held-up period turns e o k t l d);
-  sent_apart = polls-apart period turns e o k;
-  reply_from = reply-from period turns e o k;
-  reply_at_once = reply-at-once period turns e o k;
-  matches = reply-matches period turns e o k;
-  still = still-awaited period turns e o k;
+keeps-polls : {period turns : ℕ} {e o : EndRun} → TwoEnds period turns e o → KeepsPolls period turns e o
+keeps-polls {period} {turns} {e} {o} k = record {
+  due_apart = due-apart k;
+  fresh = λ t l d. (poll-fresh k t l d, poll-held-up k t l d);
+  sent_apart = polls-apart k;
+  reply_from = reply-from k;
+  reply_at_once = reply-at-once k;
+  matches = reply-matches k;
+  still = still-awaited k;
 }
 
 same-kind : (is : Frame → Bool) (sent : Sent) → is_frame_of is sent ≡ of_frame is sent
@@ -61,7 +61,7 @@ polls-of w role t l p =
 pub polls-keep-apart : PollsKeepApart
 polls-keep-apart tries period delay link ts ends k run c role s t less within ps pt =
     let w = timed-run tries period delay link ts ends k run c in
-    (keeps-polls period (length ts) (end_of w role) (end_of w (other role)) (two-ends w role)).sent_apart s t less within
+    (keeps-polls (two-ends w role)).sent_apart s t less within
     (polls-of w role s (omega (arith, less, within)) ps) (polls-of w role t within pt)
 
 both-ways : (b c : Bool) → (b ≡ true → c ≡ true) → (c ≡ true → b ≡ true) → b ≡ c
@@ -88,7 +88,7 @@ replies-at-once tries period delay link ts before t after k run g c role cb ca =
         w = timed-of tries period delay link (t ∷ ts) after k (before, run, g) c m.traced
 
         keeps : KeepsPolls period (length (t ∷ ts)) (end_of w role) (end_of w (other role))
-        keeps = keeps-polls period (length (t ∷ ts)) (end_of w role) (end_of w (other role)) (two-ends w role)
+        keeps = keeps-polls (two-ends w role)
 
         turn : (w.deed n).turn ≡ t
         turn = ap (λ x. x.turn) m.deed_is ∙ dt
@@ -123,7 +123,7 @@ answers-match tries period delay link ts before t after k run g c role cb h =
         w = timed-of tries period delay link (t ∷ ts) after k (before, run, g) c m.traced
 
         keeps : KeepsPolls period (length (t ∷ ts)) (end_of w role) (end_of w (other role))
-        keeps = keeps-polls period (length (t ∷ ts)) (end_of w role) (end_of w (other role)) (two-ends w role)
+        keeps = keeps-polls (two-ends w role)
 
         turn : (w.deed n).turn ≡ t
         turn = ap (λ x. x.turn) m.deed_is ∙ dt

@@ -53,10 +53,10 @@ pub arrives-late : (w : TimedRun) → (role : Role) → (t : ℕ) → t < length
 arrives-late w role t within = carries-late w t (omega (arith, within)) (w.deed t).turn (w.trace.happens t within).carries role
 
 -- a frame of some kind that is heard was sent
-pub was-sent : (delay turns : ℕ) (kind : Frame → Bool) (f : ℕ → Sent) (arrived : ℕ → Arrived) (loses : ℕ → Bool)
+pub was-sent : {delay turns : ℕ} {f : ℕ → Sent} {arrived : ℕ → Arrived} {loses : ℕ → Bool} (kind : Frame → Bool)
     → ((t : ℕ) → t < turns → ArrivesLate delay t (loses t) f (arrived t))
     → WasSent delay turns (λ t. of_arrived kind (arrived t)) (λ t. of_frame kind (f t))
-was-sent delay turns kind f arrived loses h t within is_heard = elim (cases_lt t delay) [
+was-sent {delay} {turns} {f} {arrived} {loses} kind h t within is_heard = elim (cases_lt t delay) [
   | inl l ↦ (let wrong : false ≡ true = ap (of_arrived kind) (sym ((h t within).early l)) ∙ is_heard in cc)
   | inr g ↦ (g, by (loses t) (ap (of_arrived kind) (sym ((h t within).late g)) ∙ is_heard))
 ]
@@ -66,10 +66,10 @@ was-sent delay turns kind f arrived loses h t within is_heard = elim (cases_lt t
     by false e = sym (arrives-flag kind (f (t - delay))) ∙ e
 
 -- what is sent is heard unless it is lost
-pub is-heard : (delay turns : ℕ) (kind : Frame → Bool) (f : ℕ → Sent) (arrived : ℕ → Arrived) (loses : ℕ → Bool)
+pub is-heard : {delay turns : ℕ} {f : ℕ → Sent} {arrived : ℕ → Arrived} {loses : ℕ → Bool} (kind : Frame → Bool)
     → ((t : ℕ) → t < turns → ArrivesLate delay t (loses t) f (arrived t))
     → (t : ℕ) → t + delay < turns → loses (t + delay) ≡ false → of_arrived kind (arrived (t + delay)) ≡ of_frame kind (f t)
-is-heard delay turns kind f arrived loses h t within passes =
+is-heard {delay} {turns} {f} {arrived} {loses} kind h t within passes =
     let back : t + delay - delay ≡ t = omega arith in
     ap (of_arrived kind) ((h (t + delay) within).late (omega arith)
     ∙ (ap (λ b. cond b arrivals.Nothing (arrives (f (t + delay - delay)))) passes ∙ ap (λ n. arrives (f n)) back))

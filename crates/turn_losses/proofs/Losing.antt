@@ -90,7 +90,7 @@ connected-loses reads w m t cs r number s n small q bp co na last-no = go (lost-
     quiet' u a b = not-true (d' u).answers (λ f.
         let heard = answers-sabme w (other r) u (omega (arith, b, within))
         (co (u + 1) (omega (arith, a)) (omega (arith, b))) f in
-        let c = was-sent e.delay turns is_sabme e.slot o.heard o.loses k.is_heard u (omega (arith, b, within)) heard in
+        let c = was-sent is_sabme k.is_heard u (omega (arith, b, within)) heard in
         let v : ℕ = u - e.delay in
         clash (is_connected (e.account (v + 1)).phase) (bp.stays (v + 1) (omega (arith, a)) (omega (arith, a, b, k.own_delay))).connected
         (sends-sabme-so w r v (omega (arith, b, within)) c.1))
@@ -103,8 +103,7 @@ connected-loses reads w m t cs r number s n small q bp co na last-no = go (lost-
     go : LostIn e o (s + 1) (w.period - 1) ⊎ NoneLost e o (s + 1) (w.period - 1) → PeriodLoses w.period turns (t ∷ w.ts) n
     go (inl x) = let a = x.low in let b = x.high in some x.turn (omega (arith, a)) (omega (arith, b, long))
         (omega (arith, b, long, within)) x.loses
-    go (inr none) = late (break-answered w.period turns number e o d d' k (breaking w r)
-        (breaking w (other r)) first small s within bp co quiet quiet' none)
+    go (inr none) = late (break-answered number k (breaking w r) (breaking w (other r)) first small s within bp co quiet quiet' none)
       where
         first : brk_due (o.account 0) ≡ false
         first = start (other r)
@@ -125,8 +124,8 @@ connected-loses reads w m t cs r number s n small q bp co na last-no = go (lost-
             inside : s + w.period < turns → (b : Bool) → e.loses (s + w.period) ≡ b → PeriodLoses w.period turns (t ∷ w.ts) n
             inside l true g = some (s + w.period) (omega (arith, long)) (omega arith) l (inl g)
             inside l false g =
-                let comes : of_arrived (of_word (ack_of number)) (e.heard (z + o.delay)) ≡ true = is-heard o.delay turns
-                (of_word (ack_of number)) o.slot e.heard e.loses k.hears z (omega (arith, f, l)) (ap e.loses f ∙ g) ∙ sent in
+                let comes : of_arrived (of_word (ack_of number)) (e.heard (z + o.delay)) ≡ true = is-heard (of_word (ack_of number)) k.hears
+                z (omega (arith, f, l)) (ap e.loses f ∙ g) ∙ sent in
                 let here = bp.stays (s + w.period) (omega (arith, long)) (omega arith) in
                 let there = bp.goes_on l in
                 absurd (clash (waits (e.account (s + w.period + 1)).own_breaks) there.waiting

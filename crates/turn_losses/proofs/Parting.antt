@@ -45,13 +45,13 @@ IsFree a = (a.outgoing.awaited ≡ false) × (a.outgoing.paused ≡ false)
 
 -- A period in which the peer is told to release, but so late that its DISC comes after it. Where no line is lost in it, the answer to its
 -- poll came before; so, with nothing outstanding, the clock stops in that turn, unless it was paused since, which made the retry count 0.
-pub parted-stops : (period turns : ℕ) (e o : EndRun) → TwoEnds period turns e o → Counts turns e o → (s v : ℕ) → s + period ≤ turns
+pub parted-stops : {period turns : ℕ} {e o : EndRun} → TwoEnds period turns e o → Counts turns e o → (s v : ℕ) → s + period ≤ turns
     → v < s + period → s + period < v + o.delay → Uncleared period e s → StayConnected o s v
     → (e.mid v).outgoing.awaited ≡ cond (hears_final e v) false (e.account v).outgoing.awaited
     → ((e.mid v).outgoing.awaited ≡ false → (e.mid v).outgoing.paused ≡ false → (e.mid v).wait.timer ≡ None)
     → CountKept (e.account v) (e.mid v) → NoneLost e o (s + 1) (period - 1) → ⊥
-parted-stops period turns e o k c s v within before late un co waits stops kept lost =
-    go (answer-comes period turns e o k s (omega (arith, k.period_is, within)) un.made (λ t l h. un.on t l (omega (arith, h, k.period_is)))
+parted-stops {period} {turns} {e} {o} k c s v within before late un co waits stops kept lost =
+    go (answer-comes k s (omega (arith, k.period_is, within)) un.made (λ t l h. un.on t l (omega (arith, h, k.period_is)))
     (λ t l h. co t l (omega (arith, h, k.period_is, late))) (λ t l h. lost t l (omega (arith, h, k.period_is))))
   where
     counts : (t : ℕ) → s < t → t < s + period → (e.mid t).outgoing.count ≡ 0 → ⊥
@@ -76,8 +76,7 @@ parted-stops period turns e o k c s v within before late un co waits stops kept 
 
     unmade : (t : ℕ) → s < t → t < s + period → (x : Bool) → e.made t ≡ x → e.made t ≡ false
     unmade t a b false f = f
-    unmade t a b true f = let far = due-apart period turns e o k s t a (omega (arith, b, within)) un.made f in absurd
-        (omega (arith, far, b))
+    unmade t a b true f = let far = due-apart k s t a (omega (arith, b, within)) un.made f in absurd (omega (arith, far, b))
 
     falls : (m f a : Bool) → m ≡ false → (a ≡ false) ⊎ (f ≡ true) → m || cond f false a ≡ false
     falls true f a q r = cc
@@ -116,7 +115,7 @@ parted-stops period turns e o k c s v within before late un co waits stops kept 
               let wrong : None ≡ Some s = sym stopped ∙ (q.1 ∙ un.timer v (omega (arith, late, k.period_is)) (omega (arith, before))) in cc)
         ]
 
--- In the turn in which the originator is told to release, the answerer's file is wholly acknowledged and none of its breaks waits.
+-- In the turn in which the originator is told to release, the answerer's file is wholly acknowledged breaks waits.
 pub record Released (link : Link) (t : ℕ) (mid : Accounts) : Type 0 where
   pub done : is_whole (served_at link t mid Answerer).account.outgoing ≡ true
   pub breaks : waits (served_at link t mid Answerer).account.own_breaks ≡ false
@@ -287,7 +286,7 @@ pub parted-each : Plays → ReadsWritten → (w : TimedRun) → MayPlay w.link.o
     → Carries w.delay w.ts t → Hears (length w.ts) w.ends t mid → is_connected mid.answ.phase ≡ true → mid.orig.phase ≡ Releasing
     → LastTry w.tries w.period (length w.ts) w.ends.answ → LosesEach w.period w.tries (length w.ts) (t ∷ w.ts)
 parted-each laws reads w may t mid cs hearing cm om last n less = at-expiry
-    (expiries w.period turns e o k c w.tries l.set l.connected l.count l.runs l.now n less)
+    (expiries k c w.tries l.set l.connected l.count l.runs l.now n less)
   where
     turns : ℕ
     turns = length w.ts
@@ -305,7 +304,7 @@ parted-each laws reads w may t mid cs hearing cm om last n less = at-expiry
     k = two-ends w Answerer
 
     k' : TwoEnds w.period turns o e
-    k' = turned w.period turns e o k
+    k' = turned k
 
     c : Counts turns e o
     c = counts-of laws w may Answerer
@@ -327,7 +326,7 @@ parted-each laws reads w may t mid cs hearing cm om last n less = at-expiry
 
     -- from a turn on in which the end is Connected it stays so
     on-from : (s : ℕ) → is_connected (e.account s).phase ≡ true → StayConnected e s turns
-    on-from s h = connected-since w.period turns e o k s turns (omega arith) (linked-connected (e.account s).phase h) l.connected
+    on-from s h = connected-since k s turns (omega arith) (linked-connected (e.account s).phase h) l.connected
 
     -- the originator releases as the last turn begins
     releasing-last : (o.account turns).phase ≡ Releasing
@@ -378,7 +377,7 @@ parted-each laws reads w may t mid cs hearing cm om last n less = at-expiry
             lost-there true f = f
             lost-there false f = absurd (disc-closes w (i.set + o.delay) b (ce-late (i.set + o.delay) late (omega (arith, b)))
                 (ce-late (i.set + o.delay + 1) (omega (arith, late)) (omega (arith, b)))
-                (is-heard o.delay turns (asks Releasing) o.slot e.heard e.loses k.hears i.set b f ∙ i.sends))
+                (is-heard (asks Releasing) k.hears i.set b f ∙ i.sends))
         arrives-at (inr b) = behind (omega (arith, in-time, within, b))
           where
             behind : i.set + o.delay ≡ turns → PeriodLoses w.period turns (t ∷ w.ts) n
@@ -410,18 +409,17 @@ parted-each laws reads w may t mid cs hearing cm om last n less = at-expiry
                 peer-linked w s (omega (arith, within, long)) un.connected from.1 from.2
 
             co : StayConnected o s v.turn
-            co = λ u lo hi. connected-since w.period turns o e k' s v.turn (omega (arith, before-end)) linked-s
-                (v.was (linked-on w.period turns o e k' s v.turn (omega (arith, lo, hi)) (omega (arith, before-end)) linked-s)) u lo hi
+            co = λ u lo hi. connected-since k' s v.turn (omega (arith, before-end)) linked-s
+                (v.was (linked-on k' s v.turn (omega (arith, lo, hi)) (omega (arith, before-end)) linked-s)) u lo hi
 
             on : LostIn e o (s + 1) (w.period - 1) ⊎ NoneLost e o (s + 1) (w.period - 1) → PeriodLoses w.period turns (t ∷ w.ts) n
             on (inl lost) = later-loses w.period t w.ts n (loses-of w Answerer s n long q' lost)
             on (inr none) = absurd (elim (cases_lt v.turn (s + w.period)) [
-              | inl b ↦ parted-stops w.period turns e o k c s v.turn within b late un co
+              | inl b ↦ parted-stops k c s v.turn within b late un co
                   (await-hears (e.heard v.turn) v.turn (e.account v.turn) (e.mid v.turn) at-v i.hears)
                   (whole-stops w v.turn before-end v.told) (count-hears z (e.heard v.turn) v.turn (e.account v.turn) (e.mid v.turn) at-v
                   (linked-sends z v.turn v.turn Answerer (e.account v.turn).phase (e.account v.turn) i.stands at-v) i.hears) none
-              | inr g ↦ (let r = period-cleared w.period turns e o k c s within un.made un.on
-                  (λ u lo hi. co u lo (omega (arith, hi, g))) none in
+              | inr g ↦ (let r = period-cleared k c s within un.made un.on (λ u lo hi. co u lo (omega (arith, hi, g))) none in
                   un.uncleared r.0 r.1 r.2 r.3)
             ])
               where

@@ -40,7 +40,7 @@ unasked w v l none t before b rel linked c = kept-in (λ u. waits (w.state u).an
     (waits-are w Answerer v l (on (v + 1) (omega arith) (omega (arith, before))) ∙ none)
   where
     on : (u : ℕ) → v + 1 ≤ u → u ≤ t → is_connected (w.state u).answ.phase ≡ true
-    on = connected-since w.period (length w.ts) (end_of w Answerer) (end_of w Originator) (two-ends w Answerer) (v + 1) t b linked c
+    on = connected-since (two-ends w Answerer) (v + 1) t b linked c
 
     step : (u : ℕ) → v + 1 ≤ u → u < t → waits (w.state u).answ.own_breaks ≡ false → waits (w.state (u + 1)).answ.own_breaks ≡ false
     step u lo hi f =

@@ -12,10 +12,10 @@ use Rattle.turn_losses.proofs.Acknowledged.{Counts, acknowledged}
 use Rattle.turn_losses.proofs.Names.{past, Happens, EndRun, TwoEnds, hears_poll, hears_final, TimedRun, end_of}
 
 -- while the answer to a poll is on its way, the clock doesn't expire
-pub unexpired : (period turns : ℕ) (e o : EndRun) → TwoEnds period turns e o → (t : ℕ) → t < turns → is_connected (e.account t).phase ≡ true
+pub unexpired : {period turns : ℕ} {e o : EndRun} → TwoEnds period turns e o → (t : ℕ) → t < turns → is_connected (e.account t).phase ≡ true
     → hears_final e t ≡ true → (r : ℕ) → (e.account t).wait.timer ≡ Some r → t < r + period
-unexpired period turns e o k t within c h r w =
-    let m : Answers t e o = reply-matches period turns e o k t within h in
+unexpired {period} {turns} {e} {o} k t within c h r w =
+    let m : Answers t e o = reply-matches k t within h in
     let trip = m.round_trip in let before = m.due_before in let soon = m.due_soon in let p = k.period_is in let d = k.own_delay in
     let s : SetSince m.due (e.account t) =
     set-since period turns e.role e.account (hears_poll e) (hears_final e) e.made e.count (λ n. e.slot n) k.own m.due m.made t
@@ -24,14 +24,14 @@ unexpired period turns e o k t within c h r w =
 
 -- In the turn in which the answer to its poll is heard, an end's retry count is 0 once it has heard, or it sends the first segment that
 -- isn't acknowledged.
-pub poll-answered : (period turns : ℕ) (e o : EndRun) → TwoEnds period turns e o → (t : ℕ) → t < turns
+pub poll-answered : {period turns : ℕ} {e o : EndRun} → TwoEnds period turns e o → (t : ℕ) → t < turns
     → is_connected (e.account t).phase ≡ true → hears_final e t ≡ true
     → (mid b : Account) (said : Said) → e.account (t + 1) ≡ said.account → is_connected (e.account (t + 1)).phase ≡ true
     → AnswerTurn period t (e.heard t) (e.account t) mid b said → (mid.outgoing.count ≡ 0) ⊎ SendsSegment mid.outgoing.front b said
-poll-answered period turns e o k t within c h mid b said after c' answers =
-    let s : StillAwaited (e.account t) = still-awaited period turns e o k t within c h in
+poll-answered {period} {turns} {e} {o} k t within c h mid b said after c' answers =
+    let s : StillAwaited (e.account t) = still-awaited k t within c h in
     answers c s.awaited (not-due (is_connected (e.account t).phase) (e.account t).wait.poll c s.none_due) h
-    (ap (λ a. is_connected a.phase) (sym after) ∙ c') (unexpired period turns e o k t within c h)
+    (ap (λ a. is_connected a.phase) (sym after) ∙ c') (unexpired k t within c h)
   where
     not-due : (x y : Bool) → x ≡ true → x && y ≡ false → y ≡ false
     not-due true y p q = q
@@ -48,7 +48,7 @@ pub end-answered : (w : TimedRun) → (role : Role) → (t : ℕ) → t < length
     → ((of role (w.deed t).mid).outgoing.count ≡ 0) ⊎ SendsFirst w role t
 end-answered w role t within c c' h =
     let g : Happens w.period w.delay w.link (past w.ts t) t (w.state t) (w.deed t) (w.state (t + 1)) = w.trace.happens t within in
-    elim (poll-answered w.period (length w.ts) (end_of w role) (end_of w (other role))
+    elim (poll-answered
     (two-ends w role) t within c h (of role (w.deed t).mid)
     (served_at w.link t (w.deed t).mid role).account (g.speaking role).said (g.speaking role).after_is c' (g.answers role)) [
       | inl x ↦
@@ -57,12 +57,12 @@ end-answered w role t within c c' h =
     ]
 
 -- A period that an expiry begins, at two ends that stay Connected: where no line is lost in it the retry count is 0 in one of its turns.
-pub period-cleared : (period turns : ℕ) (e o : EndRun) → TwoEnds period turns e o → Counts turns e o → (s : ℕ) → s + period ≤ turns
+pub period-cleared : {period turns : ℕ} {e o : EndRun} → TwoEnds period turns e o → Counts turns e o → (s : ℕ) → s + period ≤ turns
     → e.made s ≡ true
     → StayConnected e s (s + period) → StayConnected o s (s + period) → NoneLost e o (s + 1) (period - 1)
     → (v : ℕ) × (s < v) × (v < s + period) × (e.count v ≡ 0)
-period-cleared period turns e o k c s within m ce co lost =
-    go (answer-comes period turns e o k s (omega (arith, k.period_is, within)) m (λ t l g. ce t l (omega (arith, g, k.period_is)))
+period-cleared {period} {turns} {e} {o} k c s within m ce co lost =
+    go (answer-comes k s (omega (arith, k.period_is, within)) m (λ t l g. ce t l (omega (arith, g, k.period_is)))
     (λ t l g. co t l (omega (arith, g, k.period_is))) (λ t l g. lost t l (omega (arith, g, k.period_is))))
   where
     go : (u : ℕ) × (s + (e.delay + o.delay) ≤ u) × (u ≤ s + (e.delay + o.delay) + 1) × (hears_final e u ≡ true)
@@ -78,8 +78,7 @@ period-cleared period turns e o k c s within m ce co lost =
         either : (e.count u ≡ 0) ⊎ (ns_sent (e.slot u) ≡ Some ((e.mid u).outgoing.front % 128))
             → (v : ℕ) × (s < v) × (v < s + period) × (e.count v ≡ 0)
         either (inl x) = (u, omega (arith, low, k.own_delay), omega (arith, high, k.period_is), x)
-        either (inr x) = later
-            (acknowledged period turns e o k c u (omega (arith, high, k.period_is, within)) h x
+        either (inr x) = later (acknowledged k c u (omega (arith, high, k.period_is, within)) h x
             (λ t l g. ce t (omega (arith, l, low)) (omega (arith, g, high, k.period_is)))
             (λ t l g. co t (omega (arith, l, low)) (omega (arith, g, high, k.period_is)))
             (λ t l g. lost t (omega (arith, l, low)) (omega (arith, g, high, k.period_is))))
@@ -108,11 +107,11 @@ lost-or-none e o from (suc n) = elim (lost-or-none e o from n) [
         same t w = (ap e.loses w ∙ q, ap o.loses w ∙ r)
 
 -- A line is lost in each such period in which the retry count never is 0.
-pub period-loses : (period turns : ℕ) (e o : EndRun) → TwoEnds period turns e o → Counts turns e o → (s : ℕ) → s + period ≤ turns
+pub period-loses : {period turns : ℕ} {e o : EndRun} → TwoEnds period turns e o → Counts turns e o → (s : ℕ) → s + period ≤ turns
     → e.made s ≡ true
     → StayConnected e s (s + period) → StayConnected o s (s + period) → ((v : ℕ) → s < v → v < s + period → e.count v ≡ 0 → ⊥)
     → LostIn e o (s + 1) (period - 1)
-period-loses period turns e o k c s within m ce co none = elim (lost-or-none e o (s + 1) (period - 1)) [
+period-loses {period} {turns} {e} {o} k c s within m ce co none = elim (lost-or-none e o (s + 1) (period - 1)) [
   | inl x ↦ x
-  | inr h ↦ (let v = period-cleared period turns e o k c s within m ce co h in absurd (none v.0 v.1 v.2 v.3))
+  | inr h ↦ (let v = period-cleared k c s within m ce co h in absurd (none v.0 v.1 v.2 v.3))
 ]

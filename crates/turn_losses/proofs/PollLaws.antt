@@ -36,8 +36,8 @@ two-ends w role = record {
     sum Answerer = let p = w.keeps.period_is in omega (arith, p)
 
 -- the same seen from the other end
-pub turned : (period turns : ℕ) (e o : EndRun) → TwoEnds period turns e o → TwoEnds period turns o e
-turned period turns e o k = record {
+pub turned : {period turns : ℕ} {e o : EndRun} → TwoEnds period turns e o → TwoEnds period turns o e
+turned {period} {turns} {e} {o} k = record {
   own = k.other;
   other = k.own;
   hears = k.is_heard;
@@ -49,69 +49,68 @@ turned period turns e o k = record {
   period_is = let p = k.period_is in omega (arith, p);
 }
 
-own-polls : (period turns : ℕ) (e o : EndRun) → TwoEnds period turns e o
+own-polls : {period turns : ℕ} {e o : EndRun} → TwoEnds period turns e o
     → Polls period turns (λ t. poll_due (e.account t)) e.made (sends_poll e) (hears_poll e)
-own-polls period turns e o k =
+own-polls {period} {turns} {e} {o} k =
     are-polls period turns e.role e.account (hears_poll e) (hears_final e) e.made e.count (λ t. e.slot t) k.own_first k.own
 
-heard-sent : (period turns : ℕ) (e o : EndRun) → TwoEnds period turns e o → WasSent o.delay turns (hears_poll e) (sends_poll o)
-heard-sent period turns e o k = was-sent o.delay turns is_poll o.slot e.heard e.loses k.hears
+heard-sent : {period turns : ℕ} {e o : EndRun} → TwoEnds period turns e o → WasSent o.delay turns (hears_poll e) (sends_poll o)
+heard-sent {period} {turns} {e} {o} k = was-sent is_poll k.hears
 
 -- Polls due at one end became due at least a period apart.
-pub due-apart : (period turns : ℕ) (e o : EndRun) → TwoEnds period turns e o → (s t : ℕ) → s < t → t < turns → e.made s ≡ true
+pub due-apart : {period turns : ℕ} {e o : EndRun} → TwoEnds period turns e o → (s t : ℕ) → s < t → t < turns → e.made s ≡ true
     → e.made t ≡ true → s + period ≤ t
-due-apart period turns e o k = (own-polls period turns e o k).apart
+due-apart {period} {turns} {e} {o} k = (own-polls k).apart
 
 -- A response with F = 1 is sent only where a poll is heard, and where one is heard at an end that is Connected and stays so, in that very
 -- turn.
-pub reply-from : (period turns : ℕ) (e o : EndRun) → TwoEnds period turns e o → (t : ℕ) → t < turns → sends_final e t ≡ true
+pub reply-from : {period turns : ℕ} {e o : EndRun} → TwoEnds period turns e o → (t : ℕ) → t < turns → sends_final e t ≡ true
     → hears_poll e t ≡ true
-reply-from period turns e o k t l = (k.own t l).replied
+reply-from {period} {turns} {e} {o} k t l = (k.own t l).replied
 
-pub reply-at-once : (period turns : ℕ) (e o : EndRun) → TwoEnds period turns e o → (t : ℕ) → t < turns → hears_poll e t ≡ true
+pub reply-at-once : {period turns : ℕ} {e o : EndRun} → TwoEnds period turns e o → (t : ℕ) → t < turns → hears_poll e t ≡ true
     → is_connected (e.account t).phase ≡ true → is_connected (e.account (t + 1)).phase ≡ true → sends_final e t ≡ true
-reply-at-once period turns e o k t l = (k.own t l).replies
+reply-at-once {period} {turns} {e} {o} k t l = (k.own t l).replies
 
 -- A poll that is still due between turns became due in the last one, and a poll of the other end was heard in it.
-pub poll-fresh : (period turns : ℕ) (e o : EndRun) → TwoEnds period turns e o → Fresh turns (λ t. poll_due (e.account t)) e.made
-poll-fresh period turns e o k =
+pub poll-fresh : {period turns : ℕ} {e o : EndRun} → TwoEnds period turns e o → Fresh turns (λ t. poll_due (e.account t)) e.made
+poll-fresh {period} {turns} {e} {o} k =
     let p = k.period_is in
     (polls-fresh period e.delay o.delay turns (λ t. poll_due (e.account t)) e.made (sends_poll e) (hears_poll e)
     (λ t. poll_due (o.account t)) o.made (sends_poll o) (hears_poll o) (omega (arith, p)) k.own_delay k.other_delay
-    (own-polls period turns e o k) (own-polls period turns o e (turned period turns e o k)) (heard-sent period turns e o k)
-    (heard-sent period turns o e (turned period turns e o k))).0
+    (own-polls k) (own-polls (turned k)) (heard-sent k) (heard-sent (turned k))).0
 
-pub poll-held-up : (period turns : ℕ) (e o : EndRun) → TwoEnds period turns e o → (t : ℕ) → t < turns → poll_due (e.account (t + 1)) ≡ true
+pub poll-held-up : {period turns : ℕ} {e o : EndRun} → TwoEnds period turns e o → (t : ℕ) → t < turns → poll_due (e.account (t + 1)) ≡ true
     → hears_poll e t ≡ true
-poll-held-up period turns e o k t l = (k.own t l).held_up
+poll-held-up {period} {turns} {e} {o} k t l = (k.own t l).held_up
 
 -- Polls are sent at least a period less one turn apart.
-pub polls-apart : (period turns : ℕ) (e o : EndRun) → TwoEnds period turns e o → (s t : ℕ) → s < t → t < turns → sends_poll e s ≡ true
+pub polls-apart : {period turns : ℕ} {e o : EndRun} → TwoEnds period turns e o → (s t : ℕ) → s < t → t < turns → sends_poll e s ≡ true
     → sends_poll e t ≡ true → s + period ≤ t + 1
-polls-apart period turns e o k =
-    sent-apart period turns (λ t. poll_due (e.account t)) e.made (sends_poll e) (hears_poll e) (own-polls period turns e o k)
-    (poll-fresh period turns e o k)
+polls-apart {period} {turns} {e} {o} k =
+    sent-apart period turns (λ t. poll_due (e.account t)) e.made (sends_poll e) (hears_poll e) (own-polls k)
+    (poll-fresh k)
 
 -- A poll that became due goes in that turn or in the next one.
-pub poll-soon : (period turns : ℕ) (e o : EndRun) → TwoEnds period turns e o → (t : ℕ) → t < turns → sends_poll e t ≡ true
+pub poll-soon : {period turns : ℕ} {e o : EndRun} → TwoEnds period turns e o → (t : ℕ) → t < turns → sends_poll e t ≡ true
     → (e.made t ≡ true) ⊎ ((s : ℕ) × (t ≡ s + 1) × (e.made s ≡ true) × (poll_due (e.account t) ≡ true))
-poll-soon period turns e o k =
-    sent-soon period turns (λ t. poll_due (e.account t)) e.made (sends_poll e) (hears_poll e) (own-polls period turns e o k)
-    (poll-fresh period turns e o k)
+poll-soon {period} {turns} {e} {o} k =
+    sent-soon period turns (λ t. poll_due (e.account t)) e.made (sends_poll e) (hears_poll e) (own-polls k)
+    (poll-fresh k)
 
-pub reply-matches : (period turns : ℕ) (e o : EndRun) → TwoEnds period turns e o → (t : ℕ) → t < turns → hears_final e t ≡ true
+pub reply-matches : {period turns : ℕ} {e o : EndRun} → TwoEnds period turns e o → (t : ℕ) → t < turns → hears_final e t ≡ true
     → Answers t e o
-reply-matches period turns e o k t within h = elim (poll-soon period turns e o k sent (omega (arith, within)) asked.1) [
+reply-matches {period} {turns} {e} {o} k t within h = elim (poll-soon k sent (omega (arith, within)) asked.1) [
   | inl m ↦ answers sent (omega arith) (omega arith) m
   | inr z ↦ answers z.0 (omega (arith, z.1)) (omega (arith, z.1)) z.2
 ]
   where
     replied : (o.delay ≤ t) × (sends_final o (t - o.delay) ≡ true)
-    replied = was-sent o.delay turns is_final o.slot e.heard e.loses k.hears t within h
+    replied = was-sent is_final k.hears t within h
 
     asked : (e.delay ≤ t - o.delay) × (sends_poll e (t - o.delay - e.delay) ≡ true)
-    asked = heard-sent period turns o e (turned period turns e o k) (t - o.delay) (omega (arith, within))
-        (reply-from period turns o e (turned period turns e o k) (t - o.delay) (omega (arith, within)) replied.1)
+    asked = heard-sent (turned k) (t - o.delay) (omega (arith, within))
+        (reply-from (turned k) (t - o.delay) (omega (arith, within)) replied.1)
 
     sent : ℕ
     sent = t - o.delay - e.delay
@@ -128,6 +127,6 @@ reply-matches period turns e o k t within h = elim (poll-soon period turns e o k
       due_before = before;
       due_soon = soon;
       made = made;
-      none_since = λ x l m n. let far = due-apart period turns e o k due x l (omega (arith, m, within)) made n in let p = k.period_is in
+      none_since = λ x l m n. let far = due-apart k due x l (omega (arith, m, within)) made n in let p = k.period_is in
           omega (arith, far, m, soon, back, p);
     }

@@ -14,15 +14,15 @@ abbrev pub AllConnected : EndRun → ℕ → ℕ → Type 0
 AllConnected e s n = (t : ℕ) → s < t → t ≤ s + n → is_connected (e.account t).phase ≡ true
 
 -- each BRKACK that goes was asked for
-acks-few : (period turns : ℕ) (e o : EndRun) (d d' : ℕ → Deeds) → TwoEnds period turns e o → Breaking period turns e d
+acks-few : {period turns : ℕ} {e o : EndRun} {d d' : ℕ → Deeds} → TwoEnds period turns e o → Breaking period turns e d
     → Breaking period turns o d' → brk_due (o.account 0) ≡ false → (s n : ℕ) → n ≤ 16 → s + n ≤ turns → AllConnected e s n
     → hits (λ t. (d t).acks) s n ≤ 4
-acks-few period turns e o d d' k h h' first s n l w c =
+acks-few {period} {turns} {e} {o} {d} {d'} k h h' first s n l w c =
     let made = at-most-made (λ t. (d t).acks) (λ t. ack_due (e.account t)) (λ t. of_arrived (of_word any_brk) (e.heard t)) s n
     (λ t a b. let x = h.turn t (omega (arith, b, w)) (c (t + 1) (omega (arith, a)) (omega (arith, b))) in
     sum-at-most (ack_due (e.account (t + 1))) (d t).acks (ack_due (e.account t)) (of_arrived (of_word any_brk) (e.heard t))
     (λ q. either (x.ack_from q)) (λ q. (x.acked q, unasked t (x.ack_from) q))) in
-    let three = brks-heard period turns e o d' k h' first s n l w in
+    let three = brks-heard k h' first s n l w in
     omega (arith, made, three)
   where
     either : {A B C : Type 0} → (A × C) ⊎ (B × C) → A ⊎ B
@@ -59,12 +59,12 @@ abbrev AckDue : EndRun → ℕ → ℕ → ℕ → Type 0
 AckDue e number x n = (t : ℕ) → x ≤ t → t < x + n → ack_due_of number (e.account (t + 1)) ≡ true
 
 -- A BRK that is due goes within fourteen turns, while its break waits.
-pub brk-goes : (period turns : ℕ) (e o : EndRun) (d d' : ℕ → Deeds) → TwoEnds period turns e o → Breaking period turns e d
+pub brk-goes : {period turns : ℕ} {e o : EndRun} {d d' : ℕ → Deeds} → TwoEnds period turns e o → Breaking period turns e d
     → Breaking period turns o d' → brk_due (o.account 0) ≡ false → (s : ℕ) → s + 14 ≤ turns → AllConnected e s 14
     → ((t : ℕ) → s < t → t ≤ s + 14 → waits (e.account t).own_breaks ≡ true) → NoAnswers d s 14
     → (brk_due (e.account s) ≡ true) ⊎ ((d s).made ≡ true)
     → (y : ℕ) × (s ≤ y) × (y < s + 14) × (of_frame (of_word (brk_of (number_of (e.account (y + 1))))) (e.slot y) ≡ true)
-brk-goes period turns e o d d' k h h' first s within c ws na due = elim (so-far 14 (omega arith)) [
+brk-goes {period} {turns} {e} {o} {d} {d'} k h h' first s within c ws na due = elim (so-far 14 (omega arith)) [
   | inl x ↦ x
   | inr all ↦ absurd (none-held all)
 ]
@@ -76,10 +76,10 @@ brk-goes period turns e o d d' k h h' first s within c ws na due = elim (so-far 
     none-held all =
         let held = all-held (sends_final e) (sends_poll e) (λ t. (d t).hurries) (λ t. (d t).acks) (λ t. was_special (e.account t))
         (λ t. (d t).answers) s 14 (λ t a b. (turn t a b).held (all t a b)) in
-        let one = once (sends_final e) (period - 1) turns (replies-apart period turns e o k) s 14 (omega (arith, k.period_is)) within in
-        let one' = once (sends_poll e) (period - 1) turns (polls-far period turns e o k) s 14 (omega (arith, k.period_is)) within in
-        let two = hurries-twice period turns e o d k h s 14 (omega (arith, k.period_is)) within c in
-        let four = acks-few period turns e o d d' k h h' first s 14 (omega arith) within c in
+        let one = once (sends_final e) (period - 1) turns (replies-apart k) s 14 (omega (arith, k.period_is)) within in
+        let one' = once (sends_poll e) (period - 1) turns (polls-far k) s 14 (omega (arith, k.period_is)) within in
+        let two = hurries-twice k h s 14 (omega (arith, k.period_is)) within c in
+        let four = acks-few k h h' first s 14 (omega arith) within c in
         let five = after-acks (λ t. was_special (e.account t)) (λ t. (d t).acks) s 14
         (λ t a b q. (turn t a (omega (arith, b))).special_own q (all t a (omega (arith, b)))) in
         let zero-answers = no-hits (λ t. (d t).answers) s 14 na in
@@ -114,13 +114,13 @@ brk-goes period turns e o d d' k h h' first s within c ws na due = elim (so-far 
         count (suc m) g = step m g (count m (omega (arith, g)))
 
 -- A BRK that is heard is answered within six turns, where no BRK of another number is heard in them.
-pub ack-goes : (period turns : ℕ) (e o : EndRun) (d : ℕ → Deeds) → TwoEnds period turns e o → Breaking period turns e d → (x number : ℕ)
+pub ack-goes : {period turns : ℕ} {e o : EndRun} {d : ℕ → Deeds} → TwoEnds period turns e o → Breaking period turns e d → (x number : ℕ)
     → number < 2 → x + 6 ≤ turns → is_connected (e.account x).phase ≡ true → AllConnected e x 6
     → ((t : ℕ) → x ≤ t → t < x + 6 → of_arrived (of_word any_brk) (e.heard t) ≡ true
     → of_arrived (of_word (brk_of number)) (e.heard t) ≡ true) → NoAnswers d x 6
     → of_arrived (of_word (brk_of number)) (e.heard x) ≡ true
     → (z : ℕ) × (x ≤ z) × (z < x + 6) × (of_frame (of_word (ack_of number)) (e.slot z) ≡ true)
-ack-goes period turns e o d k h x number small within cx c same na asks = elim (so-far 6 (omega arith)) [
+ack-goes {period} {turns} {e} {o} {d} k h x number small within cx c same na asks = elim (so-far 6 (omega arith)) [
   | inl y ↦ y
   | inr all ↦ absurd (none-held all)
 ]
@@ -151,9 +151,9 @@ ack-goes period turns e o d k h x number small within cx c same na asks = elim (
     none-held all =
         let held = all-held (sends_final e) (sends_poll e) (λ t. (d t).hurries) (λ t. (d t).acks) (λ t. was_special (e.account t))
         (λ t. (d t).answers) x 6 (λ t a b. (turn t a b).held_ack (any-due (e.account (t + 1)) (all t a b))) in
-        let one = once (sends_final e) (period - 1) turns (λ s t. replies-apart period turns e o k s t) x 6 (omega (arith, p)) within in
-        let one' = once (sends_poll e) (period - 1) turns (λ s t. polls-far period turns e o k s t) x 6 (omega (arith, p)) within in
-        let two = hurries-twice period turns e o d k h x 6 (omega (arith, p)) within c in
+        let one = once (sends_final e) (period - 1) turns (λ s t. replies-apart k s t) x 6 (omega (arith, p)) within in
+        let one' = once (sends_poll e) (period - 1) turns (λ s t. polls-far k s t) x 6 (omega (arith, p)) within in
+        let two = hurries-twice k h x 6 (omega (arith, p)) within c in
         let none = no-hits (λ t. (d t).acks) x 6 (λ t a b. unsent ((turn t a b).ack_from (any-due (e.account (t + 1)) (all t a b)))) in
         let five = after-acks (λ t. was_special (e.account t)) (λ t. (d t).acks) x 6
         (λ t a b q. absurd ((turn t a (omega (arith, b))).special_ack q (any-due (e.account (t + 1)) (all t a (omega (arith, b))))))

@@ -92,7 +92,7 @@ unlinked-loses reads w may t cs mid hearing s n q answ un later = sabme (is_lost
     est u a b = only-establishing (w.state u).orig.phase (begun-established w u (omega (arith, b, within))
         (connected-begun (w.state u).answ.phase (answ u a b)))
         (not-true (is_linked (w.state u).orig.phase)
-        (λ f. clash (is_linked (w.state (s + w.period)).orig.phase) (linked-on w.period turns o e k u (s + w.period) b within f) un))
+        (λ f. clash (is_linked (w.state (s + w.period)).orig.phase) (linked-on k u (s + w.period) b within f) un))
 
     x : ℕ
     x = s + w.period - (o.delay + e.delay)
@@ -164,8 +164,7 @@ unlinked-loses reads w may t cs mid hearing s n q answ un later = sabme (is_lost
     sabme false f = ua (cases_lt v turns)
       where
         answered : of_frame (moves_on Establishing) (e.slot u) ≡ true
-        answered = answers-so reads w may Establishing refl u u-in u-phase
-            (is-heard o.delay turns (asks Establishing) o.slot e.heard e.loses k.is_heard i.set u-in f ∙ i.sends)
+        answered = answers-so reads w may Establishing refl u u-in u-phase (is-heard (asks Establishing) k.is_heard i.set u-in f ∙ i.sends)
 
         ua : (v < turns) ⊎ (turns ≤ v) → Loses w t n
         ua (inl l) = on (is_lost (w.deed v).turn.orig.heard) refl
@@ -180,7 +179,7 @@ unlinked-loses reads w may t cs mid hearing s n q answ un later = sabme (is_lost
             on : (b : Bool) → is_lost (w.deed v).turn.orig.heard ≡ b → Loses w t n
             on true g = loses v (omega (arith, u-low)) u-high (at v l Originator g)
             on false g = absurd (stops (o.heard v) (o.mid v) (end-turn w Originator v l).in_turn.hears
-                (is-heard e.delay turns (moves_on Establishing) e.slot o.heard o.loses k.hears u l g ∙ answered) unlinked)
+                (is-heard (moves_on Establishing) k.hears u l g ∙ answered) unlinked)
         ua (inr g) = on (is_lost t.orig.heard) refl
           where
             v-is : v ≡ turns
@@ -215,8 +214,7 @@ one-joins w mid n m less a b =
     let low : b.start + w.period ≤ a.start = omega (arith, x, y, more, two, one) in
     let inside : b.start + w.period < length w.ts = omega (arith, low, x, one, p) in
     clash (is_linked (w.state (a.start + 1)).orig.phase)
-    (linked-on w.period (length w.ts) (end_of w Originator) (end_of w Answerer) k (b.start + w.period + 1) (a.start + 1)
-    (omega (arith, low))
+    (linked-on k (b.start + w.period + 1) (a.start + 1) (omega (arith, low))
     (omega (arith, x, one, p)) ((end-turn w Originator (b.start + w.period) inside).linked
     ∙ (ap (λ (c : Account). is_linked c.phase) (sym (heard-early w mid (b.start + w.period) inside)) ∙ b.after))) a.before
   where
@@ -283,7 +281,7 @@ answerer-breaks reads w may t mid cs hearing going cm l waiting = elim (all-or-o
                 (number_of (w.state turns).answ) s n (number-small (w.state turns).answ.own_breaks.answered) q bp
                 (λ u a b. let x = bp.stays u a b in peer-connected reads w may
                 u (omega (arith, b, within)) (open-at u (omega (arith, b, within)))
-                (linked-on w.period turns o e k (s + 1) u (omega (arith, a)) (omega (arith, b, within)) f) x.connected x.waiting)
+                (linked-on k (s + 1) u (omega (arith, a)) (omega (arith, b, within)) f) x.connected x.waiting)
                 (λ u a b g. no-sabme-heard reads w may s (omega (arith, within, k.period_is)) f u a (omega (arith, b, within)) g)
                 (λ g h. none-last w.link w.ts w.ends t mid Answerer w.tries w.period hearing cm l waiting
                 (ap (λ (x : Accounts). of_arrived (of_word (ack_of (number_of x.answ))) (arrival t.answ.heard)) (sym w.last) ∙ h))))

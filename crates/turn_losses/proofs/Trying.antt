@@ -266,12 +266,12 @@ unanswered-loses reads w m p t s within x = go (lost-or-none e o (s + 1) (w.peri
     go (inr none) =
         let v : ℕ = s + e.delay in
         let y : ℕ = v + o.delay in
-        let reaches : of_arrived (asks p) (o.heard v) ≡ true = is-heard e.delay (length w.ts) (asks p) e.slot o.heard o.loses k.is_heard s
+        let reaches : of_arrived (asks p) (o.heard v) ≡ true = is-heard (asks p) k.is_heard s
         (omega (arith, within, per)) (none v (omega (arith, d)) (omega (arith, per))).1 ∙ x.asked in
         let answered : of_frame (moves_on p) (o.slot v) ≡ true = answers-so reads w m p t v
         (omega (arith, within, per)) (x.ran v (omega (arith, d)) (omega (arith, per))) reaches in
-        let hears : of_arrived (moves_on p) (e.heard y) ≡ true = is-heard o.delay (length w.ts)
-        (moves_on p) o.slot e.heard e.loses k.hears v (omega (arith, within, per)) (none y (omega (arith, d)) (omega (arith, per))).0
+        let hears : of_arrived (moves_on p) (e.heard y) ≡ true = is-heard (moves_on p) k.hears v (omega (arith, within, per))
+        (none y (omega (arith, d)) (omega (arith, per))).0
         ∙ answered in
         let wrong : true ≡ false = sym hears ∙ (x.stayed y (omega (arith, d)) (omega (arith, per))).0 in
         cc

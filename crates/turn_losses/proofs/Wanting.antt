@@ -127,7 +127,7 @@ pub wants-answers : (w : TimedRun) → (role : Role) → Counts (length w.ts) (e
     → ((s u : ℕ) → s < length w.ts → s ≤ u → u ≤ length w.ts → (w.deed s).made role ≡ true → is_connected (of role (w.state s)).phase ≡ true
     → is_connected (of role (w.state u)).phase ≡ true → is_connected (of (other role) (w.state u)).phase ≡ true)
     → LosesEach w.period w.tries (length w.ts) w.ts
-wants-answers w role c l both n less = lost-at (expiries w.period turns e o k c w.tries l.set l.connected l.count l.runs l.now n less)
+wants-answers w role c l both n less = lost-at (expiries k c w.tries l.set l.connected l.count l.runs l.now n less)
   where
     turns : ℕ
     turns = length w.ts
@@ -148,5 +148,5 @@ wants-answers w role c l both n less = lost-at (expiries w.period turns e o k c 
     lost-at (s, q, x) =
         let same = once w.period n in
         let end : s + w.period ≤ turns = omega (arith, q, same) in
-        loses-of w role s n long q (period-loses w.period turns e o k c s end x.made x.on
+        loses-of w role s n long q (period-loses k c s end x.made x.on
         (λ u a b. both s u (omega (arith, end, long)) a (omega (arith, b, end)) x.made x.connected (x.on u a b)) x.uncleared)
