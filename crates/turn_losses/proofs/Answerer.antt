@@ -1,5 +1,5 @@
 -- A Connected answerer that gives up was starved.
-use Rattle.std.proofs.Common.{inl, inr, ◌≡◌, ℕ, ◌<◌, ◌≤◌, Bool, true, false, length, arith, refl, sym, ◌∙◌, ap, subst, Some, None}
+use Rattle.std.proofs.Common.{inl, inr, ◌≡◌, ℕ, ◌<◌, ◌≤◌, true, false, length, arith, refl, sym, ◌∙◌, ap, subst, Some, None}
 use Rattle.link_account.proofs.Names.{Originator, Answerer, is_connected, Account, MayPlay}
 use Rattle.link_run.proofs.Names.{Phase, Connected, is_released, Accounts, Turn, Hears, arrival}
 use Rattle.turn_losses.specs.Losses.{AnswererWantsAnswers}
@@ -11,8 +11,8 @@ use Rattle.turn_losses.proofs.PollLaws.{two-ends}
 use Rattle.turn_losses.proofs.PeriodLaws.{connected-since}
 use Rattle.turn_losses.proofs.Numbered.{numbered-linked}
 use Rattle.turn_losses.proofs.Starving.{all-but-one}
-use Rattle.turn_losses.proofs.Names.{Rates, rates, LosesEach, of_arrived, is_poll, is_linked, TimedRun, end_of, Stands}
-use Rattle.turn_losses.proofs.Truths.{clash}
+use Rattle.turn_losses.proofs.Names.{Rates, rates, LosesEach, of_arrived, is_poll, is_linked, TimedRun, Stands}
+use Rattle.turn_losses.proofs.Truths.{clash, is-true}
 use Rattle.turn_losses.proofs.EndTurn.{end-turn, last-turn}
 use Rattle.turn_losses.proofs.Clocks.{last}
 
@@ -22,11 +22,8 @@ only-connected p l r = cc
 
 clocked : (z : Rates) (turn : ℕ) (a : Account) → Stands z turn turn Answerer a.phase a → is_connected a.phase ≡ true → (s : ℕ)
     → a.wait.timer ≡ Some s → a.numbered ≡ true
-clocked z turn a st c s q = by a.numbered refl
-  where
-    by : (b : Bool) → a.numbered ≡ b → a.numbered ≡ true
-    by true n = n
-    by false n = let wrong : None ≡ Some s = sym (silent-of z turn turn Answerer a.phase a st refl c n) ∙ q in cc
+clocked z turn a st c s q = is-true a.numbered
+    (λ n. let wrong : None ≡ Some s = sym (silent-of z turn turn Answerer a.phase a st refl c n) ∙ q in cc)
 
 -- its clock runs once it heard a number, so its peer is Connected or was
 pub peer-linked : (w : TimedRun) → (u : ℕ) → (l : u < length w.ts) → is_connected (w.state u).answ.phase ≡ true → (s : ℕ)

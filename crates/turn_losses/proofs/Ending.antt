@@ -1,6 +1,6 @@
 -- An end that gives up while a break waits was starved.
 use Rattle.std.proofs.Common.{◌≡◌, ℕ, ◌+◌, ◌-◌, ◌*◌, ◌%◌, ◌<◌, true, false, List, ◌∷◌, length, arith, refl, sym, ◌∙◌, ap, subst}
-use Rattle.link_account.proofs.Names.{Role, Originator, Answerer, of, ReadsWritten, waits, is_connected, MayPlay}
+use Rattle.link_account.proofs.Names.{Role, Originator, Answerer, of, waits, is_connected, Account}
 use Rattle.link_run.proofs.Names.{is_released, Link, Accounts, Turn, Hears, arrival, served_at, Carries}
 use Rattle.turn_losses.proofs.Periods.{once}
 use Rattle.turn_losses.proofs.Truths.{clash}
@@ -16,6 +16,7 @@ use Rattle.turn_losses.proofs.Spending.{LastWait}
 use Rattle.turn_losses.proofs.Names.{StandTogether, of_arrived, PeriodLoses, LosesEach, TwoEnds, TimedRun, end_of}
 use Rattle.turn_losses.proofs.Words.{ack_of, of_word}
 use Rattle.turn_losses.proofs.Starving.{peer-connected-at}
+use Rattle.turn_losses.proofs.EndTurn.{starts-fresh}
 
 -- the periods of the break that waits at the end
 pub periods-of : (w : TimedRun) → (r : Role) → LastWait w.tries w.period (length w.ts) (of r (w.state (length w.ts))) → (n : ℕ)
@@ -26,8 +27,7 @@ periods-of w r l n less = break-periods (breaking w r) (first r) w.tries (number
     (omega (arith, less))
   where
     first : (r : Role) → is_connected (of r (w.state 0)).phase ≡ false
-    first Originator = ap (λ (y : Accounts). is_connected y.orig.phase) w.trace.starts
-    first Answerer = ap (λ (y : Accounts). is_connected y.answ.phase) w.trace.starts
+    first r = ap (λ (a : Account). is_connected a.phase) (starts-fresh w r)
 
 pub number-small : (x : ℕ) → x % 2 < 2
 number-small x = omega arith
@@ -43,12 +43,11 @@ none-last link ts before t mid r tries period hearing cm l w e =
     (of r mid) l.connected cm l.waiting l.high (hearing r).hears e)
 
 -- an originator
-pub originator-breaks : ReadsWritten → StandTogether → (w : TimedRun) → MayPlay w.link.orig.setup w.link.answ.setup → (t : Turn)
-    (mid : Accounts) → Carries w.delay w.ts t → Hears (length w.ts) w.ends t mid → is_connected mid.orig.phase ≡ true
+pub originator-breaks : StandTogether → (w : TimedRun) (t : Turn) (mid : Accounts) → Carries w.delay w.ts t → Hears (length w.ts) w.ends t mid → is_connected mid.orig.phase ≡ true
     → LastWait w.tries w.period (length w.ts) w.ends.orig
     → waits (served_at w.link (length w.ts) mid Originator).account.own_breaks ≡ true
     → LosesEach w.period (w.tries + 1) (length w.ts) (t ∷ w.ts)
-originator-breaks reads together w may t mid cs hearing cm l waiting n less = go (periods-of w Originator last n less)
+originator-breaks together w t mid cs hearing cm l waiting n less = go (periods-of w Originator last n less)
   where
     turns : ℕ
     turns = length w.ts
@@ -63,7 +62,7 @@ originator-breaks reads together w may t mid cs hearing cm l waiting n less = go
         (end_of w Originator) (deeds-of w Originator) s → PeriodLoses w.period turns (t ∷ w.ts) n
     go (s, q, bp) =
         let m = once w.period n in
-        connected-loses reads w may t cs Originator
+        connected-loses w t cs Originator
         (number_of (w.state turns).orig) s n (number-small (w.state turns).orig.own_breaks.answered) q bp
         (λ u a b. peer-connected-at together w u (omega (arith, b, q, m)) (bp.stays u a b).connected)
         (λ u a b f. let c = was-sent is_sabme k.hears u (omega (arith, b, q, m)) f in

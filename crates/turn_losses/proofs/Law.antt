@@ -74,7 +74,7 @@ gives-up-starved laws tries period delay link ts before t mid role fault kt run 
         orig cm w (inl s) = all-but-one tries period delay t ts
             (originator-each laws.plays laws.together whole run.may_play (try-of Originator cm s))
         orig cm w (inr s) =
-            let each = originator-breaks laws.reads laws.together whole run.may_play t mid cs broken.hearing cm
+            let each = originator-breaks laws.together whole t mid cs broken.hearing cm
             (wait-of Originator cm s) w in
             record { spared = tries + 1; each = λ n few other. of-period period delay t ts n (each n (omega (arith, few))) }
 

@@ -1,8 +1,7 @@
 -- What is lost in each period of a waiting break, while the other end is Connected.
 use Rattle.std.proofs.Common.{◌⊎◌, inl, inr, ◌≡◌, ℕ, ◌+◌, ◌-◌, ◌*◌, ◌<◌, ◌≤◌, Bool, true, false, ◌∷◌, length, arith, refl, sym, ◌∙◌, ap, Ok}
-use Rattle.link_account.proofs.Names.{cases_lt, nat_tests, Role, Originator, Answerer, other, of, ReadsWritten, waits, Arrived, Account}
-use Rattle.link_account.proofs.Names.{is_connected, MayPlay, hear}
-use Rattle.link_run.proofs.Names.{User, is_busy, Accounts, Turn, arrival, Carries}
+use Rattle.link_account.proofs.Names.{cases_lt, nat_tests, Role, other, of, waits, Arrived, Account, is_connected, hear}
+use Rattle.link_run.proofs.Names.{User, is_busy, Turn, arrival, Carries}
 use Rattle.turn_losses.proofs.Truths.{clash, not-true}
 use Rattle.turn_losses.proofs.Periods.{once, loses-at, loses-last}
 use Rattle.turn_losses.proofs.LineLaw.{is-heard, was-sent, last-heard}
@@ -19,6 +18,7 @@ use Rattle.turn_losses.proofs.Quiet.{answers-sabme, sends-sabme-so}
 use Rattle.turn_losses.proofs.Names.{of_frame, of_arrived, serves-all, served_account, is_lost, PeriodLoses, EndRun, TwoEnds, TimedRun}
 use Rattle.turn_losses.proofs.Names.{end_of}
 use Rattle.turn_losses.proofs.Words.{ack_of, of_word}
+use Rattle.turn_losses.proofs.EndTurn.{starts-fresh}
 
 -- the answer in the last turn ends the wait
 pub last-ends : (user : User) (turn : ℕ) (released : Bool) (arrived : Arrived) (a mid : Account) → is_connected a.phase ≡ true
@@ -49,14 +49,13 @@ last-ends user turn released arrived a mid ca cm w high h e = by s.taken refl
     by false q = ap waits (s.no q) ∙ none
 
 -- A period of a waiting break loses something, while the other end is Connected in it.
-pub connected-loses : ReadsWritten → (w : TimedRun) → MayPlay w.link.orig.setup w.link.answ.setup → (t : Turn) → Carries w.delay w.ts t
-    → (r : Role) → (number s n : ℕ) → number < 2 → s + (n + 1) * w.period ≡ length w.ts
+pub connected-loses : (w : TimedRun) (t : Turn) → Carries w.delay w.ts t → (r : Role) → (number s n : ℕ) → number < 2 → s + (n + 1) * w.period ≡ length w.ts
     → BreakPeriod w.period (length w.ts) number (end_of w r) (deeds-of w r) s
     → ((u : ℕ) → s < u → u ≤ s + w.period → is_connected (of (other r) (w.state u)).phase ≡ true)
     → ((u : ℕ) → s ≤ u → u < s + w.period → of_arrived is_sabme (arrival (of r (w.deed u).turn).heard) ≡ true → ⊥)
     → (s + w.period ≡ length w.ts → of_arrived (of_word (ack_of number)) (arrival (of r t).heard) ≡ true → ⊥)
     → PeriodLoses w.period (length w.ts) (t ∷ w.ts) n
-connected-loses reads w m t cs r number s n small q bp co na last-no = go (lost-or-none e o (s + 1) (w.period - 1))
+connected-loses w t cs r number s n small q bp co na last-no = go (lost-or-none e o (s + 1) (w.period - 1))
   where
     turns : ℕ
     turns = length w.ts
@@ -106,11 +105,7 @@ connected-loses reads w m t cs r number s n small q bp co na last-no = go (lost-
     go (inr none) = late (break-answered number k (breaking w r) (breaking w (other r)) first small s within bp co quiet quiet' none)
       where
         first : brk_due (o.account 0) ≡ false
-        first = start (other r)
-          where
-            start : (x : Role) → brk_due (of x (w.state 0)) ≡ false
-            start Originator = ap (λ (y : Accounts). brk_due y.orig) w.trace.starts
-            start Answerer = ap (λ (y : Accounts). brk_due y.answ) w.trace.starts
+        first = ap brk_due (starts-fresh w (other r))
 
         late : (z : ℕ) × (z + o.delay ≡ s + w.period) × (s < z) × (of_frame (of_word (ack_of number)) (o.slot z) ≡ true)
             → PeriodLoses w.period turns (t ∷ w.ts) n

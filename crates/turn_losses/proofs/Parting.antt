@@ -11,7 +11,7 @@ use Rattle.link_account.specs.Speak.{speak_detecting, speak_negotiating}
 use Rattle.link_run.specs.End.{is_ready}
 use Rattle.link_run.specs.Run.{BrokenTurn, finished_at, served_ends}
 use Rattle.link_run.specs.Starved.{SpanLoses, IsStarved}
-use Rattle.turn_losses.proofs.Truths.{and-two, clash}
+use Rattle.turn_losses.proofs.Truths.{and-two, clash, is-true}
 use Rattle.turn_losses.proofs.Periods.{once, later-loses, loses-at, loses-last, loses-of}
 use Rattle.turn_losses.specs.Losses.{AnswererWantsAnswers}
 use Rattle.turn_losses.proofs.PollHear.{linked-connected}
@@ -219,7 +219,8 @@ told-at reads w m (suc u) y q = subst (ToldIn w (end_of w Originator)) (next u)
     }
       where
         connected-mid : is_connected (o.mid u).phase ≡ true
-        connected-mid = by (is_connected (o.mid u).phase) refl
+        connected-mid = is-true (is_connected (o.mid u).phase)
+            (λ f. either (connected-or (o.mid u).phase (sym g.linked ∙ ap is_linked now) f))
           where
             either : ((o.mid u).phase ≡ Releasing) ⊎ ((o.mid u).phase ≡ Closed) → ⊥
             either (inl f) = elim (try-heard (o.heard u) u (o.account u) (o.mid u) i.role_is i.hears Releasing refl f) [
@@ -227,10 +228,6 @@ told-at reads w m (suc u) y q = subst (ToldIn w (end_of w Originator)) (next u)
               | inr z ↦ z.1 refl
             ]
             either (inr f) = clash (is_closed (o.mid u).phase) (ap is_closed f) (w.trace.happens u (omega (arith, y))).going
-
-            by : (x : Bool) → is_connected (o.mid u).phase ≡ x → is_connected (o.mid u).phase ≡ true
-            by true f = f
-            by false f = absurd (either (connected-or (o.mid u).phase (sym g.linked ∙ ap is_linked now) f))
 
         told : releases w.link u (w.deed u).mid ≡ true
         told = told-says u (releases w.link u (w.deed u).mid) (o.served u) g.said
@@ -371,24 +368,16 @@ parted-each laws reads w may t mid cs hearing cm om last n less = at-expiry
 
         arrives-at : (i.set + o.delay < turns) ⊎ (turns ≤ i.set + o.delay) → PeriodLoses w.period turns (t ∷ w.ts) n
         arrives-at (inl b) = loses-at w t s n q (i.set + o.delay) late in-time b Answerer
-            (lost-there (is_lost (w.deed (i.set + o.delay)).turn.answ.heard) refl)
-          where
-            lost-there : (x : Bool) → e.loses (i.set + o.delay) ≡ x → e.loses (i.set + o.delay) ≡ true
-            lost-there true f = f
-            lost-there false f = absurd (disc-closes w (i.set + o.delay) b (ce-late (i.set + o.delay) late (omega (arith, b)))
-                (ce-late (i.set + o.delay + 1) (omega (arith, late)) (omega (arith, b)))
-                (is-heard (asks Releasing) k.hears i.set b f ∙ i.sends))
+            (is-true (e.loses (i.set + o.delay)) (λ f. disc-closes w (i.set + o.delay) b (ce-late (i.set + o.delay) late (omega (arith, b)))
+            (ce-late (i.set + o.delay + 1) (omega (arith, late)) (omega (arith, b)))
+            (is-heard (asks Releasing) k.hears i.set b f ∙ i.sends)))
         arrives-at (inr b) = behind (omega (arith, in-time, within, b))
           where
             behind : i.set + o.delay ≡ turns → PeriodLoses w.period turns (t ∷ w.ts) n
             behind same = loses-last w.period t w.ts s n long q (omega (arith, within, same, in-time)) Answerer
-                (lost-now (is_lost t.answ.heard) refl)
-              where
-                lost-now : (x : Bool) → is_lost t.answ.heard ≡ x → is_lost t.answ.heard ≡ true
-                lost-now true f = f
-                lost-now false f = clash (is_connected mid.answ.phase) cm (disc-heard (arrival t.answ.heard) turns w.ends.answ mid.answ
-                    (last-turn w t mid hearing Answerer).role_is last.connected
-                    (last-heard (asks Releasing) w t cs Answerer i.set same f ∙ i.sends) (hearing Answerer).hears)
+                (is-true (is_lost t.answ.heard) (λ f. clash (is_connected mid.answ.phase) cm (disc-heard (arrival t.answ.heard) turns
+                w.ends.answ mid.answ (last-turn w t mid hearing Answerer).role_is last.connected
+                (last-heard (asks Releasing) w t cs Answerer i.set same f ∙ i.sends) (hearing Answerer).hears)))
 
     at-expiry : (s : ℕ) × (s + (n + 1) * w.period ≡ turns) × Uncleared w.period e s → PeriodLoses w.period turns (t ∷ w.ts) n
     at-expiry (s, q', un) = by (cases_lt (s + w.period) (v.turn + o.delay))

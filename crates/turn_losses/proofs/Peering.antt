@@ -4,7 +4,7 @@ use Rattle.link_account.proofs.Names.{Originator, Answerer, ReadsWritten, waits,
 use Rattle.link_run.proofs.Names.{Phase, Releasing, Closed, User, is_released, is_closed, served_at}
 use Rattle.turn_bound.proofs.MeetHear.{o-hears}
 use Rattle.turn_bound.proofs.Serving.{serves-first, before_asking}
-use Rattle.turn_losses.proofs.Truths.{clash}
+use Rattle.turn_losses.proofs.Truths.{clash, is-true}
 use Rattle.turn_losses.proofs.PollHear.{linked-connected}
 use Rattle.turn_losses.proofs.AnswerTurn.{connected-is}
 use Rattle.turn_losses.proofs.PollLaws.{two-ends}
@@ -79,7 +79,8 @@ not-closed arrived turn a mid r h n e = elim (try-heard arrived turn a mid r h R
 pub peer-connected : ReadsWritten → (w : TimedRun) → MayPlay w.link.orig.setup w.link.answ.setup → (u : ℕ) → u ≤ length w.ts
     → ((w.state u).orig.phase ≡ Closed → ⊥) → is_linked (w.state u).orig.phase ≡ true → is_connected (w.state u).answ.phase ≡ true
     → waits (w.state u).answ.own_breaks ≡ true → is_connected (w.state u).orig.phase ≡ true
-peer-connected reads w m u b open-so l c wt = by (is_connected (w.state u).orig.phase) refl
+peer-connected reads w m u b open-so l c wt = is-true (is_connected (w.state u).orig.phase)
+    (λ e. elim (connected-or (w.state u).orig.phase l e) [ inl q ↦ told q | inr q ↦ open-so q ])
   where
     told : (w.state u).orig.phase ≡ Releasing → ⊥
     told e =
@@ -88,7 +89,3 @@ peer-connected reads w m u b open-so l c wt = by (is_connected (w.state u).orig.
         let g = end-turn w Answerer v.turn (omega (arith, x, b)) in
         clash (waits (w.state u).answ.own_breaks) wt (unasked w v.turn (omega (arith, x, b)) v.told.breaks u x b v.since
         (g.linked ∙ linked-connected (w.deed v.turn).mid.answ.phase (ap is_connected (sym g.in_turn.served.phase) ∙ v.told.connected)) c)
-
-    by : (x : Bool) → is_connected (w.state u).orig.phase ≡ x → is_connected (w.state u).orig.phase ≡ true
-    by true e = e
-    by false e = elim (connected-or (w.state u).orig.phase l e) [ inl q ↦ absurd (told q) | inr q ↦ absurd (open-so q) ]

@@ -1,6 +1,6 @@
 use Rattle.std.proofs.Common.{◌⊎◌, inl, inr, ◌≡◌, ℕ, zero, suc, ◌+◌, ◌<◌, ◌≤◌, ◌&&◌, Bool, true, false, arith, refl, sym, ◌∙◌, ap, Some}
 use Rattle.std.proofs.Common.{length, ◌%◌, ◌-◌}
-use Rattle.link_account.proofs.Names.{cases_lt, Account, is_connected, Said, Role, other, of}
+use Rattle.link_account.proofs.Names.{cases_lt, Account, is_connected, Said, Role, of}
 use Rattle.link_run.proofs.Names.{served_at}
 use Rattle.turn_losses.proofs.Answered.{SendsSegment, AnswerTurn}
 use Rattle.turn_losses.proofs.KeepsPolls.{Answers, StillAwaited}

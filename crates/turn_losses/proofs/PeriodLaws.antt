@@ -6,7 +6,7 @@ use Rattle.turn_losses.proofs.PollLaws.{turned, due-apart, reply-at-once, poll-f
 use Rattle.turn_losses.proofs.Names.{is_poll, is_final, is_linked, poll_due, PollTurn, EndRun, TwoEnds, sends_poll, hears_poll, sends_final}
 use Rattle.turn_losses.proofs.Names.{hears_final}
 use Rattle.turn_losses.proofs.Follows.{kept-on}
-use Rattle.turn_losses.proofs.Truths.{clash, not-true}
+use Rattle.turn_losses.proofs.Truths.{clash, not-true, is-true}
 use Rattle.turn_losses.proofs.Clocks.{last}
 
 -- an end that was Connected stays so, or is told to release or Closed, for good
@@ -18,16 +18,13 @@ linked-on {period} {turns} {e} {o} k = kept-on turns (λ t. is_linked (e.account
 pub connected-since : {period turns : ℕ} {e o : EndRun} → TwoEnds period turns e o → (s t : ℕ) → t ≤ turns
     → is_linked (e.account s).phase ≡ true → is_connected (e.account t).phase ≡ true
     → (u : ℕ) → s ≤ u → u ≤ t → is_connected (e.account u).phase ≡ true
-connected-since {period} {turns} {e} {o} k s t within h c u low high = by (is_connected (e.account u).phase) refl
-  where
-    by : (x : Bool) → is_connected (e.account u).phase ≡ x → is_connected (e.account u).phase ≡ true
-    by true q = q
-    by false q = clash (is_connected (e.account t).phase) c
-        (kept-on turns (λ v. (is_linked (e.account v).phase ≡ true) × (is_connected (e.account v).phase ≡ false)) (λ v l x. (
-          (k.own v l).linked x.0,
-          not-true (is_connected (e.account (v + 1)).phase) (λ y. clash (is_connected (e.account v).phase) ((k.own v l).timer y x.0).0 x.1),
-        ))
-        u t high within (linked-on k s u low (omega (arith, high, within)) h, q)).1
+connected-since {period} {turns} {e} {o} k s t within h c u low high = is-true (is_connected (e.account u).phase)
+    (λ q. clash (is_connected (e.account t).phase) c
+    (kept-on turns (λ v. (is_linked (e.account v).phase ≡ true) × (is_connected (e.account v).phase ≡ false)) (λ v l x. (
+      (k.own v l).linked x.0,
+      not-true (is_connected (e.account (v + 1)).phase) (λ y. clash (is_connected (e.account v).phase) ((k.own v l).timer y x.0).0 x.1),
+    ))
+    u t high within (linked-on k s u low (omega (arith, high, within)) h, q)).1)
 
 -- The poll that a response with F = 1 answers is awaited from when it became due.
 pub awaits-on : {period turns : ℕ} {e o : EndRun} → TwoEnds period turns e o → (t : ℕ) → t < turns → is_connected (e.account t).phase ≡ true

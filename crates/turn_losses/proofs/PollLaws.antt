@@ -7,6 +7,7 @@ use Rattle.turn_losses.proofs.LineLaw.{arrives-late, was-sent, are-polls}
 use Rattle.turn_losses.proofs.PollsFresh.{polls-fresh, sent-soon, sent-apart}
 use Rattle.turn_losses.proofs.Names.{is_lost, sent_or, is_poll, is_final, poll_due, EndRun, ArrivesLate, TwoEnds, sends_poll, hears_poll}
 use Rattle.turn_losses.proofs.Names.{sends_final, hears_final, TimedRun, end_of}
+use Rattle.turn_losses.proofs.EndTurn.{starts-fresh}
 
 pub two-ends : (w : TimedRun) → (role : Role) → TwoEnds w.period (length w.ts) (end_of w role) (end_of w (other role))
 two-ends w role = record {
@@ -28,8 +29,7 @@ two-ends w role = record {
     heard Answerer = arrives-late w Originator
 
     none : (r : Role) → poll_due (of r (w.state 0)) ≡ false
-    none Originator = ap (λ s. poll_due s.orig) w.trace.starts
-    none Answerer = ap (λ s. poll_due s.answ) w.trace.starts
+    none r = ap poll_due (starts-fresh w r)
 
     sum : (r : Role) → w.period ≡ 2 * (w.delay r + w.delay (other r)) + 16
     sum Originator = w.keeps.period_is

@@ -128,7 +128,7 @@ unlinked-loses reads w may t cs mid hearing s n q answ un later = sabme (is_lost
 
     -- a loss in a turn of the span
     loses : (y : ℕ) → s < y + e.delay → y ≤ s + w.period → LosesSome (turn_at y (t ∷ w.ts)) → Loses w t n
-    loses y lo hi b = let m = once w.period n in let wide : e.delay ≤ max (w.delay Originator) (w.delay Answerer) = max-second _ _ in record {
+    loses y lo hi b = let m = once w.period n in let wide = max-second (w.delay Originator) (w.delay Answerer) in record {
       turn = y;
       within = omega (arith, hi, within);
       in_span = record { behind = omega (arith, lo, q, wide); before = omega (arith, hi, q, m) };
@@ -277,7 +277,7 @@ answerer-breaks reads w may t mid cs hearing going cm l waiting = elim (all-or-o
 
             by : (b : Bool) → is_linked (w.state (s + 1)).orig.phase ≡ b
                 → (c : Bool) → is_linked (heard_by w mid (s + w.period)).phase ≡ c → Loses w t n ⊎ Joins w mid n
-            by true f c g = inl (of-period w.period w.delay t w.ts n (connected-loses reads w may t cs Answerer
+            by true f c g = inl (of-period w.period w.delay t w.ts n (connected-loses w t cs Answerer
                 (number_of (w.state turns).answ) s n (number-small (w.state turns).answ.own_breaks.answered) q bp
                 (λ u a b. let x = bp.stays u a b in peer-connected reads w may
                 u (omega (arith, b, within)) (open-at u (omega (arith, b, within)))
