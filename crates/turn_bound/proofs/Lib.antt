@@ -37,8 +37,8 @@ mod Pausing
 mod Holding
 mod HeldTurn
 mod Polled
-mod CalmRuns
+pub mod CalmRuns
 mod Wholeness
 mod Advancing
 mod Counted
-mod Bounding
+pub mod Bounding

@@ -1,48 +1,31 @@
 -- An end in one turn of a run: it hears, and is served.
-use Rattle.std.proofs.Common.{◌≡◌, ℕ, ◌+◌, ◌*◌, ◌≤◌, List, length, map, arith, refl, sym, ◌∙◌, ap, subst, Ok}
+use Rattle.std.proofs.Common.{◌≡◌, ℕ, ◌+◌, ◌*◌, ◌≤◌, List, length, map, arith, ◌∙◌, ap, Ok}
 use Rattle.link_account.proofs.Names.{Role, Originator, Answerer, Arrived, Account, hear, of}
 use Rattle.link_run.proofs.Names.{Phase, is_busy, is_released, Link, Accounts, Turn, RunOf, Hears, arrival, served_at, IsCarried}
-use Rattle.turn_bound.proofs.Falls.{Sound, Fits}
+use Rattle.turn_bound.proofs.Falls.{Sound}
 use Rattle.turn_bound.proofs.Ending.{fits, sound-run}
-use Rattle.turn_bound.proofs.AtMostOne.{none-due-run}
-use Rattle.turn_bound.proofs.Tied.{Tied, tied, keeps, link_of, turn_of, state_of, turns-length}
+use Rattle.turn_bound.proofs.Tied.{Tied, tied, keeps, link_of, turn_of, state_of}
+use Rattle.turn_bound.proofs.CalmRuns.{hears-in}
+use Rattle.turn_bound.proofs.Bounding.{at-once-always}
 use Rattle.turn_losses.proofs.PollHear.{PollHeard, poll-hears}
 use Rattle.turn_losses.proofs.Room.{ServedLeft, served-left}
-use Rattle.turn_losses.proofs.Names.{Rates, AreRates, rates, IsOf, Stands, arrived_rnrs, HeardAs, heard-ok, hears-well, serves-well}
-use Rattle.turn_losses.proofs.Names.{NoneDue, Served, serves-all, is_poll, of_arrived, KeepsTime}
+use Rattle.turn_losses.proofs.Names.{AreRates, rates, IsOf, Stands, arrived_rnrs, HeardAs, NoneDue, Served, is_poll, of_arrived, KeepsTime}
 
--- what is known of each end between turns
-pub record Known (z : Rates) (link : Link) (turn : ℕ) (ends : Accounts) (role : Role) : Type 0 where
-  pub stands : Stands z turn turn role (of role ends).phase (of role ends)
-  pub setup : (of role ends).setup ≡ (of role link).setup
-  pub none_due : NoneDue (of role ends)
-
-pub rated : (tries period : ℕ) (delay : Role → ℕ) (link : Link) → KeepsTime tries period delay link → AreRates (rates tries period)
-rated tries period delay link k = (fits tries period (link_of delay link) (keeps tries period delay link k)).rates
-
-pub known : (tries period : ℕ) (delay : Role → ℕ) (link : Link) (ts : List Turn) (ends : Accounts) → KeepsTime tries period delay link
-    → RunOf link ts ends → IsCarried delay ts → (role : Role) → Known (rates tries period) link (length ts) ends role
-known tries period delay link ts ends k run c role = by role
+-- an end's setup is its link's
+setup-is : (tries period : ℕ) (delay : Role → ℕ) (link : Link) (ts : List Turn) (ends : Accounts) → KeepsTime tries period delay link
+    → RunOf link ts ends → IsCarried delay ts → (role : Role) → (of role ends).setup ≡ (of role link).setup
+setup-is tries period delay link ts ends k run c = by
   where
-    z : Rates
-    z = rates tries period
-
     i : Tied delay link ts ends
     i = tied delay link ts ends k.delays run c
 
-    f : Fits z (link_of delay link)
-    f = fits tries period (link_of delay link) (keeps tries period delay link k)
+    h : Sound (rates tries period) (link_of delay link) (length (map turn_of ts)) (state_of ends i.forward i.back)
+    h = sound-run (rates tries period) (link_of delay link) (map turn_of ts) (state_of ends i.forward i.back)
+        (fits tries period (link_of delay link) (keeps tries period delay link k)) i.run
 
-    h : Sound z (link_of delay link) (length ts) (state_of ends i.forward i.back)
-    h = subst (λ n. Sound z (link_of delay link) n (state_of ends i.forward i.back)) (turns-length ts)
-        (sound-run z (link_of delay link) (map turn_of ts) (state_of ends i.forward i.back) f i.run)
-
-    n : NoneDue ends.orig × NoneDue ends.answ
-    n = none-due-run z (link_of delay link) (map turn_of ts) (state_of ends i.forward i.back) f i.run
-
-    by : (r : Role) → Known z link (length ts) ends r
-    by Originator = record { stands = h.orig; setup = h.orig_setup; none_due = n.0 }
-    by Answerer = record { stands = h.answ; setup = h.answ_setup; none_due = n.1 }
+    by : (r : Role) → (of r ends).setup ≡ (of r link).setup
+    by Originator = h.orig_setup
+    by Answerer = h.answ_setup
 
 -- a before it hears, mid once it has heard, b once it is served
 pub record InTurn (tries period : ℕ) (link : Link) (role : Role) (turn : ℕ) (a : Account) (arrived : Arrived) (mid b : Account) : Type 0
@@ -72,42 +55,28 @@ pub in-turn : (tries period : ℕ) (delay : Role → ℕ) (link : Link) (us : Li
     → RunOf link us x → IsCarried delay us → (t : Turn) (mid : Accounts) → Hears (length us) x t mid → (r : Role)
     → InTurn tries period link r (length us) (of r x) (arrival (of r t).heard) (of r mid) (served_at link (length us) mid r).account
 in-turn tries period delay link us x kt run c t mid hearing r =
-    let z : Rates = rates tries period in
-    let turn : ℕ = length us in
-    let a : Account = of r x in
-    let breaks : ℕ = length (of r link).user.breaks in
-    let arrived : Arrived = arrival (of r t).heard in
-    let kn : Known z link turn x r = known tries period delay link us x kt run c r in
-    let tm = kt.timed r in
-    let is-of : IsOf z a.setup = subst (IsOf z) (sym kn.setup)
-    (record { tries = tm.tries_are; period = tm.period_is; tx_window = tm.tx_window; rx_window = tm.rx_window }) in
-    let role : a.setup.role ≡ r = ap (λ s. s.role) kn.setup ∙ kt.roles r in
-    let y = rated tries period delay link kt in
-    let h = (hearing r).hears in
-    let hd = heard-ok z (length a.outgoing.pieces) breaks turn (z.quota * arrived_rnrs arrived) r a.phase a (of r mid)
-    (hear turn arrived a) h
-    (hears-well z (length a.outgoing.pieces) breaks turn r a.phase arrived a y is-of kn.stands refl role (omega arith)) in
-    let s = serves-all (of r link).user turn (is_released mid.orig.phase) (of r mid) in
-    let b-setup = s.setup ∙ (hd.1.setup ∙ kn.setup) in
+    let h = hears-in tries period delay link us x r kt run c t mid hearing in
+    let setup = setup-is tries period delay link us x kt run c r in
+    let none = at-once-always tries period delay link us x kt run c r in
+    let b-setup = h.b_setup ∙ setup in
     record {
-      rated = y;
+      rated = h.rates;
       long = let q = kt.period_is in omega (arith, q);
-      role_is = role;
-      setup = kn.setup;
-      is_of = is-of;
-      stands = kn.stands;
-      none_due = kn.none_due;
-      hears = h;
-      polls = poll-hears r arrived turn a role kn.none_due.answer (of r mid) h;
-      phase = hd.0;
-      heard = hd.1;
-      mid_setup = hd.1.setup ∙ kn.setup;
-      served = s;
-      left = served-left (of r link).user turn (is_released mid.orig.phase) (of r mid);
+      role_is = h.role_is;
+      setup = setup;
+      is_of = h.is_of;
+      stands = h.stands;
+      none_due = none;
+      hears = h.hears;
+      polls = poll-hears r (arrival (of r t).heard) (length us) (of r x) h.role_is none.answer (of r mid) h.hears;
+      phase = h.phase;
+      heard = h.heard;
+      mid_setup = h.heard.setup ∙ setup;
+      served = h.serves;
+      left = served-left (of r link).user (length us) (is_released mid.orig.phase) (of r mid);
       b_setup = b-setup;
-      b_role = ap (λ q. q.role) b-setup ∙ kt.roles r;
-      b_period = ap (λ q. q.period) b-setup ∙ tm.period_is;
-      b_tries = ap (λ q. q.tries) b-setup ∙ tm.tries_are;
-      b_stands = (serves-well z (length a.outgoing.pieces) breaks turn (is_busy turn (of r link).user.busy) r hd.0 (of r mid)
-          (served_at link turn mid r).account y hd.1.stands hd.1.phase s).stands;
+      b_role = h.b_role;
+      b_period = ap (λ q. q.period) b-setup ∙ (kt.timed r).period_is;
+      b_tries = ap (λ q. q.tries) b-setup ∙ (kt.timed r).tries_are;
+      b_stands = h.b_stands;
     }
