@@ -1,5 +1,5 @@
 -- A turn of an end that stays Connected, where no user is busy.
-use Rattle.std.proofs.Common.{◌≡◌, ℕ, ◌+◌, ◌<◌, ◌≤◌, ◌&&◌, ◌||◌, ◌⊎◌, not, nat_eq, nat_lt, Bool, true, false, cond, length, inl, inr, arith}
+use Rattle.std.proofs.Common.{◌≡◌, ℕ, ◌+◌, ◌<◌, ◌≤◌, ◌&&◌, ◌⊎◌, not, nat_eq, nat_lt, Bool, true, false, cond, length, inl, inr, arith}
 use Rattle.std.proofs.Common.{refl, sym, ◌∙◌, ap, subst, Option, Some, None, Ok}
 use Rattle.link_account.proofs.Names.{is_some, nat_tests, Role, is_originator, wanted, Arrived, Account, is_connected, Said, speak, steps}
 use Rattle.link_account.proofs.Names.{other}
@@ -12,7 +12,7 @@ use Rattle.turn_bound.proofs.Sender.{heard-well}
 use Rattle.turn_bound.proofs.Breaking.{ends-same}
 use Rattle.turn_bound.proofs.Speaking.{timed-linked}
 use Rattle.turn_bound.proofs.Falls.{Offered, full-or-ended}
-use Rattle.turn_bound.proofs.StillTurn.{Stays, stays, Spoke, spoke, linked-stand}
+use Rattle.turn_bound.proofs.StillTurn.{Stays, stays, Spoke, spoke, linked-stand, or-numbered}
 use Rattle.turn_bound.proofs.Credits.{held_value, frame_poll}
 use Rattle.turn_bound.proofs.Taking.{owed_by, may_send_at, TakesNumber, Takes, Closes, takes}
 use Rattle.turn_bound.proofs.Asking.{served-own, served-owes}
@@ -121,16 +121,10 @@ module _ {z : Rates} {user : User} {turn : ℕ} {role : Role} {a : Account} {arr
       may-said t = or-numbered (is_originator a.setup.role) (is_originator said.account.setup.role) a.numbered said.account.numbered
           (ap (λ x. is_originator x.role) (p.stepped.same.setup ∙ (p.is_timed.same.setup ∙ s.setup)))
           (λ n. p.stepped.same.numbered ∙ (p.is_timed.same.numbered ∙ (s.serves.numbered ∙ t.numbered n))) l.may
-        where
-          or-numbered : (o o' n n' : Bool) → o' ≡ o → (n ≡ true → n' ≡ true) → o || n ≡ true → o' || n' ≡ true
-          or-numbered o o' n n' e f g = grind (arith)
 
       may-served : Takes turn polled a mid → may_send_at b ≡ true
       may-served t = or-numbered (is_originator a.setup.role) (is_originator b.setup.role) a.numbered b.numbered
           (ap (λ x. is_originator x.role) s.setup) (λ n. s.serves.numbered ∙ t.numbered n) l.may
-        where
-          or-numbered : (o o' n n' : Bool) → o' ≡ o → (n ≡ true → n' ≡ true) → o || n ≡ true → o' || n' ≡ true
-          or-numbered o o' n n' e f g = grind (arith)
 
       mid-linked : Linked z (turn + 1) turn role mid
       mid-linked = linked-stand z (turn + 1) turn role mid

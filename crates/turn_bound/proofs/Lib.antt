@@ -14,7 +14,7 @@ pub mod Turning
 pub mod Serving
 pub mod Serves
 mod Still
-mod SpeakStill
+pub mod SpeakStill
 pub mod Light
 pub mod OneTurn
 mod StillTurn

@@ -199,6 +199,9 @@ served-dues turn breaks total busy m c s f =
     last : (f g x y : Bool) → f ≡ g → x ≡ y → one_if (f && not x) ≡ one_if (g && not y)
     last f g x y e k = rw (e, k) refl
 
+pub or-numbered : (o o' n n' : Bool) → o' ≡ o → (n ≡ true → n' ≡ true) → o || n ≡ true → o' || n' ≡ true
+or-numbered o o' n n' e f g = grind (arith)
+
 -- A turn of an end that stays Connected, where nothing lives before and after it.
 pub record Stilled (z : Rates) (total turn : ℕ) (a mid b : Account) (said : Said) (more : ℕ) : Type 0 where
   pub pays : dues total said.account + weight said.sent + one_if (is_free total a.outgoing) ≤ dues total a + more
@@ -235,9 +238,6 @@ module _ {z : Rates} {user : User} {turn : ℕ} {role : Role} {a : Account} {arr
         free = free ∙ heard.free;
         own = heard.own waits-a;
       }
-    where
-      or-numbered : (o o' n n' : Bool) → o' ≡ o → (n ≡ true → n' ≡ true) → o || n ≡ true → o' || n' ≡ true
-      or-numbered o o' n n' e f g = grind (arith)
 
 -- a break that is ready is asked for, and then waits
 waits-then : (turn l : ℕ) (b : OwnBreaks) → b.answered ≤ length b.lengths → waits b ≡ false → nat_lt turn b.rest ≡ false

@@ -13,7 +13,7 @@ use Rattle.turn_bound.specs.Advance.{NeverBusy}
 use Rattle.turn_bound.proofs.Clock.{Rates, rates, AreRates}
 use Rattle.turn_bound.proofs.Value.{IsOf, Unlinked, Linked, Stands, arrived_weight, arrived_rnrs}
 use Rattle.turn_bound.proofs.Run.{served_account}
-use Rattle.turn_bound.proofs.StillTurn.{linked-stand, spoke}
+use Rattle.turn_bound.proofs.StillTurn.{linked-stand, only-connected, spoke}
 use Rattle.turn_bound.proofs.MeetHear.{is_begun, of_arrived}
 use Rattle.turn_bound.proofs.Credits.{frame_poll}
 use Rattle.turn_bound.proofs.Taking.{TakesNumber, Takes, Closes, takes}
@@ -136,10 +136,6 @@ pub told-now : (z : Rates) (turn : ℕ) (role : Role) (release : Bool) (b : Acco
     → speak turn release b ≡ Ok said → is_released b.phase ≡ false → is_released said.account.phase ≡ true → release ≡ true
 told-now z turn role release b said y s e open_ told = go (is_connected b.phase) refl
   where
-    only-connected : (p : Phase) → is_connected p ≡ true → p ≡ Connected
-    only-connected Connected h = refl
-    only-connected p h = cc
-
     first-true : (x o : Bool) → x && o ≡ true → x ≡ true
     first-true true o h = refl
     first-true false o h = cc

@@ -13,6 +13,7 @@ use Rattle.turn_losses.proofs.PollLaws.{reply-matches}
 use Rattle.turn_losses.proofs.PeriodLaws.{still-awaited}
 use Rattle.turn_losses.proofs.Names.{of_frame, of_arrived, is_poll, is_final, Deed, past, sent_or, EndRun, TwoEnds, sends_poll, hears_poll}
 use Rattle.turn_losses.proofs.Names.{sends_final, hears_final, TimedRun, end_of}
+use Rattle.turn_losses.proofs.Truths.{and-not}
 use Rattle.lapm_frames.specs.declared.sent.Sent.TheVariants as slots
 
 keeps-polls : {period turns : ℕ} {e o : EndRun} → TwoEnds period turns e o → KeepsPolls period turns e o
@@ -108,14 +109,10 @@ answers-match tries period delay link ts before t after k run g c role cb h =
     go (d, dt, m) = record {
       polled = polled role refl;
       awaited = ap (λ (x : Accounts). (of role x).outgoing.awaited) (sym m.before_is) ∙ still.awaited;
-      none_due = not-due (is_connected (of role before).phase) (of role before).wait.poll (ap is_connected cb)
+      none_due = and-not (is_connected (of role before).phase) (of role before).wait.poll (ap is_connected cb)
           (ap (λ (x : Accounts). is_connected (of role x).phase && (of role x).wait.poll) (sym m.before_is) ∙ still.none_due);
     }
       where
-        not-due : (x y : Bool) → x ≡ true → x && y ≡ false → y ≡ false
-        not-due true y p q = q
-        not-due false y p q = cc
-
         n : ℕ
         n = length ts
 

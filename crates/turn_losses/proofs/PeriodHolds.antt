@@ -1,5 +1,5 @@
-use Rattle.std.proofs.Common.{◌⊎◌, inl, inr, ◌≡◌, ℕ, zero, suc, ◌+◌, ◌<◌, ◌≤◌, ◌&&◌, Bool, true, false, arith, refl, sym, ◌∙◌, ap, Some}
-use Rattle.std.proofs.Common.{length, ◌%◌, ◌-◌}
+use Rattle.std.proofs.Common.{◌⊎◌, inl, inr, ◌≡◌, ℕ, zero, suc, ◌+◌, ◌<◌, ◌≤◌, Bool, true, false, arith, refl, sym, ◌∙◌, ap, Some, length}
+use Rattle.std.proofs.Common.{◌%◌, ◌-◌}
 use Rattle.link_account.proofs.Names.{cases_lt, Account, is_connected, Said, Role, of}
 use Rattle.link_run.proofs.Names.{served_at}
 use Rattle.turn_losses.proofs.Answered.{SendsSegment, AnswerTurn}
@@ -10,6 +10,7 @@ use Rattle.turn_losses.proofs.PeriodLaws.{still-awaited, answer-comes, NoneLost,
 use Rattle.turn_losses.proofs.NumberHear.{ns_sent}
 use Rattle.turn_losses.proofs.Acknowledged.{Counts, acknowledged}
 use Rattle.turn_losses.proofs.Names.{past, Happens, EndRun, TwoEnds, hears_poll, hears_final, TimedRun, end_of}
+use Rattle.turn_losses.proofs.Truths.{and-not}
 
 -- while the answer to a poll is on its way, the clock doesn't expire
 pub unexpired : {period turns : ℕ} {e o : EndRun} → TwoEnds period turns e o → (t : ℕ) → t < turns → is_connected (e.account t).phase ≡ true
@@ -30,12 +31,8 @@ pub poll-answered : {period turns : ℕ} {e o : EndRun} → TwoEnds period turns
     → AnswerTurn period t (e.heard t) (e.account t) mid b said → (mid.outgoing.count ≡ 0) ⊎ SendsSegment mid.outgoing.front b said
 poll-answered {period} {turns} {e} {o} k t within c h mid b said after c' answers =
     let s : StillAwaited (e.account t) = still-awaited k t within c h in
-    answers c s.awaited (not-due (is_connected (e.account t).phase) (e.account t).wait.poll c s.none_due) h
+    answers c s.awaited (and-not (is_connected (e.account t).phase) (e.account t).wait.poll c s.none_due) h
     (ap (λ a. is_connected a.phase) (sym after) ∙ c') (unexpired k t within c h)
-  where
-    not-due : (x y : Bool) → x ≡ true → x && y ≡ false → y ≡ false
-    not-due true y p q = q
-    not-due false y p q = cc
 
 -- in a turn of a run an end's retry count is 0 once it has heard, or it sends the first segment that isn't acknowledged
 abbrev pub SendsFirst : (w : TimedRun) → Role → ℕ → Type 0

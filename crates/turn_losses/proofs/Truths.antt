@@ -26,6 +26,10 @@ and-two false c e = cc
 pub and-second : (b c : Bool) → b && c ≡ true → c ≡ true
 and-second b c e = (and-two b c e).1
 
+pub and-not : (b c : Bool) → b ≡ true → b && c ≡ false → c ≡ false
+and-not true c e f = f
+and-not false c e f = cc
+
 pub and-drop : (b c : Bool) → c ≡ false → b && c ≡ false
 and-drop true c e = e
 and-drop false c e = refl
