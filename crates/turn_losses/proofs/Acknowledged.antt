@@ -10,7 +10,7 @@ use Rattle.turn_losses.proofs.PollLaws.{reply-matches}
 use Rattle.turn_losses.proofs.PeriodLaws.{awaits-on, NoneLost, StayConnected, connected-since}
 use Rattle.turn_losses.proofs.Names.{of_arrived, is_final, is_linked, EndRun, ArrivesLate, TwoEnds, hears_final}
 use Rattle.turn_losses.proofs.Truths.{clash}
-use Rattle.turn_losses.proofs.Follows.{kept-in}
+use Rattle.turn_losses.proofs.Kept.{kept-in}
 use Rattle.lapm_frames.specs.declared.sent.Sent.TheVariants as slots
 use Rattle.lapm_frames.specs.declared.arrived.Arrived.TheVariants as arrivals
 

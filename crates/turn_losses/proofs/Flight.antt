@@ -10,7 +10,6 @@ use Rattle.turn_losses.proofs.Sabmes.{answer-by}
 use Rattle.link_account.proofs.HearWays.{by-ways}
 use Rattle.turn_losses.proofs.Phasing.{established-next, is_established}
 use Rattle.turn_bound.proofs.MeetHear.{frame_ua, is_ua_due}
-use Rattle.turn_losses.proofs.Follows.{kept-in, kept-on}
 use Rattle.turn_losses.proofs.PeriodLaws.{linked-on}
 use Rattle.turn_losses.proofs.Truths.{not-true, clash}
 use Rattle.turn_losses.proofs.Tracing.{release_of}
@@ -18,6 +17,7 @@ use Rattle.turn_losses.proofs.Trying.{since-try, tries-so}
 use Rattle.turn_bound.proofs.MeetSpeak.{speaks-so}
 use Rattle.turn_losses.proofs.PollLaws.{two-ends}
 use Rattle.turn_losses.proofs.LineLaw.{was-sent}
+use Rattle.turn_losses.proofs.Kept.{kept-in, kept-on}
 
 -- an end that is Establishing, and is linked once it has heard, heard UA
 heard-ua : (arrived : Arrived) (turn : ℕ) (a mid : Account) → a.phase ≡ Establishing → hear turn arrived a ≡ Ok mid

@@ -2,6 +2,7 @@ pub mod Names
 pub mod Polls
 pub mod Polling
 mod Truths
+mod Kept
 pub mod Answered
 pub mod TwoEnds
 pub mod Trace

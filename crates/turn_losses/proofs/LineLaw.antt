@@ -1,11 +1,10 @@
-use Rattle.std.proofs.Common.{◌⊎◌, inl, inr, ◌≡◌, ℕ, zero, suc, ◌+◌, ◌-◌, ◌<◌, ◌≤◌, Bool, true, false, cond, List, [], ◌∷◌, length, arith}
-use Rattle.std.proofs.Common.{refl, sym, ◌∙◌, ap, subst, Some, None}
-use Rattle.link_account.proofs.Names.{cases_lt, Role, Frame, Sent, Arrived, Account, is_connected, arrives, slice_get, other, of}
+use Rattle.std.proofs.Common.{inl, inr, ◌≡◌, ℕ, zero, suc, ◌+◌, ◌-◌, ◌<◌, ◌≤◌, Bool, true, false, cond, List, [], ◌∷◌, length, arith, refl}
+use Rattle.std.proofs.Common.{sym, ◌∙◌, ap, subst, Some, None}
+use Rattle.link_account.proofs.Names.{cases_lt, Role, Frame, Sent, Arrived, arrives, slice_get, other, of}
 use Rattle.link_run.proofs.Names.{arrival, sent_in, Carries, Turn}
 use Rattle.turn_bound.proofs.Tied.{sent_of, none-heard, one-heard}
-use Rattle.turn_losses.proofs.Polls.{Polls, WasSent}
-use Rattle.turn_losses.proofs.Names.{is_lost, past, sent_or, is_poll, of_frame, of_arrived, is_linked, poll_due, PollTurn, ArrivesLate}
-use Rattle.turn_losses.proofs.Names.{arrives-flag, TimedRun, end_of}
+use Rattle.turn_losses.proofs.Polls.{WasSent}
+use Rattle.turn_losses.proofs.Names.{is_lost, past, sent_or, of_frame, of_arrived, ArrivesLate, arrives-flag, TimedRun, end_of}
 use Rattle.turn_losses.proofs.Tracing.{past-all, past-length}
 use Rattle.lapm_frames.specs.declared.sent.Sent.TheVariants as slots
 use Rattle.lapm_frames.specs.declared.arrived.Arrived.TheVariants as arrivals
@@ -84,55 +83,3 @@ last-heard kind w t cs r s same f = ap (of_arrived kind)
     (omega (arith, same))
     ∙ (ap (λ b. cond b arrivals.Nothing (arrives ((end_of w (other r)).slot (length w.ts - w.delay (other r))))) f
     ∙ ap (λ n. arrives ((end_of w (other r)).slot n)) (omega (arith, same)))) ∙ arrives-flag kind ((end_of w (other r)).slot s)
-
--- Polls that became due at one end are a period apart: while its clock runs, it was set no earlier than the last of them.
-pub record SetSince (s : ℕ) (a : Account) : Type 0 where
-  pub linked : is_linked a.phase ≡ true
-  pub set : is_connected a.phase ≡ true → (r : ℕ) → a.wait.timer ≡ Some r → s ≤ r
-
-pub set-since : (period turns : ℕ) (role : Role) (account : ℕ → Account) (heard final made : ℕ → Bool) (count : ℕ → ℕ) (sent : ℕ → Sent)
-    → ((t : ℕ) → t < turns → PollTurn period t role (heard t) (final t) (made t) (count t) (sent t) (account t) (account (t + 1))) → (s : ℕ)
-    → made s ≡ true → (t : ℕ) → s < t → t ≤ turns → SetSince s (account t)
-set-since period turns role account heard final made count sent h s m zero less within = let wrong : ⊥ = omega (arith, less) in absurd wrong
-set-since period turns role account heard final made count sent h s m (suc t) less within =
-    subst (λ n. SetSince s (account n)) (omega arith)
-    (elim (cases_lt s t) [
-      | inl l ↦
-          later (set-since period turns role account heard final made count sent h s m t l (omega (arith, within)))
-      | inr g ↦
-          same (omega (arith, less, g))
-    ])
-  where
-    k : PollTurn period t role (heard t) (final t) (made t) (count t) (sent t) (account t) (account (t + 1))
-    k = h t (omega (arith, within))
-
-    same : t ≡ s → SetSince s (account (t + 1))
-    same q = let n : made t ≡ true = ap made q ∙ m in
-        record { linked = k.made_linked n; set = λ e r w. let v = k.made_timer n e r w in omega (arith, v, q) }
-
-    later : SetSince s (account t) → SetSince s (account (t + 1))
-    later i = record { linked = k.linked i.linked; set = λ e r w. by e r ((k.timer e i.linked).1 r w) }
-      where
-        by : is_connected (account (t + 1)).phase ≡ true → (r : ℕ) → (r ≡ t) ⊎ ((account t).wait.timer ≡ Some r) → s ≤ r
-        by e r (inl v) = omega (arith, v, less)
-        by e r (inr v) = i.set (k.timer e i.linked).0 r v
-
-pub are-polls : (period turns : ℕ) (role : Role) (account : ℕ → Account) (heard final made : ℕ → Bool) (count : ℕ → ℕ) (sent : ℕ → Sent)
-    → poll_due (account 0) ≡ false
-    → ((t : ℕ) → t < turns → PollTurn period t role (heard t) (final t) (made t) (count t) (sent t) (account t) (account (t + 1)))
-    → Polls period turns (λ t. poll_due (account t)) made (λ t. of_frame is_poll (sent t)) heard
-are-polls period turns role account heard final made count sent none h = record {
-  none_at_first = none;
-  due_from = λ t l d m. (h t l).due_from d m;
-  held_up = λ t l d. (h t l).held_up d;
-  sent_from = λ t l d m. (h t l).sent_from d m;
-  sent_done = λ t l d. (h t l).sent_done d;
-  apart = apart;
-}
-  where
-    apart : (s t : ℕ) → s < t → t < turns → made s ≡ true → made t ≡ true → s + period ≤ t
-    apart s t less within m n =
-        let i = set-since period turns role account heard final made count sent h s m t less (omega (arith, within)) in
-        let w = (h t within).made_from n i.linked in
-        let far : s ≤ w.1 = i.set w.0 w.1 w.2 in
-        let due = w.3 in omega (arith, far, due)

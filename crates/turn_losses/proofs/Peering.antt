@@ -15,7 +15,7 @@ use Rattle.turn_losses.proofs.View.{waits-are}
 use Rattle.turn_losses.proofs.Names.{served_account, is_linked, TimedRun, end_of}
 use Rattle.turn_losses.proofs.PeriodLaws.{connected-since}
 use Rattle.turn_losses.proofs.EndTurn.{end-turn}
-use Rattle.turn_losses.proofs.Follows.{kept-in}
+use Rattle.turn_losses.proofs.Kept.{kept-in}
 
 -- no break is taken once the originator is told to release
 no-take : (user : User) (turn : ℕ) (released : Bool) (mid : Account) → released ≡ true

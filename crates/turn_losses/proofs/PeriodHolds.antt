@@ -4,12 +4,11 @@ use Rattle.link_account.proofs.Names.{cases_lt, Account, is_connected, Said, Rol
 use Rattle.link_run.proofs.Names.{served_at}
 use Rattle.turn_losses.proofs.Answered.{SendsSegment, AnswerTurn}
 use Rattle.turn_losses.proofs.KeepsPolls.{Answers, StillAwaited}
-use Rattle.turn_losses.proofs.LineLaw.{SetSince, set-since}
-use Rattle.turn_losses.proofs.PollLaws.{two-ends, reply-matches}
+use Rattle.turn_losses.proofs.PollLaws.{two-ends, reply-matches, SetSince, set-since}
 use Rattle.turn_losses.proofs.PeriodLaws.{still-awaited, answer-comes, NoneLost, StayConnected}
 use Rattle.turn_losses.proofs.NumberHear.{ns_sent}
 use Rattle.turn_losses.proofs.Acknowledged.{Counts, acknowledged}
-use Rattle.turn_losses.proofs.Names.{past, Happens, EndRun, TwoEnds, hears_poll, hears_final, TimedRun, end_of}
+use Rattle.turn_losses.proofs.Names.{past, Happens, EndRun, TwoEnds, hears_final, TimedRun, end_of}
 use Rattle.turn_losses.proofs.Truths.{and-not}
 
 -- while the answer to a poll is on its way, the clock doesn't expire
@@ -19,7 +18,7 @@ unexpired {period} {turns} {e} {o} k t within c h r w =
     let m : Answers t e o = reply-matches k t within h in
     let trip = m.round_trip in let before = m.due_before in let soon = m.due_soon in let p = k.period_is in let d = k.own_delay in
     let s : SetSince m.due (e.account t) =
-    set-since period turns e.role e.account (hears_poll e) (hears_final e) e.made e.count (λ n. e.slot n) k.own m.due m.made t
+    set-since k m.due m.made t
     (omega (arith, trip, before, d)) (omega (arith, within)) in
     let set : m.due ≤ r = s.set c r w in omega (arith, set, trip, soon, p)
 

@@ -1,13 +1,13 @@
-use Rattle.std.proofs.Common.{◌⊎◌, inl, inr, ◌≡◌, ℕ, zero, suc, ◌+◌, ◌<◌, ◌≤◌, ◌||◌, Bool, true, false, cond, arith, refl, ◌∙◌, ap, subst}
-use Rattle.link_account.proofs.Names.{cases_lt, is_connected}
+use Rattle.std.proofs.Common.{◌⊎◌, inl, inr, ◌≡◌, ℕ, zero, suc, ◌+◌, ◌<◌, ◌≤◌, Bool, true, false, cond, arith, refl, ◌∙◌, ap, subst}
+use Rattle.link_account.proofs.Names.{is_connected}
 use Rattle.turn_losses.proofs.KeepsPolls.{Answers, StillAwaited}
 use Rattle.turn_losses.proofs.LineLaw.{is-heard}
 use Rattle.turn_losses.proofs.PollLaws.{turned, due-apart, reply-at-once, poll-fresh, polls-apart, reply-matches}
-use Rattle.turn_losses.proofs.Names.{is_poll, is_final, is_linked, poll_due, PollTurn, EndRun, TwoEnds, sends_poll, hears_poll, sends_final}
+use Rattle.turn_losses.proofs.Names.{is_poll, is_final, is_linked, poll_due, EndRun, TwoEnds, sends_poll, hears_poll, sends_final}
 use Rattle.turn_losses.proofs.Names.{hears_final}
-use Rattle.turn_losses.proofs.Follows.{kept-on}
-use Rattle.turn_losses.proofs.Truths.{clash, not-true, is-true}
+use Rattle.turn_losses.proofs.Truths.{clash, not-true, is-true, or-late}
 use Rattle.turn_losses.proofs.Clocks.{last}
+use Rattle.turn_losses.proofs.Kept.{kept-in, kept-on}
 
 -- an end that was Connected stays so, or is told to release or Closed, for good
 pub linked-on : {period turns : ℕ} {e o : EndRun} → TwoEnds period turns e o → (s t : ℕ) → s ≤ t → t ≤ turns
@@ -63,27 +63,16 @@ awaits-on {period} {turns} {e} {o} k t within c m = awaits
         (omega (arith, trip, within)) w.is_sent m.is_sent in
         let wrong : ⊥ = omega (arith, far, there, trip, l, due-soon, k.period_is) in absurd wrong
 
-    or-late : (x y : Bool) → y ≡ true → x || y ≡ true
-    or-late true y q = refl
-    or-late false y q = q
-
     awaits : (u : ℕ) → m.due < u → u ≤ t → (e.account u).outgoing.awaited ≡ true
-    awaits zero l g = let wrong : ⊥ = omega (arith, l) in absurd wrong
-    awaits (suc u) l g = subst (λ n. (e.account n).outgoing.awaited ≡ true) (omega arith)
-        (elim (cases_lt m.due u) [ inl x ↦ later x (awaits u x (omega (arith, g))) | inr y ↦ first (omega (arith, l, y)) ])
+    awaits u l g = kept-in (λ v. (e.account v).outgoing.awaited ≡ true) (m.due + 1) u (omega (arith, l)) later
+        ((k.own m.due (omega (arith, before, within))).made_awaited m.made (connected (m.due + 1) (omega arith) (omega (arith, l, g))))
       where
-        now : is_connected (e.account (u + 1)).phase ≡ true
-        now = connected (u + 1) (omega (arith, l)) (omega (arith, g))
-
-        w : PollTurn period u e.role (hears_poll e u) (hears_final e u) (e.made u) (e.count u) (e.slot u) (e.account u) (e.account (u + 1))
-        w = k.own u (omega (arith, g, within))
-
-        first : u ≡ m.due → (e.account (u + 1)).outgoing.awaited ≡ true
-        first q = w.made_awaited (ap e.made q ∙ m.made) now
-
-        later : m.due < u → (e.account u).outgoing.awaited ≡ true → (e.account (u + 1)).outgoing.awaited ≡ true
-        later x i = w.awaited (connected u x (omega (arith, g))) now ∙ or-late (e.made u) _
-            (ap (λ b. cond b false (e.account u).outgoing.awaited) (no-answer u x (omega (arith, g)) (hears_final e u) refl) ∙ i)
+        later : (v : ℕ) → m.due + 1 ≤ v → v < u → (e.account v).outgoing.awaited ≡ true → (e.account (v + 1)).outgoing.awaited ≡ true
+        later v lo hi i =
+            (k.own v (omega (arith, hi, g, within))).awaited (connected v (omega (arith, lo)) (omega (arith, hi, g)))
+            (connected (v + 1) (omega (arith, lo)) (omega (arith, hi, g))) ∙ or-late (e.made v) _
+            (ap (λ b. cond b false (e.account v).outgoing.awaited)
+            (no-answer v (omega (arith, lo)) (omega (arith, hi, g)) (hears_final e v) refl) ∙ i)
 
 -- A response with F = 1 that is heard: the poll that it answers is still awaited, and none is due.
 pub still-awaited : {period turns : ℕ} {e o : EndRun} → TwoEnds period turns e o → (t : ℕ) → t < turns

@@ -1,13 +1,14 @@
-use Rattle.std.proofs.Common.{◌⊎◌, inl, inr, ◌≡◌, ℕ, ◌+◌, ◌-◌, ◌*◌, ◌<◌, ◌≤◌, true, false, arith, ap, length}
-use Rattle.link_account.proofs.Names.{is_connected, Role, Originator, Answerer, other, of}
+use Rattle.std.proofs.Common.{◌⊎◌, inl, inr, ◌≡◌, ℕ, ◌+◌, ◌-◌, ◌*◌, ◌<◌, ◌≤◌, true, false, arith, ap, length, Some}
+use Rattle.link_account.proofs.Names.{is_connected, Role, Originator, Answerer, other, of, Account}
 use Rattle.link_run.proofs.Names.{arrival}
 use Rattle.turn_losses.proofs.Polls.{Polls, WasSent, Fresh}
 use Rattle.turn_losses.proofs.KeepsPolls.{Answers}
-use Rattle.turn_losses.proofs.LineLaw.{arrives-late, was-sent, are-polls}
+use Rattle.turn_losses.proofs.LineLaw.{arrives-late, was-sent}
 use Rattle.turn_losses.proofs.PollsFresh.{polls-fresh, sent-soon, sent-apart}
 use Rattle.turn_losses.proofs.Names.{is_lost, sent_or, is_poll, is_final, poll_due, EndRun, ArrivesLate, TwoEnds, sends_poll, hears_poll}
-use Rattle.turn_losses.proofs.Names.{sends_final, hears_final, TimedRun, end_of}
+use Rattle.turn_losses.proofs.Names.{sends_final, hears_final, TimedRun, end_of, is_linked}
 use Rattle.turn_losses.proofs.EndTurn.{starts-fresh}
+use Rattle.turn_losses.proofs.Kept.{kept-in}
 
 pub two-ends : (w : TimedRun) → (role : Role) → TwoEnds w.period (length w.ts) (end_of w role) (end_of w (other role))
 two-ends w role = record {
@@ -49,10 +50,40 @@ turned {period} {turns} {e} {o} k = record {
   period_is = let p = k.period_is in omega (arith, p);
 }
 
+-- Polls that became due at one end are a period apart: while its clock runs, it was set no earlier than the last of them.
+pub record SetSince (s : ℕ) (a : Account) : Type 0 where
+  pub linked : is_linked a.phase ≡ true
+  pub set : is_connected a.phase ≡ true → (r : ℕ) → a.wait.timer ≡ Some r → s ≤ r
+
+pub set-since : {period turns : ℕ} {e o : EndRun} → TwoEnds period turns e o → (s : ℕ) → e.made s ≡ true → (t : ℕ) → s < t → t ≤ turns
+    → SetSince s (e.account t)
+set-since {period} {turns} {e} {o} k s m t less within = kept-in (λ u. SetSince s (e.account u)) (s + 1) t (omega (arith, less)) later
+    (record { linked = (k.own s first).made_linked m; set = λ c r w. let v = (k.own s first).made_timer m c r w in omega (arith, v) })
+  where
+    first : s < turns
+    first = omega (arith, less, within)
+
+    later : (u : ℕ) → s + 1 ≤ u → u < t → SetSince s (e.account u) → SetSince s (e.account (u + 1))
+    later u lo hi i = let q = k.own u (omega (arith, hi, within)) in
+        record { linked = q.linked i.linked; set = λ c r w. let z = q.timer c i.linked in elim (z.1 r w) [
+          | inl v ↦ omega (arith, v, lo)
+          | inr v ↦ i.set z.0 r v
+        ] }
+
 own-polls : {period turns : ℕ} {e o : EndRun} → TwoEnds period turns e o
     → Polls period turns (λ t. poll_due (e.account t)) e.made (sends_poll e) (hears_poll e)
-own-polls {period} {turns} {e} {o} k =
-    are-polls period turns e.role e.account (hears_poll e) (hears_final e) e.made e.count (λ t. e.slot t) k.own_first k.own
+own-polls {period} {turns} {e} {o} k = record {
+  none_at_first = k.own_first;
+  due_from = λ t l d m. (k.own t l).due_from d m;
+  held_up = λ t l d. (k.own t l).held_up d;
+  sent_from = λ t l d m. (k.own t l).sent_from d m;
+  sent_done = λ t l d. (k.own t l).sent_done d;
+  apart = λ s t less within m n.
+      let i = set-since k s m t less (omega (arith, within)) in
+      let w = (k.own t within).made_from n i.linked in
+      let far : s ≤ w.1 = i.set w.0 w.1 w.2 in
+      let due = w.3 in omega (arith, far, due);
+}
 
 heard-sent : {period turns : ℕ} {e o : EndRun} → TwoEnds period turns e o → WasSent o.delay turns (hears_poll e) (sends_poll o)
 heard-sent {period} {turns} {e} {o} k = was-sent is_poll k.hears

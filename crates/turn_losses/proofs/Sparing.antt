@@ -26,7 +26,7 @@ use Rattle.turn_losses.proofs.Peering.{peer-connected, not-closed}
 use Rattle.turn_losses.proofs.Names.{is_begun, of_frame, of_arrived, is_lost, PeriodLoses, is_linked, EndRun, TwoEnds, TimedRun, end_of}
 use Rattle.turn_losses.proofs.Words.{ack_of, of_word}
 use Rattle.turn_losses.proofs.EndTurn.{end-turn, last-turn}
-use Rattle.turn_losses.proofs.Follows.{all-or-one}
+use Rattle.turn_losses.proofs.Kept.{all-or-one}
 
 pub of-period : (period : ℕ) (delay : Role → ℕ) (t : Turn) (ts : List Turn) (n : ℕ) → PeriodLoses period (length ts) (t ∷ ts) n
     → SpanLoses period (max (delay Originator) (delay Answerer)) (t ∷ ts) n

@@ -1,6 +1,5 @@
 -- How soon a BRK goes, and the BRKACK that answers it.
-use Rattle.std.proofs.Common.{◌⊎◌, inl, inr, ◌≡◌, ℕ, zero, suc, ◌+◌, ◌-◌, ◌<◌, ◌≤◌, ◌&&◌, Bool, true, false, nat_le, arith, refl, sym, ◌∙◌}
-use Rattle.std.proofs.Common.{ap, subst}
+use Rattle.std.proofs.Common.{◌⊎◌, inl, inr, ◌≡◌, ℕ, ◌+◌, ◌-◌, ◌<◌, ◌≤◌, ◌&&◌, Bool, true, false, nat_le, arith, refl, sym, ◌∙◌, ap}
 use Rattle.link_account.proofs.Names.{cases_lt, nat_tests, waits, Account, is_connected}
 use Rattle.turn_losses.proofs.Truths.{not-true, and-two, and-drop, clash}
 use Rattle.turn_losses.proofs.PollHear.{linked-connected}
@@ -11,6 +10,7 @@ use Rattle.turn_losses.proofs.BreakTurn.{Deeds, BreakTurn, brk_due, is_urgent}
 use Rattle.turn_losses.proofs.Counting.{hits, one_if, once, twice, at-most-made}
 use Rattle.turn_losses.proofs.Names.{of_frame, of_arrived, is_poll, EndRun, TwoEnds, sends_poll, sends_final, hears_final}
 use Rattle.turn_losses.proofs.Words.{any_brk, of_word}
+use Rattle.turn_losses.proofs.Kept.{kept-in}
 
 -- an end's breaks by the turn
 pub record Breaking (period turns : ℕ) (e : EndRun) (d : ℕ → Deeds) : Type 0 where
@@ -23,49 +23,37 @@ pub record Since (m : ℕ) (a : Account) : Type 0 where
   pub set : waits a.own_breaks ≡ true → m ≤ a.own_breaks.set
   pub rest : waits a.own_breaks ≡ false → m + 8 ≤ a.own_breaks.rest
 
-since-made : {period turns : ℕ} {e o : EndRun} {d : ℕ → Deeds} → TwoEnds period turns e o → Breaking period turns e d → (m n : ℕ)
-    → m + 1 + n ≤ turns → (d m).made ≡ true → is_connected (e.account (m + 1)).phase ≡ true
-    → is_connected (e.account (m + 1 + n)).phase ≡ true
-    → Since m (e.account (m + 1 + n))
-since-made {period} {turns} {e} {o} {d} k h m zero l made c1 c =
-    let x = (h.turn m (omega (arith, l)) c1).made_set made in
-    subst (λ t. Since m (e.account t)) (omega arith)
-    (record { set = λ w. let q = x.1 in omega (arith, q); rest = λ w. clash (waits (e.account (m + 1)).own_breaks) x.0 w })
-since-made {period} {turns} {e} {o} {d} k h m (suc n) l made c1 c = subst (λ t. Since m (e.account t)) (omega arith)
-    (step (since-made k h m n (omega (arith, l)) made c1 before))
+since-made : {period turns : ℕ} {e o : EndRun} {d : ℕ → Deeds} → TwoEnds period turns e o → Breaking period turns e d → (m t : ℕ)
+    → m < t → t ≤ turns → (d m).made ≡ true → is_connected (e.account (m + 1)).phase ≡ true → is_connected (e.account t).phase ≡ true
+    → Since m (e.account t)
+since-made {period} {turns} {e} {o} {d} k h m t less l made c1 c = kept-in (λ u. Since m (e.account u)) (m + 1) t (omega (arith, less)) step
+    (let x = (h.turn m (omega (arith, less, l)) c1).made_set made in
+    record { set = λ w. let q = x.1 in omega (arith, q); rest = λ w. clash (waits (e.account (m + 1)).own_breaks) x.0 w })
   where
-    t : ℕ
-    t = m + 1 + n
+    on : (u : ℕ) → m + 1 ≤ u → u ≤ t → is_connected (e.account u).phase ≡ true
+    on = connected-since k (m + 1) t l (linked-connected (e.account (m + 1)).phase c1) c
 
-    now : is_connected (e.account (t + 1)).phase ≡ true
-    now = ap (λ x. is_connected (e.account x).phase) (omega arith) ∙ c
-
-    before : is_connected (e.account t).phase ≡ true
-    before = connected-since k (m + 1) (t + 1) (omega (arith, l)) (linked-connected (e.account (m + 1)).phase c1) now t
-        (omega arith) (omega arith)
-
-    x : BreakTurn period t (e.heard t) (e.slot t) (d t) (e.account t) (e.account (t + 1))
-    x = h.turn t (omega (arith, l)) now
-
-    step : Since m (e.account t) → Since m (e.account (t + 1))
-    step i = by (d t).made refl
+    step : (u : ℕ) → m + 1 ≤ u → u < t → Since m (e.account u) → Since m (e.account (u + 1))
+    step u lo hi i = by (d u).made refl
       where
-        by : (b : Bool) → (d t).made ≡ b → Since m (e.account (t + 1))
+        x : BreakTurn period u (e.heard u) (e.slot u) (d u) (e.account u) (e.account (u + 1))
+        x = h.turn u (omega (arith, hi, l)) (on (u + 1) (omega (arith, lo)) (omega (arith, hi)))
+
+        before : is_connected (e.account u).phase ≡ true
+        before = on u lo (omega (arith, hi))
+
+        by : (b : Bool) → (d u).made ≡ b → Since m (e.account (u + 1))
         by true q = let y = x.made_set q in record {
-          set = λ w. let z = y.1 in omega (arith, z);
-          rest = λ w. clash
-              (waits (e.account (t + 1)).own_breaks) y.0 w;
+          set = λ w. let z = y.1 in omega (arith, z, lo);
+          rest = λ w. clash (waits (e.account (u + 1)).own_breaks) y.0 w;
         }
         by false q = record {
-          set = λ w. let y = x.kept_set q before w in let z = i.set y.0 in let s = y.1 in omega
-              (arith, z, s);
-          rest = λ w. rests (x.kept_rest q before w);
+          set = λ w. let y = x.kept_set q before w in let z = i.set y.0 in let s = y.1 in omega (arith, z, s);
+          rest = λ w. elim (x.kept_rest q before w) [
+            | inl y ↦ (let r = i.rest y.0 in let z = y.1 in omega (arith, r, z))
+            | inr z ↦ omega (arith, z, lo)
+          ];
         }
-          where
-            rests : ((waits (e.account t).own_breaks ≡ false) × ((e.account (t + 1)).own_breaks.rest ≡ (e.account t).own_breaks.rest))
-                ⊎ ((e.account (t + 1)).own_breaks.rest ≡ t + 8) → m + 8 ≤ (e.account (t + 1)).own_breaks.rest
-            rests (inl (y, z)) = let r = i.rest y in omega (arith, r, z)
-            rests (inr z) = omega (arith, z)
 
 -- so they become due at least eight turns apart
 pub made-apart : {period turns : ℕ} {e o : EndRun} {d : ℕ → Deeds} → TwoEnds period turns e o → Breaking period turns e d → (s t : ℕ)
@@ -81,12 +69,8 @@ made-apart {period} {turns} {e} {o} {d} k h s t less within ms mt cs ct = elim (
     before = connected-since k (s + 1) (t + 1) (omega (arith, within)) (linked-connected (e.account (s + 1)).phase cs) ct t
         (omega (arith, less)) (omega arith)
 
-    same : s + 1 + (t - (s + 1)) ≡ t
-    same = omega (arith, less)
-
     i : Since s (e.account t)
-    i = subst (λ x. Since s (e.account x)) same (since-made k h s (t - (s + 1)) (omega (arith, less, within)) ms cs
-        (ap (λ x. is_connected (e.account x).phase) same ∙ before))
+    i = since-made k h s t less (omega (arith, within)) ms cs before
 
 -- F replies are sent, and answers heard, as far apart as polls
 pub replies-apart : {period turns : ℕ} {e o : EndRun} → TwoEnds period turns e o → (s t : ℕ) → s < t → t < turns → sends_final e s ≡ true
