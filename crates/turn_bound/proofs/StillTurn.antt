@@ -145,11 +145,6 @@ pub record Stays (z : Rates) (turn : ℕ) (user : User) (role : Role) (a mid b :
   pub unreleased : release && is_originator b.setup.role ≡ false
   pub serves : Served turn (length user.breaks) (is_busy turn user.busy) mid b
 
-pub stand-linked : (z : Rates) (before turn : ℕ) (role : Role) (a : Account) → Linked z before turn role a
-    → Stands z before turn role Connected a
-stand-linked z before turn Originator a h = h
-stand-linked z before turn Answerer a h = h
-
 pub linked-stand : (z : Rates) (before turn : ℕ) (role : Role) (a : Account) → Stands z before turn role Connected a
     → Linked z before turn role a
 linked-stand z before turn Originator a h = h
@@ -298,13 +293,6 @@ finished {z} {total} {more} {user} {turn} {role} {a} {mid} s t own all dead none
 
     idle : nat_lt o.front o.high ≡ false
     idle = (or-false-both (is_outstanding o) (o.awaited || o.paused) t.idle).0
-
-    taken : nat_lt o.front total ≡ false
-    taken = and-false (nat_lt o.front o.high) (nat_lt o.front total) idle (t.free ∙ none)
-      where
-        and-false : (x y : Bool) → x ≡ false → not x && y ≡ false → y ≡ false
-        and-false true y e f = cc
-        and-false false y e f = f
 
     whole-front : o.front ≡ length o.pieces
     whole-front = let a1 = s.linked.sends.front_from in let a2 = s.linked.sends.from_high in let a3 = s.linked.sends.high_pieces in

@@ -93,12 +93,6 @@ waits-less b l = grind (arith, nat_tests, l)
 pub waits-not : (b : OwnBreaks) → length b.lengths ≤ b.answered → waits b ≡ false
 waits-not b l = grind (arith, nat_tests, l)
 
-waits-is : (b : OwnBreaks) → waits b ≡ true → b.answered < length b.lengths
-waits-is b e = grind (arith, nat_tests, e)
-
-not-waits : (b : OwnBreaks) → waits b ≡ false → length b.lengths ≤ b.answered
-not-waits b e = grind (arith, nat_tests, e)
-
 pub served-breaks : (turn l : ℕ) (a : OwnBreaks) → a.answered ≤ length a.lengths → ServedBreaks turn a (after_ask turn l a)
 served-breaks turn l a low = go (waits a) refl (nat_le a.rest turn) refl
   where

@@ -18,7 +18,7 @@ use Rattle.turn_losses.proofs.PollLaws.{two-ends}
 use Rattle.turn_losses.proofs.PeriodLaws.{NoneLost}
 use Rattle.turn_losses.proofs.PeriodHolds.{LostIn, lost-or-none}
 use Rattle.turn_losses.proofs.Starving.{all-but-one}
-use Rattle.turn_losses.proofs.Names.{Rates, rates, served_account, Served, serves-all, PeriodLoses, EndRun, TwoEnds, TimedRun, end_of}
+use Rattle.turn_losses.proofs.Names.{served_account, Served, serves-all, PeriodLoses, EndRun, TwoEnds, TimedRun, end_of}
 use Rattle.turn_losses.proofs.EndTurn.{end-turn, last-turn}
 use Rattle.lapm_frames.specs.declared.seen.Seen.TheVariants as seens
 use Rattle.lapm_frames.specs.declared.sent.Sent.TheVariants as slots
@@ -166,9 +166,6 @@ pub wants-pattern : SpendsOnTime → OriginatorWantsPattern
 wants-pattern spends tries period delay link ts before t mid kt run c broken number less =
     at-number (times period (number + 1) (tries + 1) (omega (arith, less)))
   where
-    z : Rates
-    z = rates tries period
-
     turns : ℕ
     turns = length ts
 
@@ -250,9 +247,6 @@ wants-pattern spends tries period delay link ts before t mid kt run c broken num
 
     d : 1 ≤ delay Originator
     d = kt.delays Originator
-
-    d' : 1 ≤ delay Answerer
-    d' = kt.delays Answerer
 
     -- a pattern and its answer cross unless something is lost
     no-answer : (y : ℕ) → y + period ≤ turns → NoneLost e o (y + 1) (period - 1) → ⊥

@@ -309,9 +309,6 @@ parted-each laws reads w may t mid cs hearing cm om last n less = at-expiry
     p : w.period ≡ 2 * (e.delay + o.delay) + 16
     p = k.period_is
 
-    d : 1 ≤ e.delay
-    d = k.own_delay
-
     d' : 1 ≤ o.delay
     d' = k.other_delay
 

@@ -31,9 +31,6 @@ pub awaits-on : {period turns : ℕ} {e o : EndRun} → TwoEnds period turns e o
     → (m : Answers t e o) → (u : ℕ) → m.due < u → u ≤ t → (e.account u).outgoing.awaited ≡ true
 awaits-on {period} {turns} {e} {o} k t within c m = awaits
   where
-    d' : 1 ≤ o.delay
-    d' = k.other_delay
-
     trip : m.sent + (e.delay + o.delay) ≡ t
     trip = m.round_trip
 

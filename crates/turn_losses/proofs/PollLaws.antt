@@ -65,10 +65,13 @@ set-since {period} {turns} {e} {o} k s m t less within = kept-in (λ u. SetSince
 
     later : (u : ℕ) → s + 1 ≤ u → u < t → SetSince s (e.account u) → SetSince s (e.account (u + 1))
     later u lo hi i = let q = k.own u (omega (arith, hi, within)) in
-        record { linked = q.linked i.linked; set = λ c r w. let z = q.timer c i.linked in elim (z.1 r w) [
-          | inl v ↦ omega (arith, v, lo)
-          | inr v ↦ i.set z.0 r v
-        ] }
+        record {
+          linked = q.linked i.linked;
+          set = λ c r w. let z = q.timer c i.linked in elim (z.1 r w) [
+            | inl v ↦ omega (arith, v, lo)
+            | inr v ↦ i.set z.0 r v
+          ];
+        }
 
 own-polls : {period turns : ℕ} {e o : EndRun} → TwoEnds period turns e o
     → Polls period turns (λ t. poll_due (e.account t)) e.made (sends_poll e) (hears_poll e)

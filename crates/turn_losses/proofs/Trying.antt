@@ -258,9 +258,6 @@ unanswered-loses reads w m p t s within x = go (lost-or-none e o (s + 1) (w.peri
     d : 1 ≤ e.delay
     d = k.own_delay
 
-    d' : 1 ≤ o.delay
-    d' = k.other_delay
-
     go : LostIn e o (s + 1) (w.period - 1) ⊎ NoneLost e o (s + 1) (w.period - 1) → LostIn e o (s + 1) (w.period - 1)
     go (inl lost) = lost
     go (inr none) =
