@@ -43,7 +43,8 @@ none-last link ts before t mid r tries period hearing cm l w e =
     (of r mid) l.connected cm l.waiting l.high (hearing r).hears e)
 
 -- an originator
-pub originator-breaks : StandTogether → (w : TimedRun) (t : Turn) (mid : Accounts) → Carries w.delay w.ts t → Hears (length w.ts) w.ends t mid → is_connected mid.orig.phase ≡ true
+pub originator-breaks : StandTogether → (w : TimedRun) (t : Turn) (mid : Accounts) → Carries w.delay w.ts t
+    → Hears (length w.ts) w.ends t mid → is_connected mid.orig.phase ≡ true
     → LastWait w.tries w.period (length w.ts) w.ends.orig
     → waits (served_at w.link (length w.ts) mid Originator).account.own_breaks ≡ true
     → LosesEach w.period (w.tries + 1) (length w.ts) (t ∷ w.ts)

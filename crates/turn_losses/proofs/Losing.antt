@@ -49,7 +49,8 @@ last-ends user turn released arrived a mid ca cm w high h e = by s.taken refl
     by false q = ap waits (s.no q) ∙ none
 
 -- A period of a waiting break loses something, while the other end is Connected in it.
-pub connected-loses : (w : TimedRun) (t : Turn) → Carries w.delay w.ts t → (r : Role) → (number s n : ℕ) → number < 2 → s + (n + 1) * w.period ≡ length w.ts
+pub connected-loses : (w : TimedRun) (t : Turn) → Carries w.delay w.ts t → (r : Role) → (number s n : ℕ) → number < 2
+    → s + (n + 1) * w.period ≡ length w.ts
     → BreakPeriod w.period (length w.ts) number (end_of w r) (deeds-of w r) s
     → ((u : ℕ) → s < u → u ≤ s + w.period → is_connected (of (other r) (w.state u)).phase ≡ true)
     → ((u : ℕ) → s ≤ u → u < s + w.period → of_arrived is_sabme (arrival (of r (w.deed u).turn).heard) ≡ true → ⊥)
