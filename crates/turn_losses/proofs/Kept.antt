@@ -21,3 +21,18 @@ all-or-one P Q (suc m) h = by (h m (omega arith)) (all-or-one P Q m (λ n x. h n
     by (inr x) r = inr (m, omega arith, x)
     by (inl x) (inr (n, y, z)) = inr (n, omega (arith, y), z)
     by (inl x) (inl f) = inl (λ n y. elim (cases_lt n m) [ inl z ↦ f n z | inr z ↦ subst P (omega (arith, y, z)) x ])
+
+-- in one of so many turns it comes to pass, or it is due after each
+pub until : (sent due : ℕ → Type 0) (s n : ℕ)
+    → ((t : ℕ) → s ≤ t → t < s + n → ((u : ℕ) → s ≤ u → u < t → due u) → sent t ⊎ due t)
+    → ((y : ℕ) × (s ≤ y) × (y < s + n) × sent y) ⊎ ((t : ℕ) → s ≤ t → t < s + n → due t)
+until sent due s zero h = inr (λ t a b. absurd (omega (arith, a, b)))
+until sent due s (suc n) h = by (until sent due s n (λ t a b. h t a (omega (arith, b))))
+  where
+    by : ((y : ℕ) × (s ≤ y) × (y < s + n) × sent y) ⊎ ((t : ℕ) → s ≤ t → t < s + n → due t)
+        → ((y : ℕ) × (s ≤ y) × (y < s + suc n) × sent y) ⊎ ((t : ℕ) → s ≤ t → t < s + suc n → due t)
+    by (inl (y, a, b, q)) = inl (y, a, omega (arith, b), q)
+    by (inr all) = elim (h (s + n) (omega arith) (omega arith) all) [
+      | inl q ↦ inl (s + n, omega arith, omega arith, q)
+      | inr q ↦ inr (λ t a b. elim (cases_lt t (s + n)) [ inl x ↦ all t a x | inr x ↦ subst due (omega (arith, x, b)) q ])
+    ]
