@@ -2,7 +2,7 @@
 use Rattle.std.proofs.Common.{◌≡◌, ℕ, suc, ◌+◌, ◌-◌, ◌*◌, ◌<◌, ◌≤◌, ◌||◌, ◌⊎◌, Bool, true, false, cond, nat_lt, List, [], ◌∷◌, ◌++◌, length}
 use Rattle.std.proofs.Common.{inl, inr, arith, refl, sym, ◌∙◌, ap, subst, Option, Some, None}
 use Rattle.link_account.proofs.Names.{nat_tests, Role, Originator, Answerer, is_originator, of, Outgoing, Account}
-use Rattle.link_run.proofs.Names.{Connected, User, is_released, Link, Accounts, Turn, GoingTurn, RunOf, arrival, IsCarried}
+use Rattle.link_run.proofs.Names.{Connected, is_released, Link, Accounts, Turn, GoingTurn, RunOf, arrival, IsCarried}
 use Rattle.lapm_sender.specs.Outgoing.{is_whole}
 use Rattle.turn_bound.specs.Time.{KeepsTime}
 use Rattle.turn_bound.specs.Due.{NoneDue}
@@ -21,7 +21,8 @@ use Rattle.turn_bound.proofs.Taking.{may_send_at}
 use Rattle.turn_bound.proofs.HeldTurn.{Linking, Linger, lingers}
 use Rattle.turn_bound.proofs.Wholeness.{late-whole}
 use Rattle.turn_bound.proofs.CalmRuns.{said-speaks, EndAt, end-at, never-at, light-arrival, Unpaused, calm-run, going-run, polls_heard}
-use Rattle.turn_bound.proofs.CalmRuns.{few-heard}
+use Rattle.turn_bound.proofs.CalmRuns.{few-heard, hears-in}
+use Rattle.turn_bound.proofs.Tied.{keeps}
 
 -- the run behind later turns is one run
 joins : (link : Link) (ts us : List Turn) (before after : Accounts) → RunOf link ts before → GoesOn link ts before us after
@@ -73,20 +74,14 @@ lingers-in : (tries period : ℕ) (delay : Role → ℕ) (link : Link) (ts : Lis
     → (of role after).phase ≡ Connected → Offered total (of role after)
     → Lingers tries period total ts t role (of role before) (of role after) × Offered total (of role before)
 lingers-in tries period delay link ts before t after role total k n run c g l phase offered =
-    let z : Rates = rates tries period in
-    let turn : ℕ = length ts in
-    let user : User = (of role link).user in
-    let released : Bool = is_released g.mid.orig.phase in
     let o = g.speaking role in
-    let sp = said-speaks link turn g.mid role o.said o.says in
-    let e = end-at tries period delay link ts before role k run c.1 in
+    let sp = said-speaks link (length ts) g.mid role o.said o.says in
+    let i = hears-in tries period delay link ts before role k run c.1 t g.mid g.hearing in
     let light = light-arrival delay link ts before t role n run c.0 in
     let offered' : Offered total o.said.account = subst (Offered total) o.after_is offered in
-    let et = end-turn z total user turn role (arrival (of role t).heard) (of role before)
-    (of role g.mid) released sp.0 o.said e.rates e.is_of e.stands e.role_is (g.hearing role).hears sp.1 offered' in (
-      subst (λ b. Linger z total turn (of_arrived frame_poll (arrival (of role t).heard)) (of role before) b) (sym o.after_is)
-          (lingers z total user turn role (arrival (of role t).heard) (of role before) (of role g.mid) released sp.0 o.said e.rates l
-          (never-at link turn role n) light.0 light.1 (g.hearing role).hears sp.1
+    let et = end-turn i total sp.0 sp.1 offered' in (
+      subst (Linger (rates tries period) total (length ts) (of_arrived frame_poll (arrival (of role t).heard)) (of role before))
+          (sym o.after_is) (lingers i total sp.0 l (never-at link (length ts) role n) light.0 light.1 sp.1
           (ap (λ b. b.phase) (sym o.after_is) ∙ phase) offered' et.all et.before.fits),
       et.before,
     )

@@ -1,10 +1,11 @@
 -- What holds all through a run where no user is busy.
 use Rattle.std.proofs.Common.{◌≡◌, ℕ, zero, suc, ◌+◌, ◌-◌, ◌*◌, ◌≤◌, Bool, true, false, List, [], ◌∷◌, drop, map, length, arith, refl, sym}
 use Rattle.std.proofs.Common.{◌∙◌, ap, subst, Option, Some, None, Result, Ok, Err}
-use Rattle.link_account.proofs.Names.{slice_get, AllByRecursion, Role, Originator, Answerer, other, of, Heard, Nothing, Passed, Lost}
-use Rattle.link_account.proofs.Names.{Chance, LinkFault, Account, is_connected, Said, speak}
+use Rattle.link_account.proofs.Names.{slice_get, AllByRecursion, Role, Originator, Answerer, other, of, Heard, Passed}
+use Rattle.link_account.proofs.Names.{LinkFault, Account, is_connected, Said, speak}
 use Rattle.link_run.proofs.Names.{User, is_busy, is_released, Link, Accounts, Spoken, Turn, GoingTurn, RunOf, said_at, releases, arrival}
 use Rattle.link_run.proofs.Names.{Crosses, Carries, IsCarried, sent_in, sent_ago}
+use Rattle.link_run.proofs.Names.{Hears}
 use Rattle.link_run.specs.End.{BusyLine}
 use Rattle.turn_bound.specs.Time.{KeepsTime}
 use Rattle.turn_bound.specs.Advance.{NeverBusy}
@@ -12,18 +13,19 @@ use Rattle.turn_bound.proofs.Clock.{Rates, rates, AreRates, one_if}
 use Rattle.turn_bound.proofs.Value.{IsOf, Stands, weight, rnrs, arrived_weight, arrived_rnrs}
 use Rattle.turn_bound.proofs.Run.{served_account}
 use Rattle.turn_bound.proofs.Serving.{serves-all}
-use Rattle.turn_bound.proofs.Falls.{Fits, Sound}
+use Rattle.turn_bound.proofs.Falls.{Sound, Fits}
 use Rattle.turn_bound.proofs.Ending.{fits, sound-run}
 use Rattle.turn_bound.proofs.Tied.{Tied, tied, keeps, link_of, turn_of, state_of, turns-length}
 use Rattle.turn_bound.proofs.Light.{Light, LightSaid, speaks-light}
 use Rattle.turn_bound.proofs.Lines.{arrives-weight, arrives-rnrs}
-use Rattle.turn_bound.proofs.MeetHear.{is_begun, of_frame, of_arrived}
+use Rattle.turn_bound.proofs.MeetHear.{is_begun, of_arrived, of_frame}
 use Rattle.turn_bound.proofs.MeetSpeak.{speaks-so}
 use Rattle.turn_bound.proofs.Meeting.{arrives-flag}
 use Rattle.turn_bound.proofs.Credits.{frame_poll, poll_value, poll-most}
 use Rattle.turn_bound.proofs.Polling.{nineteen_if}
 use Rattle.turn_bound.proofs.Pausing.{goes-on, says-calm}
 use Rattle.turn_bound.proofs.Polled.{poll-turn}
+use Rattle.turn_bound.proofs.OneTurn.{Hearing, hearing}
 use Rattle.link_run.specs.Run as runs
 
 -- an end speaks, told to release or not
@@ -70,6 +72,16 @@ end-at tries period delay link ts ends role k run c = by role
       is_of = subst (IsOf z) (sym h.answ_setup) f.answ;
       role_is = ap (λ x. x.role) h.answ_setup ∙ f.answers;
     }
+
+-- and in the turn behind
+pub hears-in : (tries period : ℕ) (delay : Role → ℕ) (link : Link) (ts : List Turn) (before : Accounts) (role : Role)
+    → KeepsTime tries period delay link → RunOf link ts before → IsCarried delay ts → (t : Turn) (mid : Accounts)
+    → Hears (length ts) before t mid
+    → Hearing (rates tries period) (of role link).user (length ts) role (of role before) (arrival (of role t).heard) (of role mid)
+    (served_account (of role link).user (length ts) (is_released mid.orig.phase) (of role mid))
+hears-in tries period delay link ts before role k run c t mid g =
+    let e = end-at tries period delay link ts before role k run c in
+    hearing (of role link).user (is_released mid.orig.phase) e.rates e.is_of e.stands e.role_is (g role).hears
 
 never-busy : (turn : ℕ) (lines : List BusyLine) → lines ≡ [] → is_busy turn lines ≡ false
 never-busy turn lines e = ap (is_busy turn) e
@@ -124,11 +136,9 @@ all-get (t ∷ ts) (suc n) h role = all-get ts n h.1 role
 -- so is what arrives
 pub light-heard : (m : Option Spoken) (heard : Heard) → Crosses m heard → LightSlot m
     → (arrived_weight (arrival heard) ≤ 2) × (arrived_rnrs (arrival heard) ≡ 0)
-light-heard m Nothing c l = (omega arith, refl)
-light-heard m (Lost s) c l = (omega arith, refl)
 light-heard None (Passed s) c l = absurd c
 light-heard (Some slot) (Passed s) c l = (omega (arith, l.0, ap weight c.0, arrives-weight s), arrives-rnrs s ∙ (ap rnrs c.0 ∙ l.1))
-light-heard m Chance c l = (omega arith, refl)
+light-heard m p c l = (omega arith, refl)
 
 pub light-arrival : (delay : Role → ℕ) (link : Link) (ts : List Turn) (ends : Accounts) (t : Turn) (role : Role) → NeverBusy link
     → RunOf link ts ends → Carries delay ts t
@@ -243,11 +253,9 @@ split (suc k) (t ∷ ts) = go (split k ts)
     go (Within x rest e f g) = Within x rest e f g
 
 crossed-polls : (m : Option Spoken) (heard : Heard) → Crosses m heard → one_if (of_arrived frame_poll (arrival heard)) ≤ poll_in m
-crossed-polls m Nothing c = omega arith
-crossed-polls m (Lost s) c = omega arith
 crossed-polls None (Passed s) c = absurd c
 crossed-polls (Some slot) (Passed s) c = omega (arith, ap one_if (arrives-flag frame_poll s ∙ ap (of_frame frame_poll) c.0))
-crossed-polls m Chance c = omega arith
+crossed-polls m p c = omega arith
 
 pub heard-sent : (delay : Role → ℕ) (d n : ℕ) (ts : List Turn) (role : Role) → delay (other role) ≡ d → 1 ≤ d → IsCarried delay ts
     → polls_heard n role ts ≤ polls_sent n (other role) (drop d ts)

@@ -1,18 +1,17 @@
-use Rattle.std.proofs.Common.{◌≡◌, ℕ, ◌+◌, ◌*◌, ◌<◌, ◌≤◌, ◌&&◌, ◌||◌, not, Bool, true, false, cond, nat_lt, List, [], ◌∷◌, ◌++◌, length}
-use Rattle.std.proofs.Common.{length-append, arith, refl, sym, ◌∙◌, ap, subst, Some, None, Result, Ok, Err}
+use Rattle.std.proofs.Common.{◌≡◌, ℕ, ◌+◌, ◌*◌, ◌<◌, ◌≤◌, ◌&&◌, ◌||◌, not, Bool, true, false, cond, nat_lt, [], length, length-append}
+use Rattle.std.proofs.Common.{arith, refl, sym, ◌∙◌, ap, subst, Some, None, Result, Ok, Err, List, ◌++◌, ◌∷◌}
 use Rattle.link_account.proofs.Names.{nat_tests, Role, Originator, Answerer, Outgoing, wanted, Arrived, LinkFault, Account, is_connected}
-use Rattle.link_account.proofs.Names.{is_originator, hear, Said, speak, Slot}
-use Rattle.link_run.proofs.Names.{Phase, Connected, User, is_busy, is_closed}
-use Rattle.link_run.proofs.Names.{is_released, has_finished}
-use Rattle.turn_bound.proofs.Clock.{Rates, AreRates, is_waiting, is_free, lasts, one_if, is_breaking}
-use Rattle.turn_bound.proofs.Value.{value, linked_lives, lives, IsOf, Linked, Stands, dues, arrived_weight, arrived_rnrs}
+use Rattle.link_account.proofs.Names.{is_originator, Said, speak, Slot, other}
+use Rattle.link_run.proofs.Names.{Phase, Connected, User, is_busy, is_closed, is_released, has_finished}
+use Rattle.turn_bound.proofs.Clock.{Rates, is_waiting, is_free, lasts, one_if, is_breaking, AreRates}
+use Rattle.turn_bound.proofs.Value.{value, linked_lives, lives, IsOf, Linked, Stands, dues, arrived_rnrs}
 use Rattle.link_run.specs.End.{busy_left}
 use Rattle.turn_bound.proofs.Run.{served_account, Link, State, Turn, GoingTurn, arrival, left_on, slot_of}
 use Rattle.turn_bound.proofs.Potential.{weights, rnrs_on, Totals, is_alive, stall, potential, AreTogether}
 use Rattle.turn_bound.proofs.Arithmetic.{kept}
 use Rattle.turn_bound.proofs.Lines.{AllLight, arrived-well, weights-snoc, rnrs-snoc, light-snoc, weights-most, dues-most, busy-falls}
 use Rattle.turn_bound.proofs.Serving.{serves-all}
-use Rattle.turn_bound.proofs.OneTurn.{TurnsAs, one-turn}
+use Rattle.turn_bound.proofs.OneTurn.{TurnsAs, one-turn, Hearing, hearing}
 use Rattle.turn_bound.proofs.Light.{Light, LightSaid, speaks-light}
 use Rattle.turn_bound.proofs.StillTurn.{Stays, stays, Stilled, stilled, finished}
 
@@ -45,33 +44,29 @@ full-or-ended total o none window whole less = go o.ended refl (nat_lt (length o
     go false e true f g = cc
     go false e false f g = let full : o.front + o.window ≤ length o.pieces = grind (arith, nat_tests) in omega (arith, full, window)
 
-pub end-turn : (z : Rates) (total : ℕ) (user : User) (turn : ℕ) (role : Role) (arrived : Arrived) (a mid : Account)
-    (released release : Bool) (said : Said)
-    → AreRates z → IsOf z a.setup → Stands z turn turn role a.phase a → a.setup.role ≡ role
-    → hear turn arrived a ≡ Ok mid → speak turn release (served_account user turn released mid) ≡ Ok said → Offered total said.account
-    → EndTurn z total user turn role arrived a (served_account user turn released mid) said
-end-turn z total user turn role arrived a mid released release said y k h er hears speaks offered =
-    let b : Account = served_account user turn released mid in
-    let first = one-turn z (length b.outgoing.pieces) user turn role a.phase arrived a mid released release said y k h refl er hears speaks
-    (omega arith) in
-    let same : length said.account.outgoing.pieces ≡ length b.outgoing.pieces = ap (λ l. length l) first.1.pieces in
-    let all : length b.outgoing.pieces ≤ total = omega (arith, same, offered.fits) in
-    let t = one-turn z total user turn role a.phase arrived a mid released release said y k h refl er hears speaks all in
-    let s = serves-all user turn released mid in
-    record {
-      turns = subst (λ q. TurnsAs z total (length user.breaks) turn (z.quota * arrived_rnrs arrived) role a.phase a b q said.account)
-          (sym t.1.phase) t.1;
-      all = all;
-      before = record {
-        fits = omega (arith, t.1.longer, offered.fits);
-        whole = λ w. let x = t.1.whole w in
-            ap (λ l. length l) (sym x.0) ∙ offered.whole x.1;
-      };
-      light = light-ok (is_busy turn user.busy) said (speak turn release b) speaks
-          (speaks-light (is_busy turn user.busy) turn release b (λ c. s.busy_now (ap is_connected (sym s.phase) ∙ c)));
-      more = λ c w less. full-or-ended total b.outgoing (ap (λ x. cond x (wanted b.outgoing) None) (sym c) ∙ s.wants_none) w
-          (λ e. sym same ∙ offered.whole (t.1.ended ∙ e)) less;
-    }
+module _ {z : Rates} {user : User} {turn : ℕ} {role : Role} {a : Account} {arrived : Arrived} {mid b : Account}
+    (i : Hearing z user turn role a arrived mid b) where
+  pub end-turn : (total : ℕ) (release : Bool) {said : Said} → speak turn release b ≡ Ok said → Offered total said.account
+      → EndTurn z total user turn role arrived a b said
+  end-turn total release {said} speaks offered =
+      let first = one-turn i (length b.outgoing.pieces) release speaks (omega arith) in
+      let same : length said.account.outgoing.pieces ≡ length b.outgoing.pieces = ap (λ l. length l) first.1.pieces in
+      let all : length b.outgoing.pieces ≤ total = omega (arith, same, offered.fits) in
+      let t = one-turn i total release speaks all in
+      let s = i.serves in
+      record {
+        turns = subst (λ q. TurnsAs z total (length user.breaks) turn (z.quota * arrived_rnrs arrived) role a.phase a b q said.account)
+            (sym t.1.phase) t.1;
+        all = all;
+        before = record {
+          fits = omega (arith, t.1.longer, offered.fits);
+          whole = λ w. let x = t.1.whole w in ap (λ l. length l) (sym x.0) ∙ offered.whole x.1;
+        };
+        light = light-ok (is_busy turn user.busy) said (speak turn release b) speaks
+            (speaks-light (is_busy turn user.busy) turn release b (λ c. s.busy_now (ap is_connected (sym s.phase) ∙ c)));
+        more = λ c w less. full-or-ended total b.outgoing (ap (λ x. cond x (wanted b.outgoing) None) (sym c) ∙ s.wants_none) w
+            (λ e. sym same ∙ offered.whole (t.1.ended ∙ e)) less;
+      }
 
 -- what holds of both ends and both lines between turns
 pub record Sound (z : Rates) (link : Link) (turn : ℕ) (s : State) : Type 0 where
@@ -124,16 +119,13 @@ dead-connected : (turn : ℕ) (p : Phase) (a : Account) → is_closed p ≡ fals
 dead-connected turn Connected a c d = refl
 dead-connected turn p a c d = cc
 
-finished-at : (z : Rates) (total more : ℕ) (user : User) (turn : ℕ) (role : Role) (a mid : Account) (released release : Bool) (said : Said)
-    → released ≡ false
-    → Stays z total turn user role a mid (served_account user turn released mid) release said
+finished-at : {z : Rates} {total more : ℕ} {user : User} {turn : ℕ} {role : Role} {a mid : Account} (released : Bool) {release : Bool}
+    {said : Said} → released ≡ false → Stays z turn user role a mid (served_account user turn released mid) release said
     → Stilled z total turn a mid (served_account user turn released mid) said more → Linked z turn turn role a
     → length (served_account user turn released mid).outgoing.pieces ≤ total → linked_lives turn a ≡ false
-    → is_free total a.outgoing ≡ false
-    → has_finished user turn (served_account user turn released mid) ≡ true
-finished-at z total more user turn role a mid true release said r s t h all dead none = cc
-finished-at z total more user turn role a mid false release said r s t h all dead none =
-    finished z total more user turn role a mid release said s t h.breaks all dead none
+    → is_free total a.outgoing ≡ false → has_finished user turn (served_account user turn released mid) ≡ true
+finished-at true r s t h all dead none = cc
+finished-at false r s t h all dead none = finished s t h.breaks all dead none
 
 lives-linked-o : (turn : ℕ) (a : Account) → a.phase ≡ Connected → lives turn Originator a.phase a ≡ false → linked_lives turn a ≡ false
 lives-linked-o turn a e f = subst (λ p. lives turn Originator p a ≡ false) e f
@@ -194,17 +186,28 @@ pub record Both (z : Rates) (link : Link) (totals : Totals) (turn : ℕ) (s : St
   pub answ : EndTurn z totals.answ link.answ.user turn Answerer (arrival link.orig.delay t.answ_loses s.forward) s.answ
       (served_account link.answ.user turn (is_released orig_mid.phase) answ_mid) answ_said
 
+-- an end hears in a turn
+hears-o : {z : Rates} {link : Link} {turn : ℕ} {s : State} {t : Turn} {u : State} → Fits z link → Sound z link turn s
+    → (g : GoingTurn link turn s t u)
+    → Hearing z link.orig.user turn Originator s.orig (arrival link.answ.delay t.orig_loses s.back) g.orig_mid
+    (served_account link.orig.user turn (is_released g.orig_mid.phase) g.orig_mid)
+hears-o {z} {link} f h g = hearing link.orig.user (is_released g.orig_mid.phase) f.rates (subst (IsOf z) (sym h.orig_setup) f.orig) h.orig
+    (ap (λ x. x.role) h.orig_setup ∙ f.originates) g.orig_hears
+
+hears-a : {z : Rates} {link : Link} {turn : ℕ} {s : State} {t : Turn} {u : State} → Fits z link → Sound z link turn s
+    → (g : GoingTurn link turn s t u)
+    → Hearing z link.answ.user turn Answerer s.answ (arrival link.orig.delay t.answ_loses s.forward) g.answ_mid
+    (served_account link.answ.user turn (is_released g.orig_mid.phase) g.answ_mid)
+hears-a {z} {link} f h g = hearing link.answ.user (is_released g.orig_mid.phase) f.rates (subst (IsOf z) (sym h.answ_setup) f.answ) h.answ
+    (ap (λ x. x.role) h.answ_setup ∙ f.answers) g.answ_hears
+
 pub both-turn : (z : Rates) (link : Link) (totals : Totals) (turn : ℕ) (s : State) (t : Turn) (u : State) → Fits z link
     → Sound z link turn s → (g : GoingTurn link turn s t u) → Offered totals.orig g.orig_said.account
     → Offered totals.answ g.answ_said.account
     → Both z link totals turn s t u g.orig_mid g.answ_mid g.orig_said g.answ_said
 both-turn z link totals turn s t u f h g oo oa = record {
-  orig = end-turn z totals.orig link.orig.user turn Originator (arrival link.answ.delay t.orig_loses s.back) s.orig g.orig_mid
-      (is_released g.orig_mid.phase) _ g.orig_said f.rates (subst (IsOf z) (sym h.orig_setup) f.orig) h.orig
-      (ap (λ x. x.role) h.orig_setup ∙ f.originates) g.orig_hears g.orig_says oo;
-  answ = end-turn z totals.answ link.answ.user turn Answerer (arrival link.orig.delay t.answ_loses s.forward) s.answ g.answ_mid
-      (is_released g.orig_mid.phase) false g.answ_said f.rates (subst (IsOf z) (sym h.answ_setup) f.answ) h.answ
-      (ap (λ x. x.role) h.answ_setup ∙ f.answers) g.answ_hears g.answ_says oa;
+  orig = end-turn (hears-o f h g) totals.orig _ g.orig_says oo;
+  answ = end-turn (hears-a f h g) totals.answ false g.answ_says oa;
 }
 
 pub sound-after : (z : Rates) (link : Link) (totals : Totals) (turn : ℕ) (s : State) (t : Turn) (u : State) → Fits z link
@@ -262,40 +265,26 @@ standstill z link totals turn s t u f h g oo oa before after dead dead' calm_o c
     let pa' : g.answ_said.account.phase ≡ Connected = after.answ po' in
     let lo : Linked z turn turn Originator s.orig = subst (λ p. Stands z turn turn Originator p s.orig) po h.orig in
     let la : Linked z turn turn Answerer s.answ = subst (λ p. Stands z turn turn Answerer p s.answ) pa h.answ in
-    let ko : IsOf z s.orig.setup = subst (IsOf z) (sym h.orig_setup) f.orig in
-    let ka : IsOf z s.answ.setup = subst (IsOf z) (sym h.answ_setup) f.answ in
-    let ro : s.orig.setup.role ≡ Originator = ap (λ x. x.role) h.orig_setup ∙ f.originates in
-    let ra : s.answ.setup.role ≡ Answerer = ap (λ x. x.role) h.answ_setup ∙ f.answers in
     let quiet_o = lives-linked-o turn s.orig po dead_o in
     let quiet_a = lives-linked-a turn s.answ pa dead_a in
     let quiet_o' = lives-linked-o (turn + 1) g.orig_said.account po' dead_o' in
     let quiet_a' = lives-linked-a (turn + 1) g.answ_said.account pa' dead_a' in
-    let to = stays z totals.orig link.orig.user turn Originator (arrival link.answ.delay t.orig_loses s.back) s.orig g.orig_mid
-    (is_released g.orig_mid.phase) _ g.orig_said f.rates ko lo po ro g.orig_hears g.orig_says b.orig.all po' in
-    let ta = stays z totals.answ link.answ.user turn Answerer (arrival link.orig.delay t.answ_loses s.forward) s.answ g.answ_mid
-    (is_released g.orig_mid.phase) false g.answ_said f.rates ka la pa ra g.answ_hears g.answ_says b.answ.all pa' in
+    let io = hears-o f h g in
+    let ia = hears-a f h g in
+    let to = stays io po _ g.orig_says po' in
+    let ta = stays ia pa false g.answ_says pa' in
     let wo = to.linked.sends.window in
     let wa = ta.linked.sends.window in
-    let mo : is_originator s.orig.setup.role || s.orig.numbered ≡ true = ap (λ r. is_originator r || s.orig.numbered) ro in
+    let mo : is_originator s.orig.setup.role || s.orig.numbered ≡ true = ap (λ r. is_originator r || s.orig.numbered) io.role_is in
     let ma : is_originator s.answ.setup.role || s.answ.numbered ≡ true =
     spoken-to-a (is_originator s.answ.setup.role) s.answ.numbered (λ n. polled-not s.orig (before.polls po n) quiet_o) in
-    let xo = stilled z totals.orig link.orig.user turn Originator (arrival link.answ.delay t.orig_loses s.back) s.orig g.orig_mid
-    (served_account link.orig.user turn (is_released g.orig_mid.phase) g.orig_mid) _ g.orig_said f.rates ko lo po ro g.orig_hears
-    b.orig.all to
-    quiet_o quiet_o' calm_o mo (b.orig.more (ap is_connected to.phase) wo) in
-    let xa = stilled z totals.answ link.answ.user turn Answerer (arrival link.orig.delay t.answ_loses s.forward) s.answ g.answ_mid
-    (served_account link.answ.user turn (is_released g.orig_mid.phase) g.answ_mid) false g.answ_said f.rates ka la pa ra g.answ_hears
-    b.answ.all ta
-    quiet_a quiet_a' calm_a ma (b.answ.more (ap is_connected ta.phase) wa) in
+    let xo = stilled io totals.orig lo po to b.orig.all quiet_o quiet_o' calm_o mo (b.orig.more (ap is_connected to.phase) wo) in
+    let xa = stilled ia totals.answ la pa ta b.answ.all quiet_a quiet_a' calm_a ma (b.answ.more (ap is_connected ta.phase) wa) in
     let free = calm-free (is_free totals.orig s.orig.outgoing) (is_free totals.answ s.answ.outgoing) (λ no na.
     let r = released-not g.orig_mid.phase to.mid_phase in
-    let fo = finished-at z totals.orig
-    (arrived_weight (arrival link.answ.delay t.orig_loses s.back)) link.orig.user turn Originator s.orig g.orig_mid
-    (is_released g.orig_mid.phase) _ g.orig_said r to xo lo b.orig.all quiet_o no in
-    let fa = finished-at z totals.answ
-    (arrived_weight (arrival link.orig.delay t.answ_loses s.forward)) link.answ.user turn Answerer s.answ g.answ_mid
-    (is_released g.orig_mid.phase) false g.answ_said r ta xa la b.answ.all quiet_a na in
-    all-three _ _ _ fo fa (ap (λ x. is_originator x.role) to.setup ∙ ap is_originator ro) to.unreleased) in
+    let fo = finished-at (is_released g.orig_mid.phase) r to xo lo b.orig.all quiet_o no in
+    let fa = finished-at (is_released g.orig_mid.phase) r ta xa la b.answ.all quiet_a na in
+    all-three _ _ _ fo fa (ap is_originator io.b_role) to.unreleased) in
     omega (
       arith,
       xo.pays,

@@ -1,27 +1,25 @@
 -- A turn of an end that stays Connected, where no user is busy.
-use Rattle.std.proofs.Common.{◌≡◌, ℕ, ◌+◌, ◌*◌, ◌<◌, ◌≤◌, ◌&&◌, ◌||◌, ◌⊎◌, not, nat_eq, nat_lt, Bool, true, false, cond, length, inl, inr}
-use Rattle.std.proofs.Common.{arith, refl, sym, ◌∙◌, ap, subst, Option, Some, None, Ok}
-use Rattle.link_account.proofs.Names.{is_some, nat_tests, Role, is_originator, wanted, Arrived, Account, is_connected, hear, Said, speak}
-use Rattle.link_account.proofs.Names.{steps}
+use Rattle.std.proofs.Common.{◌≡◌, ℕ, ◌+◌, ◌<◌, ◌≤◌, ◌&&◌, ◌⊎◌, not, nat_eq, nat_lt, Bool, true, false, cond, length, inl, inr, arith}
+use Rattle.std.proofs.Common.{refl, sym, ◌∙◌, ap, subst, Option, Some, None, Ok}
+use Rattle.link_account.proofs.Names.{is_some, nat_tests, Role, is_originator, wanted, Arrived, Account, is_connected, Said, speak, steps}
+use Rattle.link_account.proofs.Names.{other}
 use Rattle.link_run.proofs.Names.{Connected, Closed, User, is_busy, is_released}
 use Rattle.lapm_sender.specs.Outgoing.{is_whole}
 use Rattle.turn_bound.specs.Due.{NoneDue}
 use Rattle.turn_bound.proofs.Clock.{Rates, AreRates, is_waiting, Sends, ends, one_if, lasts, sender_value}
 use Rattle.turn_bound.proofs.Value.{IsOf, Linked, Stands, arrived_weight, arrived_rnrs}
-use Rattle.turn_bound.proofs.Run.{served_account}
 use Rattle.turn_bound.proofs.Sender.{heard-well}
 use Rattle.turn_bound.proofs.Breaking.{ends-same}
 use Rattle.turn_bound.proofs.Speaking.{timed-linked}
 use Rattle.turn_bound.proofs.Falls.{Offered, full-or-ended}
-use Rattle.turn_bound.proofs.Phases.{hears-well}
-use Rattle.turn_bound.proofs.OneTurn.{heard-ok}
-use Rattle.turn_bound.proofs.StillTurn.{Stays, stays, Spoke, spoke, stand-linked, linked-stand}
-use Rattle.turn_bound.proofs.MeetHear.{of_arrived}
+use Rattle.turn_bound.proofs.StillTurn.{Stays, stays, Spoke, spoke, linked-stand, or-numbered}
 use Rattle.turn_bound.proofs.Credits.{held_value, frame_poll}
 use Rattle.turn_bound.proofs.Taking.{owed_by, may_send_at, TakesNumber, Takes, Closes, takes}
 use Rattle.turn_bound.proofs.Asking.{served-own, served-owes}
 use Rattle.turn_bound.proofs.Pausing.{Calm, says-calm}
-use Rattle.turn_bound.proofs.Holding.{TicksOnly, ticks-only, Ready, base_value, Pays, Replies, Much, Srejs, Goes, steps-go}
+use Rattle.turn_bound.proofs.Holding.{TicksOnly, ticks-only, Ready, base_value, Pays, Goes, steps-go, Much, Replies, Srejs}
+use Rattle.turn_bound.proofs.OneTurn.{Hearing}
+use Rattle.turn_bound.proofs.MeetHear.{of_arrived}
 
 -- an end between turns that is Connected and may send
 pub record Linking (z : Rates) (turn : ℕ) (role : Role) (a : Account) : Type 0 where
@@ -69,210 +67,195 @@ heard-value z total turn a b y s all (inr n) = (
   omega (arith, ap (λ o. o.front) n.0),
 )
 
-pub lingers : (z : Rates) (total : ℕ) (user : User) (turn : ℕ) (role : Role) (arrived : Arrived) (a mid : Account) (released release : Bool)
-    (said : Said)
-    → AreRates z → Linking z turn role a → is_busy turn user.busy ≡ false → arrived_weight arrived ≤ 2 → arrived_rnrs arrived ≡ 0
-    → hear turn arrived a ≡ Ok mid → speak turn release (served_account user turn released mid) ≡ Ok said → said.account.phase ≡ Connected
-    → Offered total said.account
-    → length (served_account user turn released mid).outgoing.pieces ≤ total → length a.outgoing.pieces ≤ total
-    → Linger z total turn (of_arrived frame_poll arrived) a said.account
-lingers z total user turn role arrived a mid released release said y l calm light quiet hears speaks after offered all before =
-    result (takes z turn role a l.linked l.phase arrived mid light quiet hears)
-  where
-    polled : Bool
-    polled = of_arrived frame_poll arrived
+module _ {z : Rates} {user : User} {turn : ℕ} {role : Role} {a : Account} {arrived : Arrived} {mid b : Account}
+    (i : Hearing z user turn role a arrived mid b) where
+  pub lingers : (total : ℕ) (release : Bool) {said : Said} → Linking z turn role a → is_busy turn user.busy ≡ false
+      → arrived_weight arrived ≤ 2 → arrived_rnrs arrived ≡ 0 → speak turn release b ≡ Ok said → said.account.phase ≡ Connected
+      → Offered total said.account → length b.outgoing.pieces ≤ total → length a.outgoing.pieces ≤ total
+      → Linger z total turn (of_arrived frame_poll arrived) a said.account
+  lingers total release {said} l calm light quiet speaks after offered all before =
+      result (takes z turn role a l.linked l.phase arrived mid light quiet i.hears)
+    where
+      polled : Bool
+      polled = of_arrived frame_poll arrived
 
-    b : Account
-    b = served_account user turn released mid
+      y : AreRates z
+      y = i.rates
 
-    s : Stays z total turn user role a mid b release said
-    s = stays z total user turn role arrived a mid released release said y l.rates l.linked l.phase l.role_is hears speaks all after
+      k : IsOf z b.setup
+      k = i.b_is_of
 
-    k : IsOf z b.setup
-    k = subst (IsOf z) (sym s.setup) l.rates
+      s : Stays z turn user role a mid b release said
+      s = stays i l.phase release speaks after
 
-    role-is : b.setup.role ≡ role
-    role-is = ap (λ x. x.role) s.setup ∙ l.role_is
+      p : Spoke z total (length user.breaks) turn role b said
+      p = spoke z total (length user.breaks) turn role b said y k s.linked i.b_role all s.says
 
-    p : Spoke z total (length user.breaks) turn role b said
-    p = spoke z total (length user.breaks) turn role b said y k s.linked role-is all s.says
+      busy-is : b.owes.busy ≡ false
+      busy-is = s.serves.busy_now (ap is_connected s.mid_phase) ∙ calm
 
-    busy-is : b.owes.busy ≡ false
-    busy-is = s.serves.busy_now (ap is_connected s.mid_phase) ∙ calm
+      c : Calm b said
+      c = says-calm turn release b said (λ f. busy-is) speaks
 
-    c : Calm b said
-    c = says-calm turn release b said (λ f. busy-is) speaks
+      -- serving leaves the sender's part but for its pieces
+      same-value : sender_value z total turn b.outgoing b.wait.timer ≡ sender_value z total turn mid.outgoing mid.wait.timer
+      same-value = ap (λ o. sender_value z total turn o b.wait.timer) s.serves.longer.outgoing
+          ∙ ap (λ w. sender_value z total turn mid.outgoing w.timer) s.serves.wait
 
-    -- serving leaves the sender's part but for its pieces
-    same-value : sender_value z total turn b.outgoing b.wait.timer ≡ sender_value z total turn mid.outgoing mid.wait.timer
-    same-value = ap (λ o. sender_value z total turn o b.wait.timer) s.serves.longer.outgoing
-        ∙ ap (λ w. sender_value z total turn mid.outgoing w.timer) s.serves.wait
+      same-waits : is_waiting b.outgoing ≡ is_waiting mid.outgoing
+      same-waits = ap is_waiting s.serves.longer.outgoing
 
-    same-waits : is_waiting b.outgoing ≡ is_waiting mid.outgoing
-    same-waits = ap is_waiting s.serves.longer.outgoing
+      timed-waits : is_waiting p.timed.outgoing ≡ is_waiting mid.outgoing
+      timed-waits = p.is_timed.waited.waits ∙ same-waits
 
-    timed-waits : is_waiting p.timed.outgoing ≡ is_waiting mid.outgoing
-    timed-waits = p.is_timed.waited.waits ∙ same-waits
+      front-served : b.outgoing.front ≡ mid.outgoing.front
+      front-served = ap (λ o. o.front) s.serves.longer.outgoing
 
-    front-served : b.outgoing.front ≡ mid.outgoing.front
-    front-served = ap (λ o. o.front) s.serves.longer.outgoing
+      front-said : said.account.outgoing.front ≡ b.outgoing.front
+      front-said = ap (λ m. m.1) c.0
 
-    front-said : said.account.outgoing.front ≡ b.outgoing.front
-    front-said = ap (λ m. m.1) c.0
+      closed : Closes a mid → ⊥
+      closed e = let wrong : Closed ≡ Connected = sym e.phase ∙ s.mid_phase in cc
 
-    closed : Closes a mid → ⊥
-    closed e = let wrong : Closed ≡ Connected = sym e.phase ∙ s.mid_phase in cc
+      may-said : Takes turn polled a mid → may_send_at said.account ≡ true
+      may-said t = or-numbered (is_originator a.setup.role) (is_originator said.account.setup.role) a.numbered said.account.numbered
+          (ap (λ x. is_originator x.role) (p.stepped.same.setup ∙ (p.is_timed.same.setup ∙ s.setup)))
+          (λ n. p.stepped.same.numbered ∙ (p.is_timed.same.numbered ∙ (s.serves.numbered ∙ t.numbered n))) l.may
 
-    may-said : Takes turn polled a mid → may_send_at said.account ≡ true
-    may-said t = or-numbered (is_originator a.setup.role) (is_originator said.account.setup.role) a.numbered said.account.numbered
-        (ap (λ x. is_originator x.role) (p.stepped.same.setup ∙ (p.is_timed.same.setup ∙ s.setup)))
-        (λ n. p.stepped.same.numbered ∙ (p.is_timed.same.numbered ∙ (s.serves.numbered ∙ t.numbered n))) l.may
-      where
-        or-numbered : (o o' n n' : Bool) → o' ≡ o → (n ≡ true → n' ≡ true) → o || n ≡ true → o' || n' ≡ true
-        or-numbered o o' n n' e f g = grind (arith)
+      may-served : Takes turn polled a mid → may_send_at b ≡ true
+      may-served t = or-numbered (is_originator a.setup.role) (is_originator b.setup.role) a.numbered b.numbered
+          (ap (λ x. is_originator x.role) s.setup) (λ n. s.serves.numbered ∙ t.numbered n) l.may
 
-    may-served : Takes turn polled a mid → may_send_at b ≡ true
-    may-served t = or-numbered (is_originator a.setup.role) (is_originator b.setup.role) a.numbered b.numbered
-        (ap (λ x. is_originator x.role) s.setup) (λ n. s.serves.numbered ∙ t.numbered n) l.may
-      where
-        or-numbered : (o o' n n' : Bool) → o' ≡ o → (n ≡ true → n' ≡ true) → o || n ≡ true → o' || n' ≡ true
-        or-numbered o o' n n' e f g = grind (arith)
+      mid-linked : Linked z (turn + 1) turn role mid
+      mid-linked = linked-stand z (turn + 1) turn role mid
+          (subst (λ q. Stands z (turn + 1) turn role q mid) (sym i.heard.phase ∙ s.mid_phase) i.heard.stands)
 
-    mid-linked : Linked z (turn + 1) turn role mid
-    mid-linked =
-        let more : ℕ = z.quota * arrived_rnrs arrived in
-        let heard = heard-ok z (length a.outgoing.pieces) (length user.breaks) turn more role Connected a mid (hear turn arrived a) hears
-        (hears-well z (length a.outgoing.pieces) (length user.breaks) turn role Connected arrived a y l.rates
-        (stand-linked z turn turn role a l.linked) l.phase l.role_is (omega arith)) in
-        linked-stand z (turn + 1) turn role mid
-        (subst (λ q. Stands z (turn + 1) turn role q mid) (sym heard.1.phase ∙ s.mid_phase) heard.1.stands)
+      holds : Takes turn polled a mid → is_waiting b.outgoing ≡ false → said.account.outgoing.front < total
+          → (is_waiting said.account.outgoing ≡ true) ⊎ (held_value (turn + 1) said.account + 3 ≤ held_value turn a + eight_if polled)
+      holds t idle less = by (subst (Goes turn b.special d) said-is (steps-go z turn b.special d y ready refl))
+        where
+          no-timer : b.wait.timer ≡ None
+          no-timer = stopped b.wait.timer (s.linked.sends.cause ∙ idle)
+            where
+              stopped : (m : Option ℕ) → is_some m ≡ false → m ≡ None
+              stopped None e = refl
+              stopped (Some set) e = cc
 
-    holds : Takes turn polled a mid → is_waiting b.outgoing ≡ false → said.account.outgoing.front < total
-        → (is_waiting said.account.outgoing ≡ true) ⊎ (held_value (turn + 1) said.account + 3 ≤ held_value turn a + eight_if polled)
-    holds t idle less = by (subst (Goes turn b.special d) said-is (steps-go z turn b.special d y ready refl))
-      where
-        no-timer : b.wait.timer ≡ None
-        no-timer = stopped b.wait.timer (s.linked.sends.cause ∙ idle)
-          where
-            stopped : (m : Option ℕ) → is_some m ≡ false → m ≡ None
-            stopped None e = refl
-            stopped (Some set) e = cc
+          q : TicksOnly turn b p.timed
+          q = ticks-only z turn b p.timed y k no-timer p.timers
 
-        q : TicksOnly turn b p.timed
-        q = ticks-only z turn b p.timed y k no-timer p.timers
+          d : Account
+          d = record b { own_breaks = q.own; special = false }
 
-        d : Account
-        d = record b { own_breaks = q.own; special = false }
+          said-is : steps turn b.special d ≡ said
+          said-is = subst (λ x. steps turn b.special (record x { special = false }) ≡ said) q.timed_is p.said_is
 
-        said-is : steps turn b.special d ≡ said
-        said-is = subst (λ x. steps turn b.special (record x { special = false }) ≡ said) q.timed_is p.said_is
+          linked : Linked z (turn + 1) (turn + 1) role d
+          linked = subst (λ x. Linked z (turn + 1) (turn + 1) role (record x { special = false })) q.timed_is
+              (timed-linked z total (length user.breaks) turn role b p.timed p.is_timed)
 
-        linked : Linked z (turn + 1) (turn + 1) role d
-        linked = subst (λ x. Linked z (turn + 1) (turn + 1) role (record x { special = false })) q.timed_is
-            (timed-linked z total (length user.breaks) turn role b p.timed p.is_timed)
+          pieces-said : said.account.outgoing.pieces ≡ b.outgoing.pieces
+          pieces-said = p.stepped.same.pieces ∙ p.is_timed.same.pieces
 
-        pieces-said : said.account.outgoing.pieces ≡ b.outgoing.pieces
-        pieces-said = p.stepped.same.pieces ∙ p.is_timed.same.pieces
+          more : b.outgoing.front < length b.outgoing.pieces
+          more = full-or-ended total b.outgoing
+              (ap (λ x. cond x (wanted b.outgoing) None) (sym (ap is_connected s.phase)) ∙ s.serves.wants_none) s.linked.sends.window
+              (λ e. ap (λ x. length x) (sym pieces-said) ∙ offered.whole (p.stepped.same.ended ∙ (p.is_timed.same.ended ∙ e)))
+              (omega (arith, less, front-said))
 
-        more : b.outgoing.front < length b.outgoing.pieces
-        more = full-or-ended total b.outgoing
-            (ap (λ x. cond x (wanted b.outgoing) None) (sym (ap is_connected s.phase)) ∙ s.serves.wants_none) s.linked.sends.window
-            (λ e. ap (λ x. length x) (sym pieces-said) ∙ offered.whole (p.stepped.same.ended ∙ (p.is_timed.same.ended ∙ e)))
-            (omega (arith, less, front-said))
+          ready : Ready z turn d
+          ready = record {
+            sends = linked.sends;
+            idle = idle;
+            answer = s.serves.answer ∙ t.answer l.none_due.answer l.may;
+            busy = busy-is;
+            told = s.serves.busy_told ∙ (t.told ∙ l.told);
+            may = may-served t;
+            more = more;
+          }
 
-        ready : Ready z turn d
-        ready = record {
-          sends = linked.sends;
-          idle = idle;
-          answer = s.serves.answer ∙ t.answer l.none_due.answer l.may;
-          busy = busy-is;
-          told = s.serves.busy_told ∙ (t.told ∙ l.told);
-          may = may-served t;
-          more = more;
-        }
-
-        base : base_value turn b.special d + owed_by a ≤ held_value turn a + owed_by mid + 1
-        base = omega (
-          arith,
-          (served-owes turn (length user.breaks) (is_busy turn user.busy) mid b s.serves),
-          (served-own z turn (length user.breaks) (is_busy turn user.busy) mid b mid-linked.breaks s.serves),
-          t.own,
-          q.value,
-          ap (λ x. cond {A = ℕ} x 0 4) (s.serves.special ∙ t.special),
-          ap (λ x. cond {A = ℕ} x 16 0) (ap (λ w. w.poll) s.serves.wait ∙ t.poll),
-        )
-
-        unreplied : a.owes.reply ≡ false
-        unreplied = l.none_due.reply (ap is_released l.phase)
-
-        by : Goes turn b.special d said
-            → (is_waiting said.account.outgoing ≡ true) ⊎ (held_value (turn + 1) said.account + 3 ≤ held_value turn a + eight_if polled)
-        by (inl w) = inl w
-        by (inr h) = inr (pays h.pays)
-          where
-            pays : Pays turn b.special d said.account → held_value (turn + 1) said.account + 3 ≤ held_value turn a + eight_if polled
-            pays (Replies e less) = let x = t.asked unreplied (sym s.serves.reply ∙ e) in omega (arith, less, base, x.1, ap eight_if x.0)
-            pays (Much less) = omega (arith, less, base, t.gain)
-            pays (Srejs e n less) =
-                omega (arith, less, base, t.calm (sym s.serves.srej ∙ e) (ap (λ x. is_some x.ack) (sym s.serves.ack) ∙ n))
-
-    -- none is wanted: the file has ended, or the window is full
-    some-left : is_whole said.account.outgoing ≡ false → said.account.outgoing.front < length said.account.outgoing.pieces
-    some-left e = go b.outgoing.ended refl (nat_lt (length b.outgoing.pieces) (b.outgoing.front + b.outgoing.window)) refl none
-      where
-        pieces-same : length said.account.outgoing.pieces ≡ length b.outgoing.pieces
-        pieces-same = ap (λ x. length x) (p.stepped.same.pieces ∙ p.is_timed.same.pieces)
-
-        none : cond (not b.outgoing.ended && nat_lt (length b.outgoing.pieces) (b.outgoing.front + b.outgoing.window))
-            (Some (length b.outgoing.pieces)) None ≡ None
-        none = ap (λ x. cond x (wanted b.outgoing) None) (sym (ap is_connected s.phase)) ∙ s.serves.wants_none
-
-        go : (d : Bool) → b.outgoing.ended ≡ d → (l : Bool) → nat_lt (length b.outgoing.pieces) (b.outgoing.front + b.outgoing.window) ≡ l
-            → cond (not d && l) (Some (length b.outgoing.pieces)) None ≡ None
-            → said.account.outgoing.front < length said.account.outgoing.pieces
-        go false f true g h = cc
-        go false f false g h =
-            let full : b.outgoing.front + b.outgoing.window ≤ length b.outgoing.pieces = grind (arith, nat_tests) in
-            let w = s.linked.sends.window in
-            omega (arith, full, w, front-said, pieces-same)
-        go true f l g h =
-            let other : nat_eq said.account.outgoing.front (length said.account.outgoing.pieces) ≡ false =
-            ap (λ x. x && nat_eq said.account.outgoing.front (length said.account.outgoing.pieces))
-            (sym (p.stepped.same.ended ∙ (p.is_timed.same.ended ∙ f))) ∙ e in
-            let low = p.stepped.sends.front_from in
-            let mid = p.stepped.sends.from_high in
-            let high = p.stepped.sends.high_pieces in
-            less said.account.outgoing.front (length said.account.outgoing.pieces) (omega (arith, low, mid, high)) other
-          where
-            less : (m n : ℕ) → m ≤ n → nat_eq m n ≡ false → m < n
-            less m n x y = grind (arith, nat_tests)
-
-    linger : Takes turn polled a mid → Linger z total turn polled a said.account
-    linger t =
-        let h = heard-value z total turn a mid y l.linked.sends before t.number in
-        record {
-          falls = omega (
+          base : base_value turn b.special d + owed_by a ≤ held_value turn a + owed_by mid + 1
+          base = omega (
             arith,
-            h.0,
-            same-value,
-            p.is_timed.waited.falls,
-            ap one_if same-waits,
-            p.stepped.falls,
-            ap (λ w. cond w 0 (cond (is_waiting said.account.outgoing) (z.room + 1) 0)) timed-waits,
-            lasts-through z.room (is_waiting a.outgoing) (is_waiting mid.outgoing) (is_waiting said.account.outgoing),
-          );
-          front = omega (arith, h.1, front-served, front-said);
-          may = may-said t;
-          unwhole = some-left;
-          held = λ idle less. on (is_waiting b.outgoing) refl t idle less;
-        }
-      where
-        on : (w : Bool) → is_waiting b.outgoing ≡ w → Takes turn polled a mid → is_waiting a.outgoing ≡ false
-            → said.account.outgoing.front < total
-            → (is_waiting said.account.outgoing ≡ true) ⊎ (held_value (turn + 1) said.account + 3 ≤ held_value turn a + eight_if polled)
-        on false e t idle less = holds t e less
-        on true e t idle less = inl (p.stepped.waits (timed-waits ∙ (sym same-waits ∙ e)))
+            (served-owes turn (length user.breaks) (is_busy turn user.busy) mid b s.serves),
+            (served-own z turn (length user.breaks) (is_busy turn user.busy) mid b mid-linked.breaks s.serves),
+            t.own,
+            q.value,
+            ap (λ x. cond {A = ℕ} x 0 4) (s.serves.special ∙ t.special),
+            ap (λ x. cond {A = ℕ} x 16 0) (ap (λ w. w.poll) s.serves.wait ∙ t.poll),
+          )
 
-    result : Closes a mid ⊎ ((mid.phase ≡ Connected) × Takes turn polled a mid) → Linger z total turn polled a said.account
-    result (inl e) = absurd (closed e)
-    result (inr t) = linger t.1
+          unreplied : a.owes.reply ≡ false
+          unreplied = l.none_due.reply (ap is_released l.phase)
+
+          by : Goes turn b.special d said
+              → (is_waiting said.account.outgoing ≡ true) ⊎ (held_value (turn + 1) said.account + 3 ≤ held_value turn a + eight_if polled)
+          by (inl w) = inl w
+          by (inr h) = inr (pays h.pays)
+            where
+              pays : Pays turn b.special d said.account → held_value (turn + 1) said.account + 3 ≤ held_value turn a + eight_if polled
+              pays (Replies e less) = let x = t.asked unreplied (sym s.serves.reply ∙ e) in omega (arith, less, base, x.1, ap eight_if x.0)
+              pays (Much less) = omega (arith, less, base, t.gain)
+              pays (Srejs e n less) =
+                  omega (arith, less, base, t.calm (sym s.serves.srej ∙ e) (ap (λ x. is_some x.ack) (sym s.serves.ack) ∙ n))
+
+      -- none is wanted: the file has ended, or the window is full
+      some-left : is_whole said.account.outgoing ≡ false → said.account.outgoing.front < length said.account.outgoing.pieces
+      some-left e = go b.outgoing.ended refl (nat_lt (length b.outgoing.pieces) (b.outgoing.front + b.outgoing.window)) refl none
+        where
+          pieces-same : length said.account.outgoing.pieces ≡ length b.outgoing.pieces
+          pieces-same = ap (λ x. length x) (p.stepped.same.pieces ∙ p.is_timed.same.pieces)
+
+          none : cond (not b.outgoing.ended && nat_lt (length b.outgoing.pieces) (b.outgoing.front + b.outgoing.window))
+              (Some (length b.outgoing.pieces)) None ≡ None
+          none = ap (λ x. cond x (wanted b.outgoing) None) (sym (ap is_connected s.phase)) ∙ s.serves.wants_none
+
+          go : (d : Bool) → b.outgoing.ended ≡ d → (l : Bool) → nat_lt (length b.outgoing.pieces) (b.outgoing.front + b.outgoing.window) ≡ l
+              → cond (not d && l) (Some (length b.outgoing.pieces)) None ≡ None
+              → said.account.outgoing.front < length said.account.outgoing.pieces
+          go false f true g h = cc
+          go false f false g h =
+              let full : b.outgoing.front + b.outgoing.window ≤ length b.outgoing.pieces = grind (arith, nat_tests) in
+              let w = s.linked.sends.window in
+              omega (arith, full, w, front-said, pieces-same)
+          go true f l g h =
+              let other : nat_eq said.account.outgoing.front (length said.account.outgoing.pieces) ≡ false =
+              ap (λ x. x && nat_eq said.account.outgoing.front (length said.account.outgoing.pieces))
+              (sym (p.stepped.same.ended ∙ (p.is_timed.same.ended ∙ f))) ∙ e in
+              let low = p.stepped.sends.front_from in
+              let mid = p.stepped.sends.from_high in
+              let high = p.stepped.sends.high_pieces in
+              less said.account.outgoing.front (length said.account.outgoing.pieces) (omega (arith, low, mid, high)) other
+            where
+              less : (m n : ℕ) → m ≤ n → nat_eq m n ≡ false → m < n
+              less m n x y = grind (arith, nat_tests)
+
+      linger : Takes turn polled a mid → Linger z total turn polled a said.account
+      linger t =
+          let h = heard-value z total turn a mid y l.linked.sends before t.number in
+          record {
+            falls = omega (
+              arith,
+              h.0,
+              same-value,
+              p.is_timed.waited.falls,
+              ap one_if same-waits,
+              p.stepped.falls,
+              ap (λ w. cond w 0 (cond (is_waiting said.account.outgoing) (z.room + 1) 0)) timed-waits,
+              lasts-through z.room (is_waiting a.outgoing) (is_waiting mid.outgoing) (is_waiting said.account.outgoing),
+            );
+            front = omega (arith, h.1, front-served, front-said);
+            may = may-said t;
+            unwhole = some-left;
+            held = λ idle less. on (is_waiting b.outgoing) refl t idle less;
+          }
+        where
+          on : (w : Bool) → is_waiting b.outgoing ≡ w → Takes turn polled a mid → is_waiting a.outgoing ≡ false
+              → said.account.outgoing.front < total
+              → (is_waiting said.account.outgoing ≡ true) ⊎ (held_value (turn + 1) said.account + 3 ≤ held_value turn a + eight_if polled)
+          on false e t idle less = holds t e less
+          on true e t idle less = inl (p.stepped.waits (timed-waits ∙ (sym same-waits ∙ e)))
+
+      result : Closes a mid ⊎ ((mid.phase ≡ Connected) × Takes turn polled a mid) → Linger z total turn polled a said.account
+      result (inl e) = absurd (closed e)
+      result (inr t) = linger t.1

@@ -1,15 +1,15 @@
 -- A Connected end with a segment to send and nothing outstanding sends it, or something else goes first that it pays for.
-use Rattle.std.proofs.Common.{◌≡◌, ℕ, ◌+◌, ◌-◌, ◌%◌, ◌<◌, ◌≤◌, ◌&&◌, ◌||◌, ◌⊎◌, min, Bool, true, false, cond, nat_eq, nat_lt, List, [], ◌∷◌}
-use Rattle.std.proofs.Common.{◌++◌, length, slice_index_or, inl, inr, arith, refl, sym, ◌∙◌, ap, Option, Some, None, Ok}
-use Rattle.link_account.proofs.Names.{is_some, AllByRecursion, nat_tests, is_originator, Outgoing, is_outstanding, next_number, Incoming}
+use Rattle.std.proofs.Common.{◌≡◌, ℕ, ◌+◌, ◌-◌, ◌%◌, ◌<◌, ◌≤◌, ◌&&◌, ◌||◌, ◌⊎◌, min, Bool, true, false, cond, nat_eq, [], ◌∷◌}
+use Rattle.std.proofs.Common.{◌++◌, length, slice_index_or, inl, inr, arith, refl, sym, ◌∙◌, ap, Some, None, Ok}
+use Rattle.link_account.proofs.Names.{is_some, nat_tests, is_originator, next_number, Incoming}
 use Rattle.link_account.proofs.Names.{BreakWord, Brk, OwnBreaks, waits, ticked, Account, Said, may_send, steps}
-use Rattle.lapm_sender.specs.Outgoing.{next_among, expired}
+use Rattle.lapm_sender.specs.Outgoing.{expired}
 use Rattle.link_account.specs.Speak.{polling, timer_expires, on_timer, breaking, differs, then_tries}
-use Rattle.turn_bound.proofs.Clock.{Rates, AreRates, is_waiting, IsChosen, Sends}
+use Rattle.turn_bound.proofs.Clock.{Rates, AreRates, is_waiting, Sends}
 use Rattle.turn_bound.proofs.Value.{IsOf}
 use Rattle.turn_bound.proofs.Sending.{sent-well}
 use Rattle.link_account.proofs.SpeakWays.{NoWord, by-steps}
-use Rattle.turn_bound.proofs.SpeakStill.{asks-rej}
+use Rattle.turn_bound.proofs.SpeakStill.{asks-rej, idle-next}
 use Rattle.turn_bound.proofs.Credits.{own_value, held_value}
 use Rattle.turn_bound.proofs.Taking.{owed_by, may_send_at}
 
@@ -88,40 +88,8 @@ Goes turn special a said = (is_waiting said.account.outgoing ≡ true) ⊎ Held 
 
 -- there is one to send
 some-free : (z : Rates) (turn : ℕ) (a : Account) → Ready z turn a → may_send a ≡ None → ⊥
-some-free z turn a h e = clash (may_send a) e (ap (λ b. cond b (next_number o) None) h.may ∙ next)
-  where
-    o : Outgoing
-    o = a.outgoing
-
-    clash : (m : Option ℕ) → m ≡ None → m ≡ Some o.from → ⊥
-    clash None e f = cc
-    clash (Some n) e f = cc
-
-    split : (out awaited paused : Bool) → out || (awaited || paused) ≡ false → (out ≡ false) × (awaited || paused ≡ false)
-    split true awaited paused f = cc
-    split false awaited paused f = (refl, f)
-
-    nothing-chosen : (l : List ℕ) → AllByRecursion (IsChosen o.front o.high) l → o.high ≤ o.front → l ≡ []
-    nothing-chosen [] k le = refl
-    nothing-chosen (n ∷ l) k le = let wrong : o.front < o.front = omega (arith, k.0.0, k.0.1, le) in absurd (omega (arith, wrong))
-
-    le : o.high ≤ o.front
-    le = let t : nat_lt o.front o.high ≡ false = (split (is_outstanding o) o.awaited o.paused h.idle).0 in grind (arith, nat_tests)
-
-    from : o.from ≡ o.front
-    from = omega (arith, h.sends.front_from, h.sends.from_high, le)
-
-    one : nat_lt o.from (length o.pieces) ≡ true
-    one = let m = h.more in let f = from in grind (arith, nat_tests)
-
-    two : nat_lt o.from (o.front + o.window) ≡ true
-    two = let w = h.sends.window in let f = from in grind (arith, nat_tests)
-
-    among : next_among o.chosen o ≡ Some o.from
-    among = ap (λ l. next_among l o) (nothing-chosen o.chosen h.sends.chosen le) ∙ rw (one, two) refl
-
-    next : next_number o ≡ Some o.from
-    next = ap (λ b. cond b None (next_among o.chosen o)) (split (is_outstanding o) o.awaited o.paused h.idle).1 ∙ among
+some-free z turn a h e = let wrong : None ≡ Some a.outgoing.from = sym e
+    ∙ (ap (λ b. cond b (next_number a.outgoing) None) h.may ∙ idle-next h.sends h.idle h.more) in cc
 
 -- the steps
 module _ (z : Rates) (turn : ℕ) (special : Bool) (a : Account) (y : AreRates z) (h : Ready z turn a) (s : a.special ≡ false) where

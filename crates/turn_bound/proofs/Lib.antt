@@ -14,7 +14,7 @@ pub mod Turning
 pub mod Serving
 pub mod Serves
 mod Still
-mod SpeakStill
+pub mod SpeakStill
 pub mod Light
 pub mod OneTurn
 mod StillTurn
@@ -37,8 +37,8 @@ mod Pausing
 mod Holding
 mod HeldTurn
 mod Polled
-mod CalmRuns
+pub mod CalmRuns
 mod Wholeness
 mod Advancing
 mod Counted
-mod Bounding
+pub mod Bounding

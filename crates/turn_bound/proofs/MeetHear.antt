@@ -1,4 +1,4 @@
-use Rattle.std.proofs.Common.{◌≡◌, ℕ, ◌&&◌, ◌||◌, not, Bool, true, false, cond, refl, sym, ◌∙◌, ap, Option, Some, None, Ok, inl, inr}
+use Rattle.std.proofs.Common.{◌≡◌, ℕ, ◌&&◌, ◌||◌, not, Bool, true, false, cond, refl, sym, ◌∙◌, ap, Option, Some, Ok, inl, inr}
 use Rattle.link_account.proofs.Names.{Originator, Answerer, Frame, Rr, Rnr, Rej, Outgoing, is_outstanding, resumed, Arrived}
 use Rattle.link_account.proofs.Names.{Account, is_originator, hear, without_adp}
 use Rattle.link_run.proofs.Names.{Phase, Detecting, Negotiating, Establishing, Connected, Releasing, Closed, Answer, is_closed, is_released}
@@ -196,11 +196,8 @@ a-ways turn a er = record {
 }
   where
     less : (m : Option Answer) → is_ua_due (without_adp m) ≡ true → is_ua_due m ≡ true
-    less None h = cc
-    less (Some answers.Adp) h = cc
-    less (Some answers.Xid) h = cc
     less (Some (answers.Ua pf)) h = refl
-    less (Some (answers.Dm pf)) h = cc
+    less p h = cc
 
     or-true : (b : Bool) → b || true ≡ true
     or-true true = refl

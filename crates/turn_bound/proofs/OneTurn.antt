@@ -1,12 +1,12 @@
-use Rattle.std.proofs.Common.{◌≡◌, ℕ, ◌+◌, ◌*◌, ◌≤◌, Bool, true, false, length, arith, sym, ◌∙◌, ap, subst, Result, Ok, Err}
-use Rattle.link_account.proofs.Names.{Role, Arrived, LinkFault, Account, hear, Said, speak}
+use Rattle.std.proofs.Common.{◌≡◌, ℕ, ◌+◌, ◌*◌, ◌≤◌, Bool, true, false, length, arith, sym, ◌∙◌, ap, subst, Result, Ok, Err, refl}
+use Rattle.link_account.proofs.Names.{Role, Arrived, LinkFault, Account, hear, Said, speak, other}
 use Rattle.link_run.proofs.Names.{Phase, User, is_busy, is_closed}
 use Rattle.turn_bound.proofs.Clock.{Rates, AreRates, ends, lasts}
 use Rattle.turn_bound.proofs.Value.{value, lives, IsOf, Stands, arrived_rnrs}
 use Rattle.turn_bound.proofs.Run.{served_account}
 use Rattle.turn_bound.proofs.Hearing.{HeardAs, HearsWell}
 use Rattle.turn_bound.proofs.Phases.{hears-well}
-use Rattle.turn_bound.proofs.Serving.{serves-all}
+use Rattle.turn_bound.proofs.Serving.{serves-all, Served}
 use Rattle.turn_bound.proofs.Serves.{serves-well}
 use Rattle.turn_bound.proofs.Speaking.{SpeaksAs, SpeaksWell}
 use Rattle.turn_bound.proofs.Turning.{speaks-well}
@@ -40,48 +40,89 @@ said-ok z total breaks turn role p a said (Err fault) e h = cc
 said-ok z total breaks turn role p a said (Ok other) e h = let same : other ≡ said = cc in
     subst (λ c. (q : Phase) × SpeaksAs z total breaks turn role p a q c.account) same h
 
--- One turn of one end.
-pub one-turn : (z : Rates) (total : ℕ) (user : User) (turn : ℕ) (role : Role) (p : Phase) (arrived : Arrived) (a mid : Account)
-    (released release : Bool) (said : Said)
-    → AreRates z → IsOf z a.setup → Stands z turn turn role p a → a.phase ≡ p → a.setup.role ≡ role
-    → hear turn arrived a ≡ Ok mid → speak turn release (served_account user turn released mid) ≡ Ok said
-    → length (served_account user turn released mid).outgoing.pieces ≤ total
-    → (q : Phase) × TurnsAs z total (length user.breaks) turn (z.quota * arrived_rnrs arrived) role p a
-    (served_account user turn released mid) q said.account
-one-turn z total user turn role p arrived a mid released release said y k h e er hears speaks all =
-    let more : ℕ = z.quota * arrived_rnrs arrived in
+-- One end in a turn: a before it hears, mid once it has heard, b once it is served.
+pub record Hearing (z : Rates) (user : User) (turn : ℕ) (role : Role) (a : Account) (arrived : Arrived) (mid b : Account) : Type 0 where
+  pub rates : AreRates z
+  pub is_of : IsOf z a.setup
+  pub stands : Stands z turn turn role a.phase a
+  pub role_is : a.setup.role ≡ role
+  pub hears : hear turn arrived a ≡ Ok mid
+  pub serves : Served turn (length user.breaks) (is_busy turn user.busy) mid b
+  pub phase : Phase
+  pub heard : HeardAs z (length a.outgoing.pieces) (length user.breaks) turn (z.quota * arrived_rnrs arrived) role a.phase a phase mid
+  pub b_phase : b.phase ≡ phase
+  pub b_stands : Stands z (turn + 1) turn role phase b
+  pub b_setup : b.setup ≡ a.setup
+  pub b_is_of : IsOf z b.setup
+  pub b_role : b.setup.role ≡ role
+
+pub hearing : {z : Rates} (user : User) {turn : ℕ} {role : Role} {arrived : Arrived} {a mid : Account} (released : Bool) → AreRates z
+    → IsOf z a.setup → Stands z turn turn role a.phase a → a.setup.role ≡ role → hear turn arrived a ≡ Ok mid
+    → Hearing z user turn role a arrived mid (served_account user turn released mid)
+hearing {z} user {turn} {role} {arrived} {a} {mid} released y k h er hears =
     let breaks : ℕ = length user.breaks in
-    let first = heard-ok z (length a.outgoing.pieces) breaks turn more role p a mid (hear turn arrived a) hears
-    (hears-well z (length a.outgoing.pieces) breaks turn role p arrived a y k h e er (omega arith)) in
+    let b : Account = served_account user turn released mid in
+    let first = heard-ok z (length a.outgoing.pieces) breaks turn (z.quota * arrived_rnrs arrived) role a.phase a mid (hear turn arrived a)
+    hears (hears-well z (length a.outgoing.pieces) breaks turn role a.phase arrived a y k h refl er (omega arith)) in
     let s = serves-all user turn released mid in
-    let same-length : length mid.outgoing.pieces ≡ length a.outgoing.pieces = ap (λ l. length l) first.1.pieces in
-    let before : length a.outgoing.pieces ≤ total = omega (arith, same-length, s.longer.longer, all) in
-    let heard = heard-ok z total breaks turn more role p a mid (hear turn arrived a) hears
-    (hears-well z total breaks turn role p arrived a y k h e er before) in
-    let serves = serves-well z total breaks turn (is_busy turn user.busy) role heard.0 mid
-    (served_account user turn released mid) y heard.1.stands heard.1.phase s in
-    let spoke = said-ok z total breaks turn role heard.0 (served_account user turn released mid) said
-    (speak turn release (served_account user turn released mid)) speaks
-    (speaks-well z total breaks turn role heard.0 release (served_account user turn released mid) y
-    (subst (IsOf z) (sym (s.setup ∙ heard.1.setup)) k) serves.stands (s.phase ∙ heard.1.phase)
-    (ap (λ x. x.role) (s.setup ∙ heard.1.setup) ∙ er) all) in (
-      spoke.0,
-      record {
-        phase = spoke.1.phase;
-        stands = spoke.1.stands;
-        setup = spoke.1.setup ∙ (s.setup ∙ heard.1.setup);
-        longer = omega (arith, same-length, s.longer.longer, ap (λ l. length l) spoke.1.pieces);
-        pieces = spoke.1.pieces;
-        ended = spoke.1.ended;
-        opens = λ x. spoke.1.opens (ap is_closed (sym (s.phase ∙ heard.1.phase)) ∙ x);
-        whole = λ w. let t = s.longer.ended (heard.1.ended ∙ w) in (spoke.1.pieces ∙ (t.0 ∙ heard.1.pieces), spoke.1.ended ∙ t.1);
-        falls = omega (
-          arith,
-          heard.1.falls,
-          serves.falls,
-          spoke.1.falls,
-          lasts-chain z.room (lives turn role p a) (lives turn role heard.0 mid)
-              (lives turn role heard.0 (served_account user turn released mid)) (lives (turn + 1) role spoke.0 said.account),
-        );
-      },
-    )
+    let setup = s.setup ∙ first.1.setup in
+    record {
+      rates = y;
+      is_of = k;
+      stands = h;
+      role_is = er;
+      hears = hears;
+      serves = s;
+      phase = first.0;
+      heard = first.1;
+      b_phase = s.phase ∙ first.1.phase;
+      b_stands = (serves-well z (length a.outgoing.pieces) breaks turn (is_busy turn user.busy) role first.0 mid b y first.1.stands
+          first.1.phase s).stands;
+      b_setup = setup;
+      b_is_of = subst (IsOf z) (sym setup) k;
+      b_role = ap (λ x. x.role) setup ∙ er;
+    }
+
+module _ {z : Rates} {user : User} {turn : ℕ} {role : Role} {a : Account} {arrived : Arrived} {mid b : Account}
+    (i : Hearing z user turn role a arrived mid b) where
+  -- what it says
+  pub spoken-as : (total : ℕ) (release : Bool) {said : Said} → speak turn release b ≡ Ok said → length b.outgoing.pieces ≤ total
+      → (q : Phase) × SpeaksAs z total (length user.breaks) turn role i.phase b q said.account
+  spoken-as total release {said} speaks all = said-ok z total (length user.breaks) turn role i.phase b said (speak turn release b) speaks
+      (speaks-well z total (length user.breaks) turn role i.phase release b i.rates i.b_is_of i.b_stands i.b_phase i.b_role all)
+
+  -- the whole turn
+  pub one-turn : (total : ℕ) (release : Bool) {said : Said} → speak turn release b ≡ Ok said → length b.outgoing.pieces ≤ total
+      → (q : Phase) × TurnsAs z total (length user.breaks) turn (z.quota * arrived_rnrs arrived) role a.phase a b q said.account
+  one-turn total release {said} speaks all =
+      let more : ℕ = z.quota * arrived_rnrs arrived in
+      let breaks : ℕ = length user.breaks in
+      let s = i.serves in
+      let same-length : length mid.outgoing.pieces ≡ length a.outgoing.pieces = ap (λ l. length l) i.heard.pieces in
+      let heard = heard-ok z total breaks turn more role a.phase a mid (hear turn arrived a) i.hears
+      (hears-well z total breaks turn role a.phase arrived a i.rates i.is_of i.stands refl i.role_is
+      (omega (arith, same-length, s.longer.longer, all))) in
+      let same : heard.0 ≡ i.phase = sym heard.1.phase ∙ i.heard.phase in
+      let serves = serves-well z total breaks turn (is_busy turn user.busy) role heard.0 mid b i.rates heard.1.stands heard.1.phase s in
+      let spoke = subst (λ p. (q : Phase) × SpeaksAs z total breaks turn role p b q said.account) (sym same)
+      (spoken-as total release speaks all) in (
+        spoke.0,
+        record {
+          phase = spoke.1.phase;
+          stands = spoke.1.stands;
+          setup = spoke.1.setup ∙ i.b_setup;
+          longer = omega (arith, same-length, s.longer.longer, ap (λ l. length l) spoke.1.pieces);
+          pieces = spoke.1.pieces;
+          ended = spoke.1.ended;
+          opens = λ x. spoke.1.opens (ap is_closed (sym (s.phase ∙ heard.1.phase)) ∙ x);
+          whole = λ w. let t = s.longer.ended (heard.1.ended ∙ w) in (spoke.1.pieces ∙ (t.0 ∙ heard.1.pieces), spoke.1.ended ∙ t.1);
+          falls = omega (
+            arith,
+            heard.1.falls,
+            serves.falls,
+            spoke.1.falls,
+            lasts-chain z.room (lives turn role a.phase a) (lives turn role heard.0 mid) (lives turn role heard.0 b)
+                (lives (turn + 1) role spoke.0 said.account),
+          );
+        },
+      )

@@ -105,10 +105,6 @@ poll-turn z user turn role arrived a mid released release said y k h er light qu
         (hear turn arrived a) hears
         (hears-well z (length a.outgoing.pieces) (length user.breaks) turn role a.phase arrived a y k h refl er (omega arith))
 
-    served-stands : Stands z (turn + 1) turn role first.0 b
-    served-stands = (serves-well z (length a.outgoing.pieces) (length user.breaks) turn
-        (is_busy turn user.busy) role first.0 mid b y first.1.stands first.1.phase s).stands
-
     nothing : is_connected b.phase ≡ false → polls said.sent ≡ 0
     nothing e = ap nineteen_if (says-unpolled turn release b said e speaks)
 
@@ -122,10 +118,6 @@ poll-turn z user turn role arrived a mid released release said y k h er light qu
         (arith, nothing (ap is_connected e), late-none (turn + 1) said.account.phase said.account (so.released (ap is_released e)))
     speaking Connected e = by (release && is_originator b.setup.role) (subst (λ q. speak_in q turn release b ≡ Ok said) e speaks)
       where
-        linked : Linked z (turn + 1) turn role b
-        linked = linked-stand z (turn + 1) turn role b
-            (subst (λ q. Stands z (turn + 1) turn role q b) (sym (s.phase ∙ first.1.phase) ∙ e) served-stands)
-
         by : (r : Bool) → cond r (speak_releasing turn (trying Releasing turn b)) (speak_linked turn b) ≡ Ok said
             → poll_value (turn + 1) said.account.phase said.account + polls said.sent ≤ poll_value turn Connected b + 1
         by true f =

@@ -1,3 +1,4 @@
+use Rattle.std.proofs.Common.{Option}
 use Rattle.std.proofs.Common.{◌≡◌, ℕ, ◌+◌, ◌-◌, ◌%◌, ◌<◌, ◌≤◌, ◌&&◌, ◌||◌, not, Bool, true, false, cond, nat_lt, List, [], ◌∷◌, ◌++◌}
 use Rattle.std.proofs.Common.{length, slice_index_or, arith, refl, sym, ◌∙◌, ap, subst, inl, inr, Some, None, Ok, Err}
 use Rattle.link_account.proofs.Names.{is_some, nat_tests, Role, Outgoing, next_number, is_outstanding, Incoming, BreakWord, Brk, Ack}
@@ -8,7 +9,7 @@ use Rattle.lapm_receiver.specs.Held.{first_outside, missing_from}
 use Rattle.lapm_receiver.specs.Incoming.{asks}
 use Rattle.break_signals.specs.declared.fault.BreakFault.TheVariants.{Number}
 use Rattle.link_account.specs.Speak.{says_segment, tells, differs, says_word}
-use Rattle.turn_bound.proofs.Clock.{Rates, AreRates, is_waiting, is_free, one_if, IsChosen}
+use Rattle.turn_bound.proofs.Clock.{Rates, AreRates, is_waiting, is_free, one_if, IsChosen, Sends}
 use Rattle.turn_bound.proofs.Value.{two_if, four_if, dues, weight, frame_weight, word_weight, IsAck, Linked}
 use Rattle.turn_bound.proofs.Sending.{sent-well}
 use Rattle.break_signals.specs.Breaks.{after_ack}
@@ -58,6 +59,33 @@ ready-weight : (b command pf : Bool) (nr : ℕ) → frame_weight (ready_frame b 
 ready-weight true command pf nr = refl
 ready-weight false command pf nr = refl
 
+-- with nothing to wait for and none chosen the next one goes, where there is one and the window has room
+pub front-next : (o : Outgoing) → o.awaited || o.paused ≡ false → o.chosen ≡ [] → o.from < length o.pieces → o.from < o.front + o.window
+    → next_number o ≡ Some o.from
+front-next o w c below within =
+    let one : nat_lt o.from (length o.pieces) ≡ true = grind (arith, nat_tests, below) in
+    let two : nat_lt o.from (o.front + o.window) ≡ true = grind (arith, nat_tests, within) in
+    ap (λ b. cond b None (next_among o.chosen o)) w ∙ (ap (λ l. next_among l o) c ∙ rw (one, two) refl)
+
+pub idle-next : {z : Rates} {before turn : ℕ} {o : Outgoing} {timer : Option ℕ} → Sends z before turn o timer → is_waiting o ≡ false
+    → o.front < length o.pieces → next_number o ≡ Some o.from
+idle-next {z} {before} {turn} {o} {timer} s idle more = front-next o parts.1 (nothing-chosen o.chosen s.chosen)
+    (omega (arith, s.front_from, s.from_high, le, more)) (omega (arith, s.front_from, s.from_high, le, s.window))
+  where
+    split : (out awaited paused : Bool) → out || (awaited || paused) ≡ false → (out ≡ false) × (awaited || paused ≡ false)
+    split true awaited paused e = cc
+    split false awaited paused e = (refl, e)
+
+    parts : (is_outstanding o ≡ false) × (o.awaited || o.paused ≡ false)
+    parts = split (is_outstanding o) o.awaited o.paused idle
+
+    le : o.high ≤ o.front
+    le = let t : nat_lt o.front o.high ≡ false = parts.0 in grind (arith, nat_tests)
+
+    nothing-chosen : (l : List ℕ) → AllByRecursion (IsChosen o.front o.high) l → l ≡ []
+    nothing-chosen [] k = refl
+    nothing-chosen (n ∷ l) k = let wrong : o.front < o.front = omega (arith, k.0.0, k.0.1, le) in absurd (omega (arith, wrong))
+
 -- where none can be sent nothing is free
 none-free : (z : Rates) (total turn : ℕ) (role : Role) (a : Account) → Idle z total turn role a → may_send a ≡ None
     → is_free total a.outgoing ≡ false
@@ -66,34 +94,16 @@ none-free z total turn role a h e = go (is_free total a.outgoing) refl
     o : Outgoing
     o = a.outgoing
 
-    split : (out awaited paused : Bool) → out || (awaited || paused) ≡ false → (out ≡ false) × (awaited || paused ≡ false)
-    split true awaited paused e = cc
-    split false awaited paused e = (refl, e)
-
-    both : (b c : Bool) → b && c ≡ true → (b ≡ true) × (c ≡ true)
-    both true true e = (refl, refl)
-    both true false e = cc
-    both false c e = cc
-
-    nothing-chosen : (l : List ℕ) → AllByRecursion (IsChosen o.front o.high) l → o.high ≤ o.front → l ≡ []
-    nothing-chosen [] k le = refl
-    nothing-chosen (n ∷ l) k le = let wrong : o.front < o.front = omega (arith, k.0.0, k.0.1, le) in absurd (omega (arith, wrong))
+    second : (b c : Bool) → b && c ≡ true → c ≡ true
+    second true c e = e
+    second false c e = cc
 
     go : (b : Bool) → is_free total o ≡ b → is_free total o ≡ false
     go false f = f
     go true f =
-        let s = h.linked.sends in
-        let parts = split (is_outstanding o) o.awaited o.paused h.idle in
-        let some = both (not (is_outstanding o)) (nat_lt o.front total) f in
-        let le : o.high ≤ o.front = let t : nat_lt o.front o.high ≡ false = parts.0 in grind (arith, nat_tests) in
-        let less : o.front < total = let t : nat_lt o.front total ≡ true = some.1 in grind (arith, nat_tests) in
-        let from : o.from ≡ o.front = omega (arith, s.front_from, s.from_high, le) in
-        let one : nat_lt o.from (length o.pieces) ≡ true = let m = h.more less in grind (arith, nat_tests, from, m) in
-        let two : nat_lt o.from (o.front + o.window) ≡ true = let w = s.window in grind (arith, nat_tests, from, w) in
-        let among : next_among o.chosen o ≡ Some o.from =
-        ap (λ l. next_among l o) (nothing-chosen o.chosen s.chosen le) ∙ rw (one, two) refl in
-        let next : next_number o ≡ Some o.from = ap (λ b. cond b None (next_among o.chosen o)) parts.1 ∙ among in
-        let wrong : None ≡ Some o.from = sym e ∙ (ap (λ b. cond b (next_number o) None) h.may ∙ next) in cc
+        let less : o.front < total = let t = second (not (is_outstanding o)) (nat_lt o.front total) f in grind (arith, nat_tests, t) in
+        let wrong : None ≡ Some o.from = sym e
+        ∙ (ap (λ b. cond b (next_number o) None) h.may ∙ idle-next h.linked.sends h.idle (h.more less)) in cc
 
 pub asks-rej : (i : Incoming) (n : ℕ) → i.srej ≡ false → asks i ≡ Some n → i.rej ≡ true
 asks-rej i n e g = by i.srej e i.rej g

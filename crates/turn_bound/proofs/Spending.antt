@@ -28,9 +28,6 @@ on-time z before turn count set tries period y r et ep due spent' =
     ∙ ap (λ n. n * z.period + z.period) (sym last) in
     (omega (arith, r.tied, now, whole, all), omega (arith, r.tied, now, whole, all))
 
-same-spent : (n m s t : ℕ) → Spent n s ≡ Spent m t → s ≡ t
-same-spent n m s t e = cc
-
 -- Speaking: whatever the role and the phase.
 pub speaks-spend : (z : Rates) (turn : ℕ) (role : Role) (p : Phase) (release : Bool) (a : Account) (fault : LinkFault) → AreRates z
     → IsOf z a.setup

@@ -1,25 +1,23 @@
-use Rattle.std.proofs.Common.{◌≡◌, ℕ, ◌+◌, ◌*◌, ◌<◌, ◌≤◌, ◌&&◌, ◌||◌, not, Bool, true, false, cond, nat_eq, nat_lt, nat_le, [], ◌∷◌, ◌++◌}
+use Rattle.std.proofs.Common.{◌≡◌, ℕ, ◌+◌, ◌<◌, ◌≤◌, ◌&&◌, ◌||◌, not, Bool, true, false, cond, nat_eq, nat_lt, nat_le, [], ◌∷◌, ◌++◌}
 use Rattle.std.proofs.Common.{length, length-append, arith, refl, sym, ◌∙◌, ap, subst, Option, Some, None, Result, Ok, Err}
 use Rattle.link_account.proofs.Names.{is_some, nat_tests, Role, Originator, Answerer, Outgoing, is_outstanding, wanted, OwnBreaks}
-use Rattle.link_account.proofs.Names.{after_ask, waits, Arrived, LinkFault, Account, is_connected, after_break_asked, is_originator, hear}
-use Rattle.link_account.proofs.Names.{trying, Disc, Said, speak, speak_linked, steps, speak_in, speak_releasing}
-use Rattle.link_run.proofs.Names.{Phase, Connected, Releasing, User, BreakLine, is_busy}
-use Rattle.link_run.proofs.Names.{has_finished, next_break}
+use Rattle.link_account.proofs.Names.{after_ask, waits, Arrived, LinkFault, Account, is_connected, after_break_asked, is_originator, trying}
+use Rattle.link_account.proofs.Names.{Disc, Said, speak, speak_linked, steps, speak_in, speak_releasing, other}
+use Rattle.link_run.proofs.Names.{Phase, Connected, Releasing, User, BreakLine, is_busy, has_finished, next_break}
 use Rattle.lapm_sender.specs.Outgoing.{expired, is_whole}
 use Rattle.link_account.specs.Account.{is_done, break_waits}
 use Rattle.link_account.specs.Speak.{then_tries, on_timer, after_timers, timer_expires, polling, breaking, u_try}
 use Rattle.turn_bound.proofs.Clock.{Rates, AreRates, is_waiting, is_free, one_if, Breaks, is_breaking}
-use Rattle.turn_bound.proofs.Value.{two_if, four_if, linked_lives, IsOf, Linked, Stands, dues, weight, arrived_weight, arrived_rnrs}
+use Rattle.turn_bound.proofs.Value.{two_if, four_if, linked_lives, IsOf, Linked, Stands, dues, weight, arrived_weight}
 use Rattle.turn_bound.proofs.Run.{served_account}
 use Rattle.link_run.specs.End.{asked_at, is_ready}
-use Rattle.turn_bound.proofs.Phases.{hears-well}
-use Rattle.turn_bound.proofs.Serving.{Served, serves-all, serves-first, serves-own, before_asking}
-use Rattle.turn_bound.proofs.Serves.{serves-well}
+use Rattle.turn_bound.proofs.Serving.{Served, serves-first, serves-own, before_asking}
 use Rattle.turn_bound.proofs.Speaking.{OnOk, Timed, Stepped, timers-well, steps-well, timed-linked}
-use Rattle.turn_bound.proofs.Turning.{speaks-well, tries-well, Tried, OnSaid}
-use Rattle.turn_bound.proofs.OneTurn.{heard-ok, said-ok}
+use Rattle.turn_bound.proofs.Turning.{tries-well, Tried, OnSaid}
 use Rattle.turn_bound.proofs.Still.{still-hears}
 use Rattle.turn_bound.proofs.SpeakStill.{steps-pay}
+use Rattle.turn_bound.proofs.OneTurn.{Hearing, spoken-as}
+use Rattle.turn_bound.proofs.Tied.{tied}
 
 pub or-false-both : (b c : Bool) → b || c ≡ false → (b ≡ false) × (c ≡ false)
 or-false-both true c e = cc
@@ -138,7 +136,7 @@ only-connected Connected e = refl
 only-connected p e = cc
 
 -- A turn of an end that stays Connected.
-pub record Stays (z : Rates) (total turn : ℕ) (user : User) (role : Role) (a mid b : Account) (release : Bool) (said : Said) : Type 0 where
+pub record Stays (z : Rates) (turn : ℕ) (user : User) (role : Role) (a mid b : Account) (release : Bool) (said : Said) : Type 0 where
   pub mid_phase : mid.phase ≡ Connected
   pub phase : b.phase ≡ Connected
   pub linked : Linked z (turn + 1) turn role b
@@ -147,55 +145,37 @@ pub record Stays (z : Rates) (total turn : ℕ) (user : User) (role : Role) (a m
   pub unreleased : release && is_originator b.setup.role ≡ false
   pub serves : Served turn (length user.breaks) (is_busy turn user.busy) mid b
 
-pub stand-linked : (z : Rates) (before turn : ℕ) (role : Role) (a : Account) → Linked z before turn role a
-    → Stands z before turn role Connected a
-stand-linked z before turn Originator a h = h
-stand-linked z before turn Answerer a h = h
-
 pub linked-stand : (z : Rates) (before turn : ℕ) (role : Role) (a : Account) → Stands z before turn role Connected a
     → Linked z before turn role a
 linked-stand z before turn Originator a h = h
 linked-stand z before turn Answerer a h = h
 
-pub stays : (z : Rates) (total : ℕ) (user : User) (turn : ℕ) (role : Role) (arrived : Arrived) (a mid : Account) (released release : Bool)
-    (said : Said)
-    → AreRates z → IsOf z a.setup → Linked z turn turn role a → a.phase ≡ Connected → a.setup.role ≡ role
-    → hear turn arrived a ≡ Ok mid → speak turn release (served_account user turn released mid) ≡ Ok said
-    → length (served_account user turn released mid).outgoing.pieces ≤ total → said.account.phase ≡ Connected
-    → Stays z total turn user role a mid (served_account user turn released mid) release said
-stays z total user turn role arrived a mid released release said y k h e er hears speaks all after =
-    let more : ℕ = z.quota * arrived_rnrs arrived in
-    let breaks : ℕ = length user.breaks in
-    let b : Account = served_account user turn released mid in
-    let heard = heard-ok z (length a.outgoing.pieces) breaks turn more role Connected a mid (hear turn arrived a) hears
-    (hears-well z (length a.outgoing.pieces) breaks turn role Connected arrived a y k (stand-linked z turn turn role a h) e er
-    (omega arith)) in
-    let s = serves-all user turn released mid in
-    let serves = serves-well z total breaks turn (is_busy turn user.busy) role heard.0 mid b y heard.1.stands heard.1.phase s in
-    let k' : IsOf z b.setup = subst (IsOf z) (sym (s.setup ∙ heard.1.setup)) k in
-    let spoke = said-ok z total breaks turn role heard.0 b said (speak turn release b) speaks
-    (speaks-well z total breaks turn role heard.0 release b y k' serves.stands (s.phase ∙ heard.1.phase)
-    (ap (λ x. x.role) (s.setup ∙ heard.1.setup) ∙ er) all) in
-    let linked : heard.0 ≡ Connected =
-    only-connected heard.0
-    (not-false (is_connected heard.0)
-    (λ f. let same : Connected ≡ heard.0 = sym after ∙ (spoke.1.phase ∙ spoke.1.keeps f) in let wrong : true ≡ false =
-    ap is_connected same ∙ f in cc)) in
-    let phase : b.phase ≡ Connected = s.phase ∙ (heard.1.phase ∙ linked) in
-    let says = linked-of z turn release b said y k' phase speaks after in
-    record {
-      mid_phase = heard.1.phase ∙ linked;
-      phase = phase;
-      linked = linked-stand z (turn + 1) turn role b (subst (λ q. Stands z (turn + 1) turn role q b) linked serves.stands);
-      setup = s.setup ∙ heard.1.setup;
-      says = says.0;
-      unreleased = says.1;
-      serves = s;
-    }
-  where
-    not-false : (x : Bool) → (x ≡ false → ⊥) → x ≡ true
-    not-false true f = refl
-    not-false false f = absurd (f refl)
+module _ {z : Rates} {user : User} {turn : ℕ} {role : Role} {a : Account} {arrived : Arrived} {mid b : Account}
+    (i : Hearing z user turn role a arrived mid b) where
+  pub stays : a.phase ≡ Connected → (release : Bool) {said : Said} → speak turn release b ≡ Ok said → said.account.phase ≡ Connected
+      → Stays z turn user role a mid b release said
+  stays e release {said} speaks after =
+      let spoke = spoken-as i (length b.outgoing.pieces) release speaks (omega arith) in
+      let linked : i.phase ≡ Connected =
+      only-connected i.phase
+      (not-false (is_connected i.phase)
+      (λ f. let same : Connected ≡ i.phase = sym after ∙ (spoke.1.phase ∙ spoke.1.keeps f) in let wrong : true ≡ false =
+      ap is_connected same ∙ f in cc)) in
+      let phase : b.phase ≡ Connected = i.b_phase ∙ linked in
+      let says = linked-of z turn release b said i.rates i.b_is_of phase speaks after in
+      record {
+        mid_phase = i.heard.phase ∙ linked;
+        phase = phase;
+        linked = linked-stand z (turn + 1) turn role b (subst (λ q. Stands z (turn + 1) turn role q b) linked i.b_stands);
+        setup = i.b_setup;
+        says = says.0;
+        unreleased = says.1;
+        serves = i.serves;
+      }
+    where
+      not-false : (x : Bool) → (x ≡ false → ⊥) → x ≡ true
+      not-false true f = refl
+      not-false false f = absurd (f refl)
 
 served-dues : (turn breaks total : ℕ) (busy : Bool) (m c : Account) → Served turn breaks busy m c
     → is_free total c.outgoing ≡ is_free total m.outgoing → dues total c ≡ dues total m
@@ -214,6 +194,9 @@ served-dues turn breaks total busy m c s f =
     last : (f g x y : Bool) → f ≡ g → x ≡ y → one_if (f && not x) ≡ one_if (g && not y)
     last f g x y e k = rw (e, k) refl
 
+pub or-numbered : (o o' n n' : Bool) → o' ≡ o → (n ≡ true → n' ≡ true) → o || n ≡ true → o' || n' ≡ true
+or-numbered o o' n n' e f g = grind (arith)
+
 -- A turn of an end that stays Connected, where nothing lives before and after it.
 pub record Stilled (z : Rates) (total turn : ℕ) (a mid b : Account) (said : Said) (more : ℕ) : Type 0 where
   pub pays : dues total said.account + weight said.sent + one_if (is_free total a.outgoing) ≤ dues total a + more
@@ -222,39 +205,34 @@ pub record Stilled (z : Rates) (total turn : ℕ) (a mid b : Account) (said : Sa
   pub free : is_free total b.outgoing ≡ is_free total a.outgoing
   pub own : mid.own_breaks ≡ a.own_breaks
 
-pub stilled : (z : Rates) (total : ℕ) (user : User) (turn : ℕ) (role : Role) (arrived : Arrived) (a mid b : Account) (release : Bool)
-    (said : Said)
-    → AreRates z → IsOf z a.setup → Linked z turn turn role a → a.phase ≡ Connected → a.setup.role ≡ role
-    → hear turn arrived a ≡ Ok mid → length b.outgoing.pieces ≤ total → Stays z total turn user role a mid b release said
-    → linked_lives turn a ≡ false → linked_lives (turn + 1) said.account ≡ false → is_busy turn user.busy ≡ false
-    → is_originator a.setup.role || a.numbered ≡ true → (b.outgoing.front < total → b.outgoing.front < length b.outgoing.pieces)
-    → Stilled z total turn a mid b said (arrived_weight arrived)
-stilled z total user turn role arrived a mid b release said y k h e er hears all s dead dead' busy may more =
-    let k' : IsOf z b.setup = subst (IsOf z) (sym s.setup) k in
-    let er' : b.setup.role ≡ role = ap (λ x. x.role) s.setup ∙ er in
-    let idle = keeps-waiting z total (length user.breaks) turn role b said
-    (spoke z total (length user.breaks) turn role b said y k' s.linked er' all s.says) dead' in
-    let before = or-false-both (is_waiting a.outgoing) (is_breaking turn a.own_breaks) dead in
-    let waits-a : waits a.own_breaks ≡ false = (or-false-both (waits a.own_breaks) (nat_lt turn a.own_breaks.rest) before.1).0 in
-    let same : is_waiting b.outgoing ≡ is_waiting mid.outgoing = ap is_waiting s.serves.longer.outgoing in
-    let heard = still-hears z total turn role a h before.0 arrived mid e hears (sym same ∙ idle.0) s.mid_phase in
-    let free : is_free total b.outgoing ≡ is_free total mid.outgoing = ap (is_free total) s.serves.longer.outgoing in
-    let due : dues total b ≡ dues total mid = served-dues turn (length user.breaks) total (is_busy turn user.busy) mid b s.serves free in
-    let may' : is_originator b.setup.role || b.numbered ≡ true =
-    or-numbered (is_originator a.setup.role) (is_originator b.setup.role) a.numbered b.numbered (ap (λ x. is_originator x.role) s.setup)
-    (λ n. s.serves.numbered ∙ heard.numbered n) may in
-    let pays = speaks-still z total (length user.breaks) turn role b said y k' s.linked er' all s.says dead'
-    (s.serves.busy_now (ap is_connected s.mid_phase) ∙ busy) may' more in
-    record {
-      pays = omega (arith, pays, due, heard.dues, ap one_if (free ∙ heard.free));
-      idle = idle.0;
-      unbroken = idle.1;
-      free = free ∙ heard.free;
-      own = heard.own waits-a;
-    }
-  where
-    or-numbered : (o o' n n' : Bool) → o' ≡ o → (n ≡ true → n' ≡ true) → o || n ≡ true → o' || n' ≡ true
-    or-numbered o o' n n' e f g = grind (arith)
+module _ {z : Rates} {user : User} {turn : ℕ} {role : Role} {a : Account} {arrived : Arrived} {mid b : Account}
+    (i : Hearing z user turn role a arrived mid b) where
+  pub stilled : (total : ℕ) {release : Bool} {said : Said} → Linked z turn turn role a → a.phase ≡ Connected
+      → Stays z turn user role a mid b release said → length b.outgoing.pieces ≤ total → linked_lives turn a ≡ false
+      → linked_lives (turn + 1) said.account ≡ false → is_busy turn user.busy ≡ false → is_originator a.setup.role || a.numbered ≡ true
+      → (b.outgoing.front < total → b.outgoing.front < length b.outgoing.pieces)
+      → Stilled z total turn a mid b said (arrived_weight arrived)
+  stilled total {release} {said} h e s all dead dead' busy may more =
+      let idle = keeps-waiting z total (length user.breaks) turn role b said
+      (spoke z total (length user.breaks) turn role b said i.rates i.b_is_of s.linked i.b_role all s.says) dead' in
+      let before = or-false-both (is_waiting a.outgoing) (is_breaking turn a.own_breaks) dead in
+      let waits-a : waits a.own_breaks ≡ false = (or-false-both (waits a.own_breaks) (nat_lt turn a.own_breaks.rest) before.1).0 in
+      let same : is_waiting b.outgoing ≡ is_waiting mid.outgoing = ap is_waiting s.serves.longer.outgoing in
+      let heard = still-hears z total turn role a h before.0 arrived mid e i.hears (sym same ∙ idle.0) s.mid_phase in
+      let free : is_free total b.outgoing ≡ is_free total mid.outgoing = ap (is_free total) s.serves.longer.outgoing in
+      let due : dues total b ≡ dues total mid = served-dues turn (length user.breaks) total (is_busy turn user.busy) mid b s.serves free in
+      let may' : is_originator b.setup.role || b.numbered ≡ true =
+      or-numbered (is_originator a.setup.role) (is_originator b.setup.role) a.numbered b.numbered (ap (λ x. is_originator x.role) s.setup)
+      (λ n. s.serves.numbered ∙ heard.numbered n) may in
+      let pays = speaks-still z total (length user.breaks) turn role b said i.rates i.b_is_of s.linked i.b_role all s.says dead'
+      (s.serves.busy_now (ap is_connected s.mid_phase) ∙ busy) may' more in
+      record {
+        pays = omega (arith, pays, due, heard.dues, ap one_if (free ∙ heard.free));
+        idle = idle.0;
+        unbroken = idle.1;
+        free = free ∙ heard.free;
+        own = heard.own waits-a;
+      }
 
 -- a break that is ready is asked for, and then waits
 waits-then : (turn l : ℕ) (b : OwnBreaks) → b.answered ≤ length b.lengths → waits b ≡ false → nat_lt turn b.rest ≡ false
@@ -296,12 +274,12 @@ unready user turn mid e low w r after = go (next_break user.breaks m) refl after
         by false h k = ap (is_ready turn) f ∙ h
 
 -- An end with nothing outstanding and nothing free has finished, unless a break is ready: that would be asked for.
-pub finished : (z : Rates) (total more : ℕ) (user : User) (turn : ℕ) (role : Role) (a mid : Account) (release : Bool) (said : Said)
-    → Stays z total turn user role a mid (served_account user turn false mid) release said
+pub finished : {z : Rates} {total more : ℕ} {user : User} {turn : ℕ} {role : Role} {a mid : Account} {release : Bool} {said : Said}
+    → Stays z turn user role a mid (served_account user turn false mid) release said
     → Stilled z total turn a mid (served_account user turn false mid) said more → Breaks z turn turn a.own_breaks
     → length (served_account user turn false mid).outgoing.pieces ≤ total → linked_lives turn a ≡ false → is_free total a.outgoing ≡ false
     → has_finished user turn (served_account user turn false mid) ≡ true
-finished z total more user turn role a mid release said s t own all dead none =
+finished {z} {total} {more} {user} {turn} {role} {a} {mid} s t own all dead none =
     both (is_done b) (break_waits b) (is_ready turn (next_break user.breaks b)) done unbroken ready
   where
     b : Account
@@ -315,13 +293,6 @@ finished z total more user turn role a mid release said s t own all dead none =
 
     idle : nat_lt o.front o.high ≡ false
     idle = (or-false-both (is_outstanding o) (o.awaited || o.paused) t.idle).0
-
-    taken : nat_lt o.front total ≡ false
-    taken = and-false (nat_lt o.front o.high) (nat_lt o.front total) idle (t.free ∙ none)
-      where
-        and-false : (x y : Bool) → x ≡ false → not x && y ≡ false → y ≡ false
-        and-false true y e f = cc
-        and-false false y e f = f
 
     whole-front : o.front ≡ length o.pieces
     whole-front = let a1 = s.linked.sends.front_from in let a2 = s.linked.sends.from_high in let a3 = s.linked.sends.high_pieces in

@@ -70,16 +70,12 @@ same-length (slot ∷ rest) = ap suc (same-length rest)
 silent : (sent : Sent) → has_message sent ≡ false → arrives sent ≡ arrivals.Nothing
 silent slots.Mark e = refl
 silent slots.Flags e = refl
-silent slots.Odp e = cc
-silent slots.Adp e = cc
-silent (slots.Frame frame) e = cc
+silent p e = cc
 
 pub none-heard : (m : Option Spoken) (heard : Heard) → m ≡ None → Crosses m heard → arrivals.Nothing ≡ runs.arrival heard
 none-heard None Nothing e c = refl
-none-heard None (Passed s) e c = absurd c
-none-heard None (Lost s) e c = absurd c
-none-heard None Chance e c = absurd c
 none-heard (Some slot) heard e c = cc
+none-heard None p e c = absurd c
 
 pub one-heard : (m : Option Spoken) (sent : Sent) (heard : Heard) → sent_of m ≡ Some sent → Crosses m heard
     → cond (is_lost heard) arrivals.Nothing (arrives sent) ≡ runs.arrival heard

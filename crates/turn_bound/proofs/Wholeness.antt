@@ -1,10 +1,10 @@
 -- An end that is whole stays so, and the link is released once both ends are.
-use Rattle.std.proofs.Common.{◌≡◌, ℕ, ◌+◌, ◌*◌, ◌≤◌, ◌&&◌, ◌⊎◌, nat_eq, Bool, true, false, cond, List, [], ◌∷◌, map, length, inl, inr}
-use Rattle.std.proofs.Common.{arith, refl, sym, ◌∙◌, ap, subst, Ok}
+use Rattle.std.proofs.Common.{◌≡◌, ℕ, ◌+◌, ◌≤◌, ◌&&◌, ◌⊎◌, nat_eq, Bool, true, false, cond, List, [], ◌∷◌, map, length, inl, inr, arith}
+use Rattle.std.proofs.Common.{refl, sym, ◌∙◌, ap, subst, Ok}
 use Rattle.link_account.proofs.Names.{nat_tests, Role, Originator, Answerer, is_originator, of, Outgoing, Arrived, Account, is_connected}
-use Rattle.link_account.proofs.Names.{hear, trying, Said, speak, speak_in, speak_linked, speak_releasing}
+use Rattle.link_account.proofs.Names.{trying, Said, speak, speak_in, speak_linked, speak_releasing}
 use Rattle.link_run.proofs.Names.{Phase, Detecting, Negotiating, Establishing, Connected, Releasing, Closed, User, is_busy, is_released}
-use Rattle.link_run.proofs.Names.{has_finished, Link, Accounts, Turn, GoingTurn, RunOf, arrival, releases, IsCarried}
+use Rattle.link_run.proofs.Names.{has_finished, Link, Accounts, Turn, RunOf, arrival, releases, IsCarried}
 use Rattle.lapm_sender.specs.Outgoing.{is_whole}
 use Rattle.link_account.specs.Account.{is_done}
 use Rattle.link_run.specs.Run.{finished_at, served_ends}
@@ -13,22 +13,17 @@ use Rattle.turn_bound.specs.Advance.{NeverBusy}
 use Rattle.turn_bound.proofs.Clock.{Rates, rates, AreRates}
 use Rattle.turn_bound.proofs.Value.{IsOf, Unlinked, Linked, Stands, arrived_weight, arrived_rnrs}
 use Rattle.turn_bound.proofs.Run.{served_account}
-use Rattle.turn_bound.proofs.Serving.{Served, serves-all}
-use Rattle.turn_bound.proofs.Serves.{serves-well}
-use Rattle.turn_bound.proofs.Hearing.{HeardAs}
-use Rattle.turn_bound.proofs.Phases.{hears-well}
-use Rattle.turn_bound.proofs.Turning.{speaks-well}
-use Rattle.turn_bound.proofs.OneTurn.{heard-ok, said-ok}
-use Rattle.turn_bound.proofs.StillTurn.{linked-stand, spoke}
+use Rattle.turn_bound.proofs.StillTurn.{linked-stand, only-connected, spoke}
 use Rattle.turn_bound.proofs.MeetHear.{is_begun, of_arrived}
 use Rattle.turn_bound.proofs.Credits.{frame_poll}
 use Rattle.turn_bound.proofs.Taking.{TakesNumber, Takes, Closes, takes}
 use Rattle.turn_bound.proofs.Pausing.{goes-on, says-calm}
-use Rattle.turn_bound.proofs.Falls.{Fits}
 use Rattle.turn_bound.proofs.Ending.{fits}
-use Rattle.turn_bound.proofs.Tied.{Tied, tied, keeps, link_of, turn_of, state_of}
+use Rattle.turn_bound.proofs.Tied.{keeps, Tied, tied, link_of, turn_of, state_of}
 use Rattle.turn_bound.proofs.Meeting.{meets-run, released-closed}
-use Rattle.turn_bound.proofs.CalmRuns.{said-speaks, end-at, never-at, light-arrival}
+use Rattle.turn_bound.proofs.CalmRuns.{said-speaks, end-at, never-at, light-arrival, hears-in}
+use Rattle.turn_bound.proofs.OneTurn.{Hearing, spoken-as}
+use Rattle.turn_bound.proofs.Falls.{Fits}
 
 abbrev pub IsWhole : Outgoing → Type 0
 IsWhole o = (o.ended ≡ true) × (o.front ≡ length o.pieces)
@@ -56,28 +51,6 @@ unlinked-of z before turn r Connected a h e = cc
 unlinked-of z before turn r Releasing a h e = cc
 unlinked-of z before turn r Closed a h e = cc
 
--- one end in a turn where no user is busy
-pub record InTurn (z : Rates) (user : User) (turn : ℕ) (role : Role) (arrived : Arrived) (a mid : Account) (released release : Bool)
-    (said : Said) : Type 0 where
-  pub rates : AreRates z
-  pub is_of : IsOf z a.setup
-  pub stands : Stands z turn turn role a.phase a
-  pub role_is : a.setup.role ≡ role
-  pub calm : is_busy turn user.busy ≡ false
-  pub light : arrived_weight arrived ≤ 2
-  pub quiet : arrived_rnrs arrived ≡ 0
-  pub hears : hear turn arrived a ≡ Ok mid
-  pub speaks : speak turn release (served_account user turn released mid) ≡ Ok said
-
-first-of : (z : Rates) (user : User) (turn : ℕ) (role : Role) (arrived : Arrived) (a mid : Account) (released release : Bool) (said : Said)
-    → InTurn z user turn role arrived a mid released release said
-    → (q : Phase) × HeardAs z (length a.outgoing.pieces) (length user.breaks) turn (z.quota * arrived_rnrs arrived) role a.phase a q mid
-first-of z user turn role arrived a mid released release said i =
-    heard-ok z (length a.outgoing.pieces) (length user.breaks) turn (z.quota * arrived_rnrs arrived) role a.phase a mid
-    (hear turn arrived a) i.hears
-    (hears-well z (length a.outgoing.pieces) (length user.breaks) turn role a.phase arrived a i.rates i.is_of i.stands refl i.role_is
-    (omega arith))
-
 -- what is served and what is said of it
 pub record Spoken (z : Rates) (turn : ℕ) (role : Role) (b : Account) (said : Said) : Type 0 where
   pub stands : Stands z (turn + 1) turn role b.phase b
@@ -88,111 +61,81 @@ pub record Spoken (z : Rates) (turn : ℕ) (role : Role) (b : Account) (said : S
   pub ended : said.account.outgoing.ended ≡ b.outgoing.ended
   pub front : said.account.outgoing.front ≡ b.outgoing.front
 
-spoken-of : (z : Rates) (user : User) (turn : ℕ) (role : Role) (arrived : Arrived) (a mid : Account) (released release : Bool) (said : Said)
-    → InTurn z user turn role arrived a mid released release said
-    → Spoken z turn role (served_account user turn released mid) said
-spoken-of z user turn role arrived a mid released release said i =
-    let b : Account = served_account user turn released mid in
-    let first = first-of z user turn role arrived a mid released release said i in
-    let s = serves-all user turn released mid in
-    let serves = serves-well z (length a.outgoing.pieces) (length user.breaks) turn
-    (is_busy turn user.busy) role first.0 mid b i.rates first.1.stands first.1.phase s in
-    let phase : b.phase ≡ first.0 = s.phase ∙ first.1.phase in
-    let k : IsOf z b.setup = subst (IsOf z) (sym (s.setup ∙ first.1.setup)) i.is_of in
-    let er : b.setup.role ≡ role = ap (λ x. x.role) (s.setup ∙ first.1.setup) ∙ i.role_is in
-    let spoke = said-ok z (length b.outgoing.pieces) (length user.breaks) turn role first.0 b said (speak turn release b) i.speaks
-    (speaks-well z (length b.outgoing.pieces) (length user.breaks) turn role first.0 release b i.rates k serves.stands phase er
-    (omega arith)) in
-    let c = says-calm turn release b said (λ x. s.busy_now (ap is_connected (sym s.phase) ∙ x) ∙ i.calm) i.speaks in
-    record {
-      stands = subst (λ q. Stands z (turn + 1) turn role q b) (sym phase) serves.stands;
-      is_of = k;
-      role_is = er;
-      keeps = λ x. spoke.1.phase ∙ (spoke.1.keeps (ap is_connected (sym phase) ∙ x) ∙ sym phase);
-      pieces = spoke.1.pieces;
-      ended = spoke.1.ended;
-      front = ap (λ m. m.1) c.0;
-    }
+-- where its user isn't busy
+module _ {z : Rates} {user : User} {turn : ℕ} {role : Role} {a : Account} {arrived : Arrived} {mid b : Account}
+    (i : Hearing z user turn role a arrived mid b) (calm : is_busy turn user.busy ≡ false) (release : Bool) {said : Said}
+    (speaks : speak turn release b ≡ Ok said) where
+  spoken-of : Spoken z turn role b said
+  spoken-of =
+      let spoke = spoken-as i (length b.outgoing.pieces) release speaks (omega arith) in
+      let c = says-calm turn release b said (λ x. i.serves.busy_now (ap is_connected (sym i.serves.phase) ∙ x) ∙ calm) speaks in
+      record {
+        stands = subst (λ q. Stands z (turn + 1) turn role q b) (sym i.b_phase) i.b_stands;
+        is_of = i.b_is_of;
+        role_is = i.b_role;
+        keeps = λ x. spoke.1.phase ∙ (spoke.1.keeps (ap is_connected (sym i.b_phase) ∙ x) ∙ sym i.b_phase);
+        pieces = spoke.1.pieces;
+        ended = spoke.1.ended;
+        front = ap (λ m. m.1) c.0;
+      }
 
-said-whole : (z : Rates) (turn : ℕ) (role : Role) (b : Account) (said : Said) → Spoken z turn role b said → IsWhole b.outgoing
-    → IsWhole said.account.outgoing
-said-whole z turn role b said s w = (s.ended ∙ w.0, s.front ∙ (w.1 ∙ ap (λ x. length x) (sym s.pieces)))
+  pub said-whole : IsWhole b.outgoing → IsWhole said.account.outgoing
+  said-whole v = (spoken-of.ended ∙ v.0, spoken-of.front ∙ (v.1 ∙ ap (λ x. length x) (sym spoken-of.pieces)))
 
--- An end that is whole stays so.
-pub whole-stays : (z : Rates) (user : User) (turn : ℕ) (role : Role) (arrived : Arrived) (a mid : Account) (released release : Bool)
-    (said : Said) → InTurn z user turn role arrived a mid released release said
-    → IsWhole a.outgoing → IsWhole said.account.outgoing
-whole-stays z user turn role arrived a mid released release said i w =
-    said-whole z turn role b said (spoken-of z user turn role arrived a mid released release said i) (served (hearing a.phase refl))
-  where
-    b : Account
-    b = served_account user turn released mid
+  -- An end that is whole stays so.
+  pub whole-stays : arrived_weight arrived ≤ 2 → arrived_rnrs arrived ≡ 0 → IsWhole a.outgoing → IsWhole said.account.outgoing
+  whole-stays light quiet w = said-whole (served (hearing-so a.phase refl))
+    where
+      served : IsWhole mid.outgoing → IsWhole b.outgoing
+      served v = let e = i.serves.longer.ended v.0 in
+          (e.1, ap (λ o. o.front) i.serves.longer.outgoing ∙ (v.1 ∙ ap (λ x. length x) (sym e.0)))
 
-    first : (q : Phase) × HeardAs z (length a.outgoing.pieces) (length user.breaks) turn
-        (z.quota * arrived_rnrs arrived) role a.phase a q mid
-    first = first-of z user turn role arrived a mid released release said i
+      same : mid.outgoing ≡ a.outgoing → IsWhole mid.outgoing
+      same e = subst IsWhole (sym e) w
 
-    s : Served turn (length user.breaks) (is_busy turn user.busy) mid b
-    s = serves-all user turn released mid
+      early : is_begun a.phase ≡ false → IsWhole mid.outgoing
+      early e = let none : a.outgoing.ended ≡ false = ap (λ o. o.ended) (unlinked-of z turn turn role a.phase a i.stands e).outgoing in
+          let wrong : true ≡ false = sym w.0 ∙ none in cc
 
-    served : IsWhole mid.outgoing → IsWhole b.outgoing
-    served v = let e = s.longer.ended v.0 in (e.1, ap (λ o. o.front) s.longer.outgoing ∙ (v.1 ∙ ap (λ x. length x) (sym e.0)))
+      late : is_released a.phase ≡ true → IsWhole mid.outgoing
+      late e = same ((goes-on turn arrived a mid quiet i.hears).late e)
 
-    same : mid.outgoing ≡ a.outgoing → IsWhole mid.outgoing
-    same e = subst IsWhole (sym e) w
+      hearing-so : (p : Phase) → a.phase ≡ p → IsWhole mid.outgoing
+      hearing-so Detecting e = early (ap is_begun e)
+      hearing-so Negotiating e = early (ap is_begun e)
+      hearing-so Establishing e = early (ap is_begun e)
+      hearing-so Releasing e = late (ap is_released e)
+      hearing-so Closed e = late (ap is_released e)
+      hearing-so Connected e = by (takes z turn role a linked e arrived mid light quiet i.hears)
+        where
+          linked : Linked z turn turn role a
+          linked = linked-stand z turn turn role a (subst (λ q. Stands z turn turn role q a) e i.stands)
 
-    early : is_begun a.phase ≡ false → IsWhole mid.outgoing
-    early e = let none : a.outgoing.ended ≡ false = ap (λ o. o.ended) (unlinked-of z turn turn role a.phase a i.stands e).outgoing in
-        let wrong : true ≡ false = sym w.0 ∙ none in cc
+          number : TakesNumber turn a mid → IsWhole mid.outgoing
+          number (inl n) = (
+            i.heard.ended ∙ w.0,
+            omega (
+              arith,
+              n.0.front_low,
+              n.0.front_from,
+              n.0.from_high,
+              n.0.high,
+              linked.sends.high_pieces,
+              w.1,
+              ap (λ x. length x) i.heard.pieces,
+            ),
+          )
+          number (inr n) = same n.0
 
-    late : is_released a.phase ≡ true → IsWhole mid.outgoing
-    late e = same ((goes-on turn arrived a mid i.quiet i.hears).late e)
-
-    hearing : (p : Phase) → a.phase ≡ p → IsWhole mid.outgoing
-    hearing Detecting e = early (ap is_begun e)
-    hearing Negotiating e = early (ap is_begun e)
-    hearing Establishing e = early (ap is_begun e)
-    hearing Releasing e = late (ap is_released e)
-    hearing Closed e = late (ap is_released e)
-    hearing Connected e =
-        by (takes z turn role a linked e arrived mid i.light i.quiet i.hears)
-      where
-        linked : Linked z turn turn role a
-        linked = linked-stand z turn turn role a (subst (λ q. Stands z turn turn role q a) e i.stands)
-
-        number : TakesNumber turn a mid → IsWhole mid.outgoing
-        number (inl n) = (
-          first.1.ended ∙ w.0,
-          omega (
-            arith,
-            n.0.front_low,
-            n.0.front_from,
-            n.0.from_high,
-            n.0.high,
-            linked.sends.high_pieces,
-            w.1,
-            ap (λ x. length x) first.1.pieces,
-          ),
-        )
-        number (inr n) = same n.0
-
-        by : Closes a mid ⊎ ((mid.phase ≡ Connected) × Takes turn (of_arrived frame_poll arrived) a mid) → IsWhole mid.outgoing
-        by (inl c) = same c.outgoing
-        by (inr t) = number t.1.number
+          by : Closes a mid ⊎ ((mid.phase ≡ Connected) × Takes turn (of_arrived frame_poll arrived) a mid) → IsWhole mid.outgoing
+          by (inl c) = same c.outgoing
+          by (inr t) = number t.1.number
 
 -- An end that is told to release, of one that isn't: it was Connected, and told now.
 pub told-now : (z : Rates) (turn : ℕ) (role : Role) (release : Bool) (b : Account) (said : Said) → AreRates z → Spoken z turn role b said
     → speak turn release b ≡ Ok said → is_released b.phase ≡ false → is_released said.account.phase ≡ true → release ≡ true
 told-now z turn role release b said y s e open_ told = go (is_connected b.phase) refl
   where
-    only-connected : (p : Phase) → is_connected p ≡ true → p ≡ Connected
-    only-connected Connected h = refl
-    only-connected Detecting h = cc
-    only-connected Negotiating h = cc
-    only-connected Establishing h = cc
-    only-connected Releasing h = cc
-    only-connected Closed h = cc
-
     first-true : (x o : Bool) → x && o ≡ true → x ≡ true
     first-true true o h = refl
     first-true false o h = cc
@@ -212,29 +155,6 @@ told-now z turn role release b said y s e open_ told = go (is_connected b.phase)
             (linked-stand z (turn + 1) turn role b (subst (λ q. Stands z (turn + 1) turn role q b) linked s.stands)) s.role_is
             (omega arith) g in
             let wrong : true ≡ false = sym told ∙ ap is_released (p.stepped.same.phase ∙ (p.is_timed.same.phase ∙ linked)) in cc
-
-in-turn : (tries period : ℕ) (delay : Role → ℕ) (link : Link) (ts : List Turn) (before : Accounts) (t : Turn) (after : Accounts)
-    (role : Role)
-    → KeepsTime tries period delay link → NeverBusy link → RunOf link ts before → IsCarried delay (t ∷ ts)
-    → (g : GoingTurn link ts before t after) → (release : Bool)
-    → speak (length ts) release (served_account (of role link).user (length ts) (is_released g.mid.orig.phase) (of role g.mid)) ≡ Ok
-    (g.speaking role).said
-    → InTurn (rates tries period) (of role link).user (length ts) role (arrival (of role t).heard) (of role before) (of role g.mid)
-    (is_released g.mid.orig.phase) release (g.speaking role).said
-in-turn tries period delay link ts before t after role k n run c g release says =
-    let e = end-at tries period delay link ts before role k run c.1 in
-    let light = light-arrival delay link ts before t role n run c.0 in
-    record {
-      rates = e.rates;
-      is_of = e.is_of;
-      stands = e.stands;
-      role_is = e.role_is;
-      calm = never-at link (length ts) role n;
-      light = light.0;
-      quiet = light.1;
-      hears = (g.hearing role).hears;
-      speaks = says;
-    }
 
 finished-whole : (user : User) (turn : ℕ) (a : Account) → has_finished user turn a ≡ true → IsWhole a.outgoing
 finished-whole user turn a e = whole-is a.outgoing (by (is_connected a.phase) (first-true (is_done a) _ e))
@@ -265,11 +185,9 @@ released-whole tries period delay link (t ∷ ts) ends k n (before, run, g) c e 
     turn : ℕ
     turn = length ts
 
-    i : (r : Role) → (release : Bool)
-        → speak turn release (served_account (of r link).user turn (is_released g.mid.orig.phase) (of r g.mid)) ≡ Ok (g.speaking r).said
-        → InTurn (rates tries period) (of r link).user turn r (arrival (of r t).heard) (of r before) (of r g.mid)
-        (is_released g.mid.orig.phase) release (g.speaking r).said
-    i r release says = in-turn tries period delay link ts before t ends r k n run c g release says
+    i : (r : Role) → Hearing (rates tries period) (of r link).user turn r (of r before) (arrival (of r t).heard) (of r g.mid)
+        (served_account (of r link).user turn (is_released g.mid.orig.phase) (of r g.mid))
+    i r = hears-in tries period delay link ts before r k run c.1 t g.mid g.hearing
 
     after : (r : Role) → IsWhole (g.speaking r).said.account.outgoing → IsWhole (of r ends).outgoing
     after r w = subst (λ (a : Account). IsWhole a.outgoing) (sym (g.speaking r).after_is) w
@@ -277,17 +195,14 @@ released-whole tries period delay link (t ∷ ts) ends k n (before, run, g) c e 
     stayed : ((r : Role) → IsWhole (of r before).outgoing) → (r : Role) → IsWhole (of r ends).outgoing
     stayed w r =
         let sp = said-speaks link turn g.mid r (g.speaking r).said (g.speaking r).says in
-        after r (whole-stays (rates tries period) (of r link).user turn r (arrival (of r t).heard) (of r before) (of r g.mid)
-        (is_released g.mid.orig.phase) sp.0 (g.speaking r).said (i r sp.0 sp.1) (w r))
+        let light = light-arrival delay link ts before t r n run c.0 in
+        after r (whole-stays (i r) (never-at link turn r n) sp.0 sp.1 light.0 light.1 (w r))
 
     -- the originator is told in this turn: both have finished
     finished : releases link turn g.mid ≡ true → (r : Role) → IsWhole (of r ends).outgoing
     finished told r =
         let sp = said-speaks link turn g.mid r (g.speaking r).said (g.speaking r).says in
-        after r (said-whole (rates tries period) turn r (served_account (of r link).user turn (is_released g.mid.orig.phase) (of r g.mid))
-        (g.speaking r).said
-        (spoken-of (rates tries period) (of r link).user turn r (arrival (of r t).heard) (of r before) (of r g.mid)
-        (is_released g.mid.orig.phase) sp.0 (g.speaking r).said (i r sp.0 sp.1))
+        after r (said-whole (i r) (never-at link turn r n) sp.0 sp.1
         (finished-whole (of r link).user turn (served_account (of r link).user turn (is_released g.mid.orig.phase) (of r g.mid))
         (of-both r)))
       where
@@ -304,20 +219,20 @@ released-whole tries period delay link (t ∷ ts) ends k n (before, run, g) c e 
     told : is_released before.orig.phase ≡ false → releases link turn g.mid ≡ true
     told open_ =
         let o = g.speaking Originator in
-        let b : Account = served_account link.orig.user turn (is_released g.mid.orig.phase) g.mid.orig in
-        let x = i Originator (releases link turn g.mid) o.says in
-        let s = serves-all link.orig.user turn (is_released g.mid.orig.phase) g.mid.orig in
-        told-now (rates tries period) turn Originator (releases link turn g.mid) b o.said x.rates
-        (spoken-of (rates tries period) link.orig.user turn Originator (arrival t.orig.heard) before.orig g.mid.orig
-        (is_released g.mid.orig.phase) (releases link turn g.mid) o.said x) o.says
-        (ap is_released s.phase ∙ heard-open before.orig.phase refl) (ap (λ (a : Account). is_released a.phase) (sym o.after_is) ∙ e)
+        told-now (rates tries period) turn Originator (releases link turn g.mid)
+        (served_account link.orig.user turn (is_released g.mid.orig.phase) g.mid.orig) o.said x.rates
+        (spoken-of x (never-at link turn Originator n) (releases link turn g.mid) o.says) o.says
+        (ap is_released x.serves.phase ∙ heard-open before.orig.phase refl) (ap (λ (a : Account). is_released a.phase) (sym o.after_is) ∙ e)
       where
-        x : InTurn (rates tries period) link.orig.user turn Originator (arrival t.orig.heard) before.orig g.mid.orig
-            (is_released g.mid.orig.phase) (releases link turn g.mid) (g.speaking Originator).said
-        x = i Originator (releases link turn g.mid) (g.speaking Originator).says
+        x : Hearing (rates tries period) link.orig.user turn Originator before.orig (arrival t.orig.heard) g.mid.orig
+            (served_account link.orig.user turn (is_released g.mid.orig.phase) g.mid.orig)
+        x = i Originator
+
+        light : (arrived_weight (arrival t.orig.heard) ≤ 2) × (arrived_rnrs (arrival t.orig.heard) ≡ 0)
+        light = light-arrival delay link ts before t Originator n run c.0
 
         early : is_begun before.orig.phase ≡ false → is_released g.mid.orig.phase ≡ false
-        early h = (goes-on turn (arrival t.orig.heard) before.orig g.mid.orig x.quiet x.hears).early h
+        early h = (goes-on turn (arrival t.orig.heard) before.orig g.mid.orig light.1 x.hears).early h
 
         heard-open : (p : Phase) → before.orig.phase ≡ p → is_released g.mid.orig.phase ≡ false
         heard-open Detecting h = early (ap is_begun h)
@@ -329,7 +244,7 @@ released-whole tries period delay link (t ∷ ts) ends k n (before, run, g) c e 
             (takes (rates tries period) turn Originator before.orig
             (linked-stand (rates tries period) turn turn Originator before.orig
             (subst (λ q. Stands (rates tries period) turn turn Originator q before.orig) h x.stands)) h
-            (arrival t.orig.heard) g.mid.orig x.light x.quiet x.hears) [
+            (arrival t.orig.heard) g.mid.orig light.0 light.1 x.hears) [
               | inl q ↦ (let wrong : Originator ≡ Answerer = sym x.role_is ∙ q.answers in cc)
               | inr q ↦ ap is_released q.0
             ]

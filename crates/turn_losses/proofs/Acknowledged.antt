@@ -1,16 +1,16 @@
 -- What an end sends at the answer to its poll is acknowledged, where no line is lost.
-use Rattle.std.proofs.Common.{◌⊎◌, inl, inr, ◌≡◌, ℕ, zero, suc, ◌+◌, ◌-◌, ◌%◌, ◌<◌, ◌≤◌, ◌&&◌, Bool, true, false, cond, nat_lt, nat_le}
-use Rattle.std.proofs.Common.{length, arith, refl, sym, ◌∙◌, ap, Option, Some, None}
-use Rattle.link_account.proofs.Names.{is_some, cases_lt, nat_tests, Frame, I, Rr, Rnr, Rej, Srej, Sabme, Disc, Ua, Dm, Ui, Xid, meant, Sent}
-use Rattle.link_account.proofs.Names.{Arrived, is_connected, arrives}
-use Rattle.lapm_frames.specs.declared.frame.Frame.TheVariants.{Frmr, Test}
+use Rattle.std.proofs.Common.{◌⊎◌, inl, inr, ◌≡◌, ℕ, ◌+◌, ◌-◌, ◌%◌, ◌<◌, ◌≤◌, ◌&&◌, Bool, true, false, cond, nat_lt, nat_le, length, arith}
+use Rattle.std.proofs.Common.{refl, sym, ◌∙◌, ap, Option, Some, None}
+use Rattle.link_account.proofs.Names.{is_some, cases_lt, nat_tests, Frame, I, Rr, Rnr, Rej, meant, Sent, Arrived, is_connected, arrives}
 use Rattle.turn_losses.proofs.KeepsPolls.{Answers}
 use Rattle.turn_losses.proofs.NumberHear.{frame_nr, nr_heard, ns_heard, nr_sent, ns_sent, NumbersHeard}
 use Rattle.turn_losses.proofs.NumberTurn.{NumberTurn}
 use Rattle.turn_losses.proofs.Room.{Room}
 use Rattle.turn_losses.proofs.PollLaws.{reply-matches}
-use Rattle.turn_losses.proofs.PeriodLaws.{linked-on, connected-back, awaits-on, NoneLost, StayConnected}
+use Rattle.turn_losses.proofs.PeriodLaws.{awaits-on, NoneLost, StayConnected, connected-since}
 use Rattle.turn_losses.proofs.Names.{of_arrived, is_final, is_linked, EndRun, ArrivesLate, TwoEnds, hears_final}
+use Rattle.turn_losses.proofs.Truths.{clash}
+use Rattle.turn_losses.proofs.Kept.{kept-in}
 use Rattle.lapm_frames.specs.declared.sent.Sent.TheVariants as slots
 use Rattle.lapm_frames.specs.declared.arrived.Arrived.TheVariants as arrivals
 
@@ -84,15 +84,7 @@ final-nr (Rr c nr pf) e = refl
 final-nr (Rnr c nr pf) e = refl
 final-nr (Rej c nr pf) e = refl
 final-nr (I ns nr pf info) e = refl
-final-nr (Srej c nr pf) e = cc
-final-nr (Sabme pf) e = cc
-final-nr (Disc pf) e = cc
-final-nr (Ua pf) e = cc
-final-nr (Dm pf) e = cc
-final-nr (Frmr pf info) e = cc
-final-nr (Ui c pf info) e = cc
-final-nr (Xid c pf info) e = cc
-final-nr (Test c pf info) e = cc
+final-nr p e = cc
 
 final-told : (x : Arrived) → of_arrived is_final x ≡ true → (n : ℕ) × (nr_heard x ≡ Some n)
 final-told arrivals.Nothing e = cc
@@ -119,59 +111,48 @@ beyond : (f r nr : ℕ) → f + 1 ≤ r → r ≤ f + 127 → f % 128 ≡ nr →
 beyond f r nr h1 h2 h3 h4 = omega (arith, h1, h2, h3, h4)
 
 -- the front stands, or the retry count is 0 in a turn
-pub front-or-cleared : (turns : ℕ) (e o : EndRun) → Counts turns e o → (s : ℕ) → (n : ℕ) → s + n ≤ turns → StayConnected e s (s + n)
-    → ((e.account (s + n)).outgoing.front ≡ (e.account s).outgoing.front)
-    ⊎ ((v : ℕ) × (s ≤ v) × (v < s + n) × ((e.mid v).outgoing.count ≡ 0))
-front-or-cleared turns e o c s zero l h = inl (ap (λ t. (e.account t).outgoing.front) (omega arith))
-front-or-cleared turns e o c s (suc n) l h = go (front-or-cleared turns e o c s n (omega (arith, l)) (λ t x y. h t x (omega (arith, y))))
+front-or-cleared : {turns : ℕ} {e o : EndRun} → Counts turns e o → (s t : ℕ) → s ≤ t → t ≤ turns → StayConnected e s t
+    → ((e.account t).outgoing.front ≡ (e.account s).outgoing.front) ⊎ ((v : ℕ) × (s ≤ v) × (v < t) × ((e.mid v).outgoing.count ≡ 0))
+front-or-cleared {turns} {e} {o} c s t less l h = kept-in
+    (λ u. ((e.account u).outgoing.front ≡ (e.account s).outgoing.front) ⊎ ((v : ℕ) × (s ≤ v) × (v < u) × ((e.mid v).outgoing.count ≡ 0)))
+    s t less next (inl refl)
   where
-    t : ℕ
-    t = s + n
-
-    w : NumberTurn (e.heard t) (e.slot t) (e.account t) (e.mid t) (e.account (t + 1))
-    w = c.own t (omega (arith, l)) (h t (omega arith) (omega arith)) (h (t + 1) (omega arith) (omega arith))
-
-    go : ((e.account t).outgoing.front ≡ (e.account s).outgoing.front) ⊎ ((v : ℕ) × (s ≤ v) × (v < s + n) × ((e.mid v).outgoing.count ≡ 0))
-        → ((e.account (s + suc n)).outgoing.front ≡ (e.account s).outgoing.front)
-        ⊎ ((v : ℕ) × (s ≤ v) × (v < s + suc n) × ((e.mid v).outgoing.count ≡ 0))
-    go (inr (v, x, y, z)) = inr (v, x, omega (arith, y), z)
-    go (inl q) = elim w.heard.advance [
-      | inl p ↦ inl (ap (λ x. (e.account x).outgoing.front) (omega arith) ∙ (w.front ∙ (p ∙ q)))
-      | inr p ↦ inr (t, omega arith, omega arith, p)
-    ]
+    next : (u : ℕ) → s ≤ u → u < t
+        → ((e.account u).outgoing.front ≡ (e.account s).outgoing.front) ⊎ ((v : ℕ) × (s ≤ v) × (v < u) × ((e.mid v).outgoing.count ≡ 0))
+        → ((e.account (u + 1)).outgoing.front ≡ (e.account s).outgoing.front)
+        ⊎ ((v : ℕ) × (s ≤ v) × (v < u + 1) × ((e.mid v).outgoing.count ≡ 0))
+    next u lo hi (inr (v, x, y, z)) = inr (v, x, omega (arith, y), z)
+    next u lo hi (inl q) =
+        let w = c.own u (omega (arith, hi, l)) (h u lo (omega (arith, hi))) (h (u + 1) (omega (arith, lo)) (omega (arith, hi))) in
+        elim w.heard.advance [ inl p ↦ inl (w.front ∙ (p ∙ q)) | inr p ↦ inr (u, lo, omega arith, p) ]
 
 -- what is taken stays taken
-taken-rises : (turns : ℕ) (e o : EndRun) → Counts turns e o → (s n : ℕ) → s + n ≤ turns → StayConnected o s (s + n)
-    → length (o.account s).incoming.taken ≤ length (o.account (s + n)).incoming.taken
-taken-rises turns e o c s zero l h = let q = ap (λ t. length (o.account t).incoming.taken) (same s) in omega (arith, q)
-  where
-    same : (x : ℕ) → x + 0 ≡ x
-    same x = omega arith
-taken-rises turns e o c s (suc n) l h =
-    let t : ℕ = s + n in
-    let w = c.other t (omega (arith, l)) (h t (omega arith) (omega arith)) (h (t + 1) (omega arith) (omega arith)) in
-    let before = taken-rises turns e o c s n (omega (arith, l)) (λ u x y. h u x (omega (arith, y))) in
-    let low = w.heard.incoming.low in
-    let after = ap length w.taken in
-    let there : length (o.account (s + suc n)).incoming.taken ≡ length (o.account (t + 1)).incoming.taken =
-    ap (λ u. length (o.account u).incoming.taken) (omega arith) in
-    omega (arith, before, low, after, there)
+taken-rises : {turns : ℕ} {e o : EndRun} → Counts turns e o → (s t : ℕ) → s ≤ t → t ≤ turns → StayConnected o s t
+    → length (o.account s).incoming.taken ≤ length (o.account t).incoming.taken
+taken-rises {turns} {e} {o} c s t less l h =
+    kept-in (λ u. length (o.account s).incoming.taken ≤ length (o.account u).incoming.taken) s t less (λ u lo hi before.
+    let w = c.other u (omega (arith, hi, l)) (h u lo (omega (arith, hi))) (h (u + 1) (omega (arith, lo)) (omega (arith, hi))) in
+    omega (arith, before, w.heard.incoming.low, ap length w.taken)) (omega arith)
+
+-- the retry count is 0 within a round trip and a turn
+abbrev pub ClearsSoon : EndRun → EndRun → ℕ → Type 0
+ClearsSoon e o u = (v : ℕ) × (u < v) × (v ≤ u + (e.delay + o.delay) + 1) × ((e.mid v).outgoing.count ≡ 0)
 
 -- The first segment that isn't acknowledged, sent in the turn in which the answer to a poll is heard: the retry count is 0 within a round
 -- trip and a turn.
-pub acknowledged : (period turns : ℕ) (e o : EndRun) → TwoEnds period turns e o → Counts turns e o → (u : ℕ)
+pub acknowledged : {period turns : ℕ} {e o : EndRun} → TwoEnds period turns e o → Counts turns e o → (u : ℕ)
     → u + (e.delay + o.delay) + 1 < turns → hears_final e u ≡ true
     → ns_sent (e.slot u) ≡ Some ((e.mid u).outgoing.front % 128)
     → StayConnected e u (u + (e.delay + o.delay) + 2) → StayConnected o (u - o.delay) (u + (e.delay + o.delay) + 2)
     → NoneLost e o (u + 1) (e.delay + o.delay + 1)
-    → (v : ℕ) × (u < v) × (v ≤ u + (e.delay + o.delay) + 1) × ((e.mid v).outgoing.count ≡ 0)
-acknowledged period turns e o k c u within final sends ce co lost = go-told (own-numbers.heard)
+    → ClearsSoon e o u
+acknowledged {period} {turns} {e} {o} k c u within final sends ce co lost = go-told (own-numbers.heard)
   where
     d' : 1 ≤ o.delay
     d' = k.other_delay
 
     m : Answers u e o
-    m = reply-matches period turns e o k u (omega (arith, within)) final
+    m = reply-matches k u (omega (arith, within)) final
 
     trip : m.sent + (e.delay + o.delay) ≡ u
     trip = m.round_trip
@@ -199,55 +180,40 @@ acknowledged period turns e o k c u within final sends ce co lost = go-told (own
     r = length (o.account (w + 1)).incoming.taken
 
     -- o takes nothing from when it answered until that segment comes
-    stands : (n : ℕ) → w + 1 + n ≤ x → length (o.account (w + 1 + n)).incoming.taken ≡ r
-    stands zero l = ap (λ t. length (o.account t).incoming.taken) (same w)
-      where
-        same : (y : ℕ) → y + 1 + 0 ≡ y + 1
-        same y = omega arith
-    stands (suc n) l = ap (λ y. length (o.account y).incoming.taken) (next w n)
-        ∙ (ap length q.taken ∙ (ap (λ (i : _). length i.taken) (none (ns_heard (o.heard t)) refl) ∙ stands n (omega (arith, l))))
-      where
-        next : (y z : ℕ) → y + 1 + suc z ≡ y + 1 + z + 1
-        next y z = omega arith
-
-        t : ℕ
-        t = w + 1 + n
-
-        q : NumberTurn (o.heard t) (o.slot t) (o.account t) (o.mid t) (o.account (t + 1))
-        q = o-turn t (omega arith) (omega (arith, l, k.own_delay))
-
-        none : (h : Option ℕ) → ns_heard (o.heard t) ≡ h → (o.mid t).incoming ≡ (o.account t).incoming
-        none None g = q.heard.incoming.same g
-        none (Some ns) g =
-            let from = told-from ns_heard ns_sent ns-told e.delay t (o.loses t) e.slot (o.heard t)
-            (k.is_heard t (omega (arith, l, within, d'))) ns g in
-            let y : ℕ = t - e.delay in
-            let fr = from.0 in
-            let tr = trip in
-            let low : m.due < y + 1 = omega (arith, fr, tr, due-before) in
-            let high : y + 1 ≤ u = omega (arith, fr, l) in
-            let linked : is_linked (e.account (m.due + 1)).phase ≡ true =
-            (k.own m.due (omega (arith, low, high, within))).made_linked m.made in
-            let cu = ce u (omega arith) (omega arith) in
-            let after-due : m.due + 1 ≤ y = omega (arith, fr, tr, due-before, k.own_delay) in
-            let cy = connected-back period turns e o k y u (omega (arith, high)) (omega (arith, within))
-            (linked-on period turns e o k (m.due + 1) y after-due (omega (arith, high, within)) linked) cu in
-            let cy' = connected-back period turns e o k (y + 1) u high (omega (arith, within))
-            (linked-on period turns e o k (m.due + 1) (y + 1) (omega (arith, after-due)) (omega (arith, high, within)) linked) cu in
-            let sent = (c.own y (omega (arith, high, within)) cy cy').segment ns from.1 in
-            let waits = awaits-on period turns e o k u (omega (arith, within)) cu m (y + 1) low high in
-            let wrong : true ≡ false = sym waits ∙ sent in cc
-
     stands-at : (t : ℕ) → w + 1 ≤ t → t ≤ x → length (o.account t).incoming.taken ≡ r
-    stands-at t l g = ap (λ y. length (o.account y).incoming.taken) (omega (arith, l)) ∙ stands (t - (w + 1)) (omega (arith, l, g))
+    stands-at t l g = kept-in (λ y. length (o.account y).incoming.taken ≡ r) (w + 1) t l next refl
+      where
+        next : (y : ℕ) → w + 1 ≤ y → y < t → length (o.account y).incoming.taken ≡ r → length (o.account (y + 1)).incoming.taken ≡ r
+        next y lo hi before = ap length q.taken ∙ (ap (λ (i : _). length i.taken) (none (ns_heard (o.heard y)) refl) ∙ before)
+          where
+            q : NumberTurn (o.heard y) (o.slot y) (o.account y) (o.mid y) (o.account (y + 1))
+            q = o-turn y (omega (arith, lo)) (omega (arith, hi, g, k.own_delay))
+
+            none : (h : Option ℕ) → ns_heard (o.heard y) ≡ h → (o.mid y).incoming ≡ (o.account y).incoming
+            none None g' = q.heard.incoming.same g'
+            none (Some ns) g' =
+                let from = told-from ns_heard ns_sent ns-told e.delay y (o.loses y) e.slot (o.heard y)
+                (k.is_heard y (omega (arith, hi, g, within, d'))) ns g' in
+                let z : ℕ = y - e.delay in
+                let fr = from.0 in
+                let low : m.due < z + 1 = omega (arith, fr, lo, trip, due-before) in
+                let high : z + 1 ≤ u = omega (arith, fr, hi, g) in
+                let linked : is_linked (e.account (m.due + 1)).phase ≡ true =
+                (k.own m.due (omega (arith, low, high, within))).made_linked m.made in
+                let cu = ce u (omega arith) (omega arith) in
+                let after-due : m.due + 1 ≤ z = omega (arith, fr, lo, trip, due-before, k.own_delay) in
+                let on = connected-since k (m.due + 1) u (omega (arith, within)) linked cu in
+                let sent = (c.own z (omega (arith, high, within)) (on z after-due (omega (arith, high)))
+                (on (z + 1) (omega (arith, after-due)) high)).segment ns from.1 in
+                clash (e.account (z + 1)).outgoing.awaited (awaits-on k u (omega (arith, within)) cu m (z + 1) low high) sent
 
     -- so that segment is the next one expected
     go-told : NumbersHeard (e.heard u) (e.account u) (e.mid u)
-        → (v : ℕ) × (u < v) × (v ≤ u + (e.delay + o.delay) + 1) × ((e.mid v).outgoing.count ≡ 0)
+        → ClearsSoon e o u
     go-told h = from-answer (final-told (e.heard u) final)
       where
         from-answer : (nr : ℕ) × (nr_heard (e.heard u) ≡ Some nr)
-            → (v : ℕ) × (u < v) × (v ≤ u + (e.delay + o.delay) + 1) × ((e.mid v).outgoing.count ≡ 0)
+            → ClearsSoon e o u
         from-answer (nr, heard) = arrived (next-taken)
           where
             sent-so : (o.delay ≤ u) × (nr_sent (o.slot w) ≡ Some nr)
@@ -289,7 +255,7 @@ acknowledged period turns e o k c u within final sends ce co lost = go-told (own
 
             -- it is told in that turn or the next one
             arrived : (length (o.account x).incoming.taken < length (o.mid x).incoming.taken) × ((o.mid x).incoming.owed ≡ true)
-                → (v : ℕ) × (u < v) × (v ≤ u + (e.delay + o.delay) + 1) × ((e.mid v).outgoing.count ≡ 0)
+                → ClearsSoon e o u
             arrived (more, owed) = told-now (ox.told owed (ox.heard.numbered (f % 128) comes))
               where
                 numbered : (o.mid x).numbered ≡ true
@@ -300,7 +266,7 @@ acknowledged period turns e o k c u within final sends ce co lost = go-told (own
 
                 -- what is told from then on clears the count
                 clears : (y : ℕ) → x ≤ y → y ≤ x + 1 → f + 1 ≤ length (o.mid y).incoming.taken → is_some (nr_sent (o.slot y)) ≡ true
-                    → (v : ℕ) × (u < v) × (v ≤ u + (e.delay + o.delay) + 1) × ((e.mid v).outgoing.count ≡ 0)
+                    → ClearsSoon e o u
                 clears y ly gy much some = hears (is-some (nr_sent (o.slot y)) some)
                   where
                     v : ℕ
@@ -320,10 +286,9 @@ acknowledged period turns e o k c u within final sends ce co lost = go-told (own
                         (ce (v + 1) (omega (arith, u-v)) (omega (arith, v-in)))
 
                     hears : (nr' : ℕ) × (nr_sent (o.slot y) ≡ Some nr')
-                        → (v : ℕ) × (u < v) × (v ≤ u + (e.delay + o.delay) + 1) × ((e.mid v).outgoing.count ≡ 0)
-                    hears (nr', said) = moved
-                        (front-or-cleared turns e o c (u + 1) (v - (u + 1)) (omega (arith, u-v, v-in, within))
-                        (λ t a b. ce t (omega (arith, a)) (omega (arith, b, u-v, v-in)))) ev.heard.advance
+                        → ClearsSoon e o u
+                    hears (nr', said) = moved (front-or-cleared c (u + 1) v (omega (arith, u-v)) (omega (arith, v-in, within))
+                        (λ t a b. ce t (omega (arith, a)) (omega (arith, b, v-in)))) ev.heard.advance
                       where
                         comes-back : nr_heard (e.heard v) ≡ Some nr'
                         comes-back = told-to nr_heard nr_sent nr-told o.delay y (e.loses v) o.slot (e.heard v)
@@ -332,35 +297,28 @@ acknowledged period turns e o k c u within final sends ce co lost = go-told (own
                         told : nr' ≡ length (o.mid y).incoming.taken % 128
                         told = oy.tells nr' said
 
-                        at-v : u + 1 + (v - (u + 1)) ≡ v
-                        at-v = omega (arith, u-v)
-
-                        moved : ((e.account (u + 1 + (v - (u + 1)))).outgoing.front ≡ (e.account (u + 1)).outgoing.front)
-                            ⊎ ((t : ℕ) × (u + 1 ≤ t) × (t < u + 1 + (v - (u + 1))) × ((e.mid t).outgoing.count ≡ 0))
-                            → ((e.mid v).outgoing.front ≡ (e.account v).outgoing.front) ⊎ ((e.mid v).outgoing.count ≡ 0)
-                            → (v : ℕ) × (u < v) × (v ≤ u + (e.delay + o.delay) + 1) × ((e.mid v).outgoing.count ≡ 0)
-                        moved (inr (t, a, b, z)) y' = (t, omega (arith, a), omega (arith, b, at-v, v-in), z)
+                        moved : ((e.account v).outgoing.front ≡ (e.account (u + 1)).outgoing.front)
+                            ⊎ ((t : ℕ) × (u + 1 ≤ t) × (t < v) × ((e.mid t).outgoing.count ≡ 0))
+                            → ((e.mid v).outgoing.front ≡ (e.account v).outgoing.front) ⊎ ((e.mid v).outgoing.count ≡ 0) → ClearsSoon e o u
+                        moved (inr (t, a, b, z)) y' = (t, omega (arith, a), omega (arith, b, v-in), z)
                         moved (inl q) (inr z) = (v, u-v, v-in, z)
                         moved (inl q) (inl p) =
-                            let there : (e.account v).outgoing.front ≡ f =
-                            ap (λ n. (e.account n).outgoing.front) (sym at-v) ∙ (q ∙ own-numbers.front) in
+                            let there : (e.account v).outgoing.front ≡ f = q ∙ own-numbers.front in
                             let means' = meant-is (e.account v).outgoing.front (e.account v).outgoing.high nr' (e.mid v).outgoing.front
                             (ev.heard.acked nr' comes-back) in
                             let agrees : f % 128 ≡ nr' = ap (λ n. n % 128) (sym (p ∙ there)) ∙ means'.2 in
-                            let rises = taken-rises turns e o c (y + 1) (v - (y + 1)) (omega (arith, d', v-in, within))
-                            (λ t a b. co t (omega (arith, a, ly)) (omega (arith, b, v-in, d'))) in
+                            let rises = taken-rises c (y + 1) v (omega (arith, d')) (omega (arith, v-in, within))
+                            (λ t a b. co t (omega (arith, a, ly)) (omega (arith, b, v-in))) in
                             let after = ap length oy.taken in
-                            let same-v : length (o.account (y + 1 + (v - (y + 1)))).incoming.taken ≡ length (o.account v).incoming.taken =
-                            ap (λ n. length (o.account n).incoming.taken) (omega (arith, d')) in
                             let few = c.offered v (omega (arith, v-in, within)) in
                             let p' = c.room v (omega (arith, v-in, within)) (ce v (omega (arith, u-v)) (omega (arith, v-in))) in
                             let pw = p'.window in let pp = p'.pieces in
                             absurd (beyond f (length (o.mid y).incoming.taken) nr' much
-                            (omega (arith, rises, after, same-v, few, pw, pp, there)) agrees told)
+                            (omega (arith, rises, after, few, pw, pp, there)) agrees told)
 
                 told-now : (is_some (nr_sent (o.slot x)) ≡ true)
                     ⊎ (((o.account x).special ≡ false) × ((o.account (x + 1)).special ≡ true) × ((o.account (x + 1)).incoming.owed ≡ true))
-                    → (v : ℕ) × (u < v) × (v ≤ u + (e.delay + o.delay) + 1) × ((e.mid v).outgoing.count ≡ 0)
+                    → ClearsSoon e o u
                 told-now (inl some) = clears x (omega arith) (omega arith) more-than some
                 told-now (inr (a, special, still)) =
                     told-next (ox'.told (ox'.heard.incoming.owed still) (ox'.numbered (ox.numbered_on ∙ numbered)))
@@ -371,7 +329,7 @@ acknowledged period turns e o k c u within final sends ce co lost = go-told (own
                     told-next : (is_some (nr_sent (o.slot (x + 1))) ≡ true)
                         ⊎ (((o.account (x + 1)).special ≡ false) × ((o.account (x + 1 + 1)).special ≡ true)
                         × ((o.account (x + 1 + 1)).incoming.owed ≡ true))
-                        → (v : ℕ) × (u < v) × (v ≤ u + (e.delay + o.delay) + 1) × ((e.mid v).outgoing.count ≡ 0)
+                        → ClearsSoon e o u
                     told-next (inr (b, _, _)) = let wrong : true ≡ false = sym special ∙ b in cc
                     told-next (inl some) =
                         let on = ox'.heard.incoming.low in let after = ap length ox.taken in

@@ -1,26 +1,22 @@
-use Rattle.std.proofs.Common.{◌⊎◌, inl, inr, ◌≡◌, ℕ, ◌+◌, ◌*◌, ◌<◌, ◌&&◌, Bool, true, false, cond, nat_eq, length, arith, refl, sym, ◌∙◌}
-use Rattle.std.proofs.Common.{ap, subst, Option, Some, None, Ok}
-use Rattle.link_account.proofs.Names.{nat_tests, Role, Originator, Answerer, Disc, is_outstanding, Arrived, Account}
-use Rattle.link_account.proofs.Names.{is_connected, is_originator, hear, trying, Said, speak_linked, speak, speak_in, speak_releasing}
-use Rattle.link_run.proofs.Names.{Phase, Detecting, Negotiating, Establishing, Connected, Releasing, Closed, User, is_busy, is_released}
+use Rattle.std.proofs.Common.{◌⊎◌, inl, inr, ◌≡◌, ℕ, ◌+◌, ◌<◌, ◌&&◌, Bool, true, false, cond, nat_eq, length, arith, refl, sym, ◌∙◌, ap}
+use Rattle.std.proofs.Common.{subst, Option, Some, None, Ok}
+use Rattle.link_account.proofs.Names.{nat_tests, Role, Originator, Answerer, Disc, is_outstanding, Arrived, Account, is_connected}
+use Rattle.link_account.proofs.Names.{is_originator, hear, trying, Said, speak_linked, speak, speak_in, speak_releasing, of}
+use Rattle.link_run.proofs.Names.{Phase, Connected, Releasing, is_busy, is_released, Link}
 use Rattle.link_account.specs.Speak.{timer_expires}
 use Rattle.link_account.proofs.SpeakWays.{OnSaid, tries-alike, by-tries}
 use Rattle.turn_losses.proofs.Answered.{SendsSegment, AnswerTurn}
 use Rattle.turn_losses.proofs.Answering.{AnswerHeard, frame_rnr, answer-hears, Segment, urgent-says, front-may}
+use Rattle.turn_losses.proofs.InTurn.{InTurn}
 use Rattle.turn_losses.proofs.PollHear.{PollHeard, poll-hears}
-use Rattle.turn_losses.proofs.Names.{Rates, AreRates, Sends, IsOf, Stands, arrived_rnrs, served_account, heard-ok, hears-well, serves-well}
-use Rattle.turn_losses.proofs.Names.{NoneDue, Served, serves-all, is_poll, is_final, of_arrived}
+use Rattle.turn_losses.proofs.Names.{Rates, Sends, Stands, Served, is_poll, is_final, of_arrived, rates}
 use Rattle.lapm_frames.specs.declared.arrived.Arrived.TheVariants as arrivals
 
 pub linked-sends : (z : Rates) (before turn : ℕ) (r : Role) (p : Phase) (a : Account) → Stands z before turn r p a → is_connected p ≡ true
     → Sends z before turn a.outgoing a.wait.timer
 linked-sends z before turn Originator Connected a st e = st.sends
 linked-sends z before turn Answerer Connected a st e = st.sends
-linked-sends z before turn r Detecting a st e = cc
-linked-sends z before turn r Negotiating a st e = cc
-linked-sends z before turn r Establishing a st e = cc
-linked-sends z before turn r Releasing a st e = cc
-linked-sends z before turn r Closed a st e = cc
+linked-sends z before turn r p a st e = cc
 
 pub connected-is : (p : Phase) → is_connected p ≡ true → p ≡ Connected
 connected-is Connected e = refl
@@ -51,75 +47,60 @@ linked-says turn release a said e c h = go (release && is_originator a.setup.rol
     go true q = let wrong : true ≡ false = sym c ∙ released-says turn a said q in cc
 
 -- the turn of one end in which it hears the answer
-pub end-answers : (z : Rates) (user : User) (turn : ℕ) (role : Role) (arrived : Arrived) (a mid : Account) (released release : Bool)
-    (said : Said) → AreRates z → IsOf z a.setup → Stands z turn turn role a.phase a → a.setup.role ≡ role
-    → hear turn arrived a ≡ Ok mid → speak turn release (served_account user turn released mid) ≡ Ok said → NoneDue a
-    → AnswerTurn z.period turn arrived a mid (served_account user turn released mid) said
-end-answers z user turn role arrived a mid released release said y k h er hears speaks none c w p final c' bound =
-    framed arrived hears final
-  where
-    b : Account
-    b = served_account user turn released mid
+module _ {tries period : ℕ} {link : Link} {role : Role} {turn : ℕ} {a : Account} {arrived : Arrived} {mid b : Account}
+    (i : InTurn tries period link role turn a arrived mid b) where
+  pub end-answers : (release : Bool) (said : Said) → speak turn release b ≡ Ok said → AnswerTurn period turn arrived a mid b said
+  end-answers release said speaks c w p final c' bound = framed arrived i.hears final
+    where
+      framed : (x : Arrived) → hear turn x a ≡ Ok mid → of_arrived is_final x ≡ true
+          → (mid.outgoing.count ≡ 0) ⊎ SendsSegment mid.outgoing.front b said
+      framed arrivals.Nothing q f = cc
+      framed (arrivals.Pattern seen) q f = cc
+      framed (arrivals.Frame frame) q f = by (frame_rnr frame) refl
+        where
+          t : AnswerHeard (frame_rnr frame) a mid
+          t = answer-hears turn a w frame mid (connected-is a.phase c) f q
 
-    framed : (x : Arrived) → hear turn x a ≡ Ok mid → of_arrived is_final x ≡ true
-        → (mid.outgoing.count ≡ 0) ⊎ SendsSegment mid.outgoing.front b said
-    framed arrivals.Nothing q f = cc
-    framed (arrivals.Pattern seen) q f = cc
-    framed (arrivals.Frame frame) q f = by (frame_rnr frame) refl
-      where
-        t : AnswerHeard (frame_rnr frame) a mid
-        t = answer-hears turn a w frame mid (connected-is a.phase c) f q
+          s : Served turn (length (of role link).user.breaks) (is_busy turn (of role link).user.busy) mid b
+          s = i.served
 
-        s : Served turn (length user.breaks) (is_busy turn user.busy) mid b
-        s = serves-all user turn released mid
+          polls : PollHeard role turn (is_poll frame) a mid
+          polls = poll-hears role (arrivals.Frame frame) turn a i.role_is i.none_due.answer mid q
 
-        polls : PollHeard role turn (is_poll frame) a mid
-        polls = poll-hears role (arrivals.Frame frame) turn a er none.answer mid q
+          front : b.outgoing.front ≡ mid.outgoing.front
+          front = ap (λ o. o.front) s.longer.outgoing
 
-        front : b.outgoing.front ≡ mid.outgoing.front
-        front = ap (λ o. o.front) s.longer.outgoing
+          phase : b.phase ≡ Connected
+          phase = s.phase ∙ (t.phase ∙ connected-is a.phase c)
 
-        phase : b.phase ≡ Connected
-        phase = s.phase ∙ (t.phase ∙ connected-is a.phase c)
+          sends : Sends (rates tries period) (turn + 1) turn b.outgoing b.wait.timer
+          sends = linked-sends (rates tries period) (turn + 1) turn role i.phase b i.b_stands
+              (ap is_connected (sym (s.phase ∙ i.heard.phase)) ∙ ap is_connected phase)
 
-        sends : Sends z (turn + 1) turn b.outgoing b.wait.timer
-        sends = let heard = heard-ok z (length a.outgoing.pieces) (length user.breaks) turn
-            (z.quota * arrived_rnrs arrived) role a.phase a mid (hear turn arrived a) hears
-            (hears-well z (length a.outgoing.pieces) (length user.breaks) turn role a.phase arrived a y k h refl er (omega arith)) in
-            linked-sends z (turn + 1) turn role heard.0 b
-            (serves-well z (length a.outgoing.pieces) (length user.breaks) turn
-            (is_busy turn user.busy) role heard.0 mid b y heard.1.stands heard.1.phase s).stands
-            (ap is_connected (sym (s.phase ∙ heard.1.phase)) ∙ ap is_connected phase)
+          unexpired : timer_expires turn b b.wait.timer ≡ false
+          unexpired = not-expires turn b b.wait.timer (λ n e. within n (polls.timer c n (ap (λ v. v.timer) (sym s.wait) ∙ e)))
+            where
+              within : (n : ℕ) → (n ≡ turn) ⊎ (a.wait.timer ≡ Some n) → turn < n + b.setup.period
+              within n (inl e) = omega (arith, e, i.b_period, i.long)
+              within n (inr e) = let l = bound n e in omega (arith, l, i.b_period)
 
-        period : b.setup.period ≡ z.period
-        period = let heard = heard-ok z (length a.outgoing.pieces) (length user.breaks) turn
-            (z.quota * arrived_rnrs arrived) role a.phase a mid (hear turn arrived a) hears
-            (hears-well z (length a.outgoing.pieces) (length user.breaks) turn role a.phase arrived a y k h refl er (omega arith)) in
-            ap (λ x. x.period) (s.setup ∙ heard.1.setup) ∙ k.period
+          sent : frame_rnr frame ≡ false → is_outstanding mid.outgoing ≡ true → SendsSegment mid.outgoing.front b said
+          sent r o =
+              let g : Segment b.outgoing.front b said =
+              urgent-says turn b.outgoing.front b said (linked-says turn release b said phase c' speaks) unexpired
+              (s.answer ∙ (t.answer ∙ i.none_due.answer)) (s.reply ∙ (t.reply ∙ i.none_due.reply (ap is_released (connected-is a.phase c))))
+              (ap (λ v. v.poll) s.wait ∙ (t.poll ∙ p)) (ap (λ v. v.urgent) s.wait ∙ t.urgent r)
+              (front-may (rates tries period) (turn + 1) turn b sends (s.numbered ∙ t.numbered)
+              (ap (λ v. v.awaited) s.longer.outgoing ∙ t.awaited)
+              (ap (λ v. v.paused) s.longer.outgoing ∙ t.paused r)
+              (ap (λ v. v.from) s.longer.outgoing ∙ (t.from ∙ sym front)) (ap (λ v. v.chosen) s.longer.outgoing ∙ t.chosen)
+              (ap is_outstanding s.longer.outgoing ∙ o)) in
+              subst (λ n. SendsSegment n b said) front (record { sent = g.sent; number = g.number })
 
-        unexpired : timer_expires turn b b.wait.timer ≡ false
-        unexpired = not-expires turn b b.wait.timer (λ n e. within n (polls.timer c n (ap (λ v. v.timer) (sym s.wait) ∙ e)))
-          where
-            within : (n : ℕ) → (n ≡ turn) ⊎ (a.wait.timer ≡ Some n) → turn < n + b.setup.period
-            within n (inl e) = let long = y.period in omega (arith, e, period, long)
-            within n (inr e) = let l = bound n e in omega (arith, l, period)
-
-        sent : frame_rnr frame ≡ false → is_outstanding mid.outgoing ≡ true → SendsSegment mid.outgoing.front b said
-        sent r o =
-            let g : Segment b.outgoing.front b said =
-            urgent-says turn b.outgoing.front b said (linked-says turn release b said phase c' speaks) unexpired
-            (s.answer ∙ (t.answer ∙ none.answer)) (s.reply ∙ (t.reply ∙ none.reply (ap is_released (connected-is a.phase c))))
-            (ap (λ v. v.poll) s.wait ∙ (t.poll ∙ p)) (ap (λ v. v.urgent) s.wait ∙ t.urgent r)
-            (front-may z (turn + 1) turn b sends (s.numbered ∙ t.numbered) (ap (λ v. v.awaited) s.longer.outgoing ∙ t.awaited)
-            (ap (λ v. v.paused) s.longer.outgoing ∙ t.paused r)
-            (ap (λ v. v.from) s.longer.outgoing ∙ (t.from ∙ sym front)) (ap (λ v. v.chosen) s.longer.outgoing ∙ t.chosen)
-            (ap is_outstanding s.longer.outgoing ∙ o)) in
-            subst (λ n. SendsSegment n b said) front (record { sent = g.sent; number = g.number })
-
-        by : (r : Bool) → frame_rnr frame ≡ r → (mid.outgoing.count ≡ 0) ⊎ SendsSegment mid.outgoing.front b said
-        by true r = inl (t.busy r)
-        by false r = on (is_outstanding mid.outgoing) refl
-          where
-            on : (o : Bool) → is_outstanding mid.outgoing ≡ o → (mid.outgoing.count ≡ 0) ⊎ SendsSegment mid.outgoing.front b said
-            on true o = inr (sent r o)
-            on false o = inl (t.idle r o)
+          by : (r : Bool) → frame_rnr frame ≡ r → (mid.outgoing.count ≡ 0) ⊎ SendsSegment mid.outgoing.front b said
+          by true r = inl (t.busy r)
+          by false r = on (is_outstanding mid.outgoing) refl
+            where
+              on : (o : Bool) → is_outstanding mid.outgoing ≡ o → (mid.outgoing.count ≡ 0) ⊎ SendsSegment mid.outgoing.front b said
+              on true o = inr (sent r o)
+              on false o = inl (t.idle r o)

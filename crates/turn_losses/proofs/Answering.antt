@@ -1,13 +1,14 @@
-use Rattle.std.proofs.Common.{◌≡◌, ℕ, ◌+◌, ◌%◌, ◌<◌, ◌&&◌, ◌||◌, not, Bool, true, false, cond, nat_lt, List, [], ◌∷◌, length, arith, refl}
-use Rattle.std.proofs.Common.{sym, ◌∙◌, ap, subst, Option, Some, None, Ok, slice_index_or}
+use Rattle.std.proofs.Common.{◌≡◌, ℕ, ◌%◌, ◌<◌, ◌&&◌, ◌||◌, not, Bool, true, false, cond, [], arith, refl, sym, ◌∙◌, ap, subst, Option}
+use Rattle.std.proofs.Common.{Some, None, Ok, slice_index_or}
 use Rattle.link_account.proofs.Names.{nat_tests, Frame, I, Rnr, Outgoing, is_outstanding, advanced, resumed, next_number, OwnBreaks, ticked}
 use Rattle.link_account.proofs.Names.{Account, is_originator, hear, Arrived, Said, nr_of, may_send, steps, speak_linked}
 use Rattle.link_run.proofs.Names.{Connected, Answer}
-use Rattle.lapm_sender.specs.Outgoing.{wait_ended, paused_at, after_next, expired, next_among}
+use Rattle.lapm_sender.specs.Outgoing.{wait_ended, paused_at, after_next, expired}
 use Rattle.link_account.specs.Hear.{ends_wait}
 use Rattle.link_account.proofs.HearWays.{Plain, IsUa, IsXid, IsTest, IsNoWord, ConnectedWays, numbered_with, acked, acked_back, by-linked}
 use Rattle.link_account.specs.Speak.{else_says, where_says, answering, polling, timer_expires, breaking, says_segment, after_timers}
 use Rattle.link_account.specs.Speak.{then_tries}
+use Rattle.turn_bound.proofs.SpeakStill.{front-next}
 use Rattle.turn_losses.proofs.Truths.{or-true, or-false}
 use Rattle.turn_losses.proofs.Names.{of_arrived, Rates, Sends, is_final}
 use Rattle.lapm_frames.specs.declared.arrived.Arrived.TheVariants as arrivals
@@ -179,46 +180,10 @@ pub front-may : (z : Rates) (before turn : ℕ) (a : Account) → Sends z before
     → a.outgoing.awaited ≡ false → a.outgoing.paused ≡ false → a.outgoing.from ≡ a.outgoing.front → a.outgoing.chosen ≡ []
     → is_outstanding a.outgoing ≡ true → may_send a ≡ Some a.outgoing.front
 front-may z before turn a s n w p f c o =
-    heard (is_originator a.setup.role) a.numbered n
-    ∙ (waits a.outgoing.awaited a.outgoing.paused w p
-    ∙ (chosen a.outgoing.chosen c
-    ∙ (inside (nat_lt a.outgoing.from (length a.outgoing.pieces))
-    (nat_lt a.outgoing.from (a.outgoing.front + a.outgoing.window)) below within ∙ ap (λ x. Some x) f)))
+    ap (λ y. cond (is_originator a.setup.role || y) (next_number a.outgoing) None) n
+    ∙ (ap (λ y. cond y (next_number a.outgoing) None) (or-true (is_originator a.setup.role))
+    ∙ (front-next a.outgoing (ap (λ x. x || a.outgoing.paused) w ∙ p) c (omega (arith, f, less, s.high_pieces)) (omega (arith, f, s.window))
+    ∙ ap (λ x. Some x) f))
   where
     less : a.outgoing.front < a.outgoing.high
     less = grind (arith, nat_tests, o)
-
-    in-pieces : a.outgoing.from < length a.outgoing.pieces
-    in-pieces = let h = s.high_pieces in omega (arith, f, less, h)
-
-    in-window : a.outgoing.from < a.outgoing.front + a.outgoing.window
-    in-window = let h = s.window in omega (arith, f, h)
-
-    below : nat_lt a.outgoing.from (length a.outgoing.pieces) ≡ true
-    below = grind (arith, nat_tests, in-pieces)
-
-    within : nat_lt a.outgoing.from (a.outgoing.front + a.outgoing.window) ≡ true
-    within = grind (arith, nat_tests, in-window)
-
-    heard : (x y : Bool) → y ≡ true → cond (x || y) (next_number a.outgoing) None ≡ next_number a.outgoing
-    heard true y q = refl
-    heard false true q = refl
-    heard false false q = cc
-
-    waits : (x y : Bool) → x ≡ false → y ≡ false
-        → cond (x || y) None (next_among a.outgoing.chosen a.outgoing) ≡ next_among a.outgoing.chosen a.outgoing
-    waits false false q r = refl
-    waits true y q r = cc
-    waits false true q r = cc
-
-    chosen : (l : List ℕ) → l ≡ []
-        → next_among l a.outgoing ≡ cond
-        (nat_lt a.outgoing.from (length a.outgoing.pieces) && nat_lt a.outgoing.from (a.outgoing.front + a.outgoing.window))
-        (Some a.outgoing.from) None
-    chosen [] q = refl
-    chosen (x ∷ l) q = cc
-
-    inside : (x y : Bool) → x ≡ true → y ≡ true → cond (x && y) (Some a.outgoing.from) None ≡ Some a.outgoing.from
-    inside true true q r = refl
-    inside false y q r = cc
-    inside true false q r = cc

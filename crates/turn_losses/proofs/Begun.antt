@@ -1,16 +1,14 @@
 -- An end that isn't Connected yet has no break, owes none an answer, and has nothing urgent; and it becomes Connected so.
-use Rattle.std.proofs.Common.{◌≡◌, ℕ, zero, suc, ◌+◌, ◌≤◌, Bool, true, false, List, length, arith, refl, sym, ◌∙◌, ap, subst, Ok}
+use Rattle.std.proofs.Common.{◌≡◌, ℕ, zero, suc, ◌+◌, ◌≤◌, Bool, true, false, length, arith, refl, sym, ◌∙◌, ap, subst, Ok}
 use Rattle.link_account.proofs.Names.{Role, Originator, Answerer, of, Frame, BreakWord, Arrived, Account, is_connected, hear, on_nothing}
 use Rattle.link_account.proofs.Names.{owing, Said, speak}
-use Rattle.link_run.proofs.Names.{is_released, Link, Accounts, Turn, SpeaksAt, arrival, served_at, said_at}
 use Rattle.link_account.specs.Hear.{first_wait}
 use Rattle.link_account.proofs.SpeakWays.{Tries}
-use Rattle.turn_losses.proofs.Truths.{unlinked-connected}
-use Rattle.turn_losses.proofs.PollHear.{poll-hears}
-use Rattle.turn_losses.proofs.PollSpeak.{poll-speaks}
-use Rattle.turn_losses.proofs.Tracing.{Known, known, timed, release_of, said-as}
-use Rattle.turn_losses.proofs.BreakHear.{of_word}
-use Rattle.turn_losses.proofs.Names.{KeepsTime, rates, of_arrived, serves-all, is_final, is_linked, Deed, Happens, Trace, past}
+use Rattle.turn_losses.proofs.Truths.{unlinked-connected, not-true, clash}
+use Rattle.turn_losses.proofs.Tracing.{release_of}
+use Rattle.turn_losses.proofs.Names.{of_arrived, is_final, is_linked, TimedRun, end_of}
+use Rattle.turn_losses.proofs.EndTurn.{EndTurn, end-turn, starts-fresh}
+use Rattle.turn_losses.proofs.Words.{of_word}
 use Rattle.lapm_frames.specs.declared.arrived.Arrived.TheVariants as arrivals
 use Rattle.link_account.specs.declared.answer.Answer.TheVariants as answers
 use Rattle.link_account.proofs.HearWays as HearWays
@@ -84,68 +82,29 @@ old-said turn release b said l h = SpeakWays.by-ways
     tries frame = record { sent = λ x e. (refl, refl); again = λ x e. (refl, refl); flags = λ x e. (refl, refl) }
 
 -- all through a run
-pub blank : (tries period : ℕ) (delay : Role → ℕ) (link : Link) (ts : List Turn) (state : ℕ → Accounts) (deed : ℕ → Deed)
-    → KeepsTime tries period delay link → Trace period delay link ts state deed → (r : Role)
-    → (u : ℕ) → u ≤ length ts → is_linked (of r (state u)).phase ≡ false
-    → ((of r (state u)).special ≡ false) × ((of r (state u)).wait.urgent ≡ false)
-blank tries period delay link ts state deed kt w r zero y l = start r
+pub blank : (w : TimedRun) → (r : Role) → (u : ℕ) → u ≤ length w.ts → is_linked (of r (w.state u)).phase ≡ false
+    → ((of r (w.state u)).special ≡ false) × ((of r (w.state u)).wait.urgent ≡ false)
+blank w r zero y l = (ap (λ (x : Account). x.special) (starts-fresh w r), ap (λ (x : Account). x.wait.urgent) (starts-fresh w r))
+blank w r (suc u) y l = subst (λ x. ((of r (w.state x)).special ≡ false) × ((of r (w.state x)).wait.urgent ≡ false)) (omega arith)
+    (after (blank w r u (omega (arith, y)) unlinked))
   where
-    start : (r : Role) → ((of r (state 0)).special ≡ false) × ((of r (state 0)).wait.urgent ≡ false)
-    start Originator = (ap (λ (x : Accounts). x.orig.special) w.starts, ap (λ (x : Accounts). x.orig.wait.urgent) w.starts)
-    start Answerer = (ap (λ (x : Accounts). x.answ.special) w.starts, ap (λ (x : Accounts). x.answ.wait.urgent) w.starts)
-blank tries period delay link ts state deed kt w r (suc u) y l =
-    subst (λ x. ((of r (state x)).special ≡ false) × ((of r (state x)).wait.urgent ≡ false)) (omega arith)
-    (after (blank tries period delay link ts state deed kt w r u (omega (arith, y)) unlinked))
-  where
-    h : Happens period delay link (past ts u) u (state u) (deed u) (state (u + 1))
-    h = w.happens u (omega (arith, y))
+    g : EndTurn w r u
+    g = end-turn w r u (omega (arith, y))
 
-    a : Account
-    a = of r (state u)
+    mid-unlinked : is_linked (of r (w.deed u).mid).phase ≡ false
+    mid-unlinked = sym g.linked ∙ (ap (λ x. is_linked (of r (w.state x)).phase) (omega arith) ∙ l)
 
-    mid : Account
-    mid = of r (deed u).mid
+    unlinked : is_linked (of r (w.state u)).phase ≡ false
+    unlinked = not-true (is_linked (of r (w.state u)).phase)
+        (λ e. clash (is_linked (of r (w.deed u).mid).phase) (g.in_turn.polls.linked e) mid-unlinked)
 
-    b : Account
-    b = (served_at link u (deed u).mid r).account
-
-    s : SpeaksAt (said_at link u (deed u).mid r) (of r (deed u).turn) (of r (state (u + 1)))
-    s = h.speaking r
-
-    says-so : speak u (release_of link u (deed u).mid r) b ≡ Ok s.said
-    says-so = sym (said-as link u (deed u).mid r) ∙ s.says
-
-    now : is_linked (of r (state (u + 1))).phase ≡ false
-    now = ap (λ x. is_linked (of r (state x)).phase) (omega arith) ∙ l
-
-    unlinked-b : is_linked b.phase ≡ false
-    unlinked-b = sym (poll-speaks u (release_of link u (deed u).mid r) b s.said says-so).linked ∙
-        (ap (λ (x : Account). is_linked x.phase) (sym s.after_is) ∙ now)
-
-    b-mid : b.phase ≡ mid.phase
-    b-mid = (serves-all (of r link).user u (is_released (deed u).mid.orig.phase) mid).phase
-
-    unlinked : is_linked a.phase ≡ false
-    unlinked = by (is_linked a.phase) refl
-      where
-        k : Known (rates tries period) link (length (past ts u)) (state u) r
-        k = known tries period delay link (past ts u) (state u) kt h.run h.carried r
-
-        by : (x : Bool) → is_linked a.phase ≡ x → is_linked a.phase ≡ false
-        by false e = e
-        by true e =
-            let role = ap (λ x. x.role) k.setup ∙ (timed tries period delay link kt r).role_is in
-            let linked = (poll-hears r (arrival (of r (deed u).turn).heard) u a role k.none_due.answer mid (h.hearing r).hears).linked e in
-            let wrong : true ≡ false = sym linked ∙ (ap is_linked (sym b-mid) ∙ unlinked-b) in cc
-
-    after : (a.special ≡ false) × (a.wait.urgent ≡ false)
-        → ((of r (state (u + 1))).special ≡ false) × ((of r (state (u + 1))).wait.urgent ≡ false)
+    after : ((of r (w.state u)).special ≡ false) × ((of r (w.state u)).wait.urgent ≡ false)
+        → ((of r (w.state (u + 1))).special ≡ false) × ((of r (w.state (u + 1))).wait.urgent ≡ false)
     after (x, z) =
-        let o = old-heard (arrival (of r (deed u).turn).heard) u a mid unlinked (h.hearing r).hears in
-        let v = serves-all (of r link).user u (is_released (deed u).mid.orig.phase) mid in
-        let t = old-said u (release_of link u (deed u).mid r) b s.said unlinked-b says-so in (
-          ap (λ (q : Account). q.special) s.after_is
-              ∙ (t.0 ∙ (v.special ∙ (o.special ∙ x))),
-          ap (λ (q : Account). q.wait.urgent) s.after_is
-              ∙ (t.1 ∙ (ap (λ q. q.urgent) v.wait ∙ (o.urgent ∙ z))),
+        let v = g.in_turn.served in
+        let o = old-heard ((end_of w r).heard u) u (of r (w.state u)) (of r (w.deed u).mid) unlinked g.in_turn.hears in
+        let t = old-said u (release_of w.link u (w.deed u).mid r) ((end_of w r).served u) g.said (ap is_linked v.phase ∙ mid-unlinked)
+        g.says in (
+          ap (λ (q : Account). q.special) g.after ∙ (t.0 ∙ (v.special ∙ (o.special ∙ x))),
+          ap (λ (q : Account). q.wait.urgent) g.after ∙ (t.1 ∙ (ap (λ q. q.urgent) v.wait ∙ (o.urgent ∙ z))),
         )

@@ -5,6 +5,7 @@ use Rattle.link_run.proofs.Names.{Connected}
 use Rattle.link_account.proofs.HearWays.{by-linked}
 use Rattle.turn_losses.proofs.HeardNumber.{number-rows, plain-frame}
 use Rattle.turn_losses.proofs.Names.{of_arrived, is_final}
+use Rattle.turn_losses.proofs.Words.{is_word, of_word, brk_of, ack_of, any_brk, pends_of}
 use Rattle.lapm_frames.specs.declared.arrived.Arrived.TheVariants as arrivals
 pub use Rattle.turn_losses.proofs.Words.{is_word, of_word, brk_of, ack_of, any_brk, any_ack, pends, pends_of}
 

@@ -13,8 +13,8 @@ use Rattle.link_account.specs.Speak.{says_word}
 use Rattle.turn_bound.proofs.Value.{IsAck}
 use Rattle.link_account.proofs.SpeakWays.{NoWord, Steps, steps-so, polling_at, by-linked}
 use Rattle.turn_losses.proofs.Truths.{or-late, or-first}
-use Rattle.turn_losses.proofs.BreakHear.{is_word, of_word, brk_of, ack_of, any_brk, pends, pends_of}
 use Rattle.turn_losses.proofs.Names.{of_frame, is_poll, is_final}
+use Rattle.turn_losses.proofs.Words.{ack_of, any_brk, brk_of, is_word, of_word, pends_of, pends}
 use Rattle.lapm_frames.specs.declared.sent.Sent.TheVariants as slots
 use Rattle.link_account.specs.declared.answer.Answer.TheVariants as answers
 

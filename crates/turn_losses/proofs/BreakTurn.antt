@@ -3,9 +3,10 @@ use Rattle.std.proofs.Common.{◌⊎◌, inl, inr, ◌≡◌, ℕ, ◌+◌, ◌%
 use Rattle.std.proofs.Common.{◌∷◌, ◌++◌, length, length-append, arith, refl, sym, ◌∙◌, ap, None}
 use Rattle.link_account.proofs.Names.{is_some, nat_tests, OwnBreaks, waits, after_ask, Sent, Arrived, Account, is_connected, Said}
 use Rattle.turn_losses.proofs.Truths.{and-true, and-second, and-drop, clash}
-use Rattle.turn_losses.proofs.BreakHear.{of_word, brk_of, ack_of, any_brk, pends, pends_of, BreakHeard}
+use Rattle.turn_losses.proofs.BreakHear.{BreakHeard}
 use Rattle.turn_losses.proofs.BreakSpeak.{holds, SaidBreaks}
 use Rattle.turn_losses.proofs.Names.{of_frame, of_arrived, is_poll, is_final}
+use Rattle.turn_losses.proofs.Words.{ack_of, any_brk, brk_of, of_word, pends_of, pends}
 
 -- between turns: a break waits, of this number; its BRK is due; a BRKACK is due; the first segment is urgent
 abbrev pub break_waits : Account → Bool
@@ -91,12 +92,6 @@ waits-less b l = grind (arith, nat_tests, l)
 
 pub waits-not : (b : OwnBreaks) → length b.lengths ≤ b.answered → waits b ≡ false
 waits-not b l = grind (arith, nat_tests, l)
-
-waits-is : (b : OwnBreaks) → waits b ≡ true → b.answered < length b.lengths
-waits-is b e = grind (arith, nat_tests, e)
-
-not-waits : (b : OwnBreaks) → waits b ≡ false → length b.lengths ≤ b.answered
-not-waits b e = grind (arith, nat_tests, e)
 
 pub served-breaks : (turn l : ℕ) (a : OwnBreaks) → a.answered ≤ length a.lengths → ServedBreaks turn a (after_ask turn l a)
 served-breaks turn l a low = go (waits a) refl (nat_le a.rest turn) refl

@@ -1,10 +1,10 @@
 -- Where the originator sees no pattern, something was lost in each period.
-use Rattle.std.proofs.Common.{◌⊎◌, inl, inr, ◌≡◌, ℕ, zero, suc, ◌+◌, ◌-◌, ◌*◌, ◌<◌, ◌≤◌, Bool, true, false, cond, nat_le, List, length}
-use Rattle.std.proofs.Common.{arith, refl, sym, ◌∙◌, ap, subst, Option, Some, None, Result, Ok, Err}
-use Rattle.link_account.proofs.Names.{cases_lt, Role, Originator, Answerer, of, Arrived, LinkFault, NotDetected, Account, hear, trying}
-use Rattle.link_account.proofs.Names.{arrives, Said, says, spent, speak, speak_in}
-use Rattle.link_run.proofs.Names.{Phase, Detecting, Negotiating, Connected, Releasing, Answer, User, is_busy, is_released, Link, Accounts}
-use Rattle.link_run.proofs.Names.{Turn, Hears, RunOf, arrival, served_at, releases, IsCarried}
+use Rattle.std.proofs.Common.{◌⊎◌, inl, inr, ◌≡◌, ℕ, zero, suc, ◌+◌, ◌-◌, ◌*◌, ◌<◌, ◌≤◌, Bool, true, false, cond, nat_le, length, arith}
+use Rattle.std.proofs.Common.{refl, sym, ◌∙◌, ap, Option, Some, None, Result, Ok, Err}
+use Rattle.link_account.proofs.Names.{cases_lt, Originator, Answerer, Arrived, LinkFault, NotDetected, Account, hear, trying, arrives, Said}
+use Rattle.link_account.proofs.Names.{says, spent, speak, speak_in}
+use Rattle.link_run.proofs.Names.{Phase, Detecting, Negotiating, Connected, Releasing, Answer, User, is_busy, is_released, Accounts}
+use Rattle.link_run.proofs.Names.{arrival, served_at, releases}
 use Rattle.link_account.specs.Hear.{on_seen, on_pattern}
 use Rattle.link_account.specs.Speak.{else_says, answering, speak_detecting}
 use Rattle.turn_bound.specs.Spent.{SpendsOnTime}
@@ -12,14 +12,14 @@ use Rattle.link_run.proofs.Speaking.{speaks-phase}
 use Rattle.turn_losses.proofs.Periods.{once, times, loses-of}
 use Rattle.turn_losses.specs.Losses.{OriginatorWantsPattern, UndetectedIsStarved}
 use Rattle.link_account.proofs.HearWays.{numbers-alike}
-use Rattle.link_account.proofs.SpeakWays.{tries-alike, linked-so, why-broken, Undetected, Spends}
-use Rattle.turn_losses.proofs.Tracing.{known, timed, rated, Traced, traced}
+use Rattle.link_account.proofs.SpeakWays.{why-broken, Undetected, Spends}
+use Rattle.turn_losses.proofs.Tracing.{timed-run}
 use Rattle.turn_losses.proofs.PollLaws.{two-ends}
 use Rattle.turn_losses.proofs.PeriodLaws.{NoneLost}
 use Rattle.turn_losses.proofs.PeriodHolds.{LostIn, lost-or-none}
 use Rattle.turn_losses.proofs.Starving.{all-but-one}
-use Rattle.turn_losses.proofs.Names.{KeepsTime, Rates, rates, IsOf, arrived_rnrs, served_account, heard-ok, hears-well, Served, serves-all}
-use Rattle.turn_losses.proofs.Names.{PeriodLoses, past, sent_or, EndRun, TwoEnds, end_run}
+use Rattle.turn_losses.proofs.Names.{served_account, Served, serves-all, PeriodLoses, EndRun, TwoEnds, TimedRun, end_of}
+use Rattle.turn_losses.proofs.EndTurn.{end-turn, last-turn}
 use Rattle.lapm_frames.specs.declared.seen.Seen.TheVariants as seens
 use Rattle.lapm_frames.specs.declared.sent.Sent.TheVariants as slots
 use Rattle.lapm_frames.specs.declared.arrived.Arrived.TheVariants as arrivals
@@ -162,83 +162,42 @@ err-detecting turn release b h = go NotDetected refl (why-broken turn release b 
     go fault n (Undetected p r l e) = p
     go fault n (Spends x e) = let wrong : NotDetected ≡ spent turn b = sym n ∙ e in cc
 
--- an end's setup is its link's, also once it has heard
-pub heard-setup : (tries period : ℕ) (delay : Role → ℕ) (link : Link) (ts : List Turn) (before : Accounts) (t : Turn) (mid : Accounts)
-    → KeepsTime tries period delay link → RunOf link ts before → IsCarried delay ts → Hears (length ts) before t mid → (r : Role)
-    → (of r mid).setup ≡ (of r link).setup
-heard-setup tries period delay link ts before t mid kt run c hears r =
-    let turn = length ts in
-    let z : Rates = rates tries period in
-    let a : Account = of r before in
-    let kn = known tries period delay link ts before kt run c r in
-    let tm = timed tries period delay link kt r in
-    let arrived : Arrived = arrival (of r t).heard in
-    let heard = heard-ok z (length a.outgoing.pieces) 0 turn (z.quota * arrived_rnrs arrived) r a.phase a (of r mid)
-    (hear turn arrived a) (hears r).hears
-    (hears-well z (length a.outgoing.pieces) 0 turn r a.phase arrived a (rated tries period delay link kt)
-    (subst (IsOf z) (sym kn.setup) tm.is_of) kn.stands refl (ap (λ s. s.role) kn.setup ∙ tm.role_is) (omega arith)) in
-    heard.1.setup ∙ kn.setup
-
 pub wants-pattern : SpendsOnTime → OriginatorWantsPattern
 wants-pattern spends tries period delay link ts before t mid kt run c broken number less =
     at-number (times period (number + 1) (tries + 1) (omega (arith, less)))
   where
-    z : Rates
-    z = rates tries period
-
     turns : ℕ
     turns = length ts
 
-    w : Traced period delay link ts before
-    w = traced tries period delay link ts before kt run c
+    w : TimedRun
+    w = timed-run tries period delay link ts before kt run c
 
     e : EndRun
-    e = end_run delay w.state w.deed Originator
+    e = end_of w Originator
 
     o : EndRun
-    o = end_run delay w.state w.deed Answerer
+    o = end_of w Answerer
 
     k : TwoEnds period turns e o
-    k = two-ends tries period delay link ts w.state w.deed kt w.trace Originator
-
-    role-at : (r : Role) (n : ℕ) (us : List Turn) (x : Accounts) → RunOf link us x → IsCarried delay us → (of r x).setup.role ≡ r
-    role-at r n us x run' c' =
-        ap (λ s. s.role) (known tries period delay link us x kt run' c' r).setup ∙ (timed tries period delay link kt r).role_is
+    k = two-ends w Originator
 
     -- the originator is Detecting all through
     last : before.orig.phase ≡ Detecting
     last =
-        let h = err-detecting turns (releases link turns mid) (served_at link turns mid Originator).account broken.broken in
-        (heard-from (arrival t.orig.heard) turns before.orig mid.orig (role-at Originator turns ts before run c)
-        (broken.hearing Originator).hears
-        (sym (serves-all link.orig.user turns (is_released mid.orig.phase) mid.orig).phase ∙ h)).0
-
-    mid-role : (r : Role) (u : ℕ) → u < turns → (of r (w.deed u).mid).setup.role ≡ r
-    mid-role r u l =
-        let h = w.trace.happens u l in
-        ap (λ s. s.role) (heard-setup tries period delay link (past ts u) (w.state u) (w.deed u).turn (w.deed u).mid kt h.run h.carried
-        (subst (λ n. Hears n (w.state u) (w.deed u).turn (w.deed u).mid) (sym h.number) h.hearing) r)
-        ∙ (timed tries period delay link kt r).role_is
-
-    served-role : (r : Role) (u : ℕ) → u < turns → (served_at link u (w.deed u).mid r).account.setup.role ≡ r
-    served-role r u l = ap (λ s. s.role) (serves-all (of r link).user u (is_released (w.deed u).mid.orig.phase) (of r (w.deed u).mid)).setup
-        ∙ mid-role r u l
+        let i = last-turn w t mid broken.hearing Originator in
+        (heard-from (arrival t.orig.heard) turns before.orig mid.orig i.role_is i.hears
+        (sym i.served.phase ∙ err-detecting turns (releases link turns mid) (served_at link turns mid Originator).account broken.broken)).0
 
     one-turn : (u : ℕ) → u < turns → (w.state (u + 1)).orig.phase ≡ Detecting
         → ((w.state u).orig.phase ≡ Detecting) × (e.slot u ≡ slots.Odp) × (e.heard u ≡ arrivals.Pattern seens.Adp → ⊥)
     one-turn u l d =
-        let h = w.trace.happens u l in
-        let s = h.speaking Originator in
-        let b-detects = said-from u (releases link u (w.deed u).mid) (served_at link u (w.deed u).mid Originator).account s.said s.says
-        (ap (λ (x : Account). x.phase) (sym s.after_is) ∙ d) in
-        let f = heard-from (arrival (w.deed u).turn.orig.heard) u (w.state u).orig (w.deed u).mid.orig
-        (role-at Originator u (past ts u) (w.state u) h.run h.carried)
-        (h.hearing Originator).hears
-        (sym (serves-all link.orig.user u (is_released (w.deed u).mid.orig.phase) (w.deed u).mid.orig).phase ∙ b-detects) in (
+        let g = end-turn w Originator u l in
+        let b-detects = said-from u (releases link u (w.deed u).mid) (e.served u) g.said g.says
+        (ap (λ (x : Account). x.phase) (sym g.after) ∙ d) in
+        let f = heard-from (e.heard u) u (e.account u) (e.mid u) g.in_turn.role_is g.in_turn.hears
+        (sym g.in_turn.served.phase ∙ b-detects) in (
           f.0,
-          ap sent_or s.sent_is
-              ∙ sends-odp u (releases link u (w.deed u).mid) (served_at link u (w.deed u).mid Originator).account s.said b-detects
-              (served-role Originator u l) s.says,
+          g.slot ∙ sends-odp u (releases link u (w.deed u).mid) (e.served u) g.said b-detects g.in_turn.b_role g.says,
           f.1,
         )
 
@@ -271,12 +230,10 @@ wants-pattern spends tries period delay link ts before t mid kt run c broken num
     answers-turn : (u : ℕ) → u < turns → (w.state u).answ.phase ≡ Detecting
         → ((w.state (u + 1)).answ.phase ≡ Detecting) × (o.heard u ≡ arrivals.Pattern seens.Odp → o.slot u ≡ slots.Adp)
     answers-turn u l d =
-        let h = w.trace.happens u l in
-        let s = h.speaking Answerer in
-        let f = answers-odp link.answ.user u (arrival (w.deed u).turn.answ.heard) (w.state u).answ (w.deed u).mid.answ
-        (is_released (w.deed u).mid.orig.phase) false s.said d (role-at Answerer u (past ts u) (w.state u) h.run h.carried)
-        (mid-role Answerer u l) (only-odp u l) (h.hearing Answerer).hears s.says in
-        (ap (λ (x : Account). x.phase) s.after_is ∙ f.0, λ q. ap sent_or s.sent_is ∙ f.1 q)
+        let g = end-turn w Answerer u l in
+        let f = answers-odp link.answ.user u (o.heard u) (o.account u) (o.mid u) (is_released (w.deed u).mid.orig.phase) false g.said d
+        g.in_turn.role_is (ap (λ x. x.role) g.in_turn.mid_setup ∙ kt.roles Answerer) (only-odp u l) g.in_turn.hears g.says in
+        (ap (λ (x : Account). x.phase) g.after ∙ f.0, λ q. g.slot ∙ f.1 q)
 
     up : (u : ℕ) → u ≤ turns → (w.state u).answ.phase ≡ Detecting
     up zero l = ap (λ (x : Accounts). x.answ.phase) w.trace.starts
@@ -290,9 +247,6 @@ wants-pattern spends tries period delay link ts before t mid kt run c broken num
 
     d : 1 ≤ delay Originator
     d = kt.delays Originator
-
-    d' : 1 ≤ delay Answerer
-    d' = kt.delays Answerer
 
     -- a pattern and its answer cross unless something is lost
     no-answer : (y : ℕ) → y + period ≤ turns → NoneLost e o (y + 1) (period - 1) → ⊥
@@ -337,7 +291,7 @@ wants-pattern spends tries period delay link ts before t mid kt run c broken num
         go : LostIn e o (y + 1) (period - 1) ⊎ NoneLost e o (y + 1) (period - 1) → PeriodLoses period turns ts number
         go (inr none) = absurd (no-answer y room none)
         go (inl lost) = let g = long-enough in
-            loses-of period delay link ts w.state w.deed w.trace Originator y number (omega (arith, p)) (omega (arith, less', g)) lost
+            loses-of w Originator y number (omega (arith, p)) (omega (arith, less', g)) lost
 
 pub undetected-starved : SpendsOnTime → UndetectedIsStarved
 undetected-starved spends tries period delay link ts before t mid kt run c broken =

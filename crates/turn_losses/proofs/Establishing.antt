@@ -5,7 +5,7 @@ use Rattle.link_account.proofs.Names.{Sabme}
 use Rattle.link_run.proofs.Names.{Phase, Establishing, Connected, Releasing, Answer}
 use Rattle.link_account.proofs.SpeakWays.{Tries, Ways, by-ways, answers_alone, linked-alike, tries-alike}
 use Rattle.turn_bound.proofs.MeetHear.{of_frame}
-use Rattle.turn_losses.proofs.BreakHear.{of_word, any_brk}
+use Rattle.turn_losses.proofs.Words.{any_brk, of_word}
 use Rattle.link_account.specs.declared.answer.Answer.TheVariants as answers
 
 abbrev pub is_sabme : Frame → Bool

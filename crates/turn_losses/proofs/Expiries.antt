@@ -60,11 +60,11 @@ pub record Uncleared (period : ℕ) (e : EndRun) (s : ℕ) : Type 0 where
   pub uncleared : (v : ℕ) → s < v → v < s + period → e.count v ≡ 0 → ⊥
 
 -- So it is with the latest expiries before one, as many as the retry count says.
-pub expiries : (period turns : ℕ) (e o : EndRun) → TwoEnds period turns e o → Counts turns e o → (n set : ℕ)
+pub expiries : {period turns : ℕ} {e o : EndRun} → TwoEnds period turns e o → Counts turns e o → (n set : ℕ)
     → is_connected (e.account turns).phase ≡ true → (e.account turns).outgoing.count ≡ n → (e.account turns).wait.timer ≡ Some set
     → turns ≡ set + period → (j : ℕ) → j < n → (s : ℕ) × (s + (j + 1) * period ≡ turns) × Uncleared period e s
-expiries period turns e o k c zero set h q w due j less = absurd (omega (arith, less))
-expiries period turns e o k c (suc n) set h q w due j less =
+expiries {period} {turns} {e} {o} k c zero set h q w due j less = absurd (omega (arith, less))
+expiries {period} {turns} {e} {o} k c (suc n) set h q w due j less =
     let x = chain period turns (Polls e) (Uncounted e) (Expired e) (IsTimed e) (expiries_of e) (λ u s r a b. cc)
     (λ z. let wrong : true ≡ false = sym z.0 ∙ c.not_first in cc) (ticks period turns e o k c) n turns set (omega arith)
     (h, n, omega (arith, q)) (omega (arith, q)) w (sym due) j (omega (arith, less)) in

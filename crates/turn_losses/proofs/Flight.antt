@@ -1,225 +1,189 @@
 -- Once an originator is Connected, its peer hears no SABME any more: each one was answered, or is lost, before the next goes.
-use Rattle.std.proofs.Common.{◌⊎◌, inl, inr, ◌≡◌, ℕ, zero, suc, ◌+◌, ◌-◌, ◌<◌, ◌≤◌, Bool, true, false, arith, refl, sym, ◌∙◌, ap, Ok}
-use Rattle.link_account.proofs.Names.{cases_lt, Frame, I, Rr, Rnr, Rej, Srej, Sabme, Disc, Ua, Dm, Ui, Xid, Sent, Arrived, Account, hear}
-use Rattle.link_account.proofs.Names.{on_frame, on_nothing}
-use Rattle.link_run.proofs.Names.{Phase, Establishing}
-use Rattle.lapm_frames.specs.declared.frame.Frame.TheVariants.{Frmr, Test}
-use Rattle.link_account.specs.Hear.{on_seen, on_establishing}
-use Rattle.turn_bound.proofs.MeetHear.{frame_ua}
-use Rattle.turn_losses.proofs.Truths.{not-true}
-use Rattle.turn_losses.proofs.LineLaw.{was-sent}
+use Rattle.turn_losses.proofs.Names.{TimedRun, EndRun, TwoEnds, end_of, frame_disc, is_linked, of_arrived, of_frame}
+use Rattle.link_account.proofs.Names.{Account, Answerer, Arrived, MayPlay, Originator, ReadsWritten, cases_lt, hear}
+use Rattle.link_run.proofs.Names.{Accounts, Closed, Detecting, Establishing, Phase, Releasing, is_released}
+use Rattle.turn_losses.proofs.EndTurn.{EndTurn, TurnAt, end-turn, starts-fresh}
+use Rattle.std.proofs.Common.{Ok, arith, inl, inr, length, refl, suc, sym, zero, ℕ, ◌+◌, ◌-◌, ◌<◌, ◌∙◌, ◌≡◌, ◌≤◌, ◌⊎◌, ap, false, true}
+use Rattle.turn_losses.proofs.Establishing.{SaidSabme, establishing-from, is_sabme, says-sabme, try-over}
+use Rattle.turn_losses.proofs.Moving.{TryBegins, TryGoesOn, try-heard}
+use Rattle.turn_losses.proofs.Sabmes.{answer-by}
+use Rattle.link_account.proofs.HearWays.{by-ways}
+use Rattle.turn_losses.proofs.Phasing.{established-next, is_established}
+use Rattle.turn_bound.proofs.MeetHear.{frame_ua, is_ua_due}
 use Rattle.turn_losses.proofs.PeriodLaws.{linked-on}
-use Rattle.turn_losses.proofs.Moving.{moves_on}
-use Rattle.turn_losses.proofs.Establishing.{is_sabme}
-use Rattle.turn_losses.proofs.Phasing.{is_established}
-use Rattle.turn_losses.proofs.Trying.{TryTurn}
-use Rattle.turn_losses.proofs.Names.{frame_disc, of_frame, of_arrived, is_linked, EndRun, TwoEnds}
-use Rattle.lapm_frames.specs.declared.sent.Sent.TheVariants as slots
-use Rattle.lapm_frames.specs.declared.arrived.Arrived.TheVariants as arrivals
+use Rattle.turn_losses.proofs.Truths.{not-true, clash}
+use Rattle.turn_losses.proofs.Tracing.{release_of}
+use Rattle.turn_losses.proofs.Trying.{since-try, tries-so}
+use Rattle.turn_bound.proofs.MeetSpeak.{speaks-so}
+use Rattle.turn_losses.proofs.PollLaws.{two-ends}
+use Rattle.turn_losses.proofs.LineLaw.{was-sent}
+use Rattle.turn_losses.proofs.Kept.{kept-in, kept-on}
 
 -- an end that is Establishing, and is linked once it has heard, heard UA
-pub heard-ua : (arrived : Arrived) (turn : ℕ) (a mid : Account) → a.phase ≡ Establishing → hear turn arrived a ≡ Ok mid
-    → is_linked mid.phase ≡ true → of_arrived (moves_on Establishing) arrived ≡ true
-heard-ua arrivals.Nothing turn a mid e h l = let same : on_nothing a ≡ mid = cc in let wrong : false ≡ true = sym (ap is_linked e)
-    ∙ (ap (λ x. is_linked x.phase) same ∙ l) in cc
-heard-ua (arrivals.Pattern seen) turn a mid e h l =
-    let there : Ok (on_seen Establishing seen turn a) ≡ Ok mid = ap (λ p. Ok (on_seen p seen turn a)) (sym e) ∙ h in
-    let same : a ≡ mid = cc in let wrong : false ≡ true = sym (ap is_linked e) ∙ (ap (λ x. is_linked x.phase) same ∙ l) in cc
-heard-ua (arrivals.Frame frame) turn a mid e h l = go frame (ap (λ p. on_frame p frame turn a) (sym e) ∙ h)
+heard-ua : (arrived : Arrived) (turn : ℕ) (a mid : Account) → a.phase ≡ Establishing → hear turn arrived a ≡ Ok mid
+    → is_linked mid.phase ≡ true → of_arrived frame_ua arrived ≡ true
+heard-ua arrived turn a mid e h = by-ways (λ x b. is_linked b.phase ≡ true → of_arrived frame_ua x ≡ true) turn a (record {
+  nothing = never;
+  linked = λ p. no p (λ q. cc);
+  early = λ n. record {
+    ignores = λ x f. never;
+    detects = λ p r c. cc;
+    detected = λ p r. never;
+    xid = λ p r pf info offer f c. cc;
+    agrees = λ p r pf info offer f c. cc;
+    sabme_first = λ p. no p (λ q. cc);
+    sabme = λ p. no p (λ q. cc);
+    ua = λ p c. refl;
+    disc = λ p pf. never;
+    closes = λ p frame f. no p (λ q. cc);
+  };
+}) arrived mid h
   where
-    stays : (f : Frame) → a ≡ mid → of_arrived (moves_on Establishing) (arrivals.Frame f) ≡ true
-    stays f same = let wrong : false ≡ true = sym (ap is_linked e) ∙ (ap (λ x. is_linked x.phase) same ∙ l) in cc
+    no : {A : Type 0} {p : Phase} → a.phase ≡ p → (Establishing ≡ p → ⊥) → A
+    no p n = absurd (n (sym e ∙ p))
 
-    go : (f : Frame) → on_establishing f turn a ≡ Ok mid → of_arrived (moves_on Establishing) (arrivals.Frame f) ≡ true
-    go (Ua true) q = refl
-    go (Dm true) q = cc
-    go (Ua false) q = stays (Ua false) cc
-    go (Dm false) q = stays (Dm false) cc
-    go (I ns nr pf info) q = stays (I ns nr pf info) cc
-    go (Rr x nr pf) q = stays (Rr x nr pf) cc
-    go (Rnr x nr pf) q = stays (Rnr x nr pf) cc
-    go (Rej x nr pf) q = stays (Rej x nr pf) cc
-    go (Srej x nr pf) q = stays (Srej x nr pf) cc
-    go (Sabme pf) q = stays (Sabme pf) cc
-    go (Disc pf) q = stays (Disc pf) cc
-    go (Frmr pf info) q = stays (Frmr pf info) cc
-    go (Ui x pf info) q = stays (Ui x pf info) cc
-    go (Xid x pf info) q = stays (Xid x pf info) cc
-    go (Test x pf info) q = stays (Test x pf info) cc
-
-pub is-ua : (s : Sent) → of_frame (moves_on Establishing) s ≡ true → of_frame frame_ua s ≡ true
-is-ua (slots.Frame (Ua pf)) e = refl
-is-ua (slots.Frame (I ns nr pf info)) e = cc
-is-ua (slots.Frame (Rr x nr pf)) e = cc
-is-ua (slots.Frame (Rnr x nr pf)) e = cc
-is-ua (slots.Frame (Rej x nr pf)) e = cc
-is-ua (slots.Frame (Srej x nr pf)) e = cc
-is-ua (slots.Frame (Sabme pf)) e = cc
-is-ua (slots.Frame (Disc pf)) e = cc
-is-ua (slots.Frame (Dm pf)) e = cc
-is-ua (slots.Frame (Frmr pf info)) e = cc
-is-ua (slots.Frame (Ui x pf info)) e = cc
-is-ua (slots.Frame (Xid x pf info)) e = cc
-is-ua (slots.Frame (Test x pf info)) e = cc
-is-ua slots.Mark e = cc
-is-ua slots.Odp e = cc
-is-ua slots.Adp e = cc
-is-ua slots.Flags e = cc
+    never : {A : Type 0} → is_linked a.phase ≡ true → A
+    never c = clash (is_linked a.phase) c (ap is_linked e)
 
 pub only-establishing : (p : Phase) → is_established p ≡ true → is_linked p ≡ false → p ≡ Establishing
 only-establishing Establishing e l = refl
 only-establishing p e l = cc
 
--- the SABMEs of a run
-pub record Sabmes (period turns : ℕ) (o : EndRun) : Type 0 where
-  pub sent : (q : ℕ) → q < turns → of_frame is_sabme (o.slot q) ≡ true
-      → ((o.account (q + 1)).phase ≡ Establishing) × ((o.account q).phase ≡ Establishing → q ≡ (o.account q).wait.try_set + period)
-  pub tries : (u : ℕ) → u < turns → (o.account (u + 1)).phase ≡ Establishing
-      → TryTurn period u Establishing (o.heard u) (o.slot u) (o.account u) (o.account (u + 1))
-  pub established : (u : ℕ) → u < turns → is_established (o.account u).phase ≡ true → is_established (o.account (u + 1)).phase ≡ true
+released-linked : (p : Phase) → is_released p ≡ true → is_linked p ≡ true
+released-linked Releasing e = refl
+released-linked Closed e = refl
+released-linked p e = cc
 
--- two of them lie a period apart
-since-sabme : (period turns : ℕ) (o : EndRun) → Sabmes period turns o → (r n : ℕ) → r + 1 + n ≤ turns
-    → of_frame is_sabme (o.slot r) ≡ true → ((u : ℕ) → r < u → u ≤ r + 1 + n → (o.account u).phase ≡ Establishing)
-    → r ≤ (o.account (r + 1 + n)).wait.try_set
-since-sabme period turns o h r zero l sent all = let q = ap (λ x. (o.account x).wait.try_set) (same r) in let w = by
-    (h.tries r (omega (arith, l)) (all (r + 1) (omega arith) (omega arith))) in omega (arith, q, w)
+-- the frame of a try is due no more once it spoke
+try-false : (w : TimedRun) → (u : ℕ) → u ≤ length w.ts → (w.state u).orig.phase ≡ Establishing → (w.state u).orig.wait.try ≡ false
+try-false w zero l e = let wrong : Detecting ≡ Establishing = ap (λ (x : Accounts). x.orig.phase) (sym w.trace.starts) ∙ e in cc
+try-false w (suc u) l e =
+    let g = end-turn w Originator u (omega (arith, l)) in
+    let b : Account = (end_of w Originator).served u in
+    let now : g.said.account.phase ≡ Establishing = ap (λ (x : Account). x.phase) (sym g.after)
+    ∙ (ap (λ x. (w.state x).orig.phase) (next u) ∙ e) in
+    let from = establishing-from u (release_of w.link u (w.deed u).mid Originator) b g.said g.says now in
+    ap (λ x. (w.state x).orig.wait.try) (sym (next u))
+    ∙ (ap (λ (x : Account). x.wait.try) g.after ∙ try-over u (release_of w.link u (w.deed u).mid Originator) b g.said from g.says)
   where
-    same : (x : ℕ) → x + 1 + 0 ≡ x + 1
-    same x = omega arith
+    next : (x : ℕ) → x + 1 ≡ suc x
+    next x = omega arith
 
-    by : TryTurn period r Establishing (o.heard r) (o.slot r) (o.account r) (o.account (r + 1)) → r ≤ (o.account (r + 1)).wait.try_set
-    by (inl (a, set, count, s)) = omega (arith, set)
-    by (inr (inl (g, due, set, count, s))) = omega (arith, set)
-    by (inr (inr (g, due, set, count))) = absurd (due ((h.sent r (omega (arith, l)) sent).1 g.0))
-since-sabme period turns o h r (suc n) l sent all =
-    let before = since-sabme period turns o h r n (omega (arith, l)) sent (λ u a b. all u a (omega (arith, b))) in
-    let q = ap (λ x. (o.account x).wait.try_set) (next r n) in
-    let w = by before (h.tries (r + 1 + n) (omega (arith, l)) (all (r + 1 + n + 1) (omega arith) (omega arith))) in
-    omega (arith, q, w)
+-- a SABME goes of an originator that is Establishing then, as it begins to be so or a period after the last one
+pub sabme-sent : (w : TimedRun) → (q : ℕ) → q < length w.ts → of_frame is_sabme ((end_of w Originator).slot q) ≡ true
+    → ((w.state (q + 1)).orig.phase ≡ Establishing) × ((w.state q).orig.phase ≡ Establishing → q ≡ (w.state q).orig.wait.try_set + w.period)
+sabme-sent w q l e = (ap (λ (x : Account). x.phase) g.after ∙ k.phase, again)
   where
-    next : (x y : ℕ) → x + 1 + suc y ≡ x + 1 + y + 1
-    next x y = omega arith
+    g : EndTurn w Originator q
+    g = end-turn w Originator q l
 
-    by : r ≤ (o.account (r + 1 + n)).wait.try_set → TryTurn period (r + 1 + n) Establishing (o.heard (r + 1 + n)) (o.slot (r + 1 + n))
-        (o.account (r + 1 + n)) (o.account (r + 1 + n + 1)) → r ≤ (o.account (r + 1 + n + 1)).wait.try_set
-    by b (inl (a, set, count, s)) = omega (arith, set)
-    by b (inr (inl (g, due, set, count, s))) = omega (arith, set)
-    by b (inr (inr (g, due, set, count))) = omega (arith, set, b)
+    i : TurnAt w Originator q
+    i = g.in_turn
 
-pub sabmes-apart : (period turns : ℕ) (o : EndRun) → Sabmes period turns o → (r q : ℕ) → r < q → q < turns
-    → of_frame is_sabme (o.slot r) ≡ true → of_frame is_sabme (o.slot q) ≡ true
-    → ((u : ℕ) → r < u → u ≤ q → (o.account u).phase ≡ Establishing) → r + period ≤ q
-sabmes-apart period turns o h r q less within first second all =
-    let same : r + 1 + (q - (r + 1)) ≡ q = omega (arith, less) in
-    let set = since-sabme period turns o h r (q - (r + 1)) (omega (arith, less, within)) first
-    (λ u a b. all u a (omega (arith, b, same))) in
-    let there = ap (λ x. (o.account x).wait.try_set) same in
-    let due = (h.sent q within second).1 (all q less (omega arith)) in
-    omega (arith, set, there, due)
+    sent : of_frame is_sabme g.said.sent ≡ true
+    sent = ap (of_frame is_sabme) (sym g.slot) ∙ e
 
--- established for good, and linked somewhere
-linked-in : (turns : ℕ) (o : EndRun) (q n : ℕ) → is_linked (o.account q).phase ≡ false → is_linked (o.account (q + n)).phase ≡ true
-    → (z : ℕ) × (q ≤ z) × (z < q + n) × (is_linked (o.account z).phase ≡ false) × (is_linked (o.account (z + 1)).phase ≡ true)
-linked-in turns o q zero u l = let same : is_linked (o.account (q + 0)).phase ≡ is_linked (o.account q).phase = ap
-    (λ x. is_linked (o.account x).phase) (omega arith) in let wrong : true ≡ false = sym l ∙ (same ∙ u) in cc
-linked-in turns o q (suc n) u l = by (is_linked (o.account (q + n)).phase) refl (λ f. linked-in turns o q n u f)
+    k : SaidSabme q ((end_of w Originator).served q) g.said
+    k = says-sabme q (release_of w.link q (w.deed q).mid Originator) ((end_of w Originator).served q) g.said g.says sent
+
+    again : (w.state q).orig.phase ≡ Establishing → q ≡ (w.state q).orig.wait.try_set + w.period
+    again f = by (try-heard ((end_of w Originator).heard q) q (w.state q).orig (w.deed q).mid.orig i.role_is i.hears Establishing refl
+        (sym i.served.phase ∙ k.before))
+      where
+        by : TryGoesOn Establishing ((end_of w Originator).heard q) (w.state q).orig (w.deed q).mid.orig
+            ⊎ TryBegins q Establishing (w.state q).orig (w.deed q).mid.orig → q ≡ (w.state q).orig.wait.try_set + w.period
+        by (inr (never, _, _, _, _)) = absurd (never f)
+        by (inl (_, same', _)) = elim (k.sent sent) [
+          | inl due ↦ (let z = ap (λ x. x.try_set) (i.served.wait ∙ same') in omega (arith, due, z, i.b_period))
+          | inr try ↦ clash ((end_of w Originator).served q).wait.try try
+              (ap (λ x. x.try) (i.served.wait ∙ same') ∙ try-false w q (omega (arith, l)) f)
+        ]
+
+pub no-sabme-heard : ReadsWritten → (w : TimedRun) → MayPlay w.link.orig.setup w.link.answ.setup → (s : ℕ) → s < length w.ts
+    → is_linked (w.state (s + 1)).orig.phase ≡ true → (t : ℕ) → s ≤ t → t < length w.ts
+    → of_arrived is_sabme ((end_of w Answerer).heard t) ≡ true → ⊥
+no-sabme-heard reads w m s inside linked t low within heard = elim (cases_lt s q) [
+  | inl g ↦ clash (is_linked (o.account (q + 1)).phase)
+      (linked-on k (s + 1) (q + 1) (omega (arith, g)) (omega (arith, within)) linked) (ap is_linked was)
+  | inr g ↦ clash (is_linked (o.account (s + 1)).phase) linked
+      (kept-in (λ u. is_linked (o.account u).phase ≡ false) (q + 1) (s + 1) (omega (arith, g))
+      (λ z a b u. not-true (is_linked (o.account (z + 1)).phase) (meets z (omega (arith, a)) (omega (arith, b)) u)) (ap is_linked was))
+]
   where
-    by : (b : Bool) → is_linked (o.account (q + n)).phase ≡ b
-        → (is_linked (o.account (q + n)).phase ≡ true → (z : ℕ) × (q ≤ z) × (z < q + n) × (is_linked (o.account z).phase ≡ false)
-        × (is_linked (o.account (z + 1)).phase ≡ true))
-        → (z : ℕ) × (q ≤ z) × (z < q + suc n) × (is_linked (o.account z).phase ≡ false) × (is_linked (o.account (z + 1)).phase ≡ true)
-    by true f again = let x = again f in let b = x.2 in (x.0, x.1, omega (arith, b), x.3, x.4)
-    by false f again = (q + n, omega arith, omega arith, f, ap (λ x. is_linked (o.account x).phase) (omega arith) ∙ l)
+    turns : ℕ
+    turns = length w.ts
 
--- what the two ends of a run make of SABME and UA
-pub record Meeting (turns : ℕ) (o e : EndRun) : Type 0 where
-  pub ua_heard : (z : ℕ) → z < turns → (o.account z).phase ≡ Establishing → is_linked (o.account (z + 1)).phase ≡ true
-      → of_arrived (moves_on Establishing) (o.heard z) ≡ true
-  pub ua_sent : (y : ℕ) → y < turns → of_frame (moves_on Establishing) (e.slot y) ≡ true
-      → (of_arrived is_sabme (e.heard y) ≡ true) ⊎ (of_arrived frame_disc (e.heard y) ≡ true)
-  pub disc_sent : (y : ℕ) → y < turns → of_frame frame_disc (o.slot y) ≡ true → is_linked (o.account (y + 1)).phase ≡ true
+    o : EndRun
+    o = end_of w Originator
 
-pub no-sabme-heard : (period turns : ℕ) (o e : EndRun) → TwoEnds period turns o e → Sabmes period turns o → Meeting turns o e → (s : ℕ)
-    → s < turns → is_linked (o.account (s + 1)).phase ≡ true → (t : ℕ) → s ≤ t → t < turns → of_arrived is_sabme (e.heard t) ≡ true → ⊥
-no-sabme-heard period turns o e k h m s inside linked t low within heard = by (cases_lt s q)
-  where
-    d : 1 ≤ o.delay
-    d = k.own_delay
+    e : EndRun
+    e = end_of w Answerer
+
+    k : TwoEnds w.period turns o e
+    k = two-ends w Originator
 
     q : ℕ
     q = t - o.delay
 
     came : (o.delay ≤ t) × (of_frame is_sabme (o.slot q) ≡ true)
-    came = was-sent o.delay turns is_sabme o.slot e.heard e.loses k.is_heard t within heard
+    came = was-sent is_sabme k.is_heard t within heard
 
     was : (o.account (q + 1)).phase ≡ Establishing
-    was = (h.sent q (omega (arith, within)) came.1).0
-
-    established : (n : ℕ) (u : ℕ) → u + n ≤ turns → is_established (o.account u).phase ≡ true
-        → is_established (o.account (u + n)).phase ≡ true
-    established n u l f = up n l
-      where
-        up : (j : ℕ) → u + j ≤ turns → is_established (o.account (u + j)).phase ≡ true
-        up zero g = ap (λ x. is_established (o.account x).phase) (omega arith) ∙ f
-        up (suc j) g = ap (λ x. is_established (o.account x).phase) (omega arith)
-            ∙ h.established (u + j) (omega (arith, g)) (up j (omega (arith, g)))
+    was = (sabme-sent w q (omega (arith, within)) came.1).0
 
     -- all between are Establishing
-    between : (r z : ℕ) → r ≤ turns → z ≤ turns → is_established (o.account r).phase ≡ true → is_linked (o.account z).phase ≡ false
+    between : (r z : ℕ) → r ≤ z → z ≤ turns → (o.account r).phase ≡ Establishing → is_linked (o.account z).phase ≡ false
         → (u : ℕ) → r ≤ u → u ≤ z → (o.account u).phase ≡ Establishing
-    between r z rl zl f g u a b = only-establishing (o.account u).phase
-        (ap (λ x. is_established (o.account x).phase) (omega (arith, a)) ∙ established (u - r) r (omega (arith, a, b, zl)) f)
-        (not-true (is_linked (o.account u).phase) (λ j. let wrong : true ≡ false = sym (linked-on period turns o e k u z b zl j) ∙ g in cc))
+    between r z rz zl f g u a b = only-establishing (o.account u).phase
+        (kept-on turns (λ v. is_established (o.account v).phase ≡ true) (established-next w) r u a (omega (arith, b, zl))
+        (ap is_established f))
+        (not-true (is_linked (o.account u).phase) (λ j. clash (is_linked (o.account z).phase) (linked-on k u z b zl j) g))
 
     meets : (z : ℕ) → q < z → z ≤ s → is_linked (o.account z).phase ≡ false → is_linked (o.account (z + 1)).phase ≡ true → ⊥
-    meets z a b u l = on (m.ua_sent y (omega (arith, within, b, low)) sent.1)
+    meets z a b u l = elim ((answer-by (e.heard y) y (e.account y) (e.mid y) g.in_turn.none_due.answer g.in_turn.hears).ua
+        (ap is_ua_due (sym g.in_turn.served.answer) ∙ (speaks-so y false (e.served y) g.said g.says).ua
+        (ap (of_frame frame_ua) (sym g.slot) ∙ sent.1))) [ inl f ↦ again f | inr f ↦ parts f ]
       where
+        z-in : z < turns
+        z-in = omega (arith, b, inside)
+
         zp : (o.account z).phase ≡ Establishing
-        zp = between (q + 1) z (omega (arith, within, d)) (omega (arith, b, inside)) (ap is_established was) u z (omega (arith, a))
-            (omega arith)
+        zp = between (q + 1) z (omega (arith, a)) (omega (arith, z-in)) was u z (omega (arith, a)) (omega arith)
 
         y : ℕ
         y = z - e.delay
 
-        sent : (e.delay ≤ z) × (of_frame (moves_on Establishing) (e.slot y) ≡ true)
-        sent = was-sent e.delay turns (moves_on Establishing) e.slot o.heard o.loses k.hears z (omega (arith, b, inside))
-            (m.ua_heard z (omega (arith, b, inside)) zp l)
+        sent : (e.delay ≤ z) × (of_frame frame_ua (e.slot y) ≡ true)
+        sent = let h = end-turn w Originator z z-in in
+            was-sent frame_ua k.hears z z-in
+            (heard-ua (o.heard z) z (o.account z) (o.mid z) zp h.in_turn.hears (sym h.linked ∙ l))
 
-        on : (of_arrived is_sabme (e.heard y) ≡ true) ⊎ (of_arrived frame_disc (e.heard y) ≡ true) → ⊥
-        on (inr f) =
-            let c = was-sent o.delay turns frame_disc o.slot e.heard e.loses k.is_heard y (omega (arith, within, b, low)) f in
+        g : EndTurn w Answerer y
+        g = end-turn w Answerer y (omega (arith, z-in))
+
+        parts : of_arrived frame_disc (e.heard y) ≡ true → ⊥
+        parts f =
+            let c = was-sent frame_disc k.is_heard y (omega (arith, z-in)) f in
             let c0 = c.0 in let s0 = sent.0 in
-            let j = m.disc_sent (y - o.delay) (omega (arith, within, b, low)) c.1 in
-            let wrong : true ≡ false = sym
-            (linked-on period turns o e k (y - o.delay + 1) z (omega (arith, c0, s0, k.other_delay)) (omega (arith, b, inside)) j) ∙ u in cc
-        on (inl f) = compare (cases_lt r q)
-          where
-            c : (o.delay ≤ y) × (of_frame is_sabme (o.slot (y - o.delay)) ≡ true)
-            c = was-sent o.delay turns is_sabme o.slot e.heard e.loses k.is_heard y (omega (arith, within, b, low)) f
+            let v : ℕ = y - o.delay in
+            let h = end-turn w Originator v (omega (arith, z-in)) in
+            let j = ap (λ (x : Account). is_linked x.phase) h.after
+            ∙ released-linked h.said.account.phase ((speaks-so v (release_of w.link v (w.deed v).mid Originator) (o.served v) h.said
+            h.says).disc (ap (of_frame frame_disc) (sym h.slot) ∙ c.1)) in
+            clash (is_linked (o.account z).phase)
+            (linked-on k (v + 1) z (omega (arith, c0, s0, k.other_delay)) (omega (arith, z-in)) j) u
 
-            r : ℕ
-            r = y - o.delay
-
-            compare : (r < q) ⊎ (q ≤ r) → ⊥
-            compare (inr g) = let c0 = c.0 in let s0 = sent.0 in let t0 = came.0 in omega (arith, g, c0, s0, t0, b, low, k.other_delay)
-            compare (inl g) =
-                let c0 = c.0 in let s0 = sent.0 in
-                let far = sabmes-apart period turns o h r q g (omega (arith, within)) c.1 came.1
-                (λ x i j. between (r + 1) z (omega (arith, g, within)) (omega (arith, b, inside))
-                (ap is_established (h.sent r (omega (arith, g, within)) c.1).0) u x (omega (arith, i)) (omega (arith, j, a))) in
-                omega (arith, far, c0, s0, a, k.period_is)
-
-    by : (s < q) ⊎ (q ≤ s) → ⊥
-    by (inl g) = let wrong : true ≡ false = sym
-        (linked-on period turns o e k (s + 1) (q + 1) (omega (arith, g)) (omega (arith, within)) linked) ∙ ap is_linked was in cc
-    by (inr g) = elim (cases_lt q s) [
-      | inl l ↦ found (linked-in turns o (q + 1) (s - q) (ap is_linked was) (ap (λ x. is_linked (o.account x).phase) (omega (arith, l))
-          ∙ linked))
-      | inr l ↦ let same : s + 1 ≡ q + 1 = omega (arith, l, g) in let wrong : true ≡ false = sym linked
-          ∙ (ap (λ x. is_linked (o.account x).phase) same ∙ ap is_linked was) in cc
-    ]
-      where
-        found : (z : ℕ) × (q + 1 ≤ z) × (z < q + 1 + (s - q)) × (is_linked (o.account z).phase ≡ false)
-            × (is_linked (o.account (z + 1)).phase ≡ true) → ⊥
-        found (z, a, b, u, l) = meets z (omega (arith, a)) (omega (arith, b, g)) u l
+        again : of_arrived is_sabme (e.heard y) ≡ true → ⊥
+        again f =
+            let c = was-sent is_sabme k.is_heard y (omega (arith, z-in)) f in
+            let c0 = c.0 in let s0 = sent.0 in let t0 = came.0 in
+            let r : ℕ = y - o.delay in
+            let earlier : r < q = omega (arith, c0, s0, t0, b, low, k.other_delay) in
+            let first = sabme-sent w r (omega (arith, z-in)) c.1 in
+            let now = between (r + 1) z (omega (arith, earlier, a)) (omega (arith, z-in)) first.0 u q (omega (arith, earlier))
+            (omega (arith, a)) in
+            let set = since-try w.period turns Establishing o (tries-so reads w m Establishing refl)
+            (λ f. let wrong : Establishing ≡ Detecting
+            = sym f ∙ ap (λ (x : Account). x.phase) (starts-fresh w Originator) in cc) r q earlier (omega (arith, within)) now first.1 in
+            let due = (sabme-sent w q (omega (arith, within)) came.1).1 now in
+            omega (arith, set, due, c0, s0, a, k.period_is)

@@ -2,7 +2,6 @@
 use Rattle.std.proofs.Common.{◌≡◌, ℕ, ◌+◌, Bool, true, false, cond, ◌∷◌, length, arith, refl, sym, ◌∙◌, ap}
 use Rattle.link_account.proofs.Names.{Role, Originator, Answerer, of, waits, LinkFault, Spent, NotDetected, is_connected}
 use Rattle.link_run.proofs.Names.{is_released, served_at}
-use Rattle.shared_terms.specs.declared.fault.LinkFault.TheVariants.{BadAck, PeerReset, PeerRefused}
 use Rattle.link_account.specs.Account.{break_waits}
 use Rattle.link_run.specs.Run.{BrokenTurn}
 use Rattle.link_run.specs.Laws.{EachEndIsNamed, IsNamed}
@@ -12,6 +11,7 @@ use Rattle.turn_losses.proofs.AnswerTurn.{connected-is}
 use Rattle.turn_losses.specs.Tries.{OriginatorWantsFrame, AnswererWantsAnswer, IsForLosses, GivesUpForLosses}
 use Rattle.turn_losses.proofs.Parting.{answerer-gives-up}
 use Rattle.turn_losses.proofs.Periods.{later-loses}
+use Rattle.turn_losses.proofs.Tracing.{timed-run}
 
 -- what the laws say of each case
 pub record Cases : Type 0 where
@@ -66,7 +66,7 @@ gives-up laws tries period delay link ts before t mid role fault kt run cs broke
         let h = laws.answ tries period delay link ts before t mid segment since kt run cs b (waits-not Answerer c q) in
         record { each = h.0; all = λ e. cc; starved = h.1 }
     answ-spent segment since b q false c = let wrong : true ≡ false = sym
-        (answerer-gives-up tries period delay link ts before t mid (Spent segment since) kt run b) ∙ c in cc
+        (answerer-gives-up (timed-run tries period delay link ts before kt run.run run.carried) t mid (Spent segment since) b) ∙ c in cc
 
     undetected : BrokenTurn link ts before t mid Originator NotDetected → (c : Bool) → IsForLosses tries period delay ts t c
     undetected b c =
@@ -85,6 +85,4 @@ gives-up laws tries period delay link ts before t mid role fault kt run cs broke
     go Answerer (Spent segment since) b n q = answ-spent segment since b q (is_connected mid.answ.phase) refl
     go Originator NotDetected b n q = undetected b (is_connected mid.orig.phase)
     go Answerer NotDetected b n q = cc
-    go r (BadAck nr va high) b n q = absurd n
-    go r (PeerReset va vr) b n q = absurd n
-    go r PeerRefused b n q = absurd n
+    go r p b n q = absurd n

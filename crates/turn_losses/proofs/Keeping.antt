@@ -1,30 +1,30 @@
-use Rattle.std.proofs.Common.{◌≡◌, ℕ, ◌+◌, ◌-◌, ◌<◌, ◌&&◌, Bool, true, false, List, ◌∷◌, length, arith, refl, sym, ◌∙◌, ap, Option, Some}
-use Rattle.std.proofs.Common.{None}
+use Rattle.std.proofs.Common.{◌≡◌, ℕ, ◌+◌, ◌-◌, ◌<◌, ◌&&◌, Bool, true, false, ◌∷◌, length, arith, refl, sym, ◌∙◌, ap, Option, Some, None}
 use Rattle.link_account.proofs.Names.{slice_get, Role, Originator, Answerer, other, of, Frame, Sent, Heard, Nothing, Passed, Lost, Chance}
 use Rattle.link_account.proofs.Names.{is_connected}
-use Rattle.link_run.proofs.Names.{Link, Accounts, Spoken, Turn, arrival, sent_in, sent_ago}
+use Rattle.link_run.proofs.Names.{Accounts, Spoken, Turn, arrival, sent_in, sent_ago}
 use Rattle.link_run.specs.Overheard.{passes_in}
 use Rattle.link_run.specs.Starved.{turn_at}
 use Rattle.turn_losses.specs.Polls.{is_frame_of, sends_of, PollsIn, PollsKeepApart, RepliesAtOnce, AnswersPoll, AnswersMatchPolls}
 use Rattle.turn_losses.proofs.KeepsPolls.{Answers, KeepsPolls, StillAwaited}
-use Rattle.turn_losses.proofs.Tracing.{Traced, traced, OneMore, traced-turn, past-all, past-before}
+use Rattle.turn_losses.proofs.Tracing.{OneMore, traced-turn, past-all, past-before, timed-run, timed-of}
 use Rattle.turn_losses.proofs.LineLaw.{looked}
 use Rattle.turn_losses.proofs.PollLaws.{two-ends, due-apart, poll-fresh, poll-held-up, polls-apart, reply-from, reply-at-once}
 use Rattle.turn_losses.proofs.PollLaws.{reply-matches}
 use Rattle.turn_losses.proofs.PeriodLaws.{still-awaited}
-use Rattle.turn_losses.proofs.Names.{of_frame, of_arrived, is_poll, is_final, Deed, Trace, past, sent_or, EndRun, TwoEnds, end_run}
-use Rattle.turn_losses.proofs.Names.{sends_poll, hears_poll, sends_final, hears_final}
+use Rattle.turn_losses.proofs.Names.{of_frame, of_arrived, is_poll, is_final, Deed, past, sent_or, EndRun, TwoEnds, sends_poll, hears_poll}
+use Rattle.turn_losses.proofs.Names.{sends_final, hears_final, TimedRun, end_of}
+use Rattle.turn_losses.proofs.Truths.{and-not}
 use Rattle.lapm_frames.specs.declared.sent.Sent.TheVariants as slots
 
-keeps-polls : (period turns : ℕ) (e o : EndRun) → TwoEnds period turns e o → KeepsPolls period turns e o
-keeps-polls period turns e o k = record {
-  due_apart = due-apart period turns e o k;
-  fresh = λ t l d. (poll-fresh period turns e o k t l d, poll-held-up period turns e o k t l d);
-  sent_apart = polls-apart period turns e o k;
-  reply_from = reply-from period turns e o k;
-  reply_at_once = reply-at-once period turns e o k;
-  matches = reply-matches period turns e o k;
-  still = still-awaited period turns e o k;
+keeps-polls : {period turns : ℕ} {e o : EndRun} → TwoEnds period turns e o → KeepsPolls period turns e o
+keeps-polls {period} {turns} {e} {o} k = record {
+  due_apart = due-apart k;
+  fresh = λ t l d. (poll-fresh k t l d, poll-held-up k t l d);
+  sent_apart = polls-apart k;
+  reply_from = reply-from k;
+  reply_at_once = reply-at-once k;
+  matches = reply-matches k;
+  still = still-awaited k;
 }
 
 same-kind : (is : Frame → Bool) (sent : Sent) → is_frame_of is sent ≡ of_frame is sent
@@ -49,28 +49,21 @@ passes-kind is (Passed slots.Adp) = refl
 passes-kind is (Passed (slots.Frame frame)) = refl
 
 -- the turn of that number
-pub turn-is : (period : ℕ) (delay : Role → ℕ) (link : Link) (ts : List Turn) (state : ℕ → Accounts) (deed : ℕ → Deed)
-    → Trace period delay link ts state deed
-    → (t : ℕ) → t < length ts → turn_at t ts ≡ Some (deed t).turn
-turn-is period delay link ts state deed w t l =
-    ap (λ us. slice_get us (length ts - 1 - t)) (sym (ap (past ts) (omega (arith, l)) ∙ past-all ts))
-    ∙ looked period delay link ts state deed w (length ts - 1 - t) t (omega (arith, l))
+pub turn-is : (w : TimedRun) → (t : ℕ) → t < length w.ts → turn_at t w.ts ≡ Some (w.deed t).turn
+turn-is w t l = ap (λ us. slice_get us (length w.ts - 1 - t)) (sym (ap (past w.ts) (omega (arith, l)) ∙ past-all w.ts))
+    ∙ looked w (length w.ts - 1 - t) t (omega (arith, l))
 
-polls-of : (period : ℕ) (delay : Role → ℕ) (link : Link) (ts : List Turn) (state : ℕ → Accounts) (deed : ℕ → Deed)
-    → Trace period delay link ts state deed
-    → (role : Role) (t : ℕ) → t < length ts → PollsIn role t ts → sends_poll (end_run delay state deed role) t ≡ true
-polls-of period delay link ts state deed w role t l p =
-    let s = (w.happens t l).speaking role in
-    sym (sends-kind is_poll (of role (deed t).turn).sent _ s.sent_is)
-    ∙ (ap (λ m. sends_of is_poll (sent_in role m)) (sym (turn-is period delay link ts state deed w t l)) ∙ p)
+polls-of : (w : TimedRun) → (role : Role) (t : ℕ) → t < length w.ts → PollsIn role t w.ts → sends_poll (end_of w role) t ≡ true
+polls-of w role t l p =
+    let s = (w.trace.happens t l).speaking role in
+    sym (sends-kind is_poll (of role (w.deed t).turn).sent _ s.sent_is)
+    ∙ (ap (λ m. sends_of is_poll (sent_in role m)) (sym (turn-is w t l)) ∙ p)
 
 pub polls-keep-apart : PollsKeepApart
 polls-keep-apart tries period delay link ts ends k run c role s t less within ps pt =
-    let w = traced tries period delay link ts ends k run c in
-    (keeps-polls period (length ts) (end_run delay w.state w.deed role) (end_run delay w.state w.deed (other role))
-    (two-ends tries period delay link ts w.state w.deed k w.trace role)).sent_apart s t less within
-    (polls-of period delay link ts w.state w.deed w.trace role s (omega (arith, less, within)) ps)
-    (polls-of period delay link ts w.state w.deed w.trace role t within pt)
+    let w = timed-run tries period delay link ts ends k run c in
+    (keeps-polls (two-ends w role)).sent_apart s t less within
+    (polls-of w role s (omega (arith, less, within)) ps) (polls-of w role t within pt)
 
 both-ways : (b c : Bool) → (b ≡ true → c ≡ true) → (c ≡ true → b ≡ true) → b ≡ c
 both-ways true c f g = sym (f refl)
@@ -92,21 +85,20 @@ replies-at-once tries period delay link ts before t after k run g c role cb ca =
         n : ℕ
         n = length ts
 
-        w : Traced period delay link (t ∷ ts) after
-        w = m.traced
+        w : TimedRun
+        w = timed-of tries period delay link (t ∷ ts) after k (before, run, g) c m.traced
 
-        keeps : KeepsPolls period (length (t ∷ ts)) (end_run delay w.state w.deed role) (end_run delay w.state w.deed (other role))
-        keeps = keeps-polls period (length (t ∷ ts)) (end_run delay w.state w.deed role) (end_run delay w.state w.deed (other role))
-            (two-ends tries period delay link (t ∷ ts) w.state w.deed k w.trace role)
+        keeps : KeepsPolls period (length (t ∷ ts)) (end_of w role) (end_of w (other role))
+        keeps = keeps-polls (two-ends w role)
 
         turn : (w.deed n).turn ≡ t
         turn = ap (λ x. x.turn) m.deed_is ∙ dt
 
-        sends : sends_of is_final (of role t).sent ≡ sends_final (end_run delay w.state w.deed role) n
+        sends : sends_of is_final (of role t).sent ≡ sends_final (end_of w role) n
         sends = sends-kind is_final (of role t).sent _ (g.speaking role).sent_is
             ∙ ap (λ (x : Turn). of_frame is_final (sent_or (of role x).sent)) (sym turn)
 
-        hears : passes_in is_poll (of role t).heard ≡ hears_poll (end_run delay w.state w.deed role) n
+        hears : passes_in is_poll (of role t).heard ≡ hears_poll (end_of w role) n
         hears = passes-kind is_poll (of role t).heard ∙ ap (λ (x : Turn). of_arrived is_poll (arrival (of role x).heard)) (sym turn)
 
 pub answers-match : AnswersMatchPolls
@@ -117,34 +109,29 @@ answers-match tries period delay link ts before t after k run g c role cb h =
     go (d, dt, m) = record {
       polled = polled role refl;
       awaited = ap (λ (x : Accounts). (of role x).outgoing.awaited) (sym m.before_is) ∙ still.awaited;
-      none_due = not-due (is_connected (of role before).phase) (of role before).wait.poll (ap is_connected cb)
+      none_due = and-not (is_connected (of role before).phase) (of role before).wait.poll (ap is_connected cb)
           (ap (λ (x : Accounts). is_connected (of role x).phase && (of role x).wait.poll) (sym m.before_is) ∙ still.none_due);
     }
       where
-        not-due : (x y : Bool) → x ≡ true → x && y ≡ false → y ≡ false
-        not-due true y p q = q
-        not-due false y p q = cc
-
         n : ℕ
         n = length ts
 
-        w : Traced period delay link (t ∷ ts) after
-        w = m.traced
+        w : TimedRun
+        w = timed-of tries period delay link (t ∷ ts) after k (before, run, g) c m.traced
 
-        keeps : KeepsPolls period (length (t ∷ ts)) (end_run delay w.state w.deed role) (end_run delay w.state w.deed (other role))
-        keeps = keeps-polls period (length (t ∷ ts)) (end_run delay w.state w.deed role) (end_run delay w.state w.deed (other role))
-            (two-ends tries period delay link (t ∷ ts) w.state w.deed k w.trace role)
+        keeps : KeepsPolls period (length (t ∷ ts)) (end_of w role) (end_of w (other role))
+        keeps = keeps-polls (two-ends w role)
 
         turn : (w.deed n).turn ≡ t
         turn = ap (λ x. x.turn) m.deed_is ∙ dt
 
-        hears : hears_final (end_run delay w.state w.deed role) n ≡ true
+        hears : hears_final (end_of w role) n ≡ true
         hears = ap (λ (x : Turn). of_arrived is_final (arrival (of role x).heard)) turn ∙ (sym (passes-kind is_final (of role t).heard) ∙ h)
 
         still : StillAwaited (of role (w.state n))
         still = keeps.still n (omega arith) (ap (λ (x : Accounts). is_connected (of role x).phase) m.before_is ∙ ap is_connected cb) hears
 
-        a : Answers n (end_run delay w.state w.deed role) (end_run delay w.state w.deed (other role))
+        a : Answers n (end_of w role) (end_of w (other role))
         a = keeps.matches n (omega arith) hears
 
         polled : (r : Role) → r ≡ role → sends_of is_poll (sent_ago (delay Originator + delay Answerer) role ts) ≡ true
@@ -154,7 +141,7 @@ answers-match tries period delay link ts before t after k run g c role cb h =
             let one = k.delays Originator in
             let seen : slice_get (past (t ∷ ts) (a.sent + (delay Originator + delay Answerer - 1) + 1))
             (delay Originator + delay Answerer - 1) ≡ Some (w.deed a.sent).turn
-            = looked period delay link (t ∷ ts) w.state w.deed w.trace (delay Originator + delay Answerer - 1) a.sent
+            = looked w (delay Originator + delay Answerer - 1) a.sent
             (omega (arith, trip, sum, one)) in
             let there : slice_get ts (delay Originator + delay Answerer - 1) ≡ Some (w.deed a.sent).turn
             = ap (λ us. slice_get us (delay Originator + delay Answerer - 1))

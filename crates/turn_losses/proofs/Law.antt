@@ -1,25 +1,24 @@
 -- Whatever an end gives up for, the run was starved.
-use Rattle.std.proofs.Common.{◌⊎◌, inl, inr, ◌≡◌, ℕ, ◌+◌, ◌≤◌, Bool, true, false, cond, ◌∷◌, length, arith, refl, sym, ◌∙◌, ap, subst}
-use Rattle.link_account.proofs.Names.{Role, Originator, Answerer, of, ReadsWritten, IsAllowed, waits, LinkFault, Account, is_connected}
-use Rattle.link_run.proofs.Names.{Phase, Releasing, is_released, is_closed}
-use Rattle.link_run.proofs.Names.{arrival, served_at}
+use Rattle.std.proofs.Common.{◌⊎◌, inl, inr, ◌≡◌, ℕ, ◌+◌, ◌≤◌, Bool, true, false, cond, ◌∷◌, length, arith, refl, sym, ◌∙◌, ap}
+use Rattle.link_account.proofs.Names.{Role, Originator, Answerer, of, ReadsWritten, waits, LinkFault, Account, is_connected, other}
+use Rattle.link_run.proofs.Names.{Phase, Releasing, is_released, is_closed, arrival, served_at}
 use Rattle.link_account.specs.Account.{break_waits}
 use Rattle.link_run.specs.Run.{BrokenTurn}
 use Rattle.link_run.specs.Starved.{IsStarved}
 use Rattle.turn_losses.proofs.AnswerTurn.{connected-is}
-use Rattle.turn_losses.proofs.Tracing.{Known, known, Timed, timed, rated, release_of}
-use Rattle.turn_losses.proofs.Numbering.{Plays, allowed, fits-at}
-use Rattle.turn_losses.proofs.Room.{begins-roomy}
-use Rattle.turn_losses.proofs.Wanting.{SpendsTries, LastTry, last-try-of, SpendsBreak, connected-spends}
+use Rattle.turn_losses.proofs.Tracing.{release_of, timed-run}
+use Rattle.turn_losses.proofs.Numbering.{Plays}
+use Rattle.turn_losses.proofs.Wanting.{SpendsTries, LastTry, SpendsBreak, connected-spends, last-tries}
 use Rattle.turn_losses.proofs.Starving.{originator-each, all-but-one}
 use Rattle.turn_losses.proofs.Answerer.{answerer-each}
-use Rattle.turn_losses.proofs.Setups.{heard-setup, served-setup}
 use Rattle.turn_losses.proofs.Parting.{parted-each, all-but-last}
 use Rattle.turn_losses.specs.Breaks.{GivesUpStarved}
 use Rattle.turn_losses.proofs.Spending.{LastWait, last-wait}
 use Rattle.turn_losses.proofs.Ending.{originator-breaks}
 use Rattle.turn_losses.proofs.Sparing.{answerer-breaks, of-period}
-use Rattle.turn_losses.proofs.Names.{StandTogether, Rates, rates, IsOf, serves-all, GivesUpForLosses}
+use Rattle.turn_losses.proofs.Names.{StandTogether, GivesUpForLosses, TimedRun}
+use Rattle.turn_losses.proofs.InTurn.{InTurn}
+use Rattle.turn_losses.proofs.EndTurn.{last-turn}
 
 pub record Base : Type 0 where
   pub plays : Plays
@@ -48,45 +47,34 @@ gives-up-starved laws tries period delay link ts before t mid role fault kt run 
     by false q = (laws.quiet tries period delay link ts before t mid role fault kt run cs broken q).starved
     by true q = go role fault broken (waiting-is (is_connected b.phase) (waits b.own_breaks) q)
       where
-        z : Rates
-        z = rates tries period
+        whole : TimedRun
+        whole = timed-run tries period delay link ts before kt run.run run.carried
 
-        setup : (r : Role) → (served_at link turns mid r).account.setup ≡ (of r link).setup
-        setup r = served-setup (of r link).user turns (is_released mid.orig.phase) (of r mid)
-            ∙ heard-setup tries period delay link ts before kt run.run run.carried r (arrival (of r t).heard) (of r mid)
-            (broken.hearing r).hears
+        at : (r : Role) → InTurn tries period link r turns (of r before) (arrival (of r t).heard) (of r mid)
+            (served_at link turns mid r).account
+        at = last-turn whole t mid broken.hearing
 
         long : (r : Role) → 1 ≤ (served_at link turns mid r).account.setup.period
-        long r = let p = kt.period_is in let e = ap (λ x. x.period) (setup r) ∙ (kt.timed r).period_is in omega (arith, p, e)
+        long r = let i = at r in omega (arith, i.b_period, i.long)
 
         mid-connected : (r : Role) → is_connected (served_at link turns mid r).account.phase ≡ true → is_connected (of r mid).phase ≡ true
-        mid-connected r c = ap is_connected (sym (serves-all (of r link).user turns (is_released mid.orig.phase) (of r mid)).phase) ∙ c
+        mid-connected r c = ap is_connected (sym (at r).served.phase) ∙ c
 
         try-of : (r : Role) → is_connected (of r mid).phase ≡ true → SpendsTries turns (served_at link turns mid r).account
             → LastTry tries period turns (of r before)
-        try-of r cm s =
-            let kn : Known z link turns before r = known tries period delay link ts before kt run.run run.carried r in
-            let tm : Timed z link r = timed tries period delay link kt r in
-            last-try-of tries period (of r link).user turns r (arrival (of r t).heard) (of r before) (of r mid)
-            (is_released mid.orig.phase) (rated tries period delay link kt) (subst (IsOf z) (sym kn.setup) tm.is_of) kn.stands
-            (ap (λ x. x.role) kn.setup ∙ tm.role_is) kn.none_due
-            (λ u c. ((begins-roomy (arrival (of r t).heard) turns (of r before) (of r mid) u
-            (fits-at laws.plays link delay ts before run r)
-            (subst IsAllowed (ap (λ x. x.offer) (sym kn.setup)) (allowed link run.may_play r)) (broken.hearing r).hears).so c).2)
-            (broken.hearing r).hears cm s
+        try-of = last-tries laws.plays whole run.may_play t mid broken.hearing
 
         wait-of : (r : Role) → is_connected (of r mid).phase ≡ true → SpendsBreak turns (served_at link turns mid r).account
             → LastWait tries period turns (of r before)
-        wait-of r cm s = last-wait tries period delay link ts before kt run.run run.carried r (arrival (of r t).heard)
-            (is_released mid.orig.phase) (of r mid) (broken.hearing r).hears cm s
+        wait-of r = last-wait (at r)
 
         orig : is_connected mid.orig.phase ≡ true → waits (served_at link turns mid Originator).account.own_breaks ≡ true
             → SpendsTries turns (served_at link turns mid Originator).account ⊎ SpendsBreak turns
             (served_at link turns mid Originator).account → IsStarved tries period delay (t ∷ ts)
         orig cm w (inl s) = all-but-one tries period delay t ts
-            (originator-each laws.plays laws.together tries period delay link ts before kt run (try-of Originator cm s))
+            (originator-each laws.plays laws.together whole run.may_play (try-of Originator cm s))
         orig cm w (inr s) =
-            let each = originator-breaks laws.reads laws.together tries period delay link ts before t mid kt run cs broken.hearing cm
+            let each = originator-breaks laws.together whole t mid cs broken.hearing cm
             (wait-of Originator cm s) w in
             record { spared = tries + 1; each = λ n few other. of-period period delay t ts n (each n (omega (arith, few))) }
 
@@ -97,12 +85,11 @@ gives-up-starved laws tries period delay link ts before t mid role fault kt run 
           where
             on : (x : Bool) → is_released mid.orig.phase ≡ x → IsStarved tries period delay (t ∷ ts)
             on false f = all-but-one tries period delay t ts
-                (answerer-each laws.plays tries period delay link ts before t mid kt run broken.hearing f (try-of Answerer cm s))
+                (answerer-each laws.plays whole run.may_play t mid broken.hearing f (try-of Answerer cm s))
             on true f = all-but-last tries period delay t ts
-                (parted-each laws.plays laws.reads tries period delay link ts before t mid kt run cs broken.hearing cm
+                (parted-each laws.plays laws.reads whole run.may_play t mid cs broken.hearing cm
                 (only-releasing mid.orig.phase f broken.going) (try-of Answerer cm s))
-        answ cm w (inr s) = answerer-breaks laws.reads tries period delay link ts before t mid kt run cs broken.hearing broken.going cm
-            (wait-of Answerer cm s) w
+        answ cm w (inr s) = answerer-breaks laws.reads whole run.may_play t mid cs broken.hearing broken.going cm (wait-of Answerer cm s) w
 
         go : (r : Role) (f : LinkFault) → BrokenTurn link ts before t mid r f
             → (is_connected (served_at link turns mid r).account.phase ≡ true)

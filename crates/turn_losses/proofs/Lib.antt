@@ -2,6 +2,7 @@ pub mod Names
 pub mod Polls
 pub mod Polling
 mod Truths
+mod Kept
 pub mod Answered
 pub mod TwoEnds
 pub mod Trace
@@ -10,6 +11,9 @@ pub mod PollsFresh
 pub mod Words
 mod HeardNumber
 pub mod PollHear
+mod InTurn
+mod EndTurn
+mod Follows
 pub mod PollSpeak
 pub mod PollTurn
 pub mod Answering

@@ -1,51 +1,24 @@
 -- What is lost in each period of a waiting break, while the other end is Connected.
-use Rattle.std.proofs.Common.{◌⊎◌, inl, inr, ◌≡◌, ℕ, ◌+◌, ◌-◌, ◌*◌, ◌<◌, ◌≤◌, Bool, true, false, List, ◌∷◌, length, arith, refl, sym, ◌∙◌}
-use Rattle.std.proofs.Common.{ap, Ok}
-use Rattle.link_account.proofs.Names.{slice_get, cases_lt, nat_tests, Role, Originator, Answerer, other, of, Frame, ReadsWritten}
-use Rattle.link_account.proofs.Names.{waits, Arrived, Account, is_connected, MayPlay, hear, arrives}
-use Rattle.link_run.proofs.Names.{User, is_busy, Link, Accounts, Turn, SpeaksAt, arrival, said_at, Carries, sent_in}
-use Rattle.turn_losses.proofs.Truths.{clash}
-use Rattle.turn_losses.proofs.Truths.{not-true}
+use Rattle.std.proofs.Common.{◌⊎◌, inl, inr, ◌≡◌, ℕ, ◌+◌, ◌-◌, ◌*◌, ◌<◌, ◌≤◌, Bool, true, false, ◌∷◌, length, arith, refl, sym, ◌∙◌, ap, Ok}
+use Rattle.link_account.proofs.Names.{cases_lt, nat_tests, Role, other, of, waits, Arrived, Account, is_connected, hear}
+use Rattle.link_run.proofs.Names.{User, is_busy, Turn, arrival, Carries}
+use Rattle.turn_losses.proofs.Truths.{clash, not-true}
 use Rattle.turn_losses.proofs.Periods.{once, loses-at, loses-last}
-use Rattle.turn_losses.proofs.Tracing.{past-all}
-use Rattle.turn_losses.proofs.LineLaw.{is-heard, looked, was-sent}
+use Rattle.turn_losses.proofs.LineLaw.{is-heard, was-sent, last-heard}
 use Rattle.turn_losses.proofs.PollLaws.{two-ends}
 use Rattle.turn_losses.proofs.PeriodLaws.{NoneLost}
 use Rattle.turn_losses.proofs.PeriodHolds.{LostIn, lost-or-none}
 use Rattle.turn_losses.proofs.AnswerTurn.{connected-is}
-use Rattle.turn_losses.proofs.Parting.{passes-as}
 use Rattle.turn_losses.proofs.Establishing.{is_sabme}
-use Rattle.turn_losses.proofs.BreakHear.{of_word, ack_of, break-heard}
+use Rattle.turn_losses.proofs.BreakHear.{break-heard}
 use Rattle.turn_losses.proofs.BreakTurn.{waits-not, Deeds, ServedBreaks, number_of, brk_due}
 use Rattle.turn_losses.proofs.View.{deeds-of, breaking, served-own}
 use Rattle.turn_losses.proofs.Waiting.{BreakPeriod, break-answered}
 use Rattle.turn_losses.proofs.Quiet.{answers-sabme, sends-sabme-so}
-use Rattle.turn_losses.proofs.Names.{KeepsTime, of_frame, of_arrived, arrives-flag, serves-all, served_account, is_lost, PeriodLoses, Deed}
-use Rattle.turn_losses.proofs.Names.{Trace, past, sent_or, EndRun, TwoEnds, end_run}
-
--- what one role sent so long before the last turn arrives in it, unless it is lost
-pub last-heard : (kind : Frame → Bool) (period : ℕ) (delay : Role → ℕ) (link : Link) (ts : List Turn) (state : ℕ → Accounts)
-    (deed : ℕ → Deed)
-    → Trace period delay link ts state deed → (t : Turn) → Carries delay ts t → (r : Role) → 1 ≤ delay (other r)
-    → (s : ℕ) → s + delay (other r) ≡ length ts → is_lost (of r t).heard ≡ false
-    → of_arrived kind (arrival (of r t).heard) ≡ of_frame kind (sent_or (of (other r) (deed s).turn).sent)
-last-heard kind period delay link ts state deed w t cs r d s same f =
-    ap (of_arrived kind) heard ∙ arrives-flag kind (sent_or (of (other r) (deed s).turn).sent)
-  where
-    within : s < length ts
-    within = omega (arith, same, d)
-
-    s' : SpeaksAt (said_at link s (deed s).mid (other r)) (of (other r) (deed s).turn) (of (other r) (state (s + 1)))
-    s' = (w.happens s within).speaking (other r)
-
-    on-line : sent_in (other r) (slice_get ts (delay (other r) - 1)) ≡ (of (other r) (deed s).turn).sent
-    on-line = ap (sent_in (other r)) (ap (λ us. slice_get us (delay (other r) - 1)) (sym (past-all ts))
-        ∙ (ap (λ m. slice_get (past ts m) (delay (other r) - 1)) (omega (arith, same, d))
-        ∙ looked period delay link ts state deed w (delay (other r) - 1) s (omega (arith, same, d))))
-
-    heard : arrival (of r t).heard ≡ arrives (sent_or (of (other r) (deed s).turn).sent)
-    heard = passes-as (sent_in (other r) (slice_get ts (delay (other r) - 1))) s'.said (of r t).heard (on-line ∙ s'.sent_is) (cs r) f
-        ∙ ap (λ j. arrives (sent_or j)) (sym s'.sent_is)
+use Rattle.turn_losses.proofs.Names.{of_frame, of_arrived, serves-all, served_account, is_lost, PeriodLoses, EndRun, TwoEnds, TimedRun}
+use Rattle.turn_losses.proofs.Names.{end_of}
+use Rattle.turn_losses.proofs.Words.{ack_of, of_word}
+use Rattle.turn_losses.proofs.EndTurn.{starts-fresh}
 
 -- the answer in the last turn ends the wait
 pub last-ends : (user : User) (turn : ℕ) (released : Bool) (arrived : Arrived) (a mid : Account) → is_connected a.phase ≡ true
@@ -76,96 +49,86 @@ last-ends user turn released arrived a mid ca cm w high h e = by s.taken refl
     by false q = ap waits (s.no q) ∙ none
 
 -- A period of a waiting break loses something, while the other end is Connected in it.
-pub connected-loses : ReadsWritten → (tries period : ℕ) (delay : Role → ℕ) (link : Link) (ts : List Turn) (state : ℕ → Accounts)
-    (deed : ℕ → Deed) → (kt : KeepsTime tries period delay link) → MayPlay link.orig.setup link.answ.setup
-    → (w : Trace period delay link ts state deed) → (t : Turn) → Carries delay ts t → (r : Role) → (number s n : ℕ) → number < 2
-    → s + (n + 1) * period ≡ length ts
-    → BreakPeriod period (length ts) number (end_run delay state deed r) (deeds-of tries period delay link ts state deed kt w r) s
-    → ((u : ℕ) → s < u → u ≤ s + period → is_connected (of (other r) (state u)).phase ≡ true)
-    → ((u : ℕ) → s ≤ u → u < s + period → of_arrived is_sabme (arrival (of r (deed u).turn).heard) ≡ true → ⊥)
-    → (s + period ≡ length ts → of_arrived (of_word (ack_of number)) (arrival (of r t).heard) ≡ true → ⊥)
-    → PeriodLoses period (length ts) (t ∷ ts) n
-connected-loses reads tries period delay link ts state deed kt m w t cs r number s n small q bp co na last-no = go
-    (lost-or-none e o (s + 1) (period - 1))
+pub connected-loses : (w : TimedRun) (t : Turn) → Carries w.delay w.ts t → (r : Role) → (number s n : ℕ) → number < 2
+    → s + (n + 1) * w.period ≡ length w.ts
+    → BreakPeriod w.period (length w.ts) number (end_of w r) (deeds-of w r) s
+    → ((u : ℕ) → s < u → u ≤ s + w.period → is_connected (of (other r) (w.state u)).phase ≡ true)
+    → ((u : ℕ) → s ≤ u → u < s + w.period → of_arrived is_sabme (arrival (of r (w.deed u).turn).heard) ≡ true → ⊥)
+    → (s + w.period ≡ length w.ts → of_arrived (of_word (ack_of number)) (arrival (of r t).heard) ≡ true → ⊥)
+    → PeriodLoses w.period (length w.ts) (t ∷ w.ts) n
+connected-loses w t cs r number s n small q bp co na last-no = go (lost-or-none e o (s + 1) (w.period - 1))
   where
     turns : ℕ
-    turns = length ts
+    turns = length w.ts
 
     e : EndRun
-    e = end_run delay state deed r
+    e = end_of w r
 
     o : EndRun
-    o = end_run delay state deed (other r)
+    o = end_of w (other r)
 
-    k : TwoEnds period turns e o
-    k = two-ends tries period delay link ts state deed kt w r
+    k : TwoEnds w.period turns e o
+    k = two-ends w r
 
     d : ℕ → Deeds
-    d = deeds-of tries period delay link ts state deed kt w r
+    d = deeds-of w r
 
     d' : ℕ → Deeds
-    d' = deeds-of tries period delay link ts state deed kt w (other r)
+    d' = deeds-of w (other r)
 
-    long : 1 ≤ period
+    long : 1 ≤ w.period
     long = omega (arith, k.period_is)
 
-    within : s + period ≤ turns
-    within = let x = once period n in omega (arith, q, x)
+    within : s + w.period ≤ turns
+    within = let x = once w.period n in omega (arith, q, x)
 
-    quiet : (u : ℕ) → s ≤ u → u < s + period → (d u).answers ≡ false
-    quiet u a b = not-true (d u).answers
-        (λ f. na u a b (answers-sabme tries period delay link ts state deed kt w r u (omega (arith, b, within))
+    quiet : (u : ℕ) → s ≤ u → u < s + w.period → (d u).answers ≡ false
+    quiet u a b = not-true (d u).answers (λ f. na u a b (answers-sabme w r u (omega (arith, b, within))
         (bp.stays (u + 1) (omega (arith, a)) (omega (arith, b))).connected f))
 
-    quiet' : (u : ℕ) → s + e.delay ≤ u → u < s + period → (d' u).answers ≡ false
+    quiet' : (u : ℕ) → s + e.delay ≤ u → u < s + w.period → (d' u).answers ≡ false
     quiet' u a b = not-true (d' u).answers (λ f.
-        let heard = answers-sabme tries period delay link ts state deed kt w (other r) u (omega (arith, b, within))
+        let heard = answers-sabme w (other r) u (omega (arith, b, within))
         (co (u + 1) (omega (arith, a)) (omega (arith, b))) f in
-        let c = was-sent e.delay turns is_sabme e.slot o.heard o.loses k.is_heard u (omega (arith, b, within)) heard in
+        let c = was-sent is_sabme k.is_heard u (omega (arith, b, within)) heard in
         let v : ℕ = u - e.delay in
         clash (is_connected (e.account (v + 1)).phase) (bp.stays (v + 1) (omega (arith, a)) (omega (arith, a, b, k.own_delay))).connected
-        (sends-sabme-so reads tries period delay link ts state deed kt m w r v (omega (arith, b, within)) c.1))
+        (sends-sabme-so w r v (omega (arith, b, within)) c.1))
 
-    some : (u : ℕ) → s < u → u ≤ s + period → u < turns → (e.loses u ≡ true) ⊎ (o.loses u ≡ true) → PeriodLoses period turns (t ∷ ts) n
-    some u a b c (inl f) = loses-at period delay link ts state deed w t s n q u a b c r f
-    some u a b c (inr f) = loses-at period delay link ts state deed w t s n q u a b c (other r) f
+    some : (u : ℕ) → s < u → u ≤ s + w.period → u < turns → (e.loses u ≡ true) ⊎ (o.loses u ≡ true)
+        → PeriodLoses w.period turns (t ∷ w.ts) n
+    some u a b c (inl f) = loses-at w t s n q u a b c r f
+    some u a b c (inr f) = loses-at w t s n q u a b c (other r) f
 
-    go : LostIn e o (s + 1) (period - 1) ⊎ NoneLost e o (s + 1) (period - 1) → PeriodLoses period turns (t ∷ ts) n
+    go : LostIn e o (s + 1) (w.period - 1) ⊎ NoneLost e o (s + 1) (w.period - 1) → PeriodLoses w.period turns (t ∷ w.ts) n
     go (inl x) = let a = x.low in let b = x.high in some x.turn (omega (arith, a)) (omega (arith, b, long))
         (omega (arith, b, long, within)) x.loses
-    go (inr none) = late (break-answered period turns number e o d d' k (breaking tries period delay link ts state deed kt w r)
-        (breaking tries period delay link ts state deed kt w (other r)) first small s within bp co quiet quiet' none)
+    go (inr none) = late (break-answered number k (breaking w r) (breaking w (other r)) first small s within bp co quiet quiet' none)
       where
         first : brk_due (o.account 0) ≡ false
-        first = start (other r)
-          where
-            start : (x : Role) → brk_due (of x (state 0)) ≡ false
-            start Originator = ap (λ (y : Accounts). brk_due y.orig) w.starts
-            start Answerer = ap (λ (y : Accounts). brk_due y.answ) w.starts
+        first = ap brk_due (starts-fresh w (other r))
 
-        late : (z : ℕ) × (z + o.delay ≡ s + period) × (s < z) × (of_frame (of_word (ack_of number)) (o.slot z) ≡ true)
-            → PeriodLoses period turns (t ∷ ts) n
+        late : (z : ℕ) × (z + o.delay ≡ s + w.period) × (s < z) × (of_frame (of_word (ack_of number)) (o.slot z) ≡ true)
+            → PeriodLoses w.period turns (t ∷ w.ts) n
         late (z, f, a, sent) = elim
-            (cases_lt (s + period) turns) [
-              | inl l ↦ inside l (e.loses (s + period)) refl
+            (cases_lt (s + w.period) turns) [
+              | inl l ↦ inside l (e.loses (s + w.period)) refl
               | inr g ↦ at-end (omega (arith, within, g))
                   (is_lost (of r t).heard) refl
             ]
           where
-            inside : s + period < turns → (b : Bool) → e.loses (s + period) ≡ b → PeriodLoses period turns (t ∷ ts) n
-            inside l true g = some (s + period) (omega (arith, long)) (omega arith) l (inl g)
+            inside : s + w.period < turns → (b : Bool) → e.loses (s + w.period) ≡ b → PeriodLoses w.period turns (t ∷ w.ts) n
+            inside l true g = some (s + w.period) (omega (arith, long)) (omega arith) l (inl g)
             inside l false g =
-                let comes : of_arrived (of_word (ack_of number)) (e.heard (z + o.delay)) ≡ true = is-heard o.delay turns
-                (of_word (ack_of number)) o.slot e.heard e.loses k.hears z (omega (arith, f, l)) (ap e.loses f ∙ g) ∙ sent in
-                let here = bp.stays (s + period) (omega (arith, long)) (omega arith) in
+                let comes : of_arrived (of_word (ack_of number)) (e.heard (z + o.delay)) ≡ true = is-heard (of_word (ack_of number)) k.hears
+                z (omega (arith, f, l)) (ap e.loses f ∙ g) ∙ sent in
+                let here = bp.stays (s + w.period) (omega (arith, long)) (omega arith) in
                 let there = bp.goes_on l in
-                absurd (clash (waits (e.account (s + period + 1)).own_breaks) there.waiting
-                (((breaking tries period delay link ts state deed kt w r).turn (s + period) l there.connected).ends here.connected
-                here.waiting
-                (ap (λ x. of_arrived (of_word (ack_of x)) (e.heard (s + period))) here.numbered
+                absurd (clash (waits (e.account (s + w.period + 1)).own_breaks) there.waiting
+                (((breaking w r).turn (s + w.period) l there.connected).ends here.connected here.waiting
+                (ap (λ x. of_arrived (of_word (ack_of x)) (e.heard (s + w.period))) here.numbered
                 ∙ (ap (λ x. of_arrived (of_word (ack_of number)) (e.heard x)) (sym f) ∙ comes))))
 
-            at-end : s + period ≡ turns → (b : Bool) → is_lost (of r t).heard ≡ b → PeriodLoses period turns (t ∷ ts) n
-            at-end g true x = loses-last period t ts s n long q g r x
-            at-end g false x = absurd
-                (last-no g (last-heard (of_word (ack_of number)) period delay link ts state deed w t cs r k.other_delay z (f ∙ g) x ∙ sent))
+            at-end : s + w.period ≡ turns → (b : Bool) → is_lost (of r t).heard ≡ b → PeriodLoses w.period turns (t ∷ w.ts) n
+            at-end g true x = loses-last w.period t w.ts s n long q g r x
+            at-end g false x = absurd (last-no g (last-heard (of_word (ack_of number)) w t cs r z (f ∙ g) x ∙ sent))

@@ -1,11 +1,10 @@
 -- What an originator's try sends and hears, and what ends it.
 use Rattle.std.proofs.Common.{◌⊎◌, inl, inr, ◌≡◌, ℕ, ◌+◌, ◌≤◌, Bool, true, false, cond, nat_eq, arith, refl, sym, ◌∙◌, ap, Option, Some}
 use Rattle.std.proofs.Common.{None, Ok, Err, Result}
-use Rattle.link_account.proofs.Names.{is_some, nat_tests, Role, Originator, Answerer, Frame, I, Rr, Rnr, Rej, Srej, Sabme, Disc, Ua, Dm, Ui}
-use Rattle.link_account.proofs.Names.{Xid, Offer, offer_in, written, agree, Arrived, LinkFault, Account, hear, on_frame, on_nothing, trying}
-use Rattle.link_account.proofs.Names.{Said, spent, speak, speak_linked, false≢true}
+use Rattle.link_account.proofs.Names.{is_some, nat_tests, Role, Originator, Answerer, Frame, Sabme, Disc, Ua, Dm, Ui, Xid, Offer, offer_in}
+use Rattle.link_account.proofs.Names.{written, agree, Arrived, LinkFault, Account, hear, on_frame, on_nothing, trying, Said, spent, speak}
+use Rattle.link_account.proofs.Names.{speak_linked, false≢true}
 use Rattle.link_run.proofs.Names.{Phase, Detecting, Negotiating, Establishing, Connected, Releasing, Closed}
-use Rattle.lapm_frames.specs.declared.frame.Frame.TheVariants.{Frmr, Test}
 use Rattle.lapm_frames.specs.declared.seen.Seen.TheVariants.{Adp}
 use Rattle.link_account.specs.Hear.{on_seen, on_negotiating, on_establishing, on_releasing, on_xid_response, connected}
 use Rattle.link_account.specs.Speak.{trying_again, tries_frame, u_try}
@@ -129,9 +128,7 @@ try-heard arrived turn a mid r h = by-ways (λ x b. TryHeard turn x a b) turn a 
         go : (y : Frame) → on_releasing y a ≡ Ok a → moves_on Releasing y ≡ false
         go (Ua true) q = closed cc
         go (Dm true) q = closed cc
-        go (Ua false) q = refl
-        go (Dm false) q = refl
-        go y q = refl
+        go p q = refl
     unmoved Detecting (arrivals.Frame frame) t g f = cc
     unmoved Connected (arrivals.Frame frame) t g f = cc
     unmoved Closed (arrivals.Frame frame) t g f = cc
@@ -181,12 +178,9 @@ try-says turn release b said r long offers h = SpeakWays.by-ways (TrySaid turn b
   where
     alone-untried : (p : Phase) (role : Role) → role ≡ Originator → answers_alone p role ≡ true → is_trying p ≡ false
     alone-untried Detecting role e f = refl
-    alone-untried Negotiating Originator e f = cc
-    alone-untried Negotiating Answerer e f = cc
-    alone-untried Establishing role e f = cc
     alone-untried Connected role e f = refl
-    alone-untried Releasing role e f = cc
     alone-untried Closed role e f = refl
+    alone-untried p q e f = cc
 
     untried : (q : Phase) → b.phase ≡ q → is_trying q ≡ false → {A : Type 0} (p : Phase) → is_trying p ≡ true → b.phase ≡ p → A
     untried q e n p t f = let wrong : true ≡ false = sym t ∙ (ap is_trying (sym f ∙ e) ∙ n) in cc
@@ -238,16 +232,4 @@ releasing-stays (arrivals.Frame frame) turn a mid e h c = go frame (ap (λ p. on
     go : (f : Frame) → on_releasing f a ≡ Ok mid → ⊥
     go (Ua true) q = closed cc
     go (Dm true) q = closed cc
-    go (Ua false) q = stays cc
-    go (Dm false) q = stays cc
-    go (I ns nr pf info) q = stays cc
-    go (Rr x nr pf) q = stays cc
-    go (Rnr x nr pf) q = stays cc
-    go (Rej x nr pf) q = stays cc
-    go (Srej x nr pf) q = stays cc
-    go (Sabme pf) q = stays cc
-    go (Disc pf) q = stays cc
-    go (Frmr pf info) q = stays cc
-    go (Ui x pf info) q = stays cc
-    go (Xid x pf info) q = stays cc
-    go (Test x pf info) q = stays cc
+    go p q = stays cc

@@ -14,8 +14,8 @@ pub use Rattle.turn_bound.specs.Due.{NoneDue}
 pub use Rattle.turn_bound.specs.Time.{KeepsTime}
 pub use Rattle.turn_bound.specs.Together.{StandTogether}
 pub use Rattle.turn_losses.proofs.Polling.{PollTurn, SetFrom, is_linked, poll_due}
-pub use Rattle.turn_losses.proofs.Trace.{Deed, Happens, Trace, past, sent_or}
-pub use Rattle.turn_losses.proofs.TwoEnds.{ArrivesLate, EndRun, TwoEnds, end_run, hears_final, hears_poll, sends_final, sends_poll}
+pub use Rattle.turn_losses.proofs.Trace.{Deed, Happens, TimedRun, Trace, past, sent_or}
+pub use Rattle.turn_losses.proofs.TwoEnds.{ArrivesLate, EndRun, TwoEnds, end_of, hears_final, hears_poll, sends_final, sends_poll}
 pub use Rattle.turn_losses.specs.Losses.{LosesEach, PeriodLoses}
 pub use Rattle.turn_losses.specs.Polls.{is_final, is_poll}
 pub use Rattle.turn_losses.specs.Tries.{GivesUpForLosses}

@@ -2,8 +2,8 @@
 use Rattle.std.proofs.Common.{◌⊎◌, inl, inr, ◌≡◌, ℕ, ◌%◌, ◌<◌, ◌≤◌, ◌||◌, Bool, true, false, cond, nat_lt, List, length, length-append}
 use Rattle.std.proofs.Common.{arith, refl, sym, ◌∙◌, ap, subst, Option, Some, None, Ok}
 use Rattle.link_account.proofs.Names.{nat_tests, cases_lt, Frame, I, Rr, Rnr, Rej, meant, Outgoing, is_outstanding, advanced, resumed}
-use Rattle.link_account.proofs.Names.{Incoming, after_take, after_kind, kind_of, offset, Took, InOrder, Kept, Gap, Sent, Arrived}
-use Rattle.link_account.proofs.Names.{Account, is_connected, hear}
+use Rattle.link_account.proofs.Names.{Incoming, after_take, after_kind, kind_of, offset, Took, InOrder, Kept, Gap, Sent, Arrived, Account}
+use Rattle.link_account.proofs.Names.{is_connected, hear}
 use Rattle.lapm_sender.specs.Outgoing.{gone_back, wait_ended, paused_at}
 use Rattle.lapm_receiver.specs.Incoming.{kind_at}
 use Rattle.link_account.proofs.HearWays.{by-linked, acked, acked_back, Plain, IsUa, IsXid, IsTest, IsNoWord}

@@ -1,21 +1,20 @@
 -- The numbers of both ends of a run.
-use Rattle.std.proofs.Common.{inl, inr, ◌≡◌, ℕ, zero, suc, ◌+◌, ◌*◌, ◌%◌, ◌<◌, ◌≤◌, Bool, true, false, cond, List, length, length-append}
-use Rattle.std.proofs.Common.{arith, refl, sym, ◌∙◌, ap, subst, Option, Some}
-use Rattle.link_account.proofs.Names.{Role, Originator, Answerer, other, of, IsPrefixOf, IsAllowed, Arrived, Account, is_connected, hear}
-use Rattle.link_account.proofs.Names.{MayPlay}
-use Rattle.link_run.proofs.Names.{is_released, Link, Accounts, Spoken, Turn, arrival, RunsOver}
+use Rattle.std.proofs.Common.{inl, inr, ◌≡◌, ℕ, zero, suc, ◌+◌, ◌%◌, ◌<◌, ◌≤◌, Bool, true, false, cond, List, length, length-append, arith}
+use Rattle.std.proofs.Common.{refl, sym, ◌∙◌, ap, subst, Option, Some}
+use Rattle.link_account.proofs.Names.{Role, Originator, Answerer, other, of, IsPrefixOf, IsAllowed, Account, is_connected, MayPlay}
+use Rattle.link_run.proofs.Names.{Link, Accounts, Spoken, Turn, RunsOver}
 use Rattle.link_account.specs.Account.{first_terms}
 use Rattle.link_account.specs.Laws.{TakesInOrder, AcknowledgesTaken}
 use Rattle.link_run.specs.Laws.{RunsArePlays, HearingsArePlays, IsPlayed}
 use Rattle.link_run.specs.Overheard.{AgreesByXid, has_passed, is_xid, agreed_terms}
-use Rattle.turn_losses.proofs.Tracing.{Known, known, timed, rated, release_of, said-as, untimed-of}
+use Rattle.turn_losses.proofs.Tracing.{release_of, untimed-of}
 use Rattle.turn_losses.proofs.NumberHear.{ns_sent}
 use Rattle.turn_losses.proofs.NumberTurn.{NumberTurn, number-turn, Begins, begins-turn}
 use Rattle.turn_losses.proofs.Room.{Room, Fits, fits-second}
 use Rattle.turn_losses.proofs.Acknowledged.{Counts}
 use Rattle.turn_losses.proofs.PeriodHolds.{SendsFirst, end-answered}
-use Rattle.turn_losses.proofs.Names.{KeepsTime, Rates, rates, IsOf, arrived_rnrs, heard-ok, hears-well, is_linked, Deed, Trace, past}
-use Rattle.turn_losses.proofs.Names.{sent_or, end_run}
+use Rattle.turn_losses.proofs.Names.{rates, is_linked, past, sent_or, TimedRun, end_of}
+use Rattle.turn_losses.proofs.EndTurn.{end-turn, starts-fresh}
 
 -- what the laws of plays and of frames say
 pub record Plays : Type 0 where
@@ -68,99 +67,68 @@ fits-at laws link delay ts ends run role = subst Fits (sym (laws.agrees link del
     by true = fits-second link.orig.setup.offer link.answ.setup.offer run.may_play.offer_a
     by false = (omega arith, omega arith)
 
-pub counts-of : Plays → (tries period : ℕ) (delay : Role → ℕ) (link : Link) (ts : List Turn) (state : ℕ → Accounts) (deed : ℕ → Deed)
-    → KeepsTime tries period delay link → MayPlay link.orig.setup link.answ.setup
-    → Trace period delay link ts state deed → (role : Role)
-    → Counts (length ts) (end_run delay state deed role) (end_run delay state deed (other role))
-counts-of laws tries period delay link ts state deed kt m w role = record {
+pub counts-of : Plays → (w : TimedRun) → MayPlay w.link.orig.setup w.link.answ.setup → (role : Role)
+    → Counts (length w.ts) (end_of w role) (end_of w (other role))
+counts-of laws w m role = record {
   own = numbers role;
   other = numbers (other role);
-  acked = λ t l. let h = w.happens t l in
-      fronts-taken laws link m (deed t).mid _
-      (laws.hearings link delay (past ts t) (state t) t (deed t).turn (deed t).mid kt.delays h.carried h.run h.carries h.hearing) role;
-  offered = λ t l. let h = w.happens t l in
-      taken-offered laws link m (state t) _ (laws.runs link delay (past ts t) (state t) kt.delays h.carried h.run) role;
+  acked = λ t l. let h = w.trace.happens t l in
+      fronts-taken laws w.link m (w.deed t).mid _
+      (laws.hearings w.link w.delay (past w.ts t) (w.state t) t (w.deed t).turn (w.deed t).mid w.keeps.delays h.carried h.run h.carries
+      h.hearing) role;
+  offered = λ t l. let h = w.trace.happens t l in
+      taken-offered laws w.link m (w.state t) _ (laws.runs w.link w.delay (past w.ts t) (w.state t) w.keeps.delays h.carried h.run) role;
   room = λ t l c. rooms role t (omega (arith, l)) c;
   not_first = none role;
   begins = λ t l u c. (begun role t l u c).count;
   count_is = λ t. refl;
-  answered = λ t l c c' h. elim
-      (end-answered tries period delay link ts state deed kt w role t l c c' h) [ inl x ↦ inl x | inr y ↦ inr (segment t y) ];
+  answered = λ t l c c' h. elim (end-answered w role t l c c' h) [ inl x ↦ inl x | inr y ↦ inr (segment t y) ];
 }
   where
-    z : Rates
-    z = rates tries period
+    none : (r : Role) → is_connected (of r (w.state 0)).phase ≡ false
+    none r = ap (λ (a : Account). is_connected a.phase) (starts-fresh w r)
 
-    none : (r : Role) → is_connected (of r (state 0)).phase ≡ false
-    none Originator = ap (λ s. is_connected s.orig.phase) w.starts
-    none Answerer = ap (λ s. is_connected s.answ.phase) w.starts
+    segment : (t : ℕ) → SendsFirst w role t
+        → ns_sent (sent_or (of role (w.deed t).turn).sent) ≡ Some ((of role (w.deed t).mid).outgoing.front % 128)
+    segment t (l, s) = ap (λ x. ns_sent (sent_or x)) ((w.trace.happens t l).speaking role).sent_is ∙ ap ns_sent s.sent
 
-    segment : (t : ℕ) → SendsFirst period delay link ts state deed w role t
-        → ns_sent (sent_or (of role (deed t).turn).sent) ≡ Some ((of role (deed t).mid).outgoing.front % 128)
-    segment t (l, s) = ap (λ x. ns_sent (sent_or x)) ((w.happens t l).speaking role).sent_is ∙ ap ns_sent s.sent
-
-    known-at : (r : Role) (t : ℕ) → t < length ts → Known z link t (state t) r
-    known-at r t l = let h = w.happens t l in
-        subst (λ n. Known z link n (state t) r) h.number (known tries period delay link (past ts t) (state t) kt h.run h.carried r)
-
-    numbers : (r : Role) (t : ℕ) → t < length ts → is_connected (of r (state t)).phase ≡ true
-        → is_connected (of r (state (t + 1))).phase ≡ true
-        → NumberTurn (arrival (of r (deed t).turn).heard) (sent_or (of r (deed t).turn).sent) (of r (state t)) (of r (deed t).mid)
-        (of r (state (t + 1)))
+    numbers : (r : Role) (t : ℕ) → t < length w.ts → is_connected (of r (w.state t)).phase ≡ true
+        → is_connected (of r (w.state (t + 1))).phase ≡ true
+        → NumberTurn ((end_of w r).heard t) ((end_of w r).slot t) (of r (w.state t)) (of r (w.deed t).mid) (of r (w.state (t + 1)))
     numbers r t l ca cc' =
-        let h = w.happens t l in
-        let s = h.speaking r in
-        let k = known-at r t l in
-        let tm = timed tries period delay link kt r in
-        subst (λ x. NumberTurn (arrival (of r (deed t).turn).heard) x (of r (state t)) (of r (deed t).mid) (of r (state (t + 1))))
-        (ap sent_or (sym s.sent_is))
-        (subst (λ x. NumberTurn (arrival (of r (deed t).turn).heard) s.said.sent (of r (state t)) (of r (deed t).mid) x) (sym s.after_is)
-        (number-turn (of r link).user t r (arrival (of r (deed t).turn).heard) (of r (state t)) (of r (deed t).mid)
-        (is_released (deed t).mid.orig.phase) (release_of link t (deed t).mid r) s.said
-        (ap (λ x. x.role) k.setup ∙ tm.role_is) k.none_due (h.hearing r).hears (sym (said-as link t (deed t).mid r) ∙ s.says) ca
-        (ap (λ (x : Account). is_connected x.phase) (sym s.after_is) ∙ cc')))
+        let g = end-turn w r t l in
+        subst (λ x. NumberTurn ((end_of w r).heard t) x (of r (w.state t)) (of r (w.deed t).mid) (of r (w.state (t + 1)))) (sym g.slot)
+        (subst (NumberTurn ((end_of w r).heard t) g.said.sent (of r (w.state t)) (of r (w.deed t).mid)) (sym g.after)
+        (number-turn g.in_turn (release_of w.link t (w.deed t).mid r) g.says
+        (ap (λ (x : Account). is_connected x.phase) (sym g.after) ∙ cc') ca))
 
-    fits-terms : (r : Role) (t : ℕ) → t < length ts → Fits (of r (state t)).terms
+    fits-terms : (r : Role) (t : ℕ) → t < length w.ts → Fits (of r (w.state t)).terms
     fits-terms r t l =
-        let h = w.happens t l in
-        fits-at laws link delay (past ts t) (state t) (record { may_play = m; delays = kt.delays; carried = h.carried; run = h.run }) r
+        let h = w.trace.happens t l in
+        fits-at laws w.link w.delay (past w.ts t) (w.state t)
+        (record { may_play = m; delays = w.keeps.delays; carried = h.carried; run = h.run }) r
 
-    begun : (r : Role) (t : ℕ) → t < length ts → is_linked (of r (state t)).phase ≡ false → is_connected (of r (state (t + 1))).phase ≡ true
-        → Begins (of r (state (t + 1)))
+    begun : (r : Role) (t : ℕ) → t < length w.ts → is_linked (of r (w.state t)).phase ≡ false
+        → is_connected (of r (w.state (t + 1))).phase ≡ true → Begins (of r (w.state (t + 1)))
     begun r t l ua cc' =
-        let h = w.happens t l in
-        let s = h.speaking r in
-        let k = known-at r t l in
-        let tm = timed tries period delay link kt r in
-        let y = rated tries period delay link kt in
-        let a : Account = of r (state t) in
-        let mid : Account = of r (deed t).mid in
-        let arrived : Arrived = arrival (of r (deed t).turn).heard in
-        let is-of : IsOf z a.setup = subst (IsOf z) (sym k.setup) tm.is_of in
-        let heard = heard-ok z (length a.outgoing.pieces) 0 t (z.quota * arrived_rnrs arrived) r a.phase a mid (hear t arrived a)
-        (h.hearing r).hears
-        (hears-well z (length a.outgoing.pieces) 0 t r a.phase arrived a y is-of k.stands refl (ap (λ x. x.role) k.setup ∙ tm.role_is)
-        (omega arith)) in
-        let long = y.period in
-        subst Begins (sym s.after_is)
-        (begins-turn (of r link).user t period r arrived a mid (is_released (deed t).mid.orig.phase)
-        (release_of link t (deed t).mid r) s.said (ap (λ x. x.role) k.setup ∙ tm.role_is) k.none_due
-        (untimed-of z t t r a.phase a k.stands ua) (ap (λ x. x.period) heard.1.setup ∙ is-of.period) (omega (arith, long))
-        (fits-terms r t l) (subst IsAllowed (ap (λ x. x.offer) (sym k.setup)) (allowed link m r))
-        (h.hearing r).hears (sym (said-as link t (deed t).mid r) ∙ s.says) ua
-        (ap (λ (x : Account). is_connected x.phase) (sym s.after_is) ∙ cc'))
+        let g = end-turn w r t l in
+        let i = g.in_turn in
+        subst Begins (sym g.after)
+        (begins-turn i (release_of w.link t (w.deed t).mid r) g.says (ap (λ (x : Account). is_connected x.phase) (sym g.after) ∙ cc')
+        (untimed-of (rates w.tries w.period) t t r (of r (w.state t)).phase (of r (w.state t)) i.stands ua)
+        (fits-terms r t l) (subst IsAllowed (ap (λ x. x.offer) (sym i.setup)) (allowed w.link m r)) ua)
 
-    rooms : (r : Role) (t : ℕ) → t ≤ length ts → is_connected (of r (state t)).phase ≡ true → Room (of r (state t))
+    rooms : (r : Role) (t : ℕ) → t ≤ length w.ts → is_connected (of r (w.state t)).phase ≡ true → Room (of r (w.state t))
     rooms r zero l c = let wrong : true ≡ false = sym c ∙ none r in cc
-    rooms r (suc t) l c =
-        subst (λ n. Room (of r (state n))) (omega arith) (go (is_linked (of r (state t)).phase) refl (λ b. rooms r t (omega (arith, l)) b))
+    rooms r (suc t) l c = subst (λ n. Room (of r (w.state n))) (omega arith) (go (is_linked (of r (w.state t)).phase) refl
+        (λ b. rooms r t (omega (arith, l)) b))
       where
-        now : is_connected (of r (state (t + 1))).phase ≡ true
-        now = subst (λ n. is_connected (of r (state n)).phase ≡ true) (omega arith) c
+        now : is_connected (of r (w.state (t + 1))).phase ≡ true
+        now = subst (λ n. is_connected (of r (w.state n)).phase ≡ true) (omega arith) c
 
-        go : (b : Bool) → is_linked (of r (state t)).phase ≡ b → (is_connected (of r (state t)).phase ≡ true → Room (of r (state t)))
-            → Room (of r (state (t + 1)))
+        go : (b : Bool) → is_linked (of r (w.state t)).phase ≡ b → (is_connected (of r (w.state t)).phase ≡ true → Room (of r (w.state t)))
+            → Room (of r (w.state (t + 1)))
         go false q again = (begun r t (omega (arith, l)) q now).room
         go true q again =
-            let before = (((w.happens t (omega (arith, l))).polls r).timer now q).0 in
+            let before = (((w.trace.happens t (omega (arith, l))).polls r).timer now q).0 in
             (numbers r t (omega (arith, l)) before now).room (again before)

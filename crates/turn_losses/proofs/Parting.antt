@@ -1,31 +1,26 @@
 -- An answerer that gives up, also while the originator releases.
 use Rattle.std.proofs.Common.{◌⊎◌, inl, inr, ◌≡◌, ◌≢◌, ℕ, zero, suc, ◌+◌, ◌-◌, ◌*◌, ◌<◌, ◌≤◌, ◌&&◌, ◌||◌, not, Bool, true, false, cond}
 use Rattle.std.proofs.Common.{nat_eq, max, List, ◌∷◌, length, arith, refl, sym, ◌∙◌, ap, subst, Option, Some, None, Ok, Err}
-use Rattle.link_account.proofs.Names.{slice_get, cases_lt, nat_tests, Role, Originator, Answerer, is_originator, of, Outgoing, ReadsWritten}
-use Rattle.link_account.proofs.Names.{IsAllowed, waits, Sent, Heard, Nothing, Passed, Lost, Chance, Arrived, LinkFault, Spent, Account}
-use Rattle.link_account.proofs.Names.{is_connected, hear, trying, MayPlay, arrives, Said, speak, speak_in, speak_linked, speak_releasing}
-use Rattle.link_account.proofs.Names.{is_some}
-use Rattle.link_run.proofs.Names.{Phase, Detecting, Negotiating, Establishing, Connected, Releasing, Closed, is_busy, is_released}
-use Rattle.link_run.proofs.Names.{is_closed, next_break, Link, Accounts, Spoken, Turn, RunOf, Hears, SpeaksAt, arrival, served_at, said_at}
-use Rattle.link_run.proofs.Names.{releases, spoken, Crosses, Carries, IsCarried, sent_in, RunsOver}
+use Rattle.link_account.proofs.Names.{cases_lt, nat_tests, Role, Originator, Answerer, is_originator, Outgoing, ReadsWritten, waits}
+use Rattle.link_account.proofs.Names.{Arrived, LinkFault, Spent, Account, is_connected, hear, trying, MayPlay, Said, speak, speak_in}
+use Rattle.link_account.proofs.Names.{speak_linked, speak_releasing, is_some, other}
+use Rattle.link_run.proofs.Names.{Phase, Detecting, Negotiating, Establishing, Connected, Releasing, Closed, is_released, is_closed}
+use Rattle.link_run.proofs.Names.{next_break, Link, Accounts, Turn, Hears, arrival, served_at, releases, Carries}
 use Rattle.lapm_sender.specs.Outgoing.{is_whole}
 use Rattle.link_account.specs.Speak.{speak_detecting, speak_negotiating}
 use Rattle.link_run.specs.End.{is_ready}
 use Rattle.link_run.specs.Run.{BrokenTurn, finished_at, served_ends}
-use Rattle.link_run.specs.Carried.{has_message}
 use Rattle.link_run.specs.Starved.{SpanLoses, IsStarved}
-use Rattle.turn_losses.proofs.Truths.{and-two}
+use Rattle.turn_losses.proofs.Truths.{and-two, clash, is-true}
 use Rattle.turn_losses.proofs.Periods.{once, later-loses, loses-at, loses-last, loses-of}
 use Rattle.turn_losses.specs.Losses.{AnswererWantsAnswers}
-use Rattle.turn_losses.proofs.PollHear.{PollHeard, poll-hears, linked-connected}
-use Rattle.turn_losses.proofs.PollSpeak.{poll-speaks}
+use Rattle.turn_losses.proofs.PollHear.{linked-connected}
 use Rattle.turn_losses.proofs.AnswerTurn.{connected-is, linked-sends}
-use Rattle.turn_losses.proofs.Tracing.{Known, known, Timed, timed, rated, Traced, traced, silent-of, past-all}
-use Rattle.turn_losses.proofs.Numbering.{Plays, allowed, fits-at, counts-of}
-use Rattle.turn_losses.proofs.Numbered.{numbered-linked}
-use Rattle.turn_losses.proofs.LineLaw.{is-heard, looked}
+use Rattle.turn_losses.proofs.Tracing.{timed-run, longer}
+use Rattle.turn_losses.proofs.Numbering.{Plays, counts-of}
+use Rattle.turn_losses.proofs.LineLaw.{is-heard, last-heard}
 use Rattle.turn_losses.proofs.PollLaws.{two-ends, turned, due-apart}
-use Rattle.turn_losses.proofs.PeriodLaws.{linked-on, connected-back, answer-comes, NoneLost, StayConnected}
+use Rattle.turn_losses.proofs.PeriodLaws.{linked-on, answer-comes, NoneLost, StayConnected, connected-since}
 use Rattle.turn_losses.proofs.PeriodHolds.{LostIn, lost-or-none, period-cleared}
 use Rattle.turn_losses.proofs.Expiries.{Uncleared, expiries}
 use Rattle.turn_losses.proofs.HeardCount.{CountKept, count-hears}
@@ -34,15 +29,14 @@ use Rattle.turn_losses.proofs.Awaiting.{await-hears}
 use Rattle.std.specs.Prelude.{nat_lt}
 use Rattle.turn_losses.proofs.Acknowledged.{Counts}
 use Rattle.turn_losses.proofs.Wanting.{LastTry, last-try}
-use Rattle.turn_losses.proofs.Room.{begins-roomy}
 use Rattle.turn_losses.specs.Tries.{AnswererWantsAnswer}
 use Rattle.turn_losses.proofs.Moving.{asks, try-heard, linked-phase}
-use Rattle.turn_losses.proofs.Setups.{start-setup, heard-as}
 use Rattle.turn_losses.proofs.TryAnswering.{can_answer, answer-due}
 use Rattle.turn_losses.proofs.Trying.{TryTurn, TriesSo, Tried, tried, tries-so}
-use Rattle.turn_losses.proofs.Names.{KeepsTime, Rates, rates, Sends, IsOf, Stands, arrived_rnrs, HeardAs, of_frame, of_arrived, Served}
-use Rattle.turn_losses.proofs.Names.{serves-all, serves-well, arrives-flag, is_lost, is_poll, PeriodLoses, LosesEach, is_linked, Deed}
-use Rattle.turn_losses.proofs.Names.{Happens, Trace, past, sent_or, EndRun, TwoEnds, end_run, hears_final}
+use Rattle.turn_losses.proofs.Names.{Rates, rates, Sends, Stands, of_arrived, is_lost, PeriodLoses, LosesEach, is_linked, EndRun, TwoEnds}
+use Rattle.turn_losses.proofs.Names.{hears_final, TimedRun, end_of}
+use Rattle.turn_losses.proofs.EndTurn.{EndTurn, TurnAt, end-turn, last-turn, starts-fresh}
+use Rattle.turn_losses.proofs.Answerer.{peer-linked}
 use Rattle.lapm_frames.specs.declared.sent.Sent.TheVariants as slots
 use Rattle.lapm_frames.specs.declared.arrived.Arrived.TheVariants as arrivals
 
@@ -51,13 +45,13 @@ IsFree a = (a.outgoing.awaited ≡ false) × (a.outgoing.paused ≡ false)
 
 -- A period in which the peer is told to release, but so late that its DISC comes after it. Where no line is lost in it, the answer to its
 -- poll came before; so, with nothing outstanding, the clock stops in that turn, unless it was paused since, which made the retry count 0.
-pub parted-stops : (period turns : ℕ) (e o : EndRun) → TwoEnds period turns e o → Counts turns e o → (s v : ℕ) → s + period ≤ turns
+pub parted-stops : {period turns : ℕ} {e o : EndRun} → TwoEnds period turns e o → Counts turns e o → (s v : ℕ) → s + period ≤ turns
     → v < s + period → s + period < v + o.delay → Uncleared period e s → StayConnected o s v
     → (e.mid v).outgoing.awaited ≡ cond (hears_final e v) false (e.account v).outgoing.awaited
     → ((e.mid v).outgoing.awaited ≡ false → (e.mid v).outgoing.paused ≡ false → (e.mid v).wait.timer ≡ None)
     → CountKept (e.account v) (e.mid v) → NoneLost e o (s + 1) (period - 1) → ⊥
-parted-stops period turns e o k c s v within before late un co waits stops kept lost =
-    go (answer-comes period turns e o k s (omega (arith, k.period_is, within)) un.made (λ t l h. un.on t l (omega (arith, h, k.period_is)))
+parted-stops {period} {turns} {e} {o} k c s v within before late un co waits stops kept lost =
+    go (answer-comes k s (omega (arith, k.period_is, within)) un.made (λ t l h. un.on t l (omega (arith, h, k.period_is)))
     (λ t l h. co t l (omega (arith, h, k.period_is, late))) (λ t l h. lost t l (omega (arith, h, k.period_is))))
   where
     counts : (t : ℕ) → s < t → t < s + period → (e.mid t).outgoing.count ≡ 0 → ⊥
@@ -82,8 +76,7 @@ parted-stops period turns e o k c s v within before late un co waits stops kept 
 
     unmade : (t : ℕ) → s < t → t < s + period → (x : Bool) → e.made t ≡ x → e.made t ≡ false
     unmade t a b false f = f
-    unmade t a b true f = let far = due-apart period turns e o k s t a (omega (arith, b, within)) un.made f in absurd
-        (omega (arith, far, b))
+    unmade t a b true f = let far = due-apart k s t a (omega (arith, b, within)) un.made f in absurd (omega (arith, far, b))
 
     falls : (m f a : Bool) → m ≡ false → (a ≡ false) ⊎ (f ≡ true) → m || cond f false a ≡ false
     falls true f a q r = cc
@@ -122,7 +115,7 @@ parted-stops period turns e o k c s v within before late un co waits stops kept 
               let wrong : None ≡ Some s = sym stopped ∙ (q.1 ∙ un.timer v (omega (arith, late, k.period_is)) (omega (arith, before))) in cc)
         ]
 
--- In the turn in which the originator is told to release, the answerer's file is wholly acknowledged and none of its breaks waits.
+-- In the turn in which the originator is told to release, the answerer's file is wholly acknowledged breaks waits.
 pub record Released (link : Link) (t : ℕ) (mid : Accounts) : Type 0 where
   pub done : is_whole (served_at link t mid Answerer).account.outgoing ≡ true
   pub breaks : waits (served_at link t mid Answerer).account.own_breaks ≡ false
@@ -166,16 +159,15 @@ told-says turn release b said e h n = go release (is_originator b.setup.role) (s
     go false y q = let wrong : true ≡ false = sym (ap is_connected (linked-phase turn b said q ∙ e)) ∙ n in cc
 
 -- The turn in which the originator is told to release: it releases from then on.
-pub record ToldIn (link : Link) (deed : ℕ → Deed) (o : EndRun) (t : ℕ) : Type 0 where
+pub record ToldIn (w : TimedRun) (o : EndRun) (t : ℕ) : Type 0 where
   pub turn : ℕ
   pub before : turn < t
   pub was : is_linked (o.account turn).phase ≡ true → is_connected (o.account turn).phase ≡ true
   pub since : (u : ℕ) → turn < u → u ≤ t → (o.account u).phase ≡ Releasing
-  pub told : Released link turn (deed turn).mid
+  pub told : Released w.link turn (w.deed turn).mid
 
-longer-told : (link : Link) (deed : ℕ → Deed) (o : EndRun) (u : ℕ) → ToldIn link deed o u → (o.account (u + 1)).phase ≡ Releasing
-    → ToldIn link deed o (u + 1)
-longer-told link deed o u a now = let b = a.before in record {
+longer-told : (w : TimedRun) (o : EndRun) (u : ℕ) → ToldIn w o u → (o.account (u + 1)).phase ≡ Releasing → ToldIn w o (u + 1)
+longer-told w o u a now = let b = a.before in record {
   turn = a.turn;
   before = omega (arith, b);
   was = a.was;
@@ -186,50 +178,21 @@ longer-told link deed o u a now = let b = a.before in record {
 whole-is : (o : Outgoing) → is_whole o ≡ true → o.front ≡ length o.pieces
 whole-is o e = let x = (and-two o.ended (nat_eq o.front (length o.pieces)) e).1 in grind (arith, nat_tests, x)
 
--- what passes of a slot
-pub passes-as : (m : Option Spoken) (said : Said) (heard : Heard) → m ≡ Some (spoken said) → Crosses m heard → is_lost heard ≡ false
-    → arrival heard ≡ arrives said.sent
-passes-as None said heard e c l = cc
-passes-as (Some slot) said Nothing e c l = let same : slot ≡ spoken said = cc in sym (silent-arrives slot.sent c)
-    ∙ ap (λ (x : Spoken). arrives x.sent) same
-  where
-    silent-arrives : (s : Sent) → has_message s ≡ false → arrives s ≡ arrivals.Nothing
-    silent-arrives slots.Mark f = refl
-    silent-arrives slots.Flags f = refl
-    silent-arrives slots.Odp f = cc
-    silent-arrives slots.Adp f = cc
-    silent-arrives (slots.Frame frame) f = cc
-passes-as (Some slot) said (Passed s) e c l = let same : slot ≡ spoken said = cc in ap arrives c.0
-    ∙ ap (λ (x : Spoken). arrives x.sent) same
-passes-as (Some slot) said (Lost s) e c l = cc
-passes-as (Some slot) said Chance e c l = absurd c
-
 pub connected-or : (p : Phase) → is_linked p ≡ true → is_connected p ≡ false → (p ≡ Releasing) ⊎ (p ≡ Closed)
 connected-or Releasing l c = inl refl
 connected-or Closed l c = inr refl
 connected-or p l c = cc
 
--- what an end's setup says its role is
-pub setup-role : (tries period : ℕ) (delay : Role → ℕ) (link : Link) (us : List Turn) (y : Accounts) → KeepsTime tries period delay link
-    → RunOf link us y → IsCarried delay us → (r : Role) → (of r y).setup.role ≡ r
-setup-role tries period delay link us y kt run c r = ap (λ s. s.role) (start-setup tries period delay link us y kt run c r) ∙ kt.roles r
-
-not-releasing : (tries period : ℕ) (delay : Role → ℕ) (link : Link) (ts : List Turn) (state : ℕ → Accounts) (deed : ℕ → Deed)
-    → KeepsTime tries period delay link → Trace period delay link ts state deed → (state 0).orig.phase ≡ Releasing → ⊥
-not-releasing tries period delay link ts state deed kt w q = let there : Detecting ≡ Releasing = ap (λ (y : Accounts). y.orig.phase)
-    (sym w.starts) ∙ q in cc
-
 -- when it was told
-pub told-at : ReadsWritten → (tries period : ℕ) (delay : Role → ℕ) (link : Link) (ts : List Turn) (state : ℕ → Accounts) (deed : ℕ → Deed)
-    → KeepsTime tries period delay link → MayPlay link.orig.setup link.answ.setup → Trace period delay link ts state deed
-    → (u : ℕ) → u ≤ length ts → (state u).orig.phase ≡ Releasing → ToldIn link deed (end_run delay state deed Originator) u
-told-at reads tries period delay link ts state deed kt m w zero y q = absurd (not-releasing tries period delay link ts state deed kt w q)
-told-at reads tries period delay link ts state deed kt m w (suc u) y q = subst (ToldIn link deed (end_run delay state deed Originator))
-    (next u) (go (tries-so reads tries period delay link ts state deed kt m w Releasing refl u (omega (arith, y)) now)
-    (λ f. told-at reads tries period delay link ts state deed kt m w u (omega (arith, y)) f))
+pub told-at : ReadsWritten → (w : TimedRun) → MayPlay w.link.orig.setup w.link.answ.setup → (u : ℕ) → u ≤ length w.ts
+    → (w.state u).orig.phase ≡ Releasing → ToldIn w (end_of w Originator) u
+told-at reads w m zero y q =
+    let wrong : Releasing ≡ Detecting = sym q ∙ ap (λ (a : Account). a.phase) (starts-fresh w Originator) in cc
+told-at reads w m (suc u) y q = subst (ToldIn w (end_of w Originator)) (next u)
+    (go (tries-so reads w m Releasing refl u (omega (arith, y)) now) (λ f. told-at reads w m u (omega (arith, y)) f))
   where
     o : EndRun
-    o = end_run delay state deed Originator
+    o = end_of w Originator
 
     next : (m : ℕ) → m + 1 ≡ suc m
     next m = omega arith
@@ -237,119 +200,62 @@ told-at reads tries period delay link ts state deed kt m w (suc u) y q = subst (
     now : (o.account (u + 1)).phase ≡ Releasing
     now = ap (λ m. (o.account m).phase) (next u) ∙ q
 
-    h : Happens period delay link (past ts u) u (state u) (deed u) (state (u + 1))
-    h = w.happens u (omega (arith, y))
+    g : EndTurn w Originator u
+    g = end-turn w Originator u (omega (arith, y))
 
-    s : SpeaksAt (said_at link u (deed u).mid Originator) (deed u).turn.orig (state (u + 1)).orig
-    s = h.speaking Originator
+    i : TurnAt w Originator u
+    i = g.in_turn
 
-    b : Account
-    b = (served_at link u (deed u).mid Originator).account
-
-    b-is : b.phase ≡ (deed u).mid.orig.phase
-    b-is = (serves-all link.orig.user u (is_released (deed u).mid.orig.phase) (deed u).mid.orig).phase
-
-    role : (state u).orig.setup.role ≡ Originator
-    role = setup-role tries period delay link (past ts u) (state u) kt h.run h.carried Originator
-
-    polled : PollHeard Originator u (of_arrived is_poll (arrival (deed u).turn.orig.heard)) (state u).orig (deed u).mid.orig
-    polled = poll-hears Originator (arrival (deed u).turn.orig.heard) u (state u).orig role
-        (known tries period delay link (past ts u) (state u) kt h.run h.carried Originator).none_due.answer (deed u).mid.orig
-        (h.hearing Originator).hears
-
-    linked-b : is_linked b.phase ≡ true
-    linked-b = sym (poll-speaks u (releases link u (deed u).mid) b s.said s.says).linked
-        ∙ (ap (λ (a : Account). is_linked a.phase) (sym s.after_is) ∙ ap is_linked now)
-
-    go : TryTurn period u Releasing (o.heard u) (o.slot u) (o.account u) (o.account (u + 1))
-        → ((o.account u).phase ≡ Releasing → ToldIn link deed o u) → ToldIn link deed o (u + 1)
-    go (inr (inl ((g, _), _, _, _, _))) again = longer-told link deed o u (again g) now
-    go (inr (inr ((g, _), _, _, _))) again = longer-told link deed o u (again g) now
+    go : TryTurn w.period u Releasing (o.heard u) (o.slot u) (o.account u) (o.account (u + 1))
+        → ((o.account u).phase ≡ Releasing → ToldIn w o u) → ToldIn w o (u + 1)
+    go (inr (inl ((g, _), _, _, _, _))) again = longer-told w o u (again g) now
+    go (inr (inr ((g, _), _, _, _))) again = longer-told w o u (again g) now
     go (inl (anew, set, count, sends)) again = record {
       turn = u;
       before = omega arith;
       was = was;
       since = λ m lo hi. ap (λ j. (o.account j).phase) (omega (arith, lo, hi)) ∙ now;
-      told = told-release link u (deed u).mid told;
+      told = told-release w.link u (w.deed u).mid told;
     }
       where
-        connected-b : b.phase ≡ Connected
-        connected-b = by (is_connected b.phase) refl
+        connected-mid : is_connected (o.mid u).phase ≡ true
+        connected-mid = is-true (is_connected (o.mid u).phase)
+            (λ f. either (connected-or (o.mid u).phase (sym g.linked ∙ ap is_linked now) f))
           where
-            trying-so : (deed u).mid.orig.phase ≡ Releasing → ⊥
-            trying-so g = elim (try-heard (arrival (deed u).turn.orig.heard) u (state u).orig (deed u).mid.orig role
-                (h.hearing Originator).hears Releasing refl g) [
-                  | inl m ↦ anew m.0
-                  | inr z ↦ z.1 refl
-                ]
+            either : ((o.mid u).phase ≡ Releasing) ⊎ ((o.mid u).phase ≡ Closed) → ⊥
+            either (inl f) = elim (try-heard (o.heard u) u (o.account u) (o.mid u) i.role_is i.hears Releasing refl f) [
+              | inl m ↦ anew m.0
+              | inr z ↦ z.1 refl
+            ]
+            either (inr f) = clash (is_closed (o.mid u).phase) (ap is_closed f) (w.trace.happens u (omega (arith, y))).going
 
-            either : (b.phase ≡ Releasing) ⊎ (b.phase ≡ Closed) → ⊥
-            either (inl g) = trying-so (sym b-is ∙ g)
-            either (inr g) = let wrong : true ≡ false = ap is_closed (sym (sym b-is ∙ g)) ∙ h.going in cc
-
-            by : (x : Bool) → is_connected b.phase ≡ x → b.phase ≡ Connected
-            by true f = connected-is b.phase f
-            by false f = absurd (either (connected-or b.phase linked-b f))
-
-        told : releases link u (deed u).mid ≡ true
-        told = told-says u (releases link u (deed u).mid) b s.said connected-b s.says
-            (ap (λ (a : Account). is_connected a.phase) (sym s.after_is) ∙ ap is_connected now)
+        told : releases w.link u (w.deed u).mid ≡ true
+        told = told-says u (releases w.link u (w.deed u).mid) (o.served u) g.said
+            (i.served.phase ∙ connected-is (o.mid u).phase connected-mid) g.says
+            (ap (λ (a : Account). is_connected a.phase) (sym g.after) ∙ ap is_connected now)
 
         was : is_linked (o.account u).phase ≡ true → is_connected (o.account u).phase ≡ true
-        was f = elim (polled.from (ap is_connected (sym b-is ∙ connected-b))) [
-          | inl m ↦ m
-          | inr m ↦ (let wrong : true ≡ false = sym f ∙ m in cc)
-        ]
-
--- what is known of the answerer's segments then
-abbrev HeardIn : (tries period : ℕ) (delay : Role → ℕ) (ts : List Turn) (state : ℕ → Accounts) (deed : ℕ → Deed) → ℕ → Type 0
-HeardIn tries period delay ts state deed u = (q : Phase) × HeardAs (rates tries period) (length (state u).answ.outgoing.pieces) 0
-    (length (past ts u)) ((rates tries period).quota * arrived_rnrs (arrival (deed u).turn.answ.heard)) Answerer (state u).answ.phase
-    (state u).answ q (deed u).mid.answ
-
-heard-at : (tries period : ℕ) (delay : Role → ℕ) (link : Link) (ts : List Turn) (state : ℕ → Accounts) (deed : ℕ → Deed)
-    → KeepsTime tries period delay link → Trace period delay link ts state deed → (u : ℕ) → u < length ts
-    → HeardIn tries period delay ts state deed u
-heard-at tries period delay link ts state deed kt w u b =
-    let h = w.happens u b in
-    heard-as tries period delay link (past ts u) (state u) kt h.run h.carried Answerer (arrival (deed u).turn.answ.heard) (deed u).mid.answ
-    (ap (λ m. hear m (arrival (deed u).turn.answ.heard) (state u).answ) h.number ∙ (h.hearing Answerer).hears)
-
-pub mid-connected : (tries period : ℕ) (delay : Role → ℕ) (link : Link) (ts : List Turn) (state : ℕ → Accounts) (deed : ℕ → Deed)
-    → KeepsTime tries period delay link → Trace period delay link ts state deed → (u : ℕ) → u < length ts
-    → is_connected (state (u + 1)).answ.phase ≡ true → is_connected (deed u).mid.answ.phase ≡ true
-mid-connected tries period delay link ts state deed kt w u b g =
-    let h = w.happens u b in
-    let s = h.speaking Answerer in
-    let a : Account = (served_at link u (deed u).mid Answerer).account in
-    ap is_connected (sym (serves-all link.answ.user u (is_released (deed u).mid.orig.phase) (deed u).mid.answ).phase)
-    ∙ ((poll-speaks u false a s.said s.says).connected
-    (ap (λ (y : Account). is_connected y.phase) (sym s.after_is) ∙ g)).0
+        was f = elim (i.polls.from connected-mid) [ inl m ↦ m | inr m ↦ clash (is_linked (o.account u).phase) f m ]
 
 -- where the answerer is told in a turn that it is whole, its clock runs for a poll or a pause alone
-whole-stops : (tries period : ℕ) (delay : Role → ℕ) (link : Link) (ts : List Turn) (state : ℕ → Accounts) (deed : ℕ → Deed)
-    → KeepsTime tries period delay link → Trace period delay link ts state deed → (v : ℕ) → v < length ts → Released link v (deed v).mid
-    → (deed v).mid.answ.outgoing.awaited ≡ false → (deed v).mid.answ.outgoing.paused ≡ false → (deed v).mid.answ.wait.timer ≡ None
-whole-stops tries period delay link ts state deed kt w v b told f g = none m.wait.timer
-    (sends.cause ∙ still (nat_lt m.outgoing.front m.outgoing.high) idle)
+whole-stops : (w : TimedRun) → (v : ℕ) → v < length w.ts → Released w.link v (w.deed v).mid → (w.deed v).mid.answ.outgoing.awaited ≡ false
+    → (w.deed v).mid.answ.outgoing.paused ≡ false → (w.deed v).mid.answ.wait.timer ≡ None
+whole-stops w v b told f g = none m.wait.timer (sends.cause ∙ still (nat_lt m.outgoing.front m.outgoing.high) idle)
   where
     m : Account
-    m = (deed v).mid.answ
+    m = (w.deed v).mid.answ
 
-    hd : HeardIn tries period delay ts state deed v
-    hd = heard-at tries period delay link ts state deed kt w v b
+    i : TurnAt w Answerer v
+    i = (end-turn w Answerer v b).in_turn
 
-    s : Served v (length link.answ.user.breaks) (is_busy v link.answ.user.busy) m (served_at link v (deed v).mid Answerer).account
-    s = serves-all link.answ.user v (is_released (deed v).mid.orig.phase) m
-
-    sends : Sends (rates tries period) (length (past ts v) + 1) (length (past ts v)) m.outgoing m.wait.timer
-    sends = linked-sends (rates tries period) (length (past ts v) + 1) (length (past ts v)) Answerer hd.0 m hd.1.stands
-        (ap is_connected (sym hd.1.phase) ∙ (ap is_connected (sym s.phase) ∙ told.connected))
+    sends : Sends (rates w.tries w.period) (v + 1) v m.outgoing m.wait.timer
+    sends = linked-sends (rates w.tries w.period) (v + 1) v Answerer i.phase m i.heard.stands
+        (ap is_connected (sym i.heard.phase) ∙ (ap is_connected (sym i.served.phase) ∙ told.connected))
 
     idle : nat_lt m.outgoing.front m.outgoing.high ≡ false
     idle =
-        let all = whole-is (served_at link v (deed v).mid Answerer).account.outgoing told.done in
-        let front = ap (λ o. o.front) s.longer.outgoing in let longer = s.longer.longer in let high = sends.high_pieces in
+        let all = whole-is (served_at w.link v (w.deed v).mid Answerer).account.outgoing told.done in
+        let front = ap (λ o. o.front) i.served.longer.outgoing in let longer = i.served.longer.longer in let high = sends.high_pieces in
         let done : m.outgoing.high ≤ m.outgoing.front = omega (arith, all, front, longer, high) in grind (arith, nat_tests, done)
 
     still : (x : Bool) → x ≡ false → x || (m.outgoing.awaited || m.outgoing.paused) ≡ false
@@ -365,150 +271,87 @@ disc-heard : (arrived : Arrived) (turn : ℕ) (a mid : Account) → a.setup.role
 disc-heard arrived turn a mid r c k h = ap is_connected
     (answer-due Releasing arrived turn a mid r (ap (λ p. can_answer Releasing p a.numbered) (connected-is a.phase c)) k h).0
 
-disc-closes : (tries period : ℕ) (delay : Role → ℕ) (link : Link) (ts : List Turn) (state : ℕ → Accounts) (deed : ℕ → Deed)
-    → KeepsTime tries period delay link → Trace period delay link ts state deed → (u : ℕ) → u < length ts
-    → is_connected (state u).answ.phase ≡ true → is_connected (state (u + 1)).answ.phase ≡ true
-    → of_arrived (asks Releasing) (arrival (deed u).turn.answ.heard) ≡ true → ⊥
-disc-closes tries period delay link ts state deed kt w u b f g k =
-    let h = w.happens u b in
-    let role = setup-role tries period delay link (past ts u) (state u) kt h.run h.carried Answerer in
-    let closed = disc-heard (arrival (deed u).turn.answ.heard) u (state u).answ (deed u).mid.answ role f k (h.hearing Answerer).hears in
-    let wrong : true ≡ false = sym (mid-connected tries period delay link ts state deed kt w u b g) ∙ closed in cc
-
--- A DISC that comes in the last turn of a run, where the answerer is still Connected once it has heard, is lost.
-last-disc : (tries period : ℕ) (delay : Role → ℕ) (link : Link) (ts : List Turn) (state : ℕ → Accounts) (deed : ℕ → Deed)
-    → KeepsTime tries period delay link → Trace period delay link ts state deed → (t : Turn) → Carries delay ts t → (before mid : Account)
-    → before.setup.role ≡ Answerer → is_connected before.phase ≡ true → hear (length ts) (arrival t.answ.heard) before ≡ Ok mid
-    → is_connected mid.phase ≡ true → (s : ℕ) → s + delay Originator ≡ length ts
-    → of_frame (asks Releasing) (sent_or (deed s).turn.orig.sent) ≡ true → is_lost t.answ.heard ≡ true
-last-disc tries period delay link ts state deed kt w t cs before mid r c h cm s same sends = by (is_lost t.answ.heard) refl
-  where
-    d : 1 ≤ delay Originator
-    d = kt.delays Originator
-
-    within : s < length ts
-    within = omega (arith, same, d)
-
-    s' : SpeaksAt (said_at link s (deed s).mid Originator) (deed s).turn.orig (state (s + 1)).orig
-    s' = (w.happens s within).speaking Originator
-
-    on-line : sent_in Originator (slice_get ts (delay Originator - 1)) ≡ (deed s).turn.orig.sent
-    on-line = ap (sent_in Originator) (ap (λ us. slice_get us (delay Originator - 1)) (sym (past-all ts))
-        ∙ (ap (λ m. slice_get (past ts m) (delay Originator - 1)) (omega (arith, same, d))
-        ∙ looked period delay link ts state deed w (delay Originator - 1) s (omega (arith, same, d))))
-
-    by : (x : Bool) → is_lost t.answ.heard ≡ x → is_lost t.answ.heard ≡ true
-    by true f = f
-    by false f =
-        let heard : arrival t.answ.heard ≡ arrives (sent_or (deed s).turn.orig.sent) = passes-as
-        (sent_in Originator (slice_get ts (delay Originator - 1))) s'.said t.answ.heard (on-line ∙ s'.sent_is) (cs Answerer) f
-        ∙ ap (λ j. arrives (sent_or j)) (sym s'.sent_is) in
-        let hears : of_arrived (asks Releasing) (arrival t.answ.heard) ≡ true = ap (of_arrived (asks Releasing)) heard
-        ∙ (arrives-flag (asks Releasing) (sent_or (deed s).turn.orig.sent) ∙ sends) in
-        let wrong : true ≡ false = sym cm ∙ disc-heard (arrival t.answ.heard) (length ts) before mid r c hears h in cc
+disc-closes : (w : TimedRun) → (u : ℕ) → u < length w.ts → is_connected (w.state u).answ.phase ≡ true
+    → is_connected (w.state (u + 1)).answ.phase ≡ true → of_arrived (asks Releasing) (arrival (w.deed u).turn.answ.heard) ≡ true → ⊥
+disc-closes w u b f g k =
+    let s = end-turn w Answerer u b in
+    clash (is_connected (w.deed u).mid.answ.phase) (s.connected g) (disc-heard (arrival (w.deed u).turn.answ.heard) u (w.state u).answ
+    (w.deed u).mid.answ s.in_turn.role_is f k s.in_turn.hears)
 
 -- A run in which an answerer gives up that waits for no break's answer, while the originator releases.
-pub parted-each : Plays → ReadsWritten → (tries period : ℕ) (delay : Role → ℕ) (link : Link) (ts : List Turn) (before : Accounts) (t : Turn)
-    (mid : Accounts) → KeepsTime tries period delay link → RunsOver link delay ts before → Carries delay ts t
-    → Hears (length ts) before t mid → is_connected mid.answ.phase ≡ true → mid.orig.phase ≡ Releasing
-    → LastTry tries period (length ts) before.answ → LosesEach period tries (length ts) (t ∷ ts)
-parted-each laws reads tries period delay link ts before t mid kt run cs hearing cm om last n less = at-expiry
-    (expiries period turns e o k c tries l.set l.connected l.count l.runs l.now n less)
+pub parted-each : Plays → ReadsWritten → (w : TimedRun) → MayPlay w.link.orig.setup w.link.answ.setup → (t : Turn) (mid : Accounts)
+    → Carries w.delay w.ts t → Hears (length w.ts) w.ends t mid → is_connected mid.answ.phase ≡ true → mid.orig.phase ≡ Releasing
+    → LastTry w.tries w.period (length w.ts) w.ends.answ → LosesEach w.period w.tries (length w.ts) (t ∷ w.ts)
+parted-each laws reads w may t mid cs hearing cm om last n less = at-expiry
+    (expiries k c w.tries l.set l.connected l.count l.runs l.now n less)
   where
     turns : ℕ
-    turns = length ts
+    turns = length w.ts
 
     z : Rates
-    z = rates tries period
-
-    w : Traced period delay link ts before
-    w = traced tries period delay link ts before kt run.run run.carried
+    z = rates w.tries w.period
 
     e : EndRun
-    e = end_run delay w.state w.deed Answerer
+    e = end_of w Answerer
 
     o : EndRun
-    o = end_run delay w.state w.deed Originator
+    o = end_of w Originator
 
-    k : TwoEnds period turns e o
-    k = two-ends tries period delay link ts w.state w.deed kt w.trace Answerer
+    k : TwoEnds w.period turns e o
+    k = two-ends w Answerer
 
-    k' : TwoEnds period turns o e
-    k' = turned period turns e o k
+    k' : TwoEnds w.period turns o e
+    k' = turned k
 
     c : Counts turns e o
-    c = counts-of laws tries period delay link ts w.state w.deed kt run.may_play w.trace Answerer
+    c = counts-of laws w may Answerer
 
-    p : period ≡ 2 * (e.delay + o.delay) + 16
+    p : w.period ≡ 2 * (e.delay + o.delay) + 16
     p = k.period_is
-
-    d : 1 ≤ e.delay
-    d = k.own_delay
 
     d' : 1 ≤ o.delay
     d' = k.other_delay
 
-    long : 1 ≤ period
+    long : 1 ≤ w.period
     long = omega (arith, p)
 
-    l : LastTry tries period turns (w.state turns).answ
-    l = subst (λ (y : Accounts). LastTry tries period turns y.answ) (sym w.last) last
+    l : LastTry w.tries w.period turns (w.state turns).answ
+    l = subst (λ (y : Accounts). LastTry w.tries w.period turns y.answ) (sym w.last) last
 
     -- from a turn on in which the end is Connected it stays so
     on-from : (s : ℕ) → is_connected (e.account s).phase ≡ true → StayConnected e s turns
-    on-from s h u lo hi = connected-back period turns e o k u turns hi (omega arith)
-        (linked-on period turns e o k s u lo hi (linked-connected (e.account s).phase h)) l.connected
+    on-from s h = connected-since k s turns (omega arith) (linked-connected (e.account s).phase h) l.connected
 
     -- the originator releases as the last turn begins
-    releasing : before.orig.phase ≡ Releasing
-    releasing = elim (try-heard (arrival t.orig.heard) turns before.orig mid.orig
-        (setup-role tries period delay link ts before kt run.run run.carried Originator) (hearing Originator).hears Releasing refl om) [
-          | inl y ↦ y.0
-          | inr z ↦ absurd (z.1 refl)
-        ]
-
     releasing-last : (o.account turns).phase ≡ Releasing
-    releasing-last = ap (λ (y : Accounts). y.orig.phase) w.last ∙ releasing
+    releasing-last = ap (λ (y : Accounts). y.orig.phase) w.last
+        ∙ elim (try-heard (arrival t.orig.heard) turns w.ends.orig mid.orig (last-turn w t mid hearing Originator).role_is
+        (hearing Originator).hears Releasing refl om) [ inl y ↦ y.0 | inr z ↦ absurd (z.1 refl) ]
 
-    tries-on : TriesSo period turns Releasing o
-    tries-on = tries-so reads tries period delay link ts w.state w.deed kt run.may_play w.trace Releasing refl
+    tries-on : TriesSo w.period turns Releasing o
+    tries-on = tries-so reads w may Releasing refl
 
     not-first : (o.account 0).phase ≡ Releasing → ⊥
-    not-first q = let there : Detecting ≡ Releasing = ap (λ (y : Accounts). y.orig.phase) (sym w.trace.starts) ∙ q in cc
+    not-first q = let wrong : Releasing ≡ Detecting = sym q ∙ ap (λ (a : Account). a.phase) (starts-fresh w Originator) in cc
 
-    try-at : (u : ℕ) → u ≤ turns → (o.account u).phase ≡ Releasing → Tried period Releasing o u
-    try-at = tried period turns Releasing o long tries-on not-first
+    try-at : (u : ℕ) → u ≤ turns → (o.account u).phase ≡ Releasing → Tried w.period Releasing o u
+    try-at = tried w.period turns Releasing o long tries-on not-first
 
-    v : ToldIn link w.deed o turns
-    v = told-at reads tries period delay link ts w.state w.deed kt run.may_play w.trace turns (omega arith) releasing-last
-
-    -- its clock runs once it heard a number, so its peer is Connected or was
-    counted : (b : Bool) (y : Accounts) (us : List Turn) → Known z link (length us) y Answerer → is_connected y.answ.phase ≡ true → (s : ℕ)
-        → y.answ.wait.timer ≡ Some s → y.answ.numbered ≡ b → y.answ.numbered ≡ true
-    counted true y us h f s q m = m
-    counted false y us h f s q m = let wrong : None ≡ Some s = sym
-        (silent-of z (length us) (length us) Answerer y.answ.phase y.answ h.stands refl f m) ∙ q in cc
-
-    peer-linked : (s : ℕ) → s < turns → e.made s ≡ true → is_connected (e.account s).phase ≡ true → is_linked (o.account s).phase ≡ true
-    peer-linked s b made f =
-        let h = w.trace.happens s b in
-        let from = (h.polls Answerer).made_from made (linked-connected (w.state s).answ.phase f) in
-        let m = counted (w.state s).answ.numbered (w.state s) (past ts s)
-        (known tries period delay link (past ts s) (w.state s) kt h.run h.carried Answerer) f from.1 from.2 refl in
-        numbered-linked tries period delay link ts w.state w.deed kt w.trace Answerer s (omega (arith, b)) m
+    v : ToldIn w o turns
+    v = told-at reads w may turns (omega arith) releasing-last
 
     -- its DISC was lost: in a turn of the run, or in the last one
-    disc-lost : (s : ℕ) → s + (n + 1) * period ≡ turns → s + period ≤ turns → is_connected (e.account s).phase ≡ true
-        → v.turn + o.delay ≤ s + period → PeriodLoses period turns (t ∷ ts) n
+    disc-lost : (s : ℕ) → s + (n + 1) * w.period ≡ turns → s + w.period ≤ turns → is_connected (e.account s).phase ≡ true
+        → v.turn + o.delay ≤ s + w.period → PeriodLoses w.period turns (t ∷ w.ts) n
     disc-lost s q within cs' soon = arrives-at (cases_lt (i.set + o.delay) turns)
       where
         ce-late : (u : ℕ) → s < u → u ≤ turns → is_connected (e.account u).phase ≡ true
         ce-late u lo hi = on-from s cs' u (omega (arith, lo)) hi
 
         y : ℕ
-        y = s + period - o.delay
+        y = s + w.period - o.delay
 
-        i : Tried period Releasing o (y + 1)
+        i : Tried w.period Releasing o (y + 1)
         i = try-at (y + 1) (omega (arith, within, p, d', soon)) (v.since (y + 1) (omega (arith, soon, p)) (omega (arith, within, p, d')))
 
         early : i.set ≤ y
@@ -517,69 +360,57 @@ parted-each laws reads tries period delay link ts before t mid kt run cs hearing
         late : s < i.set + o.delay
         late = let b = i.within in omega (arith, b, p)
 
-        in-time : i.set + o.delay ≤ s + period
+        in-time : i.set + o.delay ≤ s + w.period
         in-time = omega (arith, early, p)
 
-        arrives-at : (i.set + o.delay < turns) ⊎ (turns ≤ i.set + o.delay) → PeriodLoses period turns (t ∷ ts) n
-        arrives-at (inl b) = loses-at period delay link ts w.state w.deed w.trace t s n q (i.set + o.delay) late in-time b Answerer
-            (lost-there (is_lost (w.deed (i.set + o.delay)).turn.answ.heard) refl)
+        arrives-at : (i.set + o.delay < turns) ⊎ (turns ≤ i.set + o.delay) → PeriodLoses w.period turns (t ∷ w.ts) n
+        arrives-at (inl b) = loses-at w t s n q (i.set + o.delay) late in-time b Answerer
+            (is-true (e.loses (i.set + o.delay)) (λ f. disc-closes w (i.set + o.delay) b (ce-late (i.set + o.delay) late (omega (arith, b)))
+            (ce-late (i.set + o.delay + 1) (omega (arith, late)) (omega (arith, b)))
+            (is-heard (asks Releasing) k.hears i.set b f ∙ i.sends)))
+        arrives-at (inr b) = behind (omega (arith, in-time, within, b))
           where
-            lost-there : (x : Bool) → e.loses (i.set + o.delay) ≡ x → e.loses (i.set + o.delay) ≡ true
-            lost-there true f = f
-            lost-there false f = absurd
-                (disc-closes tries period delay link ts w.state w.deed kt w.trace (i.set + o.delay) b
-                (ce-late (i.set + o.delay) late (omega (arith, b)))
-                (ce-late (i.set + o.delay + 1) (omega (arith, late)) (omega (arith, b)))
-                (is-heard o.delay turns (asks Releasing) o.slot e.heard e.loses k.hears i.set b f ∙ i.sends))
-        arrives-at (inr b) = last-turn (omega (arith, in-time, within, b))
-          where
-            last-turn : i.set + o.delay ≡ turns → PeriodLoses period turns (t ∷ ts) n
-            last-turn same = loses-last period t ts s n long q (omega (arith, within, same, in-time)) Answerer lost-now
-              where
-                lost-now : is_lost t.answ.heard ≡ true
-                lost-now = last-disc tries period delay link ts w.state w.deed kt w.trace t cs before.answ mid.answ
-                    (setup-role tries period delay link ts before kt run.run run.carried Answerer) last.connected
-                    (hearing Answerer).hears cm i.set same i.sends
+            behind : i.set + o.delay ≡ turns → PeriodLoses w.period turns (t ∷ w.ts) n
+            behind same = loses-last w.period t w.ts s n long q (omega (arith, within, same, in-time)) Answerer
+                (is-true (is_lost t.answ.heard) (λ f. clash (is_connected mid.answ.phase) cm (disc-heard (arrival t.answ.heard) turns
+                w.ends.answ mid.answ (last-turn w t mid hearing Answerer).role_is last.connected
+                (last-heard (asks Releasing) w t cs Answerer i.set same f ∙ i.sends) (hearing Answerer).hears)))
 
-    at-expiry : (s : ℕ) × (s + (n + 1) * period ≡ turns) × Uncleared period e s → PeriodLoses period turns (t ∷ ts) n
-    at-expiry (s, q', un) = by (cases_lt (s + period) (v.turn + o.delay))
+    at-expiry : (s : ℕ) × (s + (n + 1) * w.period ≡ turns) × Uncleared w.period e s → PeriodLoses w.period turns (t ∷ w.ts) n
+    at-expiry (s, q', un) = by (cases_lt (s + w.period) (v.turn + o.delay))
       where
-        within : s + period ≤ turns
-        within = let m = once period n in omega (arith, q', m)
+        within : s + w.period ≤ turns
+        within = let m = once w.period n in omega (arith, q', m)
 
-        by : (s + period < v.turn + o.delay) ⊎ (v.turn + o.delay ≤ s + period) → PeriodLoses period turns (t ∷ ts) n
+        by : (s + w.period < v.turn + o.delay) ⊎ (v.turn + o.delay ≤ s + w.period) → PeriodLoses w.period turns (t ∷ w.ts) n
         by (inr soon) = disc-lost s q' within un.connected soon
-        by (inl late) = on (lost-or-none e o (s + 1) (period - 1))
+        by (inl late) = on (lost-or-none e o (s + 1) (w.period - 1))
           where
             before-end : v.turn < turns
             before-end = v.before
 
             linked-s : is_linked (o.account s).phase ≡ true
-            linked-s = peer-linked s (omega (arith, within, long)) un.made un.connected
+            linked-s =
+                let from = (k.own s (omega (arith, within, long))).made_from un.made (linked-connected (e.account s).phase un.connected) in
+                peer-linked w s (omega (arith, within, long)) un.connected from.1 from.2
 
             co : StayConnected o s v.turn
-            co u lo hi = connected-back period turns o e k' u v.turn hi (omega (arith, before-end))
-                (linked-on period turns o e k' s u lo (omega (arith, hi, before-end)) linked-s)
-                (v.was (linked-on period turns o e k' s v.turn (omega (arith, lo, hi)) (omega (arith, before-end)) linked-s))
+            co = λ u lo hi. connected-since k' s v.turn (omega (arith, before-end)) linked-s
+                (v.was (linked-on k' s v.turn (omega (arith, lo, hi)) (omega (arith, before-end)) linked-s)) u lo hi
 
-            on : LostIn e o (s + 1) (period - 1) ⊎ NoneLost e o (s + 1) (period - 1) → PeriodLoses period turns (t ∷ ts) n
-            on (inl lost) = later-loses period t ts n
-                (loses-of period delay link ts w.state w.deed w.trace Answerer s n long q' lost)
-            on (inr none) = absurd (elim (cases_lt v.turn (s + period)) [
-              | inl b ↦ parted-stops period turns e o k c s v.turn within b late un co
-                  (await-hears (e.heard v.turn) v.turn (e.account v.turn) (e.mid v.turn) at-v (h.hearing Answerer).hears)
-                  (whole-stops tries period delay link ts w.state w.deed kt w.trace v.turn before-end v.told)
-                  (count-hears z (e.heard v.turn) (length (past ts v.turn)) (e.account v.turn) (e.mid v.turn) at-v
-                  (linked-sends z (length (past ts v.turn)) (length (past ts v.turn)) Answerer (e.account v.turn).phase (e.account v.turn)
-                  (known tries period delay link (past ts v.turn) (w.state v.turn) kt h.run h.carried Answerer).stands at-v)
-                  (ap (λ x. hear x (e.heard v.turn) (e.account v.turn)) h.number ∙ (h.hearing Answerer).hears)) none
-              | inr g ↦ (let r = period-cleared period turns e o k c s within un.made un.on
-                  (λ u lo hi. co u lo (omega (arith, hi, g))) none in
+            on : LostIn e o (s + 1) (w.period - 1) ⊎ NoneLost e o (s + 1) (w.period - 1) → PeriodLoses w.period turns (t ∷ w.ts) n
+            on (inl lost) = later-loses w.period t w.ts n (loses-of w Answerer s n long q' lost)
+            on (inr none) = absurd (elim (cases_lt v.turn (s + w.period)) [
+              | inl b ↦ parted-stops k c s v.turn within b late un co
+                  (await-hears (e.heard v.turn) v.turn (e.account v.turn) (e.mid v.turn) at-v i.hears)
+                  (whole-stops w v.turn before-end v.told) (count-hears z (e.heard v.turn) v.turn (e.account v.turn) (e.mid v.turn) at-v
+                  (linked-sends z v.turn v.turn Answerer (e.account v.turn).phase (e.account v.turn) i.stands at-v) i.hears) none
+              | inr g ↦ (let r = period-cleared k c s within un.made un.on (λ u lo hi. co u lo (omega (arith, hi, g))) none in
                   un.uncleared r.0 r.1 r.2 r.3)
             ])
               where
-                h : Happens period delay link (past ts v.turn) v.turn (w.state v.turn) (w.deed v.turn) (w.state (v.turn + 1))
-                h = w.trace.happens v.turn before-end
+                i : TurnAt w Answerer v.turn
+                i = (end-turn w Answerer v.turn before-end).in_turn
 
                 at-v : is_connected (e.account v.turn).phase ≡ true
                 at-v = on-from s un.connected v.turn (omega (arith, late, p)) (omega (arith, before-end))
@@ -614,66 +445,34 @@ answerer-connected z before turn b q fault st e r h = go q e st (ap (λ x. speak
     go Releasing f s q = absurd s
     go Closed f s q = cc
 
-pub answerer-gives-up : (tries period : ℕ) (delay : Role → ℕ) (link : Link) (ts : List Turn) (before : Accounts) (t : Turn) (mid : Accounts)
-    (fault : LinkFault) → KeepsTime tries period delay link → RunsOver link delay ts before
-    → BrokenTurn link ts before t mid Answerer fault → is_connected mid.answ.phase ≡ true
-answerer-gives-up tries period delay link ts before t mid fault kt run broken =
-    let turns : ℕ = length ts in
-    let z : Rates = rates tries period in
-    let b : Account = (served_at link turns mid Answerer).account in
-    let hd = heard-as tries period delay link ts before kt run.run run.carried Answerer (arrival t.answ.heard) mid.answ
-    (broken.hearing Answerer).hears in
-    let s = serves-all link.answ.user turns (is_released mid.orig.phase) mid.answ in
-    let kn = known tries period delay link ts before kt run.run run.carried Answerer in
-    ap is_connected (sym s.phase)
-    ∙ answerer-connected z (turns + 1) turns b hd.0 fault
-    (serves-well z (length before.answ.outgoing.pieces) (length link.answ.user.breaks) turns
-    (is_busy turns link.answ.user.busy) Answerer hd.0 mid.answ b (rated tries period delay link kt) hd.1.stands hd.1.phase s).stands
-    (s.phase ∙ hd.1.phase)
-    (ap (λ x. x.role) (s.setup ∙ (hd.1.setup ∙ kn.setup)) ∙ kt.roles Answerer) broken.broken.1
+pub answerer-gives-up : (w : TimedRun) (t : Turn) (mid : Accounts) (fault : LinkFault) → BrokenTurn w.link w.ts w.ends t mid Answerer fault
+    → is_connected mid.answ.phase ≡ true
+answerer-gives-up w t mid fault broken =
+    let i = last-turn w t mid broken.hearing Answerer in
+    ap is_connected (sym i.served.phase)
+    ∙ answerer-connected (rates w.tries w.period) (length w.ts + 1) (length w.ts) (served_at w.link (length w.ts) mid Answerer).account
+    i.phase fault i.b_stands (i.served.phase ∙ i.heard.phase) i.b_role broken.broken.1
 
 pub answerer-wants-answer : Plays → ReadsWritten → AnswererWantsAnswers → AnswererWantsAnswer
 answerer-wants-answer laws reads wants tries period delay link ts before t mid segment since kt run cs broken
     quiet = (each, all-but-last tries period delay t ts each)
   where
-    turns : ℕ
-    turns = length ts
-
-    z : Rates
-    z = rates tries period
-
-    kn : Known z link turns before Answerer
-    kn = known tries period delay link ts before kt run.run run.carried Answerer
-
-    tm : Timed z link Answerer
-    tm = timed tries period delay link kt Answerer
+    w : TimedRun
+    w = timed-run tries period delay link ts before kt run.run run.carried
 
     cm : is_connected mid.answ.phase ≡ true
-    cm = answerer-gives-up tries period delay link ts before t mid (Spent segment since) kt run broken
+    cm = answerer-gives-up w t mid (Spent segment since) broken
 
-    last : LastTry tries period turns before.answ
-    last = last-try tries period link.answ.user turns Answerer (arrival t.answ.heard) before.answ mid.answ
-        (is_released mid.orig.phase) false _ (rated tries period delay link kt)
-        (subst (IsOf z) (sym kn.setup) tm.is_of) kn.stands (ap (λ x. x.role) kn.setup ∙ tm.role_is) kn.none_due
-        (λ u c. ((begins-roomy (arrival t.answ.heard) turns before.answ mid.answ u (fits-at laws link delay ts before run Answerer)
-        (subst IsAllowed (ap (λ x. x.offer) (sym kn.setup)) (allowed link run.may_play Answerer))
-        (broken.hearing Answerer).hears).so c).2)
-        (broken.hearing Answerer).hears cm quiet broken.broken.1
-
-    each : LosesEach period tries turns (t ∷ ts)
+    each : LosesEach period tries (length ts) (t ∷ ts)
     each n less = by (is_released mid.orig.phase) refl
       where
-        by : (y : Bool) → is_released mid.orig.phase ≡ y → PeriodLoses period turns (t ∷ ts) n
+        by : (y : Bool) → is_released mid.orig.phase ≡ y → PeriodLoses period (length ts) (t ∷ ts) n
         by false f = later-loses period t ts n
             ((wants tries period delay link ts before t mid segment since kt run cs broken (connected-is mid.answ.phase cm) quiet f).0 n
             less)
-        by true f = parted-each laws reads tries period delay link ts before t mid kt run cs broken.hearing cm
-            (only-releasing mid.orig.phase f broken.going) last n less
+        by true f = parted-each laws reads w run.may_play t mid cs broken.hearing cm (only-releasing mid.orig.phase f broken.going)
+            (last-try laws w run.may_play t mid broken.hearing Answerer false _ cm quiet broken.broken.1) n less
           where
             only-releasing : (q : Phase) → is_released q ≡ true → is_closed q ≡ false → q ≡ Releasing
-            only-releasing Detecting g h = cc
-            only-releasing Negotiating g h = cc
-            only-releasing Establishing g h = cc
-            only-releasing Connected g h = cc
             only-releasing Releasing g h = refl
-            only-releasing Closed g h = cc
+            only-releasing q g h = cc

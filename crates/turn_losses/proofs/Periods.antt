@@ -1,17 +1,15 @@
 -- A loss of a turn as one of a period, counted back from the last turn.
 use Rattle.std.proofs.Common.{◌≡◌, inl, inr, ℕ, suc, ◌+◌, ◌-◌, ◌*◌, ◌<◌, ◌≤◌, true, List, ◌∷◌, length, arith, sym, ◌∙◌, ap, subst, Some}
-use Rattle.link_account.proofs.Names.{slice_get, Role, other, of, Heard, Nothing, Passed, Lost, Chance}
-use Rattle.link_run.proofs.Names.{Link, Accounts, Turn, LosesSome}
+use Rattle.link_account.proofs.Names.{slice_get, Role, other, of, Heard, Lost}
+use Rattle.link_run.proofs.Names.{Turn, LosesSome}
 use Rattle.link_run.specs.Starved.{IsLost, turn_at}
-use Rattle.turn_losses.proofs.Names.{is_lost, PeriodLoses, Deed, Trace, end_run}
+use Rattle.turn_losses.proofs.Names.{is_lost, PeriodLoses, TimedRun, end_of}
 use Rattle.turn_losses.proofs.PeriodHolds.{LostIn}
 use Rattle.turn_losses.proofs.Keeping.{turn-is}
 
 pub lost-is : (h : Heard) → is_lost h ≡ true → IsLost h
-lost-is Nothing e = cc
-lost-is (Passed s) e = cc
 lost-is (Lost s) e = tt
-lost-is Chance e = cc
+lost-is p e = cc
 
 pub once : (period n : ℕ) → (n + 1) * period ≡ n * period + period
 once period n = omega arith
@@ -58,27 +56,26 @@ loses-last period t ts s n long q f r lost = let m = once period n in record {
 }
 
 -- of the turns of a run
-module _ (period : ℕ) (delay : Role → ℕ) (link : Link) (ts : List Turn) (state : ℕ → Accounts) (deed : ℕ → Deed)
-    (w : Trace period delay link ts state deed) where
-  pub loses-in : (s n : ℕ) → s + (n + 1) * period ≡ length ts → (u : ℕ) → s < u → u ≤ s + period → u < length ts → (r : Role)
-      → is_lost (of r (deed u).turn).heard ≡ true → PeriodLoses period (length ts) ts n
-  loses-in s n q u lo hi b r lost = let m = once period n in record {
+module _ (w : TimedRun) where
+  pub loses-in : (s n : ℕ) → s + (n + 1) * w.period ≡ length w.ts → (u : ℕ) → s < u → u ≤ s + w.period → u < length w.ts → (r : Role)
+      → is_lost (of r (w.deed u).turn).heard ≡ true → PeriodLoses w.period (length w.ts) w.ts n
+  loses-in s n q u lo hi b r lost = let m = once w.period n in record {
     turn = u;
     within = b;
     in_period = record { behind = omega (arith, lo, q); before = omega (arith, hi, q, m) };
-    lost = subst LosesSome (sym (turn-is period delay link ts state deed w u b)) (r, lost-is (of r (deed u).turn).heard lost);
+    lost = subst LosesSome (sym (turn-is w u b)) (r, lost-is (of r (w.deed u).turn).heard lost);
   }
 
   -- what either line lost
-  pub loses-of : (r : Role) (s n : ℕ) → 1 ≤ period → s + (n + 1) * period ≡ length ts
-      → LostIn (end_run delay state deed r) (end_run delay state deed (other r)) (s + 1) (period - 1) → PeriodLoses period (length ts) ts n
+  pub loses-of : (r : Role) (s n : ℕ) → 1 ≤ w.period → s + (n + 1) * w.period ≡ length w.ts
+      → LostIn (end_of w r) (end_of w (other r)) (s + 1) (w.period - 1) → PeriodLoses w.period (length w.ts) w.ts n
   loses-of r s n long q lost = elim lost.loses [ inl x ↦ at r x | inr x ↦ at (other r) x ]
     where
-      at : (r : Role) → is_lost (of r (deed lost.turn).turn).heard ≡ true → PeriodLoses period (length ts) ts n
-      at r x = let a = lost.low in let b = lost.high in let m = once period n in
+      at : (r : Role) → is_lost (of r (w.deed lost.turn).turn).heard ≡ true → PeriodLoses w.period (length w.ts) w.ts n
+      at r x = let a = lost.low in let b = lost.high in let m = once w.period n in
           loses-in s n q lost.turn (omega (arith, a)) (omega (arith, b, long)) (omega (arith, b, q, m, long)) r x
 
   -- with the last turn
-  pub loses-at : (t : Turn) (s n : ℕ) → s + (n + 1) * period ≡ length ts → (u : ℕ) → s < u → u ≤ s + period → u < length ts → (r : Role)
-      → is_lost (of r (deed u).turn).heard ≡ true → PeriodLoses period (length ts) (t ∷ ts) n
-  loses-at t s n q u lo hi b r lost = later-loses period t ts n (loses-in s n q u lo hi b r lost)
+  pub loses-at : (t : Turn) (s n : ℕ) → s + (n + 1) * w.period ≡ length w.ts → (u : ℕ) → s < u → u ≤ s + w.period → u < length w.ts
+      → (r : Role) → is_lost (of r (w.deed u).turn).heard ≡ true → PeriodLoses w.period (length w.ts) (t ∷ w.ts) n
+  loses-at t s n q u lo hi b r lost = later-loses w.period t w.ts n (loses-in s n q u lo hi b r lost)

@@ -1,18 +1,15 @@
 -- An answerer begins only once the originator establishes the link.
-use Rattle.std.proofs.Common.{◌⊎◌, inl, inr, ◌≡◌, ℕ, zero, suc, ◌+◌, ◌-◌, ◌≤◌, Bool, true, false, List, length, arith, refl, sym, ◌∙◌, ap}
-use Rattle.std.proofs.Common.{subst, Ok}
-use Rattle.link_account.proofs.Names.{Role, Originator, Answerer, Arrived, Account, hear, Said, speak}
-use Rattle.link_run.proofs.Names.{Phase, Detecting, Negotiating, Establishing, is_released, Link}
-use Rattle.link_run.proofs.Names.{Accounts, Turn, SpeaksAt, arrival, served_at, said_at}
+use Rattle.std.proofs.Common.{◌⊎◌, inl, inr, ◌≡◌, ℕ, ◌+◌, ◌≤◌, Bool, true, false, length, refl, sym, ◌∙◌, ap, subst, Ok, ◌<◌}
+use Rattle.link_account.proofs.Names.{Originator, Answerer, Arrived, Account, hear, Said, speak}
+use Rattle.link_run.proofs.Names.{Phase, Detecting, Negotiating, Establishing}
 use Rattle.link_account.proofs.HearWays.{numbers-alike}
 use Rattle.turn_bound.proofs.MeetSpeak.{speaks-so}
 use Rattle.link_run.proofs.Speaking.{speaks-phase}
 use Rattle.turn_losses.proofs.Establishing.{is_sabme, says-sabme}
-use Rattle.turn_losses.proofs.Tracing.{known, timed, release_of, said-as}
-use Rattle.turn_losses.proofs.LineLaw.{was-sent}
-use Rattle.turn_losses.proofs.PollLaws.{two-ends}
-use Rattle.turn_losses.proofs.Names.{KeepsTime, rates, Stands, is_begun, of_frame, of_arrived, serves-all, Deed, Happens, Trace, past}
-use Rattle.turn_losses.proofs.Names.{sent_or, EndRun, TwoEnds, end_run}
+use Rattle.turn_losses.proofs.Tracing.{release_of}
+use Rattle.turn_losses.proofs.Names.{rates, Stands, is_begun, of_frame, of_arrived, TimedRun, end_of}
+use Rattle.turn_losses.proofs.Follows.{follows}
+use Rattle.turn_losses.proofs.EndTurn.{end-turn}
 use Rattle.link_account.proofs.HearWays as HearWays
 
 -- only a SABME begins an answerer
@@ -90,95 +87,33 @@ says-established turn release b said h c = elim (speaks-phase turn release b sai
   | inr x ↦ ap is_established x.1
 ]
 
--- What holds of the two all through a run.
-pub established-on : (tries period : ℕ) (delay : Role → ℕ) (link : Link) (ts : List Turn) (state : ℕ → Accounts) (deed : ℕ → Deed)
-    → KeepsTime tries period delay link → Trace period delay link ts state deed
-    → (s n : ℕ) → s + n ≤ length ts → is_established (state s).orig.phase ≡ true → is_established (state (s + n)).orig.phase ≡ true
-established-on tries period delay link ts state deed kt w s zero l c = ap (λ x. is_established (state x).orig.phase) (same s) ∙ c
+-- so it is all through a run
+pub established-next : (w : TimedRun) → (u : ℕ) → u < length w.ts → is_established (w.state u).orig.phase ≡ true
+    → is_established (w.state (u + 1)).orig.phase ≡ true
+established-next w u l c =
+    let g = end-turn w Originator u l in
+    ap (λ (y : Account). is_established y.phase) g.after
+    ∙ says-established u (release_of w.link u (w.deed u).mid Originator) ((end_of w Originator).served u) g.said g.says
+    (ap is_established g.in_turn.served.phase
+    ∙ stays-established ((end_of w Originator).heard u) u (w.state u).orig (w.deed u).mid.orig g.in_turn.hears c)
+
+pub begun-established : (w : TimedRun) → (u : ℕ) → u ≤ length w.ts → is_begun (w.state u).answ.phase ≡ true
+    → is_established (w.state u).orig.phase ≡ true
+begun-established w = follows w Answerer is_sabme (λ a. is_begun a.phase) (λ a. is_established a.phase) refl from sent (established-next w)
   where
-    same : (x : ℕ) → x + 0 ≡ x
-    same x = omega arith
-established-on tries period delay link ts state deed kt w s (suc n) l c = ap (λ x. is_established (state x).orig.phase) (next s n)
-    ∙ after (established-on tries period delay link ts state deed kt w s n (omega (arith, l)) c)
-  where
-    u : ℕ
-    u = s + n
+    from : (u : ℕ) → u < length w.ts → is_begun (w.state (u + 1)).answ.phase ≡ true
+        → (is_begun (w.state u).answ.phase ≡ true) ⊎ (of_arrived is_sabme ((end_of w Answerer).heard u) ≡ true)
+    from u l b =
+        let g = end-turn w Answerer u l in
+        begun-by ((end_of w Answerer).heard u) u (w.state u).answ (w.deed u).mid.answ g.in_turn.role_is
+        (λ e. subst (λ p. Stands (rates w.tries w.period) u u Answerer p (w.state u).answ) e g.in_turn.stands) g.in_turn.hears
+        (ap is_begun (sym g.in_turn.served.phase) ∙ (sym (speaks-so u false ((end_of w Answerer).served u) g.said g.says).begun
+        ∙ (ap (λ (y : Account). is_begun y.phase) (sym g.after) ∙ b)))
 
-    next : (x y : ℕ) → x + suc y ≡ x + y + 1
-    next x y = omega arith
-
-    h : Happens period delay link (past ts u) u (state u) (deed u) (state (u + 1))
-    h = w.happens u (omega (arith, l))
-
-    heard : is_established (state u).orig.phase ≡ true → is_established (deed u).mid.orig.phase ≡ true
-    heard before =
-        stays-established (arrival (deed u).turn.orig.heard) u (state u).orig (deed u).mid.orig (h.hearing Originator).hears before
-
-    after : is_established (state u).orig.phase ≡ true → is_established (state (u + 1)).orig.phase ≡ true
-    after before =
-        let x = h.speaking Originator in
-        ap (λ (y : Account). is_established y.phase) x.after_is
-        ∙ says-established u (release_of link u (deed u).mid Originator) (served_at link u (deed u).mid Originator).account x.said
-        (sym (said-as link u (deed u).mid Originator) ∙ x.says)
-        (ap is_established (serves-all link.orig.user u (is_released (deed u).mid.orig.phase) (deed u).mid.orig).phase ∙ heard before)
-
-pub begun-established : (tries period : ℕ) (delay : Role → ℕ) (link : Link) (ts : List Turn) (state : ℕ → Accounts) (deed : ℕ → Deed)
-    → KeepsTime tries period delay link → Trace period delay link ts state deed
-    → (u : ℕ) → u ≤ length ts → is_begun (state u).answ.phase ≡ true → is_established (state u).orig.phase ≡ true
-begun-established tries period delay link ts state deed kt w zero l b = let wrong : false ≡ true = sym
-    (ap (λ (x : Accounts). is_begun x.answ.phase) w.starts) ∙ b in cc
-begun-established tries period delay link ts state deed kt w (suc u) l b = go
-    (begun-by (arrival (deed u).turn.answ.heard) u (state u).answ (deed u).mid.answ role never (h.hearing Answerer).hears mid-begun)
-    (λ q. begun-established tries period delay link ts state deed kt w u (omega (arith, l)) q)
-  where
-    h : Happens period delay link (past ts u) u (state u) (deed u) (state (u + 1))
-    h = w.happens u (omega (arith, l))
-
-    k : TwoEnds period (length ts) (end_run delay state deed Answerer) (end_run delay state deed Originator)
-    k = two-ends tries period delay link ts state deed kt w Answerer
-
-    next : (x : ℕ) → suc x ≡ x + 1
-    next x = omega arith
-
-    role : (state u).answ.setup.role ≡ Answerer
-    role = ap (λ x. x.role) (known tries period delay link (past ts u) (state u) kt h.run h.carried Answerer).setup
-        ∙ (timed tries period delay link kt Answerer).role_is
-
-    never : (state u).answ.phase ≡ Establishing → ⊥
-    never e = subst (λ p. Stands (rates tries period) (length (past ts u)) (length (past ts u)) Answerer p (state u).answ) e
-        (known tries period delay link (past ts u) (state u) kt h.run h.carried Answerer).stands
-
-    s : SpeaksAt (said_at link u (deed u).mid Answerer) (deed u).turn.answ (state (u + 1)).answ
-    s = h.speaking Answerer
-
-    served-begun : is_begun (served_at link u (deed u).mid Answerer).account.phase ≡ true
-    served-begun =
-        let x = speaks-so u false (served_at link u (deed u).mid Answerer).account s.said s.says in
-        sym x.begun ∙ (ap (λ (y : Account). is_begun y.phase) (sym s.after_is)
-        ∙ (ap (λ x. is_begun (state x).answ.phase) (sym (next u)) ∙ b))
-
-    mid-begun : is_begun (deed u).mid.answ.phase ≡ true
-    mid-begun = ap is_begun (sym (serves-all link.answ.user u (is_released (deed u).mid.orig.phase) (deed u).mid.answ).phase) ∙ served-begun
-
-    go : (is_begun (state u).answ.phase ≡ true) ⊎ (of_arrived is_sabme (arrival (deed u).turn.answ.heard) ≡ true)
-        → (is_begun (state u).answ.phase ≡ true → is_established (state u).orig.phase ≡ true)
-        → is_established (state (suc u)).orig.phase ≡ true
-    go (inl q) again =
-        ap (λ x. is_established (state x).orig.phase) (next u)
-        ∙ established-on tries period delay link ts state deed kt w u 1 (omega (arith, l)) (again q)
-    go (inr q) again =
-        let e : EndRun = end_run delay state deed Answerer in
-        let o : EndRun = end_run delay state deed Originator in
-        let sent = was-sent o.delay (length ts) is_sabme o.slot e.heard e.loses k.hears u (omega (arith, l)) q in
-        let v : ℕ = u - o.delay in
-        let x = (w.happens v (omega (arith, l))).speaking Originator in
-        let first : is_established (state (v + 1)).orig.phase ≡ true = ap (λ (y : Account). is_established y.phase) x.after_is
-        ∙ ap is_established (says-sabme v (release_of link v (deed v).mid Originator)
-        (served_at link v (deed v).mid Originator).account x.said
-        (sym (said-as link v (deed v).mid Originator) ∙ x.says)
-        (ap (λ y. of_frame is_sabme (sent_or y)) (sym x.sent_is) ∙ sent.1)).phase in
-        ap (λ n. is_established (state n).orig.phase) (there v (u - v) (omega arith))
-        ∙ established-on tries period delay link ts state deed kt w (v + 1) (u - v) (omega (arith, l)) first
-      where
-        there : (x n : ℕ) → x + n ≡ u → suc u ≡ x + 1 + n
-        there x n q = omega (arith, q)
+    sent : (v : ℕ) → v < length w.ts → of_frame is_sabme ((end_of w Originator).slot v) ≡ true
+        → is_established (w.state (v + 1)).orig.phase ≡ true
+    sent v l f =
+        let g = end-turn w Originator v l in
+        ap (λ (y : Account). is_established y.phase) g.after
+        ∙ ap is_established (says-sabme v (release_of w.link v (w.deed v).mid Originator) ((end_of w Originator).served v) g.said g.says
+        (ap (of_frame is_sabme) (sym g.slot) ∙ f)).phase

@@ -1,6 +1,6 @@
 use Rattle.std.proofs.Common.{◌⊎◌, inl, inr, ◌≡◌, ℕ, ◌||◌, Bool, true, false, refl, sym, ◌∙◌, ap, Option, Some, None, Ok}
-use Rattle.link_account.proofs.Names.{Role, Originator, Answerer, Arrived, Account, is_connected, is_originator, hear}
-use Rattle.link_account.proofs.Names.{on_nothing, without_adp}
+use Rattle.link_account.proofs.Names.{Role, Originator, Answerer, Arrived, Account, is_connected, is_originator, hear, on_nothing}
+use Rattle.link_account.proofs.Names.{without_adp}
 use Rattle.link_run.proofs.Names.{Phase, Connected}
 use Rattle.link_account.specs.Hear.{first_wait}
 use Rattle.link_account.proofs.HearWays.{ConnectedWays, EarlyWays, by-ways}

@@ -1,7 +1,6 @@
 use Rattle.std.proofs.Common.{◌⊎◌, inl, inr, ◌≡◌, ℕ, ◌+◌, ◌&&◌, ◌||◌, not, Bool, true, false, arith, refl, sym, ◌∙◌, ap, Option, Some, None}
 use Rattle.std.proofs.Common.{Ok}
-use Rattle.link_account.proofs.Names.{Frame, OwnBreaks, Account, is_connected, trying, Said, frame_for, nr_of, ready_frame}
-use Rattle.link_account.proofs.Names.{speak}
+use Rattle.link_account.proofs.Names.{Frame, OwnBreaks, Account, is_connected, trying, Said, frame_for, nr_of, ready_frame, speak}
 use Rattle.link_run.proofs.Names.{Connected, Releasing, Answer}
 use Rattle.link_account.specs.Speak.{running}
 use Rattle.link_account.proofs.SpeakWays.{linked-so, Before, Steps, steps-so, polling_at, ConnectedWays, Tries, Ways, by-ways}

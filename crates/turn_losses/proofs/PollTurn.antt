@@ -1,12 +1,13 @@
-use Rattle.std.proofs.Common.{◌⊎◌, inl, inr, ◌≡◌, ℕ, ◌+◌, ◌≤◌, ◌&&◌, ◌||◌, Bool, true, false, cond, arith, refl, sym, ◌∙◌, ap, Some, None}
+use Rattle.std.proofs.Common.{◌⊎◌, inl, inr, ◌≡◌, ℕ, ◌+◌, ◌≤◌, ◌||◌, Bool, true, false, cond, arith, refl, sym, ◌∙◌, ap, Some, None}
 use Rattle.link_account.proofs.Names.{Role, Originator, Answerer, Account, is_connected, Said}
 use Rattle.link_run.proofs.Names.{Phase, Connected, Releasing, Closed, is_closed, is_released}
 use Rattle.turn_bound.proofs.AtMostOne.{OneDue}
-use Rattle.turn_losses.proofs.Truths.{and-two, unlinked-connected, and-second, and-true, clash, or-late}
+use Rattle.turn_losses.proofs.Truths.{and-two, unlinked-connected, and-second, and-true, clash, or-late, and-drop}
 use Rattle.turn_losses.proofs.PollHear.{PollHeard, linked-connected}
 use Rattle.turn_losses.proofs.PollSpeak.{SaidPoll, SpeakPoll}
 use Rattle.turn_losses.proofs.Polling.{Early}
 use Rattle.turn_losses.proofs.Names.{NoneDue, is_poll, is_final, of_frame, is_linked, poll_due, PollTurn}
+use Rattle.turn_bound.proofs.Tied.{keeps}
 
 unlinked-released : (p : Phase) → is_linked p ≡ false → is_released p ≡ false
 unlinked-released Releasing e = cc
@@ -165,7 +166,7 @@ poll-turn period turn role polled final a b said some h k one none early untimed
         due_from = λ d m. was m ((l.kept (and-second (is_connected c.phase) c.wait.poll d)).0 m);
         held_up = held e;
         sent_from = λ s m. was m ((l.sent s).0 m);
-        sent_done = λ s. cleared ((l.sent s).1);
+        sent_done = λ s. and-drop (is_connected c.phase) c.wait.poll ((l.sent s).1);
         timer = λ g y. (x, λ s w. timed s (l.timer s w));
         made_timer = λ m g. l.made_timer m;
         made_awaited = λ m g. l.awaited ∙ ap (λ v. v || b.outgoing.awaited) m;
@@ -200,13 +201,6 @@ poll-turn period turn role polled final a b said some h k one none early untimed
         still-due (inl w) = inl w
         still-due (inr w) = inr (and-true (is_connected c.phase) c.wait.poll e w)
 
-        cleared : c.wait.poll ≡ false → poll_due c ≡ false
-        cleared w = ap (λ v. is_connected c.phase && v) w ∙ and-false (is_connected c.phase)
-          where
-            and-false : (v : Bool) → v && false ≡ false
-            and-false true = refl
-            and-false false = refl
-
         timed : (s : ℕ) → (s ≡ turn) ⊎ (b.wait.timer ≡ Some s) → (s ≡ turn) ⊎ (a.wait.timer ≡ Some s)
         timed s (inl w) = inl w
         timed s (inr w) = h.timer x s w
@@ -229,7 +223,7 @@ poll-turn period turn role polled final a b said some h k one none early untimed
         due_from = λ d m. cc;
         held_up = held e;
         sent_from = λ s m. cc;
-        sent_done = λ s. cleared ((l.sent s).1);
+        sent_done = λ s. and-drop (is_connected c.phase) c.wait.poll ((l.sent s).1);
         timer = λ v y. clash (is_linked a.phase) y x;
         made_timer = λ m v s w. timed s (l.timer s w);
         made_awaited = λ m v. l.awaited ∙ or-late l.made b.outgoing.awaited (h.awaits g x f);
@@ -244,13 +238,6 @@ poll-turn period turn role polled final a b said some h k one none early untimed
       },
     )
       where
-        cleared : c.wait.poll ≡ false → poll_due c ≡ false
-        cleared w = ap (λ v. is_connected c.phase && v) w ∙ and-false (is_connected c.phase)
-          where
-            and-false : (v : Bool) → v && false ≡ false
-            and-false true = refl
-            and-false false = refl
-
         begun-timer : (s : ℕ) → (s ≡ turn) ⊎ (a.wait.timer ≡ Some s) → s ≡ turn
         begun-timer s (inl v) = v
         begun-timer s (inr v) = let wrong : None ≡ Some s = sym (untimed x) ∙ v in cc

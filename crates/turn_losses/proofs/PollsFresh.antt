@@ -1,6 +1,7 @@
 use Rattle.std.proofs.Common.{◌⊎◌, inl, inr, ◌≡◌, ℕ, zero, suc, ◌+◌, ◌-◌, ◌<◌, ◌≤◌, Bool, true, false, arith, refl, sym, ◌∙◌, subst}
 use Rattle.std.proofs.lemmas.Bool.{cases_lt}
 use Rattle.turn_losses.proofs.Polls.{Polls, WasSent, Fresh}
+use Rattle.turn_losses.proofs.Clocks.{last}
 
 -- One more turn, for one end: a poll that is due after it became due in it. Else it was held up twice, by two polls of the other end in
 -- turns that follow one another.

@@ -3,8 +3,8 @@ use Rattle.std.proofs.Common.{◌≡◌, ℕ, zero, suc, ◌+◌, ◌<◌, ◌�
 use Rattle.std.proofs.Common.{length, length-append, arith, refl, sym, ◌∙◌, ap, Option, Some, None, Ok}
 use Rattle.link_account.proofs.Names.{nat_tests, Role, Originator, Answerer, Offer, Terms, IsAllowed, agree, Outgoing, with_piece}
 use Rattle.link_account.proofs.Names.{after_ask, Arrived, Account, is_connected, wants, piece_size, after_given, hear, on_nothing}
-use Rattle.link_run.proofs.Names.{Phase, Negotiating, Establishing, Closed, User, BreakLine, delivered}
-use Rattle.link_run.proofs.Names.{offered_at, offered_times, offered, room_for, piece_at, is_busy, next_break}
+use Rattle.link_run.proofs.Names.{Phase, Negotiating, Establishing, Closed, User, BreakLine, delivered, offered_at, offered_times, offered}
+use Rattle.link_run.proofs.Names.{room_for, piece_at, is_busy, next_break}
 use Rattle.xid_params.specs.Terms.{default_offer, lowered}
 use Rattle.link_account.specs.Account.{window_for}
 use Rattle.link_run.specs.End.{asked_at}

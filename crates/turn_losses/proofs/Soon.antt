@@ -1,27 +1,29 @@
 -- A BRK goes within fourteen turns, and the BRKACK that answers it within six.
-use Rattle.std.proofs.Common.{◌⊎◌, inl, inr, ◌≡◌, ℕ, zero, suc, ◌+◌, ◌-◌, ◌*◌, ◌<◌, ◌≤◌, ◌&&◌, Bool, true, false, arith, refl, sym, ◌∙◌, ap}
-use Rattle.std.proofs.Common.{subst, Option, Some, None}
+use Rattle.std.proofs.Common.{◌⊎◌, inl, inr, ◌≡◌, ℕ, ◌+◌, ◌-◌, ◌*◌, ◌<◌, ◌≤◌, ◌&&◌, Bool, true, false, arith, refl, ◌∙◌, ap, subst, Option}
+use Rattle.std.proofs.Common.{Some, None}
 use Rattle.link_account.proofs.Names.{cases_lt, BreakWord, waits, Account, is_connected}
 use Rattle.turn_losses.proofs.Truths.{clash}
-use Rattle.turn_losses.proofs.BreakHear.{of_word, brk_of, ack_of, any_brk, pends, pends_of}
 use Rattle.turn_losses.proofs.BreakTurn.{Deeds, BreakTurn, number_of, brk_due, ack_due, ack_due_of, was_special}
 use Rattle.turn_losses.proofs.Counting.{hits, once, at-most-made, all-held, no-hits, after-acks}
 use Rattle.turn_losses.proofs.Windows.{Breaking, replies-apart, polls-far, hurries-twice, brks-heard, sum-at-most}
 use Rattle.turn_losses.proofs.Names.{of_frame, of_arrived, EndRun, TwoEnds, sends_poll, sends_final}
+use Rattle.turn_losses.proofs.Words.{ack_of, any_brk, brk_of, of_word, pends_of, pends}
+use Rattle.turn_losses.proofs.Moving.{asks}
+use Rattle.turn_losses.proofs.Kept.{until}
 
 abbrev pub AllConnected : EndRun → ℕ → ℕ → Type 0
 AllConnected e s n = (t : ℕ) → s < t → t ≤ s + n → is_connected (e.account t).phase ≡ true
 
 -- each BRKACK that goes was asked for
-acks-few : (period turns : ℕ) (e o : EndRun) (d d' : ℕ → Deeds) → TwoEnds period turns e o → Breaking period turns e d
+acks-few : {period turns : ℕ} {e o : EndRun} {d d' : ℕ → Deeds} → TwoEnds period turns e o → Breaking period turns e d
     → Breaking period turns o d' → brk_due (o.account 0) ≡ false → (s n : ℕ) → n ≤ 16 → s + n ≤ turns → AllConnected e s n
     → hits (λ t. (d t).acks) s n ≤ 4
-acks-few period turns e o d d' k h h' first s n l w c =
+acks-few {period} {turns} {e} {o} {d} {d'} k h h' first s n l w c =
     let made = at-most-made (λ t. (d t).acks) (λ t. ack_due (e.account t)) (λ t. of_arrived (of_word any_brk) (e.heard t)) s n
     (λ t a b. let x = h.turn t (omega (arith, b, w)) (c (t + 1) (omega (arith, a)) (omega (arith, b))) in
     sum-at-most (ack_due (e.account (t + 1))) (d t).acks (ack_due (e.account t)) (of_arrived (of_word any_brk) (e.heard t))
     (λ q. either (x.ack_from q)) (λ q. (x.acked q, unasked t (x.ack_from) q))) in
-    let three = brks-heard period turns e o d' k h' first s n l w in
+    let three = brks-heard k h' first s n l w in
     omega (arith, made, three)
   where
     either : {A B C : Type 0} → (A × C) ⊎ (B × C) → A ⊎ B
@@ -45,28 +47,24 @@ acks-few period turns e o d d' k h h' first s n l w c =
 abbrev pub NoAnswers : (ℕ → Deeds) → ℕ → ℕ → Type 0
 NoAnswers d s n = (t : ℕ) → s ≤ t → t < s + n → (d t).answers ≡ false
 
-abbrev BrkSent : EndRun → ℕ → ℕ → Type 0
-BrkSent e s n = (y : ℕ) × (s ≤ y) × (y < s + n) × (of_frame (of_word (brk_of (number_of (e.account (y + 1))))) (e.slot y) ≡ true)
-
 abbrev BrkDue : EndRun → ℕ → ℕ → Type 0
 BrkDue e s n = (t : ℕ) → s ≤ t → t < s + n → brk_due (e.account (t + 1)) ≡ true
-
-abbrev AckSent : EndRun → ℕ → ℕ → ℕ → Type 0
-AckSent e number x n = (z : ℕ) × (x ≤ z) × (z < x + n) × (of_frame (of_word (ack_of number)) (e.slot z) ≡ true)
 
 abbrev AckDue : EndRun → ℕ → ℕ → ℕ → Type 0
 AckDue e number x n = (t : ℕ) → x ≤ t → t < x + n → ack_due_of number (e.account (t + 1)) ≡ true
 
 -- A BRK that is due goes within fourteen turns, while its break waits.
-pub brk-goes : (period turns : ℕ) (e o : EndRun) (d d' : ℕ → Deeds) → TwoEnds period turns e o → Breaking period turns e d
+pub brk-goes : {period turns : ℕ} {e o : EndRun} {d d' : ℕ → Deeds} → TwoEnds period turns e o → Breaking period turns e d
     → Breaking period turns o d' → brk_due (o.account 0) ≡ false → (s : ℕ) → s + 14 ≤ turns → AllConnected e s 14
     → ((t : ℕ) → s < t → t ≤ s + 14 → waits (e.account t).own_breaks ≡ true) → NoAnswers d s 14
     → (brk_due (e.account s) ≡ true) ⊎ ((d s).made ≡ true)
     → (y : ℕ) × (s ≤ y) × (y < s + 14) × (of_frame (of_word (brk_of (number_of (e.account (y + 1))))) (e.slot y) ≡ true)
-brk-goes period turns e o d d' k h h' first s within c ws na due = elim (so-far 14 (omega arith)) [
-  | inl x ↦ x
-  | inr all ↦ absurd (none-held all)
-]
+brk-goes {period} {turns} {e} {o} {d} {d'} k h h' first s within c ws na due = elim
+    (until (λ t. of_frame (of_word (brk_of (number_of (e.account (t + 1))))) (e.slot t) ≡ true) (λ t. brk_due (e.account (t + 1)) ≡ true)
+    s 14 step) [
+      | inl x ↦ x
+      | inr all ↦ absurd (none-held all)
+    ]
   where
     turn : (t : ℕ) → s ≤ t → t < s + 14 → BreakTurn period t (e.heard t) (e.slot t) (d t) (e.account t) (e.account (t + 1))
     turn t a b = h.turn t (omega (arith, b, within)) (c (t + 1) (omega (arith, a)) (omega (arith, b)))
@@ -75,54 +73,40 @@ brk-goes period turns e o d d' k h h' first s within c ws na due = elim (so-far 
     none-held all =
         let held = all-held (sends_final e) (sends_poll e) (λ t. (d t).hurries) (λ t. (d t).acks) (λ t. was_special (e.account t))
         (λ t. (d t).answers) s 14 (λ t a b. (turn t a b).held (all t a b)) in
-        let one = once (sends_final e) (period - 1) turns (replies-apart period turns e o k) s 14 (omega (arith, k.period_is)) within in
-        let one' = once (sends_poll e) (period - 1) turns (polls-far period turns e o k) s 14 (omega (arith, k.period_is)) within in
-        let two = hurries-twice period turns e o d k h s 14 (omega (arith, k.period_is)) within c in
-        let four = acks-few period turns e o d d' k h h' first s 14 (omega arith) within c in
+        let one = once (sends_final e) (period - 1) turns (replies-apart k) s 14 (omega (arith, k.period_is)) within in
+        let one' = once (sends_poll e) (period - 1) turns (polls-far k) s 14 (omega (arith, k.period_is)) within in
+        let two = hurries-twice k h s 14 (omega (arith, k.period_is)) within c in
+        let four = acks-few k h h' first s 14 (omega arith) within c in
         let five = after-acks (λ t. was_special (e.account t)) (λ t. (d t).acks) s 14
         (λ t a b q. (turn t a (omega (arith, b))).special_own q (all t a (omega (arith, b)))) in
         let zero-answers = no-hits (λ t. (d t).answers) s 14 na in
         omega (arith, held, one, one', two, four, five, zero-answers)
 
-    step : (n : ℕ) → n < 14 → BrkSent e s n ⊎ BrkDue e s n → BrkSent e s (suc n) ⊎ BrkDue e s (suc n)
-    step n l (inl (y, a, b, q)) = inl (y, a, omega (arith, b), q)
-    step n l (inr all) = by
-        ((turn (s + n) (omega arith) (omega (arith, l))).brk_goes (ws (s + n + 1) (omega arith) (omega (arith, l))) (due-at n all))
+    step : (t : ℕ) → s ≤ t → t < s + 14 → ((u : ℕ) → s ≤ u → u < t → brk_due (e.account (u + 1)) ≡ true)
+        → (of_frame (of_word (brk_of (number_of (e.account (t + 1))))) (e.slot t) ≡ true) ⊎ (brk_due (e.account (t + 1)) ≡ true)
+    step t a b all = elim ((turn t a b).brk_goes (ws (t + 1) (omega (arith, a)) (omega (arith, b))) due-at) [
+      | inl q ↦ inr q
+      | inr q ↦ inl q
+    ]
       where
-        due-at : (m : ℕ) → BrkDue e s m → (brk_due (e.account (s + m)) ≡ true) ⊎ ((d (s + m)).made ≡ true)
-        due-at zero f = first-due (omega arith)
-          where
-            first-due : s + 0 ≡ s → (brk_due (e.account (s + 0)) ≡ true) ⊎ ((d (s + 0)).made ≡ true)
-            first-due q = subst (λ x. (brk_due (e.account x) ≡ true) ⊎ ((d x).made ≡ true)) (sym q) due
-        due-at (suc m) f = inl (ap (λ x. brk_due (e.account x)) (omega arith) ∙ f (s + m) (omega arith) (omega arith))
-
-        by : (brk_due (e.account (s + n + 1)) ≡ true)
-            ⊎ (of_frame (of_word (brk_of (number_of (e.account (s + n + 1))))) (e.slot (s + n)) ≡ true)
-            → BrkSent e s (suc n) ⊎ BrkDue e s (suc n)
-        by (inr q) = inl (s + n, omega arith, omega arith, q)
-        by (inl q) = inr (λ t a b. elim (cases_lt t (s + n)) [ inl x ↦ all t a x | inr x ↦ at t (omega (arith, x, b)) ])
-          where
-            at : (t : ℕ) → t ≡ s + n → brk_due (e.account (t + 1)) ≡ true
-            at t g = ap (λ x. brk_due (e.account (x + 1))) g ∙ q
-
-    so-far : (n : ℕ) → n ≤ 14 → BrkSent e s n ⊎ BrkDue e s n
-    so-far n l = count n l
-      where
-        count : (m : ℕ) → m ≤ 14 → BrkSent e s m ⊎ BrkDue e s m
-        count zero g = inr (λ t a b. let wrong : ⊥ = omega (arith, a, b) in absurd wrong)
-        count (suc m) g = step m g (count m (omega (arith, g)))
+        due-at : (brk_due (e.account t) ≡ true) ⊎ ((d t).made ≡ true)
+        due-at = elim (cases_lt s t) [
+          | inl l ↦ inl (ap (λ x. brk_due (e.account x)) (omega (arith, l)) ∙ all (t - 1) (omega (arith, l)) (omega (arith, l)))
+          | inr g ↦ subst (λ x. (brk_due (e.account x) ≡ true) ⊎ ((d x).made ≡ true)) (omega (arith, a, g)) due
+        ]
 
 -- A BRK that is heard is answered within six turns, where no BRK of another number is heard in them.
-pub ack-goes : (period turns : ℕ) (e o : EndRun) (d : ℕ → Deeds) → TwoEnds period turns e o → Breaking period turns e d → (x number : ℕ)
+pub ack-goes : {period turns : ℕ} {e o : EndRun} {d : ℕ → Deeds} → TwoEnds period turns e o → Breaking period turns e d → (x number : ℕ)
     → number < 2 → x + 6 ≤ turns → is_connected (e.account x).phase ≡ true → AllConnected e x 6
     → ((t : ℕ) → x ≤ t → t < x + 6 → of_arrived (of_word any_brk) (e.heard t) ≡ true
     → of_arrived (of_word (brk_of number)) (e.heard t) ≡ true) → NoAnswers d x 6
     → of_arrived (of_word (brk_of number)) (e.heard x) ≡ true
     → (z : ℕ) × (x ≤ z) × (z < x + 6) × (of_frame (of_word (ack_of number)) (e.slot z) ≡ true)
-ack-goes period turns e o d k h x number small within cx c same na asks = elim (so-far 6 (omega arith)) [
-  | inl y ↦ y
-  | inr all ↦ absurd (none-held all)
-]
+ack-goes {period} {turns} {e} {o} {d} k h x number small within cx c same na asks = elim
+    (until (λ t. of_frame (of_word (ack_of number)) (e.slot t) ≡ true) (λ t. ack_due_of number (e.account (t + 1)) ≡ true) x 6 step) [
+      | inl y ↦ y
+      | inr all ↦ absurd (none-held all)
+    ]
   where
     p : period ≡ 2 * (e.delay + o.delay) + 16
     p = k.period_is
@@ -150,9 +134,9 @@ ack-goes period turns e o d k h x number small within cx c same na asks = elim (
     none-held all =
         let held = all-held (sends_final e) (sends_poll e) (λ t. (d t).hurries) (λ t. (d t).acks) (λ t. was_special (e.account t))
         (λ t. (d t).answers) x 6 (λ t a b. (turn t a b).held_ack (any-due (e.account (t + 1)) (all t a b))) in
-        let one = once (sends_final e) (period - 1) turns (λ s t. replies-apart period turns e o k s t) x 6 (omega (arith, p)) within in
-        let one' = once (sends_poll e) (period - 1) turns (λ s t. polls-far period turns e o k s t) x 6 (omega (arith, p)) within in
-        let two = hurries-twice period turns e o d k h x 6 (omega (arith, p)) within c in
+        let one = once (sends_final e) (period - 1) turns (λ s t. replies-apart k s t) x 6 (omega (arith, p)) within in
+        let one' = once (sends_poll e) (period - 1) turns (λ s t. polls-far k s t) x 6 (omega (arith, p)) within in
+        let two = hurries-twice k h x 6 (omega (arith, p)) within c in
         let none = no-hits (λ t. (d t).acks) x 6 (λ t a b. unsent ((turn t a b).ack_from (any-due (e.account (t + 1)) (all t a b)))) in
         let five = after-acks (λ t. was_special (e.account t)) (λ t. (d t).acks) x 6
         (λ t a b q. absurd ((turn t a (omega (arith, b))).special_ack q (any-due (e.account (t + 1)) (all t a (omega (arith, b))))))
@@ -164,31 +148,16 @@ ack-goes period turns e o d k h x number small within cx c same na asks = elim (
         unsent (inl x) = x.1
         unsent (inr x) = x.1
 
-    step : (n : ℕ) → n < 6 → AckSent e number x n ⊎ AckDue e number x n → AckSent e number x (suc n) ⊎ AckDue e number x (suc n)
-    step n l (inl (z, a, b, q)) = inl (z, a, omega (arith, b), q)
-    step n l (inr all) = by (due-at n l all (of_arrived (of_word any_brk) (e.heard (x + n))) refl)
+    step : (t : ℕ) → x ≤ t → t < x + 6 → ((u : ℕ) → x ≤ u → u < t → ack_due_of number (e.account (u + 1)) ≡ true)
+        → (of_frame (of_word (ack_of number)) (e.slot t) ≡ true) ⊎ (ack_due_of number (e.account (t + 1)) ≡ true)
+    step t a b all = elim (due-at (of_arrived (of_word any_brk) (e.heard t)) refl) [ inl q ↦ inr q | inr q ↦ inl q ]
       where
-        due-at : (m : ℕ) → m < 6 → AckDue e number x m → (b : Bool) → of_arrived (of_word any_brk) (e.heard (x + m)) ≡ b
-            → (ack_due_of number (e.account (x + m + 1)) ≡ true) ⊎ (of_frame (of_word (ack_of number)) (e.slot (x + m)) ≡ true)
-        due-at m g f true q = (turn (x + m) (omega arith) (omega (arith, g))).asked number small
-            (connected (x + m) (omega arith) (omega (arith, g))) (same (x + m) (omega arith) (omega (arith, g)) q)
-        due-at zero g f false q = (turn (x + 0) (omega arith) (omega arith)).asked number small
-            (connected (x + 0) (omega arith) (omega arith)) (ap (λ y. of_arrived (of_word (brk_of number)) (e.heard y)) (omega arith)
-            ∙ asks)
-        due-at (suc m) g f false q = (turn (x + suc m) (omega arith) (omega (arith, g))).asked_on number small
-            (ap (λ y. ack_due_of number (e.account y)) (omega arith) ∙ f (x + m) (omega arith) (omega arith)) q
-
-        by : (ack_due_of number (e.account (x + n + 1)) ≡ true) ⊎ (of_frame (of_word (ack_of number)) (e.slot (x + n)) ≡ true)
-            → AckSent e number x (suc n) ⊎ AckDue e number x (suc n)
-        by (inr q) = inl (x + n, omega arith, omega arith, q)
-        by (inl q) = inr (λ t a b. elim (cases_lt t (x + n)) [ inl y ↦ all t a y | inr y ↦ at t (omega (arith, y, b)) ])
-          where
-            at : (t : ℕ) → t ≡ x + n → ack_due_of number (e.account (t + 1)) ≡ true
-            at t g = ap (λ y. ack_due_of number (e.account (y + 1))) g ∙ q
-
-    so-far : (n : ℕ) → n ≤ 6 → AckSent e number x n ⊎ AckDue e number x n
-    so-far n l = count n l
-      where
-        count : (m : ℕ) → m ≤ 6 → AckSent e number x m ⊎ AckDue e number x m
-        count zero g = inr (λ t a b. let wrong : ⊥ = omega (arith, a, b) in absurd wrong)
-        count (suc m) g = step m g (count m (omega (arith, g)))
+        due-at : (y : Bool) → of_arrived (of_word any_brk) (e.heard t) ≡ y
+            → (ack_due_of number (e.account (t + 1)) ≡ true) ⊎ (of_frame (of_word (ack_of number)) (e.slot t) ≡ true)
+        due-at true q = (turn t a b).asked number small (connected t a b) (same t a b q)
+        due-at false q = elim (cases_lt x t) [
+          | inl l ↦ (turn t a b).asked_on number small
+              (ap (λ y. ack_due_of number (e.account y)) (omega (arith, l)) ∙ all (t - 1) (omega (arith, l)) (omega (arith, l))) q
+          | inr g ↦ (turn t a b).asked number small (connected t a b)
+              (ap (λ y. of_arrived (of_word (brk_of number)) (e.heard y)) (omega (arith, a, g)) ∙ asks)
+        ]

@@ -1,67 +1,45 @@
 -- An end that gives up was starved.
 use Rattle.std.proofs.Common.{inl, inr, ◌≡◌, ◌≢◌, ℕ, ◌<◌, ◌≤◌, true, max, List, ◌∷◌, length, arith, sym, ◌∙◌, ap, subst}
-use Rattle.link_account.proofs.Names.{cases_lt, Role, Originator, Answerer, other, is_connected, IsAllowed}
-use Rattle.link_run.proofs.Names.{is_released, Link, Accounts, Turn, arrival, releases, RunsOver, LosesSome}
+use Rattle.link_account.proofs.Names.{cases_lt, Role, Originator, Answerer, other, is_connected, MayPlay}
+use Rattle.link_run.proofs.Names.{Accounts, Turn, releases, LosesSome}
 use Rattle.link_run.specs.Starved.{SpanLoses, IsStarved}
 use Rattle.turn_bound.specs.Together.{Together}
 use Rattle.turn_losses.proofs.Periods.{later-turn}
 use Rattle.turn_losses.specs.Losses.{OriginatorWantsAnswers, OriginatorIsStarved}
 use Rattle.turn_losses.proofs.AnswerTurn.{connected-is}
-use Rattle.turn_losses.proofs.Room.{begins-roomy}
-use Rattle.turn_losses.proofs.Tracing.{Known, known, Timed, timed, rated, Traced, traced}
-use Rattle.turn_losses.proofs.Numbering.{Plays, allowed, fits-at, counts-of}
+use Rattle.turn_losses.proofs.Tracing.{timed-run}
+use Rattle.turn_losses.proofs.Numbering.{Plays, counts-of}
 use Rattle.turn_losses.proofs.Wanting.{LastTry, last-try, wants-answers}
-use Rattle.turn_losses.proofs.Names.{KeepsTime, StandTogether, Rates, rates, IsOf, PeriodLoses, LosesEach, past}
+use Rattle.turn_losses.proofs.Names.{StandTogether, PeriodLoses, LosesEach, past, TimedRun}
+use Rattle.turn_losses.proofs.Clocks.{last}
 
-pub originator-each : Plays → StandTogether → (tries period : ℕ) (delay : Role → ℕ) (link : Link) (ts : List Turn) (before : Accounts)
-    → KeepsTime tries period delay link → RunsOver link delay ts before → LastTry tries period (length ts) before.orig
-    → LosesEach period tries (length ts) ts
-originator-each laws together tries period delay link ts before kt run last =
-    wants-answers tries period delay link ts w.state w.deed kt w.trace Originator
-    (counts-of laws tries period delay link ts w.state w.deed kt run.may_play w.trace Originator)
-    (subst (λ (x : Accounts). LastTry tries period (length ts) x.orig) (sym w.last) last) both
+-- both ends stand together before each turn
+pub peer-connected-at : StandTogether → (w : TimedRun) → (u : ℕ) → u ≤ length w.ts → is_connected (w.state u).orig.phase ≡ true
+    → is_connected (w.state u).answ.phase ≡ true
+peer-connected-at together w u l c = ap is_connected (by.answ (connected-is (w.state u).orig.phase c))
   where
-    w : Traced period delay link ts before
-    w = traced tries period delay link ts before kt run.run run.carried
-
-    joined : (x : Accounts) → Together x → is_connected x.orig.phase ≡ true → is_connected x.answ.phase ≡ true
-    joined x h c = ap is_connected (h.answ (connected-is x.orig.phase c))
-
-    both : (s u : ℕ) → s < length ts → s ≤ u → u ≤ length ts → (w.deed s).made Originator ≡ true
-        → is_connected (w.state s).orig.phase ≡ true → is_connected (w.state u).orig.phase ≡ true
-        → is_connected (w.state u).answ.phase ≡ true
-    both s u _ _ l _ _ = elim (cases_lt u (length ts)) [
-      | inl y ↦ (let h = w.trace.happens u y in joined (w.state u)
-          (together tries period delay link (past ts u) (w.state u) kt h.run h.carried))
-      | inr y ↦ joined (w.state u)
-          (subst Together (sym (ap w.state (same u l y) ∙ w.last)) (together tries period delay link ts before kt run.run run.carried))
+    by : Together (w.state u)
+    by = elim (cases_lt u (length w.ts)) [
+      | inl y ↦ (let h = w.trace.happens u y in
+          together w.tries w.period w.delay w.link (past w.ts u) (w.state u) w.keeps h.run h.carried)
+      | inr y ↦ subst Together (sym (ap w.state (omega (arith, l, y)) ∙ w.last))
+          (together w.tries w.period w.delay w.link w.ts w.ends w.keeps w.run w.carried)
     ]
-      where
-        same : (x : ℕ) → x ≤ length ts → length ts ≤ x → x ≡ length ts
-        same x a b = omega (arith, a, b)
+
+pub originator-each : Plays → StandTogether → (w : TimedRun) → MayPlay w.link.orig.setup w.link.answ.setup
+    → LastTry w.tries w.period (length w.ts) w.ends.orig → LosesEach w.period w.tries (length w.ts) w.ts
+originator-each laws together w may last = wants-answers w Originator (counts-of laws w may Originator)
+    (subst (λ (x : Accounts). LastTry w.tries w.period (length w.ts) x.orig) (sym w.last) last)
+    (λ s u a b l m c. peer-connected-at together w u l)
 
 pub originator-wants : Plays → StandTogether → OriginatorWantsAnswers
-originator-wants laws together tries period delay link ts before t mid segment since kt run cs broken cm quiet = originator-each laws
-    together tries period delay link ts before kt run last
+originator-wants laws together tries period delay link ts before t mid segment since kt run cs broken cm quiet =
+    originator-each laws together w run.may_play
+    (last-try laws w run.may_play t mid broken.hearing Originator (releases link (length ts) mid) _ (ap is_connected cm) quiet
+    broken.broken)
   where
-    z : Rates
-    z = rates tries period
-
-    k : Known z link (length ts) before Originator
-    k = known tries period delay link ts before kt run.run run.carried Originator
-
-    tm : Timed z link Originator
-    tm = timed tries period delay link kt Originator
-
-    last : LastTry tries period (length ts) before.orig
-    last = last-try tries period link.orig.user (length ts) Originator (arrival t.orig.heard) before.orig mid.orig
-        (is_released mid.orig.phase) (releases link (length ts) mid) _ (rated tries period delay link kt)
-        (subst (IsOf z) (sym k.setup) tm.is_of) k.stands (ap (λ x. x.role) k.setup ∙ tm.role_is) k.none_due
-        (λ u c. ((begins-roomy (arrival t.orig.heard) (length ts) before.orig mid.orig u
-        (fits-at laws link delay ts before run Originator)
-        (subst IsAllowed (ap (λ x. x.offer) (sym k.setup)) (allowed link run.may_play Originator))
-        (broken.hearing Originator).hears).so c).2)
-        (broken.hearing Originator).hears (ap is_connected cm) quiet broken.broken
+    w : TimedRun
+    w = timed-run tries period delay link ts before kt run.run run.carried
 
 -- the spans hold those periods
 span-loses : (period delay : ℕ) (t : Turn) (ts : List Turn) (n : ℕ) → PeriodLoses period (length ts) ts n

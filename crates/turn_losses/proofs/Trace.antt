@@ -4,6 +4,7 @@ use Rattle.link_run.proofs.Names.{is_closed, Link, Accounts, Spoken, Turn, RunOf
 use Rattle.std.specs.Prelude.{◌≡◌, ℕ, ◌+◌, ◌<◌, Bool, if◌then◌else◌, false, nat_lt, List, [], ◌∷◌, length, Option, Some, None}
 use Rattle.link_run.specs.Run.{Speaks}
 use Rattle.turn_bound.proofs.MeetHear.{of_arrived}
+use Rattle.turn_bound.specs.Time.{KeepsTime}
 use Rattle.turn_losses.specs.Polls.{is_poll, is_final}
 use Rattle.turn_losses.proofs.Answered.{AnswerTurn}
 use Rattle.turn_losses.proofs.Polling.{PollTurn}
@@ -47,3 +48,19 @@ pub record Trace (period : ℕ) (delay : Role → ℕ) (link : Link) (ts : List 
   pub starts : state 0 ≡ start link
   pub happens : (t : ℕ) → t < length ts → Happens period delay link (past ts t) t (state t) (deed t) (state (t + 1))
   pub grows : (t : ℕ) → t < length ts → past ts (t + 1) ≡ (deed t).turn ∷ past ts t
+
+-- A run over a line that carries what is sent, looked up by the turn.
+pub record TimedRun : Type 0 where
+  pub tries : ℕ
+  pub period : ℕ
+  pub delay : Role → ℕ
+  pub link : Link
+  pub ts : List Turn
+  pub ends : Accounts
+  pub keeps : KeepsTime tries period delay link
+  pub run : RunOf link ts ends
+  pub carried : IsCarried delay ts
+  pub state : ℕ → Accounts
+  pub deed : ℕ → Deed
+  pub trace : Trace period delay link ts state deed
+  pub last : state (length ts) ≡ ends

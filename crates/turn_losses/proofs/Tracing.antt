@@ -1,24 +1,21 @@
-use Rattle.std.proofs.Common.{◌⊎◌, inl, inr, ◌≡◌, ℕ, suc, ◌+◌, ◌*◌, ◌<◌, ◌≤◌, Bool, true, false, cond, nat_lt, List, [], ◌∷◌, length, arith}
-use Rattle.std.proofs.Common.{refl, sym, ◌∙◌, ap, subst, None, Ok, map}
-use Rattle.link_account.proofs.Names.{nat_tests, Role, Originator, Answerer, Arrived, Account, is_connected, hear, Said}
-use Rattle.link_account.proofs.Names.{speak, cases_lt, of}
-use Rattle.link_run.proofs.Names.{Phase, Detecting, Negotiating, Establishing, Connected, Releasing, Closed, User, is_busy, is_closed}
+use Rattle.std.proofs.Common.{◌⊎◌, inl, inr, ◌≡◌, ℕ, suc, ◌+◌, ◌<◌, ◌≤◌, Bool, true, false, cond, nat_lt, List, [], ◌∷◌, length, arith}
+use Rattle.std.proofs.Common.{refl, sym, ◌∙◌, ap, subst, None, Ok}
+use Rattle.link_account.proofs.Names.{nat_tests, Role, Originator, Answerer, Arrived, Account, is_connected, Said, speak, cases_lt, of}
+use Rattle.link_run.proofs.Names.{Phase, Detecting, Negotiating, Establishing, Connected, Releasing, Closed, is_busy, is_closed}
 use Rattle.link_run.proofs.Names.{is_released, Link, Accounts, Turn, RunOf, GoingTurn, start, arrival, served_at, said_at, releases}
 use Rattle.link_run.proofs.Names.{Carries, IsCarried}
-use Rattle.turn_bound.proofs.Falls.{Sound, Fits}
-use Rattle.turn_bound.proofs.Ending.{fits, sound-run}
-use Rattle.turn_bound.proofs.AtMostOne.{OneDue, one-hears, none-due-run}
-use Rattle.turn_losses.proofs.PollHear.{PollHeard, poll-hears}
+use Rattle.turn_bound.proofs.AtMostOne.{OneDue, one-hears}
+use Rattle.turn_losses.proofs.PollHear.{PollHeard}
 use Rattle.turn_losses.proofs.PollSpeak.{poll-speaks}
+use Rattle.turn_losses.proofs.InTurn.{InTurn, in-turn}
 use Rattle.turn_losses.proofs.PollTurn.{poll-turn}
 use Rattle.turn_losses.proofs.AnswerTurn.{end-answers, linked-sends}
 use Rattle.turn_losses.proofs.HeardCount.{CountKept, count-hears}
 use Rattle.turn_losses.proofs.Awaiting.{await-hears}
 use Rattle.turn_losses.proofs.Polling.{Early}
-use Rattle.turn_bound.proofs.Tied.{Tied, tied, keeps, link_of, turn_of, state_of, turns-length}
-use Rattle.turn_losses.proofs.Names.{Rates, AreRates, rates, IsOf, Stands, arrived_rnrs, served_account, heard-ok, hears-well, serves-well}
-use Rattle.turn_losses.proofs.Names.{NoneDue, Served, serves-all, Deed, Happens, Trace, past, sent_or, is_poll, is_final, of_arrived}
-use Rattle.turn_losses.proofs.Names.{is_linked, PollTurn, KeepsTime}
+use Rattle.turn_bound.proofs.Tied.{keeps}
+use Rattle.turn_losses.proofs.Names.{Rates, rates, Stands, Served, Deed, Happens, Trace, TimedRun, past, sent_or, is_poll, is_final}
+use Rattle.turn_losses.proofs.Names.{of_arrived, is_linked, PollTurn, KeepsTime}
 use Rattle.lapm_frames.specs.declared.heard.Heard.TheVariants as heards
 use Rattle.frame_check.specs.declared.check.Check.TheVariants as checks
 
@@ -43,12 +40,7 @@ served-heard role turn breaks busy polled a b c s h = record {
 pub silent-of : (z : Rates) (before turn : ℕ) (r : Role) (p : Phase) (a : Account) → Stands z before turn r p a → r ≡ Answerer
     → is_connected p ≡ true → a.numbered ≡ false → a.wait.timer ≡ None
 silent-of z before turn Answerer Connected a st e f n = (st.silent n).1
-silent-of z before turn Originator p a st e f n = cc
-silent-of z before turn Answerer Detecting a st e f n = cc
-silent-of z before turn Answerer Negotiating a st e f n = cc
-silent-of z before turn Answerer Establishing a st e f n = cc
-silent-of z before turn Answerer Releasing a st e f n = cc
-silent-of z before turn Answerer Closed a st e f n = cc
+silent-of z before turn q x a st e f n = cc
 
 pub untimed-of : (z : Rates) (before turn : ℕ) (r : Role) (p : Phase) (a : Account) → Stands z before turn r p a → is_linked p ≡ false
     → a.wait.timer ≡ None
@@ -63,90 +55,40 @@ untimed-of z before turn r Releasing a st e = cc
 untimed-of z before turn r Closed a st e = cc
 
 -- a turn of one end
-end-polls : (z : Rates) (user : User) (turn : ℕ) (role : Role) (arrived : Arrived) (a mid : Account) (released release : Bool) (said : Said)
-    → AreRates z → IsOf z a.setup → Stands z turn turn role a.phase a → a.setup.role ≡ role
-    → hear turn arrived a ≡ Ok mid → speak turn release (served_account user turn released mid) ≡ Ok said → NoneDue a → Early role a
-    → (made : Bool) × PollTurn z.period turn role (of_arrived is_poll arrived)
-    (of_arrived is_final arrived) made mid.outgoing.count said.sent a said.account
-end-polls z user turn role arrived a mid released release said y k h er hears speaks none early =
-    let b : Account = served_account user turn released mid in
-    let heard = heard-ok z (length a.outgoing.pieces) (length user.breaks) turn (z.quota * arrived_rnrs arrived) role a.phase a mid
-    (hear turn arrived a) hears
-    (hears-well z (length a.outgoing.pieces) (length user.breaks) turn role a.phase arrived a y k h refl er (omega arith)) in
-    let s = serves-all user turn released mid in
-    let serves = serves-well z (length a.outgoing.pieces) (length user.breaks) turn
-    (is_busy turn user.busy) role heard.0 mid b y heard.1.stands heard.1.phase s in
-    let one = one-hears role arrived turn a mid er none hears in
-    let long = y.period in
-    poll-turn z.period turn role (of_arrived is_poll arrived) (of_arrived is_final arrived) a b said (omega (arith, long))
-    (served-heard role turn (length user.breaks) (is_busy turn user.busy) (of_arrived is_poll arrived) a mid b s
-    (poll-hears role arrived turn a er none.answer mid hears))
-    (poll-speaks turn release b said speaks)
-    (record {
-      one = served-one mid b s one;
-      calm = λ c x. s.reply ∙ one.calm (ap is_connected (sym s.phase) ∙ c) (ap is_released (sym s.phase) ∙ x);
-      none = λ r c. s.answer ∙ one.none r (ap is_closed (sym s.phase) ∙ c);
-    })
-    none early (λ e. untimed-of z turn turn role a.phase a h e)
-    (λ r e n. silent-of z (turn + 1) turn role heard.0 b serves.stands r (ap is_connected (sym (s.phase ∙ heard.1.phase)) ∙ e) n)
-    (ap (λ x. x.period) (s.setup ∙ heard.1.setup) ∙ k.period)
-    (λ e. ap (λ o. o.awaited) s.longer.outgoing ∙ await-hears arrived turn a mid e hears)
-    mid.outgoing.count (ap (λ o. o.count) s.longer.outgoing)
-    (λ e. served-count mid b s (count-hears z arrived turn a mid e (linked-sends z turn turn role a.phase a h e) hears))
-  where
-    served-count : (m c : Account) → Served turn (length user.breaks) (is_busy turn user.busy) m c → CountKept a m
-        → (m.outgoing.count ≡ 0) ⊎ ((m.outgoing.count ≡ a.outgoing.count) × (c.wait.timer ≡ a.wait.timer))
-    served-count m c s (inl x) = inl x
-    served-count m c s (inr (x, y)) = inr (x, ap (λ w. w.timer) s.wait ∙ y)
+module _ {tries period : ℕ} {link : Link} {role : Role} {turn : ℕ} {a : Account} {arrived : Arrived} {mid b : Account}
+    (i : InTurn tries period link role turn a arrived mid b) where
+  served-count : CountKept a mid → (mid.outgoing.count ≡ 0) ⊎ ((mid.outgoing.count ≡ a.outgoing.count) × (b.wait.timer ≡ a.wait.timer))
+  served-count (inl x) = inl x
+  served-count (inr (x, y)) = inr (x, ap (λ w. w.timer) i.served.wait ∙ y)
 
-    served-one : (m c : Account) → Served turn (length user.breaks) (is_busy turn user.busy) m c → OneDue role m
-        → (c.owes.answer ≡ None) ⊎ (is_released c.phase ≡ false → c.owes.reply ≡ false)
-    served-one m c s o = elim o.one [ inl n ↦ inl (s.answer ∙ n) | inr f ↦ inr (λ x. s.reply ∙ f (ap is_released (sym s.phase) ∙ x)) ]
+  served-one : OneDue role mid → (b.owes.answer ≡ None) ⊎ (is_released b.phase ≡ false → b.owes.reply ≡ false)
+  served-one o = let s = i.served in elim o.one [
+    | inl n ↦ inl (s.answer ∙ n)
+    | inr f ↦ inr (λ x. s.reply ∙ f (ap is_released (sym s.phase) ∙ x))
+  ]
 
--- what is known of each end between turns
-pub record Known (z : Rates) (link : Link) (turn : ℕ) (ends : Accounts) (role : Role) : Type 0 where
-  pub stands : Stands z turn turn role (of role ends).phase (of role ends)
-  pub setup : (of role ends).setup ≡ (of role link).setup
-  pub none_due : NoneDue (of role ends)
-
-pub record Timed (z : Rates) (link : Link) (role : Role) : Type 0 where
-  pub role_is : (of role link).setup.role ≡ role
-  pub is_of : IsOf z (of role link).setup
-
-pub timed : (tries period : ℕ) (delay : Role → ℕ) (link : Link) → KeepsTime tries period delay link → (role : Role)
-    → Timed (rates tries period) link role
-timed tries period delay link k role = record {
-  role_is = k.roles role;
-  is_of = let t = k.timed role in record { tries = t.tries_are; period = t.period_is; tx_window = t.tx_window; rx_window = t.rx_window };
-}
-
-pub rated : (tries period : ℕ) (delay : Role → ℕ) (link : Link) → KeepsTime tries period delay link → AreRates (rates tries period)
-rated tries period delay link k = (fits tries period (link_of delay link) (keeps tries period delay link k)).rates
-
-pub known : (tries period : ℕ) (delay : Role → ℕ) (link : Link) (ts : List Turn) (ends : Accounts) → KeepsTime tries period delay link
-    → RunOf link ts ends → IsCarried delay ts
-    → (role : Role) → Known (rates tries period) link (length ts) ends role
-known tries period delay link ts ends k run c role = by role
-  where
-    z : Rates
-    z = rates tries period
-
-    i : Tied delay link ts ends
-    i = tied delay link ts ends k.delays run c
-
-    f : Fits z (link_of delay link)
-    f = fits tries period (link_of delay link) (keeps tries period delay link k)
-
-    h : Sound z (link_of delay link) (length ts) (state_of ends i.forward i.back)
-    h = subst (λ n. Sound z (link_of delay link) n (state_of ends i.forward i.back)) (turns-length ts)
-        (sound-run z (link_of delay link) (map turn_of ts) (state_of ends i.forward i.back) f i.run)
-
-    n : NoneDue ends.orig × NoneDue ends.answ
-    n = none-due-run z (link_of delay link) (map turn_of ts) (state_of ends i.forward i.back) f i.run
-
-    by : (r : Role) → Known z link (length ts) ends r
-    by Originator = record { stands = h.orig; setup = h.orig_setup; none_due = n.0 }
-    by Answerer = record { stands = h.answ; setup = h.answ_setup; none_due = n.1 }
+  end-polls : (release : Bool) (said : Said) → speak turn release b ≡ Ok said → Early role a
+      → (made : Bool) × PollTurn period turn role (of_arrived is_poll arrived)
+      (of_arrived is_final arrived) made mid.outgoing.count said.sent a said.account
+  end-polls release said speaks early =
+      let z : Rates = rates tries period in
+      let s = i.served in
+      let one = one-hears role arrived turn a mid i.role_is i.none_due i.hears in
+      poll-turn period turn role (of_arrived is_poll arrived) (of_arrived is_final arrived) a b said i.long
+      (served-heard role turn (length (of role link).user.breaks) (is_busy turn (of role link).user.busy) (of_arrived is_poll arrived) a mid
+      b
+      s i.polls)
+      (poll-speaks turn release b said speaks)
+      (record {
+        one = served-one one;
+        calm = λ c x. s.reply ∙ one.calm (ap is_connected (sym s.phase) ∙ c) (ap is_released (sym s.phase) ∙ x);
+        none = λ r c. s.answer ∙ one.none r (ap is_closed (sym s.phase) ∙ c);
+      })
+      i.none_due early (λ e. untimed-of z turn turn role a.phase a i.stands e)
+      (λ r e n. silent-of z (turn + 1) turn role i.phase b i.b_stands r (ap is_connected (sym (s.phase ∙ i.heard.phase)) ∙ e) n)
+      i.b_period (λ e. ap (λ o. o.awaited) s.longer.outgoing ∙ await-hears arrived turn a mid e i.hears)
+      mid.outgoing.count (ap (λ o. o.count) s.longer.outgoing)
+      (λ e. served-count (count-hears z arrived turn a mid e (linked-sends z turn turn role a.phase a i.stands e) i.hears))
 
 -- an end speaks as its role does
 abbrev pub release_of : Link → ℕ → Accounts → Role → Bool
@@ -186,30 +128,21 @@ turn-happens tries period delay link ts before t after k run c cs g early = (
         (subst (λ x. PollTurn period (length ts) role (of_arrived is_poll (arrival (of role t).heard))
         (of_arrived is_final (arrival (of role t).heard)) (polls role).0 (of role g.mid).outgoing.count s.said.sent (of role before) x)
         (sym s.after_is) (polls role).1);
-    answers = λ role.
-        let w = known tries period delay link ts before k run c role in
-        let m = timed tries period delay link k role in
-        end-answers z (of role link).user (length ts) role (arrival (of role t).heard) (of role before) (of role g.mid)
-        (is_released g.mid.orig.phase) (release_of link (length ts) g.mid role) (g.speaking role).said
-        (rated tries period delay link k) (subst (IsOf z) (sym w.setup) m.is_of) w.stands (ap (λ x. x.role) w.setup ∙ m.role_is)
-        (g.hearing role).hears (sym (said-as link (length ts) g.mid role) ∙ (g.speaking role).says) w.none_due;
+    answers = λ role. end-answers (at role) (release_of link (length ts) g.mid role) (g.speaking role).said
+        (sym (said-as link (length ts) g.mid role) ∙ (g.speaking role).says);
   },
 )
   where
-    z : Rates
-    z = rates tries period
+    at : (r : Role) → InTurn tries period link r (length ts) (of r before) (arrival (of r t).heard) (of r g.mid)
+        (served_at link (length ts) g.mid r).account
+    at = in-turn tries period delay link ts before k run c t g.mid g.hearing
 
     polls : (role : Role)
         → (made : Bool) × PollTurn period (length ts) role (of_arrived is_poll (arrival (of role t).heard))
         (of_arrived is_final (arrival (of role t).heard)) made (of role g.mid).outgoing.count (g.speaking role).said.sent (of role before)
         (g.speaking role).said.account
-    polls role =
-        let w = known tries period delay link ts before k run c role in
-        let m = timed tries period delay link k role in
-        end-polls z (of role link).user (length ts) role (arrival (of role t).heard) (of role before) (of role g.mid)
-        (is_released g.mid.orig.phase) (release_of link (length ts) g.mid role) (g.speaking role).said
-        (rated tries period delay link k) (subst (IsOf z) (sym w.setup) m.is_of) w.stands (ap (λ x. x.role) w.setup ∙ m.role_is)
-        (g.hearing role).hears (sym (said-as link (length ts) g.mid role) ∙ (g.speaking role).says) w.none_due (early role)
+    polls role = end-polls (at role) (release_of link (length ts) g.mid role) (g.speaking role).said
+        (sym (said-as link (length ts) g.mid role) ∙ (g.speaking role).says) (early role)
 
 -- a run as it is looked up
 pub record Traced (period : ℕ) (delay : Role → ℕ) (link : Link) (ts : List Turn) (ends : Accounts) : Type 0 where
@@ -360,6 +293,29 @@ traced tries period delay link (t ∷ ts) ends k (before, run, g) c =
     let w = traced tries period delay link ts before k run c.1 in
     let d = turn-happens tries period delay link ts before t ends k run c.1 c.0 g w.early in
     (longer period delay link ts before t d.0 ends w d.1 d.2).traced
+
+abbrev pub timed-of : (tries period : ℕ) (delay : Role → ℕ) (link : Link) (ts : List Turn) (ends : Accounts)
+    → KeepsTime tries period delay link → RunOf link ts ends → IsCarried delay ts → Traced period delay link ts ends → TimedRun
+timed-of tries period delay link ts ends k run c w = record {
+  tries = tries;
+  period = period;
+  delay = delay;
+  link = link;
+  ts = ts;
+  ends = ends;
+  keeps = k;
+  run = run;
+  carried = c;
+  state = w.state;
+  deed = w.deed;
+  trace = w.trace;
+  last = w.last;
+}
+
+abbrev pub timed-run : (tries period : ℕ) (delay : Role → ℕ) (link : Link) (ts : List Turn) (ends : Accounts)
+    → KeepsTime tries period delay link → RunOf link ts ends → IsCarried delay ts → TimedRun
+timed-run tries period delay link ts ends k run c = timed-of tries period delay link ts ends k run c
+    (traced tries period delay link ts ends k run c)
 
 -- and so is one more turn of it
 pub traced-turn : (tries period : ℕ) (delay : Role → ℕ) (link : Link) (ts : List Turn) (before : Accounts) (t : Turn) (after : Accounts)

@@ -2,10 +2,14 @@
 use Rattle.std.proofs.Common.{◌≡◌, ◌&&◌, ◌||◌, Bool, true, false, refl, sym, ◌∙◌}
 use Rattle.link_account.proofs.Names.{is_connected}
 use Rattle.link_run.proofs.Names.{Phase, Connected}
-use Rattle.turn_losses.proofs.Polling.{is_linked}
+use Rattle.turn_losses.proofs.Names.{is_linked}
 
 pub clash : {A : Type 0} (b : Bool) → b ≡ true → b ≡ false → A
 clash b e f = let wrong : true ≡ false = sym e ∙ f in cc
+
+pub is-true : (b : Bool) → (b ≡ false → ⊥) → b ≡ true
+is-true true f = refl
+is-true false f = absurd (f refl)
 
 pub not-true : (b : Bool) → (b ≡ true → ⊥) → b ≡ false
 not-true true f = absurd (f refl)
@@ -21,6 +25,10 @@ and-two false c e = cc
 
 pub and-second : (b c : Bool) → b && c ≡ true → c ≡ true
 and-second b c e = (and-two b c e).1
+
+pub and-not : (b c : Bool) → b ≡ true → b && c ≡ false → c ≡ false
+and-not true c e f = f
+and-not false c e f = cc
 
 pub and-drop : (b c : Bool) → c ≡ false → b && c ≡ false
 and-drop true c e = e

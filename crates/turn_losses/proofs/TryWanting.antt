@@ -1,19 +1,20 @@
 -- An originator that gives up while it tries a frame.
-use Rattle.std.proofs.Common.{◌⊎◌, inl, inr, ◌≡◌, ℕ, ◌+◌, ◌*◌, ◌≤◌, Bool, true, false, cond, nat_le, length, arith, refl}
-use Rattle.std.proofs.Common.{sym, ◌∙◌, ap, Ok, Err}
-use Rattle.link_account.proofs.Names.{Originator, Frame, Sabme, Disc, Xid, written, ReadsWritten, Spent, NotDetected}
-use Rattle.link_account.proofs.Names.{Account, is_connected, says, speak, speak_in}
-use Rattle.link_run.proofs.Names.{Phase, Detecting, Negotiating, Establishing, Connected, Releasing, Closed, is_busy, is_released}
-use Rattle.link_run.proofs.Names.{is_closed, Accounts, arrival, served_at, releases}
+use Rattle.std.proofs.Common.{◌⊎◌, inl, inr, ◌≡◌, ℕ, ◌+◌, ◌*◌, Bool, true, false, cond, nat_le, length, arith, refl, sym, ◌∙◌, ap, Ok, Err}
+use Rattle.link_account.proofs.Names.{Originator, Frame, Sabme, Disc, Xid, written, ReadsWritten, Spent, NotDetected, Account, is_connected}
+use Rattle.link_account.proofs.Names.{says, speak, speak_in}
+use Rattle.link_run.proofs.Names.{Phase, Detecting, Negotiating, Establishing, Connected, Releasing, Closed, is_closed, Accounts, arrival}
+use Rattle.link_run.proofs.Names.{served_at, releases}
 use Rattle.link_account.specs.Speak.{speak_detecting, speak_negotiating, u_try}
 use Rattle.turn_losses.proofs.Periods.{once, loses-of}
-use Rattle.turn_losses.proofs.Tracing.{Traced, traced}
+use Rattle.turn_losses.proofs.Tracing.{timed-run}
 use Rattle.turn_losses.proofs.Starving.{all-but-one}
 use Rattle.turn_losses.specs.Tries.{OriginatorWantsFrame}
 use Rattle.turn_losses.proofs.Moving.{is_trying, try-heard, TryGoesOn, TryBegins, try-spent}
-use Rattle.turn_losses.proofs.Setups.{start-setup, heard-setup, served-setup}
 use Rattle.turn_losses.proofs.Trying.{TriesSo, tries-so, unanswered, unanswered-loses}
-use Rattle.turn_losses.proofs.Names.{Served, serves-all, LosesEach, EndRun, end_run}
+use Rattle.turn_losses.proofs.Names.{LosesEach, EndRun, TimedRun, end_of}
+use Rattle.turn_losses.proofs.InTurn.{InTurn}
+use Rattle.turn_losses.proofs.Truths.{clash}
+use Rattle.turn_losses.proofs.EndTurn.{last-turn, starts-fresh}
 use Rattle.lapm_frames.specs.declared.sent.Sent.TheVariants as slots
 
 -- which try is spent
@@ -47,61 +48,47 @@ originator-wants-frame reads tries period delay link ts before t mid segment sin
     turns : ℕ
     turns = length ts
 
-    w : Traced period delay link ts before
-    w = traced tries period delay link ts before kt run.run run.carried
+    w : TimedRun
+    w = timed-run tries period delay link ts before kt run.run run.carried
 
     e : EndRun
-    e = end_run delay w.state w.deed Originator
-
-    long : 1 ≤ period
-    long = let q = kt.period_is in omega (arith, q)
+    e = end_of w Originator
 
     b : Account
     b = (served_at link turns mid Originator).account
 
-    s : Served turns (length link.orig.user.breaks) (is_busy turns link.orig.user.busy) mid.orig b
-    s = serves-all link.orig.user turns (is_released mid.orig.phase) mid.orig
-
-    b-setup : b.setup ≡ link.orig.setup
-    b-setup = served-setup link.orig.user turns (is_released mid.orig.phase) mid.orig
-        ∙ heard-setup tries period delay link ts before kt run.run run.carried Originator (arrival t.orig.heard) mid.orig
-        (broken.hearing Originator).hears
+    i : InTurn tries period link Originator turns before.orig (arrival t.orig.heard) mid.orig b
+    i = last-turn w t mid broken.hearing Originator
 
     why : (is_trying b.phase ≡ true) × (turns ≡ b.wait.try_set + b.setup.period) × (b.wait.try_count ≡ b.setup.tries)
-    why = which-try turns (releases link turns mid) b segment since (ap (λ x. x.role) b-setup ∙ kt.roles Originator)
-        (ap is_connected s.phase ∙ unlinked) (ap is_closed s.phase ∙ broken.going) broken.broken
+    why = which-try turns (releases link turns mid) b segment since i.b_role (ap is_connected i.served.phase ∙ unlinked)
+        (ap is_closed i.served.phase ∙ broken.going) broken.broken
 
     p : Phase
     p = mid.orig.phase
 
     trying : is_trying p ≡ true
-    trying = ap is_trying (sym s.phase) ∙ why.0
-
-    set-is : b.wait.try_set ≡ mid.orig.wait.try_set
-    set-is = ap (λ v. v.try_set) s.wait
+    trying = ap is_trying (sym i.served.phase) ∙ why.0
 
     due : turns ≡ mid.orig.wait.try_set + period
-    due = let q = why.1 in let r = ap (λ x. x.period) b-setup ∙ (kt.timed Originator).period_is in omega (arith, q, r, set-is)
+    due = let q = why.1 in let set = ap (λ v. v.try_set) i.served.wait in omega (arith, q, i.b_period, set)
 
     count : mid.orig.wait.try_count ≡ tries
-    count = ap (λ v. v.try_count) (sym s.wait) ∙ (why.2 ∙ (ap (λ x. x.tries) b-setup ∙ (kt.timed Originator).tries_are))
+    count = ap (λ v. v.try_count) (sym i.served.wait) ∙ (why.2 ∙ i.b_tries)
 
     tries-on : TriesSo period turns p e
-    tries-on = tries-so reads tries period delay link ts w.state w.deed kt run.may_play w.trace p trying
+    tries-on = tries-so reads w run.may_play p trying
 
     none : (w.state 0).orig.phase ≡ p → ⊥
-    none q = let there : is_trying Detecting ≡ true = ap (λ (x : Accounts). is_trying x.orig.phase) (sym w.trace.starts)
-        ∙ (ap is_trying q ∙ trying) in cc
+    none q = clash (is_trying p) trying (ap is_trying (sym q) ∙ ap (λ (x : Account). is_trying x.phase) (starts-fresh w Originator))
 
     goes-on : TryGoesOn p (arrival t.orig.heard) before.orig mid.orig ⊎ TryBegins turns p before.orig mid.orig
         → TryGoesOn p (arrival t.orig.heard) before.orig mid.orig
     goes-on (inl x) = x
-    goes-on (inr (_, _, _, set, _)) = absurd (omega (arith, set, due, long))
+    goes-on (inr (_, _, _, set, _)) = absurd (omega (arith, set, due, i.long))
 
     still : TryGoesOn p (arrival t.orig.heard) before.orig mid.orig
-    still = goes-on (try-heard (arrival t.orig.heard) turns before.orig mid.orig
-        (ap (λ x. x.role) (start-setup tries period delay link ts before kt run.run run.carried Originator) ∙ kt.roles Originator)
-        (broken.hearing Originator).hears p trying refl)
+    still = goes-on (try-heard (arrival t.orig.heard) turns before.orig mid.orig i.role_is i.hears p trying refl)
 
     account-is : (w.state turns).orig ≡ before.orig
     account-is = ap (λ (x : Accounts). x.orig) w.last
@@ -115,6 +102,5 @@ originator-wants-frame reads tries period delay link ts before t mid segment sin
         (omega (arith, less)) in
         let one = once period n in
         let q = x.1 in
-        loses-of period delay link ts w.state w.deed w.trace Originator x.0 n long q
-        (unanswered-loses reads tries period delay link ts w.state w.deed kt run.may_play w.trace p trying x.0
-        (omega (arith, q, one)) x.2)
+        loses-of w Originator x.0 n i.long q
+        (unanswered-loses reads w run.may_play p trying x.0 (omega (arith, q, one)) x.2)

@@ -1,14 +1,14 @@
 -- The tries of an originator by the turn: when each went, and what is lost where none is answered.
-use Rattle.std.proofs.Common.{◌⊎◌, inl, inr, ◌≡◌, ℕ, ◌+◌, ◌-◌, ◌*◌, ◌<◌, ◌≤◌, not, Bool, true, false, List, length, arith, refl, sym, ◌∙◌}
-use Rattle.std.proofs.Common.{ap, subst, Some, Ok}
-use Rattle.link_account.proofs.Names.{is_some, cases_lt, Role, Originator, Answerer, offer_in, written, IsAllowed, ReadsWritten, Sent}
-use Rattle.link_account.proofs.Names.{Arrived, Account, hear, MayPlay, Said, speak}
-use Rattle.link_run.proofs.Names.{Phase, Detecting, Negotiating, Establishing, Connected, Releasing, Closed, Setup, User, is_busy}
-use Rattle.link_run.proofs.Names.{is_released, is_closed, Link, Accounts, Turn, SpeaksAt, arrival, served_at, said_at}
+use Rattle.std.proofs.Common.{◌⊎◌, inl, inr, ◌≡◌, ℕ, ◌+◌, ◌-◌, ◌*◌, ◌<◌, ◌≤◌, not, Bool, true, false, length, arith, refl, sym, ◌∙◌, ap}
+use Rattle.std.proofs.Common.{subst, Ok}
+use Rattle.link_account.proofs.Names.{is_some, cases_lt, Originator, Answerer, offer_in, written, ReadsWritten, Sent, Arrived, Account}
+use Rattle.link_account.proofs.Names.{MayPlay, Said, speak}
+use Rattle.link_run.proofs.Names.{Phase, Detecting, Negotiating, Establishing, Connected, Releasing, Closed, is_released, is_closed}
+use Rattle.link_run.proofs.Names.{arrival, Link}
 use Rattle.turn_losses.proofs.Truths.{not-true}
 use Rattle.turn_losses.proofs.Numbering.{allowed}
 use Rattle.turn_losses.proofs.Numbered.{numbered-linked}
-use Rattle.turn_losses.proofs.Tracing.{known, release_of}
+use Rattle.turn_losses.proofs.Tracing.{release_of}
 use Rattle.turn_losses.proofs.LineLaw.{is-heard}
 use Rattle.turn_losses.proofs.PollLaws.{two-ends}
 use Rattle.turn_losses.proofs.PeriodLaws.{NoneLost}
@@ -16,12 +16,13 @@ use Rattle.turn_losses.proofs.PeriodHolds.{LostIn, lost-or-none}
 use Rattle.turn_losses.proofs.Moving.{is_trying, asks, moves_on, TryGoesOn, TryBegins, try-heard, TriesAgain, TryStands, TryIsNew, try-says}
 use Rattle.turn_losses.proofs.Moving.{releasing-stays}
 use Rattle.turn_losses.proofs.TryAnswering.{can_answer, AnswerDue, answer-due, says-due}
-use Rattle.turn_losses.proofs.Setups.{start-setup, heard-setup, served-setup, Met, met}
+use Rattle.turn_losses.proofs.Setups.{Met, met}
 use Rattle.turn_losses.proofs.Phasing.{is_established, begun-established}
 use Rattle.turn_losses.proofs.Clocks.{Ticked, Unanswered, last, chain}
-use Rattle.turn_losses.proofs.Names.{KeepsTime, rates, Stands, is_begun, of_frame, of_arrived, served_account, Served, serves-all}
-use Rattle.turn_losses.proofs.Names.{is_linked, Deed, Happens, Trace, past, sent_or, EndRun, TwoEnds, end_run}
+use Rattle.turn_losses.proofs.Names.{rates, Stands, is_begun, of_frame, of_arrived, is_linked, sent_or, EndRun, TwoEnds, TimedRun, end_of}
 use Rattle.turn_losses.proofs.Clocks.Ticked.{Begins, Expires, Stays}
+use Rattle.turn_losses.proofs.EndTurn.{EndTurn, end-turn}
+use Rattle.turn_losses.proofs.InTurn.{InTurn}
 
 -- A turn after which an end tries: the try begins in it, or goes on unanswered, and goes again or not.
 abbrev pub GoesUnanswered : Phase → Arrived → Account → Type 0
@@ -35,59 +36,49 @@ TryTurn period turn p arrived sent a c =
     ⊎ (GoesUnanswered p arrived a × (turn ≡ a.wait.try_set + period → ⊥) × (c.wait.try_set ≡ a.wait.try_set)
     × (c.wait.try_count ≡ a.wait.try_count))
 
-try-turn : (user : User) (period turn : ℕ) (p : Phase) (arrived : Arrived) (a mid : Account) (released release : Bool) (said : Said)
-    → a.setup.role ≡ Originator → mid.setup.role ≡ Originator → mid.setup.period ≡ period → 1 ≤ period
-    → is_some (offer_in (written mid.setup.offer)) ≡ true → hear turn arrived a ≡ Ok mid
-    → speak turn release (served_account user turn released mid) ≡ Ok said → is_trying p ≡ true → said.account.phase ≡ p
-    → TryTurn period turn p arrived said.sent a said.account
-try-turn user period turn p arrived a mid released release said r r' per long offers hears speaks t e = go said-so
-  where
-    b : Account
-    b = served_account user turn released mid
+module _ {tries period : ℕ} {link : Link} {turn : ℕ} {a : Account} {arrived : Arrived} {mid b : Account} {said : Said}
+    (i : InTurn tries period link Originator turn a arrived mid b) where
+  try-turn : (release : Bool) → is_some (offer_in (written link.orig.setup.offer)) ≡ true → speak turn release b ≡ Ok said → (p : Phase)
+      → is_trying p ≡ true → said.account.phase ≡ p → TryTurn period turn p arrived said.sent a said.account
+  try-turn release offers speaks p t e = go (try-says turn release b said i.b_role (omega (arith, i.b_period, i.long))
+      (ap (λ x. is_some (offer_in (written x.offer))) i.b_setup ∙ offers) speaks p t e)
+    where
+      heard : mid.phase ≡ p → TryGoesOn p arrived a mid ⊎ TryBegins turn p a mid
+      heard f = try-heard arrived turn a mid i.role_is i.hears p t f
 
-    s : Served turn (length user.breaks) (is_busy turn user.busy) mid b
-    s = serves-all user turn released mid
+      set-is : b.wait.try_set ≡ mid.wait.try_set
+      set-is = ap (λ w. w.try_set) i.served.wait
 
-    heard : mid.phase ≡ p → TryGoesOn p arrived a mid ⊎ TryBegins turn p a mid
-    heard f = try-heard arrived turn a mid r hears p t f
+      again : TryGoesOn p arrived a mid ⊎ TryBegins turn p a mid → TriesAgain p turn b said
+          → TryTurn period turn p arrived said.sent a said.account
+      again (inl (x, w, n)) (due, set, count, sends) =
+          let same = ap (λ v. v.try_set) w in let same' = ap (λ v. v.try_count) w in let bc = ap (λ v. v.try_count) i.served.wait in
+          inr (inl ((x, n), omega (arith, due, set-is, same, i.b_period), set, omega (arith, count, bc, same'), sends))
+      again (inr (x, y, try, set', count')) (due, set, count, sends) = absurd (omega (arith, due, set-is, set', i.b_period, i.long))
 
-    said-so : ((b.phase ≡ p) × (TriesAgain p turn b said ⊎ TryStands p turn b said)) ⊎ TryIsNew p turn b said
-    said-so = try-says turn release b said (ap (λ x. x.role) s.setup ∙ r')
-        (let q = ap (λ x. x.period) s.setup in omega (arith, q, per, long)) (ap (λ x. is_some (offer_in (written x.offer))) s.setup
-        ∙ offers) speaks p t e
+      stands : TryGoesOn p arrived a mid ⊎ TryBegins turn p a mid → TryStands p turn b said
+          → TryTurn period turn p arrived said.sent a said.account
+      stands (inl (x, w, n)) (due, set, count, sends) =
+          let same = ap (λ v. v.try_set) w in
+          inr (inr (
+            (x, n),
+            (λ q. due (omega (arith, q, set-is, same, i.b_period))),
+            set ∙ (set-is ∙ same),
+            count ∙ (ap (λ v. v.try_count) i.served.wait ∙ ap (λ v. v.try_count) w),
+          ))
+      stands (inr (x, y, try, set', count')) (due, set, count, sends) = inl
+          (x, set ∙ (set-is ∙ set'), count ∙ (ap (λ v. v.try_count) i.served.wait ∙ count'), sends (ap (λ v. v.try) i.served.wait ∙ try))
 
-    set-is : b.wait.try_set ≡ mid.wait.try_set
-    set-is = ap (λ w. w.try_set) s.wait
-
-    b-period : b.setup.period ≡ period
-    b-period = ap (λ x. x.period) s.setup ∙ per
-
-    again : TryGoesOn p arrived a mid ⊎ TryBegins turn p a mid → TriesAgain p turn b said
-        → TryTurn period turn p arrived said.sent a said.account
-    again (inl (x, w, n)) (due, set, count, sends) =
-        let same = ap (λ v. v.try_set) w in let same' = ap (λ v. v.try_count) w in let bc = ap (λ v. v.try_count) s.wait in
-        inr (inl ((x, n), omega (arith, due, set-is, same, b-period), set, omega (arith, count, bc, same'), sends))
-    again (inr (x, y, try, set', count')) (due, set, count, sends) = absurd (omega (arith, due, set-is, set', b-period, long))
-
-    stands : TryGoesOn p arrived a mid ⊎ TryBegins turn p a mid → TryStands p turn b said
-        → TryTurn period turn p arrived said.sent a said.account
-    stands (inl (x, w, n)) (due, set, count, sends) =
-        let same = ap (λ v. v.try_set) w in
-        inr (inr (
-          (x, n),
-          (λ q. due (omega (arith, q, set-is, same, b-period))),
-          set ∙ (set-is ∙ same),
-          count
-              ∙ (ap (λ v. v.try_count) s.wait ∙ ap (λ v. v.try_count) w),
-        ))
-    stands (inr (x, y, try, set', count')) (due, set, count, sends) = inl
-        (x, set ∙ (set-is ∙ set'), count ∙ (ap (λ v. v.try_count) s.wait ∙ count'), sends (ap (λ v. v.try) s.wait ∙ try))
-
-    go : ((b.phase ≡ p) × (TriesAgain p turn b said ⊎ TryStands p turn b said)) ⊎ TryIsNew p turn b said
-        → TryTurn period turn p arrived said.sent a said.account
-    go (inl (f, inl x)) = again (heard (sym s.phase ∙ f)) x
-    go (inl (f, inr x)) = stands (heard (sym s.phase ∙ f)) x
-    go (inr (f, q, set, count, sends)) = inl ((λ x. releasing-stays arrived turn a mid (x ∙ q) hears (sym s.phase ∙ f)), set, count, sends)
+      go : ((b.phase ≡ p) × (TriesAgain p turn b said ⊎ TryStands p turn b said)) ⊎ TryIsNew p turn b said
+          → TryTurn period turn p arrived said.sent a said.account
+      go (inl (f, inl x)) = again (heard (sym i.served.phase ∙ f)) x
+      go (inl (f, inr x)) = stands (heard (sym i.served.phase ∙ f)) x
+      go (inr (f, q, set, count, sends)) = inl (
+        (λ x. releasing-stays arrived turn a mid (x ∙ q) i.hears (sym i.served.phase ∙ f)),
+        set,
+        count,
+        sends,
+      )
 
 abbrev pub TriesSo : (period turns : ℕ) → Phase → EndRun → Type 0
 TriesSo period turns p e = (t : ℕ) → t < turns → (e.account (t + 1)).phase ≡ p
@@ -157,34 +148,28 @@ tried period turns p e long h none t l f =
       since = i.ran;
     }
 
+-- what expires in a turn in which it goes was set no earlier than it goes
+pub since-try : (period turns : ℕ) (p : Phase) (e : EndRun) → TriesSo period turns p e → ((e.account 0).phase ≡ p → ⊥) → (r q : ℕ) → r < q
+    → q ≤ turns → (e.account q).phase ≡ p → ((e.account r).phase ≡ p → r ≡ (e.account r).wait.try_set + period)
+    → r ≤ (e.account q).wait.try_set
+since-try period turns p e h none r q before within f due =
+    let i = last period turns (IsTrying p e) (Unmoved period p e) (Asks p e) (IsSet e) (count_of e) (λ u s r a b. sym a ∙ b) none
+    (ticks period turns p e h) q within f in
+    elim (cases_lt i.at r) [
+      | inl l ↦ absurd ((i.stayed r l before).1 (due (i.ran r l (omega (arith, before)))))
+      | inr g ↦ (let s = i.set q i.before (omega arith) in omega (arith, g, s))
+    ]
+
 -- What both ends of a run are to each other while the originator tries.
-pub tries-so : ReadsWritten → (tries period : ℕ) (delay : Role → ℕ) (link : Link) (ts : List Turn) (state : ℕ → Accounts) (deed : ℕ → Deed)
-    → KeepsTime tries period delay link → MayPlay link.orig.setup link.answ.setup → Trace period delay link ts state deed
-    → (p : Phase) → is_trying p ≡ true → TriesSo period (length ts) p (end_run delay state deed Originator)
-tries-so reads tries period delay link ts state deed kt m w p t u l f =
-    subst (λ x. TryTurn period u p (arrival (deed u).turn.orig.heard) x (state u).orig (state (u + 1)).orig) (ap sent_or (sym s.sent_is))
-    (subst (λ x. TryTurn period u p (arrival (deed u).turn.orig.heard) s.said.sent (state u).orig x) (sym s.after_is)
-    (try-turn link.orig.user period u p (arrival (deed u).turn.orig.heard) (state u).orig (deed u).mid.orig
-    (is_released (deed u).mid.orig.phase) (release_of link u (deed u).mid Originator) s.said
-    (ap (λ x. x.role) (start-setup tries period delay link (past ts u) (state u) kt h.run h.carried Originator) ∙ kt.roles Originator)
-    (ap (λ x. x.role) mid-setup ∙ kt.roles Originator) (ap (λ x. x.period) mid-setup ∙ (kt.timed Originator).period_is)
-    (let q = kt.period_is in omega (arith, q))
-    (ap is_some (reads-own reads (deed u).mid.orig.setup (subst (λ x. IsAllowed x.offer) (sym mid-setup) (allowed link m Originator))))
-    (h.hearing Originator).hears s.says t (ap (λ (x : Account). x.phase) (sym s.after_is) ∙ f)))
-  where
-    h : Happens period delay link (past ts u) u (state u) (deed u) (state (u + 1))
-    h = w.happens u l
-
-    s : SpeaksAt (said_at link u (deed u).mid Originator) (deed u).turn.orig (state (u + 1)).orig
-    s = h.speaking Originator
-
-    mid-setup : (deed u).mid.orig.setup ≡ link.orig.setup
-    mid-setup = heard-setup tries period delay link (past ts u) (state u) kt h.run h.carried Originator (arrival (deed u).turn.orig.heard)
-        (deed u).mid.orig
-        (ap (λ n. hear n (arrival (deed u).turn.orig.heard) (state u).orig) h.number ∙ (h.hearing Originator).hears)
-
-    reads-own : ReadsWritten → (x : Setup) → IsAllowed x.offer → offer_in (written x.offer) ≡ Some x.offer
-    reads-own r x a = r x.offer a
+pub tries-so : ReadsWritten → (w : TimedRun) → MayPlay w.link.orig.setup w.link.answ.setup → (p : Phase) → is_trying p ≡ true
+    → TriesSo w.period (length w.ts) p (end_of w Originator)
+tries-so reads w m p t u l f =
+    let g = end-turn w Originator u l in
+    subst (λ x. TryTurn w.period u p (arrival (w.deed u).turn.orig.heard) x (w.state u).orig (w.state (u + 1)).orig) (sym g.slot)
+    (subst (TryTurn w.period u p (arrival (w.deed u).turn.orig.heard) g.said.sent (w.state u).orig) (sym g.after)
+    (try-turn g.in_turn (release_of w.link u (w.deed u).mid Originator)
+    (ap is_some (reads w.link.orig.setup.offer (allowed w.link m Originator)))
+    g.says p t (ap (λ (x : Account). x.phase) (sym g.after) ∙ f)))
 
 -- an answerer can answer what is tried
 answerable : (p q : Phase) (n : Bool) → is_trying p ≡ true → (q ≡ Establishing → ⊥) → (q ≡ Releasing → ⊥)
@@ -214,114 +199,76 @@ answerable Releasing Releasing n t e r x y z = absurd (r refl)
 answerable Releasing Closed n t e r x y z = refl
 
 -- The answerer answers in the turn in which it hears.
-pub answers-so : ReadsWritten → (tries period : ℕ) (delay : Role → ℕ) (link : Link) (ts : List Turn) (state : ℕ → Accounts)
-    (deed : ℕ → Deed)
-    → KeepsTime tries period delay link → MayPlay link.orig.setup link.answ.setup → Trace period delay link ts state deed
-    → (p : Phase) → is_trying p ≡ true → (u : ℕ) → u < length ts → (state u).orig.phase ≡ p
-    → of_arrived (asks p) (arrival (deed u).turn.answ.heard) ≡ true → of_frame (moves_on p) (sent_or (deed u).turn.answ.sent) ≡ true
-answers-so reads tries period delay link ts state deed kt m w p t u l f k =
-    ap (λ x. of_frame (moves_on p) (sent_or x)) s.sent_is
-    ∙ says-due p u (served_at link u (deed u).mid Answerer).account s.said (ap (λ x. x.role) b-setup ∙ kt.roles Answerer)
-    (ap (λ x. is_some (offer_in (written x.offer))) b-setup ∙ ap is_some (reads link.answ.setup.offer (allowed link m Answerer)))
-    served-due s.says
+pub answers-so : ReadsWritten → (w : TimedRun) → MayPlay w.link.orig.setup w.link.answ.setup → (p : Phase) → is_trying p ≡ true → (u : ℕ)
+    → u < length w.ts → (w.state u).orig.phase ≡ p → of_arrived (asks p) (arrival (w.deed u).turn.answ.heard) ≡ true
+    → of_frame (moves_on p) (sent_or (w.deed u).turn.answ.sent) ≡ true
+answers-so reads w m p t u l f k = ap (of_frame (moves_on p)) g.slot ∙ says-due p u ((end_of w Answerer).served u) g.said g.in_turn.b_role
+    (ap (λ x. is_some (offer_in (written x.offer))) g.in_turn.b_setup
+    ∙ ap is_some (reads w.link.answ.setup.offer (allowed w.link m Answerer)))
+    (moved p (w.deed u).mid.answ ((end_of w Answerer).served u) g.in_turn.served.phase g.in_turn.served.answer due) g.says
   where
-    h : Happens period delay link (past ts u) u (state u) (deed u) (state (u + 1))
-    h = w.happens u l
+    g : EndTurn w Answerer u
+    g = end-turn w Answerer u l
 
-    s : SpeaksAt (said_at link u (deed u).mid Answerer) (deed u).turn.answ (state (u + 1)).answ
-    s = h.speaking Answerer
+    never : (q : Phase) → Stands (rates w.tries w.period) u u Answerer q (w.state u).answ ≡ ⊥ → (w.state u).answ.phase ≡ q → ⊥
+    never q e h = subst (λ x. x) e (subst (λ x. Stands (rates w.tries w.period) u u Answerer x (w.state u).answ) h g.in_turn.stands)
 
-    mid : Account
-    mid = (deed u).mid.answ
+    both : Met (w.state u)
+    both = met w u l
 
-    mid-setup : mid.setup ≡ link.answ.setup
-    mid-setup = heard-setup tries period delay link (past ts u) (state u) kt h.run h.carried Answerer
-        (arrival (deed u).turn.answ.heard) mid (ap (λ n. hear n (arrival (deed u).turn.answ.heard) (state u).answ) h.number
-        ∙ (h.hearing Answerer).hears)
-
-    v : Served u (length link.answ.user.breaks) (is_busy u link.answ.user.busy) mid (served_at link u (deed u).mid Answerer).account
-    v = serves-all link.answ.user u (is_released (deed u).mid.orig.phase) mid
-
-    b-setup : (served_at link u (deed u).mid Answerer).account.setup ≡ link.answ.setup
-    b-setup = served-setup link.answ.user u (is_released (deed u).mid.orig.phase) mid ∙ mid-setup
-
-    never : (q : Phase) → Stands (rates tries period) (length (past ts u)) (length (past ts u)) Answerer q (state u).answ ≡ ⊥
-        → (state u).answ.phase ≡ q → ⊥
-    never q e g = subst (λ x. x) e
-        (subst (λ x. Stands (rates tries period) (length (past ts u)) (length (past ts u)) Answerer x (state u).answ) g
-        (known tries period delay link (past ts u) (state u) kt h.run h.carried Answerer).stands)
-
-    both : Met (state u)
-    both = met tries period delay link (past ts u) (state u) kt h.run h.carried
-
-    can : can_answer p (state u).answ.phase (state u).answ.numbered ≡ true
-    can = answerable p (state u).answ.phase (state u).answ.numbered t (never Establishing refl) (never Releasing refl)
-        (λ q. not-true (is_begun (state u).answ.phase)
-        (λ b. let wrong : true ≡ false = sym (begun-established tries period delay link ts state deed kt w u (omega (arith, l)) b)
+    can : can_answer p (w.state u).answ.phase (w.state u).answ.numbered ≡ true
+    can = answerable p (w.state u).answ.phase (w.state u).answ.numbered t (never Establishing refl) (never Releasing refl)
+        (λ q. not-true (is_begun (w.state u).answ.phase) (λ b. let wrong : true ≡ false = sym (begun-established w u (omega (arith, l)) b)
         ∙ ap is_established (f ∙ q) in cc))
         (λ q. (
-          not-true (state u).answ.numbered
-              (λ n. let wrong : true ≡ false = sym
-              (numbered-linked tries period delay link ts state deed kt w Answerer u (omega (arith, l)) n) ∙ ap is_linked (f ∙ q) in cc),
-          not-true (is_closed (state u).answ.phase) (λ c. let wrong : true ≡ false = sym (both.closed c) ∙ ap is_released (f ∙ q) in cc),
+          not-true (w.state u).answ.numbered (λ n. let wrong : true ≡ false = sym
+              (numbered-linked w Answerer u (omega (arith, l)) n) ∙ ap is_linked (f ∙ q) in cc),
+          not-true (is_closed (w.state u).answ.phase) (λ c. let wrong : true ≡ false = sym (both.closed c) ∙ ap is_released (f ∙ q) in cc),
         ))
         (λ q. both.begun (ap is_begun (f ∙ q)))
 
-    due : AnswerDue p mid
-    due = answer-due p (arrival (deed u).turn.answ.heard) u (state u).answ mid
-        (ap (λ x. x.role) (start-setup tries period delay link (past ts u) (state u) kt h.run h.carried Answerer) ∙ kt.roles Answerer) can
-        k (h.hearing Answerer).hears
+    due : AnswerDue p (w.deed u).mid.answ
+    due = answer-due p (arrival (w.deed u).turn.answ.heard) u (w.state u).answ (w.deed u).mid.answ g.in_turn.role_is can k g.in_turn.hears
 
     moved : (q : Phase) (a b : Account) → b.phase ≡ a.phase → b.owes.answer ≡ a.owes.answer → AnswerDue q a → AnswerDue q b
     moved Negotiating a b x y (g, d) = (x ∙ g, y ∙ d)
     moved Establishing a b x y (g, d) = (x ∙ g, y ∙ d)
     moved Releasing a b x y (g, inl d) = (x ∙ g, inl (y ∙ d))
     moved Releasing a b x y (g, inr d) = (x ∙ g, inr (y ∙ d))
-    moved Detecting a b x y d = d
-    moved Connected a b x y d = d
-    moved Closed a b x y d = d
-
-    served-due : AnswerDue p (served_at link u (deed u).mid Answerer).account
-    served-due = moved p mid (served_at link u (deed u).mid Answerer).account v.phase v.answer due
+    moved p a b x y d = d
 
 -- So where none moves the originator on for a whole period, something was lost in it.
-pub unanswered-loses : ReadsWritten → (tries period : ℕ) (delay : Role → ℕ) (link : Link) (ts : List Turn) (state : ℕ → Accounts)
-    (deed : ℕ → Deed) → KeepsTime tries period delay link → MayPlay link.orig.setup link.answ.setup
-    → Trace period delay link ts state deed
-    → (p : Phase) → is_trying p ≡ true → (s : ℕ) → s + period ≤ length ts → TryUnanswered period p (end_run delay state deed Originator)
-    (length ts) s
-    → LostIn (end_run delay state deed Originator) (end_run delay state deed Answerer) (s + 1) (period - 1)
-unanswered-loses reads tries period delay link ts state deed kt m w p t s within x = go (lost-or-none e o (s + 1) (period - 1))
+pub unanswered-loses : ReadsWritten → (w : TimedRun) → MayPlay w.link.orig.setup w.link.answ.setup → (p : Phase) → is_trying p ≡ true
+    → (s : ℕ) → s + w.period ≤ length w.ts → TryUnanswered w.period p (end_of w Originator) (length w.ts) s
+    → LostIn (end_of w Originator) (end_of w Answerer) (s + 1) (w.period - 1)
+unanswered-loses reads w m p t s within x = go (lost-or-none e o (s + 1) (w.period - 1))
   where
     e : EndRun
-    e = end_run delay state deed Originator
+    e = end_of w Originator
 
     o : EndRun
-    o = end_run delay state deed Answerer
+    o = end_of w Answerer
 
-    k : TwoEnds period (length ts) e o
-    k = two-ends tries period delay link ts state deed kt w Originator
+    k : TwoEnds w.period (length w.ts) e o
+    k = two-ends w Originator
 
-    per : period ≡ 2 * (e.delay + o.delay) + 16
+    per : w.period ≡ 2 * (e.delay + o.delay) + 16
     per = k.period_is
 
     d : 1 ≤ e.delay
     d = k.own_delay
 
-    d' : 1 ≤ o.delay
-    d' = k.other_delay
-
-    go : LostIn e o (s + 1) (period - 1) ⊎ NoneLost e o (s + 1) (period - 1) → LostIn e o (s + 1) (period - 1)
+    go : LostIn e o (s + 1) (w.period - 1) ⊎ NoneLost e o (s + 1) (w.period - 1) → LostIn e o (s + 1) (w.period - 1)
     go (inl lost) = lost
     go (inr none) =
         let v : ℕ = s + e.delay in
         let y : ℕ = v + o.delay in
-        let reaches : of_arrived (asks p) (o.heard v) ≡ true = is-heard e.delay (length ts) (asks p) e.slot o.heard o.loses k.is_heard s
+        let reaches : of_arrived (asks p) (o.heard v) ≡ true = is-heard (asks p) k.is_heard s
         (omega (arith, within, per)) (none v (omega (arith, d)) (omega (arith, per))).1 ∙ x.asked in
-        let answered : of_frame (moves_on p) (o.slot v) ≡ true = answers-so reads tries period delay link ts state deed kt m w p t v
+        let answered : of_frame (moves_on p) (o.slot v) ≡ true = answers-so reads w m p t v
         (omega (arith, within, per)) (x.ran v (omega (arith, d)) (omega (arith, per))) reaches in
-        let hears : of_arrived (moves_on p) (e.heard y) ≡ true = is-heard o.delay (length ts)
-        (moves_on p) o.slot e.heard e.loses k.hears v (omega (arith, within, per)) (none y (omega (arith, d)) (omega (arith, per))).0
+        let hears : of_arrived (moves_on p) (e.heard y) ≡ true = is-heard (moves_on p) k.hears v (omega (arith, within, per))
+        (none y (omega (arith, d)) (omega (arith, per))).0
         ∙ answered in
         let wrong : true ≡ false = sym hears ∙ (x.stayed y (omega (arith, d)) (omega (arith, per))).0 in
         cc

@@ -1,12 +1,12 @@
 -- Two ends over the turns of a run, each seen from the one and from the other.
 use Rattle.link_account.proofs.Names.{Role, of, Sent, Arrived, Account, arrives}
-use Rattle.link_run.proofs.Names.{Accounts, arrival}
+use Rattle.link_run.proofs.Names.{arrival, served_at}
 use Rattle.std.specs.Prelude.{◌≡◌, ℕ, ◌+◌, ◌-◌, ◌*◌, ◌<◌, ◌≤◌, Bool, false, cond}
 use Rattle.turn_bound.proofs.MeetHear.{of_frame, of_arrived}
 use Rattle.turn_bound.proofs.Tied.{is_lost}
 use Rattle.turn_losses.specs.Polls.{is_poll, is_final}
 use Rattle.turn_losses.proofs.Polling.{poll_due, PollTurn}
-use Rattle.turn_losses.proofs.Trace.{Deed, sent_or}
+use Rattle.turn_losses.proofs.Trace.{TimedRun, sent_or}
 use Rattle.lapm_frames.specs.declared.arrived.Arrived.TheVariants as arrivals
 
 -- one end by the turn: its account before it and once it has heard, what arrives and is lost, what it sends, and whether a poll becomes due
@@ -20,18 +20,20 @@ pub record EndRun : Type 0 where
   pub made : ℕ → Bool
   pub count : ℕ → ℕ  -- the retry count once it has heard
   pub mid : ℕ → Account  -- once it has heard
+  pub served : ℕ → Account  -- and is to speak
 
-abbrev pub end_run : (Role → ℕ) → (ℕ → Accounts) → (ℕ → Deed) → Role → EndRun
-end_run delay state deed role = record {
+abbrev pub end_of : TimedRun → Role → EndRun
+end_of w role = record {
   role = role;
-  delay = delay role;
-  account = λ t. of role (state t);
-  heard = λ t. arrival (of role (deed t).turn).heard;
-  loses = λ t. is_lost (of role (deed t).turn).heard;
-  slot = λ t. sent_or (of role (deed t).turn).sent;
-  made = λ t. (deed t).made role;
-  count = λ t. (of role (deed t).mid).outgoing.count;
-  mid = λ t. of role (deed t).mid;
+  delay = w.delay role;
+  account = λ t. of role (w.state t);
+  heard = λ t. arrival (of role (w.deed t).turn).heard;
+  loses = λ t. is_lost (of role (w.deed t).turn).heard;
+  slot = λ t. sent_or (of role (w.deed t).turn).sent;
+  made = λ t. (w.deed t).made role;
+  count = λ t. (of role (w.deed t).mid).outgoing.count;
+  mid = λ t. of role (w.deed t).mid;
+  served = λ t. (served_at w.link t (w.deed t).mid role).account;
 }
 
 -- what arrives is what was sent so many turns before, or is lost

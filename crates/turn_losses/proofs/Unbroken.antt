@@ -1,16 +1,15 @@
 -- Where a user asks for no break, none waits.
-use Rattle.std.proofs.Common.{inl, inr, ◌≡◌, ℕ, Bool, true, false, cond, List, [], ◌∷◌, length, arith, refl, sym, ◌∙◌, ap, subst}
-use Rattle.std.proofs.Common.{Result, Ok, Err}
-use Rattle.link_account.proofs.Names.{nat_tests, Role, Originator, Answerer, of, OwnBreaks, waits, Arrived, LinkFault, Account}
-use Rattle.link_account.proofs.Names.{is_connected, hear, Said, speak}
-use Rattle.link_run.proofs.Names.{Phase, BreakLine, is_busy, is_released, Link, Accounts, Turn, RunOf, SpeaksAt, arrival, served_at}
-use Rattle.link_run.proofs.Names.{said_at, IsCarried}
+use Rattle.std.proofs.Common.{inl, inr, ◌≡◌, ℕ, Bool, true, false, cond, List, [], ◌∷◌, length, arith, refl, sym, ◌∙◌, ap, subst, Result}
+use Rattle.std.proofs.Common.{Ok, Err}
+use Rattle.link_account.proofs.Names.{nat_tests, Role, Originator, Answerer, of, OwnBreaks, waits, LinkFault, Account, is_connected, Said}
+use Rattle.link_account.proofs.Names.{speak}
+use Rattle.link_run.proofs.Names.{Phase, BreakLine, is_busy, Link, Accounts, Turn, RunOf, SpeaksAt, served_at, said_at, IsCarried, Hears}
 use Rattle.turn_bound.proofs.Speaking.{SpeaksWell}
 use Rattle.turn_bound.proofs.Turning.{speaks-well}
-use Rattle.turn_losses.proofs.Tracing.{timed, rated, release_of, said-as}
+use Rattle.turn_losses.proofs.Tracing.{release_of, said-as}
 use Rattle.turn_losses.specs.Tries.{GivesUpUnbroken}
-use Rattle.turn_losses.proofs.Setups.{start-setup, heard-as}
-use Rattle.turn_losses.proofs.Names.{KeepsTime, Rates, rates, IsOf, serves-well, Served, serves-all, GivesUpForLosses}
+use Rattle.turn_losses.proofs.Names.{KeepsTime, Rates, rates, IsOf, Served, GivesUpForLosses}
+use Rattle.turn_losses.proofs.InTurn.{in-turn}
 
 -- how many breaks an end has taken
 abbrev taken : Account → ℕ
@@ -32,12 +31,11 @@ said-lengths z total breaks turn role p a said (Ok x) e h = let same : x ≡ sai
 -- what an end that has heard and is served has taken
 served-taken : (tries period : ℕ) (delay : Role → ℕ) (link : Link) (ts : List Turn) (ends : Accounts) → KeepsTime tries period delay link
     → RunOf link ts ends → IsCarried delay ts → (r : Role) → (of r link).user.breaks ≡ [] → taken (of r ends) ≡ 0
-    → (arrived : Arrived) (mid : Accounts) → hear (length ts) arrived (of r ends) ≡ Ok (of r mid)
-    → taken (served_at link (length ts) mid r).account ≡ 0
-served-taken tries period delay link ts ends k run c r none e arrived mid h =
+    → (t : Turn) (mid : Accounts) → Hears (length ts) ends t mid → taken (served_at link (length ts) mid r).account ≡ 0
+served-taken tries period delay link ts ends k run c r none e t mid hearing =
+    let i = in-turn tries period delay link ts ends k run c t mid hearing r in
     served-none (length ts) (of r link).user.breaks (is_busy (length ts) (of r link).user.busy) (of r mid)
-    (served_at link (length ts) mid r).account none (serves-all (of r link).user (length ts) (is_released mid.orig.phase) (of r mid))
-    (ap (λ (l : List ℕ). length l) (heard-as tries period delay link ts ends k run c r arrived (of r mid) h).1.lengths ∙ e)
+    (served_at link (length ts) mid r).account none i.served (ap (λ (l : List ℕ). length l) i.heard.lengths ∙ e)
 
 none-taken : (tries period : ℕ) (delay : Role → ℕ) (link : Link) (ts : List Turn) (ends : Accounts) → KeepsTime tries period delay link
     → RunOf link ts ends → IsCarried delay ts → (r : Role) → (of r link).user.breaks ≡ [] → taken (of r ends) ≡ 0
@@ -46,23 +44,15 @@ none-taken tries period delay link [] ends k run c Answerer none = ap (λ (x : A
 none-taken tries period delay link (t ∷ ts) ends k (before, run, g) c r none =
     let turn : ℕ = length ts in
     let z : Rates = rates tries period in
-    let arrived : Arrived = arrival (of r t).heard in
-    let mid : Account = of r g.mid in
     let b : Account = (served_at link turn g.mid r).account in
+    let i = in-turn tries period delay link ts before k run c.1 t g.mid g.hearing r in
     let s : SpeaksAt (said_at link turn g.mid r) (of r t) (of r ends) = g.speaking r in
-    let hd = heard-as tries period delay link ts before k run c.1 r arrived mid (g.hearing r).hears in
-    let v = serves-all (of r link).user turn (is_released g.mid.orig.phase) mid in
-    let setup = v.setup ∙ (hd.1.setup ∙ start-setup tries period delay link ts before k run c.1 r) in
-    let served = (serves-well z (length (of r before).outgoing.pieces) (length (of r link).user.breaks) turn
-    (is_busy turn (of r link).user.busy) r hd.0 mid b (rated tries period delay link k) hd.1.stands hd.1.phase v).stands in
     let own = served-taken tries period delay link ts before k run c.1 r none
-    (none-taken tries period delay link ts before k run c.1 r none) arrived g.mid (g.hearing r).hears in
-    let same = said-lengths z (length b.outgoing.pieces) (length (of r link).user.breaks) turn r hd.0 b s.said
+    (none-taken tries period delay link ts before k run c.1 r none) t g.mid g.hearing in
+    let same = said-lengths z (length b.outgoing.pieces) (length (of r link).user.breaks) turn r i.phase b s.said
     (speak turn (release_of link turn g.mid r) b) (sym (said-as link turn g.mid r) ∙ s.says)
-    (speaks-well z (length b.outgoing.pieces) (length (of r link).user.breaks) turn r hd.0 (release_of link turn g.mid r) b
-    (rated tries period delay link k) (subst (IsOf z) (sym setup) (timed tries period delay link k r).is_of) served
-    (v.phase ∙ hd.1.phase)
-    (ap (λ x. x.role) setup ∙ k.roles r) (omega arith)) in
+    (speaks-well z (length b.outgoing.pieces) (length (of r link).user.breaks) turn r i.phase (release_of link turn g.mid r) b
+    i.rated (subst (IsOf z) (i.setup ∙ sym i.b_setup) i.is_of) i.b_stands (i.served.phase ∙ i.heard.phase) i.b_role (omega arith)) in
     ap taken s.after_is ∙ (ap (λ (l : List ℕ). length l) same ∙ own)
 
 pub gives-up-unbroken : GivesUpForLosses → GivesUpUnbroken
@@ -70,8 +60,7 @@ gives-up-unbroken law tries period delay link ts before t mid role fault kt none
     law tries period delay link ts before t mid role fault kt run cs broken
     (quiet (is_connected (served_at link (length ts) mid role).account.phase)
     (served-taken tries period delay link ts before kt run.run run.carried role none
-    (none-taken tries period delay link ts before kt run.run run.carried role none) (arrival (of role t).heard) mid
-    (broken.hearing role).hears))
+    (none-taken tries period delay link ts before kt run.run run.carried role none) t mid broken.hearing))
   where
     b : Account
     b = (served_at link (length ts) mid role).account

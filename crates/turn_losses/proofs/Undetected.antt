@@ -2,13 +2,13 @@
 use Rattle.std.proofs.Common.{◌≡◌, ℕ, ◌+◌, ◌*◌, ◌<◌, ◌≤◌, Bool, true, false, cond, nat_le, List, [], ◌∷◌, length, arith, refl, sym, ◌∙◌, ap}
 use Rattle.std.proofs.Common.{Ok, Err}
 use Rattle.link_account.proofs.Names.{nat_tests, Role, Originator, Heard, Passed, NotDetected, Account, Said, says, speak, speak_in}
-use Rattle.link_run.proofs.Names.{Detecting, is_released, Link, Accounts, Turn, RunOf, arrival, served_at, releases, IsCarried}
+use Rattle.link_run.proofs.Names.{Detecting, Link, Accounts, Turn, RunOf, arrival, served_at, releases, IsCarried}
 use Rattle.link_account.specs.Speak.{speak_detecting}
 use Rattle.turn_bound.specs.Spent.{SpendsOnTime}
 use Rattle.turn_losses.specs.Losses.{PassesNoPattern, UndetectedOnTime}
-use Rattle.turn_losses.proofs.Tracing.{known, timed}
-use Rattle.turn_losses.proofs.Detecting.{said-from, heard-from, err-detecting, heard-setup}
-use Rattle.turn_losses.proofs.Names.{KeepsTime, serves-all}
+use Rattle.turn_losses.proofs.Detecting.{said-from, heard-from, err-detecting}
+use Rattle.turn_losses.proofs.Names.{KeepsTime}
+use Rattle.turn_losses.proofs.InTurn.{in-turn}
 use Rattle.lapm_frames.specs.declared.seen.Seen.TheVariants as seens
 use Rattle.lapm_frames.specs.declared.sent.Sent.TheVariants as slots
 use Rattle.lapm_frames.specs.declared.arrived.Arrived.TheVariants as arrivals
@@ -37,32 +37,24 @@ early tries period delay link [] ends kt run c d = (omega arith, tt)
 early tries period delay link (t ∷ ts) ends kt (before, run, g) (c, carried) d =
     let turn = length ts in
     let s = g.speaking Originator in
+    let i = in-turn tries period delay link ts before kt run carried t g.mid g.hearing Originator in
     let b : Account = (served_at link turn g.mid Originator).account in
     let detects : b.phase ≡ Detecting =
     said-from turn (releases link turn g.mid) b s.said s.says (ap (λ (x : Account). x.phase) (sym s.after_is) ∙ d) in
-    let served = serves-all link.orig.user turn (is_released g.mid.orig.phase) g.mid.orig in
-    let setup : b.setup ≡ link.orig.setup =
-    served.setup ∙ heard-setup tries period delay link ts before t g.mid kt run carried g.hearing Originator in
-    let kn = known tries period delay link ts before kt run carried Originator in
-    let tm = timed tries period delay link kt Originator in
-    let f = heard-from (arrival t.orig.heard) turn before.orig g.mid.orig (ap (λ s. s.role) kn.setup ∙ tm.role_is)
-    (g.hearing Originator).hears (sym served.phase ∙ detects) in
+    let f = heard-from (arrival t.orig.heard) turn before.orig g.mid.orig i.role_is i.hears (sym i.served.phase ∙ detects) in
     let p = early tries period delay link ts before kt run carried f.0 in
     let late : turn < (b.setup.tries + 1) * b.setup.period =
-    sends-early turn (releases link turn g.mid) b s.said detects (ap (λ s. s.role) setup ∙ tm.role_is) s.says in
+    sends-early turn (releases link turn g.mid) b s.said detects i.b_role s.says in
     let whole : (b.setup.tries + 1) * b.setup.period ≡ (tries + 1) * period =
-    ap (λ n. (n + 1) * b.setup.period) (ap (λ s. s.tries) setup ∙ (kt.timed Originator).tries_are)
-    ∙ ap (λ n. (tries + 1) * n) (ap (λ s. s.period) setup ∙ (kt.timed Originator).period_is) in
+    ap (λ n. (n + 1) * b.setup.period) i.b_tries ∙ ap (λ n. (tries + 1) * n) i.b_period in
     (omega (arith, late, whole), (none-passed t.orig.heard f.1, p.1))
 
 pub undetected-on-time : SpendsOnTime → UndetectedOnTime
 undetected-on-time spends tries period delay link ts before t mid kt run c broken =
     let turn = length ts in
+    let i = in-turn tries period delay link ts before kt run c t mid broken.hearing Originator in
     let detects = err-detecting turn (releases link turn mid) (served_at link turn mid Originator).account broken.broken in
-    let kn = known tries period delay link ts before kt run c Originator in
-    let f = heard-from (arrival t.orig.heard) turn before.orig mid.orig
-    (ap (λ s. s.role) kn.setup ∙ (timed tries period delay link kt Originator).role_is) (broken.hearing Originator).hears
-    (sym (serves-all link.orig.user turn (is_released mid.orig.phase) mid.orig).phase ∙ detects) in
+    let f = heard-from (arrival t.orig.heard) turn before.orig mid.orig i.role_is i.hears (sym i.served.phase ∙ detects) in
     let p = early tries period delay link ts before kt run c f.0 in
     let whole : (tries + 1) * period ≤ turn = spends tries period delay link ts before t mid Originator NotDetected kt run c broken in
     (omega (arith, p.0, whole), (none-passed t.orig.heard f.1, p.1))

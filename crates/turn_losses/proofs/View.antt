@@ -1,38 +1,30 @@
 -- Each turn of a run after which an end is Connected, by its breaks.
 use Rattle.std.proofs.Common.{◌⊎◌, inl, inr, ◌≡◌, ℕ, ◌+◌, ◌<◌, ◌≤◌, ◌&&◌, Bool, true, false, nat_lt, List, length, arith, refl, sym, ◌∙◌}
-use Rattle.std.proofs.Common.{ap, subst, None, Ok}
-use Rattle.link_account.proofs.Names.{is_some, cases_lt, Role, Originator, Answerer, of, waits, Sent, Arrived, Account}
-use Rattle.link_account.proofs.Names.{is_connected, hear, speak}
-use Rattle.link_run.proofs.Names.{Phase, Detecting, Negotiating, Establishing, Connected, Releasing, Closed, is_busy, is_released, Link}
-use Rattle.link_run.proofs.Names.{Accounts, Turn, SpeaksAt, arrival, served_at, said_at}
+use Rattle.std.proofs.Common.{ap, subst, None}
+use Rattle.link_account.proofs.Names.{is_some, cases_lt, Role, Originator, Answerer, of, waits, Sent, Arrived, Account, is_connected}
+use Rattle.link_run.proofs.Names.{Phase, Detecting, Negotiating, Establishing, Connected, Releasing, Closed, is_busy, arrival, served_at}
 use Rattle.break_signals.specs.Breaks.{no_breaks}
 use Rattle.turn_bound.proofs.Value.{Linked, Unlinked, IsAck}
 use Rattle.turn_losses.proofs.Truths.{unlinked-connected, and-drop, no-and, clash}
-use Rattle.turn_losses.proofs.PollHear.{PollHeard, poll-hears}
-use Rattle.turn_losses.proofs.PollSpeak.{poll-speaks}
 use Rattle.turn_losses.proofs.AnswerTurn.{connected-is, linked-says}
-use Rattle.turn_losses.proofs.Tracing.{Known, known, timed, release_of, said-as}
-use Rattle.turn_losses.proofs.Setups.{heard-as, heard-setup}
-use Rattle.turn_losses.proofs.BreakHear.{of_word, any_brk, pends, BreakHeard, break-heard}
+use Rattle.turn_losses.proofs.Tracing.{release_of}
+use Rattle.turn_losses.proofs.BreakHear.{BreakHeard, break-heard}
 use Rattle.turn_losses.proofs.BreakSpeak.{holds, SaidBreaks, breaks-said}
 use Rattle.turn_losses.proofs.BreakTurn.{Deeds, BreakTurn, ServedBreaks, served-breaks, break-turn-of, brk_due, ack_due, is_urgent}
 use Rattle.turn_losses.proofs.BreakTurn.{was_special}
 use Rattle.turn_losses.proofs.Begun.{SameOld, old-heard, blank}
 use Rattle.turn_losses.proofs.Windows.{Breaking}
 use Rattle.turn_losses.proofs.Establishing.{word-connected}
-use Rattle.turn_losses.proofs.Names.{KeepsTime, Rates, rates, Stands, of_frame, of_arrived, Served, serves-all, is_poll, is_final}
-use Rattle.turn_losses.proofs.Names.{is_linked, Deed, Happens, Trace, past, sent_or, end_run}
+use Rattle.turn_losses.proofs.Names.{Rates, rates, Stands, of_frame, Served, is_poll, is_final, is_linked, sent_or, TimedRun, end_of}
+use Rattle.turn_losses.proofs.EndTurn.{TurnAt, EndTurn, end-turn}
+use Rattle.turn_losses.proofs.Words.{any_brk, of_word, pends}
 use Rattle.lapm_frames.specs.declared.arrived.Arrived.TheVariants as arrivals
 
 pub linked-of : (z : Rates) (before turn : ℕ) (r : Role) (p : Phase) (a : Account) → Stands z before turn r p a → is_connected p ≡ true
     → Linked z before turn r a
 linked-of z before turn Originator Connected a s e = s
 linked-of z before turn Answerer Connected a s e = s
-linked-of z before turn r Detecting a s e = cc
-linked-of z before turn r Negotiating a s e = cc
-linked-of z before turn r Establishing a s e = cc
-linked-of z before turn r Releasing a s e = cc
-linked-of z before turn r Closed a s e = cc
+linked-of z before turn r p a s e = cc
 
 pub unlinked-of : (z : Rates) (before turn : ℕ) (r : Role) (p : Phase) (a : Account) → Stands z before turn r p a → is_linked p ≡ false
     → Unlinked a
@@ -134,159 +126,120 @@ begun-turn period turn arrived sent d a mid c n cm o own ack special urgent k = 
     calm (inr x) = cc
 
 -- a turn of a run
-abbrev pub TurnOf : (period : ℕ) (link : Link) (state : ℕ → Accounts) (deed : ℕ → Deed) → Role → ℕ → Deeds → Type 0
-TurnOf period link state deed r u d = (d.answers ≡ is_some (served_at link u (deed u).mid r).account.owes.answer)
-    × BreakTurn period u (arrival (of r (deed u).turn).heard) (sent_or (of r (deed u).turn).sent) d (of r (state u)) (of r (state (u + 1)))
-    × (waits (of r (state (u + 1))).own_breaks ≡ waits (served_at link u (deed u).mid r).account.own_breaks)
+abbrev pub TurnOf : TimedRun → Role → ℕ → Deeds → Type 0
+TurnOf w r u d = (d.answers ≡ is_some (served_at w.link u (w.deed u).mid r).account.owes.answer)
+    × BreakTurn w.period u (arrival (of r (w.deed u).turn).heard) (sent_or (of r (w.deed u).turn).sent) d (of r (w.state u))
+    (of r (w.state (u + 1))) × (waits (of r (w.state (u + 1))).own_breaks ≡ waits (served_at w.link u (w.deed u).mid r).account.own_breaks)
 
-pub turn-of : (tries period : ℕ) (delay : Role → ℕ) (link : Link) (ts : List Turn) (state : ℕ → Accounts) (deed : ℕ → Deed)
-    → KeepsTime tries period delay link → Trace period delay link ts state deed → (r : Role)
-    → (u : ℕ) → u < length ts → is_connected (of r (state (u + 1))).phase ≡ true → (d : Deeds) × TurnOf period link state deed r u d
-turn-of tries period delay link ts state deed kt w r u l c = moved (by (polls.from mid-connected))
+pub turn-of : (w : TimedRun) → (r : Role) → (u : ℕ) → u < length w.ts → is_connected (of r (w.state (u + 1))).phase ≡ true
+    → (d : Deeds) × TurnOf w r u d
+turn-of w r u l c = moved (by (i.polls.from mid-connected))
   where
-    h : Happens period delay link (past ts u) u (state u) (deed u) (state (u + 1))
-    h = w.happens u l
+    z : Rates
+    z = rates w.tries w.period
 
     a : Account
-    a = of r (state u)
+    a = of r (w.state u)
 
     mid : Account
-    mid = of r (deed u).mid
+    mid = of r (w.deed u).mid
 
     arrived : Arrived
-    arrived = arrival (of r (deed u).turn).heard
+    arrived = (end_of w r).heard u
 
     b : Account
-    b = (served_at link u (deed u).mid r).account
+    b = (end_of w r).served u
 
-    s : SpeaksAt (said_at link u (deed u).mid r) (of r (deed u).turn) (of r (state (u + 1)))
-    s = h.speaking r
+    g : EndTurn w r u
+    g = end-turn w r u l
 
-    says-so : speak u (release_of link u (deed u).mid r) b ≡ Ok s.said
-    says-so = sym (said-as link u (deed u).mid r) ∙ s.says
+    i : TurnAt w r u
+    i = g.in_turn
 
-    after : is_connected s.said.account.phase ≡ true
-    after = ap (λ (x : Account). is_connected x.phase) (sym s.after_is) ∙ c
-
-    v : Served u (length (of r link).user.breaks) (is_busy u (of r link).user.busy) mid b
-    v = serves-all (of r link).user u (is_released (deed u).mid.orig.phase) mid
-
-    b-connected : is_connected b.phase ≡ true
-    b-connected = ((poll-speaks u (release_of link u (deed u).mid r) b s.said says-so).connected after).0
+    after : is_connected g.said.account.phase ≡ true
+    after = ap (λ (x : Account). is_connected x.phase) (sym g.after) ∙ c
 
     mid-connected : is_connected mid.phase ≡ true
-    mid-connected = ap is_connected (sym v.phase) ∙ b-connected
+    mid-connected = g.connected c
 
-    k : Known (rates tries period) link (length (past ts u)) (state u) r
-    k = known tries period delay link (past ts u) (state u) kt h.run h.carried r
+    mid-linked : Linked z (u + 1) u r mid
+    mid-linked = linked-of z (u + 1) u r i.phase mid i.heard.stands (ap is_connected (sym i.heard.phase) ∙ mid-connected)
 
-    role : a.setup.role ≡ r
-    role = ap (λ x. x.role) k.setup ∙ (timed tries period delay link kt r).role_is
+    says : SaidBreaks u b g.said
+    says = breaks-said u b g.said (subst (λ t. IsAck t.ack) (sym i.served.ack) mid-linked.ack)
+        (linked-says u (release_of w.link u (w.deed u).mid r) b g.said (i.served.phase ∙ connected-is mid.phase mid-connected) after g.says)
 
-    hears-so : hear (length (past ts u)) arrived a ≡ Ok mid
-    hears-so = ap (λ n. hear n arrived a) h.number ∙ (h.hearing r).hears
-
-    polls : PollHeard r u (of_arrived is_poll arrived) a mid
-    polls = poll-hears r arrived u a role k.none_due.answer mid (h.hearing r).hears
-
-    mid-linked : Linked (rates tries period) (length (past ts u) + 1) (length (past ts u)) r mid
-    mid-linked = let hd = heard-as tries period delay link (past ts u) (state u) kt h.run h.carried r arrived mid hears-so in
-        linked-of (rates tries period) (length (past ts u) + 1) (length (past ts u)) r hd.0 mid hd.1.stands
-        (ap is_connected (sym hd.1.phase) ∙ mid-connected)
-
-    says : SaidBreaks u b s.said
-    says = breaks-said u b s.said (subst (λ t. IsAck t.ack) (sym v.ack) mid-linked.ack)
-        (linked-says u (release_of link u (deed u).mid r) b s.said (connected-is b.phase b-connected) after says-so)
-
-    per : b.setup.period ≡ period
-    per = ap (λ x. x.period)
-        (v.setup ∙ heard-setup tries period delay link (past ts u) (state u) kt h.run h.carried r arrived mid hears-so)
-        ∙ (kt.timed r).period_is
-
-    long : 1 ≤ period
-    long = let q = kt.period_is in omega (arith, q)
-
-    waits-said : waits (of r (state (u + 1))).own_breaks ≡ waits b.own_breaks
-    waits-said = ap (λ (x : Account). waits x.own_breaks) s.after_is
-        ∙ (ap (λ n. nat_lt n (length s.said.account.own_breaks.lengths)) says.answered
+    waits-said : waits (of r (w.state (u + 1))).own_breaks ≡ waits b.own_breaks
+    waits-said = ap (λ (x : Account). waits x.own_breaks) g.after
+        ∙ (ap (λ n. nat_lt n (length g.said.account.own_breaks.lengths)) says.answered
         ∙ ap (λ (l : List ℕ). nat_lt b.own_breaks.answered (length l)) says.lengths)
 
     served : ServedBreaks u mid.own_breaks b.own_breaks
-    served = served-own u (length (of r link).user.breaks) (is_busy u (of r link).user.busy) mid b v mid-linked.breaks.low
+    served = served-own u (length (of r w.link).user.breaks) (is_busy u (of r w.link).user.busy) mid b i.served mid-linked.breaks.low
 
-    moved : (d : Deeds) × (d.answers ≡ is_some b.owes.answer) × BreakTurn period u arrived s.said.sent d a s.said.account
-        → (d : Deeds) × TurnOf period link state deed r u d
+    moved : (d : Deeds) × (d.answers ≡ is_some b.owes.answer) × BreakTurn w.period u arrived g.said.sent d a g.said.account
+        → (d : Deeds) × TurnOf w r u d
     moved (d, q, x) = (
       d,
       (
         q,
-        subst (λ y. BreakTurn period u arrived y d a (of r (state (u + 1)))) (ap sent_or (sym s.sent_is))
-            (subst (λ y. BreakTurn period u arrived s.said.sent d a y) (sym s.after_is) x),
+        subst (λ y. BreakTurn w.period u arrived y d a (of r (w.state (u + 1)))) (sym g.slot)
+            (subst (BreakTurn w.period u arrived g.said.sent d a) (sym g.after) x),
         waits-said,
       ),
     )
 
+    -- from an account, and by what it hears
+    turned : (x : Arrived) (y : Account) → is_connected y.phase ≡ true → length y.own_breaks.lengths ≤ y.own_breaks.answered + 1
+        → BreakHeard u x y mid → (d : Deeds) × (d.answers ≡ is_some b.owes.answer) × BreakTurn w.period u x g.said.sent d y g.said.account
+    turned x y cy high heard = break-turn-of w.period u x y mid b g.said cy after high i.b_period i.long i.served.special i.served.ack
+        (ap (λ q. q.urgent) i.served.wait) heard served says
+
     by : (is_connected a.phase ≡ true) ⊎ (is_linked a.phase ≡ false)
-        → (d : Deeds) × (d.answers ≡ is_some b.owes.answer) × BreakTurn period u arrived s.said.sent d a s.said.account
-    by (inl ca) =
-        let lk = linked-of (rates tries period) (length (past ts u)) (length (past ts u)) r a.phase a k.stands ca in
-        break-turn-of period u arrived a mid b s.said ca after lk.breaks.high per long v.special v.ack (ap (λ x. x.urgent) v.wait)
-        (break-heard arrived u a mid (connected-is a.phase ca) mid-connected (h.hearing r).hears) served says
+        → (d : Deeds) × (d.answers ≡ is_some b.owes.answer) × BreakTurn w.period u arrived g.said.sent d a g.said.account
+    by (inl ca) = turned arrived a ca (linked-of z u u r a.phase a i.stands ca).breaks.high
+        (break-heard arrived u a mid (connected-is a.phase ca) mid-connected i.hears)
     by (inr un) =
-        let x = break-turn-of period u arrivals.Nothing mid mid b s.said mid-connected after mid-linked.breaks.high per long v.special
-        v.ack (ap (λ x. x.urgent) v.wait) (blank-heard u mid) served says in
-        let o = old-heard arrived u a mid un (h.hearing r).hears in
-        let q = unlinked-of (rates tries period) (length (past ts u)) (length (past ts u)) r a.phase a k.stands un in
-        let z = blank tries period delay link ts state deed kt w r u (omega (arith, l)) un in (
+        let x = turned arrivals.Nothing mid mid-connected mid-linked.breaks.high (blank-heard u mid) in
+        let q = unlinked-of z u u r a.phase a i.stands un in
+        let s = blank w r u (omega (arith, l)) un in (
           x.0,
           x.1,
-          begun-turn period u arrived s.said.sent x.0 a mid s.said.account
-              (unlinked-connected a.phase un) mid-connected o q.breaks q.ack z.0 z.1 x.2,
+          begun-turn w.period u arrived g.said.sent x.0 a mid g.said.account (unlinked-connected a.phase un) mid-connected
+              (old-heard arrived u a mid un i.hears) q.breaks q.ack s.0 s.1 x.2,
         )
 
 -- all of them, one function a kind
 none-done : Deeds
 none-done = record { made = false; hurries = false; acks = false; answers = false }
 
-abbrev pub Taken : (period : ℕ) (link : Link) (ts : List Turn) (state : ℕ → Accounts) (deed : ℕ → Deed) → Role → ℕ → Deeds → Type 0
-Taken period link ts state deed r u d = u < length ts → is_connected (of r (state (u + 1))).phase ≡ true
-    → TurnOf period link state deed r u d
+abbrev pub Taken : TimedRun → Role → ℕ → Deeds → Type 0
+Taken w r u d = u < length w.ts → is_connected (of r (w.state (u + 1))).phase ≡ true → TurnOf w r u d
 
-pub chosen : (tries period : ℕ) (delay : Role → ℕ) (link : Link) (ts : List Turn) (state : ℕ → Accounts) (deed : ℕ → Deed)
-    → KeepsTime tries period delay link → Trace period delay link ts state deed → (r : Role) (u : ℕ)
-    → (d : Deeds) × Taken period link ts state deed r u d
-chosen tries period delay link ts state deed kt w r u = go (cases_lt u (length ts)) (is_connected (of r (state (u + 1))).phase) refl
+pub chosen : (w : TimedRun) → (r : Role) (u : ℕ) → (d : Deeds) × Taken w r u d
+chosen w r u = go (cases_lt u (length w.ts)) (is_connected (of r (w.state (u + 1))).phase) refl
   where
-    go : (u < length ts) ⊎ (length ts ≤ u) → (c : Bool) → is_connected (of r (state (u + 1))).phase ≡ c
-        → (d : Deeds) × Taken period link ts state deed r u d
+    go : (u < length w.ts) ⊎ (length w.ts ≤ u) → (c : Bool) → is_connected (of r (w.state (u + 1))).phase ≡ c → (d : Deeds) × Taken w r u d
     go (inr g) c e = (none-done, λ l f. absurd (omega (arith, g, l)))
-    go (inl l) false e = (none-done, λ l' f. clash (is_connected (of r (state (u + 1))).phase) f e)
-    go (inl l) true e = let x = turn-of tries period delay link ts state deed kt w r u l e in (x.0, λ l' f. x.1)
+    go (inl l) false e = (none-done, λ l' f. clash (is_connected (of r (w.state (u + 1))).phase) f e)
+    go (inl l) true e = let x = turn-of w r u l e in (x.0, λ l' f. x.1)
 
-abbrev pub deeds-of : (tries period : ℕ) (delay : Role → ℕ) (link : Link) (ts : List Turn) (state : ℕ → Accounts) (deed : ℕ → Deed)
-    → KeepsTime tries period delay link → Trace period delay link ts state deed → Role → ℕ → Deeds
-deeds-of tries period delay link ts state deed kt w r u = (chosen tries period delay link ts state deed kt w r u).0
+abbrev pub deeds-of : (w : TimedRun) → Role → ℕ → Deeds
+deeds-of w r u = (chosen w r u).0
 
-pub breaking : (tries period : ℕ) (delay : Role → ℕ) (link : Link) (ts : List Turn) (state : ℕ → Accounts) (deed : ℕ → Deed)
-    → (kt : KeepsTime tries period delay link) → (w : Trace period delay link ts state deed) → (r : Role)
-    → Breaking period (length ts) (end_run delay state deed r) (deeds-of tries period delay link ts state deed kt w r)
-breaking tries period delay link ts state deed kt w r = record {
-  turn = λ t l c. ((chosen tries period delay link ts state deed kt w r t).1 l c).1;
-  says = λ t l e. let s = (w.happens t l).speaking r in
-      ap (λ (x : Account). is_connected x.phase) s.after_is
-      ∙ word-connected t (release_of link t (deed t).mid r) (served_at link t (deed t).mid r).account s.said
-      (sym (said-as link t (deed t).mid r) ∙ s.says) (ap (λ x. of_frame (of_word any_brk) (sent_or x)) (sym s.sent_is) ∙ e);
+pub breaking : (w : TimedRun) → (r : Role) → Breaking w.period (length w.ts) (end_of w r) (deeds-of w r)
+breaking w r = record {
+  turn = λ t l c. ((chosen w r t).1 l c).1;
+  says = λ t l e. let g = end-turn w r t l in
+      ap (λ (x : Account). is_connected x.phase) g.after
+      ∙ word-connected t (release_of w.link t (w.deed t).mid r) ((end_of w r).served t) g.said g.says
+      (ap (of_frame (of_word any_brk)) (sym g.slot) ∙ e);
 }
 
-pub answers-are : (tries period : ℕ) (delay : Role → ℕ) (link : Link) (ts : List Turn) (state : ℕ → Accounts) (deed : ℕ → Deed)
-    → (kt : KeepsTime tries period delay link) → (w : Trace period delay link ts state deed) → (r : Role)
-    → (u : ℕ) → u < length ts → is_connected (of r (state (u + 1))).phase ≡ true
-    → (deeds-of tries period delay link ts state deed kt w r u).answers ≡ is_some
-    (served_at link u (deed u).mid r).account.owes.answer
-answers-are tries period delay link ts state deed kt w r u l c = ((chosen tries period delay link ts state deed kt w r u).1 l c).0
+pub answers-are : (w : TimedRun) → (r : Role) → (u : ℕ) → u < length w.ts → is_connected (of r (w.state (u + 1))).phase ≡ true
+    → (deeds-of w r u).answers ≡ is_some (served_at w.link u (w.deed u).mid r).account.owes.answer
+answers-are w r u l c = ((chosen w r u).1 l c).0
 
-pub waits-are : (tries period : ℕ) (delay : Role → ℕ) (link : Link) (ts : List Turn) (state : ℕ → Accounts) (deed : ℕ → Deed)
-    → (kt : KeepsTime tries period delay link) → (w : Trace period delay link ts state deed) → (r : Role)
-    → (u : ℕ) → u < length ts → is_connected (of r (state (u + 1))).phase ≡ true
-    → waits (of r (state (u + 1))).own_breaks ≡ waits (served_at link u (deed u).mid r).account.own_breaks
-waits-are tries period delay link ts state deed kt w r u l c = ((chosen tries period delay link ts state deed kt w r u).1 l c).2
+pub waits-are : (w : TimedRun) → (r : Role) → (u : ℕ) → u < length w.ts → is_connected (of r (w.state (u + 1))).phase ≡ true
+    → waits (of r (w.state (u + 1))).own_breaks ≡ waits (served_at w.link u (w.deed u).mid r).account.own_breaks
+waits-are w r u l c = ((chosen w r u).1 l c).2

@@ -6,12 +6,12 @@ use Rattle.turn_losses.proofs.LineLaw.{was-sent, is-heard}
 use Rattle.turn_losses.proofs.PollLaws.{turned}
 use Rattle.turn_losses.proofs.PeriodLaws.{NoneLost}
 use Rattle.turn_losses.proofs.Clocks.{Ticked, chain}
-use Rattle.turn_losses.proofs.BreakHear.{of_word, brk_of, ack_of, any_brk}
 use Rattle.turn_losses.proofs.BreakTurn.{Deeds, BreakTurn, number_of, brk_due}
 use Rattle.turn_losses.proofs.Windows.{Breaking}
 use Rattle.turn_losses.proofs.Soon.{brk-goes, ack-goes}
 use Rattle.turn_losses.proofs.Names.{of_frame, of_arrived, EndRun, TwoEnds}
 use Rattle.turn_losses.proofs.Clocks.Ticked.{Begins, Expires, Stays}
+use Rattle.turn_losses.proofs.Words.{ack_of, any_brk, brk_of, of_word}
 
 -- the end is Connected in these turns, and waits with one number
 pub record Waits (number : ℕ) (a : Account) : Type 0 where
@@ -29,10 +29,10 @@ IsSet e u s = (e.account u).own_breaks.set ≡ s
 abbrev count_of : EndRun → ℕ → ℕ
 count_of e u = (e.account u).own_breaks.count
 
-ticks : (period turns number : ℕ) (e : EndRun) (d : ℕ → Deeds) → Breaking period turns e d → (t : ℕ) → t < turns
+ticks : {period turns : ℕ} (number : ℕ) {e : EndRun} {d : ℕ → Deeds} → Breaking period turns e d → (t : ℕ) → t < turns
     → Waits number (e.account (t + 1))
     → Ticked period t (λ u. Waits number (e.account u)) (λ v. Unit {0}) (Made d) (IsSet e) (count_of e)
-ticks period turns number e d h t l y =
+ticks {period} {turns} number {e} {d} h t l y =
     go (is_connected (e.account t).phase) refl (waits (e.account t).own_breaks) refl (d t).made refl
   where
     x : BreakTurn period t (e.heard t) (e.slot t) (d t) (e.account t) (e.account (t + 1))
@@ -66,26 +66,26 @@ pub record BreakPeriod (period turns number : ℕ) (e : EndRun) (d : ℕ → Dee
   pub stays : (u : ℕ) → s < u → u ≤ s + period → Waits number (e.account u)
   pub goes_on : s + period < turns → Waits number (e.account (s + period + 1))
 
-pub break-periods : (period turns : ℕ) (e : EndRun) (d : ℕ → Deeds) → Breaking period turns e d → is_connected (e.account 0).phase ≡ false
+pub break-periods : {period turns : ℕ} {e : EndRun} {d : ℕ → Deeds} → Breaking period turns e d → is_connected (e.account 0).phase ≡ false
     → (n number : ℕ) → Waits number (e.account turns) → (e.account turns).own_breaks.count ≡ n
     → (e.account turns).own_breaks.set + period ≡ turns → (j : ℕ) → j ≤ n
     → (s : ℕ) × (s + (j + 1) * period ≡ turns) × BreakPeriod period turns number e d s
-break-periods period turns e d h first n number w c due j less =
+break-periods {period} {turns} {e} {d} h first n number w c due j less =
     let x = chain period turns (λ u. Waits number (e.account u)) (λ v. Unit {0}) (Made d) (IsSet e) (count_of e) (λ u s r a b. sym a ∙ b)
-    (λ z. clash (is_connected (e.account 0).phase) z.connected first) (ticks period turns number e d h) n turns
+    (λ z. clash (is_connected (e.account 0).phase) z.connected first) (ticks number h) n turns
     (e.account turns).own_breaks.set (omega arith) w c refl due j less in
     (x.0, x.1, record { made = x.2.asked; stays = x.2.ran; goes_on = x.2.goes_on })
 
 -- Where nothing is lost in it and the other end is Connected, the BRKACK comes in its very last turn, if at all.
-pub break-answered : (period turns number : ℕ) (e o : EndRun) (d d' : ℕ → Deeds) → TwoEnds period turns e o → Breaking period turns e d
-    → Breaking period turns o d' → brk_due (o.account 0) ≡ false → number < 2 → (s : ℕ) → s + period ≤ turns
+pub break-answered : {period turns : ℕ} (number : ℕ) {e o : EndRun} {d d' : ℕ → Deeds} → TwoEnds period turns e o
+    → Breaking period turns e d → Breaking period turns o d' → brk_due (o.account 0) ≡ false → number < 2 → (s : ℕ) → s + period ≤ turns
     → BreakPeriod period turns number e d s
     → ((u : ℕ) → s < u → u ≤ s + period → is_connected (o.account u).phase ≡ true)
     → ((t : ℕ) → s ≤ t → t < s + period → (d t).answers ≡ false)
     → ((t : ℕ) → s + e.delay ≤ t → t < s + period → (d' t).answers ≡ false) → NoneLost e o (s + 1) (period - 1)
     → (z : ℕ) × (z + o.delay ≡ s + period) × (s < z) × (of_frame (of_word (ack_of number)) (o.slot z) ≡ true)
-break-answered period turns number e o d d' k h h' first small s within bp co na na' lost = go
-    (brk-goes period turns e o d d' k h h' first s (omega (arith, p, within)) (λ t a b. (bp.stays t a (omega (arith, b, p))).connected)
+break-answered {period} {turns} number {e} {o} {d} {d'} k h h' first small s within bp co na na' lost = go
+    (brk-goes k h h' first s (omega (arith, p, within)) (λ t a b. (bp.stays t a (omega (arith, b, p))).connected)
     (λ t a b. (bp.stays t a (omega (arith, b, p))).waiting) (λ t a b. na t a (omega (arith, b, p))) (inr bp.made))
   where
     p : period ≡ 2 * (e.delay + o.delay) + 16
@@ -99,8 +99,7 @@ break-answered period turns number e o d d' k h h' first small s within bp co na
 
     go : (y : ℕ) × (s ≤ y) × (y < s + 14) × (of_frame (of_word (brk_of (number_of (e.account (y + 1))))) (e.slot y) ≡ true)
         → (z : ℕ) × (z + o.delay ≡ s + period) × (s < z) × (of_frame (of_word (ack_of number)) (o.slot z) ≡ true)
-    go (y, lo, hi, sent) = answered
-        (ack-goes period turns o e d' (turned period turns e o k) h' x number small (omega (arith, p, within, hi, dl, dl'))
+    go (y, lo, hi, sent) = answered (ack-goes (turned k) h' x number small (omega (arith, p, within, hi, dl, dl'))
         (co x (omega (arith, lo, dl)) (omega (arith, hi, p))) (λ t a b. co t (omega (arith, a, lo)) (omega (arith, b, hi, p, dl, dl')))
         (λ t a b q. numbered t a (omega (arith, b, hi, p, dl, dl')) q)
         (λ t a b. na' t (omega (arith, a, lo)) (omega (arith, b, hi, p, dl, dl'))) heard)
@@ -109,7 +108,7 @@ break-answered period turns number e o d d' k h h' first small s within bp co na
         x = y + e.delay
 
         heard : of_arrived (of_word (brk_of number)) (o.heard x) ≡ true
-        heard = is-heard e.delay turns (of_word (brk_of number)) e.slot o.heard o.loses k.is_heard y (omega (arith, hi, p, within))
+        heard = is-heard (of_word (brk_of number)) k.is_heard y (omega (arith, hi, p, within))
             (lost x (omega (arith, lo, dl)) (omega (arith, hi, p))).1
             ∙ (ap (λ n. of_frame (of_word (brk_of n)) (e.slot y))
             (sym (bp.stays (y + 1) (omega (arith, lo)) (omega (arith, hi, p))).numbered) ∙ sent)
@@ -117,14 +116,14 @@ break-answered period turns number e o d d' k h h' first small s within bp co na
         numbered : (t : ℕ) → x ≤ t → t < s + period → of_arrived (of_word any_brk) (o.heard t) ≡ true
             → of_arrived (of_word (brk_of number)) (o.heard t) ≡ true
         numbered t a b q =
-            let c = was-sent e.delay turns (of_word any_brk) e.slot o.heard o.loses k.is_heard t (omega (arith, b, within)) q in
+            let c = was-sent (of_word any_brk) k.is_heard t (omega (arith, b, within)) q in
             let v : ℕ = t - e.delay in
             let w = bp.stays (v + 1) (omega (arith, a, lo)) (omega (arith, b, dl)) in
             let z = (h.turn v (omega (arith, b, within)) w.connected).brk_sent c.1 in
             let back : v + e.delay ≡ t = omega (arith, a) in
             let passes : o.loses (v + e.delay) ≡ false = (lost (v + e.delay) (omega (arith, back, a, lo, dl)) (omega (arith, back, b))).1 in
             ap (λ j. of_arrived (of_word (brk_of number)) (o.heard j)) (sym back)
-            ∙ (is-heard e.delay turns (of_word (brk_of number)) e.slot o.heard o.loses k.is_heard v
+            ∙ (is-heard (of_word (brk_of number)) k.is_heard v
             (omega (arith, back, b, within)) passes ∙ (ap (λ n. of_frame (of_word (brk_of n)) (e.slot v)) (sym w.numbered) ∙ z.2))
 
         answered : (z : ℕ) × (x ≤ z) × (z < x + 6) × (of_frame (of_word (ack_of number)) (o.slot z) ≡ true)
@@ -144,8 +143,8 @@ break-answered period turns number e o d d' k h h' first small s within bp co na
             ends less =
                 let here = bp.stays v (omega (arith, a, lo, dl)) (omega (arith, less)) in
                 let there = bp.stays (v + 1) (omega (arith, a, lo, dl)) (omega (arith, less)) in
-                let comes : of_arrived (of_word (ack_of number)) (e.heard v) ≡ true = is-heard o.delay turns
-                (of_word (ack_of number)) o.slot e.heard e.loses k.hears z (omega (arith, less, within))
+                let comes : of_arrived (of_word (ack_of number)) (e.heard v) ≡ true = is-heard (of_word (ack_of number)) k.hears z
+                (omega (arith, less, within))
                 (lost v (omega (arith, a, lo, dl)) (omega (arith, less))).0 ∙ q in
                 clash (waits (e.account (v + 1)).own_breaks) there.waiting
                 ((h.turn v (omega (arith, less, within)) there.connected).ends here.connected here.waiting

@@ -1,12 +1,10 @@
 -- Why a Connected end breaks, and what was lost then.
-use Rattle.std.proofs.Common.{◌⊎◌, inl, inr, ◌≡◌, ℕ, ◌+◌, ◌*◌, ◌<◌, ◌≤◌, Bool, true, false, List, length, arith, refl, sym, ◌∙◌, ap}
-use Rattle.std.proofs.Common.{Some, Ok, Err}
-use Rattle.link_account.proofs.Names.{nat_tests, Role, other, of, waits, Arrived, LinkFault, Account}
-use Rattle.link_account.proofs.Names.{is_connected, hear, speak, false≢true}
-use Rattle.link_run.proofs.Names.{Connected, Releasing, User, is_busy, Link, Accounts, Turn, Phase, Detecting, Negotiating}
-use Rattle.link_run.proofs.Names.{Establishing}
+use Rattle.std.proofs.Common.{◌⊎◌, inl, inr, ◌≡◌, ℕ, ◌+◌, ◌*◌, ◌<◌, ◌≤◌, Bool, true, false, length, arith, sym, ◌∙◌, ap, Some, Err, subst}
+use Rattle.link_account.proofs.Names.{nat_tests, Role, other, of, waits, Arrived, LinkFault, Account, is_connected, speak, IsAllowed}
+use Rattle.link_account.proofs.Names.{MayPlay, false≢true}
+use Rattle.link_run.proofs.Names.{Connected, Releasing, Phase, Detecting, Negotiating, Establishing, Turn, Accounts, Hears, arrival}
+use Rattle.link_run.proofs.Names.{served_at, Link}
 use Rattle.turn_losses.proofs.Periods.{once, loses-of}
-use Rattle.turn_losses.proofs.PollHear.{PollHeard, poll-hears}
 use Rattle.turn_losses.proofs.AnswerTurn.{linked-sends, connected-is}
 use Rattle.link_account.proofs.SpeakWays.{Ended, TryEnds, ReleaseEnds, TimerEnds, BreakEnds, Breaks, Undetected, Spends, why-broken}
 use Rattle.turn_losses.proofs.HeardCount.{CountKept, count-hears}
@@ -14,9 +12,11 @@ use Rattle.turn_losses.proofs.PollLaws.{two-ends}
 use Rattle.turn_losses.proofs.PeriodHolds.{period-loses}
 use Rattle.turn_losses.proofs.Expiries.{Uncleared, expiries}
 use Rattle.turn_losses.proofs.Acknowledged.{Counts}
-use Rattle.turn_losses.proofs.Names.{KeepsTime, NoneDue, Rates, rates, AreRates, Sends, IsOf, Stands, arrived_rnrs, served_account, HeardAs}
-use Rattle.turn_losses.proofs.Names.{of_arrived, heard-ok, is_poll, hears-well, serves-well, Served, serves-all, PeriodLoses}
-use Rattle.turn_losses.proofs.Names.{LosesEach, is_linked, Deed, Trace, EndRun, TwoEnds, end_run}
+use Rattle.turn_losses.proofs.Names.{Rates, rates, Sends, PeriodLoses, LosesEach, is_linked, EndRun, TwoEnds, TimedRun, end_of}
+use Rattle.turn_losses.proofs.Numbering.{Plays, allowed, fits-at}
+use Rattle.turn_losses.proofs.Room.{begins-roomy}
+use Rattle.turn_losses.proofs.InTurn.{InTurn}
+use Rattle.turn_losses.proofs.EndTurn.{last-turn}
 
 -- the segments' clock expires with the last try
 pub record SpendsTries (turn : ℕ) (b : Account) : Type 0 where
@@ -70,121 +70,83 @@ pub record LastTry (tries period turn : ℕ) (a : Account) : Type 0 where
   pub now : turn ≡ set + period
   pub count : a.outgoing.count ≡ tries
 
-pub last-try-of : (tries period : ℕ) (user : User) (turn : ℕ) (role : Role) (arrived : Arrived) (a mid : Account) (released : Bool)
-    → AreRates (rates tries period) → IsOf (rates tries period) a.setup
-    → Stands (rates tries period) turn turn role a.phase a → a.setup.role ≡ role → NoneDue a
-    → (is_linked a.phase ≡ false → is_connected mid.phase ≡ true → mid.outgoing.count ≡ 0)
-    → hear turn arrived a ≡ Ok mid → is_connected mid.phase ≡ true → SpendsTries turn (served_account user turn released mid)
-    → LastTry tries period turn a
-last-try-of tries period user turn role arrived a mid released y k h er none begins hears cm why = from (polls.from cm)
-  where
-    z : Rates
-    z = rates tries period
+module _ {tries period : ℕ} {link : Link} {role : Role} {turn : ℕ} {a : Account} {arrived : Arrived} {mid b : Account}
+    (i : InTurn tries period link role turn a arrived mid b) where
+  last-try-of : (is_linked a.phase ≡ false → is_connected mid.phase ≡ true → mid.outgoing.count ≡ 0) → is_connected mid.phase ≡ true
+      → SpendsTries turn b → LastTry tries period turn a
+  last-try-of begins cm why = from (i.polls.from cm)
+    where
+      z : Rates
+      z = rates tries period
 
-    b : Account
-    b = served_account user turn released mid
+      sends : Sends z (turn + 1) turn b.outgoing b.wait.timer
+      sends = linked-sends z (turn + 1) turn role i.phase b i.b_stands (ap is_connected (sym i.heard.phase) ∙ cm)
 
-    s : Served turn (length user.breaks) (is_busy turn user.busy) mid b
-    s = serves-all user turn released mid
+      mid-count : mid.outgoing.count ≡ tries
+      mid-count = ap (λ o. o.count) (sym i.served.longer.outgoing) ∙ (why.count ∙ sends.tries_are)
 
-    heard : (q : Phase) × HeardAs z (length a.outgoing.pieces) (length user.breaks) turn
-        (z.quota * arrived_rnrs arrived) role a.phase a q mid
-    heard = heard-ok z (length a.outgoing.pieces) (length user.breaks) turn (z.quota * arrived_rnrs arrived) role a.phase a mid
-        (hear turn arrived a) hears
-        (hears-well z (length a.outgoing.pieces) (length user.breaks) turn role a.phase arrived a y k h refl er (omega arith))
+      some-tries : 1 ≤ tries
+      some-tries = i.rated.tries
 
-    sends : Sends z (turn + 1) turn b.outgoing b.wait.timer
-    sends = linked-sends z (turn + 1) turn role heard.0 b
-        (serves-well z (length a.outgoing.pieces) (length user.breaks) turn
-        (is_busy turn user.busy) role heard.0 mid b y heard.1.stands heard.1.phase s).stands
-        (ap is_connected (sym heard.1.phase) ∙ cm)
+      from : (is_connected a.phase ≡ true) ⊎ (is_linked a.phase ≡ false) → LastTry tries period turn a
+      from (inr u) = let c = begins u cm in absurd (omega (arith, c, mid-count, some-tries))
+      from (inl ca) = by (count-hears z arrived turn a mid ca (linked-sends z turn turn role a.phase a i.stands ca) i.hears)
+        where
+          by : CountKept a mid → LastTry tries period turn a
+          by (inl c) = absurd (omega (arith, c, mid-count, some-tries))
+          by (inr (c, w)) = record {
+            connected = ca;
+            set = why.set;
+            runs = sym w ∙ (ap (λ v. v.timer) (sym i.served.wait) ∙ why.runs);
+            now = let n = why.now in omega (arith, n, i.b_period);
+            count = sym c ∙ mid-count;
+          }
 
-    per : b.setup.period ≡ period
-    per = ap (λ x. x.period) (s.setup ∙ heard.1.setup) ∙ k.period
+-- in the turn behind a run
+module _ (laws : Plays) (w : TimedRun) (may : MayPlay w.link.orig.setup w.link.answ.setup) (t : Turn) (mid : Accounts)
+    (hearing : Hears (length w.ts) w.ends t mid) (r : Role) where
+  pub last-tries : is_connected (of r mid).phase ≡ true → SpendsTries (length w.ts) (served_at w.link (length w.ts) mid r).account
+      → LastTry w.tries w.period (length w.ts) (of r w.ends)
+  last-tries = let i = last-turn w t mid hearing r in last-try-of i
+      (λ u c. ((begins-roomy (arrival (of r t).heard) (length w.ts) (of r w.ends) (of r mid) u (fits-at laws w.link w.delay w.ts w.ends
+      (record { may_play = may; delays = w.keeps.delays; carried = w.carried; run = w.run }) r)
+      (subst IsAllowed (ap (λ x. x.offer) (sym i.setup)) (allowed w.link may r)) i.hears).so c).2)
 
-    polls : PollHeard role turn (of_arrived is_poll arrived) a mid
-    polls = poll-hears role arrived turn a er none.answer mid hears
+  -- so it is where no break waits
+  pub last-try : (release : Bool) (fault : LinkFault) → is_connected (of r mid).phase ≡ true
+      → waits (served_at w.link (length w.ts) mid r).account.own_breaks ≡ false
+      → speak (length w.ts) release (served_at w.link (length w.ts) mid r).account ≡ Err fault
+      → LastTry w.tries w.period (length w.ts) (of r w.ends)
+  last-try release fault cm quiet breaks = let i = last-turn w t mid hearing r in last-tries cm
+      (connected-why (length w.ts) release (served_at w.link (length w.ts) mid r).account fault
+      (i.served.phase ∙ connected-is (of r mid).phase cm) (omega (arith, i.b_period, i.long)) quiet breaks)
 
-    mid-count : mid.outgoing.count ≡ tries
-    mid-count = ap (λ o. o.count) (sym s.longer.outgoing) ∙ (why.count ∙ sends.tries_are)
-
-    some-tries : 1 ≤ tries
-    some-tries = y.tries
-
-    from : (is_connected a.phase ≡ true) ⊎ (is_linked a.phase ≡ false) → LastTry tries period turn a
-    from (inr u) = let c = begins u cm in absurd (omega (arith, c, mid-count, some-tries))
-    from (inl ca) = by (count-hears z arrived turn a mid ca (linked-sends z turn turn role a.phase a h ca) hears)
-      where
-        by : CountKept a mid → LastTry tries period turn a
-        by (inl c) = absurd (omega (arith, c, mid-count, some-tries))
-        by (inr (c, w)) = record {
-          connected = ca;
-          set = why.set;
-          runs = sym w ∙ (ap (λ v. v.timer) (sym s.wait) ∙ why.runs);
-          now = let n = why.now in omega (arith, n, per);
-          count = sym c ∙ mid-count;
-        }
-
--- so it is where no break waits
-pub last-try : (tries period : ℕ) (user : User) (turn : ℕ) (role : Role) (arrived : Arrived) (a mid : Account) (released release : Bool)
-    (fault : LinkFault) → AreRates (rates tries period) → IsOf (rates tries period) a.setup
-    → Stands (rates tries period) turn turn role a.phase a → a.setup.role ≡ role → NoneDue a
-    → (is_linked a.phase ≡ false → is_connected mid.phase ≡ true → mid.outgoing.count ≡ 0)
-    → hear turn arrived a ≡ Ok mid → is_connected mid.phase ≡ true → waits (served_account user turn released mid).own_breaks ≡ false
-    → speak turn release (served_account user turn released mid) ≡ Err fault
-    → LastTry tries period turn a
-last-try tries period user turn role arrived a mid released release fault y k h er none begins hears cm quiet breaks = last-try-of tries
-    period user turn role arrived a mid released y k h er none begins hears cm why
-  where
-    z : Rates
-    z = rates tries period
-
-    b : Account
-    b = served_account user turn released mid
-
-    heard : (q : Phase) × HeardAs z (length a.outgoing.pieces) (length user.breaks) turn
-        (z.quota * arrived_rnrs arrived) role a.phase a q mid
-    heard = heard-ok z (length a.outgoing.pieces) (length user.breaks) turn (z.quota * arrived_rnrs arrived) role a.phase a mid
-        (hear turn arrived a) hears
-        (hears-well z (length a.outgoing.pieces) (length user.breaks) turn role a.phase arrived a y k h refl er (omega arith))
-
-    per : b.setup.period ≡ period
-    per = ap (λ x. x.period) ((serves-all user turn released mid).setup ∙ heard.1.setup) ∙ k.period
-
-    why : SpendsTries turn b
-    why = let long = y.period in connected-why turn release b fault ((serves-all user turn released mid).phase ∙ connected-is mid.phase cm)
-        (omega (arith, per, long)) quiet breaks
-
--- a turn in which an end hears nothing of what was sent
 -- So where both ends stay Connected, something was lost in each of the last periods.
-pub wants-answers : (tries period : ℕ) (delay : Role → ℕ) (link : Link) (ts : List Turn) (state : ℕ → Accounts) (deed : ℕ → Deed)
-    → KeepsTime tries period delay link → (w : Trace period delay link ts state deed) → (role : Role)
-    → Counts (length ts) (end_run delay state deed role) (end_run delay state deed (other role))
-    → LastTry tries period (length ts) (of role (state (length ts)))
-    → ((s u : ℕ) → s < length ts → s ≤ u → u ≤ length ts → (deed s).made role ≡ true → is_connected (of role (state s)).phase ≡ true
-    → is_connected (of role (state u)).phase ≡ true → is_connected (of (other role) (state u)).phase ≡ true)
-    → LosesEach period tries (length ts) ts
-wants-answers tries period delay link ts state deed kt w role c l both n less =
-    lost-at (expiries period turns e o k c tries l.set l.connected l.count l.runs l.now n less)
+pub wants-answers : (w : TimedRun) → (role : Role) → Counts (length w.ts) (end_of w role) (end_of w (other role))
+    → LastTry w.tries w.period (length w.ts) (of role (w.state (length w.ts)))
+    → ((s u : ℕ) → s < length w.ts → s ≤ u → u ≤ length w.ts → (w.deed s).made role ≡ true → is_connected (of role (w.state s)).phase ≡ true
+    → is_connected (of role (w.state u)).phase ≡ true → is_connected (of (other role) (w.state u)).phase ≡ true)
+    → LosesEach w.period w.tries (length w.ts) w.ts
+wants-answers w role c l both n less = lost-at (expiries k c w.tries l.set l.connected l.count l.runs l.now n less)
   where
     turns : ℕ
-    turns = length ts
+    turns = length w.ts
 
     e : EndRun
-    e = end_run delay state deed role
+    e = end_of w role
 
     o : EndRun
-    o = end_run delay state deed (other role)
+    o = end_of w (other role)
 
-    k : TwoEnds period turns e o
-    k = two-ends tries period delay link ts state deed kt w role
+    k : TwoEnds w.period turns e o
+    k = two-ends w role
 
-    long : 1 ≤ period
-    long = let p = kt.period_is in omega (arith, p)
+    long : 1 ≤ w.period
+    long = let p = w.keeps.period_is in omega (arith, p)
 
-    lost-at : (s : ℕ) × (s + (n + 1) * period ≡ turns) × Uncleared period e s → PeriodLoses period turns ts n
+    lost-at : (s : ℕ) × (s + (n + 1) * w.period ≡ turns) × Uncleared w.period e s → PeriodLoses w.period turns w.ts n
     lost-at (s, q, x) =
-        let same = once period n in
-        let end : s + period ≤ turns = omega (arith, q, same) in
-        loses-of period delay link ts state deed w role s n long q (period-loses period turns e o k c s end x.made x.on
+        let same = once w.period n in
+        let end : s + w.period ≤ turns = omega (arith, q, same) in
+        loses-of w role s n long q (period-loses k c s end x.made x.on
         (λ u a b. both s u (omega (arith, end, long)) a (omega (arith, b, end)) x.made x.connected (x.on u a b)) x.uncleared)

@@ -1,16 +1,16 @@
 -- How soon a BRK goes, and the BRKACK that answers it.
-use Rattle.std.proofs.Common.{◌⊎◌, inl, inr, ◌≡◌, ℕ, zero, suc, ◌+◌, ◌-◌, ◌<◌, ◌≤◌, ◌&&◌, Bool, true, false, nat_le, arith, refl, sym}
-use Rattle.std.proofs.Common.{◌∙◌, ap, subst}
+use Rattle.std.proofs.Common.{◌⊎◌, inl, inr, ◌≡◌, ℕ, ◌+◌, ◌-◌, ◌<◌, ◌≤◌, ◌&&◌, Bool, true, false, nat_le, arith, refl, sym, ◌∙◌, ap}
 use Rattle.link_account.proofs.Names.{cases_lt, nat_tests, waits, Account, is_connected}
 use Rattle.turn_losses.proofs.Truths.{not-true, and-two, and-drop, clash}
 use Rattle.turn_losses.proofs.PollHear.{linked-connected}
 use Rattle.turn_losses.proofs.LineLaw.{was-sent}
 use Rattle.turn_losses.proofs.PollLaws.{turned, polls-apart, reply-from, reply-matches}
-use Rattle.turn_losses.proofs.PeriodLaws.{linked-on, connected-back}
-use Rattle.turn_losses.proofs.BreakHear.{of_word, any_brk}
+use Rattle.turn_losses.proofs.PeriodLaws.{connected-since}
 use Rattle.turn_losses.proofs.BreakTurn.{Deeds, BreakTurn, brk_due, is_urgent}
 use Rattle.turn_losses.proofs.Counting.{hits, one_if, once, twice, at-most-made}
 use Rattle.turn_losses.proofs.Names.{of_frame, of_arrived, is_poll, EndRun, TwoEnds, sends_poll, sends_final, hears_final}
+use Rattle.turn_losses.proofs.Words.{any_brk, of_word}
+use Rattle.turn_losses.proofs.Kept.{kept-in}
 
 -- an end's breaks by the turn
 pub record Breaking (period turns : ℕ) (e : EndRun) (d : ℕ → Deeds) : Type 0 where
@@ -23,99 +23,81 @@ pub record Since (m : ℕ) (a : Account) : Type 0 where
   pub set : waits a.own_breaks ≡ true → m ≤ a.own_breaks.set
   pub rest : waits a.own_breaks ≡ false → m + 8 ≤ a.own_breaks.rest
 
-since-made : (period turns : ℕ) (e o : EndRun) (d : ℕ → Deeds) → TwoEnds period turns e o → Breaking period turns e d → (m n : ℕ)
-    → m + 1 + n ≤ turns → (d m).made ≡ true → is_connected (e.account (m + 1)).phase ≡ true
-    → is_connected (e.account (m + 1 + n)).phase ≡ true
-    → Since m (e.account (m + 1 + n))
-since-made period turns e o d k h m zero l made c1 c =
-    let x = (h.turn m (omega (arith, l)) c1).made_set made in
-    subst (λ t. Since m (e.account t)) (omega arith)
-    (record { set = λ w. let q = x.1 in omega (arith, q); rest = λ w. clash (waits (e.account (m + 1)).own_breaks) x.0 w })
-since-made period turns e o d k h m (suc n) l made c1 c = subst (λ t. Since m (e.account t)) (omega arith)
-    (step (since-made period turns e o d k h m n (omega (arith, l)) made c1 before))
+since-made : {period turns : ℕ} {e o : EndRun} {d : ℕ → Deeds} → TwoEnds period turns e o → Breaking period turns e d → (m t : ℕ)
+    → m < t → t ≤ turns → (d m).made ≡ true → is_connected (e.account (m + 1)).phase ≡ true → is_connected (e.account t).phase ≡ true
+    → Since m (e.account t)
+since-made {period} {turns} {e} {o} {d} k h m t less l made c1 c = kept-in (λ u. Since m (e.account u)) (m + 1) t (omega (arith, less)) step
+    (let x = (h.turn m (omega (arith, less, l)) c1).made_set made in
+    record { set = λ w. let q = x.1 in omega (arith, q); rest = λ w. clash (waits (e.account (m + 1)).own_breaks) x.0 w })
   where
-    t : ℕ
-    t = m + 1 + n
+    on : (u : ℕ) → m + 1 ≤ u → u ≤ t → is_connected (e.account u).phase ≡ true
+    on = connected-since k (m + 1) t l (linked-connected (e.account (m + 1)).phase c1) c
 
-    now : is_connected (e.account (t + 1)).phase ≡ true
-    now = ap (λ x. is_connected (e.account x).phase) (omega arith) ∙ c
-
-    before : is_connected (e.account t).phase ≡ true
-    before = connected-back period turns e o k t (t + 1) (omega arith) (omega (arith, l))
-        (linked-on period turns e o k (m + 1) t (omega arith) (omega (arith, l)) (linked-connected (e.account (m + 1)).phase c1)) now
-
-    x : BreakTurn period t (e.heard t) (e.slot t) (d t) (e.account t) (e.account (t + 1))
-    x = h.turn t (omega (arith, l)) now
-
-    step : Since m (e.account t) → Since m (e.account (t + 1))
-    step i = by (d t).made refl
+    step : (u : ℕ) → m + 1 ≤ u → u < t → Since m (e.account u) → Since m (e.account (u + 1))
+    step u lo hi i = by (d u).made refl
       where
-        by : (b : Bool) → (d t).made ≡ b → Since m (e.account (t + 1))
+        x : BreakTurn period u (e.heard u) (e.slot u) (d u) (e.account u) (e.account (u + 1))
+        x = h.turn u (omega (arith, hi, l)) (on (u + 1) (omega (arith, lo)) (omega (arith, hi)))
+
+        before : is_connected (e.account u).phase ≡ true
+        before = on u lo (omega (arith, hi))
+
+        by : (b : Bool) → (d u).made ≡ b → Since m (e.account (u + 1))
         by true q = let y = x.made_set q in record {
-          set = λ w. let z = y.1 in omega (arith, z);
-          rest = λ w. clash
-              (waits (e.account (t + 1)).own_breaks) y.0 w;
+          set = λ w. let z = y.1 in omega (arith, z, lo);
+          rest = λ w. clash (waits (e.account (u + 1)).own_breaks) y.0 w;
         }
         by false q = record {
-          set = λ w. let y = x.kept_set q before w in let z = i.set y.0 in let s = y.1 in omega
-              (arith, z, s);
-          rest = λ w. rests (x.kept_rest q before w);
+          set = λ w. let y = x.kept_set q before w in let z = i.set y.0 in let s = y.1 in omega (arith, z, s);
+          rest = λ w. elim (x.kept_rest q before w) [
+            | inl y ↦ (let r = i.rest y.0 in let z = y.1 in omega (arith, r, z))
+            | inr z ↦ omega (arith, z, lo)
+          ];
         }
-          where
-            rests : ((waits (e.account t).own_breaks ≡ false) × ((e.account (t + 1)).own_breaks.rest ≡ (e.account t).own_breaks.rest))
-                ⊎ ((e.account (t + 1)).own_breaks.rest ≡ t + 8) → m + 8 ≤ (e.account (t + 1)).own_breaks.rest
-            rests (inl (y, z)) = let r = i.rest y in omega (arith, r, z)
-            rests (inr z) = omega (arith, z)
 
 -- so they become due at least eight turns apart
-pub made-apart : (period turns : ℕ) (e o : EndRun) (d : ℕ → Deeds) → TwoEnds period turns e o → Breaking period turns e d → (s t : ℕ)
+pub made-apart : {period turns : ℕ} {e o : EndRun} {d : ℕ → Deeds} → TwoEnds period turns e o → Breaking period turns e d → (s t : ℕ)
     → s < t → t < turns → (d s).made ≡ true → (d t).made ≡ true → is_connected (e.account (s + 1)).phase ≡ true
     → is_connected (e.account (t + 1)).phase ≡ true
     → s + 8 ≤ t
-made-apart period turns e o d k h s t less within ms mt cs ct = elim ((h.turn t within ct).made_late mt before) [
+made-apart {period} {turns} {e} {o} {d} k h s t less within ms mt cs ct = elim ((h.turn t within ct).made_late mt before) [
   | inl y ↦ (let z = i.set y.0 in omega (arith, z, y.1, k.period_is))
   | inr y ↦ (let z = i.rest y.0 in omega (arith, z, y.1))
 ]
   where
     before : is_connected (e.account t).phase ≡ true
-    before = connected-back period turns e o k t (t + 1) (omega arith) (omega (arith, within))
-        (linked-on period turns e o k (s + 1) t (omega (arith, less)) (omega (arith, within))
-        (linked-connected (e.account (s + 1)).phase cs)) ct
-
-    same : s + 1 + (t - (s + 1)) ≡ t
-    same = omega (arith, less)
+    before = connected-since k (s + 1) (t + 1) (omega (arith, within)) (linked-connected (e.account (s + 1)).phase cs) ct t
+        (omega (arith, less)) (omega arith)
 
     i : Since s (e.account t)
-    i = subst (λ x. Since s (e.account x)) same
-        (since-made period turns e o d k h s (t - (s + 1)) (omega (arith, less, within)) ms cs
-        (ap (λ x. is_connected (e.account x).phase) same ∙ before))
+    i = since-made k h s t less (omega (arith, within)) ms cs before
 
 -- F replies are sent, and answers heard, as far apart as polls
-pub replies-apart : (period turns : ℕ) (e o : EndRun) → TwoEnds period turns e o → (s t : ℕ) → s < t → t < turns → sends_final e s ≡ true
+pub replies-apart : {period turns : ℕ} {e o : EndRun} → TwoEnds period turns e o → (s t : ℕ) → s < t → t < turns → sends_final e s ≡ true
     → sends_final e t ≡ true → s + (period - 1) ≤ t
-replies-apart period turns e o k s t less within a b =
+replies-apart {period} {turns} {e} {o} k s t less within a b =
     let p = k.period_is in
-    let x = was-sent o.delay turns is_poll o.slot e.heard e.loses k.hears s (omega (arith, less, within))
-    (reply-from period turns e o k s (omega (arith, less, within)) a) in
-    let y = was-sent o.delay turns is_poll o.slot e.heard e.loses k.hears t within (reply-from period turns e o k t within b) in
+    let x = was-sent is_poll k.hears s (omega (arith, less, within))
+    (reply-from k s (omega (arith, less, within)) a) in
+    let y = was-sent is_poll k.hears t within (reply-from k t within b) in
     let x0 = x.0 in let y0 = y.0 in
-    let far = polls-apart period turns o e (turned period turns e o k) (s - o.delay) (t - o.delay) (omega (arith, less, x0, y0))
+    let far = polls-apart (turned k) (s - o.delay) (t - o.delay) (omega (arith, less, x0, y0))
     (omega (arith, within)) x.1 y.1 in
     omega (arith, far, x0, y0, p)
 
-pub answers-apart : (period turns : ℕ) (e o : EndRun) → TwoEnds period turns e o → (s t : ℕ) → s < t → t < turns → hears_final e s ≡ true
+pub answers-apart : {period turns : ℕ} {e o : EndRun} → TwoEnds period turns e o → (s t : ℕ) → s < t → t < turns → hears_final e s ≡ true
     → hears_final e t ≡ true → s + (period - 1) ≤ t
-answers-apart period turns e o k s t less within a b =
+answers-apart {period} {turns} {e} {o} k s t less within a b =
     let p = k.period_is in
-    let x = reply-matches period turns e o k s (omega (arith, less, within)) a in
-    let y = reply-matches period turns e o k t within b in
+    let x = reply-matches k s (omega (arith, less, within)) a in
+    let y = reply-matches k t within b in
     let x0 = x.round_trip in let y0 = y.round_trip in
-    let far = polls-apart period turns e o k x.sent y.sent (omega (arith, less, x0, y0)) (omega (arith, y0, within)) x.is_sent y.is_sent in
+    let far = polls-apart k x.sent y.sent (omega (arith, less, x0, y0)) (omega (arith, y0, within)) x.is_sent y.is_sent in
     omega (arith, far, x0, y0, p)
 
-pub polls-far : (period turns : ℕ) (e o : EndRun) → TwoEnds period turns e o → (s t : ℕ) → s < t → t < turns → sends_poll e s ≡ true
+pub polls-far : {period turns : ℕ} {e o : EndRun} → TwoEnds period turns e o → (s t : ℕ) → s < t → t < turns → sends_poll e s ≡ true
     → sends_poll e t ≡ true → s + (period - 1) ≤ t
-polls-far period turns e o k s t less within a b = let p = k.period_is in let far = polls-apart period turns e o k s t less within a b in
+polls-far {period} {turns} {e} {o} k s t less within a b = let p = k.period_is in let far = polls-apart k s t less within a b in
     omega (arith, far, p)
 
 pub sum-at-most : (x y z w : Bool) → (x ≡ true → (z ≡ true) ⊎ (w ≡ true)) → (y ≡ true → ((z ≡ true) ⊎ (w ≡ true)) × (x ≡ false))
@@ -133,23 +115,23 @@ sum-at-most false true z w f g = by (g refl).0
     by (inr q) = let n = ap one_if q in omega (arith, n)
 
 -- urgent segments go twice at most
-pub hurries-twice : (period turns : ℕ) (e o : EndRun) (d : ℕ → Deeds) → TwoEnds period turns e o → Breaking period turns e d → (s n : ℕ)
+pub hurries-twice : {period turns : ℕ} {e o : EndRun} {d : ℕ → Deeds} → TwoEnds period turns e o → Breaking period turns e d → (s n : ℕ)
     → n + 1 ≤ period → s + n ≤ turns → ((t : ℕ) → s < t → t ≤ s + n → is_connected (e.account t).phase ≡ true)
     → hits (λ t. (d t).hurries) s n ≤ 2
-hurries-twice period turns e o d k h s n l w c =
+hurries-twice {period} {turns} {e} {o} {d} k h s n l w c =
     let made = at-most-made (λ t. (d t).hurries) (λ t. is_urgent (e.account t)) (hears_final e) s n
     (λ t a b. let x = h.turn t (omega (arith, b, w)) (c (t + 1) (omega (arith, a)) (omega (arith, b))) in
     sum-at-most (is_urgent (e.account (t + 1))) (d t).hurries (is_urgent (e.account t)) (hears_final e t) x.urgent x.hurried) in
-    let one = once (hears_final e) (period - 1) turns (answers-apart period turns e o k) s n (omega (arith, l)) w in
+    let one = once (hears_final e) (period - 1) turns (answers-apart k) s n (omega (arith, l)) w in
     omega (arith, made, one)
 
 -- of the other end's BRKs three at most are heard in fourteen turns
 abbrev pub shifted : ℕ → (ℕ → Bool) → ℕ → Bool
 shifted delay f t = nat_le delay t && f (t - delay)
 
-pub brks-heard : (period turns : ℕ) (e o : EndRun) (d : ℕ → Deeds) → TwoEnds period turns e o → Breaking period turns o d
+pub brks-heard : {period turns : ℕ} {e o : EndRun} {d : ℕ → Deeds} → TwoEnds period turns e o → Breaking period turns o d
     → brk_due (o.account 0) ≡ false → (s n : ℕ) → n ≤ 16 → s + n ≤ turns → hits (λ t. of_arrived (of_word any_brk) (e.heard t)) s n ≤ 3
-brks-heard period turns e o d k h first s n l w =
+brks-heard {period} {turns} {e} {o} {d} k h first s n l w =
     let made = at-most-made (λ t. of_arrived (of_word any_brk) (e.heard t)) (shifted o.delay (λ t. brk_due (o.account t)))
     (shifted o.delay (λ t. is_connected (o.account (t + 1)).phase && (d t).made)) s n (λ t a b. each t (omega (arith, b, w))) in
     let two = twice (shifted o.delay (λ t. is_connected (o.account (t + 1)).phase && (d t).made)) 8 turns apart s n (omega (arith, l)) w in
@@ -169,7 +151,7 @@ brks-heard period turns e o d k h first s n l w =
         let a' = and-two (is_connected (o.account (x - o.delay + 1)).phase) (d (x - o.delay)).made a.1 in
         let b' = and-two (is_connected (o.account (y - o.delay + 1)).phase) (d (y - o.delay)).made b.1 in
         let lx = below o.delay x a.0 in let ly = below o.delay y b.0 in
-        let far = made-apart period turns o e d (turned period turns e o k) h (x - o.delay) (y - o.delay) (omega (arith, less, lx, ly))
+        let far = made-apart (turned k) h (x - o.delay) (y - o.delay) (omega (arith, less, lx, ly))
         (omega (arith, within)) a'.1 b'.1 a'.0 b'.0 in
         omega (arith, far, lx, ly)
 
@@ -181,7 +163,7 @@ brks-heard period turns e o d k h first s n l w =
       where
         heard-so : of_arrived (of_word any_brk) (e.heard t) ≡ true
             → (o.delay ≤ t) × (of_frame (of_word any_brk) (o.slot (t - o.delay)) ≡ true)
-        heard-so q = was-sent o.delay turns (of_word any_brk) o.slot e.heard e.loses k.hears t within q
+        heard-so q = was-sent (of_word any_brk) k.hears t within q
 
         go : (t < o.delay) ⊎ (o.delay ≤ t) → one_if (shifted o.delay (λ t. brk_due (o.account t)) (t + 1)) + one_if
             (of_arrived (of_word any_brk) (e.heard t))
