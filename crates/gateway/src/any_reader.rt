@@ -1,11 +1,12 @@
 // The readers of a line from its beginning, at both rates, and from its middle, as one.
-ghost use Rattle.std.specs.Prelude.{◌≡◌, ◌+◌, ◌<◌, ◌≤◌, ◌^◌, ◌++◌, ◌∷◌, Bool, List, [], Some, None, length, drop, IfOk, MatchOption, MatchResult};
+ghost use Rattle.std.specs.Prelude.{◌≡◌, ◌+◌, ◌<◌, ◌≤◌, ◌^◌, ◌++◌, ◌∷◌, Bool, List, [], Some, None, length, drop, IfOk, IfSome, MatchOption, MatchResult};
 ghost use Rattle.frame_check.specs.Bits.{low_bits};
 ghost use Rattle.scramblers.specs.declared.mode.Mode.{Mode};
 ghost use Rattle.symbol_map.specs.declared.sample.Sample.{Sample};
 ghost use Rattle.exact_decoder.specs.Batches.{heard_of};
 ghost use Rattle.exact_decoder.specs.Surviving.V32.{line_depth};
 ghost use Rattle.line_coding.specs.MiddleReading.{MiddleRead, bits_of_taken};
+ghost use Rattle.line_coding.specs.Reading.{bits_in};
 ghost use Rattle.gateway.specs.declared.any_reader.LineKind.{LineKind};
 ghost use Rattle.gateway.specs.Decoding.{decoding_of};
 ghost use Rattle.gateway.specs.Reads.{ReadsAs};
@@ -124,6 +125,22 @@ impl AnyReader {
                 None => None,
             },
             AnyReader::Quarters(reader) => bits_of(reader.take(), 2),
+        }
+    }
+
+    /// The bits of the two oldest labels that are released and not yet taken, at 9600 bit/s, where there are two and both give four bits.
+    pub fn take_octet(&mut self) -> Option<u8>
+        ensures reads { (line : LineKind) (mode : Mode) (samples : List Sample) (bits : List Bool) → ReadsAs line mode self.old samples bits
+            → ReadsAs line mode self.new samples (bits ++ bits_in 8 result) }
+        ensures two { IfSome result (λ _. length (decoding_of self.old).pending ≡ length (decoding_of self.new).pending + 2) }
+        ensures stays { result ≡ None → self.new ≡ self.old }
+        ensures count { (decoding_of self.new).count ≡ (decoding_of self.old).count }
+        ensures lost { (decoding_of self.new).lost ≡ (decoding_of self.old).lost }
+    {
+        match self {
+            AnyReader::Begun(reader) => reader.take_two(),
+            AnyReader::Middle(reader) => reader.take_octet(),
+            AnyReader::Quarters(_reader) => None,
         }
     }
 

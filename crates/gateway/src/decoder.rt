@@ -9,7 +9,7 @@ ghost use Rattle.gateway.specs.Reads.{Read, ReadsAs, Ends};
 ghost use Rattle.gateway.specs.Stopped.{IsIdle, IsStopped, IsUnfinished};
 
 use crate::any_reader::{AnyReader, LineKind};
-use crate::label_bits::{LabelBits, put_bits};
+use crate::label_bits::{LabelBits, put_bits, put_octet};
 use crate::parts::{BATCH, copy_samples};
 use line_coding::{Demodulate, Demodulator};
 use rate_4800::Demodulator as QuarterDemodulator;
@@ -57,6 +57,27 @@ pub struct SampleDecoder {
     ghost early: { samples ≤ 2 ^ 50 },
 }
 
+/// Gives the bits of the labels that are released, of two at a time, while there are two and there is room: the place behind them.
+fn take_octets(reader: &mut AnyReader, bits: &mut [u8], at: usize) -> usize
+    requires { at ≤ length bits.old }
+    ensures length { length bits.new ≡ length bits.old }
+    ensures next { result ≤ length bits.new }
+    ensures reads { (line : LineKind) (mode : Mode) (samples : List Sample) (before : List Bool) → ReadsAs line mode reader.old samples (before ++ given at bits.old)
+        → ReadsAs line mode reader.new samples (before ++ given result bits.new) }
+    ensures bits { AreBits at bits.old → AreBits result bits.new }
+    ensures lost { (decoding_of reader.new).lost ≡ (decoding_of reader.old).lost }
+    ensures count { (decoding_of reader.new).count ≡ (decoding_of reader.old).count }
+{
+    let mut next = at;
+    while bits.len() - next >= 8 {
+        match reader.take_octet() {
+            None => return next,
+            Some(octet) => next = put_octet(octet, bits, next),
+        }
+    }
+    next
+}
+
 /// Gives the bits of the labels that are released, while there is room: the place behind them.
 fn take_bits(reader: &mut AnyReader, bits: &mut [u8], at: usize) -> usize
     requires { at ≤ length bits.old }
@@ -69,7 +90,7 @@ fn take_bits(reader: &mut AnyReader, bits: &mut [u8], at: usize) -> usize
     ensures lost { (decoding_of reader.new).lost ≡ (decoding_of reader.old).lost }
     ensures count { (decoding_of reader.new).count ≡ (decoding_of reader.old).count }
 {
-    let mut next = at;
+    let mut next = take_octets(reader, bits, at);
     while bits.len() - next >= 4 {
         match reader.take() {
             None => return next,

@@ -1,6 +1,6 @@
 // The bits of a label.
 ghost use Rattle.std.specs.Prelude.{◌≡◌, ◌+◌, ◌++◌, ◌≤◌, length};
-ghost use Rattle.frame_check.specs.Bits.{low_bits};
+ghost use Rattle.frame_check.specs.Bits.{low_bits, octet_bits};
 ghost use Rattle.gateway.specs.Given.{given, AreBits};
 
 /// Up to four bits.
@@ -30,4 +30,24 @@ pub(crate) fn put_bits(bits: LabelBits, out: &mut [u8], at: usize) -> usize
     out[at + 2] = third % 2;
     out[at + 3] = third / 2 % 2;
     at + bits.count as usize
+}
+
+/// Puts the bits of an octet into the list at this place, an octet each: the place behind them.
+pub(crate) fn put_octet(octet: u8, out: &mut [u8], at: usize) -> usize
+    requires { at + 8 ≤ length out.old }
+    ensures length { length out.new ≡ length out.old }
+    ensures next { result ≡ at + 8 }
+    ensures bits { AreBits at out.old → AreBits result out.new }
+    ensures given { given result out.new ≡ given at out.old ++ octet_bits octet }
+{
+    let low = LabelBits {
+        count: 4,
+        number: octet % 16,
+    };
+    let high = LabelBits {
+        count: 4,
+        number: octet / 16,
+    };
+    let next = put_bits(low, out, at);
+    put_bits(high, out, next)
 }
