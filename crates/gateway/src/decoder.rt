@@ -90,6 +90,9 @@ fn take_bits(reader: &mut AnyReader, bits: &mut [u8], at: usize) -> usize
     ensures lost { (decoding_of reader.new).lost ≡ (decoding_of reader.old).lost }
     ensures count { (decoding_of reader.new).count ≡ (decoding_of reader.old).count }
 {
+    if reader.pending() == 0 {
+        return at;
+    }
     let mut next = take_octets(reader, bits, at);
     while bits.len() - next >= 4 {
         match reader.take() {
