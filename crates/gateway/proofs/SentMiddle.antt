@@ -26,9 +26,9 @@ use Rattle.line_coding.proofs.Quads.{quads-turned}
 use Rattle.noise_bound.specs.Margins.{distances}
 use Rattle.noise_bound.specs.Near.{sure_of_any, IsNear}
 use Rattle.noise_bound.specs.NoisyLaws.{DecodesNearOfAny}
-use Rattle.noise_bound.proofs.Lists.{leads-within}
+use Rattle.line_coding.proofs.TurnedLabels.{leads-within}
 use Rattle.noise_bound.proofs.NoiselessCosts.{length-points}
-use Rattle.noise_bound.proofs.Least.{all_states_turn}
+use Rattle.line_coding.proofs.TurnedSequences.{all_states_turn}
 use Rattle.noise_bound.proofs.Turned.{near-turns}
 use Rattle.gateway.specs.declared.any_reader.AnyReader.{AnyReader}
 use Rattle.gateway.specs.declared.any_reader.AnyReader.TheVariants as readers

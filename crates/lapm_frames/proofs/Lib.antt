@@ -2,6 +2,7 @@ pub mod Forms
 mod Controls
 pub mod Beginnings
 mod Faults
+mod KindOctets
 pub mod Spellings
 pub mod Exact
 pub mod Octets

@@ -4,6 +4,7 @@ use Rattle.frame_check.specs.declared.sizes.TheConstants.{INFO}
 use Rattle.shared_terms.specs.declared.role.Role.{Role}
 use Rattle.shared_terms.specs.declared.role.Role.TheVariants.{Originator, Answerer}
 use Rattle.lapm_frames.specs.declared.frame.Frame.{Frame}
+use Rattle.lapm_frames.specs.declared.frame.Frame.TheVariants.{Ui}
 use Rattle.lapm_frames.specs.Parts.{FrameParts, parts_of}
 
 -- The address: the low bit is set, the next bit is set in commands of the originator and responses of the answerer,
@@ -59,6 +60,11 @@ has_number frame = is_some (parts_of frame).nr
 -- the information that it carries
 abbrev pub information_of : Frame → List ℕ
 information_of frame = unwrap_or (parts_of frame).info []
+
+-- the information of a UI frame
+abbrev pub information_of_ui : Frame → Option (List ℕ)
+information_of_ui (Ui command pf info) = Some info
+information_of_ui frame = None
 
 -- the most octets of a frame of this kind
 abbrev pub most_octets : Frame → ℕ

@@ -5,4 +5,3 @@ pub mod Controls
 pub mod Seen
 pub mod Checked
 pub mod Sendable
-pub mod Lent

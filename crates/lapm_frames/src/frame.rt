@@ -1,11 +1,11 @@
 // Frames as values.
 ghost use Rattle.std.specs.Prelude.{◌≡◌, ◌<◌, ◌≤◌, length, IfSome};
 ghost use Rattle.frame_check.specs.declared.sizes.TheConstants.{INFO};
-ghost use Rattle.lapm_frames.specs.Parts.{parts_of};
+ghost use Rattle.lapm_frames.specs.Parts.{frame_of, parts_of};
 ghost use Rattle.lapm_frames.specs.Seen.{seen};
 
-use crate::kind::FrameKind;
-use crate::{LentFrame, Parts};
+use crate::information::information;
+use crate::{FrameKind, LentFrame, Parts};
 use frame_check::Info;
 
 /// A frame of ITU-T V.42. `command` tells a command from a response where the kind has both, `ns` and `nr` are the numbers N(S) and
@@ -85,61 +85,126 @@ pub enum Frame {
 }
 
 impl Frame {
+    /// The frame of a kind, of what the kind has of these.
+    pub fn of(kind: FrameKind, command: bool, ns: u8, nr: u8, pf: bool, info: &[u8]) -> Frame
+        requires { length info.now ≤ INFO }
+        ensures { result ≡ frame_of kind command ns nr pf info.now }
+    {
+        match kind {
+            FrameKind::I => Frame::I {
+                ns,
+                nr,
+                pf,
+                info: information(info),
+            },
+            FrameKind::Rr => Frame::Rr { command, nr, pf },
+            FrameKind::Rnr => Frame::Rnr { command, nr, pf },
+            FrameKind::Rej => Frame::Rej { command, nr, pf },
+            FrameKind::Srej => Frame::Srej { command, nr, pf },
+            FrameKind::Sabme => Frame::Sabme { pf },
+            FrameKind::Disc => Frame::Disc { pf },
+            FrameKind::Ua => Frame::Ua { pf },
+            FrameKind::Dm => Frame::Dm { pf },
+            FrameKind::Frmr => Frame::Frmr {
+                pf,
+                info: information(info),
+            },
+            FrameKind::Xid => Frame::Xid {
+                command,
+                pf,
+                info: information(info),
+            },
+            FrameKind::Test => Frame::Test {
+                command,
+                pf,
+                info: information(info),
+            },
+            FrameKind::Ui => Frame::Ui {
+                command,
+                pf,
+                info: information(info),
+            },
+        }
+    }
+
     /// The frame, with its information lent.
     pub fn lent(&self) -> LentFrame<'_>
         ensures { result ≡ self.now }
     {
         match self {
-            Frame::I { ns, nr, pf, info } => LentFrame::numbered(*ns, *nr, *pf, info.as_slice()),
-            Frame::Rr { command, nr, pf } => LentFrame::supervisory(
+            Frame::I { ns, nr, pf, info } => LentFrame::of(
+                FrameKind::I,
+                true,
+                *ns,
+                *nr,
+                *pf,
+                info.as_slice(),
+            ),
+            Frame::Rr { command, nr, pf } => LentFrame::of(
                 FrameKind::Rr,
                 *command,
+                0,
                 *nr,
                 *pf,
+                &[],
             ),
-            Frame::Rnr { command, nr, pf } => LentFrame::supervisory(
+            Frame::Rnr { command, nr, pf } => LentFrame::of(
                 FrameKind::Rnr,
                 *command,
+                0,
                 *nr,
                 *pf,
+                &[],
             ),
-            Frame::Rej { command, nr, pf } => LentFrame::supervisory(
+            Frame::Rej { command, nr, pf } => LentFrame::of(
                 FrameKind::Rej,
                 *command,
+                0,
                 *nr,
                 *pf,
+                &[],
             ),
-            Frame::Srej { command, nr, pf } => LentFrame::supervisory(
+            Frame::Srej { command, nr, pf } => LentFrame::of(
                 FrameKind::Srej,
                 *command,
+                0,
                 *nr,
                 *pf,
+                &[],
             ),
-            Frame::Sabme { pf } => LentFrame::unnumbered(FrameKind::Sabme, true, *pf, &[]),
-            Frame::Disc { pf } => LentFrame::unnumbered(FrameKind::Disc, true, *pf, &[]),
-            Frame::Ua { pf } => LentFrame::unnumbered(FrameKind::Ua, false, *pf, &[]),
-            Frame::Dm { pf } => LentFrame::unnumbered(FrameKind::Dm, false, *pf, &[]),
-            Frame::Frmr { pf, info } => LentFrame::unnumbered(
+            Frame::Sabme { pf } => LentFrame::of(FrameKind::Sabme, true, 0, 0, *pf, &[]),
+            Frame::Disc { pf } => LentFrame::of(FrameKind::Disc, true, 0, 0, *pf, &[]),
+            Frame::Ua { pf } => LentFrame::of(FrameKind::Ua, false, 0, 0, *pf, &[]),
+            Frame::Dm { pf } => LentFrame::of(FrameKind::Dm, false, 0, 0, *pf, &[]),
+            Frame::Frmr { pf, info } => LentFrame::of(
                 FrameKind::Frmr,
                 false,
+                0,
+                0,
                 *pf,
                 info.as_slice(),
             ),
-            Frame::Ui { command, pf, info } => LentFrame::unnumbered(
-                FrameKind::Ui,
-                *command,
-                *pf,
-                info.as_slice(),
-            ),
-            Frame::Xid { command, pf, info } => LentFrame::unnumbered(
+            Frame::Xid { command, pf, info } => LentFrame::of(
                 FrameKind::Xid,
                 *command,
+                0,
+                0,
                 *pf,
                 info.as_slice(),
             ),
-            Frame::Test { command, pf, info } => LentFrame::unnumbered(
+            Frame::Test { command, pf, info } => LentFrame::of(
                 FrameKind::Test,
                 *command,
+                0,
+                0,
+                *pf,
+                info.as_slice(),
+            ),
+            Frame::Ui { command, pf, info } => LentFrame::of(
+                FrameKind::Ui,
+                *command,
+                0,
+                0,
                 *pf,
                 info.as_slice(),
             ),

@@ -6,17 +6,17 @@ ghost use Rattle.lapm_frames.specs.Frame.{address_of, FrameSpelling};
 ghost use Rattle.lapm_frames.specs.Fault.{FirstFault};
 
 use crate::numbers::number;
-use crate::{FrameFault, LentFrame};
+use crate::{FrameFault, FrameKind, LentFrame};
 use frame_check::{INFO, Info};
 
-/// Whether information of these octets isn't too long. The frame has `before` octets in front of it.
-pub(crate) fn fits(octets: &[u8], before: usize) -> Result<(), FrameFault>
+/// Whether these octets, which have `before` others of a frame in front of them, are no more than there may be.
+pub(crate) fn fits(octets: &[u8], before: usize, most: usize) -> Result<(), FrameFault>
     requires { before ≤ 3 }
-    ensures ok { OnOk result (length octets.now ≤ INFO) }
+    ensures ok { OnOk result (length octets.now ≤ most) }
     ensures err { IfErr result (λ fault. (fault ≡ FrameFault.Long (before + length octets.now))
-        × (INFO < length octets.now)) }
+        × (most < length octets.now)) }
 {
-    if octets.len() > INFO {
+    if octets.len() > most {
         return Err(FrameFault::Long {
             len: before + octets.len(),
         });
@@ -48,7 +48,7 @@ pub(crate) fn read(control: u8, command: bool, tail: &[u8]) -> Result<LentFrame<
     let [numbers, rest @ ..] = tail else {
         return Err(FrameFault::Short);
     };
-    fits(rest, 3)?;
+    fits(rest, 3, INFO)?;
     let (nr, pf) = number(*numbers);
-    Ok(LentFrame::numbered(control / 2, nr, pf, rest))
+    Ok(LentFrame::of(FrameKind::I, true, control / 2, nr, pf, rest))
 }

@@ -32,6 +32,7 @@ pub use checked::{read_checked, read_checked_lent, write_checked};
 pub use fault::{CheckedFault, FrameFault};
 pub use frame::Frame;
 pub use heard::Heard;
+pub use kind::FrameKind;
 pub use lent::LentFrame;
 pub use parts::Parts;
 pub use seen::Seen;

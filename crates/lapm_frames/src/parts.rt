@@ -3,12 +3,10 @@ ghost use Rattle.std.specs.Prelude.{◌≡◌, ◌<◌, ◌≤◌, length, IfSom
 ghost use Rattle.frame_check.specs.declared.sizes.TheConstants.{INFO};
 ghost use Rattle.std.specs.Option.{option_map};
 ghost use Rattle.lapm_frames.specs.Frame.{octet_with};
-ghost use Rattle.lapm_frames.specs.Lent.{frame_of};
 ghost use Rattle.lapm_frames.specs.Parts as parts;
 ghost use Rattle.lapm_frames.specs.Seen.{seen};
 
-use crate::control::{DISC, DM, FRMR, REJ, RNR, RR, SABME, SREJ, TEST, UA, UI, XID, marked_octet};
-use crate::kind::FrameKind;
+use crate::control::marked_octet;
 
 /// What a frame consists of. Lent by the frame.
 #[derive(Clone, Copy)]
@@ -27,6 +25,23 @@ pub struct Parts<'a> {
     pub pf: bool,
     /// The information field, where the kind has one.
     pub info: Option<&'a [u8]>,
+}
+
+/// The parts of an I frame.
+pub(crate) fn information(ns: u8, nr: u8, pf: bool, info: &[u8]) -> Parts<'_>
+    ensures parts { seen result ≡ parts.information ns nr pf info.now }
+    ensures name { length result.name.now ≡ 1 }
+    ensures control { result.control ≡ 0 }
+{
+    Parts {
+        name: b"i",
+        command: true,
+        control: 0,
+        ns: Some(ns),
+        nr: Some(nr),
+        pf,
+        info: Some(info),
+    }
 }
 
 /// The parts of an S frame.
@@ -72,46 +87,6 @@ pub(crate) fn unnumbered<'a>(
         nr: None,
         pf,
         info,
-    }
-}
-
-/// The parts of a frame of this kind, of what the kind has of these.
-pub(crate) fn parts_of<'a>(
-    kind: FrameKind,
-    command: bool,
-    ns: u8,
-    nr: u8,
-    pf: bool,
-    info: &'a [u8],
-) -> Parts<'a>
-    requires { length info.now ≤ INFO }
-    ensures parts { seen result ≡ parts.parts_of (frame_of kind command ns nr pf info.now) }
-    ensures name { length result.name.now ≤ 5 }
-    ensures control { result.control < 240 }
-    ensures info { IfSome result.info (λ info. length info.now ≤ INFO) }
-{
-    match kind {
-        FrameKind::I => Parts {
-            name: b"i",
-            command: true,
-            control: 0,
-            ns: Some(ns),
-            nr: Some(nr),
-            pf,
-            info: Some(info),
-        },
-        FrameKind::Rr => supervisory(b"rr", RR, command, nr, pf),
-        FrameKind::Rnr => supervisory(b"rnr", RNR, command, nr, pf),
-        FrameKind::Rej => supervisory(b"rej", REJ, command, nr, pf),
-        FrameKind::Srej => supervisory(b"srej", SREJ, command, nr, pf),
-        FrameKind::Sabme => unnumbered(b"sabme", SABME, true, pf, None),
-        FrameKind::Disc => unnumbered(b"disc", DISC, true, pf, None),
-        FrameKind::Ua => unnumbered(b"ua", UA, false, pf, None),
-        FrameKind::Dm => unnumbered(b"dm", DM, false, pf, None),
-        FrameKind::Frmr => unnumbered(b"frmr", FRMR, false, pf, Some(info)),
-        FrameKind::Ui => unnumbered(b"ui", UI, command, pf, Some(info)),
-        FrameKind::Xid => unnumbered(b"xid", XID, command, pf, Some(info)),
-        FrameKind::Test => unnumbered(b"test", TEST, command, pf, Some(info)),
     }
 }
 

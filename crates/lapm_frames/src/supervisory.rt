@@ -4,10 +4,8 @@ ghost use Rattle.shared_terms.specs.declared.role.Role.{Role};
 ghost use Rattle.lapm_frames.specs.Frame.{address_of, numbered, FrameSpelling};
 ghost use Rattle.lapm_frames.specs.Fault.{FirstFault, IsNumbersFault};
 
-use crate::control::{REJ, RNR, RR, SREJ};
-use crate::kind::FrameKind;
 use crate::numbers::number;
-use crate::{FrameFault, LentFrame};
+use crate::{FrameFault, FrameKind, LentFrame};
 
 /// N(R) and P/F, where this octet alone follows the control octet.
 fn numbers(tail: &[u8]) -> Result<(u8, bool), FrameFault>
@@ -31,23 +29,9 @@ pub(crate) fn read(control: u8, command: bool, tail: &[u8]) -> Result<LentFrame<
     ensures err { IfErr result (λ fault. (sender : Role) (dlci : ℕ)
         → FirstFault sender dlci (address_of command sender dlci ∷ control ∷ tail.now) fault) }
 {
-    match control {
-        RR => {
-            let (nr, pf) = numbers(tail)?;
-            Ok(LentFrame::supervisory(FrameKind::Rr, command, nr, pf))
-        }
-        RNR => {
-            let (nr, pf) = numbers(tail)?;
-            Ok(LentFrame::supervisory(FrameKind::Rnr, command, nr, pf))
-        }
-        REJ => {
-            let (nr, pf) = numbers(tail)?;
-            Ok(LentFrame::supervisory(FrameKind::Rej, command, nr, pf))
-        }
-        SREJ => {
-            let (nr, pf) = numbers(tail)?;
-            Ok(LentFrame::supervisory(FrameKind::Srej, command, nr, pf))
-        }
-        _ => Err(FrameFault::Control { octet: control }),
-    }
+    let Some(kind) = FrameKind::with_control(control) else {
+        return Err(FrameFault::Control { octet: control });
+    };
+    let (nr, pf) = numbers(tail)?;
+    Ok(LentFrame::of(kind, command, 0, nr, pf, &[]))
 }

@@ -6,3 +6,6 @@ pub mod Late
 pub mod Middle
 pub mod Taking
 pub mod Readers
+pub mod TurnedSamples
+pub mod TurnedLabels
+pub mod TurnedSequences

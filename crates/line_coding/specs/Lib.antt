@@ -6,3 +6,5 @@ pub mod V32
 pub mod PickedUp
 pub mod MiddleReading
 pub mod Laws
+pub mod QuarterTurns
+pub mod TurnedLaws

@@ -12,7 +12,7 @@
 //!
 //! A [`MiddleReader`] reads a line that is picked up in its middle. The quad of the first label can't be told there, since it is a turn from
 //! the label before it, and a descrambler is right once 23 bits have filled its register: the bits behind these are those that were sent, by
-//! however many quarters the labels are turned.
+//! however many quarters the labels are turned. What is least of turned samples are the turned labels ([`quarter_turns`]).
 #![tactic(auto)]
 
 mod demodulator;
@@ -20,6 +20,7 @@ pub mod laws;
 mod line;
 mod middle_reader;
 mod modulator;
+pub mod quarter_turns;
 mod reader;
 mod scrambling;
 

@@ -8,8 +8,8 @@ ghost use Rattle.modem_c.specs.FrameFields.{HasFields, fields_of, frame_with};
 ghost use Rattle.modem_c.specs.FramesWritten.{WritesFrame};
 
 use crate::codes::{BAD_ARGUMENT, DONE, FULL, check_of, put_octets, role_of};
-use frame_check::{INFO, Info, WHOLE};
-use lapm_frames::{Frame, Parts, write_checked};
+use frame_check::{INFO, WHOLE};
+use lapm_frames::{Frame, FrameKind, Parts, write_checked};
 
 /// Stands in place of N(S) or N(R) where a kind of frames has none.
 pub const NO_NUMBER: u8 = 255;
@@ -43,16 +43,6 @@ pub(crate) fn fields_of(parts: &Parts<'_>) -> FrameFields
     }
 }
 
-/// The information of a frame. It is large, so it is made in its place.
-fn information(octets: &[u8]) -> Info
-    requires { length octets.now ≤ INFO }
-    ensures { result ≡ octets.now }
-{
-    let mut info = Info::new();
-    info.extend(octets);
-    info
-}
-
 /// A frame of the kind that has this control octet, of what the kind has of these fields.
 fn frame_with(fields: &FrameFields, octets: &[u8]) -> Option<Frame>
     requires { length octets.now ≤ INFO }
@@ -65,43 +55,9 @@ fn frame_with(fields: &FrameFields, octets: &[u8]) -> Option<Frame>
         ns,
         nr,
     } = *fields;
-    let command = command == 1;
-    let pf = pf == 1;
-    match control {
-        0x00 => Some(Frame::I {
-            ns,
-            nr,
-            pf,
-            info: information(octets),
-        }),
-        0x01 => Some(Frame::Rr { command, nr, pf }),
-        0x05 => Some(Frame::Rnr { command, nr, pf }),
-        0x09 => Some(Frame::Rej { command, nr, pf }),
-        0x0d => Some(Frame::Srej { command, nr, pf }),
-        0x6f => Some(Frame::Sabme { pf }),
-        0x43 => Some(Frame::Disc { pf }),
-        0x63 => Some(Frame::Ua { pf }),
-        0x0f => Some(Frame::Dm { pf }),
-        0x87 => Some(Frame::Frmr {
-            pf,
-            info: information(octets),
-        }),
-        0x03 => Some(Frame::Ui {
-            command,
-            pf,
-            info: information(octets),
-        }),
-        0xaf => Some(Frame::Xid {
-            command,
-            pf,
-            info: information(octets),
-        }),
-        0xe3 => Some(Frame::Test {
-            command,
-            pf,
-            info: information(octets),
-        }),
-        _ => None,
+    match FrameKind::with_control(control) {
+        Some(kind) => Some(Frame::of(kind, command == 1, ns, nr, pf == 1, octets)),
+        None => None,
     }
 }
 

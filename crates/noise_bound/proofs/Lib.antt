@@ -11,6 +11,3 @@ pub mod Followed
 pub mod Distances
 pub mod NoisyCosts
 pub mod Near
-pub mod Turning
-pub mod Lists
-pub mod Least

@@ -17,7 +17,7 @@ use Rattle.symbol_map.specs.declared.sample.Sample.{Sample}
 use Rattle.symbol_map.specs.Distance.{quarter_turned}
 use Rattle.symbol_map.specs.Laws.{turned_label}
 use Rattle.exact_decoder.specs.Surviving.V32.{at_any}
-use Rattle.noise_bound.proofs.Least.{all_states_turn}
+use Rattle.line_coding.proofs.TurnedSequences.{all_states_turn}
 use Rattle.noise_bound.specs.Near.{sure_of_any, IsNear}
 use Rattle.line_coding.specs.PickedUp.{IsPickedUp, line_behind}
 use Rattle.line_coding.specs.MiddleReading.{Middle}

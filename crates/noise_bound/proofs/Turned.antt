@@ -10,9 +10,9 @@ use Rattle.trellis_tables.specs.Rotation.{rotated}
 use Rattle.trellis_tables.proofs.Rotations.{rotated-lt, one_start_turns, turn_keeps_cost}
 use Rattle.exact_decoder.specs.Surviving.Survivors.{IsReleased}
 use Rattle.exact_decoder.specs.Surviving.V32.{at_any, v32_code}
-use Rattle.noise_bound.specs.QuarterTurns.{StartsTurn}
-use Rattle.noise_bound.proofs.Lists.{labels-small, leads-within}
-use Rattle.noise_bound.proofs.Least.{sequences_turn, all_states_turn}
+use Rattle.line_coding.specs.QuarterTurns.{StartsTurn}
+use Rattle.line_coding.proofs.TurnedLabels.{labels-small, leads-within}
+use Rattle.line_coding.proofs.TurnedSequences.{sequences_turn, all_states_turn}
 use Rattle.exact_decoder.specs.Decoder.{heard}
 use Rattle.noise_bound.specs.Near.{only, sure, sure_of_any, IsNear}
 use Rattle.noise_bound.proofs.Near.{near-front, releases-near, releases-near_of_any}

@@ -10,7 +10,7 @@ use Rattle.trellis_tables.specs.LabelReader.{quads_of}
 use Rattle.trellis_tables.specs.Rotation.{rotated}
 use Rattle.exact_decoder.specs.Surviving.Survivors.{IsReleased, LostIs}
 use Rattle.exact_decoder.specs.Surviving.V32.{at_any, v32_code}
-use Rattle.noise_bound.specs.QuarterTurns.{StartsTurn}
+use Rattle.line_coding.specs.QuarterTurns.{StartsTurn}
 use Rattle.noise_bound.specs.Near.{only, sure, sure_of_any, IsNear}
 use Rattle.line_coding.specs.Demodulates.{Demodulates}
 use Rattle.line_coding.specs.PickedUp.{IsPickedUp}

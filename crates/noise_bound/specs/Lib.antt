@@ -18,5 +18,3 @@ pub mod Distances
 pub mod Near
 pub mod DistanceLaws
 pub mod NoisyLaws
-pub mod QuarterTurns
-pub mod TurnedLaws

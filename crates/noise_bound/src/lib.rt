@@ -1,14 +1,13 @@
 //! What noise can't change. As laws what the exact decoder of the eight-state code makes of a line: without noise it releases what was
 //! sent, is at most 24 symbols behind, and so never loses the line ([`noiseless`]); as long as all of the noise is less than a bound,
 //! whatever its places, the same holds, and it is never too far behind ([`noisy`]). How much noise there is between octets and the
-//! samples of a recording is counted by [`Margin`]. A receiver that picks up a recording in the middle doesn't know by how many quarters
-//! the points that it sees are turned: what is least of them is so whatever the turn ([`quarter_turns`], [`laws`]).
+//! samples of a recording is counted by [`Margin`]. A recording with little noise that a receiver picks up in the middle, turned by however
+//! many quarters, has the bits that were sent ([`laws`]).
 #![tactic(auto)]
 
 pub mod laws;
 mod margin;
 pub mod noiseless;
 pub mod noisy;
-pub mod quarter_turns;
 
 pub use margin::Margin;

@@ -1,17 +1,21 @@
 -- Texts of frames, and of what is sent and heard.
-use Rattle.std.proofs.Common.{◌≡◌, ℕ, ◌+◌, ◌<◌, ◌≤◌, Bool, true, false, cond, List, ◌∷◌, ◌++◌, length, codes, decimal}
+use Rattle.std.proofs.Common.{◌≡◌, ℕ, ◌+◌, ◌<◌, ◌≤◌, Bool, true, false, cond, List, [], ◌∷◌, ◌++◌, length, codes, decimal}
 use Rattle.std.proofs.Common.{Option, Some, None, refl, sym, ap, subst, ◌∙◌, arith, append_assoc, inl, inr, length-append}
 use Rattle.std.specs.Prelude.{IfSome}
 use Rattle.std.specs.Str.{bytes_eq}
+use Rattle.std.specs.Option.{option_map}
 use Rattle.std.proofs.lemmas.Fmt.{length-decimal-le}
 use Rattle.std.proofs.lemmas.Slice.Eq.{bytes_eq-Decides}
 use Rattle.break_signals.specs.declared.word.BreakWord.{BreakWord}
 use Rattle.break_signals.specs.declared.word.BreakWord.TheVariants.{Brk, Ack}
+use Rattle.lapm_frames.specs.declared.kind.FrameKind.{FrameKind}
+use Rattle.lapm_frames.specs.declared.kind.FrameKind.TheVariants as kind
+use Rattle.lapm_frames.specs.Parts.{kinds, first_named, parts_of_kind}
 use Rattle.line_texts.specs.FrameText.{kind_word, poll_word, number_word}
 use Rattle.trace_audit.specs.Cutting.{behind, first_of, front_of, rest_of, is_no_space}
 use Rattle.trace_audit.specs.Pieces.{behind_shape, behind_frame, behind_signal, behind_lost, behind_heard, behind_sent}
 use Rattle.trace_audit.specs.Grammar.{Shape, Numbered, Supervisory, Commanding, Responding, Rejecting, Exchanging, Unnumbered, count_bound}
-use Rattle.trace_audit.specs.Grammar.{shape_named}
+use Rattle.trace_audit.specs.Grammar.{shape_of, shape_named}
 use Rattle.trace_audit.specs.Grammar.{FrameWords, AreInRange, IsBreak, count_word, information_word, shape_text, IsFrameText, IsSignal, odp}
 use Rattle.trace_audit.specs.Grammar.{adp, frame}
 use Rattle.trace_audit.specs.Grammar.{IsHeard, nothing, lost, passed, IsSent, mark, flags, none, signal}
@@ -23,49 +27,26 @@ use Rattle.trace_audit.proofs.Shapes.{Stops, shape-reads, shape-is}
 pub same-bytes : (a b : List ℕ) → bytes_eq a b ≡ true → a ≡ b
 same-bytes a b e = (bytes_eq-Decides a b).0 e
 
-step : {P : Type 0} (b : Bool) (s shape : Shape) (rest : Option Shape) → cond b (Some s) rest ≡ Some shape → (b ≡ true → s ≡ shape → P)
-    → (rest ≡ Some shape → P) → P
-step true s shape rest e f g = f refl cc
-step false s shape rest e f g = g e
-
--- the name is this one, or what stands behind it has the shape
-at : (P : List ℕ → Shape → Type 0) (name label : List ℕ) (s shape : Shape) (rest : Option Shape)
-    → cond (bytes_eq name label) (Some s) rest ≡ Some shape → P label s → (rest ≡ Some shape → P name shape) → P name shape
-at P name label s shape rest e p other =
-    step (bytes_eq name label) s shape rest e (λ same is. subst (λ n. P n shape) (sym (same-bytes name label same))
-    (subst (P label) is p)) other
+-- what holds of each kind with its name holds of the one that is found by a name
+found : (Q : List ℕ → FrameKind → Type 0) (name : List ℕ) (among : List FrameKind) (shape : Shape)
+    → ((kind : FrameKind) → Q (parts_of_kind kind).name kind)
+    → option_map shape_of (first_named name among) ≡ Some shape → (kind : FrameKind) × Q name kind × (shape_of kind ≡ shape)
+found Q name [] shape each e = absurd cc
+found Q name (k ∷ among) shape each e =
+    go (bytes_eq name (parts_of_kind k).name) refl e (found Q name among shape each)
+  where
+    go : (b : Bool) → bytes_eq name (parts_of_kind k).name ≡ b
+        → option_map shape_of (cond b (Some k) (first_named name among)) ≡ Some shape
+        → (option_map shape_of (first_named name among) ≡ Some shape → (kind : FrameKind) × Q name kind × (shape_of kind ≡ shape))
+        → (kind : FrameKind) × Q name kind × (shape_of kind ≡ shape)
+    go true same e rest = (k, subst (λ n. Q n k) (sym (same-bytes name (parts_of_kind k).name same)) (each k), cc)
+    go false same e rest = rest e
 
 -- what holds of each name with its shape
-pub at-names : (P : List ℕ → Shape → Type 0)
-    → P (codes "i") Numbered
-    → P (codes "rr") Supervisory
-    → P (codes "rnr") Supervisory
-    → P (codes "rej") Supervisory
-    → P (codes "srej") Supervisory
-    → P (codes "sabme") Commanding
-    → P (codes "disc") Commanding
-    → P (codes "ua") Responding
-    → P (codes "dm") Responding
-    → P (codes "frmr") Rejecting
-    → P (codes "xid") Exchanging
-    → P (codes "test") Exchanging
-    → P (codes "ui") Unnumbered
+pub at-names : (P : List ℕ → Shape → Type 0) → ((kind : FrameKind) → P (parts_of_kind kind).name (shape_of kind))
     → (name : List ℕ) (shape : Shape) → shape_named name ≡ Some shape → P name shape
-at-names P p0 p1 p2 p3 p4 p5 p6 p7 p8 p9 p10 p11 p12 name shape e =
-    at P name (codes "i") Numbered shape _ e p0 (λ e1.
-    at P name (codes "rr") Supervisory shape _ e1 p1 (λ e2.
-    at P name (codes "rnr") Supervisory shape _ e2 p2 (λ e3.
-    at P name (codes "rej") Supervisory shape _ e3 p3 (λ e4.
-    at P name (codes "srej") Supervisory shape _ e4 p4 (λ e5.
-    at P name (codes "sabme") Commanding shape _ e5 p5 (λ e6.
-    at P name (codes "disc") Commanding shape _ e6 p6 (λ e7.
-    at P name (codes "ua") Responding shape _ e7 p7 (λ e8.
-    at P name (codes "dm") Responding shape _ e8 p8 (λ e9.
-    at P name (codes "frmr") Rejecting shape _ e9 p9 (λ e10.
-    at P name (codes "xid") Exchanging shape _ e10 p10 (λ e11.
-    at P name (codes "test") Exchanging shape _ e11 p11 (λ e12.
-    at P name (codes "ui") Unnumbered shape _ e12 p12 (λ e13.
-    absurd cc)))))))))))))
+at-names P each name shape e =
+    let f = found (λ n kind. P n (shape_of kind)) name kinds shape each e in subst (P name) f.2 f.1
 
 -- a name begins nothing but a frame
 abbrev BeginsFrame : List ℕ → Shape → Type 0
@@ -75,42 +56,44 @@ BeginsFrame name shape = (text : List ℕ)
     × (behind_heard (name ++ 32 ∷ text) ≡ behind_frame (name ++ 32 ∷ text))
     × (behind_sent (name ++ 32 ∷ text) ≡ behind_frame (name ++ 32 ∷ text))
 
+begins-kind : (kind : FrameKind) → BeginsFrame (parts_of_kind kind).name (shape_of kind)
+begins-kind kind.I text = (refl, refl, refl, refl)
+begins-kind kind.Rr text = (refl, refl, refl, refl)
+begins-kind kind.Rnr text = (refl, refl, refl, refl)
+begins-kind kind.Rej text = (refl, refl, refl, refl)
+begins-kind kind.Srej text = (refl, refl, refl, refl)
+begins-kind kind.Sabme text = (refl, refl, refl, refl)
+begins-kind kind.Disc text = (refl, refl, refl, refl)
+begins-kind kind.Ua text = (refl, refl, refl, refl)
+begins-kind kind.Dm text = (refl, refl, refl, refl)
+begins-kind kind.Frmr text = (refl, refl, refl, refl)
+begins-kind kind.Xid text = (refl, refl, refl, refl)
+begins-kind kind.Test text = (refl, refl, refl, refl)
+begins-kind kind.Ui text = (refl, refl, refl, refl)
+
 begins-frame : (name : List ℕ) (shape : Shape) → shape_named name ≡ Some shape → BeginsFrame name shape
-begins-frame =
-    at-names BeginsFrame
-    (λ text. (refl, refl, refl, refl))
-    (λ text. (refl, refl, refl, refl))
-    (λ text. (refl, refl, refl, refl))
-    (λ text. (refl, refl, refl, refl))
-    (λ text. (refl, refl, refl, refl))
-    (λ text. (refl, refl, refl, refl))
-    (λ text. (refl, refl, refl, refl))
-    (λ text. (refl, refl, refl, refl))
-    (λ text. (refl, refl, refl, refl))
-    (λ text. (refl, refl, refl, refl))
-    (λ text. (refl, refl, refl, refl))
-    (λ text. (refl, refl, refl, refl))
-    (λ text. (refl, refl, refl, refl))
+begins-frame = at-names BeginsFrame begins-kind
 
 abbrev IsShortName : List ℕ → Shape → Type 0
 IsShortName name shape = (length name ≤ 5) × (1 ≤ length name)
 
+short-kind : (kind : FrameKind) → IsShortName (parts_of_kind kind).name (shape_of kind)
+short-kind kind.I = (omega arith, omega arith)
+short-kind kind.Rr = (omega arith, omega arith)
+short-kind kind.Rnr = (omega arith, omega arith)
+short-kind kind.Rej = (omega arith, omega arith)
+short-kind kind.Srej = (omega arith, omega arith)
+short-kind kind.Sabme = (omega arith, omega arith)
+short-kind kind.Disc = (omega arith, omega arith)
+short-kind kind.Ua = (omega arith, omega arith)
+short-kind kind.Dm = (omega arith, omega arith)
+short-kind kind.Frmr = (omega arith, omega arith)
+short-kind kind.Xid = (omega arith, omega arith)
+short-kind kind.Test = (omega arith, omega arith)
+short-kind kind.Ui = (omega arith, omega arith)
+
 short-name : (name : List ℕ) (shape : Shape) → shape_named name ≡ Some shape → IsShortName name shape
-short-name =
-    at-names IsShortName
-    (omega arith, omega arith)
-    (omega arith, omega arith)
-    (omega arith, omega arith)
-    (omega arith, omega arith)
-    (omega arith, omega arith)
-    (omega arith, omega arith)
-    (omega arith, omega arith)
-    (omega arith, omega arith)
-    (omega arith, omega arith)
-    (omega arith, omega arith)
-    (omega arith, omega arith)
-    (omega arith, omega arith)
-    (omega arith, omega arith)
+short-name = at-names IsShortName short-kind
 
 -- ---- frames
 

@@ -13,6 +13,9 @@ use Rattle.break_signals.specs.declared.word.BreakWord.{BreakWord}
 use Rattle.break_signals.specs.declared.word.BreakWord.TheVariants.{Brk, Ack}
 use Rattle.noise_script.specs.Numbers.{is_digit}
 use Rattle.noise_script.proofs.Decimals.{at-most, both, number-all}
+use Rattle.lapm_frames.specs.declared.kind.FrameKind.{FrameKind}
+use Rattle.lapm_frames.specs.declared.kind.FrameKind.TheVariants as kinds
+use Rattle.lapm_frames.specs.Parts.{parts_of_kind}
 use Rattle.line_texts.specs.FrameText.{kind_word, poll_word, number_word}
 use Rattle.line_texts.specs.LineText.{line_begins, break_word}
 use Rattle.trace_audit.specs.declared.line.LineText.{LineText}
@@ -54,6 +57,21 @@ poll false = refl
 abbrev IsWholeName : List ℕ → Shape → Type 0
 IsWholeName name shape = IsWhole name
 
+whole-kind : (kind : FrameKind) → IsWhole (parts_of_kind kind).name
+whole-kind kinds.I = refl
+whole-kind kinds.Rr = refl
+whole-kind kinds.Rnr = refl
+whole-kind kinds.Rej = refl
+whole-kind kinds.Srej = refl
+whole-kind kinds.Sabme = refl
+whole-kind kinds.Disc = refl
+whole-kind kinds.Ua = refl
+whole-kind kinds.Dm = refl
+whole-kind kinds.Frmr = refl
+whole-kind kinds.Xid = refl
+whole-kind kinds.Test = refl
+whole-kind kinds.Ui = refl
+
 break-whole : (label : List ℕ) (number units : ℕ) → IsWhole label → number < 2 → units < 256
     → IsWhole (number_word label number ++ number_word (codes " ") units)
 break-whole label number units w h k =
@@ -92,7 +110,7 @@ frame-whole : (text : List ℕ) → IsFrameText text → IsWhole text
 frame-whole text f =
     is-literal text (f.words.name ++ shape_text f.shape f.words) f.text_is
     (joined f.words.name (shape_text f.shape f.words)
-    (at-names IsWholeName refl refl refl refl refl refl refl refl refl refl refl refl refl f.words.name f.shape f.named)
+    (at-names IsWholeName whole-kind f.words.name f.shape f.named)
     (shape-whole f.shape f.words f.ranges))
 
 signal-whole : (text : List ℕ) → IsSignal text → IsWhole text

@@ -1,8 +1,12 @@
 -- The lines that are read, by their words.
-use Rattle.std.specs.Prelude.{◌≡◌, ◌⊎◌, ℕ, ◌<◌, ◌≤◌, ◌^◌, Bool, true, false, if◌then◌else◌, List, [], ◌++◌, length, codes, Option, Some, None, IfSome}
-use Rattle.std.specs.Str.{bytes_eq}
+use Rattle.std.specs.Prelude.{◌≡◌, ◌⊎◌, ℕ, ◌<◌, ◌≤◌, ◌^◌, Bool, true, false, not, if◌then◌else◌, List, [], ◌++◌, length, codes, Option, Some, None, is_some, IfSome}
+use Rattle.std.specs.Bool.{beq}
+use Rattle.std.specs.Option.{option_map}
 use Rattle.break_signals.specs.declared.word.BreakWord.{BreakWord}
 use Rattle.break_signals.specs.declared.word.BreakWord.TheVariants.{Brk, Ack}
+use Rattle.lapm_frames.specs.declared.kind.FrameKind.{FrameKind}
+use Rattle.lapm_frames.specs.declared.kind.FrameKind.TheVariants.{Ui}
+use Rattle.lapm_frames.specs.Parts.{parts_of, frame_of, kind_named}
 use Rattle.line_texts.specs.FrameText.{kind_word, poll_word, number_word, break_words}
 use Rattle.line_texts.specs.LineText.{line_begins, break_word}
 use Rattle.trace_audit.specs.declared.line.LineText.{LineText}
@@ -19,28 +23,22 @@ number_bound = 128
 abbrev pub count_bound : ℕ
 count_bound = 2 ^ 40
 
--- the names of each shape: of unnumbered frames,
-abbrev pub unnumbered_named : List ℕ → Option Shape
-unnumbered_named name =
-    if bytes_eq name (codes "sabme") then Some Commanding
-    else if bytes_eq name (codes "disc") then Some Commanding
-    else if bytes_eq name (codes "ua") then Some Responding
-    else if bytes_eq name (codes "dm") then Some Responding
-    else if bytes_eq name (codes "frmr") then Some Rejecting
-    else if bytes_eq name (codes "xid") then Some Exchanging
-    else if bytes_eq name (codes "test") then Some Exchanging
-    else if bytes_eq name (codes "ui") then Some Unnumbered
-    else None
+-- the shape of a kind's texts: by what its frames have, as commands and as responses; the information of a UI may be a break's word
+abbrev pub shape_of : FrameKind → Shape
+shape_of Ui = Unnumbered
+shape_of kind =
+    let command = parts_of (frame_of kind true 0 0 false []) in
+    let response = parts_of (frame_of kind false 0 0 false []) in
+    if is_some command.ns then Numbered
+    else if is_some command.nr then Supervisory
+    else if not (beq command.command response.command) then Exchanging
+    else if command.command then Commanding
+    else if is_some command.info then Rejecting
+    else Responding
 
--- and of all
+-- and of the texts that begin with a kind's name
 abbrev pub shape_named : List ℕ → Option Shape
-shape_named name =
-    if bytes_eq name (codes "i") then Some Numbered
-    else if bytes_eq name (codes "rr") then Some Supervisory
-    else if bytes_eq name (codes "rnr") then Some Supervisory
-    else if bytes_eq name (codes "rej") then Some Supervisory
-    else if bytes_eq name (codes "srej") then Some Supervisory
-    else unnumbered_named name
+shape_named name = option_map shape_of (kind_named name)
 
 -- The words of a frame's text. What a shape doesn't have counts for nothing.
 pub record FrameWords : Type 0 where

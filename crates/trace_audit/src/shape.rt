@@ -1,6 +1,8 @@
 // Which words the texts of frames have.
 ghost use Rattle.std.specs.Prelude.{◌≡◌};
-ghost use Rattle.trace_audit.specs.Grammar.{shape_named, unnumbered_named};
+ghost use Rattle.trace_audit.specs.Grammar.{shape_of, shape_named};
+
+use lapm_frames::FrameKind;
 
 /// The shape of a kind of frame's texts.
 #[derive(Clone, Copy)]
@@ -21,55 +23,39 @@ pub enum Shape {
     Unnumbered,
 }
 
-/// The shape of the texts of unnumbered frames that begin with this name.
-fn unnumbered_named(name: &[u8]) -> Option<Shape>
-    ensures { result ≡ unnumbered_named name.now }
+/// The shape of a kind's texts: what its frames have, as commands and as responses.
+fn shape_of(kind: FrameKind) -> Shape
+    ensures { result ≡ shape_of kind }
 {
-    if name == b"sabme".as_slice() {
-        return Some(Shape::Commanding);
+    let command = kind.parts(true, 0, 0, false, &[]);
+    let response = kind.parts(false, 0, 0, false, &[]);
+    if command.ns.is_some() {
+        return Shape::Numbered;
     }
-    if name == b"disc".as_slice() {
-        return Some(Shape::Commanding);
+    if command.nr.is_some() {
+        return Shape::Supervisory;
     }
-    if name == b"ua".as_slice() {
-        return Some(Shape::Responding);
+    if let FrameKind::Ui = kind {
+        return Shape::Unnumbered;
     }
-    if name == b"dm".as_slice() {
-        return Some(Shape::Responding);
+    if command.command != response.command {
+        return Shape::Exchanging;
     }
-    if name == b"frmr".as_slice() {
-        return Some(Shape::Rejecting);
+    if command.command {
+        return Shape::Commanding;
     }
-    if name == b"xid".as_slice() {
-        return Some(Shape::Exchanging);
+    if command.info.is_some() {
+        return Shape::Rejecting;
     }
-    if name == b"test".as_slice() {
-        return Some(Shape::Exchanging);
-    }
-    if name == b"ui".as_slice() {
-        return Some(Shape::Unnumbered);
-    }
-    None
+    Shape::Responding
 }
 
 /// The shape of the texts that begin with this name.
 pub(crate) fn shape_named(name: &[u8]) -> Option<Shape>
     ensures { result ≡ shape_named name.now }
 {
-    if name == b"i".as_slice() {
-        return Some(Shape::Numbered);
+    match FrameKind::named(name) {
+        Some(kind) => Some(shape_of(kind)),
+        None => None,
     }
-    if name == b"rr".as_slice() {
-        return Some(Shape::Supervisory);
-    }
-    if name == b"rnr".as_slice() {
-        return Some(Shape::Supervisory);
-    }
-    if name == b"rej".as_slice() {
-        return Some(Shape::Supervisory);
-    }
-    if name == b"srej".as_slice() {
-        return Some(Shape::Supervisory);
-    }
-    unnumbered_named(name)
 }

@@ -29,10 +29,10 @@ use Rattle.line_coding.proofs.Readings.{comes-back, four-each, first-stay}
 use Rattle.line_coding.proofs.Quads.{quads-turned}
 use Rattle.line_coding.proofs.Middle.{middle_is_sent}
 use Rattle.noise_bound.specs.Near.{sure_of_any, IsNear}
-use Rattle.noise_bound.proofs.Lists.{leads-within}
+use Rattle.line_coding.proofs.TurnedLabels.{leads-within}
 use Rattle.noise_bound.proofs.NoiselessCosts.{length-points}
 use Rattle.noise_bound.proofs.Near.{releases-near_of_any, few-unreleased_any, few-without_noise, never-lost_any}
-use Rattle.noise_bound.proofs.Least.{all_states_turn}
+use Rattle.line_coding.proofs.TurnedSequences.{all_states_turn}
 use Rattle.noise_bound.proofs.Turned.{near-turns}
 use Rattle.signal_commands.specs.PickingUp.Gives.{GivesPieces}
 use Rattle.signal_commands.specs.PickingUp.Middles.{turned_by, middle_of, noise_of, AreNear, AreHeardOf}

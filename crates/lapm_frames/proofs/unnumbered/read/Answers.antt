@@ -1,89 +1,52 @@
-use Rattle.std.proofs.Common.{◌≡◌, false, [], refl, sym, arith}
-use Rattle.std.proofs.lemmas.Bool.Decides.{nat_tests}
-use Rattle.std.proofs.lemmas.Result.{IfErr-weaker}
-use Rattle.lapm_frames.specs.declared.frame.Frame.TheVariants.{Sabme, Disc, Ua, Dm, Frmr, Ui, Xid, Test}
-use Rattle.lapm_frames.proofs.Forms.{allows}
+use Rattle.std.proofs.Common.{◌∙◌, ◌∷◌, ◌<◌, ◌≤◌, if◌then◌else◌, is_some, length, refl, sym, ap, subst}
+use Rattle.std.proofs.lemmas.Result.{err_from_is_err_and}
+use Rattle.frame_check.specs.declared.sizes.TheConstants.{INFO}
+use Rattle.lapm_frames.specs.declared.frame.Frame.{Frame}
+use Rattle.lapm_frames.specs.Frame.{address_of, FrameSpelling}
+use Rattle.lapm_frames.proofs.KindOctets.{none-unnumbered, unnumbered-by, differ, alike, some-map}
 use Rattle.lapm_frames.proofs.Faults.{unnumbered-control, unnumbered-long}
 use Rattle.lapm_frames.proofs.unnumbered.read.Goals as goal
-use Rattle.lapm_frames.proofs.unnumbered.read.Goals.{in_default-via-in-111+else-command, in_default-via-in-67+else-command-2}
-use Rattle.lapm_frames.proofs.unnumbered.read.Goals.{in_default-via-in-99+else-not-command, in_default-via-in-15+else-not-command-2}
-use Rattle.lapm_frames.proofs.unnumbered.read.Goals.{in_default-via-in-135+else-not-command-3, in_default-via-in_default-1}
-
-pub returns-in-111-clause-err : goal.returns-in-111-clause-err
-returns-in-111-clause-err c =
-    IfErr-weaker c.bare.result _ _
-    (λ fault. unnumbered-long c.args.command c.args.control c.args.tail.now c.mark-kind.result.0 0x6f c.mark-kind.result.1
-    (Sabme c.mark-kind.result.1) fault c.in-111.is
-    (record { is_frame = (tt, tt, tt); command_is = sym c.if-command.true; control_is = refl }) c.requires c.mark-kind.ensures.unmarked
-    c.mark-kind.ensures.marked) c.bare.ensures.err
-
-pub returns-in-67-clause-err : goal.returns-in-67-clause-err
-returns-in-67-clause-err c =
-    IfErr-weaker c.bare-in-67.result _ _
-    (λ fault. unnumbered-long c.args.command c.args.control c.args.tail.now c.mark-kind.result.0 0x43 c.mark-kind.result.1
-    (Disc c.mark-kind.result.1) fault c.in-67.is
-    (record { is_frame = (tt, tt, tt); command_is = sym c.if-command-2.true; control_is = refl }) c.requires c.mark-kind.ensures.unmarked
-    c.mark-kind.ensures.marked) c.bare-in-67.ensures.err
-
-pub returns-in-99-clause-err : goal.returns-in-99-clause-err
-returns-in-99-clause-err c =
-    IfErr-weaker c.bare-in-99.result _ _
-    (λ fault. unnumbered-long c.args.command c.args.control c.args.tail.now c.mark-kind.result.0 0x63 c.mark-kind.result.1
-    (Ua c.mark-kind.result.1) fault c.in-99.is
-    (record { is_frame = (tt, tt, tt); command_is = sym c.if-not-command.true; control_is = refl }) c.requires c.mark-kind.ensures.unmarked
-    c.mark-kind.ensures.marked) c.bare-in-99.ensures.err
-
-pub returns-in-15-clause-err : goal.returns-in-15-clause-err
-returns-in-15-clause-err c =
-    IfErr-weaker c.bare-in-15.result _ _
-    (λ fault. unnumbered-long c.args.command c.args.control c.args.tail.now c.mark-kind.result.0 0x0f c.mark-kind.result.1
-    (Dm c.mark-kind.result.1) fault c.in-15.is
-    (record { is_frame = (tt, tt, tt); command_is = sym c.if-not-command-2.true; control_is = refl }) c.requires
-    c.mark-kind.ensures.unmarked c.mark-kind.ensures.marked) c.bare-in-15.ensures.err
-
-pub returns-in-135-clause-err : goal.returns-in-135-clause-err
-returns-in-135-clause-err c =
-    IfErr-weaker c.informed.result _ _
-    (λ fault. unnumbered-long c.args.command c.args.control c.args.tail.now c.mark-kind.result.0 0x87 c.mark-kind.result.1
-    (Frmr c.mark-kind.result.1 []) fault c.in-135.is
-    (record { is_frame = (tt, tt, omega arith); command_is = sym c.if-not-command-3.true; control_is = refl }) c.requires
-    c.mark-kind.ensures.unmarked c.mark-kind.ensures.marked) c.informed.ensures.err
-
-pub returns-in-3-clause-err : goal.returns-in-3-clause-err
-returns-in-3-clause-err c =
-    IfErr-weaker c.informed-in-3.result _ _
-    (λ fault. unnumbered-long c.args.command c.args.control c.args.tail.now c.mark-kind.result.0 0x03 c.mark-kind.result.1
-    (Ui c.args.command c.mark-kind.result.1 []) fault c.in-3.is
-    (record { is_frame = (tt, tt, omega arith); command_is = refl; control_is = refl }) c.requires c.mark-kind.ensures.unmarked
-    c.mark-kind.ensures.marked) c.informed-in-3.ensures.err
-
-pub returns-in-175-clause-err : goal.returns-in-175-clause-err
-returns-in-175-clause-err c =
-    IfErr-weaker c.informed-in-175.result _ _
-    (λ fault. unnumbered-long c.args.command c.args.control c.args.tail.now c.mark-kind.result.0 0xaf c.mark-kind.result.1
-    (Xid c.args.command c.mark-kind.result.1 []) fault c.in-175.is
-    (record { is_frame = (tt, tt, omega arith); command_is = refl; control_is = refl }) c.requires c.mark-kind.ensures.unmarked
-    c.mark-kind.ensures.marked) c.informed-in-175.ensures.err
-
-pub returns-in-227-clause-err : goal.returns-in-227-clause-err
-returns-in-227-clause-err c =
-    IfErr-weaker c.informed-in-227.result _ _
-    (λ fault. unnumbered-long c.args.command c.args.control c.args.tail.now c.mark-kind.result.0 0xe3 c.mark-kind.result.1
-    (Test c.args.command c.mark-kind.result.1 []) fault c.in-227.is
-    (record { is_frame = (tt, tt, omega arith); command_is = refl; control_is = refl }) c.requires c.mark-kind.ensures.unmarked
-    c.mark-kind.ensures.marked) c.informed-in-227.ensures.err
 
 pub returns-in_default-clause-err : goal.returns-in_default-clause-err
 returns-in_default-clause-err c =
-    unnumbered-control c.args.command c.args.control c.args.tail.now c.mark-kind.result.0 c.mark-kind.result.1 c.requires
-    c.mark-kind.ensures.unmarked c.mark-kind.ensures.marked none
-  where
-    none : allows c.mark-kind.result.0 c.args.command ≡ false
-    none = elim c.in_default.branch [
-      | in_default-via-in-111+else-command w ↦ rw (w.in-111.is, w.if-command.false) refl
-      | in_default-via-in-67+else-command-2 w ↦ rw (w.in-67.is, w.if-command-2.false) refl
-      | in_default-via-in-99+else-not-command w ↦ rw (w.in-99.is, w.if-not-command.false) refl
-      | in_default-via-in-15+else-not-command-2 w ↦ rw (w.in-15.is, w.if-not-command-2.false) refl
-      | in_default-via-in-135+else-not-command-3 w ↦ rw (w.in-135.is, w.if-not-command-3.false) refl
-      | in_default-via-in_default-1 w ↦ grind (arith, nat_tests)
-    ]
+    unnumbered-control c.args.command c.args.control c.args.tail.now c.mark-octet.result.0 c.mark-octet.result.1 c.requires
+    c.mark-octet.ensures.unmarked c.mark-octet.ensures.marked
+    (none-unnumbered c.mark-octet.result.0 c.args.command (sym c.with_control.ensures ∙ c.in_default.is))
+
+pub returns-then-parts-command-clause-err : goal.returns-then-parts-command-clause-err
+returns-then-parts-command-clause-err c =
+    let by = unnumbered-by c.in-Some.kind c.mark-octet.result.0 c.args.control c.args.command c.mark-octet.result.1 c.args.tail.now
+    (sym c.with_control.ensures ∙ c.in-Some.is) c.mark-octet.ensures.marked c.requires in
+    unnumbered-control c.args.command c.args.control c.args.tail.now c.mark-octet.result.0 c.mark-octet.result.1 c.requires
+    c.mark-octet.ensures.unmarked c.mark-octet.ensures.marked
+    (by.refused (λ s. differ c.parts-parts.result.command c.args.command c.if-parts-command.true
+    (ap (λ parts. parts.command) c.parts-parts.ensures.parts ∙ s)))
+
+pub returns-in_err-fits-clause-err : goal.returns-in_err-fits-clause-err
+returns-in_err-fits-clause-err c =
+    let p = err_from_is_err_and c.from_residual.result c.from_residual.ensures.1 in
+    let by = unnumbered-by c.in-Some.kind c.mark-octet.result.0 c.args.control c.args.command c.mark-octet.result.1 c.args.tail.now
+    (sym c.with_control.ensures ∙ c.in-Some.is) c.mark-octet.ensures.marked c.requires in
+    let direction = sym (ap (λ parts. parts.command) c.parts-parts.ensures.parts)
+    ∙ alike c.parts-parts.result.command c.args.command c.if-parts-command.false in
+    let limit = c.longest.ensures ∙ ap (λ b. if b then INFO else 0) (c.is_some.ensures ∙ some-map (λ info. info.now) c.parts-parts.result.info
+    ∙ ap (λ parts. is_some parts.info) c.parts-parts.ensures.parts) ∙ by.longest in
+    rw (p.1, p.2) (unnumbered-long c.args.command c.args.control c.args.tail.now c.mark-octet.result.0 c.mark-octet.result.0 c.mark-octet.result.1
+    _ c.in_err-fits.field-0.0 refl (by.has direction) c.requires c.mark-octet.ensures.unmarked c.mark-octet.ensures.marked
+    (c.in_err-fits.ensures.err.0, subst (λ n. n < length c.args.tail.now) limit c.in_err-fits.ensures.err.1))
+
+pub returns-clause-ok : goal.returns-clause-ok
+returns-clause-ok c = λ sender dlci.
+    let by = unnumbered-by c.in-Some.kind c.mark-octet.result.0 c.args.control c.args.command c.mark-octet.result.1 c.args.tail.now
+    (sym c.with_control.ensures ∙ c.in-Some.is) c.mark-octet.ensures.marked c.requires in
+    let direction = sym (ap (λ parts. parts.command) c.parts-parts.ensures.parts)
+    ∙ alike c.parts-parts.result.command c.args.command c.if-parts-command.false in
+    let limit = c.longest.ensures ∙ ap (λ b. if b then INFO else 0) (c.is_some.ensures ∙ some-map (λ info. info.now) c.parts-parts.result.info
+    ∙ ap (λ parts. is_some parts.info) c.parts-parts.ensures.parts) ∙ by.longest in
+    let few = subst (λ n. length c.args.tail.now ≤ n) limit c.in_ok-fits.ensures.ok in
+    subst (λ (frame : Frame). FrameSpelling frame sender dlci (address_of c.args.command sender dlci ∷ c.args.control ∷ c.args.tail.now))
+    (sym c.of.ensures) (
+      by.is_frame few,
+      ap (λ n. address_of c.args.command sender dlci ∷ n ∷ c.args.tail.now) (sym c.mark-octet.ensures.marked)
+          ∙ by.spells direction few sender dlci,
+    )

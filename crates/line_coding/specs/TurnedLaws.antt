@@ -8,7 +8,7 @@ use Rattle.trellis_tables.specs.Rotation.{rotated}
 use Rattle.exact_decoder.specs.Surviving.Trellises.{IsSequence}
 use Rattle.exact_decoder.specs.Surviving.Survivors.{IsLeast}
 use Rattle.exact_decoder.specs.Surviving.V32.{at_any, v32_code}
-use Rattle.noise_bound.specs.QuarterTurns.{StartsTurn, AreInner}
+use Rattle.line_coding.specs.QuarterTurns.{StartsTurn, AreInner}
 
 -- a sample that is none of -32768 stays one
 abbrev pub TurnedSamplesFit : Type 0

@@ -12,9 +12,9 @@ use Rattle.trellis_tables.proofs.Rotations.{four_turns_are_none, rotated-lt, tur
 use Rattle.exact_decoder.specs.Surviving.Trellises.{IsSequence}
 use Rattle.exact_decoder.specs.Surviving.Survivors.{IsLeast}
 use Rattle.exact_decoder.specs.Surviving.V32.{at_any, v32_code}
-use Rattle.noise_bound.specs.QuarterTurns.{StartsTurn}
-use Rattle.noise_bound.specs.TurnedLaws.{StatesComeBack, CostStays, SequencesTurn, LeastTurns, AllStatesTurn, LeastTurnsOfAll}
-use Rattle.noise_bound.proofs.Lists.{turned_back, labels-small, leads-within, turned-again, back-small}
+use Rattle.line_coding.specs.QuarterTurns.{StartsTurn}
+use Rattle.line_coding.specs.TurnedLaws.{StatesComeBack, CostStays, SequencesTurn, LeastTurns, AllStatesTurn, LeastTurnsOfAll}
+use Rattle.line_coding.proofs.TurnedLabels.{turned_back, labels-small, leads-within, turned-again, back-small}
 
 pub states_come_back : StatesComeBack
 states_come_back = four_turns_are_none

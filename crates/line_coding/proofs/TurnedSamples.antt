@@ -2,8 +2,8 @@
 use Rattle.std.proofs.Common.{◌≡◌, arith, ◌∙◌, ap}
 use Rattle.std.specs.Prelude.{ℤ, neg_ℤ}
 use Rattle.std.proofs.lemmas.Int.{ints}
-use Rattle.noise_bound.specs.QuarterTurns.{IsInner}
-use Rattle.noise_bound.specs.TurnedLaws.{TurnedSamplesFit, SamplesComeBack}
+use Rattle.line_coding.specs.QuarterTurns.{IsInner}
+use Rattle.line_coding.specs.TurnedLaws.{TurnedSamplesFit, SamplesComeBack}
 
 inner-negated : (n : ℤ) → IsInner n → IsInner (neg_ℤ n)
 inner-negated n h = record { low = omega (arith, ints, h.low, h.high); high = omega (arith, ints, h.low, h.high) }

@@ -1,5 +1,5 @@
 //! Turned samples and turned lists of labels: what a quarter turn keeps. Each function's contract is a law.
-ghost use Rattle.noise_bound.specs.TurnedLaws.{TurnedSamplesFit, SamplesComeBack, LabelsComeBack, StatesComeBack, CostStays, SequencesTurn, LeastTurns, AllStatesTurn, LeastTurnsOfAll};
+ghost use Rattle.line_coding.specs.TurnedLaws.{TurnedSamplesFit, SamplesComeBack, LabelsComeBack, StatesComeBack, CostStays, SequencesTurn, LeastTurns, AllStatesTurn, LeastTurnsOfAll};
 
 /// A sample of which no coordinate is -32768 is a sample of that kind once it is turned.
 pub fn turned_samples_are_samples()

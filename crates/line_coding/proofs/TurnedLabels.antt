@@ -8,7 +8,7 @@ use Rattle.symbol_map.specs.Laws.{turned_label}
 use Rattle.trellis_tables.specs.Sequences.{Leads}
 use Rattle.trellis_tables.specs.Table.{next_state}
 use Rattle.trellis_tables.specs.V32Laws.{v32_bounded, v32_within}
-use Rattle.noise_bound.specs.TurnedLaws.{LabelsComeBack}
+use Rattle.line_coding.specs.TurnedLaws.{LabelsComeBack}
 
 -- the label that turns to this one
 abbrev pub turned_back : ℕ → ℕ

@@ -1,0 +1,208 @@
+-- The kinds by their octets: what is found in the table, as the readers of both families use it.
+use Rattle.std.proofs.Common.{◌≡◌, ℕ, ◌%◌, ◌≤◌, Bool, true, false, not, if◌then◌else◌, cond, nat_eq, List, [], ◌∷◌, length}
+use Rattle.std.proofs.Common.{Option, Some, None, is_some, arith, refl, sym, ap, subst, ◌∙◌, lit<}
+use Rattle.std.specs.Bool.{beq}
+use Rattle.std.specs.Option.{option_map}
+use Rattle.std.proofs.lemmas.Bool.{eqb-true}
+use Rattle.frame_check.specs.declared.sizes.TheConstants.{INFO}
+use Rattle.shared_terms.specs.declared.role.Role.{Role}
+use Rattle.lapm_frames.specs.declared.kind.FrameKind.{FrameKind}
+use Rattle.lapm_frames.specs.declared.kind.FrameKind.TheVariants as kind
+use Rattle.lapm_frames.specs.Parts.{parts_of, frame_of, kinds, parts_of_kind, first_with, kind_with}
+use Rattle.lapm_frames.specs.Frame.{address_of, IsFrame, marked, spelled}
+use Rattle.lapm_frames.specs.Controls.{Has}
+use Rattle.lapm_frames.proofs.Forms.{is_supervisory, allows}
+use Rattle.lapm_frames.proofs.Controls.{longest_of}
+
+step : {P : Type 0} (b : Bool) (k kind : FrameKind) (rest : Option FrameKind) → cond b (Some k) rest ≡ Some kind → (b ≡ true → k ≡ kind → P)
+    → (rest ≡ Some kind → P) → P
+step true k kind rest e f g = f refl cc
+step false k kind rest e f g = g e
+
+has-octet : (among : List FrameKind) (control : ℕ) (kind : FrameKind) → first_with control among ≡ Some kind
+    → control ≡ (parts_of_kind kind).control
+has-octet [] control kind e = absurd cc
+has-octet (k ∷ among) control kind e =
+    step (nat_eq control (parts_of_kind k).control) k kind (first_with control among) e
+    (λ same is. eqb-true control (parts_of_kind k).control same ∙ ap (λ k. (parts_of_kind k).control) is) (has-octet among control kind)
+
+-- where none has the octet, it is that of no kind
+other : (b : Bool) (k : FrameKind) (rest : Option FrameKind) → cond b (Some k) rest ≡ None → (b ≡ false) × (rest ≡ None)
+other true k rest e = absurd cc
+other false k rest e = (refl, e)
+
+pub none-supervisory : (control : ℕ) → kind_with control ≡ None → is_supervisory control ≡ false
+none-supervisory control e =
+    let i = other (nat_eq control 0) kind.I _ e in
+    let rr = other (nat_eq control 0x01) kind.Rr _ i.1 in
+    let rnr = other (nat_eq control 0x05) kind.Rnr _ rr.1 in
+    let rej = other (nat_eq control 0x09) kind.Rej _ rnr.1 in
+    let srej = other (nat_eq control 0x0d) kind.Srej _ rej.1 in
+    rw (rr.0, rnr.0, rej.0, srej.0) refl
+
+pub none-unnumbered : (control : ℕ) (command : Bool) → kind_with control ≡ None → allows control command ≡ false
+none-unnumbered control command e =
+    let i = other (nat_eq control 0) kind.I _ e in
+    let rr = other (nat_eq control 0x01) kind.Rr _ i.1 in
+    let rnr = other (nat_eq control 0x05) kind.Rnr _ rr.1 in
+    let rej = other (nat_eq control 0x09) kind.Rej _ rnr.1 in
+    let srej = other (nat_eq control 0x0d) kind.Srej _ rej.1 in
+    let sabme = other (nat_eq control 0x6f) kind.Sabme _ srej.1 in
+    let disc = other (nat_eq control 0x43) kind.Disc _ sabme.1 in
+    let ua = other (nat_eq control 0x63) kind.Ua _ disc.1 in
+    let dm = other (nat_eq control 0x0f) kind.Dm _ ua.1 in
+    let frmr = other (nat_eq control 0x87) kind.Frmr _ dm.1 in
+    let xid = other (nat_eq control 0xaf) kind.Xid _ frmr.1 in
+    let test = other (nat_eq control 0xe3) kind.Test _ xid.1 in
+    let ui = other (nat_eq control 0x03) kind.Ui _ test.1 in
+    rw (sabme.0, disc.0, ua.0, dm.0, frmr.0, xid.0, test.0, ui.0) refl
+
+-- a kind whose octet has S frames' low bits
+supervises : (kind : FrameKind) (command : Bool) → (parts_of_kind kind).control % 4 ≡ 1
+    → Has command (parts_of_kind kind).control (frame_of kind command 0 0 false [])
+supervises kind.I command low = absurd (omega (arith, low))
+supervises kind.Rr command low = record { is_frame = (tt, lit< tt, tt); command_is = refl; control_is = refl }
+supervises kind.Rnr command low = record { is_frame = (tt, lit< tt, tt); command_is = refl; control_is = refl }
+supervises kind.Rej command low = record { is_frame = (tt, lit< tt, tt); command_is = refl; control_is = refl }
+supervises kind.Srej command low = record { is_frame = (tt, lit< tt, tt); command_is = refl; control_is = refl }
+supervises kind.Sabme command low = absurd (omega (arith, low))
+supervises kind.Disc command low = absurd (omega (arith, low))
+supervises kind.Ua command low = absurd (omega (arith, low))
+supervises kind.Dm command low = absurd (omega (arith, low))
+supervises kind.Frmr command low = absurd (omega (arith, low))
+supervises kind.Xid command low = absurd (omega (arith, low))
+supervises kind.Test command low = absurd (omega (arith, low))
+supervises kind.Ui command low = absurd (omega (arith, low))
+
+pub has-supervisory : (kind : FrameKind) (control : ℕ) (command : Bool) → kind_with control ≡ Some kind → control % 4 ≡ 1
+    → Has command control (frame_of kind command 0 0 false [])
+has-supervisory kind control command e low =
+    let same = has-octet kinds control kind e in
+    subst (λ n. Has command n (frame_of kind command 0 0 false [])) (sym same)
+    (supervises kind command (ap (λ n. n % 4) (sym same) ∙ low))
+
+-- the direction that a kind makes of this one
+abbrev pub direction : FrameKind → Bool → Bool → Bool
+direction kind command pf = (parts_of (frame_of kind command 0 0 pf [])).command
+
+-- A kind whose octet has U frames' low bits: which direction it has, how much may follow, and its frames.
+pub record IsUnnumberedBy (kind : FrameKind) (octet : ℕ) (command pf : Bool) (tail : List ℕ) : Type 0 where
+  pub refused : (direction kind command pf ≡ command → ⊥) → allows octet command ≡ false
+  pub longest : (if is_some (parts_of (frame_of kind command 0 0 pf [])).info then INFO else 0) ≡ longest_of octet
+  pub has : direction kind command pf ≡ command → Has command (marked octet pf) (frame_of kind command 0 0 pf [])
+  pub is_frame : length tail ≤ longest_of octet → IsFrame (frame_of kind command 0 0 pf tail)
+  pub spells : direction kind command pf ≡ command → length tail ≤ longest_of octet → (sender : Role) (dlci : ℕ)
+      → address_of command sender dlci ∷ marked octet pf ∷ tail ≡ spelled (frame_of kind command 0 0 pf tail) sender dlci
+
+not-true : (b : Bool) → (true ≡ b → ⊥) → b ≡ false
+not-true true h = absurd (h refl)
+not-true false h = refl
+
+not-false : (b : Bool) → (false ≡ b → ⊥) → not b ≡ false
+not-false true h = refl
+not-false false h = absurd (h refl)
+
+empty : (tail : List ℕ) → length tail ≤ 0 → tail ≡ []
+empty [] few = refl
+empty (x ∷ tail) few = absurd (omega (arith, few))
+
+bare-octets : (octet : ℕ) (d command pf : Bool) (tail : List ℕ) → length tail ≤ 0 → d ≡ command → (sender : Role) (dlci : ℕ)
+    → address_of command sender dlci ∷ marked octet pf ∷ tail ≡ address_of d sender dlci ∷ marked octet pf ∷ []
+bare-octets octet d command pf tail few s sender dlci = λ i. address_of (sym s i) sender dlci ∷ marked octet pf ∷ empty tail few i
+
+informed-octets : (octet : ℕ) (d command pf : Bool) (tail : List ℕ) → d ≡ command → (sender : Role) (dlci : ℕ)
+    → address_of command sender dlci ∷ marked octet pf ∷ tail ≡ address_of d sender dlci ∷ marked octet pf ∷ tail
+informed-octets octet d command pf tail s sender dlci = λ i. address_of (sym s i) sender dlci ∷ marked octet pf ∷ tail
+
+unnumbers : (kind : FrameKind) (command pf : Bool) (tail : List ℕ) → (parts_of_kind kind).control % 4 ≡ 3
+    → IsUnnumberedBy kind (parts_of_kind kind).control command pf tail
+unnumbers kind.I command pf tail low = absurd (omega (arith, low))
+unnumbers kind.Rr command pf tail low = absurd (omega (arith, low))
+unnumbers kind.Rnr command pf tail low = absurd (omega (arith, low))
+unnumbers kind.Rej command pf tail low = absurd (omega (arith, low))
+unnumbers kind.Srej command pf tail low = absurd (omega (arith, low))
+unnumbers kind.Sabme command pf tail low = record {
+  refused = not-true command;
+  longest = refl;
+  has = λ s. record { is_frame = (tt, tt, tt); command_is = s; control_is = refl };
+  is_frame = λ few. (tt, tt, tt);
+  spells = λ s few. bare-octets 0x6f true command pf tail few s;
+}
+unnumbers kind.Disc command pf tail low = record {
+  refused = not-true command;
+  longest = refl;
+  has = λ s. record { is_frame = (tt, tt, tt); command_is = s; control_is = refl };
+  is_frame = λ few. (tt, tt, tt);
+  spells = λ s few. bare-octets 0x43 true command pf tail few s;
+}
+unnumbers kind.Ua command pf tail low = record {
+  refused = not-false command;
+  longest = refl;
+  has = λ s. record { is_frame = (tt, tt, tt); command_is = s; control_is = refl };
+  is_frame = λ few. (tt, tt, tt);
+  spells = λ s few. bare-octets 0x63 false command pf tail few s;
+}
+unnumbers kind.Dm command pf tail low = record {
+  refused = not-false command;
+  longest = refl;
+  has = λ s. record { is_frame = (tt, tt, tt); command_is = s; control_is = refl };
+  is_frame = λ few. (tt, tt, tt);
+  spells = λ s few. bare-octets 0x0f false command pf tail few s;
+}
+unnumbers kind.Frmr command pf tail low = record {
+  refused = not-false command;
+  longest = refl;
+  has = λ s. record { is_frame = (tt, tt, omega arith); command_is = s; control_is = refl };
+  is_frame = λ few. (tt, tt, few);
+  spells = λ s few. informed-octets 0x87 false command pf tail s;
+}
+unnumbers kind.Xid command pf tail low = record {
+  refused = λ h. absurd (h refl);
+  longest = refl;
+  has = λ s. record { is_frame = (tt, tt, omega arith); command_is = s; control_is = refl };
+  is_frame = λ few. (tt, tt, few);
+  spells = λ s few. informed-octets 0xaf command command pf tail s;
+}
+unnumbers kind.Test command pf tail low = record {
+  refused = λ h. absurd (h refl);
+  longest = refl;
+  has = λ s. record { is_frame = (tt, tt, omega arith); command_is = s; control_is = refl };
+  is_frame = λ few. (tt, tt, few);
+  spells = λ s few. informed-octets 0xe3 command command pf tail s;
+}
+unnumbers kind.Ui command pf tail low = record {
+  refused = λ h. absurd (h refl);
+  longest = refl;
+  has = λ s. record { is_frame = (tt, tt, omega arith); command_is = s; control_is = refl };
+  is_frame = λ few. (tt, tt, few);
+  spells = λ s few. informed-octets 0x03 command command pf tail s;
+}
+
+low-bits : (octet control : ℕ) (pf : Bool) → marked octet pf ≡ control → control % 4 ≡ 3 → octet % 4 ≡ 3
+low-bits octet control true e low = omega (arith, e, low)
+low-bits octet control false e low = omega (arith, e, low)
+
+pub unnumbered-by : (kind : FrameKind) (octet control : ℕ) (command pf : Bool) (tail : List ℕ) → kind_with octet ≡ Some kind
+    → marked octet pf ≡ control → control % 4 ≡ 3 → IsUnnumberedBy kind octet command pf tail
+unnumbered-by kind octet control command pf tail e marks low =
+    let same = has-octet kinds octet kind e in
+    subst (λ n. IsUnnumberedBy kind n command pf tail) (sym same)
+    (unnumbers kind command pf tail (ap (λ n. n % 4) (sym same) ∙ low-bits octet control pf marks low))
+
+-- whether there is something doesn't depend on what it is seen as
+pub some-map : {A B : Type 0} (f : A → B) (o : Option A) → is_some o ≡ is_some (option_map f o)
+some-map f None = refl
+some-map f (Some x) = refl
+
+-- what a test of two directions tells
+pub differ : (a b : Bool) → not (beq a b) ≡ true → a ≡ b → ⊥
+differ true true e = λ s. absurd cc
+differ false false e = λ s. absurd cc
+differ true false e = λ s. absurd cc
+differ false true e = λ s. absurd cc
+
+pub alike : (a b : Bool) → not (beq a b) ≡ false → a ≡ b
+alike true true e = refl
+alike false false e = refl
+alike true false e = absurd cc
+alike false true e = absurd cc
