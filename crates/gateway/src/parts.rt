@@ -2,6 +2,7 @@
 ghost use Rattle.std.specs.Prelude.{◌≡◌, ◌+◌, ◌*◌, ◌<◌, ◌≤◌, ◌++◌, [], ◌∷◌, length, take, slice_index_or, pos};
 ghost use Rattle.gateway.specs.Given.{samples_in};
 
+use line_coding::DEPTH;
 use symbol_map::Sample;
 
 /// The sample at this place.
@@ -17,7 +18,7 @@ pub(crate) fn sample_at(parts: &[i16], place: usize) -> Sample
 }
 
 /// The most samples that are handed to a decoder at once. It has room for one more.
-pub(crate) const BATCH: usize = 128;
+pub(crate) const BATCH: usize = DEPTH;
 
 /// Puts the samples from a place on into the list, up to this other place or as many as there is room for: how many.
 pub(crate) fn copy_samples(

@@ -9,11 +9,11 @@ use Rattle.frame_check.specs.declared.check.Check.TheVariants.{Sixteen, ThirtyTw
 use Rattle.gateway.specs.declared.any_reader.LineKind.{LineKind}
 use Rattle.gateway.specs.declared.any_reader.LineKind.TheVariants.{Begun, Middle, Quarters}
 
-abbrev pub line_of : ℕ → Option LineKind
-line_of zero = Some Begun
-line_of (suc zero) = Some Middle
-line_of (suc (suc zero)) = Some Quarters
-line_of (suc (suc (suc n))) = None
+abbrev pub line_kind_of : ℕ → Option LineKind
+line_kind_of zero = Some Begun
+line_kind_of (suc zero) = Some Middle
+line_kind_of (suc (suc zero)) = Some Quarters
+line_kind_of (suc (suc (suc n))) = None
 
 -- of a line that is sent: it has no middle
 abbrev pub sent_line_of : ℕ → Option LineKind

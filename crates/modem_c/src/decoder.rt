@@ -22,8 +22,8 @@ use std::alloc::Global;
 use std::mem;
 
 /// The line of a code.
-fn line_of(code: u8) -> Option<LineKind>
-    ensures { result ≡ codes.line_of code }
+fn line_kind_of(code: u8) -> Option<LineKind>
+    ensures { result ≡ codes.line_kind_of code }
 {
     match code {
         0 => Some(LineKind::Begun),
@@ -103,9 +103,9 @@ fn push(machine: &mut Machine, parts: &[i16], bits: &mut [u8], progress: &mut Pr
 /// A decoder before the first sample of a line of this kind, sent by the modem of that mode.
 #[unsafe(no_mangle)]
 pub extern "C" fn modem_decoder_new(alloc: Global, handle: &mut Handle, line: u8, mode: u8) -> i32
-    ensures { MadeOfBoth (codes.line_of line) (codes.mode_of mode) handle.old.value handle.new.value result (λ l m led. Decodes l m led [] []) }
+    ensures { MadeOfBoth (codes.line_kind_of line) (codes.mode_of mode) handle.old.value handle.new.value result (λ l m led. Decodes l m led [] []) }
 {
-    let (Some(line), Some(mode)) = (line_of(line), mode_of(mode)) else {
+    let (Some(line), Some(mode)) = (line_kind_of(line), mode_of(mode)) else {
         return BAD_ARGUMENT;
     };
     match SampleDecoder::new(alloc, line, mode) {

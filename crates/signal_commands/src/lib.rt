@@ -7,3 +7,4 @@ pub mod decode;
 pub mod encode;
 pub mod margin;
 pub mod pickup;
+mod pieces;

@@ -31,7 +31,7 @@ pub(crate) struct TurnWords {
 }
 
 /// The line of a turn.
-pub(crate) fn line_of(turn: u64, role: Role, words: TurnWords) -> TraceLine
+pub(crate) fn peer_line(turn: u64, role: Role, words: TurnWords) -> TraceLine
     ensures { line_text result ≡ trace_line turn role (heard_as words.arrived) words.sent words.given }
 {
     TraceLine {

@@ -16,7 +16,7 @@ ghost use Rattle.line_world.specs.OneEnd.Peer.{Past, Closed, heard_as, setup_of}
 use crate::fault::folder_fault;
 use crate::one_end::ear::hear_slot;
 use crate::one_end::limits::SLOT_OCTETS;
-use crate::one_end::line::{TurnWords, line_of};
+use crate::one_end::line::{TurnWords, peer_line};
 use crate::one_end::step::{SingleFault, SingleStep};
 use crate::{Station, append_line};
 use detection::Ear;
@@ -219,7 +219,7 @@ impl Single {
         ensures write { IfErr result IsWriting }
         ensures came { F.came folder.old folder.new }
     {
-        let line = line_of(self.turn, self.role, words);
+        let line = peer_line(self.turn, self.role, words);
         match append_line(folder, trace, &line) {
             Ok(()) => Ok(()),
             Err(fault) => Err(folder_fault(SingleFault::WriteFault, SingleFault::NoMemory, fault)),

@@ -15,6 +15,7 @@ ghost use Rattle.signal_commands.specs.Encoding.Recorded.{Begun, RecordedTo};
 
 use crate::encode::recorder::{RECORDED, Recorder};
 use crate::encode::words::EncodeWords;
+use crate::pieces::FILE_PIECE;
 use command_base::{Stop, append_output, create_output, read_piece, within_limit};
 use frame_check::Octets;
 use outside_calls::Folder;
@@ -24,15 +25,12 @@ use shared_terms::FILE_LIMIT;
 /// The place of the file's name among the words.
 const FILE: usize = 2;
 
-/// How many octets are read at a time.
-const PIECE: usize = 512;
-
 /// How many octets of a recording a piece becomes at most.
-const RECORDED_PIECE: usize = PIECE * RECORDED;
+const RECORDED_PIECE: usize = FILE_PIECE * RECORDED;
 
 /// Leaves the octets of the samples of a piece.
 fn record_piece(recorder: &mut Recorder, piece: &[u8], recorded: &mut Octets<RECORDED_PIECE>)
-    requires { length piece.now ≤ PIECE }
+    requires { length piece.now ≤ FILE_PIECE }
     ensures { (rate : Rate) (mode : Mode) (octets before : List ℕ) → RecorderStands rate mode recorder.old octets before
         → RecorderStands rate mode recorder.new (octets ++ piece.now) (before ++ recorded.new) }
 {
@@ -61,7 +59,7 @@ fn record_next<F: Folder>(
     ensures only { OnlyOutput (F.state folder.old) (F.state folder.new) names.now.rec.now }
     ensures counts { EndCounts (F.state folder.old) (F.state folder.new) (names.now.file.now ∷ []) (names.now.rec.now ∷ []) result }
 {
-    let mut piece = [0u8; PIECE];
+    let mut piece = [0u8; FILE_PIECE];
     let count = match read_piece(folder, names.file, FILE_LIMIT, at, &mut piece) {
         Ok(0) => return Ok(0),
         Ok(count) => count,

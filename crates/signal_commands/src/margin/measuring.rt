@@ -14,6 +14,7 @@ ghost use Rattle.signal_commands.specs.Margins.Ends.{EndsBy, Ends};
 ghost use Rattle.signal_commands.specs.Margins.Measuring.{Opened, MeasuredTo};
 
 use crate::margin::words::MarginWords;
+use crate::pieces::FILE_PIECE;
 use command_base::{RECORDING_LIMIT, Status, Stop, read_piece};
 use noise_bound::Margin;
 use outside_calls::Folder;
@@ -24,11 +25,8 @@ use shared_terms::FILE_LIMIT;
 /// How many octets of the recording an octet of the file has: two samples.
 const RECORDED: usize = 2 * SAMPLE;
 
-/// How many octets of the file are read at a time.
-const PIECE: usize = 512;
-
 /// How many octets of the recording are read at a time.
-const RECORDED_PIECE: usize = PIECE * RECORDED;
+const RECORDED_PIECE: usize = FILE_PIECE * RECORDED;
 
 /// Measures the octets of a piece against their samples.
 fn measure_piece(margin: &mut Margin, octets: &[u8], recorded: &[u8])
@@ -64,7 +62,7 @@ fn measure_next<F: Folder>(
     ensures reads { OnlyReads (F.state folder.old) (F.state folder.new) }
     ensures counts { EndCounts (F.state folder.old) (F.state folder.new) (inputs_of (named names.now)) [] result }
 {
-    let mut octets = [0u8; PIECE];
+    let mut octets = [0u8; FILE_PIECE];
     let count = match read_piece(folder, names.file, FILE_LIMIT, at, &mut octets) {
         Ok(count) => count,
         Err(fault) => return Err(Stop::Read(fault)),
