@@ -1,4 +1,4 @@
-//! Laws over the definitions alone. The functions do nothing: each law is a contract.
+//! Theorems over the definitions alone. The functions do nothing: each theorem is a contract.
 ghost use Rattle.std.specs.Prelude.{◌≡◌, ◌≢◌, ◌⊎◌, ℕ, ◌+◌, ◌*◌, ◌/◌, ◌%◌, ◌<◌, ◌≤◌, Bool, true};
 ghost use Rattle.std.specs.Prelude.{List, [], ◌∷◌, ◌++◌, length, replicate, Option, Some, None};
 ghost use Rattle.std.specs.Bool.{beq};

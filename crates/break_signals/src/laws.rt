@@ -1,4 +1,4 @@
-//! Laws over the definitions alone. The functions do nothing: each law is a contract.
+//! Theorems over the definitions alone. The functions do nothing: each theorem is a contract.
 ghost use Rattle.break_signals.specs.Words.{IsReadBack, IsSpelledBack};
 ghost use Rattle.break_signals.specs.Breaks.{GivesOnce};
 

@@ -1,4 +1,4 @@
-//! What the commands of the modem have in common: how one ends ([`Status`], [`Stop`]), the line that it then says ([`tell`],
+//! What the commands of the modem have in common: how one ends ([`Status`], [`Stop`]), the line that it then prints ([`tell`],
 //! [`tell_stop`]), the limits of inputs, and single steps over a folder's inputs and outputs; a recording among the inputs, whose
 //! header is looked at ([`open_recording`]) and whose samples are read on piece by piece ([`read_samples`]); and what the pieces of a
 //! stream of bits are to a reader of frames, with a line for each ([`Listener`]). A pure function of the values and of the folder that

@@ -1,4 +1,4 @@
-// The lines that answers say.
+// The lines that answers print.
 ghost use Rattle.std.specs.Prelude.{◌≡◌, ◌<◌, ◌≤◌, ◌+◌, ◌*◌, [], ◌++◌, map, length, decimal, codes};
 ghost use Rattle.shared_terms.specs.Role.{role_word};
 ghost use Rattle.command_base.specs.Lines.{xid_words, count_line, done_line, samples_line, octets_line, pieces_line, turns_line, both_done_line, true_line, soak_line, margin_line, listed_behind, usage_line, peer_words, short_line};
@@ -11,10 +11,10 @@ use line_texts::put_decimal;
 use shared_terms::{AuditCause, Cause, LinkFault, Role};
 use xid_params::XidFault;
 
-/// The most octets of a line that says no word of the command line.
+/// The most octets of a line that prints no word of the command line.
 pub const LINE: usize = 160;
 
-/// A line that is to be said, with the line feed at its end.
+/// A line that is to be printed, with the line feed at its end.
 pub type ResultLine = Octets<LINE>;
 
 /// Puts a word, and the number of a place behind it.
@@ -152,7 +152,7 @@ pub fn soak_line(seed: u64, turn: u64, lost: u64, again: u64) -> ResultLine
     line
 }
 
-/// The line of octets that were held against a recording: what they cost, and whether that is so little that they are told for certain.
+/// The line of octets that were held against a recording: what they cost, and whether that is so little that they are certain.
 pub fn margin_line(cost: u64, sure: bool) -> ResultLine
     ensures { result ≡ margin_line cost sure }
 {
@@ -181,7 +181,7 @@ fn put_behind(line: &mut ResultLine, words: &[&str])
     }
 }
 
-/// The line that tells how the program is used: the words of its commands, in this order.
+/// The line that prints how the program is used: the words of its commands, in this order.
 pub fn usage_line(commands: &[&str]) -> ResultLine
     requires { length (usage_line (map (λ word. word.now) commands.now)) ≤ LINE }
     ensures { result ≡ usage_line (map (λ word. word.now) commands.now) }
@@ -297,7 +297,7 @@ fn put_pair_undetected(line: &mut ResultLine, link: u8, turn: u64)
     put_last_number(line, b" turn ", turn);
 }
 
-/// Puts the line of a status that says no word of the command line.
+/// Puts the line of a status that prints no word of the command line.
 fn put_short(line: &mut ResultLine, status: Status)
     requires { line.old ≡ [] }
     ensures { line.new ≡ short_line status }
@@ -342,7 +342,7 @@ fn put_short(line: &mut ResultLine, status: Status)
     }
 }
 
-/// The line of a status that says no word of the command line.
+/// The line of a status that prints no word of the command line.
 pub(crate) fn short_line(status: Status) -> ResultLine
     ensures { result ≡ short_line status }
 {

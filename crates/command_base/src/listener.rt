@@ -1,4 +1,4 @@
-// A listener to a stream of bits, who says what each piece is.
+// A listener to a stream of bits, which prints what each piece is.
 ghost use Rattle.std.specs.Prelude.{◌≡◌, ◌≤◌, ◌<◌, ◌+◌, ◌*◌, ◌^◌, Bool, List, [], ◌∷◌, ◌++◌, OnOk, OnErr, IfErr, length};
 ghost use Rattle.outside_calls.specs.Folder.{FolderState, OnlySays, CountsStand};
 ghost use Rattle.frame_check.specs.Bits.{low_bits, octet_bits, bits_of};
@@ -14,13 +14,13 @@ use outside_calls::{Folder, FolderFault};
 use shared_terms::Role;
 use std::marker::Model;
 
-/// Hears the stream of one end, bit by bit, and says a line for each piece.
+/// Receives the stream of one end, bit by bit, and prints a line for each piece.
 pub struct Listener {
     /// Holds the piece that has begun.
     deframer: Deframer,
     /// The end that sent the stream.
     sender: Role,
-    /// How many were said.
+    /// How many were printed.
     pieces: u64,
 }
 
@@ -43,7 +43,7 @@ impl Model for Listener {
     ghost view = { λ l. record { deframer = l.deframer; sender = l.sender; pieces = l.pieces } };
 }
 
-/// Says the line of a piece, of these octets where it is whole. It isn't inlined, so that no bit without a piece pays for its room.
+/// Prints the line of a piece, of these octets where it is whole. It isn't inlined, so that no bit without a piece pays for its room.
 #[inline(never)]
 fn say_piece<F: Folder>(
     folder: &mut F,
@@ -85,7 +85,7 @@ impl Listener {
         self.pieces
     }
 
-    /// Hears a bit, and says the line of the piece that ends with it, if one does.
+    /// Receives a bit, and prints the line of the piece that ends with it, if one does.
     fn hear_bit<F: Folder>(&mut self, folder: &mut F, bit: bool) -> Result<(), FolderFault>
         requires { self.old.pieces < 2 ^ 63 }
         ensures hears { Hears (F.state folder.old) (F.state folder.new) self.old self.new (bit ∷ []) result }

@@ -1,4 +1,4 @@
-// Steps of an output, and of what is said.
+// Steps of an output, and of what is printed.
 ghost use Rattle.std.specs.Prelude.{[], ◌∷◌, map, OnOk, OnErr, IfErr};
 ghost use Rattle.outside_calls.specs.Folder.{OnlyWrites, OnlySays, Appended, PartlyAppended, Said, PartlySaid, CountsStand};
 ghost use Rattle.outside_calls.specs.Outputs.{Holds, KeptOrEmpty, AreApart, Creates, CreatesPart, OnlyOutputs, SaysNothing};
@@ -53,7 +53,7 @@ pub fn append_output<F: Folder>(folder: &mut F, name: &str, piece: &[u8]) -> Res
     }
 }
 
-/// A line is said that stands before the last one.
+/// A line is printed that stands before the last one.
 pub fn say_line<F: Folder>(folder: &mut F, line: &[u8]) -> Result<(), FolderFault>
     ensures ok { OnOk result (Said (F.state folder.old) (F.state folder.new) line.now) }
     ensures err { OnErr result (PartlySaid (F.state folder.old) (F.state folder.new) line.now) }

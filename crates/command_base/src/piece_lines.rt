@@ -1,4 +1,4 @@
-// The lines that say what pieces are.
+// The lines that print what pieces are.
 ghost use Rattle.std.specs.Prelude.{◌≡◌, ◌≤◌, ◌<◌, ◌+◌, ◌++◌, [], length};
 ghost use Rattle.bit_stuffing.specs.Found.{Found};
 ghost use Rattle.command_base.specs.Readings.{hex_digit, hex_octet, fault_words, reading_of, reading_line, IsLine};

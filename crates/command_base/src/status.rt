@@ -32,7 +32,7 @@ pub enum Status {
     },
     /// An input was not read.
     ReadFault,
-    /// An output was not made, not written, or a line was not said.
+    /// An output was not made, not written, or a line was not printed.
     WriteFault,
     /// What that end receives can't be followed from that symbol on, counted from 0.
     LineLost {

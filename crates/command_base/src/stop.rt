@@ -14,7 +14,7 @@ pub enum Stop {
     Read(FolderFault),
     /// An output was not made, or not written.
     Write(FolderFault),
-    /// A line that stands before the last one was not said, or not whole. Nothing more is said then.
+    /// A line that stands before the last one was not printed, or not whole. Nothing more is printed then.
     Say(FolderFault),
     /// There was no memory for what the job holds, and no fault of the folder was counted.
     NoMemory,

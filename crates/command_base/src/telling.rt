@@ -1,4 +1,4 @@
-// Saying the line of an answer.
+// Printing the line of an answer.
 ghost use Rattle.std.specs.Prelude.{map, string_bytes, OnOk, OnErr, IsErrOf};
 ghost use Rattle.outside_calls.specs.Folder.{OnlySays, HasCause, FaultsStand, CountsStand, Said, PartlySaid};
 ghost use Rattle.command_base.specs.Lines.{status_line, too_long_line};
@@ -10,7 +10,7 @@ use crate::stop::fault_status;
 use crate::{Status, Stop};
 use outside_calls::{Folder, FolderFault};
 
-/// Says the line of an answer. A fault then takes the place of the answer.
+/// Prints the line of an answer. A fault then takes the place of the answer.
 pub fn tell<F: Folder>(folder: &mut F, line: &[u8], answer: Status) -> Status
     ensures { Tells (F.state folder.old) (F.state folder.new) line.now answer result }
 {
@@ -20,7 +20,7 @@ pub fn tell<F: Folder>(folder: &mut F, line: &[u8], answer: Status) -> Status
     }
 }
 
-/// Says that an input is too long, in three pieces, so that no memory is taken for its name.
+/// Prints that an input is too long, in three pieces, so that no memory is taken for its name.
 fn say_too_long<F: Folder>(folder: &mut F, name: &str) -> Result<(), FolderFault>
     ensures ok { OnOk result (Said (F.state folder.old) (F.state folder.new) (too_long_line name.now)) }
     ensures err { OnErr result (PartlySaid (F.state folder.old) (F.state folder.new) (too_long_line name.now)) }
@@ -34,7 +34,7 @@ fn say_too_long<F: Folder>(folder: &mut F, name: &str) -> Result<(), FolderFault
     folder.say(b"\n")
 }
 
-/// Says that an input is too long. A fault then takes the place of the answer.
+/// Prints that an input is too long. A fault then takes the place of the answer.
 fn tell_too_long<F: Folder>(folder: &mut F, name: &str, answer: Status) -> Status
     ensures { Tells (F.state folder.old) (F.state folder.new) (too_long_line name.now) answer result }
 {
@@ -44,7 +44,7 @@ fn tell_too_long<F: Folder>(folder: &mut F, name: &str, answer: Status) -> Statu
     }
 }
 
-/// Says the line of an answer that is neither `Done` nor `Usage`.
+/// Prints the line of an answer that is neither `Done` nor `Usage`.
 fn tell_status<F: Folder>(folder: &mut F, words: &[String], status: Status) -> Status
     ensures { Tells (F.state folder.old) (F.state folder.new) (status_line (map string_bytes words.now) status) status result }
 {
@@ -60,7 +60,7 @@ fn tell_status<F: Folder>(folder: &mut F, words: &[String], status: Status) -> S
     }
 }
 
-/// Says why a job stopped, in the line of its status, and answers that. Where a line was not said nothing more is.
+/// Prints why a job stopped, in the line of its status, and answers that. Where a line was not printed nothing more is.
 pub fn tell_stop<F: Folder>(folder: &mut F, words: &[String], stop: Stop) -> Status
     ensures { SaysStop (map string_bytes words.now) (F.state folder.old) (F.state folder.new) stop result }
 {

@@ -1,4 +1,4 @@
-//! Laws over what several commands promise. The functions do nothing but name the laws that they rest on: each law is a contract.
+//! Theorems over what several commands promise. The functions do nothing but name the theorems that they rest on: each theorem is a contract.
 ghost use Rattle.command_laws.specs.Files.{FilesComeBack};
 ghost use Rattle.command_laws.specs.Isolates.{FaintLinksAreAlone, UndisplacedLinksAreAlone};
 ghost use Rattle.command_laws.specs.Pickups.{PickupsFindWhatIsTold, PickupsFindWhatTapsName, FramesAreNamed};
@@ -34,7 +34,7 @@ pub fn taps_leave_what_runs_left()
     spelled_scripts_are_in_limits();
 }
 
-/// However a run ends, an audit of the trace that it leaves is done, but for want of memory, over any sound folder that tells the inputs.
+/// However a run ends, an audit of the trace that it leaves is done, but for lack of memory, over any sound folder whose inputs are known.
 pub fn traces_of_runs_are_true()
     ensures { TracesOfRunsAreTrue }
 {
@@ -52,7 +52,7 @@ pub fn encoded_files_come_back()
     few_labels_are_unreleased();
 }
 
-/// Of the middle of a recording that a tap told, whatever quarter turn it has, a pickup says the frames that the tap names. The line of
+/// Of the middle of a recording that a tap told, whatever quarter turn it has, a pickup prints the frames that the tap names. The line of
 /// a frame with the check of 16 bits is the text by which the trace names it.
 pub fn pickups_find_what_taps_name()
     ensures told { PickupsFindWhatIsTold }

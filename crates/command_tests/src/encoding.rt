@@ -1,4 +1,4 @@
-// Files that become recordings, with what each command says and leaves.
+// Files that become recordings, with what each command prints and leaves.
 use crate::stage::play;
 
 /// Files and their recordings.

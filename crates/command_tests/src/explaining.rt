@@ -1,4 +1,4 @@
-// Fields in digits, and what is said of them.
+// Fields in digits, and what is printed of them.
 use crate::stage::play;
 
 /// Digits and what they spell.

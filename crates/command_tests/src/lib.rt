@@ -5,7 +5,7 @@
 //!
 //! A line of a scenario is a word and what belongs to it. PIECES are octets: texts between quotes, in which `\n`, `\r`, `\0` and `\x1f` are one
 //! octet each, `"ab"*3` for `ababab`, and NAMES of files as they were left last, or parts of them, as `r[8..12]`, `r[..8]` and `r[8..]`. `said` is
-//! the name of all that the last command said, `calls` that of the calls of the folder that it made.
+//! the name of all that the last command printed, `calls` that of the calls of the folder that it made.
 //!
 //! | Line | What it does |
 //! |---|---|
@@ -24,13 +24,13 @@
 //! | `ask WORDS` | a command runs over a folder of the files; `@NAME` is the word that stands in a file |
 //! | `keep NAME ..` | files that it left stand before the next command |
 //! | `exit NUMBER` | it ended with this status |
-//! | `says PIECES` | this is all that was said |
+//! | `says PIECES` | this is all that was printed |
 //! | `leaves NAME PIECES` | it left a file of these octets; so `begins`, `ends` and `holds`, where they are a part of them |
 //! | `none NAME ..`, `kept NAME ..` | it left no such file, or the file as it was |
 //! | `line NAME PIECE`, `line NAME BEGIN END ..` | a file has this line, or one that begins and ends so, by one of the ends |
 //! | `lacks NAME BEGIN END` | it has none that begins and ends so |
 //! | `lines NAME COUNT`, `length NAME COUNT` | it has so many lines, or octets |
-//! | `usage WORDS` | these words are told the usage, and leave all files that they name as they were |
+//! | `usage WORDS` | these words are answered by the usage, and leave all files that they name as they were |
 //! | `alike WORDS` | other words leave each file that they name as the last ones left it |
 //! | `sweep NAME ..` | each call of the last command fails in turn: the answer blames the folder, and each file begins what was left without a fault |
 #![tactic(auto)]
@@ -92,7 +92,7 @@ mod stage;
 #[cfg(test)]
 mod tapping;
 
-/// What words that are no command's are told.
+/// What words that are no command's are answered.
 #[cfg(test)]
 const USAGE: &str =
     "usage: modem run, encode, decode, frames, xid, soak, peer, pickup, margin, encode4, decode4, record, tap, pair, audit\n";

@@ -1,4 +1,4 @@
-// Ends that meet recorded bits of a peer, with what each run says and leaves.
+// Ends that meet recorded bits of a peer, with what each run prints and leaves.
 use crate::stage::play;
 
 /// The bits of peers, and what comes of them.

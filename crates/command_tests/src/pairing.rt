@@ -1,4 +1,4 @@
-// Two links over one line, with what each pair says and leaves.
+// Two links over one line, with what each pair prints and leaves.
 use crate::stage::play;
 
 /// Pairs of links.

@@ -1,7 +1,7 @@
 // Runs that are recorded and then tapped or picked up.
 use crate::stage::play;
 
-/// Runs, and what their recordings tell.
+/// Runs, and what their recordings show.
 const SCENARIOS: &str = r##"
 scenario a tap leaves what the run left
 # However the run ended.

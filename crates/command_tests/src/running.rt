@@ -1,4 +1,4 @@
-// Runs, with what each says and leaves.
+// Runs, with what each prints and leaves.
 use crate::stage::play;
 
 /// Runs and their traces.

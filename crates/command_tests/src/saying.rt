@@ -163,7 +163,7 @@ fn words(alloc: Global) -> Option<Vec<String>> {
     Some(words)
 }
 
-/// Whether a stop has this answer, with its code, and says this line.
+/// Whether a stop has this answer, with its code, and prints this line.
 fn tells(alloc: Global, words: &[String], stop: Stop, answer: (Status, u8, &str)) -> bool {
     let (status, code, line) = answer;
     let mut folder = MemoryFolder::new(alloc);

@@ -1,5 +1,5 @@
-//! Laws of the decoders of each code, whatever its states, labels and starts: they rest on the laws of [`TrellisCode`]
-//! alone. Each function's contract is a law.
+//! Theorems of the decoders of each code, whatever its states, labels and starts: they rest on the laws of [`TrellisCode`]
+//! alone. Each function's contract is a theorem.
 ghost use Rattle.std.specs.Prelude.{ℕ, Bool};
 ghost use Rattle.exact_decoder.specs.Surviving.Trellises.{trellis_of, HasLaws};
 ghost use Rattle.exact_decoder.specs.Surviving.Laws.{EachReachedSurvives, SomeSurvives, SurvivesOnce, SomeIsReleased, ReleasedOnce, ReleasedStays, ReleasedIsLeast, FirstLeastOnce, LostOnce, LostStays};

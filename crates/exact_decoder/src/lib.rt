@@ -4,7 +4,7 @@
 //! gives it the plain one, which serves any code, and [`trellis_tables::V32Code`] has one by vectors.
 //!
 //! It is the Viterbi algorithm with squared distances. The survivor of each state is a sum, and a way back through columns of
-//! choices. [`survivors`] has the laws of what it is proved against: of all sequences to a state the one of least cost, what all survivors
+//! choices. [`survivors`] has the theorems of what it is proved against: of all sequences to a state the one of least cost, what all survivors
 //! begin with, and where too little of it is known.
 #![tactic(auto)]
 

@@ -1,4 +1,4 @@
-//! Laws of survivors, of what they release, and of where a line is lost. Each function's contract is a law.
+//! Theorems of survivors, of what they release, and of where a line is lost. Each function's contract is a theorem.
 ghost use Rattle.symbol_map.specs.declared.sample.Sample.{Sample};
 ghost use Rattle.exact_decoder.specs.Surviving.Trellises.{Trellis};
 ghost use Rattle.exact_decoder.specs.Surviving.Laws.{SurvivesOnce, FrontsSurvive, EachReachedSurvives, SomeSurvives, SomeIsReleased, ReleasedOnce, ReleasedStays, ReleasedIsLeast, FirstLeastOnce, LostOnce, LostStays, OfEachCode};

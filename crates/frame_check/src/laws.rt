@@ -1,4 +1,4 @@
-//! Laws over the definition of the check alone. The functions do nothing: each law is a contract.
+//! Theorems over the definition of the check alone. The functions do nothing: each theorem is a contract.
 ghost use Rattle.std.specs.Prelude.{◌≡◌, ℕ, ◌+◌, ◌-◌, List, Bool, length, take};
 ghost use Rattle.frame_check.specs.FrameCheck.{IsCheckOf, IsChecked, Leaves, width_of, generator_of};
 ghost use Rattle.frame_check.specs.Division.{check_of, count_of};

@@ -92,7 +92,7 @@ fn write_flags(writer: &mut SlotWriter, frame: Option<&[u8]>, out: &mut BitSlot)
     writer.slot(frame, out);
 }
 
-/// Writes the slot of what is said.
+/// Writes the slot of what is transmitted.
 fn write_told(writer: &mut SlotWriter, symbols: u16, told: &Told, out: &mut BitSlot)
     requires symbols { symbols ≡ writer.old.symbols }
     requires low { HEAD + TAIL < symbols }
@@ -129,7 +129,7 @@ fn put_slot(slot: &BitSlot, bits: &mut [u8])
     }
 }
 
-/// Whether a slot of so many symbols can carry what is said, whatever flags came before.
+/// Whether a slot of so many symbols can carry what is transmitted, whatever flags came before.
 fn can_carry(symbols: u16, told: &Told) -> bool
     requires { TAIL < symbols }
     ensures { IsTrue result ↔ CanCarry (4 * (symbols - TAIL)) (signal_of told.now) }

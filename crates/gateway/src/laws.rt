@@ -1,4 +1,4 @@
-//! What two ends of the library do, by the calls that are made of them. The functions do nothing but name the laws that they rest on: each law is a
+//! What two ends of the library do, by the calls that are made of them. The functions do nothing but name the theorems that they rest on: each theorem is a
 //! contract.
 ghost use Rattle.gateway.specs.Histories.{HistoriesArePlays, HistoriesKeepPrefixes, SpeakingBreaksForWant, HearingNeverBreaks};
 
@@ -8,8 +8,8 @@ use link_account::laws::plays;
 use xid_params::laws::reads_written;
 
 /// Whatever calls are made of two ends and whatever the line loses, they come to where a play of the link comes to, as long as neither breaks. So
-/// the segments that an end gave its user are the pieces that the other took from its own, as far as they go. An end breaks as it speaks, for want of
-/// answers, and never as it hears what the other said.
+/// the segments that an end gave its user are the pieces that the other took from its own, as far as they go. An end breaks as it speaks, for lack of
+/// answers, and never as it receives what the other transmitted.
 pub fn histories()
     ensures plays { HistoriesArePlays }
     ensures prefixes { HistoriesKeepPrefixes }

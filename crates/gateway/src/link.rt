@@ -230,7 +230,7 @@ impl Endpoint {
         self.link.check()
     }
 
-    /// What it says in this turn, and the turn ends. `release` tells a connected originator to take the link down. After a break of the link
+    /// What it transmits in this turn, and the turn ends. `release` tells a connected originator to take the link down. After a break of the link
     /// it goes on as a closed end.
     pub fn speak(self, release: bool) -> (Endpoint, Result<Told, LinkStop>)
         ensures { SpeaksTurn self release result.0 result.1 }

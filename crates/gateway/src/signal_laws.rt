@@ -1,4 +1,4 @@
-//! Laws that join an encoder and a decoder. The functions do nothing but name the laws that they rest on: each law is a contract.
+//! Theorems that join an encoder and a decoder. The functions do nothing but name the theorems that they rest on: each theorem is a contract.
 ghost use Rattle.gateway.specs.SignalLaws.{SentBitsComeBack, SentBitsComeSoon, AllBitsComeBack, MiddleBitsComeBack, SureBitsAreGiven};
 ghost use Rattle.gateway.specs.SignalLaws.{QuarterBitsComeBack, AllQuarterBitsComeBack};
 

@@ -1,4 +1,4 @@
-//! Laws over the definitions of frames and faults alone. The functions do nothing: each law is a contract.
+//! Theorems over the definitions of frames and faults alone. The functions do nothing: each theorem is a contract.
 ghost use Rattle.std.specs.Prelude.{◌≡◌, ◌≢◌, ℕ, ◌/◌, ◌%◌, ◌<◌, ◌⊎◌, Bool, IsTrue, List, [], ◌∷◌, length, take};
 ghost use Rattle.frame_check.specs.declared.check.Check.{Check};
 ghost use Rattle.shared_terms.specs.declared.role.Role.{Role};

@@ -1,4 +1,4 @@
-//! Laws over the definitions alone. The functions do nothing: each law is a contract.
+//! Theorems over the definitions alone. The functions do nothing: each theorem is a contract.
 ghost use Rattle.lapm_receiver.specs.Incoming.{KeepsTaken};
 
 /// What was taken stays taken.

@@ -1,4 +1,4 @@
-//! Laws over the definitions alone. The functions do nothing: each law is a contract.
+//! Theorems over the definitions alone. The functions do nothing: each theorem is a contract.
 ghost use Rattle.lapm_sender.specs.Meant.{MeansExactly};
 
 /// The number that a received one stands for is the one in the range that agrees with it modulo 128.

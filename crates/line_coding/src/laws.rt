@@ -1,4 +1,4 @@
-//! Laws over all lists of labels and bits. The functions do nothing: each law is a contract.
+//! Theorems over all lists of labels and bits. The functions do nothing: each theorem is a contract.
 ghost use Rattle.std.specs.Prelude.{◌≡◌};
 ghost use Rattle.exact_decoder.specs.Surviving.V32.{line_depth};
 ghost use Rattle.line_coding.specs.Demodulates.{OneReading, ComesBack, FirstBitsStay, IsFourTimes};

@@ -1,4 +1,4 @@
-//! Turned samples and turned lists of labels: what a quarter turn keeps. Each function's contract is a law.
+//! Turned samples and turned lists of labels: what a quarter turn keeps. Each function's contract is a theorem.
 ghost use Rattle.line_coding.specs.TurnedLaws.{TurnedSamplesFit, SamplesComeBack, LabelsComeBack, StatesComeBack, CostStays, SequencesTurn, LeastTurns, AllStatesTurn, LeastTurnsOfAll};
 
 /// A sample of which no coordinate is -32768 is a sample of that kind once it is turned.

@@ -1,4 +1,4 @@
-//! Which runs of a script are done. The functions do nothing but name the laws that they rest on: each law is a contract.
+//! Which runs of a script are done. The functions do nothing but name the theorems that they rest on: each theorem is a contract.
 ghost use Rattle.line_ends.specs.Causes.{LostLinksWereStarved, EndsHaveCauses, FewLossesKeepLinks, HeardTurnsAreMade};
 ghost use Rattle.line_ends.specs.Completes.{CompletesUnstarved, CompletesWithFewLosses, DisplacesNoneIsFaint, FaintGoOn, LosesWhatIsNamed};
 ghost use Rattle.line_ends.specs.EachEnds.{EachSlotBecomes, EachTurnIsDecided, EachRunEnds, QuietRunsDeliver, UndisturbedRunsDeliver};

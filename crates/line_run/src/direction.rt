@@ -1,4 +1,4 @@
-//! Laws over the definitions alone: each law is a contract. The functions do nothing but name the laws that they rest on.
+//! Theorems over the definitions alone: each theorem is a contract. The functions do nothing but name the theorems that they rest on.
 ghost use Rattle.line_run.specs.Laws.{LaterLinesDisplaceNone, EmptyScriptDisplacesNone, FirstOnesFit, OneMoreFits, SlotsThatFitAreSlots, SlotsHaveSize};
 ghost use Rattle.line_run.specs.Laws.{CodableFits, CodableIsSendable, SpelledInOctets, FewOctetsBesidesInformation, ShortIsCodable};
 ghost use Rattle.line_run.specs.Laws.{EachIsRecorded, SlotsAreRecorded, LossStays, LossIsInEachRecording};

@@ -1,4 +1,4 @@
-// The command: its inputs are opened, all memory is taken, its outputs are made, turns follow to its end, and its line is said.
+// The command: its inputs are opened, all memory is taken, its outputs are made, turns follow to its end, and its line is printed.
 ghost use Rattle.std.specs.Prelude.{◌≡◌, [], List, ℕ, true, map, string_bytes, OnOk, OnErr, IfErr};
 ghost use Rattle.outside_calls.specs.Folder.{FolderState, CountsStand};
 ghost use Rattle.outside_calls.specs.Outputs.{Creates, CreatesPart, OnlyOutputs, SaysNothing};
@@ -75,7 +75,7 @@ fn tap_to_end<F: Folder>(alloc: Global, folder: &mut F, words: &TapWords<'_>) ->
     run_tap(&mut tap, folder, words)
 }
 
-/// Taps, and says how it ended.
+/// Taps, and prints how it ended.
 fn tap_and_tell<F: Folder>(
     alloc: Global,
     folder: &mut F,
@@ -91,7 +91,7 @@ fn tap_and_tell<F: Folder>(
     }
 }
 
-/// Does what the words of a tap say, and answers how it ended. The line of the answer is said last.
+/// Does what the words of a tap say, and answers how it ended. The line of the answer is printed last.
 pub fn tap<F: Folder>(
     alloc: Global,
     folder: &mut F,
@@ -100,10 +100,10 @@ pub fn tap<F: Folder>(
 ) -> Status
     requires { are_apart (inputs_of (named names.now)) (outputs_of (named names.now)) ≡ true }
 
-    // The outputs hold what the script and both recordings tell, and each answer is how that ends.
+    // The outputs hold what the script and both recordings show, and each answer is how that ends.
     ensures headline { Headline (F.state folder.old) (F.state folder.new) (named names.now) result }
 
-    // Where the inputs are right and the folder is sound, and but for want of memory, the answer is that to how their reading ends.
+    // Where the inputs are right and the folder is sound, and but for lack of memory, the answer is that to how their reading ends.
     ensures completes { Completes (F.state folder.old) (F.state folder.new) (named names.now) result }
 
     // Each answer comes where it has to, with its line.

@@ -1,4 +1,4 @@
-//! What every answer of a tap promises, and its limits as numbers. The functions do nothing but name the laws that they rest on: each law is a
+//! What every answer of a tap promises, and its limits as numbers. The functions do nothing but name the theorems that they rest on: each theorem is a
 //! contract.
 ghost use Rattle.std.specs.Prelude.{◌≡◌, List, ℕ};
 ghost use Rattle.outside_calls.specs.Folder.{FolderState};
@@ -25,7 +25,7 @@ pub(crate) fn answers_keep_the_headline()
     ensures { (words : List (List ℕ)) (old new : FolderState) (n : TapNames) (s : Status) → Answers (tap_job n) words old new s → Headline old new n s }
 {}
 
-/// Where the inputs are right and the folder is sound, the answer is that to how their reading ends, but for want of memory.
+/// Where the inputs are right and the folder is sound, the answer is that to how their reading ends, but for lack of memory.
 pub(crate) fn right_taps_are_told()
     ensures { (words : List (List ℕ)) (old new : FolderState) (n : TapNames) (s : Status) → Answers (tap_job n) words old new s → Completes old new n s }
 {

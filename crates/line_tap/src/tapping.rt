@@ -337,7 +337,7 @@ impl Tap {
         requires ready { IsReady self.old }
         requires apart { AreApartFrom (inputs_of (named names.now)) (outputs_of (named names.now)) }
 
-        // A turn is one of those that the script and the recordings tell, and adds to each output what that turn gives.
+        // A turn is one of those that the script and the recordings show, and adds to each output what that turn gives.
         ensures turn { (start : FolderState) (x : Tapping) (ts : List Turn) → TapAfter self.old x ts → AreReadTo start (F.state folder.old) (named names.now) x.bodies
             → TurnAnswers self.new start (F.state folder.old) (F.state folder.new) (named names.now) x ts result }
         ensures script { self.new.script ≡ self.old.script }

@@ -1,4 +1,4 @@
-//! Laws over the definitions of texts alone. The functions do nothing: each law is a contract.
+//! Theorems over the definitions of texts alone. The functions do nothing: each theorem is a contract.
 ghost use Rattle.std.specs.Prelude.{◌≤◌, length};
 ghost use Rattle.lapm_frames.specs.declared.frame.Frame.{Frame};
 ghost use Rattle.line_texts.specs.FrameText.{IsPrintable, frame_text};

@@ -47,7 +47,7 @@ fn put_reply(sent: Option<&Sent>, given: Option<u8>, out: &mut LineText)
     put_given(given, out);
 }
 
-/// Writes the text of a line with its line feed, by the line's parts. After a chance match the line says nothing more.
+/// Writes the text of a line with its line feed, by the line's parts. After a chance match nothing more stands in the line.
 pub fn write_parts(
     turn: u64,
     role: Role,

@@ -1,4 +1,4 @@
-//! Laws over the definitions alone: each law is a contract. The functions do nothing but name the laws that they rest on.
+//! Theorems over the definitions alone: each theorem is a contract. The functions do nothing but name the theorems that they rest on.
 ghost use Rattle.std.specs.Prelude.{◌<◌, ◌^◌};
 ghost use Rattle.line_world.specs.World.{IsReady, turn_of};
 ghost use Rattle.line_world.specs.declared.world.World.{World};

@@ -1,5 +1,5 @@
-//! The account of a link: what an end is in plain values, what it becomes by what it hears, what it says, and plays of two ends,
-//! as definitions, with the laws of plays. No end runs here; [`laws`] says what holds of all plays.
+//! The state of an end of a link, in plain values, what it becomes by what it receives, what it transmits, and plays of two ends,
+//! as definitions, with the theorems of plays. No end runs here; [`laws`] says what holds of all plays.
 //!
 //! The plain types that the definitions speak of are an end's [`Setup`] and [`Phase`], what it [`Owes`] at once, and why it gives
 //! its link up ([`LinkFault`]).

@@ -1,4 +1,4 @@
-// The command: its inputs are opened, all memory is taken, its outputs are made, rounds follow to its end, and its line is said.
+// The command: its inputs are opened, all memory is taken, its outputs are made, rounds follow to its end, and its line is printed.
 ghost use Rattle.std.specs.Prelude.{◌≡◌, [], List, ℕ, true, map, string_bytes, OnOk, OnErr, IfErr};
 ghost use Rattle.outside_calls.specs.Folder.{FolderState, CountsStand};
 ghost use Rattle.outside_calls.specs.Outputs.{Creates, CreatesPart, OnlyOutputs, SaysNothing};
@@ -151,7 +151,7 @@ fn pair_to_end<F: Folder>(
     run_pair(&mut pair, folder, words)
 }
 
-/// Runs both links, and says how they ended.
+/// Runs both links, and prints how they ended.
 fn pair_and_tell<F: Folder>(
     alloc: Global,
     folder: &mut F,
@@ -170,7 +170,7 @@ fn pair_and_tell<F: Folder>(
     }
 }
 
-/// Does what the words of a pair say, and answers how it ended. The line of the answer is said last.
+/// Does what the words of a pair say, and answers how it ended. The line of the answer is printed last.
 pub fn pair<F: Folder>(
     alloc: Global,
     folder: &mut F,
@@ -183,7 +183,7 @@ pub fn pair<F: Folder>(
     // script and the files.
     ensures headline { Headline (F.state folder.old) (F.state folder.new) (named names.now) result }
 
-    // Where the inputs are right and the folder is sound, and but for want of memory, the answer is that to how their pair ends. It is done
+    // Where the inputs are right and the folder is sound, and but for lack of memory, the answer is that to how their pair ends. It is done
     // if the line carries both links to their ends, or loses few slots of each, or the script names few and its noise is faint.
     ensures completes { Completes (F.state folder.old) (F.state folder.new) (named names.now) result }
 

@@ -1,4 +1,4 @@
-//! What every answer of a pair promises. The functions do nothing but name the laws that they rest on: each law is a contract.
+//! What every answer of a pair promises. The functions do nothing but name the theorems that they rest on: each theorem is a contract.
 ghost use Rattle.std.specs.Prelude.{List, ℕ};
 ghost use Rattle.outside_calls.specs.Folder.{FolderState};
 ghost use Rattle.command_base.specs.declared.status.Status.{Status};
@@ -38,7 +38,7 @@ pub(crate) fn answers_keep_the_headline()
     released_labels_begin_a_least_sequence();
 }
 
-/// Where the inputs are right and the folder is sound, the answer is that to how their pair ends, but for want of memory; where besides
+/// Where the inputs are right and the folder is sound, the answer is that to how their pair ends, but for lack of memory; where besides
 /// both links are carried to their ends, or their losses are few, they are done.
 pub(crate) fn right_pairs_are_done()
     ensures { (words : List (List ℕ)) (old new : FolderState) (n : Names) (s : Status) → Answers (pair_job n) words old new s → Completes old new n s }

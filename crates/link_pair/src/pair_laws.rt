@@ -1,4 +1,4 @@
-//! What holds of all pairs of links. The functions do nothing but name the laws that they rest on: each law is a contract.
+//! What holds of all pairs of links. The functions do nothing but name the theorems that they rest on: each theorem is a contract.
 ghost use Rattle.link_pair.specs.Pairs.Laws.{FaintPairsAreIsolated, UndisplacedPairsAreIsolated, PairsLeavePrefixes, DonePairsAreWhole};
 ghost use Rattle.link_pair.specs.Pairs.Laws.{PairedLinksRun, PairedLinksWereStarved, PairsHaveFewRounds, OnePairResult, EachPairEnds};
 ghost use Rattle.link_pair.specs.Pairs.Laws.{FirstSlotsAreDue, SecondSlotsAreDue};

@@ -1,4 +1,4 @@
-//! What holds of all runs. The functions do nothing but name the laws that they rest on: each law is a contract.
+//! What holds of all runs. The functions do nothing but name the theorems that they rest on: each theorem is a contract.
 ghost use Rattle.link_run.specs.Alone.{OneLoneRun, LoneHearingsDeliver, LoneSpeakingTakesNothing, EachLoneTurnIsMade, LoneRunsByWhatIsReadOn, LoneRunsKeepTheirSetup};
 ghost use Rattle.link_run.specs.Counts.{CountsByNumber, SentBelowHigh};
 ghost use Rattle.link_run.specs.Laws.{RunsArePlays, HearingsArePlays, TakesPrefixes, HearsPrefixes, DoneIsWhole, HearingsAreWell, BrokenForWant};
@@ -46,7 +46,7 @@ pub fn done_is_whole()
     acknowledgements();
 }
 
-/// No end breaks as it hears, and as it speaks it breaks for want of answers alone: neither meets a bad acknowledgement, a reset or a
+/// No end breaks as it hears, and as it speaks it breaks for lack of answers alone: neither meets a bad acknowledgement, a reset or a
 /// refusal.
 pub fn ends_break_for_want_alone()
     ensures hearing { HearingsAreWell }

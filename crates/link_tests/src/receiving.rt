@@ -7,7 +7,7 @@ use lapm_receiver::{Receiver, Took};
 use std::alloc::Global;
 use std::process::Abort;
 
-/// What a receiver does with a window of four, and what it then says.
+/// What a receiver does with a window of four, and what it then answers.
 enum Step {
     /// A segment of this number and octet comes, before any was taken in its turn.
     Take(u8, u8, Took),

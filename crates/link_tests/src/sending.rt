@@ -7,7 +7,7 @@ use lapm_sender::{BadAck, Sender, Spent};
 use std::alloc::Global;
 use std::process::Abort;
 
-/// What a sender does with a window of two and one try, and what it then says.
+/// What a sender does with a window of two and one try, and what it then answers.
 enum Step {
     /// The piece of this number is wanted, or none is.
     Want(Option<u64>),

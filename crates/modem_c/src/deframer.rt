@@ -69,7 +69,7 @@ fn nothing() -> Found
     }
 }
 
-/// Tells a frame, and copies its information.
+/// Reports a frame, and copies its information.
 fn tell_frame(frame: &LentFrame<'_>, room: &mut [u8], found: &mut Found)
     requires { INFO ≤ length room.old }
     ensures tells { TellsFrame frame.now found.new room.old room.new }
@@ -85,7 +85,7 @@ fn tell_frame(frame: &LentFrame<'_>, room: &mut [u8], found: &mut Found)
     found.info = info.len();
 }
 
-/// Tells why octets are no frame.
+/// Reports why octets are no frame.
 fn tell_fault(fault: CheckedFault, found: &mut Found)
     requires { found.old.octet ≡ 0 }
     ensures tells { TellsFault fault found.new }
@@ -113,7 +113,7 @@ fn tell_fault(fault: CheckedFault, found: &mut Found)
     }
 }
 
-/// Tells the piece that ended with the last bit.
+/// Reports the piece that ended with the last bit.
 fn tell_piece(reader: &FrameReader, piece: Piece, room: &mut [u8], found: &mut Found)
     requires room { INFO ≤ length room.old }
     requires octet { found.old.octet ≡ 0 }
@@ -136,7 +136,7 @@ fn tell_piece(reader: &FrameReader, piece: Piece, room: &mut [u8], found: &mut F
     }
 }
 
-/// Goes on by bits up to the end of a piece, and says what that is.
+/// Goes on by bits up to the end of a piece, and reports what that is.
 fn hear(reader: &mut FrameReader, bits: &[u8], room: &mut [u8], found: &mut Found) -> i32
     ensures reads { (sender : Role) (check : Check) (past : List Bool) → HasHeard sender check reader.old past
         → HasHeard sender check reader.new (past ++ heard found.new.read bits.now) }

@@ -31,7 +31,7 @@ pub extern "C" fn modem_detector_new(alloc: Global, handle: &mut Handle) -> i32
     make(alloc, handle, Machine::Detector(PatternDetector::new()))
 }
 
-/// What a push tells.
+/// What a push reports.
 fn tell(count: usize, seen: Option<Seen>, read: &mut usize, kind: &mut u32) -> i32
     ensures tells { (past : List Bool) (bits : List ℕ) → SeesAt past bits count seen → Sights past bits read.new kind.new result }
     ensures read { read.new ≡ count }

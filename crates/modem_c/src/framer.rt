@@ -52,7 +52,7 @@ fn told_by(kind: u32, octets: &[u8]) -> Option<Told>
     }
 }
 
-/// Writes a slot of this kind, and says how many bits it has.
+/// Writes a slot of this kind, and reports how many bits it has.
 fn write(
     writer: &mut FrameWriter,
     kind: u32,

@@ -1,4 +1,4 @@
-//! Laws of the numbers that C sees. The functions do nothing: each law is a contract.
+//! Theorems of the numbers that C sees. The functions do nothing: each theorem is a contract.
 ghost use Rattle.std.specs.Prelude.{◌≡◌};
 ghost use Rattle.modem_c.specs.CodeNumbers as numbers;
 

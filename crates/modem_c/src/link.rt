@@ -60,7 +60,7 @@ pub struct Broke {
     pub since: u64,
 }
 
-/// What an end says in a turn.
+/// What an end transmits in a turn.
 #[repr(C)]
 #[derive(Clone, Copy)]
 pub struct Said {
@@ -421,7 +421,7 @@ pub extern "C" fn modem_link_standing(
     DONE
 }
 
-/// What is said, and a frame's octets copied.
+/// What is transmitted, and a frame's octets copied.
 fn say(told: &Told, room: &mut [u8]) -> Said
     requires { WHOLE ≤ length room.old }
     ensures said { result ≡ said_of told.now }
@@ -471,7 +471,7 @@ fn speak(
     (end, code)
 }
 
-/// What it says in this turn; the turn ends. `release` of 1 tells a connected originator to take the link down. FULL where there is no room for
+/// What it transmits in this turn; the turn ends. `release` of 1 tells a connected originator to take the link down. FULL where there is no room for
 /// 1031 octets.
 #[unsafe(no_mangle)]
 pub extern "C" fn modem_link_send(

@@ -1,5 +1,5 @@
-//! Laws that join what handles lead to: an encoder's, or a meter's, and a decoder's. The functions do nothing but name the laws that they
-//! rest on: each law is a contract. Not for C.
+//! Theorems that join what handles lead to: an encoder's, or a meter's, and a decoder's. The functions do nothing but name the theorems that they
+//! rest on: each theorem is a contract. Not for C.
 ghost use Rattle.modem_c.specs.SignalLaws.{SentBitsComeBack, SentBitsComeSoon, AllBitsComeBack, MiddleBitsComeBack, SureBitsAreGiven};
 ghost use Rattle.modem_c.specs.SignalLaws.{QuarterBitsComeBack, AllQuarterBitsComeBack};
 

@@ -16,7 +16,7 @@ fn words_of(rt: &(impl Env + AllocGlobal)) -> io::Result<Vec<String>> {
 }
 
 /// Does what the words of the command line say. Words that the runtime refuses end it with 11 where there was no memory for them, and
-/// with 1 else, and nothing is said then.
+/// with 1 else, and nothing is printed then.
 pub fn program<R: Env + Files + Print + AllocGlobal + Clone + Drop>(rt: R) -> ExitCode {
     match words_of(&rt) {
         Ok(words) => {

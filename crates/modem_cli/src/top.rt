@@ -87,7 +87,7 @@ fn usage() -> ResultLine
     ])
 }
 
-/// Does what a command's names say, and answers how it ended. Each answer's line is said last.
+/// Does what a command's names say, and answers how it ended. Each answer's line is printed last.
 fn answer<F: Folder>(alloc: Global, folder: &mut F, words: &[String], asked: &Asked<'_>) -> Status
     requires { (promise (named asked.now)).Apart }
     ensures headline { (promise (named asked.now)).Headline (F.state folder.old) (F.state folder.new) result }
@@ -112,27 +112,27 @@ fn answer<F: Folder>(alloc: Global, folder: &mut F, words: &[String], asked: &As
     }
 }
 
-/// Does what the words of a command line say, and answers how it ended. Each answer's line is said last.
+/// Does what the words of a command line say, and answers how it ended. Each answer's line is printed last.
 pub fn modem<F: Folder>(alloc: Global, words: &[String], folder: &mut F) -> Status
     // Each end of a run receives a prefix of the other's file, and done means that both are whole. What `encode` writes is the file's recording, or
     // the beginning of it. What `decode` writes is carried by the first labels of a sequence that is no farther from the recording's first samples, up
-    // to some place, than any other, or is the beginning of that. What `frames` says are the pieces of the file's bits, and what `pickup` says those that
+    // to some place, than any other, or is the beginning of that. What `frames` prints are the pieces of the file's bits, and what `pickup` prints those that
     // a recording gives from whatever state its line began in. What `peer` leaves is what an end's run against the file's bits gives. Where `margin`
     // says that it is sure, what a recording releases begins the labels of the file. What `record` records is what both ends send, and what `tap` writes
-    // is what two recordings tell. Each link of a `pair` is a run over the line beside the other link; where the noise is faint it leaves what a run of
+    // is what two recordings show. Each link of a `pair` is a run over the line beside the other link; where the noise is faint it leaves what a run of
     // it alone leaves. A trace that `audit` calls true is that of the run of the files and the script.
     ensures headline { (promise (asked (map string_bytes words.now))).Headline (F.state folder.old) (F.state folder.new) result }
 
     // Each answer comes where it has to, with its line.
     ensures answer { (promise (asked (map string_bytes words.now))).Answer (map string_bytes words.now) (F.state folder.old) (F.state folder.new) result }
 
-    // Where a command's inputs are right and the folder is sound, nothing but want of memory keeps it from being done.
+    // Where a command's inputs are right and the folder is sound, nothing but lack of memory keeps it from being done.
     ensures completes { (promise (asked (map string_bytes words.now))).Completes (F.state folder.old) (F.state folder.new) result }
 
     // No fault of the folder is passed over.
     ensures stand { PassesNoneOver (F.state folder.old) (F.state folder.new) result }
 
-    // How the program is used is told for no other words.
+    // How the program is used is printed for no other words.
     ensures usage { result ≡ Status.Usage → asked (map string_bytes words.now) ≡ Nothing }
 {
     match read_words(words) {

@@ -1,4 +1,4 @@
-//! Laws of a recording with little noise, and of the same after a quarter turn, as far as both are released. Each function's contract is a
+//! Theorems of a recording with little noise, and of the same after a quarter turn, as far as both are released. Each function's contract is a
 //! law. Those of samples that are near what was sent are in [`crate::noisy`].
 ghost use Rattle.noise_bound.specs.Laws.{SureIsNear, SureIsDecoded, NearTurns, QuadsAreAlike, QuadsAreAlikeOfAny, FewBitsDiffer, FewBitsDifferOfAny, OnePickedUpBegins, OneListOfPiecesBegins, ReadersPiecesBegin};
 

@@ -10,7 +10,7 @@ use scramblers::Mode;
 use std::marker::Model;
 use symbol_map::{Sample, distance};
 
-/// Below this cost what was sent is told for certain: 2.5 squares of a unit of the map, of 2048 units each.
+/// Below this cost what was sent is certain: 2.5 squares of a unit of the map, of 2048 units each.
 const SURE: u64 = 10_485_760;
 
 /// What octets cost against the samples of a recording: the sum of the squared distances of the samples that they become.

@@ -1,5 +1,5 @@
-//! Laws of samples that are exactly the points of a code sequence of the eight-state code. Each function's contract is
-//! a law.
+//! Theorems of samples that are exactly the points of a code sequence of the eight-state code. Each function's contract is
+//! a theorem.
 ghost use Rattle.noise_bound.specs.NoiselessLaws.{V32HasLaws, OnlySentIsLeast, ReleasesSent, FewUnreleased, NeverLost, DecodesNoiseless};
 
 use exact_decoder::laws::codes_have_laws;

@@ -1,5 +1,5 @@
-//! Laws of samples that are near the points of a code sequence of the eight-state code. Each function's contract is a
-//! law; distances of labels are in squares of map units.
+//! Theorems of samples that are near the points of a code sequence of the eight-state code. Each function's contract is a
+//! theorem; distances of labels are in squares of map units.
 ghost use Rattle.noise_bound.specs.DistanceLaws.{MeetingIsFar, MeetingAgainIsFar, ApartIsFar, PartingIsFar, EndsAreNear, CostIsDistance, CostOverOthers, DistanceOverSamples};
 ghost use Rattle.noise_bound.specs.NoisyLaws.{ReleasesNear, FewUnreleased, NeverLost, DecodesNear, ReleasesNearOfAny, FewUnreleasedOfAny, NeverLostOfAny, DecodesNearOfAny, FewUnreleasedWithoutNoise};
 

@@ -1,4 +1,4 @@
-//! Laws of scripts' texts.
+//! Theorems of scripts' texts.
 ghost use Rattle.std.specs.Prelude.{◌≡◌};
 ghost use Rattle.noise_script.specs.declared.limits.TheConstants.{SCRIPT_OCTETS, LOSE_LINES, HIT_LINES, NOISE_LINES, BREAK_LINES, BUSY_LINES};
 ghost use Rattle.noise_script.specs.Noisy.{NoisyLinesSpell};

@@ -1,4 +1,4 @@
-// A folder as a program sees it. What it holds may be told or not; its counts of faults are always known.
+// A folder as a program sees it. What it holds may be known or not; its counts of faults are always known.
 ghost use Rattle.std.specs.Prelude.{◌⊎◌, ◌≤◌, length, IfOk, OnOk, OnErr, IsErrOf};
 ghost use Rattle.outside_calls.specs.Folder.{FolderState, OnlyReads, OnlyWrites, OnlySays, KeepsName, HasCause, FaultsStand, CountsStand, ReadsFront, TellsOctets, Appended, PartlyAppended, Created, Said, PartlySaid, IsFaultOf};
 
@@ -27,10 +27,10 @@ impl From<io::Error> for FolderFault {
     }
 }
 
-/// A folder of named files, and a place to say lines. A name is any text, and a file is a list of octets.
+/// A folder of named files, and a place to print lines. A name is any text, and a file is a list of octets.
 ///
-/// What a folder holds is known of the names that it tells, and which these are never changes. What it tells of a name that was
-/// read are octets, numbers below 256. Each call belongs to a count of faults, of the name or of what is said, and all calls to one
+/// What a folder holds is known of some names, and which these are never changes. What is known of a name that was
+/// read are octets, numbers below 256. Each call belongs to a count of faults, of the name or of what is printed, and all calls to one
 /// count of memory refusals; no count ever falls. A call that answers `Ok` counts nothing, and one that finds no memory counts no
 /// fault.
 pub trait Folder {
@@ -73,7 +73,7 @@ pub trait Folder {
         ensures spared { IsErrOf result FolderFault.NoMemory → FaultsStand (state self.old) (state self.new) }
         ensures came { came self.old self.new };
 
-    /// Puts the piece behind what was said.
+    /// Puts the piece behind what was printed.
     fn say(&mut self, piece: &[u8]) -> Result<(), FolderFault>
         ensures ok { OnOk result (Said (state self.old) (state self.new) piece.now) }
         ensures err { OnErr result (PartlySaid (state self.old) (state self.new) piece.now) }

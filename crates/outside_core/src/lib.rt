@@ -1,6 +1,6 @@
 //! A folder in memory for tests, and the folders that the program runs over.
 //!
-//! [`MemoryFolder`] keeps its files in memory, tells all of them, and fails at the calls that a test picks. The others
+//! [`MemoryFolder`] keeps its files in memory, all of which are known, and fails at the calls that a test picks. The others
 //! stand in `program_folders`, so that the program needs no folder that fails on purpose, and are handed on.
 #![tactic(auto)]
 

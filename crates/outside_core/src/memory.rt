@@ -11,13 +11,13 @@ use shared_terms::NoMemory;
 use std::alloc::Global;
 use std::marker::Model;
 
-/// A folder in memory, for tests. It tells every name, counts its calls, and fails at those whose numbers it was given.
+/// A folder in memory, for tests. Every name is known. It counts its calls, and fails at those whose numbers it was given.
 ///
 /// A call fails exactly where its number is one of those, or where it reads a name that isn't held.
 pub struct MemoryFolder {
     /// The files.
     store: Store,
-    /// All that was said.
+    /// All that was printed.
     said: Vec<u8>,
     /// How many calls of a folder were made.
     calls: u64,
@@ -101,7 +101,7 @@ impl MemoryFolder {
         self.store.get(name)
     }
 
-    /// All that was said, in order.
+    /// All that was printed, in order.
     pub fn said(&self) -> &[u8]
         ensures { result.now ≡ self.now.said }
     {

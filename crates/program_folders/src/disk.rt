@@ -10,7 +10,7 @@ use std::io;
 use std::marker::Model;
 use std::rt::Files;
 
-/// The folder that the program runs in, and its standard output. It tells nothing of what it holds.
+/// The folder that the program runs in, and its standard output. Nothing is known of what it holds.
 ///
 /// Trusted is what the operating system does: which octets a file gives and takes, and that a file that is opened to be
 /// appended to takes them at its end. Its three counts are proved.

@@ -1,4 +1,4 @@
-//! What folders count, in numbers. The functions do nothing: each law is a contract.
+//! What folders count, in numbers. The functions do nothing: each theorem is a contract.
 ghost use Rattle.program_folders.specs.Counts.{CountsRise, DiskCountsAreKnown, DiskCountsRise, AuditsCountBoth};
 
 /// A count rises by one, and stands still at its last value.

@@ -1,7 +1,7 @@
 //! The folders that the program runs over: in memory, on disk, and one over another for an audit.
 //!
-//! [`SureFolder`] keeps its files in memory, tells all of them, and fails for want of memory alone. [`DiskFolder`] is the
-//! folder that the program runs in: it tells nothing of its files. Each is a `Folder`, which stands in `outside_calls`, so
+//! [`SureFolder`] keeps its files in memory, all of which are known, and fails for lack of memory alone. [`DiskFolder`] is the
+//! folder that the program runs in: nothing is known of its files. Each is a `Folder`, which stands in `outside_calls`, so
 //! that what only asks a folder needs none of them. A [`Store`] is the files that a folder in memory holds. [`AuditFolder`] stands over another
 //! folder: reads go on to that one, and of what a run writes the trace of a turn alone is held.
 //!

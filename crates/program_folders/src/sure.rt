@@ -12,11 +12,11 @@ use shared_terms::NoMemory;
 use std::alloc::Global;
 use std::marker::Model;
 
-/// A folder in memory that answers `NoMemory` at worst. It tells every name, and one that isn't held reads as empty.
+/// A folder in memory that answers `NoMemory` at worst. Every name is known, and one that isn't held reads as empty.
 pub struct SureFolder {
     /// The files.
     store: Store,
-    /// All that was said.
+    /// All that was printed.
     said: Vec<u8>,
     /// How many calls of a folder were made.
     calls: u64,
@@ -75,7 +75,7 @@ impl SureFolder {
         self.store.get(name)
     }
 
-    /// All that was said, in order.
+    /// All that was printed, in order.
     pub fn said(&self) -> &[u8]
         ensures { result.now ≡ self.now.said }
     {

@@ -1,4 +1,4 @@
-//! Laws over all lists of samples, labels and bits. The functions do nothing: each law is a contract.
+//! Theorems over all lists of samples, labels and bits. The functions do nothing: each theorem is a contract.
 ghost use Rattle.rate_4800.specs.Laws.{AllAreReleased, NearOnesAreRead, ComesBack};
 
 /// Each label is released with its own sample.

@@ -1,4 +1,4 @@
-//! Laws over the definitions alone. The functions do nothing: each law is a contract.
+//! Theorems over the definitions alone. The functions do nothing: each theorem is a contract.
 ghost use Rattle.sample_line.specs.Laws.{RecordedOnce, RecordingsGrow, GivenOnce, GivenStays, ReceivedOnce, OneOutcome, AllFits};
 
 /// What is recorded of bits is one list, and a prefix of what is recorded once more bits follow.

@@ -1,4 +1,4 @@
-//! Laws of scrambling. Each function's contract is a law over all lists of bits.
+//! Theorems of scrambling. Each function's contract is a theorem over all lists of bits.
 ghost use Rattle.std.specs.Prelude.{◌≡◌};
 ghost use Rattle.scramblers.specs.Mode.{tap_of};
 ghost use Rattle.scramblers.specs.Laws.{ReadsBackwards, GivesBack, HasOneLine, FirstBitsStay, DependsOnThree, RightAfter23};

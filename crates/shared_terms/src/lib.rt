@@ -1,6 +1,6 @@
 //! The terms that all above share: the two ends of a link ([`Role`]), with the word that names each;
 //! why a run is refused or given up, as values ([`Cause`], [`LinkFault`]); in what a trace is not that of a run
-//! ([`AuditCause`]); the timers that count an end's turns without an answer; and how long files may be. Who finds a cause gives it, who says lines prints it.
+//! ([`AuditCause`]); the timers that count an end's turns without an answer; and how long files may be. Who finds a cause gives it, who prints lines prints it.
 #![tactic(auto)]
 
 mod audit_cause;

@@ -34,7 +34,7 @@ impl Role {
         }
     }
 
-    /// The word that names the end in scripts, traces and said lines: four ASCII characters.
+    /// The word that names the end in scripts, traces and printed lines: four ASCII characters.
     pub fn word(self) -> &'static str
         ensures word { result.now ≡ role_word self }
         ensures short { length result.now ≤ 4 }

@@ -1,4 +1,4 @@
-// The command: its inputs are opened, all memory is taken, turns follow to the run's end, and its line is said.
+// The command: its inputs are opened, all memory is taken, turns follow to the run's end, and its line is printed.
 ghost use Rattle.std.specs.Prelude.{[], IfErr, IfOk, map, string_bytes};
 ghost use Rattle.outside_calls.specs.Folder.{FolderState, OnlyReads};
 ghost use Rattle.command_base.specs.Job.{Answers};
@@ -99,7 +99,7 @@ fn audit_to_end<F: Folder>(
     }
 }
 
-/// Audits, and says what was found.
+/// Audits, and prints what was found.
 fn audit_and_tell<F: Folder>(
     alloc: Global,
     folder: &mut F,
@@ -114,7 +114,7 @@ fn audit_and_tell<F: Folder>(
     }
 }
 
-/// Does what the words of an audit say, and answers what was found. The line of the answer is said last.
+/// Does what the words of an audit say, and answers what was found. The line of the answer is printed last.
 pub fn audit<F: Folder>(
     alloc: Global,
     folder: &mut F,
@@ -125,7 +125,7 @@ pub fn audit<F: Folder>(
     // first line in which it differs, and in what.
     ensures headline { Headline (F.state folder.old) (F.state folder.new) (named names.now) result }
 
-    // Where the inputs are right and the folder is sound, and but for want of memory, the answer is the one to the text of their run.
+    // Where the inputs are right and the folder is sound, and but for lack of memory, the answer is the one to the text of their run.
     ensures completes { Completes (F.state folder.old) (F.state folder.new) (named names.now) result }
 
     // Each answer comes where it has to, with its line.

@@ -1,4 +1,4 @@
-//! Laws over the definitions of lines and of differences alone. The functions do nothing: each law is a contract.
+//! Theorems over the definitions of lines and of differences alone. The functions do nothing: each theorem is a contract.
 ghost use Rattle.std.specs.Prelude.{◌≡◌, true, ◌<◌, ◌++◌, codes, IfSome, List, ℕ};
 ghost use Rattle.std.specs.List.{list_all};
 ghost use Rattle.trace_audit.specs.Cutting.{is_no_feed};

@@ -1,4 +1,4 @@
-//! What every answer of an audit promises. The functions do nothing but name the laws that they rest on: each law is a contract.
+//! What every answer of an audit promises. The functions do nothing but name the theorems that they rest on: each theorem is a contract.
 ghost use Rattle.std.specs.Prelude.{List, ℕ};
 ghost use Rattle.outside_calls.specs.Folder.{FolderState};
 ghost use Rattle.command_base.specs.declared.status.Status.{Status};
@@ -21,7 +21,7 @@ pub fn one_verdict()
     texts_have_one_cut();
 }
 
-/// Where an audit is done and its inputs are told, the trace is the text of the run of exactly these files and of this script, up to its end.
+/// Where an audit is done and its inputs are known, the trace is the text of the run of exactly these files and of this script, up to its end.
 pub fn a_yes_is_the_trace()
     ensures { YesIsTheTrace }
 {}
@@ -31,7 +31,7 @@ pub(crate) fn answers_keep_the_headline()
     ensures { (words : List (List ℕ)) (old new : FolderState) (n : AuditNames) (s : Status) → Answers (audit_job n) words old new s → Headline old new n s }
 {}
 
-/// Where the inputs are right and the folder is sound, the answer is the one to the text of their run, but for want of memory.
+/// Where the inputs are right and the folder is sound, the answer is the one to the text of their run, but for lack of memory.
 pub(crate) fn right_traces_are_judged()
     ensures { (words : List (List ℕ)) (old new : FolderState) (n : AuditNames) (s : Status) → Answers (audit_job n) words old new s → Completes old new n s }
 {

@@ -1,4 +1,4 @@
-//! Laws of runs. The functions do nothing but name the laws that they rest on: each law is a contract.
+//! Theorems of runs. The functions do nothing but name the theorems that they rest on: each theorem is a contract.
 ghost use Rattle.trace_audit.specs.Lines.{ChancesHaveLines, TextsHaveLines, TurnsHaveLines};
 ghost use Rattle.trace_audit.specs.Readable.{LinesAreRead};
 

@@ -12,7 +12,7 @@ pub struct AuditWords<'a> {
     pub answ: &'a str,
     /// What the line does.
     pub script: &'a str,
-    /// What is said to be the trace of their run.
+    /// What is to be the trace of their run.
     pub trace: &'a str,
 }
 

@@ -1,4 +1,4 @@
-//! What holds of each run over a line that carries what is sent, whatever it loses. The functions do nothing: each law is a contract.
+//! What holds of each run over a line that carries what is sent, whatever it loses. The functions do nothing: each theorem is a contract.
 ghost use Rattle.turn_bound.specs.Bound.{EndsSoon, EndsSoonByFiles, EndsSoonByOctets};
 ghost use Rattle.turn_bound.specs.Offered.{OffersWithin};
 ghost use Rattle.turn_bound.specs.Limits.{NoRunIsLong};
@@ -27,7 +27,7 @@ pub fn ends_stand_together()
     ensures { StandTogether }
 {}
 
-/// An end breaks for want of answers alone, a whole set of tries after a clock of its began, and in no other turn.
+/// An end breaks for lack of answers alone, a whole set of tries after a clock of its began, and in no other turn.
 pub fn tries_are_spent_on_time()
     ensures { SpendsOnTime }
 {}

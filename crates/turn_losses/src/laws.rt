@@ -1,5 +1,5 @@
-//! What holds of each run over a line that carries what is sent, whatever it loses. The functions do nothing but name the laws that
-//! they rest on: each law is a contract.
+//! What holds of each run over a line that carries what is sent, whatever it loses. The functions do nothing but name the theorems that
+//! they rest on: each theorem is a contract.
 ghost use Rattle.turn_losses.specs.Polls.{PollsKeepApart, RepliesAtOnce, AnswersMatchPolls};
 ghost use Rattle.turn_losses.specs.Losses.{OriginatorWantsAnswers, OriginatorIsStarved, AnswererWantsAnswers, OriginatorWantsPattern, UndetectedIsStarved, UndetectedOnTime};
 ghost use Rattle.turn_losses.specs.Losses.{StarvedLosesMany, LosslessIsFed};
@@ -42,7 +42,7 @@ pub fn connected_answerers_give_up_for_losses()
     frames_tell_how_far_ends_are();
 }
 
-/// An originator gives up for want of a pattern only where something was lost in each of the latest periods, one more than it has
+/// An originator gives up for lack of a pattern only where something was lost in each of the latest periods, one more than it has
 /// tries: so the run was starved. It does so in the turn behind these periods, and none of the answerer's patterns had passed.
 pub fn patterns_are_missed_for_losses()
     ensures on_time { UndetectedOnTime }

@@ -11,7 +11,7 @@ use std::test::Fail;
 /// The octets that stand in the file from these places on, as far as five: its front, its last ones, none at its end and past it.
 const PARTS: &[(u64, &[u8])] = &[(0, b"one t"), (5, b"wo"), (7, b""), (8, b"")];
 
-/// Makes a file where there is one already, and says a line.
+/// Makes a file where there is one already, and prints a line.
 fn make_file<F: Folder>(folder: &mut F) -> Result<(), FolderFault> {
     folder.append("f", b"old")?;
     folder.create("f")?;

@@ -1,4 +1,4 @@
-//! Laws over the definitions alone. The functions do nothing, or nothing that tells: each law is a contract.
+//! Theorems over the definitions alone. The functions do nothing, or nothing that tells: each theorem is a contract.
 ghost use Rattle.std.specs.Prelude.{◌≡◌, ℕ, ◌⊎◌, List};
 ghost use Rattle.xid_params.specs.declared.offer.Offer.{Offer};
 ghost use Rattle.xid_params.specs.declared.fault.XidFault.{XidFault};

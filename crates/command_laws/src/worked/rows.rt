@@ -1,4 +1,4 @@
-//! The rows. The functions do nothing but name the laws that they rest on: each row is a contract.
+//! The rows. The functions do nothing but name the theorems that they rest on: each row is a contract.
 ghost use Rattle.command_laws.specs.Worked.Rows.{SecondRowEnds, FirstTraceIsKnown, RowsHold};
 
 use crate::worked::runs::computed_runs_are_runs;

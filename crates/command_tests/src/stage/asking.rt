@@ -23,7 +23,7 @@ impl Ran {
         self.code = modem(alloc, words, &mut self.folder).code();
     }
 
-    /// Whether words that are no command's were told how the program is used.
+    /// Whether words that are no command's were answered by how the program is used.
     fn tells_the_usage(&self) -> bool {
         self.code == 2 && self.folder.folder.said() == USAGE.as_bytes()
     }
@@ -111,7 +111,7 @@ impl Stage {
         Some(true)
     }
 
-    /// Whether words that are no command's are told how the program is used, and no file is made that they name.
+    /// Whether words that are no command's are answered by how the program is used, and no file is made that they name.
     pub(super) fn is_no_command(&mut self, text: &str) -> Option<bool> {
         self.ask(text)?;
         Some(self.ran.tells_the_usage() && self.has_all("kept", text))

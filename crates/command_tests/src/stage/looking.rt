@@ -1,4 +1,4 @@
-// Statements that look at how a command ended, and at what it said and left.
+// Statements that look at how a command ended, and at what it printed and left.
 use super::making::place_of;
 use super::{Ran, Stage};
 use outside_core::MemoryFolder;
@@ -97,8 +97,8 @@ impl Ran {
             && agree("sweep", left, other, names)
     }
 
-    /// Whether a fault of the folder is the answer, with its line, unless that was what was not said. Before it stands at most what the
-    /// whole run says before its last line.
+    /// Whether a fault of the folder is the answer, with its line, unless that was what was not printed. Before it stands at most what the
+    /// whole run prints before its last line.
     fn blames_the_folder(&self, whole: &[u8]) -> bool {
         let said = self.folder.folder.said();
         let before = match self.code {

@@ -8,7 +8,7 @@ use outside_core::MemoryFolder;
 use std::alloc::Global;
 
 /// A folder in memory that notes each call in a line: its kind, its name, the place that it reads from, and how many octets it reads at most,
-/// or puts. It tells no name, since a file of it may grow between two calls.
+/// or puts. No name is known of it, since a file of it may grow between two calls.
 pub(crate) struct NotingFolder {
     /// The files.
     pub(crate) folder: MemoryFolder,

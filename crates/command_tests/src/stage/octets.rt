@@ -38,7 +38,7 @@ fn part_of<'a>(octets: &'a [u8], range: &str) -> Option<&'a [u8]> {
 }
 
 impl Ran {
-    /// What was left under a name: what was said, the calls that were made, or the octets of a file.
+    /// What was left under a name: what was printed, the calls that were made, or the octets of a file.
     pub(crate) fn left(&self, name: &str) -> Option<&[u8]> {
         match name {
             "said" => Some(self.folder.folder.said()),

@@ -1,4 +1,4 @@
-// The command: the pieces are listed, and the last line is said.
+// The command: the pieces are listed, and the last line is printed.
 ghost use Rattle.std.specs.Prelude.{map, string_bytes};
 ghost use Rattle.command_base.specs.Job.{Answers};
 ghost use Rattle.frame_commands.specs.Listing.Words.{named};
@@ -11,7 +11,7 @@ use crate::frames::words::FramesWords;
 use command_base::{Status, pieces_line, tell, tell_stop};
 use outside_calls::Folder;
 
-/// Lists the pieces, and says how it ended.
+/// Lists the pieces, and prints how it ended.
 fn list_and_tell<F: Folder>(folder: &mut F, words: &[String], names: &FramesWords<'_>) -> Status
     ensures { Answers (frames_job (named names.now)) (map string_bytes words.now) (F.state folder.old) (F.state folder.new) result }
 {
@@ -21,12 +21,12 @@ fn list_and_tell<F: Folder>(folder: &mut F, words: &[String], names: &FramesWord
     }
 }
 
-/// Does what the words of a listing say, and answers how it ended. The line of the answer is said last.
+/// Does what the words of a listing say, and answers how it ended. The line of the answer is printed last.
 pub fn frames<F: Folder>(folder: &mut F, words: &[String], names: &FramesWords<'_>) -> Status
-    // A line is said for each piece of the file's bits, and then their number. No file changes.
+    // A line is printed for each piece of the file's bits, and then their number. No file changes.
     ensures headline { Headline (F.state folder.old) (F.state folder.new) (named names.now) result }
 
-    // Where the input is right and the folder sound, nothing but want of memory keeps it from being done.
+    // Where the input is right and the folder sound, nothing but lack of memory keeps it from being done.
     ensures completes { Completes (F.state folder.old) (F.state folder.new) (named names.now) result }
 
     // Each answer comes where it has to, with its line.

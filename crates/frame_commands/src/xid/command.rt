@@ -1,4 +1,4 @@
-// The command: digits are read, the field is understood, and a line is said.
+// The command: digits are read, the field is understood, and a line is printed.
 ghost use Rattle.std.specs.Prelude.{[], map, string_bytes, IfErr, IfOk};
 ghost use Rattle.command_base.specs.Job.{Answers, Shared};
 ghost use Rattle.frame_commands.specs.Explaining.Completes.{Completes};
@@ -22,7 +22,7 @@ fn explain(digits: &str) -> Result<Offer, Status>
     }
 }
 
-/// Says the offer, or why the digits spell none.
+/// Prints the offer, or why the digits spell none.
 fn explain_and_tell<F: Folder>(folder: &mut F, words: &[String], digits: &str) -> Status
     ensures { Answers (xid_job digits.now) (map string_bytes words.now) (F.state folder.old) (F.state folder.new) result }
 {
@@ -32,13 +32,13 @@ fn explain_and_tell<F: Folder>(folder: &mut F, words: &[String], digits: &str) -
     }
 }
 
-/// Says the offer of an information field, given in hexadecimal digits, or why it spells none. No memory is taken, and no name
+/// Prints the offer of an information field, given in hexadecimal digits, or why it spells none. No memory is taken, and no name
 /// of the folder is touched.
 pub fn xid<F: Folder>(folder: &mut F, words: &[String], digits: &str) -> Status
     // No name changes.
     ensures headline { Shared [] [] (F.state folder.old) (F.state folder.new) result }
 
-    // Where the digits spell an offer and saying doesn't fail, nothing but want of memory keeps it from being done.
+    // Where the digits spell an offer and printing doesn't fail, nothing but lack of memory keeps it from being done.
     ensures completes { Completes (F.state folder.old) (F.state folder.new) digits.now result }
 
     // Each answer comes where it has to, with its line.

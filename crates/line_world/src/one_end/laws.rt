@@ -1,4 +1,4 @@
-//! What holds of all runs of one end against a peer's bits. The functions do nothing but name the laws that they rest on: each law is a
+//! What holds of all runs of one end against a peer's bits. The functions do nothing but name the theorems that they rest on: each theorem is a
 //! contract.
 ghost use Rattle.line_world.specs.OneEnd.Laws.{OneIsHeard, OnePeerRun, OnePeerTurn};
 ghost use Rattle.line_world.specs.OneEnd.Laws.{HearingBreaks, PeersFaultsAreHeard, OtherFaultsAreWants};

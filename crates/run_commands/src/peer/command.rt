@@ -80,7 +80,7 @@ fn meet_peer<F: Folder>(alloc: Global, folder: &mut F, words: &PeerWords<'_>) ->
     run_single(&mut single, folder, words)
 }
 
-/// Meets the peer, and says how it ended.
+/// Meets the peer, and prints how it ended.
 fn meet_and_tell<F: Folder>(
     alloc: Global,
     folder: &mut F,
@@ -96,7 +96,7 @@ fn meet_and_tell<F: Folder>(
     }
 }
 
-/// Does what the words of a run against a peer say, and answers how it ended. The line of the answer is said last.
+/// Does what the words of a run against a peer say, and answers how it ended. The line of the answer is printed last.
 pub fn peer<F: Folder>(
     alloc: Global,
     folder: &mut F,
@@ -108,7 +108,7 @@ pub fn peer<F: Folder>(
     // The run of the file and the bits is made to its end, whatever the peer sent, and the outputs hold what it leaves.
     ensures headline { Headline (F.state folder.old) (F.state folder.new) (named names.now) result }
 
-    // Over a sound folder, however the run of the inputs ends, that is the answer, but for want of memory.
+    // Over a sound folder, however the run of the inputs ends, that is the answer, but for lack of memory.
     ensures completes { Completes (F.state folder.old) (F.state folder.new) (named names.now) result }
 
     // Each answer comes where it has to, with its line.

@@ -1,4 +1,4 @@
-//! What holds of all runs of an end against a peer's octets. The function does nothing but name the law that it rests on: its law is a
+//! What holds of all runs of an end against a peer's octets. The function does nothing but name the theorem that it rests on: its theorem is a
 //! contract.
 ghost use Rattle.run_commands.specs.Peering.Laws.{OneResult};
 

@@ -1,4 +1,4 @@
-// The command: its inputs are opened, all memory is taken, its outputs are made, turns follow to its end, and its line is said.
+// The command: its inputs are opened, all memory is taken, its outputs are made, turns follow to its end, and its line is printed.
 ghost use Rattle.std.specs.Prelude.{◌≡◌, [], List, ℕ, true, map, string_bytes};
 ghost use Rattle.outside_calls.specs.Folder.{FolderState};
 ghost use Rattle.shared_terms.specs.Both.{Both};
@@ -76,7 +76,7 @@ fn run_to_end<F: Folder>(alloc: Global, folder: &mut F, words: &RunWords<'_>) ->
     run_world(&mut world, folder, words)
 }
 
-/// Runs, and says how it ended.
+/// Runs, and prints how it ended.
 fn run_and_tell<F: Folder>(
     alloc: Global,
     folder: &mut F,
@@ -92,7 +92,7 @@ fn run_and_tell<F: Folder>(
     }
 }
 
-/// Does what the words of a run say, and answers how it ended. The line of the answer is said last.
+/// Does what the words of a run say, and answers how it ended. The line of the answer is printed last.
 pub fn run<F: Folder>(
     alloc: Global,
     folder: &mut F,
@@ -104,7 +104,7 @@ pub fn run<F: Folder>(
     // Each end receives a prefix of the other's file, and done means that both are whole. The run is that of the script and the files.
     ensures headline { Headline (F.state folder.old) (F.state folder.new) (named names.now) result }
 
-    // Where the inputs are right and the folder is sound, and but for want of memory, the answer is that to how their run ends. It is done if
+    // Where the inputs are right and the folder is sound, and but for lack of memory, the answer is that to how their run ends. It is done if
     // the line carries it to its end, or loses few slots of it, or the script names few and its noise is faint.
     ensures completes { Completes (F.state folder.old) (F.state folder.new) (named names.now) result }
 

@@ -1,4 +1,4 @@
-// What every answer of a run promises. The functions do nothing but name the laws that they rest on: each law is a contract.
+// What every answer of a run promises. The functions do nothing but name the theorems that they rest on: each theorem is a contract.
 ghost use Rattle.std.specs.Prelude.{List, ℕ};
 ghost use Rattle.outside_calls.specs.Folder.{FolderState};
 ghost use Rattle.command_base.specs.declared.status.Status.{Status};
@@ -30,7 +30,7 @@ pub(crate) fn answers_keep_the_headline()
     released_labels_begin_a_least_sequence();
 }
 
-/// Where the inputs are right and the folder is sound, the answer is that to how their run ends, but for want of memory; where besides the
+/// Where the inputs are right and the folder is sound, the answer is that to how their run ends, but for lack of memory; where besides the
 /// run is carried to its end, or its losses are few, it is done.
 pub(crate) fn right_runs_are_done()
     ensures { (words : List (List ℕ)) (old new : FolderState) (n : RunNames) (s : Status) → Answers (run_job n) words old new s → Completes old new n s }

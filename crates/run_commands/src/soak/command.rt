@@ -1,4 +1,4 @@
-// The command: the run of a seed is made, and its line is said.
+// The command: the run of a seed is made, and its line is printed.
 ghost use Rattle.std.specs.Prelude.{[], map, string_bytes};
 ghost use Rattle.command_base.specs.Job.{Answers};
 ghost use Rattle.run_commands.specs.Soaking.Completes.{Completes};
@@ -11,7 +11,7 @@ use command_base::{Status, soak_line, tell, tell_stop};
 use outside_calls::Folder;
 use std::alloc::Global;
 
-/// Makes the run of a seed, and says how it ended.
+/// Makes the run of a seed, and prints how it ended.
 fn soak_and_tell<F: Folder>(alloc: Global, folder: &mut F, words: &[String], seed: u64) -> Status
     ensures { Answers (soak_job seed) (map string_bytes words.now) (F.state folder.old) (F.state folder.new) result }
 {
@@ -25,13 +25,13 @@ fn soak_and_tell<F: Folder>(alloc: Global, folder: &mut F, words: &[String], see
     }
 }
 
-/// Makes the run of a seed in a folder of its own, and says how it ended. No name of the folder is touched.
+/// Makes the run of a seed in a folder of its own, and prints how it ended. No name of the folder is touched.
 pub fn soak<F: Folder>(alloc: Global, folder: &mut F, words: &[String], seed: u64) -> Status
     // No name changes. The run is that of the seed's files and script: each end receives a prefix of the other's file, and done means that both
     // are whole.
     ensures headline { Headline (F.state folder.old) (F.state folder.new) seed result }
 
-    // Where saying doesn't fail, the answer is that to how the seed's run ends, but for want of memory; and it is done where the line carries
+    // Where printing doesn't fail, the answer is that to how the seed's run ends, but for lack of memory; and it is done where the line carries
     // it to its end.
     ensures completes { Completes (F.state folder.old) (F.state folder.new) seed result }
 

@@ -1,4 +1,4 @@
-// What every answer of a soak promises. The functions do nothing but name the laws that they rest on: each law is a contract.
+// What every answer of a soak promises. The functions do nothing but name the theorems that they rest on: each theorem is a contract.
 ghost use Rattle.std.specs.Prelude.{List, ℕ};
 ghost use Rattle.outside_calls.specs.Folder.{FolderState};
 ghost use Rattle.command_base.specs.declared.status.Status.{Status};
@@ -20,7 +20,7 @@ pub(crate) fn answers_keep_the_headline()
     lost_links_were_starved();
 }
 
-/// Where saying doesn't fail, the answer is that to how the seed's run ends, but for want of memory; where the line carries it to its end, it is
+/// Where printing doesn't fail, the answer is that to how the seed's run ends, but for lack of memory; where the line carries it to its end, it is
 /// done.
 pub(crate) fn carried_soaks_are_done()
     ensures { (words : List (List ℕ)) (old new : FolderState) (seed : ℕ) (s : Status) → Answers (soak_job seed) words old new s → Completes old new seed s }

@@ -1,4 +1,4 @@
-// The command: the recording is decoded, and its line is said.
+// The command: the recording is decoded, and its line is printed.
 ghost use Rattle.std.specs.Prelude.{◌≡◌, true, [], ◌∷◌, map, string_bytes};
 ghost use Rattle.outside_calls.specs.Folder.{FolderState};
 ghost use Rattle.command_base.specs.Job.{Answers};
@@ -65,7 +65,7 @@ fn decode_recording<F: Folder>(
     }
 }
 
-/// Decodes the recording, and says how it ended.
+/// Decodes the recording, and prints how it ended.
 fn decode_and_tell<F: Folder>(
     alloc: Global,
     folder: &mut F,
@@ -81,7 +81,7 @@ fn decode_and_tell<F: Folder>(
     }
 }
 
-/// Does what the words of a decoding say, and answers how it ended. The line of the answer is said last.
+/// Does what the words of a decoding say, and answers how it ended. The line of the answer is printed last.
 pub fn decode<F: Folder>(
     alloc: Global,
     folder: &mut F,
@@ -94,7 +94,7 @@ pub fn decode<F: Folder>(
     // where the command ends otherwise. A line of four points is never lost.
     ensures headline { Headline (F.state folder.old) (F.state folder.new) (named names.now) result }
 
-    // Where the input is right and the folder sound, nothing but want of memory keeps it from being done.
+    // Where the input is right and the folder sound, nothing but lack of memory keeps it from being done.
     ensures completes { Completes (F.state folder.old) (F.state folder.new) (named names.now) result }
 
     // Each answer comes where it has to, with its line.

@@ -1,4 +1,4 @@
-// The command: the file is measured against the recording, and its line is said.
+// The command: the file is measured against the recording, and its line is printed.
 ghost use Rattle.std.specs.Prelude.{[], map, string_bytes};
 ghost use Rattle.outside_calls.specs.Folder.{OnlyReads};
 ghost use Rattle.command_base.specs.Job.{Answers};
@@ -27,7 +27,7 @@ fn measure<F: Folder>(folder: &mut F, names: &MarginWords<'_>) -> Result<Margin,
     }
 }
 
-/// Measures the file against the recording, and says how it ended.
+/// Measures the file against the recording, and prints how it ended.
 fn measure_and_tell<F: Folder>(folder: &mut F, words: &[String], names: &MarginWords<'_>) -> Status
     ensures { Answers (margin_job (named names.now)) (map string_bytes words.now) (F.state folder.old) (F.state folder.new) result }
 {
@@ -41,13 +41,13 @@ fn measure_and_tell<F: Folder>(folder: &mut F, words: &[String], names: &MarginW
     }
 }
 
-/// Says how much the octets of a file cost against a recording, and answers how it ended. The line of the answer is said last.
+/// Prints how much the octets of a file cost against a recording, and answers how it ended. The line of the answer is printed last.
 pub fn margin<F: Folder>(folder: &mut F, words: &[String], names: &MarginWords<'_>) -> Status
-    // The line says the cost. Where it says that this is sure, the recording isn't lost, and the labels that it releases begin those of
+    // The line prints the cost. Where it prints that this is sure, the recording isn't lost, and the labels that it releases begin those of
     // the file. No file changes.
     ensures headline { Headline (F.state folder.old) (F.state folder.new) (named names.now) result }
 
-    // Where the inputs are right and the folder sound, nothing but want of memory keeps it from being done.
+    // Where the inputs are right and the folder sound, nothing but lack of memory keeps it from being done.
     ensures completes { Completes (F.state folder.old) (F.state folder.new) (named names.now) result }
 
     // Each answer comes where it has to, with its line.

@@ -1,4 +1,4 @@
-// The command: the recording is picked up, and its last line is said.
+// The command: the recording is picked up, and its last line is printed.
 ghost use Rattle.std.specs.Prelude.{[], ◌∷◌, map, string_bytes};
 ghost use Rattle.outside_calls.specs.Folder.{FolderState};
 ghost use Rattle.command_base.specs.Job.{Answers};
@@ -50,7 +50,7 @@ fn pick_up<F: Folder>(alloc: Global, folder: &mut F, rec: &str) -> Result<u64, S
     }
 }
 
-/// Picks up the recording, and says how it ended.
+/// Picks up the recording, and prints how it ended.
 fn pick_up_and_tell<F: Folder>(alloc: Global, folder: &mut F, words: &[String], rec: &str) -> Status
     ensures { Answers (pickup_job rec.now) (map string_bytes words.now) (F.state folder.old) (F.state folder.new) result }
 {
@@ -60,13 +60,13 @@ fn pick_up_and_tell<F: Folder>(alloc: Global, folder: &mut F, words: &[String], 
     }
 }
 
-/// Says the frames of a recording that begins anywhere in a stream, and answers how it ended. The line of the answer is said last.
+/// Prints the frames of a recording that begins anywhere in a stream, and answers how it ended. The line of the answer is printed last.
 pub fn pickup<F: Folder>(alloc: Global, folder: &mut F, words: &[String], rec: &str) -> Status
-    // A line is said for each piece in the bits of the labels that the recording's samples release, from whatever state its line
+    // A line is printed for each piece in the bits of the labels that the recording's samples release, from whatever state its line
     // began in, and then their number. No file changes.
     ensures headline { Headline (F.state folder.old) (F.state folder.new) rec.now result }
 
-    // Where the input is right and the folder sound, nothing but want of memory keeps it from being done.
+    // Where the input is right and the folder sound, nothing but lack of memory keeps it from being done.
     ensures completes { Completes (F.state folder.old) (F.state folder.new) rec.now result }
 
     // Each answer comes where it has to, with its line.

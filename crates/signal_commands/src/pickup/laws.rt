@@ -1,4 +1,4 @@
-//! Laws of what is said of a recording. The functions do nothing: each law is a contract.
+//! Theorems of what is printed of a recording. The functions do nothing: each theorem is a contract.
 ghost use Rattle.signal_commands.specs.PickingUp.Laws.{SomePiecesAreGiven, PiecesAreGivenOnce, LaterPiecesStandBehind};
 ghost use Rattle.signal_commands.specs.PickingUp.Middles.{MiddlesGiveWhatWasSent, MiddlesWithoutNoiseGiveMore, MiddlesAreNeverLost};
 
@@ -8,8 +8,8 @@ pub fn samples_give_one_list()
     ensures once { PiecesAreGivenOnce }
 {}
 
-/// The pieces that a recording's first samples give begin those that the whole of it gives: so what was said before a fault is the
-/// beginning of what is said where there is none.
+/// The pieces that a recording's first samples give begin those that the whole of it gives: so what was printed before a fault is the
+/// beginning of what is printed where there is none.
 pub fn later_pieces_stand_behind()
     ensures { LaterPiecesStandBehind }
 {}

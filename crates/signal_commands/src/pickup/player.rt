@@ -189,7 +189,7 @@ impl Player {
         }
     }
 
-    /// As many of the samples as there is room for, at least one: how many. The lines of the pieces are said that end in the bits that they
+    /// As many of the samples as there is room for, at least one: how many. The lines of the pieces are printed that end in the bits that they
     /// release.
     pub fn push_some<F: Folder>(
         &mut self,

@@ -1,4 +1,4 @@
-// Laws of differential coding. Each function's contract is a law over all lists of numbers below 4.
+// Theorems of differential coding. Each function's contract is a theorem over all lists of numbers below 4.
 ghost use Rattle.trellis_tables.specs.Differential.Laws.{GivesBack, TurnsAgain, GoesOn, TurnsInBits, FirstTurnsStay, FirstReadingsStay, ForgetsATurn};
 
 /// An unturner gives back what a turner was given.

@@ -152,8 +152,8 @@ pub(super) fn srej_sent(heard: Slot) -> Reaction {
     settled(0, heard, sends)
 }
 
-/// Connected: V(A) = 0, V(S) = 0, V(R) = 0. There is no segment to send. The end is busy, and its answer to a poll said so. It still takes what
-/// comes, says RNR where it would say RR, and asks for nothing.
+/// Connected: V(A) = 0, V(S) = 0, V(R) = 0. There is no segment to send. The end is busy, and its answer to a poll was RNR. It still takes what
+/// comes, sends RNR where it would send RR, and asks for nothing.
 pub(super) fn busy(heard: Slot) -> Reaction {
     let sends = match heard {
         I(0, _, pf) => S(Rnr, Response, 1, pf),

@@ -146,8 +146,8 @@ pub(super) fn segment_acknowledged(heard: Slot) -> Reaction {
     one_acknowledged(heard, sends)
 }
 
-/// Connected: V(A) = 0, V(S) = 0, V(R) = 0. The answer to the poll was that the other end is busy. The segment goes once it says by RR or
-/// REJ that it no longer is; an I frame doesn't say so. 0 is the only N(R) that is right, and no SREJ is.
+/// Connected: V(A) = 0, V(S) = 0, V(R) = 0. The answer to the poll was that the other end is busy. The segment goes once it shows by RR or
+/// REJ that it no longer is; an I frame doesn't show it. 0 is the only N(R) that is right, and no SREJ is.
 pub(super) fn paused(heard: Slot) -> Reaction {
     let sends = match heard {
         I(0, _, pf) => S(Rr, Response, 1, pf),
