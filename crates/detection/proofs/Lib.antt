@@ -11,3 +11,4 @@ mod Inside
 mod Sent
 mod Worked
 pub mod OneSignal
+pub mod Wholes

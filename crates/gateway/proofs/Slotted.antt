@@ -27,17 +27,6 @@ pub fits-room : (symbols phase : ℕ) (frame : Option (List ℕ)) → phase < 8 
 fits-room symbols phase None low many fits without with_frame = let h = without phase low in omega (arith, h, many)
 fits-room symbols phase (Some octets) low many fits without with_frame = let h = with_frame phase octets low in omega (arith, h, fits.1)
 
-pub length-line_bits : (quads : List ℕ) → length (line_bits quads) ≡ 4 * length quads
-length-line_bits [] = refl
-length-line_bits (quad ∷ quads) =
-    let h = length-line_bits quads in let e = length-append (low_bits 4 quad) (line_bits quads) in omega (arith, h, e)
-
--- so many quads are a slot's
-pub whole-slot : (quads : List ℕ) (bits : List Bool) (symbols : ℕ) → line_bits quads ≡ bits → length bits ≡ 4 * symbols
-    → length quads ≡ symbols
-whole-slot quads bits symbols same long = let h : 4 * length quads ≡ 4 * symbols = sym (length-line_bits quads) ∙ ap length same
-    ∙ long in omega (arith, h)
-
 -- a slot that can carry a frame, or none, is one of slots
 pub flags-slot : (symbols phase : ℕ) (frame : Option (List ℕ)) → CanCarry (4 * (symbols - 128)) (FlagSlot frame)
     → length (opening phase frame) ≤ 4 * (symbols - 128)

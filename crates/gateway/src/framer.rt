@@ -8,7 +8,7 @@ ghost use Rattle.bit_stuffing.specs.Slots.{Slot, IsFrame, opening, slot_bits};
 ghost use Rattle.bit_stuffing.specs.SlotWriter.{WriterStands};
 ghost use Rattle.bit_stuffing.specs.declared.slot_writer.TheConstants.{HEAD, TAIL};
 ghost use Rattle.detection.specs.Slots.{CanCarry, slot_of};
-ghost use Rattle.detection.specs.Slots.Signal.{FlagSlot, MarkSlot, PatternSlot};
+ghost use Rattle.detection.specs.Slots.Signal.{FlagSlot};
 ghost use Rattle.gateway.specs.Given.{given, AreBits};
 ghost use Rattle.gateway.specs.FrameBits.{FrameBits};
 ghost use Rattle.gateway.specs.Signals.{signal_of};
@@ -19,9 +19,8 @@ use bit_stuffing::laws::{
     found_is_sent, opening_is_short, pieces_grow, pieces_stay, sent_grows, slots_have_size,
 };
 use bit_stuffing::{BitSlot, Deframer, HEAD, SHORTEST, SlotWriter, TAIL};
-use detection::{mark_slot, pattern_slot};
+use detection::{write_mark, write_patterns};
 use frame_check::{SLOT, WHOLE};
-use lapm_frames::Seen;
 
 /// Why a slot isn't written.
 #[derive(Clone, Copy, PartialEq, Eq)]
@@ -41,38 +40,6 @@ pub struct FrameWriter {
     ghost low: { HEAD + TAIL < symbols },
     ghost high: { symbols ≤ SLOT },
     ghost stands: { ∥ ((slots : List Slot) × WriterStands writer slots) ∥₁ },
-}
-
-/// Writes a slot of ones.
-fn write_mark(writer: &mut SlotWriter, symbols: u16, out: &mut BitSlot)
-    requires symbols { symbols ≡ writer.old.symbols }
-    requires low { HEAD + TAIL < symbols }
-    requires high { symbols ≤ SLOT }
-    requires empty { out.old ≡ [] }
-    ensures bits { line_bits out.new ≡ slot_bits (4 * writer.old.symbols) writer.old.phase (slot_of (4 * writer.old.symbols) MarkSlot) }
-    ensures count { length out.new ≡ writer.old.symbols }
-    ensures symbols { writer.new.symbols ≡ writer.old.symbols }
-    ensures stands { (slots : List Slot) → WriterStands writer.old slots
-        → WriterStands writer.new (slots ++ slot_of (4 * writer.old.symbols) MarkSlot ∷ []) }
-{
-    mark_slot(symbols, out);
-    writer.restart();
-}
-
-/// Writes a slot of patterns.
-fn write_patterns(writer: &mut SlotWriter, symbols: u16, seen: Seen, out: &mut BitSlot)
-    requires symbols { symbols ≡ writer.old.symbols }
-    requires low { HEAD + TAIL < symbols }
-    requires high { symbols ≤ SLOT }
-    requires empty { out.old ≡ [] }
-    ensures bits { line_bits out.new ≡ slot_bits (4 * writer.old.symbols) writer.old.phase (slot_of (4 * writer.old.symbols) (PatternSlot seen)) }
-    ensures count { length out.new ≡ writer.old.symbols }
-    ensures symbols { writer.new.symbols ≡ writer.old.symbols }
-    ensures stands { (slots : List Slot) → WriterStands writer.old slots
-        → WriterStands writer.new (slots ++ slot_of (4 * writer.old.symbols) (PatternSlot seen) ∷ []) }
-{
-    pattern_slot(seen, symbols, out);
-    writer.restart();
 }
 
 /// Writes a slot of flags, with a frame that it can carry or without.

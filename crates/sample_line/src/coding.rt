@@ -6,43 +6,12 @@ ghost use Rattle.bit_stuffing.specs.Slots.{Slot, slot_bits};
 ghost use Rattle.bit_stuffing.specs.SlotWriter.{WriterStands};
 ghost use Rattle.bit_stuffing.specs.declared.slot_writer.TheConstants.{HEAD, TAIL};
 ghost use Rattle.detection.specs.Slots.{slot_of};
-ghost use Rattle.detection.specs.Slots.Signal.{MarkSlot, PatternSlot};
 ghost use Rattle.sample_line.specs.Signals.{signal_of, IsCodable};
 
 use crate::Framing;
 use bit_stuffing::{BitSlot, SlotWriter};
-use detection::{mark_slot, pattern_slot};
+use detection::{write_mark, write_patterns};
 use lapm_frames::{Seen, Sent, write_checked};
-
-/// Writes a slot of ones.
-fn write_mark(writer: &mut SlotWriter, symbols: u16, out: &mut BitSlot)
-    requires symbols { symbols ≡ writer.old.symbols }
-    requires low { HEAD + TAIL < symbols }
-    requires high { symbols ≤ SLOT }
-    requires empty { out.old ≡ [] }
-    ensures bits { line_bits out.new ≡ slot_bits (4 * writer.old.symbols) writer.old.phase (slot_of (4 * writer.old.symbols) MarkSlot) }
-    ensures symbols { writer.new.symbols ≡ writer.old.symbols }
-    ensures stands { (slots : List Slot) → WriterStands writer.old slots
-        → WriterStands writer.new (slots ++ slot_of (4 * writer.old.symbols) MarkSlot ∷ []) }
-{
-    mark_slot(symbols, out);
-    writer.restart();
-}
-
-/// Writes a slot of patterns.
-fn write_patterns(writer: &mut SlotWriter, symbols: u16, seen: Seen, out: &mut BitSlot)
-    requires symbols { symbols ≡ writer.old.symbols }
-    requires low { HEAD + TAIL < symbols }
-    requires high { symbols ≤ SLOT }
-    requires empty { out.old ≡ [] }
-    ensures bits { line_bits out.new ≡ slot_bits (4 * writer.old.symbols) writer.old.phase (slot_of (4 * writer.old.symbols) (PatternSlot seen)) }
-    ensures symbols { writer.new.symbols ≡ writer.old.symbols }
-    ensures stands { (slots : List Slot) → WriterStands writer.old slots
-        → WriterStands writer.new (slots ++ slot_of (4 * writer.old.symbols) (PatternSlot seen) ∷ []) }
-{
-    pattern_slot(seen, symbols, out);
-    writer.restart();
-}
 
 /// Writes the slot of what is sent. A frame has the check that its kind has where the ends use the framing's.
 pub fn write_sent(

@@ -2,7 +2,8 @@ use Rattle.std.proofs.Common.{◌*◌, ◌-◌, ◌≤◌, length}
 use Rattle.std.specs.Option.{option_copied}
 use Rattle.bit_stuffing.specs.Slots.{opening, slot_bits}
 use Rattle.bit_stuffing.specs.Slots.Slot.{Flags}
-use Rattle.gateway.proofs.Slotted.{fits-room, flags-slot, whole-slot}
+use Rattle.detection.proofs.Wholes.{whole-slot}
+use Rattle.gateway.proofs.Slotted.{fits-room, flags-slot}
 use Rattle.gateway.proofs.framer.write_flags.Goals as goal
 
 pub slot-requires-clause-room : goal.slot-requires-clause-room

@@ -1,7 +1,7 @@
 use Rattle.std.proofs.Common.{◌∙◌, refl}
 use Rattle.bit_stuffing.specs.BitSlot.{line_bits}
-use Rattle.gateway.proofs.Slotted.{whole-slot}
-use Rattle.gateway.proofs.framer.write_mark.Goals as goal
+use Rattle.detection.proofs.Wholes.{whole-slot}
+use Rattle.detection.proofs.among.write_mark.Goals as goal
 
 pub returns-clause-stands : goal.returns-clause-stands
 returns-clause-stands c = λ slots start. c.restart.ensures.stands slots _ start
