@@ -1,18 +1,19 @@
 -- The kinds by their octets: what is found in the table, as the readers of both families use it.
 use Rattle.std.proofs.Common.{◌≡◌, ℕ, ◌%◌, ◌≤◌, Bool, true, false, not, if◌then◌else◌, cond, nat_eq, List, [], ◌∷◌, length}
-use Rattle.std.proofs.Common.{Option, Some, None, is_some, arith, refl, sym, ap, subst, ◌∙◌, lit<}
+use Rattle.std.proofs.Common.{Option, Some, None, codes, is_some, arith, refl, sym, ap, subst, ◌∙◌, lit<}
 use Rattle.std.specs.Bool.{beq}
+use Rattle.std.specs.Prelude.{IfSome, unwrap_or}
 use Rattle.std.specs.Option.{option_map}
 use Rattle.std.proofs.lemmas.Bool.{eqb-true}
 use Rattle.frame_check.specs.declared.sizes.TheConstants.{INFO}
 use Rattle.shared_terms.specs.declared.role.Role.{Role}
 use Rattle.lapm_frames.specs.declared.kind.FrameKind.{FrameKind}
 use Rattle.lapm_frames.specs.declared.kind.FrameKind.TheVariants as kind
-use Rattle.lapm_frames.specs.Parts.{parts_of, frame_of, kinds, parts_of_kind, first_with, kind_with}
-use Rattle.lapm_frames.specs.Frame.{address_of, IsFrame, marked, spelled}
+use Rattle.lapm_frames.specs.Parts.{unnumbered, parts_of, frame_of, kinds, parts_of_kind, first_with, kind_with}
+use Rattle.lapm_frames.specs.Frame.{address_of, control_octet, IsFrame, marked, spelled, tail_octets}
 use Rattle.lapm_frames.specs.Controls.{Has}
-use Rattle.lapm_frames.proofs.Forms.{is_supervisory, allows}
-use Rattle.lapm_frames.proofs.Controls.{longest_of}
+use Rattle.lapm_frames.proofs.Forms.{is_supervisory, allows, is_informed}
+use Rattle.lapm_frames.proofs.Controls.{AreParts, longest_of}
 
 step : {P : Type 0} (b : Bool) (k kind : FrameKind) (rest : Option FrameKind) → cond b (Some k) rest ≡ Some kind → (b ≡ true → k ≡ kind → P)
     → (rest ≡ Some kind → P) → P
@@ -106,13 +107,28 @@ empty : (tail : List ℕ) → length tail ≤ 0 → tail ≡ []
 empty [] few = refl
 empty (x ∷ tail) few = absurd (omega (arith, few))
 
-bare-octets : (octet : ℕ) (d command pf : Bool) (tail : List ℕ) → length tail ≤ 0 → d ≡ command → (sender : Role) (dlci : ℕ)
-    → address_of command sender dlci ∷ marked octet pf ∷ tail ≡ address_of d sender dlci ∷ marked octet pf ∷ []
-bare-octets octet d command pf tail few s sender dlci = λ i. address_of (sym s i) sender dlci ∷ marked octet pf ∷ empty tail few i
+-- A kind whose parts, whatever its information, are those of a U frame with this octet and direction.
+unnumbers-by : (kind : FrameKind) (name : List ℕ) (octet : ℕ) (d command pf : Bool) (of : List ℕ → Option (List ℕ)) (tail : List ℕ)
+    → ((info : List ℕ) → parts_of (frame_of kind command 0 0 pf info) ≡ unnumbered name octet d pf (of info))
+    → ((d ≡ command → ⊥) → allows octet command ≡ false) → is_some (of []) ≡ is_informed octet
+    → (length tail ≤ longest_of octet → IfSome (of tail) (λ info. length info ≤ INFO) × (tail ≡ unwrap_or (of tail) []))
+    → IfSome (of []) (λ info. length info ≤ INFO) → IsUnnumberedBy kind octet command pf tail
+unnumbers-by kind name octet d command pf of tail parts refused informed fits none =
+    let own = parts [] in
+    let to : (parts_of (frame_of kind command 0 0 pf [])).command ≡ d = ap (λ p. p.command) own in
+    record {
+      refused = λ h. refused (λ e. h (to ∙ e));
+      longest = ap (λ p. if is_some p.info then INFO else 0) own ∙ ap (λ b. if b then INFO else 0) informed;
+      has = λ s. record { is_frame = subst AreParts (sym own) (tt, tt, none); command_is = s; control_is = ap control_octet own };
+      is_frame = λ few. subst AreParts (sym (parts tail)) (tt, tt, (fits few).0);
+      spells = λ s few sender dlci.
+          let same : d ≡ command = sym to ∙ s in
+          (λ i. address_of (sym same i) sender dlci ∷ marked octet pf ∷ (fits few).1 i)
+          ∙ ap (λ p. address_of p.command sender dlci ∷ control_octet p ∷ tail_octets p) (sym (parts tail));
+    }
 
-informed-octets : (octet : ℕ) (d command pf : Bool) (tail : List ℕ) → d ≡ command → (sender : Role) (dlci : ℕ)
-    → address_of command sender dlci ∷ marked octet pf ∷ tail ≡ address_of d sender dlci ∷ marked octet pf ∷ tail
-informed-octets octet d command pf tail s sender dlci = λ i. address_of (sym s i) sender dlci ∷ marked octet pf ∷ tail
+bare : (tail : List ℕ) → length tail ≤ 0 → Unit {0} × (tail ≡ [])
+bare tail few = (tt, empty tail few)
 
 unnumbers : (kind : FrameKind) (command pf : Bool) (tail : List ℕ) → (parts_of_kind kind).control % 4 ≡ 3
     → IsUnnumberedBy kind (parts_of_kind kind).control command pf tail
@@ -121,62 +137,22 @@ unnumbers kind.Rr command pf tail low = absurd (omega (arith, low))
 unnumbers kind.Rnr command pf tail low = absurd (omega (arith, low))
 unnumbers kind.Rej command pf tail low = absurd (omega (arith, low))
 unnumbers kind.Srej command pf tail low = absurd (omega (arith, low))
-unnumbers kind.Sabme command pf tail low = record {
-  refused = not-true command;
-  longest = refl;
-  has = λ s. record { is_frame = (tt, tt, tt); command_is = s; control_is = refl };
-  is_frame = λ few. (tt, tt, tt);
-  spells = λ s few. bare-octets 0x6f true command pf tail few s;
-}
-unnumbers kind.Disc command pf tail low = record {
-  refused = not-true command;
-  longest = refl;
-  has = λ s. record { is_frame = (tt, tt, tt); command_is = s; control_is = refl };
-  is_frame = λ few. (tt, tt, tt);
-  spells = λ s few. bare-octets 0x43 true command pf tail few s;
-}
-unnumbers kind.Ua command pf tail low = record {
-  refused = not-false command;
-  longest = refl;
-  has = λ s. record { is_frame = (tt, tt, tt); command_is = s; control_is = refl };
-  is_frame = λ few. (tt, tt, tt);
-  spells = λ s few. bare-octets 0x63 false command pf tail few s;
-}
-unnumbers kind.Dm command pf tail low = record {
-  refused = not-false command;
-  longest = refl;
-  has = λ s. record { is_frame = (tt, tt, tt); command_is = s; control_is = refl };
-  is_frame = λ few. (tt, tt, tt);
-  spells = λ s few. bare-octets 0x0f false command pf tail few s;
-}
-unnumbers kind.Frmr command pf tail low = record {
-  refused = not-false command;
-  longest = refl;
-  has = λ s. record { is_frame = (tt, tt, omega arith); command_is = s; control_is = refl };
-  is_frame = λ few. (tt, tt, few);
-  spells = λ s few. informed-octets 0x87 false command pf tail s;
-}
-unnumbers kind.Xid command pf tail low = record {
-  refused = λ h. absurd (h refl);
-  longest = refl;
-  has = λ s. record { is_frame = (tt, tt, omega arith); command_is = s; control_is = refl };
-  is_frame = λ few. (tt, tt, few);
-  spells = λ s few. informed-octets 0xaf command command pf tail s;
-}
-unnumbers kind.Test command pf tail low = record {
-  refused = λ h. absurd (h refl);
-  longest = refl;
-  has = λ s. record { is_frame = (tt, tt, omega arith); command_is = s; control_is = refl };
-  is_frame = λ few. (tt, tt, few);
-  spells = λ s few. informed-octets 0xe3 command command pf tail s;
-}
-unnumbers kind.Ui command pf tail low = record {
-  refused = λ h. absurd (h refl);
-  longest = refl;
-  has = λ s. record { is_frame = (tt, tt, omega arith); command_is = s; control_is = refl };
-  is_frame = λ few. (tt, tt, few);
-  spells = λ s few. informed-octets 0x03 command command pf tail s;
-}
+unnumbers kind.Sabme command pf tail low =
+    unnumbers-by kind.Sabme (codes "sabme") 0x6f true command pf (λ info. None) tail (λ info. refl) (not-true command) refl (bare tail) tt
+unnumbers kind.Disc command pf tail low =
+    unnumbers-by kind.Disc (codes "disc") 0x43 true command pf (λ info. None) tail (λ info. refl) (not-true command) refl (bare tail) tt
+unnumbers kind.Ua command pf tail low =
+    unnumbers-by kind.Ua (codes "ua") 0x63 false command pf (λ info. None) tail (λ info. refl) (not-false command) refl (bare tail) tt
+unnumbers kind.Dm command pf tail low =
+    unnumbers-by kind.Dm (codes "dm") 0x0f false command pf (λ info. None) tail (λ info. refl) (not-false command) refl (bare tail) tt
+unnumbers kind.Frmr command pf tail low =
+    unnumbers-by kind.Frmr (codes "frmr") 0x87 false command pf Some tail (λ info. refl) (not-false command) refl (λ few. (few, refl)) (omega arith)
+unnumbers kind.Xid command pf tail low =
+    unnumbers-by kind.Xid (codes "xid") 0xaf command command pf Some tail (λ info. refl) (λ h. absurd (h refl)) refl (λ few. (few, refl)) (omega arith)
+unnumbers kind.Test command pf tail low =
+    unnumbers-by kind.Test (codes "test") 0xe3 command command pf Some tail (λ info. refl) (λ h. absurd (h refl)) refl (λ few. (few, refl)) (omega arith)
+unnumbers kind.Ui command pf tail low =
+    unnumbers-by kind.Ui (codes "ui") 0x03 command command pf Some tail (λ info. refl) (λ h. absurd (h refl)) refl (λ few. (few, refl)) (omega arith)
 
 low-bits : (octet control : ℕ) (pf : Bool) → marked octet pf ≡ control → control % 4 ≡ 3 → octet % 4 ≡ 3
 low-bits octet control true e low = omega (arith, e, low)
