@@ -15,7 +15,7 @@ same-offset a b r i = rw (r, i) refl
 plus-nothing : (a : Offset) → plus a nothing ≡ plus nothing a
 plus-nothing a = same-offset (plus a nothing) (plus nothing a) (omega (arith, ints)) (omega (arith, ints))
 
-plus-assoc : (a b c : Offset) → plus a (plus b c) ≡ plus (plus a b) c
+pub plus-assoc : (a b c : Offset) → plus a (plus b c) ≡ plus (plus a b) c
 plus-assoc a b c = same-offset (plus a (plus b c)) (plus (plus a b) c) (omega (arith, ints)) (omega (arith, ints))
 
 pub sum_of-more : {X : Type 0} (f : X → Offset) (xs : List X) (x : X) → sum_of (map f (xs ++ x ∷ [])) ≡ plus (sum_of (map f xs)) (f x)

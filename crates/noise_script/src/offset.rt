@@ -18,7 +18,7 @@ pub struct Offset {
     pub im: i32,
 }
 
-const NOTHING: Offset = Offset { re: 0, im: 0 };
+pub(crate) const NOTHING: Offset = Offset { re: 0, im: 0 };
 
 /// Whether a place is one of `count` places from `from` on.
 pub(crate) fn covers(from: u64, count: u32, place: u64) -> bool
@@ -39,7 +39,7 @@ fn meets(from: u64, count: u32, start: u64, most: u32) -> bool
 }
 
 /// The sum of two offsets that are far from overflowing.
-fn plus(a: Offset, b: Offset) -> Offset
+pub(crate) fn plus(a: Offset, b: Offset) -> Offset
     requires a { IsWithin (2 ^ 30 - 1) a }
     requires b { IsWithin (2 ^ 30) b }
     ensures { result ≡ plus a b }
@@ -47,6 +47,18 @@ fn plus(a: Offset, b: Offset) -> Offset
     Offset {
         re: a.re + b.re,
         im: a.im + b.im,
+    }
+}
+
+/// What a hit line adds to each symbol that it covers.
+pub(crate) fn offset_of_hit(hit: &Hit) -> Offset
+    ensures re { result.re ≡ hit.now.re }
+    ensures im { result.im ≡ hit.now.im }
+    ensures small { IsWithin 32768 result }
+{
+    Offset {
+        re: i32::from(hit.re),
+        im: i32::from(hit.im),
     }
 }
 
@@ -58,10 +70,7 @@ fn hit_offset(hit: &Hit, sender: Role, symbol: u64) -> Offset
     if hit.role != sender || !covers(hit.from, hit.count, symbol) {
         return NOTHING;
     }
-    Offset {
-        re: i32::from(hit.re),
-        im: i32::from(hit.im),
-    }
+    offset_of_hit(hit)
 }
 
 /// A part of an offset from half a word, at most `amplitude` from zero.
@@ -73,7 +82,7 @@ fn drawn(amplitude: u16, half: u32) -> i32
 }
 
 /// An offset from a word: re by its low half, im by its high half.
-fn drawn_offset(amplitude: u16, word: u32) -> Offset
+pub(crate) fn drawn_offset(amplitude: u16, word: u32) -> Offset
     requires { amplitude < 32768 }
     ensures value { result ≡ drawn_offset amplitude word }
     ensures small { IsWithin 32767 result }

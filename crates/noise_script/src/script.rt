@@ -1,10 +1,12 @@
 // What the line and the ends' users do, by a script.
-ghost use Rattle.std.specs.Prelude.{◌≡◌, ◌≤◌, ◌<◌, ◌+◌, ℕ, true};
+ghost use Rattle.std.specs.Prelude.{◌≡◌, ◌≤◌, ◌<◌, ◌+◌, ℕ, length, true};
 ghost use Rattle.noise_script.specs.Script.{delay_of, offer_of, loses, offset_of, break_of, is_busy};
 ghost use Rattle.noise_script.specs.Breaks.{break_in};
 ghost use Rattle.noise_script.specs.Offsets.{IsWithin, nothing};
+ghost use Rattle.noise_script.specs.Batches.{at_place, AreWithin};
 ghost use Rattle.xid_params.specs.Offers.{IsAllowed};
 
+use crate::batch::{add_hits, add_noises, clear};
 use crate::offset::{covers, offset_of_hits, offset_of_noises, some_hit, some_noise, total};
 use crate::{Break, Generators, Hit, Loss, Noise, OFFSET_MOST, Offset, Pause};
 use shared_terms::Role;
@@ -141,6 +143,17 @@ impl Script {
             offset_of_hits(&self.hits, sender, symbol),
             offset_of_noises(&self.noises, generators, sender, symbol),
         )
+    }
+
+    /// What is added to symbols that a role sends, from one on, each its sum, as `offset` says it. It is quickest for the symbols
+    /// behind the last one that the generators were asked, and takes about as long at any other.
+    pub fn offsets(&self, generators: &mut Generators, sender: Role, from: u64, sums: &mut [Offset])
+        ensures value { (place : ℕ) → place < length sums.old → at_place sums.new place ≡ offset_of self.now sender (from + place) }
+        ensures small { AreWithin OFFSET_MOST sums.new }
+    {
+        clear(sums);
+        add_hits(&self.hits, sender, from, sums);
+        add_noises(&self.noises, generators, sender, from, sums);
     }
 
     /// Whether it is plain that nothing is added to any of so many symbols that a role sends from one on: no line of the role's symbols
