@@ -1,4 +1,4 @@
-// Offsets of many symbols at once: line by line, each adds to the symbols that it covers.
+// Offsets of many symbols at once, a sum for each: each line adds its offsets to the symbols that it covers.
 ghost use Rattle.std.specs.Prelude.{◌≡◌, ◌+◌, ◌-◌, ◌*◌, ◌^◌, ◌<◌, ◌≤◌, ℕ, length, map, min};
 ghost use Rattle.noise_script.specs.Offsets.{nothing, sum_of, IsWithin, hit_offset, noise_offset, IsQuiet, AreQuiet};
 ghost use Rattle.noise_script.specs.Batches.{at_place, Grow, AreWithin};
@@ -9,14 +9,14 @@ use crate::offset::{NOTHING, drawn_offset, offset_of_hit, plus};
 use crate::{Hit, Noise, Offset};
 use shared_terms::Role;
 
-/// The first of `len` symbols from `start` on that a line from `from` on may cover.
+/// The place, among `len` symbols from `start` on, of the first one that a line from `from` on covers.
 fn begin_of(from: u64, start: u64, len: usize) -> usize
     ensures { result ≡ min (from - start) len }
 {
     from.saturating_sub(start).min(len as u64) as usize
 }
 
-/// The symbol behind the last one that a line of `count` from `from` on covers.
+/// The place behind the last one that a line of `count` symbols from `from` on covers.
 fn end_of(from: u64, count: u32, start: u64, len: usize) -> usize
     ensures { result ≡ min (from + count - start) len }
 {
@@ -30,7 +30,7 @@ fn end_of(from: u64, count: u32, start: u64, len: usize) -> usize
         .min(len as u64) as usize
 }
 
-/// Takes away what stood in the sums.
+/// Makes each sum nothing.
 pub(crate) fn clear(sums: &mut [Offset])
     ensures long { length sums.new ≡ length sums.old }
     ensures each { (place : ℕ) → place < length sums.old → at_place sums.new place ≡ nothing }
@@ -40,7 +40,7 @@ pub(crate) fn clear(sums: &mut [Offset])
     }
 }
 
-/// Adds what a hit line adds to symbols, of which this is the first.
+/// Adds what a hit line adds to the symbols from `start` on.
 fn add_hit(hit: &Hit, sender: Role, start: u64, sums: &mut [Offset])
     requires { AreWithin (2 ^ 30 - 1) sums.old }
     ensures grow { Grow (λ place. hit_offset sender (start + place) hit.now) sums.old sums.new }
@@ -57,7 +57,7 @@ fn add_hit(hit: &Hit, sender: Role, start: u64, sums: &mut [Offset])
     }
 }
 
-/// Adds what a noise line adds to symbols, of which this is the first.
+/// Adds what a noise line adds to the symbols from `start` on.
 fn add_noise(
     noise: &Noise,
     generator: &mut Generator,
@@ -78,7 +78,7 @@ fn add_noise(
     if end <= begin {
         return;
     }
-    // a local of its own, so that it stays in registers
+    // a copy, so that it stays in registers
     let mut own = *generator;
     own.bring_to(noise.seed, sender, start.saturating_sub(noise.from) as u32);
     for place in begin..end {
@@ -88,7 +88,7 @@ fn add_noise(
     *generator = own;
 }
 
-/// Adds what hit lines add to symbols, of which this is the first.
+/// Adds what hit lines add to the symbols from `start` on.
 pub(crate) fn add_hits(hits: &[Hit], sender: Role, start: u64, sums: &mut [Offset])
     requires few { length hits.now ≤ HIT_LINES }
     requires clear { AreWithin 0 sums.old }
@@ -100,7 +100,7 @@ pub(crate) fn add_hits(hits: &[Hit], sender: Role, start: u64, sums: &mut [Offse
     }
 }
 
-/// Adds what noise lines add to symbols, of which this is the first, after the hit lines.
+/// Adds what noise lines add to them, where hit lines alone have added.
 pub(crate) fn add_noises(
     noises: &[Noise],
     generators: &mut Generators,

@@ -74,15 +74,6 @@ impl Generator {
         self.state = words.state();
         word
     }
-
-    /// A generator's word, counted from 0: one step away, if the word before it was asked last.
-    pub(crate) fn word_at(&mut self, seed: u64, sender: Role, place: u32) -> u32
-        requires { place < 2 ^ 32 - 1 }
-        ensures { result ≡ word_at seed (stream_of sender) place }
-    {
-        self.bring_to(seed, sender, place);
-        self.next_word()
-    }
 }
 
 /// The generators of a script's noise lines. Each is carried on from one symbol to the next, and skips ahead where another symbol

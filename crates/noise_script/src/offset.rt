@@ -1,11 +1,9 @@
 // Offsets of samples, as the lines of a script give them.
-ghost use Rattle.std.specs.Prelude.{◌≡◌, ◌+◌, ◌<◌, ◌≤◌, ◌*◌, ◌-◌, ◌^◌, ◌&&◌, length, map};
+ghost use Rattle.std.specs.Prelude.{◌≡◌, ◌-◌, ◌<◌, ◌^◌, ◌&&◌};
 ghost use Rattle.std.specs.List.{list_any};
-ghost use Rattle.noise_script.specs.Offsets.{plus, sum_of, IsWithin, drawn, drawn_offset, covers, meets, hit_offset, noise_offset, IsQuiet, AreQuiet};
+ghost use Rattle.noise_script.specs.Offsets.{plus, IsWithin, drawn, drawn_offset, covers, meets};
 ghost use Rattle.shared_terms.specs.Role.{same_role};
 
-use crate::generators::{Generator, Generators};
-use crate::limits::{HIT_LINES, NOISE_LINES, OFFSET_MOST};
 use crate::{Hit, Noise};
 use shared_terms::Role;
 
@@ -62,17 +60,6 @@ pub(crate) fn offset_of_hit(hit: &Hit) -> Offset
     }
 }
 
-/// What one hit line adds to a symbol.
-fn hit_offset(hit: &Hit, sender: Role, symbol: u64) -> Offset
-    ensures value { result ≡ hit_offset sender symbol hit.now }
-    ensures small { IsWithin 32768 result }
-{
-    if hit.role != sender || !covers(hit.from, hit.count, symbol) {
-        return NOTHING;
-    }
-    offset_of_hit(hit)
-}
-
 /// A part of an offset from half a word, at most `amplitude` from zero.
 fn drawn(amplitude: u16, half: u32) -> i32
     requires { half < 65536 }
@@ -91,62 +78,6 @@ pub(crate) fn drawn_offset(amplitude: u16, word: u32) -> Offset
         re: drawn(amplitude, word % 65536),
         im: drawn(amplitude, word / 65536),
     }
-}
-
-/// What one noise line adds to a symbol.
-fn noise_offset(noise: &Noise, generator: &mut Generator, sender: Role, symbol: u64) -> Offset
-    requires { IsQuiet noise.now }
-    ensures value { result ≡ noise_offset sender symbol noise.now }
-    ensures small { IsWithin 32767 result }
-{
-    if noise.role != sender || !covers(noise.from, noise.count, symbol) {
-        return NOTHING;
-    }
-    let word = generator.word_at(noise.seed, sender, (symbol - noise.from) as u32);
-    drawn_offset(noise.amplitude, word)
-}
-
-/// What hit lines add to a symbol, together.
-pub(crate) fn offset_of_hits(hits: &[Hit], sender: Role, symbol: u64) -> Offset
-    requires { length hits.now ≤ HIT_LINES }
-    ensures value { result ≡ sum_of (map (hit_offset sender symbol) hits.now) }
-    ensures small { IsWithin (32768 * HIT_LINES) result }
-{
-    let mut sum = NOTHING;
-    for hit in hits {
-        sum = plus(sum, hit_offset(hit, sender, symbol));
-    }
-    sum
-}
-
-/// What noise lines add to a symbol, together.
-pub(crate) fn offset_of_noises(
-    noises: &[Noise],
-    generators: &mut Generators,
-    sender: Role,
-    symbol: u64,
-) -> Offset
-    requires few { length noises.now ≤ NOISE_LINES }
-    requires quiet { AreQuiet noises.now }
-    ensures value { result ≡ sum_of (map (noise_offset sender symbol) noises.now) }
-    ensures small { IsWithin (32767 * NOISE_LINES) result }
-{
-    let mut sum = NOTHING;
-    for line in 0..noises.len() {
-        let generator = &mut generators.of_lines[line];
-        sum = plus(sum, noise_offset(&noises[line], generator, sender, symbol));
-    }
-    sum
-}
-
-/// What hit lines and noise lines add together.
-pub(crate) fn total(hits: Offset, noises: Offset) -> Offset
-    requires hits { IsWithin (32768 * HIT_LINES) hits }
-    requires noises { IsWithin (32767 * NOISE_LINES) noises }
-    ensures value { result ≡ plus hits noises }
-    ensures small { IsWithin OFFSET_MOST result }
-{
-    plus(hits, noises)
 }
 
 /// Whether a hit line reaches one of `count` symbols of a role.

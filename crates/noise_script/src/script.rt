@@ -7,7 +7,7 @@ ghost use Rattle.noise_script.specs.Batches.{at_place, AreWithin};
 ghost use Rattle.xid_params.specs.Offers.{IsAllowed};
 
 use crate::batch::{add_hits, add_noises, clear};
-use crate::offset::{covers, offset_of_hits, offset_of_noises, some_hit, some_noise, total};
+use crate::offset::{NOTHING, covers, some_hit, some_noise};
 use crate::{Break, Generators, Hit, Loss, Noise, OFFSET_MOST, Offset, Pause};
 use shared_terms::Role;
 use std::marker::Model;
@@ -139,14 +139,13 @@ impl Script {
         ensures value { result ≡ offset_of self.now sender symbol }
         ensures small { IsWithin OFFSET_MOST result }
     {
-        total(
-            offset_of_hits(&self.hits, sender, symbol),
-            offset_of_noises(&self.noises, generators, sender, symbol),
-        )
+        let mut sums = [NOTHING];
+        self.offsets(generators, sender, symbol, &mut sums);
+        sums[0]
     }
 
-    /// What is added to symbols that a role sends, from one on, each its sum, as `offset` says it. It is quickest for the symbols
-    /// behind the last one that the generators were asked, and takes about as long at any other.
+    /// What is added to each of the symbols that a role sends from one on, as many as there are sums: `offset` of each, whatever the
+    /// generators were asked before. Each line is looked at once, and not once a symbol.
     pub fn offsets(&self, generators: &mut Generators, sender: Role, from: u64, sums: &mut [Offset])
         ensures value { (place : ℕ) → place < length sums.old → at_place sums.new place ≡ offset_of self.now sender (from + place) }
         ensures small { AreWithin OFFSET_MOST sums.new }
@@ -157,7 +156,7 @@ impl Script {
     }
 
     /// Whether it is plain that nothing is added to any of so many symbols that a role sends from one on: no line of the role's symbols
-    /// reaches them. One look spares one for each of the symbols.
+    /// reaches them. Then no sums need to be made.
     pub fn is_still(&self, sender: Role, from: u64, count: u32) -> bool
         ensures { result ≡ true → (symbol : ℕ) → from ≤ symbol → symbol < from + count → offset_of self.now sender symbol ≡ nothing }
     {

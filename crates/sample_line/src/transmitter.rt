@@ -1,5 +1,5 @@
 // Labels become samples, and the script displaces them on their way.
-ghost use Rattle.std.specs.Prelude.{◌≡◌, ◌+◌, ◌<◌, ◌≤◌, ◌^◌, ◌%◌, ℕ, List, [], ◌∷◌, ◌++◌, length, map, take, slice_index};
+ghost use Rattle.std.specs.Prelude.{◌≡◌, ◌+◌, ◌<◌, ◌≤◌, ◌^◌, ◌%◌, ℕ, List, [], ◌++◌, length, map, take, slice_index};
 ghost use Rattle.frame_check.specs.declared.sizes.TheConstants.{SLOT};
 ghost use Rattle.symbol_map.specs.declared.sample.Sample.{Sample};
 ghost use Rattle.symbol_map.specs.Points.{point_of};
@@ -66,7 +66,7 @@ impl Transmitter {
         }
     }
 
-    /// The next samples as they arrive, so many, for these labels. The offsets of all of them are asked at once: line by line.
+    /// The next samples as they arrive, so many, for these labels. Their offsets are asked at once.
     fn send_each(
         &mut self,
         script: &Script,
