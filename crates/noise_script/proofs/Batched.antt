@@ -151,8 +151,8 @@ within-both a b x y p q = record {
 pub farther : (m n : ℕ) (sums : List Offset) → m ≤ n → AreWithin m sums → AreWithin n sums
 farther m n sums most w = record { each = λ place within. within-far m n (at_place sums place) most (w.each place within) }
 
-pub far-more : (a b c : ℕ) (by : ℕ → Offset) (old new : List Offset) → AreWithin a old → Grow by old new → ((place : ℕ) → IsWithin b (by place))
-    → a + b ≤ c → AreWithin c new
+pub far-more : (a b c : ℕ) (by : ℕ → Offset) (old new : List Offset) → AreWithin a old → Grow by old new
+    → ((place : ℕ) → IsWithin b (by place)) → a + b ≤ c → AreWithin c new
 far-more a b c by old new w g small most = record {
   each = λ place within.
       let low : place < length old = subst (λ n. place < n) g.long within in
@@ -162,7 +162,12 @@ far-more a b c by old new w g small most = record {
 
 within-if : (b : Bool) (m : ℕ) (x : Offset) → IsWithin m x → IsWithin m (if b then x else nothing)
 within-if true m x h = h
-within-if false m x h = record { re_low = omega (arith, ints); re_high = omega (arith, ints); im_low = omega (arith, ints); im_high = omega (arith, ints) }
+within-if false m x h = record {
+  re_low = omega (arith, ints);
+  re_high = omega (arith, ints);
+  im_low = omega (arith, ints);
+  im_high = omega (arith, ints);
+}
 
 pub hit-small : (hit : Hit) (offset : Offset) (sender : Role) → IsWithin 32768 offset → offset.re ≡ hit.re → offset.im ≡ hit.im
     → (symbol : ℕ) → IsWithin 32768 (hit_offset sender symbol hit)

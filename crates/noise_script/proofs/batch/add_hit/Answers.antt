@@ -9,7 +9,8 @@ pub returns-then-ne-clause-grow : goal.returns-then-ne-clause-grow
 returns-then-ne-clause-grow c =
     let hit = c.args.hit.now in
     let own : same_role hit.role c.args.sender ≡ false = search rules in
-    apart (same_role hit.role c.args.sender) hit.from hit.count c.args.start (λ place. record { re = hit.re; im = hit.im }) c.args.sums.now own
+    apart (same_role hit.role c.args.sender) hit.from hit.count c.args.start (λ place. record { re = hit.re; im = hit.im })
+    c.args.sums.now own
 
 pub loop-place-init : goal.loop-place-init
 loop-place-init c =
