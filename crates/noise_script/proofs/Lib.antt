@@ -13,3 +13,4 @@ pub mod Exists
 pub mod Noisy
 pub mod Generated
 mod Still
+pub mod Batched

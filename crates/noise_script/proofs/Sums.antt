@@ -1,5 +1,5 @@
 -- Sums of offsets, line by line.
-use Rattle.std.proofs.Common.{◌≡◌, ℕ, zero, suc, ◌+◌, ◌*◌, ◌≤◌, ◌<◌, pos, List, [], ◌∷◌, ◌++◌, length, take, map, get_or, refl, sym, ap}
+use Rattle.std.proofs.Common.{◌≡◌, ℕ, zero, suc, ◌+◌, ◌≤◌, ◌<◌, pos, List, [], ◌∷◌, ◌++◌, length, take, map, get_or, refl, ap}
 use Rattle.std.proofs.Common.{◌∙◌, arith}
 use Rattle.std.proofs.lemmas.Int.{ints}
 use Rattle.std.proofs.lemmas.List.{take_more}
@@ -15,7 +15,7 @@ same-offset a b r i = rw (r, i) refl
 plus-nothing : (a : Offset) → plus a nothing ≡ plus nothing a
 plus-nothing a = same-offset (plus a nothing) (plus nothing a) (omega (arith, ints)) (omega (arith, ints))
 
-plus-assoc : (a b c : Offset) → plus a (plus b c) ≡ plus (plus a b) c
+pub plus-assoc : (a b c : Offset) → plus a (plus b c) ≡ plus (plus a b) c
 plus-assoc a b c = same-offset (plus a (plus b c)) (plus (plus a b) c) (omega (arith, ints)) (omega (arith, ints))
 
 pub sum_of-more : {X : Type 0} (f : X → Offset) (xs : List X) (x : X) → sum_of (map f (xs ++ x ∷ [])) ≡ plus (sum_of (map f xs)) (f x)
@@ -25,14 +25,6 @@ sum_of-more f (y ∷ xs) x = ap (plus (f y)) (sum_of-more f xs x) ∙ plus-assoc
 pub sum_of-next : {X : Type 0} (f : X → Offset) (xs : List X) (i : ℕ) (d : X) → i < length xs
     → sum_of (map f (take (i + 1) xs)) ≡ plus (sum_of (map f (take i xs))) (f (get_or xs i d))
 sum_of-next f xs i d h = ap (λ ys. sum_of (map f ys)) (take_more xs i d h) ∙ sum_of-more f (take i xs) (get_or xs i d)
-
-pub within-more : (m i : ℕ) (a b : Offset) → IsWithin (m * i) a → IsWithin m b → IsWithin (m * (i + 1)) (plus a b)
-within-more m i a b p q = record {
-  re_low = omega (arith, ints, p.re_low, q.re_low);
-  re_high = omega (arith, ints, p.re_high, q.re_high);
-  im_low = omega (arith, ints, p.im_low, q.im_low);
-  im_high = omega (arith, ints, p.im_high, q.im_high);
-}
 
 pub within-far : (m n : ℕ) (a : Offset) → m ≤ n → IsWithin m a → IsWithin n a
 within-far m n a h p = record {
@@ -50,11 +42,6 @@ quiet-at (noise ∷ noises) (suc i) d q h = quiet-at noises i d q.1 (omega (arit
 pub quiet-more : (noises : List Noise) (noise : Noise) → AreQuiet noises → IsQuiet noise → AreQuiet (noises ++ noise ∷ [])
 quiet-more [] noise q h = (h, tt)
 quiet-more (x ∷ noises) noise q h = (q.0, quiet-more noises noise q.1 h)
-
--- one line more is added
-pub added : {X : Type 0} (f : X → Offset) (xs : List X) (i : ℕ) (d : X) (sum offset result : Offset) → i < length xs
-    → sum ≡ sum_of (map f (take i xs)) → offset ≡ f (get_or xs i d) → result ≡ plus sum offset → result ≡ sum_of (map f (take (i + 1) xs))
-added f xs i d sum offset result h s o r = r ∙ rw (s, o) (sym (sum_of-next f xs i d h))
 
 -- what stands for a line behind the last one
 abbrev pub no_hit : Hit

@@ -1,4 +1,5 @@
 pub mod Offsets
+pub mod Batches
 pub mod Breaks
 pub mod Script
 pub mod Lines

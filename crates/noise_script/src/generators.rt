@@ -1,5 +1,5 @@
 // The generators of noise lines, carried on from one word to the next.
-ghost use Rattle.std.specs.Prelude.{◌≡◌, ◌-◌, ◌<◌, ◌^◌};
+ghost use Rattle.std.specs.Prelude.{◌≡◌, ◌+◌, ◌-◌, ◌<◌, ◌^◌};
 ghost use Rattle.noise_script.specs.Offsets.{stream_of, generator_at, word_at};
 
 use crate::limits::NOISE_LINES;
@@ -49,7 +49,7 @@ impl Generator {
     }
 
     /// Puts it before the word at a place, unless it stands there.
-    fn bring_to(&mut self, seed: u64, sender: Role, place: u32)
+    pub(crate) fn bring_to(&mut self, seed: u64, sender: Role, place: u32)
         ensures seed { self.new.seed ≡ seed }
         ensures sender { self.new.sender ≡ sender }
         ensures place { self.new.place ≡ place }
@@ -61,24 +61,18 @@ impl Generator {
     }
 
     /// The next word.
-    fn next_word(&mut self) -> u32
+    pub(crate) fn next_word(&mut self) -> u32
         requires { self.old.place < 2 ^ 32 - 1 }
-        ensures { result ≡ word_at self.old.seed (stream_of self.old.sender) self.old.place }
+        ensures word { result ≡ word_at self.old.seed (stream_of self.old.sender) self.old.place }
+        ensures seed { self.new.seed ≡ self.old.seed }
+        ensures sender { self.new.sender ≡ self.old.sender }
+        ensures place { self.new.place ≡ self.old.place + 1 }
     {
         let mut words = Lcg64Xsh32::from_state(self.state, stream_of(self.sender));
         let word = words.next_word();
         self.place += 1;
         self.state = words.state();
         word
-    }
-
-    /// A generator's word, counted from 0: one step away, if the word before it was asked last.
-    pub(crate) fn word_at(&mut self, seed: u64, sender: Role, place: u32) -> u32
-        requires { place < 2 ^ 32 - 1 }
-        ensures { result ≡ word_at seed (stream_of sender) place }
-    {
-        self.bring_to(seed, sender, place);
-        self.next_word()
     }
 }
 

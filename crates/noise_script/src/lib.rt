@@ -5,6 +5,7 @@
 //! pause. [`read_script`] reads one from a text, or names the first faulty line and its [`Cause`].
 #![tactic(auto)]
 
+mod batch;
 mod draft;
 mod entry;
 mod fault;

@@ -1,11 +1,9 @@
 // Offsets of samples, as the lines of a script give them.
-ghost use Rattle.std.specs.Prelude.{◌≡◌, ◌+◌, ◌<◌, ◌≤◌, ◌*◌, ◌-◌, ◌^◌, ◌&&◌, length, map};
+ghost use Rattle.std.specs.Prelude.{◌≡◌, ◌-◌, ◌<◌, ◌^◌, ◌&&◌};
 ghost use Rattle.std.specs.List.{list_any};
-ghost use Rattle.noise_script.specs.Offsets.{plus, sum_of, IsWithin, drawn, drawn_offset, covers, meets, hit_offset, noise_offset, IsQuiet, AreQuiet};
+ghost use Rattle.noise_script.specs.Offsets.{plus, IsWithin, drawn, drawn_offset, covers, meets};
 ghost use Rattle.shared_terms.specs.Role.{same_role};
 
-use crate::generators::{Generator, Generators};
-use crate::limits::{HIT_LINES, NOISE_LINES, OFFSET_MOST};
 use crate::{Hit, Noise};
 use shared_terms::Role;
 
@@ -18,7 +16,7 @@ pub struct Offset {
     pub im: i32,
 }
 
-const NOTHING: Offset = Offset { re: 0, im: 0 };
+pub(crate) const NOTHING: Offset = Offset { re: 0, im: 0 };
 
 /// Whether a place is one of `count` places from `from` on.
 pub(crate) fn covers(from: u64, count: u32, place: u64) -> bool
@@ -39,7 +37,7 @@ fn meets(from: u64, count: u32, start: u64, most: u32) -> bool
 }
 
 /// The sum of two offsets that are far from overflowing.
-fn plus(a: Offset, b: Offset) -> Offset
+pub(crate) fn plus(a: Offset, b: Offset) -> Offset
     requires a { IsWithin (2 ^ 30 - 1) a }
     requires b { IsWithin (2 ^ 30) b }
     ensures { result ≡ plus a b }
@@ -50,14 +48,12 @@ fn plus(a: Offset, b: Offset) -> Offset
     }
 }
 
-/// What one hit line adds to a symbol.
-fn hit_offset(hit: &Hit, sender: Role, symbol: u64) -> Offset
-    ensures value { result ≡ hit_offset sender symbol hit.now }
+/// What a hit line adds to each symbol that it covers.
+pub(crate) fn offset_of_hit(hit: &Hit) -> Offset
+    ensures re { result.re ≡ hit.now.re }
+    ensures im { result.im ≡ hit.now.im }
     ensures small { IsWithin 32768 result }
 {
-    if hit.role != sender || !covers(hit.from, hit.count, symbol) {
-        return NOTHING;
-    }
     Offset {
         re: i32::from(hit.re),
         im: i32::from(hit.im),
@@ -73,7 +69,7 @@ fn drawn(amplitude: u16, half: u32) -> i32
 }
 
 /// An offset from a word: re by its low half, im by its high half.
-fn drawn_offset(amplitude: u16, word: u32) -> Offset
+pub(crate) fn drawn_offset(amplitude: u16, word: u32) -> Offset
     requires { amplitude < 32768 }
     ensures value { result ≡ drawn_offset amplitude word }
     ensures small { IsWithin 32767 result }
@@ -82,62 +78,6 @@ fn drawn_offset(amplitude: u16, word: u32) -> Offset
         re: drawn(amplitude, word % 65536),
         im: drawn(amplitude, word / 65536),
     }
-}
-
-/// What one noise line adds to a symbol.
-fn noise_offset(noise: &Noise, generator: &mut Generator, sender: Role, symbol: u64) -> Offset
-    requires { IsQuiet noise.now }
-    ensures value { result ≡ noise_offset sender symbol noise.now }
-    ensures small { IsWithin 32767 result }
-{
-    if noise.role != sender || !covers(noise.from, noise.count, symbol) {
-        return NOTHING;
-    }
-    let word = generator.word_at(noise.seed, sender, (symbol - noise.from) as u32);
-    drawn_offset(noise.amplitude, word)
-}
-
-/// What hit lines add to a symbol, together.
-pub(crate) fn offset_of_hits(hits: &[Hit], sender: Role, symbol: u64) -> Offset
-    requires { length hits.now ≤ HIT_LINES }
-    ensures value { result ≡ sum_of (map (hit_offset sender symbol) hits.now) }
-    ensures small { IsWithin (32768 * HIT_LINES) result }
-{
-    let mut sum = NOTHING;
-    for hit in hits {
-        sum = plus(sum, hit_offset(hit, sender, symbol));
-    }
-    sum
-}
-
-/// What noise lines add to a symbol, together.
-pub(crate) fn offset_of_noises(
-    noises: &[Noise],
-    generators: &mut Generators,
-    sender: Role,
-    symbol: u64,
-) -> Offset
-    requires few { length noises.now ≤ NOISE_LINES }
-    requires quiet { AreQuiet noises.now }
-    ensures value { result ≡ sum_of (map (noise_offset sender symbol) noises.now) }
-    ensures small { IsWithin (32767 * NOISE_LINES) result }
-{
-    let mut sum = NOTHING;
-    for line in 0..noises.len() {
-        let generator = &mut generators.of_lines[line];
-        sum = plus(sum, noise_offset(&noises[line], generator, sender, symbol));
-    }
-    sum
-}
-
-/// What hit lines and noise lines add together.
-pub(crate) fn total(hits: Offset, noises: Offset) -> Offset
-    requires hits { IsWithin (32768 * HIT_LINES) hits }
-    requires noises { IsWithin (32767 * NOISE_LINES) noises }
-    ensures value { result ≡ plus hits noises }
-    ensures small { IsWithin OFFSET_MOST result }
-{
-    plus(hits, noises)
 }
 
 /// Whether a hit line reaches one of `count` symbols of a role.

@@ -1,11 +1,13 @@
 // What the line and the ends' users do, by a script.
-ghost use Rattle.std.specs.Prelude.{◌≡◌, ◌≤◌, ◌<◌, ◌+◌, ℕ, true};
+ghost use Rattle.std.specs.Prelude.{◌≡◌, ◌≤◌, ◌<◌, ◌+◌, ℕ, length, true};
 ghost use Rattle.noise_script.specs.Script.{delay_of, offer_of, loses, offset_of, break_of, is_busy};
 ghost use Rattle.noise_script.specs.Breaks.{break_in};
 ghost use Rattle.noise_script.specs.Offsets.{IsWithin, nothing};
+ghost use Rattle.noise_script.specs.Batches.{at_place, AreWithin};
 ghost use Rattle.xid_params.specs.Offers.{IsAllowed};
 
-use crate::offset::{covers, offset_of_hits, offset_of_noises, some_hit, some_noise, total};
+use crate::batch::{add_hits, add_noises, clear};
+use crate::offset::{NOTHING, covers, some_hit, some_noise};
 use crate::{Break, Generators, Hit, Loss, Noise, OFFSET_MOST, Offset, Pause};
 use shared_terms::Role;
 use std::marker::Model;
@@ -137,14 +139,24 @@ impl Script {
         ensures value { result ≡ offset_of self.now sender symbol }
         ensures small { IsWithin OFFSET_MOST result }
     {
-        total(
-            offset_of_hits(&self.hits, sender, symbol),
-            offset_of_noises(&self.noises, generators, sender, symbol),
-        )
+        let mut sums = [NOTHING];
+        self.offsets(generators, sender, symbol, &mut sums);
+        sums[0]
+    }
+
+    /// What is added to each of the symbols that a role sends from one on, as many as there are sums: `offset` of each, whatever the
+    /// generators were asked before. Each line is looked at once, and not once a symbol.
+    pub fn offsets(&self, generators: &mut Generators, sender: Role, from: u64, sums: &mut [Offset])
+        ensures value { (place : ℕ) → place < length sums.old → at_place sums.new place ≡ offset_of self.now sender (from + place) }
+        ensures small { AreWithin OFFSET_MOST sums.new }
+    {
+        clear(sums);
+        add_hits(&self.hits, sender, from, sums);
+        add_noises(&self.noises, generators, sender, from, sums);
     }
 
     /// Whether it is plain that nothing is added to any of so many symbols that a role sends from one on: no line of the role's symbols
-    /// reaches them. One look spares one for each of the symbols.
+    /// reaches them. Then no sums need to be made.
     pub fn is_still(&self, sender: Role, from: u64, count: u32) -> bool
         ensures { result ≡ true → (symbol : ℕ) → from ≤ symbol → symbol < from + count → offset_of self.now sender symbol ≡ nothing }
     {

@@ -9,12 +9,13 @@ use Rattle.symbol_map.specs.declared.sample.Sample.{Sample}
 use Rattle.symbol_map.specs.Finite.{each_below, at_each}
 use Rattle.symbol_map.specs.Points.{point_of}
 use Rattle.shared_terms.specs.declared.role.Role.{Role}
+use Rattle.noise_script.specs.declared.offset.Offset.{Offset}
 use Rattle.noise_script.specs.Offsets.{nothing}
 use Rattle.noise_script.specs.Script.{ScriptValue, offset_of}
 use Rattle.sample_line.specs.Recorded.{displaced, displaced_from}
 use Rattle.sample_line.specs.declared.transmitter.Transmitter.{Transmitter}
 use Rattle.sample_line.specs.Transmits.{Transmits}
-use Rattle.sample_line.proofs.Standing.{same-sample}
+use Rattle.sample_line.proofs.Standing.{same-sample, displaced-snoc, points-part}
 
 -- the labels that were unpacked are those of the slot
 pub unpacked : (slot labels : List ℕ) (at count : ℕ) → at + count ≤ length slot → count ≤ length labels
@@ -94,35 +95,62 @@ displaced-still script sender symbol (label ∷ labels) small still =
     ∙ ap (λ point. point ∷ after) (point-stays label (small 0 (omega arith)))
     ∙ ap (λ points. point_of label ∷ points) rest
 
+-- samples that are displaced points are what a transmitter sends
+pub sent : (old new : Transmitter) (script : ScriptValue) (points past samples : List Sample) (labels : List ℕ) (count : ℕ)
+    → count ≤ length labels → new.sender ≡ old.sender → new.symbol ≡ old.symbol + count
+    → samples ≡ displaced_from script old.sender old.symbol (map point_of (take count labels))
+    → Transmits old script points past → Transmits new script (points ++ map point_of (take count labels)) (past ++ samples)
+sent old new script points past samples labels count room same next are h = record {
+  counted = omega (
+    arith,
+    next,
+    h.counted,
+    length-take-le count labels room,
+    length-append points (map point_of (take count labels)),
+    length-map (take count labels) point_of,
+  );
+  samples_are = ap (λ xs. past ++ xs) are ∙ ap (λ xs. xs ++ displaced_from script old.sender old.symbol more) h.samples_are
+      ∙ ap (λ n. displaced_from script old.sender 0 points ++ displaced_from script old.sender n more) place
+      ∙ sym (displaced-append script old.sender 0 points more) ∙ ap (λ r. displaced_from script r 0 (points ++ more)) (sym same);
+}
+  where
+    more : List Sample
+    more = map point_of (take count labels)
+
+    place : old.symbol ≡ 0 + length points
+    place = omega (arith, h.counted)
+
 pub still-sent : (old new : Transmitter) (script : ScriptValue) (points past samples : List Sample) (labels : List ℕ) (count : ℕ)
     → count ≤ length labels → ((k : ℕ) → k < count → get_or labels k 0 < 32)
     → ((n : ℕ) → old.symbol ≤ n → n < old.symbol + count → offset_of script old.sender n ≡ nothing)
     → new.sender ≡ old.sender → new.symbol ≡ old.symbol + count → samples ≡ map point_of (take count labels)
     → Transmits old script points past → Transmits new script (points ++ map point_of (take count labels)) (past ++ samples)
-still-sent old new script points past samples labels count room small still same next are h = record {
-  counted = omega (
-    arith,
-    next,
-    h.counted,
-    long,
-    length-append points (map point_of (take count labels)),
-    length-map (take count labels) point_of,
-  );
-  samples_are = ap (λ xs. past ++ xs) are ∙ ap (λ xs. xs ++ map point_of (take count labels)) h.samples_are
-      ∙ ap (λ xs. displaced_from script old.sender 0 points ++ xs) (sym displaced_is)
-      ∙ sym (displaced-append script old.sender 0 points (map point_of (take count labels)))
-      ∙ ap (λ r. displaced_from script r 0 (points ++ map point_of (take count labels))) (sym same);
-}
+still-sent old new script points past samples labels count room small still same next are =
+    sent old new script points past samples labels count room same next (are ∙ sym unmoved)
   where
     long : length (take count labels) ≡ count
     long = length-take-le count labels room
 
-    place : old.symbol ≡ 0 + length points
-    place = omega (arith, h.counted)
-
-    displaced_is : displaced_from script old.sender (0 + length points) (map point_of (take count labels))
-        ≡ map point_of (take count labels)
-    displaced_is = displaced-still script old.sender (0 + length points) (take count labels)
+    unmoved : displaced_from script old.sender old.symbol (map point_of (take count labels)) ≡ map point_of (take count labels)
+    unmoved = displaced-still script old.sender old.symbol (take count labels)
         (λ k low. let few : k < count = omega (arith, low, long) in
         subst (λ x. x < 32) (sym (get_or-take count labels k 0 few)) (small k few))
-        (λ n low high. still n (omega (arith, low, place)) (omega (arith, high, place, long)))
+        (λ n low high. still n low (omega (arith, high, long)))
+
+-- one symbol more is displaced
+pub displaced-more : (script : ScriptValue) (sender : Role) (symbol : ℕ) (labels : List ℕ) (k label : ℕ) (offset : Offset)
+    (sample : Sample) → k < length labels → label ≡ get_or labels k 0 → offset ≡ offset_of script sender (symbol + k)
+    → sample ≡ displaced offset (point_of label)
+    → displaced_from script sender symbol (map point_of (take k labels)) ++ sample ∷ []
+    ≡ displaced_from script sender symbol (map point_of (take (k + 1) labels))
+displaced-more script sender symbol labels k label offset sample low l o s =
+    ap (λ x. displaced_from script sender symbol points ++ x ∷ [])
+    (s ∙ ap (λ x. displaced x (point_of label)) (o ∙ ap (λ n. offset_of script sender (symbol + n)) (sym long)))
+    ∙ sym (displaced-snoc script sender symbol points (point_of label))
+    ∙ ap (displaced_from script sender symbol) (points-part [] labels k label low l)
+  where
+    points : List Sample
+    points = map point_of (take k labels)
+
+    long : length (map point_of (take k labels)) ≡ k
+    long = length-map (take k labels) point_of ∙ length-take-le k labels (omega (arith, low))

@@ -35,14 +35,6 @@ displaced-snoc script sender symbol (first ∷ points) point =
     (displaced-snoc script sender (symbol + 1) points point
     ∙ ap (λ n. displaced_from script sender (symbol + 1) points ++ displaced (offset_of script sender n) point ∷ []) e)
 
-pub displaced-behind : (script : ScriptValue) (sender : Role) (symbol : ℕ) (points : List Sample) (point : Sample) → symbol ≡ length points
-    → displaced_from script sender 0 points
-    ++ displaced (offset_of script sender symbol) point ∷ [] ≡ displaced_from script sender 0 (points ++ point ∷ [])
-displaced-behind script sender symbol points point e =
-    let n : symbol ≡ 0 + length points = omega (arith, e) in
-    ap (λ m. displaced_from script sender 0 points ++ displaced (offset_of script sender m) point ∷ []) n
-    ∙ sym (displaced-snoc script sender 0 points point)
-
 pub same-saturated : (result a b : ℤ) → result ≡ saturated a → a ≡ b → result ≡ saturated b
 same-saturated result a b e same = e ∙ ap saturated same
 

@@ -1,5 +1,5 @@
 // Labels become samples, and the script displaces them on their way.
-ghost use Rattle.std.specs.Prelude.{◌≡◌, ◌+◌, ◌<◌, ◌≤◌, ◌^◌, ◌%◌, ℕ, List, [], ◌∷◌, ◌++◌, length, map, take, slice_index};
+ghost use Rattle.std.specs.Prelude.{◌≡◌, ◌+◌, ◌<◌, ◌≤◌, ◌^◌, ◌%◌, ℕ, List, [], ◌++◌, length, map, take, slice_index};
 ghost use Rattle.frame_check.specs.declared.sizes.TheConstants.{SLOT};
 ghost use Rattle.symbol_map.specs.declared.sample.Sample.{Sample};
 ghost use Rattle.symbol_map.specs.Points.{point_of};
@@ -66,21 +66,7 @@ impl Transmitter {
         }
     }
 
-    /// The next sample as it arrives, for the next label.
-    pub fn send(&mut self, script: &Script, label: u8) -> Sample
-        requires label { label < 32 }
-        requires symbol { self.old.symbol < 2 ^ 60 }
-        ensures stands { (points samples : List Sample) → Transmits self.old script.now points samples
-            → Transmits self.new script.now (points ++ point_of label ∷ []) (samples ++ result ∷ []) }
-        ensures sender { self.new.sender ≡ self.old.sender }
-        ensures symbol { self.new.symbol ≡ self.old.symbol + 1 }
-    {
-        let offset = script.offset(&mut self.generators, self.sender, self.symbol);
-        self.symbol += 1;
-        displaced(offset, point(label))
-    }
-
-    /// The next samples as they arrive, so many, for these labels.
+    /// The next samples as they arrive, so many, for these labels. Their offsets are asked at once.
     fn send_each(
         &mut self,
         script: &Script,
@@ -96,9 +82,13 @@ impl Transmitter {
         ensures sender { self.new.sender ≡ self.old.sender }
         ensures symbol { self.new.symbol ≡ self.old.symbol + count }
     {
+        let mut room = [Offset { re: 0, im: 0 }; BATCH];
+        let sums = &mut room[..count];
+        script.offsets(&mut self.generators, self.sender, self.symbol, sums);
         for place in 0..count {
-            samples[place] = self.send(script, labels[place]);
+            samples[place] = displaced(sums[place], point(labels[place]));
         }
+        self.symbol += count as u64;
     }
 
     /// The same where no line of the script reaches one of them: they are the labels' points.

@@ -70,12 +70,45 @@ enum Says {
     Offers(Offer, Offer),
     /// What is added to a symbol that a role sends.
     Offset(Role, u64, i32, i32),
+    /// What is added to the symbols that a role sends from one on.
+    Offsets(Role, u64, &'static [(i32, i32)]),
     /// Whether the slot of a role's turn is lost.
     Loses(Role, u64, bool),
     /// A role's break of an index.
     Break(Role, usize, Option<(u64, u8)>),
     /// Whether a role's user asks for a pause in a turn.
     Busy(Role, u64, bool),
+}
+
+/// Whether these are the sums of a batch.
+fn are_sums(batch: &[Offset], sums: &[(i32, i32)]) -> bool {
+    batch.len() == sums.len()
+        && batch
+            .iter()
+            .zip(sums)
+            .all(|(&offset, &(re, im))| offset == Offset { re, im })
+}
+
+/// Whether these are the offsets of the symbols that a role sends from one on: one by one, and in two batches, wherever the first one ends.
+fn are_offsets(script: &Script, sender: Role, from: u64, sums: &[(i32, i32)]) -> bool {
+    let count = sums.len();
+    if count > 16 {
+        return false;
+    }
+    let mut generators = Generators::new();
+    for (place, &(re, im)) in sums.iter().enumerate() {
+        let symbol = from.wrapping_add(place as u64);
+        if script.offset(&mut generators, sender, symbol) != (Offset { re, im }) {
+            return false;
+        }
+        let mut batch = [Offset { re: 1, im: 1 }; 16];
+        script.offsets(&mut generators, sender, from, &mut batch[..place]);
+        script.offsets(&mut generators, sender, symbol, &mut batch[place..count]);
+        if !are_sums(&batch[..count], sums) {
+            return false;
+        }
+    }
+    true
 }
 
 /// Whether a script says this.
@@ -92,6 +125,7 @@ fn is_said(script: &Script, says: &Says) -> bool {
         Says::Offset(sender, symbol, re, im) => {
             script.offset(&mut Generators::new(), sender, symbol) == Offset { re, im }
         }
+        Says::Offsets(sender, from, sums) => are_offsets(script, sender, from, sums),
         Says::Loses(sender, turn, lost) => script.loses(sender, turn) == lost,
         Says::Break(role, index, asked) => script.break_line(role, index) == asked,
         Says::Busy(role, turn, busy) => script.busy(role, turn) == busy,
@@ -193,6 +227,46 @@ const SCRIPTS: &[(&str, &[u8], &[Says])] = &[
             Says::Offset(ORIGINATOR, 2, 0, 0),
             Says::Offset(ANSWERER, 0, 0, 0),
         ],
+    ),
+    (
+        "two noises and a hit that begin and end within a batch",
+        b"noise orig 3 4 500 42\nnoise orig 5 6 300 7\nhit orig 4 5 1000 -2000\nnoise answ 0 20 500 1",
+        &[
+            Says::Offsets(
+                ORIGINATOR,
+                0,
+                &[
+                    (0, 0),
+                    (0, 0),
+                    (0, 0),
+                    (195, -233),
+                    (911, -1972),
+                    (367, -1603),
+                    (483, -2035),
+                    (1246, -1771),
+                    (1184, -2228),
+                    (212, 226),
+                    (120, -11),
+                    (0, 0),
+                ],
+            ),
+            Says::Offsets(
+                ORIGINATOR,
+                6,
+                &[(483, -2035), (1246, -1771), (1184, -2228), (212, 226)],
+            ),
+            Says::Offsets(ANSWERER, 18, &[(-228, 256), (36, 369), (0, 0)]),
+            Says::Offsets(ORIGINATOR, 1_152_921_504_606_846_974, &[(0, 0), (0, 0)]),
+        ],
+    ),
+    (
+        "the last symbols of the last noise that there may be",
+        b"noise orig 1099511627775 4294967295 32767 18446744073709551615",
+        &[Says::Offsets(
+            ORIGINATOR,
+            1_103_806_595_067,
+            &[(17308, -6434), (27229, 18691), (25976, 13928), (0, 0)],
+        )],
     ),
 ];
 

@@ -1,0 +1,209 @@
+-- Sums of a batch to which lines add their parts, one by one.
+use Rattle.std.proofs.Common.{◌≡◌, ◌∙◌, ℕ, ◌+◌, ◌-◌, ◌<◌, ◌≤◌, ◌&&◌, inl, inr, min, Bool, true, false, if◌then◌else◌, List, length, take}
+use Rattle.std.proofs.Common.{map, get_or, set, refl, sym, ap, subst, arith, length-set}
+use Rattle.std.proofs.lemmas.Int.{ints}
+use Rattle.std.proofs.lemmas.Bool.{cases_lt}
+use Rattle.std.proofs.lemmas.Bool.Decides.{nat_tests}
+use Rattle.std.proofs.lemmas.Grind.{common_steps}
+use Rattle.shared_terms.specs.declared.role.Role.{Role}
+use Rattle.shared_terms.specs.declared.role.Role.TheVariants.{Originator, Answerer}
+use Rattle.shared_terms.specs.Role.{same_role}
+use Rattle.noise_script.specs.declared.entry.Hit.{Hit}
+use Rattle.noise_script.specs.declared.entry.Noise.{Noise}
+use Rattle.noise_script.specs.declared.offset.Offset.{Offset}
+use Rattle.noise_script.specs.Offsets.{plus, sum_of, nothing, IsWithin, IsQuiet, covers, hit_offset, noise_offset, drawn_offset, word_at}
+use Rattle.noise_script.specs.Offsets.{stream_of}
+use Rattle.noise_script.specs.Batches.{at_place, Grow, AreWithin}
+use Rattle.noise_script.proofs.Sums.{same-offset, sum_of-next, plus-assoc, within-far}
+
+nothing-more : (a : Offset) → plus a nothing ≡ a
+nothing-more a = same-offset (plus a nothing) a (omega (arith, ints)) (omega (arith, ints))
+
+-- the sums below a place have grown
+pub record GrowUpTo (by : ℕ → Offset) (end : ℕ) (old new : List Offset) : Type 0 where
+  pub long : length new ≡ length old
+  pub below : (place : ℕ) → place < length old → place < end → at_place new place ≡ plus (at_place old place) (by place)
+  pub above : (place : ℕ) → end ≤ place → at_place new place ≡ at_place old place
+
+at-set : (sums : List Offset) (n : ℕ) (value : Offset) → n < length sums → at_place (set sums n value) n ≡ value
+at-set sums n value low = grind (arith, common_steps)
+
+not-at-set : (sums : List Offset) (n place : ℕ) (value : Offset) → (place ≡ n → ⊥) → at_place (set sums n value) place ≡ at_place sums place
+not-at-set sums n place value apart = grind (arith, common_steps)
+
+pub nothing-at : (sums : List Offset) (end : ℕ) → end < length sums → ((place : ℕ) → place < end → at_place sums place ≡ nothing)
+    → (place : ℕ) → place < end + 1 → at_place (set sums end nothing) place ≡ nothing
+nothing-at sums end low below place under = elim (cases_lt place end) [
+  | inl less ↦ not-at-set sums end place nothing (λ e. omega (arith, e, less)) ∙ below place less
+  | inr more ↦
+      let here : place ≡ end = omega (arith, more, under) in
+      subst (λ n. at_place (set sums end nothing) n ≡ nothing) (sym here) (at-set sums end nothing low)
+]
+
+grown-more : (by : ℕ → Offset) (end : ℕ) (old new : List Offset) (value : Offset) → GrowUpTo by end old new → end < length old
+    → value ≡ plus (at_place new end) (by end) → GrowUpTo by (end + 1) old (set new end value)
+grown-more by end old new value g low sum = record {
+  long = length-set new end value ∙ g.long;
+  below = λ place within under. elim (cases_lt place end) [
+    | inl less ↦ not-at-set new end place value (λ e. omega (arith, e, less)) ∙ g.below place within less
+    | inr more ↦
+        let here : place ≡ end = omega (arith, more, under) in
+        subst (λ n. at_place (set new end value) n ≡ plus (at_place old n) (by n)) (sym here)
+        (at-set new end value (omega (arith, low, g.long)) ∙ sum ∙ ap (λ a. plus a (by end)) (g.above end (omega arith)))
+  ];
+  above = λ place high. not-at-set new end place value (λ e. omega (arith, e, high)) ∙ g.above place (omega (arith, high));
+}
+
+-- the places that a line covers
+uncovered-before : (from count start len place : ℕ) → place < min (from - start) len → covers from count (start + place) ≡ false
+uncovered-before from count start len place low = grind (arith, nat_tests)
+
+uncovered-behind : (from count start len place : ℕ) → place < len → min (from + count - start) len ≤ place
+    → covers from count (start + place) ≡ false
+uncovered-behind from count start len place within high = grind (arith, nat_tests)
+
+covered : (from count start len place : ℕ) → min (from - start) len ≤ place → place < min (from + count - start) len
+    → covers from count (start + place) ≡ true
+covered from count start len place low high = grind (arith, nat_tests)
+
+neither : (own b : Bool) (x : Offset) → b ≡ false → (if own && b then x else nothing) ≡ nothing
+neither true false x e = refl
+neither false b x e = refl
+neither true true x e = absurd (cc)
+
+other : (own b : Bool) (x : Offset) → own ≡ false → (if own && b then x else nothing) ≡ nothing
+other true b x e = absurd (cc)
+other false b x e = refl
+
+both : (own b : Bool) (x : Offset) → own ≡ true → b ≡ true → (if own && b then x else nothing) ≡ x
+both true true x o e = refl
+both true false x o e = absurd (cc)
+both false b x o e = absurd (cc)
+
+-- what a line adds to the places of a batch
+module _ (own : Bool) (from count start : ℕ) (x : ℕ → Offset) (old : List Offset) where
+  abbrev pub part : ℕ → Offset
+  part place = if own && covers from count (start + place) then x place else nothing
+
+  -- nothing where it says of another role
+  pub apart : own ≡ false → Grow part old old
+  apart o = record {
+    long = refl;
+    each = λ place within. sym (ap (plus (at_place old place)) (other own (covers from count (start + place)) (x place) o)
+        ∙ nothing-more (at_place old place));
+  }
+
+  -- nor before its first place
+  pub begins : (begin : ℕ) → begin ≡ min (from - start) (length old) → GrowUpTo part begin old old
+  begins begin is = record {
+    long = refl;
+    below = λ place within low. sym (ap (plus (at_place old place)) (neither own (covers from count (start + place)) (x place)
+        (uncovered-before from count start (length old) place (subst (λ n. place < n) is low)))
+        ∙ nothing-more (at_place old place));
+    above = λ place high. refl;
+  }
+
+  pub goes-on : (begin end place : ℕ) (new : List Offset) (value offset : Offset) → begin ≡ min (from - start) (length old)
+      → end ≡ min (from + count - start) (length old) → own ≡ true → begin ≤ place → place < end → GrowUpTo part place old new
+      → offset ≡ x place → value ≡ plus (at_place new place) offset → GrowUpTo part (place + 1) old (set new place value)
+  goes-on begin end place new value offset b e o low high g is sum =
+      let here = both own (covers from count (start + place)) (x place) o
+      (covered from count start (length old) place (subst (λ n. n ≤ place) b low) (subst (λ n. place < n) e high)) in
+      grown-more part place old new value g (omega (arith, e, high)) (sum ∙ ap (plus (at_place new place)) (is ∙ sym here))
+
+  -- nor behind its last
+  pub ends : (end place : ℕ) (new : List Offset) → end ≡ min (from + count - start) (length old) → end ≤ place → GrowUpTo part place old new
+      → Grow part old new
+  ends end place new is past g = record {
+    long = g.long;
+    each = λ k within. elim (cases_lt k place) [
+      | inl low ↦ g.below k within low
+      | inr high ↦ g.above k high ∙ sym (ap (plus (at_place old k)) (neither own (covers from count (start + k)) (x k)
+          (uncovered-behind from count start (length old) k within (omega (arith, is, past, high))))
+          ∙ nothing-more (at_place old k))
+    ];
+  }
+
+-- one line more
+pub no-line : {X : Type 0} (by : ℕ → X → Offset) (lines : List X) (sums : List Offset)
+    → Grow (λ place. sum_of (map (by place) (take 0 lines))) sums sums
+no-line by lines sums = record { long = refl; each = λ place within. sym (nothing-more (at_place sums place)) }
+
+pub line-more : {X : Type 0} (by : ℕ → X → Offset) (lines : List X) (i : ℕ) (d : X) (first old new : List Offset) → i < length lines
+    → Grow (λ place. sum_of (map (by place) (take i lines))) first old → Grow (λ place. by place (get_or lines i d)) old new
+    → Grow (λ place. sum_of (map (by place) (take (i + 1) lines))) first new
+line-more by lines i d first old new low g h = record {
+  long = h.long ∙ g.long;
+  each = λ place within. h.each place (subst (λ n. place < n) (sym g.long) within)
+      ∙ ap (λ a. plus a (by place (get_or lines i d))) (g.each place within)
+      ∙ sym (plus-assoc (at_place first place) (sum_of (map (by place) (take i lines))) (by place (get_or lines i d)))
+      ∙ ap (plus (at_place first place)) (sym (sum_of-next (by place) lines i d low));
+}
+
+within-both : (a b : ℕ) (x y : Offset) → IsWithin a x → IsWithin b y → IsWithin (a + b) (plus x y)
+within-both a b x y p q = record {
+  re_low = omega (arith, ints, p.re_low, q.re_low);
+  re_high = omega (arith, ints, p.re_high, q.re_high);
+  im_low = omega (arith, ints, p.im_low, q.im_low);
+  im_high = omega (arith, ints, p.im_high, q.im_high);
+}
+
+pub farther : (m n : ℕ) (sums : List Offset) → m ≤ n → AreWithin m sums → AreWithin n sums
+farther m n sums most w = record { each = λ place within. within-far m n (at_place sums place) most (w.each place within) }
+
+pub far-more : (a b c : ℕ) (by : ℕ → Offset) (old new : List Offset) → AreWithin a old → Grow by old new
+    → ((place : ℕ) → IsWithin b (by place)) → a + b ≤ c → AreWithin c new
+far-more a b c by old new w g small most = record {
+  each = λ place within.
+      let low : place < length old = subst (λ n. place < n) g.long within in
+      subst (IsWithin c) (sym (g.each place low))
+      (within-far (a + b) c _ most (within-both a b (at_place old place) (by place) (w.each place low) (small place)));
+}
+
+within-if : (b : Bool) (m : ℕ) (x : Offset) → IsWithin m x → IsWithin m (if b then x else nothing)
+within-if true m x h = h
+within-if false m x h = record {
+  re_low = omega (arith, ints);
+  re_high = omega (arith, ints);
+  im_low = omega (arith, ints);
+  im_high = omega (arith, ints);
+}
+
+pub hit-small : (hit : Hit) (offset : Offset) (sender : Role) → IsWithin 32768 offset → offset.re ≡ hit.re → offset.im ≡ hit.im
+    → (symbol : ℕ) → IsWithin 32768 (hit_offset sender symbol hit)
+hit-small hit offset sender small re im symbol =
+    within-if (same_role hit.role sender && covers hit.from hit.count symbol) 32768 _
+    (subst (IsWithin 32768) (same-offset offset (record { re = hit.re; im = hit.im }) re im) small)
+
+pub noise-small : (noise : Noise) (sender : Role) → IsQuiet noise → (symbol : ℕ) → IsWithin 32767 (noise_offset sender symbol noise)
+noise-small noise sender quiet symbol =
+    within-if (same_role noise.role sender && covers noise.from noise.count symbol) 32767 _
+    (drawn-small noise.amplitude (word_at noise.seed (stream_of noise.role) (symbol - noise.from)) quiet)
+  where
+    drawn-small : (amplitude word : ℕ) → amplitude ≤ 32767 → IsWithin 32767 (drawn_offset amplitude word)
+    drawn-small amplitude word few = record {
+      re_low = omega (arith, ints);
+      re_high = omega (arith, ints);
+      im_low = omega (arith, ints);
+      im_high = omega (arith, ints);
+    }
+
+-- what was drawn is what the line says of the symbol
+pub same-drawn : (noise : Noise) (sender role : Role) (seed place symbol word : ℕ) (offset : Offset) → same_role noise.role sender ≡ true
+    → seed ≡ noise.seed → role ≡ sender → place ≡ symbol - noise.from → word ≡ word_at seed (stream_of role) place
+    → offset ≡ drawn_offset noise.amplitude word
+    → offset ≡ drawn_offset noise.amplitude (word_at noise.seed (stream_of noise.role) (symbol - noise.from))
+same-drawn noise sender role seed place symbol word offset o s r p w is =
+    is ∙ ap (drawn_offset noise.amplitude) (w ∙ ap (λ n. word_at n (stream_of role) place) s
+    ∙ ap (λ n. word_at noise.seed (stream_of role) n) p
+    ∙ ap (λ n. word_at noise.seed n (symbol - noise.from)) (ap stream_of r ∙ sym (same-stream noise.role sender o)))
+  where
+    same-stream : (a b : Role) → same_role a b ≡ true → stream_of a ≡ stream_of b
+    same-stream Originator Originator e = refl
+    same-stream Answerer Answerer e = refl
+    same-stream Originator Answerer e = absurd (cc)
+    same-stream Answerer Originator e = absurd (cc)
+
+pub within-at : (most : ℕ) (by : ℕ → Offset) (place : ℕ) (old new : List Offset) → AreWithin most old → GrowUpTo by place old new
+    → place < length old → IsWithin most (at_place new place)
+within-at most by place old new w g low = subst (IsWithin most) (sym (g.above place (omega arith))) (w.each place low)

@@ -1,0 +1,7 @@
+use Rattle.std.proofs.Common.{◌+◌}
+use Rattle.noise_script.specs.Offsets.{hit_offset}
+use Rattle.noise_script.proofs.Batched.{GrowUpTo}
+use Rattle.noise_script.proofs.batch.add_hit.Given as goal
+
+abbrev pub invariant-loop-place : goal.invariant-loop-place
+invariant-loop-place l = GrowUpTo (λ place. hit_offset l.fn.sender (l.start + place) l.fn.hit) l.place l.fn.sums l.sums

@@ -1,0 +1,10 @@
+use Rattle.std.proofs.Common.{◌≡◌, ℕ, ◌<◌, length}
+use Rattle.noise_script.specs.Offsets.{nothing}
+use Rattle.noise_script.specs.Batches.{at_place}
+use Rattle.noise_script.proofs.batch.clear.Given as goal
+
+abbrev pub invariant-loop-place : goal.invariant-loop-place
+invariant-loop-place l = record {
+  long : length l.sums ≡ length l.fn.sums;
+  each : (place : ℕ) → place < l.place → at_place l.sums place ≡ nothing;
+}
