@@ -10,6 +10,7 @@ ghost use Rattle.sample_line.specs.Recorded.{saturated, displaced};
 ghost use Rattle.sample_line.specs.Transmits.{Transmits};
 
 use crate::LabelSlot;
+use line_coding::DEPTH;
 use noise_script::{Generators, Offset, Script};
 use shared_terms::Role;
 use symbol_map::{Sample, point};
@@ -39,7 +40,7 @@ fn displaced(offset: Offset, point: Sample) -> Sample
 }
 
 /// The most samples that are made, and then heard, at once: fewer than the decoder has room for.
-pub(crate) const BATCH: usize = 128;
+pub(crate) const BATCH: usize = DEPTH;
 
 /// What makes samples of an end's labels. Symbols are counted from 0 over all slots.
 #[derive(Drop)]
