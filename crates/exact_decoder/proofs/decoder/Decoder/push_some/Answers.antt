@@ -9,6 +9,7 @@ use Rattle.exact_decoder.proofs.Pushed.{Pushed, stands-goes_on, stands-lost, sta
 use Rattle.exact_decoder.proofs.Batches.{heard-within, heard-fit, some-heard}
 use Rattle.exact_decoder.proofs.Spreading.{sound-next}
 use Rattle.exact_decoder.proofs.decoder.Decoder.push_some.Given.{Over}
+use Rattle.exact_decoder.proofs.decoder.Decoder.push_some.Goals.{After-release}
 use Rattle.exact_decoder.proofs.decoder.Decoder.push_some.Goals as goal
 
 whole : (past samples : List Sample) (heard : ℕ) → (past ++ take heard samples) ++ drop heard samples ≡ past ++ samples
@@ -74,7 +75,7 @@ release-requires g c =
     )
 
 -- What stands once the released labels are handed over, whether the line is lost then or not.
-module _ (g : Over) (c : goal.After-release g) where
+module _ (g : Over) (c : After-release g) where
   abbrev hears : List Sample
   hears = take c.min-heard.result c.args.samples.now
 
@@ -111,6 +112,7 @@ module _ (g : Over) (c : goal.After-release g) where
       (All-turned (λ x. x < g.row.LABELS) c.release.new.labels c.release.ensures.below)
 
   pushed : (lost : Option ℕ) → Pushed g.C.TrellisCode.table g.C.TrellisCode.points g.row.STATES g.C.TrellisCode.REACH hears before (behind lost)
+  unfolding opened
   pushed lost =
       let none : before.pending ≡ [] = subst (λ v. v.pending ≡ []) (sym c.self.view_is) c.requires.taken in
       record {
