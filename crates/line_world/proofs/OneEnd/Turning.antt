@@ -362,11 +362,6 @@ pub heard-well : (r : Result Account LinkFault) (file : List ℕ) (s : Station) 
 heard-well (Ok mid) file s done h = record { mid = mid; hears = refl; stands = h }
 heard-well (Err fault) file s done h = absurd h
 
-pub heard-badly : (r : Result Account LinkFault) (file : List ℕ) (s : Station) (broken : LinkFault) → HearsAs r file s (Err broken)
-    → r ≡ Err broken
-heard-badly (Ok mid) file s broken h = absurd h
-heard-badly (Err fault) file s broken h = ap (λ f. Err f) (sym h)
-
 -- ---- the whole turn
 
 -- the line stands behind what was handed over
