@@ -13,26 +13,21 @@ use Rattle.signal_commands.proofs.Batches.{some-more, some-heard}
 use Rattle.signal_commands.proofs.PickingUp.Playings.{ready-later, stops-longer}
 use Rattle.signal_commands.proofs.pickup.playing.play_piece.Goals as goal
 
-pub push_some-requires-clause-some : goal.push_some-requires-clause-some
-push_some-requires-clause-some g c =
+pub push_some-requires : goal.push_some-requires
+push_some-requires g c =
     let copied = c.copy_samples-count in
-    subst (λ (n : ℕ). 1 ≤ n)
-    (sym (length-take-le copied.result copied.new.samples (omega (arith, copied.array_long, copied.ensures.few))))
-    (copied.ensures.some (omega (arith, c.loop-at-test.true)))
-
-pub push_some-requires-clause-taken : goal.push_some-requires-clause-taken
-push_some-requires-clause-taken g c = let r = c.loop-at.invariant.ready RECORDING_LIMIT c.requires.ready in r.all_taken
-
-pub push_some-requires-clause-count : goal.push_some-requires-clause-count
-push_some-requires-clause-count g c =
     let r = c.loop-at.invariant.ready RECORDING_LIMIT c.requires.ready in
-    let copied = c.copy_samples-count in
-    let long = length-take-le copied.result copied.new.samples (omega (arith, copied.array_long, copied.ensures.few)) in
-    omega (arith, long, copied.ensures.few, r.count, c.loop-at-test.true, c.requires.few)
-
-pub push_some-requires-clause-pieces : goal.push_some-requires-clause-pieces
-push_some-requires-clause-pieces g c = let r = c.loop-at.invariant.ready RECORDING_LIMIT c.requires.ready in
-    omega (arith, r.pieces, c.loop-at-test.true, c.requires.few)
+    record {
+      some =
+          subst (λ (n : ℕ). 1 ≤ n)
+          (sym (length-take-le copied.result copied.new.samples (omega (arith, copied.array_long, copied.ensures.few))))
+          (copied.ensures.some (omega (arith, c.loop-at-test.true)));
+      taken = let r = c.loop-at.invariant.ready RECORDING_LIMIT c.requires.ready in r.all_taken;
+      count =
+          let long = length-take-le copied.result copied.new.samples (omega (arith, copied.array_long, copied.ensures.few)) in
+          omega (arith, long, copied.ensures.few, r.count, c.loop-at-test.true, c.requires.few);
+      pieces = omega (arith, r.pieces, c.loop-at-test.true, c.requires.few);
+    }
 
 pub returns-in-Err-clause-err : goal.returns-in-Err-clause-err
 returns-in-Err-clause-err g c start samples h =
