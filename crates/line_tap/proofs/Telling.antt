@@ -35,18 +35,17 @@ use Rattle.line_texts.specs.LineText.{chance_line}
 use Rattle.line_run.specs.Fitting.{AreFit}
 use Rattle.line_run.specs.Laws.{OneMoreFits, SlotsHaveSize, CodableFits, CodableIsSendable, SpelledInOctets}
 use Rattle.link_account.specs.Account.{check_of}
-use Rattle.link_run.specs.Run.{Link, Accounts, Spoken, Turn, spoken, RunOf, GoingTurn, IsSilent}
+use Rattle.link_run.specs.Run.{Link, Accounts, Spoken, Turn, spoken, RunOf, IsSilent}
 use Rattle.link_run.specs.Run as run
 use Rattle.link_run.specs.Laws.{RunsOver}
 use Rattle.link_run.specs.Overheard.{agreed_terms, SendsAgreedCheck}
 use Rattle.link_run.specs.Trace.{trace_text}
 use Rattle.link_run.specs.Listened.{check_by, judged_by, given_to, HearsByLine, StaysKnownByLine, RunsByLine}
-use Rattle.line_run.specs.Sampled.{Wire, IsAlone, signal_in, and_then, signals, bits_of, IsHeardOf, IsHeardWell, HeardIn, LineRun, LineEnd}
-use Rattle.line_run.specs.Sampled.{LosesLine}
+use Rattle.line_run.specs.Sampled.{Wire, IsAlone, signals, bits_of, IsHeardOf, IsHeardWell, HeardIn, LineRun, LineEnd}
 use Rattle.line_run.specs.Sampled as lines
 use Rattle.line_run.specs.LineLaws.{SamplesAreCarried, OneIsCarried}
 use Rattle.line_run.specs.Scripted.{wire_of, link_of, ScriptsMayPlay, ScriptsHaveDelays, SlotsHaveRoom}
-use Rattle.line_run.specs.Ends.{RunEnd, Left, RunsTo}
+use Rattle.line_run.specs.Ends.{RunEnd, Left}
 use Rattle.line_run.specs.Ends as runs
 use Rattle.line_tap.specs.Tapping.{tapping, phase_behind, next_bits, octets_of, HoldsNext, Hears, Tells}
 use Rattle.line_tap.specs.Ends.{EndsWhole, EndsLine, EndsOnLine, EndsBy, told_end}
