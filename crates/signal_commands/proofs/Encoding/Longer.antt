@@ -30,6 +30,7 @@ use Rattle.recordings.specs.declared.rate.Rate.TheVariants.{Trellis, Quarters}
 use Rattle.recordings.specs.Recording.{header_at, sample_octets, recording_octets}
 use Rattle.signal_commands.specs.Encoding.Recorder.{ModulatesAt, IsRecordingOf}
 use Rattle.signal_commands.proofs.Encoding.Quarters.{sent_for, bit-lt, two-more, twos-behind}
+use Rattle.signal_commands.proofs.Decoding.Joined.{octet-behind as octet-bits-more}
 
 -- a code sequence stays among the states
 end-lt : (from : ℕ) (labels : List ℕ) (end : ℕ) → from < 8 → Leads next_state from labels end → end < 8
@@ -150,10 +151,6 @@ pub record GoesOn (rate : Rate) (mode : Mode) (octets recording : List ℕ) : Ty
   pub samples : ℕ
   pub recorded : IsRecordingOf rate mode octets whole samples
   pub front : IsPrefixOf recording whole
-
-octet-bits-more : (octets : List ℕ) (octet : ℕ) → bits_of octets ++ octet_bits octet ≡ bits_of (octets ++ octet ∷ [])
-octet-bits-more octets octet =
-    ap (λ bits. bits_of octets ++ bits) (sym (append-nil (octet_bits octet))) ∙ sym (flat_map-append octet_bits octets (octet ∷ []))
 
 samples-front : (rate : Rate) (mode : Mode) (samples more : List Sample)
     → IsPrefixOf (recording_octets rate mode samples) (recording_octets rate mode (samples ++ more))
