@@ -297,18 +297,14 @@ ends-so c f new n files ts ends heard mid turn role (faults.Spent segment since)
     },
   ),
 )
-ends-so c f new n files ts ends heard mid turn role (faults.BadAck nr va high) number named o b trace = absurd named
-ends-so c f new n files ts ends heard mid turn role (faults.PeerReset va vr) number named o b trace = absurd named
-ends-so c f new n files ts ends heard mid turn role faults.PeerRefused number named o b trace = absurd named
+ends-so c f new n files ts ends heard mid turn role other number named o b trace = absurd named
 
 -- such an end is no fault of the folder
 pub counts-so : (f new : FolderState) (n : Written) (turn : ℕ) (role : Role) (fault : LinkFault) → IsNamed role fault → CountsStand f new
     → FaultCounts f new n (fault_named turn role fault)
 counts-so f new n turn role faults.NotDetected named stand = stand
 counts-so f new n turn role (faults.Spent segment since) named stand = stand
-counts-so f new n turn role (faults.BadAck nr va high) named stand = absurd named
-counts-so f new n turn role (faults.PeerReset va vr) named stand = absurd named
-counts-so f new n turn role faults.PeerRefused named stand = absurd named
+counts-so f new n turn role other named stand = absurd named
 
 -- ---- the folder doesn't take the lines
 

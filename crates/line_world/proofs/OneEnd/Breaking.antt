@@ -91,10 +91,7 @@ linked (Rej command nr pf) turn a =
 linked (Srej command nr pf) turn a = numbered turn nr (selected nr a.outgoing) a
 linked (Sabme pf) turn a = sabme _ pf a
 linked (Disc pf) turn a = disc a.setup.role pf a
-linked (Dm pf) turn a = tt
-linked (Frmr pf info) turn a = tt
-linked (Ui command pf info) turn a = tt
-linked frame turn a = tt
+linked other turn a = tt
 
 framed : (p : Phase) (frame : Frame) (turn : ℕ) (a : Account) → IfPeers (on_frame p frame turn a)
 framed Detecting frame turn a = detecting a.setup.role frame turn a
@@ -105,9 +102,8 @@ framed Releasing frame turn a = releasing frame a
 framed Closed frame turn a = closed frame a
 
 hearing : (turn : ℕ) (arrived : Arrived) (a : Account) → IfPeers (hear turn arrived a)
-hearing turn arrivals.Nothing a = tt
-hearing turn (arrivals.Pattern seen) a = tt
 hearing turn (arrivals.Frame frame) a = framed a.phase frame turn a
+hearing turn other a = tt
 
 pub hears-peers : (turn : ℕ) (arrived : Arrived) (a : Account) (fault : LinkFault) → hear turn arrived a ≡ Err fault → IsPeers fault
 hears-peers turn arrived a fault e = subst IfPeers e (hearing turn arrived a)

@@ -99,7 +99,8 @@ returns-in-Err-record_turn g c =
       run =
           let going = (rw c.in-Ok-Going.field-0-is at c.in-Ok-Going.ensures.turn) r.files r.turns r.ends r.world r.knows.within in
           let kept : KeepTapes c.loop-tapes.tapes next (wire_of (script_of c.turn.new.self)) r.turns =
-          subst (λ (s : ScriptValue). KeepTapes c.loop-tapes.tapes next (wire_of s) r.turns) (sym (c.in-Ok-Going.ensures.script ∙ r.script_is))
+          subst (λ (s : ScriptValue). KeepTapes c.loop-tapes.tapes next (wire_of s) r.turns)
+          (sym (c.in-Ok-Going.ensures.script ∙ r.script_is))
           (keep-later c.loop-tapes.tapes now next (wire_of script) r.turns c.in-Ok-Going.ensures.only.goes_on
           (subst (λ (names : Tapes). KeepsEach now next (tapes_of names)) (sym c.loop-tapes.invariant.named)
           (tapes-kept now next n tapes c.requires.apart c.in-Ok-Going.ensures.only)) c.loop-tapes.invariant.taped) in
@@ -143,18 +144,13 @@ returns-in-Ok-Done g c =
     let old : FolderState = g.F.Folder.state c.args.folder.now in
     record {
       run =
-          reached-done c.turns_deliver_what_came.ensures.hearing c.loop-tapes.world c.turn.new.self script n tapes old now next
-          c.in-Ok-Done.turn
-          r
-          c.in-Ok-Done.ensures.script ((rw c.in-Ok-Done.field-0-is at c.in-Ok-Done.ensures.turn) r.files r.turns r.ends r.world
-          r.knows.within)
-          c.in-Ok-Done.ensures.only held;
+          reached-done c.turns_deliver_what_came.ensures.hearing c.loop-tapes.world c.turn.new.self script n tapes old now next r
+          c.in-Ok-Done.ensures.script c.in-Ok-Done.ensures.only held c.in-Ok-Done.turn
+          ((rw c.in-Ok-Done.field-0-is at c.in-Ok-Done.ensures.turn) r.files r.turns r.ends r.world r.knows.within);
       tally =
-          reached-counts c.turns_deliver_what_came.ensures.hearing c.loop-tapes.world c.turn.new.self script n tapes old now next
-          c.in-Ok-Done.turn r
-          c.in-Ok-Done.ensures.script ((rw c.in-Ok-Done.field-0-is at c.in-Ok-Done.ensures.turn) r.files r.turns r.ends r.world
-          r.knows.within)
-          c.in-Ok-Done.ensures.only held;
+          reached-counts c.turns_deliver_what_came.ensures.hearing c.loop-tapes.world c.turn.new.self script n tapes old now next r
+          c.in-Ok-Done.ensures.script c.in-Ok-Done.ensures.only held c.in-Ok-Done.turn
+          ((rw c.in-Ok-Done.field-0-is at c.in-Ok-Done.ensures.turn) r.files r.turns r.ends r.world r.knows.within);
       only =
           OnlyPuts-trans old now next (outputs_of n ++ tapes_of tapes) r.only
           (puts-front now next (outputs_of n) (tapes_of tapes) c.in-Ok-Done.ensures.only);
@@ -178,10 +174,9 @@ returns-in-Err g c =
           (tapes-kept now next n tapes c.requires.apart c.in-Err.ensures.only)
           (subst (λ (names : Tapes). HoldTapes now names (wire_of script) r.turns) c.loop-tapes.invariant.named
           (keep-holds c.loop-tapes.tapes now (wire_of script) r.turns c.loop-tapes.invariant.taped)) in
-          reached-fault c.turns_deliver_what_came.ensures.hearing c.loop-tapes.world c.turn.new.self script n tapes old now next
-          c.in-Err.fault r
-          (apart-outputs n tapes c.requires.apart) c.in-Err.ensures.script (c.in-Err.ensures.turn r.files r.turns r.ends r.world r.knows.within)
-          c.in-Err.ensures.only held;
+          reached-fault c.turns_deliver_what_came.ensures.hearing c.loop-tapes.world c.turn.new.self script n tapes old now next r
+          c.in-Err.ensures.script c.in-Err.ensures.only held c.in-Err.fault (apart-outputs n tapes c.requires.apart)
+          (c.in-Err.ensures.turn r.files r.turns r.ends r.world r.knows.within);
       tally = search rules;
       only =
           OnlyPuts-trans old now next (outputs_of n ++ tapes_of tapes) r.only

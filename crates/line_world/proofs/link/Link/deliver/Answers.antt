@@ -82,8 +82,8 @@ returns-in-Ok-deliver g c =
           let start = g.F.Folder.state c.args.folder.now in
           let mid = g.F.Folder.state c.deliver.new.folder in
           let end = g.F.Folder.state c.deliver-2.new.folder in
-          AddEach-next start mid end (n.got_o ∷ []) n.got_a (n.trace ∷ []) (concat (deliveries ends.orig) ∷ []) (concat (deliveries ends.answ))
-          tt c.requires.apart c.deliver.ensures.only.goes_on
+          AddEach-next start mid end (n.got_o ∷ []) n.got_a (n.trace ∷ []) (concat (deliveries ends.orig) ∷ [])
+          (concat (deliveries ends.answ)) tt c.requires.apart c.deliver.ensures.only.goes_on
           (AddEach-next start start mid [] n.got_o (n.got_a ∷ n.trace ∷ []) [] (concat (deliveries ends.orig)) tt c.requires.apart
           (GoesOn-refl start) (KeepsEach-refl start (outputs_of n)) c.deliver.ensures.only (c.in-Ok.ensures.ok files.orig ends.orig h.orig))
           c.deliver-2.ensures.only (c.in-Ok-deliver.ensures.ok files.answ ends.answ h.answ);

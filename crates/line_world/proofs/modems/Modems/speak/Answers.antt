@@ -214,12 +214,13 @@ send-requires-in-Ok g c =
           let t : SpokenTurn channel files ts ends c.args.heard.now mid c.in-Ok.sent.orig c.in-Ok.sent.answ c.speak.new.self =
           spoken-turn channel files ts ends c.args.heard.now mid c.in-Ok.sent.orig c.in-Ok.sent.answ c.speak.new.self c.args.self.now.turn
           h.stands.turn o h.going
-          (subst (λ x. SaysBoth c.speak.new.self files (link_of x files) c.args.self.now.turn (served v files (length ts) mid) c.in-Ok.sent.orig
+          (subst (λ x. SaysBoth c.speak.new.self files (link_of x files) c.args.self.now.turn (served v files (length ts) mid)
+          c.in-Ok.sent.orig
           c.in-Ok.sent.answ) (sym is.script_is) (c.in-Ok.ensures.speaks files (served v files (length ts) mid) h.stands.link)) in
           all-codable c.slots_have_room.ensures.codable channel files ts ends c.args.heard.now mid c.in-Ok.sent.orig c.in-Ok.sent.answ
           c.in-Ok.sent c.speak.new.self c.args.lines.now w.1 w.2 c.args.self.now.dlci c.checks-checks.result
-          (is.symbols_are ∙ ap (λ x. slot_symbols (longest_of x)) (sym is.script_is)) (subst IsInLimits (sym is.script_is) c.requires.limits)
-          o t
+          (is.symbols_are ∙ ap (λ x. slot_symbols (longest_of x)) (sym is.script_is))
+          (subst IsInLimits (sym is.script_is) c.requires.limits) o t
           w.9
           c.in-Ok.ensures.orig_sendable c.in-Ok.ensures.answ_sendable
           refl refl

@@ -106,8 +106,8 @@ returns-in-Err g c = record {
       let w = c.hand_over.new.self in
       let has = c.in-Ok.ensures.hears channel links streams files ts ends refl refl h waits due in
       writing-ends w c.hear.new.lines channel links streams a b n files ts ends c.in-Err.fault c.in-Err.ensures.write
-      (stops-handing (making-laws g (goal.at.returns-in-Err g c).After-line_runs_end_soon) w c.hear.new.lines channel links streams a b n files ts ends c.in-Ok.heard has.mid c.requires.ready.limits
-      c.requires.apart within c.hand_over.ensures.only
+      (stops-handing (making-laws g (goal.at.returns-in-Err g c).After-line_runs_end_soon) w c.hear.new.lines channel links streams a b n
+      files ts ends c.in-Ok.heard has.mid c.requires.ready.limits c.requires.apart within c.hand_over.ensures.only
       has.stands.overhears
       (halts-so c.hear.new.self w c.hear.new.lines channel links streams files ts ends c.in-Ok.heard has.mid has.mid has.stands has.lines
       c.hand_over.ensures.beside)
@@ -133,18 +133,16 @@ returns-in-Ok-finish g c =
           let channel = wire_at c.args.script.now c.args.self.now.dlci beside in
           let has = c.in-Ok.ensures.hears channel links streams files ts ends refl refl h waits due in
           let hands = c.in-Ok-hand_over.ensures.hands channel files ts ends c.in-Ok.heard has.mid has.stands in
-          let closed = sym (ap is_closed (phase-delivered has.mid.orig)) ∙ sym (c.is_closed.ensures files (handed has.mid) hands.stands.link)
-          ∙ c.if-is_closed.true in
+          let closed = sym (ap is_closed (phase-delivered has.mid.orig)) ∙ sym
+          (c.is_closed.ensures files (handed has.mid) hands.stands.link) ∙ c.if-is_closed.true in
           let w = c.hand_over.new.self in
-          ends-in w c.hear.new.lines channel links streams a b d n files files ts ends c.in-Ok.heard has.mid Done w.turn c.requires.apart
-          hands.stands.turn
+          ends-in w c.hear.new.lines channel links streams a b d n files files ts ends c.in-Ok.heard has.mid c.requires.apart
           (stay-known a d n files c.requires.apart
-          only within)
-          c.hand_over.ensures.only hands.delivered c.finish.ensures.only
+          only within) c.hand_over.ensures.only hands.delivered c.finish.ensures.only
           (halts-so w w c.hear.new.lines channel links streams files ts ends c.in-Ok.heard has.mid (handed has.mid) hands.stands has.lines
-          (same-beside w))
-          (checked-so w w channel files ts ends c.in-Ok.heard has.mid (handed has.mid) hands.stands (same-beside w))
-          (c.in-Ok-finish.ensures.adds channel files ts ends has.mid hands.stands closed hands.orig_given hands.answ_given);
+          (same-beside w)) Done w.turn hands.stands.turn (checked-so w w channel files ts ends c.in-Ok.heard has.mid (handed has.mid)
+          hands.stands (same-beside w)) (c.in-Ok-finish.ensures.adds channel files ts ends has.mid hands.stands closed hands.orig_given
+          hands.answ_given);
       kept = λ e. done-no-step e;
       number = c.hand_over.ensures.beside.turn ∙ c.hear.ensures.turn;
       channel = c.hand_over.ensures.beside.dlci ∙ c.hear.ensures.dlci;
@@ -167,8 +165,8 @@ returns-in-Err-finish g c =
           let w = c.hand_over.new.self in
           let has = c.in-Ok.ensures.hears channel links streams files ts ends refl refl h waits due in
           let hands = c.in-Ok-hand_over.ensures.hands channel files ts ends c.in-Ok.heard has.mid has.stands in
-          let closed = sym (ap is_closed (phase-delivered has.mid.orig)) ∙ sym (c.is_closed.ensures files (handed has.mid) hands.stands.link)
-          ∙ c.if-is_closed.true in
+          let closed = sym (ap is_closed (phase-delivered has.mid.orig)) ∙ sym
+          (c.is_closed.ensures files (handed has.mid) hands.stands.link) ∙ c.if-is_closed.true in
           writing-ends w c.hear.new.lines channel links streams a d n files ts ends c.in-Err-finish.fault c.in-Err-finish.ensures.write
           (stops-writing w c.hear.new.lines channel links streams a b d n files files ts ends c.in-Ok.heard has.mid c.requires.apart
           (stay-known a d n files c.requires.apart
@@ -201,8 +199,8 @@ returns-in-Err-serve g c =
           let has = c.in-Ok.ensures.hears channel links streams files ts ends refl refl h waits due in
           let hands = c.in-Ok-hand_over.ensures.hands channel files ts ends c.in-Ok.heard has.mid has.stands in
           reading-ends w c.hear.new.lines channel links streams a d n files ts ends c.in-Err-serve.fault c.in-Err-serve.ensures.read
-          (stops-reading (making-laws g (goal.at.returns-in-Err-serve g c).After-line_runs_end_soon) w c.hear.new.lines channel links streams a d n files ts ends c.in-Ok.heard has.mid c.requires.ready.limits
-          c.requires.apart within
+          (stops-reading (making-laws g (goal.at.returns-in-Err-serve g c).After-line_runs_end_soon) w c.hear.new.lines channel links
+          streams a d n files ts ends c.in-Ok.heard has.mid c.requires.ready.limits c.requires.apart within
           only
           hands.stands.overhears
           (halts-so c.hand_over.new.self w c.hear.new.lines channel links streams files ts ends c.in-Ok.heard has.mid (handed has.mid)
@@ -331,14 +329,13 @@ returns-in-Err-speak g c =
           (record { script_is = refl; dlci_is = sym dlci; symbols_are = refl })
           (record { stands = s.stands; going = still }) has.lines hands.orig_given hands.answ_given in
           speaks-last c.speak.new.self c.speak.new.lines channel links streams a d z n files s.others ts ends c.in-Ok.heard has.mid
-          c.in-Err-speak.fault c.requires.apart
-          (others-known a b z n files s.others has.mid c.requires.apart c.hand_over.ensures.only only-z s.reads) only-d
+          c.requires.apart (others-known a b z n files s.others has.mid c.requires.apart c.hand_over.ensures.only only-z s.reads) only-d
           (AddEach-kept a b d (outputs_of n) (octets_of has.mid) c.hand_over.ensures.only.goes_on hands.delivered
           (KeepsEach-reads b d (outputs_of n) c.serve.ensures.only)) c.speak.ensures.only
           (halts-so c.serve.new.self c.speak.new.self c.speak.new.lines channel links streams s.others ts ends c.in-Ok.heard has.mid
           (served channel.script s.others (length ts) has.mid) s.stands
           (subst (λ l. HaveArrived l channel links streams) (sym c.in-Err-speak.ensures.line) has.lines) c.in-Err-speak.ensures.beside)
-          (checked-so c.serve.new.self c.speak.new.self channel s.others ts ends c.in-Ok.heard has.mid
+          c.in-Err-speak.fault (checked-so c.serve.new.self c.speak.new.self channel s.others ts ends c.in-Ok.heard has.mid
           (served channel.script s.others (length ts) has.mid) s.stands c.in-Err-speak.ensures.beside) last;
       kept = λ e. no-step e;
       number = c.in-Err-speak.ensures.beside.turn ∙ c.serve.ensures.beside.turn ∙ c.hand_over.ensures.beside.turn ∙ c.hear.ensures.turn;

@@ -11,12 +11,12 @@ use Rattle.line_world.specs.OneEnd.Turn.{EndsBy}
 use Rattle.line_world.proofs.OneEnd.Folders.{got-only, trace-only, trace-counts, read-counts, counts-later, stays-known, others-known}
 use Rattle.line_world.proofs.OneEnd.Turning.{broke-off, hands-over, not-handed, not-read, writing-ends, reading-ends, made, stopped-so}
 use Rattle.line_world.proofs.OneEnd.Turning.{ended, gone-on}
-use Rattle.line_world.proofs.OneEnd.Turning.{counted-later}
 use Rattle.line_world.specs.OneEnd.Mid.{handed}
 use Rattle.std.proofs.Common.{◌<◌, ◌^◌}
 use Rattle.line_world.proofs.OneEnd.Turning.{no-step, closed-no-step}
 use Rattle.line_world.proofs.OneEnd.Folders.{got-counts}
 use Rattle.line_world.proofs.one_end.single.Single.turn.Goals as goal
+use Rattle.line_world.proofs.Linking.{counted-later}
 
 pub serve-requires : goal.serve-requires
 serve-requires g c =
@@ -74,10 +74,10 @@ returns-in-Ok-finish g c =
           let mid = has.0 in
           let now = c.in-Ok-hand_over.ensures.stands p slot arrived mid has.1 in
           let closed = sym (c.hangs_up.ensures p slot arrived mid now) ∙ c.if-hangs_up.true in
-          made c.hand_over.new.self a b z n p slot (concat (deliveries mid)) p.file Closed c.requires.apart c.hand_over.ensures.only.goes_on
+          made c.hand_over.new.self a b z n p slot (concat (deliveries mid)) p.file c.requires.apart c.hand_over.ensures.only.goes_on
           (hands-over a b n (concat (deliveries mid)) c.requires.apart c.hand_over.ensures.only
           (c.in-Ok-hand_over.ensures.adds p slot arrived mid has.1)) c.finish.ensures.only
-          (stays-known a z n p.file c.requires.apart only within)
+          (stays-known a z n p.file c.requires.apart only within) Closed
           (c.in-Ok-finish.ensures.adds p slot mid now closed (c.in-Ok-hand_over.ensures.given p slot arrived mid has.1));
       role = c.hand_over.ensures.role ∙ c.hear.ensures.role;
       ready = λ e. closed-no-step e;
@@ -102,11 +102,10 @@ returns-in-Err-finish g c =
           let mid = has.0 in
           let now = c.in-Ok-hand_over.ensures.stands p slot arrived mid has.1 in
           let closed = sym (c.hangs_up.ensures p slot arrived mid now) ∙ c.if-hangs_up.true in
-          stopped-so c.hand_over.new.self a b z n p slot
-          (concat (deliveries mid)) p.file c.in-Err-finish.fault c.requires.apart c.hand_over.ensures.only.goes_on
-          (hands-over a b n (concat (deliveries mid)) c.requires.apart c.hand_over.ensures.only
+          stopped-so c.hand_over.new.self a b z n p slot (concat (deliveries mid)) p.file c.requires.apart
+          c.hand_over.ensures.only.goes_on (hands-over a b n (concat (deliveries mid)) c.requires.apart c.hand_over.ensures.only
           (c.in-Ok-hand_over.ensures.adds p slot arrived mid has.1)) c.finish.ensures.only
-          (stays-known a z n p.file c.requires.apart only within) c.in-Err-finish.ensures.write
+          (stays-known a z n p.file c.requires.apart only within) c.in-Err-finish.fault c.in-Err-finish.ensures.write
           (c.in-Err-finish.ensures.part p slot mid now closed (c.in-Ok-hand_over.ensures.given p slot arrived mid has.1));
       role = c.hand_over.ensures.role ∙ c.hear.ensures.role;
       ready = λ e. no-step e;
@@ -235,13 +234,12 @@ returns-in-Err-speak g c =
           let now = c.in-Ok-hand_over.ensures.stands p slot arrived mid has.1 in
           let still = sym (c.hangs_up.ensures p slot arrived mid now) ∙ c.if-hangs_up.false in
           let s = c.in-Ok-serve.ensures.serves p slot arrived mid now within in
-          ended c.speak.new.self a d z n p slot (concat (deliveries mid)) s.others c.in-Err-speak.fault c.requires.apart only-d.goes_on
+          ended c.speak.new.self a d z n p slot (concat (deliveries mid)) s.others c.requires.apart only-d.goes_on
           (AddEach-kept a b d (outputs_of n) (concat (deliveries mid) ∷ []) c.hand_over.ensures.only.goes_on
           (hands-over a b n (concat (deliveries mid)) c.requires.apart c.hand_over.ensures.only
           (c.in-Ok-hand_over.ensures.adds p slot arrived mid has.1)) (KeepsEach-reads b d (outputs_of n) c.serve.ensures.only))
-          c.speak.ensures.only
-          (others-known a b z n p.file s.others (handed mid) c.requires.apart first only-z s.reads)
-          (c.in-Err-speak.ensures.speaks (over s.others p) slot mid s.stands still
+          c.speak.ensures.only (others-known a b z n p.file s.others (handed mid) c.requires.apart first only-z s.reads)
+          c.in-Err-speak.fault (c.in-Err-speak.ensures.speaks (over s.others p) slot mid s.stands still
           (c.in-Ok-hand_over.ensures.given p slot arrived mid has.1));
       role = c.speak.ensures.role ∙ c.serve.ensures.role ∙ c.hand_over.ensures.role ∙ c.hear.ensures.role;
       ready = λ e. no-step e;
