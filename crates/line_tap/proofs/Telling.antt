@@ -57,6 +57,7 @@ use Rattle.line_tap.proofs.Plain.{plain-received, plain-given_to, plain-text, Al
 use Rattle.line_tap.proofs.Plain.{heard_of-plain, well-plain, heard_in-plain, loses-plain}
 use Rattle.sample_line.proofs.Once.{length-modulated}
 use Rattle.line_tap.proofs.Coding.{modulates-front, recorded-back}
+use Rattle.line_run.proofs.Recordings.{tap-some}
 
 pub record TellingLaws : Type 0 where
   pub play : ScriptsMayPlay
@@ -104,10 +105,6 @@ length-bits laws c role ts alone long low s k =
     let h = all-fit laws c role ts alone low s k in
     laws.size (4 * c.symbols) (signals c role ts) (omega (arith, long)) h.0 ∙ ap (λ n. 4 * c.symbols * n) h.1
     ∙ mul_assoc 4 c.symbols (length ts)
-
-tap-some : (role : Role) → 1 ≤ tap_of (mode_of role)
-tap-some Originator = omega arith
-tap-some Answerer = omega arith
 
 take-take : {X : Type 0} (n m : ℕ) (xs : List X) → n ≤ m → take n (take m xs) ≡ take n xs
 take-take n m xs l = grind (arith, common_steps)

@@ -366,21 +366,6 @@ put-still : (tap : Tap) (start a b c : FolderState) (n : TapNames) (x : Tapping)
 put-still tap start a b c n x ts h counts k =
     AddEach-kept a b c (outputs_of n) (got_pieces x ts h.heard) k.only.goes_on k.put (KeepsEach-reads b c (outputs_of n) k.reads)
 
--- and the lines are written, or a part of them
-put-lines : (tap : Tap) (start a b c d : FolderState) (n : TapNames) (x : Tapping) (ts : List Turn) (h : Hearing) (counts : Both ℕ)
-    (text : List ℕ) → HasPieces tap start a b c n x ts h counts → OnlyWrites c d n.trace → Appended c d n.trace text
-    → AddEach a d (outputs_of n) (held_of (added x ts (silent_in x ts h.heard) text))
-put-lines tap start a b c d n x ts h counts text k w put =
-    AddEach-next a c d (n.got_o ∷ n.got_a ∷ []) n.trace [] (got_pieces x ts h.heard) text tt k.apart.0 (goes-on-to a b c n k.only k.reads)
-    (put-still tap start a b c n x ts h counts k) w (inr put)
-
-part-lines : (tap : Tap) (start a b c d : FolderState) (n : TapNames) (x : Tapping) (ts : List Turn) (h : Hearing) (counts : Both ℕ)
-    (text : List ℕ) → HasPieces tap start a b c n x ts h counts → OnlyWrites c d n.trace → PartlyAppended c d n.trace text
-    → AddPart a d (outputs_of n) (held_of (added x ts (silent_in x ts h.heard) text))
-part-lines tap start a b c d n x ts h counts text k w part =
-    AddPart-next a c d (n.got_o ∷ n.got_a ∷ []) n.trace [] (got_pieces x ts h.heard) text tt k.apart.0 (goes-on-to a b c n k.only k.reads)
-    (put-still tap start a b c n x ts h counts k) w part
-
 -- ---- nothing was read
 
 silent : (x : Tapping) (ts : List Turn) (heard : Both Heard) → IsSilent (silent_in x ts heard)
@@ -413,60 +398,6 @@ none-more tap x ts counts h eo ea Answerer =
       length-append {A = ℕ} x.bodies.answ (take counts.answ tap.answ.piece.items),
       length-take counts.answ tap.answ.piece.items,
     )
-
-pub ends-whole : KeepsTaken → (tap : Tap) (start a b c d : FolderState) (n : TapNames) (x : Tapping) (ts : List Turn) (h : Hearing)
-    (counts : Both ℕ) (turns : ℕ)
-    → HasPieces tap start a b c n x ts h counts → counts.orig ≡ 0 → counts.answ ≡ 0 → turns ≡ length ts + 1 → OnlyWrites c d n.trace
-    → Appended c d n.trace (turn_text (length ts) (silent_in x ts h.heard))
-    → EndsReading start a d n x ts (ends.IsDone turns)
-unfolding last-hears
-ends-whole law tap start a b c d n x ts h counts turns k eo ea number w put =
-    let t : Turn = silent_in x ts h.heard in
-    let y : Tapping = now_of tap x counts in (
-      record {
-        others = read_of tap x counts;
-        read = read-later start c d n (read_of tap x counts) k.apart (OnlyPuts-one c d (n.got_o ∷ n.got_a ∷ []) n.trace [] w)
-            k.pieces.read;
-        tells = tells-now tap x ts counts k.pieces.turn.behind.tells;
-        more = added x ts t (turn_text (length ts) t);
-        ended = record {
-          number = number;
-          last = last-hears y ts h (hears-now tap x ts h counts k.hears);
-          none = none-more tap x ts counts k.pieces.turn.behind eo ea;
-          leaves = leaves-turn law y ts t (turn_text (length ts) t);
-        };
-        writes = put-lines tap start a b c d n x ts h counts (turn_text (length ts) t) k w put;
-      },
-      k.pieces.out,
-    )
-
-pub stops-ending : (tap : Tap) (start a b c d : FolderState) (n : TapNames) (x : Tapping) (ts : List Turn) (h : Hearing) (counts : Both ℕ)
-    → HasPieces tap start a b c n x ts h counts → counts.orig ≡ 0 → counts.answ ≡ 0 → OnlyWrites c d n.trace
-    → PartlyAppended c d n.trace (turn_text (length ts) (silent_in x ts h.heard)) → StopsInTurn start a d n x ts
-unfolding last-hears
-stops-ending tap start a b c d n x ts h counts k eo ea w part =
-    let t : Turn = silent_in x ts h.heard in
-    let y : Tapping = now_of tap x counts in
-    record {
-      others = read_of tap x counts;
-      read = read-later start c d n (read_of tap x counts) k.apart (OnlyPuts-one c d (n.got_o ∷ n.got_a ∷ []) n.trace [] w)
-          k.pieces.read;
-      tells = tells-now tap x ts counts k.pieces.turn.behind.tells;
-      more = added x ts t (turn_text (length ts) t);
-      adds = inr (inl (
-        record {
-          turn = t;
-          makes = inr (record {
-            hears = (last-hears y ts h (hears-now tap x ts h counts k.hears)).hears;
-            silent = silent x ts h.heard;
-            none = none-more tap x ts counts k.pieces.turn.behind eo ea;
-          });
-          is = refl;
-        },
-        k.pieces.out,
-      ));
-      writes = part-lines tap start a b c d n x ts h counts (turn_text (length ts) t) k w part;
-    }
 
 -- ---- a slot is refused
 
@@ -553,34 +484,94 @@ to-go tap new x ts h counts slots k so read script turn at lo la po pa = record 
   answ_room = rw pa k.behind.answ_room;
 }
 
-pub goes-on-by : (tap new : Tap) (start a b c d : FolderState) (n : TapNames) (x : Tapping) (ts : List Turn) (h : Hearing) (counts : Both ℕ)
-    (slots : Both Slot) → HasPieces tap start a b c n x ts h counts
-    → TapAfter new (now_of tap x counts) (going_in (now_of tap x counts) ts h.heard slots ∷ ts)
-    → OnlyWrites c d n.trace
-    → Appended c d n.trace (turn_text (length ts) (going_in (now_of tap x counts) ts h.heard slots)) → GoesOnBy new start a d n x ts
-goes-on-by tap new start a b c d n x ts h counts slots k after w put = record {
-  others = read_of tap x counts;
-  read = read-later start c d n (read_of tap x counts) k.apart (OnlyPuts-one c d (n.got_o ∷ n.got_a ∷ []) n.trace [] w) k.pieces.read;
-  turn = going_in (now_of tap x counts) ts h.heard slots;
-  after = after;
-  writes = put-lines tap start a b c d n x ts h counts (turn_text (length ts) (going_in (now_of tap x counts) ts h.heard slots)) k w put;
-}
+module _ (tap : Tap) (start a b c d : FolderState) (n : TapNames) (x : Tapping) (ts : List Turn) (h : Hearing) (counts : Both ℕ)
+    (k : HasPieces tap start a b c n x ts h counts) (w : OnlyWrites c d n.trace) where
+  -- and the lines are written, or a part of them
+  put-lines : (text : List ℕ) → Appended c d n.trace text → AddEach a d (outputs_of n) (held_of (added x ts (silent_in x ts h.heard) text))
+  put-lines text put =
+      AddEach-next a c d (n.got_o ∷ n.got_a ∷ []) n.trace [] (got_pieces x ts h.heard) text tt k.apart.0 (goes-on-to a b c n k.only k.reads)
+      (put-still tap start a b c n x ts h counts k) w (inr put)
 
-pub stops-going : (tap mid : Tap) (start a b c d : FolderState) (n : TapNames) (x : Tapping) (ts : List Turn) (h : Hearing)
-    (counts : Both ℕ)
-    (slots : Both Slot) → HasPieces tap start a b c n x ts h counts → IsToGo mid (now_of tap x counts) ts h slots → OnlyWrites c d n.trace
-    → PartlyAppended c d n.trace (turn_text (length ts) (going_in (now_of tap x counts) ts h.heard slots)) → StopsInTurn start a d n x ts
-stops-going tap mid start a b c d n x ts h counts slots k go w part =
-    let y : Tapping = now_of tap x counts in
-    let t : Turn = going_in y ts h.heard slots in
-    record {
-      others = read_of tap x counts;
-      read = read-later start c d n (read_of tap x counts) k.apart (OnlyPuts-one c d (n.got_o ∷ n.got_a ∷ []) n.trace [] w) k.pieces.read;
-      tells = tells-now tap x ts counts k.pieces.turn.behind.tells;
-      more = added x ts t (turn_text (length ts) t);
-      adds = inr (inl (record { turn = t; makes = inl (goes-on y ts mid h slots go); is = refl }, k.pieces.out));
-      writes = part-lines tap start a b c d n x ts h counts (turn_text (length ts) t) k w part;
-    }
+  part-lines : (text : List ℕ) → PartlyAppended c d n.trace text
+      → AddPart a d (outputs_of n) (held_of (added x ts (silent_in x ts h.heard) text))
+  part-lines text part =
+      AddPart-next a c d (n.got_o ∷ n.got_a ∷ []) n.trace [] (got_pieces x ts h.heard) text tt k.apart.0 (goes-on-to a b c n k.only k.reads)
+      (put-still tap start a b c n x ts h counts k) w part
+
+  pub ends-whole : KeepsTaken → (turns : ℕ) → counts.orig ≡ 0 → counts.answ ≡ 0 → turns ≡ length ts + 1
+      → Appended c d n.trace (turn_text (length ts) (silent_in x ts h.heard)) → EndsReading start a d n x ts (ends.IsDone turns)
+  unfolding last-hears
+  ends-whole law turns eo ea number put =
+      let t : Turn = silent_in x ts h.heard in
+      let y : Tapping = now_of tap x counts in (
+        record {
+          others = read_of tap x counts;
+          read = read-later start c d n (read_of tap x counts) k.apart (OnlyPuts-one c d (n.got_o ∷ n.got_a ∷ []) n.trace [] w)
+              k.pieces.read;
+          tells = tells-now tap x ts counts k.pieces.turn.behind.tells;
+          more = added x ts t (turn_text (length ts) t);
+          ended = record {
+            number = number;
+            last = last-hears y ts h (hears-now tap x ts h counts k.hears);
+            none = none-more tap x ts counts k.pieces.turn.behind eo ea;
+            leaves = leaves-turn law y ts t (turn_text (length ts) t);
+          };
+          writes = put-lines (turn_text (length ts) t) put;
+        },
+        k.pieces.out,
+      )
+
+  pub stops-ending : counts.orig ≡ 0 → counts.answ ≡ 0 → PartlyAppended c d n.trace (turn_text (length ts) (silent_in x ts h.heard))
+      → StopsInTurn start a d n x ts
+  unfolding last-hears
+  stops-ending eo ea part =
+      let t : Turn = silent_in x ts h.heard in
+      let y : Tapping = now_of tap x counts in
+      record {
+        others = read_of tap x counts;
+        read = read-later start c d n (read_of tap x counts) k.apart (OnlyPuts-one c d (n.got_o ∷ n.got_a ∷ []) n.trace [] w)
+            k.pieces.read;
+        tells = tells-now tap x ts counts k.pieces.turn.behind.tells;
+        more = added x ts t (turn_text (length ts) t);
+        adds = inr (inl (
+          record {
+            turn = t;
+            makes = inr (record {
+              hears = (last-hears y ts h (hears-now tap x ts h counts k.hears)).hears;
+              silent = silent x ts h.heard;
+              none = none-more tap x ts counts k.pieces.turn.behind eo ea;
+            });
+            is = refl;
+          },
+          k.pieces.out,
+        ));
+        writes = part-lines (turn_text (length ts) t) part;
+      }
+
+  pub goes-on-by : (new : Tap) (slots : Both Slot)
+      → TapAfter new (now_of tap x counts) (going_in (now_of tap x counts) ts h.heard slots ∷ ts)
+      → Appended c d n.trace (turn_text (length ts) (going_in (now_of tap x counts) ts h.heard slots)) → GoesOnBy new start a d n x ts
+  goes-on-by new slots after put = record {
+    others = read_of tap x counts;
+    read = read-later start c d n (read_of tap x counts) k.apart (OnlyPuts-one c d (n.got_o ∷ n.got_a ∷ []) n.trace [] w) k.pieces.read;
+    turn = going_in (now_of tap x counts) ts h.heard slots;
+    after = after;
+    writes = put-lines (turn_text (length ts) (going_in (now_of tap x counts) ts h.heard slots)) put;
+  }
+
+  pub stops-going : (mid : Tap) (slots : Both Slot) → IsToGo mid (now_of tap x counts) ts h slots
+      → PartlyAppended c d n.trace (turn_text (length ts) (going_in (now_of tap x counts) ts h.heard slots)) → StopsInTurn start a d n x ts
+  stops-going mid slots go part =
+      let y : Tapping = now_of tap x counts in
+      let t : Turn = going_in y ts h.heard slots in
+      record {
+        others = read_of tap x counts;
+        read = read-later start c d n (read_of tap x counts) k.apart (OnlyPuts-one c d (n.got_o ∷ n.got_a ∷ []) n.trace [] w) k.pieces.read;
+        tells = tells-now tap x ts counts k.pieces.turn.behind.tells;
+        more = added x ts t (turn_text (length ts) t);
+        adds = inr (inl (record { turn = t; makes = inl (goes-on y ts mid h slots go); is = refl }, k.pieces.out));
+        writes = part-lines (turn_text (length ts) t) part;
+      }
 
 -- a whole slot was read of each recording
 pub whole-orig : (tap mid : Tap) (x : Tapping) (ts : List Turn) (h : Hearing) (counts : Both ℕ) (slots : Both Slot)

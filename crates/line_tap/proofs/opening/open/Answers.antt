@@ -92,7 +92,8 @@ returns-in-Err-open_header-2 g c =
           (ReadTo-none old n2 n.rec_a TAP_LIMIT c.in-Ok.ensures.opened.files.1.0 second.goes_on (second.names n.rec_a)))
           (stop-earlier old n2 n3 (n.rec_a ∷ []) [] c.in-Err-open_header-2.stop
           (CountsStand-trans (c.in-Ok.ensures.counts []) c.in-Ok-open_header.ensures.stand) (c.in-Err-open_header-2.ensures.counts []));
-      reads = OnlyReads-trans (OnlyReads-trans c.in-Ok.ensures.reads c.in-Ok-open_header.ensures.reads) c.in-Err-open_header-2.ensures.reads;
+      reads =
+          OnlyReads-trans (OnlyReads-trans c.in-Ok.ensures.reads c.in-Ok-open_header.ensures.reads) c.in-Err-open_header-2.ensures.reads;
       counts = λ outputs.
           stop-earlier old n2 n3 (inputs_of n) outputs c.in-Err-open_header-2.stop
           (CountsStand-trans (c.in-Ok.ensures.counts outputs) c.in-Ok-open_header.ensures.stand)

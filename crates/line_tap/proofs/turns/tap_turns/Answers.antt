@@ -22,8 +22,9 @@ loop-turns-preserved g c =
       script = c.in-Ok-Going.ensures.script ∙ i.script;
       reached = λ start k.
           let r = i.reached start k in
-          reached-going c.keeps_taken.ensures c.loop-turns.tap c.turn.new.self script start now next n r c.in-Ok-Going.ensures.only.goes_on
-          ((rw c.in-Ok-Going.field-0-is at c.in-Ok-Going.ensures.turn) start (tapping script r.bodies) r.turns r.after r.read);
+          reached-going c.loop-turns.tap script start now next n r c.in-Ok-Going.ensures.only.goes_on c.keeps_taken.ensures
+          c.turn.new.self ((rw c.in-Ok-Going.field-0-is at c.in-Ok-Going.ensures.turn) start (tapping script r.bodies) r.turns r.after
+          r.read);
       only = OnlyPuts-trans old now next (outputs_of n) i.only c.in-Ok-Going.ensures.only;
       stand = CountsStand-trans i.stand c.in-Ok-Going.ensures.counts;
     }
@@ -37,9 +38,9 @@ returns-in-Ok-Done g c = record {
       let script : ScriptValue = c.args.tap.now.script in
       let r = c.loop-turns.invariant.reached start k in
       let limits : IsInLimits script = subst IsInLimits c.loop-turns.invariant.script c.loop-turns.invariant.ready.limits in
-      reached-done c.loop-turns.tap script start now next n c.in-Ok-Done.turns r (c.slots_have_room.ensures.room script limits).0
-      c.in-Ok-Done.ensures.only.goes_on
-      ((rw c.in-Ok-Done.field-0-is at c.in-Ok-Done.ensures.turn) start (tapping script r.bodies) r.turns r.after r.read);
+      reached-done c.loop-turns.tap script start now next n r c.in-Ok-Done.ensures.only.goes_on c.in-Ok-Done.turns
+      (c.slots_have_room.ensures.room script limits).0 ((rw c.in-Ok-Done.field-0-is at c.in-Ok-Done.ensures.turn) start
+      (tapping script r.bodies) r.turns r.after r.read);
   only =
       OnlyPuts-trans (g.F.Folder.state c.args.folder.now) (g.F.Folder.state c.loop-turns.folder) (g.F.Folder.state c.turn.new.folder)
       (outputs_of (named c.args.names.now)) c.loop-turns.invariant.only c.in-Ok-Done.ensures.only;
@@ -55,8 +56,8 @@ returns-in-Err g c = record {
       let script : ScriptValue = c.args.tap.now.script in
       let r = c.loop-turns.invariant.reached start k in
       let limits : IsInLimits script = subst IsInLimits c.loop-turns.invariant.script c.loop-turns.invariant.ready.limits in
-      reached-stop c.loop-turns.tap script start now next n c.in-Err.stop r (c.slots_have_room.ensures.room script limits).0
-      c.in-Err.ensures.only.goes_on (c.in-Err.ensures.turn start (tapping script r.bodies) r.turns r.after r.read);
+      reached-stop c.loop-turns.tap script start now next n r c.in-Err.ensures.only.goes_on c.in-Err.stop
+      (c.slots_have_room.ensures.room script limits).0 (c.in-Err.ensures.turn start (tapping script r.bodies) r.turns r.after r.read);
   only =
       OnlyPuts-trans (g.F.Folder.state c.args.folder.now) (g.F.Folder.state c.loop-turns.folder) (g.F.Folder.state c.turn.new.folder)
       (outputs_of (named c.args.names.now)) c.loop-turns.invariant.only c.in-Err.ensures.only;

@@ -5,10 +5,11 @@ use Rattle.line_world.proofs.Handing.{writes-on, writes-none}
 use Rattle.lapm_receiver.specs.Taking.{Taking, StandsIn}
 use Rattle.line_tap.specs.declared.listener.EndListener.{EndListener}
 use Rattle.line_tap.specs.EndListener.{delivered}
-use Rattle.line_tap.proofs.Causes.{no-fault, cause-earlier}
+use Rattle.line_tap.proofs.Causes.{cause-earlier}
 use Rattle.line_tap.proofs.Listening.{listens-on, idle-again}
 use Rattle.line_tap.proofs.Handing.{fewer-ready, handing-starts, next-is, handing-next, handing-ends, handing-stops}
 use Rattle.line_tap.proofs.listener.EndListener.deliver.Goals as goal
+use Rattle.line_world.proofs.Offering.{no-fault}
 
 pub loop-segment-init : goal.loop-segment-init
 loop-segment-init g c = record {

@@ -56,11 +56,13 @@ returns c =
           finds-there c.args.framing.check c.args.framing.sender c.args.framing.dlci symbols c.args.phase bits c.frame_of.result long
           c.requires.phase
           (ap (bit_of bits) place ∙ sym c.bit_in.ensures ∙ c.if-not-bit_in.false)
-          (first-there laws c.args.framing.check c.args.framing.sender c.args.framing.dlci symbols c.args.phase bits c.end_of_piece.new.deframer
+          (first-there laws c.args.framing.check c.args.framing.sender c.args.framing.dlci symbols c.args.phase bits
+          c.end_of_piece.new.deframer
           c.in_ok-end.end c.whole.result.now c.frame_of.result c.requires.channel first (c.whole.ensures.value _ first.stands)
           c.frame_of.ensures.all);
       at =
-          found-at laws c.args.framing.check c.args.framing.sender c.args.framing.dlci c.args.phase bits _ c.whole.result.now c.frame_of.result
+          found-at laws c.args.framing.check c.args.framing.sender c.args.framing.dlci c.args.phase bits _ c.whole.result.now
+          c.frame_of.result
           c.requires.channel first (c.whole.ensures.value _ first.stands) (c.whole.ensures.lent _ first.stands) c.frame_of.ensures.is;
       sendable = search rules;
     }

@@ -21,7 +21,11 @@ returns-in-Err g c =
       stands = tt;
       ok = tt;
       err = λ x ts heard h.
-          inl (c.in-Err.ensures.err _ h.orig.takes, KeepsEach-writes a b n.got_o (n.got_a ∷ n.trace ∷ []) c.requires.0.0 c.in-Err.ensures.only);
+          inl (
+            c.in-Err.ensures.err _ h.orig.takes,
+            KeepsEach-writes a b n.got_o (n.got_a ∷ n.trace ∷ []) c.requires.0.0
+                c.in-Err.ensures.only,
+          );
       orig = tt;
       answ = tt;
       turn = refl;

@@ -23,12 +23,12 @@ returns-in-Err g c =
     let n : TapNames = named c.args.names.now in
     record {
       meets = λ start x ts number tells e read.
-          stops-at-chance start (g.F.Folder.state c.args.folder.now) (g.F.Folder.state c.append_chance.new.folder) (named c.args.names.now) x ts
-          c.args.role
+          stops-at-chance start (g.F.Folder.state c.args.folder.now) (g.F.Folder.state c.append_chance.new.folder)
+          (named c.args.names.now) x ts c.args.role
           c.args.self.now.turn c.requires tells read e number c.in-Err.ensures.only c.in-Err.ensures.err;
       only =
-          OnlyPuts-one (g.F.Folder.state c.args.folder.now) (g.F.Folder.state c.append_chance.new.folder) (n.got_o ∷ n.got_a ∷ []) n.trace []
-          c.in-Err.ensures.only;
+          OnlyPuts-one (g.F.Folder.state c.args.folder.now) (g.F.Folder.state c.append_chance.new.folder) (n.got_o ∷ n.got_a ∷ []) n.trace
+          [] c.in-Err.ensures.only;
       counts =
           let old = g.F.Folder.state c.args.folder.now in
           let new = g.F.Folder.state c.append_chance.new.folder in

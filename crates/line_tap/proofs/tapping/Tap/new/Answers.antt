@@ -64,8 +64,8 @@ returns c =
             what = x;
             turns = [];
             after =
-                after-none tap c.agree-terms.result x c.slot_symbols-symbols.result refl terms c.slot_symbols-symbols.ensures.value refl refl
-                c.in_ok-orig.ensures.listens c.in_ok-answ.ensures.listens
+                after-none tap c.agree-terms.result x c.slot_symbols-symbols.result refl terms c.slot_symbols-symbols.ensures.value refl
+                refl c.in_ok-orig.ensures.listens c.in_ok-answ.ensures.listens
                 (c.in_ok-orig.ensures.reads (line_of x) (sym c.slot_symbols-symbols.ensures.value) refl)
                 (c.in_ok-answ.ensures.reads (line_of x) (sym c.slot_symbols-symbols.ensures.value) refl) c.in_ok-orig.ensures.room
                 c.in_ok-answ.ensures.room (c.in_ok-lines.ensures 0 (λ role turn. None));

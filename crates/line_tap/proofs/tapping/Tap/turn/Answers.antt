@@ -1,4 +1,4 @@
-use Rattle.std.proofs.Common.{◌≡◌, ◌+◌, ◌∙◌, refl, sym, ap, subst}
+use Rattle.std.proofs.Common.{List, ◌≡◌, ◌+◌, ◌∙◌, refl, sym, ap, subst}
 use Rattle.noise_script.specs.Script.{IsInLimits}
 use Rattle.outside_calls.specs.Folder.{FolderState}
 use Rattle.outside_calls.proofs.Steps.{CountsStand-refl, CountsStand-trans}
@@ -8,13 +8,40 @@ use Rattle.line_tap.specs.Ends.{EndsLine}
 use Rattle.command_base.specs.declared.stop.Stop.TheVariants.{Read, Write}
 use Rattle.command_base.proofs.Jobs.{stop-earlier}
 use Rattle.line_tap.specs.Names.{TapNames, named, outputs_of, recordings_of}
-use Rattle.line_tap.specs.Tap.{IsToGo, going_in, slots_as}
+use Rattle.link_run.specs.Run.{Turn}
+use Rattle.line_tap.specs.Tapping.{Tapping}
+use Rattle.line_tap.specs.Tap.{AreReadTo, HearsSo, InTurn, IsToGo, TapAfter, going_in, slots_as}
 use Rattle.line_tap.proofs.Turning.{HasPieces, now_of, loses-line, stops-delivering, stops-reading, ends-whole, stops-ending, ends-badly}
 use Rattle.line_tap.proofs.Turning.{so-heard, has-pieces, only-read}
 use Rattle.line_tap.proofs.Turning.{is-stopped, is-done, within-still, early-still, nearer-by, within-by}
 use Rattle.line_tap.proofs.Turning.{to-go, goes-on-by, stops-going, only-written, whole-orig, some-octets, ready-again}
+use Rattle.line_tap.proofs.tapping.Tap.turn.Given.{Over}
+use Rattle.line_tap.proofs.tapping.Tap.turn.Goals.{In-Ok-read, In-Ok-look}
 use Rattle.line_tap.proofs.tapping.Tap.turn.Goals as goal
 use Rattle.line_world.specs.Faults.{end_of}
+
+-- both pieces were read
+pieces-read : (g : Over) (c : In-Ok-read g) (start : FolderState) (x : Tapping) (ts : List Turn) → TapAfter c.args.self.now x ts
+    → AreReadTo start (g.F.Folder.state c.args.folder.now) (named c.args.names.now) x.bodies
+    → HasPieces c.read.new.self start (g.F.Folder.state c.args.folder.now) (g.F.Folder.state c.deliver.new.folder)
+    (g.F.Folder.state c.read.new.folder) (named c.args.names.now) x ts c.in-Ok.hearing c.in-Ok-read.counts
+pieces-read g c start x ts h read =
+    has-pieces c.hear.new.self c.deliver.new.self c.read.new.self start (g.F.Folder.state c.args.folder.now)
+    (g.F.Folder.state c.deliver.new.folder) (g.F.Folder.state c.read.new.folder) (named c.args.names.now) x ts c.in-Ok.hearing
+    c.in-Ok-read.counts c.requires.apart read (c.in-Ok.ensures.hears x ts h) c.in-Ok-deliver.ensures.only c.in-Ok-read.ensures.reads
+    (c.in-Ok-deliver.ensures.ok x ts c.in-Ok.hearing.heard) (c.in-Ok-deliver.ensures.stands x ts c.in-Ok.hearing.heard)
+    (c.in-Ok-read.ensures.pieces start x ts c.in-Ok.hearing.heard)
+
+-- both were looked at, and the turn goes on
+going-on : (g : Over) (c : In-Ok-look g) (x : Tapping) (ts : List Turn) → InTurn c.read.new.self x ts c.in-Ok.hearing.heard
+    → HearsSo x ts c.in-Ok.hearing
+    → IsToGo c.look.new.self (now_of c.read.new.self x c.in-Ok-read.counts) ts c.in-Ok.hearing
+    (slots_as c.in-Ok-look.sent c.look.new.labels)
+going-on g c x ts turn hears =
+    to-go c.read.new.self c.look.new.self x ts c.in-Ok.hearing c.in-Ok-read.counts (slots_as c.in-Ok-look.sent c.look.new.labels) turn hears
+    (c.in-Ok-look.ensures.looks x ts c.in-Ok.hearing.heard turn) c.in-Ok-look.ensures.script c.in-Ok-look.ensures.turn
+    c.in-Ok-look.ensures.at c.in-Ok-look.ensures.orig c.in-Ok-look.ensures.answ c.in-Ok-look.ensures.orig_piece
+    c.in-Ok-look.ensures.answ_piece
 
 pub returns-in-Ok-go_on : goal.returns-in-Ok-go_on
 returns-in-Ok-go_on g c =
@@ -33,32 +60,17 @@ returns-in-Ok-go_on g c =
           let r : FolderState = g.F.Folder.state c.read.new.folder in
           let n : TapNames = named c.args.names.now in
           let d : FolderState = g.F.Folder.state c.go_on.new.folder in
-          let k : HasPieces c.read.new.self start a b r n x ts c.in-Ok.hearing c.in-Ok-read.counts =
-          has-pieces c.hear.new.self c.deliver.new.self c.read.new.self start a b r n x ts c.in-Ok.hearing c.in-Ok-read.counts c.requires.apart
-          read (c.in-Ok.ensures.hears x ts h) c.in-Ok-deliver.ensures.only c.in-Ok-read.ensures.reads
-          (c.in-Ok-deliver.ensures.ok x ts c.in-Ok.hearing.heard) (c.in-Ok-deliver.ensures.stands x ts c.in-Ok.hearing.heard)
-          (c.in-Ok-read.ensures.pieces start x ts c.in-Ok.hearing.heard) in
-          let go : IsToGo c.look.new.self (now_of c.read.new.self x c.in-Ok-read.counts) ts c.in-Ok.hearing
-          (slots_as c.in-Ok-look.sent c.look.new.labels) =
-          to-go c.read.new.self c.look.new.self x ts c.in-Ok.hearing c.in-Ok-read.counts (slots_as c.in-Ok-look.sent c.look.new.labels)
-          k.pieces.turn k.hears
-          (c.in-Ok-look.ensures.looks x ts c.in-Ok.hearing.heard k.pieces.turn) c.in-Ok-look.ensures.script c.in-Ok-look.ensures.turn
-          c.in-Ok-look.ensures.at c.in-Ok-look.ensures.orig c.in-Ok-look.ensures.answ c.in-Ok-look.ensures.orig_piece
-          c.in-Ok-look.ensures.answ_piece in
+          let k = pieces-read g (goal.at.returns-in-Ok-go_on g c).In-Ok-read start x ts h read in
+          let go = going-on g (goal.at.returns-in-Ok-go_on g c).In-Ok-look x ts k.pieces.turn k.hears in
           let after = c.in-Ok-go_on.ensures.ok (now_of c.read.new.self x c.in-Ok-read.counts) ts go in
-          goes-on-by c.read.new.self c.go_on.new.self start a b r d n x ts c.in-Ok.hearing c.in-Ok-read.counts
-          (slots_as c.in-Ok-look.sent c.look.new.labels) k after.0
-          c.in-Ok-go_on.ensures.only after.1;
+          goes-on-by c.read.new.self start a b r d n x ts c.in-Ok.hearing c.in-Ok-read.counts k c.in-Ok-go_on.ensures.only
+          c.go_on.new.self (slots_as c.in-Ok-look.sent c.look.new.labels) after.0 after.1;
       script =
           c.in-Ok-go_on.ensures.script ∙ c.in-Ok-look.ensures.script ∙ c.in-Ok-read.ensures.script
           ∙ c.in-Ok-deliver.ensures.script ∙ c.in-Ok.ensures.script;
       ready = λ same.
-          let go : IsToGo c.look.new.self (now_of c.read.new.self x c.in-Ok-read.counts) ts c.in-Ok.hearing
-          (slots_as c.in-Ok-look.sent c.look.new.labels) =
-          to-go c.read.new.self c.look.new.self x ts c.in-Ok.hearing c.in-Ok-read.counts (slots_as c.in-Ok-look.sent c.look.new.labels) turn
-          (so-heard c.hear.new.self x ts c.in-Ok.hearing heard) (c.in-Ok-look.ensures.looks x ts c.in-Ok.hearing.heard turn)
-          c.in-Ok-look.ensures.script c.in-Ok-look.ensures.turn c.in-Ok-look.ensures.at
-          c.in-Ok-look.ensures.orig c.in-Ok-look.ensures.answ c.in-Ok-look.ensures.orig_piece c.in-Ok-look.ensures.answ_piece in
+          let go = going-on g (goal.at.returns-in-Ok-go_on g c).In-Ok-look x ts turn (so-heard c.hear.new.self x ts c.in-Ok.hearing heard)
+          in
           let same : c.look.new.self.at ≡ c.args.self.now.at =
           c.in-Ok-look.ensures.at ∙ c.in-Ok-read.ensures.at ∙ c.in-Ok-deliver.ensures.at ∙ c.in-Ok.ensures.at in
           let more = nearer-by c.args.self.now c.look.new.self c.go_on.new.self same room c.in-Ok-go_on.ensures.at in
@@ -69,8 +81,8 @@ returns-in-Ok-go_on g c =
           c.in-Ok-read.ensures.at
           c.in-Ok-look.ensures.at c.in-Ok-look.ensures.orig_piece whole c.in-Ok-read.ensures.within c.in-Ok-go_on.ensures.at in
           ready-again c.args.self.now c.deliver.new.self c.go_on.new.self (now_of c.read.new.self x c.in-Ok-read.counts)
-          (going_in (now_of c.read.new.self x c.in-Ok-read.counts) ts c.in-Ok.hearing.heard (slots_as c.in-Ok-look.sent c.look.new.labels)) ts
-          r0
+          (going_in (now_of c.read.new.self x c.in-Ok-read.counts) ts c.in-Ok.hearing.heard
+          (slots_as c.in-Ok-look.sent c.look.new.labels)) ts r0
           (c.in-Ok-go_on.ensures.ok (now_of c.read.new.self x c.in-Ok-read.counts) ts go).0
           (c.in-Ok-go_on.ensures.script ∙ c.in-Ok-look.ensures.script ∙ c.in-Ok-read.ensures.script ∙ c.in-Ok-deliver.ensures.script
           ∙ c.in-Ok.ensures.script) (c.in-Ok-deliver.ensures.orig (c.args.self.now.turn + 1) c.in-Ok.ensures.orig)
@@ -78,12 +90,14 @@ returns-in-Ok-go_on g c =
           (c.in-Ok-go_on.ensures.orig ∙ c.in-Ok-look.ensures.orig ∙ c.in-Ok-read.ensures.orig)
           (c.in-Ok-go_on.ensures.answ ∙ c.in-Ok-look.ensures.answ ∙ c.in-Ok-read.ensures.answ)
           (c.in-Ok-go_on.ensures.turn
-          ∙ ap (λ n. n + 1) (c.in-Ok-look.ensures.turn ∙ c.in-Ok-read.ensures.turn ∙ c.in-Ok-deliver.ensures.turn ∙ c.in-Ok.ensures.turn)) more
-          within;
+          ∙ ap (λ n. n + 1) (c.in-Ok-look.ensures.turn ∙ c.in-Ok-read.ensures.turn ∙ c.in-Ok-deliver.ensures.turn ∙ c.in-Ok.ensures.turn))
+          more within;
       nearer = λ same.
           nearer-by c.args.self.now c.look.new.self c.go_on.new.self
-          (c.in-Ok-look.ensures.at ∙ c.in-Ok-read.ensures.at ∙ c.in-Ok-deliver.ensures.at ∙ c.in-Ok.ensures.at) room c.in-Ok-go_on.ensures.at;
-      only = only-written _ _ _ _ (named c.args.names.now) c.in-Ok-deliver.ensures.only c.in-Ok-read.ensures.reads c.in-Ok-go_on.ensures.only;
+          (c.in-Ok-look.ensures.at ∙ c.in-Ok-read.ensures.at ∙ c.in-Ok-deliver.ensures.at ∙ c.in-Ok.ensures.at) room
+          c.in-Ok-go_on.ensures.at;
+      only =
+          only-written _ _ _ _ (named c.args.names.now) c.in-Ok-deliver.ensures.only c.in-Ok-read.ensures.reads c.in-Ok-go_on.ensures.only;
       counts = CountsStand-trans (CountsStand-trans c.in-Ok-deliver.ensures.stand c.in-Ok-read.ensures.stand) c.in-Ok-go_on.ensures.stand;
     }
 
@@ -116,15 +130,10 @@ returns-in-Ok-finish g c = record {
       let r : FolderState = g.F.Folder.state c.read.new.folder in
       let n : TapNames = named c.args.names.now in
       let d : FolderState = g.F.Folder.state c.finish.new.folder in
-      let k : HasPieces c.read.new.self start a b r n x ts c.in-Ok.hearing c.in-Ok-read.counts =
-      has-pieces c.hear.new.self c.deliver.new.self c.read.new.self start a b r n x ts c.in-Ok.hearing c.in-Ok-read.counts c.requires.apart
-      read (c.in-Ok.ensures.hears x ts h) c.in-Ok-deliver.ensures.only c.in-Ok-read.ensures.reads
-      (c.in-Ok-deliver.ensures.ok x ts c.in-Ok.hearing.heard) (c.in-Ok-deliver.ensures.stands x ts c.in-Ok.hearing.heard)
-      (c.in-Ok-read.ensures.pieces start x ts c.in-Ok.hearing.heard) in
-      ends-whole c.keeps_taken.ensures c.read.new.self start a b r d n x ts c.in-Ok.hearing c.in-Ok-read.counts (c.read.new.self.turn + 1) k
-      (c.if-are_none.ensures.orig refl) (c.if-are_none.ensures.answ refl) (ap (λ m. m + 1) k.pieces.turn.behind.turn)
-      c.in-Ok-finish.ensures.only
-      (c.in-Ok-finish.ensures.ok x ts k.pieces.turn.behind.turn k.hears);
+      let k = pieces-read g (goal.at.returns-in-Ok-finish g c).In-Ok-read start x ts h read in
+      ends-whole c.read.new.self start a b r d n x ts c.in-Ok.hearing c.in-Ok-read.counts k c.in-Ok-finish.ensures.only
+      c.keeps_taken.ensures (c.read.new.self.turn + 1) (c.if-are_none.ensures.orig refl) (c.if-are_none.ensures.answ refl)
+      (ap (λ m. m + 1) k.pieces.turn.behind.turn) (c.in-Ok-finish.ensures.ok x ts k.pieces.turn.behind.turn k.hears);
   script = c.in-Ok-read.ensures.script ∙ c.in-Ok-deliver.ensures.script ∙ c.in-Ok.ensures.script;
   ready = λ same. is-done same;
   nearer = λ same. is-done same;
@@ -140,13 +149,9 @@ returns-in-Err-finish g c = record {
       let r : FolderState = g.F.Folder.state c.read.new.folder in
       let n : TapNames = named c.args.names.now in
       let d : FolderState = g.F.Folder.state c.finish.new.folder in
-      let k : HasPieces c.read.new.self start a b r n x ts c.in-Ok.hearing c.in-Ok-read.counts =
-      has-pieces c.hear.new.self c.deliver.new.self c.read.new.self start a b r n x ts c.in-Ok.hearing c.in-Ok-read.counts c.requires.apart
-      read (c.in-Ok.ensures.hears x ts h) c.in-Ok-deliver.ensures.only c.in-Ok-read.ensures.reads
-      (c.in-Ok-deliver.ensures.ok x ts c.in-Ok.hearing.heard) (c.in-Ok-deliver.ensures.stands x ts c.in-Ok.hearing.heard)
-      (c.in-Ok-read.ensures.pieces start x ts c.in-Ok.hearing.heard) in
-      stops-ending c.read.new.self start a b r d n x ts c.in-Ok.hearing c.in-Ok-read.counts k
-      (c.if-are_none.ensures.orig refl) (c.if-are_none.ensures.answ refl) c.in-Err-finish.ensures.only
+      let k = pieces-read g (goal.at.returns-in-Err-finish g c).In-Ok-read start x ts h read in
+      stops-ending c.read.new.self start a b r d n x ts c.in-Ok.hearing c.in-Ok-read.counts k c.in-Err-finish.ensures.only
+      (c.if-are_none.ensures.orig refl) (c.if-are_none.ensures.answ refl)
       (c.in-Err-finish.ensures.err x ts k.pieces.turn.behind.turn k.hears);
   script = c.in-Ok-read.ensures.script ∙ c.in-Ok-deliver.ensures.script ∙ c.in-Ok.ensures.script;
   ready = λ same. is-stopped same;
@@ -165,11 +170,7 @@ returns-in-Err-look g c = record {
       let b : FolderState = g.F.Folder.state c.deliver.new.folder in
       let r : FolderState = g.F.Folder.state c.read.new.folder in
       let n : TapNames = named c.args.names.now in
-      let k : HasPieces c.read.new.self start a b r n x ts c.in-Ok.hearing c.in-Ok-read.counts =
-      has-pieces c.hear.new.self c.deliver.new.self c.read.new.self start a b r n x ts c.in-Ok.hearing c.in-Ok-read.counts c.requires.apart
-      read (c.in-Ok.ensures.hears x ts h) c.in-Ok-deliver.ensures.only c.in-Ok-read.ensures.reads
-      (c.in-Ok-deliver.ensures.ok x ts c.in-Ok.hearing.heard) (c.in-Ok-deliver.ensures.stands x ts c.in-Ok.hearing.heard)
-      (c.in-Ok-read.ensures.pieces start x ts c.in-Ok.hearing.heard) in
+      let k = pieces-read g (goal.at.returns-in-Err-look g c).In-Ok-read start x ts h read in
       ends-badly c.keeps_taken.ensures c.read.new.self start a b r n x ts c.in-Ok.hearing c.in-Ok-read.counts c.in-Err-look.role
       c.look.new.self.turn k
       (c.if-are_none.ensures.some refl) (c.in-Err-look.ensures.turn ∙ k.pieces.turn.behind.turn)
@@ -191,21 +192,10 @@ returns-in-Err-go_on g c = record {
       let r : FolderState = g.F.Folder.state c.read.new.folder in
       let n : TapNames = named c.args.names.now in
       let d : FolderState = g.F.Folder.state c.go_on.new.folder in
-      let k : HasPieces c.read.new.self start a b r n x ts c.in-Ok.hearing c.in-Ok-read.counts =
-      has-pieces c.hear.new.self c.deliver.new.self c.read.new.self start a b r n x ts c.in-Ok.hearing c.in-Ok-read.counts c.requires.apart
-      read (c.in-Ok.ensures.hears x ts h) c.in-Ok-deliver.ensures.only c.in-Ok-read.ensures.reads
-      (c.in-Ok-deliver.ensures.ok x ts c.in-Ok.hearing.heard) (c.in-Ok-deliver.ensures.stands x ts c.in-Ok.hearing.heard)
-      (c.in-Ok-read.ensures.pieces start x ts c.in-Ok.hearing.heard) in
-      let go : IsToGo c.look.new.self (now_of c.read.new.self x c.in-Ok-read.counts) ts c.in-Ok.hearing
-      (slots_as c.in-Ok-look.sent c.look.new.labels) =
-      to-go c.read.new.self c.look.new.self x ts c.in-Ok.hearing c.in-Ok-read.counts (slots_as c.in-Ok-look.sent c.look.new.labels)
-      k.pieces.turn k.hears
-      (c.in-Ok-look.ensures.looks x ts c.in-Ok.hearing.heard k.pieces.turn) c.in-Ok-look.ensures.script c.in-Ok-look.ensures.turn
-      c.in-Ok-look.ensures.at c.in-Ok-look.ensures.orig c.in-Ok-look.ensures.answ c.in-Ok-look.ensures.orig_piece
-      c.in-Ok-look.ensures.answ_piece in
-      stops-going c.read.new.self c.look.new.self start a b r d n x ts c.in-Ok.hearing c.in-Ok-read.counts
-      (slots_as c.in-Ok-look.sent c.look.new.labels) k go
-      c.in-Err-go_on.ensures.only (c.in-Err-go_on.ensures.err (now_of c.read.new.self x c.in-Ok-read.counts) ts go);
+      let k = pieces-read g (goal.at.returns-in-Err-go_on g c).In-Ok-read start x ts h read in
+      let go = going-on g (goal.at.returns-in-Err-go_on g c).In-Ok-look x ts k.pieces.turn k.hears in
+      stops-going c.read.new.self start a b r d n x ts c.in-Ok.hearing c.in-Ok-read.counts k c.in-Err-go_on.ensures.only c.look.new.self
+      (slots_as c.in-Ok-look.sent c.look.new.labels) go (c.in-Err-go_on.ensures.err (now_of c.read.new.self x c.in-Ok-read.counts) ts go);
   script =
       c.in-Err-go_on.ensures.script ∙ c.in-Ok-look.ensures.script ∙ c.in-Ok-read.ensures.script
       ∙ c.in-Ok-deliver.ensures.script ∙ c.in-Ok.ensures.script;
@@ -301,11 +291,6 @@ go_on-requires g c = record {
       let heard = c.in-Ok.ensures.hears x ts r0.after in
       let turn = c.in-Ok-read.ensures.stands x ts c.in-Ok.hearing.heard
       (c.in-Ok-deliver.ensures.stands x ts c.in-Ok.hearing.heard heard.0) in
-      let go : IsToGo c.look.new.self (now_of c.read.new.self x c.in-Ok-read.counts) ts c.in-Ok.hearing
-      (slots_as c.in-Ok-look.sent c.look.new.labels) =
-      to-go c.read.new.self c.look.new.self x ts c.in-Ok.hearing c.in-Ok-read.counts (slots_as c.in-Ok-look.sent c.look.new.labels) turn
-      (so-heard c.hear.new.self x ts c.in-Ok.hearing heard) (c.in-Ok-look.ensures.looks x ts c.in-Ok.hearing.heard turn)
-      c.in-Ok-look.ensures.script c.in-Ok-look.ensures.turn c.in-Ok-look.ensures.at
-      c.in-Ok-look.ensures.orig c.in-Ok-look.ensures.answ c.in-Ok-look.ensures.orig_piece c.in-Ok-look.ensures.answ_piece in
+      let go = going-on g (goal.at.go_on-requires g c).In-Ok-look x ts turn (so-heard c.hear.new.self x ts c.in-Ok.hearing heard) in
       (now_of c.read.new.self x c.in-Ok-read.counts, ts, go);
 }
