@@ -130,22 +130,7 @@ own-is : (old before : FolderState) (n : DecodeNames) (answer : Status) → Ends
 own-is old before n (TooLong word) e = is_long (ap TooLong e.0) e.1 e.2
 own-is old before n (BadRecording at) e = is_bad at refl e
 own-is old before n (LineLost role symbol) e = is_lost role symbol refl e.0 e.1
-own-is old before n Done e = absurd e
-own-is old before n Usage e = absurd e
-own-is old before n (BadScript line cause) e = absurd e
-own-is old before n (BadHex at) e = absurd e
-own-is old before n (BadXid fault) e = absurd e
-own-is old before n ReadFault e = absurd e
-own-is old before n WriteFault e = absurd e
-own-is old before n (NotDetected turn) e = absurd e
-own-is old before n (LinkLost role segment turn) e = absurd e
-own-is old before n (ChanceMatch role turn) e = absurd e
-own-is old before n status.NoMemory e = absurd e
-own-is old before n (status.PeerFault fault turn) e = absurd e
-own-is old before n (status.AuditNo line cause) e = absurd e
-own-is old before n (status.BadTap role turn) e = absurd e
-own-is old before n (status.PairLinkLost link role segment turn) e = absurd e
-own-is old before n (status.PairNotDetected link turn) e = absurd e
+own-is old before n other e = absurd e
 
 own-left : (old before : FolderState) (n : DecodeNames) (answer : Status) → GoesOn old before → OwnIs old before n answer
     → Left old before n

@@ -46,6 +46,5 @@ not-opened old new n (Own answer) reads (inl long, stand) = subst (EndsOwn old n
 not-opened old new n (Own answer) reads (inr bad, stand) =
     subst (EndsOwn old new n) (sym bad.1) (inl (record { keeps = reads.names; header = bad.2 }))
 not-opened old new n (Read fault) reads fails = inl reads.names
-not-opened old new n (Write fault) reads never = absurd never
 not-opened old new n (Say fault) reads never = never
-not-opened old new n NoMemory reads never = absurd never
+not-opened old new n other reads never = absurd never

@@ -210,17 +210,14 @@ pub not-begun : (old new : FolderState) (n : EncodeNames) (stop : Stop) → Only
 not-begun old new n (Own answer) reads long = (long.0, reads.names, long.1)
 not-begun old new n (Read fault) reads fails = inl (reads.names n.rec)
 not-begun old new n (Write fault) reads never = absurd never
-not-begun old new n (Say fault) reads never = never
-not-begun old new n NoMemory reads never = never
+not-begun old new n other reads never = never
 
 -- what was counted then: a fault of the file, or nothing
 pub refused-counts : (old new : FolderState) (n : EncodeNames) (stop : Stop) → IsNotWithin old new n.file FILE_LIMIT 2 stop
     → StopCounts old new (n.file ∷ []) (n.rec ∷ []) stop
 refused-counts old new n (Own answer) why = (subst IsOwn (sym why.0) tt, why.2)
 refused-counts old new n (Read fault) why = why
-refused-counts old new n (Write fault) never = absurd never
-refused-counts old new n (Say fault) never = absurd never
-refused-counts old new n NoMemory never = absurd never
+refused-counts old new n other never = absurd never
 
 -- ---- the output alone is touched
 

@@ -190,6 +190,4 @@ stops-longer start now mode samples more (Own answer) (role, symbol, e, l) = (
 )
 stops-longer start now mode samples more (Say fault) s =
     record { first = s.first; followed = followed-longer samples more s.first s.followed; says = s.says }
-stops-longer start now mode samples more (Read fault) never = never
-stops-longer start now mode samples more (Write fault) never = never
-stops-longer start now mode samples more NoMemory never = never
+stops-longer start now mode samples more other never = never
