@@ -1,7 +1,6 @@
 -- The least keys of eight states, each of 32 bits, stand for those of the definition.
 use Rattle.std.proofs.Common.{◌≡◌, ℕ, zero, suc, ◌+◌, ◌-◌, ◌*◌, ◌/◌, ◌%◌, ◌<◌, ◌≤◌, ◌^◌, min, inl, inr, List, [], ◌∷◌, slice_index, refl}
-use Rattle.std.proofs.Common.{arith, sym, ◌∙◌}
-use Rattle.std.proofs.Common.{ap, subst}
+use Rattle.std.proofs.Common.{arith, sym, ◌∙◌, ap, subst}
 use Rattle.std.specs.Simd.Lanes.{zip2}
 use Rattle.std.proofs.Math.Nat.{min-le_left, min-le_right}
 use Rattle.symbol_map.specs.Points.{point_of}
@@ -10,16 +9,14 @@ use Rattle.exact_decoder.specs.Keys.{IsNearest, AreClose, IsLeastWay}
 use Rattle.exact_decoder.specs.Settled.{far_key, leveled, choice_in, chosen}
 use Rattle.exact_decoder.specs.Advances.{Advances}
 use Rattle.exact_decoder.specs.Lines.{least_four, words, sample_at, nearest_000, nearest_001, nearest_010, nearest_011, nearest_100}
-use Rattle.exact_decoder.specs.Lines.{nearest_101}
-use Rattle.exact_decoder.specs.Lines.{nearest_110, nearest_111}
+use Rattle.exact_decoder.specs.Lines.{nearest_101, nearest_110, nearest_111}
 use Rattle.exact_decoder.specs.Traced.{choice_by}
 use Rattle.exact_decoder.proofs.Keeping.{leveled-near, settled-near}
 use Rattle.exact_decoder.proofs.Vectors.{each_of_four, each_of_eight}
 use Rattle.exact_decoder.proofs.Subsets.{min-one}
 use Rattle.exact_decoder.proofs.Axes.{above-0}
 use Rattle.exact_decoder.proofs.MapKeys.{StandsFor, IsNearestKey, IsLeastOfFour, four_keys, length_of, in_order, least_of_four, nearest-000}
-use Rattle.exact_decoder.proofs.MapKeys.{nearest-001}
-use Rattle.exact_decoder.proofs.MapKeys.{nearest-010, nearest-011, nearest-100, nearest-101, nearest-110, nearest-111}
+use Rattle.exact_decoder.proofs.MapKeys.{nearest-001, nearest-010, nearest-011, nearest-100, nearest-101, nearest-110, nearest-111}
 
 -- the key by way of one
 by_way : {x y subset key : ℕ} (metric state : ℕ) → state < 8 → (n : IsNearestKey x y subset key)
@@ -200,7 +197,8 @@ advances x y a b c d e f g h z lx ly few least =
     subst (λ n. StandsFor x y n (slice_index keys least.place)) (sym least.is) (stands least.place least.within) in
     let level = λ (s : ℕ) (l : s < 8). level-is x y (k s) (slice_index keys s) z (slice_index keys least.place) s lx ly (few s l)
     (least.below_each s l) (stands s l) under in
-    let choice = λ (s : ℕ) (l : s < 8). choice-is x y (k s) (slice_index keys s) (slice_index keys least.place) lx ly (few s l) (stands s l) in
+    let choice = λ (s : ℕ) (l : s < 8). choice-is x y (k s) (slice_index keys s) (slice_index keys least.place) lx ly (few s l)
+    (stands s l) in
     record {
       nearest = labels;
       entered = keys;

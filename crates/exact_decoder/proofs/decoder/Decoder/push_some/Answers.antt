@@ -89,7 +89,9 @@ module _ (g : Over) (c : After-release g) where
   room = g.row.DEPTH + 1 - c.unreleased.result
 
   long : length hears ≡ c.min-heard.result
-  long = length-take-le c.min-heard.result c.args.samples.now (heard-within (length c.args.samples.now) room c.min-heard.result c.min-heard.ensures)
+  long =
+      length-take-le c.min-heard.result c.args.samples.now (heard-within (length c.args.samples.now) room c.min-heard.result
+      c.min-heard.ensures)
 
   few : c.self.inside.count + length hears ≤ 2 ^ 56
   few =
@@ -111,7 +113,8 @@ module _ (g : Over) (c : After-release g) where
       (ap (λ n. c.self.inside.count + n) (sym long)) c.push_each.ensures.stepped c.release.ensures.released refl
       (All-turned (λ x. x < g.row.LABELS) c.release.new.labels c.release.ensures.below)
 
-  pushed : (lost : Option ℕ) → Pushed g.C.TrellisCode.table g.C.TrellisCode.points g.row.STATES g.C.TrellisCode.REACH hears before (behind lost)
+  pushed : (lost : Option ℕ) → Pushed g.C.TrellisCode.table g.C.TrellisCode.points g.row.STATES g.C.TrellisCode.REACH hears before
+      (behind lost)
   unfolding opened
   pushed lost =
       let none : before.pending ≡ [] = subst (λ v. v.pending ≡ []) (sym c.self.view_is) c.requires.taken in
@@ -154,7 +157,7 @@ unfolding opened
 returns-clause-stands g c = λ starts past taken h.
     let t = g.C.TrellisCode in
     let m = (goal.at.returns-clause-stands g c).After-release in
-    stands-goes_on t.table t.points g.row.STATES t.REACH g.row.DEPTH starts (hears g m) (before g m) (behind g m c.self.inside.lost) past taken
-    c.in_default.is (fits g m) (pushed g m c.self.inside.lost)
+    stands-goes_on t.table t.points g.row.STATES t.REACH g.row.DEPTH starts (hears g m) (before g m) (behind g m c.self.inside.lost) past
+    taken c.in_default.is (fits g m) (pushed g m c.self.inside.lost)
     (subst (λ v. DecoderStands t.table t.points starts g.row.DEPTH v past taken) (sym c.self.view_is) h) c.in_default.is
     (omega (arith, c.if-unreleased.false, c.unreleased-2.ensures))
