@@ -165,13 +165,7 @@ nothing-behind a b c e = none c (omega (
 -- a text that goes on with a line doesn't differ from it
 pub no-difference : (line rest : List ℕ) (cause : AuditCause) → GoesOnWith line rest → LineDiffers line rest cause → ⊥
 no-difference line rest End g d = d.1 (nothing-behind (fed line) g.0 d.0 (ap (λ t. t ++ d.0) (sym g.1) ∙ d.2))
-no-difference line rest Beyond g d = d.other g
-no-difference line rest Spelling g d = d.other g
-no-difference line rest Turn g d = d.other g
-no-difference line rest Role g d = d.other g
-no-difference line rest Arrived g d = d.other g
-no-difference line rest Sent g d = d.other g
-no-difference line rest Break g d = d.other g
+no-difference line rest another g d = d.other g
 
 -- a text that has the lines up to one isn't first different before it
 pub not-before : (lines : List (List ℕ)) (text : List ℕ) (m n : ℕ) (c d : AuditCause) (a : FirstDiffers lines text m c)

@@ -25,10 +25,8 @@ abbrev pub ReadIsWhole : Type 0
 ReadIsWhole = (line : List ℕ) (text : LineText) → HasParts line text → list_all is_no_feed line ≡ true
 
 plain : (heard : Heard) → heard ≢ Chance → is_chance heard ≡ false
-plain Nothing h = refl
-plain (Passed s) h = refl
-plain (Lost s) h = refl
 plain Chance h = absurd (h refl)
+plain other h = refl
 
 -- the line of an end in a turn
 side-text : (turn : ℕ) (role : Role) (s : Side) → is_chance s.heard ≡ false → text_of_line (line_of turn role s) ≡ side_words turn role s

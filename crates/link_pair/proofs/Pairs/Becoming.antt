@@ -115,9 +115,7 @@ goes-on laws script files dlci beside rounds ts ends h l m = go m.outcome refl
         } in
         ended-now script dlci beside link ts ends l.run rounds l.count m.mid (NotDetected (length ts)) left r
         (record { ran = r; turns_are = refl; ends_are = refl; by_link = tt; before = before; idles = idle })
-    broken role (faults.BadAck nr va high) e n = absurd n
-    broken role (faults.PeerReset va vr) e n = absurd n
-    broken role faults.PeerRefused e n = absurd n
+    broken role other e n = absurd n
 
     go : (o : Outcome) → m.outcome ≡ o → NextOf script dlci beside link rounds (Goes ts ends)
     go Going e =
