@@ -19,11 +19,9 @@ returns-in-Err-clause-counts g c =
 
 pub returns-in-Ok-within_limit-clause-begun : goal.returns-in-Ok-within_limit-clause-begun
 returns-in-Ok-within_limit-clause-begun g c =
-    let old : FolderState = g.F.Folder.state c.args.folder.now in
-    let mid : FolderState = g.F.Folder.state c.open_inputs.new.folder in
     record {
       are_open = record { opens = c.in-Ok.ensures.opened; limits = c.is_in_limits.ensures };
-      trace = within-earlier old mid c.args.words.now.trace.now 16777216 c.in-Ok.ensures.reads c.in-Ok-within_limit.ensures.within;
+      trace = within-earlier _ _ c.args.words.now.trace.now 16777216 c.in-Ok.ensures.reads c.in-Ok-within_limit.ensures.within;
       reads = OnlyReads-trans c.in-Ok.ensures.reads c.in-Ok-within_limit.ensures.reads;
       stand = CountsStand-trans (c.in-Ok.ensures.counts []) c.in-Ok-within_limit.ensures.stand;
     }
@@ -36,19 +34,16 @@ returns-in-Ok-within_limit-clause-reads g c = OnlyReads-trans c.in-Ok.ensures.re
 
 pub returns-in-Err-within_limit : goal.returns-in-Err-within_limit
 returns-in-Err-within_limit g c =
-    let old : FolderState = g.F.Folder.state c.args.folder.now in
-    let new : FolderState = g.F.Folder.state c.within_limit.new.folder in
-    let mid : FolderState = g.F.Folder.state c.open_inputs.new.folder in
     record {
       begun = search rules;
       spelled = search rules;
       ends =
-          refused-trace old mid new (named c.args.words.now) c.in-Ok.script c.in-Err-within_limit.stop
+          refused-trace _ _ _ (named c.args.words.now) c.in-Ok.script c.in-Err-within_limit.stop
           (record { opens = c.in-Ok.ensures.opened; limits = c.is_in_limits.ensures }) c.in-Ok.ensures.reads (c.in-Ok.ensures.counts [])
           c.in-Err-within_limit.ensures.refused;
       reads = OnlyReads-trans c.in-Ok.ensures.reads c.in-Err-within_limit.ensures.reads;
       counts =
           let n : AuditNames = named c.args.words.now in
-          stop-earlier old mid new (inputs_of n) [] c.in-Err-within_limit.stop (c.in-Ok.ensures.counts [])
-          (counts-trace mid new n c.in-Err-within_limit.stop c.in-Err-within_limit.ensures.refused);
+          stop-earlier _ _ _ (inputs_of n) [] c.in-Err-within_limit.stop (c.in-Ok.ensures.counts [])
+          (counts-trace _ _ n c.in-Err-within_limit.stop c.in-Err-within_limit.ensures.refused);
     }

@@ -12,14 +12,13 @@ use Rattle.trace_audit.proofs.turns.audit_turns.Goals as goal
 
 pub loop-comparison-init : goal.loop-comparison-init
 loop-comparison-init g c =
-    let old : FolderState = g.F.Folder.state c.args.folder.now in
     record {
-      compared = compared-none c.args.world.now old (written c.args.names.now) c.args.trace.now c.new-comparison.result c.requires.first
+      compared = compared-none c.args.world.now _ (written c.args.names.now) c.args.trace.now c.new-comparison.result c.requires.first
           c.new-comparison.ensures.compared c.new-comparison.ensures.few;
       script = refl;
       ready = c.requires.ready;
-      reads = OnlyReads-refl old;
-      stand = CountsStand-refl old;
+      reads = OnlyReads-refl _;
+      stand = CountsStand-refl _;
     }
 
 pub audit_turn-requires-clause-asks : goal.audit_turn-requires-clause-asks

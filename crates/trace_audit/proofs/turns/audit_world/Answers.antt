@@ -28,11 +28,10 @@ returns-in-Ok-read_on g c =
     let new : FolderState = g.F.Folder.state c.read_on.new.folder in
     record {
       run =
-          let mid : FolderState = g.F.Folder.state c.audit_turns.new.folder in
           let n : Written = written c.args.names.now in
           let script : ScriptValue = script_of c.args.world.now in
           subst (λ (r : Result ℕ Stop). RunIs script new n c.args.trace.now r) (sym c.found_end.ensures)
-          (ends-so c.audit_turns.new.world mid new n c.args.trace.now c.in-Ok.comparison c.in-Ok.ensures.compared script _ c.end.result
+          (ends-so c.audit_turns.new.world _ new n c.args.trace.now c.in-Ok.comparison c.in-Ok.ensures.compared script _ c.end.result
           c.audit_turns.ensures.script c.requires.apart c.read_on.ensures.reads c.in-Ok-read_on.ensures.window c.end.ensures);
       reads = OnlyReads-trans c.audit_turns.ensures.reads c.read_on.ensures.reads;
       counts =
@@ -49,9 +48,7 @@ returns-in-Err-read_on g c = record {
       c.in-Err-read_on.stop c.in-Err-read_on.ensures.stops;
   reads = OnlyReads-trans c.audit_turns.ensures.reads c.read_on.ensures.reads;
   counts =
-      let mid : FolderState = g.F.Folder.state c.audit_turns.new.folder in
-      let new : FolderState = g.F.Folder.state c.read_on.new.folder in
       let n : Written = written c.args.names.now in
-      stop-earlier (g.F.Folder.state c.args.folder.now) mid new (audit_inputs n c.args.trace.now) [] c.in-Err-read_on.stop
-      c.in-Ok.ensures.counts (trace-counts mid new n c.args.trace.now c.in-Err-read_on.stop c.in-Err-read_on.ensures.counts);
+      stop-earlier (g.F.Folder.state c.args.folder.now) _ _ (audit_inputs n c.args.trace.now) [] c.in-Err-read_on.stop
+      c.in-Ok.ensures.counts (trace-counts _ _ n c.args.trace.now c.in-Err-read_on.stop c.in-Err-read_on.ensures.counts);
 }
