@@ -54,12 +54,10 @@ pub returns-in-Err-new : goal.returns-in-Err-new
 returns-in-Err-new g c = record {
   ends =
       let n : Names = named c.args.words.now in
-      let old : FolderState = g.F.Folder.state c.args.folder.now in
-      let mid : FolderState = g.F.Folder.state c.within_limit.new.folder in
       let reads = OnlyReads-trans c.in-Ok.ensures.reads c.in-Ok-within_limit.ensures.reads in (
         reads.names,
         c.in-Ok.ensures.within,
-        within-earlier old mid n.file FILE_LIMIT c.in-Ok.ensures.reads c.in-Ok-within_limit.ensures.within,
+        within-earlier _ _ n.file FILE_LIMIT c.in-Ok.ensures.reads c.in-Ok-within_limit.ensures.within,
       );
   only =
       OnlyPuts-reads (g.F.Folder.state c.args.folder.now) (g.F.Folder.state c.within_limit-2.new.folder)
@@ -71,24 +69,19 @@ returns-in-Err-new g c = record {
 pub returns : goal.returns
 returns g c =
     let n : Names = named c.args.words.now in
-    let old : FolderState = g.F.Folder.state c.args.folder.now in
-    let new : FolderState = g.F.Folder.state c.run_single.new.folder in
     record {
       ends =
-          let mid : FolderState = g.F.Folder.state c.within_limit.new.folder in
-          c.run_single.ensures.ends old (record {
+          c.run_single.ensures.ends _ (record {
             bits_within = c.in-Ok.ensures.within;
-            file_within = within-earlier old mid n.file FILE_LIMIT c.in-Ok.ensures.reads c.in-Ok-within_limit.ensures.within;
+            file_within = within-earlier _ _ n.file FILE_LIMIT c.in-Ok.ensures.reads c.in-Ok-within_limit.ensures.within;
             reads = OnlyReads-trans c.in-Ok.ensures.reads c.in-Ok-within_limit.ensures.reads;
             stand = CountsStand-trans c.in-Ok.ensures.stand c.in-Ok-within_limit.ensures.stand;
           });
       only =
-          let mid : FolderState = g.F.Folder.state c.within_limit-2.new.folder in
-          OnlyPuts-trans old mid new (outputs_of n)
-          (OnlyPuts-reads old mid (outputs_of n) (OnlyReads-trans c.in-Ok.ensures.reads c.in-Ok-within_limit.ensures.reads))
+          OnlyPuts-trans _ _ _ (outputs_of n)
+          (OnlyPuts-reads _ _ (outputs_of n) (OnlyReads-trans c.in-Ok.ensures.reads c.in-Ok-within_limit.ensures.reads))
           c.run_single.ensures.only;
       counts =
-          let mid : FolderState = g.F.Folder.state c.within_limit-2.new.folder in
-          end-earlier old mid new (inputs_of n) (outputs_of n) c.run_single.result
+          end-earlier _ _ _ (inputs_of n) (outputs_of n) c.run_single.result
           (CountsStand-trans c.in-Ok.ensures.stand c.in-Ok-within_limit.ensures.stand) c.run_single.ensures.counts;
     }

@@ -23,9 +23,6 @@ returns-in-Err g c = record {
 pub returns : goal.returns
 returns g c =
     let n : Names = named c.args.words.now in
-    let old : FolderState = g.F.Folder.state c.args.folder.now in
-    let new : FolderState = g.F.Folder.state c.run_turns.new.folder in
-    let mid : FolderState = g.F.Folder.state c.create_outputs.new.folder in
     record {
       ends = λ begin b.
           c.run_turns.ensures.ends begin
@@ -34,8 +31,8 @@ returns g c =
           (c.apart_names_differ.ensures.inputs (inputs_of n) (outputs_of n) c.requires.apart)
           c.requires.role c.requires.first);
       only =
-          OnlyPuts-trans old mid new (outputs_of n)
+          OnlyPuts-trans _ _ _ (outputs_of n)
           (record { goes_on = c.in-Ok.ensures.only.goes_on; names = c.in-Ok.ensures.only.names; said = c.in-Ok.ensures.said })
           c.run_turns.ensures.only;
-      counts = end-earlier old mid new (inputs_of n) (outputs_of n) c.run_turns.result c.in-Ok.ensures.stand c.run_turns.ensures.counts;
+      counts = end-earlier _ _ _ (inputs_of n) (outputs_of n) c.run_turns.result c.in-Ok.ensures.stand c.run_turns.ensures.counts;
     }

@@ -73,7 +73,6 @@ returns-in-Ok-eq0 g c = record {
   done = λ start r.
       let n : Names = named c.args.words.now in
       let old : FolderState = g.F.Folder.state c.args.folder.now in
-      let mid : FolderState = g.F.Folder.state c.read_piece.new.folder in
       let number : c.turn_number-turn.result ≡ length r.past.turns = c.turn_number-turn.ensures ∙ r.after.turn in
       let read : ReadTo start old n.bits FILE_LIMIT (232 * c.turn_number-turn.result) r.octets =
       subst (λ x. ReadTo start old n.bits FILE_LIMIT (slot_octets * x) r.octets) (sym number) r.read in
@@ -83,7 +82,7 @@ returns-in-Ok-eq0 g c = record {
       λ count e h told. sym (append-nil r.octets)
       ∙ (subst (λ (m : ℕ). m < 232 → r.octets ++ take m c.read_piece.new.piece ≡ octets_at start n.bits) e (λ few. h few told))
       (omega arith) in
-      ends-whole start old mid n c.args.single.now r c.turn_number-turn.result number c.in-Ok-eq0.ensures.reads
+      ends-whole start old _ n c.args.single.now r c.turn_number-turn.result number c.in-Ok-eq0.ensures.reads
       (end c.in-Ok-eq0.field-0 c.in-Ok-eq0.field-0-test (c.in-Ok-eq0.ensures.end start r.octets read));
   err = search rules;
   next = λ e. absurd (ends-here _ _ e refl);
@@ -123,15 +122,12 @@ returns-then-count-lt-SLOT_OCTETS g c = record {
   going = λ start r e. absurd (ends-here _ _ e refl);
   done = λ start r.
       let n : Names = named c.args.words.now in
-      let old : FolderState = g.F.Folder.state c.args.folder.now in
-      let mid : FolderState = g.F.Folder.state c.read_piece.new.folder in
-      let next : FolderState = g.F.Folder.state c.turn.new.folder in
       let slot : List ℕ = take c.in-Ok.count c.read_piece.new.piece in
       let number : c.turn_number-turn.result ≡ length r.past.turns = c.turn_number-turn.ensures ∙ r.after.turn in
       let m = (goal.at.returns-then-count-lt-SLOT_OCTETS g c).After-turn in
       let a = around g m start r in
       ends-short-by c.lone_turns_deliver_what_came.ensures.hearing c.lone_turns_deliver_what_came.ensures.speaking
-      start mid next n c.args.single.now c.turn.new.self r.past r.octets slot c.turn_number-turn.result a number
+      start _ _ n c.args.single.now c.turn.new.self r.past r.octets slot c.turn_number-turn.result a number
       r.after r.role_is c.in-Ok-Going.ensures.role
       ((rw c.in-Ok-Going.field-0-is at c.in-Ok-Going.ensures.turn) r.past r.after r.knows.within)
       (omega (arith, long g m, c.if-count-lt-SLOT_OCTETS.true));
@@ -148,7 +144,6 @@ returns-in-Ok-Closed g c = record {
   going = λ start r e. absurd (ends-here _ _ e refl);
   done = λ start r.
       let n : Names = named c.args.words.now in
-      let old : FolderState = g.F.Folder.state c.args.folder.now in
       let mid : FolderState = g.F.Folder.state c.read_piece.new.folder in
       let next : FolderState = g.F.Folder.state c.turn.new.folder in
       let slot : List ℕ = take c.in-Ok.count c.read_piece.new.piece in
@@ -169,7 +164,6 @@ returns-in-Ok-Closed g c = record {
 pub returns-in-Err-turn : goal.returns-in-Err-turn
 returns-in-Err-turn g c =
     let n : Names = named c.args.words.now in
-    let old : FolderState = g.F.Folder.state c.args.folder.now in
     let mid : FolderState = g.F.Folder.state c.read_piece.new.folder in
     let next : FolderState = g.F.Folder.state c.turn.new.folder in
     record {
@@ -189,23 +183,20 @@ returns-in-Err-turn g c =
           touches (g.F.Folder.state c.args.folder.now) (g.F.Folder.state c.read_piece.new.folder) (g.F.Folder.state c.turn.new.folder)
           (named c.args.words.now) c.in-Ok.ensures.reads c.in-Err-turn.ensures.only;
       counts =
-          subst (StopCounts old next (inputs_of n) (outputs_of n)) (sym c.stop_of.ensures)
-          (fault-counts old mid next n c.turn_number-turn.result c.in-Err-turn.fault c.in-Ok.ensures.stand c.in-Err-turn.ensures.counts);
+          subst (StopCounts _ next (inputs_of n) (outputs_of n)) (sym c.stop_of.ensures)
+          (fault-counts _ mid next n c.turn_number-turn.result c.in-Err-turn.fault c.in-Ok.ensures.stand c.in-Err-turn.ensures.counts);
     }
 
 pub returns-else-count-lt-SLOT_OCTETS : goal.returns-else-count-lt-SLOT_OCTETS
 returns-else-count-lt-SLOT_OCTETS g c = record {
   going = λ start r going.
       let n : Names = named c.args.words.now in
-      let old : FolderState = g.F.Folder.state c.args.folder.now in
-      let mid : FolderState = g.F.Folder.state c.read_piece.new.folder in
-      let next : FolderState = g.F.Folder.state c.turn.new.folder in
       let slot : List ℕ = take c.in-Ok.count c.read_piece.new.piece in
       let number : c.turn_number-turn.result ≡ length r.past.turns = c.turn_number-turn.ensures ∙ r.after.turn in
       let m = (goal.at.returns-else-count-lt-SLOT_OCTETS g c).After-turn in
       let a = around g m start r in
       goes-by c.lone_turns_deliver_what_came.ensures.hearing c.lone_turns_deliver_what_came.ensures.speaking
-      start mid next n c.args.single.now c.turn.new.self r.past r.octets slot a
+      start _ _ n c.args.single.now c.turn.new.self r.past r.octets slot a
       r.role_is c.in-Ok-Going.ensures.role c.in-Ok-Going.ensures.counts
       ((rw c.in-Ok-Going.field-0-is at c.in-Ok-Going.ensures.turn) r.past r.after r.knows.within)
       (omega (arith, long g m, c.in-Ok.ensures.bound, c.if-count-lt-SLOT_OCTETS.false));

@@ -8,13 +8,12 @@ use Rattle.run_commands.proofs.peer.turns.run_turns.Goals as goal
 
 pub loop-turns-init : goal.loop-turns-init
 loop-turns-init g c =
-    let old : FolderState = g.F.Folder.state c.args.folder.now in
     record {
       reached = λ start r. r;
       ready = c.requires.ready;
       within = omega (arith, c.requires.first);
-      only = OnlyPuts-refl old (outputs_of (named c.args.words.now));
-      stand = CountsStand-refl old;
+      only = OnlyPuts-refl _ (outputs_of (named c.args.words.now));
+      stand = CountsStand-refl _;
     }
 
 pub next_turn-requires : goal.next_turn-requires

@@ -21,12 +21,10 @@ use Rattle.run_commands.proofs.run.command.run_world.Goals as goal
 
 pub returns-in-Err-clause-ends : goal.returns-in-Err-clause-ends
 returns-in-Err-clause-ends g c = λ begin b.
-    let mid : FolderState = g.F.Folder.state c.args.folder.now in
-    let now : FolderState = g.F.Folder.state c.make_outputs.new.folder in
     let n : RunNames = named c.args.words.now in
     elim c.in-Err.ensures.err [
-      | inl part ↦ inl (ends-creating LIMITS begin mid now n (script_of c.args.world.now) b part)
-      | inr (created, heads) ↦ inr (inl (ends-heading LIMITS begin mid now n (script_of c.args.world.now) b created heads))
+      | inl part ↦ inl (ends-creating LIMITS begin _ _ n (script_of c.args.world.now) b part)
+      | inr (created, heads) ↦ inr (inl (ends-heading LIMITS begin _ _ n (script_of c.args.world.now) b created heads))
     ]
 
 pub run_turns-requires-clause-apart : goal.run_turns-requires-clause-apart
@@ -46,14 +44,13 @@ returns-in-Ok-run_turns g c =
     let next : FolderState = g.F.Folder.state c.run_turns.new.folder in
     let n : RunNames = named c.args.words.now in
     let script : ScriptValue = script_of c.args.world.now in
-    let mid : FolderState = g.F.Folder.state c.args.folder.now in
     let turns : OnlyPuts now next (outputs_of n) =
     (subst (λ (tapes : Tapes). OnlyPuts now next (written.outputs_of n.names ++ tapes_of tapes)) c.in-Ok.ensures.ok.0
     c.in-Ok-run_turns.ensures.only) in
     record {
       ends = λ begin b.
           let end = runs.IsDone c.in-Ok-run_turns.turn in
-          ran-to begin mid now next n script end (record {
+          ran-to begin _ now next n script end (record {
             begun = b;
             creates = c.in-Ok.ensures.only;
             turns = turns;
@@ -75,14 +72,13 @@ returns-in-Err-run_turns g c =
     let n : RunNames = named c.args.words.now in
     let script : ScriptValue = script_of c.args.world.now in
     let fault = c.in-Err-run_turns.fault in
-    let mid : FolderState = g.F.Folder.state c.args.folder.now in
     let turns : OnlyPuts now next (outputs_of n) =
     (subst (λ (tapes : Tapes). OnlyPuts now next (written.outputs_of n.names ++ tapes_of tapes)) c.in-Ok.ensures.ok.0
     c.in-Err-run_turns.ensures.only) in
     record {
       ends = λ begin b.
           subst (EndsBy LIMITS begin next n) (sym c.stop_of.ensures)
-          (ends-in-turn c.line_runs_end_soon.ensures.soon begin mid now next n script fault (record {
+          (ends-in-turn c.line_runs_end_soon.ensures.soon begin _ now next n script fault (record {
             begun = b;
             creates = c.in-Ok.ensures.only;
             turns = turns;
@@ -98,8 +94,8 @@ returns-in-Err-run_turns g c =
       only = OnlyOutputs-trans (outputs_of n) c.in-Ok.ensures.only (OnlyOutputs-puts (outputs_of n) turns);
       said = search rules;
       counts =
-          subst (StopCounts mid next (inputs_of n) (outputs_of n)) (sym c.stop_of.ensures)
-          (stop-earlier mid now next (inputs_of n) (outputs_of n) _ c.in-Ok.ensures.stand
+          subst (StopCounts _ next (inputs_of n) (outputs_of n)) (sym c.stop_of.ensures)
+          (stop-earlier _ now next (inputs_of n) (outputs_of n) _ c.in-Ok.ensures.stand
           (turn-counts now next n fault
           (subst (λ (tapes : Tapes). FaultCountsOver now next (written.inputs_of n.names) (written.outputs_of n.names ++ tapes_of tapes)
           fault) c.in-Ok.ensures.ok.0

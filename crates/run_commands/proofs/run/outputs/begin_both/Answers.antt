@@ -12,11 +12,9 @@ pub returns-in-Err : goal.returns-in-Err
 returns-in-Err g c = record {
   ok = search rules;
   err =
-      let a : FolderState = g.F.Folder.state c.args.folder.now in
-      let b : FolderState = g.F.Folder.state c.begin_tape.new.folder in
       inl (
         c.in-Err.ensures.err,
-        Holds-kept a b c.args.names.now.answ.now [] c.in-Err.ensures.only.goes_on c.requires.created.1.0
+        Holds-kept _ _ c.args.names.now.answ.now [] c.in-Err.ensures.only.goes_on c.requires.created.1.0
             (c.in-Err.ensures.only.names c.args.names.now.answ.now (λ e. c.requires.apart.0.0 (sym e))),
       );
   only =
@@ -32,11 +30,10 @@ returns-in-Err g c = record {
 pub returns-in-Ok-begin_tape : goal.returns-in-Ok-begin_tape
 returns-in-Ok-begin_tape g c = record {
   ok =
-      let b : FolderState = g.F.Folder.state c.begin_tape.new.folder in
       let z : FolderState = g.F.Folder.state c.begin_tape-2.new.folder in (
         (λ i. Some (record { orig = c.in-Ok.ensures.ok.0 i; answ = c.in-Ok-begin_tape.ensures.ok.0 i })),
         λ channel. (
-          keeps-later c.in-Ok.orig b z channel Originator [] c.in-Ok-begin_tape.ensures.only.goes_on
+          keeps-later c.in-Ok.orig _ z channel Originator [] c.in-Ok-begin_tape.ensures.only.goes_on
               (c.in-Ok-begin_tape.ensures.only.names c.in-Ok.orig.name.now (λ e. c.requires.apart.0.0 (sym c.in-Ok.ensures.ok.0 ∙ e)))
               (c.in-Ok.ensures.ok.1 channel),
           c.in-Ok-begin_tape.ensures.ok.1 channel,
@@ -56,10 +53,8 @@ pub returns-in-Err-begin_tape : goal.returns-in-Err-begin_tape
 returns-in-Err-begin_tape g c = record {
   ok = search rules;
   err =
-      let b : FolderState = g.F.Folder.state c.begin_tape.new.folder in
-      let z : FolderState = g.F.Folder.state c.begin_tape-2.new.folder in
       inr (
-        Holds-kept b z c.args.names.now.orig.now _ c.in-Err-begin_tape.ensures.only.goes_on c.in-Ok.ensures.head
+        Holds-kept _ _ c.args.names.now.orig.now _ c.in-Err-begin_tape.ensures.only.goes_on c.in-Ok.ensures.head
             (c.in-Err-begin_tape.ensures.only.names c.args.names.now.orig.now c.requires.apart.0.0),
         c.in-Err-begin_tape.ensures.err,
       );

@@ -31,14 +31,13 @@ pub returns-in-Err-create_output : goal.returns-in-Err-create_output
 returns-in-Err-create_output g c = record {
   ends = λ start o.
       let n : DecodeNames = named c.args.names.now in
-      let old : FolderState = g.F.Folder.state c.args.folder.now in
       let now : FolderState = g.F.Folder.state c.create_output.new.folder in (
         o.within,
         elim c.in-Err-create_output.ensures.err [
-          | inl keeps ↦ inl (KeepsName-trans start old now n.file o.reads.goes_on (o.reads.names n.file) keeps)
+          | inl keeps ↦ inl (KeepsName-trans start _ now n.file o.reads.goes_on (o.reads.names n.file) keeps)
           | inr holds ↦ inr (part start now n c.args.mode [] []
-              (reads-first start old n.rec n.rate c.args.mode [] HEADER
-              (behind-none start old old n.rec n.rate c.args.mode o o.reads.goes_on (o.reads.names n.rec)))
+              (reads-first start _ n.rec n.rate c.args.mode [] HEADER
+              (behind-none start _ _ n.rec n.rate c.args.mode o o.reads.goes_on (o.reads.names n.rec)))
               (hears-releases n.rate c.args.mode c.in-Ok.playback [] [] c.in-Ok.ensures.hears c.in-Ok.ensures.ready.all_taken)
               (HoldsFront-all now n.file [] holds))
         ],
@@ -51,17 +50,16 @@ pub returns-in-Ok-play_to_end : goal.returns-in-Ok-play_to_end
 returns-in-Ok-play_to_end g c = record {
   ends = λ start o.
       let n : DecodeNames = named c.args.names.now in
-      let old : FolderState = g.F.Folder.state c.args.folder.now in
       let now : FolderState = g.F.Folder.state c.create_output.new.folder in
       let only : OnlyOutput start now n.file =
-      only-write start old now n.file (only-of-reads start old n.file o.reads) c.create_output.ensures.only in
+      only-write start _ now n.file (only-of-reads start _ n.file o.reads) c.create_output.ensures.only in
       let begun : PlayedTo start now n c.args.mode c.in-Ok.playback HEADER 0 = record {
         content = [];
         octets = [];
         hears = c.in-Ok.ensures.hears;
         whole = refl;
         written_is = refl;
-        behind = behind-none start old now n.rec n.rate c.args.mode o only.goes_on (only.names n.rec (apart-names n c.requires.apart));
+        behind = behind-none start _ now n.rec n.rate c.args.mode o only.goes_on (only.names n.rec (apart-names n c.requires.apart));
         only = only;
         file = c.in-Ok-create_output.ensures.ok;
       } in
@@ -80,17 +78,16 @@ pub returns-in-Err-play_to_end : goal.returns-in-Err-play_to_end
 returns-in-Err-play_to_end g c = record {
   ends = λ start o.
       let n : DecodeNames = named c.args.names.now in
-      let old : FolderState = g.F.Folder.state c.args.folder.now in
       let now : FolderState = g.F.Folder.state c.create_output.new.folder in
       let only : OnlyOutput start now n.file =
-      only-write start old now n.file (only-of-reads start old n.file o.reads) c.create_output.ensures.only in
+      only-write start _ now n.file (only-of-reads start _ n.file o.reads) c.create_output.ensures.only in
       let begun : PlayedTo start now n c.args.mode c.in-Ok.playback HEADER 0 = record {
         content = [];
         octets = [];
         hears = c.in-Ok.ensures.hears;
         whole = refl;
         written_is = refl;
-        behind = behind-none start old now n.rec n.rate c.args.mode o only.goes_on (only.names n.rec (apart-names n c.requires.apart));
+        behind = behind-none start _ now n.rec n.rate c.args.mode o only.goes_on (only.names n.rec (apart-names n c.requires.apart));
         only = only;
         file = c.in-Ok-create_output.ensures.ok;
       } in

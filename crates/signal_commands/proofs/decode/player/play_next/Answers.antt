@@ -24,13 +24,11 @@ returns-in-Err g c = record {
   ok = search rules;
   err = λ start written h.
       let n : DecodeNames = named c.args.names.now in
-      let old : FolderState = g.F.Folder.state c.args.folder.now in
-      let n1 : FolderState = g.F.Folder.state c.read_samples.new.folder in
       let reads = c.read_samples.ensures.reads in
-      inr (front-part start n1 n c.args.mode c.args.playback.now h.content h.octets
-      (reads-first start old n.rec n.rate c.args.mode h.content c.args.at h.behind) h.hears c.requires.ready.not_lost
+      inr (front-part start _ n c.args.mode c.args.playback.now h.content h.octets
+      (reads-first start _ n.rec n.rate c.args.mode h.content c.args.at h.behind) h.hears c.requires.ready.not_lost
       c.requires.ready.all_taken
-      (Holds-kept old n1 n.file h.octets reads.goes_on h.file (reads.names n.file)));
+      (Holds-kept _ _ n.file h.octets reads.goes_on h.file (reads.names n.file)));
   next = search rules;
   only =
       only-of-reads (g.F.Folder.state c.args.folder.now) (g.F.Folder.state c.read_samples.new.folder) c.args.names.now.file.now
@@ -46,7 +44,6 @@ returns-in-Err-append_output g c =
       ok = search rules;
       err = λ start written h.
           let n : DecodeNames = named c.args.names.now in
-          let old : FolderState = g.F.Folder.state c.args.folder.now in
           let n2 : FolderState = g.F.Folder.state c.append_output.new.folder in
           let reads = c.read_samples.ensures.reads in
           let piece : List ℕ = take c.in-Ok.read c.read_samples.new.piece in
@@ -58,7 +55,7 @@ returns-in-Err-append_output g c =
           subst (λ (xs : List Sample). Releases n.rate c.args.mode xs (h.octets ++ given)) (sym (samples_in-append h.content piece h.whole))
           (piece-releases n.rate c.args.mode c.play_piece-played.new.playback (samples_in h.content) piece
           (h.octets ++ given) c.play_piece-played.result plays c.play_piece-played.ensures.taken) in
-          let kept = Holds-kept old n1 n.file h.octets reads.goes_on h.file (reads.names n.file) in
+          let kept = Holds-kept _ n1 n.file h.octets reads.goes_on h.file (reads.names n.file) in
           let puts : PartlyAppended n1 n2 n.file given =
           subst (λ (xs : List ℕ). PartlyAppended n1 n2 n.file xs) c.as_slice.ensures.items c.in-Err-append_output.ensures.err in
           let file = HoldsFront-more n1 n2 n.file h.octets given c.append_output.ensures.only.goes_on kept puts in (
@@ -85,7 +82,6 @@ returns-in-Ok-2 g c =
       ok = search rules;
       err = λ start written h.
           let n : DecodeNames = named c.args.names.now in
-          let old : FolderState = g.F.Folder.state c.args.folder.now in
           let n2 : FolderState = g.F.Folder.state c.append_output.new.folder in
           let p : Playback = c.play_piece-played.new.playback in
           let reads = c.read_samples.ensures.reads in
@@ -97,7 +93,7 @@ returns-in-Ok-2 g c =
           c.in-Ok.ensures.more start n.rate c.args.mode h.content h.behind in
           let hears = c.in-Ok-2.ensures.plays n.rate c.args.mode (samples_in h.content) h.octets h.hears in
           let ready = c.in-Ok-2.ensures.ready c.args.at c.requires.ready in
-          let kept = Holds-kept old n1 n.file h.octets reads.goes_on h.file (reads.names n.file) in
+          let kept = Holds-kept _ n1 n.file h.octets reads.goes_on h.file (reads.names n.file) in
           let puts : Appended n1 n2 n.file given =
           subst (λ (xs : List ℕ). Appended n1 n2 n.file xs) c.as_slice.ensures.items c.in-Ok-append_output.ensures.ok in
           let cut : c.in-Ok.read % 4 ≢ 0 = c.if-read-eq0.false in
@@ -127,7 +123,6 @@ returns-in-Err-played g c =
       ok = search rules;
       err = λ start written h.
           let n : DecodeNames = named c.args.names.now in
-          let old : FolderState = g.F.Folder.state c.args.folder.now in
           let n2 : FolderState = g.F.Folder.state c.append_output.new.folder in
           let p : Playback = c.play_piece-played.new.playback in
           let reads = c.read_samples.ensures.reads in
@@ -137,7 +132,7 @@ returns-in-Err-played g c =
           let behind : ReadBehind start n1 n.rec n.rate c.args.mode (h.content ++ piece) (c.args.at + c.in-Ok.read) =
           c.in-Ok.ensures.more start n.rate c.args.mode h.content h.behind in
           let loses = c.in-Err-played.ensures.plays n.rate c.args.mode (samples_in h.content) h.octets h.hears in
-          let kept = Holds-kept old n1 n.file h.octets reads.goes_on h.file (reads.names n.file) in
+          let kept = Holds-kept _ n1 n.file h.octets reads.goes_on h.file (reads.names n.file) in
           let puts : Appended n1 n2 n.file given =
           subst (λ (xs : List ℕ). Appended n1 n2 n.file xs) c.as_slice.ensures.items c.in-Ok-append_output.ensures.ok in
           lost-part start n2 n c.args.mode p (h.content ++ piece) (h.octets ++ given) symbol c.hearer_of.result
@@ -161,7 +156,6 @@ returns-in-Ok-played g c =
       size = c.read_samples.ensures.kept;
       ok = λ start written h.
           let n : DecodeNames = named c.args.names.now in
-          let old : FolderState = g.F.Folder.state c.args.folder.now in
           let n2 : FolderState = g.F.Folder.state c.append_output.new.folder in
           let p : Playback = c.play_piece-played.new.playback in
           let reads = c.read_samples.ensures.reads in
@@ -172,7 +166,7 @@ returns-in-Ok-played g c =
           let behind : ReadBehind start n1 n.rec n.rate c.args.mode (h.content ++ piece) (c.args.at + c.in-Ok.read) =
           c.in-Ok.ensures.more start n.rate c.args.mode h.content h.behind in
           let hears = c.in-Ok-played.ensures.plays n.rate c.args.mode (samples_in h.content) h.octets h.hears in
-          let kept = Holds-kept old n1 n.file h.octets reads.goes_on h.file (reads.names n.file) in
+          let kept = Holds-kept _ n1 n.file h.octets reads.goes_on h.file (reads.names n.file) in
           let puts : Appended n1 n2 n.file given =
           subst (λ (xs : List ℕ). Appended n1 n2 n.file xs) c.as_slice.ensures.items c.in-Ok-append_output.ensures.ok in (
             record {
@@ -185,7 +179,7 @@ returns-in-Ok-played g c =
               behind = behind-kept start n1 n2 n.rec n.rate c.args.mode (h.content ++ piece)
                   (c.args.at + c.in-Ok.read) behind c.append_output.ensures.only.goes_on
                   (c.append_output.ensures.only.names n.rec (apart-names n c.requires.apart));
-              only = only-write start n1 n2 n.file (only-read start old n1 n.file h.only reads) c.append_output.ensures.only;
+              only = only-write start n1 n2 n.file (only-read start _ n1 n.file h.only reads) c.append_output.ensures.only;
               file = Holds-more n1 n2 n.file h.octets given c.append_output.ensures.only.goes_on kept puts;
             },
             λ none told. (let e = c.in-Ok.ensures.end start n.rate c.args.mode h.content h.behind (inr none) told in omega (arith, e, none)),

@@ -20,16 +20,14 @@ use Rattle.signal_commands.proofs.margin.measuring.measure_next.Goals as goal
 pub returns-then-read-count-clause-err : goal.returns-then-read-count-clause-err
 returns-then-read-count-clause-err g c start mode h =
     let n : MarginNames = named c.args.names.now in
-    let old : FolderState = g.F.Folder.state c.args.folder.now in
     let mid : FolderState = g.F.Folder.state c.read_piece.new.folder in
-    let new : FolderState = g.F.Folder.state c.read_piece-2.new.folder in
     let front : List ℕ = header_of mode ++ h.content in
     let here : ReadTo start mid n.rec RECORDING_LIMIT (8 + 8 * c.args.at) front =
-    ReadTo-kept start old mid n.rec RECORDING_LIMIT (8 + 8 * c.args.at) front h.rec.read c.read_piece.ensures.reads.goes_on
+    ReadTo-kept start _ mid n.rec RECORDING_LIMIT (8 + 8 * c.args.at) front h.rec.read c.read_piece.ensures.reads.goes_on
     (c.read_piece.ensures.reads.names n.rec) in
     let least : c.min.result ≡ min c.in-Ok-read_piece.read (8 * c.in-Ok.count) = c.min.ensures in
     is_misfit (8 + 8 * c.args.at + c.min.result) refl
-    (misfit start mid new n mode c.args.at c.in-Ok.count c.in-Ok-read_piece.read (8 + 8 * c.args.at + c.min.result) h.octets front
+    (misfit start mid _ n mode c.args.at c.in-Ok.count c.in-Ok-read_piece.read (8 + 8 * c.args.at + c.min.result) h.octets front
     (take c.in-Ok.count c.read_piece.new.piece) (take c.in-Ok-read_piece.read c.read_piece-2.new.piece) h.opened.begins
     (c.in-Ok.ensures.more start h.octets h.file) (c.in-Ok.ensures.end start h.octets h.file)
     (c.in-Ok-read_piece.ensures.more start front here) (c.in-Ok-read_piece.ensures.end start front here)
@@ -78,18 +76,16 @@ pub returns : goal.returns
 returns g c = record {
   ok = λ start mode h.
       let n : MarginNames = named c.args.names.now in
-      let old : FolderState = g.F.Folder.state c.args.folder.now in
       let mid : FolderState = g.F.Folder.state c.read_piece.new.folder in
-      let new : FolderState = g.F.Folder.state c.read_piece-2.new.folder in
       let front : List ℕ = header_of mode ++ h.content in
       let here : ReadTo start mid n.rec RECORDING_LIMIT (8 + 8 * c.args.at) front =
-      ReadTo-kept start old mid n.rec RECORDING_LIMIT (8 + 8 * c.args.at) front h.rec.read c.read_piece.ensures.reads.goes_on
+      ReadTo-kept start _ mid n.rec RECORDING_LIMIT (8 + 8 * c.args.at) front h.rec.read c.read_piece.ensures.reads.goes_on
       (c.read_piece.ensures.reads.names n.rec) in
       let recorded : List ℕ = take c.in-Ok-read_piece.read c.read_piece-2.new.piece in
       let long : length recorded ≡ c.in-Ok-read_piece.read =
       length-take c.in-Ok-read_piece.read c.read_piece-2.new.piece
       ∙ omega (arith, c.in-Ok-read_piece.ensures.bound, c.read_piece-2.ensures.kept) in (
-        measured-more start old mid new n mode c.args.margin.now c.measure_piece.new.margin c.args.at c.in-Ok.count c.in-Ok-read_piece.read
+        measured-more start _ mid _ n mode c.args.margin.now c.measure_piece.new.margin c.args.at c.in-Ok.count c.in-Ok-read_piece.read
             (take c.in-Ok.count c.read_piece.new.piece) recorded h c.read_piece.ensures.reads c.read_piece-2.ensures.reads
             (c.in-Ok.ensures.more start h.octets h.file) (c.in-Ok-read_piece.ensures.more start front here) long c.if-read-count.false
             (c.measure_piece.ensures.stands mode h.octets (samples_in h.content) h.stands),
@@ -97,7 +93,7 @@ returns g c = record {
             let nothing : c.in-Ok-read_piece.read ≡ 0 = omega (arith, c.if-read-count.false, none) in (
               ended start mid n.file FILE_LIMIT c.args.at c.in-Ok.count 512 h.octets (take c.in-Ok.count c.read_piece.new.piece)
                   (c.in-Ok.ensures.more start h.octets h.file) (c.in-Ok.ensures.end start h.octets h.file) (omega (arith, none)) none,
-              ended start new n.rec RECORDING_LIMIT (8 + 8 * c.args.at) c.in-Ok-read_piece.read 4096 front
+              ended start _ n.rec RECORDING_LIMIT (8 + 8 * c.args.at) c.in-Ok-read_piece.read 4096 front
                   (take c.in-Ok-read_piece.read c.read_piece-2.new.piece) (c.in-Ok-read_piece.ensures.more start front here)
                   (c.in-Ok-read_piece.ensures.end start front here) (omega (arith, nothing)) nothing,
             )

@@ -23,8 +23,7 @@ returns-in-Err-clause-err g c =
 
 pub returns-in-Err-within_limit-clause-err : goal.returns-in-Err-within_limit-clause-err
 returns-in-Err-within_limit-clause-err g c =
-    let old : FolderState = g.F.Folder.state c.args.folder.now in
-    file-refused old (g.F.Folder.state c.within_limit.new.folder) (g.F.Folder.state c.within_limit-2.new.folder) (named c.args.names.now)
+    file-refused _ (g.F.Folder.state c.within_limit.new.folder) (g.F.Folder.state c.within_limit-2.new.folder) (named c.args.names.now)
     c.in-Err-within_limit.stop c.within_limit.ensures.reads c.in-Ok.ensures.stand c.in-Ok.ensures.within
     c.in-Err-within_limit.ensures.refused
 
@@ -56,18 +55,16 @@ returns-in-Ok-read_header g c = record {
   ok =
       let rec : List ℕ = c.args.names.now.rec.now in
       let old : FolderState = g.F.Folder.state c.args.folder.now in
-      let n1 : FolderState = g.F.Folder.state c.within_limit.new.folder in
       let n2 : FolderState = g.F.Folder.state c.within_limit-2.new.folder in
-      let n3 : FolderState = g.F.Folder.state c.read_piece.new.folder in
       let looked : OnlyReads old n2 = OnlyReads-trans c.within_limit.ensures.reads c.within_limit-2.ensures.reads in
       let none : ReadTo old n2 rec RECORDING_LIMIT 0 [] =
       ReadTo-none old n2 rec RECORDING_LIMIT c.in-Ok.ensures.within looked.goes_on (looked.names rec) in
       record {
         rec_within = c.in-Ok.ensures.within;
-        file_within = within-earlier old n1 c.args.names.now.file.now FILE_LIMIT c.within_limit.ensures.reads
+        file_within = within-earlier old _ c.args.names.now.file.now FILE_LIMIT c.within_limit.ensures.reads
             c.in-Ok-within_limit.ensures.within;
         header = λ told. sym c.in-Ok-read_header.ensures.ok
-            ∙ header-octets old n3 rec c.in-Ok-read_piece.count
+            ∙ header-octets old _ rec c.in-Ok-read_piece.count
             (take c.in-Ok-read_piece.count c.read_piece.new.piece) c.in-Ok-read_piece.ensures.bound
             (c.in-Ok-read_piece.ensures.more old [] none) (c.in-Ok-read_piece.ensures.end old [] none) told;
       };

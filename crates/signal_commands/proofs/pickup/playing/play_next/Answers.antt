@@ -23,11 +23,9 @@ returns-in-Err g c = record {
   size = c.read_samples.ensures.kept;
   ok = search rules;
   err = λ start h.
-      let old : FolderState = g.F.Folder.state c.args.folder.now in
-      let n1 : FolderState = g.F.Folder.state c.read_samples.new.folder in
-      inr (front-part start n1 c.args.rec.now c.args.mode c.args.player.now h.content
-      (reads-first start old c.args.rec.now rates.Trellis c.args.mode h.content c.args.at h.behind)
-      (plays-after start old n1 c.args.mode c.args.player.now (samples_in h.content) c.read_samples.ensures.reads h.plays)
+      inr (front-part start _ c.args.rec.now c.args.mode c.args.player.now h.content
+      (reads-first start _ c.args.rec.now rates.Trellis c.args.mode h.content c.args.at h.behind)
+      (plays-after start _ _ c.args.mode c.args.player.now (samples_in h.content) c.read_samples.ensures.reads h.plays)
       c.requires.ready.not_lost c.requires.ready.all_taken);
   next = search rules;
   only = OnlyOutputs-reads [] c.read_samples.ensures.reads;
@@ -39,7 +37,6 @@ returns-in-Err-play_piece g c = record {
   size = c.read_samples.ensures.kept;
   ok = search rules;
   err = λ start h.
-      let old : FolderState = g.F.Folder.state c.args.folder.now in
       let n1 : FolderState = g.F.Folder.state c.read_samples.new.folder in
       let n2 : FolderState = g.F.Folder.state c.play_piece.new.folder in
       let piece : List ℕ = take c.in-Ok.read c.read_samples.new.piece in
@@ -50,7 +47,7 @@ returns-in-Err-play_piece g c = record {
       (subst (λ (xs : List Sample). StopsPlay start n2 c.args.mode xs c.in-Err-play_piece.stop)
       (sym (samples_in-append h.content piece h.whole))
       (c.in-Err-play_piece.ensures.err start (samples_in h.content)
-      (plays-after start old n1 c.args.mode c.args.player.now (samples_in h.content) c.read_samples.ensures.reads h.plays)));
+      (plays-after start _ n1 c.args.mode c.args.player.now (samples_in h.content) c.read_samples.ensures.reads h.plays)));
   next = search rules;
   only = OnlyOutputs-trans [] (OnlyOutputs-reads [] c.read_samples.ensures.reads) (OnlyOutputs-says [] c.play_piece.ensures.only);
   counts =
@@ -64,7 +61,6 @@ returns-then-read-ne0 g c = record {
   size = c.read_samples.ensures.kept;
   ok = search rules;
   err = λ start h.
-      let old : FolderState = g.F.Folder.state c.args.folder.now in
       let n1 : FolderState = g.F.Folder.state c.read_samples.new.folder in
       let n2 : FolderState = g.F.Folder.state c.play_piece.new.folder in
       let piece : List ℕ = take c.in-Ok.read c.read_samples.new.piece in
@@ -83,7 +79,7 @@ returns-then-read-ne0 g c = record {
       (λ e. cut (sym content_cut ∙ e)) (omega (arith, behind.at_is, content_cut))
       (subst (λ (xs : List Sample). Plays start n2 c.args.mode c.play_piece.new.player xs) (sym (samples_in-append h.content piece h.whole))
       (c.in-Ok-play_piece.ensures.ok start (samples_in h.content)
-      (plays-after start old n1 c.args.mode c.args.player.now (samples_in h.content) c.read_samples.ensures.reads h.plays)))
+      (plays-after start _ n1 c.args.mode c.args.player.now (samples_in h.content) c.read_samples.ensures.reads h.plays)))
       ready.not_lost ready.all_taken);
   next = search rules;
   only = OnlyOutputs-trans [] (OnlyOutputs-reads [] c.read_samples.ensures.reads) (OnlyOutputs-says [] c.play_piece.ensures.only);
@@ -96,7 +92,6 @@ returns g c =
     record {
       size = c.read_samples.ensures.kept;
       ok = λ start h.
-          let old : FolderState = g.F.Folder.state c.args.folder.now in
           let n1 : FolderState = g.F.Folder.state c.read_samples.new.folder in
           let n2 : FolderState = g.F.Folder.state c.play_piece.new.folder in
           let long : length piece ≡ c.in-Ok.read =
@@ -108,7 +103,7 @@ returns g c =
               plays = subst (λ (xs : List Sample). Plays start n2 c.args.mode c.play_piece.new.player xs)
                   (sym (samples_in-append h.content piece h.whole))
                   (c.in-Ok-play_piece.ensures.ok start (samples_in h.content)
-                  (plays-after start old n1 c.args.mode c.args.player.now (samples_in h.content) c.read_samples.ensures.reads h.plays));
+                  (plays-after start _ n1 c.args.mode c.args.player.now (samples_in h.content) c.read_samples.ensures.reads h.plays));
               whole = omega (arith, h.whole, length-append h.content piece, long, c.if-read-ne0.false);
               behind = behind-kept start n1 n2 c.args.rec.now rates.Trellis c.args.mode (h.content ++ piece)
                   (c.args.at + c.in-Ok.read) behind c.play_piece.ensures.only.goes_on (c.play_piece.ensures.only.names c.args.rec.now);

@@ -54,8 +54,6 @@ returns-in-Err-clause-counts g c inputs =
 pub loop-at-preserved : goal.loop-at-preserved
 loop-at-preserved g c =
     let i = c.loop-at.invariant in
-    let old : FolderState = g.F.Folder.state c.args.folder.now in
-    let now : FolderState = g.F.Folder.state c.loop-at.folder in
     let new : FolderState = g.F.Folder.state c.push_some.new.folder in
     let copied = c.copy_samples-count in
     let heard = c.in-Ok.heard in
@@ -69,7 +67,7 @@ loop-at-preserved g c =
           (c.in-Ok.ensures.ok start (samples ++ samples_in (take (4 * c.loop-at.at) c.args.piece.now)) (i.plays start samples h));
       ready = λ most r. (let same : most + c.loop-at.at + heard ≡ most + (c.loop-at.at + heard) = omega arith in
           subst (λ (m : ℕ). IsReady c.push_some.new.self m) same (c.in-Ok.ensures.ready (most + c.loop-at.at) (i.ready most r)));
-      only = says-trans old now new i.only c.push_some.ensures.only;
+      only = says-trans _ _ new i.only c.push_some.ensures.only;
       stand = CountsStand-trans i.stand (c.in-Ok.ensures.counts []);
       within = omega (arith, copied.ensures.within, few.1);
     }
