@@ -1,5 +1,5 @@
 -- What a turn of a tap comes to, at each of its ways out.
-use Rattle.std.proofs.Common.{◌≡◌, ◌⊎◌, inl, inr, ℕ, ◌+◌, ◌*◌, ◌^◌, ◌<◌, ◌≤◌, IsTrue, List, [], ◌∷◌, ◌++◌, length, take, arith}
+use Rattle.std.proofs.Common.{◌≡◌, ◌⊎◌, inl, inr, ℕ, ◌+◌, ◌*◌, ◌^◌, ◌<◌, ◌≤◌, IsTrue, List, [], ◌∷◌, ◌++◌, length, take, arith, min}
 use Rattle.std.proofs.Common.{length-append}
 use Rattle.std.proofs.Common.{refl, sym, ◌∙◌, ap, subst, append-nil, append_assoc, None, Result, Ok, Err}
 use Rattle.std.proofs.lemmas.Bool.{cases_lt}
@@ -93,12 +93,16 @@ pub record ReadsPieces (start a b : FolderState) (n : TapNames) (at : ℕ) (orig
 abbrev read_pieces_of : Both (List ℕ) → ℕ → ℕ → List ℕ → List ℕ → Both (List ℕ)
 read_pieces_of bodies orig answ of_orig of_answ = and_pieces bodies (take orig of_orig) (take answ of_answ)
 
+-- how long a body is with what was read of a piece
+read-length : (body piece : List ℕ) (count : ℕ) → length (body ++ take count piece) ≡ length body + min count (length piece)
+read-length body piece count = omega (arith, length-append {A = ℕ} body (take count piece), length-take count piece)
+
 read-so : (start b : FolderState) (name header body piece : List ℕ) (at count : ℕ) → at ≡ HEADER + length body → count ≤ length piece
     → ReadTo start b name TAP_LIMIT (at + count) ((header ++ body) ++ take count piece)
     → ReadTo start b name TAP_LIMIT (HEADER + length (body ++ take count piece)) (header ++ (body ++ take count piece))
 read-so start b name header body piece at count e few h =
     let n : at + count ≡ HEADER + length (body ++ take count piece) =
-    omega (arith, e, few, length-append {A = ℕ} body (take count piece), length-take count piece) in
+    omega (arith, e, few, read-length body piece count) in
     subst (λ m. ReadTo start b name TAP_LIMIT m (header ++ (body ++ take count piece))) n
     (subst (ReadTo start b name TAP_LIMIT (at + count)) (append_assoc header body (take count piece)) h)
 
@@ -139,8 +143,7 @@ read-out start a b n x ts at orig answ of_orig of_answ eo ea h r count ro ra Ori
       count Originator,
       ro,
       octets-next (line_of x) (length ts),
-      length-append {A = ℕ} x.bodies.orig (take orig of_orig),
-      length-take orig of_orig,
+      read-length x.bodies.orig of_orig orig,
     )) told
 read-out start a b n x ts at orig answ of_orig of_answ eo ea h r count ro ra Answerer less told =
     out-so start a n.rec_a (header_of (mode_of Answerer)) x.bodies.answ of_answ at answ ea r.end_answ (h Answerer)
@@ -151,8 +154,7 @@ read-out start a b n x ts at orig answ of_orig of_answ eo ea h r count ro ra Ans
       count Answerer,
       ra,
       octets-next (line_of x) (length ts),
-      length-append {A = ℕ} x.bodies.answ (take answ of_answ),
-      length-take answ of_answ,
+      read-length x.bodies.answ of_answ answ,
     )) told
 
 -- ---- what is left
@@ -383,21 +385,9 @@ none-more : (tap : Tap) (x : Tapping) (ts : List Turn) (counts : Both ℕ) → I
     → (role : Role)
     → length (of role (read_of tap x counts)) ≤ octets_of (line_of x) (length ts)
 none-more tap x ts counts h eo ea Originator =
-    omega (
-      arith,
-      h.orig.count,
-      eo,
-      length-append {A = ℕ} x.bodies.orig (take counts.orig tap.orig.piece.items),
-      length-take counts.orig tap.orig.piece.items,
-    )
+    omega (arith, h.orig.count, eo, read-length x.bodies.orig tap.orig.piece.items counts.orig)
 none-more tap x ts counts h eo ea Answerer =
-    omega (
-      arith,
-      h.answ.count,
-      ea,
-      length-append {A = ℕ} x.bodies.answ (take counts.answ tap.answ.piece.items),
-      length-take counts.answ tap.answ.piece.items,
-    )
+    omega (arith, h.answ.count, ea, read-length x.bodies.answ tap.answ.piece.items counts.answ)
 
 -- ---- a slot is refused
 
@@ -410,14 +400,7 @@ some-more tap x ts counts h fo fa some = by (cases_lt 0 counts.orig)
         × (octets_of (line_of x) (length ts) < length (of side (read_of tap x counts)))
     by (inl l) = (
       Originator,
-      omega (
-        arith,
-        h.orig.count,
-        l,
-        fo,
-        length-append {A = ℕ} x.bodies.orig (take counts.orig tap.orig.piece.items),
-        length-take counts.orig tap.orig.piece.items,
-      ),
+      omega (arith, h.orig.count, l, fo, read-length x.bodies.orig tap.orig.piece.items counts.orig),
     )
     by (inr none) = (Answerer, at)
       where
@@ -425,14 +408,7 @@ some-more tap x ts counts h fo fa some = by (cases_lt 0 counts.orig)
         answ-some = elim (cases_lt 0 counts.answ) [ inl l ↦ l | inr m ↦ absurd (some (omega (arith, none)) (omega (arith, m))) ]
 
         at : octets_of (line_of x) (length ts) < length (of Answerer (read_of tap x counts))
-        at = omega (
-          arith,
-          h.answ.count,
-          answ-some,
-          fa,
-          length-append {A = ℕ} x.bodies.answ (take counts.answ tap.answ.piece.items),
-          length-take counts.answ tap.answ.piece.items,
-        )
+        at = omega (arith, h.answ.count, answ-some, fa, read-length x.bodies.answ tap.answ.piece.items counts.answ)
 
 pub ends-badly : KeepsTaken → (tap : Tap) (start a b c : FolderState) (n : TapNames) (x : Tapping) (ts : List Turn) (h : Hearing)
     (counts : Both ℕ)
@@ -585,8 +561,7 @@ whole-orig tap mid x ts h counts slots k few go =
       k.behind.orig.count,
       k.behind.orig_room,
       octets-next (line_of x) (length ts),
-      length-append {A = ℕ} x.bodies.orig (take counts.orig tap.orig.piece.items),
-      length-take counts.orig tap.orig.piece.items,
+      read-length x.bodies.orig tap.orig.piece.items counts.orig,
     )
 
 -- a piece has octets

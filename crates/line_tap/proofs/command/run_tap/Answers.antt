@@ -39,17 +39,14 @@ returns-in-Err g c = record {
 pub returns-in-Ok-tap_turns : goal.returns-in-Ok-tap_turns
 returns-in-Ok-tap_turns g c = record {
   ends = λ begin b.
-      let mid : FolderState = g.F.Folder.state c.args.folder.now in
-      let now : FolderState = g.F.Folder.state c.create_all.new.folder in
-      let next : FolderState = g.F.Folder.state c.tap_turns.new.folder in
       let n : TapNames = named c.args.words.now in
       let apart : AreApartFrom (inputs_of n) (outputs_of n) = (
         c.apart_names_differ.ensures.outputs (inputs_of n) (outputs_of n) c.requires.apart,
         c.apart_names_differ.ensures.inputs (inputs_of n) (outputs_of n) c.requires.apart,
       ) in
-      ends-turns LIMITS begin mid next n c.args.tap.now.script (Ok c.in-Ok-tap_turns.turns) b c.requires.ready.limits
-      (c.in-Ok-tap_turns.ensures.ends begin (headers-later begin mid now n apart c.in-Ok.ensures.only b.headers))
-      (end-earlier {D = ℕ} begin now next (recordings_of n) (outputs_of n) (Ok c.in-Ok-tap_turns.turns)
+      ends-turns LIMITS begin _ _ n c.args.tap.now.script (Ok c.in-Ok-tap_turns.turns) b c.requires.ready.limits
+      (c.in-Ok-tap_turns.ensures.ends begin (headers-later begin _ _ n apart c.in-Ok.ensures.only b.headers))
+      (end-earlier {D = ℕ} begin _ _ (recordings_of n) (outputs_of n) (Ok c.in-Ok-tap_turns.turns)
       (CountsStand-trans b.stand c.in-Ok.ensures.stand)
       c.in-Ok-tap_turns.ensures.counts);
   only =
@@ -62,17 +59,14 @@ returns-in-Ok-tap_turns g c = record {
 pub returns-in-Err-tap_turns : goal.returns-in-Err-tap_turns
 returns-in-Err-tap_turns g c = record {
   ends = λ begin b.
-      let mid : FolderState = g.F.Folder.state c.args.folder.now in
-      let now : FolderState = g.F.Folder.state c.create_all.new.folder in
-      let next : FolderState = g.F.Folder.state c.tap_turns.new.folder in
       let n : TapNames = named c.args.words.now in
       let apart : AreApartFrom (inputs_of n) (outputs_of n) = (
         c.apart_names_differ.ensures.outputs (inputs_of n) (outputs_of n) c.requires.apart,
         c.apart_names_differ.ensures.inputs (inputs_of n) (outputs_of n) c.requires.apart,
       ) in
-      ends-turns LIMITS begin mid next n c.args.tap.now.script (Err c.in-Err-tap_turns.stop) b c.requires.ready.limits
-      (c.in-Err-tap_turns.ensures.ends begin (headers-later begin mid now n apart c.in-Ok.ensures.only b.headers))
-      (end-earlier {D = ℕ} begin now next (recordings_of n) (outputs_of n) (Err c.in-Err-tap_turns.stop)
+      ends-turns LIMITS begin _ _ n c.args.tap.now.script (Err c.in-Err-tap_turns.stop) b c.requires.ready.limits
+      (c.in-Err-tap_turns.ensures.ends begin (headers-later begin _ _ n apart c.in-Ok.ensures.only b.headers))
+      (end-earlier {D = ℕ} begin _ _ (recordings_of n) (outputs_of n) (Err c.in-Err-tap_turns.stop)
       (CountsStand-trans b.stand c.in-Ok.ensures.stand)
       c.in-Err-tap_turns.ensures.counts);
   only =

@@ -41,17 +41,14 @@ run_tap-requires g c = record {
 
 pub returns : goal.returns
 returns g c =
-    let old : FolderState = g.F.Folder.state c.args.folder.now in
-    let mid : FolderState = g.F.Folder.state c.open.new.folder in
     let n : TapNames = named c.args.words.now in
     record {
       ends =
-          c.run_tap.ensures.ends old
-          (subst (IsBegun LIMITS old mid (named c.args.words.now)) (sym c.in-Ok-new.ensures.script) c.in-Ok.ensures.opened);
+          c.run_tap.ensures.ends _
+          (subst (IsBegun LIMITS _ _ (named c.args.words.now)) (sym c.in-Ok-new.ensures.script) c.in-Ok.ensures.opened);
       only = OnlyOutputs-trans (outputs_of n) (OnlyOutputs-reads (outputs_of n) c.in-Ok.ensures.reads) c.run_tap.ensures.only;
       said = c.run_tap.ensures.said ∙ c.in-Ok.ensures.reads.said;
       counts =
-          let next : FolderState = g.F.Folder.state c.run_tap.new.folder in
-          end-earlier old mid next (inputs_of n) (outputs_of n) c.run_tap.result (c.in-Ok.ensures.counts (outputs_of n))
-          (end-widened mid next n c.run_tap.result c.run_tap.ensures.counts);
+          end-earlier _ _ _ (inputs_of n) (outputs_of n) c.run_tap.result (c.in-Ok.ensures.counts (outputs_of n))
+          (end-widened _ _ n c.run_tap.result c.run_tap.ensures.counts);
     }

@@ -24,22 +24,19 @@ returns-in-Err g c = record {
 pub returns-in-Err-open_header : goal.returns-in-Err-open_header
 returns-in-Err-open_header g c =
     let n : TapNames = named c.args.words.now in
-    let old : FolderState = g.F.Folder.state c.args.folder.now in
-    let n1 : FolderState = g.F.Folder.state c.open_inputs.new.folder in
-    let n2 : FolderState = g.F.Folder.state c.open_header.new.folder in
     record {
       opened = tt;
       refused =
           let first = c.in-Ok.ensures.reads in
-          orig-refused LIMITS old n2 n c.in-Ok.script c.in-Err-open_header.stop c.in-Ok.ensures.opened
-          (c.in-Err-open_header.ensures.err old
-          (ReadTo-none old n1 n.rec_o TAP_LIMIT c.in-Ok.ensures.opened.files.0 first.goes_on (first.names n.rec_o)))
-          (stop-earlier old n1 n2 (n.rec_o ∷ []) [] c.in-Err-open_header.stop (c.in-Ok.ensures.counts [])
+          orig-refused LIMITS _ _ n c.in-Ok.script c.in-Err-open_header.stop c.in-Ok.ensures.opened
+          (c.in-Err-open_header.ensures.err _
+          (ReadTo-none _ _ n.rec_o TAP_LIMIT c.in-Ok.ensures.opened.files.0 first.goes_on (first.names n.rec_o)))
+          (stop-earlier _ _ _ (n.rec_o ∷ []) [] c.in-Err-open_header.stop (c.in-Ok.ensures.counts [])
           (c.in-Err-open_header.ensures.counts []));
       reads = OnlyReads-trans c.in-Ok.ensures.reads c.in-Err-open_header.ensures.reads;
       counts = λ outputs.
-          stop-earlier old n1 n2 (inputs_of n) outputs c.in-Err-open_header.stop (c.in-Ok.ensures.counts outputs)
-          (stop-widened n1 n2 (n.rec_o ∷ []) (inputs_of n) outputs c.in-Err-open_header.stop
+          stop-earlier _ _ _ (inputs_of n) outputs c.in-Err-open_header.stop (c.in-Ok.ensures.counts outputs)
+          (stop-widened _ _ (n.rec_o ∷ []) (inputs_of n) outputs c.in-Err-open_header.stop
           (λ some. elim some [ inl rose ↦ inl rose | inr never ↦ absurd never ]) (c.in-Err-open_header.ensures.counts outputs));
     }
 
@@ -50,7 +47,6 @@ returns-in-Ok-open_header-2 g c = record {
       let old : FolderState = g.F.Folder.state c.args.folder.now in
       let n1 : FolderState = g.F.Folder.state c.open_inputs.new.folder in
       let n2 : FolderState = g.F.Folder.state c.open_header.new.folder in
-      let n3 : FolderState = g.F.Folder.state c.open_header-2.new.folder in
       let first : OnlyReads old n1 = c.in-Ok.ensures.reads in
       let second : OnlyReads old n2 = OnlyReads-trans first c.in-Ok-open_header.ensures.reads in
       let third = c.in-Ok-open_header-2.ensures.reads in
@@ -58,7 +54,7 @@ returns-in-Ok-open_header-2 g c = record {
       (ReadTo-none old n1 n.rec_o TAP_LIMIT c.in-Ok.ensures.opened.files.0 first.goes_on (first.names n.rec_o)) in
       record {
         opens = c.in-Ok.ensures.opened;
-        headers = both-read old n3 n (ReadTo-kept old n2 n3 n.rec_o TAP_LIMIT _ _ orig third.goes_on (third.names n.rec_o))
+        headers = both-read old _ n (ReadTo-kept old n2 _ n.rec_o TAP_LIMIT _ _ orig third.goes_on (third.names n.rec_o))
             (c.in-Ok-open_header-2.ensures.ok old
             (ReadTo-none old n2 n.rec_a TAP_LIMIT c.in-Ok.ensures.opened.files.1.0 second.goes_on (second.names n.rec_a)));
         reads = OnlyReads-trans second third;
@@ -77,7 +73,6 @@ returns-in-Err-open_header-2 g c =
     let n : TapNames = named c.args.words.now in
     let old : FolderState = g.F.Folder.state c.args.folder.now in
     let n2 : FolderState = g.F.Folder.state c.open_header.new.folder in
-    let n3 : FolderState = g.F.Folder.state c.open_header-2.new.folder in
     record {
       opened = tt;
       refused =
@@ -86,17 +81,17 @@ returns-in-Err-open_header-2 g c =
           let orig = c.in-Ok-open_header.ensures.ok old
           (ReadTo-none old (g.F.Folder.state c.open_inputs.new.folder) n.rec_o TAP_LIMIT c.in-Ok.ensures.opened.files.0 first.goes_on
           (first.names n.rec_o)) in
-          answ-refused LIMITS old n3 n c.in-Ok.script c.in-Err-open_header-2.stop c.in-Ok.ensures.opened
+          answ-refused LIMITS old _ n c.in-Ok.script c.in-Err-open_header-2.stop c.in-Ok.ensures.opened
           (header-read old n2 n.rec_o Call orig)
           (c.in-Err-open_header-2.ensures.err old
           (ReadTo-none old n2 n.rec_a TAP_LIMIT c.in-Ok.ensures.opened.files.1.0 second.goes_on (second.names n.rec_a)))
-          (stop-earlier old n2 n3 (n.rec_a ∷ []) [] c.in-Err-open_header-2.stop
+          (stop-earlier old n2 _ (n.rec_a ∷ []) [] c.in-Err-open_header-2.stop
           (CountsStand-trans (c.in-Ok.ensures.counts []) c.in-Ok-open_header.ensures.stand) (c.in-Err-open_header-2.ensures.counts []));
       reads =
           OnlyReads-trans (OnlyReads-trans c.in-Ok.ensures.reads c.in-Ok-open_header.ensures.reads) c.in-Err-open_header-2.ensures.reads;
       counts = λ outputs.
-          stop-earlier old n2 n3 (inputs_of n) outputs c.in-Err-open_header-2.stop
+          stop-earlier old n2 _ (inputs_of n) outputs c.in-Err-open_header-2.stop
           (CountsStand-trans (c.in-Ok.ensures.counts outputs) c.in-Ok-open_header.ensures.stand)
-          (stop-widened n2 n3 (n.rec_a ∷ []) (inputs_of n) outputs c.in-Err-open_header-2.stop
+          (stop-widened n2 _ (n.rec_a ∷ []) (inputs_of n) outputs c.in-Err-open_header-2.stop
           (λ some. elim some [ inl rose ↦ inr (inl rose) | inr never ↦ absurd never ]) (c.in-Err-open_header-2.ensures.counts outputs));
     }

@@ -80,13 +80,12 @@ returns-in-Err g c = record {
   stands = tt;
   ok = tt;
   err = λ i h.
-      let start : FolderState = g.F.Folder.state c.args.folder.now in
       let now : FolderState = g.F.Folder.state c.loop-segment.folder in
       let next : FolderState = g.F.Folder.state c.append.new.self in
       let part : PartlyAppended now next c.args.name.now c.deliver.new.out =
       subst (PartlyAppended now next c.args.name.now) c.as_slice.ensures.items c.in-Err.ensures.err in
       let k = c.loop-segment.invariant.hands i h in
-      handing-stops start now next c.args.name.now c.deliver.new.out c.loop-segment.self.receiver i c.loop-segment.invariant.only.goes_on k
+      handing-stops _ now next c.args.name.now c.deliver.new.out c.loop-segment.self.receiver i c.loop-segment.invariant.only.goes_on k
       (next-is c.loop-segment.self.receiver i k.given c.deliver.new.out (c.if-not-deliver.ensures.answer _ k.stands)
       (λ s. c.if-not-deliver.ensures.segment _ s k.stands)) part;
   idle = tt;

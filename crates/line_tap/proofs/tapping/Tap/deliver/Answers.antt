@@ -42,9 +42,6 @@ returns-in-Err g c =
 
 pub returns-in-Ok-deliver : goal.returns-in-Ok-deliver
 returns-in-Ok-deliver g c =
-    let a : FolderState = g.F.Folder.state c.args.folder.now in
-    let b : FolderState = g.F.Folder.state c.deliver.new.folder in
-    let d : FolderState = g.F.Folder.state c.deliver-2.new.folder in
     let n : TapNames = named c.args.names.now in
     record {
       stands =
@@ -57,9 +54,9 @@ returns-in-Ok-deliver g c =
             lines = h.lines;
           };
       ok = λ x ts heard h.
-          AddEach-next a b d (n.got_o ∷ []) n.got_a (n.trace ∷ []) ((added x ts (silent_in x ts heard) []).got.orig ∷ [])
+          AddEach-next _ _ _ (n.got_o ∷ []) n.got_a (n.trace ∷ []) ((added x ts (silent_in x ts heard) []).got.orig ∷ [])
           (added x ts (silent_in x ts heard) []).got.answ tt c.requires.0 c.in-Ok.ensures.only.goes_on
-          (c.in-Ok.ensures.ok _ h.orig.takes, KeepsEach-writes a b n.got_o (n.got_a ∷ n.trace ∷ []) c.requires.0.0 c.in-Ok.ensures.only)
+          (c.in-Ok.ensures.ok _ h.orig.takes, KeepsEach-writes _ _ n.got_o (n.got_a ∷ n.trace ∷ []) c.requires.0.0 c.in-Ok.ensures.only)
           c.in-Ok-deliver.ensures.only (c.in-Ok-deliver.ensures.ok _ h.answ.takes);
       err = tt;
       orig = c.in-Ok.ensures.idle;
@@ -68,8 +65,8 @@ returns-in-Ok-deliver g c =
       at = refl;
       script = refl;
       only =
-          OnlyPuts-trans a b d (outputs_of n) (OnlyPuts-one a b [] n.got_o (n.got_a ∷ n.trace ∷ []) c.in-Ok.ensures.only)
-          (OnlyPuts-one b d (n.got_o ∷ []) n.got_a (n.trace ∷ []) c.in-Ok-deliver.ensures.only);
+          OnlyPuts-trans _ _ _ (outputs_of n) (OnlyPuts-one _ _ [] n.got_o (n.got_a ∷ n.trace ∷ []) c.in-Ok.ensures.only)
+          (OnlyPuts-one _ _ (n.got_o ∷ []) n.got_a (n.trace ∷ []) c.in-Ok-deliver.ensures.only);
       stand = CountsStand-trans c.in-Ok.ensures.stand c.in-Ok-deliver.ensures.stand;
       fails = tt;
     }

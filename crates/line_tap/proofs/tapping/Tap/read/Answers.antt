@@ -37,10 +37,8 @@ stands-with g c x ts heard = read-turn c.args.self.now (with-pieces g c) x ts he
 pub returns-in-Ok : goal.returns-in-Ok
 returns-in-Ok g c = record {
   pieces = λ start x ts heard h read.
-      let b : FolderState = g.F.Folder.state c.args.folder.now in
-      let d : FolderState = g.F.Folder.state c.read_pieces.new.folder in
       let m = (goal.at.returns-in-Ok g c).After-read_pieces in
-      has-read-pieces c.args.self.now (with-pieces g m) start b d (named c.args.names.now) x ts heard c.in-Ok.counts h
+      has-read-pieces c.args.self.now (with-pieces g m) start _ _ (named c.args.names.now) x ts heard c.in-Ok.counts h
       (stands-with g m x ts heard h) refl read (record {
         reads_orig = c.in-Ok.ensures.orig start;
         reads_answ = c.in-Ok.ensures.answ start;

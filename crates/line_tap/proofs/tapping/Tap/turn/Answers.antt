@@ -55,15 +55,11 @@ returns-in-Ok-go_on g c =
     c.in-Ok-look.ensures.orig_piece in
     record {
       turn = λ start x ts h read.
-          let a : FolderState = g.F.Folder.state c.args.folder.now in
-          let b : FolderState = g.F.Folder.state c.deliver.new.folder in
-          let r : FolderState = g.F.Folder.state c.read.new.folder in
           let n : TapNames = named c.args.names.now in
-          let d : FolderState = g.F.Folder.state c.go_on.new.folder in
           let k = pieces-read g (goal.at.returns-in-Ok-go_on g c).In-Ok-read start x ts h read in
           let go = going-on g (goal.at.returns-in-Ok-go_on g c).In-Ok-look x ts k.pieces.turn k.hears in
           let after = c.in-Ok-go_on.ensures.ok (now_of c.read.new.self x c.in-Ok-read.counts) ts go in
-          goes-on-by c.read.new.self start a b r d n x ts c.in-Ok.hearing c.in-Ok-read.counts k c.in-Ok-go_on.ensures.only
+          goes-on-by c.read.new.self start _ _ _ _ n x ts c.in-Ok.hearing c.in-Ok-read.counts k c.in-Ok-go_on.ensures.only
           c.go_on.new.self (slots_as c.in-Ok-look.sent c.look.new.labels) after.0 after.1;
       script =
           c.in-Ok-go_on.ensures.script ∙ c.in-Ok-look.ensures.script ∙ c.in-Ok-read.ensures.script
@@ -104,12 +100,9 @@ returns-in-Ok-go_on g c =
 pub returns-in-Err-read : goal.returns-in-Err-read
 returns-in-Err-read g c = record {
   turn = λ start x ts h read.
-      let a : FolderState = g.F.Folder.state c.args.folder.now in
-      let b : FolderState = g.F.Folder.state c.deliver.new.folder in
-      let r : FolderState = g.F.Folder.state c.read.new.folder in
       let n : TapNames = named c.args.names.now in
       let heard = c.in-Ok.ensures.hears x ts h in
-      stops-reading start a b r n x ts c.in-Ok.hearing.heard c.requires.apart h.behind.tells read heard.0.hears c.in-Ok-deliver.ensures.only
+      stops-reading start _ _ _ n x ts c.in-Ok.hearing.heard c.requires.apart h.behind.tells read heard.0.hears c.in-Ok-deliver.ensures.only
       (c.in-Ok-deliver.ensures.ok x ts c.in-Ok.hearing.heard heard.0) c.in-Err-read.ensures.reads;
   script = c.in-Err-read.ensures.script ∙ c.in-Ok-deliver.ensures.script ∙ c.in-Ok.ensures.script;
   ready = λ same. is-stopped same;
@@ -125,13 +118,9 @@ returns-in-Err-read g c = record {
 pub returns-in-Ok-finish : goal.returns-in-Ok-finish
 returns-in-Ok-finish g c = record {
   turn = λ start x ts h read.
-      let a : FolderState = g.F.Folder.state c.args.folder.now in
-      let b : FolderState = g.F.Folder.state c.deliver.new.folder in
-      let r : FolderState = g.F.Folder.state c.read.new.folder in
       let n : TapNames = named c.args.names.now in
-      let d : FolderState = g.F.Folder.state c.finish.new.folder in
       let k = pieces-read g (goal.at.returns-in-Ok-finish g c).In-Ok-read start x ts h read in
-      ends-whole c.read.new.self start a b r d n x ts c.in-Ok.hearing c.in-Ok-read.counts k c.in-Ok-finish.ensures.only
+      ends-whole c.read.new.self start _ _ _ _ n x ts c.in-Ok.hearing c.in-Ok-read.counts k c.in-Ok-finish.ensures.only
       c.keeps_taken.ensures (c.read.new.self.turn + 1) (c.if-are_none.ensures.orig refl) (c.if-are_none.ensures.answ refl)
       (ap (λ m. m + 1) k.pieces.turn.behind.turn) (c.in-Ok-finish.ensures.ok x ts k.pieces.turn.behind.turn k.hears);
   script = c.in-Ok-read.ensures.script ∙ c.in-Ok-deliver.ensures.script ∙ c.in-Ok.ensures.script;
@@ -144,13 +133,9 @@ returns-in-Ok-finish g c = record {
 pub returns-in-Err-finish : goal.returns-in-Err-finish
 returns-in-Err-finish g c = record {
   turn = λ start x ts h read.
-      let a : FolderState = g.F.Folder.state c.args.folder.now in
-      let b : FolderState = g.F.Folder.state c.deliver.new.folder in
-      let r : FolderState = g.F.Folder.state c.read.new.folder in
       let n : TapNames = named c.args.names.now in
-      let d : FolderState = g.F.Folder.state c.finish.new.folder in
       let k = pieces-read g (goal.at.returns-in-Err-finish g c).In-Ok-read start x ts h read in
-      stops-ending c.read.new.self start a b r d n x ts c.in-Ok.hearing c.in-Ok-read.counts k c.in-Err-finish.ensures.only
+      stops-ending c.read.new.self start _ _ _ _ n x ts c.in-Ok.hearing c.in-Ok-read.counts k c.in-Err-finish.ensures.only
       (c.if-are_none.ensures.orig refl) (c.if-are_none.ensures.answ refl)
       (c.in-Err-finish.ensures.err x ts k.pieces.turn.behind.turn k.hears);
   script = c.in-Ok-read.ensures.script ∙ c.in-Ok-deliver.ensures.script ∙ c.in-Ok.ensures.script;
@@ -166,12 +151,9 @@ returns-in-Err-finish g c = record {
 pub returns-in-Err-look : goal.returns-in-Err-look
 returns-in-Err-look g c = record {
   turn = λ start x ts h read.
-      let a : FolderState = g.F.Folder.state c.args.folder.now in
-      let b : FolderState = g.F.Folder.state c.deliver.new.folder in
-      let r : FolderState = g.F.Folder.state c.read.new.folder in
       let n : TapNames = named c.args.names.now in
       let k = pieces-read g (goal.at.returns-in-Err-look g c).In-Ok-read start x ts h read in
-      ends-badly c.keeps_taken.ensures c.read.new.self start a b r n x ts c.in-Ok.hearing c.in-Ok-read.counts c.in-Err-look.role
+      ends-badly c.keeps_taken.ensures c.read.new.self start _ _ _ n x ts c.in-Ok.hearing c.in-Ok-read.counts c.in-Err-look.role
       c.look.new.self.turn k
       (c.if-are_none.ensures.some refl) (c.in-Err-look.ensures.turn ∙ k.pieces.turn.behind.turn)
       (c.in-Err-look.ensures.looks x ts c.in-Ok.hearing.heard k.pieces.turn);
@@ -187,14 +169,10 @@ returns-in-Err-look g c = record {
 pub returns-in-Err-go_on : goal.returns-in-Err-go_on
 returns-in-Err-go_on g c = record {
   turn = λ start x ts h read.
-      let a : FolderState = g.F.Folder.state c.args.folder.now in
-      let b : FolderState = g.F.Folder.state c.deliver.new.folder in
-      let r : FolderState = g.F.Folder.state c.read.new.folder in
       let n : TapNames = named c.args.names.now in
-      let d : FolderState = g.F.Folder.state c.go_on.new.folder in
       let k = pieces-read g (goal.at.returns-in-Err-go_on g c).In-Ok-read start x ts h read in
       let go = going-on g (goal.at.returns-in-Err-go_on g c).In-Ok-look x ts k.pieces.turn k.hears in
-      stops-going c.read.new.self start a b r d n x ts c.in-Ok.hearing c.in-Ok-read.counts k c.in-Err-go_on.ensures.only c.look.new.self
+      stops-going c.read.new.self start _ _ _ _ n x ts c.in-Ok.hearing c.in-Ok-read.counts k c.in-Err-go_on.ensures.only c.look.new.self
       (slots_as c.in-Ok-look.sent c.look.new.labels) go (c.in-Err-go_on.ensures.err (now_of c.read.new.self x c.in-Ok-read.counts) ts go);
   script =
       c.in-Err-go_on.ensures.script ∙ c.in-Ok-look.ensures.script ∙ c.in-Ok-read.ensures.script
