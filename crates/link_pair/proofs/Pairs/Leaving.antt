@@ -96,8 +96,7 @@ pub record AreDone (first second : RunEnd) : Type 0 where
 both-done : (m n : ℕ) (first second : RunEnd) → BothDone m n ≡ end_of first second → AreDone first second
 unfolding kind
 both-done m n (runs.IsDone turn) (runs.IsDone last) e = record { turn = turn; last = last; first_is = refl; second_is = refl }
-both-done m n (runs.IsDone turn) second e = absurd (omega (arith, ap kind e))
-both-done m n first second e = absurd (omega (arith, ap kind e))
+both-done m n other second e = absurd (omega (arith, ap kind e))
 
 line-not-done : (m n round : ℕ) (cause : LineEnd) → BothDone m n ≡ line_end round cause → ⊥
 unfolding kind

@@ -30,13 +30,11 @@ returns-in-Err-new-clause-said g c = c.in-Ok.ensures.reads.said
 
 pub returns : goal.returns
 returns g c =
-    let old : FolderState = g.F.Folder.state c.args.folder.now in
-    let mid : FolderState = g.F.Folder.state c.open_inputs.new.folder in
     let n : Names = named c.args.words.now in
     record {
       ends =
-          c.run_pair.ensures.ends old
-          (subst (IsBegun LIMITS old mid (named c.args.words.now)) (sym c.in-Ok-new.ensures.script)
+          c.run_pair.ensures.ends _
+          (subst (IsBegun LIMITS _ _ (named c.args.words.now)) (sym c.in-Ok-new.ensures.script)
           (record {
             opens = c.in-Ok.ensures.opened;
             limits = c.is_in_limits.ensures;
@@ -46,7 +44,6 @@ returns g c =
       only = OnlyOutputs-trans (outputs_of n) (OnlyOutputs-reads (outputs_of n) c.in-Ok.ensures.reads) c.run_pair.ensures.only;
       said = c.run_pair.ensures.said ∙ c.in-Ok.ensures.reads.said;
       counts =
-          let next : FolderState = g.F.Folder.state c.run_pair.new.folder in
-          end-earlier old mid next (inputs_of n) (outputs_of n) c.run_pair.result (c.in-Ok.ensures.counts
+          end-earlier _ _ _ (inputs_of n) (outputs_of n) c.run_pair.result (c.in-Ok.ensures.counts
           (outputs_of n)) c.run_pair.ensures.counts;
     }

@@ -28,16 +28,13 @@ pair_rounds-requires-clause-apart g c =
 
 pub returns-in-Ok-pair_rounds : goal.returns-in-Ok-pair_rounds
 returns-in-Ok-pair_rounds g c =
-    let next : FolderState = g.F.Folder.state c.pair_rounds.new.folder in
     let end = end_of (run_end c.in-Ok-pair_rounds.endings.first) (run_end c.in-Ok-pair_rounds.endings.second) in
     let n : Names = named c.args.words.now in
-    let mid : FolderState = g.F.Folder.state c.args.folder.now in
     record {
       ends = λ begin b.
-          let now : FolderState = g.F.Folder.state c.create_all.new.folder in
           let script : ScriptValue = script_of c.args.pair.now in
-          subst (Ends LIMITS begin next n) (sym c.last_turns.ensures)
-          (ends-of LIMITS begin next n end (ran-to begin mid now next n script end (record {
+          subst (Ends LIMITS begin _ n) (sym c.last_turns.ensures)
+          (ends-of LIMITS begin _ n end (ran-to begin _ _ _ n script end (record {
             begun = b;
             creates = c.in-Ok.ensures.only;
             rounds = c.in-Ok-pair_rounds.ensures.only;
@@ -48,23 +45,20 @@ returns-in-Ok-pair_rounds g c =
       only = OnlyOutputs-trans (outputs_of n) c.in-Ok.ensures.only (OnlyOutputs-puts (outputs_of n) c.in-Ok-pair_rounds.ensures.only);
       said = search rules;
       counts =
-          subst (EndCounts mid next (inputs_of n) (outputs_of n)) (sym c.last_turns.ensures)
-          (result-counts mid next (inputs_of n) (outputs_of n) end
+          subst (EndCounts _ _ (inputs_of n) (outputs_of n)) (sym c.last_turns.ensures)
+          (result-counts _ _ (inputs_of n) (outputs_of n) end
           (CountsStand-trans c.in-Ok.ensures.stand c.in-Ok-pair_rounds.ensures.counts));
     }
 
 pub returns-in-Err-pair_rounds : goal.returns-in-Err-pair_rounds
 returns-in-Err-pair_rounds g c =
-    let now : FolderState = g.F.Folder.state c.create_all.new.folder in
-    let next : FolderState = g.F.Folder.state c.pair_rounds.new.folder in
     let n : Names = named c.args.words.now in
     let fault = c.in-Err-pair_rounds.fault in
-    let mid : FolderState = g.F.Folder.state c.args.folder.now in
     record {
       ends = λ begin b.
           let script : ScriptValue = script_of c.args.pair.now in
-          subst (EndsBy LIMITS begin next n) (sym c.stop_of.ensures)
-          (ends-in-round c.line_runs_end_soon.ensures.soon begin mid now next n script fault (record {
+          subst (EndsBy LIMITS begin _ n) (sym c.stop_of.ensures)
+          (ends-in-round c.line_runs_end_soon.ensures.soon begin _ _ _ n script fault (record {
             begun = b;
             creates = c.in-Ok.ensures.only;
             rounds = c.in-Err-pair_rounds.ensures.only;
@@ -75,7 +69,7 @@ returns-in-Err-pair_rounds g c =
       only = OnlyOutputs-trans (outputs_of n) c.in-Ok.ensures.only (OnlyOutputs-puts (outputs_of n) c.in-Err-pair_rounds.ensures.only);
       said = search rules;
       counts =
-          subst (StopCounts mid next (inputs_of n) (outputs_of n)) (sym c.stop_of.ensures)
-          (stop-earlier mid now next (inputs_of n) (outputs_of n) _ c.in-Ok.ensures.stand
-          (round-counts now next n fault c.in-Err-pair_rounds.ensures.counts));
+          subst (StopCounts _ _ (inputs_of n) (outputs_of n)) (sym c.stop_of.ensures)
+          (stop-earlier _ _ _ (inputs_of n) (outputs_of n) _ c.in-Ok.ensures.stand
+          (round-counts _ _ n fault c.in-Err-pair_rounds.ensures.counts));
     }

@@ -12,14 +12,13 @@ use Rattle.link_pair.proofs.rounds.pair_rounds.Goals as goal
 
 pub loop-endings-init : goal.loop-endings-init
 loop-endings-init g c =
-    let now : FolderState = g.F.Folder.state c.args.folder.now in
     let n : Written = written c.args.names.now.first in
     let m : Written = written c.args.names.now.second in
     record {
-      ready = begins c.args.pair.now now n m c.requires.first c.requires.created;
+      ready = begins c.args.pair.now _ n m c.requires.first c.requires.created;
       script_is = refl;
-      only = OnlyPuts-refl now (all_outputs n m);
-      stand = CountsStand-refl now;
+      only = OnlyPuts-refl _ (all_outputs n m);
+      stand = CountsStand-refl _;
       came = g.met.F.Folder.came_none _;
     }
 

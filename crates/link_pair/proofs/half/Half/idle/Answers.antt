@@ -32,9 +32,9 @@ returns-in-Ok-write_chance-clause-turn g c = λ beside links streams files p h.
     (count-at half script beside files c.args.round p a) in (
       refl,
       met-idly half script beside files c.args.round p (g.F.Folder.state c.args.folder.now) (g.F.Folder.state c.write_chance.new.folder)
-      (written c.args.names.now) checks c.in-Err-Chance.role a c.requires.apart h.knows h.holds c.heard_by.ensures
-      c.write_chance.ensures.only c.in-Ok-write_chance.ensures.ok
-      (subst (λ (x : LineEnd). EndsLineBy channel (turns_on_line c.args.round p) (λ side. of side checks) (end_of x))
+          (written c.args.names.now) checks c.in-Err-Chance.role a c.requires.apart h.knows h.holds c.heard_by.ensures
+          c.write_chance.ensures.only c.in-Ok-write_chance.ensures.ok
+          (subst (λ (x : LineEnd). EndsLineBy channel (turns_on_line c.args.round p) (λ side. of side checks) (end_of x))
           c.in-Err-Chance.field-0-is e),
     )
 
@@ -47,13 +47,12 @@ returns-in-Err-clause-turn g c = λ beside links streams files p h.
     let script = c.args.script.now in
     let channel = wire_at script half.dlci beside in
     let checks = c.heard_by.result.now in
-    let new = g.F.Folder.state c.write_chance.new.folder in
     let n = written c.args.names.now in
     let a = at-end half script beside files c.args.round p c.requires.ended h.stands h.lasts in
     let e = c.in-Err-Chance.ensures.arrives channel links (turns_on_line c.args.round p) streams h.waits h.due refl refl
     (count-at half script beside files c.args.round p a) in
-    writes-ends channel new n files c.args.round p c.in-Err.fault c.in-Err.ensures.write
-    (stopped-idly half script beside files c.args.round p (g.F.Folder.state c.args.folder.now) new n checks c.in-Err-Chance.role a
+    writes-ends channel _ n files c.args.round p c.in-Err.fault c.in-Err.ensures.write
+    (stopped-idly half script beside files c.args.round p (g.F.Folder.state c.args.folder.now) _ n checks c.in-Err-Chance.role a
     c.requires.apart h.knows h.holds c.heard_by.ensures c.write_chance.ensures.only c.in-Err.ensures.err
     (subst (λ (x : LineEnd). EndsLineBy channel (turns_on_line c.args.round p) (λ side. of side checks) (end_of x))
     c.in-Err-Chance.field-0-is e))

@@ -131,6 +131,5 @@ pub overflow_add-self : goal.overflow_add-self
 overflow_add-self g c =
     let n : Written = written c.args.names.now.first in
     let m : Written = written c.args.names.now.second in
-    let old : FolderState = g.F.Folder.state c.args.folder.now in
-    let few = few-rounds c.pairs_have_few_rounds.ensures c.args.self.now old n m (which c.args.link) c.requires.ready in
+    let few = few-rounds c.pairs_have_few_rounds.ensures c.args.self.now _ n m (which c.args.link) c.requires.ready in
     omega (arith, few)
