@@ -252,8 +252,7 @@ pub ends-part : (s : Single) (old new : FolderState) (trace : List ℕ) (p : Pas
     → EndsLine s old new trace p slot octets fault
 ends-part s old new trace p slot octets faults.WriteFault w a = a
 ends-part s old new trace p slot octets faults.NoMemory w a = a
-ends-part s old new trace p slot octets faults.ReadFault w a = absurd w
-ends-part s old new trace p slot octets (faults.Link fault) w a = absurd w
+ends-part s old new trace p slot octets other w a = absurd w
 
 pub adds-line : (s : Single) (old new : FolderState) (trace : List ℕ) (p : Past) (slot octets : List ℕ) (outcome : Outcome) (t : LoneTurn)
     (sent : Option Sent) → s.turn ≡ length p.turns
@@ -344,8 +343,7 @@ pub writing-ends : (role : Role) (a b : FolderState) (n : PeerNames) (p : Past) 
     → Stops role a b n p slot → EndsBy role a b n p slot fault
 writing-ends role a b n p slot faults.WriteFault w s = s
 writing-ends role a b n p slot faults.NoMemory w s = s
-writing-ends role a b n p slot faults.ReadFault w s = absurd w
-writing-ends role a b n p slot (faults.Link fault) w s = absurd w
+writing-ends role a b n p slot other w s = absurd w
 
 module _ (s : Single) (a b z : FolderState) (n : PeerNames) (p : Past) (slot octets others : List ℕ) (apart : IsApart n) (g : GoesOn a b)
     (d : AddEach a b (outputs_of n) (octets ∷ [])) (w : OnlyWrites b z n.trace) (known : StaysKnown a z n.file p.file others) where

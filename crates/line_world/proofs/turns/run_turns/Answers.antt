@@ -38,21 +38,17 @@ record_turn-requires g c = record {
 
 pub loop-tapes-smaller : goal.loop-tapes-smaller
 loop-tapes-smaller g c =
-    let old : FolderState = g.F.Folder.state c.args.folder.now in
-    let now : FolderState = g.F.Folder.state c.loop-tapes.folder in
-    let next : FolderState = g.F.Folder.state c.turn.new.folder in
     let n : Written = written c.args.names.now in
     let tapes : Tapes = tape_names c.args.tapes.now in
     let script : ScriptValue = script_of c.args.world.now in
     let r = c.loop-tapes.invariant.reached in
     nearer _ _ (c.turns_are_few.ensures c.loop-tapes.world c.loop-tapes.invariant.ready)
-    (next-turn c.loop-tapes.world c.turn.new.self script n tapes old now next r
+    (next-turn c.loop-tapes.world c.turn.new.self script n tapes _ _ _ r
     ((rw c.in-Ok-Going.field-0-is at c.in-Ok-Going.ensures.turn) r.files r.turns r.ends r.world r.knows.within))
 
 pub loop-tapes-preserved : goal.loop-tapes-preserved
 unfolding reached-going reached-put
 loop-tapes-preserved g c =
-    let old : FolderState = g.F.Folder.state c.args.folder.now in
     let now : FolderState = g.F.Folder.state c.loop-tapes.folder in
     let next : FolderState = g.F.Folder.state c.turn.new.folder in
     let n : Written = written c.args.names.now in
@@ -69,9 +65,9 @@ loop-tapes-preserved g c =
     (subst (λ (names : Tapes). KeepsEach now next (tapes_of names)) (sym c.loop-tapes.invariant.named)
     (tapes-kept now next n tapes c.requires.apart c.in-Ok-Going.ensures.only)) c.loop-tapes.invariant.taped) in
     record {
-      reached = reached-put c.turn.new.self script n tapes old next last c.requires.apart
+      reached = reached-put c.turn.new.self script n tapes _ next last c.requires.apart
           (reached-going c.turns_deliver_what_came.ensures.hearing c.turns_deliver_what_came.ensures.speaking c.loop-tapes.world
-          c.turn.new.self script n tapes old now next r c.in-Ok-Going.ensures.script going c.in-Ok-Going.ensures.only
+          c.turn.new.self script n tapes _ now next r c.in-Ok-Going.ensures.script going c.in-Ok-Going.ensures.only
           c.in-Ok-Going.ensures.counts) puts c.in-Ok.ensures.counts;
       named = c.in-Ok.ensures.names ∙ c.loop-tapes.invariant.named;
       taped = subst (λ (s : ScriptValue). KeepTapes c.record_turn.new.tapes last (wire_of s) (going.turn ∷ r.turns))
@@ -94,7 +90,6 @@ returns-in-Err-record_turn g c =
     let last : FolderState = g.F.Folder.state c.record_turn.new.folder in
     let puts : OnlyPuts next last (tapes_of tapes) =
     subst (λ (names : Tapes). OnlyPuts next last (tapes_of names)) c.loop-tapes.invariant.named c.in-Err-record_turn.ensures.only in
-    let old : FolderState = g.F.Folder.state c.args.folder.now in
     record {
       run =
           let going = (rw c.in-Ok-Going.field-0-is at c.in-Ok-Going.ensures.turn) r.files r.turns r.ends r.world r.knows.within in
@@ -109,16 +104,16 @@ returns-in-Err-record_turn g c =
           (c.in-Err-record_turn.ensures.names ∙ c.loop-tapes.invariant.named)
           (c.in-Err-record_turn.ensures.records going.others r.turns going.turn going.after
           (record { modems = going.modems; lines = going.lines }) kept) in
-          reached-taping c.loop-tapes.world c.turn.new.self script n tapes old now next last c.in-Err-record_turn.fault r c.requires.apart
+          reached-taping c.loop-tapes.world c.turn.new.self script n tapes _ now next last c.in-Err-record_turn.fault r c.requires.apart
           c.in-Ok-Going.ensures.script going c.in-Ok-Going.ensures.only puts c.in-Err-record_turn.ensures.write partly;
       tally = search rules;
       only =
-          OnlyPuts-trans old next last (outputs_of n ++ tapes_of tapes)
-          (OnlyPuts-trans old now next (outputs_of n ++ tapes_of tapes) r.only
+          OnlyPuts-trans _ next last (outputs_of n ++ tapes_of tapes)
+          (OnlyPuts-trans _ now next (outputs_of n ++ tapes_of tapes) r.only
           (puts-front now next (outputs_of n) (tapes_of tapes) c.in-Ok-Going.ensures.only))
           (puts-behind next last (outputs_of n) (tapes_of tapes) puts);
       counts =
-          counts-behind old next last (inputs_of n) (outputs_of n) (tapes_of tapes) c.in-Err-record_turn.fault
+          counts-behind _ next last (inputs_of n) (outputs_of n) (tapes_of tapes) c.in-Err-record_turn.fault
           c.in-Err-record_turn.ensures.write
           (CountsStand-trans r.stand c.in-Ok-Going.ensures.counts)
           (subst (λ (names : Tapes). FaultCountsOver next last [] (tapes_of names) c.in-Err-record_turn.fault) c.loop-tapes.invariant.named
@@ -141,18 +136,17 @@ returns-in-Ok-Done g c =
     (tapes-kept now next n tapes c.requires.apart c.in-Ok-Done.ensures.only)
     (subst (λ (names : Tapes). HoldTapes now names (wire_of script) r.turns) c.loop-tapes.invariant.named
     (keep-holds c.loop-tapes.tapes now (wire_of script) r.turns c.loop-tapes.invariant.taped)) in
-    let old : FolderState = g.F.Folder.state c.args.folder.now in
     record {
       run =
-          reached-done c.turns_deliver_what_came.ensures.hearing c.loop-tapes.world c.turn.new.self script n tapes old now next r
+          reached-done c.turns_deliver_what_came.ensures.hearing c.loop-tapes.world c.turn.new.self script n tapes _ now next r
           c.in-Ok-Done.ensures.script c.in-Ok-Done.ensures.only held c.in-Ok-Done.turn
           ((rw c.in-Ok-Done.field-0-is at c.in-Ok-Done.ensures.turn) r.files r.turns r.ends r.world r.knows.within);
       tally =
-          reached-counts c.turns_deliver_what_came.ensures.hearing c.loop-tapes.world c.turn.new.self script n tapes old now next r
+          reached-counts c.turns_deliver_what_came.ensures.hearing c.loop-tapes.world c.turn.new.self script n tapes _ now next r
           c.in-Ok-Done.ensures.script c.in-Ok-Done.ensures.only held c.in-Ok-Done.turn
           ((rw c.in-Ok-Done.field-0-is at c.in-Ok-Done.ensures.turn) r.files r.turns r.ends r.world r.knows.within);
       only =
-          OnlyPuts-trans old now next (outputs_of n ++ tapes_of tapes) r.only
+          OnlyPuts-trans _ now next (outputs_of n ++ tapes_of tapes) r.only
           (puts-front now next (outputs_of n) (tapes_of tapes) c.in-Ok-Done.ensures.only);
       counts = CountsStand-trans c.loop-tapes.invariant.reached.stand c.in-Ok-Done.ensures.counts;
       came = g.met.F.Folder.came_on _ _ _ c.loop-tapes.invariant.came c.in-Ok-Done.ensures.came;

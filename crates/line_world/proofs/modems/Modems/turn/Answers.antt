@@ -100,13 +100,11 @@ pub returns-in-Err : goal.returns-in-Err
 returns-in-Err g c = record {
   turn = λ beside links streams files ts ends h within waits due.
       let channel = wire_at c.args.script.now c.args.self.now.dlci beside in
-      let a = g.F.Folder.state c.args.folder.now in
-      let b = g.F.Folder.state c.hand_over.new.folder in
       let n = written c.args.names.now in
       let w = c.hand_over.new.self in
       let has = c.in-Ok.ensures.hears channel links streams files ts ends refl refl h waits due in
-      writing-ends w c.hear.new.lines channel links streams a b n files ts ends c.in-Err.fault c.in-Err.ensures.write
-      (stops-handing (making-laws g (goal.at.returns-in-Err g c).After-line_runs_end_soon) w c.hear.new.lines channel links streams a b n
+      writing-ends w c.hear.new.lines channel links streams _ _ n files ts ends c.in-Err.fault c.in-Err.ensures.write
+      (stops-handing (making-laws g (goal.at.returns-in-Err g c).After-line_runs_end_soon) w c.hear.new.lines channel links streams _ _ n
       files ts ends c.in-Ok.heard has.mid c.requires.ready.limits c.requires.apart within c.hand_over.ensures.only
       has.stands.overhears
       (halts-so c.hear.new.self w c.hear.new.lines channel links streams files ts ends c.in-Ok.heard has.mid has.mid has.stands has.lines
@@ -123,11 +121,8 @@ returns-in-Err g c = record {
 
 pub returns-in-Ok-finish : goal.returns-in-Ok-finish
 returns-in-Ok-finish g c =
-    let a = g.F.Folder.state c.args.folder.now in
-    let b = g.F.Folder.state c.hand_over.new.folder in
-    let d = g.F.Folder.state c.finish.new.folder in
     let n = written c.args.names.now in
-    let only = OnlyPuts-trans a b d (outputs_of n) c.hand_over.ensures.only (lines-only b d n c.finish.ensures.only) in
+    let only = OnlyPuts-trans _ _ _ (outputs_of n) c.hand_over.ensures.only (lines-only _ _ n c.finish.ensures.only) in
     record {
       turn = λ beside links streams files ts ends h within waits due.
           let channel = wire_at c.args.script.now c.args.self.now.dlci beside in
@@ -136,8 +131,8 @@ returns-in-Ok-finish g c =
           let closed = sym (ap is_closed (phase-delivered has.mid.orig)) ∙ sym
           (c.is_closed.ensures files (handed has.mid) hands.stands.link) ∙ c.if-is_closed.true in
           let w = c.hand_over.new.self in
-          ends-in w c.hear.new.lines channel links streams a b d n files files ts ends c.in-Ok.heard has.mid c.requires.apart
-          (stay-known a d n files c.requires.apart
+          ends-in w c.hear.new.lines channel links streams _ _ _ n files files ts ends c.in-Ok.heard has.mid c.requires.apart
+          (stay-known _ _ n files c.requires.apart
           only within) c.hand_over.ensures.only hands.delivered c.finish.ensures.only
           (halts-so w w c.hear.new.lines channel links streams files ts ends c.in-Ok.heard has.mid (handed has.mid) hands.stands has.lines
           (same-beside w)) Done w.turn hands.stands.turn (checked-so w w channel files ts ends c.in-Ok.heard has.mid (handed has.mid)

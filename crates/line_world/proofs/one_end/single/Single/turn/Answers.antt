@@ -62,10 +62,7 @@ returns-in-Err g c =
 pub returns-in-Ok-finish : goal.returns-in-Ok-finish
 returns-in-Ok-finish g c =
     let n = named c.args.file.now c.args.got.now c.args.trace.now in
-    let a = g.F.Folder.state c.args.folder.now in
-    let b = g.F.Folder.state c.hand_over.new.folder in
-    let z = g.F.Folder.state c.finish.new.folder in
-    let only = OnlyPuts-trans a b z (outputs_of n) (got-only a b n c.hand_over.ensures.only) (trace-only b z n c.finish.ensures.only) in
+    let only = OnlyPuts-trans _ _ _ (outputs_of n) (got-only _ _ n c.hand_over.ensures.only) (trace-only _ _ n c.finish.ensures.only) in
     record {
       turn = λ p h within.
           let slot = c.args.bits.now in
@@ -74,10 +71,10 @@ returns-in-Ok-finish g c =
           let mid = has.0 in
           let now = c.in-Ok-hand_over.ensures.stands p slot arrived mid has.1 in
           let closed = sym (c.hangs_up.ensures p slot arrived mid now) ∙ c.if-hangs_up.true in
-          made c.hand_over.new.self a b z n p slot (concat (deliveries mid)) p.file c.requires.apart c.hand_over.ensures.only.goes_on
-          (hands-over a b n (concat (deliveries mid)) c.requires.apart c.hand_over.ensures.only
+          made c.hand_over.new.self _ _ _ n p slot (concat (deliveries mid)) p.file c.requires.apart c.hand_over.ensures.only.goes_on
+          (hands-over _ _ n (concat (deliveries mid)) c.requires.apart c.hand_over.ensures.only
           (c.in-Ok-hand_over.ensures.adds p slot arrived mid has.1)) c.finish.ensures.only
-          (stays-known a z n p.file c.requires.apart only within) Closed
+          (stays-known _ _ n p.file c.requires.apart only within) Closed
           (c.in-Ok-finish.ensures.adds p slot mid now closed (c.in-Ok-hand_over.ensures.given p slot arrived mid has.1));
       role = c.hand_over.ensures.role ∙ c.hear.ensures.role;
       ready = λ e. closed-no-step e;
