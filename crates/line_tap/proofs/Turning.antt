@@ -1,7 +1,6 @@
 -- What a turn of a tap comes to, at each of its ways out.
 use Rattle.std.proofs.Common.{◌≡◌, ◌⊎◌, inl, inr, ℕ, ◌+◌, ◌*◌, ◌^◌, ◌<◌, ◌≤◌, IsTrue, List, [], ◌∷◌, ◌++◌, length, take, arith, min}
-use Rattle.std.proofs.Common.{length-append}
-use Rattle.std.proofs.Common.{refl, sym, ◌∙◌, ap, subst, append-nil, append_assoc, None, Result, Ok, Err}
+use Rattle.std.proofs.Common.{length-append, refl, sym, ◌∙◌, ap, subst, append-nil, append_assoc, None, Result, Ok, Err}
 use Rattle.std.proofs.lemmas.Bool.{cases_lt}
 use Rattle.std.proofs.lemmas.List.{length-take}
 use Rattle.std.specs.List.{concat}

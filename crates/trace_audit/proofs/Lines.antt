@@ -5,7 +5,7 @@ use Rattle.std.proofs.Math.Seq.{drop-append_seam}
 use Rattle.trace_audit.specs.Differences.{fed, text_of, GoesOnWith, LineDiffers, RestDiffers, FirstDiffers}
 use Rattle.trace_audit.specs.Compared.{HasLines, DiffersIn}
 use Rattle.shared_terms.specs.declared.audit_cause.AuditCause.{AuditCause}
-use Rattle.shared_terms.specs.declared.audit_cause.AuditCause.TheVariants.{End, Beyond, Spelling, Turn, Role, Arrived, Sent, Break}
+use Rattle.shared_terms.specs.declared.audit_cause.AuditCause.TheVariants.{End, Beyond}
 
 pub text_of-append : (a b : List (List ℕ)) → text_of (a ++ b) ≡ text_of a ++ text_of b
 text_of-append [] b = refl

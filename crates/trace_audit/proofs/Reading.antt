@@ -8,7 +8,6 @@ use Rattle.shared_terms.specs.declared.role.Role.{Role}
 use Rattle.shared_terms.specs.Role.{other}
 use Rattle.shared_terms.specs.Both.{Both, of}
 use Rattle.lapm_frames.specs.declared.frame.Frame.{Frame}
-use Rattle.lapm_frames.specs.declared.frame.Frame.TheVariants as frames
 use Rattle.lapm_frames.specs.Frame.{information_of}
 use Rattle.lapm_frames.specs.Parts.{parts_of}
 use Rattle.lapm_frames.specs.declared.sent.Sent.{Sent}

@@ -15,7 +15,7 @@ use Rattle.line_world.specs.OneEnd.Single.{SingleAfter, file_limit}
 use Rattle.line_world.specs.OneEnd.Turn.{Makes, GoesOnBy}
 use Rattle.shared_terms.specs.declared.limits.TheConstants.{FILE_LIMIT}
 use Rattle.command_base.specs.declared.stop.Stop.{Stop}
-use Rattle.command_base.specs.declared.stop.Stop.TheVariants.{Own, Read, Write, Say, NoMemory}
+use Rattle.command_base.specs.declared.stop.Stop.TheVariants.{Own, Read}
 use Rattle.command_base.specs.Inputs.{IsWithin, IsNotWithin}
 use Rattle.command_base.specs.Stops.{IsOwn, ReadFails, StopCounts}
 use Rattle.outside_calls.specs.Outputs.{KeepsAll, CreatesPart, Creates, IsNoneOf, AreNoneOf, OnlyOutputs}

@@ -3,7 +3,7 @@ use Rattle.std.proofs.Common.{◌≡◌, ◌≢◌, ◌∙◌, inl, inr, true, L
 use Rattle.outside_calls.specs.Folder.{FolderState, OnlyReads, OnlyWrites}
 use Rattle.outside_calls.proofs.Steps.{GoesOn-trans, KeepsName-trans}
 use Rattle.command_base.specs.declared.stop.Stop.{Stop}
-use Rattle.command_base.specs.declared.stop.Stop.TheVariants.{Own, Read, Write, Say, NoMemory}
+use Rattle.command_base.specs.declared.stop.Stop.TheVariants.{Own, Read, Say}
 use Rattle.outside_calls.specs.Outputs.{OnlyOutput}
 use Rattle.command_base.specs.Recordings.{IsNotOpened}
 use Rattle.command_base.specs.Apart.{are_apart}

@@ -11,7 +11,7 @@ use Rattle.scramblers.specs.declared.mode.Mode.{Mode}
 use Rattle.scramblers.specs.declared.mode.Mode.TheVariants.{Call, Answer}
 use Rattle.scramblers.specs.Mode.{tap_of}
 use Rattle.scramblers.specs.Scrambles.{Scrambles}
-use Rattle.scramblers.proofs.Streams.{Scrambles-more}
+use Rattle.scramblers.proofs.Streams.{Scrambles-more, four-behind}
 use Rattle.trellis_tables.proofs.Turning.Places.{turned-snoc}
 use Rattle.symbol_map.specs.declared.sample.Sample.{Sample}
 use Rattle.symbol_map.specs.Labels.{label_of}
@@ -22,7 +22,6 @@ use Rattle.trellis_tables.specs.Quads.{turn_of, uncoded_of}
 use Rattle.trellis_tables.proofs.Tables.{branch_of, next_by_y-lt, y_of-lt}
 use Rattle.trellis_tables.proofs.Codings.{Encodes-more}
 use Rattle.line_coding.specs.Modulates.{Modulates}
-use Rattle.scramblers.proofs.Streams.{four-behind}
 use Rattle.line_coding.proofs.Fours.{fours-more}
 use Rattle.rate_4800.specs.Modulates.{Modulates as QuarterModulates}
 use Rattle.recordings.specs.declared.rate.Rate.{Rate}

@@ -1,7 +1,6 @@
 -- From single steps to how the making of a recording ends.
 use Rattle.std.proofs.Common.{◌≡◌, ◌≢◌, ◌∙◌, inl, inr, ℕ, ◌+◌, ◌*◌, Bool, true, false, IsTrue, List, [], ◌∷◌, ◌++◌, length, refl, sym, ap}
-use Rattle.std.proofs.Common.{subst}
-use Rattle.std.proofs.Common.{arith, rules, append-nil, append_assoc}
+use Rattle.std.proofs.Common.{subst, arith, rules, append-nil, append_assoc}
 use Rattle.shared_terms.specs.Prefix.{IsPrefixOf}
 use Rattle.outside_calls.specs.Folder.{FolderState, octets_at, OnlyReads, OnlyWrites, Appended, PartlyAppended}
 use Rattle.outside_calls.proofs.Steps.{KeepsName-trans}
@@ -17,7 +16,7 @@ use Rattle.recordings.specs.Recording.{header_at, samples_each}
 use Rattle.signal_commands.specs.Encoding.Recorder.{IsRecordingOf, RecorderStands}
 use Rattle.shared_terms.specs.declared.limits.TheConstants.{FILE_LIMIT}
 use Rattle.command_base.specs.declared.stop.Stop.{Stop}
-use Rattle.command_base.specs.declared.stop.Stop.TheVariants.{Own, Read, Write, Say, NoMemory}
+use Rattle.command_base.specs.declared.stop.Stop.TheVariants.{Own, Read, Write}
 use Rattle.command_base.specs.Inputs.{IsWithin, IsNotWithin, ReadTo}
 use Rattle.outside_calls.specs.Outputs.{Holds, HoldsFront, KeptOrEmpty, OnlyOutput}
 use Rattle.outside_calls.proofs.Holding.{Holds-kept, Holds-more, HoldsFront-all, HoldsFront-more, HoldsFront-longer}

@@ -7,7 +7,7 @@ use Rattle.exact_decoder.specs.Surviving.Survivors.{LostIs}
 use Rattle.exact_decoder.specs.Surviving.V32.{any_trellis, line_depth}
 use Rattle.exact_decoder.specs.Decoder.{heard}
 use Rattle.command_base.specs.declared.stop.Stop.{Stop}
-use Rattle.command_base.specs.declared.stop.Stop.TheVariants.{Own, Read, Write, Say, NoMemory}
+use Rattle.command_base.specs.declared.stop.Stop.TheVariants.{Own, Read, Write, Say}
 use Rattle.recordings.specs.declared.rate.Rate.TheVariants as rates
 use Rattle.recordings.specs.declared.header.TheConstants.{HEADER}
 use Rattle.recordings.specs.Samples.{samples_in}

@@ -1,5 +1,4 @@
 use Rattle.std.proofs.Common.{inl, ℕ, Ok, Err, ◌∙◌}
-use Rattle.outside_calls.specs.Folder.{FolderState}
 use Rattle.outside_calls.specs.Outputs.{AreApartFrom}
 use Rattle.outside_calls.proofs.OnlyOutputs.{OnlyOutputs-trans}
 use Rattle.outside_calls.proofs.Steps.{CountsStand-trans}

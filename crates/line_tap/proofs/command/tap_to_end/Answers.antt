@@ -1,5 +1,4 @@
 use Rattle.std.proofs.Common.{[], sym, subst, ◌∙◌}
-use Rattle.outside_calls.specs.Folder.{FolderState}
 use Rattle.outside_calls.proofs.OnlyOutputs.{OnlyOutputs-reads, OnlyOutputs-trans}
 use Rattle.command_base.proofs.Jobs.{end-earlier}
 use Rattle.line_tap.specs.Names.{TapNames, named, inputs_of, outputs_of}

@@ -4,9 +4,8 @@ use Rattle.outside_calls.specs.Folder.{FolderState, OnlyReads}
 use Rattle.outside_calls.proofs.Steps.{OnlyReads-trans, CountsStand-trans}
 use Rattle.command_base.proofs.Jobs.{stop-earlier}
 use Rattle.command_base.proofs.Reading.{ReadTo-none, ReadTo-kept}
-use Rattle.line_tap.specs.declared.limits.TheConstants.{TAP_LIMIT}
+use Rattle.line_tap.specs.declared.limits.TheConstants.{TAP_LIMIT, LIMITS}
 use Rattle.line_tap.specs.Names.{TapNames, named, inputs_of}
-use Rattle.line_tap.specs.declared.limits.TheConstants.{LIMITS}
 use Rattle.line_tap.proofs.HeaderRead.{inputs-refused, both-read, header-read, orig-refused, answ-refused, stop-widened}
 use Rattle.line_tap.proofs.opening.open.Goals as goal
 

@@ -1,5 +1,4 @@
 use Rattle.std.proofs.Common.{◌∙◌, refl, subst}
-use Rattle.outside_calls.specs.Folder.{FolderState}
 use Rattle.outside_calls.proofs.Steps.{CountsStand-refl, CountsStand-trans}
 use Rattle.outside_calls.proofs.Putting.{OnlyPuts-refl, OnlyPuts-trans}
 use Rattle.noise_script.specs.Script.{ScriptValue, IsInLimits}

@@ -1,5 +1,4 @@
 use Rattle.std.proofs.Common.{◌∙◌, Err}
-use Rattle.outside_calls.specs.Folder.{FolderState}
 use Rattle.command_base.proofs.Jobs.{answers-done, answers-stopped}
 use Rattle.link_pair.specs.Words.{Names, named}
 use Rattle.link_pair.proofs.Refusing.{refused-by}

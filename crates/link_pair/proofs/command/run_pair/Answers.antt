@@ -1,5 +1,4 @@
 use Rattle.std.proofs.Common.{inl, sym, subst, rules}
-use Rattle.outside_calls.specs.Folder.{FolderState}
 use Rattle.outside_calls.proofs.Steps.{CountsStand-trans}
 use Rattle.outside_calls.proofs.OnlyOutputs.{OnlyOutputs-trans}
 use Rattle.outside_calls.proofs.Putting.{OnlyOutputs-puts}

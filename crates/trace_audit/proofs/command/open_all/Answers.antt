@@ -1,5 +1,4 @@
 use Rattle.std.proofs.Common.{[], rules}
-use Rattle.outside_calls.specs.Folder.{FolderState}
 use Rattle.outside_calls.proofs.Steps.{OnlyReads-trans, CountsStand-trans}
 use Rattle.command_base.proofs.Jobs.{stop-earlier}
 use Rattle.trace_audit.specs.Words.{AuditNames, named, inputs_of}

@@ -1,5 +1,4 @@
 use Rattle.std.proofs.Common.{List, ℕ, [], sym, ◌∙◌, subst, rules}
-use Rattle.outside_calls.specs.Folder.{FolderState}
 use Rattle.outside_calls.proofs.Steps.{OnlyReads-trans, CountsStand-trans}
 use Rattle.line_run.specs.Names.{Written, written}
 use Rattle.trace_audit.specs.Differences.{IsCut}

@@ -1,5 +1,4 @@
 use Rattle.std.proofs.Common.{Bool, Ok, [], refl, sym, ◌∙◌, ap, subst, rules}
-use Rattle.outside_calls.specs.Folder.{FolderState}
 use Rattle.outside_calls.proofs.Steps.{OnlyReads-refl, OnlyReads-trans, CountsStand-refl, CountsStand-trans}
 use Rattle.line_run.specs.Names.{written}
 use Rattle.line_world.specs.World.{turn_of}

@@ -1,5 +1,4 @@
 use Rattle.std.proofs.Common.{sym, ◌∙◌, ap, Ok, Err, Bool}
-use Rattle.outside_calls.specs.Folder.{FolderState}
 use Rattle.line_run.specs.Names.{written}
 use Rattle.line_world.specs.World.{turn_of}
 use Rattle.line_world.specs.Turn.{turns_made}

@@ -4,7 +4,7 @@ use Rattle.scramblers.specs.declared.mode.Mode.{Mode}
 use Rattle.scramblers.specs.Mode.{tap_of}
 use Rattle.symbol_map.specs.declared.sample.Sample.{Sample}
 use Rattle.bit_stuffing.specs.BitSlot.{line_bits}
-use Rattle.detection.specs.Slots.{signal_bits}
+use Rattle.detection.specs.Slots.{signal_bits, slot_of}
 use Rattle.line_coding.specs.Modulates.{Modulates}
 use Rattle.trellis_tables.specs.Table.{next_state}
 use Rattle.trellis_tables.specs.Sequences.{Leads}
@@ -12,7 +12,6 @@ use Rattle.trellis_tables.proofs.Sequences.{Leads-append}
 use Rattle.recordings.specs.Samples.{samples_in}
 use Rattle.lapm_frames.specs.declared.sent.Sent.{Sent}
 use Rattle.bit_stuffing.specs.Slots.{slot_bits}
-use Rattle.detection.specs.Slots.{slot_of}
 use Rattle.line_tap.specs.Seeking.{EndsAt, EndsBy}
 use Rattle.sample_line.specs.Signals.{IsCodable}
 use Rattle.sample_line.specs.Line.{bits_behind}
@@ -21,9 +20,8 @@ use Rattle.line_tap.proofs.Guessing.{GuessLaws}
 use Rattle.line_coding.specs.Demodulates.{DemodulatorStands}
 use Rattle.line_tap.specs.Labels.{AreLabels}
 use Rattle.line_tap.proofs.PointLabels.{count-samples}
-use Rattle.line_tap.proofs.SlotReading.{found-ends, found-lent, found-sent}
-use Rattle.line_tap.proofs.SlotReading.{bits-read, guessed, labels-next, sequence-modulates}
-use Rattle.line_tap.proofs.SlotReading.{phase-is, written-as, writer-on, phase-next, bits-more, labels-more, labels-code}
+use Rattle.line_tap.proofs.SlotReading.{found-ends, found-lent, found-sent, bits-read, guessed, labels-next, sequence-modulates, phase-is}
+use Rattle.line_tap.proofs.SlotReading.{written-as, writer-on, phase-next, bits-more, labels-more, labels-code}
 use Rattle.line_tap.proofs.reader.SlotReader.read.Goals as goal
 
 pub frame_in-found-requires-clause-long : goal.frame_in-found-requires-clause-long

@@ -1,5 +1,4 @@
 use Rattle.std.proofs.Common.{List, ℕ, ◌≤◌, ◌<◌, refl, sym, ◌∙◌, subst}
-use Rattle.outside_calls.specs.Folder.{FolderState}
 use Rattle.line_tap.specs.declared.tapping.Tap.{Tap}
 use Rattle.line_tap.specs.Names.{named}
 use Rattle.link_run.specs.Run.{Turn}

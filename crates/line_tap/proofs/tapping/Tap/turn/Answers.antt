@@ -12,8 +12,7 @@ use Rattle.link_run.specs.Run.{Turn}
 use Rattle.line_tap.specs.Tapping.{Tapping}
 use Rattle.line_tap.specs.Tap.{AreReadTo, HearsSo, InTurn, IsToGo, TapAfter, going_in, slots_as}
 use Rattle.line_tap.proofs.Turning.{HasPieces, now_of, loses-line, stops-delivering, stops-reading, ends-whole, stops-ending, ends-badly}
-use Rattle.line_tap.proofs.Turning.{so-heard, has-pieces, only-read}
-use Rattle.line_tap.proofs.Turning.{is-stopped, is-done, within-still, early-still, nearer-by, within-by}
+use Rattle.line_tap.proofs.Turning.{so-heard, has-pieces, only-read, is-stopped, is-done, within-still, early-still, nearer-by, within-by}
 use Rattle.line_tap.proofs.Turning.{to-go, goes-on-by, stops-going, only-written, whole-orig, some-octets, ready-again}
 use Rattle.line_tap.proofs.tapping.Tap.turn.Given.{Over}
 use Rattle.line_tap.proofs.tapping.Tap.turn.Goals.{In-Ok-read, In-Ok-look}

@@ -1,5 +1,4 @@
 use Rattle.std.proofs.Common.{◌∙◌, Err}
-use Rattle.outside_calls.specs.Folder.{FolderState}
 use Rattle.outside_calls.proofs.Putting.{OnlyOutputs-puts}
 use Rattle.command_base.proofs.Jobs.{answers-done, answers-stopped}
 use Rattle.run_commands.specs.Peering.Words.{Names, named, outputs_of}

@@ -1,5 +1,4 @@
 use Rattle.std.proofs.Common.{inl}
-use Rattle.outside_calls.specs.Folder.{FolderState}
 use Rattle.outside_calls.proofs.Putting.{OnlyPuts-trans}
 use Rattle.command_base.proofs.Jobs.{end-earlier}
 use Rattle.run_commands.specs.Peering.Words.{Names, named, inputs_of, outputs_of}

@@ -1,5 +1,4 @@
 use Rattle.std.proofs.Common.{refl, arith}
-use Rattle.outside_calls.specs.Folder.{FolderState}
 use Rattle.outside_calls.proofs.Putting.{OnlyPuts-refl, OnlyPuts-trans}
 use Rattle.outside_calls.proofs.Steps.{CountsStand-refl, CountsStand-trans}
 use Rattle.command_base.proofs.Jobs.{stop-earlier}

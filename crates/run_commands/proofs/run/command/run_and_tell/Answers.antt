@@ -1,5 +1,4 @@
 use Rattle.std.proofs.Common.{◌∙◌, Err}
-use Rattle.outside_calls.specs.Folder.{FolderState}
 use Rattle.command_base.proofs.Jobs.{answers-done, answers-stopped}
 use Rattle.run_inputs.specs.Words.{RunNames, named}
 use Rattle.run_commands.proofs.Running.Refusing.{refused-by}

@@ -1,5 +1,4 @@
 use Rattle.std.proofs.Common.{◌∙◌, [], sym, subst}
-use Rattle.outside_calls.specs.Folder.{FolderState}
 use Rattle.noise_script.specs.Script.{ScriptValue}
 use Rattle.link_run.specs.Run.{start}
 use Rattle.line_run.specs.Scripted.{link_of}

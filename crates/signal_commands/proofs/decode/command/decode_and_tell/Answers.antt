@@ -1,5 +1,4 @@
 use Rattle.std.proofs.Common.{◌∙◌, Err}
-use Rattle.outside_calls.specs.Folder.{FolderState}
 use Rattle.command_base.proofs.Jobs.{answers-done, answers-stopped}
 use Rattle.outside_calls.proofs.OnlyOutputs.{OnlyOutputs-one}
 use Rattle.signal_commands.specs.Decoding.Words.{DecodeNames, named}

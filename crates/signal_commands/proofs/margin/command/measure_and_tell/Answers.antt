@@ -1,5 +1,4 @@
 use Rattle.std.proofs.Common.{◌∙◌, [], Err}
-use Rattle.outside_calls.specs.Folder.{FolderState}
 use Rattle.command_base.specs.Lines.{margin_line}
 use Rattle.command_base.proofs.Jobs.{answers-done, answers-stopped}
 use Rattle.outside_calls.proofs.OnlyOutputs.{OnlyOutputs-reads}

@@ -1,5 +1,4 @@
 use Rattle.std.proofs.Common.{◌+◌, arith}
-use Rattle.outside_calls.specs.Folder.{FolderState}
 use Rattle.outside_calls.proofs.Steps.{OnlyReads-refl, OnlyReads-trans, CountsStand-refl, CountsStand-trans}
 use Rattle.signal_commands.specs.Margins.Words.{MarginNames, named}
 use Rattle.signal_commands.proofs.Margins.Measures.{measured-none, measures-all}

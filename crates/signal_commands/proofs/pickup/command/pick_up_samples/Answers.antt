@@ -1,5 +1,4 @@
 use Rattle.std.proofs.Common.{[], refl}
-use Rattle.outside_calls.specs.Folder.{FolderState}
 use Rattle.outside_calls.proofs.OnlyOutputs.{OnlyOutputs-reads}
 use Rattle.recordings.specs.declared.rate.Rate.TheVariants as rates
 use Rattle.command_base.proofs.Behind.{behind-none}
