@@ -31,12 +31,10 @@ use Rattle.line_world.specs.declared.world.World.{World}
 use Rattle.line_run.specs.declared.fault.RunFault.{RunFault}
 use Rattle.line_run.specs.declared.fault.RunFault.TheVariants as faults
 use Rattle.line_world.specs.World.{KnowsFiles, WorldAfter, script_of, turn_of, lost_of, again_of}
-use Rattle.line_world.specs.Turn.{added, GoesOnBy, EndsInTurn, LosesLine, MeetsChance, StopsInTurn}
-use Rattle.line_world.specs.Turn.{StopsReading, Stops, IsWriting}
+use Rattle.line_world.specs.Turn.{added, GoesOnBy, EndsInTurn, LosesLine, MeetsChance, StopsInTurn, StopsReading, Stops, IsWriting}
 use Rattle.line_world.specs.Turn.{EndsBy as TurnEndsBy}
-use Rattle.outside_calls.specs.Outputs.{AreApartFrom, Holds, HoldsPart, KeepsEach, Creates, joined}
+use Rattle.outside_calls.specs.Outputs.{AreApartFrom, Holds, HoldsPart, KeepsEach, Creates, joined, OnlyPuts, AddEach, HoldEach}
 use Rattle.outside_calls.proofs.Holding.{Holds-kept, Holds-more, HoldsPart-more}
-use Rattle.outside_calls.specs.Outputs.{OnlyPuts, AddEach, HoldEach}
 use Rattle.outside_calls.proofs.Putting.{OnlyPuts-refl, OnlyPuts-trans, inputs-kept, HoldEach-kept, HoldEach-add, HoldPart-add}
 use Rattle.line_run.specs.Recorded.{Tapes, tapes_of}
 use Rattle.line_run.proofs.Leaving.{hearing-in}
@@ -44,8 +42,7 @@ use Rattle.line_run.proofs.WhatIsLeft.{left_of, leaves-so}
 use Rattle.line_world.specs.Tapes.{HoldTapes, HoldTapesPartly}
 use Rattle.line_world.proofs.Folders.{IsApart, stay-known, knows-kept}
 use Rattle.line_world.proofs.Several.{puts-front, puts-behind, apart-front, inputs-front, inputs-behind, keeps-front, keeps-behind}
-use Rattle.line_world.specs.Turns.{held_of, AddsTurn, RunEnds, RunCounts, RunStops, RunStopsReading}
-use Rattle.line_world.specs.Turns.{FaultEnds}
+use Rattle.line_world.specs.Turns.{held_of, AddsTurn, RunEnds, RunCounts, RunStops, RunStopsReading, FaultEnds}
 
 -- Some turns were made over these files, and the outputs hold what they left.
 pub record Reached (w : World) (script : ScriptValue) (n : Written) (tapes : Tapes) (old now : FolderState) : Type 0 where

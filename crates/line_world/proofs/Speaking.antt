@@ -1,6 +1,5 @@
 -- Both ends speak, and a turn is made.
-use Rattle.std.proofs.Common.{◌≡◌, ◌≢◌, ℕ, ◌+◌, true, false, List, ◌∷◌, ◌++◌, length, arith}
-use Rattle.std.proofs.Common.{refl, sym, ◌∙◌, subst, Option, Some, None, Ok}
+use Rattle.std.proofs.Common.{◌≡◌, ◌≢◌, ℕ, ◌+◌, true, false, List, ◌∷◌, ◌++◌, length, arith, refl, sym, ◌∙◌, subst, Option, Some, None, Ok}
 use Rattle.std.specs.Option.{option_map}
 use Rattle.outside_calls.specs.Folder.{FolderState, Appended, PartlyAppended, CountsStand}
 use Rattle.frame_check.specs.declared.check.Check.{Check}

@@ -1,6 +1,5 @@
 -- What a station stands for once its end has heard or spoken, or was asked for a break.
-use Rattle.std.proofs.Common.{◌≡◌, ℕ, ◌+◌, Bool, List, length, arith}
-use Rattle.std.proofs.Common.{refl, sym, ◌∙◌, ap, subst, Ok, Err, Result, IfOk, OnOk, OnErr, ◌≤◌}
+use Rattle.std.proofs.Common.{◌≡◌, ℕ, ◌+◌, Bool, List, length, arith, refl, sym, ◌∙◌, ap, subst, Ok, Err, Result, IfOk, OnOk, OnErr, ◌≤◌}
 use Rattle.std.proofs.lemmas.Bool.{false≢true}
 use Rattle.lapm_frames.specs.declared.arrived.Arrived.{Arrived}
 use Rattle.lapm_frames.specs.declared.sent.Sent.{Sent}

@@ -34,8 +34,7 @@ use Rattle.line_world.specs.declared.step.Step.{Step}
 use Rattle.line_world.specs.declared.step.Step.TheVariants as steps
 use Rattle.line_world.specs.World.{StayKnown}
 use Rattle.line_world.specs.Tally.{IsFew}
-use Rattle.line_world.specs.Turn.{SendsNone, MakesTurn, Stops, StopsReading, EndsBy, EndsInTurn, GoesOnBy, IsWriting, IsReading}
-use Rattle.line_world.specs.Turn.{added}
+use Rattle.line_world.specs.Turn.{SendsNone, MakesTurn, Stops, StopsReading, EndsBy, EndsInTurn, GoesOnBy, IsWriting, IsReading, added}
 use Rattle.line_world.specs.Mid.{Overhears, InTurn, SameBeside, HasGone, HearsThese, AddsLines, AddsPart, SpeaksLast, turn_in}
 use Rattle.line_world.specs.declared.tally.Counts.{Counts}
 use Rattle.link_run.specs.Counts.{lost_in, lost_slots}

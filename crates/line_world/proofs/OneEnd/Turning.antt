@@ -26,7 +26,7 @@ use Rattle.link_run.specs.Run.{spoken}
 use Rattle.link_run.specs.Alone.{LoneTurn, LoneGoing, LoneNext, Goes_on, Is_last, Is_faulty, Is_broken, hangs_up, lone_served}
 use Rattle.link_run.specs.Alone.{LoneRunsByWhatIsReadOn, LoneRunsKeepTheirSetup, EachLoneTurnIsMade}
 use Rattle.line_world.specs.declared.station.Station.{Station}
-use Rattle.line_world.specs.Station.{Stands, HearsAs, SpeaksAs, Supplies, IsCounted}
+use Rattle.line_world.specs.Station.{Stands, HearsAs, SpeaksAs, Supplies}
 use Rattle.line_texts.specs.LineText.{trace_line}
 use Rattle.line_world.specs.OneEnd.Heard.{IsHeard, stream, slot_bits}
 use Rattle.detection.specs.Ear.{HasHeard}

@@ -1,10 +1,8 @@
-use Rattle.std.proofs.Common.{inl, ◌∷◌, ◌∙◌, sym}
-use Rattle.outside_calls.specs.Folder.{FolderState}
+use Rattle.std.proofs.Common.{inl, ◌∷◌, ◌∙◌, sym, []}
 use Rattle.shared_terms.specs.declared.role.Role.TheVariants.{Originator, Answerer}
 use Rattle.line_run.specs.Scripted.{wire_of}
 use Rattle.line_world.specs.World.{script_of}
 use Rattle.line_world.proofs.Taping.{keeps-holds, keeps-later, both-take}
-use Rattle.std.proofs.Common.{[]}
 use Rattle.outside_calls.proofs.Putting.{OnlyPuts-one, OnlyPuts-trans}
 use Rattle.line_world.proofs.Folders.{counts-front}
 use Rattle.line_world.proofs.tape.record_both.Goals as goal

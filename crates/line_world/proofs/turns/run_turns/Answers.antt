@@ -12,8 +12,7 @@ use Rattle.line_world.specs.Taping.{KeepTapes, tape_names}
 use Rattle.line_world.specs.Turn.{FaultCountsOver}
 use Rattle.line_world.specs.World.{script_of}
 use Rattle.line_world.proofs.Reached.{reached-start, reached-going, reached-put, reached-taping, reached-done, reached-counts}
-use Rattle.line_world.proofs.Reached.{reached-fault}
-use Rattle.line_world.proofs.Reached.{nearer, next-turn, tapes-kept, apart-outputs}
+use Rattle.line_world.proofs.Reached.{reached-fault, nearer, next-turn, tapes-kept, apart-outputs}
 use Rattle.line_world.proofs.Several.{puts-front, puts-behind, apart-behind}
 use Rattle.line_world.proofs.Folders.{counts-later, counts-front, counts-behind}
 use Rattle.line_world.proofs.Taping.{keep-holds, keep-later, hold-later}

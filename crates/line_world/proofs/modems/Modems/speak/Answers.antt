@@ -11,8 +11,7 @@ use Rattle.line_run.specs.Names.{written}
 use Rattle.line_world.specs.Mid.{served, turn_in}
 use Rattle.line_world.proofs.Hearing.{none-sent}
 use Rattle.line_world.proofs.Speaking.{SpokenTurn, GoingLaws, spoken_by, ends_of, spoken-turn, broken-turn, text-is, all-codable, put_by}
-use Rattle.line_world.proofs.Speaking.{are-put}
-use Rattle.line_world.proofs.Speaking.{goes-on, ends-so, counts-so, stops-so, adds-part}
+use Rattle.line_world.proofs.Speaking.{are-put, goes-on, ends-so, counts-so, stops-so, adds-part}
 use Rattle.line_world.proofs.modems.Modems.speak.Goals as goal
 
 -- the turn that both ends' words make

@@ -1,7 +1,7 @@
 use Rattle.std.proofs.Common.{◌≡◌, ◌+◌, ◌<◌, length, refl, sym, ◌∙◌, ap, subst}
-use Rattle.outside_calls.proofs.Steps.{CountsStand-trans}
+use Rattle.outside_calls.proofs.Steps.{CountsStand-trans, CountsStand-refl}
 use Rattle.link_run.specs.End.{is_closed}
-use Rattle.outside_calls.proofs.Putting.{OnlyPuts-trans, OnlyPuts-reads, KeepsEach-refl, KeepsEach-reads, AddEach-kept}
+use Rattle.outside_calls.proofs.Putting.{OnlyPuts-trans, OnlyPuts-reads, KeepsEach-refl, KeepsEach-reads, AddEach-kept, OnlyPuts-refl}
 use Rattle.line_run.specs.Names.{outputs_of, written}
 use Rattle.line_world.specs.Link.{AreCounted, octets_of}
 use Rattle.line_world.specs.declared.directions.LineEnd.{LineEnd}
@@ -14,11 +14,7 @@ use Rattle.line_world.proofs.Hearing.{early-turns}
 use Rattle.line_world.proofs.Serving.{phase-delivered}
 use Rattle.line_world.proofs.Folders.{lines-only, counts-later, stay-known, others-known}
 use Rattle.line_world.proofs.Turning.{MakingLaws, writing-ends, reading-ends, same-beside, halts-so, checked-so, stops-handing}
-use Rattle.line_world.proofs.Turning.{stops-reading, stops-writing, ends-in}
-use Rattle.line_world.proofs.Turning.{speaks-last, goes-on-by, kept-on}
-use Rattle.outside_calls.proofs.Steps.{CountsStand-refl}
-use Rattle.outside_calls.proofs.Putting.{OnlyPuts-refl}
-use Rattle.line_world.proofs.Turning.{no-step, done-no-step}
+use Rattle.line_world.proofs.Turning.{stops-reading, stops-writing, ends-in, speaks-last, goes-on-by, kept-on, no-step, done-no-step}
 use Rattle.line_world.proofs.modems.Modems.turn.Given.{Over}
 use Rattle.line_world.proofs.modems.Modems.turn.Goals.{After-line_runs_end_soon}
 use Rattle.line_world.proofs.modems.Modems.turn.Goals as goal

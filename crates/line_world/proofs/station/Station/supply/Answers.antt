@@ -5,9 +5,8 @@ use Rattle.outside_calls.specs.Folder.{FolderState, Rose}
 use Rattle.outside_calls.proofs.Steps.{OnlyReads-refl, OnlyReads-trans, CountsStand-refl, CountsStand-trans, FaultsStand-trans, told_later}
 use Rattle.outside_calls.proofs.Steps.{octets-kept}
 use Rattle.link_run.specs.End.{piece_at}
-use Rattle.line_world.proofs.Offering.{supplying-starts, supplying-next, supplying-ends, wants-within, as-err}
+use Rattle.line_world.proofs.Offering.{supplying-starts, supplying-next, supplying-ends, wants-within, as-err, no-fault}
 use Rattle.line_world.proofs.Standing.{idle-on, counted-on, takes-on}
-use Rattle.line_world.proofs.Offering.{no-fault}
 use Rattle.line_world.proofs.station.Station.supply.Goals as goal
 
 pub loop-number-init : goal.loop-number-init

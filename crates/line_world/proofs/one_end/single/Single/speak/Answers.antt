@@ -5,8 +5,7 @@ use Rattle.link_run.specs.End.{deliveries}
 use Rattle.line_world.specs.Station.{SpeaksAs}
 use Rattle.line_world.specs.OneEnd.Peer.{Broken}
 use Rattle.line_world.specs.OneEnd.Mid.{served_with}
-use Rattle.line_world.proofs.OneEnd.Turning.{silent-turn, spoke, finishes, said-well, gone, gone-part, broken, adds-line}
-use Rattle.line_world.proofs.OneEnd.Turning.{adds-part}
+use Rattle.line_world.proofs.OneEnd.Turning.{silent-turn, spoke, finishes, said-well, gone, gone-part, broken, adds-line, adds-part}
 use Rattle.line_world.proofs.OneEnd.Turning.{ends-part}
 use Rattle.line_world.proofs.one_end.single.Single.speak.Goals as goal
 use Rattle.line_world.proofs.Linking.{broken-so as said-badly}
