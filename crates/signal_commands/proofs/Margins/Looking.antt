@@ -6,7 +6,7 @@ use Rattle.outside_calls.specs.declared.folder.FolderFault.TheVariants as folder
 use Rattle.command_base.specs.declared.limits.TheConstants.{RECORDING_LIMIT}
 use Rattle.shared_terms.specs.declared.limits.TheConstants.{FILE_LIMIT}
 use Rattle.command_base.specs.declared.stop.Stop.{Stop}
-use Rattle.command_base.specs.declared.stop.Stop.TheVariants.{Own, Read, NoMemory}
+use Rattle.command_base.specs.declared.stop.Stop.TheVariants.{Own, Read}
 use Rattle.command_base.specs.Inputs.{IsWithin, IsNotWithin}
 use Rattle.command_base.specs.Stops.{IsOwn, ReadFails, StopCounts}
 use Rattle.command_base.proofs.Jobs.{stop-earlier}

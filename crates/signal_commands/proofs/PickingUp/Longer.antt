@@ -17,7 +17,6 @@ use Rattle.bit_stuffing.specs.Found.{Found, pieces_of}
 use Rattle.bit_stuffing.proofs.Sent.{pieces-stay}
 use Rattle.line_coding.specs.PickedUp.{line_behind, IsPickedUp}
 use Rattle.line_coding.proofs.Middle.{picked_up_once}
-use Rattle.line_coding.proofs.Readers.{descrambled}
 use Rattle.signal_commands.specs.PickingUp.Laws.{LaterPiecesStandBehind}
 use Rattle.signal_commands.proofs.Decoding.Longer.{reads-on}
 

@@ -97,7 +97,8 @@ returns-in-Ok-2 g c =
           let puts : Appended n1 n2 n.file given =
           subst (λ (xs : List ℕ). Appended n1 n2 n.file xs) c.as_slice.ensures.items c.in-Ok-append_output.ensures.ok in
           let cut : c.in-Ok.read % 4 ≢ 0 = c.if-read-eq0.false in
-          let content_cut : length (h.content ++ piece) % 4 ≡ c.in-Ok.read % 4 = omega (arith, h.whole, length-append h.content piece, long) in
+          let content_cut : length (h.content ++ piece) % 4 ≡ c.in-Ok.read % 4 = omega
+          (arith, h.whole, length-append h.content piece, long) in
           inr (cut-part start n2 n c.args.mode p (h.content ++ piece) (h.octets ++ given) (c.args.at + (c.in-Ok.read - c.in-Ok.read % 4))
           (reads-all start n1 n.rec n.rate c.args.mode (h.content ++ piece) (c.args.at + c.in-Ok.read) behind
           (c.in-Ok.ensures.end start n.rate c.args.mode h.content h.behind (inl cut)))
@@ -182,7 +183,8 @@ returns-in-Ok-played g c =
               only = only-write start n1 n2 n.file (only-read start _ n1 n.file h.only reads) c.append_output.ensures.only;
               file = Holds-more n1 n2 n.file h.octets given c.append_output.ensures.only.goes_on kept puts;
             },
-            λ none told. (let e = c.in-Ok.ensures.end start n.rate c.args.mode h.content h.behind (inr none) told in omega (arith, e, none)),
+            λ none told. (let e = c.in-Ok.ensures.end start n.rate c.args.mode h.content h.behind (inr none) told in omega
+                (arith, e, none)),
           );
       err = search rules;
       next =

@@ -108,7 +108,8 @@ returns g c =
               behind = behind-kept start n1 n2 c.args.rec.now rates.Trellis c.args.mode (h.content ++ piece)
                   (c.args.at + c.in-Ok.read) behind c.play_piece.ensures.only.goes_on (c.play_piece.ensures.only.names c.args.rec.now);
               only = OnlyOutputs-trans [] h.only
-                  (OnlyOutputs-trans [] (OnlyOutputs-reads [] c.read_samples.ensures.reads) (OnlyOutputs-says [] c.play_piece.ensures.only));
+                  (OnlyOutputs-trans [] (OnlyOutputs-reads [] c.read_samples.ensures.reads)
+                  (OnlyOutputs-says [] c.play_piece.ensures.only));
             },
             λ none told. (let e = c.in-Ok.ensures.end start rates.Trellis c.args.mode h.content h.behind (inr none)
                 told in omega (arith, e, none)),
